@@ -1,0 +1,61 @@
+-- Replies: the statuses and the bodies of refusals.
+use Rattle.std.specs.Prelude.{ℕ, List, [], ◌++◌, Option, Some, None, codes}
+use Rattle.ci_machine.specs.declared.reply.Status.{Status}
+use Rattle.ci_machine.specs.declared.reply.Status.TheVariants.{BadRequest, Forbidden, NotFound, MethodNotAllowed, LengthRequired, PayloadTooLarge, HeaderFieldsTooLarge, NotImplemented, ServiceUnavailable}
+use Rattle.ci_machine.specs.declared.reply.Code.{Code}
+use Rattle.ci_machine.specs.declared.reply.Code.TheVariants.{M2, M4, M14, M15, M16, M17, H1, H2, H3, H4, H5, H6, H7, H8}
+use Rattle.ci_machine.specs.declared.reply.Body.{Body}
+use Rattle.ci_machine.specs.declared.reply.Body.TheVariants.{Json, Plain}
+use Rattle.ci_machine.specs.declared.reply.Reply.{Reply}
+
+-- the status of a refusal
+abbrev pub status_of : Code → Status
+status_of M2 = NotFound
+status_of M4 = Forbidden
+status_of M14 = BadRequest
+status_of M15 = ServiceUnavailable
+status_of M16 = ServiceUnavailable
+status_of M17 = ServiceUnavailable
+status_of H1 = BadRequest
+status_of H2 = HeaderFieldsTooLarge
+status_of H3 = LengthRequired
+status_of H4 = PayloadTooLarge
+status_of H5 = NotFound
+status_of H6 = MethodNotAllowed
+status_of H7 = BadRequest
+status_of H8 = NotImplemented
+
+-- a code as it is printed
+abbrev pub code_text : Code → List ℕ
+code_text M2 = codes "M2"
+code_text M4 = codes "M4"
+code_text M14 = codes "M14"
+code_text M15 = codes "M15"
+code_text M16 = codes "M16"
+code_text M17 = codes "M17"
+code_text H1 = codes "H1"
+code_text H2 = codes "H2"
+code_text H3 = codes "H3"
+code_text H4 = codes "H4"
+code_text H5 = codes "H5"
+code_text H6 = codes "H6"
+code_text H7 = codes "H7"
+code_text H8 = codes "H8"
+
+-- the body of a refusal that has no detail
+abbrev pub refusal_text : Code → List ℕ
+refusal_text code = codes "{\"code\":\"" ++ code_text code ++ codes "\"}"
+
+-- the reply of a refusal that has no detail
+abbrev pub refusal : Code → Reply
+refusal c = record { status = status_of c; code = Some c; job_status = None; range = None; allow = None; body = None }
+
+abbrev pub text_of : Option Code → Option Body → List ℕ
+text_of code (Some (Json text)) = text
+text_of code (Some (Plain bytes)) = bytes
+text_of (Some code) None = refusal_text code
+text_of None None = []
+
+-- the bytes of a reply's body
+abbrev pub body_text : Reply → List ℕ
+body_text r = text_of r.code r.body

@@ -1,0 +1,107 @@
+-- The state: finite lists of records, each in the order of its keys, and the next numbers.
+use Rattle.std.specs.Prelude.{ℕ, not, List, [], ◌∷◌, filter, if◌then◌else◌}
+use Rattle.std.specs.declared.cmp.Ordering.{Ordering}
+use Rattle.std.specs.Ordering.{nat_cmp, is_eq, is_lt, ordering_then}
+use Rattle.std.specs.Cmp.Lexicographic.{slice_cmp}
+use Rattle.ci_machine.specs.declared.records.Project.{Project}
+use Rattle.ci_machine.specs.declared.records.Runner.{Runner}
+use Rattle.ci_machine.specs.declared.records.Pipeline.{Pipeline}
+use Rattle.ci_machine.specs.declared.records.Job.{Job}
+use Rattle.ci_machine.specs.declared.records.JobVariable.{JobVariable}
+use Rattle.ci_machine.specs.declared.records.Attempt.{Attempt}
+use Rattle.ci_machine.specs.declared.records.Numbers.{Numbers}
+use Rattle.ci_machine.specs.declared.change.Record.{Record}
+use Rattle.ci_machine.specs.declared.change.Record.TheVariants as row
+use Rattle.ci_machine.specs.declared.change.Key.{Key}
+use Rattle.ci_machine.specs.declared.change.Key.TheVariants as key
+use Rattle.ci_machine.specs.declared.change.Counter.{Counter}
+use Rattle.ci_machine.specs.declared.change.Counter.TheVariants as counter
+use Rattle.ci_machine.specs.declared.change.Change.{Change}
+use Rattle.ci_machine.specs.declared.change.Change.TheVariants.{Add, Put, Remove, SetNext}
+
+pub record State : Type 0 where
+  pub projects : List Project
+  pub runners : List Runner
+  pub pipelines : List Pipeline
+  pub jobs : List Job
+  pub job_variables : List JobVariable  -- by the job, then by the key
+  pub attempts : List Attempt
+  pub next : Numbers
+
+abbrev pub first_numbers : Numbers
+first_numbers = record { project = 1; runner = 1; pipeline = 1; job = 1; attempt = 1 }
+
+-- nothing, and each next number is 1
+abbrev pub empty : State
+empty = record { projects = []; runners = []; pipelines = []; jobs = []; job_variables = []; attempts = []; next = first_numbers }
+
+-- how records of a table are ordered: by their numbers, a job's variables by the job and then by the bytes of the key
+abbrev pub project_cmp : Project → Project → Ordering
+project_cmp a b = nat_cmp a.id b.id
+
+abbrev pub runner_cmp : Runner → Runner → Ordering
+runner_cmp a b = nat_cmp a.id b.id
+
+abbrev pub pipeline_cmp : Pipeline → Pipeline → Ordering
+pipeline_cmp a b = nat_cmp a.id b.id
+
+abbrev pub job_cmp : Job → Job → Ordering
+job_cmp a b = nat_cmp a.id b.id
+
+abbrev pub job_variable_cmp : JobVariable → JobVariable → Ordering
+job_variable_cmp a b = ordering_then (nat_cmp a.job b.job) (slice_cmp nat_cmp a.key b.key)
+
+abbrev pub attempt_cmp : Attempt → Attempt → Ordering
+attempt_cmp a b = nat_cmp a.id b.id
+
+-- an ordered list with x at its place
+abbrev pub placed : {A : Type 0} → (A → A → Ordering) → A → List A → List A
+placed cmp x [] = x ∷ []
+placed cmp x (y ∷ ys) = if is_lt (cmp y x) then y ∷ placed cmp x ys else x ∷ y ∷ ys
+
+-- the list without the records whose key is x's
+abbrev pub others : {A : Type 0} → (A → A → Ordering) → A → List A → List A
+others cmp x xs = filter (λ y. not (is_eq (cmp y x))) xs
+
+-- the list with x in place of the record that has its key, or at the place of a new one
+abbrev pub put : {A : Type 0} → (A → A → Ordering) → A → List A → List A
+put cmp x xs = placed cmp x (others cmp x xs)
+
+-- the list without the records that have this number
+abbrev pub without : {A : Type 0} → (A → ℕ) → ℕ → List A → List A
+without id n xs = filter (λ y. not (is_eq (nat_cmp (id y) n))) xs
+
+abbrev pub with_record : Record → State → State
+with_record (row.Project p) s = record s { projects = put project_cmp p s.projects }
+with_record (row.Runner r) s = record s { runners = put runner_cmp r s.runners }
+with_record (row.Pipeline p) s = record s { pipelines = put pipeline_cmp p s.pipelines }
+with_record (row.Job j) s = record s { jobs = put job_cmp j s.jobs }
+with_record (row.JobVariable v) s = record s { job_variables = put job_variable_cmp v s.job_variables }
+with_record (row.Attempt a) s = record s { attempts = put attempt_cmp a s.attempts }
+
+abbrev pub without_record : Key → State → State
+without_record (key.Project n) s = record s { projects = without (λ p. p.id) n s.projects }
+without_record (key.Runner n) s = record s { runners = without (λ r. r.id) n s.runners }
+without_record (key.Pipeline n) s = record s { pipelines = without (λ p. p.id) n s.pipelines }
+without_record (key.Job n) s = record s { jobs = without (λ j. j.id) n s.jobs }
+without_record (key.JobVariable n name) s = record s { job_variables = filter (λ v. not (is_eq (ordering_then (nat_cmp v.job n) (slice_cmp nat_cmp v.key name)))) s.job_variables }
+without_record (key.Attempt n) s = record s { attempts = without (λ a. a.id) n s.attempts }
+
+abbrev pub with_next : Counter → ℕ → Numbers → Numbers
+with_next counter.Project n next = record next { project = n }
+with_next counter.Runner n next = record next { runner = n }
+with_next counter.Pipeline n next = record next { pipeline = n }
+with_next counter.Job n next = record next { job = n }
+with_next counter.Attempt n next = record next { attempt = n }
+
+-- the state after one change
+abbrev pub changed : Change → State → State
+changed (Add r) s = with_record r s
+changed (Put r) s = with_record r s
+changed (Remove k) s = without_record k s
+changed (SetNext c n) s = record s { next = with_next c n s.next }
+
+-- the state after changes, the first of them first
+abbrev pub applied : List Change → State → State
+applied [] s = s
+applied (c ∷ cs) s = applied cs (changed c s)

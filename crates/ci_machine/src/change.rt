@@ -1,0 +1,97 @@
+//! Changes of the records, which one transaction makes.
+
+ghost use Rattle.std.specs.Prelude.{◌≡◌, ◌↔◌, [], IsTrue};
+
+use crate::records::{Attempt, Job, JobVariable, Pipeline, Project, Runner};
+use crate::text::Text;
+use std::marker::Model;
+
+/// A record of any table.
+#[derive(Drop)]
+pub enum Record {
+    Project(Project),
+    Runner(Runner),
+    Pipeline(Pipeline),
+    Job(Job),
+    JobVariable(JobVariable),
+    Attempt(Attempt),
+}
+
+/// The key of a record of any table.
+#[derive(Drop)]
+pub enum Key {
+    Project(u64),
+    Runner(u64),
+    Pipeline(u64),
+    Job(u64),
+    JobVariable(u64, Text),
+    Attempt(u64),
+}
+
+/// One of the next numbers.
+#[derive(Clone, Copy, PartialEq, Eq, Drop)]
+pub enum Counter {
+    Project,
+    Runner,
+    Pipeline,
+    Job,
+    Attempt,
+}
+
+/// A change of one row.
+#[derive(Drop)]
+pub enum Change {
+    /// A record whose key is new.
+    Add(Record),
+    /// A record in place of the one with its key, or a new one.
+    Put(Record),
+    /// The record with the key goes.
+    Remove(Key),
+    /// The next number of a kind.
+    SetNext(Counter, u64),
+}
+
+/// A list of changes, which one transaction makes. It has to be spent: it can't be dropped.
+pub struct Delta {
+    changes: Vec<Change>,
+}
+
+impl Model for Delta {
+    ghost use Rattle.std.specs.Prelude.{List};
+    ghost use Rattle.ci_machine.specs.declared.change.Change.{Change};
+
+    ghost Value = { List Change };
+
+    ghost view = { λ d. d.changes.items };
+}
+
+impl Delta {
+    /// The changes of a list, the first of them first.
+    pub fn new(changes: Vec<Change>) -> Delta
+        ensures { result ≡ changes.items }
+    {
+        Delta { changes }
+    }
+
+    /// Are there none?
+    pub fn is_empty(&self) -> bool
+        ensures { IsTrue result ↔ (self.now ≡ []) }
+    {
+        self.changes.is_empty()
+    }
+
+    /// The changes, lent.
+    pub fn as_slice(&self) -> &[Change]
+        ensures { result.now ≡ self.now }
+    {
+        self.changes.as_slice()
+    }
+
+    /// Spends the delta, and gives its changes.
+    pub fn into_vec(self) -> Vec<Change>
+        ensures { result.items ≡ self }
+    {
+        let Delta { changes } = self;
+        changes
+    }
+}

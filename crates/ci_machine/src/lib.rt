@@ -1,0 +1,9 @@
+//! The pipeline server as a machine: its records, its requests and replies, and what each event does to the state.
+#![tactic(auto)]
+
+pub mod change;
+pub mod moment;
+pub mod records;
+pub mod reply;
+pub mod request;
+pub mod text;

@@ -1,0 +1,139 @@
+//! The records that the machine keeps: a row of a table each.
+
+use crate::moment::Moment;
+use crate::text::{Text, Texts};
+
+/// The greatest number of a record: 2^53 - 1, up to which every reader of JSON keeps whole numbers exact.
+pub const GREATEST_NUMBER: u64 = 9_007_199_254_740_991;
+
+/// A project, with the token that its users send and its pipeline file.
+#[derive(Clone, Drop)]
+pub struct Project {
+    pub id: u64,
+    pub name: Text,
+    pub token: Text,
+    /// The text of its `.gitlab-ci.yml`, if it has one.
+    pub file: Option<Text>,
+}
+
+/// A runner, with the token that it asks for jobs with.
+#[derive(Clone, Drop)]
+pub struct Runner {
+    pub id: u64,
+    pub name: Text,
+    pub token: Text,
+    /// The project whose jobs it runs; a runner of the instance runs those of every project.
+    pub project: Option<u64>,
+    pub tags: Texts,
+    /// Whether it runs jobs that have no tags.
+    pub untagged: bool,
+    /// It is given no job while it is paused.
+    pub paused: bool,
+}
+
+/// What a pipeline's ref names.
+#[derive(Clone, Copy, PartialEq, Eq, Drop)]
+pub enum RefKind {
+    Branch,
+    Tag,
+}
+
+/// What made a pipeline, as `CI_PIPELINE_SOURCE` gives it.
+#[derive(Clone, Copy, PartialEq, Eq, Drop)]
+pub enum Source {
+    Push,
+    Web,
+    Schedule,
+    Api,
+    Trigger,
+}
+
+/// A pipeline of a project.
+#[derive(Clone, Drop)]
+pub struct Pipeline {
+    pub id: u64,
+    pub project: u64,
+    /// The branch or the tag that it runs for.
+    pub git_ref: Text,
+    pub kind: RefKind,
+    pub source: Source,
+    pub created: Moment,
+}
+
+/// What the file and the rules fixed of a job when its pipeline was made.
+#[derive(Clone, Drop)]
+pub struct JobSpec {
+    pub script: Texts,
+    /// The time limit of an attempt, in seconds.
+    pub timeout: u32,
+}
+
+/// A job of a pipeline.
+#[derive(Clone, Drop)]
+pub struct Job {
+    pub id: u64,
+    pub pipeline: u64,
+    /// Its place among the jobs of its pipeline, from 0.
+    pub position: u64,
+    pub name: Text,
+    pub stage: Text,
+    pub spec: JobSpec,
+    /// Whether a user started it, where it is manual.
+    pub played: bool,
+    /// Whether a user or a sweep cancelled it.
+    pub cancelled: bool,
+    /// How many of its attempts were made before a user's last retry.
+    pub set_aside: u64,
+}
+
+/// A variable of a job, as it was fixed when its pipeline was made.
+#[derive(Clone, Drop)]
+pub struct JobVariable {
+    pub job: u64,
+    pub key: Text,
+    pub value: Text,
+}
+
+/// Why an attempt failed, in GitLab's words.
+#[derive(Clone, Copy, PartialEq, Eq, Drop)]
+pub enum Cause {
+    UnknownFailure,
+    ScriptFailure,
+    ApiFailure,
+    StuckOrTimeoutFailure,
+    RunnerSystemFailure,
+    JobExecutionTimeout,
+}
+
+/// How an attempt stands: live, or how it ended, with the exit code that its runner sent.
+#[derive(Clone, Copy, Drop)]
+pub enum AttemptState {
+    Live,
+    Succeeded(Option<u32>),
+    Failed(Cause, Option<u32>),
+    Cancelled,
+}
+
+/// A run of a job by a runner. While it is live it is the runner's lease on the job.
+#[derive(Clone, Drop)]
+pub struct Attempt {
+    pub id: u64,
+    pub job: u64,
+    pub runner: u64,
+    /// The token that the runner sends with all it says of the attempt.
+    pub token: Text,
+    pub granted: Moment,
+    /// When its runner was last heard of.
+    pub seen: Moment,
+    pub state: AttemptState,
+}
+
+/// The numbers that the next records get.
+#[derive(Clone, Copy, Drop)]
+pub struct Numbers {
+    pub project: u64,
+    pub runner: u64,
+    pub pipeline: u64,
+    pub job: u64,
+    pub attempt: u64,
+}

@@ -1,0 +1,86 @@
+//! What the machine is asked.
+
+ghost use Rattle.std.specs.Prelude.{◌≡◌};
+
+use crate::text::{Text, Texts};
+use std::marker::Model;
+
+/// A job of a pipeline to be made.
+#[derive(Drop)]
+pub struct NewJob {
+    pub name: Text,
+    pub script: Texts,
+}
+
+/// The jobs of a pipeline to be made, in order.
+#[derive(Drop)]
+pub struct NewJobs {
+    jobs: Vec<NewJob>,
+}
+
+impl Model for NewJobs {
+    ghost use Rattle.std.specs.Prelude.{List};
+    ghost use Rattle.ci_machine.specs.declared.request.NewJob.{NewJob};
+
+    ghost Value = { List NewJob };
+
+    ghost view = { λ n. n.jobs.items };
+}
+
+impl NewJobs {
+    /// The jobs of a list.
+    pub fn new(jobs: Vec<NewJob>) -> NewJobs
+        ensures { result ≡ jobs.items }
+    {
+        NewJobs { jobs }
+    }
+
+    /// The jobs, lent.
+    pub fn as_slice(&self) -> &[NewJob]
+        ensures { result.now ≡ self.now }
+    {
+        self.jobs.as_slice()
+    }
+
+    /// The list of the jobs.
+    pub fn into_vec(self) -> Vec<NewJob>
+        ensures { result.items ≡ self }
+    {
+        let NewJobs { jobs } = self;
+        jobs
+    }
+}
+
+/// A pipeline of a branch to be made, all of whose jobs are of one stage.
+///
+/// It stands in for the pipeline that a project's file describes until files are read.
+#[derive(Drop)]
+pub struct NewPipeline {
+    pub project: u64,
+    pub git_ref: Text,
+    pub stage: Text,
+    pub jobs: NewJobs,
+}
+
+/// What the server is asked to do.
+#[derive(Drop)]
+pub enum Request {
+    /// A project of this name is to be made.
+    AddProject(Text),
+    /// A runner of this name is to be made. It belongs to the instance, has no tags and runs untagged jobs.
+    AddRunner(Text),
+    /// A pipeline is to be made.
+    EnterPipeline(NewPipeline),
+    /// The runner with this token asks for a job.
+    AskJob(Text),
+}
+
+/// What happens to the machine: a request. Sweeps join it with the attempts that end.
+#[derive(Drop)]
+pub enum Event {
+    Request(Request),
+}
+
+/// The sixteen bytes of chance that come with an event, for the token that it may make.
+#[derive(Clone, Copy, Drop)]
+pub struct Seed(pub [u8; 16]);
