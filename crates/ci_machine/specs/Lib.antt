@@ -1,3 +1,4 @@
 pub mod Names
 pub mod State
 pub mod Reply
+pub mod Bodies

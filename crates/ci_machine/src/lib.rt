@@ -1,6 +1,7 @@
 //! The pipeline server as a machine: its records, its requests and replies, and what each event does to the state.
 #![tactic(auto)]
 
+pub mod body;
 pub mod change;
 pub mod moment;
 pub mod records;

@@ -1,7 +1,10 @@
 //! The records that the machine keeps: a row of a table each.
 
+ghost use Rattle.std.specs.Prelude.{◌≡◌};
+
 use crate::moment::Moment;
 use crate::text::{Text, Texts};
+use std::alloc::AllocError;
 
 /// The greatest number of a record: 2^53 - 1, up to which every reader of JSON keeps whole numbers exact.
 pub const GREATEST_NUMBER: u64 = 9_007_199_254_740_991;
@@ -86,12 +89,33 @@ pub struct Job {
     pub set_aside: u64,
 }
 
-/// A variable of a job, as it was fixed when its pipeline was made.
+/// A job that waits for a runner, with the project of its pipeline.
 #[derive(Clone, Drop)]
+pub struct QueuedJob {
+    pub job: Job,
+    pub project: u64,
+}
+
+/// A variable of a job, as it was fixed when its pipeline was made.
+#[derive(Drop)]
 pub struct JobVariable {
     pub job: u64,
     pub key: Text,
     pub value: Text,
+}
+
+impl Clone for JobVariable {
+    ghost is_clone = { λ old new. new ≡ old };
+
+    fn clone(&self) -> Result<JobVariable, AllocError> {
+        let key = self.key.clone()?;
+        let value = self.value.clone()?;
+        Ok(JobVariable {
+            job: self.job,
+            key,
+            value,
+        })
+    }
 }
 
 /// Why an attempt failed, in GitLab's words.

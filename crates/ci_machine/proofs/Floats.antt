@@ -1,0 +1,23 @@
+-- No body has a float.
+use Rattle.std.proofs.Common.{◌≡◌, ◌||◌, ℕ, List, [], ◌∷◌, map, false, refl, ap}
+use Rattle.serde_json.specs.Data.{Data, string}
+use Rattle.serde_json.specs.View.{items_of}
+use Rattle.serde_json.specs.Written.{has_float, items_have_float}
+use Rattle.ci_machine.specs.declared.records.Pipeline.{Pipeline}
+use Rattle.ci_machine.specs.declared.records.Job.{Job}
+use Rattle.ci_machine.specs.declared.records.JobVariable.{JobVariable}
+use Rattle.ci_machine.specs.declared.records.QueuedJob.{QueuedJob}
+use Rattle.ci_machine.specs.Bodies.{job_data, new_pipeline_data, variable_data, granted_variables, grant_data}
+use Rattle.std.specs.Prelude.{codes}
+
+-- a list whose items have none has none
+items : {A : Type 0} (data_of : A → Data) → ((x : A) → has_float (data_of x) ≡ false) → (xs : List A) → items_have_float (items_of (map data_of xs)) ≡ false
+items data_of plain [] = refl
+items data_of plain (x ∷ xs) = λ i. plain x i || items data_of plain xs i
+
+pub new_pipeline_has_none : (p : Pipeline) (jobs : List Job) → has_float (new_pipeline_data p jobs) ≡ false
+new_pipeline_has_none p jobs = ap (λ b. b || false) (items (job_data (codes "pending")) (λ j. refl) jobs)
+
+pub grant_has_none : (attempt : ℕ) (token : List ℕ) (q : QueuedJob) (vs : List JobVariable) → has_float (grant_data attempt token q vs) ≡ false
+grant_has_none attempt token q vs =
+    λ i. items string (λ s. refl) q.job.spec.script i || (items variable_data (λ v. refl) (granted_variables q.job attempt vs) i || false)

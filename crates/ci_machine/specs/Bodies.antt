@@ -1,0 +1,82 @@
+-- The bodies of replies: compact JSON, the members of each object in the order of their bytes.
+use Rattle.std.specs.Prelude.{ℕ, List, map, codes, insert, count_by, if◌then◌else◌}
+use Rattle.std.specs.List.{list_any}
+use Rattle.std.specs.Fmt.{decimal}
+use Rattle.std.specs.Ordering.{nat_cmp, is_lt}
+use Rattle.std.specs.Cmp.Lexicographic.{slice_cmp}
+use Rattle.std.specs.Str.{bytes_eq}
+use Rattle.serde_json.specs.Data.{Data, array, object, member, no_members, string, number, unsigned}
+use Rattle.serde_json.specs.View.{items_of}
+use Rattle.ci_machine.specs.declared.records.Pipeline.{Pipeline}
+use Rattle.ci_machine.specs.declared.records.Source.{Source}
+use Rattle.ci_machine.specs.declared.records.Source.TheVariants.{Push, Web, Schedule, Api, Trigger}
+use Rattle.ci_machine.specs.declared.records.Job.{Job}
+use Rattle.ci_machine.specs.declared.records.JobVariable.{JobVariable}
+use Rattle.ci_machine.specs.declared.records.QueuedJob.{QueuedJob}
+use Rattle.ci_machine.specs.declared.reply.Detail.{Detail}
+use Rattle.ci_machine.specs.declared.reply.Detail.TheVariants.{G4, K11, K16}
+
+abbrev pub source_text : Source → List ℕ
+source_text Push = codes "push"
+source_text Web = codes "web"
+source_text Schedule = codes "schedule"
+source_text Api = codes "api"
+source_text Trigger = codes "trigger"
+
+abbrev pub detail_text : Detail → List ℕ
+detail_text G4 = codes "G4"
+detail_text K11 = codes "K11"
+detail_text K16 = codes "K16"
+
+-- a fault of what was to be made: {"code":"M14","detail":..}
+abbrev pub fault_data : Detail → Data
+fault_data d = object (member (codes "code") (string (codes "M14")) (member (codes "detail") (string (detail_text d)) no_members))
+
+-- a new project or runner: {"id":..,"token":..}
+abbrev pub created_data : ℕ → List ℕ → Data
+created_data id token = object (member (codes "id") (number (unsigned id)) (member (codes "token") (string token) no_members))
+
+-- a job with its status: {"id":..,"name":..,"stage":..,"status":..}
+abbrev pub job_data : List ℕ → Job → Data
+job_data status j =
+    object (member (codes "id") (number (unsigned j.id))
+    (member (codes "name") (string j.name)
+    (member (codes "stage") (string j.stage)
+    (member (codes "status") (string status) no_members))))
+
+-- a pipeline none of whose jobs has been granted: it and each of them are pending
+abbrev pub new_pipeline_data : Pipeline → List Job → Data
+new_pipeline_data p jobs =
+    object (member (codes "id") (number (unsigned p.id))
+    (member (codes "jobs") (array (items_of (map (job_data (codes "pending")) jobs)))
+    (member (codes "ref") (string p.git_ref)
+    (member (codes "source") (string (source_text p.source))
+    (member (codes "status") (string (codes "pending")) no_members)))))
+
+-- a variable as a runner is given it: {"key":..,"value":..}
+abbrev pub variable_data : JobVariable → Data
+variable_data v = object (member (codes "key") (string v.key) (member (codes "value") (string v.value) no_members))
+
+-- variables by their keys, with this one where none has its key
+abbrev pub with_default : JobVariable → List JobVariable → List JobVariable
+with_default v vs =
+    if list_any (λ w. bytes_eq w.key v.key) vs then vs
+    else insert vs (count_by (λ w. is_lt (slice_cmp nat_cmp w.key v.key)) vs) v
+
+-- the variables of a grant: the job's, and the numbers of its pipeline and of the attempt where it has none of these keys
+abbrev pub granted_variables : Job → ℕ → List JobVariable → List JobVariable
+granted_variables j attempt vs =
+    with_default (record { job = j.id; key = codes "CI_JOB_ID"; value = decimal attempt })
+    (with_default (record { job = j.id; key = codes "CI_PIPELINE_ID"; value = decimal j.pipeline }) vs)
+
+-- what a runner is given of a job: its attempt, the job, and what to run
+abbrev pub grant_data : ℕ → List ℕ → QueuedJob → List JobVariable → Data
+grant_data attempt token q vs =
+    object (member (codes "id") (number (unsigned attempt))
+    (member (codes "job_info") (object (member (codes "name") (string q.job.name)
+    (member (codes "project_id") (number (unsigned q.project))
+    (member (codes "stage") (string q.job.stage) no_members))))
+    (member (codes "script") (array (items_of (map string q.job.spec.script)))
+    (member (codes "timeout") (number (unsigned q.job.spec.timeout))
+    (member (codes "token") (string token)
+    (member (codes "variables") (array (items_of (map variable_data (granted_variables q.job attempt vs)))) no_members))))))
