@@ -3,7 +3,10 @@
 
 pub mod body;
 pub mod change;
+pub mod choose;
+pub mod enter;
 pub mod moment;
+pub mod plan;
 pub mod records;
 pub mod reply;
 pub mod request;

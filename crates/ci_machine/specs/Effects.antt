@@ -1,0 +1,158 @@
+-- What each event does, from just the records that it needs: its answer and its changes.
+use Rattle.std.specs.Prelude.{ℕ, ◌+◌, ◌-◌, Bool, true, false, ◌&&◌, ◌||◌, not, List, [], ◌∷◌, ◌++◌, length, map, if◌then◌else◌, nat_lt, Option, Some, None, codes}
+use Rattle.std.specs.List.{list_all, flat_map}
+use Rattle.std.specs.Fmt.{decimal}
+use Rattle.hex.specs.Hex.{encode_lower}
+use Rattle.serde_json.specs.Written.{compact_text}
+use Rattle.ci_machine.specs.declared.records.Project.{Project}
+use Rattle.ci_machine.specs.declared.records.Runner.{Runner}
+use Rattle.ci_machine.specs.declared.records.Pipeline.{Pipeline}
+use Rattle.ci_machine.specs.declared.records.RefKind.TheVariants.{Branch}
+use Rattle.ci_machine.specs.declared.records.Source.TheVariants.{Api}
+use Rattle.ci_machine.specs.declared.records.Job.{Job}
+use Rattle.ci_machine.specs.declared.records.JobVariable.{JobVariable}
+use Rattle.ci_machine.specs.declared.records.QueuedJob.{QueuedJob}
+use Rattle.ci_machine.specs.declared.records.AttemptState.TheVariants.{Live}
+use Rattle.ci_machine.specs.declared.change.Change.{Change}
+use Rattle.ci_machine.specs.declared.change.Change.TheVariants.{Add, SetNext}
+use Rattle.ci_machine.specs.declared.change.Record.TheVariants as row
+use Rattle.ci_machine.specs.declared.change.Counter.TheVariants as counter
+use Rattle.ci_machine.specs.declared.request.NewJob.{NewJob}
+use Rattle.ci_machine.specs.declared.request.NewPipeline.{NewPipeline}
+use Rattle.ci_machine.specs.declared.request.Seed.{Seed}
+use Rattle.ci_machine.specs.declared.reply.Code.{Code}
+use Rattle.ci_machine.specs.declared.reply.Code.TheVariants.{M2, M4, M14, M15}
+use Rattle.ci_machine.specs.declared.reply.Detail.{Detail}
+use Rattle.ci_machine.specs.declared.reply.Detail.TheVariants.{G4, K11, K16}
+use Rattle.ci_machine.specs.declared.reply.Status.TheVariants.{Created, NoContent}
+use Rattle.ci_machine.specs.declared.reply.Body.TheVariants.{Json}
+use Rattle.ci_machine.specs.declared.reply.Reply.{Reply}
+use Rattle.ci_machine.specs.declared.reply.Answer.TheVariants as answer
+use Rattle.ci_machine.specs.declared.reply.Effect.{Effect}
+use Rattle.ci_machine.specs.Names.{is_name}
+use Rattle.ci_machine.specs.Reply.{status_of, refusal}
+use Rattle.ci_machine.specs.Bodies.{fault_data, created_data, new_pipeline_data, grant_data}
+
+-- the greatest number of a record
+abbrev pub greatest_number : ℕ
+greatest_number = 9007199254740991
+
+-- the most jobs of a pipeline
+abbrev pub most_jobs : ℕ
+most_jobs = 100
+
+-- ---- replies
+
+abbrev pub replies : Reply → List Change → Effect
+replies reply changes = record { answer = answer.Reply reply; changes = changes }
+
+-- a refusal changes nothing
+abbrev pub refuses : Code → Effect
+refuses code = replies (refusal code) []
+
+abbrev pub fault : Detail → Reply
+fault d = record { status = status_of M14; code = Some M14; job_status = None; range = None; allow = None; body = Some (Json (compact_text (fault_data d))) }
+
+abbrev pub faults : Detail → Effect
+faults d = replies (fault d) []
+
+abbrev pub created : List ℕ → Reply
+created text = record { status = Created; code = None; job_status = None; range = None; allow = None; body = Some (Json text) }
+
+abbrev pub no_content : Reply
+no_content = record { status = NoContent; code = None; job_status = None; range = None; allow = None; body = None }
+
+-- ---- a project, a runner
+
+-- a letter, the number, a dash and the seed in hex
+abbrev pub token_of : List ℕ → ℕ → Seed → List ℕ
+token_of letter n seed = letter ++ (decimal n ++ (codes "-" ++ encode_lower seed.0))
+
+-- a project is to be made, with this next number
+abbrev pub add_project : ℕ → List ℕ → Seed → Effect
+add_project next name seed =
+    let token = token_of (codes "p") next seed in
+    if not (is_name name) then faults K16
+    else if nat_lt greatest_number next then refuses M15
+    else replies (created (compact_text (created_data next token)))
+    (Add (row.Project (record { id = next; name = name; token = token; file = None })) ∷ SetNext counter.Project (next + 1) ∷ [])
+
+-- a runner of the instance is to be made, with this next number
+abbrev pub add_runner : ℕ → List ℕ → Seed → Effect
+add_runner next name seed =
+    let token = token_of (codes "r") next seed in
+    if not (is_name name) then faults K16
+    else if nat_lt greatest_number next then refuses M15
+    else replies (created (compact_text (created_data next token)))
+    (Add (row.Runner (record { id = next; name = name; token = token; project = None; tags = []; untagged = true; paused = false })) ∷ SetNext counter.Runner (next + 1) ∷ [])
+
+-- ---- a pipeline
+
+-- its ref, its stage and its jobs have names
+abbrev pub has_names : NewPipeline → Bool
+has_names p = is_name p.git_ref && is_name p.stage && list_all (λ j. is_name j.name) p.jobs
+
+-- the job at a position of a pipeline, whose first job has the number first: it has an hour, the limit of a job that sets none
+abbrev pub new_job : List ℕ → ℕ → ℕ → ℕ → NewJob → Job
+new_job stage pipeline first position j =
+    record { id = first + position; pipeline = pipeline; position = position; name = j.name; stage = stage; spec = record { script = j.script; timeout = 3600 }; played = false; cancelled = false; set_aside = 0 }
+
+-- the jobs from a position on
+abbrev pub new_jobs : List ℕ → ℕ → ℕ → ℕ → List NewJob → List Job
+new_jobs stage pipeline first position [] = []
+new_jobs stage pipeline first position (j ∷ js) = new_job stage pipeline first position j ∷ new_jobs stage pipeline first (position + 1) js
+
+abbrev pub variable : ℕ → List ℕ → List ℕ → JobVariable
+variable job key value = record { job = job; key = key; value = value }
+
+-- the predefined variables of a job of a branch's pipeline, by their keys
+abbrev pub predefined : Pipeline → Job → List JobVariable
+predefined p j =
+    variable j.id (codes "CI") (codes "true")
+    ∷ variable j.id (codes "CI_COMMIT_BRANCH") p.git_ref
+    ∷ variable j.id (codes "CI_COMMIT_REF_NAME") p.git_ref
+    ∷ variable j.id (codes "CI_JOB_NAME") j.name
+    ∷ variable j.id (codes "CI_JOB_STAGE") j.stage
+    ∷ variable j.id (codes "CI_PIPELINE_SOURCE") (codes "api")
+    ∷ variable j.id (codes "CI_PROJECT_ID") (decimal p.project)
+    ∷ []
+
+abbrev pub job_changes : Pipeline → Job → List Change
+job_changes p j = Add (row.Job j) ∷ map (λ v. Add (row.JobVariable v)) (predefined p j)
+
+-- the pipeline with this number
+abbrev pub new_pipeline : ℕ → NewPipeline → ℕ → Pipeline
+new_pipeline id p now = record { id = id; project = p.project; git_ref = p.git_ref; kind = Branch; source = Api; created = now }
+
+abbrev pub entered : ℕ → ℕ → NewPipeline → ℕ → Effect
+entered next_pipeline next_job p now =
+    let pipeline = new_pipeline next_pipeline p now in
+    let jobs = new_jobs p.stage next_pipeline next_job 0 p.jobs in
+    replies (created (compact_text (new_pipeline_data pipeline jobs)))
+    (Add (row.Pipeline pipeline) ∷ SetNext counter.Pipeline (next_pipeline + 1) ∷ SetNext counter.Job (next_job + length p.jobs)
+    ∷ flat_map (job_changes pipeline) jobs)
+
+-- a pipeline is to be made, of this project and with these next numbers
+abbrev pub enter_pipeline : Option Project → ℕ → ℕ → NewPipeline → ℕ → Effect
+enter_pipeline None next_pipeline next_job p now = refuses M2
+enter_pipeline (Some project) next_pipeline next_job p now =
+    if nat_lt (length p.jobs) 1 then faults G4
+    else if nat_lt most_jobs (length p.jobs) then faults K11
+    else if not (has_names p) then faults K16
+    else if nat_lt greatest_number next_pipeline || nat_lt greatest_number (next_job + length p.jobs - 1) then refuses M15
+    else entered next_pipeline next_job p now
+
+-- ---- a job request
+
+abbrev pub grant : Runner → QueuedJob → List JobVariable → ℕ → ℕ → Seed → Effect
+grant runner q variables next now seed =
+    let token = token_of (codes "j") next seed in
+    replies (created (compact_text (grant_data next token q variables)))
+    (Add (row.Attempt (record { id = next; job = q.job.id; runner = runner.id; token = token; granted = now; seen = now; state = Live })) ∷ SetNext counter.Attempt (next + 1) ∷ [])
+
+-- a runner asks for a job: the runner, the job that it is offered with its variables, and the next number of an attempt
+abbrev pub ask_job : Option Runner → Option QueuedJob → List JobVariable → ℕ → ℕ → Seed → Effect
+ask_job None offer variables next now seed = refuses M4
+ask_job (Some runner) None variables next now seed = replies no_content []
+ask_job (Some runner) (Some q) variables next now seed =
+    if nat_lt greatest_number next then refuses M15 else grant runner q variables next now seed
