@@ -1,1 +1,3 @@
 pub mod Floats
+pub mod Refusals
+pub mod Tokens

@@ -68,23 +68,32 @@ no_content = record { status = NoContent; code = None; job_status = None; range 
 abbrev pub token_of : List ℕ → ℕ → Seed → List ℕ
 token_of letter n seed = letter ++ (decimal n ++ (codes "-" ++ encode_lower seed.0))
 
+abbrev pub made_project : ℕ → List ℕ → Seed → Effect
+made_project id name seed =
+    let token = token_of (codes "p") id seed in
+    replies (created (compact_text (created_data id token)))
+    (Add (row.Project (record { id = id; name = name; token = token; file = None })) ∷ SetNext counter.Project (id + 1) ∷ [])
+
 -- a project is to be made, with this next number
 abbrev pub add_project : ℕ → List ℕ → Seed → Effect
 add_project next name seed =
-    let token = token_of (codes "p") next seed in
     if not (is_name name) then faults K16
     else if nat_lt greatest_number next then refuses M15
-    else replies (created (compact_text (created_data next token)))
-    (Add (row.Project (record { id = next; name = name; token = token; file = None })) ∷ SetNext counter.Project (next + 1) ∷ [])
+    else made_project next name seed
 
--- a runner of the instance is to be made, with this next number
+-- a runner of the instance, which has no tags and runs untagged jobs
+abbrev pub made_runner : ℕ → List ℕ → Seed → Effect
+made_runner id name seed =
+    let token = token_of (codes "r") id seed in
+    replies (created (compact_text (created_data id token)))
+    (Add (row.Runner (record { id = id; name = name; token = token; project = None; tags = []; untagged = true; paused = false })) ∷ SetNext counter.Runner (id + 1) ∷ [])
+
+-- a runner is to be made, with this next number
 abbrev pub add_runner : ℕ → List ℕ → Seed → Effect
 add_runner next name seed =
-    let token = token_of (codes "r") next seed in
     if not (is_name name) then faults K16
     else if nat_lt greatest_number next then refuses M15
-    else replies (created (compact_text (created_data next token)))
-    (Add (row.Runner (record { id = next; name = name; token = token; project = None; tags = []; untagged = true; paused = false })) ∷ SetNext counter.Runner (next + 1) ∷ [])
+    else made_runner next name seed
 
 -- ---- a pipeline
 
@@ -132,6 +141,10 @@ entered next_pipeline next_job p now =
     (Add (row.Pipeline pipeline) ∷ SetNext counter.Pipeline (next_pipeline + 1) ∷ SetNext counter.Job (next_job + length p.jobs)
     ∷ flat_map (job_changes pipeline) jobs)
 
+-- the number of the pipeline, or that of the last of so many jobs from the first on, is over the limit
+abbrev pub lacks_numbers : ℕ → ℕ → ℕ → Bool
+lacks_numbers pipeline first count = nat_lt greatest_number pipeline || nat_lt greatest_number (first + count - 1)
+
 -- a pipeline is to be made, of this project and with these next numbers
 abbrev pub enter_pipeline : Option Project → ℕ → ℕ → NewPipeline → ℕ → Effect
 enter_pipeline None next_pipeline next_job p now = refuses M2
@@ -139,7 +152,7 @@ enter_pipeline (Some project) next_pipeline next_job p now =
     if nat_lt (length p.jobs) 1 then faults G4
     else if nat_lt most_jobs (length p.jobs) then faults K11
     else if not (has_names p) then faults K16
-    else if nat_lt greatest_number next_pipeline || nat_lt greatest_number (next_job + length p.jobs - 1) then refuses M15
+    else if lacks_numbers next_pipeline next_job (length p.jobs) then refuses M15
     else entered next_pipeline next_job p now
 
 -- ---- a job request

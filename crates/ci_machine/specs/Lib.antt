@@ -4,3 +4,6 @@ pub mod Reply
 pub mod Bodies
 pub mod Eligible
 pub mod Effects
+pub mod Step
+pub mod History
+pub mod Laws

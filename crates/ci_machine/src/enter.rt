@@ -1,6 +1,6 @@
 //! A pipeline is to be made.
 
-ghost use Rattle.std.specs.Prelude.{◌≡◌, ◌+◌, ◌≤◌, ◌<◌, ◌^◌, ◌∷◌, ◌++◌, [], IfOk, OnOk, map, vec_len, length, not, nat_lt, ◌||◌, ◌-◌};
+ghost use Rattle.std.specs.Prelude.{◌≡◌, ◌+◌, ◌≤◌, ◌<◌, ◌^◌, ◌∷◌, ◌++◌, [], IfOk, OnOk, map, vec_len, length};
 ghost use Rattle.std.specs.List.{list_all, flat_map};
 ghost use Rattle.std.specs.Option.{option_copied};
 ghost use Rattle.std.specs.Fmt.{decimal};
@@ -156,18 +156,18 @@ pub fn enter_pipeline(
     if !has_names(&new) {
         return faults(alloc, Detail::K16);
     }
-    if !has_numbers(next_pipeline, next_job, count as u64) {
+    if lacks_numbers(next_pipeline, next_job, count as u64) {
         return Ok(refuses(alloc, Code::M15));
     }
     make_pipeline(alloc, next_pipeline, next_job, new, now)
 }
 
-/// Are these numbers within the limit: of a pipeline, and of so many jobs from the first on?
-fn has_numbers(pipeline: u64, first: u64, count: u64) -> bool
+/// Is the number of the pipeline, or that of the last of so many jobs from the first on, over the limit?
+fn lacks_numbers(pipeline: u64, first: u64, count: u64) -> bool
     requires { 0 < count }
-    ensures { result ≡ not (nat_lt effects.greatest_number pipeline || nat_lt effects.greatest_number (first + count - 1)) }
+    ensures { result ≡ effects.lacks_numbers pipeline first count }
 {
-    pipeline <= GREATEST_NUMBER && first <= GREATEST_NUMBER && count - 1 <= GREATEST_NUMBER - first
+    pipeline > GREATEST_NUMBER || first > GREATEST_NUMBER || count - 1 > GREATEST_NUMBER - first
 }
 
 fn make_pipeline(

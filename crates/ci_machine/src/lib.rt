@@ -5,6 +5,7 @@ pub mod body;
 pub mod change;
 pub mod choose;
 pub mod enter;
+pub mod laws;
 pub mod moment;
 pub mod plan;
 pub mod records;

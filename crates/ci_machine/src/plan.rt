@@ -1,9 +1,8 @@
 //! What each event does, from just the records that it needs. Nothing is changed here: an effect is an answer and
 //! the changes that a commit makes.
 
-ghost use Rattle.std.specs.Prelude.{◌≡◌, ◌+◌, ◌≤◌, ◌<◌, ◌∷◌, [], IfOk, true};
+ghost use Rattle.std.specs.Prelude.{◌≡◌, ◌+◌, ◌≤◌, ◌<◌, ◌∷◌, [], IfOk};
 ghost use Rattle.std.specs.Option.{option_copied};
-ghost use Rattle.ci_machine.specs.Names.{is_name};
 ghost use Rattle.ci_machine.specs.Effects as effects;
 
 use crate::body;
@@ -103,9 +102,8 @@ pub fn add_project(alloc: Global, next: u64, name: Text, seed: Seed) -> Result<E
 }
 
 fn make_project(alloc: Global, id: u64, name: Text, seed: Seed) -> Result<Effect, AllocError>
-    requires named { is_name name ≡ true }
-    requires within { id ≤ 9007199254740991 }
-    ensures { IfOk result (λ e. e ≡ effects.add_project id name seed) }
+    requires { id ≤ 9007199254740991 }
+    ensures { IfOk result (λ e. e ≡ effects.made_project id name seed) }
 {
     let token = token(alloc, "p", id, seed)?;
     let text = body::created(alloc, id, &token)?;
@@ -139,9 +137,8 @@ pub fn add_runner(alloc: Global, next: u64, name: Text, seed: Seed) -> Result<Ef
 }
 
 fn make_runner(alloc: Global, id: u64, name: Text, seed: Seed) -> Result<Effect, AllocError>
-    requires named { is_name name ≡ true }
-    requires within { id ≤ 9007199254740991 }
-    ensures { IfOk result (λ e. e ≡ effects.add_runner id name seed) }
+    requires { id ≤ 9007199254740991 }
+    ensures { IfOk result (λ e. e ≡ effects.made_runner id name seed) }
 {
     let token = token(alloc, "r", id, seed)?;
     let text = body::created(alloc, id, &token)?;
