@@ -7,3 +7,4 @@ pub mod Effects
 pub mod Step
 pub mod History
 pub mod Laws
+pub mod Examples

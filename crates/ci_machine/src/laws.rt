@@ -1,13 +1,17 @@
 //! What holds of every step and of every token, whatever happens.
 
-ghost use Rattle.std.specs.Prelude.{List, ℕ, ◌<◌, ◌^◌, ◌≡◌};
+ghost use Rattle.std.specs.Prelude.{List, [], ◌∷◌, ℕ, ◌<◌, ◌^◌, ◌≡◌, codes, replicate, true, false};
 ghost use Rattle.ci_machine.specs.declared.request.Event.{Event};
 ghost use Rattle.ci_machine.specs.declared.request.Seed.{Seed};
 ghost use Rattle.ci_machine.specs.declared.reply.Answer.{Answer};
 ghost use Rattle.ci_machine.specs.State.{State};
-ghost use Rattle.ci_machine.specs.Effects.{token_of};
+ghost use Rattle.ci_machine.specs.Effects.{token_of, replies, refuses, no_content, add_project, made_project, add_runner, made_runner, lacks_numbers};
+ghost use Rattle.ci_machine.specs.Names.{is_name};
 ghost use Rattle.ci_machine.specs.Step.{Step};
 ghost use Rattle.ci_machine.specs.Laws.{IsRefusal};
+ghost use Rattle.ci_machine.specs.Examples.{answer_text, project_added, runner_added, pipeline_entered, granted, with_attempt, token, asked, seed};
+
+use crate::reply::Code;
 
 /// A step that refuses leaves the state as it was.
 pub fn a_refusal_changes_nothing()
@@ -17,4 +21,36 @@ pub fn a_refusal_changes_nothing()
 /// Two tokens of a kind are the same only if their numbers are, whatever the seeds.
 pub fn tokens_hold_their_number()
     ensures { (letter : List ℕ) (n m : ℕ) (s t : Seed) → n < 2 ^ 64 → m < 2 ^ 64 → token_of letter n s ≡ token_of letter m t → n ≡ m }
+{}
+
+/// The worked examples come out of the definitions, byte for byte.
+pub fn worked_examples()
+    ensures project { answer_text project_added.answer ≡ codes "{\"id\":1,\"token\":\"p1-abababababababababababababababab\"}" }
+    ensures runner { answer_text runner_added.answer ≡ codes "{\"id\":1,\"token\":\"r1-abababababababababababababababab\"}" }
+    ensures pipeline { answer_text pipeline_entered.answer ≡ codes "{\"id\":1,\"jobs\":[{\"id\":1,\"name\":\"build\",\"stage\":\"build\",\"status\":\"pending\"}],\"ref\":\"main\",\"source\":\"api\",\"status\":\"pending\"}" }
+    ensures granted { answer_text granted.answer ≡ codes "{\"id\":1,\"job_info\":{\"name\":\"build\",\"project_id\":1,\"stage\":\"build\"},\"script\":[\"make\"],\"timeout\":3600,\"token\":\"j1-abababababababababababababababab\",\"variables\":[{\"key\":\"CI\",\"value\":\"true\"},{\"key\":\"CI_COMMIT_BRANCH\",\"value\":\"main\"},{\"key\":\"CI_COMMIT_REF_NAME\",\"value\":\"main\"},{\"key\":\"CI_JOB_ID\",\"value\":\"1\"},{\"key\":\"CI_JOB_NAME\",\"value\":\"build\"},{\"key\":\"CI_JOB_STAGE\",\"value\":\"build\"},{\"key\":\"CI_PIPELINE_ID\",\"value\":\"1\"},{\"key\":\"CI_PIPELINE_SOURCE\",\"value\":\"api\"},{\"key\":\"CI_PROJECT_ID\",\"value\":\"1\"}]}" }
+    ensures asked_again { asked with_attempt token ≡ replies no_content [] }
+    ensures unknown_token { asked with_attempt (codes "nope") ≡ refuses Code.M4 }
+    ensures unknown_body { answer_text (asked with_attempt (codes "nope")).answer ≡ codes "{\"code\":\"M4\"}" }
+{}
+
+/// The limits, at their last value and one past it.
+pub fn limits()
+    ensures longest_name { is_name (replicate 255 97) ≡ true }
+    ensures too_long_name { is_name (replicate 256 97) ≡ false }
+    ensures empty_name { is_name [] ≡ false }
+    ensures space { is_name (32 ∷ []) ≡ true }
+    ensures last_control { is_name (31 ∷ []) ≡ false }
+    ensures delete { is_name (97 ∷ 127 ∷ []) ≡ false }
+
+    ensures last_project { add_project 9007199254740991 (codes "p") seed ≡ made_project 9007199254740991 (codes "p") seed }
+    ensures past_last_project { add_project 9007199254740992 (codes "p") seed ≡ refuses Code.M15 }
+    ensures last_runner { add_runner 9007199254740991 (codes "r") seed ≡ made_runner 9007199254740991 (codes "r") seed }
+    ensures past_last_runner { add_runner 9007199254740992 (codes "r") seed ≡ refuses Code.M15 }
+
+    ensures last_pipeline { lacks_numbers 9007199254740991 1 1 ≡ false }
+    ensures past_last_pipeline { lacks_numbers 9007199254740992 1 1 ≡ true }
+    ensures last_jobs { lacks_numbers 1 9007199254740990 2 ≡ false }
+    ensures past_last_jobs { lacks_numbers 1 9007199254740990 3 ≡ true }
+    ensures past_all_jobs { lacks_numbers 1 9007199254740992 1 ≡ true }
 {}
