@@ -1,0 +1,71 @@
+//! The values of columns.
+
+use ci_machine::change::Counter;
+use ci_machine::records::{AttemptState, Cause, RefKind, Source};
+use ci_machine::text::Text;
+use sqlite::types::{ToSql, ValueRef};
+
+/// The key of a next number in the table `meta`.
+pub fn counter_key(counter: Counter) -> &'static str {
+    match counter {
+        Counter::Project => "next_project",
+        Counter::Runner => "next_runner",
+        Counter::Pipeline => "next_pipeline",
+        Counter::Job => "next_job",
+        Counter::Attempt => "next_attempt",
+    }
+}
+
+/// The column `kind` of a pipeline.
+pub fn kind_number(kind: RefKind) -> u32 {
+    match kind {
+        RefKind::Branch => 0,
+        RefKind::Tag => 1,
+    }
+}
+
+/// The column `source` of a pipeline.
+pub fn source_number(source: Source) -> u32 {
+    match source {
+        Source::Push => 0,
+        Source::Web => 1,
+        Source::Schedule => 2,
+        Source::Api => 3,
+        Source::Trigger => 4,
+    }
+}
+
+/// The column `cause` of an attempt that failed.
+pub fn cause_number(cause: Cause) -> u32 {
+    match cause {
+        Cause::UnknownFailure => 0,
+        Cause::ScriptFailure => 1,
+        Cause::ApiFailure => 2,
+        Cause::StuckOrTimeoutFailure => 3,
+        Cause::RunnerSystemFailure => 4,
+        Cause::JobExecutionTimeout => 5,
+    }
+}
+
+/// The columns `state`, `cause` and `exit` of an attempt.
+pub fn state_numbers(state: AttemptState) -> (u32, Option<u32>, Option<u32>) {
+    match state {
+        AttemptState::Live => (0, None, None),
+        AttemptState::Succeeded(exit) => (1, None, exit),
+        AttemptState::Failed(cause, exit) => (2, Some(cause_number(cause)), exit),
+        AttemptState::Cancelled => (3, None, None),
+    }
+}
+
+/// A text as SQL has it.
+pub(crate) fn text(text: &Text) -> ValueRef<'_> {
+    text.as_str().to_sql()
+}
+
+/// A text or NULL.
+pub(crate) fn optional_text(text: &Option<Text>) -> ValueRef<'_> {
+    match text {
+        Some(text) => text.as_str().to_sql(),
+        None => ValueRef::Null,
+    }
+}

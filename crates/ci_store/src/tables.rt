@@ -1,0 +1,224 @@
+//! The tables, which are the only writer of their store.
+
+ghost use Rattle.std.specs.Prelude.{◌≡◌, false};
+
+use crate::commit::commit;
+use crate::{load, texts};
+use ci_machine::change::{Counter, Delta};
+use ci_machine::records::{Attempt, Job, JobVariable, Pipeline, Project, Runner};
+use ci_machine::text::Text;
+use ci_tables::fault::StoreFault;
+use ci_tables::values::number;
+use ci_tables::write::change;
+use sqlite::types::{ToSql, ValueRef};
+use sqlite::{Alter, Connection, Error, ErrorCode, Transaction};
+use std::marker::Model;
+
+/// The number of the format, under the key `format`: the four bytes `CIPS`.
+pub const FORMAT: u64 = 1_128_878_163;
+
+/// The version of the format, under the key `version`.
+pub const VERSION: u64 = 1;
+
+/// Why the tables were not opened.
+#[derive(Clone, Copy, Debug, PartialEq, Eq)]
+pub enum OpenFault {
+    /// The store is not of this format.
+    O1,
+    /// It is of another version.
+    O2,
+    /// The store failed.
+    O3,
+    /// Memory was refused.
+    Memory,
+}
+
+impl From<StoreFault> for OpenFault {
+    fn from(fault: StoreFault) -> OpenFault {
+        match fault {
+            StoreFault::Memory => OpenFault::Memory,
+            StoreFault::Broken => OpenFault::O3,
+        }
+    }
+}
+
+/// The tables of the server. Between its calls no transaction is open.
+#[derive(Drop)]
+pub struct Tables<S: Alter> {
+    conn: Connection<S>,
+}
+
+impl<S: Alter> Model for Tables<S> {
+    ghost use Rattle.std.specs.Prelude.{◌≡◌, false};
+    ghost use Rattle.sqlite.specs.Held.{Held, held_code};
+
+    ghost Value = { Held S };
+
+    ghost coded = { held_code S.code };
+
+    ghost view = { λ t. t.conn };
+
+    ghost invariant = { λ t. t.conn.in_transaction ≡ false };
+}
+
+/// The rows that `meta` has at first.
+const FIRST_ROWS: [(&str, u64); 7] = [
+    ("format", FORMAT),
+    ("version", VERSION),
+    ("next_project", 1),
+    ("next_runner", 1),
+    ("next_pipeline", 1),
+    ("next_job", 1),
+    ("next_attempt", 1),
+];
+
+fn define<S: Alter>(tx: &mut Transaction<'_, S>) -> Result<(), StoreFault>
+    ensures same_reference { tx.new.conn.ghost_name ≡ tx.old.conn.ghost_name }
+{
+    for text in texts::SCHEMA {
+        change(tx, text, &[])?;
+    }
+    Ok(())
+}
+
+fn fill<S: Alter>(tx: &mut Transaction<'_, S>) -> Result<(), StoreFault>
+    ensures same_reference { tx.new.conn.ghost_name ≡ tx.old.conn.ghost_name }
+{
+    for (key, num) in FIRST_ROWS {
+        change(tx, texts::INSERT_META, &[key.to_sql(), number(num)?])?;
+    }
+    Ok(())
+}
+
+fn make_tables<S: Alter>(conn: &mut Connection<S>) -> Result<(), OpenFault>
+    requires { conn.old.in_transaction ≡ false }
+    ensures idle { conn.new.in_transaction ≡ false }
+{
+    if !conn.schema().tables.is_empty() {
+        return Err(OpenFault::O1);
+    }
+    let mut tx = conn.transaction();
+    define(&mut tx)?;
+    fill(&mut tx)?;
+    match tx.commit() {
+        Ok(()) => Ok(()),
+        Err(error) => Err(OpenFault::from(StoreFault::from(error))),
+    }
+}
+
+/// The number under a key of `meta`, if there is one.
+fn meta_number<S: Alter>(conn: &mut Connection<S>, key: &str) -> Result<Option<u64>, OpenFault>
+    requires { conn.old.in_transaction ≡ false }
+    ensures idle { conn.new.in_transaction ≡ false }
+{
+    let rows = match conn.query_all(texts::SELECT_META, &[key.to_sql()]) {
+        Ok(rows) => rows,
+        Err(Error::SqlInputError(_)) => return Ok(None),
+        Err(error) => return Err(OpenFault::from(StoreFault::from(error))),
+    };
+    match rows.as_slice() {
+        [row] => Ok(row.get(1).ok()),
+        _ => Ok(None),
+    }
+}
+
+/// Whether the store is of this format and version.
+fn recognize<S: Alter>(conn: &mut Connection<S>) -> Result<(), OpenFault>
+    requires { conn.old.in_transaction ≡ false }
+    ensures idle { conn.new.in_transaction ≡ false }
+{
+    if meta_number(conn, "format")? != Some(FORMAT) {
+        return Err(OpenFault::O1);
+    }
+    if meta_number(conn, "version")? != Some(VERSION) {
+        return Err(OpenFault::O2);
+    }
+    Ok(())
+}
+
+impl<S: Alter> Tables<S> {
+    /// Makes the tables of an empty store, in one transaction. Errors: O1, the store has tables already; O3, it failed, or a
+    /// transaction is open.
+    pub fn create(mut conn: Connection<S>) -> Result<Tables<S>, (OpenFault, Connection<S>)> {
+        if !conn.is_autocommit() {
+            return Err((OpenFault::O3, conn));
+        }
+        match make_tables(&mut conn) {
+            Ok(()) => Ok(Tables { conn }),
+            Err(fault) => Err((fault, conn)),
+        }
+    }
+
+    /// Opens the tables of a store. Errors: O1, it is not of this format; O2, it is of another version; O3, it failed, or a
+    /// transaction is open.
+    pub fn open(mut conn: Connection<S>) -> Result<Tables<S>, (OpenFault, Connection<S>)> {
+        if !conn.is_autocommit() {
+            return Err((OpenFault::O3, conn));
+        }
+        match recognize(&mut conn) {
+            Ok(()) => Ok(Tables { conn }),
+            Err(fault) => Err((fault, conn)),
+        }
+    }
+
+    /// Gives the connection back.
+    pub fn close(self) -> Connection<S>
+        ensures same { result ≡ self }
+        ensures idle { result.in_transaction ≡ false }
+    {
+        let Tables { conn } = self;
+        conn
+    }
+
+    /// The next number of a kind.
+    pub fn next(&mut self, counter: Counter) -> Result<u64, StoreFault> {
+        load::next(&mut self.conn, counter)
+    }
+
+    /// The project with the number.
+    pub fn project(&mut self, id: u64) -> Result<Option<Project>, StoreFault> {
+        load::project(&mut self.conn, id)
+    }
+
+    /// The runner with the token.
+    pub fn runner_with(&mut self, token: &Text) -> Result<Option<Runner>, StoreFault> {
+        load::runner_with(&mut self.conn, token)
+    }
+
+    /// The pipeline with the number.
+    pub fn pipeline(&mut self, id: u64) -> Result<Option<Pipeline>, StoreFault> {
+        load::pipeline(&mut self.conn, id)
+    }
+
+    /// The job with the number.
+    pub fn job(&mut self, id: u64) -> Result<Option<Job>, StoreFault> {
+        load::job(&mut self.conn, id)
+    }
+
+    /// The variables of a job, by key.
+    pub fn job_variables(&mut self, job: u64) -> Result<Vec<JobVariable>, StoreFault> {
+        load::job_variables(&mut self.conn, job)
+    }
+
+    /// The attempt with the number.
+    pub fn attempt(&mut self, id: u64) -> Result<Option<Attempt>, StoreFault> {
+        load::attempt(&mut self.conn, id)
+    }
+
+    /// The attempts of a job, by number.
+    pub fn attempts_of(&mut self, job: u64) -> Result<Vec<Attempt>, StoreFault> {
+        load::attempts_of(&mut self.conn, job)
+    }
+
+    /// All jobs, by number. It reads the whole table.
+    pub fn jobs(&mut self) -> Result<Vec<Job>, StoreFault> {
+        load::jobs(&mut self.conn)
+    }
+
+    /// Makes the changes in one transaction, or none of them.
+    pub fn commit(&mut self, delta: Delta) -> Result<(), StoreFault> {
+        let changes = delta.into_vec();
+        let alloc = *changes.allocator();
+        commit(&mut self.conn, alloc, changes.as_slice())
+    }
+}

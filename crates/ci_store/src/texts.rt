@@ -1,0 +1,91 @@
+//! The texts of all statements. A connection keeps the plans of 64 texts; these are fewer.
+
+pub const SCHEMA: [&str; 9] = [
+    "CREATE TABLE meta (key TEXT NOT NULL PRIMARY KEY, num INTEGER NOT NULL) STRICT",
+    "CREATE TABLE project (id INTEGER PRIMARY KEY, name TEXT NOT NULL, token TEXT NOT NULL UNIQUE, file TEXT) STRICT",
+    "CREATE TABLE runner (id INTEGER PRIMARY KEY, name TEXT NOT NULL, token TEXT NOT NULL UNIQUE, project INTEGER REFERENCES project (id), tags TEXT NOT NULL, untagged INTEGER NOT NULL, paused INTEGER NOT NULL) STRICT",
+    "CREATE TABLE pipeline (id INTEGER PRIMARY KEY, project INTEGER NOT NULL REFERENCES project (id), ref TEXT NOT NULL, kind INTEGER NOT NULL, source INTEGER NOT NULL, created INTEGER NOT NULL) STRICT",
+    "CREATE TABLE job (id INTEGER PRIMARY KEY, pipeline INTEGER NOT NULL REFERENCES pipeline (id) ON DELETE CASCADE, pos INTEGER NOT NULL, name TEXT NOT NULL, stage TEXT NOT NULL, spec TEXT NOT NULL, played INTEGER NOT NULL, cancelled INTEGER NOT NULL, aside INTEGER NOT NULL) STRICT",
+    "CREATE INDEX job_pipeline ON job (pipeline)",
+    "CREATE TABLE jobvar (job INTEGER NOT NULL REFERENCES job (id) ON DELETE CASCADE, key TEXT NOT NULL, value TEXT NOT NULL, PRIMARY KEY (job, key)) STRICT",
+    "CREATE TABLE attempt (id INTEGER PRIMARY KEY, job INTEGER NOT NULL REFERENCES job (id) ON DELETE CASCADE, runner INTEGER NOT NULL REFERENCES runner (id), token TEXT NOT NULL, granted INTEGER NOT NULL, seen INTEGER NOT NULL, state INTEGER NOT NULL, cause INTEGER, exit INTEGER) STRICT",
+    "CREATE INDEX attempt_job ON attempt (job)",
+];
+
+pub const INSERT_META: &str = "INSERT INTO meta (key, num) VALUES (?1, ?2)";
+
+pub const UPDATE_META: &str = "UPDATE meta SET key = ?1, num = ?2 WHERE key = ?1";
+
+pub const SELECT_META: &str = "SELECT key, num FROM meta WHERE key = ?1";
+
+pub const INSERT_PROJECT: &str =
+    "INSERT INTO project (id, name, token, file) VALUES (?1, ?2, ?3, ?4)";
+
+pub const UPDATE_PROJECT: &str =
+    "UPDATE project SET id = ?1, name = ?2, token = ?3, file = ?4 WHERE id = ?1";
+
+pub const DELETE_PROJECT: &str = "DELETE FROM project WHERE id = ?1";
+
+pub const SELECT_PROJECT: &str = "SELECT id, name, token, file FROM project WHERE id = ?1";
+
+pub const INSERT_RUNNER: &str =
+    "INSERT INTO runner (id, name, token, project, tags, untagged, paused) VALUES (?1, ?2, ?3, ?4, ?5, ?6, ?7)";
+
+pub const UPDATE_RUNNER: &str =
+    "UPDATE runner SET id = ?1, name = ?2, token = ?3, project = ?4, tags = ?5, untagged = ?6, paused = ?7 WHERE id = ?1";
+
+pub const DELETE_RUNNER: &str = "DELETE FROM runner WHERE id = ?1";
+
+pub const SELECT_RUNNER_WITH: &str =
+    "SELECT id, name, token, project, tags, untagged, paused FROM runner WHERE token = ?1";
+
+pub const INSERT_PIPELINE: &str =
+    "INSERT INTO pipeline (id, project, ref, kind, source, created) VALUES (?1, ?2, ?3, ?4, ?5, ?6)";
+
+pub const UPDATE_PIPELINE: &str =
+    "UPDATE pipeline SET id = ?1, project = ?2, ref = ?3, kind = ?4, source = ?5, created = ?6 WHERE id = ?1";
+
+pub const DELETE_PIPELINE: &str = "DELETE FROM pipeline WHERE id = ?1";
+
+pub const SELECT_PIPELINE: &str =
+    "SELECT id, project, ref, kind, source, created FROM pipeline WHERE id = ?1";
+
+pub const INSERT_JOB: &str =
+    "INSERT INTO job (id, pipeline, pos, name, stage, spec, played, cancelled, aside) VALUES (?1, ?2, ?3, ?4, ?5, ?6, ?7, ?8, ?9)";
+
+pub const UPDATE_JOB: &str =
+    "UPDATE job SET id = ?1, pipeline = ?2, pos = ?3, name = ?4, stage = ?5, spec = ?6, played = ?7, cancelled = ?8, aside = ?9 WHERE id = ?1";
+
+pub const DELETE_JOB: &str = "DELETE FROM job WHERE id = ?1";
+
+pub const SELECT_JOB: &str =
+    "SELECT id, pipeline, pos, name, stage, spec, played, cancelled, aside FROM job WHERE id = ?1";
+
+pub const SELECT_JOBS: &str =
+    "SELECT id, pipeline, pos, name, stage, spec, played, cancelled, aside FROM job ORDER BY id";
+
+pub const SELECT_JOBS_OF: &str = "SELECT id FROM job WHERE pipeline = ?1";
+
+pub const INSERT_JOB_VARIABLE: &str = "INSERT INTO jobvar (job, key, value) VALUES (?1, ?2, ?3)";
+
+pub const UPDATE_JOB_VARIABLE: &str =
+    "UPDATE jobvar SET job = ?1, key = ?2, value = ?3 WHERE job = ?1 AND key = ?2";
+
+pub const DELETE_JOB_VARIABLE: &str = "DELETE FROM jobvar WHERE job = ?1 AND key = ?2";
+
+pub const SELECT_JOB_VARIABLES: &str =
+    "SELECT job, key, value FROM jobvar WHERE job = ?1 ORDER BY key";
+
+pub const INSERT_ATTEMPT: &str =
+    "INSERT INTO attempt (id, job, runner, token, granted, seen, state, cause, exit) VALUES (?1, ?2, ?3, ?4, ?5, ?6, ?7, ?8, ?9)";
+
+pub const UPDATE_ATTEMPT: &str =
+    "UPDATE attempt SET id = ?1, job = ?2, runner = ?3, token = ?4, granted = ?5, seen = ?6, state = ?7, cause = ?8, exit = ?9 WHERE id = ?1";
+
+pub const DELETE_ATTEMPT: &str = "DELETE FROM attempt WHERE id = ?1";
+
+pub const SELECT_ATTEMPT: &str =
+    "SELECT id, job, runner, token, granted, seen, state, cause, exit FROM attempt WHERE id = ?1";
+
+pub const SELECT_ATTEMPTS_OF: &str =
+    "SELECT id, job, runner, token, granted, seen, state, cause, exit FROM attempt WHERE job = ?1 ORDER BY id";
