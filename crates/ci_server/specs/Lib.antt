@@ -1,0 +1,6 @@
+pub mod Sources
+pub mod Opening
+pub mod Head
+pub mod Fields
+pub mod BodyLength
+pub mod Reading
