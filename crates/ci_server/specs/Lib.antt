@@ -4,3 +4,5 @@ pub mod Head
 pub mod Fields
 pub mod BodyLength
 pub mod Reading
+pub mod RequestBytes
+pub mod ReplyText

@@ -102,7 +102,7 @@ pub fn read_body<R: Source>(alloc: Global, reader: &mut R, len: usize) -> Result
     ensures ended { result ≡ Err HttpFault.Ended → Tells (R.left reader.old) (R.left reader.new)
         (λ bytes rest. (length bytes < len) × (rest ≡ [])) }
     ensures not_refused { (why : Code) → result ≡ Err (HttpFault.Refused why) → ⊥ }
-    ensures failed { Fails result HttpFault.ReadFailed (R.failures reader.old) (R.failures reader.new) }
+    ensures failed { Fails result (Err HttpFault.ReadFailed) (R.failures reader.old) (R.failures reader.new) }
 {
     let mut body = vec![in alloc; 0; len]?;
     fill(reader, &mut body)?;
@@ -115,7 +115,7 @@ fn fill<R: Source>(reader: &mut R, buf: &mut [u8]) -> Result<(), HttpFault>
     ensures ended { result ≡ Err HttpFault.Ended → Tells (R.left reader.old) (R.left reader.new)
         (λ bytes rest. (length bytes < length buf.old) × (rest ≡ [])) }
     ensures not_refused { (why : Code) → result ≡ Err (HttpFault.Refused why) → ⊥ }
-    ensures failed { Fails result HttpFault.ReadFailed (R.failures reader.old) (R.failures reader.new) }
+    ensures failed { Fails result (Err HttpFault.ReadFailed) (R.failures reader.old) (R.failures reader.new) }
 {
     let mut at = 0;
     while at < buf.len() {

@@ -86,7 +86,7 @@ pub fn read_request<R: Source>(alloc: Global, reader: &mut R) -> Result<Call, Ht
         (λ bytes rest. IsReading bytes (refused why) rest) }
     ensures ended { result ≡ Err HttpFault.Ended → Tells (R.left reader.old) (R.left reader.new)
         (λ bytes rest. IsReading bytes ended rest) }
-    ensures failed { Fails result HttpFault.ReadFailed (R.failures reader.old) (R.failures reader.new) }
+    ensures failed { Fails result (Err HttpFault.ReadFailed) (R.failures reader.old) (R.failures reader.new) }
 {
     let head = read_head(alloc, reader)?;
     let mut headers = [EMPTY_HEADER_SPAN; MAX_FIELDS];

@@ -33,7 +33,7 @@ pub fn read_head<R: Source>(alloc: Global, reader: &mut R) -> Result<Vec<u8>, Ht
     ensures refused { (why : Code) → result ≡ Err (HttpFault.Refused why) → why ≡ Code.H2 }
     ensures too_large { result ≡ Err (HttpFault.Refused Code.H2) → Tells (R.left reader.old) (R.left reader.new)
         (λ bytes rest. opening_of bytes ≡ (too_large, rest)) }
-    ensures failed { Fails result HttpFault.ReadFailed (R.failures reader.old) (R.failures reader.new) }
+    ensures failed { Fails result (Err HttpFault.ReadFailed) (R.failures reader.old) (R.failures reader.new) }
 {
     let mut head = Vec::new(alloc);
     for _ in 0..MAX_HEAD {

@@ -8,3 +8,5 @@ pub mod fields;
 pub mod head;
 pub mod laws;
 pub mod link;
+pub mod route;
+pub mod text;
