@@ -6,3 +6,4 @@ pub mod BodyLength
 pub mod Reading
 pub mod RequestBytes
 pub mod ReplyText
+pub mod Serving

@@ -9,4 +9,5 @@ pub mod head;
 pub mod laws;
 pub mod link;
 pub mod route;
+pub mod serve;
 pub mod text;
