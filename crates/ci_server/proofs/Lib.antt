@@ -1,0 +1,5 @@
+pub mod Heads
+pub mod Lines
+pub mod Values
+pub mod Readings
+pub mod Unique

@@ -1,0 +1,31 @@
+use Rattle.std.proofs.Common.{◌≡◌, ◌∙◌, ap, sym, length, true, arith, ◌<◌, ◌≤◌, ◌+◌, ◌*◌, take, get_or, nat_lt}
+use Rattle.std.proofs.lemmas.Int.Digits.{digits_value_more}
+use Rattle.std.proofs.lemmas.Str.Parse.{digits_value-take-le}
+use Rattle.std.proofs.lemmas.Bool.Decides.{nat_tests}
+use Rattle.std.specs.Str.Parse.{digits_value}
+use Rattle.std.specs.Prelude.{ℕ, Ok, Err, if◌then◌else◌}
+use Rattle.ci_machine.specs.declared.reply.Code.TheVariants.{H4}
+use Rattle.ci_server.specs.BodyLength.{within_body}
+use Rattle.ci_server.proofs.body.small_number.Goals as goal
+
+too_long : (n : ℕ) → 65536 < n → Err H4 ≡ within_body n
+too_long n h =
+    let test : nat_lt 65536 n ≡ true = grind (arith, nat_tests) in
+    sym (ap (λ b. if b then Err H4 else Ok n) test)
+
+pub returns-then-value-gt-MAX_BODY : goal.returns-then-value-gt-MAX_BODY
+returns-then-value-gt-MAX_BODY c =
+    let more = digits_value_more 10 c.args.digits.now c.loop-b.b-index c.loop-b-test.true in
+    let most = digits_value-take-le 10 c.args.digits.now (c.loop-b.b-index + 1) (omega arith) in
+    let before = c.loop-b.invariant.0 in
+    let digit = c.digit_of.ensures.value in
+    let large = c.if-value-gt-MAX_BODY.true in
+    too_long (digits_value 10 c.args.digits.now) (omega arith)
+
+pub loop-b-preserved : goal.loop-b-preserved
+loop-b-preserved c =
+    let more = digits_value_more 10 c.args.digits.now c.loop-b.b-index c.loop-b-test.true in
+    let before = c.loop-b.invariant.0 in
+    let digit = c.digit_of.ensures.value in
+    let less = c.if-value-gt-MAX_BODY.false in
+    (omega arith, omega arith)

@@ -1,0 +1,27 @@
+use Rattle.std.proofs.Common.{◌≡◌, ◌∙◌, refl, ap, sym, subst, true, false, inr}
+use Rattle.std.specs.Prelude.{Some, None, IfOk, option_and_then, if◌then◌else◌}
+use Rattle.std.specs.Str.{is_utf8}
+use Rattle.std.proofs.lemmas.Str.{IsUtf8-from_is_utf8, is_utf8-from_IsUtf8}
+use Rattle.std.proofs.lemmas.Bool.{false_from_ne_true}
+use Rattle.serde_json.specs.Read.{read}
+use Rattle.serde_json.specs.View.{view}
+use Rattle.ci_server.specs.RequestBytes.{json_of, token_of}
+use Rattle.ci_server.proofs.route.token_in.Goals as goal
+
+-- bytes that aren't UTF-8 have no token
+pub returns-in_default-clause-err : goal.returns-in_default-clause-err
+returns-in_default-clause-err c =
+    let body = c.args.body.now in
+    let other : is_utf8 body ≡ false = false_from_ne_true _ (λ h. c.in_default.ensures.cases.0 (IsUtf8-from_is_utf8 body h)) in
+    inr (refl, ap (λ b. option_and_then token_of (if b then read body else None)) other)
+
+-- the token is that of the value that was read
+pub returns-in-Ok-from_str-clause-ok : goal.returns-in-Ok-from_str-clause-ok
+returns-in-Ok-from_str-clause-ok c =
+    let body = c.args.body.now in
+    let value = view c.in-Ok-from_str.value in
+    let text = c.in-Ok.ensures.cases in
+    let encoded : is_utf8 body ≡ true = is_utf8-from_IsUtf8 body text.1 in
+    let reads : read body ≡ Some value = ap read (sym text.0) ∙ c.in-Ok-from_str.ensures.ok in
+    let same : json_of body ≡ Some value = ap (λ b. if b then read body else None) encoded ∙ reads in
+    subst (λ j. IfOk c.token_of.result (λ token. option_and_then token_of j ≡ Some token)) (sym same) c.token_of.ensures.ok

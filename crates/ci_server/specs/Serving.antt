@@ -1,0 +1,35 @@
+-- What becomes of one request: the reply, and what handles requests before and after it.
+use Rattle.std.specs.Prelude.{◌≡◌, ◌⊎◌, ℕ, List, ◌++◌, Option, Result, Ok, Err}
+use Rattle.std.specs.Io.KnownBytes.{Appends}
+use Rattle.ci_machine.specs.declared.reply.Code.TheVariants.{M16}
+use Rattle.ci_machine.specs.declared.reply.Reply.{Reply}
+use Rattle.ci_machine.specs.declared.request.Request.{Request}
+use Rattle.ci_machine.specs.declared.request.Seed.{Seed}
+use Rattle.ci_machine.specs.Reply.{refusal}
+use Rattle.ci_server.specs.Reading.{Reading, ended, refused, request, IsReading}
+use Rattle.ci_server.specs.RequestBytes.{request_in}
+use Rattle.ci_server.specs.Sources.{Tells}
+
+module _ {S : Type 0} (Handles : S → Request → ℕ → Seed → S → Reply → Type 0) (moment : ℕ) (seed : Seed) (old new : S) (reply : Reply) where
+  -- a request is handled once; where there is none, nothing is handled, and the reply is the one that refuses it
+  abbrev pub AnswersAsked : Result Request Reply → Type 0
+  AnswersAsked (Ok asked) = Handles old asked moment seed new reply
+  AnswersAsked (Err why) = (new ≡ old) × (reply ≡ why)
+
+  -- the reply is that to what was read
+  abbrev pub Answers : Reading → Type 0
+  Answers ended = ⊥
+  Answers (refused why) = (new ≡ old) × (reply ≡ refusal why)
+  Answers (request m) = AnswersAsked (request_in m)
+
+  -- memory was refused before anything was handled
+  abbrev pub LacksMemory : Type 0
+  LacksMemory = (new ≡ old) × (reply ≡ refusal M16)
+
+  -- the reply is that to some reading, which is the one of the bytes where the reader tells them: one step at most
+  abbrev pub Serves : Option (List ℕ) → Option (List ℕ) → Type 0
+  Serves had left = LacksMemory ⊎ ((reading : Reading) × Answers reading × Tells had left (λ bytes rest. IsReading bytes reading rest))
+
+-- a beginning of the text was written, and nothing else
+abbrev pub WritesFront : Option (List ℕ) → Option (List ℕ) → List ℕ → Type 0
+WritesFront old new text = (front : List ℕ) × (back : List ℕ) × (text ≡ front ++ back) × Appends old new front

@@ -1,0 +1,13 @@
+//! Requests of HTTP/1.1 from bytes, and replies to bytes.
+#![tactic(auto)]
+
+pub mod body;
+pub mod call;
+pub mod fault;
+pub mod fields;
+pub mod head;
+pub mod laws;
+pub mod link;
+pub mod route;
+pub mod serve;
+pub mod text;
