@@ -11,3 +11,5 @@ pub mod link;
 pub mod route;
 pub mod serve;
 pub mod text;
+mod loads;
+pub mod server;

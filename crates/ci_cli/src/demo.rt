@@ -1,0 +1,95 @@
+//! One job request answered over memory.
+
+ghost use Rattle.std.specs.Prelude.{◌≡◌, ◌<◌};
+
+use std::alloc::{AllocError, Global};
+use std::io::{Read, Write};
+use std::marker::Brand;
+use std::sync::ledger::{Blank, Ledger};
+
+use ci_machine::moment::Moment;
+use ci_machine::reply::{Reply, Status};
+use ci_machine::request::{NewJob, NewJobs, NewPipeline, Request, Seed};
+use ci_machine::text::{Text, Texts};
+use ci_server::link::Link;
+use ci_server::serve::{Served, serve_one};
+use ci_server::server::Server;
+use ci_store::Alter;
+use sqlite::Connection;
+
+/// The moment at which everything happens, in seconds.
+const MOMENT: u64 = 1000;
+
+/// The seed that comes with everything.
+const SEED: Seed = Seed([0xab; 16]);
+
+/// Makes, over memory, the project `p`, the runner `r` and a pipeline of `main` with the job `build`; serves the
+/// bytes of the input once, and writes the reply to the output. Was a reply written?
+pub fn serve_demo<R: Read + Drop, W: Write + Drop>(alloc: Global, input: R, output: W) -> bool {
+    serve_links::<R, W, Brand, Brand>(alloc, input, output, Blank::new(1), Blank::new(1))
+}
+
+fn serve_links<R: Read + Drop, W: Write + Drop, A: Ledger, B: Ledger>(
+    alloc: Global,
+    input: R,
+    output: W,
+    reads: Blank,
+    writes: Blank,
+) -> bool
+    requires reads_name { reads.name ≡ A.name }
+    requires reads_parts { reads.parts ≡ A.parts }
+    requires reads_one { 0 < reads.parts }
+    requires writes_name { writes.name ≡ B.name }
+    requires writes_parts { writes.parts ≡ B.parts }
+    requires writes_one { 0 < writes.parts }
+{
+    let Some(moment) = Moment::new(MOMENT) else {
+        return false;
+    };
+    let Ok(conn) = Connection::open_in_memory(alloc) else {
+        return false;
+    };
+    let Ok(mut server) = Server::create(conn) else {
+        return false;
+    };
+    if !is_ready(alloc, &mut server, moment) {
+        return false;
+    }
+    let mut reader = Link::<R, A>::new(input, reads);
+    let mut writer = Link::<W, B>::new(output, writes);
+    let served = serve_one(alloc, &mut reader, &mut writer, &mut server, moment, SEED);
+    matches!(served, Served::Replied)
+}
+
+/// Makes the project, the runner and the pipeline. Did each of them get made?
+fn is_ready<S: Alter>(alloc: Global, server: &mut Server<S>, moment: Moment) -> bool {
+    match requests(alloc) {
+        Ok((project, runner, pipeline)) => {
+            is_made(&server.handle(alloc, project, moment, SEED))
+                && is_made(&server.handle(alloc, runner, moment, SEED))
+                && is_made(&server.handle(alloc, pipeline, moment, SEED))
+        }
+        Err(_) => false,
+    }
+}
+
+fn is_made(reply: &Reply) -> bool {
+    reply.status == Status::Created
+}
+
+fn requests(alloc: Global) -> Result<(Request, Request, Request), AllocError> {
+    let project = Request::AddProject(Text::copy_of(alloc, "p")?);
+    let runner = Request::AddRunner(Text::copy_of(alloc, "r")?);
+    let script = Texts::new(vec![in alloc; Text::copy_of(alloc, "make")?]?);
+    let build = NewJob {
+        name: Text::copy_of(alloc, "build")?,
+        script,
+    };
+    let pipeline = Request::EnterPipeline(NewPipeline {
+        project: 1,
+        git_ref: Text::copy_of(alloc, "main")?,
+        stage: Text::copy_of(alloc, "build")?,
+        jobs: NewJobs::new(vec![in alloc; build]?),
+    });
+    Ok((project, runner, pipeline))
+}
