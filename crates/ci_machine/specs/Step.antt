@@ -1,6 +1,5 @@
 -- One step of the machine: the effect of an event on what the state holds, and then the changes applied.
-use Rattle.std.specs.Prelude.{◌≡◌, ℕ, Bool, not, List, [], filter, find, map, ◌==◌, Option, Some, None, option_and_then}
-use Rattle.std.specs.List.{list_any}
+use Rattle.std.specs.Prelude.{◌≡◌, ℕ, Bool, List, [], filter, length, find, map, ◌==◌, Option, Some, None, option_and_then}
 use Rattle.std.specs.Str.{bytes_eq}
 use Rattle.ci_machine.specs.declared.records.Project.{Project}
 use Rattle.ci_machine.specs.declared.records.Runner.{Runner}
@@ -8,6 +7,10 @@ use Rattle.ci_machine.specs.declared.records.Pipeline.{Pipeline}
 use Rattle.ci_machine.specs.declared.records.Job.{Job}
 use Rattle.ci_machine.specs.declared.records.JobVariable.{JobVariable}
 use Rattle.ci_machine.specs.declared.records.QueuedJob.{QueuedJob}
+use Rattle.ci_machine.specs.declared.records.Attempt.{Attempt}
+use Rattle.ci_machine.specs.declared.records.Numbers.{Numbers}
+use Rattle.ci_machine.specs.declared.change.Counter.{Counter}
+use Rattle.ci_machine.specs.declared.change.Counter.TheVariants as counter
 use Rattle.ci_machine.specs.declared.request.Request.{Request}
 use Rattle.ci_machine.specs.declared.request.Request.TheVariants.{AddProject, AddRunner, EnterPipeline, AskJob}
 use Rattle.ci_machine.specs.declared.request.Event.{Event}
@@ -34,9 +37,13 @@ pipeline_at s n = find (λ p. p.id == n) s.pipelines
 abbrev pub variables_of : State → ℕ → List JobVariable
 variables_of s job = filter (λ v. v.job == job) s.job_variables
 
+-- the attempts of a job, by number
+abbrev pub attempts_of : State → ℕ → List Attempt
+attempts_of s job = filter (λ a. a.job == job) s.attempts
+
 -- a job is pending while it has no attempt
 abbrev pub is_pending : State → Job → Bool
-is_pending s job = not (list_any (λ a. a.job == job.id) s.attempts)
+is_pending s job = length (attempts_of s job.id) == 0
 
 abbrev pub pending_jobs : State → List Job
 pending_jobs s = filter (is_pending s) s.jobs
@@ -60,6 +67,14 @@ offer s runner = option_and_then (chosen (queue s)) runner
 abbrev pub offered_variables : State → Option QueuedJob → List JobVariable
 offered_variables s None = []
 offered_variables s (Some q) = variables_of s q.job.id
+
+-- the next number of a kind
+abbrev pub next_of : Counter → Numbers → ℕ
+next_of counter.Project next = next.project
+next_of counter.Runner next = next.runner
+next_of counter.Pipeline next = next.pipeline
+next_of counter.Job next = next.job
+next_of counter.Attempt next = next.attempt
 
 -- ---- the step
 
