@@ -3,3 +3,5 @@ pub mod Lines
 pub mod Values
 pub mod Readings
 pub mod Unique
+pub mod Queues
+pub mod Handling

@@ -7,3 +7,5 @@ pub mod Reading
 pub mod RequestBytes
 pub mod ReplyText
 pub mod Serving
+pub mod Stores
+pub mod Handling

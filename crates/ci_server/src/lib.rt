@@ -3,13 +3,15 @@
 
 pub mod body;
 pub mod call;
+mod desk;
 pub mod fault;
 pub mod fields;
 pub mod head;
 pub mod laws;
 pub mod link;
+mod loads;
 pub mod route;
 pub mod serve;
-pub mod text;
-mod loads;
 pub mod server;
+pub mod store;
+pub mod text;

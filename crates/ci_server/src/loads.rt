@@ -1,131 +1,185 @@
-//! What an event does, from what the tables hold. The tables stay as they are.
+//! What an event does, from what the store holds. The store stays as it is.
 
-use std::alloc::Global;
+ghost use Rattle.std.specs.Prelude.{◌≡◌, ℕ, ◌++◌, ◌∷◌, [], IfOk, IfSome, Some, map, filter, if◌then◌else◌};
+ghost use Rattle.ci_machine.specs.Eligible.{chosen};
+ghost use Rattle.ci_machine.specs.State.{State};
+ghost use Rattle.ci_machine.specs.Effects as effects;
+ghost use Rattle.ci_machine.specs.Step as step;
+ghost use Rattle.ci_machine.specs.declared.request.Request.TheVariants as asked;
+ghost use Rattle.ci_server.specs.Stores.{Looks};
 
+use crate::store::Store;
 use ci_machine::change::Counter;
 use ci_machine::choose::choose;
-use ci_machine::enter;
 use ci_machine::moment::Moment;
-use ci_machine::plan;
 use ci_machine::records::{Job, QueuedJob, Runner};
 use ci_machine::reply::Effect;
 use ci_machine::request::{NewPipeline, Request, Seed};
 use ci_machine::text::Text;
+use ci_machine::{enter, plan};
 use ci_store::fault::StoreFault;
-use ci_store::tables::Tables;
-use ci_store::Alter;
+use std::alloc::Global;
 
-fn add_project<S: Alter>(
+fn add_project<T: Store>(
     alloc: Global,
-    tables: &mut Tables<S>,
+    store: &mut T,
     name: Text,
     seed: Seed,
-) -> Result<Effect, StoreFault> {
-    let next = tables.next(Counter::Project)?;
+) -> Result<Effect, StoreFault>
+    ensures value { T.honest store.new → (s : State) → T.holds store.old s → IfOk result (λ e. e ≡ effects.add_project s.next.project name seed) }
+    ensures looks { Looks T.honest T.holds T.leaves store.old store.new result }
+{
+    let next = store.next(Counter::Project)?;
     Ok(plan::add_project(alloc, next, name, seed)?)
 }
 
-fn add_runner<S: Alter>(
+fn add_runner<T: Store>(
     alloc: Global,
-    tables: &mut Tables<S>,
+    store: &mut T,
     name: Text,
     seed: Seed,
-) -> Result<Effect, StoreFault> {
-    let next = tables.next(Counter::Runner)?;
+) -> Result<Effect, StoreFault>
+    ensures value { T.honest store.new → (s : State) → T.holds store.old s → IfOk result (λ e. e ≡ effects.add_runner s.next.runner name seed) }
+    ensures looks { Looks T.honest T.holds T.leaves store.old store.new result }
+{
+    let next = store.next(Counter::Runner)?;
     Ok(plan::add_runner(alloc, next, name, seed)?)
 }
 
-fn enter_pipeline<S: Alter>(
+fn enter_pipeline<T: Store>(
     alloc: Global,
-    tables: &mut Tables<S>,
+    store: &mut T,
     new: NewPipeline,
     now: Moment,
-) -> Result<Effect, StoreFault> {
-    let project = tables.project(new.project)?;
-    let next_pipeline = tables.next(Counter::Pipeline)?;
-    let next_job = tables.next(Counter::Job)?;
-    Ok(enter::enter_pipeline(
-        alloc,
-        project.as_ref(),
-        next_pipeline,
-        next_job,
-        new,
-        now,
-    )?)
+) -> Result<Effect, StoreFault>
+    ensures value { T.honest store.new → (s : State) → T.holds store.old s → IfOk result (λ e. e ≡ effects.enter_pipeline (step.project_at s new.project) s.next.pipeline s.next.job new now) }
+    ensures looks { Looks T.honest T.holds T.leaves store.old store.new result }
+{
+    let project = store.project(new.project)?;
+    let next_pipeline = store.next(Counter::Pipeline)?;
+    let next_job = store.next(Counter::Job)?;
+    Ok(enter::enter_pipeline(alloc, project.as_ref(), next_pipeline, next_job, new, now)?)
 }
 
 /// Is the job pending: has it no attempt?
-fn is_pending<S: Alter>(tables: &mut Tables<S>, job: u64) -> Result<bool, StoreFault> {
-    let attempts = tables.attempts_of(job)?;
-    Ok(attempts.is_empty())
+fn is_pending<T: Store>(store: &mut T, job: &Job) -> Result<bool, StoreFault>
+    ensures value { T.honest store.new → (s : State) → T.holds store.old s → IfOk result (λ b. b ≡ step.is_pending s job.now) }
+    ensures looks { Looks T.honest T.holds T.leaves store.old store.new result }
+{
+    let attempts = store.attempts_of(job.id)?;
+    Ok(attempts.len() == 0)
 }
 
 /// The job with the project of its pipeline.
-fn queued<S: Alter>(tables: &mut Tables<S>, job: Job) -> Result<QueuedJob, StoreFault> {
-    match tables.pipeline(job.pipeline)? {
+fn queued<T: Store>(store: &mut T, job: &Job) -> Result<QueuedJob, StoreFault>
+    ensures value { T.honest store.new → (s : State) → T.holds store.old s → IfOk result (λ q. q ≡ step.queued s job.now) }
+    ensures looks { Looks T.honest T.holds T.leaves store.old store.new result }
+{
+    match store.pipeline(job.pipeline)? {
         Some(pipeline) => Ok(QueuedJob {
-            job,
+            job: job.clone()?,
             project: pipeline.project,
         }),
         None => Err(StoreFault::Broken),
     }
 }
 
+/// The pending ones among the jobs, with the projects of their pipelines.
+fn queue<T: Store>(alloc: Global, store: &mut T, jobs: &[Job]) -> Result<Vec<QueuedJob>, StoreFault>
+    ensures value { T.honest store.new → (s : State) → T.holds store.old s → IfOk result (λ q. q.items ≡ map (step.queued s) (filter (step.is_pending s) jobs.now)) }
+    ensures looks { Looks T.honest T.holds T.leaves store.old store.new result }
+{
+    let mut queue = Vec::new(alloc);
+    for job in jobs {
+        push_if_pending(store, &mut queue, job)?;
+    }
+    Ok(queue)
+}
+
 /// Adds the job, where it is pending.
-fn push_if_pending<S: Alter>(
-    tables: &mut Tables<S>,
+fn push_if_pending<T: Store>(
+    store: &mut T,
     queue: &mut Vec<QueuedJob>,
     job: &Job,
-) -> Result<(), StoreFault> {
-    if is_pending(tables, job.id)? {
-        let waiting = queued(tables, job.clone()?)?;
+) -> Result<(), StoreFault>
+    ensures value { T.honest store.new → (s : State) → T.holds store.old s → IfOk result (λ _. queue.new.items ≡ queue.old.items ++ (if step.is_pending s job.now then step.queued s job.now ∷ [] else [])) }
+    ensures looks { Looks T.honest T.holds T.leaves store.old store.new result }
+{
+    if is_pending(store, job)? {
+        let waiting = queued(store, job)?;
         queue.push(waiting)?;
     }
     Ok(())
 }
 
-/// The pending jobs, by number.
-fn queue<S: Alter>(alloc: Global, tables: &mut Tables<S>) -> Result<Vec<QueuedJob>, StoreFault> {
-    let jobs = tables.jobs()?;
-    let mut queue = Vec::new(alloc);
-    for job in &jobs {
-        push_if_pending(tables, &mut queue, job)?;
-    }
-    Ok(queue)
-}
-
 /// The job that the runner is offered.
-fn offer<S: Alter>(
+fn offer<T: Store>(
     alloc: Global,
-    tables: &mut Tables<S>,
+    store: &mut T,
     runner: &Runner,
-) -> Result<Option<QueuedJob>, StoreFault> {
-    let queue = queue(alloc, tables)?;
+) -> Result<Option<QueuedJob>, StoreFault>
+    ensures value { T.honest store.new → (s : State) → T.holds store.old s → IfOk result (λ q. q ≡ step.offer s (Some runner.now)) }
+    ensures looks { Looks T.honest T.holds T.leaves store.old store.new result }
+{
+    let jobs = store.jobs()?;
+    let queue = queue(alloc, store, jobs.as_slice())?;
     match choose(queue.as_slice(), runner) {
         Some(queued) => Ok(Some(queued.clone()?)),
         None => Ok(None),
     }
 }
 
-fn ask_job<S: Alter>(
+fn ask_job<T: Store>(
     alloc: Global,
-    tables: &mut Tables<S>,
-    token: &Text,
+    store: &mut T,
+    token: Text,
     now: Moment,
     seed: Seed,
-) -> Result<Effect, StoreFault> {
-    let Some(runner) = tables.runner_with(token)? else {
-        return Ok(plan::ask_job(alloc, None, None, &[], 0, now, seed)?);
-    };
-    let Some(offer) = offer(alloc, tables, &runner)? else {
-        return Ok(plan::ask_job(alloc, Some(&runner), None, &[], 0, now, seed)?);
-    };
-    let variables = tables.job_variables(offer.job.id)?;
-    let next = tables.next(Counter::Attempt)?;
+) -> Result<Effect, StoreFault>
+    ensures value { T.honest store.new → (s : State) → T.holds store.old s → IfOk result (λ e. step.Does s (asked.AskJob token) now seed e) }
+    ensures looks { Looks T.honest T.holds T.leaves store.old store.new result }
+{
+    match store.runner_with(&token)? {
+        None => Ok(plan::ask_job(alloc, None, None, &[], 0, now, seed)?),
+        Some(runner) => ask_for(alloc, store, &runner, now, seed),
+    }
+}
+
+/// What the runner's request does.
+fn ask_for<T: Store>(
+    alloc: Global,
+    store: &mut T,
+    runner: &Runner,
+    now: Moment,
+    seed: Seed,
+) -> Result<Effect, StoreFault>
+    ensures value { T.honest store.new → (s : State) → T.holds store.old s → IfOk result (λ e. let q = step.offer s (Some runner.now) in e ≡ effects.ask_job (Some runner.now) q (step.offered_variables s q) s.next.attempt now seed) }
+    ensures looks { Looks T.honest T.holds T.leaves store.old store.new result }
+{
+    match offer(alloc, store, runner)? {
+        None => Ok(plan::ask_job(alloc, Some(runner), None, &[], 0, now, seed)?),
+        Some(queued) => grant(alloc, store, runner, &queued, now, seed),
+    }
+}
+
+/// What the runner's request does, where it is offered this job.
+fn grant<T: Store>(
+    alloc: Global,
+    store: &mut T,
+    runner: &Runner,
+    queued: &QueuedJob,
+    now: Moment,
+    seed: Seed,
+) -> Result<Effect, StoreFault>
+    ensures value { T.honest store.new → (s : State) → T.holds store.old s → IfOk result (λ e. e ≡ effects.ask_job (Some runner.now) (Some queued.now) (step.variables_of s queued.now.job.id) s.next.attempt now seed) }
+    ensures looks { Looks T.honest T.holds T.leaves store.old store.new result }
+{
+    let variables = store.job_variables(queued.job.id)?;
+    let next = store.next(Counter::Attempt)?;
     Ok(plan::ask_job(
         alloc,
-        Some(&runner),
-        Some(&offer),
+        Some(runner),
+        Some(queued),
         variables.as_slice(),
         next,
         now,
@@ -133,18 +187,21 @@ fn ask_job<S: Alter>(
     )?)
 }
 
-/// What a request does, from what the tables hold.
-pub(crate) fn effect_of<S: Alter>(
+/// What a request does, from what the store holds.
+pub(crate) fn effect_of<T: Store>(
     alloc: Global,
-    tables: &mut Tables<S>,
+    store: &mut T,
     request: Request,
     now: Moment,
     seed: Seed,
-) -> Result<Effect, StoreFault> {
+) -> Result<Effect, StoreFault>
+    ensures value { T.honest store.new → (s : State) → T.holds store.old s → IfOk result (λ e. step.Does s request now seed e) }
+    ensures looks { Looks T.honest T.holds T.leaves store.old store.new result }
+{
     match request {
-        Request::AddProject(name) => add_project(alloc, tables, name, seed),
-        Request::AddRunner(name) => add_runner(alloc, tables, name, seed),
-        Request::EnterPipeline(new) => enter_pipeline(alloc, tables, new, now),
-        Request::AskJob(token) => ask_job(alloc, tables, &token, now, seed),
+        Request::AddProject(name) => add_project(alloc, store, name, seed),
+        Request::AddRunner(name) => add_runner(alloc, store, name, seed),
+        Request::EnterPipeline(new) => enter_pipeline(alloc, store, new, now),
+        Request::AskJob(token) => ask_job(alloc, store, token, now, seed),
     }
 }

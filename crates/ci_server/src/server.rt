@@ -1,33 +1,77 @@
 //! The server: requests over the tables.
 
-ghost use Rattle.std.specs.Prelude.{◌≡◌};
-
-use std::alloc::Global;
-
+use crate::desk::Desk;
+use crate::serve::Handler;
+use crate::store::Store;
+use ci_machine::change::{Counter, Delta};
 use ci_machine::moment::Moment;
-use ci_machine::reply::{Answer, Code, Effect, Reply};
+use ci_machine::records::{Attempt, Job, JobVariable, Pipeline, Project, Runner};
+use ci_machine::reply::Reply;
 use ci_machine::request::{Request, Seed};
+use ci_machine::text::Text;
 use ci_store::fault::StoreFault;
 use ci_store::tables::{OpenFault, Tables};
 use ci_store::{Alter, Connection};
+use std::alloc::Global;
 
-use crate::loads::effect_of;
-use crate::serve::Handler;
+/// The tables as a store. What they hold is not stated yet, so that nothing is claimed of it here.
+impl<S: Alter> Store for Tables<S> {
+    ghost honest = { λ _. ⊥ };
+
+    ghost holds = { λ _ _. ⊥ };
+
+    ghost leaves = { λ _ _ _. Unit {0} };
+
+    ghost settled = { λ _ _ none. absurd none };
+
+    fn next(&mut self, counter: Counter) -> Result<u64, StoreFault> {
+        self.next(counter)
+    }
+
+    fn project(&mut self, id: u64) -> Result<Option<Project>, StoreFault> {
+        self.project(id)
+    }
+
+    fn runner_with(&mut self, token: &Text) -> Result<Option<Runner>, StoreFault> {
+        self.runner_with(token)
+    }
+
+    fn pipeline(&mut self, id: u64) -> Result<Option<Pipeline>, StoreFault> {
+        self.pipeline(id)
+    }
+
+    fn job_variables(&mut self, job: u64) -> Result<Vec<JobVariable>, StoreFault> {
+        self.job_variables(job)
+    }
+
+    fn attempts_of(&mut self, job: u64) -> Result<Vec<Attempt>, StoreFault> {
+        self.attempts_of(job)
+    }
+
+    fn jobs(&mut self) -> Result<Vec<Job>, StoreFault> {
+        self.jobs()
+    }
+
+    fn commit(&mut self, delta: Delta) -> Result<(), StoreFault> {
+        self.commit(delta)
+    }
+}
 
 /// A server over the tables of a store. From the first fault of the store on it is closed, and answers M17 to all.
 #[derive(Drop)]
 pub struct Server<S: Alter> {
-    tables: Tables<S>,
-    closed: bool,
+    desk: Desk<Tables<S>>,
 }
 
 impl<S: Alter> Server<S> {
     /// A server over an empty store, whose tables it makes. Errors: as `Tables::create`; the connection comes back.
     pub fn create(conn: Connection<S>) -> Result<Server<S>, (OpenFault, Connection<S>)> {
         match Tables::create(conn) {
-            Ok(tables) => Ok(Server {
-                tables,
-                closed: false,
+            Ok(store) => Ok(Server {
+                desk: Desk {
+                    store,
+                    closed: false,
+                },
             }),
             Err(fault) => Err(fault),
         }
@@ -36,9 +80,11 @@ impl<S: Alter> Server<S> {
     /// A server over the tables that a store has. Errors: as `Tables::open`; the connection comes back.
     pub fn open(conn: Connection<S>) -> Result<Server<S>, (OpenFault, Connection<S>)> {
         match Tables::open(conn) {
-            Ok(tables) => Ok(Server {
-                tables,
-                closed: false,
+            Ok(store) => Ok(Server {
+                desk: Desk {
+                    store,
+                    closed: false,
+                },
             }),
             Err(fault) => Err(fault),
         }
@@ -46,52 +92,22 @@ impl<S: Alter> Server<S> {
 
     /// Has a fault of the store closed the server?
     pub fn closed(&self) -> bool {
-        self.closed
+        self.desk.closed
     }
 
     /// Gives the connection back, for a reopening.
     pub fn close(self) -> Connection<S> {
-        let Server { tables, closed: _ } = self;
-        tables.close()
+        let Server { desk } = self;
+        let Desk { store, closed: _ } = desk;
+        store.close()
     }
 
     /// Handles a request, at a moment and with a seed.
     ///
     /// Besides the machine's own replies: M16 where memory was refused, and nothing happened; M17 where the store
     /// failed in this call or an earlier one.
-    pub fn handle(&mut self, alloc: Global, request: Request, now: Moment, seed: Seed) -> Reply {
-        if self.closed {
-            return Reply::refusal(Code::M17);
-        }
-        match effect_of(alloc, &mut self.tables, request, now, seed) {
-            Ok(effect) => self.make(effect),
-            Err(fault) => self.refuse(fault),
-        }
-    }
-
-    /// Commits the changes of an effect, if there are any, and answers. The reply stands before the commit.
-    fn make(&mut self, effect: Effect) -> Reply {
-        let Effect { answer, changes } = effect;
-        let Answer::Reply(reply) = answer;
-        if changes.is_empty() {
-            let _ = changes.into_vec();
-            return reply;
-        }
-        match self.tables.commit(changes) {
-            Ok(()) => reply,
-            Err(fault) => self.refuse(fault),
-        }
-    }
-
-    /// The reply where there is no step.
-    fn refuse(&mut self, fault: StoreFault) -> Reply {
-        match fault {
-            StoreFault::Memory => Reply::refusal(Code::M16),
-            StoreFault::Broken => {
-                self.closed = true;
-                Reply::refusal(Code::M17)
-            }
-        }
+    pub fn handle(&mut self, alloc: Global, request: Request, moment: Moment, seed: Seed) -> Reply {
+        self.desk.handle(alloc, request, moment, seed)
     }
 }
 
@@ -99,6 +115,6 @@ impl<S: Alter> Handler for Server<S> {
     ghost handles = { λ old request moment seed new reply. Unit {0} };
 
     fn handle(&mut self, alloc: Global, request: Request, moment: Moment, seed: Seed) -> Reply {
-        self.handle(alloc, request, moment, seed)
+        self.desk.handle(alloc, request, moment, seed)
     }
 }
