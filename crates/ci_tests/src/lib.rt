@@ -1,0 +1,9 @@
+//! Tests that cross crates: the server over stores in memory, over disks in memory that fail, and its bytes.
+#![tactic(auto)]
+
+#[cfg(test)]
+mod disks;
+#[cfg(test)]
+mod path;
+#[cfg(test)]
+mod stops;
