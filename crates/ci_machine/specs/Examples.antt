@@ -1,5 +1,9 @@
 -- Worked examples: a first project, a runner, a pipeline of one job, and the runner's requests, each one computed.
 use Rattle.std.specs.Prelude.{ℕ, List, [], ◌∷◌, codes, replicate}
+use Rattle.ci_machine.specs.declared.lease.Lease.{Lease}
+use Rattle.ci_machine.specs.declared.records.Attempt.{Attempt}
+use Rattle.ci_machine.specs.declared.records.AttemptState.{AttemptState}
+use Rattle.ci_machine.specs.declared.records.AttemptState.TheVariants.{Live}
 use Rattle.ci_machine.specs.declared.request.NewPipeline.{NewPipeline}
 use Rattle.ci_machine.specs.declared.request.Seed.{Seed}
 use Rattle.ci_machine.specs.declared.reply.Answer.{Answer}
@@ -58,3 +62,11 @@ granted = asked with_pipeline token
 
 abbrev pub with_attempt : State
 with_attempt = after granted with_pipeline
+
+-- ---- an attempt granted at 1000
+
+abbrev pub attempt : ℕ → AttemptState → Attempt
+attempt seen state = record { id = 1; job = 1; runner = 1; token = []; granted = 1000; seen = seen; state = state }
+
+abbrev pub lease : ℕ → ℕ → Lease
+lease seen limit = record { attempt = attempt seen Live; limit = limit }

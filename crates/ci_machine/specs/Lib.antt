@@ -8,3 +8,4 @@ pub mod Step
 pub mod History
 pub mod Laws
 pub mod Examples
+pub mod Leases

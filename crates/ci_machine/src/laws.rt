@@ -1,6 +1,6 @@
 //! What holds of every step and of every token, whatever happens.
 
-ghost use Rattle.std.specs.Prelude.{List, [], ◌∷◌, ℕ, ◌<◌, ◌^◌, ◌≡◌, codes, replicate, true, false};
+ghost use Rattle.std.specs.Prelude.{List, [], ◌∷◌, ℕ, ◌<◌, ◌^◌, ◌≡◌, codes, replicate, true, false, Some, None, Ok, Err};
 ghost use Rattle.ci_machine.specs.declared.request.Event.{Event};
 ghost use Rattle.ci_machine.specs.declared.request.Seed.{Seed};
 ghost use Rattle.ci_machine.specs.declared.reply.Answer.{Answer};
@@ -9,8 +9,11 @@ ghost use Rattle.ci_machine.specs.Effects.{token_of, replies, refuses, no_conten
 ghost use Rattle.ci_machine.specs.Names.{is_name};
 ghost use Rattle.ci_machine.specs.Step.{Step};
 ghost use Rattle.ci_machine.specs.Laws.{IsRefusal};
-ghost use Rattle.ci_machine.specs.Examples.{answer_text, project_added, runner_added, pipeline_entered, granted, with_attempt, token, asked, seed};
+ghost use Rattle.ci_machine.specs.Examples.{answer_text, project_added, runner_added, pipeline_entered, granted, with_attempt, token, asked, seed, attempt, lease};
+ghost use Rattle.ci_machine.specs.Leases.{renewed, is_over, deadline, accepted, size_after, finished, cause_of};
 
+use crate::lease::{LeaseFault, PieceFault};
+use crate::records::{AttemptState, Cause};
 use crate::reply::Code;
 
 /// A step that refuses leaves the state as it was.
@@ -53,4 +56,30 @@ pub fn limits()
     ensures last_jobs { lacks_numbers 1 9007199254740990 2 ≡ false }
     ensures past_last_jobs { lacks_numbers 1 9007199254740990 3 ≡ true }
     ensures past_all_jobs { lacks_numbers 1 9007199254740992 1 ≡ true }
+{}
+
+/// Leases worked out by hand: attempts granted at 1000, with a limit of an hour or of a minute.
+pub fn lease_examples()
+    ensures heard { renewed (attempt 1000 AttemptState.Live) 3600 1119 ≡ Ok 1119 }
+    ensures not_over { is_over (attempt 1119 AttemptState.Live) 3600 1238 ≡ false }
+    ensures over { is_over (attempt 1119 AttemptState.Live) 3600 1239 ≡ true }
+    ensures late_piece { accepted (attempt 1119 AttemptState.Live) 3600 1239 0 0 1 ≡ Err (PieceFault.Unleased LeaseFault.LeaseOver) }
+    ensures stuck { cause_of (lease 1119 3600) ≡ Cause.StuckOrTimeoutFailure }
+
+    ensures went_back { renewed (attempt 1050 AttemptState.Live) 60 1005 ≡ Ok 1050 }
+    ensures within_limit { is_over (attempt 1050 AttemptState.Live) 60 1059 ≡ false }
+    ensures past_limit { is_over (attempt 1050 AttemptState.Live) 60 1060 ≡ true }
+    ensures timed_out { cause_of (lease 1050 60) ≡ Cause.JobExecutionTimeout }
+    ensures later_deadline { deadline (attempt 1100 AttemptState.Live) 3600 ≡ 1220 }
+
+    ensures next_piece { size_after 5 5 5 ≡ Ok 10 }
+    ensures repeated_piece { size_after 5 0 5 ≡ Err (PieceFault.WrongOffset 5) }
+    ensures gap { size_after 10 11 2 ≡ Err (PieceFault.WrongOffset 10) }
+    ensures full { size_after 4194300 4194300 4 ≡ Ok 4194304 }
+    ensures past_full { size_after 4194300 4194300 5 ≡ Err PieceFault.TraceFull }
+
+    ensures same_end { finished (attempt 1000 (AttemptState.Succeeded None)) 3600 9000 (AttemptState.Succeeded None) ≡ Ok (AttemptState.Succeeded None) }
+    ensures other_exit { finished (attempt 1000 (AttemptState.Succeeded None)) 3600 1000 (AttemptState.Succeeded (Some 1)) ≡ Err (LeaseFault.NotLive (AttemptState.Succeeded None)) }
+    ensures late_end { finished (attempt 1000 AttemptState.Live) 3600 1120 (AttemptState.Succeeded None) ≡ Err LeaseFault.LeaseOver }
+    ensures in_time { finished (attempt 1000 AttemptState.Live) 3600 1119 (AttemptState.Succeeded None) ≡ Ok (AttemptState.Succeeded None) }
 {}

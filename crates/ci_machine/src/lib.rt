@@ -6,6 +6,7 @@ pub mod change;
 pub mod choose;
 pub mod enter;
 pub mod laws;
+pub mod lease;
 pub mod moment;
 pub mod plan;
 pub mod records;

@@ -45,4 +45,15 @@ impl Moment {
     {
         self.seconds
     }
+
+    /// The later of the two.
+    pub fn later(self, other: Moment) -> Moment
+        ensures { result ≡ max self other }
+    {
+        if self.seconds < other.seconds {
+            other
+        } else {
+            self
+        }
+    }
 }

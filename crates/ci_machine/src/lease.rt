@@ -1,0 +1,139 @@
+//! Leases: when a runner was last heard of, when its lease is over, what of it is accepted, and how an attempt ends.
+
+ghost use Rattle.std.specs.Prelude.{◌≡◌};
+ghost use Rattle.std.specs.Option.{option_copied};
+ghost use Rattle.ci_machine.specs.Leases.{is_over, renewed, accepted, is_same_end, finished, cause_of, first_due};
+
+use crate::moment::Moment;
+use crate::records::{Attempt, AttemptState, Cause};
+
+/// How long a lease lasts after its runner was last heard of, in seconds.
+pub const LEASE_SECONDS: u64 = 120;
+
+/// The greatest size of a trace, in bytes.
+pub const TRACE_LIMIT: u64 = 4_194_304;
+
+/// A live attempt, with the time limit of its job in seconds.
+#[derive(Drop)]
+pub struct Lease {
+    pub attempt: Attempt,
+    pub limit: u32,
+}
+
+/// Why nothing of a runner is accepted on an attempt.
+#[derive(Clone, Copy, Drop)]
+pub enum LeaseFault {
+    /// The attempt has ended, in this state.
+    NotLive(AttemptState),
+    /// Its lease is over.
+    LeaseOver,
+}
+
+/// Why a piece of a trace isn't accepted.
+#[derive(Clone, Copy, Drop)]
+pub enum PieceFault {
+    /// Nothing of the runner is.
+    Unleased(LeaseFault),
+    /// It doesn't begin where the trace ends, which has this size in bytes.
+    WrongOffset(u64),
+    /// The trace would pass its limit.
+    TraceFull,
+}
+
+/// Is the lease of an attempt over? It is from the lesser on of 120 seconds after its runner was last heard of and its
+/// job's time limit, in seconds, after the grant.
+pub fn is_over(attempt: &Attempt, limit: u32, now: Moment) -> bool
+    ensures { result ≡ is_over attempt.now limit now }
+{
+    let silent = attempt.seen.seconds() + LEASE_SECONDS;
+    let timed_out = attempt.granted.seconds() + u64::from(limit);
+    silent.min(timed_out) <= now.seconds()
+}
+
+/// When the runner was last heard of, if it is heard of now: the later of then and now, since moments may go back.
+pub fn renew(attempt: &Attempt, limit: u32, now: Moment) -> Result<Moment, LeaseFault>
+    ensures { result ≡ renewed attempt.now limit now }
+{
+    match attempt.state {
+        AttemptState::Live => {}
+        ended => return Err(LeaseFault::NotLive(ended)),
+    }
+    if is_over(attempt, limit, now) {
+        return Err(LeaseFault::LeaseOver);
+    }
+    Ok(attempt.seen.later(now))
+}
+
+/// The size of the trace after a piece of `count` bytes from an offset, where it has this size so far.
+pub fn accept_piece(
+    attempt: &Attempt,
+    limit: u32,
+    now: Moment,
+    size: u64,
+    from: u64,
+    count: u64,
+) -> Result<u64, PieceFault>
+    ensures { result ≡ accepted attempt.now limit now size from count }
+{
+    match renew(attempt, limit, now) {
+        Ok(_) => {}
+        Err(fault) => return Err(PieceFault::Unleased(fault)),
+    }
+    if from != size {
+        return Err(PieceFault::WrongOffset(size));
+    }
+    if size > TRACE_LIMIT || count > TRACE_LIMIT - size {
+        return Err(PieceFault::TraceFull);
+    }
+    Ok(size + count)
+}
+
+fn is_same_end(old: AttemptState, new: AttemptState) -> bool
+    ensures { result ≡ is_same_end old new }
+{
+    match (old, new) {
+        (AttemptState::Succeeded(x), AttemptState::Succeeded(y)) => x == y,
+        (AttemptState::Failed(_, x), AttemptState::Failed(_, y)) => x == y,
+        _ => false,
+    }
+}
+
+/// The state of an attempt after its runner sent a final one. The same final state with the same exit code, or the same
+/// lack of one, changes nothing.
+pub fn finish(
+    attempt: &Attempt,
+    limit: u32,
+    now: Moment,
+    last: AttemptState,
+) -> Result<AttemptState, LeaseFault>
+    ensures { result ≡ finished attempt.now limit now last }
+{
+    if is_same_end(attempt.state, last) {
+        return Ok(attempt.state);
+    }
+    match renew(attempt, limit, now) {
+        Ok(_) => Ok(last),
+        Err(fault) => Err(fault),
+    }
+}
+
+/// Why a lease that is over ends.
+pub fn cause(lease: &Lease) -> Cause
+    ensures { result ≡ cause_of lease.now }
+{
+    let timed_out = lease.attempt.granted.seconds() + u64::from(lease.limit);
+    if timed_out <= lease.attempt.seen.seconds() + LEASE_SECONDS {
+        Cause::JobExecutionTimeout
+    } else {
+        Cause::StuckOrTimeoutFailure
+    }
+}
+
+/// The first lease that is over, of leases by number.
+pub fn due(leases: &[Lease], now: Moment) -> Option<&Lease>
+    ensures { option_copied result ≡ first_due leases.now now }
+{
+    leases
+        .iter()
+        .find(|lease| is_over(&lease.attempt, lease.limit, now))
+}
