@@ -8,7 +8,8 @@ ghost use Rattle.ci_machine.specs.State.{State};
 ghost use Rattle.ci_machine.specs.Effects.{token_of, replies, refuses, no_content, add_project, made_project, add_runner, made_runner, lacks_numbers};
 ghost use Rattle.ci_machine.specs.Names.{is_name};
 ghost use Rattle.ci_machine.specs.Step.{Step};
-ghost use Rattle.ci_machine.specs.Laws.{IsRefusal};
+ghost use Rattle.ci_machine.specs.Laws.{IsRefusal, Laws};
+ghost use Rattle.ci_machine.specs.History.{Past, Leads};
 ghost use Rattle.ci_machine.specs.Examples.{answer_text, project_added, runner_added, pipeline_entered, granted, with_attempt, token, asked, seed, attempt, lease};
 ghost use Rattle.ci_machine.specs.Leases.{renewed, is_over, deadline, accepted, size_after, finished, cause_of};
 
@@ -82,4 +83,10 @@ pub fn lease_examples()
     ensures other_exit { finished (attempt 1000 (AttemptState.Succeeded None)) 3600 1000 (AttemptState.Succeeded (Some 1)) ≡ Err (LeaseFault.NotLive (AttemptState.Succeeded None)) }
     ensures late_end { finished (attempt 1000 AttemptState.Live) 3600 1120 (AttemptState.Succeeded None) ≡ Err LeaseFault.LeaseOver }
     ensures in_time { finished (attempt 1000 AttemptState.Live) 3600 1119 (AttemptState.Succeeded None) ≡ Ok (AttemptState.Succeeded None) }
+{}
+
+/// In each state that a history leads to, each job has at most one live attempt, and each attempt was granted by just
+/// one request, in a state in which its job was pending and, of those that its runner may run, the one of least number.
+pub fn laws_of_each_reached_state()
+    ensures { (h : List Past) (s : State) → Leads h s → Laws h s }
 {}
