@@ -1,5 +1,5 @@
 pub mod Floats
-pub mod Refusals
+pub mod EachEffect
 pub mod Tokens
 pub mod Keyed
 pub mod Reached

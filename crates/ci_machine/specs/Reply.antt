@@ -7,6 +7,8 @@ use Rattle.ci_machine.specs.declared.reply.Code.TheVariants.{M2, M4, M14, M15, M
 use Rattle.ci_machine.specs.declared.reply.Body.{Body}
 use Rattle.ci_machine.specs.declared.reply.Body.TheVariants.{Json, Plain}
 use Rattle.ci_machine.specs.declared.reply.Reply.{Reply}
+use Rattle.ci_machine.specs.declared.reply.Answer.{Answer}
+use Rattle.ci_machine.specs.declared.reply.Answer.TheVariants as answer
 
 -- the status of a refusal
 abbrev pub status_of : Code → Status
@@ -59,3 +61,15 @@ text_of None None = []
 -- the bytes of a reply's body
 abbrev pub body_text : Reply → List ℕ
 body_text r = text_of r.code r.body
+
+-- How a call ended, as its answer tells: by a step of the machine, or by none.
+pub data Outcome : Type 0 where
+  Stepped LackedMemory StoreFailed : Outcome
+
+abbrev pub outcome_by : Option Code → Outcome
+outcome_by (Some M16) = LackedMemory
+outcome_by (Some M17) = StoreFailed
+outcome_by _ = Stepped
+
+abbrev pub outcome_of : Answer → Outcome
+outcome_of (answer.Reply reply) = outcome_by reply.code

@@ -8,6 +8,7 @@ ghost use Rattle.ci_machine.specs.State.{State};
 ghost use Rattle.ci_machine.specs.Effects.{token_of, replies, refuses, no_content, add_project, made_project, add_runner, made_runner, lacks_numbers};
 ghost use Rattle.ci_machine.specs.Names.{is_name};
 ghost use Rattle.ci_machine.specs.Step.{Step};
+ghost use Rattle.ci_machine.specs.Reply.{Stepped, outcome_of};
 ghost use Rattle.ci_machine.specs.Laws.{IsRefusal, Laws};
 ghost use Rattle.ci_machine.specs.History.{Past, Leads};
 ghost use Rattle.ci_machine.specs.Examples.{answer_text, project_added, runner_added, pipeline_entered, granted, with_attempt, token, asked, seed, attempt, lease};
@@ -20,6 +21,11 @@ use crate::reply::Code;
 /// A step that refuses leaves the state as it was.
 pub fn a_refusal_changes_nothing()
     ensures { (s t : State) (e : Event) (now : ℕ) (seed : Seed) (a : Answer) → Step s e now seed a t → IsRefusal a → t ≡ s }
+{}
+
+/// The machine answers neither M16 nor M17: these say that there was no step.
+pub fn a_step_is_answered()
+    ensures { (s t : State) (e : Event) (now : ℕ) (seed : Seed) (a : Answer) → Step s e now seed a t → outcome_of a ≡ Stepped }
 {}
 
 /// Two tokens of a kind are the same only if their numbers are, whatever the seeds.

@@ -3,10 +3,11 @@
 ghost use Rattle.std.specs.Prelude.{◌≡◌};
 
 use crate::text::{Text, Texts};
+use std::alloc::AllocError;
 use std::marker::Model;
 
 /// A job of a pipeline to be made.
-#[derive(Drop)]
+#[derive(Clone, Drop)]
 pub struct NewJob {
     pub name: Text,
     pub script: Texts,
@@ -51,10 +52,19 @@ impl NewJobs {
     }
 }
 
+impl Clone for NewJobs {
+    ghost is_clone = { λ old new. new ≡ old };
+
+    fn clone(&self) -> Result<NewJobs, AllocError> {
+        let jobs = self.jobs.clone()?;
+        Ok(NewJobs { jobs })
+    }
+}
+
 /// A pipeline of a branch to be made, all of whose jobs are of one stage.
 ///
 /// It stands in for the pipeline that a project's file describes until files are read.
-#[derive(Drop)]
+#[derive(Clone, Drop)]
 pub struct NewPipeline {
     pub project: u64,
     pub git_ref: Text,
@@ -73,6 +83,19 @@ pub enum Request {
     EnterPipeline(NewPipeline),
     /// The runner with this token asks for a job.
     AskJob(Text),
+}
+
+impl Clone for Request {
+    ghost is_clone = { λ old new. new ≡ old };
+
+    fn clone(&self) -> Result<Request, AllocError> {
+        Ok(match self {
+            Request::AddProject(name) => Request::AddProject(name.clone()?),
+            Request::AddRunner(name) => Request::AddRunner(name.clone()?),
+            Request::EnterPipeline(new) => Request::EnterPipeline(new.clone()?),
+            Request::AskJob(token) => Request::AskJob(token.clone()?),
+        })
+    }
 }
 
 /// What happens to the machine: a request. Sweeps join it with the attempts that end.

@@ -1,0 +1,5 @@
+use Rattle.ci_machine.proofs.EachEffect.{answered}
+use Rattle.ci_machine.proofs.laws.a_step_is_answered.Goals as goal
+
+pub returns : goal.returns
+returns c = answered
