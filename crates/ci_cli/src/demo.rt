@@ -2,11 +2,6 @@
 
 ghost use Rattle.std.specs.Prelude.{◌≡◌, ◌<◌};
 
-use std::alloc::{AllocError, Global};
-use std::io::{Read, Write};
-use std::marker::Brand;
-use std::sync::ledger::{Blank, Ledger};
-
 use ci_machine::moment::Moment;
 use ci_machine::reply::{Reply, Status};
 use ci_machine::request::{NewJob, NewJobs, NewPipeline, Request, Seed};
@@ -16,6 +11,10 @@ use ci_server::serve::{Served, serve_one};
 use ci_server::server::Server;
 use ci_store::Alter;
 use sqlite::Connection;
+use std::alloc::{AllocError, Global};
+use std::io::{Read, Write};
+use std::marker::Brand;
+use std::sync::ledger::{Blank, Ledger};
 
 /// The moment at which everything happens, in seconds.
 const MOMENT: u64 = 1000;

@@ -3,10 +3,9 @@
 
 mod demo;
 
+use demo::serve_demo;
 use std::env;
 use std::process::ExitCode;
-
-use demo::serve_demo;
 
 /// The exit status of a command line that isn't understood.
 const USAGE: u8 = 2;

@@ -104,6 +104,15 @@ pub enum Event {
     Request(Request),
 }
 
+impl Clone for Event {
+    ghost is_clone = { λ old new. new ≡ old };
+
+    fn clone(&self) -> Result<Event, AllocError> {
+        let Event::Request(request) = self;
+        Ok(Event::Request(request.clone()?))
+    }
+}
+
 /// The sixteen bytes of chance that come with an event, for the token that it may make.
 #[derive(Clone, Copy, Drop)]
 pub struct Seed(pub [u8; 16]);

@@ -5,3 +5,4 @@ pub mod Readings
 pub mod Unique
 pub mod Queues
 pub mod Handling
+pub mod Runs

@@ -9,3 +9,4 @@ pub mod ReplyText
 pub mod Serving
 pub mod Stores
 pub mod Handling
+pub mod Runs

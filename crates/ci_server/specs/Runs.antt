@@ -1,0 +1,69 @@
+-- What a list of calls leaves: the history of the machine, and what a stop leaves of it.
+use Rattle.std.specs.Prelude.{◌≡◌, ◌⊎◌, ℕ, Bool, true, false, List, [], ◌∷◌}
+use Rattle.ci_machine.specs.declared.reply.Answer.{Answer}
+use Rattle.ci_machine.specs.declared.reply.Answer.TheVariants as answer
+use Rattle.ci_machine.specs.declared.request.Event.{Event}
+use Rattle.ci_machine.specs.declared.request.Event.TheVariants as event
+use Rattle.ci_machine.specs.declared.request.Seed.{Seed}
+use Rattle.ci_machine.specs.Reply.{Outcome, Stepped, LackedMemory, StoreFailed, outcome_of}
+use Rattle.ci_machine.specs.State.{State}
+use Rattle.ci_machine.specs.History.{Past, Leads}
+use Rattle.ci_machine.specs.Laws.{Laws}
+use Rattle.ci_server.specs.Handling.{Handled}
+
+-- an event, with its moment and its seed
+abbrev pub Call : Type 0
+Call = Event × ℕ × Seed
+
+-- how an event ended on an open server
+abbrev pub Happened : {T : Type 0} → (T → State → Type 0) → (T → State → State → Type 0) → Call → State → T → Bool → Answer → Type 0
+Happened holds leaves (event.Request request, now, seed) s new closed (answer.Reply reply) = Handled holds leaves request now seed s new closed reply
+
+-- the line of a history that a call adds in a state
+abbrev pub line : State → Call → Answer → Past
+line s c a = record { before = s; event = c.0; now = c.1; seed = c.2; answer = a }
+
+abbrev pub by_outcome : Outcome → Type 0 → Type 0 → Type 0 → Type 0
+by_outcome Stepped stepped lacked failed = stepped
+by_outcome LackedMemory stepped lacked failed = lacked
+by_outcome StoreFailed stepped lacked failed = failed
+
+-- the history h goes on to g by these calls: a line for each one that was answered, and none for M16 and M17
+abbrev pub GoesOn : List Past → List Call → List Answer → List Past → Type 0
+GoesOn h [] [] g = g ≡ h
+GoesOn h (c ∷ cs) (a ∷ rs) g = by_outcome (outcome_of a) ((s : State) × GoesOn (line s c a ∷ h) cs rs g) (GoesOn h cs rs g) (GoesOn h cs rs g)
+GoesOn h [] (a ∷ rs) g = ⊥
+GoesOn h (c ∷ cs) [] g = ⊥
+
+-- no answer is M17
+abbrev pub NoneFailed : List Answer → Type 0
+NoneFailed [] = Unit {0}
+NoneFailed (a ∷ rs) = by_outcome (outcome_of a) (NoneFailed rs) (NoneFailed rs) ⊥
+
+-- the line is of the first call that was answered M17
+abbrev pub IsUnanswered : Past → List Call → List Answer → Type 0
+IsUnanswered p (c ∷ cs) (a ∷ rs) = by_outcome (outcome_of a) (IsUnanswered p cs rs) (IsUnanswered p cs rs) ((p.event ≡ c.0) × (p.now ≡ c.1) × (p.seed ≡ c.2))
+IsUnanswered p [] rs = ⊥
+IsUnanswered p (c ∷ cs) [] = ⊥
+
+-- one step more than the answered calls: that of the one unanswered
+pub record OneMore {T : Type 0} (leaves : T → State → State → Type 0) (history : List Past) (state : State) (cs : List Call) (rs : List Answer) (new : T) : Type 0 where
+  pub last : Past
+  pub unanswered : IsUnanswered last cs rs
+  pub after : State
+  pub leads : Leads (last ∷ history) after
+  pub laws : Laws (last ∷ history) after
+  pub leaves_either : leaves new state after
+
+-- From a state that the history h leads to, these calls with these answers: the state after every answered call, with the history that leads
+-- to it and the laws; what the store holds then, or what a stop leaves of it.
+pub record IsRun {T : Type 0} (holds : T → State → Type 0) (leaves : T → State → State → Type 0) (h : List Past) (cs : List Call) (rs : List Answer) (new : T) (closed : Bool) : Type 0 where
+  pub history : List Past
+  pub state : State
+  pub goes_on : GoesOn h cs rs history
+  pub leads : Leads history state
+  pub laws : Laws history state
+  -- while the server is open its store holds that state, and a stop leaves it alone
+  pub is_open : closed ≡ false → NoneFailed rs × holds new state
+  -- from the first fault of the store on a stop leaves that state alone, or besides it the one after the one unanswered call
+  pub is_closed : closed ≡ true → leaves new state state ⊎ OneMore leaves history state cs rs new
