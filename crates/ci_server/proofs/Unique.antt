@@ -1,7 +1,6 @@
 -- A text is one request at most.
 use Rattle.std.proofs.Common.{◌≡◌, ℕ, List, [], refl, sym, ◌∙◌, ap}
 use Rattle.std.specs.Prelude.{Option, Some, None}
-use Rattle.httparse.specs.Grammar.{RequestHead, ReadsRequest}
 use Rattle.httparse.proofs.GrammarLemmas.{request_unique}
 use Rattle.ci_server.specs.Opening.{Opening, short, too_large, opened, opening_of}
 use Rattle.ci_server.specs.Head.{Head, head_parts, IsHeadOf}

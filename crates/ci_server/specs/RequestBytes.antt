@@ -1,5 +1,5 @@
 -- The request that a message asks for, or the reply that refuses it.
-use Rattle.std.specs.Prelude.{ℕ, Bool, List, [], take, nat_eq, ◌==◌, if◌then◌else◌, Option, Some, None, option_map, option_and_then, ok_or, Result, Ok, Err, codes, position}
+use Rattle.std.specs.Prelude.{ℕ, Bool, List, [], take, nat_eq, ◌==◌, if◌then◌else◌, Option, Some, None, option_map, option_and_then, ok_or, Result, Err, codes, position}
 use Rattle.std.specs.Str.{is_utf8}
 use Rattle.std.specs.Cmp.Lexicographic.{pointwise}
 use Rattle.serde_json.specs.Data.{Data}

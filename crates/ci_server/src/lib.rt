@@ -10,4 +10,6 @@ pub mod laws;
 pub mod link;
 pub mod route;
 pub mod serve;
+#[cfg(test)]
+mod tests;
 pub mod text;

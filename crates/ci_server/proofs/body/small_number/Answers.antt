@@ -1,4 +1,4 @@
-use Rattle.std.proofs.Common.{◌≡◌, ◌∙◌, ap, sym, length, true, arith, ◌<◌, ◌≤◌, ◌+◌, ◌*◌, take, get_or, nat_lt}
+use Rattle.std.proofs.Common.{◌≡◌, ap, sym, true, arith, ◌<◌, ◌+◌, nat_lt}
 use Rattle.std.proofs.lemmas.Int.Digits.{digits_value_more}
 use Rattle.std.proofs.lemmas.Str.Parse.{digits_value-take-le}
 use Rattle.std.proofs.lemmas.Bool.Decides.{nat_tests}

@@ -1,12 +1,12 @@
-use Rattle.std.proofs.Common.{◌≡◌, ◌∙◌, sym, ap, subst, rules}
+use Rattle.std.proofs.Common.{◌≡◌, ◌∙◌, sym, ap, subst}
 use Rattle.std.specs.Prelude.{Err, Option}
 use Rattle.std.proofs.lemmas.Result.{err_from_is_err_and}
 use Rattle.ci_server.specs.declared.fault.HttpFault.TheVariants.{Refused, Ended}
 use Rattle.ci_server.specs.Head.{Head, IsHeadOf, head_at}
-use Rattle.ci_server.specs.Reading.{Refuses, IsReading, request, refused, ended, message}
+use Rattle.ci_server.specs.Reading.{Refuses, IsReading, request, message}
 use Rattle.ci_server.specs.Sources.{Tells}
-use Rattle.ci_server.specs.Opening.{opening_of, opened, short, too_large}
-use Rattle.ci_server.proofs.Readings.{tells_map, tells_then, consumes_tells, reading_short, reading_large, reading_refused, reading_ended, reading_call}
+use Rattle.ci_server.specs.Opening.{opening_of, opened}
+use Rattle.ci_server.proofs.Readings.{tells_map, tells_then, consumes_tells, reading_large, reading_refused, reading_ended, reading_call}
 use Rattle.ci_server.proofs.call.read_request.Goals as goal
 
 pub returns-in_err-head-clause-refused : goal.returns-in_err-head-clause-refused

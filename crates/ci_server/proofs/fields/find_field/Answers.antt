@@ -1,4 +1,4 @@
-use Rattle.std.proofs.Common.{◌≡◌, ◌∙◌, sym, ap, subst, List, ℕ, take, ◌+◌}
+use Rattle.std.proofs.Common.{◌∙◌, sym, ap, subst, take, ◌+◌}
 use Rattle.std.specs.Str.{str_eq_ignore_ascii_case}
 use Rattle.ci_server.specs.Fields.{Shows}
 use Rattle.ci_server.proofs.Values.{turn_same, turn_once, turn_twice, values_at}

@@ -1,5 +1,5 @@
 -- What was found so far.
-use Rattle.std.proofs.Common.{◌≡◌, length, map, take, List}
+use Rattle.std.proofs.Common.{map, take}
 use Rattle.httparse.specs.Spans.{header_bytes}
 use Rattle.ci_server.specs.Fields.{values_of, Shows}
 use Rattle.ci_server.proofs.fields.find_field.Given as goal

@@ -1,9 +1,9 @@
-use Rattle.std.proofs.Common.{◌≡◌, ◌∙◌, ap, subst, arith, length, take}
+use Rattle.std.proofs.Common.{◌∙◌, ap, subst, arith, take}
 use Rattle.std.specs.Prelude.{nat_eq, count_by}
 use Rattle.std.specs.List.{ends_with}
 use Rattle.std.specs.Io.KnownBytes.{Consumes}
 use Rattle.ci_server.specs.Opening.{empty_line, is_line_feed}
-use Rattle.ci_server.proofs.Heads.{taken_more, taken_last, taken_ended, taken_all, whole_head, whole_lines, one_byte, Whole}
+use Rattle.ci_server.proofs.Heads.{taken_more, taken_last, taken_ended, taken_all, whole_head, whole_lines, one_byte}
 use Rattle.ci_server.proofs.head.read_head.Goals as goal
 
 pub loop-preserved : goal.loop-preserved

@@ -1,6 +1,4 @@
-use Rattle.std.proofs.Common.{◌≡◌, ◌+◌, ◌<◌, ◌≤◌, ℕ, List, length, Option, Some, None}
-use Rattle.std.specs.Io.KnownBytes.{Consumes}
-use Rattle.ci_server.specs.Opening.{head_len}
+use Rattle.std.proofs.Common.{◌≡◌}
 use Rattle.ci_server.proofs.Heads.{Taken}
 use Rattle.ci_server.proofs.head.read_head.Given as goal
 

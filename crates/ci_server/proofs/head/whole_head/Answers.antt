@@ -1,4 +1,4 @@
-use Rattle.std.proofs.Common.{◌≡◌, ℕ, subst, length}
+use Rattle.std.proofs.Common.{subst}
 use Rattle.httparse.specs.Spans.{RequestOverflows}
 use Rattle.ci_server.proofs.Lines.{not_whole, no_head}
 use Rattle.ci_server.proofs.head.whole_head.Goals as goal

@@ -1,4 +1,4 @@
-use Rattle.std.proofs.Common.{◌≡◌, ℕ, List, ap, sym, ◌∙◌, ◌++◌, length}
+use Rattle.std.proofs.Common.{◌≡◌, ℕ, List, ap, ◌∙◌, ◌++◌, length}
 use Rattle.std.specs.Prelude.{codes}
 use Rattle.ci_server.specs.ReplyText.{type_text, type_line, length_line}
 use Rattle.ci_server.proofs.text.head_of.Goals as goal
