@@ -1,11 +1,11 @@
 //! Requests of HTTP/1.1 from bytes, and replies to bytes.
 #![tactic(auto)]
 
-pub mod body;
+mod body;
 pub mod call;
 pub mod fault;
 pub mod fields;
-pub mod head;
+mod head;
 pub mod laws;
 pub mod link;
 pub mod route;
