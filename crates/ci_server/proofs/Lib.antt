@@ -3,3 +3,4 @@ pub mod Lines
 pub mod Values
 pub mod Readings
 pub mod Unique
+pub mod Beginnings

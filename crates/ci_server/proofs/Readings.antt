@@ -51,13 +51,19 @@ reading_ended front head n is len b a r e (less, none) =
     = ap (reading_by head a) len ∙ ap (λ t. if t then (ended, []) else (request (message head (take n a)), drop n a)) test ∙ ap (λ l. (ended, l)) (sym none) in
     subst (λ o. IsReadingAt o (ended, r)) (sym e) (Some head, is, sym same)
 
+-- a body of the length that its head says, and what follows
+pub after_body : (h : Head) (len : ℕ) (body other : List ℕ) → body_length h ≡ Ok len → length body ≡ len
+    → reading_after (Some h) (body ++ other) ≡ (request (message h body), other)
+after_body h len body other is size =
+    let test : nat_lt (length (body ++ other)) len ≡ false = grind (arith, nat_tests, length-append body other) in
+    let front_is : take len (body ++ other) ≡ body = ap (λ k. take k (body ++ other)) (sym size) ∙ take-append_seam body other in
+    let rest_is : drop len (body ++ other) ≡ other = ap (λ k. drop k (body ++ other)) (sym size) ∙ drop-append_seam body other in
+    ap (reading_by h (body ++ other)) is
+    ∙ ap (λ t. if t then (ended, []) else (request (message h (take len (body ++ other))), drop len (body ++ other))) test
+    ∙ ap (λ l. (request (message h l), drop len (body ++ other))) front_is ∙ ap (λ l. (request (message h body), l)) rest_is
+
 pub reading_call : (front : List ℕ) (head : Head) (n : ℕ) (body : List ℕ) → IsHeadOf front (Some head) → body_length head ≡ Ok n → length body ≡ n
     → (b a r : List ℕ) → opening_of b ≡ (opened front, a) → a ≡ body ++ r → IsReading b (request (message head body)) r
 reading_call front head n body is len size b a r e split =
-    let test : nat_lt (length a) n ≡ false = grind (arith, nat_tests, length-append body r, ap length split) in
-    let front_is : take n a ≡ body = ap (λ k. take k a) (sym size) ∙ ap (λ l. take (length body) l) split ∙ take-append_seam body r in
-    let rest_is : drop n a ≡ r = ap (λ k. drop k a) (sym size) ∙ ap (λ l. drop (length body) l) split ∙ drop-append_seam body r in
-    let same : reading_after (Some head) a ≡ (request (message head body), r)
-    = ap (reading_by head a) len ∙ ap (λ t. if t then (ended, []) else (request (message head (take n a)), drop n a)) test
-    ∙ ap (λ l. (request (message head l), drop n a)) front_is ∙ ap (λ l. (request (message head body), l)) rest_is in
+    let same : reading_after (Some head) a ≡ (request (message head body), r) = ap (reading_after (Some head)) split ∙ after_body head n body r len size in
     subst (λ o. IsReadingAt o (request (message head body), r)) (sym e) (Some head, is, sym same)
