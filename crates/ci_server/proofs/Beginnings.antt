@@ -10,7 +10,7 @@ use Rattle.ci_server.specs.Head.{Head, IsHeadOf}
 use Rattle.ci_server.specs.Opening.{Opening, short, too_large, opened, opening_at, opening_of, head_len, max_head, max_lines, is_line_feed}
 use Rattle.ci_server.specs.Reading.{Message, message, Reading, ended, refused, request, reading_by, reading_after, IsReadingAt, IsReading}
 use Rattle.ci_server.proofs.Heads.{head_len-bounds, head_len-front, opening-head, opening-lines, opening-long}
-use Rattle.ci_server.proofs.Readings.{after_body, reading_ended}
+use Rattle.ci_server.proofs.Readings.{after_body, by_few, by_enough, reading_ended}
 
 -- the text has a front that opens it alike, whatever follows
 abbrev Cuts : List ℕ → (List ℕ → Opening) → Type 0
@@ -75,11 +75,11 @@ enough n len p = grind (arith, nat_tests)
 takes_body : (h : Head) (len : ℕ) (s : Bool) (after rest : List ℕ) (reading : Reading) → (reading ≡ ended → ⊥) → body_length h ≡ Ok len
     → nat_lt (length after) len ≡ s → (reading, rest) ≡ reading_after (Some h) after → Takes (Some h) after reading rest
 takes_body h len true after rest reading some is p e =
-    let same : (reading, rest) ≡ (ended, []) = e ∙ ap (reading_by h after) is ∙ ap (λ t. if t then (ended, []) else (request (message h (take len after)), drop len after)) p in
+    let same : (reading, rest) ≡ (ended, []) = e ∙ ap (reading_by h after) is ∙ by_few h after len p in
     absurd (some (first_is (reading, rest) (ended, []) same))
 takes_body h len false after rest reading some is p e =
     let body = take len after in
-    let same : (reading, rest) ≡ (request (message h body), drop len after) = e ∙ ap (reading_by h after) is ∙ ap (λ t. if t then (ended, []) else (request (message h (take len after)), drop len after)) p in
+    let same : (reading, rest) ≡ (request (message h body), drop len after) = e ∙ ap (reading_by h after) is ∙ by_enough h after len p in
     let size : length body ≡ len = length-take-le len after (enough (length after) len p) in (
       body,
       sym (take-append-drop len after) ∙ ap (λ r. body ++ r) (sym (second_is (reading, rest) (request (message h body), drop len after) same)),
@@ -126,11 +126,11 @@ TakesBody head after rest =
 asks_body : (h : Head) (len : ℕ) (s : Bool) (after rest : List ℕ) (m : Message) → body_length h ≡ Ok len → nat_lt (length after) len ≡ s
     → (request m, rest) ≡ reading_after (Some h) after → TakesBody (Some h) after rest
 asks_body h len true after rest m is p e =
-    let same : (request m, rest) ≡ (ended, []) = e ∙ ap (reading_by h after) is ∙ ap (λ t. if t then (ended, []) else (request (message h (take len after)), drop len after)) p in
+    let same : (request m, rest) ≡ (ended, []) = e ∙ ap (reading_by h after) is ∙ by_few h after len p in
     absurd (request_not_ended m (first_is (request m, rest) (ended, []) same))
 asks_body h len false after rest m is p e =
     let body = take len after in
-    let same : (request m, rest) ≡ (request (message h body), drop len after) = e ∙ ap (reading_by h after) is ∙ ap (λ t. if t then (ended, []) else (request (message h (take len after)), drop len after)) p in (
+    let same : (request m, rest) ≡ (request (message h body), drop len after) = e ∙ ap (reading_by h after) is ∙ by_enough h after len p in (
       h,
       body,
       refl,
