@@ -4,3 +4,4 @@ pub mod Values
 pub mod Readings
 pub mod Unique
 pub mod Beginnings
+pub mod Responses

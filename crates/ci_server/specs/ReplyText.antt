@@ -1,5 +1,6 @@
 -- The bytes of a reply.
-use Rattle.std.specs.Prelude.{ℕ, List, [], ◌∷◌, ◌++◌, length, ◌==◌, if◌then◌else◌, Option, Some, None, unwrap_or, codes, decimal}
+use Rattle.std.specs.Prelude.{◌≡◌, ℕ, List, [], ◌∷◌, ◌++◌, length, ◌==◌, if◌then◌else◌, Option, Some, None, unwrap_or, codes, decimal}
+use Rattle.httparse.specs.Grammar.{ResponseHead, ReadsResponse, status_code}
 use Rattle.http.specs.StatusCode.{reason_phrase, code_digits}
 use Rattle.ci_machine.specs.declared.reply.Status.{Status}
 use Rattle.ci_machine.specs.declared.reply.Status.TheVariants.{Fine, Created, Accepted, NoContent, BadRequest, Unauthorized, Forbidden, NotFound, MethodNotAllowed, LengthRequired, PayloadTooLarge, RangeNotSatisfiable, HeaderFieldsTooLarge, NotImplemented, ServiceUnavailable}
@@ -82,3 +83,7 @@ head_text r =
 -- the bytes of the reply
 abbrev pub reply_text : Reply → List ℕ
 reply_text r = head_text r ++ body_text r
+
+-- the bytes are a response by the grammar of HTTP/1.1: a head with this status, and then the body
+abbrev pub IsResponse : List ℕ → Status → List ℕ → Type 0
+IsResponse bytes status body = (head : ResponseHead) × ReadsResponse bytes head body × (status_code head ≡ number_of status)

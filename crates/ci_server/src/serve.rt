@@ -36,7 +36,7 @@ pub trait Handler {
 }
 
 /// What became of one request.
-#[derive(Clone, Copy, Debug, Drop, PartialEq, Eq)]
+#[derive(Clone, Copy, Drop, PartialEq, Eq)]
 pub enum Served {
     /// A reply was written.
     Replied,
