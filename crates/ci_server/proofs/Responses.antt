@@ -1,19 +1,22 @@
 -- The bytes of a reply are a response by the grammar of HTTP/1.1.
 use Rattle.std.proofs.Common.{◌≡◌, ℕ, zero, suc, ◌+◌, ◌<◌, ◌^◌, ◌%◌, Bool, true, false, List, [], ◌∷◌, ◌++◌, length, refl, sym, ◌∙◌, ap, arith, append_assoc}
-use Rattle.std.specs.Prelude.{◌==◌, ◌&&◌, if◌then◌else◌, Option, Some, None, All, codes, decimal, unwrap_or, IfSome}
+use Rattle.std.specs.Prelude.{not, map, reverse, ◌==◌, ◌&&◌, if◌then◌else◌, Option, Some, None, All, codes, decimal, unwrap_or, IfSome}
 use Rattle.std.specs.List.{flat_map, list_all}
 use Rattle.std.specs.Char.{is_ascii_digit}
 use Rattle.std.specs.Str.Parse.{digits_value}
+use Rattle.std.proofs.lemmas.Bool.{and_parts}
 use Rattle.std.proofs.lemmas.Bool.Decides.{nat_tests}
 use Rattle.std.proofs.lemmas.Fmt.{decimal_by_steps}
 use Rattle.std.proofs.lemmas.Grind.{flat_map-append}
-use Rattle.std.proofs.lemmas.List.{append-nil}
+use Rattle.std.proofs.lemmas.List.{append-nil, map-append}
 use Rattle.std.proofs.lemmas.List.Elements.{All-append}
 use Rattle.std.proofs.lemmas.List.Folds.{list_all-append}
-use Rattle.std.proofs.lemmas.List.Sums.{AllPass-from_list_all}
+use Rattle.std.proofs.lemmas.List.Sums.{AllPass-from_list_all, list_all-from_AllPass}
 use Rattle.http.specs.StatusCode.{reason_phrase, code_digits}
-use Rattle.httparse.specs.Grammar.{LineEnd, Field, print_field, print_section, IsField, is_token, is_token_byte, is_value_byte, ResponseHead, print_response, IsResponseHead, ReadsResponse, status_code}
+use Rattle.httparse.specs.Grammar.{LineEnd, Field, print_field, print_section, IsField, is_token, is_token_byte, is_value_byte, is_ows, skip_ows, trim_ows, ResponseHead, print_response, IsResponseHead, ReadsResponse, status_code}
 use Rattle.httparse.specs.Grammar as grammar
+use Rattle.httparse.specs.Spans.{name_and_value}
+use Rattle.httparse.proofs.TrimLemmas.{AllPass-reverse, skip_ows_no, trim_ows_space}
 use Rattle.httparse.proofs.GrammarLemmas.{print_response-append}
 use Rattle.ci_machine.specs.declared.reply.Allow.{Allow}
 use Rattle.ci_machine.specs.declared.reply.Allow.TheVariants.{Post}
@@ -25,7 +28,9 @@ use Rattle.ci_machine.specs.declared.reply.Status.{Status}
 use Rattle.ci_machine.specs.declared.reply.Status.TheVariants.{Fine, Created, Accepted, NoContent, BadRequest, Unauthorized, Forbidden, NotFound, MethodNotAllowed, LengthRequired, PayloadTooLarge, RangeNotSatisfiable, HeaderFieldsTooLarge, NotImplemented, ServiceUnavailable}
 use Rattle.ci_machine.specs.declared.reply.Reply.{Reply}
 use Rattle.ci_machine.specs.Reply.{body_text}
-use Rattle.ci_server.specs.ReplyText.{number_of, job_status_text, allow_text, type_text, crlf, status_line, job_status_line, range_line, allow_line, type_line, length_line, reply_text, IsResponse}
+use Rattle.ci_server.specs.Fields.{values_of}
+use Rattle.ci_server.proofs.Values.{values-append}
+use Rattle.ci_server.specs.ReplyText.{number_of, job_status_text, allow_text, type_text, crlf, status_line, job_status_line, range_line, allow_line, type_line, length_line, reply_text, length_values, IsResponse}
 
 abbrev field : List ℕ → List ℕ → Field
 field name value = record { name = name; raw = 32 ∷ value; end = grammar.crlf }
@@ -237,5 +242,74 @@ reply_print r =
     ∙ ap (λ l. codes "HTTP/1.1 " ++ (code_digits (number_of r.status) ++ (32 ∷ (unwrap_or (reason_phrase (number_of r.status)) [] ++ (crlf ++ ((l ++ crlf) ++ body_text r)))))) (sym (fields_print r))
     ∙ sym (print_response-append (head_of r) (body_text r))
 
+-- the values of Content-Length
+abbrev lengths : List Field → List (List ℕ)
+lengths fields = values_of (codes "content-length") (map name_and_value fields)
+
+lengths-append : (a b : List Field) → lengths (a ++ b) ≡ lengths a ++ lengths b
+lengths-append a b = ap (values_of (codes "content-length")) (map-append name_and_value a b) ∙ values-append (codes "content-length") (map name_and_value a) (map name_and_value b)
+
+abbrev is_seen : ℕ → Bool
+is_seen b = not (is_ows b)
+
+not_blank : (b : Bool) → not b ≡ true → false ≡ b
+not_blank true h = cc
+not_blank false h = refl
+
+skip_none : (text : List ℕ) → list_all is_seen text ≡ true → skip_ows text ≡ text
+skip_none [] h = refl
+skip_none (x ∷ text) h = skip_ows_no {b = x} {all = x ∷ text} {rest = text} refl (not_blank (is_ows x) (and_parts (is_seen x) (list_all is_seen text) h).0)
+
+digit_seen : (m : ℕ) → m < 10 → list_all is_seen ((48 + m) ∷ []) ≡ true
+digit_seen m h = grind (arith, nat_tests)
+
+decimal_seen : (n : ℕ) → n < 2 ^ 64 → list_all is_seen (decimal n) ≡ true
+decimal_seen = decimal_by_steps (λ m ds. list_all is_seen ds ≡ true) digit_seen
+    (λ m ds l h. list_all-append is_seen ds ((48 + m % 10) ∷ []) ∙ ap (λ b. b && list_all is_seen ((48 + m % 10) ∷ [])) h ∙ digit_seen (m % 10) (omega arith))
+
+trim_decimal : (n : ℕ) → n < 2 ^ 64 → trim_ows (32 ∷ decimal n) ≡ decimal n
+trim_decimal n h =
+    let seen = decimal_seen n h in
+    let back = list_all-from_AllPass is_seen (reverse (decimal n)) (AllPass-reverse is_seen (decimal n) (AllPass-from_list_all is_seen (decimal n) seen)) in
+    trim_ows_space (decimal n) (skip_none (decimal n) seen) (skip_none (reverse (decimal n)) back)
+
+job_status_lengths : (s : Option JobStatus) → lengths (job_status_fields s) ≡ []
+job_status_lengths None = refl
+job_status_lengths (Some s) = refl
+
+range_lengths : (n : Option ℕ) → lengths (range_fields n) ≡ []
+range_lengths None = refl
+range_lengths (Some n) = refl
+
+allow_lengths : (methods : Option Allow) → lengths (allow_fields methods) ≡ []
+allow_lengths None = refl
+allow_lengths (Some methods) = refl
+
+type_lengths : (kind body : List ℕ) → lengths (type_fields kind body) ≡ []
+type_lengths kind [] = refl
+type_lengths kind (b ∷ body) = refl
+
+length_lengths : (none : Bool) (n : ℕ) → n < 2 ^ 64 → lengths (length_fields none n) ≡ (if none then [] else decimal n ∷ [])
+length_lengths true n h = refl
+length_lengths false n h = ap (λ v. v ∷ []) (trim_decimal n h)
+
+lengths_joined : (a b c d e f : List Field) → lengths a ≡ [] → lengths b ≡ [] → lengths c ≡ [] → lengths d ≡ [] → lengths f ≡ []
+    → lengths (a ++ b ++ c ++ d ++ e ++ f) ≡ lengths e
+lengths_joined a b c d e f u v w x z =
+    let two : lengths (a ++ b) ≡ [] = lengths-append a b ∙ (λ i. u i ++ v i) in
+    let three : lengths (a ++ b ++ c) ≡ [] = lengths-append (a ++ b) c ∙ (λ i. two i ++ w i) in
+    let four : lengths (a ++ b ++ c ++ d) ≡ [] = lengths-append (a ++ b ++ c) d ∙ (λ i. three i ++ x i) in
+    let five : lengths (a ++ b ++ c ++ d ++ e) ≡ lengths e = lengths-append (a ++ b ++ c ++ d) e ∙ ap (λ l. l ++ lengths e) four in
+    lengths-append (a ++ b ++ c ++ d ++ e) f ∙ (λ i. five i ++ z i) ∙ append-nil (lengths e)
+
+says_length : (r : Reply) → length (body_text r) < 2 ^ 64 → lengths (fields_of r) ≡ length_values r.status (length (body_text r))
+says_length r size =
+    let kind = type_text r.body in
+    let body = body_text r in
+    let none = number_of r.status == 204 in
+    lengths_joined (job_status_fields r.job_status) (range_fields r.range) (allow_fields r.allow) (type_fields kind body) (length_fields none (length body)) (field (codes "Connection") (codes "close") ∷ [])
+    (job_status_lengths r.job_status) (range_lengths r.range) (allow_lengths r.allow) (type_lengths kind body) refl
+    ∙ length_lengths none (length body) size
+
 pub is_response : (r : Reply) → IfSome r.range (λ k. k < 2 ^ 64) → length (body_text r) < 2 ^ 64 → IsResponse (reply_text r) r.status (body_text r)
-is_response r range size = (head_of r, (head_well r range size, reply_print r), (is_status r.status).2)
+is_response r range size = (head_of r, (head_well r range size, reply_print r), (is_status r.status).2, says_length r size)
