@@ -2,6 +2,8 @@ ghost use Rattle.std.specs.Prelude.{◌≡◌, ◌<◌};
 ghost use Rattle.ci_machine.specs.declared.reply.Code.TheVariants.{M4};
 ghost use Rattle.ci_machine.specs.Reply.{refusal};
 
+use crate::call::read_request;
+use crate::fields::Found;
 use crate::link::Link;
 use crate::serve::{Handler, Served, serve_one};
 use crate::text::reply_bytes;
@@ -318,6 +320,35 @@ fn each_beginning_of_a_reply_may_be_all(rt: HostRuntime) -> Result<(), Fail> {
         assert!(&rt; asked == 1, "at {room}");
         assert!(&rt; written.as_slice() == &UNKNOWN[..room], "at {room}");
     }
+    Ok(())
+}
+
+fn read_parts<L: Ledger>(rt: &impl Abort, alloc: Global, blank: Blank)
+    requires name { blank.name ≡ L.name }
+    requires parts { blank.parts ≡ L.parts }
+    requires one { 0 < blank.parts }
+{
+    let bytes =
+        b"PATCH /x?y HTTP/1.1\r\nA: 1\r\nJob-Token: \t t u \r\nContent-Length: 3\r\na: 2\r\n\r\nxyzw".as_slice();
+    let mut reader = Link::<&[u8], L>::new(bytes, blank);
+    let read = read_request(alloc, &mut reader);
+    assert!(rt; read.is_ok());
+    if let Ok(call) = read {
+        assert!(rt; call.method() == b"PATCH".as_slice());
+        assert!(rt; call.target() == b"/x?y".as_slice());
+        assert!(rt; call.body() == b"xyz".as_slice());
+        assert!(rt;
+            matches!(call.field(b"JOB-TOKEN"), Found::Once(value) if value == b"t u".as_slice())
+        );
+        assert!(rt; matches!(call.field(b"A"), Found::Twice));
+        assert!(rt; matches!(call.field(b"B"), Found::Absent));
+    }
+    assert!(rt; reader.into_inner() == b"w".as_slice());
+}
+
+#[test]
+fn parts_of_a_request(rt: HostRuntime) -> Result<(), Fail> {
+    read_parts::<Brand>(&rt, rt.alloc(), Blank::new(1));
     Ok(())
 }
 
