@@ -1,5 +1,5 @@
 -- The first empty line of a text that grows at its end.
-use Rattle.ci_server.specs.Sources.{Tells}
+use Rattle.ci_server.specs.Sources.{Tells, TakesFront}
 use Rattle.std.specs.Io.KnownBytes.{Consumes, IsAtEnd}
 use Rattle.std.proofs.Common.{◌≡◌, ℕ, zero, suc, ◌+◌, ◌-◌, ◌<◌, ◌≤◌, Bool, true, false, List, [], ◌∷◌, ◌++◌, length, take, drop, refl, sym, ◌∙◌, ap, subst, arith, length-drop, length-take, length-append, append_assoc, get_or}
 use Rattle.std.proofs.lemmas.List.{take-append-le, take-take, take_all, append-nil}
@@ -195,6 +195,9 @@ consumes_more None mid new v p a b = tt
 consumes_more (Some xs) None new v p a b = absurd a
 consumes_more (Some xs) (Some ys) None v p a b = absurd b
 consumes_more (Some xs) (Some ys) (Some zs) v p a b = a ∙ ap (λ m. v ++ m) b ∙ sym (append_assoc v p zs)
+
+pub takes_more : (old mid new : Option (List ℕ)) → TakesFront old mid → TakesFront mid new → TakesFront old new
+takes_more old mid new (v, a) (p, b) = (v ++ p, consumes_more old mid new v p a b)
 
 pub one_byte : (m : ℕ) (buf : List ℕ) → (m ≡ 0 → ⊥) → m ≤ length buf → length buf ≡ 1 → take m buf ≡ get_or buf 0 0 ∷ []
 one_byte m [] n a b = absurd (omega arith)

@@ -51,7 +51,7 @@ type_text (Some (Plain bytes)) = codes "text/plain"
 abbrev pub crlf : List ℕ
 crlf = 13 ∷ 10 ∷ []
 
--- the version, the three digits of the status, and the reason that the registry of statuses gives
+-- the version, the three digits of the status, and the reason phrase that the crate http has for it
 unfoldable pub status_line : Status → List ℕ
 status_line s = codes "HTTP/1.1 " ++ code_digits (number_of s) ++ codes " " ++ unwrap_or (reason_phrase (number_of s)) [] ++ crlf
 
