@@ -88,7 +88,7 @@ pub fn serve_one<R: Source, W: Sink, H: Handler>(
 }
 
 // Why there is no reply.
-#[derive(Clone, Copy, Drop)]
+#[derive(Drop)]
 enum Unread {
     Ended,
     Failed,
