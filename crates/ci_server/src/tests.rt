@@ -172,81 +172,83 @@ fn a_request_is_handled_once(rt: HostRuntime) -> Result<(), Fail> {
     Ok(())
 }
 
+// Requests that are refused, with the status and the code of the refusal.
+const REFUSED: &[(&[u8], &str, &str)] = &[
+    (b"\r\n\r\n", "400 Bad Request", "H1"),
+    (b"GET / HTTP/2.0\r\n\r\n", "400 Bad Request", "H1"),
+    (b"GET / HTTP/1.1\n\nmore\r\n\r\n", "400 Bad Request", "H1"),
+    (
+        b"PUT / HTTP/1.1\r\nTransfer-Encoding: chunked\r\nContent-Length: x\r\n\r\n",
+        "501 Not Implemented",
+        "H8",
+    ),
+    (
+        b"GET / HTTP/1.1\r\nContent-Length: 0\r\ncontent-length: 0\r\n\r\n",
+        "400 Bad Request",
+        "H1",
+    ),
+    (
+        b"POST / HTTP/1.1\r\nContent-Length: +5\r\n\r\n",
+        "400 Bad Request",
+        "H1",
+    ),
+    (
+        b"POST / HTTP/1.1\r\nContent-Length:\r\n\r\n",
+        "400 Bad Request",
+        "H1",
+    ),
+    (b"POST / HTTP/1.1\r\n\r\n", "411 Length Required", "H3"),
+    (b"PATCH / HTTP/1.1\r\n\r\n", "411 Length Required", "H3"),
+    (
+        b"GET / HTTP/1.1\r\nContent-Length: 65537\r\n\r\n",
+        "413 Payload Too Large",
+        "H4",
+    ),
+    (
+        b"POST / HTTP/1.1\r\nContent-Length: 18446744073709551617\r\n\r\n",
+        "413 Payload Too Large",
+        "H4",
+    ),
+    (
+        b"post /api/v4/jobs/requests HTTP/1.1\r\n\r\n",
+        "404 Not Found",
+        "H5",
+    ),
+    (
+        b"POST /api/v4/jobs/request/ HTTP/1.1\r\nContent-Length: 1\r\n\r\n{",
+        "404 Not Found",
+        "H5",
+    ),
+    (
+        b"POST /api/v4/jobs/request HTTP/1.1\r\nContent-Length: 15\r\n\r\n{\"token\":\"nope\"}",
+        "400 Bad Request",
+        "H7",
+    ),
+    (
+        b"POST /api/v4/jobs/request HTTP/1.1\r\nContent-Length: 0\r\n\r\n",
+        "400 Bad Request",
+        "H7",
+    ),
+    (
+        b"POST /api/v4/jobs/request HTTP/1.1\r\nContent-Length: 8\r\n\r\n[\"nope\"]",
+        "400 Bad Request",
+        "H7",
+    ),
+    (
+        b"POST /api/v4/jobs/request HTTP/1.1\r\nContent-Length: 14\r\n\r\n{\"token\":null}",
+        "400 Bad Request",
+        "H7",
+    ),
+    (
+        b"POST /api/v4/jobs/request HTTP/1.1\r\nContent-Length: 13\r\n\r\n{\"token\":\"\xff\"}",
+        "400 Bad Request",
+        "H7",
+    ),
+];
+
 #[test]
 fn refusals_in_their_order(rt: HostRuntime) -> Result<(), Fail> {
-    let rows = [
-        (b"\r\n\r\n".as_slice(), "400 Bad Request", "H1"),
-        (b"GET / HTTP/2.0\r\n\r\n", "400 Bad Request", "H1"),
-        (b"GET / HTTP/1.1\n\nmore\r\n\r\n", "400 Bad Request", "H1"),
-        (
-            b"PUT / HTTP/1.1\r\nTransfer-Encoding: chunked\r\nContent-Length: x\r\n\r\n",
-            "501 Not Implemented",
-            "H8",
-        ),
-        (
-            b"GET / HTTP/1.1\r\nContent-Length: 0\r\ncontent-length: 0\r\n\r\n",
-            "400 Bad Request",
-            "H1",
-        ),
-        (
-            b"POST / HTTP/1.1\r\nContent-Length: +5\r\n\r\n",
-            "400 Bad Request",
-            "H1",
-        ),
-        (
-            b"POST / HTTP/1.1\r\nContent-Length:\r\n\r\n",
-            "400 Bad Request",
-            "H1",
-        ),
-        (b"POST / HTTP/1.1\r\n\r\n", "411 Length Required", "H3"),
-        (b"PATCH / HTTP/1.1\r\n\r\n", "411 Length Required", "H3"),
-        (
-            b"GET / HTTP/1.1\r\nContent-Length: 65537\r\n\r\n",
-            "413 Payload Too Large",
-            "H4",
-        ),
-        (
-            b"POST / HTTP/1.1\r\nContent-Length: 18446744073709551617\r\n\r\n",
-            "413 Payload Too Large",
-            "H4",
-        ),
-        (
-            b"post /api/v4/jobs/requests HTTP/1.1\r\n\r\n",
-            "404 Not Found",
-            "H5",
-        ),
-        (
-            b"POST /api/v4/jobs/request/ HTTP/1.1\r\nContent-Length: 1\r\n\r\n{",
-            "404 Not Found",
-            "H5",
-        ),
-        (
-            b"POST /api/v4/jobs/request HTTP/1.1\r\nContent-Length: 15\r\n\r\n{\"token\":\"nope\"}",
-            "400 Bad Request",
-            "H7",
-        ),
-        (
-            b"POST /api/v4/jobs/request HTTP/1.1\r\nContent-Length: 0\r\n\r\n",
-            "400 Bad Request",
-            "H7",
-        ),
-        (
-            b"POST /api/v4/jobs/request HTTP/1.1\r\nContent-Length: 8\r\n\r\n[\"nope\"]",
-            "400 Bad Request",
-            "H7",
-        ),
-        (
-            b"POST /api/v4/jobs/request HTTP/1.1\r\nContent-Length: 14\r\n\r\n{\"token\":null}",
-            "400 Bad Request",
-            "H7",
-        ),
-        (
-            b"POST /api/v4/jobs/request HTTP/1.1\r\nContent-Length: 13\r\n\r\n{\"token\":\"\xff\"}",
-            "400 Bad Request",
-            "H7",
-        ),
-    ];
-    for (bytes, status, code) in rows {
+    for (bytes, status, code) in REFUSED {
         refused(&rt, rt.alloc(), bytes, status, code)?;
     }
     Ok(())
