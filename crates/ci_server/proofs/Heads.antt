@@ -1,8 +1,8 @@
 -- The first empty line of a text that grows at its end.
-use Rattle.ci_server.specs.Sources.{Tells}
+use Rattle.ci_server.specs.Sources.{Tells, TakesFront}
 use Rattle.std.specs.Io.KnownBytes.{Consumes, IsAtEnd}
 use Rattle.std.proofs.Common.{◌≡◌, ℕ, zero, suc, ◌+◌, ◌-◌, ◌<◌, ◌≤◌, Bool, true, false, List, [], ◌∷◌, ◌++◌, length, take, drop, refl, sym, ◌∙◌, ap, subst, arith, length-drop, length-take, length-append, append_assoc, get_or}
-use Rattle.std.proofs.lemmas.List.{take-append-le, take_all, append-nil}
+use Rattle.std.proofs.lemmas.List.{take-append-le, take-take, take_all, append-nil}
 use Rattle.std.specs.Prelude.{nat_eq, nat_lt, if◌then◌else◌, Option, Some, None, option_map, count_by}
 use Rattle.std.specs.List.{starts_with, ends_with}
 use Rattle.std.specs.Cmp.Lexicographic.{pointwise, unequal, as_long}
@@ -118,6 +118,22 @@ head_len-append (x ∷ l) more n h =
     let same = ap (λ m. pointwise nat_eq empty_line m) (take-append-le 4 (x ∷ l) more (omega arith)) in
     append_at x l more n (head_len-append l more) same (starts (x ∷ l)) (head_len l) refl refl h
 
+front_at : (x : ℕ) (l : List ℕ) (n : ℕ) → ((m : ℕ) → head_len l ≡ Some m → head_len (take m l) ≡ Some m)
+    → (s : Bool) (o : Option ℕ) → starts (x ∷ l) ≡ s → head_len l ≡ o → next s o ≡ Some n → head_len (take n (x ∷ l)) ≡ Some n
+front_at x l n ih true o p q e =
+    let same = ap (λ m. pointwise nat_eq empty_line (x ∷ m)) (take-take 3 3 l (omega arith)) in
+    subst (λ k. head_len (take k (x ∷ l)) ≡ Some k) (let n4 : 4 ≡ n = cc in n4) (step x (take 3 l) true (same ∙ p))
+front_at x l n ih false None p q e = cc
+front_at x l n ih false (Some m) p q e =
+    let b = head_len-bounds l m q in
+    let same = ap (λ t. pointwise nat_eq empty_line (x ∷ t)) (take-take 3 m l (omega arith)) in
+    subst (λ k. head_len (take k (x ∷ l)) ≡ Some k) (let n1 : suc m ≡ n = cc in n1) (step x (take m l) false (same ∙ p) ∙ ap (option_map suc) (ih m q))
+
+-- the bytes up to and with the end of the head have it too
+pub head_len-front : (l : List ℕ) (n : ℕ) → head_len l ≡ Some n → head_len (take n l) ≡ Some n
+head_len-front [] n h = cc
+head_len-front (x ∷ l) n h = front_at x l n (head_len-front l) (starts (x ∷ l)) (head_len l) refl refl h
+
 -- a head within the limit is found
 head_in : (limit : ℕ) (v rest : List ℕ) (n : ℕ) → head_len v ≡ Some n → length v ≤ limit → head_len (take limit (v ++ rest)) ≡ Some n
 head_in limit v rest n h fits =
@@ -148,13 +164,17 @@ opening-lines v rest h fits lines =
 none_in : (limit : ℕ) (v rest : List ℕ) → head_len v ≡ None → length v ≡ limit → head_len (take limit (v ++ rest)) ≡ None
 none_in limit v rest h e = ap (λ m. head_len (take m (v ++ rest))) (sym e) ∙ ap head_len (take-append_seam v rest) ∙ h
 
+at_limit : (bytes : List ℕ) → nat_lt (length bytes) max_head ≡ false → opening_at bytes None ≡ (too_large, drop max_head bytes)
+at_limit bytes h = ap (λ b. if b then (short, []) else (too_large, drop max_head bytes)) h
+
+after_limit : (limit : ℕ) (v rest : List ℕ) → length v ≡ limit → drop limit (v ++ rest) ≡ rest
+after_limit limit v rest e = ap (λ m. drop m (v ++ rest)) (sym e) ∙ drop-append_seam v rest
+
 pub opening-long : (v rest : List ℕ) → head_len v ≡ None → length v ≡ max_head → opening_of (v ++ rest) ≡ (too_large, rest)
 opening-long v rest h e =
     let long : nat_lt (length (v ++ rest)) max_head ≡ false = grind (arith, nat_tests, length-append v rest) in
     ap (opening_at (v ++ rest)) (none_in max_head v rest h e)
-    ∙ ap (λ b. if b then (short, []) else (too_large, drop max_head (v ++ rest))) long
-    ∙ ap (λ m. (too_large, drop m (v ++ rest))) (sym e)
-    ∙ ap (λ r. (too_large, r)) (drop-append_seam v rest)
+    ∙ at_limit (v ++ rest) long ∙ ap (λ r. (too_large, r)) (after_limit max_head v rest e)
 
 pub opening-short : (v : List ℕ) → head_len v ≡ None → length v < max_head → opening_of v ≡ (short, [])
 opening-short v h fits =
@@ -175,6 +195,9 @@ consumes_more None mid new v p a b = tt
 consumes_more (Some xs) None new v p a b = absurd a
 consumes_more (Some xs) (Some ys) None v p a b = absurd b
 consumes_more (Some xs) (Some ys) (Some zs) v p a b = a ∙ ap (λ m. v ++ m) b ∙ sym (append_assoc v p zs)
+
+pub takes_more : (old mid new : Option (List ℕ)) → TakesFront old mid → TakesFront mid new → TakesFront old new
+takes_more old mid new (v, a) (p, b) = (v ++ p, consumes_more old mid new v p a b)
 
 pub one_byte : (m : ℕ) (buf : List ℕ) → (m ≡ 0 → ⊥) → m ≤ length buf → length buf ≡ 1 → take m buf ≡ get_or buf 0 0 ∷ []
 one_byte m [] n a b = absurd (omega arith)

@@ -3,6 +3,8 @@ pub mod Lines
 pub mod Values
 pub mod Readings
 pub mod Unique
+pub mod Beginnings
+pub mod Responses
 pub mod Queues
 pub mod Handling
 pub mod Runs

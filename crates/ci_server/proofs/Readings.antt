@@ -43,21 +43,35 @@ pub reading_refused : (front : List ℕ) (why : Code) → (head : Option Head) �
     → (b r : List ℕ) → opening_of b ≡ (opened front, r) → IsReading b (refused why) r
 reading_refused front why (head, is, w) b r e = subst (λ o. IsReadingAt o (refused why, r)) (sym e) (head, is, refuses_after head why r w)
 
+-- what follows a head that asks for a body of n bytes: too few bytes, or enough
+pub by_few : (h : Head) (after : List ℕ) (n : ℕ) → nat_lt (length after) n ≡ true → reading_by h after (Ok n) ≡ (ended, [])
+by_few h after n few = ap (λ t. if t then (ended, []) else (request (message h (take n after)), drop n after)) few
+
+pub by_enough : (h : Head) (after : List ℕ) (n : ℕ) → nat_lt (length after) n ≡ false
+    → reading_by h after (Ok n) ≡ (request (message h (take n after)), drop n after)
+by_enough h after n enough = ap (λ t. if t then (ended, []) else (request (message h (take n after)), drop n after)) enough
+
 pub reading_ended : (front : List ℕ) (head : Head) (n : ℕ) → IsHeadOf front (Some head) → body_length head ≡ Ok n
     → (b a r : List ℕ) → opening_of b ≡ (opened front, a) → (length a < n) × (r ≡ []) → IsReading b ended r
 reading_ended front head n is len b a r e (less, none) =
     let test : nat_lt (length a) n ≡ true = grind (arith, nat_tests) in
     let same : reading_after (Some head) a ≡ (ended, r)
-    = ap (reading_by head a) len ∙ ap (λ t. if t then (ended, []) else (request (message head (take n a)), drop n a)) test ∙ ap (λ l. (ended, l)) (sym none) in
+    = ap (reading_by head a) len ∙ by_few head a n test ∙ ap (λ l. (ended, l)) (sym none) in
     subst (λ o. IsReadingAt o (ended, r)) (sym e) (Some head, is, sym same)
+
+-- a body of the length that its head says, and what follows
+pub after_body : (h : Head) (len : ℕ) (body other : List ℕ) → body_length h ≡ Ok len → length body ≡ len
+    → reading_after (Some h) (body ++ other) ≡ (request (message h body), other)
+after_body h len body other is size =
+    let test : nat_lt (length (body ++ other)) len ≡ false = grind (arith, nat_tests, length-append body other) in
+    let front_is : take len (body ++ other) ≡ body = ap (λ k. take k (body ++ other)) (sym size) ∙ take-append_seam body other in
+    let rest_is : drop len (body ++ other) ≡ other = ap (λ k. drop k (body ++ other)) (sym size) ∙ drop-append_seam body other in
+    let parts : (request (message h (take len (body ++ other))), drop len (body ++ other)) ≡ (request (message h body), other)
+    = λ i. (request (message h (front_is i)), rest_is i) in
+    ap (reading_by h (body ++ other)) is ∙ by_enough h (body ++ other) len test ∙ parts
 
 pub reading_call : (front : List ℕ) (head : Head) (n : ℕ) (body : List ℕ) → IsHeadOf front (Some head) → body_length head ≡ Ok n → length body ≡ n
     → (b a r : List ℕ) → opening_of b ≡ (opened front, a) → a ≡ body ++ r → IsReading b (request (message head body)) r
 reading_call front head n body is len size b a r e split =
-    let test : nat_lt (length a) n ≡ false = grind (arith, nat_tests, length-append body r, ap length split) in
-    let front_is : take n a ≡ body = ap (λ k. take k a) (sym size) ∙ ap (λ l. take (length body) l) split ∙ take-append_seam body r in
-    let rest_is : drop n a ≡ r = ap (λ k. drop k a) (sym size) ∙ ap (λ l. drop (length body) l) split ∙ drop-append_seam body r in
-    let same : reading_after (Some head) a ≡ (request (message head body), r)
-    = ap (reading_by head a) len ∙ ap (λ t. if t then (ended, []) else (request (message head (take n a)), drop n a)) test
-    ∙ ap (λ l. (request (message head l), drop n a)) front_is ∙ ap (λ l. (request (message head body), l)) rest_is in
+    let same : reading_after (Some head) a ≡ (request (message head body), r) = ap (reading_after (Some head)) split ∙ after_body head n body r len size in
     subst (λ o. IsReadingAt o (request (message head body), r)) (sym e) (Some head, is, sym same)

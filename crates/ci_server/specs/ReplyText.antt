@@ -1,5 +1,7 @@
 -- The bytes of a reply.
-use Rattle.std.specs.Prelude.{ℕ, List, [], ◌∷◌, ◌++◌, length, ◌==◌, if◌then◌else◌, Option, Some, None, unwrap_or, codes, decimal}
+use Rattle.std.specs.Prelude.{◌≡◌, ℕ, List, [], ◌∷◌, ◌++◌, length, map, ◌==◌, if◌then◌else◌, Option, Some, None, unwrap_or, codes, decimal}
+use Rattle.httparse.specs.Grammar.{ResponseHead, ReadsResponse, status_code}
+use Rattle.httparse.specs.Spans.{name_and_value}
 use Rattle.http.specs.StatusCode.{reason_phrase, code_digits}
 use Rattle.ci_machine.specs.declared.reply.Status.{Status}
 use Rattle.ci_machine.specs.declared.reply.Status.TheVariants.{Fine, Created, Accepted, NoContent, BadRequest, Unauthorized, Forbidden, NotFound, MethodNotAllowed, LengthRequired, PayloadTooLarge, RangeNotSatisfiable, HeaderFieldsTooLarge, NotImplemented, ServiceUnavailable}
@@ -11,6 +13,7 @@ use Rattle.ci_machine.specs.declared.reply.Body.{Body}
 use Rattle.ci_machine.specs.declared.reply.Body.TheVariants.{Json, Plain}
 use Rattle.ci_machine.specs.declared.reply.Reply.{Reply}
 use Rattle.ci_machine.specs.Reply.{body_text}
+use Rattle.ci_server.specs.Fields.{values_of}
 
 -- the number of a status
 abbrev pub number_of : Status → ℕ
@@ -48,7 +51,7 @@ type_text (Some (Plain bytes)) = codes "text/plain"
 abbrev pub crlf : List ℕ
 crlf = 13 ∷ 10 ∷ []
 
--- the version, the three digits of the status, and the reason that the registry of statuses gives
+-- the version, the three digits of the status, and the reason phrase that the crate http has for it
 unfoldable pub status_line : Status → List ℕ
 status_line s = codes "HTTP/1.1 " ++ code_digits (number_of s) ++ codes " " ++ unwrap_or (reason_phrase (number_of s)) [] ++ crlf
 
@@ -82,3 +85,13 @@ head_text r =
 -- the bytes of the reply
 abbrev pub reply_text : Reply → List ℕ
 reply_text r = head_text r ++ body_text r
+
+-- the values of Content-Length: one, the body's length, but none with 204
+abbrev pub length_values : Status → ℕ → List (List ℕ)
+length_values s n = if number_of s == 204 then [] else decimal n ∷ []
+
+-- the bytes are a response by the grammar of HTTP/1.1: a head with this status that says how long the body is, and then the body
+abbrev pub IsResponse : List ℕ → Status → List ℕ → Type 0
+IsResponse bytes status body =
+    (head : ResponseHead) × ReadsResponse bytes head body × (status_code head ≡ number_of status)
+    × (values_of (codes "content-length") (map name_and_value head.fields) ≡ length_values status (length body))

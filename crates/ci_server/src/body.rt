@@ -8,7 +8,7 @@ ghost use Rattle.std.specs.Io.KnownBytes.{Consumes};
 ghost use Rattle.ci_machine.specs.declared.reply.Code.{Code};
 ghost use Rattle.ci_server.specs.BodyLength.{length_after, is_number, within_body, wants_length};
 ghost use Rattle.ci_server.specs.Fields.{Shows};
-ghost use Rattle.ci_server.specs.Sources.{Tells, Fails};
+ghost use Rattle.ci_server.specs.Sources.{Tells, TakesFront, Fails};
 
 use crate::fault::HttpFault;
 use crate::fields::Found;
@@ -102,6 +102,7 @@ pub fn read_body<R: Source>(alloc: Global, reader: &mut R, len: usize) -> Result
     ensures ended { result ≡ Err HttpFault.Ended → Tells (R.left reader.old) (R.left reader.new)
         (λ bytes rest. (length bytes < len) × (rest ≡ [])) }
     ensures not_refused { (why : Code) → result ≡ Err (HttpFault.Refused why) → ⊥ }
+    ensures took { TakesFront (R.left reader.old) (R.left reader.new) }
     ensures failed { Fails result (Err HttpFault.ReadFailed) (R.failures reader.old) (R.failures reader.new) }
 {
     let mut body = vec![in alloc; 0; len]?;
@@ -115,6 +116,7 @@ fn fill<R: Source>(reader: &mut R, buf: &mut [u8]) -> Result<(), HttpFault>
     ensures ended { result ≡ Err HttpFault.Ended → Tells (R.left reader.old) (R.left reader.new)
         (λ bytes rest. (length bytes < length buf.old) × (rest ≡ [])) }
     ensures not_refused { (why : Code) → result ≡ Err (HttpFault.Refused why) → ⊥ }
+    ensures took { TakesFront (R.left reader.old) (R.left reader.new) }
     ensures failed { Fails result (Err HttpFault.ReadFailed) (R.failures reader.old) (R.failures reader.new) }
 {
     let mut at = 0;

@@ -8,7 +8,7 @@ ghost use Rattle.ci_server.specs.Fields.{values_of, Shows};
 ghost use Rattle.ci_server.specs.Head.{Head, IsHeadOf, head_at};
 ghost use Rattle.ci_server.specs.Opening.{is_line_feed, max_lines};
 ghost use Rattle.ci_server.specs.Reading.{message, ended, refused, request, IsReading, Refuses};
-ghost use Rattle.ci_server.specs.Sources.{Tells, Fails};
+ghost use Rattle.ci_server.specs.Sources.{Tells, TakesFront, Fails};
 
 use crate::body::{body_length, read_body};
 use crate::fault::HttpFault;
@@ -86,6 +86,7 @@ pub fn read_request<R: Source>(alloc: Global, reader: &mut R) -> Result<Call, Ht
         (λ bytes rest. IsReading bytes (refused why) rest) }
     ensures ended { result ≡ Err HttpFault.Ended → Tells (R.left reader.old) (R.left reader.new)
         (λ bytes rest. IsReading bytes ended rest) }
+    ensures took { TakesFront (R.left reader.old) (R.left reader.new) }
     ensures failed { Fails result (Err HttpFault.ReadFailed) (R.failures reader.old) (R.failures reader.new) }
 {
     let head = read_head(alloc, reader)?;

@@ -16,7 +16,7 @@ pub enum Found<'b> {
 }
 
 /// The values of the fields of this name, whatever the case of its letters.
-pub fn find_field<'b>(head: &'b [u8], headers: &[HeaderSpan], name: &[u8]) -> Found<'b>
+pub(crate) fn find_field<'b>(head: &'b [u8], headers: &[HeaderSpan], name: &[u8]) -> Found<'b>
     requires { All (IsHeaderWithin (length head.now)) headers.now }
     ensures { Shows result (values_of name.now (map (header_bytes head.now) headers.now)) }
 {

@@ -5,7 +5,7 @@ ghost use Rattle.httparse.specs.Spans.{IsRequestWithin};
 ghost use Rattle.ci_machine.specs.declared.reply.Code.{Code};
 ghost use Rattle.ci_server.specs.Head.{IsHeadOf, head_at};
 ghost use Rattle.ci_server.specs.Opening.{is_line_feed, short, too_large, opened, opening_of, max_lines};
-ghost use Rattle.ci_server.specs.Sources.{Tells, Fails};
+ghost use Rattle.ci_server.specs.Sources.{Tells, TakesFront, Fails};
 
 use crate::fault::HttpFault;
 use crate::link::Source;
@@ -33,6 +33,7 @@ pub fn read_head<R: Source>(alloc: Global, reader: &mut R) -> Result<Vec<u8>, Ht
     ensures refused { (why : Code) → result ≡ Err (HttpFault.Refused why) → why ≡ Code.H2 }
     ensures too_large { result ≡ Err (HttpFault.Refused Code.H2) → Tells (R.left reader.old) (R.left reader.new)
         (λ bytes rest. opening_of bytes ≡ (too_large, rest)) }
+    ensures took { TakesFront (R.left reader.old) (R.left reader.new) }
     ensures failed { Fails result (Err HttpFault.ReadFailed) (R.failures reader.old) (R.failures reader.new) }
 {
     let mut head = Vec::new(alloc);

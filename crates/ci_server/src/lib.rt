@@ -1,12 +1,12 @@
-//! Requests of HTTP/1.1 from bytes, and replies to bytes.
+//! The server: requests over the tables, and their bytes: HTTP/1.1 in, and replies out.
 #![tactic(auto)]
 
-pub mod body;
+mod body;
 pub mod call;
 mod desk;
 pub mod fault;
 pub mod fields;
-pub mod head;
+mod head;
 pub mod laws;
 pub mod link;
 mod loads;
@@ -14,4 +14,6 @@ pub mod route;
 pub mod serve;
 pub mod server;
 pub mod store;
+#[cfg(test)]
+mod tests;
 pub mod text;

@@ -8,7 +8,7 @@ use std::marker::Brand;
 use std::sync::ledger::{Blank, Book, Ledger, Share};
 
 /// A call of a reader or a writer failed.
-#[derive(Clone, Copy, Debug, Drop, PartialEq, Eq)]
+#[derive(Clone, Copy, Drop)]
 pub struct Failed;
 
 /// A reader.
@@ -59,6 +59,10 @@ pub trait Sink {
 /// Any error of it is a failed call, an interruption too, and so is a write that takes nothing;
 /// nothing is tried again. The ledger counts the failed calls, without a bound and without
 /// taking room: it is there for contracts alone.
+///
+/// A request's head is asked for one byte a call, so a socket is best given with a buffer, as
+/// `Link<BufReader<TcpStream>>`. What the buffer takes over the request's end is lost with it; that
+/// does no harm where a connection carries one request.
 #[derive(Drop)]
 pub struct Link<T, L: Ledger = Brand> {
     inner: T,

@@ -7,7 +7,7 @@ ghost use Rattle.ci_server.specs.Reading.{ended, IsReading};
 ghost use Rattle.ci_server.specs.ReplyText.{reply_text};
 ghost use Rattle.ci_server.specs.RequestBytes.{request_in};
 ghost use Rattle.ci_server.specs.Serving.{AnswersAsked, LacksMemory, Serves, WritesFront};
-ghost use Rattle.ci_server.specs.Sources.{Tells, Fails};
+ghost use Rattle.ci_server.specs.Sources.{Tells, TakesFront, Fails};
 
 use crate::call::{Call, read_request};
 use crate::fault::HttpFault;
@@ -36,7 +36,7 @@ pub trait Handler {
 }
 
 /// What became of one request.
-#[derive(Clone, Copy, Debug, Drop, PartialEq, Eq)]
+#[derive(Clone, Copy, Drop, PartialEq, Eq)]
 pub enum Served {
     /// A reply was written.
     Replied,
@@ -71,6 +71,8 @@ pub fn serve_one<R: Source, W: Sink, H: Handler>(
     ensures ended { result ≡ Served.Ended → (handler.new ≡ handler.old) × (writer.new ≡ writer.old)
         × Tells (R.left reader.old) (R.left reader.new) (λ bytes rest. IsReading bytes ended rest) }
     ensures read_failed { result ≡ Served.ReadFailed → (handler.new ≡ handler.old) × (writer.new ≡ writer.old) }
+    // In any case a beginning of the reader's bytes was taken, and no others.
+    ensures took { TakesFront (R.left reader.old) (R.left reader.new) }
     // The answer tells of each call of the reader or the writer that failed, and of no other.
     ensures reads { Fails result Served.ReadFailed (R.failures reader.old) (R.failures reader.new) }
     ensures writes { Fails result Served.WriteFailed (W.failures writer.old) (W.failures writer.new) }
@@ -86,7 +88,7 @@ pub fn serve_one<R: Source, W: Sink, H: Handler>(
 }
 
 // Why there is no reply.
-#[derive(Clone, Copy, Drop)]
+#[derive(Drop)]
 enum Unread {
     Ended,
     Failed,
@@ -105,6 +107,7 @@ fn reply_to<R: Source, H: Handler>(
     ensures none { OnErr result (handler.new ≡ handler.old) }
     ensures ended { result ≡ Err Unread.Ended → Tells (R.left reader.old) (R.left reader.new)
         (λ bytes rest. IsReading bytes ended rest) }
+    ensures took { TakesFront (R.left reader.old) (R.left reader.new) }
     ensures failed { Fails result (Err Unread.Failed) (R.failures reader.old) (R.failures reader.new) }
 {
     match read_request(alloc, reader) {

@@ -1,9 +1,9 @@
 //! The bytes of a reply.
 
-ghost use Rattle.std.specs.Prelude.{◌≡◌, ◌≤◌, ◌+◌, ◌++◌, length, decimal};
+ghost use Rattle.std.specs.Prelude.{◌≡◌, ◌<◌, ◌≤◌, ◌+◌, ◌^◌, ◌++◌, length, decimal, IfSome};
 ghost use Rattle.arrayvec.specs.ArrayVec.{array_vec_len};
 ghost use Rattle.ci_machine.specs.Reply.{body_text};
-ghost use Rattle.ci_server.specs.ReplyText.{status_line, job_status_text, allow_text, type_text, crlf, job_status_line, range_line, allow_line, type_line, length_line, head_text, reply_text};
+ghost use Rattle.ci_server.specs.ReplyText.{status_line, job_status_text, allow_text, type_text, crlf, job_status_line, range_line, allow_line, type_line, length_line, head_text, reply_text, IsResponse};
 
 use arrayvec::ArrayVec;
 use ci_machine::reply::{Allow, Body, JobStatus, Reply, Status};
@@ -25,7 +25,8 @@ pub struct ReplyBytes<'a> {
 /// where the reply has it; `Content-Type`, where there is a body; `Content-Length`, but not with
 /// 204; `Connection: close`; an empty line. Then comes the body.
 pub fn reply_bytes(reply: &Reply) -> ReplyBytes<'_>
-    ensures { result.head.items ++ result.body.now ≡ reply_text reply.now }
+    ensures text { result.head.items ++ result.body.now ≡ reply_text reply.now }
+    ensures response { IsResponse (result.head.items ++ result.body.now) reply.now.status result.body.now }
 {
     let body = reply.body();
     let head = head_of(reply, body);
@@ -35,7 +36,8 @@ pub fn reply_bytes(reply: &Reply) -> ReplyBytes<'_>
 // The head of a reply with this body.
 fn head_of(reply: &Reply, body: &[u8]) -> ArrayVec<u8, HEAD_SIZE>
     requires { body.now ≡ body_text reply.now }
-    ensures { result.items ≡ head_text reply.now }
+    ensures text { result.items ≡ head_text reply.now }
+    ensures size { IfSome reply.now.range (λ n. n < 2 ^ 64) }
 {
     let mut head = ArrayVec::new();
     put(&mut head, status_line(reply.status));
@@ -92,6 +94,7 @@ fn put_job_status(head: &mut ArrayVec<u8, HEAD_SIZE>, status: Option<JobStatus>)
 fn put_range(head: &mut ArrayVec<u8, HEAD_SIZE>, size: Option<u64>)
     requires { array_vec_len head.old + 40 ≤ 512 }
     ensures items { head.new.items ≡ head.old.items ++ range_line size }
+    ensures size { IfSome size (λ n. n < 2 ^ 64) }
     ensures len { array_vec_len head.new ≤ array_vec_len head.old + 40 }
 {
     if let Some(size) = size {

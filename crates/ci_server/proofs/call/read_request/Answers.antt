@@ -6,6 +6,7 @@ use Rattle.ci_server.specs.Head.{Head, IsHeadOf, head_at}
 use Rattle.ci_server.specs.Reading.{Refuses, IsReading, request, message}
 use Rattle.ci_server.specs.Sources.{Tells}
 use Rattle.ci_server.specs.Opening.{opening_of, opened}
+use Rattle.ci_server.proofs.Heads.{takes_more}
 use Rattle.ci_server.proofs.Readings.{tells_map, tells_then, consumes_tells, reading_large, reading_refused, reading_ended, reading_call}
 use Rattle.ci_server.proofs.call.read_request.Goals as goal
 
@@ -48,3 +49,9 @@ returns-clause-call g c =
     = tells_then _ _ _ old mid new (reading_call front head c.in-Ok.parts.1 body (rw c.in-Ok.is at c.frame.ensures.head) (rw c.in-Ok.is at c.frame.ensures.len) c.in_ok-body.ensures.len) told (consumes_tells mid new body c.in_ok-body.ensures.body) in
     let made : c.assemble.result ≡ message head body = c.assemble.ensures ∙ ap (λ f. message (head_at f c.frame.new.headers c.in-Ok.parts.0) body) (sym c.deref.ensures.value) in
     subst (λ m. Tells old new (λ b r. IsReading b (request m) r)) (sym made) whole
+
+pub returns-in_err-body-clause-took : goal.returns-in_err-body-clause-took
+returns-in_err-body-clause-took g c = takes_more _ _ _ c.read_head.ensures.took c.read_body.ensures.took
+
+pub returns-clause-took : goal.returns-clause-took
+returns-clause-took g c = takes_more _ _ _ c.read_head.ensures.took c.read_body.ensures.took

@@ -3,7 +3,7 @@ use Rattle.std.specs.Prelude.{nat_eq, count_by}
 use Rattle.std.specs.List.{ends_with}
 use Rattle.std.specs.Io.KnownBytes.{Consumes}
 use Rattle.ci_server.specs.Opening.{empty_line, is_line_feed}
-use Rattle.ci_server.proofs.Heads.{taken_more, taken_last, taken_ended, taken_all, whole_head, whole_lines, one_byte}
+use Rattle.ci_server.proofs.Heads.{taken_more, taken_last, taken_ended, taken_all, whole_head, whole_lines, one_byte, takes_more}
 use Rattle.ci_server.proofs.head.read_head.Goals as goal
 
 pub loop-preserved : goal.loop-preserved
@@ -64,3 +64,7 @@ pub returns-clause-too_large : goal.returns-clause-too_large
 returns-clause-too_large g c _ =
     let a = c.loop-test.false in let b = c.loop.auto.counter-end in
     taken_all (g.R.Source.left c.args.reader.now) (g.R.Source.left c.loop.reader) c.loop.head.items c.loop.counter c.loop.invariant.0 (omega arith)
+
+pub returns-in_err-push-clause-took : goal.returns-in_err-push-clause-took
+returns-in_err-push-clause-took g c =
+    takes_more (g.R.Source.left c.args.reader.now) (g.R.Source.left c.loop.reader) (g.R.Source.left c.get.new.self) (_, c.loop.invariant.0.told) (_, c.in_ok-get.ensures.bytes.0)

@@ -29,17 +29,17 @@ returns-in-Ok-clause-ok g c =
     let old = g.W.Sink.written c.args.writer.now in
     let new = g.W.Sink.written c.put_all-in-Ok.new.writer in
     let text = c.reply_bytes-text.result in
-    let whole : c.as_slice.result.now ++ text.body.now ≡ reply_text c.args.reply.now = ap (λ h. h ++ text.body.now) c.as_slice.ensures.value ∙ c.reply_bytes-text.ensures in
+    let whole : c.as_slice.result.now ++ text.body.now ≡ reply_text c.args.reply.now = ap (λ h. h ++ text.body.now) c.as_slice.ensures.value ∙ c.reply_bytes-text.ensures.text in
     on_ok c.put_all-in-Ok.result (λ b. subst (λ t. Appends old new t) whole (Appends-trans _ _ _ _ _ c.in-Ok.ensures.ok b)) c.put_all-in-Ok.ensures.ok
 
 pub returns-in-Ok-clause-err : goal.returns-in-Ok-clause-err
 returns-in-Ok-clause-err g c =
     let text = c.reply_bytes-text.result in
-    let whole : reply_text c.args.reply.now ≡ c.as_slice.result.now ++ text.body.now = sym c.reply_bytes-text.ensures ∙ ap (λ h. h ++ text.body.now) (sym c.as_slice.ensures.value) in
+    let whole : reply_text c.args.reply.now ≡ c.as_slice.result.now ++ text.body.now = sym c.reply_bytes-text.ensures.text ∙ ap (λ h. h ++ text.body.now) (sym c.as_slice.ensures.value) in
     on_err c.put_all-in-Ok.result (front_after _ _ _ _ _ _ whole c.in-Ok.ensures.ok) c.put_all-in-Ok.ensures.err
 
 pub returns-in-Err-clause-err : goal.returns-in-Err-clause-err
 returns-in-Err-clause-err g c =
     let text = c.reply_bytes-text.result in
-    let whole : reply_text c.args.reply.now ≡ c.as_slice.result.now ++ text.body.now = sym c.reply_bytes-text.ensures ∙ ap (λ h. h ++ text.body.now) (sym c.as_slice.ensures.value) in
+    let whole : reply_text c.args.reply.now ≡ c.as_slice.result.now ++ text.body.now = sym c.reply_bytes-text.ensures.text ∙ ap (λ h. h ++ text.body.now) (sym c.as_slice.ensures.value) in
     front_within _ _ _ _ _ whole c.in-Err.ensures.err

@@ -9,8 +9,8 @@ chain : (x1 x2 x3 x4 x5 x6 x7 a b c d e f g : List ℕ) → x1 ≡ a → x2 ≡ 
 chain x1 x2 x3 x4 x5 x6 x7 a b c d e f g p1 p2 p3 p4 p5 p6 p7 =
     p7 ∙ ap (λ l. l ++ g) (p6 ∙ ap (λ l. l ++ f) (p5 ∙ ap (λ l. l ++ e) (p4 ∙ ap (λ l. l ++ d) (p3 ∙ ap (λ l. l ++ c) (p2 ∙ ap (λ l. l ++ b) p1)))))
 
-pub returns : goal.returns
-returns c =
+pub returns-clause-text : goal.returns-clause-text
+returns-clause-text c =
     let r = c.args.reply.now in
     let old = c.put_allow.new.head.items in
     let first = c.put.ensures.items ∙ ap (λ l. l ++ c.status_line.result.now) c.new-head.ensures ∙ c.status_line.ensures.line in

@@ -1,0 +1,7 @@
+use Rattle.ci_server.proofs.tests.serve.Given as goal
+
+abbrev pub ghosts-serve_links-A-Ledger : goal.ghosts-serve_links-A-Ledger
+ghosts-serve_links-A-Ledger g a = record { name = a.reads.name; parts = a.reads.parts }
+
+abbrev pub ghosts-serve_links-B-Ledger : goal.ghosts-serve_links-B-Ledger
+ghosts-serve_links-B-Ledger g a = record { name = a.writes.name; parts = a.writes.parts }

@@ -1,0 +1,422 @@
+ghost use Rattle.std.specs.Prelude.{◌≡◌, ◌<◌};
+ghost use Rattle.ci_machine.specs.declared.reply.Code.TheVariants.{M4};
+ghost use Rattle.ci_machine.specs.Reply.{refusal};
+
+use crate::call::read_request;
+use crate::fields::Found;
+use crate::link::Link;
+use crate::serve::{Handler, Served, serve_one};
+use crate::text::reply_bytes;
+use ci_machine::moment::Moment;
+use ci_machine::reply::{Body, Code, JobStatus, Reply, Status};
+use ci_machine::request::{Request, Seed};
+use ci_machine::text::{Bytes, Text};
+use std::alloc::Global;
+use std::io;
+use std::io::{ErrorKind, Read, Write};
+use std::marker::Brand;
+use std::process::Abort;
+use std::sync::ledger::{Blank, Ledger};
+use std::test::Fail;
+
+// A request with a token that no runner has, and its reply.
+const ASKS: &[u8] =
+    b"POST /api/v4/jobs/request HTTP/1.1\r\nContent-Length: 16\r\n\r\n{\"token\":\"nope\"}";
+
+const UNKNOWN: &[u8] =
+    b"HTTP/1.1 403 Forbidden\r\nContent-Type: application/json\r\nContent-Length: 13\r\nConnection: close\r\n\r\n{\"code\":\"M4\"}";
+
+// A handler that knows no runner. It counts what it is asked.
+#[derive(Drop)]
+struct Nobody {
+    asked: usize,
+}
+
+impl Handler for Nobody {
+    ghost handles = { λ old request moment seed new reply. reply ≡ refusal M4 };
+
+    fn handle(&mut self, _alloc: Global, _request: Request, _moment: Moment, _seed: Seed) -> Reply {
+        self.asked = self.asked.saturating_add(1);
+        Reply::refusal(Code::M4)
+    }
+}
+
+// A reader that gives one byte a call, and fails at the end or not.
+#[derive(Drop)]
+struct Trickle<'a> {
+    rest: &'a [u8],
+    fails: bool,
+}
+
+impl<'a> Read for Trickle<'a> {
+    fn read(&mut self, buf: &mut [u8]) -> io::Result<usize> {
+        if self.rest.is_empty() && self.fails {
+            return Err(io::Error::from(ErrorKind::Interrupted));
+        }
+        if self.rest.is_empty() || buf.is_empty() {
+            return Ok(0);
+        }
+        buf[0] = self.rest[0];
+        self.rest = &self.rest[1..];
+        Ok(1)
+    }
+}
+
+// A writer that takes one byte a call, and fails once it is full.
+#[derive(Drop)]
+struct Cup {
+    taken: Vec<u8>,
+    room: usize,
+}
+
+impl Write for Cup {
+    fn write(&mut self, bytes: &[u8]) -> io::Result<usize> {
+        if bytes.is_empty() || self.taken.len() >= self.room {
+            return Ok(0);
+        }
+        self.taken.push(bytes[0])?;
+        Ok(1)
+    }
+
+    fn flush(&mut self) -> io::Result<()> {
+        Ok(())
+    }
+}
+
+fn serve_links<T: Read + Drop, A: Ledger, B: Ledger>(
+    alloc: Global,
+    reader: T,
+    writer: Cup,
+    reads: Blank,
+    writes: Blank,
+) -> (Served, usize, Vec<u8>)
+    requires reads_name { reads.name ≡ A.name }
+    requires reads_parts { reads.parts ≡ A.parts }
+    requires reads_one { 0 < reads.parts }
+    requires writes_name { writes.name ≡ B.name }
+    requires writes_parts { writes.parts ≡ B.parts }
+    requires writes_one { 0 < writes.parts }
+{
+    let mut reader = Link::<T, A>::new(reader, reads);
+    let mut writer = Link::<Cup, B>::new(writer, writes);
+    let mut handler = Nobody { asked: 0 };
+    let served = match Moment::new(1000) {
+        Some(moment) => serve_one(
+            alloc,
+            &mut reader,
+            &mut writer,
+            &mut handler,
+            moment,
+            Seed([0xab; 16]),
+        ),
+        None => Served::Ended,
+    };
+    (served, handler.asked, writer.into_inner().taken)
+}
+
+// What became of a request, how often the handler was asked, and what was written.
+fn serve<T: Read + Drop>(alloc: Global, reader: T, room: usize) -> (Served, usize, Vec<u8>) {
+    let writer = Cup {
+        taken: Vec::new(alloc),
+        room,
+    };
+    serve_links::<T, Brand, Brand>(alloc, reader, writer, Blank::new(1), Blank::new(1))
+}
+
+// The bytes get a refusal with this status line and code, without the handler.
+fn refused(
+    rt: &impl Abort,
+    alloc: Global,
+    bytes: &[u8],
+    status: &str,
+    code: &str,
+) -> Result<(), Fail> {
+    let (served, asked, written) = serve(alloc, bytes, 512);
+    let wanted = format!(in alloc;
+        "HTTP/1.1 {status}\r\nContent-Type: application/json\r\nContent-Length: 13\r\nConnection: close\r\n\r\n{{\"code\":\"{code}\"}}"
+    )?;
+    assert!(rt; served == Served::Replied, "{code}");
+    assert!(rt; asked == 0, "{code}");
+    assert!(rt; written.as_slice() == wanted.as_bytes(), "{code}");
+    Ok(())
+}
+
+// A head of so many bytes and fields.
+fn head_of(alloc: Global, size: usize, fields: usize) -> Result<Vec<u8>, Fail> {
+    let mut head = Vec::new(alloc);
+    head.extend_from_slice(b"GET / HTTP/1.1\r\n")?;
+    for _ in 1..fields {
+        head.extend_from_slice(b"a: b\r\n")?;
+    }
+    head.extend_from_slice(b"c: ")?;
+    for _ in head.len()..size.saturating_sub(4) {
+        head.push(b'd')?;
+    }
+    head.extend_from_slice(b"\r\n\r\n")?;
+    Ok(head)
+}
+
+#[test]
+fn a_request_is_handled_once(rt: HostRuntime) -> Result<(), Fail> {
+    let rows = [
+        ASKS,
+        b"POST /api/v4/jobs/request?x=/ HTTP/1.1\r\ncontent-length: 016\r\n\r\n{\"token\":\"nope\"}ignored".as_slice(),
+        b"POST /api/v4/jobs/request HTTP/1.0\nContent-Length: 2\r\n\r\n{}".as_slice(),
+    ];
+    for row in rows {
+        let (served, asked, written) = serve(rt.alloc(), row, 512);
+        assert!(&rt; served == Served::Replied);
+        assert!(&rt; asked == 1);
+        assert!(&rt; written.as_slice() == UNKNOWN);
+    }
+    Ok(())
+}
+
+// Requests that are refused, with the status and the code of the refusal.
+const REFUSED: &[(&[u8], &str, &str)] = &[
+    (b"\r\n\r\n", "400 Bad Request", "H1"),
+    (b"GET / HTTP/2.0\r\n\r\n", "400 Bad Request", "H1"),
+    (b"GET / HTTP/1.1\n\nmore\r\n\r\n", "400 Bad Request", "H1"),
+    (
+        b"PUT / HTTP/1.1\r\nTransfer-Encoding: chunked\r\nContent-Length: x\r\n\r\n",
+        "501 Not Implemented",
+        "H8",
+    ),
+    (
+        b"GET / HTTP/1.1\r\nContent-Length: 0\r\ncontent-length: 0\r\n\r\n",
+        "400 Bad Request",
+        "H1",
+    ),
+    (
+        b"POST / HTTP/1.1\r\nContent-Length: +5\r\n\r\n",
+        "400 Bad Request",
+        "H1",
+    ),
+    (
+        b"POST / HTTP/1.1\r\nContent-Length:\r\n\r\n",
+        "400 Bad Request",
+        "H1",
+    ),
+    (b"POST / HTTP/1.1\r\n\r\n", "411 Length Required", "H3"),
+    (b"PATCH / HTTP/1.1\r\n\r\n", "411 Length Required", "H3"),
+    (
+        b"GET / HTTP/1.1\r\nContent-Length: 65537\r\n\r\n",
+        "413 Payload Too Large",
+        "H4",
+    ),
+    (
+        b"POST / HTTP/1.1\r\nContent-Length: 18446744073709551617\r\n\r\n",
+        "413 Payload Too Large",
+        "H4",
+    ),
+    (
+        b"post /api/v4/jobs/requests HTTP/1.1\r\n\r\n",
+        "404 Not Found",
+        "H5",
+    ),
+    (
+        b"POST /api/v4/jobs/request/ HTTP/1.1\r\nContent-Length: 1\r\n\r\n{",
+        "404 Not Found",
+        "H5",
+    ),
+    (
+        b"POST /api/v4/jobs/request HTTP/1.1\r\nContent-Length: 15\r\n\r\n{\"token\":\"nope\"}",
+        "400 Bad Request",
+        "H7",
+    ),
+    (
+        b"POST /api/v4/jobs/request HTTP/1.1\r\nContent-Length: 0\r\n\r\n",
+        "400 Bad Request",
+        "H7",
+    ),
+    (
+        b"POST /api/v4/jobs/request HTTP/1.1\r\nContent-Length: 8\r\n\r\n[\"nope\"]",
+        "400 Bad Request",
+        "H7",
+    ),
+    (
+        b"POST /api/v4/jobs/request HTTP/1.1\r\nContent-Length: 14\r\n\r\n{\"token\":null}",
+        "400 Bad Request",
+        "H7",
+    ),
+    (
+        b"POST /api/v4/jobs/request HTTP/1.1\r\nContent-Length: 13\r\n\r\n{\"token\":\"\xff\"}",
+        "400 Bad Request",
+        "H7",
+    ),
+];
+
+#[test]
+fn refusals_in_their_order(rt: HostRuntime) -> Result<(), Fail> {
+    for (bytes, status, code) in REFUSED {
+        refused(&rt, rt.alloc(), bytes, status, code)?;
+    }
+    Ok(())
+}
+
+#[test]
+fn another_method_is_told_of_the_one_there_is(rt: HostRuntime) -> Result<(), Fail> {
+    let (served, asked, written) = serve(
+        rt.alloc(),
+        b"GET /api/v4/jobs/request HTTP/1.1\r\n\r\n".as_slice(),
+        512,
+    );
+    let wanted =
+        b"HTTP/1.1 405 Method Not Allowed\r\nAllow: POST\r\nContent-Type: application/json\r\nContent-Length: 13\r\nConnection: close\r\n\r\n{\"code\":\"H6\"}";
+    assert!(&rt; served == Served::Replied);
+    assert!(&rt; asked == 0);
+    assert!(&rt; written.as_slice() == wanted.as_slice());
+    Ok(())
+}
+
+#[test]
+fn limits_of_a_head(rt: HostRuntime) -> Result<(), Fail> {
+    let rows = [
+        (8192, 1, "404 Not Found", "H5"),
+        (8193, 1, "431 Request Header Fields Too Large", "H2"),
+        (8192, 32, "404 Not Found", "H5"),
+        (1000, 33, "431 Request Header Fields Too Large", "H2"),
+    ];
+    for (size, fields, status, code) in rows {
+        let head = head_of(rt.alloc(), size, fields)?;
+        assert!(&rt; head.len() == size);
+        refused(&rt, rt.alloc(), &head, status, code)?;
+    }
+    Ok(())
+}
+
+#[test]
+fn each_beginning_of_a_request_ends_early(rt: HostRuntime) -> Result<(), Fail> {
+    for at in 0..ASKS.len() {
+        for (fails, wanted) in [(false, Served::Ended), (true, Served::ReadFailed)] {
+            let reader = Trickle {
+                rest: &ASKS[..at],
+                fails,
+            };
+            let (served, asked, written) = serve(rt.alloc(), reader, 512);
+            assert!(&rt; served == wanted, "at {at}");
+            assert!(&rt; asked == 0, "at {at}");
+            assert!(&rt; written.is_empty(), "at {at}");
+        }
+    }
+    Ok(())
+}
+
+#[test]
+fn each_beginning_of_a_reply_may_be_all(rt: HostRuntime) -> Result<(), Fail> {
+    for room in 0..=UNKNOWN.len() {
+        let wanted = if room < UNKNOWN.len() {
+            Served::WriteFailed
+        } else {
+            Served::Replied
+        };
+        let (served, asked, written) = serve(
+            rt.alloc(),
+            Trickle {
+                rest: ASKS,
+                fails: true,
+            },
+            room,
+        );
+        assert!(&rt; served == wanted, "at {room}");
+        assert!(&rt; asked == 1, "at {room}");
+        assert!(&rt; written.as_slice() == &UNKNOWN[..room], "at {room}");
+    }
+    Ok(())
+}
+
+fn read_parts<L: Ledger>(rt: &impl Abort, alloc: Global, blank: Blank)
+    requires name { blank.name ≡ L.name }
+    requires parts { blank.parts ≡ L.parts }
+    requires one { 0 < blank.parts }
+{
+    let bytes =
+        b"PATCH /x?y HTTP/1.1\r\nA: 1\r\nJob-Token: \t t u \r\nContent-Length: 3\r\na: 2\r\n\r\nxyzw".as_slice();
+    let mut reader = Link::<&[u8], L>::new(bytes, blank);
+    let read = read_request(alloc, &mut reader);
+    assert!(rt; read.is_ok());
+    if let Ok(call) = read {
+        assert!(rt; call.method() == b"PATCH".as_slice());
+        assert!(rt; call.target() == b"/x?y".as_slice());
+        assert!(rt; call.body() == b"xyz".as_slice());
+        assert!(rt;
+            matches!(call.field(b"JOB-TOKEN"), Found::Once(value) if value == b"t u".as_slice())
+        );
+        assert!(rt; matches!(call.field(b"A"), Found::Twice));
+        assert!(rt; matches!(call.field(b"B"), Found::Absent));
+    }
+    assert!(rt; reader.into_inner() == b"w".as_slice());
+}
+
+#[test]
+fn parts_of_a_request(rt: HostRuntime) -> Result<(), Fail> {
+    read_parts::<Brand>(&rt, rt.alloc(), Blank::new(1));
+    Ok(())
+}
+
+// The text of a reply.
+fn text_of(alloc: Global, reply: &Reply) -> Result<Vec<u8>, Fail> {
+    let bytes = reply_bytes(reply);
+    let mut text = Vec::new(alloc);
+    text.extend_from_slice(bytes.head.as_slice())?;
+    text.extend_from_slice(bytes.body)?;
+    Ok(text)
+}
+
+#[test]
+fn fields_of_replies(rt: HostRuntime) -> Result<(), Fail> {
+    let plain = Reply {
+        status: Status::Fine,
+        code: None,
+        job_status: None,
+        range: None,
+        allow: None,
+        body: Some(Body::Plain(Bytes::new(vec![in rt.alloc(); b'a', b'b', b'\n']?))),
+    };
+    let made = Reply {
+        status: Status::Created,
+        code: None,
+        job_status: None,
+        range: None,
+        allow: None,
+        body: Some(Body::Json(Text::copy_of(rt.alloc(), "{\"id\":1}")?)),
+    };
+    let piece = Reply {
+        status: Status::Accepted,
+        code: None,
+        job_status: Some(JobStatus::Running),
+        range: Some(18446744073709551615),
+        allow: None,
+        body: None,
+    };
+    let none = Reply {
+        status: Status::NoContent,
+        code: None,
+        job_status: None,
+        range: None,
+        allow: None,
+        body: None,
+    };
+    let rows = [
+        (
+            plain,
+            b"HTTP/1.1 200 OK\r\nContent-Type: text/plain\r\nContent-Length: 3\r\nConnection: close\r\n\r\nab\n".as_slice(),
+        ),
+        (
+            made,
+            b"HTTP/1.1 201 Created\r\nContent-Type: application/json\r\nContent-Length: 8\r\nConnection: close\r\n\r\n{\"id\":1}",
+        ),
+        (
+            piece,
+            b"HTTP/1.1 202 Accepted\r\nJob-Status: running\r\nRange: 0-18446744073709551615\r\nContent-Length: 0\r\nConnection: close\r\n\r\n",
+        ),
+        (
+            none,
+            b"HTTP/1.1 204 No Content\r\nConnection: close\r\n\r\n",
+        ),
+    ];
+    for (reply, wanted) in &rows {
+        assert!(&rt; text_of(rt.alloc(), reply)?.as_slice() == *wanted);
+    }
+    Ok(())
+}
