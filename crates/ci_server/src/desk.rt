@@ -112,7 +112,8 @@ impl<T: Store> Desk<T> {
         ensures closed { self.old.closed ≡ true → (outcome_of result ≡ StoreFailed) × (self.new.closed ≡ true) × (self.new.store ≡ self.old.store) }
     {
         let (event, moment, seed) = call;
-        if self.closed {
+        let is_closed = self.closed;
+        if is_closed {
             return Answer::Reply(Reply::refusal(Code::M17));
         }
         match event.clone() {
