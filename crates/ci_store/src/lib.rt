@@ -3,7 +3,7 @@
 
 pub mod columns;
 pub mod commit;
-pub mod json;
+pub mod json_text;
 pub mod load;
 pub mod make;
 pub mod read;

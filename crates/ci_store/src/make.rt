@@ -3,7 +3,7 @@
 ghost use Rattle.std.specs.Prelude.{◌≡◌};
 
 use crate::columns::{counter_key, kind_number, optional_text, source_number, state_numbers, text};
-use crate::json::{spec_text, tags_text};
+use crate::json_text::{spec_text, tags_text};
 use crate::texts;
 use ci_machine::change::{Change, Counter, Key, Record};
 use ci_machine::records::{Attempt, Job, JobVariable, Pipeline, Project, Runner};

@@ -1,6 +1,6 @@
 //! The records of rows.
 
-use crate::json::{read_spec, read_tags};
+use crate::json_text::{read_spec, read_tags};
 use ci_machine::moment::Moment;
 use ci_machine::records::{
     Attempt, AttemptState, Cause, Job, JobVariable, Pipeline, Project, RefKind, Runner, Source,
