@@ -1,0 +1,20 @@
+-- The parts of records that are kept as JSON.
+use Rattle.std.specs.Prelude.{ℕ, List, [], ◌∷◌, codes}
+use Rattle.serde_json.specs.Data.{Data, string, number, array, object, unsigned, Items, no_items, item, no_members, member}
+use Rattle.serde_json.specs.Written.{compact_text}
+use Rattle.ci_machine.specs.declared.records.JobSpec.{JobSpec}
+
+abbrev pub strings : List (List ℕ) → Items
+strings [] = no_items
+strings (text ∷ texts) = item (string text) (strings texts)
+
+abbrev pub spec_data : JobSpec → Data
+spec_data spec = object (member (codes "script") (array (strings spec.script)) (member (codes "timeout") (number (unsigned spec.timeout)) no_members))
+
+-- the list of a runner's tags
+abbrev pub tags_text : List (List ℕ) → List ℕ
+tags_text tags = compact_text (array (strings tags))
+
+-- what was fixed of a job, as {"script":["make"],"timeout":3600}
+abbrev pub spec_text : JobSpec → List ℕ
+spec_text spec = compact_text (spec_data spec)
