@@ -18,7 +18,7 @@ use Rattle.ci_machine.specs.declared.change.Key.TheVariants as key
 use Rattle.ci_tables.specs.Stands.{image, places}
 use Rattle.ci_tables.specs.Ran.{Changes, HasPut}
 use Rattle.ci_tables.proofs.Queries.{picks}
-use Rattle.ci_tables.proofs.Writes.{IsWholeStep}
+use Rattle.ci_tables.proofs.Writes.{IsWholeStep, whole_if_alone}
 use Rattle.ci_tables.proofs.Puts.{MeansPut, MeansRemove, GivesRecord}
 use Rattle.ci_tables.proofs.Absent.{absent_rowid}
 use Rattle.ci_tables.proofs.Scalars.{cast_int, cast_text}
@@ -43,7 +43,7 @@ gives a = record {
   updated = λ old. λ i. cast_int (pos a.id) i ∷ cast_int (pos a.job) i ∷ cast_int (pos a.runner) i ∷ Text a.token ∷ cast_int (pos a.granted) i ∷ cast_int (pos a.seen) i ∷ cast_int (pos (state_number a.state)) i ∷ cast_option (cause_in a.state) i ∷ cast_option (exit_in a.state) i ∷ [];
   source = refl;
   inserted = λ rows. ap (image (places attempt)) (numbered rows (pos a.id) _) ∙ (λ i. number a.id ∷ cast_int (pos a.job) i ∷ cast_int (pos a.runner) i ∷ Text a.token ∷ cast_int (pos a.granted) i ∷ cast_int (pos a.seen) i ∷ cast_int (pos (state_number a.state)) i ∷ cast_option (cause_in a.state) i ∷ cast_option (exit_in a.state) i ∷ []);
-  absent = λ rows new_row db shaped is fresh put sound. absent_rowid rows new_row (pos a.id) _ (λ r. refl) shaped (ap (λ image. column image 0) is) fresh;
+  absent = λ rows new_row db shaped is keyed fresh put sound. absent_rowid rows new_row (pos a.id) _ (λ r. refl) shaped (ap (λ image. column image 0) is) fresh;
 }
 
 ordered_put : (a : Attempt) (s : State) → IsOrdered s → IsOrdered (with_record (row.Attempt a) s)
@@ -82,3 +82,7 @@ pub attempt_removes : {S : Type 0} (ghosts : Ghosts S) (before after : Held S) (
 attempt_removes ghosts before after id count s stands whole h =
     remove_stands attempt_row s.attempts s (without_record (key.Attempt id) s) attempt refl ((λ _. refl), ((λ _. refl), ((λ _. refl), ((λ _. refl), ((λ _. refl), ((λ _. refl), ((λ ne. absurd (ne refl)), tt))))))) (ordered_removed id s stands.inside.ordered)
     6 DELETE_ATTEMPT.now (is 0 0 ∷ []) means_remove (number id ∷ []) (λ r. refl) (λ q. is_eq (nat_cmp q.id id)) (λ q. same_number q.id id) refl ghosts before after count stands whole h
+
+pub attempt_whole : (params : Row) (db : Trees) → IsWholeStep the_schema attempt (is 0 0 ∷ []) params db
+unfolding everything
+attempt_whole params db = whole_if_alone the_schema attempt (is 0 0 ∷ []) params db (λ olds. refl)

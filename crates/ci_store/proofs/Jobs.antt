@@ -18,7 +18,7 @@ use Rattle.ci_machine.specs.declared.change.Key.TheVariants as key
 use Rattle.ci_tables.specs.Stands.{image, places}
 use Rattle.ci_tables.specs.Ran.{Changes, HasPut}
 use Rattle.ci_tables.proofs.Queries.{picks}
-use Rattle.ci_tables.proofs.Writes.{IsWholeStep}
+use Rattle.ci_tables.proofs.Writes.{IsWholeStep, whole_if_alone}
 use Rattle.ci_tables.proofs.Puts.{MeansPut, MeansRemove, GivesRecord}
 use Rattle.ci_tables.proofs.Absent.{absent_rowid}
 use Rattle.ci_tables.proofs.Scalars.{cast_int, cast_text}
@@ -43,7 +43,7 @@ gives j = record {
   updated = λ old. λ i. cast_int (pos j.id) i ∷ cast_int (pos j.pipeline) i ∷ cast_int (pos j.position) i ∷ Text j.name ∷ Text j.stage ∷ Text (spec_text j.spec) ∷ cast_int (if j.played then pos 1 else pos 0) i ∷ cast_int (if j.cancelled then pos 1 else pos 0) i ∷ cast_int (pos j.set_aside) i ∷ [];
   source = refl;
   inserted = λ rows. ap (image (places job)) (numbered rows (pos j.id) _) ∙ (λ i. number j.id ∷ cast_int (pos j.pipeline) i ∷ cast_int (pos j.position) i ∷ Text j.name ∷ Text j.stage ∷ Text (spec_text j.spec) ∷ cast_int (if j.played then pos 1 else pos 0) i ∷ cast_int (if j.cancelled then pos 1 else pos 0) i ∷ cast_int (pos j.set_aside) i ∷ []);
-  absent = λ rows new_row db shaped is fresh put sound. absent_rowid rows new_row (pos j.id) _ (λ r. refl) shaped (ap (λ image. column image 0) is) fresh;
+  absent = λ rows new_row db shaped is keyed fresh put sound. absent_rowid rows new_row (pos j.id) _ (λ r. refl) shaped (ap (λ image. column image 0) is) fresh;
 }
 
 ordered_put : (j : Job) (s : State) → IsOrdered s → IsOrdered (with_record (row.Job j) s)

@@ -5,3 +5,8 @@ mod Runners
 mod Pipelines
 mod Jobs
 mod Attempts
+mod JobVariables
+mod Meta
+mod JsonTexts
+mod Applied
+mod Removals

@@ -18,7 +18,7 @@ use Rattle.ci_machine.specs.declared.change.Key.TheVariants as key
 use Rattle.ci_tables.specs.Stands.{image, places}
 use Rattle.ci_tables.specs.Ran.{Changes, HasPut}
 use Rattle.ci_tables.proofs.Queries.{picks}
-use Rattle.ci_tables.proofs.Writes.{IsWholeStep}
+use Rattle.ci_tables.proofs.Writes.{IsWholeStep, whole_if_alone}
 use Rattle.ci_tables.proofs.Puts.{MeansPut, MeansRemove, GivesRecord}
 use Rattle.ci_tables.proofs.Absent.{absent_rowid}
 use Rattle.ci_tables.proofs.Scalars.{cast_int, cast_text}
@@ -43,7 +43,7 @@ gives p = record {
   updated = λ old. λ i. cast_int (pos p.id) i ∷ cast_int (pos p.project) i ∷ Text p.git_ref ∷ cast_int (pos (kind_number p.kind)) i ∷ cast_int (pos (source_number p.source)) i ∷ cast_int (pos p.created) i ∷ [];
   source = refl;
   inserted = λ rows. ap (image (places pipeline)) (numbered rows (pos p.id) _) ∙ (λ i. number p.id ∷ cast_int (pos p.project) i ∷ Text p.git_ref ∷ cast_int (pos (kind_number p.kind)) i ∷ cast_int (pos (source_number p.source)) i ∷ cast_int (pos p.created) i ∷ []);
-  absent = λ rows new_row db shaped is fresh put sound. absent_rowid rows new_row (pos p.id) _ (λ r. refl) shaped (ap (λ image. column image 0) is) fresh;
+  absent = λ rows new_row db shaped is keyed fresh put sound. absent_rowid rows new_row (pos p.id) _ (λ r. refl) shaped (ap (λ image. column image 0) is) fresh;
 }
 
 ordered_put : (p : Pipeline) (s : State) → IsOrdered s → IsOrdered (with_record (row.Pipeline p) s)

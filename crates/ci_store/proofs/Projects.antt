@@ -18,7 +18,7 @@ use Rattle.ci_machine.specs.declared.change.Key.TheVariants as key
 use Rattle.ci_tables.specs.Stands.{image, places}
 use Rattle.ci_tables.specs.Ran.{Changes, HasPut}
 use Rattle.ci_tables.proofs.Queries.{picks}
-use Rattle.ci_tables.proofs.Writes.{IsWholeStep}
+use Rattle.ci_tables.proofs.Writes.{IsWholeStep, whole_if_alone}
 use Rattle.ci_tables.proofs.Puts.{MeansPut, MeansRemove, GivesRecord}
 use Rattle.ci_tables.proofs.Absent.{absent_rowid}
 use Rattle.ci_tables.proofs.Scalars.{cast_int, cast_text}
@@ -43,7 +43,7 @@ gives p = record {
   updated = λ old. λ i. cast_int (pos p.id) i ∷ Text p.name ∷ Text p.token ∷ cast_text (λ b. b) p.file i ∷ [];
   source = refl;
   inserted = λ rows. ap (image (places project)) (numbered rows (pos p.id) _) ∙ (λ i. number p.id ∷ Text p.name ∷ Text p.token ∷ cast_text (λ b. b) p.file i ∷ []);
-  absent = λ rows new_row db shaped is fresh put sound. absent_rowid rows new_row (pos p.id) _ (λ r. refl) shaped (ap (λ image. column image 0) is) fresh;
+  absent = λ rows new_row db shaped is keyed fresh put sound. absent_rowid rows new_row (pos p.id) _ (λ r. refl) shaped (ap (λ image. column image 0) is) fresh;
 }
 
 ordered_put : (p : Project) (s : State) → IsOrdered s → IsOrdered (with_record (row.Project p) s)
@@ -82,3 +82,7 @@ pub project_removes : {S : Type 0} (ghosts : Ghosts S) (before after : Held S) (
 project_removes ghosts before after id count s stands whole h =
     remove_stands project_row s.projects s (without_record (key.Project id) s) project refl ((λ _. refl), ((λ ne. absurd (ne refl)), ((λ _. refl), ((λ _. refl), ((λ _. refl), ((λ _. refl), ((λ _. refl), tt))))))) (ordered_removed id s stands.inside.ordered)
     1 DELETE_PROJECT.now (is 0 0 ∷ []) means_remove (number id ∷ []) (λ r. refl) (λ q. is_eq (nat_cmp q.id id)) (λ q. same_number q.id id) refl ghosts before after count stands whole h
+
+pub project_whole : (params : Row) (db : Trees) → IsWholeStep the_schema project (is 0 0 ∷ []) params db
+unfolding everything
+project_whole params db = whole_if_alone the_schema project (is 0 0 ∷ []) params db (λ olds. refl)

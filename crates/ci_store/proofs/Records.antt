@@ -14,7 +14,7 @@ use Rattle.sqlite.specs.Edit.{with_rowid}
 use Rattle.sqlite.specs.Cast.{cast}
 use Rattle.sqlite.specs.Kind.TheVariants.{Integer}
 use Rattle.sqlite.specs.Rowids.TheVariants.{Chosen}
-use Rattle.sqlite.specs.Values.{or_null}
+use Rattle.sqlite.specs.Values.{or_null, bound_value}
 use Rattle.sqlite.specs.Store.{Ghosts}
 use Rattle.sqlite.specs.Held.{Held, state}
 use Rattle.sqlite.specs.State.{Executes}
@@ -77,3 +77,13 @@ numbered rows n rest = ap (λ v. with_rowid Chosen rows (v ∷ rest)) (cast_int 
 pub cast_option : (o : Option ℕ) → cast Integer (or_null number o) ≡ or_null number o
 cast_option None = cast_null
 cast_option (Some n) = cast_int (pos n)
+
+-- ---- values as they are bound
+
+pub bound_words : (o : Option (List ℕ)) → bound_value (or_null Text o) ≡ or_null Text o
+bound_words None = refl
+bound_words (Some t) = refl
+
+pub bound_number : (o : Option ℕ) → bound_value (or_null number o) ≡ or_null number o
+bound_number None = refl
+bound_number (Some n) = refl

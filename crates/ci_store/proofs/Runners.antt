@@ -18,7 +18,7 @@ use Rattle.ci_machine.specs.declared.change.Key.TheVariants as key
 use Rattle.ci_tables.specs.Stands.{image, places}
 use Rattle.ci_tables.specs.Ran.{Changes, HasPut}
 use Rattle.ci_tables.proofs.Queries.{picks}
-use Rattle.ci_tables.proofs.Writes.{IsWholeStep}
+use Rattle.ci_tables.proofs.Writes.{IsWholeStep, whole_if_alone}
 use Rattle.ci_tables.proofs.Puts.{MeansPut, MeansRemove, GivesRecord}
 use Rattle.ci_tables.proofs.Absent.{absent_rowid}
 use Rattle.ci_tables.proofs.Scalars.{cast_int, cast_text}
@@ -43,7 +43,7 @@ gives r = record {
   updated = λ old. λ i. cast_int (pos r.id) i ∷ Text r.name ∷ Text r.token ∷ cast_option r.project i ∷ Text (tags_text r.tags) ∷ cast_int (if r.untagged then pos 1 else pos 0) i ∷ cast_int (if r.paused then pos 1 else pos 0) i ∷ [];
   source = refl;
   inserted = λ rows. ap (image (places runner)) (numbered rows (pos r.id) _) ∙ (λ i. number r.id ∷ Text r.name ∷ Text r.token ∷ cast_option r.project i ∷ Text (tags_text r.tags) ∷ cast_int (if r.untagged then pos 1 else pos 0) i ∷ cast_int (if r.paused then pos 1 else pos 0) i ∷ []);
-  absent = λ rows new_row db shaped is fresh put sound. absent_rowid rows new_row (pos r.id) _ (λ r. refl) shaped (ap (λ image. column image 0) is) fresh;
+  absent = λ rows new_row db shaped is keyed fresh put sound. absent_rowid rows new_row (pos r.id) _ (λ r. refl) shaped (ap (λ image. column image 0) is) fresh;
 }
 
 ordered_put : (r : Runner) (s : State) → IsOrdered s → IsOrdered (with_record (row.Runner r) s)
@@ -82,3 +82,7 @@ pub runner_removes : {S : Type 0} (ghosts : Ghosts S) (before after : Held S) (i
 runner_removes ghosts before after id count s stands whole h =
     remove_stands runner_row s.runners s (without_record (key.Runner id) s) runner refl ((λ _. refl), ((λ _. refl), ((λ ne. absurd (ne refl)), ((λ _. refl), ((λ _. refl), ((λ _. refl), ((λ _. refl), tt))))))) (ordered_removed id s stands.inside.ordered)
     2 DELETE_RUNNER.now (is 0 0 ∷ []) means_remove (number id ∷ []) (λ r. refl) (λ q. is_eq (nat_cmp q.id id)) (λ q. same_number q.id id) refl ghosts before after count stands whole h
+
+pub runner_whole : (params : Row) (db : Trees) → IsWholeStep the_schema runner (is 0 0 ∷ []) params db
+unfolding everything
+runner_whole params db = whole_if_alone the_schema runner (is 0 0 ∷ []) params db (λ olds. refl)

@@ -1,12 +1,12 @@
 -- The parts of records that are kept as JSON.
-use Rattle.std.specs.Prelude.{ℕ, List, [], ◌∷◌, codes}
-use Rattle.serde_json.specs.Data.{Data, string, number, array, object, unsigned, Items, no_items, item, no_members, member}
+use Rattle.std.specs.Prelude.{ℕ, List, map, codes}
+use Rattle.serde_json.specs.Data.{Data, string, number, array, object, unsigned, Items, no_members, member}
+use Rattle.serde_json.specs.View.{items_of}
 use Rattle.serde_json.specs.Written.{compact_text}
 use Rattle.ci_machine.specs.declared.records.JobSpec.{JobSpec}
 
 abbrev pub strings : List (List ℕ) → Items
-strings [] = no_items
-strings (text ∷ texts) = item (string text) (strings texts)
+strings texts = items_of (map string texts)
 
 abbrev pub spec_data : JobSpec → Data
 spec_data spec = object (member (codes "script") (array (strings spec.script)) (member (codes "timeout") (number (unsigned spec.timeout)) no_members))

@@ -2,3 +2,4 @@ pub mod Schema
 pub mod JsonText
 pub mod Rows
 pub mod Stands
+pub mod Commit

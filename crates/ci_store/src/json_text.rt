@@ -1,12 +1,19 @@
 //! The parts of records that are kept as JSON: compact, the members of an object in byte order.
 
+ghost use Rattle.std.specs.Prelude.{◌≡◌, IfOk, string_bytes};
+ghost use Rattle.serde_json.specs.Data.{array};
+ghost use Rattle.serde_json.specs.View.{view};
+ghost use Rattle.ci_store.specs.JsonText.{strings, spec_data, tags_text, spec_text};
+
 use ci_machine::records::JobSpec;
 use ci_machine::text::{Text, Texts};
 use ci_tables::fault::StoreFault;
-use serde_json::{Value, json};
+use serde_json::{Map, Value, put};
 use std::alloc::{AllocError, Global};
 
-fn texts_value(alloc: Global, texts: &Texts) -> Result<Value, AllocError> {
+fn texts_value(alloc: Global, texts: &Texts) -> Result<Value, AllocError>
+    ensures { IfOk result (λ v. view v ≡ array (strings texts.now)) }
+{
     let mut items = Vec::new(alloc);
     for text in texts.as_slice() {
         items.push(Value::try_from_str(alloc, text.as_str())?)?;
@@ -15,15 +22,28 @@ fn texts_value(alloc: Global, texts: &Texts) -> Result<Value, AllocError> {
 }
 
 /// The JSON list of the tags. Errors: memory was refused.
-pub fn tags_text(alloc: Global, tags: &Texts) -> Result<String, AllocError> {
+pub fn tags_text(alloc: Global, tags: &Texts) -> Result<String, AllocError>
+    ensures { IfOk result (λ t. string_bytes t ≡ tags_text tags.now) }
+{
     let value = texts_value(alloc, tags)?;
     value.to_string(alloc)
 }
 
-/// The JSON object of what was fixed of a job. Errors: memory was refused.
-pub fn spec_text(alloc: Global, spec: &JobSpec) -> Result<String, AllocError> {
+fn spec_value(alloc: Global, spec: &JobSpec) -> Result<Value, AllocError>
+    ensures { IfOk result (λ v. view v ≡ spec_data spec.now) }
+{
     let script = texts_value(alloc, &spec.script)?;
-    let value = json!(in alloc; {"script": script, "timeout": spec.timeout})?;
+    let mut members = Map::new(alloc);
+    put(&mut members, alloc, "script", script)?;
+    put(&mut members, alloc, "timeout", Value::from(spec.timeout))?;
+    Ok(Value::Object(members))
+}
+
+/// The JSON object of what was fixed of a job. Errors: memory was refused.
+pub fn spec_text(alloc: Global, spec: &JobSpec) -> Result<String, AllocError>
+    ensures { IfOk result (λ t. string_bytes t ≡ spec_text spec.now) }
+{
+    let value = spec_value(alloc, spec)?;
     value.to_string(alloc)
 }
 

@@ -1,6 +1,12 @@
 //! The tables, which are the only writer of their store.
 
-ghost use Rattle.std.specs.Prelude.{◌≡◌, false};
+ghost use Rattle.std.specs.Prelude.{◌≡◌, ◌≤◌, ◌⊎◌, false, OnOk, Err};
+ghost use Rattle.sqlite.specs.State.{HasCleanDisk, Survives};
+ghost use Rattle.sqlite.specs.Held.{state};
+ghost use Rattle.sqlite.specs.Tree.{Trees};
+ghost use Rattle.sqlite_trees.specs.View.{doubt};
+ghost use Rattle.ci_machine.specs.State.{State, applied};
+ghost use Rattle.ci_store.specs.Stands.{StandsIn, IsAt};
 
 use crate::commit::commit;
 use crate::{load, texts};
@@ -216,7 +222,12 @@ impl<S: Alter> Tables<S> {
     }
 
     /// Makes the changes in one transaction, or none of them.
-    pub fn commit(&mut self, delta: Delta) -> Result<(), StoreFault> {
+    pub fn commit(&mut self, delta: Delta) -> Result<(), StoreFault>
+        ensures clean { doubt (state S.Store self.old).is_clean ≤ doubt (state S.Store self.new).is_clean }
+        ensures done { HasCleanDisk (state S.Store self.new) → OnOk result ((s : State) → IsAt S.Store s self.old → IsAt S.Store (applied delta s) self.new) }
+        ensures memory { HasCleanDisk (state S.Store self.new) → result ≡ Err StoreFault.Memory → (s : State) → IsAt S.Store s self.old → IsAt S.Store s self.new }
+        ensures broken { HasCleanDisk (state S.Store self.new) → (s : State) → IsAt S.Store s self.old → (db : Trees) → (state S.Store self.new).may_leave db → StandsIn s db ⊎ StandsIn (applied delta s) db }
+    {
         let changes = delta.into_vec();
         let alloc = *changes.allocator();
         commit(&mut self.conn, alloc, changes.as_slice())

@@ -9,3 +9,4 @@ pub mod Ordered
 pub mod Childless
 pub mod OneSchema
 pub mod Absent
+pub mod Inside

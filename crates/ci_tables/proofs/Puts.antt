@@ -56,7 +56,7 @@ pub record GivesRecord (schema : Schema) (table : Table) (tests sets terms : Lis
   pub source : value_rows params (length terms) (length terms / length terms) terms ≡ eval_all terms (params ∷ []) ∷ []
   pub inserted : (rows : List Row) → image (places table) (with_rowid Chosen rows (cast_row table (eval_all terms (params ∷ [])))) ≡ params
   -- the insert is taken only where no row has the key
-  pub absent : (rows : List Row) (new_row : Row) (db : Trees) → IsShaped shape.Table rows → image (places table) new_row ≡ params → are_fresh rows (new_row ∷ []) ≡ true → db table.tree ≡ put_row new_row rows → IsSound schema db
+  pub absent : (rows : List Row) (new_row : Row) (db : Trees) → IsShaped shape.Table rows → image (places table) new_row ≡ params → have_rowids (new_row ∷ []) ≡ true → are_fresh rows (new_row ∷ []) ≡ true → db table.tree ≡ put_row new_row rows → IsSound schema db
       → filter (picks tests params) rows ≡ []
 
 module _ (schema : Schema) (at : ℕ) (table : Table) (update insert : List ℕ) (tests sets terms : List Term) (means : MeansPut schema at table update insert tests sets terms)
@@ -105,7 +105,7 @@ module _ (schema : Schema) (at : ℕ) (table : Table) (update insert : List ℕ)
       let was = held f mid stands in
       let obeys = subst (λ s. IsSound s new.now.trees) sets_to.listed sound in
       let is = gives.inserted rows in
-      let none = gives.absent rows (new_row rows) new.now.trees was.shaped is fresh sets_to.is obeys in
+      let none = gives.absent rows (new_row rows) new.now.trees was.shaped is keyed fresh sets_to.is obeys in
       let same : IsPermutation (map (image (places table)) rows) (without key (f table.tree)) =
       subst (λ l. IsPermutation (map (image (places table)) l) (without key (f table.tree))) (rest_is _ _ none) (images_without (places table) key (picks tests params) _ _ gives.tested was.same) in
       let own = added table (new_row rows) rows (without key (f table.tree)) new.now.trees was.shaped same fresh keyed sets_to.is in

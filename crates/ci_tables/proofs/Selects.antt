@@ -12,7 +12,9 @@ use Rattle.sqlite.specs.State.{State, Shown, ShowsRows, IsUnchanged}
 use Rattle.sqlite.specs.Clock.{timed}
 use Rattle.sqlite.specs.Listing.{understood, reads_listing}
 use Rattle.sqlite.proofs.Callers.{IsPlain, command_of, reads_as}
-use Rattle.sqlite_rules.proofs.ListLemmas.{all_from}
+use Rattle.sqlite_rules.specs.Lists.{Has}
+use Rattle.sqlite_rules.proofs.ListLemmas.{all_from, has_kept}
+use Rattle.ci_tables.proofs.Writes.{perm_nil, map_nil}
 use Rattle.sqlite_trees.proofs.ListLemmas.{IsPermutation-filter, filter-map, filter_same}
 use Rattle.ci_tables.specs.Stands.{places, image, has_key, Holds}
 use Rattle.ci_tables.proofs.Queries.{query, picks, Answered, answered, shows}
@@ -41,3 +43,18 @@ unfolding Shown
 shown_same sql params old new rows plain h =
     let none = (subst IsPlain h.1.is plain).0 in
     (subst (ShowsRows old new sql h.0 (timed params h.0.formats h.1.now) rows) none h.2).3
+
+none_passes : (p : Row → Bool) (rows : List Row) → filter p rows ≡ [] → (r : Row) → Has rows r → p r ≡ false
+none_passes p rows none r h = go (p r) refl
+  where
+    go : (b : Bool) → p r ≡ b → b ≡ false
+    go false is = refl
+    go true is = absurd (subst (λ l. Has l r) none (has_kept p rows r h is))
+
+-- no row passes the tests of a query that shows none
+pub shows_none : (schema : Schema) (table : Table) (text : List ℕ) (tests project : List Term) (order : List (Term × Key)) (names : List (List ℕ)) → MeansSelect schema table text tests project order names
+    → (key : Row) (old new : State) → old.now.schema ≡ schema → Shown text key old new [] → (r : Row) → Has (old.now.trees table.tree) r → picks tests key r ≡ false
+shows_none schema table text tests project order names means key old new has shown =
+    let read = reads_as text key old new schema has _ means.is means.plain means.unlisted [] shown in
+    let answer = shows table.tree tests project order old.now.trees key [] (answered old.now.schema old.now.trees table.tree tests project order key [] read) in
+    none_passes (picks tests key) (old.now.trees table.tree) (map_nil (λ r. eval_all project (key ∷ r ∷ [])) _ (perm_nil _ answer))
