@@ -1,5 +1,5 @@
 -- The statements that write `jobvar`.
-use Rattle.std.proofs.Common.{◌≡◌, ◌∙◌, ℕ, ℤ, pos, List, [], ◌∷◌, Bool, true, false, if◌then◌else◌, not, filter, is_eq, refl, sym, ap, subst, inl, inr, ◌&&◌, Ordering, Less, Equal, Greater, cond}
+use Rattle.std.proofs.Common.{◌≡◌, ◌∙◌, ℕ, ℤ, pos, List, [], ◌∷◌, Bool, true, false, if◌then◌else◌, Some, not, filter, is_eq, refl, sym, ap, subst, inl, inr, ◌&&◌, Ordering, Less, Equal, Greater, cond}
 use Rattle.std.specs.Ordering.{nat_cmp, ordering_then}
 use Rattle.std.specs.Cmp.Lexicographic.{slice_cmp}
 use Rattle.sqlite.specs.declared.types.Value.{Value}
@@ -22,7 +22,7 @@ use Rattle.sqlite_tied.specs.Compute.{everything}
 use Rattle.sqlite.specs.Listing.{understood}
 use Rattle.sqlite.specs.Store.{Ghosts}
 use Rattle.sqlite.specs.Held.{Held, state}
-use Rattle.sqlite_keyed.proofs.ListLemmas.{ascending-filter}
+use Rattle.sqlite_keyed.proofs.ListLemmas.{ascending-filter, all-filter}
 use Rattle.ci_machine.specs.State.{State, put, without, with_record, without_record, job_variable_cmp}
 use Rattle.ci_machine.specs.declared.records.JobVariable.{JobVariable}
 use Rattle.ci_machine.specs.declared.change.Record.TheVariants as row
@@ -36,10 +36,11 @@ use Rattle.ci_tables.proofs.Absent.{absent_unique}
 use Rattle.ci_tables.proofs.Scalars.{cast_int, equal_int, equal_text}
 use Rattle.ci_store.specs.declared.texts.TheConstants.{UPDATE_JOB_VARIABLE, INSERT_JOB_VARIABLE, DELETE_JOB_VARIABLE}
 use Rattle.ci_store.specs.Schema.{the_schema, jobvar, jobvar_index_1}
-use Rattle.ci_store.specs.JsonText.{tags_text, spec_text}
+use Rattle.ci_store.specs.JsonText.{tags_text, tags_data, spec_text, spec_data}
+use Rattle.serde_json.specs.Read.{read}
 use Rattle.ci_store.specs.Rows.{number, job_variable_row, kind_number, source_number, state_number, cause_in, exit_in}
-use Rattle.ci_store.specs.Stands.{rows_of, IsOrdered, Stands}
-use Rattle.ci_store.proofs.Lists.{put_rises, by_both}
+use Rattle.ci_store.specs.Stands.{rows_of, IsRegular, Stands}
+use Rattle.ci_store.proofs.Lists.{put_rises, by_both, all_put}
 use Rattle.ci_store.proofs.Records.{is, put_stands, remove_stands, same_number}
 
 abbrev tests : List Term
@@ -89,41 +90,45 @@ both_equal Greater b = refl
 same_key : (job : ℕ) (name : List ℕ) (q : JobVariable) → (equal Binary (number q.job) (number job) && (equal Binary (Text q.key) (Text name) && true)) ≡ is_eq (ordering_then (nat_cmp q.job job) (slice_cmp nat_cmp q.key name))
 same_key job name q = (λ i. equal_int q.job job i && (equal_text q.key name i && true)) ∙ both_equal (nat_cmp q.job job) (slice_cmp nat_cmp q.key name)
 
-ordered_put : (v : JobVariable) (s : State) → IsOrdered s → IsOrdered (with_record (row.JobVariable v) s)
-ordered_put v s o = record {
+regular_put : (v : JobVariable) (s : State) → IsRegular s → IsRegular (with_record (row.JobVariable v) s)
+regular_put v s o = record {
   projects = o.projects;
   runners = o.runners;
   pipelines = o.pipelines;
   jobs = o.jobs;
   job_variables = put_rises job_variable_cmp (by_both (λ (q : JobVariable). q.job) (λ q. q.key)) v s.job_variables o.job_variables;
   attempts = o.attempts;
+  tags = o.tags;
+  specs = o.specs;
 }
 
 pub job_variable_puts : {S : Type 0} (ghosts : Ghosts S) (before after : Held S) (v : JobVariable) (s : State) → Stands s (state ghosts before).now → HasPut ghosts UPDATE_JOB_VARIABLE.now INSERT_JOB_VARIABLE.now (job_variable_row v) before after
     → Stands (with_record (row.JobVariable v) s) (state ghosts after).now
 job_variable_puts ghosts before after v s stands h =
-    put_stands job_variable_row s.job_variables s (with_record (row.JobVariable v) s) jobvar refl ((λ _. refl), ((λ _. refl), ((λ _. refl), ((λ _. refl), ((λ _. refl), ((λ ne. absurd (ne refl)), ((λ _. refl), tt))))))) (ordered_put v s stands.inside.ordered)
+    put_stands job_variable_row s.job_variables s (with_record (row.JobVariable v) s) jobvar refl ((λ _. refl), ((λ _. refl), ((λ _. refl), ((λ _. refl), ((λ _. refl), ((λ ne. absurd (ne refl)), ((λ _. refl), tt))))))) (regular_put v s stands.inside.regular)
     5 UPDATE_JOB_VARIABLE.now INSERT_JOB_VARIABLE.now tests sets terms means job_variable_cmp (key_of v.job v.key) v (gives v) (same_key v.job v.key) refl ghosts before after stands h
 
 means_remove : MeansRemove the_schema 5 jobvar DELETE_JOB_VARIABLE.now tests
 unfolding understood everything
 means_remove = record { there = refl; apart = refl; delete_is = refl; delete_plain = (refl, refl) }
 
-ordered_removed : (id : ℕ) (name : List ℕ) (s : State) → IsOrdered s → IsOrdered (without_record (key.JobVariable id name) s)
-ordered_removed id name s o = record {
+regular_removed : (id : ℕ) (name : List ℕ) (s : State) → IsRegular s → IsRegular (without_record (key.JobVariable id name) s)
+regular_removed id name s o = record {
   projects = o.projects;
   runners = o.runners;
   pipelines = o.pipelines;
   jobs = o.jobs;
   job_variables = ascending-filter _ _ s.job_variables o.job_variables;
   attempts = o.attempts;
+  tags = o.tags;
+  specs = o.specs;
 }
 
 pub job_variable_removes : {S : Type 0} (ghosts : Ghosts S) (before after : Held S) (id : ℕ) (name : List ℕ) (count : ℕ) (s : State) → Stands s (state ghosts before).now
     → IsWholeStep the_schema jobvar tests (key_of id name) (state ghosts before).now.trees → Changes ghosts DELETE_JOB_VARIABLE.now (key_of id name) count before after
     → Stands (without_record (key.JobVariable id name) s) (state ghosts after).now
 job_variable_removes ghosts before after id name count s stands whole h =
-    remove_stands job_variable_row s.job_variables s (without_record (key.JobVariable id name) s) jobvar refl ((λ _. refl), ((λ _. refl), ((λ _. refl), ((λ _. refl), ((λ _. refl), ((λ ne. absurd (ne refl)), ((λ _. refl), tt))))))) (ordered_removed id name s stands.inside.ordered)
+    remove_stands job_variable_row s.job_variables s (without_record (key.JobVariable id name) s) jobvar refl ((λ _. refl), ((λ _. refl), ((λ _. refl), ((λ _. refl), ((λ _. refl), ((λ ne. absurd (ne refl)), ((λ _. refl), tt))))))) (regular_removed id name s stands.inside.regular)
     5 DELETE_JOB_VARIABLE.now tests means_remove (key_of id name) (λ r. refl) (λ q. is_eq (ordering_then (nat_cmp q.job id) (slice_cmp nat_cmp q.key name))) (same_key id name) refl ghosts before after count stands whole h
 
 pub job_variable_whole : (params : Row) (db : Trees) → IsWholeStep the_schema jobvar tests params db

@@ -10,3 +10,4 @@ mod Meta
 mod JsonTexts
 mod Applied
 mod Removals
+mod Reading

@@ -8,7 +8,7 @@ use Rattle.std.proofs.lemmas.Cmp.{on_total, then_total, nat_list_cmp_total, nat_
 use Rattle.std.proofs.lemmas.List.Sorted.{IsPermutation-map, IsPermutation-refl, IsPermutation-sym, IsPermutation-cons, IsPermutation-trans, IsPermutation-middle}
 use Rattle.sqlite.specs.Order.{Row}
 use Rattle.sqlite_trees.specs.Tree.{IsAscending}
-use Rattle.sqlite_keyed.proofs.ListLemmas.{filter-map, filter_same, IsPermutation-same, ascending-filter, all_weaker}
+use Rattle.sqlite_keyed.proofs.ListLemmas.{filter-map, filter_same, IsPermutation-same, ascending-filter, all_weaker, all-filter}
 use Rattle.ci_tables.specs.Stands.{has_key, without}
 use Rattle.ci_machine.specs.State.{placed, others, put}
 use Rattle.ci_store.specs.Stands.{Rises}
@@ -63,6 +63,18 @@ module _ {X : Type 0} (cmp : X → X → Ordering) (total : IsTotalOrder cmp) (x
 
   pub put_rises : (xs : List X) → Rises cmp xs → Rises cmp (put cmp x xs)
   put_rises xs up = placed_rises (others cmp x xs) (ascending-filter _ _ xs up) (others_apart xs)
+
+module _ {X : Type 0} (cmp : X → X → Ordering) (P : X → Type 0) (x : X) where
+  all_placed : (xs : List X) → P x → AllByRecursion P xs → AllByRecursion P (placed cmp x xs)
+  all_placed [] h all = (h, tt)
+  all_placed (y ∷ xs) h all = go (is_lt (cmp y x)) (all_placed xs h all.1)
+    where
+      go : (b : Bool) → AllByRecursion P (placed cmp x xs) → AllByRecursion P (cond b (y ∷ placed cmp x xs) (x ∷ y ∷ xs))
+      go true more = (all.0, more)
+      go false more = (h, all)
+
+  pub all_put : (xs : List X) → P x → AllByRecursion P xs → AllByRecursion P (put cmp x xs)
+  all_put xs h all = all_placed (others cmp x xs) h (all-filter P _ xs all)
 
 pub by_number : {X : Type 0} (id : X → ℕ) → IsTotalOrder (λ a b. nat_cmp (id a) (id b))
 by_number id = on_total id nat_cmp_total

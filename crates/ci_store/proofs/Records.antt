@@ -28,7 +28,7 @@ use Rattle.ci_tables.proofs.Puts.{MeansPut, MeansRemove, GivesRecord, puts, remo
 use Rattle.ci_tables.proofs.Scalars.{cast_int, cast_null, equal_int}
 use Rattle.ci_store.specs.Schema.{the_schema}
 use Rattle.ci_store.specs.Rows.{number}
-use Rattle.ci_store.specs.Stands.{rows_of, IsOrdered, Stands}
+use Rattle.ci_store.specs.Stands.{rows_of, IsRegular, Stands}
 use Rattle.ci_store.proofs.Lists.{put_among, removed_from}
 
 abbrev pub is : ℕ → ℕ → Term
@@ -41,10 +41,10 @@ IsAlike table s t = AllByRecursion (λ u. u.tree ≢ table.tree → rows_of t u.
 pub before_it : {S : Type 0} (ghosts : Ghosts S) (s : State) (h : Held S) → Stands s (state ghosts h).now → IsOf the_schema (rows_of s) (state ghosts h).now
 before_it ghosts s h stands = record { listed = stands.listed; inside = stands.inside.tables }
 
-pub after_it : {S : Type 0} (ghosts : Ghosts S) (s : State) (h : Held S) → IsOrdered s → IsOf the_schema (rows_of s) (state ghosts h).now → Stands s (state ghosts h).now
-after_it ghosts s h ordered it = record { listed = it.listed; inside = record { tables = it.inside; ordered = ordered } }
+pub after_it : {S : Type 0} (ghosts : Ghosts S) (s : State) (h : Held S) → IsRegular s → IsOf the_schema (rows_of s) (state ghosts h).now → Stands s (state ghosts h).now
+after_it ghosts s h ordered it = record { listed = it.listed; inside = record { tables = it.inside; regular = ordered } }
 
-module _ {A : Type 0} (values : A → Row) (xs : List A) (s t : State) (table : Table) (was : rows_of s table.tree ≡ map values xs) (alike : IsAlike table s t) (ordered : IsOrdered t) where
+module _ {A : Type 0} (values : A → Row) (xs : List A) (s t : State) (table : Table) (was : rows_of s table.tree ≡ map values xs) (alike : IsAlike table s t) (ordered : IsRegular t) where
   pub put_stands : (at : ℕ) (update insert : List ℕ) (tests sets terms : List Term) → MeansPut the_schema at table update insert tests sets terms → (cmp : A → A → Ordering) (key : Row) (x : A)
       → GivesRecord the_schema table tests sets terms key (values x) → ((y : A) → has_key key (values y) ≡ is_eq (cmp y x)) → rows_of t table.tree ≡ map values (put cmp x xs)
       → {S : Type 0} (ghosts : Ghosts S) (before after : Held S) → Stands s (state ghosts before).now → HasPut ghosts update insert (values x) before after → Stands t (state ghosts after).now

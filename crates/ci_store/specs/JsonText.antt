@@ -11,9 +11,12 @@ strings texts = items_of (map string texts)
 abbrev pub spec_data : JobSpec → Data
 spec_data spec = object (member (codes "script") (array (strings spec.script)) (member (codes "timeout") (number (unsigned spec.timeout)) no_members))
 
+abbrev pub tags_data : List (List ℕ) → Data
+tags_data tags = array (strings tags)
+
 -- the list of a runner's tags
 abbrev pub tags_text : List (List ℕ) → List ℕ
-tags_text tags = compact_text (array (strings tags))
+tags_text tags = compact_text (tags_data tags)
 
 -- what was fixed of a job, as {"script":["make"],"timeout":3600}
 abbrev pub spec_text : JobSpec → List ℕ

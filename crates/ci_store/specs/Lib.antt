@@ -3,3 +3,4 @@ pub mod JsonText
 pub mod Rows
 pub mod Stands
 pub mod Commit
+pub mod Load

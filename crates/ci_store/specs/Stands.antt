@@ -1,5 +1,6 @@
 -- What it means that the tables of a database stand for a state.
-use Rattle.std.specs.Prelude.{◌≡◌, ◌⊎◌, ℕ, ◌==◌, if◌then◌else◌, false, List, [], ◌∷◌, map, codes, IsTrue}
+use Rattle.std.specs.Prelude.{◌≡◌, ◌⊎◌, ℕ, ◌==◌, if◌then◌else◌, false, List, [], ◌∷◌, map, codes, Some, IsTrue}
+use Rattle.std.specs.List.{AllByRecursion}
 use Rattle.std.specs.declared.cmp.Ordering.{Ordering}
 use Rattle.std.specs.declared.cmp.Ordering.TheVariants.{Less}
 use Rattle.sqlite.specs.declared.types.Value.TheVariants.{Text}
@@ -14,6 +15,8 @@ use Rattle.ci_machine.specs.declared.records.Numbers.{Numbers}
 use Rattle.ci_machine.specs.declared.change.Counter.{Counter}
 use Rattle.ci_machine.specs.declared.change.Counter.TheVariants as counter
 use Rattle.ci_tables.specs.Stands.{HoldsRows}
+use Rattle.serde_json.specs.Read.{read}
+use Rattle.ci_store.specs.JsonText.{tags_data, tags_text, spec_data, spec_text}
 use Rattle.ci_store.specs.Schema as table
 use Rattle.ci_store.specs.Schema.{the_schema}
 use Rattle.ci_store.specs.Rows.{number, project_row, runner_row, pipeline_row, job_row, job_variable_row, attempt_row}
@@ -50,19 +53,21 @@ rows_of s tree =
 abbrev pub Rises : {A : Type 0} → (A → A → Ordering) → List A → Type 0
 Rises cmp = IsAscending (λ a b. cmp a b ≡ Less)
 
--- each list is in the order of its key, which no two records share
-pub record IsOrdered (s : State) : Type 0 where
+-- each list is in the order of its key, which no two records share, and the JSON of each record reads as what it was written of
+pub record IsRegular (s : State) : Type 0 where
   pub projects : Rises project_cmp s.projects
   pub runners : Rises runner_cmp s.runners
   pub pipelines : Rises pipeline_cmp s.pipelines
   pub jobs : Rises job_cmp s.jobs
   pub job_variables : Rises job_variable_cmp s.job_variables
   pub attempts : Rises attempt_cmp s.attempts
+  pub tags : AllByRecursion (λ r. read (tags_text r.tags) ≡ Some (tags_data r.tags)) s.runners
+  pub specs : AllByRecursion (λ j. read (spec_text j.spec) ≡ Some (spec_data j.spec)) s.jobs
 
 -- the trees of a file, as a stop may leave them, stand for the state
 pub record StandsIn (s : State) (db : Trees) : Type 0 where
   pub tables : HoldsRows the_schema (rows_of s) db
-  pub ordered : IsOrdered s
+  pub regular : IsRegular s
 
 -- a database of this schema alone stands for the state
 pub record Stands (s : State) (db : Database) : Type 0 where
