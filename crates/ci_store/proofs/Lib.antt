@@ -11,3 +11,7 @@ mod JsonTexts
 mod Applied
 mod Removals
 mod Reading
+mod Loads
+mod Sorted
+mod Same
+mod NextLoads

@@ -8,6 +8,9 @@ use Rattle.ci_machine.specs.declared.records.Runner.{Runner}
 use Rattle.ci_machine.specs.declared.records.Job.{Job}
 use Rattle.ci_machine.specs.declared.records.JobSpec.{JobSpec}
 use Rattle.ci_machine.specs.declared.records.AttemptState.{AttemptState}
+use Rattle.ci_machine.specs.declared.records.Numbers.{Numbers}
+use Rattle.ci_machine.specs.declared.change.Counter.{Counter}
+use Rattle.ci_machine.specs.declared.change.Counter.TheVariants as counter
 use Rattle.ci_store.specs.JsonText.{tags_data, spec_data}
 use Rattle.ci_store.specs.Rows.{number, flag, state_number, cause_in, exit_in}
 
@@ -22,12 +25,23 @@ ReadsTags text tags = (others : List (List ℕ)) → read text ≡ Some (tags_da
 abbrev pub ReadsSpec : List ℕ → JobSpec → Type 0
 ReadsSpec text spec = (others : JobSpec) → read text ≡ Some (spec_data others) → spec ≡ others
 
--- the row of the runner, with a text of its tags
-abbrev pub IsRunnerRow : Row → Runner → Type 0
-IsRunnerRow row r =
-    (text : List ℕ) × (row ≡ number r.id ∷ Text r.name ∷ Text r.token ∷ or_null number r.project ∷ Text text ∷ flag r.untagged ∷ flag r.paused ∷ []) × ReadsTags text r.tags
+-- the values of a runner's row, with this text of its tags
+abbrev pub runner_cells : Runner → List ℕ → Row
+runner_cells r text = number r.id ∷ Text r.name ∷ Text r.token ∷ or_null number r.project ∷ Text text ∷ flag r.untagged ∷ flag r.paused ∷ []
 
--- the row of the job, with a text of what was fixed of it
+abbrev pub IsRunnerRow : Row → Runner → Type 0
+IsRunnerRow row r = (text : List ℕ) × (row ≡ runner_cells r text) × ReadsTags text r.tags
+
+-- the values of a job's row, with this text of what was fixed of it
+abbrev pub job_cells : Job → List ℕ → Row
+job_cells j text = number j.id ∷ number j.pipeline ∷ number j.position ∷ Text j.name ∷ Text j.stage ∷ Text text ∷ flag j.played ∷ flag j.cancelled ∷ number j.set_aside ∷ []
+
 abbrev pub IsJobRow : Row → Job → Type 0
-IsJobRow row j =
-    (text : List ℕ) × (row ≡ number j.id ∷ number j.pipeline ∷ number j.position ∷ Text j.name ∷ Text j.stage ∷ Text text ∷ flag j.played ∷ flag j.cancelled ∷ number j.set_aside ∷ []) × ReadsSpec text j.spec
+IsJobRow row j = (text : List ℕ) × (row ≡ job_cells j text) × ReadsSpec text j.spec
+
+abbrev pub next_in : Counter → Numbers → ℕ
+next_in counter.Project next = next.project
+next_in counter.Runner next = next.runner
+next_in counter.Pipeline next = next.pipeline
+next_in counter.Job next = next.job
+next_in counter.Attempt next = next.attempt

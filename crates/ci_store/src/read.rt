@@ -1,6 +1,7 @@
 //! The records of rows.
 
-ghost use Rattle.std.specs.Prelude.{◌≡◌, ℕ, List, Some, length, IfOk, IfSome, OnOk};
+ghost use Rattle.std.specs.Prelude.{◌≡◌, map, ℕ, List, Some, length, IfOk, IfSome, OnOk};
+ghost use Rattle.std.specs.List.{AllZip};
 ghost use Rattle.sqlite.specs.Order.{column};
 ghost use Rattle.sqlite.specs.Values.{or_null};
 ghost use Rattle.sqlite.specs.declared.types.Value.TheVariants.{Text as Words};
@@ -203,4 +204,37 @@ pub fn read_attempt(row: &Row) -> Result<Attempt, StoreFault>
         seen: moment_at(row, 5)?,
         state: state.ok_or(StoreFault::Broken)?,
     })
+}
+
+/// The variables of rows.
+pub fn read_job_variables(alloc: Global, rows: &[Row]) -> Result<Vec<JobVariable>, StoreFault>
+    ensures { IfOk result (λ found. map job_variable_row found.items ≡ rows.now) }
+{
+    let mut found = Vec::new(alloc);
+    for row in rows {
+        found.push(read_job_variable(row)?)?;
+    }
+    Ok(found)
+}
+
+/// The attempts of rows.
+pub fn read_attempts(alloc: Global, rows: &[Row]) -> Result<Vec<Attempt>, StoreFault>
+    ensures { IfOk result (λ found. map attempt_row found.items ≡ rows.now) }
+{
+    let mut found = Vec::new(alloc);
+    for row in rows {
+        found.push(read_attempt(row)?)?;
+    }
+    Ok(found)
+}
+
+/// The jobs of rows.
+pub fn read_jobs(alloc: Global, rows: &[Row]) -> Result<Vec<Job>, StoreFault>
+    ensures { IfOk result (λ found. AllZip IsJobRow rows.now found.items) }
+{
+    let mut found = Vec::new(alloc);
+    for row in rows {
+        found.push(read_job(alloc, row)?)?;
+    }
+    Ok(found)
 }

@@ -16,7 +16,7 @@ use Rattle.sqlite_rules.specs.Lists.{Has}
 use Rattle.sqlite_rules.proofs.ListLemmas.{all_from, has_kept}
 use Rattle.ci_tables.proofs.Writes.{perm_nil, map_nil}
 use Rattle.sqlite_trees.proofs.ListLemmas.{IsPermutation-filter, filter-map, filter_same}
-use Rattle.ci_tables.specs.Stands.{places, image, has_key, Holds}
+use Rattle.ci_tables.specs.Stands.{places, image, Holds}
 use Rattle.ci_tables.proofs.Queries.{query, picks, Answered, answered, shows}
 
 -- what the text of a query means, which `refl` finds
@@ -26,17 +26,17 @@ pub record MeansSelect (schema : Schema) (table : Table) (text : List ℕ) (test
   pub plain : IsPlain (understood schema text)
 
 module _ (schema : Schema) (table : Table) (text : List ℕ) (tests project : List Term) (order : List (Term × Key)) (names : List (List ℕ)) (means : MeansSelect schema table text tests project order names)
-    (key : Row) (tested : (r : Row) → picks tests key r ≡ has_key key (image (places table) r)) (showed : (r : Row) → eval_all project (key ∷ r ∷ []) ≡ image (places table) r) where
+    (key : Row) (test : Row → Bool) (tested : (r : Row) → picks tests key r ≡ test (image (places table) r)) (showed : (r : Row) → eval_all project (key ∷ r ∷ []) ≡ image (places table) r) where
   pub selects : (old new : State) (records rows : List Row) → old.now.schema ≡ schema → Holds table records old.now.trees → Shown text key old new rows
-      → IsPermutation (filter (has_key key) records) rows
+      → IsPermutation (filter test records) rows
   selects old new records rows has held shown =
       let read = reads_as text key old new schema has _ means.is means.plain means.unlisted rows shown in
       let answer = shows table.tree tests project order old.now.trees key rows (answered old.now.schema old.now.trees table.tree tests project order key rows read) in
-      let images : map (λ r. eval_all project (key ∷ r ∷ [])) (filter (picks tests key) (old.now.trees table.tree)) ≡ filter (has_key key) (map (image (places table)) (old.now.trees table.tree)) =
+      let images : map (λ r. eval_all project (key ∷ r ∷ [])) (filter (picks tests key) (old.now.trees table.tree)) ≡ filter test (map (image (places table)) (old.now.trees table.tree)) =
       (λ i. map (λ r. showed r i) (filter (picks tests key) (old.now.trees table.tree)))
       ∙ ap (map (image (places table))) (filter_same _ _ (old.now.trees table.tree) (all_from _ (old.now.trees table.tree) (λ r _. tested r)))
-      ∙ sym (filter-map (has_key key) (image (places table)) (old.now.trees table.tree)) in
-      IsPermutation-trans _ _ _ (IsPermutation-sym _ _ (IsPermutation-filter (has_key key) _ _ held.same)) (subst (λ l. IsPermutation l rows) images answer)
+      ∙ sym (filter-map test (image (places table)) (old.now.trees table.tree)) in
+      IsPermutation-trans _ _ _ (IsPermutation-sym _ _ (IsPermutation-filter test _ _ held.same)) (subst (λ l. IsPermutation l rows) images answer)
 
 pub shown_same : (sql : List ℕ) (params : Row) (old new : State) (rows : List Row) → IsPlain (understood old.now.schema sql) → Shown sql params old new rows → IsUnchanged old new
 unfolding Shown
