@@ -1,12 +1,21 @@
 //! The values of columns.
 
+ghost use Rattle.std.specs.Prelude.{◌≡◌};
+ghost use Rattle.sqlite.specs.Value.{owned};
+ghost use Rattle.sqlite.specs.Values.{or_null};
+ghost use Rattle.sqlite.specs.declared.types.Value.TheVariants.{Text as Words};
+ghost use Rattle.ci_store.specs.Stands.{counter_key};
+ghost use Rattle.ci_store.specs.Rows.{kind_number, source_number, cause_number, state_number, cause_in, exit_in};
+
 use ci_machine::change::Counter;
 use ci_machine::records::{AttemptState, Cause, RefKind, Source};
 use ci_machine::text::Text;
 use sqlite::types::{ToSql, ValueRef};
 
 /// The key of a next number in the table `meta`.
-pub fn counter_key(counter: Counter) -> &'static str {
+pub fn counter_key(counter: Counter) -> &'static str
+    ensures { result.now ≡ counter_key counter }
+{
     match counter {
         Counter::Project => "next_project",
         Counter::Runner => "next_runner",
@@ -17,7 +26,9 @@ pub fn counter_key(counter: Counter) -> &'static str {
 }
 
 /// The column `kind` of a pipeline.
-pub fn kind_number(kind: RefKind) -> u32 {
+pub fn kind_number(kind: RefKind) -> u32
+    ensures { result ≡ kind_number kind }
+{
     match kind {
         RefKind::Branch => 0,
         RefKind::Tag => 1,
@@ -25,7 +36,9 @@ pub fn kind_number(kind: RefKind) -> u32 {
 }
 
 /// The column `source` of a pipeline.
-pub fn source_number(source: Source) -> u32 {
+pub fn source_number(source: Source) -> u32
+    ensures { result ≡ source_number source }
+{
     match source {
         Source::Push => 0,
         Source::Web => 1,
@@ -36,7 +49,9 @@ pub fn source_number(source: Source) -> u32 {
 }
 
 /// The column `cause` of an attempt that failed.
-pub fn cause_number(cause: Cause) -> u32 {
+pub fn cause_number(cause: Cause) -> u32
+    ensures { result ≡ cause_number cause }
+{
     match cause {
         Cause::UnknownFailure => 0,
         Cause::ScriptFailure => 1,
@@ -48,7 +63,9 @@ pub fn cause_number(cause: Cause) -> u32 {
 }
 
 /// The columns `state`, `cause` and `exit` of an attempt.
-pub fn state_numbers(state: AttemptState) -> (u32, Option<u32>, Option<u32>) {
+pub fn state_numbers(state: AttemptState) -> (u32, Option<u32>, Option<u32>)
+    ensures { result ≡ (state_number state, cause_in state, exit_in state) }
+{
     match state {
         AttemptState::Live => (0, None, None),
         AttemptState::Succeeded(exit) => (1, None, exit),
@@ -58,12 +75,16 @@ pub fn state_numbers(state: AttemptState) -> (u32, Option<u32>, Option<u32>) {
 }
 
 /// A text as SQL has it.
-pub(crate) fn text(text: &Text) -> ValueRef<'_> {
+pub(crate) fn text(text: &Text) -> ValueRef<'_>
+    ensures { owned result ≡ Words text.now }
+{
     text.as_str().to_sql()
 }
 
 /// A text or NULL.
-pub(crate) fn optional_text(text: &Option<Text>) -> ValueRef<'_> {
+pub(crate) fn optional_text(text: &Option<Text>) -> ValueRef<'_>
+    ensures { owned result ≡ or_null Words text.now }
+{
     match text {
         Some(text) => text.as_str().to_sql(),
         None => ValueRef::Null,

@@ -1,6 +1,13 @@
 //! Many changes in one transaction.
 
-ghost use Rattle.std.specs.Prelude.{◌≡◌, false};
+ghost use Rattle.std.specs.Prelude.{◌≡◌, ◌≤◌, ◌⊎◌, true, false, IsTrue, IfOk, OnOk, Err};
+ghost use Rattle.sqlite.specs.State.{HasCleanDisk, KeepsCommit, Survives};
+ghost use Rattle.sqlite.specs.Tree.{Trees};
+ghost use Rattle.sqlite_trees.specs.View.{doubt};
+ghost use Rattle.sqlite.specs.Held.{state};
+ghost use Rattle.ci_machine.specs.State.{State, applied};
+ghost use Rattle.ci_store.specs.Stands.{StandsIn, IsAt};
+ghost use Rattle.ci_store.specs.Commit.{Makes, CommitsAll, is_done, is_undone, IsBack, IsDone, IsSame};
 
 use crate::make::make;
 use ci_machine::change::Change;
@@ -15,6 +22,10 @@ fn make_all<S: Alter>(
     changes: &[Change],
 ) -> Result<(), StoreFault>
     ensures same_reference { tx.new.conn.ghost_name ≡ tx.old.conn.ghost_name }
+    ensures makes { HasCleanDisk (state S.Store tx.new.conn.now) → IsTrue tx.old.conn.now.in_transaction
+        → OnOk result (Makes S.Store (applied changes.now) tx.old.conn.now tx.new.conn.now) }
+    ensures kept { HasCleanDisk (state S.Store tx.new.conn.now) → IsTrue tx.old.conn.now.in_transaction → KeepsCommit (state S.Store tx.old.conn.now) (state S.Store tx.new.conn.now) }
+    ensures survives { Survives (state S.Store tx.old.conn.now) (state S.Store tx.new.conn.now) (λ _. ⊥) }
 {
     for change in changes {
         make(tx, alloc, change)?;
@@ -35,6 +46,10 @@ enum Ended {
 fn attempt<S: Alter>(conn: &mut Connection<S>, alloc: Global, changes: &[Change]) -> Ended
     requires { conn.old.in_transaction ≡ false }
     ensures idle { conn.new.in_transaction ≡ false }
+    ensures done { HasCleanDisk (state S.Store conn.new) → is_done result ≡ true → IsDone S.Store changes.now conn.old conn.new }
+    ensures back { HasCleanDisk (state S.Store conn.new) → is_done result ≡ false → IsBack S.Store conn.old conn.new }
+    ensures survives { Survives (state S.Store conn.old) (state S.Store conn.new) (CommitsAll S.Store changes.now conn.old) }
+    ensures quiet { is_undone result ≡ true → Survives (state S.Store conn.old) (state S.Store conn.new) (λ _. ⊥) }
 {
     let mut tx = conn.transaction();
     if let Err(fault) = make_all(&mut tx, alloc, changes) {
@@ -50,6 +65,8 @@ fn attempt<S: Alter>(conn: &mut Connection<S>, alloc: Global, changes: &[Change]
 fn is_open<S: Alter>(conn: &mut Connection<S>) -> bool
     requires { conn.old.in_transaction ≡ false }
     ensures idle { conn.new.in_transaction ≡ false }
+    ensures same { HasCleanDisk (state S.Store conn.new) → result ≡ true → IsSame S.Store conn.old conn.new }
+    ensures survives { Survives (state S.Store conn.old) (state S.Store conn.new) (λ _. ⊥) }
 {
     conn.prepare("SELECT 1").is_ok()
 }
@@ -62,7 +79,13 @@ pub(crate) fn commit<S: Alter>(
 ) -> Result<(), StoreFault>
     requires { conn.old.in_transaction ≡ false }
     ensures idle { conn.new.in_transaction ≡ false }
+    ensures clean { doubt (state S.Store conn.old).is_clean ≤ doubt (state S.Store conn.new).is_clean }
+    ensures done { HasCleanDisk (state S.Store conn.new) → OnOk result ((s : State) → IsAt S.Store s conn.old → IsAt S.Store (applied changes.now s) conn.new) }
+    ensures memory { HasCleanDisk (state S.Store conn.new) → result ≡ Err StoreFault.Memory → (s : State) → IsAt S.Store s conn.old → IsAt S.Store s conn.new }
+    ensures fault { HasCleanDisk (state S.Store conn.new) → (s : State) → IsAt S.Store s conn.old → (db : Trees) → (state S.Store conn.new).may_leave db → StandsIn s db ⊎ StandsIn (applied changes.now s) db }
 {
+    // With no transaction open, what is seen is what is committed.
+    let _is_settled = conn.is_autocommit();
     match attempt(conn, alloc, changes) {
         Ended::Done => Ok(()),
         Ended::Undone(fault) | Ended::Unknown(fault) => {

@@ -3,10 +3,10 @@
 
 pub mod columns;
 pub mod commit;
+pub mod json_text;
 pub mod load;
 pub mod make;
 pub mod read;
-pub mod spec_text;
 pub mod tables;
 pub mod texts;
 

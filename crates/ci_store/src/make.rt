@@ -1,14 +1,22 @@
 //! What each change does to the rows.
 
-ghost use Rattle.std.specs.Prelude.{◌≡◌};
+ghost use Rattle.std.specs.Prelude.{◌≡◌, [], ◌∷◌, pos, IsTrue, OnOk};
+ghost use Rattle.sqlite.specs.State.{HasCleanDisk, KeepsCommit, Survives, Shown};
+ghost use Rattle.sqlite.specs.declared.types.Value.TheVariants.{Int};
+ghost use Rattle.sqlite.specs.Held.{state};
+ghost use Rattle.ci_machine.specs.State.{with_record, without_record, with_next, changed};
+ghost use Rattle.ci_machine.specs.declared.change.Record.TheVariants as row;
+ghost use Rattle.ci_machine.specs.declared.change.Key.TheVariants as key;
+ghost use Rattle.ci_store.specs.Commit.{Makes};
 
 use crate::columns::{counter_key, kind_number, optional_text, source_number, state_numbers, text};
-use crate::spec_text::{spec_text, tags_text};
+use crate::json_text::{spec_text, tags_text};
 use crate::texts;
 use ci_machine::change::{Change, Counter, Key, Record};
 use ci_machine::records::{Attempt, Job, JobVariable, Pipeline, Project, Runner};
 use ci_machine::text::Text;
 use ci_tables::fault::StoreFault;
+use ci_tables::read::rows_inside;
 use ci_tables::values::{number, optional_number};
 use ci_tables::write::{change, put};
 use sqlite::types::{ToSql, ValueRef};
@@ -21,6 +29,10 @@ fn put_project<S: Alter>(
     project: &Project,
 ) -> Result<(), StoreFault>
     ensures same_reference { tx.new.conn.ghost_name ≡ tx.old.conn.ghost_name }
+    ensures makes { HasCleanDisk (state S.Store tx.new.conn.now) → IsTrue tx.old.conn.now.in_transaction
+        → OnOk result (Makes S.Store (with_record (row.Project project.now)) tx.old.conn.now tx.new.conn.now) }
+    ensures kept { HasCleanDisk (state S.Store tx.new.conn.now) → IsTrue tx.old.conn.now.in_transaction → KeepsCommit (state S.Store tx.old.conn.now) (state S.Store tx.new.conn.now) }
+    ensures survives { Survives (state S.Store tx.old.conn.now) (state S.Store tx.new.conn.now) (λ _. ⊥) }
 {
     let id = number(project.id)?;
     put(
@@ -44,6 +56,10 @@ fn put_runner<S: Alter>(
     runner: &Runner,
 ) -> Result<(), StoreFault>
     ensures same_reference { tx.new.conn.ghost_name ≡ tx.old.conn.ghost_name }
+    ensures makes { HasCleanDisk (state S.Store tx.new.conn.now) → IsTrue tx.old.conn.now.in_transaction
+        → OnOk result (Makes S.Store (with_record (row.Runner runner.now)) tx.old.conn.now tx.new.conn.now) }
+    ensures kept { HasCleanDisk (state S.Store tx.new.conn.now) → IsTrue tx.old.conn.now.in_transaction → KeepsCommit (state S.Store tx.old.conn.now) (state S.Store tx.new.conn.now) }
+    ensures survives { Survives (state S.Store tx.old.conn.now) (state S.Store tx.new.conn.now) (λ _. ⊥) }
 {
     let tags = tags_text(alloc, &runner.tags)?;
     let id = number(runner.id)?;
@@ -71,6 +87,10 @@ fn put_pipeline<S: Alter>(
     pipeline: &Pipeline,
 ) -> Result<(), StoreFault>
     ensures same_reference { tx.new.conn.ghost_name ≡ tx.old.conn.ghost_name }
+    ensures makes { HasCleanDisk (state S.Store tx.new.conn.now) → IsTrue tx.old.conn.now.in_transaction
+        → OnOk result (Makes S.Store (with_record (row.Pipeline pipeline.now)) tx.old.conn.now tx.new.conn.now) }
+    ensures kept { HasCleanDisk (state S.Store tx.new.conn.now) → IsTrue tx.old.conn.now.in_transaction → KeepsCommit (state S.Store tx.old.conn.now) (state S.Store tx.new.conn.now) }
+    ensures survives { Survives (state S.Store tx.old.conn.now) (state S.Store tx.new.conn.now) (λ _. ⊥) }
 {
     let id = number(pipeline.id)?;
     let project = number(pipeline.project)?;
@@ -98,6 +118,10 @@ fn put_job<S: Alter>(
     job: &Job,
 ) -> Result<(), StoreFault>
     ensures same_reference { tx.new.conn.ghost_name ≡ tx.old.conn.ghost_name }
+    ensures makes { HasCleanDisk (state S.Store tx.new.conn.now) → IsTrue tx.old.conn.now.in_transaction
+        → OnOk result (Makes S.Store (with_record (row.Job job.now)) tx.old.conn.now tx.new.conn.now) }
+    ensures kept { HasCleanDisk (state S.Store tx.new.conn.now) → IsTrue tx.old.conn.now.in_transaction → KeepsCommit (state S.Store tx.old.conn.now) (state S.Store tx.new.conn.now) }
+    ensures survives { Survives (state S.Store tx.old.conn.now) (state S.Store tx.new.conn.now) (λ _. ⊥) }
 {
     let spec = spec_text(alloc, &job.spec)?;
     let id = number(job.id)?;
@@ -129,6 +153,10 @@ fn put_job_variable<S: Alter>(
     variable: &JobVariable,
 ) -> Result<(), StoreFault>
     ensures same_reference { tx.new.conn.ghost_name ≡ tx.old.conn.ghost_name }
+    ensures makes { HasCleanDisk (state S.Store tx.new.conn.now) → IsTrue tx.old.conn.now.in_transaction
+        → OnOk result (Makes S.Store (with_record (row.JobVariable variable.now)) tx.old.conn.now tx.new.conn.now) }
+    ensures kept { HasCleanDisk (state S.Store tx.new.conn.now) → IsTrue tx.old.conn.now.in_transaction → KeepsCommit (state S.Store tx.old.conn.now) (state S.Store tx.new.conn.now) }
+    ensures survives { Survives (state S.Store tx.old.conn.now) (state S.Store tx.new.conn.now) (λ _. ⊥) }
 {
     let job = number(variable.job)?;
     put(
@@ -146,6 +174,10 @@ fn put_attempt<S: Alter>(
     attempt: &Attempt,
 ) -> Result<(), StoreFault>
     ensures same_reference { tx.new.conn.ghost_name ≡ tx.old.conn.ghost_name }
+    ensures makes { HasCleanDisk (state S.Store tx.new.conn.now) → IsTrue tx.old.conn.now.in_transaction
+        → OnOk result (Makes S.Store (with_record (row.Attempt attempt.now)) tx.old.conn.now tx.new.conn.now) }
+    ensures kept { HasCleanDisk (state S.Store tx.new.conn.now) → IsTrue tx.old.conn.now.in_transaction → KeepsCommit (state S.Store tx.old.conn.now) (state S.Store tx.new.conn.now) }
+    ensures survives { Survives (state S.Store tx.old.conn.now) (state S.Store tx.new.conn.now) (λ _. ⊥) }
 {
     let id = number(attempt.id)?;
     let job = number(attempt.job)?;
@@ -179,6 +211,10 @@ fn put_record<S: Alter>(
     record: &Record,
 ) -> Result<(), StoreFault>
     ensures same_reference { tx.new.conn.ghost_name ≡ tx.old.conn.ghost_name }
+    ensures makes { HasCleanDisk (state S.Store tx.new.conn.now) → IsTrue tx.old.conn.now.in_transaction
+        → OnOk result (Makes S.Store (with_record record.now) tx.old.conn.now tx.new.conn.now) }
+    ensures kept { HasCleanDisk (state S.Store tx.new.conn.now) → IsTrue tx.old.conn.now.in_transaction → KeepsCommit (state S.Store tx.old.conn.now) (state S.Store tx.new.conn.now) }
+    ensures survives { Survives (state S.Store tx.old.conn.now) (state S.Store tx.new.conn.now) (λ _. ⊥) }
 {
     match record {
         Record::Project(project) => put_project(tx, is_new, project),
@@ -190,27 +226,54 @@ fn put_record<S: Alter>(
     }
 }
 
-/// Removes the row with the number.
-fn remove_numbered<S: Alter>(
-    tx: &mut Transaction<'_, S>,
-    delete: &str,
-    id: u64,
-) -> Result<(), StoreFault>
+fn remove_project<S: Alter>(tx: &mut Transaction<'_, S>, id: u64) -> Result<(), StoreFault>
     ensures same_reference { tx.new.conn.ghost_name ≡ tx.old.conn.ghost_name }
+    ensures makes { HasCleanDisk (state S.Store tx.new.conn.now) → IsTrue tx.old.conn.now.in_transaction
+        → OnOk result (Makes S.Store (without_record (key.Project id)) tx.old.conn.now tx.new.conn.now) }
+    ensures kept { HasCleanDisk (state S.Store tx.new.conn.now) → IsTrue tx.old.conn.now.in_transaction → KeepsCommit (state S.Store tx.old.conn.now) (state S.Store tx.new.conn.now) }
+    ensures survives { Survives (state S.Store tx.old.conn.now) (state S.Store tx.new.conn.now) (λ _. ⊥) }
 {
-    change(tx, delete, &[number(id)?])?;
+    change(tx, texts::DELETE_PROJECT, &[number(id)?])?;
     Ok(())
 }
 
-/// Refuses where a row refers to the record with the number.
+fn remove_runner<S: Alter>(tx: &mut Transaction<'_, S>, id: u64) -> Result<(), StoreFault>
+    ensures same_reference { tx.new.conn.ghost_name ≡ tx.old.conn.ghost_name }
+    ensures makes { HasCleanDisk (state S.Store tx.new.conn.now) → IsTrue tx.old.conn.now.in_transaction
+        → OnOk result (Makes S.Store (without_record (key.Runner id)) tx.old.conn.now tx.new.conn.now) }
+    ensures kept { HasCleanDisk (state S.Store tx.new.conn.now) → IsTrue tx.old.conn.now.in_transaction → KeepsCommit (state S.Store tx.old.conn.now) (state S.Store tx.new.conn.now) }
+    ensures survives { Survives (state S.Store tx.old.conn.now) (state S.Store tx.new.conn.now) (λ _. ⊥) }
+{
+    change(tx, texts::DELETE_RUNNER, &[number(id)?])?;
+    Ok(())
+}
+
+fn remove_attempt<S: Alter>(tx: &mut Transaction<'_, S>, id: u64) -> Result<(), StoreFault>
+    ensures same_reference { tx.new.conn.ghost_name ≡ tx.old.conn.ghost_name }
+    ensures makes { HasCleanDisk (state S.Store tx.new.conn.now) → IsTrue tx.old.conn.now.in_transaction
+        → OnOk result (Makes S.Store (without_record (key.Attempt id)) tx.old.conn.now tx.new.conn.now) }
+    ensures kept { HasCleanDisk (state S.Store tx.new.conn.now) → IsTrue tx.old.conn.now.in_transaction → KeepsCommit (state S.Store tx.old.conn.now) (state S.Store tx.new.conn.now) }
+    ensures survives { Survives (state S.Store tx.old.conn.now) (state S.Store tx.new.conn.now) (λ _. ⊥) }
+{
+    change(tx, texts::DELETE_ATTEMPT, &[number(id)?])?;
+    Ok(())
+}
+
+/// Refuses where a row refers to the record with the number, so that no cascade acts.
 fn has_no_child<S: Alter>(
     tx: &mut Transaction<'_, S>,
     children: &str,
     id: u64,
 ) -> Result<(), StoreFault>
     ensures same_reference { tx.new.conn.ghost_name ≡ tx.old.conn.ghost_name }
+    ensures none { HasCleanDisk (state S.Store tx.new.conn.now) → IsTrue tx.old.conn.now.in_transaction
+        → OnOk result (IsTrue tx.new.conn.now.in_transaction × Shown children.now (Int (pos id) ∷ []) (state S.Store tx.old.conn.now) (state S.Store tx.new.conn.now) []) }
+    ensures kept { HasCleanDisk (state S.Store tx.new.conn.now) → IsTrue tx.old.conn.now.in_transaction → KeepsCommit (state S.Store tx.old.conn.now) (state S.Store tx.new.conn.now) }
+    ensures survives { Survives (state S.Store tx.old.conn.now) (state S.Store tx.new.conn.now) (λ _. ⊥) }
 {
-    if tx.query_all(children, &[number(id)?])?.is_empty() {
+    let id = number(id)?;
+    let rows = rows_inside(tx, children, &[id])?;
+    if rows.is_empty() {
         Ok(())
     } else {
         Err(StoreFault::Broken)
@@ -219,40 +282,58 @@ fn has_no_child<S: Alter>(
 
 fn remove_pipeline<S: Alter>(tx: &mut Transaction<'_, S>, id: u64) -> Result<(), StoreFault>
     ensures same_reference { tx.new.conn.ghost_name ≡ tx.old.conn.ghost_name }
+    ensures makes { HasCleanDisk (state S.Store tx.new.conn.now) → IsTrue tx.old.conn.now.in_transaction
+        → OnOk result (Makes S.Store (without_record (key.Pipeline id)) tx.old.conn.now tx.new.conn.now) }
+    ensures kept { HasCleanDisk (state S.Store tx.new.conn.now) → IsTrue tx.old.conn.now.in_transaction → KeepsCommit (state S.Store tx.old.conn.now) (state S.Store tx.new.conn.now) }
+    ensures survives { Survives (state S.Store tx.old.conn.now) (state S.Store tx.new.conn.now) (λ _. ⊥) }
 {
     has_no_child(tx, texts::SELECT_JOBS_OF, id)?;
-    remove_numbered(tx, texts::DELETE_PIPELINE, id)
+    change(tx, texts::DELETE_PIPELINE, &[number(id)?])?;
+    Ok(())
 }
 
 fn remove_job<S: Alter>(tx: &mut Transaction<'_, S>, id: u64) -> Result<(), StoreFault>
     ensures same_reference { tx.new.conn.ghost_name ≡ tx.old.conn.ghost_name }
+    ensures makes { HasCleanDisk (state S.Store tx.new.conn.now) → IsTrue tx.old.conn.now.in_transaction
+        → OnOk result (Makes S.Store (without_record (key.Job id)) tx.old.conn.now tx.new.conn.now) }
+    ensures kept { HasCleanDisk (state S.Store tx.new.conn.now) → IsTrue tx.old.conn.now.in_transaction → KeepsCommit (state S.Store tx.old.conn.now) (state S.Store tx.new.conn.now) }
+    ensures survives { Survives (state S.Store tx.old.conn.now) (state S.Store tx.new.conn.now) (λ _. ⊥) }
 {
     has_no_child(tx, texts::SELECT_JOB_VARIABLES, id)?;
     has_no_child(tx, texts::SELECT_ATTEMPTS_OF, id)?;
-    remove_numbered(tx, texts::DELETE_JOB, id)
+    change(tx, texts::DELETE_JOB, &[number(id)?])?;
+    Ok(())
 }
 
 fn remove_job_variable<S: Alter>(
     tx: &mut Transaction<'_, S>,
     job: u64,
-    key: &Text,
+    name: &Text,
 ) -> Result<(), StoreFault>
     ensures same_reference { tx.new.conn.ghost_name ≡ tx.old.conn.ghost_name }
+    ensures makes { HasCleanDisk (state S.Store tx.new.conn.now) → IsTrue tx.old.conn.now.in_transaction
+        → OnOk result (Makes S.Store (without_record (key.JobVariable job name.now)) tx.old.conn.now tx.new.conn.now) }
+    ensures kept { HasCleanDisk (state S.Store tx.new.conn.now) → IsTrue tx.old.conn.now.in_transaction → KeepsCommit (state S.Store tx.old.conn.now) (state S.Store tx.new.conn.now) }
+    ensures survives { Survives (state S.Store tx.old.conn.now) (state S.Store tx.new.conn.now) (λ _. ⊥) }
 {
-    change(tx, texts::DELETE_JOB_VARIABLE, &[number(job)?, text(key)])?;
+    change(tx, texts::DELETE_JOB_VARIABLE, &[number(job)?, text(name)])?;
     Ok(())
 }
 
 fn remove_record<S: Alter>(tx: &mut Transaction<'_, S>, key: &Key) -> Result<(), StoreFault>
     ensures same_reference { tx.new.conn.ghost_name ≡ tx.old.conn.ghost_name }
+    ensures makes { HasCleanDisk (state S.Store tx.new.conn.now) → IsTrue tx.old.conn.now.in_transaction
+        → OnOk result (Makes S.Store (without_record key.now) tx.old.conn.now tx.new.conn.now) }
+    ensures kept { HasCleanDisk (state S.Store tx.new.conn.now) → IsTrue tx.old.conn.now.in_transaction → KeepsCommit (state S.Store tx.old.conn.now) (state S.Store tx.new.conn.now) }
+    ensures survives { Survives (state S.Store tx.old.conn.now) (state S.Store tx.new.conn.now) (λ _. ⊥) }
 {
     match key {
-        Key::Project(id) => remove_numbered(tx, texts::DELETE_PROJECT, *id),
-        Key::Runner(id) => remove_numbered(tx, texts::DELETE_RUNNER, *id),
+        Key::Project(id) => remove_project(tx, *id),
+        Key::Runner(id) => remove_runner(tx, *id),
         Key::Pipeline(id) => remove_pipeline(tx, *id),
         Key::Job(id) => remove_job(tx, *id),
-        Key::JobVariable(job, key) => remove_job_variable(tx, *job, key),
-        Key::Attempt(id) => remove_numbered(tx, texts::DELETE_ATTEMPT, *id),
+        Key::JobVariable(job, name) => remove_job_variable(tx, *job, name),
+        Key::Attempt(id) => remove_attempt(tx, *id),
     }
 }
 
@@ -262,6 +343,10 @@ fn set_next<S: Alter>(
     next: u64,
 ) -> Result<(), StoreFault>
     ensures same_reference { tx.new.conn.ghost_name ≡ tx.old.conn.ghost_name }
+    ensures makes { HasCleanDisk (state S.Store tx.new.conn.now) → IsTrue tx.old.conn.now.in_transaction
+        → OnOk result (Makes S.Store (λ s. record s { next = with_next counter next s.next }) tx.old.conn.now tx.new.conn.now) }
+    ensures kept { HasCleanDisk (state S.Store tx.new.conn.now) → IsTrue tx.old.conn.now.in_transaction → KeepsCommit (state S.Store tx.old.conn.now) (state S.Store tx.new.conn.now) }
+    ensures survives { Survives (state S.Store tx.old.conn.now) (state S.Store tx.new.conn.now) (λ _. ⊥) }
 {
     let row = [counter_key(counter).to_sql(), number(next)?];
     if change(tx, texts::UPDATE_META, &row)? == 1 {
@@ -278,6 +363,10 @@ pub(crate) fn make<S: Alter>(
     change: &Change,
 ) -> Result<(), StoreFault>
     ensures same_reference { tx.new.conn.ghost_name ≡ tx.old.conn.ghost_name }
+    ensures makes { HasCleanDisk (state S.Store tx.new.conn.now) → IsTrue tx.old.conn.now.in_transaction
+        → OnOk result (Makes S.Store (changed change.now) tx.old.conn.now tx.new.conn.now) }
+    ensures kept { HasCleanDisk (state S.Store tx.new.conn.now) → IsTrue tx.old.conn.now.in_transaction → KeepsCommit (state S.Store tx.old.conn.now) (state S.Store tx.new.conn.now) }
+    ensures survives { Survives (state S.Store tx.old.conn.now) (state S.Store tx.new.conn.now) (λ _. ⊥) }
 {
     match change {
         Change::Add(record) => put_record(tx, alloc, true, record),

@@ -1,6 +1,15 @@
 //! The records of rows.
 
-use crate::spec_text::{read_spec, read_tags};
+ghost use Rattle.std.specs.Prelude.{◌≡◌, map, ℕ, List, Some, length, IfOk, IfSome, OnOk};
+ghost use Rattle.std.specs.List.{AllZip};
+ghost use Rattle.sqlite.specs.Order.{column};
+ghost use Rattle.sqlite.specs.Values.{or_null};
+ghost use Rattle.sqlite.specs.declared.types.Value.TheVariants.{Text as Words};
+ghost use Rattle.serde_json.specs.Read.{read};
+ghost use Rattle.ci_store.specs.Rows.{number, flag, kind_number, source_number, cause_number, state_number, cause_in, exit_in, project_row, runner_row, pipeline_row, job_row, job_variable_row, attempt_row};
+ghost use Rattle.ci_store.specs.Load.{HasState, IsRunnerRow, IsJobRow};
+
+use crate::json_text::{read_spec, read_tags};
 use ci_machine::moment::Moment;
 use ci_machine::records::{
     Attempt, AttemptState, Cause, Job, JobVariable, Pipeline, Project, RefKind, Runner, Source,
@@ -10,12 +19,16 @@ use ci_tables::fault::StoreFault;
 use sqlite::Row;
 use std::alloc::Global;
 
-fn text_at(row: &Row, at: usize) -> Result<Text, StoreFault> {
+fn text_at(row: &Row, at: usize) -> Result<Text, StoreFault>
+    ensures { IfOk result (λ t. column row.now at ≡ Words t) }
+{
     let text: String = row.get(at)?;
     Ok(Text::new(text))
 }
 
-fn optional_text_at(row: &Row, at: usize) -> Result<Option<Text>, StoreFault> {
+fn optional_text_at(row: &Row, at: usize) -> Result<Option<Text>, StoreFault>
+    ensures { IfOk result (λ t. column row.now at ≡ or_null Words t) }
+{
     let text: Option<String> = row.get(at)?;
     match text {
         Some(text) => Ok(Some(Text::new(text))),
@@ -23,11 +36,27 @@ fn optional_text_at(row: &Row, at: usize) -> Result<Option<Text>, StoreFault> {
     }
 }
 
-fn moment_at(row: &Row, at: usize) -> Result<Moment, StoreFault> {
+fn moment_at(row: &Row, at: usize) -> Result<Moment, StoreFault>
+    ensures { IfOk result (λ m. column row.now at ≡ number m) }
+{
     Moment::new(row.get(at)?).ok_or(StoreFault::Broken)
 }
 
-fn has_columns(row: &Row, count: usize) -> Result<(), StoreFault> {
+/// A flag is 0 or 1.
+fn flag_at(row: &Row, at: usize) -> Result<bool, StoreFault>
+    ensures { IfOk result (λ b. column row.now at ≡ flag b) }
+{
+    let number: u32 = row.get(at)?;
+    match number {
+        0 => Ok(false),
+        1 => Ok(true),
+        _ => Err(StoreFault::Broken),
+    }
+}
+
+fn has_columns(row: &Row, count: usize) -> Result<(), StoreFault>
+    ensures { OnOk result (length row.now ≡ count) }
+{
     if row.column_count() == count {
         Ok(())
     } else {
@@ -35,7 +64,9 @@ fn has_columns(row: &Row, count: usize) -> Result<(), StoreFault> {
     }
 }
 
-fn read_kind(number: u32) -> Option<RefKind> {
+fn read_kind(number: u32) -> Option<RefKind>
+    ensures { IfSome result (λ k. number ≡ kind_number k) }
+{
     match number {
         0 => Some(RefKind::Branch),
         1 => Some(RefKind::Tag),
@@ -43,7 +74,9 @@ fn read_kind(number: u32) -> Option<RefKind> {
     }
 }
 
-fn read_source(number: u32) -> Option<Source> {
+fn read_source(number: u32) -> Option<Source>
+    ensures { IfSome result (λ k. number ≡ source_number k) }
+{
     match number {
         0 => Some(Source::Push),
         1 => Some(Source::Web),
@@ -54,7 +87,9 @@ fn read_source(number: u32) -> Option<Source> {
     }
 }
 
-fn read_cause(number: u32) -> Option<Cause> {
+fn read_cause(number: u32) -> Option<Cause>
+    ensures { IfSome result (λ k. number ≡ cause_number k) }
+{
     match number {
         0 => Some(Cause::UnknownFailure),
         1 => Some(Cause::ScriptFailure),
@@ -66,7 +101,9 @@ fn read_cause(number: u32) -> Option<Cause> {
     }
 }
 
-fn read_state(state: u32, cause: Option<u32>, exit: Option<u32>) -> Option<AttemptState> {
+fn read_state(state: u32, cause: Option<u32>, exit: Option<u32>) -> Option<AttemptState>
+    ensures { IfSome result (HasState state cause exit) }
+{
     match (state, cause, exit) {
         (0, None, None) => Some(AttemptState::Live),
         (1, None, exit) => Some(AttemptState::Succeeded(exit)),
@@ -77,7 +114,9 @@ fn read_state(state: u32, cause: Option<u32>, exit: Option<u32>) -> Option<Attem
 }
 
 /// The project of a row.
-pub fn read_project(row: &Row) -> Result<Project, StoreFault> {
+pub fn read_project(row: &Row) -> Result<Project, StoreFault>
+    ensures { IfOk result (λ p. row.now ≡ project_row p) }
+{
     has_columns(row, 4)?;
     Ok(Project {
         id: row.get(0)?,
@@ -88,7 +127,9 @@ pub fn read_project(row: &Row) -> Result<Project, StoreFault> {
 }
 
 /// The runner of a row.
-pub fn read_runner(alloc: Global, row: &Row) -> Result<Runner, StoreFault> {
+pub fn read_runner(alloc: Global, row: &Row) -> Result<Runner, StoreFault>
+    ensures { IfOk result (IsRunnerRow row.now) }
+{
     has_columns(row, 7)?;
     let tags: String = row.get(4)?;
     Ok(Runner {
@@ -97,13 +138,15 @@ pub fn read_runner(alloc: Global, row: &Row) -> Result<Runner, StoreFault> {
         token: text_at(row, 2)?,
         project: row.get(3)?,
         tags: read_tags(alloc, tags.as_str())?,
-        untagged: row.get(5)?,
-        paused: row.get(6)?,
+        untagged: flag_at(row, 5)?,
+        paused: flag_at(row, 6)?,
     })
 }
 
 /// The pipeline of a row.
-pub fn read_pipeline(row: &Row) -> Result<Pipeline, StoreFault> {
+pub fn read_pipeline(row: &Row) -> Result<Pipeline, StoreFault>
+    ensures { IfOk result (λ p. row.now ≡ pipeline_row p) }
+{
     has_columns(row, 6)?;
     Ok(Pipeline {
         id: row.get(0)?,
@@ -116,7 +159,9 @@ pub fn read_pipeline(row: &Row) -> Result<Pipeline, StoreFault> {
 }
 
 /// The job of a row.
-pub fn read_job(alloc: Global, row: &Row) -> Result<Job, StoreFault> {
+pub fn read_job(alloc: Global, row: &Row) -> Result<Job, StoreFault>
+    ensures { IfOk result (IsJobRow row.now) }
+{
     has_columns(row, 9)?;
     let spec: String = row.get(5)?;
     Ok(Job {
@@ -126,14 +171,16 @@ pub fn read_job(alloc: Global, row: &Row) -> Result<Job, StoreFault> {
         name: text_at(row, 3)?,
         stage: text_at(row, 4)?,
         spec: read_spec(alloc, spec.as_str())?,
-        played: row.get(6)?,
-        cancelled: row.get(7)?,
+        played: flag_at(row, 6)?,
+        cancelled: flag_at(row, 7)?,
         set_aside: row.get(8)?,
     })
 }
 
 /// The variable of a row.
-pub fn read_job_variable(row: &Row) -> Result<JobVariable, StoreFault> {
+pub fn read_job_variable(row: &Row) -> Result<JobVariable, StoreFault>
+    ensures { IfOk result (λ v. row.now ≡ job_variable_row v) }
+{
     has_columns(row, 3)?;
     Ok(JobVariable {
         job: row.get(0)?,
@@ -143,7 +190,9 @@ pub fn read_job_variable(row: &Row) -> Result<JobVariable, StoreFault> {
 }
 
 /// The attempt of a row.
-pub fn read_attempt(row: &Row) -> Result<Attempt, StoreFault> {
+pub fn read_attempt(row: &Row) -> Result<Attempt, StoreFault>
+    ensures { IfOk result (λ a. row.now ≡ attempt_row a) }
+{
     has_columns(row, 9)?;
     let state = read_state(row.get(6)?, row.get(7)?, row.get(8)?);
     Ok(Attempt {
@@ -155,4 +204,37 @@ pub fn read_attempt(row: &Row) -> Result<Attempt, StoreFault> {
         seen: moment_at(row, 5)?,
         state: state.ok_or(StoreFault::Broken)?,
     })
+}
+
+/// The variables of rows.
+pub fn read_job_variables(alloc: Global, rows: &[Row]) -> Result<Vec<JobVariable>, StoreFault>
+    ensures { IfOk result (λ found. map job_variable_row found.items ≡ rows.now) }
+{
+    let mut found = Vec::new(alloc);
+    for row in rows {
+        found.push(read_job_variable(row)?)?;
+    }
+    Ok(found)
+}
+
+/// The attempts of rows.
+pub fn read_attempts(alloc: Global, rows: &[Row]) -> Result<Vec<Attempt>, StoreFault>
+    ensures { IfOk result (λ found. map attempt_row found.items ≡ rows.now) }
+{
+    let mut found = Vec::new(alloc);
+    for row in rows {
+        found.push(read_attempt(row)?)?;
+    }
+    Ok(found)
+}
+
+/// The jobs of rows.
+pub fn read_jobs(alloc: Global, rows: &[Row]) -> Result<Vec<Job>, StoreFault>
+    ensures { IfOk result (λ found. AllZip IsJobRow rows.now found.items) }
+{
+    let mut found = Vec::new(alloc);
+    for row in rows {
+        found.push(read_job(alloc, row)?)?;
+    }
+    Ok(found)
 }

@@ -1,6 +1,15 @@
 //! The tables, which are the only writer of their store.
 
-ghost use Rattle.std.specs.Prelude.{◌≡◌, false};
+ghost use Rattle.std.specs.Prelude.{◌≡◌, ◌≤◌, ◌⊎◌, false, filter, find, IfOk, OnOk, Err};
+ghost use Rattle.sqlite.specs.State.{HasCleanDisk, Survives};
+ghost use Rattle.sqlite.specs.Held.{state};
+ghost use Rattle.sqlite.specs.Tree.{Trees};
+ghost use Rattle.sqlite_trees.specs.View.{doubt};
+ghost use Rattle.ci_machine.specs.State.{State, applied};
+ghost use Rattle.std.specs.Ordering.{nat_cmp, is_eq};
+ghost use Rattle.std.specs.Cmp.Lexicographic.{slice_cmp};
+ghost use Rattle.ci_store.specs.Stands.{StandsIn, IsAt};
+ghost use Rattle.ci_store.specs.Load.{next_in};
 
 use crate::commit::commit;
 use crate::{load, texts};
@@ -171,52 +180,93 @@ impl<S: Alter> Tables<S> {
     }
 
     /// The next number of a kind.
-    pub fn next(&mut self, counter: Counter) -> Result<u64, StoreFault> {
+    pub fn next(&mut self, counter: Counter) -> Result<u64, StoreFault>
+        ensures found { HasCleanDisk (state S.Store self.new) → IfOk result (λ found. (s : State) → IsAt S.Store s self.old → found ≡ next_in counter s.next) }
+        ensures same { HasCleanDisk (state S.Store self.new) → OnOk result ((s : State) → IsAt S.Store s self.old → IsAt S.Store s self.new) }
+        ensures left { HasCleanDisk (state S.Store self.new) → (s : State) → IsAt S.Store s self.old → (db : Trees) → (state S.Store self.new).may_leave db → StandsIn s db }
+    {
         load::next(&mut self.conn, counter)
     }
 
     /// The project with the number.
-    pub fn project(&mut self, id: u64) -> Result<Option<Project>, StoreFault> {
+    pub fn project(&mut self, id: u64) -> Result<Option<Project>, StoreFault>
+        ensures found { HasCleanDisk (state S.Store self.new) → IfOk result (λ found. (s : State) → IsAt S.Store s self.old → found ≡ find (λ p. is_eq (nat_cmp p.id id)) s.projects) }
+        ensures same { HasCleanDisk (state S.Store self.new) → OnOk result ((s : State) → IsAt S.Store s self.old → IsAt S.Store s self.new) }
+        ensures left { HasCleanDisk (state S.Store self.new) → (s : State) → IsAt S.Store s self.old → (db : Trees) → (state S.Store self.new).may_leave db → StandsIn s db }
+    {
         load::project(&mut self.conn, id)
     }
 
     /// The runner with the token.
-    pub fn runner_with(&mut self, token: &Text) -> Result<Option<Runner>, StoreFault> {
+    pub fn runner_with(&mut self, token: &Text) -> Result<Option<Runner>, StoreFault>
+        ensures found { HasCleanDisk (state S.Store self.new) → IfOk result (λ found. (s : State) → IsAt S.Store s self.old → found ≡ find (λ r. is_eq (slice_cmp nat_cmp r.token token.now)) s.runners) }
+        ensures same { HasCleanDisk (state S.Store self.new) → OnOk result ((s : State) → IsAt S.Store s self.old → IsAt S.Store s self.new) }
+        ensures left { HasCleanDisk (state S.Store self.new) → (s : State) → IsAt S.Store s self.old → (db : Trees) → (state S.Store self.new).may_leave db → StandsIn s db }
+    {
         load::runner_with(&mut self.conn, token)
     }
 
     /// The pipeline with the number.
-    pub fn pipeline(&mut self, id: u64) -> Result<Option<Pipeline>, StoreFault> {
+    pub fn pipeline(&mut self, id: u64) -> Result<Option<Pipeline>, StoreFault>
+        ensures found { HasCleanDisk (state S.Store self.new) → IfOk result (λ found. (s : State) → IsAt S.Store s self.old → found ≡ find (λ p. is_eq (nat_cmp p.id id)) s.pipelines) }
+        ensures same { HasCleanDisk (state S.Store self.new) → OnOk result ((s : State) → IsAt S.Store s self.old → IsAt S.Store s self.new) }
+        ensures left { HasCleanDisk (state S.Store self.new) → (s : State) → IsAt S.Store s self.old → (db : Trees) → (state S.Store self.new).may_leave db → StandsIn s db }
+    {
         load::pipeline(&mut self.conn, id)
     }
 
     /// The job with the number.
-    pub fn job(&mut self, id: u64) -> Result<Option<Job>, StoreFault> {
+    pub fn job(&mut self, id: u64) -> Result<Option<Job>, StoreFault>
+        ensures found { HasCleanDisk (state S.Store self.new) → IfOk result (λ found. (s : State) → IsAt S.Store s self.old → found ≡ find (λ j. is_eq (nat_cmp j.id id)) s.jobs) }
+        ensures same { HasCleanDisk (state S.Store self.new) → OnOk result ((s : State) → IsAt S.Store s self.old → IsAt S.Store s self.new) }
+        ensures left { HasCleanDisk (state S.Store self.new) → (s : State) → IsAt S.Store s self.old → (db : Trees) → (state S.Store self.new).may_leave db → StandsIn s db }
+    {
         load::job(&mut self.conn, id)
     }
 
     /// The variables of a job, by key.
-    pub fn job_variables(&mut self, job: u64) -> Result<Vec<JobVariable>, StoreFault> {
+    pub fn job_variables(&mut self, job: u64) -> Result<Vec<JobVariable>, StoreFault>
+        ensures found { HasCleanDisk (state S.Store self.new) → IfOk result (λ found. (s : State) → IsAt S.Store s self.old → found.items ≡ filter (λ v. is_eq (nat_cmp v.job job)) s.job_variables) }
+        ensures same { HasCleanDisk (state S.Store self.new) → OnOk result ((s : State) → IsAt S.Store s self.old → IsAt S.Store s self.new) }
+        ensures left { HasCleanDisk (state S.Store self.new) → (s : State) → IsAt S.Store s self.old → (db : Trees) → (state S.Store self.new).may_leave db → StandsIn s db }
+    {
         load::job_variables(&mut self.conn, job)
     }
 
     /// The attempt with the number.
-    pub fn attempt(&mut self, id: u64) -> Result<Option<Attempt>, StoreFault> {
+    pub fn attempt(&mut self, id: u64) -> Result<Option<Attempt>, StoreFault>
+        ensures found { HasCleanDisk (state S.Store self.new) → IfOk result (λ found. (s : State) → IsAt S.Store s self.old → found ≡ find (λ a. is_eq (nat_cmp a.id id)) s.attempts) }
+        ensures same { HasCleanDisk (state S.Store self.new) → OnOk result ((s : State) → IsAt S.Store s self.old → IsAt S.Store s self.new) }
+        ensures left { HasCleanDisk (state S.Store self.new) → (s : State) → IsAt S.Store s self.old → (db : Trees) → (state S.Store self.new).may_leave db → StandsIn s db }
+    {
         load::attempt(&mut self.conn, id)
     }
 
     /// The attempts of a job, by number.
-    pub fn attempts_of(&mut self, job: u64) -> Result<Vec<Attempt>, StoreFault> {
+    pub fn attempts_of(&mut self, job: u64) -> Result<Vec<Attempt>, StoreFault>
+        ensures found { HasCleanDisk (state S.Store self.new) → IfOk result (λ found. (s : State) → IsAt S.Store s self.old → found.items ≡ filter (λ a. is_eq (nat_cmp a.job job)) s.attempts) }
+        ensures same { HasCleanDisk (state S.Store self.new) → OnOk result ((s : State) → IsAt S.Store s self.old → IsAt S.Store s self.new) }
+        ensures left { HasCleanDisk (state S.Store self.new) → (s : State) → IsAt S.Store s self.old → (db : Trees) → (state S.Store self.new).may_leave db → StandsIn s db }
+    {
         load::attempts_of(&mut self.conn, job)
     }
 
     /// All jobs, by number. It reads the whole table.
-    pub fn jobs(&mut self) -> Result<Vec<Job>, StoreFault> {
+    pub fn jobs(&mut self) -> Result<Vec<Job>, StoreFault>
+        ensures found { HasCleanDisk (state S.Store self.new) → IfOk result (λ found. (s : State) → IsAt S.Store s self.old → found.items ≡ s.jobs) }
+        ensures same { HasCleanDisk (state S.Store self.new) → OnOk result ((s : State) → IsAt S.Store s self.old → IsAt S.Store s self.new) }
+        ensures left { HasCleanDisk (state S.Store self.new) → (s : State) → IsAt S.Store s self.old → (db : Trees) → (state S.Store self.new).may_leave db → StandsIn s db }
+    {
         load::jobs(&mut self.conn)
     }
 
     /// Makes the changes in one transaction, or none of them.
-    pub fn commit(&mut self, delta: Delta) -> Result<(), StoreFault> {
+    pub fn commit(&mut self, delta: Delta) -> Result<(), StoreFault>
+        ensures clean { doubt (state S.Store self.old).is_clean ≤ doubt (state S.Store self.new).is_clean }
+        ensures done { HasCleanDisk (state S.Store self.new) → OnOk result ((s : State) → IsAt S.Store s self.old → IsAt S.Store (applied delta s) self.new) }
+        ensures memory { HasCleanDisk (state S.Store self.new) → result ≡ Err StoreFault.Memory → (s : State) → IsAt S.Store s self.old → IsAt S.Store s self.new }
+        ensures broken { HasCleanDisk (state S.Store self.new) → (s : State) → IsAt S.Store s self.old → (db : Trees) → (state S.Store self.new).may_leave db → StandsIn s db ⊎ StandsIn (applied delta s) db }
+    {
         let changes = delta.into_vec();
         let alloc = *changes.allocator();
         commit(&mut self.conn, alloc, changes.as_slice())

@@ -1,0 +1,93 @@
+-- The statements that write `project`.
+use Rattle.std.proofs.Common.{◌≡◌, ◌∙◌, ℕ, ℤ, pos, List, [], ◌∷◌, Bool, true, false, if◌then◌else◌, Some, not, filter, is_eq, refl, ap, subst}
+use Rattle.std.specs.Ordering.{nat_cmp}
+use Rattle.sqlite.specs.declared.types.Value.TheVariants.{Null, Int, Text}
+use Rattle.sqlite.specs.Order.{Row, column}
+use Rattle.sqlite.specs.Term.{Term, lit, col, eval_all}
+use Rattle.sqlite.specs.Tree.{Trees}
+use Rattle.sqlite.specs.Cast.{cast_row}
+use Rattle.sqlite_tied.specs.Compute.{everything}
+use Rattle.sqlite.specs.Listing.{understood}
+use Rattle.sqlite.specs.Store.{Ghosts}
+use Rattle.sqlite.specs.Held.{Held, state}
+use Rattle.sqlite_keyed.proofs.ListLemmas.{ascending-filter, all-filter}
+use Rattle.ci_machine.specs.State.{State, put, without, with_record, without_record, project_cmp}
+use Rattle.ci_machine.specs.declared.records.Project.{Project}
+use Rattle.ci_machine.specs.declared.change.Record.TheVariants as row
+use Rattle.ci_machine.specs.declared.change.Key.TheVariants as key
+use Rattle.ci_tables.specs.Stands.{image, places}
+use Rattle.ci_tables.specs.Ran.{Changes, HasPut}
+use Rattle.ci_tables.proofs.Queries.{picks}
+use Rattle.ci_tables.proofs.Writes.{IsWholeStep, whole_if_alone}
+use Rattle.ci_tables.proofs.Puts.{MeansPut, MeansRemove, GivesRecord}
+use Rattle.ci_tables.proofs.Absent.{absent_rowid}
+use Rattle.ci_tables.proofs.Scalars.{cast_int, cast_text}
+use Rattle.ci_store.specs.declared.texts.TheConstants.{UPDATE_PROJECT, INSERT_PROJECT, DELETE_PROJECT}
+use Rattle.ci_store.specs.Schema.{the_schema, project}
+use Rattle.ci_store.specs.JsonText.{tags_text, tags_data, spec_text, spec_data}
+use Rattle.serde_json.specs.Read.{read}
+use Rattle.ci_store.specs.Rows.{number, project_row, kind_number, source_number, state_number, cause_in, exit_in}
+use Rattle.ci_store.specs.Stands.{rows_of, IsRegular, Stands}
+use Rattle.ci_store.proofs.Lists.{put_rises, by_number, all_put}
+use Rattle.ci_store.proofs.Records.{is, put_stands, remove_stands, same_number, numbered, cast_option}
+
+abbrev sets : List Term
+sets = col 0 0 ∷ lit Null ∷ col 0 1 ∷ col 0 2 ∷ col 0 3 ∷ []
+
+means : MeansPut the_schema 1 project UPDATE_PROJECT.now INSERT_PROJECT.now (is 0 0 ∷ []) sets sets
+unfolding understood everything
+means = record { there = refl; apart = refl; update_is = refl; update_plain = (refl, refl); insert_is = refl; insert_plain = (refl, refl); uncounted = refl; unstamped = refl; idle = refl; alone = λ olds a. refl }
+
+gives : (p : Project) → GivesRecord the_schema project (is 0 0 ∷ []) sets sets (number p.id ∷ []) (project_row p)
+gives p = record {
+  tested = λ r. refl;
+  updated = λ old. λ i. cast_int (pos p.id) i ∷ Text p.name ∷ Text p.token ∷ cast_text (λ b. b) p.file i ∷ [];
+  source = refl;
+  inserted = λ rows. ap (image (places project)) (numbered rows (pos p.id) _) ∙ (λ i. number p.id ∷ Text p.name ∷ Text p.token ∷ cast_text (λ b. b) p.file i ∷ []);
+  absent = λ rows new_row db shaped is keyed fresh put sound. absent_rowid rows new_row (pos p.id) _ (λ r. refl) shaped (ap (λ image. column image 0) is) fresh;
+}
+
+regular_put : (p : Project) (s : State) → IsRegular s → IsRegular (with_record (row.Project p) s)
+regular_put p s o = record {
+  projects = put_rises project_cmp (by_number (λ (q : Project). q.id)) p s.projects o.projects;
+  runners = o.runners;
+  pipelines = o.pipelines;
+  jobs = o.jobs;
+  job_variables = o.job_variables;
+  attempts = o.attempts;
+  tags = o.tags;
+  specs = o.specs;
+}
+
+pub project_puts : {S : Type 0} (ghosts : Ghosts S) (before after : Held S) (p : Project) (s : State) → Stands s (state ghosts before).now → HasPut ghosts UPDATE_PROJECT.now INSERT_PROJECT.now (project_row p) before after
+    → Stands (with_record (row.Project p) s) (state ghosts after).now
+project_puts ghosts before after p s stands h =
+    put_stands project_row s.projects s (with_record (row.Project p) s) project refl ((λ _. refl), ((λ ne. absurd (ne refl)), ((λ _. refl), ((λ _. refl), ((λ _. refl), ((λ _. refl), ((λ _. refl), tt))))))) (regular_put p s stands.inside.regular)
+    1 UPDATE_PROJECT.now INSERT_PROJECT.now (is 0 0 ∷ []) sets sets means project_cmp (number p.id ∷ []) p (gives p) (λ q. same_number q.id p.id) refl ghosts before after stands h
+
+means_remove : MeansRemove the_schema 1 project DELETE_PROJECT.now (is 0 0 ∷ [])
+unfolding understood everything
+means_remove = record { there = refl; apart = refl; delete_is = refl; delete_plain = (refl, refl) }
+
+regular_removed : (id : ℕ) (s : State) → IsRegular s → IsRegular (without_record (key.Project id) s)
+regular_removed id s o = record {
+  projects = ascending-filter _ _ s.projects o.projects;
+  runners = o.runners;
+  pipelines = o.pipelines;
+  jobs = o.jobs;
+  job_variables = o.job_variables;
+  attempts = o.attempts;
+  tags = o.tags;
+  specs = o.specs;
+}
+
+pub project_removes : {S : Type 0} (ghosts : Ghosts S) (before after : Held S) (id count : ℕ) (s : State) → Stands s (state ghosts before).now
+    → IsWholeStep the_schema project (is 0 0 ∷ []) (number id ∷ []) (state ghosts before).now.trees → Changes ghosts DELETE_PROJECT.now (number id ∷ []) count before after
+    → Stands (without_record (key.Project id) s) (state ghosts after).now
+project_removes ghosts before after id count s stands whole h =
+    remove_stands project_row s.projects s (without_record (key.Project id) s) project refl ((λ _. refl), ((λ ne. absurd (ne refl)), ((λ _. refl), ((λ _. refl), ((λ _. refl), ((λ _. refl), ((λ _. refl), tt))))))) (regular_removed id s stands.inside.regular)
+    1 DELETE_PROJECT.now (is 0 0 ∷ []) means_remove (number id ∷ []) (λ r. refl) (λ q. is_eq (nat_cmp q.id id)) (λ q. same_number q.id id) refl ghosts before after count stands whole h
+
+pub project_whole : (params : Row) (db : Trees) → IsWholeStep the_schema project (is 0 0 ∷ []) params db
+unfolding everything
+project_whole params db = whole_if_alone the_schema project (is 0 0 ∷ []) params db (λ olds. refl)

@@ -1,0 +1,89 @@
+-- A record that is put, and one that is removed, in a table of its own.
+use Rattle.std.proofs.Common.{◌≡◌, ◌≢◌, ℕ, ℤ, pos, List, [], ◌∷◌, map, filter, Bool, true, false, not, ◌&&◌, Ordering, is_eq, refl, sym, ap, subst, ◌∙◌, Some, None, Option, IsPermutation}
+use Rattle.std.specs.List.{AllByRecursion}
+use Rattle.std.specs.Ordering.{nat_cmp}
+use Rattle.sqlite.specs.declared.types.Value.{Value}
+use Rattle.sqlite.specs.declared.types.Value.TheVariants.{Null, Int, Text}
+use Rattle.sqlite_value.specs.declared.keys.Collation.TheVariants.{Binary}
+use Rattle.sqlite_sql.specs.declared.ops.BinaryOp.TheVariants.{Compare}
+use Rattle.sqlite_sql.specs.declared.ops.CompareOp.TheVariants.{Eq}
+use Rattle.sqlite.specs.Order.{Row}
+use Rattle.sqlite.specs.Term.{Term, lit, col, op2}
+use Rattle.sqlite.specs.Table.{Table}
+use Rattle.sqlite.specs.Edit.{with_rowid}
+use Rattle.sqlite.specs.Cast.{cast}
+use Rattle.sqlite.specs.Kind.TheVariants.{Integer}
+use Rattle.sqlite.specs.Rowids.TheVariants.{Chosen}
+use Rattle.sqlite.specs.Values.{or_null, bound_value}
+use Rattle.sqlite.specs.Store.{Ghosts}
+use Rattle.sqlite.specs.Held.{Held, state}
+use Rattle.sqlite.specs.State.{Executes}
+use Rattle.ci_machine.specs.State.{State, put}
+use Rattle.ci_tables.specs.Stands.{has_key, image, places, without, IsOf}
+use Rattle.sqlite_schema.specs.Rules.{equal}
+use Rattle.ci_tables.specs.Ran.{Changes, HasPut}
+use Rattle.ci_tables.proofs.Queries.{picks}
+use Rattle.ci_tables.proofs.Writes.{IsWholeStep}
+use Rattle.ci_tables.proofs.Puts.{MeansPut, MeansRemove, GivesRecord, puts, removes}
+use Rattle.ci_tables.proofs.Scalars.{cast_int, cast_null, equal_int}
+use Rattle.ci_store.specs.Schema.{the_schema}
+use Rattle.ci_store.specs.Rows.{number}
+use Rattle.ci_store.specs.Stands.{rows_of, IsRegular, Stands}
+use Rattle.ci_store.proofs.Lists.{put_among, removed_from}
+
+abbrev pub is : ℕ → ℕ → Term
+is place param = op2 (Compare Eq Binary) (col 1 place) (col 0 param)
+
+-- the other tables have the rows that they had
+abbrev pub IsAlike : Table → State → State → Type 0
+IsAlike table s t = AllByRecursion (λ u. u.tree ≢ table.tree → rows_of t u.tree ≡ rows_of s u.tree) the_schema.tables
+
+pub before_it : {S : Type 0} (ghosts : Ghosts S) (s : State) (h : Held S) → Stands s (state ghosts h).now → IsOf the_schema (rows_of s) (state ghosts h).now
+before_it ghosts s h stands = record { listed = stands.listed; inside = stands.inside.tables }
+
+pub after_it : {S : Type 0} (ghosts : Ghosts S) (s : State) (h : Held S) → IsRegular s → IsOf the_schema (rows_of s) (state ghosts h).now → Stands s (state ghosts h).now
+after_it ghosts s h ordered it = record { listed = it.listed; inside = record { tables = it.inside; regular = ordered } }
+
+module _ {A : Type 0} (values : A → Row) (xs : List A) (s t : State) (table : Table) (was : rows_of s table.tree ≡ map values xs) (alike : IsAlike table s t) (ordered : IsRegular t) where
+  pub put_stands : (at : ℕ) (update insert : List ℕ) (tests sets terms : List Term) → MeansPut the_schema at table update insert tests sets terms → (cmp : A → A → Ordering) (key : Row) (x : A)
+      → GivesRecord the_schema table tests sets terms key (values x) → ((y : A) → has_key key (values y) ≡ is_eq (cmp y x)) → rows_of t table.tree ≡ map values (put cmp x xs)
+      → {S : Type 0} (ghosts : Ghosts S) (before after : Held S) → Stands s (state ghosts before).now → HasPut ghosts update insert (values x) before after → Stands t (state ghosts after).now
+  put_stands at update insert tests sets terms means cmp key x gives same_key is ghosts before after stands h =
+      let moved = subst (λ l. IsPermutation (values x ∷ without key l) (rows_of t table.tree)) (sym was) (subst (IsPermutation _) (sym is) (put_among values key cmp x same_key xs)) in
+      after_it ghosts t after ordered (puts the_schema at table update insert tests sets terms means key (values x) gives (rows_of s) (rows_of t) alike moved ghosts before after (before_it ghosts s before stands) h)
+
+  pub remove_stands : (at : ℕ) (delete : List ℕ) (tests : List Term) → MeansRemove the_schema at table delete tests → (key : Row) → ((r : Row) → picks tests key r ≡ has_key key (image (places table) r))
+      → (test : A → Bool) → ((y : A) → has_key key (values y) ≡ test y) → rows_of t table.tree ≡ map values (filter (λ y. not (test y)) xs)
+      → {S : Type 0} (ghosts : Ghosts S) (before after : Held S) (count : ℕ) → Stands s (state ghosts before).now → IsWholeStep the_schema table tests key (state ghosts before).now.trees → Changes ghosts delete key count before after
+      → Stands t (state ghosts after).now
+  remove_stands at delete tests means key tested test same_key is ghosts before after count stands whole h =
+      let gone = subst (λ l. IsPermutation (without key l) (rows_of t table.tree)) (sym was) (subst (IsPermutation _) (sym is) (removed_from values key test same_key xs)) in
+      after_it ghosts t after ordered (removes the_schema at table delete tests means key (rows_of s) (rows_of t) tested alike gone (state ghosts before) (state ghosts after) count (before_it ghosts s before stands) whole h)
+
+-- ---- tables whose key is a number
+
+and_true : (b : Bool) → (b && true) ≡ b
+and_true true = refl
+and_true false = refl
+
+-- a number is compared as the rowid is
+pub same_number : (m n : ℕ) → (equal Binary (number m) (number n) && true) ≡ is_eq (nat_cmp m n)
+same_number m n = and_true _ ∙ equal_int m n
+
+-- the number is the rowid
+pub numbered : (rows : List Row) (n : ℤ) (rest : Row) → with_rowid Chosen rows (cast Integer (Int n) ∷ rest) ≡ Int n ∷ rest
+numbered rows n rest = ap (λ v. with_rowid Chosen rows (v ∷ rest)) (cast_int n)
+
+pub cast_option : (o : Option ℕ) → cast Integer (or_null number o) ≡ or_null number o
+cast_option None = cast_null
+cast_option (Some n) = cast_int (pos n)
+
+-- ---- values as they are bound
+
+pub bound_words : (o : Option (List ℕ)) → bound_value (or_null Text o) ≡ or_null Text o
+bound_words None = refl
+bound_words (Some t) = refl
+
+pub bound_number : (o : Option ℕ) → bound_value (or_null number o) ≡ or_null number o
+bound_number None = refl
+bound_number (Some n) = refl

@@ -1,0 +1,34 @@
+use Rattle.std.proofs.Common.{rules, ◌≡◌, ◌∙◌, sym, subst, take, arith, ◌+◌, length, ◌<◌, get_or, ap}
+use Rattle.sqlite.specs.State.{HasCleanDisk, KeepsCommit, Survives}
+use Rattle.sqlite.specs.Held.{state}
+use Rattle.sqlite.proofs.StateLemmas.{survives_then}
+use Rattle.sqlite.proofs.InsideLemmas.{keeps_then}
+use Rattle.ci_machine.specs.State.{State, applied, changed}
+use Rattle.ci_store.specs.Stands.{Stands, StandsIn, IsAt}
+use Rattle.ci_store.specs.Commit.{Makes}
+use Rattle.ci_store.proofs.Applied.{applied_more}
+use Rattle.ci_store.proofs.commit.make_all.Goals as goal
+
+pub loop-change-preserved : goal.loop-change-preserved
+loop-change-preserved g c =
+    let inv = c.loop-change.invariant in
+    let old = c.args.tx.now.conn.now in
+    let mid = c.loop-change.tx.conn.now in
+    let new = c.make.new.tx.conn.now in
+    let one = c.in_ok-make.ensures in
+    let early = λ (clean : HasCleanDisk (state g.S.Store new)). let h : HasCleanDisk (state g.S.Store mid) = omega (arith, one.survives.clean) in h in
+    let item = c.change-item.is in
+    let low = c.loop-change-test.true in (
+      one.same_reference ∙ inv.0,
+      λ clean inside.
+          let was = inv.1 (early clean) inside in
+          let more = one.makes clean was.0 in (
+            more.0,
+            λ s stands.
+                let it : get_or c.args.changes.now c.loop-change.change-index c.change-item.result ≡ c.change-item.result = search rules in
+                let step = applied_more s c.args.changes.now c.loop-change.change-index c.change-item.result low ∙ ap (λ x. changed x (applied (take c.loop-change.change-index c.args.changes.now) s)) it in
+                subst (λ t. Stands t (state g.S.Store new).now) (sym step) (more.1 _ (was.1 s stands)),
+          ),
+      λ clean inside. keeps_then _ _ _ (inv.2 (early clean) inside) (one.kept clean (inv.1 (early clean) inside).0),
+      survives_then _ _ _ _ _ _ (λ _ db none. none) (λ _ db none. none) inv.3 one.survives,
+    )

@@ -1,0 +1,20 @@
+use Rattle.std.proofs.Common.{◌≡◌, ◌∙◌, [], ◌∷◌, subst}
+use Rattle.sqlite.specs.Values.{bound_value}
+use Rattle.sqlite.specs.State.{Shown}
+use Rattle.sqlite.specs.Held.{state}
+use Rattle.ci_store.specs.declared.texts.TheConstants.{SELECT_ATTEMPTS_OF}
+use Rattle.ci_store.specs.Rows.{attempt_row}
+use Rattle.ci_store.proofs.Sorted.{plain_attempts, attempts_shown}
+use Rattle.ci_store.proofs.Same.{same_attempt, same_map, if_ok}
+use Rattle.ci_store.proofs.load.attempts_of.Goals as goal
+
+pub look_up-requires-clause-plain : goal.look_up-requires-clause-plain
+look_up-requires-clause-plain g c = plain_attempts
+
+pub returns-clause-found : goal.returns-clause-found
+returns-clause-found g c clean =
+    let old = state g.S.Store c.args.conn.now in
+    let new = state g.S.Store c.look_up.new.conn in
+    let rows = c.in_ok-rows.rows.items in
+    let shown = subst (λ row. Shown SELECT_ATTEMPTS_OF.now row old new rows) (λ i. bound_value (c.in_ok-number.ensures i) ∷ []) (c.in_ok-rows.ensures.shown clean) in
+    if_ok c.read_attempts.result (λ found read s at. same_map attempt_row same_attempt _ _ (read ∙ c.as_slice.ensures.value ∙ attempts_shown old new s c.args.job rows at.now shown)) c.read_attempts.ensures

@@ -1,0 +1,44 @@
+-- What a transaction of changes makes of the tables.
+use Rattle.std.specs.Prelude.{◌≡◌, Bool, true, false, List, IsTrue}
+use Rattle.sqlite.specs.Tree.{Trees}
+use Rattle.sqlite.specs.Store.{Ghosts}
+use Rattle.sqlite.specs.Held.{Held, state}
+use Rattle.ci_machine.specs.State.{State, applied}
+use Rattle.ci_machine.specs.declared.change.Change.{Change}
+use Rattle.ci_store.specs.declared.commit.Ended.{Ended}
+use Rattle.ci_store.specs.declared.commit.Ended.TheVariants.{Done, Undone, Unknown}
+use Rattle.ci_store.specs.Stands.{Stands, StandsIn}
+
+-- inside a transaction the tables follow this change of the state
+abbrev pub Makes : {S : Type 0} → Ghosts S → (State → State) → Held S → Held S → Type 0
+Makes g change old new = IsTrue new.in_transaction × ((s : State) → Stands s (state g old).now → Stands (change s) (state g new).now)
+
+-- what is committed after the changes stands for the state after them
+abbrev pub CommitsAll : {S : Type 0} → Ghosts S → List Change → Held S → Trees → Type 0
+CommitsAll g changes old db = (s : State) → Stands s (state g old).now → StandsIn (applied changes s) db
+
+abbrev pub is_done : Ended → Bool
+is_done Done = true
+is_done _ = false
+
+abbrev pub is_undone : Ended → Bool
+is_undone (Undone fault) = true
+is_undone _ = false
+
+-- the store is as the last commit left it
+pub record IsBack {S : Type 0} (g : Ghosts S) (old new : Held S) : Type 0 where
+  pub was_open : IsTrue (state g new).is_open → IsTrue (state g old).is_open
+  pub back : IsTrue (state g new).is_open → ((state g new).now ≡ (state g old).committed) × ((state g new).committed ≡ (state g old).committed)
+
+-- the changes are made and committed
+pub record IsDone {S : Type 0} (g : Ghosts S) (changes : List Change) (old new : Held S) : Type 0 where
+  pub is_open : IsTrue (state g new).is_open
+  pub stands : (s : State) → Stands s (state g old).now → Stands (applied changes s) (state g new).now
+  pub settled : (state g new).committed ≡ (state g new).now
+
+-- nothing differs, and the store is open
+pub record IsSame {S : Type 0} (g : Ghosts S) (old new : Held S) : Type 0 where
+  pub was_open : IsTrue (state g old).is_open
+  pub is_open : IsTrue (state g new).is_open
+  pub now : (state g new).now ≡ (state g old).now
+  pub committed : (state g new).committed ≡ (state g old).committed

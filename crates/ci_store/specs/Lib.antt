@@ -1,0 +1,6 @@
+pub mod Schema
+pub mod JsonText
+pub mod Rows
+pub mod Stands
+pub mod Commit
+pub mod Load

@@ -1,0 +1,47 @@
+-- What the rows that are read hold.
+use Rattle.std.specs.Prelude.{◌≡◌, ℕ, List, [], ◌∷◌, Option, Some}
+use Rattle.sqlite.specs.declared.types.Value.TheVariants.{Text}
+use Rattle.sqlite.specs.Values.{or_null}
+use Rattle.sqlite.specs.Order.{Row}
+use Rattle.serde_json.specs.Read.{read}
+use Rattle.ci_machine.specs.declared.records.Runner.{Runner}
+use Rattle.ci_machine.specs.declared.records.Job.{Job}
+use Rattle.ci_machine.specs.declared.records.JobSpec.{JobSpec}
+use Rattle.ci_machine.specs.declared.records.AttemptState.{AttemptState}
+use Rattle.ci_machine.specs.declared.records.Numbers.{Numbers}
+use Rattle.ci_machine.specs.declared.change.Counter.{Counter}
+use Rattle.ci_machine.specs.declared.change.Counter.TheVariants as counter
+use Rattle.ci_store.specs.JsonText.{tags_data, spec_data}
+use Rattle.ci_store.specs.Rows.{number, flag, state_number, cause_in, exit_in}
+
+-- the three columns are those of the state
+abbrev pub HasState : ℕ → Option ℕ → Option ℕ → AttemptState → Type 0
+HasState number cause exit state = (number ≡ state_number state) × (cause ≡ cause_in state) × (exit ≡ exit_in state)
+
+-- the text can be read as these tags alone
+abbrev pub ReadsTags : List ℕ → List (List ℕ) → Type 0
+ReadsTags text tags = (others : List (List ℕ)) → read text ≡ Some (tags_data others) → tags ≡ others
+
+abbrev pub ReadsSpec : List ℕ → JobSpec → Type 0
+ReadsSpec text spec = (others : JobSpec) → read text ≡ Some (spec_data others) → spec ≡ others
+
+-- the values of a runner's row, with this text of its tags
+abbrev pub runner_cells : Runner → List ℕ → Row
+runner_cells r text = number r.id ∷ Text r.name ∷ Text r.token ∷ or_null number r.project ∷ Text text ∷ flag r.untagged ∷ flag r.paused ∷ []
+
+abbrev pub IsRunnerRow : Row → Runner → Type 0
+IsRunnerRow row r = (text : List ℕ) × (row ≡ runner_cells r text) × ReadsTags text r.tags
+
+-- the values of a job's row, with this text of what was fixed of it
+abbrev pub job_cells : Job → List ℕ → Row
+job_cells j text = number j.id ∷ number j.pipeline ∷ number j.position ∷ Text j.name ∷ Text j.stage ∷ Text text ∷ flag j.played ∷ flag j.cancelled ∷ number j.set_aside ∷ []
+
+abbrev pub IsJobRow : Row → Job → Type 0
+IsJobRow row j = (text : List ℕ) × (row ≡ job_cells j text) × ReadsSpec text j.spec
+
+abbrev pub next_in : Counter → Numbers → ℕ
+next_in counter.Project next = next.project
+next_in counter.Runner next = next.runner
+next_in counter.Pipeline next = next.pipeline
+next_in counter.Job next = next.job
+next_in counter.Attempt next = next.attempt

@@ -1,0 +1,81 @@
+-- What it means that the tables of a database stand for a state.
+use Rattle.std.specs.Prelude.{◌≡◌, ◌⊎◌, ℕ, ◌==◌, if◌then◌else◌, false, List, [], ◌∷◌, map, codes, Some, IsTrue}
+use Rattle.std.specs.List.{AllByRecursion}
+use Rattle.std.specs.declared.cmp.Ordering.{Ordering}
+use Rattle.std.specs.declared.cmp.Ordering.TheVariants.{Less}
+use Rattle.sqlite.specs.declared.types.Value.TheVariants.{Text}
+use Rattle.sqlite.specs.Order.{Row}
+use Rattle.sqlite.specs.Tree.{Trees}
+use Rattle.sqlite.specs.Effect.{Database}
+use Rattle.sqlite.specs.Store.{Ghosts}
+use Rattle.sqlite.specs.Held.{Held, state}
+use Rattle.sqlite_trees.specs.Tree.{IsAscending}
+use Rattle.ci_machine.specs.State.{State, project_cmp, runner_cmp, pipeline_cmp, job_cmp, job_variable_cmp, attempt_cmp}
+use Rattle.ci_machine.specs.declared.records.Numbers.{Numbers}
+use Rattle.ci_machine.specs.declared.change.Counter.{Counter}
+use Rattle.ci_machine.specs.declared.change.Counter.TheVariants as counter
+use Rattle.ci_tables.specs.Stands.{HoldsRows}
+use Rattle.serde_json.specs.Read.{read}
+use Rattle.ci_store.specs.JsonText.{tags_data, tags_text, spec_data, spec_text}
+use Rattle.ci_store.specs.Schema as table
+use Rattle.ci_store.specs.Schema.{the_schema}
+use Rattle.ci_store.specs.Rows.{number, project_row, runner_row, pipeline_row, job_row, job_variable_row, attempt_row}
+
+abbrev pub meta_row : List ℕ → ℕ → Row
+meta_row key num = Text key ∷ number num ∷ []
+
+-- the key of a next number
+abbrev pub counter_key : Counter → List ℕ
+counter_key counter.Project = codes "next_project"
+counter_key counter.Runner = codes "next_runner"
+counter_key counter.Pipeline = codes "next_pipeline"
+counter_key counter.Job = codes "next_job"
+counter_key counter.Attempt = codes "next_attempt"
+
+-- the format, the version and the next numbers
+abbrev pub meta_rows : Numbers → List Row
+meta_rows next =
+    meta_row (codes "format") 1128878163 ∷ meta_row (codes "version") 1 ∷ meta_row (codes "next_project") next.project ∷ meta_row (codes "next_runner") next.runner
+    ∷ meta_row (codes "next_pipeline") next.pipeline ∷ meta_row (codes "next_job") next.job ∷ meta_row (codes "next_attempt") next.attempt ∷ []
+
+-- the rows of the table that has this tree
+abbrev pub rows_of : State → ℕ → List Row
+rows_of s tree =
+    if tree == table.meta.tree then meta_rows s.next
+    else (if tree == table.project.tree then map project_row s.projects
+    else (if tree == table.runner.tree then map runner_row s.runners
+    else (if tree == table.pipeline.tree then map pipeline_row s.pipelines
+    else (if tree == table.job.tree then map job_row s.jobs
+    else (if tree == table.jobvar.tree then map job_variable_row s.job_variables
+    else (if tree == table.attempt.tree then map attempt_row s.attempts else []))))))
+
+-- each record is strictly below those after it
+abbrev pub Rises : {A : Type 0} → (A → A → Ordering) → List A → Type 0
+Rises cmp = IsAscending (λ a b. cmp a b ≡ Less)
+
+-- each list is in the order of its key, which no two records share, and the JSON of each record reads as what it was written of
+pub record IsRegular (s : State) : Type 0 where
+  pub projects : Rises project_cmp s.projects
+  pub runners : Rises runner_cmp s.runners
+  pub pipelines : Rises pipeline_cmp s.pipelines
+  pub jobs : Rises job_cmp s.jobs
+  pub job_variables : Rises job_variable_cmp s.job_variables
+  pub attempts : Rises attempt_cmp s.attempts
+  pub tags : AllByRecursion (λ r. read (tags_text r.tags) ≡ Some (tags_data r.tags)) s.runners
+  pub specs : AllByRecursion (λ j. read (spec_text j.spec) ≡ Some (spec_data j.spec)) s.jobs
+
+-- the trees of a file, as a stop may leave them, stand for the state
+pub record StandsIn (s : State) (db : Trees) : Type 0 where
+  pub tables : HoldsRows the_schema (rows_of s) db
+  pub regular : IsRegular s
+
+-- a database of this schema alone stands for the state
+pub record Stands (s : State) (db : Database) : Type 0 where
+  pub listed : db.schema ≡ the_schema
+  pub inside : StandsIn s db.trees
+
+-- The tables hold the state: they are open, stand for it, and so does each file that a stop may leave.
+pub record IsAt {S : Type 0} (g : Ghosts S) (s : State) (h : Held S) : Type 0 where
+  pub is_open : IsTrue (state g h).is_open
+  pub now : Stands s (state g h).now
+  pub left : (db : Trees) → (state g h).may_leave db → StandsIn s db

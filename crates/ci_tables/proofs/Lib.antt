@@ -1,0 +1,12 @@
+pub mod Queries
+pub mod Rows
+pub mod Writes
+pub mod Stands
+pub mod Puts
+pub mod Scalars
+pub mod Selects
+pub mod Ordered
+pub mod Childless
+pub mod OneSchema
+pub mod Absent
+pub mod Inside
