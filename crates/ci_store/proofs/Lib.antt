@@ -15,3 +15,4 @@ mod Loads
 mod Sorted
 mod Same
 mod NextLoads
+pub mod Whole

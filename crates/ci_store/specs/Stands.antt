@@ -79,3 +79,11 @@ pub record IsAt {S : Type 0} (g : Ghosts S) (s : State) (h : Held S) : Type 0 wh
   pub is_open : IsTrue (state g h).is_open
   pub now : Stands s (state g h).now
   pub left : (db : Trees) → (state g h).may_leave db → StandsIn s db
+
+-- each file that a stop may leave stands for the state
+abbrev pub LeavesOnly : {S : Type 0} → Ghosts S → State → Held S → Type 0
+LeavesOnly g s h = (db : Trees) → (state g h).may_leave db → StandsIn s db
+
+-- each stands for one of the two
+abbrev pub LeavesEither : {S : Type 0} → Ghosts S → State → State → Held S → Type 0
+LeavesEither g s t h = (db : Trees) → (state g h).may_leave db → StandsIn s db ⊎ StandsIn t db

@@ -7,6 +7,7 @@ pub mod json_text;
 pub mod load;
 pub mod make;
 pub mod read;
+mod settle;
 pub mod tables;
 pub mod texts;
 

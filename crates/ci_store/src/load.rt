@@ -1,6 +1,6 @@
 //! Loads of records.
 
-ghost use Rattle.std.specs.Prelude.{◌≡◌, ◌&&◌, false, filter, find, IfOk, OnOk};
+ghost use Rattle.std.specs.Prelude.{◌≡◌, ◌≤◌, ◌&&◌, false, filter, find, IfOk, OnOk};
 ghost use Rattle.std.specs.Ordering.{nat_cmp, is_eq};
 ghost use Rattle.std.specs.Cmp.Lexicographic.{slice_cmp};
 ghost use Rattle.sqlite.specs.Given.{IsPlain};
@@ -9,6 +9,7 @@ ghost use Rattle.sqlite.specs.Values.{bound};
 ghost use Rattle.sqlite.specs.State.{HasCleanDisk, Shown};
 ghost use Rattle.sqlite.specs.Tree.{Trees};
 ghost use Rattle.sqlite.specs.Held.{state};
+ghost use Rattle.sqlite_trees.specs.View.{doubt};
 ghost use Rattle.ci_machine.specs.State.{State};
 ghost use Rattle.ci_store.specs.Schema.{the_schema};
 ghost use Rattle.ci_store.specs.Stands.{StandsIn, IsAt};
@@ -38,6 +39,7 @@ fn look_up<S: Alter>(
     requires idle { conn.old.in_transaction ≡ false }
     requires plain { IsPlain (understood the_schema sql.now) }
     ensures idle { conn.new.in_transaction ≡ false }
+    ensures clean { doubt (state S.Store conn.old).is_clean ≤ doubt (state S.Store conn.new).is_clean }
     ensures shown { HasCleanDisk (state S.Store conn.new) → IfOk result (λ rows. Shown sql.now (bound params.now) (state S.Store conn.old) (state S.Store conn.new) rows.items) }
     ensures same { HasCleanDisk (state S.Store conn.new) → OnOk result ((s : State) → IsAt S.Store s conn.old → IsAt S.Store s conn.new) }
     ensures left { HasCleanDisk (state S.Store conn.new) → (s : State) → IsAt S.Store s conn.old → (db : Trees) → (state S.Store conn.new).may_leave db → StandsIn s db }
@@ -48,6 +50,7 @@ fn look_up<S: Alter>(
 pub(crate) fn next<S: Alter>(conn: &mut Connection<S>, counter: Counter) -> Result<u64, StoreFault>
     requires { conn.old.in_transaction ≡ false }
     ensures idle { conn.new.in_transaction ≡ false }
+    ensures clean { doubt (state S.Store conn.old).is_clean ≤ doubt (state S.Store conn.new).is_clean }
     ensures found { HasCleanDisk (state S.Store conn.new) → IfOk result (λ found. (s : State) → IsAt S.Store s conn.old → found ≡ next_in counter s.next) }
     ensures same { HasCleanDisk (state S.Store conn.new) → OnOk result ((s : State) → IsAt S.Store s conn.old → IsAt S.Store s conn.new) }
     ensures left { HasCleanDisk (state S.Store conn.new) → (s : State) → IsAt S.Store s conn.old → (db : Trees) → (state S.Store conn.new).may_leave db → StandsIn s db }
@@ -65,6 +68,7 @@ pub(crate) fn project<S: Alter>(
 ) -> Result<Option<Project>, StoreFault>
     requires { conn.old.in_transaction ≡ false }
     ensures idle { conn.new.in_transaction ≡ false }
+    ensures clean { doubt (state S.Store conn.old).is_clean ≤ doubt (state S.Store conn.new).is_clean }
     ensures found { HasCleanDisk (state S.Store conn.new) → IfOk result (λ found. (s : State) → IsAt S.Store s conn.old → found ≡ find (λ p. is_eq (nat_cmp p.id id)) s.projects) }
     ensures same { HasCleanDisk (state S.Store conn.new) → OnOk result ((s : State) → IsAt S.Store s conn.old → IsAt S.Store s conn.new) }
     ensures left { HasCleanDisk (state S.Store conn.new) → (s : State) → IsAt S.Store s conn.old → (db : Trees) → (state S.Store conn.new).may_leave db → StandsIn s db }
@@ -83,6 +87,7 @@ pub(crate) fn runner_with<S: Alter>(
 ) -> Result<Option<Runner>, StoreFault>
     requires { conn.old.in_transaction ≡ false }
     ensures idle { conn.new.in_transaction ≡ false }
+    ensures clean { doubt (state S.Store conn.old).is_clean ≤ doubt (state S.Store conn.new).is_clean }
     ensures found { HasCleanDisk (state S.Store conn.new) → IfOk result (λ found. (s : State) → IsAt S.Store s conn.old → found ≡ find (λ r. is_eq (slice_cmp nat_cmp r.token token.now)) s.runners) }
     ensures same { HasCleanDisk (state S.Store conn.new) → OnOk result ((s : State) → IsAt S.Store s conn.old → IsAt S.Store s conn.new) }
     ensures left { HasCleanDisk (state S.Store conn.new) → (s : State) → IsAt S.Store s conn.old → (db : Trees) → (state S.Store conn.new).may_leave db → StandsIn s db }
@@ -101,6 +106,7 @@ pub(crate) fn pipeline<S: Alter>(
 ) -> Result<Option<Pipeline>, StoreFault>
     requires { conn.old.in_transaction ≡ false }
     ensures idle { conn.new.in_transaction ≡ false }
+    ensures clean { doubt (state S.Store conn.old).is_clean ≤ doubt (state S.Store conn.new).is_clean }
     ensures found { HasCleanDisk (state S.Store conn.new) → IfOk result (λ found. (s : State) → IsAt S.Store s conn.old → found ≡ find (λ p. is_eq (nat_cmp p.id id)) s.pipelines) }
     ensures same { HasCleanDisk (state S.Store conn.new) → OnOk result ((s : State) → IsAt S.Store s conn.old → IsAt S.Store s conn.new) }
     ensures left { HasCleanDisk (state S.Store conn.new) → (s : State) → IsAt S.Store s conn.old → (db : Trees) → (state S.Store conn.new).may_leave db → StandsIn s db }
@@ -116,6 +122,7 @@ pub(crate) fn pipeline<S: Alter>(
 pub(crate) fn job<S: Alter>(conn: &mut Connection<S>, id: u64) -> Result<Option<Job>, StoreFault>
     requires { conn.old.in_transaction ≡ false }
     ensures idle { conn.new.in_transaction ≡ false }
+    ensures clean { doubt (state S.Store conn.old).is_clean ≤ doubt (state S.Store conn.new).is_clean }
     ensures found { HasCleanDisk (state S.Store conn.new) → IfOk result (λ found. (s : State) → IsAt S.Store s conn.old → found ≡ find (λ j. is_eq (nat_cmp j.id id)) s.jobs) }
     ensures same { HasCleanDisk (state S.Store conn.new) → OnOk result ((s : State) → IsAt S.Store s conn.old → IsAt S.Store s conn.new) }
     ensures left { HasCleanDisk (state S.Store conn.new) → (s : State) → IsAt S.Store s conn.old → (db : Trees) → (state S.Store conn.new).may_leave db → StandsIn s db }
@@ -134,6 +141,7 @@ pub(crate) fn job_variables<S: Alter>(
 ) -> Result<Vec<JobVariable>, StoreFault>
     requires { conn.old.in_transaction ≡ false }
     ensures idle { conn.new.in_transaction ≡ false }
+    ensures clean { doubt (state S.Store conn.old).is_clean ≤ doubt (state S.Store conn.new).is_clean }
     ensures found { HasCleanDisk (state S.Store conn.new) → IfOk result (λ found. (s : State) → IsAt S.Store s conn.old → found.items ≡ filter (λ v. is_eq (nat_cmp v.job job)) s.job_variables) }
     ensures same { HasCleanDisk (state S.Store conn.new) → OnOk result ((s : State) → IsAt S.Store s conn.old → IsAt S.Store s conn.new) }
     ensures left { HasCleanDisk (state S.Store conn.new) → (s : State) → IsAt S.Store s conn.old → (db : Trees) → (state S.Store conn.new).may_leave db → StandsIn s db }
@@ -148,6 +156,7 @@ pub(crate) fn attempt<S: Alter>(
 ) -> Result<Option<Attempt>, StoreFault>
     requires { conn.old.in_transaction ≡ false }
     ensures idle { conn.new.in_transaction ≡ false }
+    ensures clean { doubt (state S.Store conn.old).is_clean ≤ doubt (state S.Store conn.new).is_clean }
     ensures found { HasCleanDisk (state S.Store conn.new) → IfOk result (λ found. (s : State) → IsAt S.Store s conn.old → found ≡ find (λ a. is_eq (nat_cmp a.id id)) s.attempts) }
     ensures same { HasCleanDisk (state S.Store conn.new) → OnOk result ((s : State) → IsAt S.Store s conn.old → IsAt S.Store s conn.new) }
     ensures left { HasCleanDisk (state S.Store conn.new) → (s : State) → IsAt S.Store s conn.old → (db : Trees) → (state S.Store conn.new).may_leave db → StandsIn s db }
@@ -166,6 +175,7 @@ pub(crate) fn attempts_of<S: Alter>(
 ) -> Result<Vec<Attempt>, StoreFault>
     requires { conn.old.in_transaction ≡ false }
     ensures idle { conn.new.in_transaction ≡ false }
+    ensures clean { doubt (state S.Store conn.old).is_clean ≤ doubt (state S.Store conn.new).is_clean }
     ensures found { HasCleanDisk (state S.Store conn.new) → IfOk result (λ found. (s : State) → IsAt S.Store s conn.old → found.items ≡ filter (λ a. is_eq (nat_cmp a.job job)) s.attempts) }
     ensures same { HasCleanDisk (state S.Store conn.new) → OnOk result ((s : State) → IsAt S.Store s conn.old → IsAt S.Store s conn.new) }
     ensures left { HasCleanDisk (state S.Store conn.new) → (s : State) → IsAt S.Store s conn.old → (db : Trees) → (state S.Store conn.new).may_leave db → StandsIn s db }
@@ -177,6 +187,7 @@ pub(crate) fn attempts_of<S: Alter>(
 pub(crate) fn jobs<S: Alter>(conn: &mut Connection<S>) -> Result<Vec<Job>, StoreFault>
     requires { conn.old.in_transaction ≡ false }
     ensures idle { conn.new.in_transaction ≡ false }
+    ensures clean { doubt (state S.Store conn.old).is_clean ≤ doubt (state S.Store conn.new).is_clean }
     ensures found { HasCleanDisk (state S.Store conn.new) → IfOk result (λ found. (s : State) → IsAt S.Store s conn.old → found.items ≡ s.jobs) }
     ensures same { HasCleanDisk (state S.Store conn.new) → OnOk result ((s : State) → IsAt S.Store s conn.old → IsAt S.Store s conn.new) }
     ensures left { HasCleanDisk (state S.Store conn.new) → (s : State) → IsAt S.Store s conn.old → (db : Trees) → (state S.Store conn.new).may_leave db → StandsIn s db }

@@ -181,6 +181,7 @@ impl<S: Alter> Tables<S> {
 
     /// The next number of a kind.
     pub fn next(&mut self, counter: Counter) -> Result<u64, StoreFault>
+        ensures clean { doubt (state S.Store self.old).is_clean ≤ doubt (state S.Store self.new).is_clean }
         ensures found { HasCleanDisk (state S.Store self.new) → IfOk result (λ found. (s : State) → IsAt S.Store s self.old → found ≡ next_in counter s.next) }
         ensures same { HasCleanDisk (state S.Store self.new) → OnOk result ((s : State) → IsAt S.Store s self.old → IsAt S.Store s self.new) }
         ensures left { HasCleanDisk (state S.Store self.new) → (s : State) → IsAt S.Store s self.old → (db : Trees) → (state S.Store self.new).may_leave db → StandsIn s db }
@@ -190,6 +191,7 @@ impl<S: Alter> Tables<S> {
 
     /// The project with the number.
     pub fn project(&mut self, id: u64) -> Result<Option<Project>, StoreFault>
+        ensures clean { doubt (state S.Store self.old).is_clean ≤ doubt (state S.Store self.new).is_clean }
         ensures found { HasCleanDisk (state S.Store self.new) → IfOk result (λ found. (s : State) → IsAt S.Store s self.old → found ≡ find (λ p. is_eq (nat_cmp p.id id)) s.projects) }
         ensures same { HasCleanDisk (state S.Store self.new) → OnOk result ((s : State) → IsAt S.Store s self.old → IsAt S.Store s self.new) }
         ensures left { HasCleanDisk (state S.Store self.new) → (s : State) → IsAt S.Store s self.old → (db : Trees) → (state S.Store self.new).may_leave db → StandsIn s db }
@@ -199,6 +201,7 @@ impl<S: Alter> Tables<S> {
 
     /// The runner with the token.
     pub fn runner_with(&mut self, token: &Text) -> Result<Option<Runner>, StoreFault>
+        ensures clean { doubt (state S.Store self.old).is_clean ≤ doubt (state S.Store self.new).is_clean }
         ensures found { HasCleanDisk (state S.Store self.new) → IfOk result (λ found. (s : State) → IsAt S.Store s self.old → found ≡ find (λ r. is_eq (slice_cmp nat_cmp r.token token.now)) s.runners) }
         ensures same { HasCleanDisk (state S.Store self.new) → OnOk result ((s : State) → IsAt S.Store s self.old → IsAt S.Store s self.new) }
         ensures left { HasCleanDisk (state S.Store self.new) → (s : State) → IsAt S.Store s self.old → (db : Trees) → (state S.Store self.new).may_leave db → StandsIn s db }
@@ -208,6 +211,7 @@ impl<S: Alter> Tables<S> {
 
     /// The pipeline with the number.
     pub fn pipeline(&mut self, id: u64) -> Result<Option<Pipeline>, StoreFault>
+        ensures clean { doubt (state S.Store self.old).is_clean ≤ doubt (state S.Store self.new).is_clean }
         ensures found { HasCleanDisk (state S.Store self.new) → IfOk result (λ found. (s : State) → IsAt S.Store s self.old → found ≡ find (λ p. is_eq (nat_cmp p.id id)) s.pipelines) }
         ensures same { HasCleanDisk (state S.Store self.new) → OnOk result ((s : State) → IsAt S.Store s self.old → IsAt S.Store s self.new) }
         ensures left { HasCleanDisk (state S.Store self.new) → (s : State) → IsAt S.Store s self.old → (db : Trees) → (state S.Store self.new).may_leave db → StandsIn s db }
@@ -217,6 +221,7 @@ impl<S: Alter> Tables<S> {
 
     /// The job with the number.
     pub fn job(&mut self, id: u64) -> Result<Option<Job>, StoreFault>
+        ensures clean { doubt (state S.Store self.old).is_clean ≤ doubt (state S.Store self.new).is_clean }
         ensures found { HasCleanDisk (state S.Store self.new) → IfOk result (λ found. (s : State) → IsAt S.Store s self.old → found ≡ find (λ j. is_eq (nat_cmp j.id id)) s.jobs) }
         ensures same { HasCleanDisk (state S.Store self.new) → OnOk result ((s : State) → IsAt S.Store s self.old → IsAt S.Store s self.new) }
         ensures left { HasCleanDisk (state S.Store self.new) → (s : State) → IsAt S.Store s self.old → (db : Trees) → (state S.Store self.new).may_leave db → StandsIn s db }
@@ -226,6 +231,7 @@ impl<S: Alter> Tables<S> {
 
     /// The variables of a job, by key.
     pub fn job_variables(&mut self, job: u64) -> Result<Vec<JobVariable>, StoreFault>
+        ensures clean { doubt (state S.Store self.old).is_clean ≤ doubt (state S.Store self.new).is_clean }
         ensures found { HasCleanDisk (state S.Store self.new) → IfOk result (λ found. (s : State) → IsAt S.Store s self.old → found.items ≡ filter (λ v. is_eq (nat_cmp v.job job)) s.job_variables) }
         ensures same { HasCleanDisk (state S.Store self.new) → OnOk result ((s : State) → IsAt S.Store s self.old → IsAt S.Store s self.new) }
         ensures left { HasCleanDisk (state S.Store self.new) → (s : State) → IsAt S.Store s self.old → (db : Trees) → (state S.Store self.new).may_leave db → StandsIn s db }
@@ -235,6 +241,7 @@ impl<S: Alter> Tables<S> {
 
     /// The attempt with the number.
     pub fn attempt(&mut self, id: u64) -> Result<Option<Attempt>, StoreFault>
+        ensures clean { doubt (state S.Store self.old).is_clean ≤ doubt (state S.Store self.new).is_clean }
         ensures found { HasCleanDisk (state S.Store self.new) → IfOk result (λ found. (s : State) → IsAt S.Store s self.old → found ≡ find (λ a. is_eq (nat_cmp a.id id)) s.attempts) }
         ensures same { HasCleanDisk (state S.Store self.new) → OnOk result ((s : State) → IsAt S.Store s self.old → IsAt S.Store s self.new) }
         ensures left { HasCleanDisk (state S.Store self.new) → (s : State) → IsAt S.Store s self.old → (db : Trees) → (state S.Store self.new).may_leave db → StandsIn s db }
@@ -244,6 +251,7 @@ impl<S: Alter> Tables<S> {
 
     /// The attempts of a job, by number.
     pub fn attempts_of(&mut self, job: u64) -> Result<Vec<Attempt>, StoreFault>
+        ensures clean { doubt (state S.Store self.old).is_clean ≤ doubt (state S.Store self.new).is_clean }
         ensures found { HasCleanDisk (state S.Store self.new) → IfOk result (λ found. (s : State) → IsAt S.Store s self.old → found.items ≡ filter (λ a. is_eq (nat_cmp a.job job)) s.attempts) }
         ensures same { HasCleanDisk (state S.Store self.new) → OnOk result ((s : State) → IsAt S.Store s self.old → IsAt S.Store s self.new) }
         ensures left { HasCleanDisk (state S.Store self.new) → (s : State) → IsAt S.Store s self.old → (db : Trees) → (state S.Store self.new).may_leave db → StandsIn s db }
@@ -253,6 +261,7 @@ impl<S: Alter> Tables<S> {
 
     /// All jobs, by number. It reads the whole table.
     pub fn jobs(&mut self) -> Result<Vec<Job>, StoreFault>
+        ensures clean { doubt (state S.Store self.old).is_clean ≤ doubt (state S.Store self.new).is_clean }
         ensures found { HasCleanDisk (state S.Store self.new) → IfOk result (λ found. (s : State) → IsAt S.Store s self.old → found.items ≡ s.jobs) }
         ensures same { HasCleanDisk (state S.Store self.new) → OnOk result ((s : State) → IsAt S.Store s self.old → IsAt S.Store s self.new) }
         ensures left { HasCleanDisk (state S.Store self.new) → (s : State) → IsAt S.Store s self.old → (db : Trees) → (state S.Store self.new).may_leave db → StandsIn s db }
