@@ -1,6 +1,6 @@
 //! Loads of records.
 
-ghost use Rattle.std.specs.Prelude.{◌≡◌, ◌≤◌, ◌&&◌, false, filter, find, IfOk, OnOk};
+ghost use Rattle.std.specs.Prelude.{◌≡◌, ◌≤◌, false, filter, find, IfOk, OnOk};
 ghost use Rattle.std.specs.Ordering.{nat_cmp, is_eq};
 ghost use Rattle.std.specs.Cmp.Lexicographic.{slice_cmp};
 ghost use Rattle.sqlite.specs.Given.{IsPlain};
@@ -31,7 +31,7 @@ use sqlite::types::{ToSql, ValueRef};
 use sqlite::{Alter, Connection, Row};
 
 /// The rows of a query that writes nothing.
-fn look_up<S: Alter>(
+pub(crate) fn look_up<S: Alter>(
     conn: &mut Connection<S>,
     sql: &str,
     params: &[ValueRef<'_>],

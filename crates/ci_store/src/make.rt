@@ -208,15 +208,15 @@ fn put_record<S: Alter>(
     tx: &mut Transaction<'_, S>,
     alloc: Global,
     is_new: bool,
-    record: &Record,
+    item: &Record,
 ) -> Result<(), StoreFault>
     ensures same_reference { tx.new.conn.ghost_name ≡ tx.old.conn.ghost_name }
     ensures makes { HasCleanDisk (state S.Store tx.new.conn.now) → IsTrue tx.old.conn.now.in_transaction
-        → OnOk result (Makes S.Store (with_record record.now) tx.old.conn.now tx.new.conn.now) }
+        → OnOk result (Makes S.Store (with_record item.now) tx.old.conn.now tx.new.conn.now) }
     ensures kept { HasCleanDisk (state S.Store tx.new.conn.now) → IsTrue tx.old.conn.now.in_transaction → KeepsCommit (state S.Store tx.old.conn.now) (state S.Store tx.new.conn.now) }
     ensures survives { Survives (state S.Store tx.old.conn.now) (state S.Store tx.new.conn.now) (λ _. ⊥) }
 {
-    match record {
+    match item {
         Record::Project(project) => put_project(tx, is_new, project),
         Record::Runner(runner) => put_runner(tx, alloc, is_new, runner),
         Record::Pipeline(pipeline) => put_pipeline(tx, is_new, pipeline),

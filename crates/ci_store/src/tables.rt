@@ -1,6 +1,6 @@
 //! The tables, which are the only writer of their store.
 
-ghost use Rattle.std.specs.Prelude.{◌≡◌, ◌≤◌, ◌⊎◌, false, filter, find, IfOk, OnOk, Err};
+ghost use Rattle.std.specs.Prelude.{◌≡◌, ◌≤◌, ◌⊎◌, false, filter, find, IfOk, IfErr, OnOk, Err};
 ghost use Rattle.sqlite.specs.State.{HasCleanDisk, Survives};
 ghost use Rattle.sqlite.specs.Held.{state};
 ghost use Rattle.sqlite.specs.Tree.{Trees};
@@ -115,16 +115,29 @@ fn make_tables<S: Alter>(conn: &mut Connection<S>) -> Result<(), OpenFault>
     }
 }
 
-/// The number under a key of `meta`, if there is one.
-fn meta_number<S: Alter>(conn: &mut Connection<S>, key: &str) -> Result<Option<u64>, OpenFault>
+/// Whether the store has a table as `meta` is, by a statement that is not run.
+fn understands<S: Alter>(conn: &mut Connection<S>) -> Result<(), OpenFault>
     requires { conn.old.in_transaction ≡ false }
     ensures idle { conn.new.in_transaction ≡ false }
+    ensures same { HasCleanDisk (state S.Store conn.new) → OnOk result ((s : State) → IsAt S.Store s conn.old → IsAt S.Store s conn.new) }
+    ensures left { HasCleanDisk (state S.Store conn.new) → (s : State) → IsAt S.Store s conn.old → (db : Trees) → (state S.Store conn.new).may_leave db → StandsIn s db }
 {
-    let rows = match conn.query_all(texts::SELECT_META, &[key.to_sql()]) {
-        Ok(rows) => rows,
-        Err(Error::SqlInputError(_)) => return Ok(None),
-        Err(error) => return Err(OpenFault::from(StoreFault::from(error))),
-    };
+    match conn.prepare(texts::SELECT_META) {
+        Ok(_) => Ok(()),
+        Err(Error::SqlInputError(_)) => Err(OpenFault::O1),
+        Err(error) => Err(OpenFault::from(StoreFault::from(error))),
+    }
+}
+
+/// The number under a key of `meta`, if there is one.
+fn meta_number<S: Alter>(conn: &mut Connection<S>, key: &str) -> Result<Option<u64>, StoreFault>
+    requires { conn.old.in_transaction ≡ false }
+    ensures idle { conn.new.in_transaction ≡ false }
+    ensures clean { doubt (state S.Store conn.old).is_clean ≤ doubt (state S.Store conn.new).is_clean }
+    ensures same { HasCleanDisk (state S.Store conn.new) → OnOk result ((s : State) → IsAt S.Store s conn.old → IsAt S.Store s conn.new) }
+    ensures left { HasCleanDisk (state S.Store conn.new) → (s : State) → IsAt S.Store s conn.old → (db : Trees) → (state S.Store conn.new).may_leave db → StandsIn s db }
+{
+    let rows = load::look_up(conn, texts::SELECT_META, &[key.to_sql()])?;
     match rows.as_slice() {
         [row] => Ok(row.get(1).ok()),
         _ => Ok(None),
@@ -135,7 +148,10 @@ fn meta_number<S: Alter>(conn: &mut Connection<S>, key: &str) -> Result<Option<u
 fn recognize<S: Alter>(conn: &mut Connection<S>) -> Result<(), OpenFault>
     requires { conn.old.in_transaction ≡ false }
     ensures idle { conn.new.in_transaction ≡ false }
+    ensures same { HasCleanDisk (state S.Store conn.new) → OnOk result ((s : State) → IsAt S.Store s conn.old → IsAt S.Store s conn.new) }
+    ensures left { HasCleanDisk (state S.Store conn.new) → (s : State) → IsAt S.Store s conn.old → (db : Trees) → (state S.Store conn.new).may_leave db → StandsIn s db }
 {
+    understands(conn)?;
     if meta_number(conn, "format")? != Some(FORMAT) {
         return Err(OpenFault::O1);
     }
@@ -160,7 +176,10 @@ impl<S: Alter> Tables<S> {
 
     /// Opens the tables of a store. Errors: O1, it is not of this format; O2, it is of another version; O3, it failed, or a
     /// transaction is open.
-    pub fn open(mut conn: Connection<S>) -> Result<Tables<S>, (OpenFault, Connection<S>)> {
+    pub fn open(mut conn: Connection<S>) -> Result<Tables<S>, (OpenFault, Connection<S>)>
+        ensures opened { IfOk result (λ t. HasCleanDisk (state S.Store t) → (s : State) → IsAt S.Store s conn → IsAt S.Store s t) }
+        ensures left { IfErr result (λ e. HasCleanDisk (state S.Store e.1) → (s : State) → IsAt S.Store s conn → (db : Trees) → (state S.Store e.1).may_leave db → StandsIn s db) }
+    {
         if !conn.is_autocommit() {
             return Err((OpenFault::O3, conn));
         }
