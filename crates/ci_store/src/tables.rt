@@ -1,6 +1,6 @@
 //! The tables, which are the only writer of their store.
 
-ghost use Rattle.std.specs.Prelude.{◌≡◌, ◌≤◌, ◌⊎◌, false, filter, find, IfOk, IfErr, OnOk, Err};
+ghost use Rattle.std.specs.Prelude.{◌≡◌, ◌≤◌, ◌⊎◌, true, false, filter, find, IfOk, IfErr, OnOk, Err};
 ghost use Rattle.sqlite.specs.State.{HasCleanDisk, Survives};
 ghost use Rattle.sqlite.specs.Held.{state};
 ghost use Rattle.sqlite.specs.Tree.{Trees};
@@ -8,10 +8,11 @@ ghost use Rattle.sqlite_trees.specs.View.{doubt};
 ghost use Rattle.ci_machine.specs.State.{State, applied};
 ghost use Rattle.std.specs.Ordering.{nat_cmp, is_eq};
 ghost use Rattle.std.specs.Cmp.Lexicographic.{slice_cmp};
-ghost use Rattle.ci_store.specs.Stands.{StandsIn, IsAt};
+ghost use Rattle.ci_store.specs.Stands.{StandsIn, IsAt, LeavesOnly};
 ghost use Rattle.ci_store.specs.Load.{next_in};
 
 use crate::commit::commit;
+use crate::settle::is_settled;
 use crate::{load, texts};
 use ci_machine::change::{Counter, Delta};
 use ci_machine::records::{Attempt, Job, JobVariable, Pipeline, Project, Runner};
@@ -119,6 +120,7 @@ fn make_tables<S: Alter>(conn: &mut Connection<S>) -> Result<(), OpenFault>
 fn understands<S: Alter>(conn: &mut Connection<S>) -> Result<(), OpenFault>
     requires { conn.old.in_transaction ≡ false }
     ensures idle { conn.new.in_transaction ≡ false }
+    ensures clean { doubt (state S.Store conn.old).is_clean ≤ doubt (state S.Store conn.new).is_clean }
     ensures same { HasCleanDisk (state S.Store conn.new) → OnOk result ((s : State) → IsAt S.Store s conn.old → IsAt S.Store s conn.new) }
     ensures left { HasCleanDisk (state S.Store conn.new) → (s : State) → IsAt S.Store s conn.old → (db : Trees) → (state S.Store conn.new).may_leave db → StandsIn s db }
 {
@@ -148,6 +150,7 @@ fn meta_number<S: Alter>(conn: &mut Connection<S>, key: &str) -> Result<Option<u
 fn recognize<S: Alter>(conn: &mut Connection<S>) -> Result<(), OpenFault>
     requires { conn.old.in_transaction ≡ false }
     ensures idle { conn.new.in_transaction ≡ false }
+    ensures clean { doubt (state S.Store conn.old).is_clean ≤ doubt (state S.Store conn.new).is_clean }
     ensures same { HasCleanDisk (state S.Store conn.new) → OnOk result ((s : State) → IsAt S.Store s conn.old → IsAt S.Store s conn.new) }
     ensures left { HasCleanDisk (state S.Store conn.new) → (s : State) → IsAt S.Store s conn.old → (db : Trees) → (state S.Store conn.new).may_leave db → StandsIn s db }
 {
@@ -177,16 +180,28 @@ impl<S: Alter> Tables<S> {
     /// Opens the tables of a store. Errors: O1, it is not of this format; O2, it is of another version; O3, it failed, or a
     /// transaction is open.
     pub fn open(mut conn: Connection<S>) -> Result<Tables<S>, (OpenFault, Connection<S>)>
-        ensures opened { IfOk result (λ t. HasCleanDisk (state S.Store t) → (s : State) → IsAt S.Store s conn → IsAt S.Store s t) }
-        ensures left { IfErr result (λ e. HasCleanDisk (state S.Store e.1) → (s : State) → IsAt S.Store s conn → (db : Trees) → (state S.Store e.1).may_leave db → StandsIn s db) }
+        ensures opened { IfOk result (λ t. HasCleanDisk (state S.Store t) → (s : State) → LeavesOnly S.Store s conn → IsAt S.Store s t) }
+        ensures left { IfErr result (λ e. HasCleanDisk (state S.Store e.1) → (s : State) → LeavesOnly S.Store s conn → LeavesOnly S.Store s e.1) }
     {
         if !conn.is_autocommit() {
+            return Err((OpenFault::O3, conn));
+        }
+        if !is_settled(&mut conn) {
             return Err((OpenFault::O3, conn));
         }
         match recognize(&mut conn) {
             Ok(()) => Ok(Tables { conn }),
             Err(fault) => Err((fault, conn)),
         }
+    }
+
+    /// Is the store open, by a statement that is not run? Then the tables hold the state that alone a stop leaves.
+    pub fn is_settled(&mut self) -> bool
+        ensures clean { doubt (state S.Store self.old).is_clean ≤ doubt (state S.Store self.new).is_clean }
+        ensures settled { HasCleanDisk (state S.Store self.new) → result ≡ true → (s : State) → LeavesOnly S.Store s self.old → IsAt S.Store s self.new }
+        ensures left { HasCleanDisk (state S.Store self.new) → (s : State) → LeavesOnly S.Store s self.old → LeavesOnly S.Store s self.new }
+    {
+        is_settled(&mut self.conn)
     }
 
     /// Gives the connection back.
