@@ -8,3 +8,4 @@ pub mod Responses
 pub mod Queues
 pub mod Handling
 pub mod Runs
+mod Tabled

@@ -12,8 +12,9 @@ pub mod link;
 mod loads;
 pub mod route;
 pub mod serve;
-pub mod server;
+
 pub mod store;
 #[cfg(test)]
 mod tests;
+mod tables;
 pub mod text;
