@@ -53,10 +53,10 @@ pub looked_up : {S A : Type 0} (g : Ghosts S) (old mid new : Held S) (found resu
     → (HasCleanDisk (state g new) → (s : State) → LeavesOnly g s mid → LeavesOnly g s new)
     → Looks (λ (t : Held S). HasCleanDisk (state g t)) (λ t s. IsAt g s t) (λ t s u. LeavesEither g s u t) old new result
 looked_up {S = S} {A = A} g old mid new found result less same left less_still ok memory left_still = record {
-    was_honest = λ clean. omega (arith, less, less_still, clean);
-    kept = λ clean s at. kept_by result ok (memory clean) (omega (arith, less_still, clean)) s at;
-    left = λ clean s at db may. inl (left_still clean s (left (omega (arith, less_still, clean)) s at) db may);
-  }
+  was_honest = λ clean. omega (arith, less, less_still, clean);
+  kept = λ clean s at. kept_by result ok (memory clean) (omega (arith, less_still, clean)) s at;
+  left = λ clean s at db may. inl (left_still clean s (left (omega (arith, less_still, clean)) s at) db may);
+}
   where
     kept_by : (r : Result A StoreFault) → IfOk r (λ x. (found ≡ Ok x) × (new ≡ mid)) → (r ≡ Err Memory → (s : State) → LeavesOnly g s mid → IsAt g s new)
         → HasCleanDisk (state g mid) → (s : State) → IsAt g s old → UnlessBroken r (IsAt g s new)

@@ -10,3 +10,4 @@ pub mod Serving
 pub mod Stores
 pub mod Handling
 pub mod Runs
+pub mod Served

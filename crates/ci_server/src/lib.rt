@@ -12,9 +12,9 @@ pub mod link;
 mod loads;
 pub mod route;
 pub mod serve;
-
+pub mod server;
 pub mod store;
+mod tables;
 #[cfg(test)]
 mod tests;
-mod tables;
 pub mod text;

@@ -7,14 +7,13 @@ ghost use Rattle.sqlite_trees.specs.View.{doubt};
 ghost use Rattle.ci_machine.specs.State.{State};
 ghost use Rattle.ci_store.specs.Stands.{IsAt, LeavesOnly};
 
+use crate::store::Store;
 use ci_machine::change::{Counter, Delta};
 use ci_machine::records::{Attempt, Job, JobVariable, Pipeline, Project, Runner};
 use ci_machine::text::Text;
 use ci_store::Alter;
 use ci_store::fault::StoreFault;
 use ci_store::tables::Tables;
-
-use crate::store::Store;
 
 /// What a look-up found. Where memory was refused, the tables have to be open still: else the store has failed.
 fn kept<S: Alter, A: Drop>(

@@ -10,11 +10,11 @@ use Rattle.ci_server.proofs.tables.TablesStore.project.Goals as goal
 pub returns-clause-value : goal.returns-clause-value
 returns-clause-value g c =
     found_in g.S.Store c.args.self.now c.project-found.new.self c.kept.new.tables c.project-found.result c.kept.result
-        (λ s x. x ≡ find (λ p. is_eq (nat_cmp p.id c.args.id)) s.projects) (λ s x. x ≡ project_at s c.args.id)
-        (λ s x e. e ∙ find_number (λ (p : Project). p.id) c.args.id s.projects)
-        c.kept.ensures.clean c.kept.ensures.ok c.project-found.ensures.found
+    (λ s x. x ≡ find (λ p. is_eq (nat_cmp p.id c.args.id)) s.projects) (λ s x. x ≡ project_at s c.args.id)
+    (λ s x e. e ∙ find_number (λ (p : Project). p.id) c.args.id s.projects)
+    c.kept.ensures.clean c.kept.ensures.ok c.project-found.ensures.found
 
 pub returns-clause-looks : goal.returns-clause-looks
 returns-clause-looks g c =
     looked_up g.S.Store c.args.self.now c.project-found.new.self c.kept.new.tables c.project-found.result c.kept.result
-        c.project-found.ensures.clean c.project-found.ensures.same c.project-found.ensures.left c.kept.ensures.clean c.kept.ensures.ok c.kept.ensures.memory c.kept.ensures.left
+    c.project-found.ensures.clean c.project-found.ensures.same c.project-found.ensures.left c.kept.ensures.clean c.kept.ensures.ok c.kept.ensures.memory c.kept.ensures.left
