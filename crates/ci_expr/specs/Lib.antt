@@ -1,0 +1,9 @@
+pub mod Lexeme
+pub mod Token
+pub mod View
+pub mod Formula
+pub mod Truth
+pub mod Found
+pub mod Faults
+pub mod Descent
+pub mod Built

@@ -1,0 +1,48 @@
+-- What a call answers, without where it lies in memory.
+use Rattle.std.specs.Prelude.{◌≡◌, ℕ, ◌≤◌, List, Option, Result, Ok, Err, map, true, chars, ⊤}
+use Rattle.std.specs.Global.{Vec}
+use Rattle.ci_expr.specs.declared.fault.ExprFault.{ExprFault}
+use Rattle.ci_expr.specs.declared.fault.ExprFault.TheVariants.{X8}
+use Rattle.ci_expr.specs.declared.fault.ExprError.{ExprError}
+use Rattle.ci_expr.specs.declared.fault.ExprError.TheVariants as errors
+use Rattle.ci_expr.specs.declared.token.Token as rust
+use Rattle.ci_expr.specs.declared.tree.Operand as operands
+use Rattle.ci_expr.specs.declared.tree.Operand.TheVariants as operand
+use Rattle.ci_expr.specs.declared.tree.Tree as trees
+use Rattle.ci_expr.specs.declared.tree.Tree.TheVariants.{Either', Both', Group', Present, Equal, Found}
+use Rattle.ci_expr.specs.Token.{Token}
+use Rattle.ci_expr.specs.Formula.{Operand, null, text, variable, Formula, either, both, group, present, equal, found, Level, unescaped, has_pattern}
+use Rattle.ci_expr.specs.Descent.{Read, descend, reach}
+
+abbrev pub token_view : rust.Token → Token
+token_view t = record { kind = t.kind; slice = t.slice.now; start = t.start; end = t.end }
+
+abbrev pub tokens_view : Vec rust.Token → List Token
+tokens_view v = map token_view v.items
+
+abbrev pub operand_view : operands.Operand → Operand
+operand_view operand.Null = null
+operand_view (operand.Text s) = text s.now
+operand_view (operand.Variable s) = variable s.now
+
+abbrev pub tree_view : trees.Tree → Formula
+tree_view (Either' p a q b) = either (tree_view a) (tree_view b)
+tree_view (Both' p a q b) = both (tree_view a) (tree_view b)
+tree_view (Group' p a) = group (tree_view a)
+tree_view (Present name) = present name.now
+tree_view (Equal negated name operand) = equal negated name.now (operand_view operand)
+tree_view (Found negated name body insensitive) = found negated name.now (unescaped (chars body.now)) insensitive
+
+-- What a function returned is what reading gives, unless memory ran out.
+abbrev pub Fails : {Y : Type 0} → ExprError → Result Y ExprFault → Type 0
+Fails errors.Memory read = ⊤
+Fails (errors.Fault c) read = read ≡ Err c
+
+abbrev pub Gives : {X Y : Type 0} → (X → Y) → Result X ExprError → Result Y ExprFault → Type 0
+Gives view (Ok x) read = read ≡ Ok (view x)
+Gives view (Err e) read = Fails e read
+
+-- a pattern is refused only where there is one
+abbrev pub RefusesPattern : ExprError → Formula → Type 0
+RefusesPattern errors.Memory f = ⊤
+RefusesPattern (errors.Fault x) f = (x ≡ X8) × (has_pattern f ≡ true)
