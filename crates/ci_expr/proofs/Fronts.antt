@@ -120,7 +120,7 @@ body-is false (b ∷ bs) n e = split (b == 47) _ _ _ _ e
     (λ other g. let m = more (body_length (b == 92) bs) n g in let w = body-is (b == 92) bs m.0 m.1 in
     subst (IsEnd false (b ∷ bs)) (sym m.2) (record { lt = omega (arith, w.lt); cut = ap (λ ys. b ∷ ys) w.cut; body = rest-more b _ (b == 92) refl other w.body }))
 
-within : (bs : List ℕ) (n b : ℕ) → get_or bs n 0 ≡ b → 0 < b → n < length bs
+pub within : (bs : List ℕ) (n b : ℕ) → get_or bs n 0 ≡ b → 0 < b → n < length bs
 within [] zero b e lt = absurd (omega (arith, e, lt))
 within [] (suc n) b e lt = absurd (omega (arith, e, lt))
 within (c ∷ bs) zero b e lt = omega arith

@@ -1,3 +1,10 @@
 pub mod Lexing
 pub mod Fronts
 pub mod Sound
+pub mod FoundLemmas
+pub mod Unescaping
+pub mod Descending
+pub mod KindLemmas
+pub mod Parts
+pub mod ReadIsDerived
+pub mod DerivedIsRead

@@ -42,7 +42,16 @@ abbrev pub Gives : {X Y : Type 0} → (X → Y) → Result X ExprError → Resul
 Gives view (Ok x) read = read ≡ Ok (view x)
 Gives view (Err e) read = Fails e read
 
+-- the only fault of a pattern
+abbrev pub IsOfPattern : ExprError → Type 0
+IsOfPattern errors.Memory = ⊤
+IsOfPattern (errors.Fault x) = x ≡ X8
+
 -- a pattern is refused only where there is one
 abbrev pub RefusesPattern : ExprError → Formula → Type 0
 RefusesPattern errors.Memory f = ⊤
 RefusesPattern (errors.Fault x) f = (x ≡ X8) × (has_pattern f ≡ true)
+
+-- what reading a level answers, with any number of steps that is enough
+abbrev pub IsDescent : {X : Type 0} → (X → Formula × List Token) → Level → List Token → Result X ExprError → Type 0
+IsDescent view l ts result = (n : ℕ) → reach l ts ≤ n → Gives view result (descend n l ts)

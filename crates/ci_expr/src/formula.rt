@@ -1,9 +1,10 @@
 //! Formulas whose patterns are built, and their truth.
 
 ghost use Rattle.std.specs.Prelude.{◌≡◌, List, chars, string_bytes, IfOk, IfErr, option_map};
+ghost use Rattle.regex.specs.Strings.{regex_source};
 ghost use Rattle.ci_expr.specs.Formula.{unescaped};
 ghost use Rattle.ci_expr.specs.Truth.{same_value, negated_by, value_of, operand_value, truth};
-ghost use Rattle.ci_expr.specs.View.{tree_view, operand_view, RefusesPattern};
+ghost use Rattle.ci_expr.specs.View.{tree_view, operand_view, IsOfPattern, RefusesPattern};
 ghost use Rattle.ci_expr.specs.Built.{subject_view, formula_view, values_of};
 
 use crate::fault::{ExprError, ExprFault};
@@ -82,7 +83,11 @@ fn subject_of(alloc: Global, operand: &Operand) -> Result<Subject, AllocError>
 }
 
 /// The built pattern of a body.
-fn pattern_from(alloc: Global, body: &str, insensitive: bool) -> Result<Pattern, ExprError> {
+fn pattern_from(alloc: Global, body: &str, insensitive: bool) -> Result<Pattern, ExprError>
+    ensures source { IfOk result (λ p. chars (regex_source p.regex) ≡ unescaped (chars body.now)) }
+    ensures flag { IfOk result (λ p. p.insensitive ≡ insensitive) }
+    ensures refused { IfErr result IsOfPattern }
+{
     let source = unescaped(alloc, body)?;
     match build_pattern(alloc, source.as_str(), insensitive) {
         Ok(pattern) => Ok(pattern),
@@ -140,7 +145,7 @@ fn value_of<'a>(env: &Env<'a>, name: &str) -> Option<&'a str>
 
 /// Are the two values the same? `null` and the empty text differ.
 fn same_value(a: Option<&str>, b: Option<&str>) -> bool
-    ensures { result ≡ same_value (option_map (λ v. v.now) a) (option_map (λ v. v.now) b) }
+    ensures { result ≡ same_value (option_map (λ v. v.now) a.entry) (option_map (λ v. v.now) b.entry) }
 {
     match (a, b) {
         (Some(a), Some(b)) => a == b,

@@ -11,23 +11,23 @@ use crate::token::{Kind, Token};
 const MAX_DEPTH: usize = 32;
 
 /// How many parentheses are open after a token.
-fn open_after(open: usize, kind: Kind) -> usize
-    requires { open + 1 < 2 ^ 64 }
-    ensures { result ≡ open_after open kind }
+fn open_after(count: usize, kind: Kind) -> usize
+    requires { count + 1 < 2 ^ 64 }
+    ensures { result ≡ open_after count kind }
 {
     match kind {
-        Kind::Left => open + 1,
-        Kind::Right => open.saturating_sub(1),
-        _ => open,
+        Kind::Left => count + 1,
+        Kind::Right => count.saturating_sub(1),
+        _ => count,
     }
 }
 
 /// Does a token close a parenthesis where none is open?
-fn closes_none(open: usize, kind: Kind) -> bool
-    ensures { result ≡ closes_none open kind }
+fn closes_none(count: usize, kind: Kind) -> bool
+    ensures { result ≡ closes_none count kind }
 {
     match kind {
-        Kind::Right => open == 0,
+        Kind::Right => count == 0,
         _ => false,
     }
 }
@@ -36,27 +36,27 @@ fn closes_none(open: usize, kind: Kind) -> bool
 fn balances(tokens: &[Token]) -> bool
     ensures { result ≡ balances 0 (map token_view tokens.now) }
 {
-    let mut open = 0;
+    let mut count = 0;
     for token in tokens {
-        if closes_none(open, token.kind) {
+        if closes_none(count, token.kind) {
             return false;
         }
-        open = open_after(open, token.kind);
+        count = open_after(count, token.kind);
     }
-    open == 0
+    count == 0
 }
 
 /// The most parentheses that are open at once.
 fn deepest(tokens: &[Token]) -> usize
     ensures { result ≡ deepest 0 (map token_view tokens.now) }
 {
-    let mut open = 0;
+    let mut count = 0;
     let mut most = 0;
     for token in tokens {
-        open = open_after(open, token.kind);
-        most = open.max(most);
+        most = count.max(most);
+        count = open_after(count, token.kind);
     }
-    most
+    count.max(most)
 }
 
 /// Is it a pattern?
