@@ -72,16 +72,16 @@ group-read l inner r f left a right rest h =
     (group-by (l ∷ (inner ++ r ∷ rest)) (inner ++ r ∷ rest) (r ∷ rest) l f (Some rest) refl left (a (r ∷ rest) (ends-at or r rest kind.Right right refl)) (behind-at kind.Right r rest right))
 
 pub derived-read : (l : Level) (ts : List Token) (f : Formula) → Derives l ts f → IsRead l ts f
-derived-read _ _ _ (or_one ts f d) rest h = or-one (ts ++ rest) rest f (derived-read and ts f d rest (ends-and rest h)) (no-or rest h)
+derived-read _ _ _ (or_one ts f d) = λ rest h. or-one (ts ++ rest) rest f (derived-read and ts f d rest (ends-and rest h)) (no-or rest h)
 derived-read _ _ _ (or_more left t right ts f g a is b e) =
     subst (λ us. IsRead or us (either f g)) (sym e) (or-read left t right f g (derived-read and left f a) is (derived-read or right g b))
-derived-read _ _ _ (and_one ts f d) rest h = and-one (ts ++ rest) rest f (derived-read test ts f d rest (ends-test rest h)) (no-and rest h)
+derived-read _ _ _ (and_one ts f d) = λ rest h. and-one (ts ++ rest) rest f (derived-read test ts f d rest (ends-test rest h)) (no-and rest h)
 derived-read _ _ _ (and_more left t right ts f g a is b e) =
     subst (λ us. IsRead and us (both f g)) (sym e) (and-read left t right f g (derived-read test left f a) is (derived-read and right g b))
 derived-read _ _ _ (in_group l inner r ts f left a right e) =
     subst (λ us. IsRead test us (group f)) (sym e) (group-read l inner r f left (derived-read or inner f a) right)
-derived-read _ _ _ (alone v name named) rest h = named-read v name rest rest (present name) named (named-alone name rest h)
-derived-read _ _ _ (compared v c w negated name operand named sign is) rest h =
+derived-read _ _ _ (alone v name named) = λ rest h. named-read v name rest rest (present name) named (named-alone name rest h)
+derived-read _ _ _ (compared v c w negated name operand named sign is) = λ rest h.
     named-read v name (c ∷ w ∷ rest) rest (equal negated name operand) named (named-compared negated name c w operand rest sign is)
-derived-read _ _ _ (matched v c w negated name source insensitive named sign is) rest h =
+derived-read _ _ _ (matched v c w negated name source insensitive named sign is) = λ rest h.
     named-read v name (c ∷ w ∷ rest) rest (found negated name source insensitive) named (named-matched negated name c w source insensitive rest sign is)

@@ -8,3 +8,5 @@ pub mod KindLemmas
 pub mod Parts
 pub mod ReadIsDerived
 pub mod DerivedIsRead
+pub mod Wholes
+pub mod ParseLemmas

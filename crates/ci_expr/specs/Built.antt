@@ -1,6 +1,7 @@
 -- What a built formula says.
 use Rattle.std.specs.Prelude.{ℕ, List, map, chars, string_bytes}
 use Rattle.regex.specs.Strings.{regex_source}
+use Rattle.ci_expr.specs.declared.expr.Expr.{Expr}
 use Rattle.ci_expr.specs.declared.formula.Env.{Env}
 use Rattle.ci_expr.specs.declared.formula.Subject as subjects
 use Rattle.ci_expr.specs.declared.formula.Subject.TheVariants as subject
@@ -24,3 +25,7 @@ formula_view (Group' p a) = group (formula_view a)
 formula_view (Present name) = present (string_bytes name)
 formula_view (Equal negated name subject) = equal negated (string_bytes name) (subject_view subject)
 formula_view (Found negated name pattern) = found negated (string_bytes name) (chars (regex_source pattern.regex)) pattern.insensitive
+
+-- the formula that an expression says
+abbrev pub formula_of : Expr → Formula
+formula_of e = formula_view e.root

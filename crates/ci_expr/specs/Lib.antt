@@ -6,4 +6,5 @@ pub mod Truth
 pub mod Found
 pub mod Faults
 pub mod Descent
+pub mod Meaning
 pub mod Built

@@ -1,7 +1,9 @@
 //! Tokens of an expression.
 
-ghost use Rattle.std.specs.Prelude.{◌<◌, ◌≤◌, drop, length, IfOk};
-ghost use Rattle.ci_expr.specs.Token.{AreTokens, token_from, tokens_of};
+ghost use Rattle.std.specs.Prelude.{◌<◌, ◌≤◌, drop, length, List, Result, IfOk};
+ghost use Rattle.ci_expr.specs.declared.fault.ExprFault.{ExprFault as Code};
+ghost use Rattle.ci_expr.specs.Token.{Token as Read, token_from, tokens_of};
+ghost use Rattle.ci_expr.specs.Meaning.{Tokenizes, Answers};
 ghost use Rattle.ci_expr.specs.View.{Gives, token_view, tokens_view};
 
 use crate::fault::{ExprError, ExprFault};
@@ -75,12 +77,15 @@ fn read_tokens(alloc: Global, text: &str) -> Result<Vec<Token<'_>>, ExprError>
     Ok(found)
 }
 
-/// The tokens of a text.
+/// The tokens of a text, in their order: slices with nothing but space, tab, CR and LF between them.
+///
+/// Errors: memory was refused; or the first fault: the text is longer than 1,024 bytes (X1), or what comes first of a
+/// character or word that begins no token (X2) and a quoted text or pattern that doesn't end (X3).
 pub fn tokens(alloc: Global, text: &str) -> Result<Vec<Token<'_>>, ExprError>
-    // What is answered are tokens whose slices, parted by blanks alone, make up the text.
-    ensures found { IfOk result (λ v. AreTokens 0 text.now (tokens_view v)) }
-    // Which tokens, and which fault.
-    ensures exact { Gives tokens_view result (tokens_of text.now) }
+    // What is answered are the tokens of the text, or its first fault.
+    ensures answer { Answers tokens_view result (Tokenizes text.now) }
+    // Where the text has tokens, or a fault, that is answered.
+    ensures only { (r : Result (List Read) Code) → Tokenizes text.now r → Gives tokens_view result r }
 {
     read_tokens(alloc, text)
 }
