@@ -1,14 +1,13 @@
 -- What the grammar derives is read from the left, where nothing follows that would make it longer.
-use Rattle.std.proofs.Common.{◌≡◌, ℕ, zero, suc, ◌+◌, ◌*◌, ◌<◌, ◌≤◌, Bool, true, false, cond, List, [], ◌∷◌, ◌++◌, length, Option, None, Some, Result, Ok, Err, refl, sym, ◌∙◌, ap, subst, arith, append_assoc}
-use Rattle.std.specs.Prelude.{chars}
+use Rattle.std.proofs.Common.{◌≡◌, ℕ, ◌<◌, ◌≤◌, Bool, true, false, cond, List, [], ◌∷◌, ◌++◌, length, Some, Ok, Err, refl, sym, ◌∙◌, ap, subst, arith, append_assoc}
 use Rattle.std.proofs.lemmas.List.{length-append}
 use Rattle.ci_expr.specs.declared.fault.ExprFault.TheVariants.{X4}
 use Rattle.ci_expr.specs.declared.token.Kind.{Kind}
 use Rattle.ci_expr.specs.declared.token.Kind.TheVariants as kind
 use Rattle.ci_expr.specs.Token.{Token}
-use Rattle.ci_expr.specs.Formula.{Operand, Formula, either, both, group, present, equal, found, Level, or, and, test, comparing, matching, IsNamed, IsOperand, IsPatternOf, unescaped, Derives, or_one, or_more, and_one, and_more, in_group, alone, compared, matched}
-use Rattle.ci_expr.specs.Descent.{Read, behind, behind_byte, is_kind, operand_by, pattern_of, compared_by, compared_from, matched_by, matched_from, sign_by, named_from, variable_by, descend, reach}
-use Rattle.ci_expr.proofs.KindLemmas.{is_kind-at, behind-at, is_sign, ends, Ends, ends-and, ends-test, no-or, no-and, no-sign, ends-at}
+use Rattle.ci_expr.specs.Formula.{Operand, Formula, either, both, group, present, equal, found, Level, or, and, test, comparing, matching, IsNamed, IsOperand, IsPatternOf, Derives, or_one, or_more, and_one, and_more, in_group, alone, compared, matched}
+use Rattle.ci_expr.specs.Descent.{Read, behind_byte, pattern_of, compared_by, matched_by, matched_from, sign_by, named_from, descend, reach}
+use Rattle.ci_expr.proofs.KindLemmas.{is_kind-at, behind-at, is_sign, Ends, ends-and, ends-test, no-or, no-and, no-sign, ends-at}
 use Rattle.ci_expr.proofs.Parts.{behind_byte-at, operand_by-at, pattern_of-at}
 use Rattle.ci_expr.proofs.Descending.{or-one, or-two, and-one, and-two, group-by, name-by}
 

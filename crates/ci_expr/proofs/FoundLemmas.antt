@@ -1,7 +1,7 @@
 -- A built pattern finds what its source says.
-use Rattle.std.proofs.Common.{◌≡◌, ℕ, ◌<◌, ◌≤◌, Bool, true, List, length, get_or, Option, None, Some, IsSomeAnd, is_some, subst, ap, ◌∙◌}
+use Rattle.std.proofs.Common.{◌≡◌, ℕ, ◌<◌, ◌≤◌, Bool, true, List, length, get_or, Option, None, Some, IsSomeAnd, is_some, ap, ◌∙◌}
 use Rattle.std.specs.Prelude.{chars}
-use Rattle.regex_syntax.specs.Grammar.{Names, group_count, read}
+use Rattle.regex_syntax.specs.Grammar.{Names, group_count}
 use Rattle.regex_syntax.specs.Brackets.{Nested}
 use Rattle.regex.specs.Patterns.{Re, Config, find_str, SameCaptures, Reads}
 use Rattle.regex.specs.Strings.{IsReadFromSource, regex_source, regex_config}

@@ -61,7 +61,7 @@ words-end (b ∷ bs) = by_case (is_word b) refl (words-end bs)
     by_case true e rest = rest
     by_case false e rest = e
 
-start-word : (b : ℕ) → starts_word b ≡ true → is_word b ≡ true
+pub start-word : (b : ℕ) → starts_word b ≡ true → is_word b ≡ true
 start-word b e = ap (λ t. t || (nat_le 48 b && nat_le b 57)) e
 
 abbrev front_name : ℕ → Front
@@ -75,7 +75,7 @@ name-is b (c ∷ cs) x is h = split (starts_word c) _ _ _ _ h
     (λ e g. absurd cc)
 
 -- ---- texts
-more : (o : Option ℕ) (n : ℕ) → option_map suc o ≡ Some n → (m : ℕ) × (o ≡ Some m) × (n ≡ suc m)
+pub more : (o : Option ℕ) (n : ℕ) → option_map suc o ≡ Some n → (m : ℕ) × (o ≡ Some m) × (n ≡ suc m)
 more None n e = absurd cc
 more (Some m) n e = (m, refl, sym (some-same _ _ e))
 
@@ -84,7 +84,7 @@ pub record IsUntil (q : ℕ) (bs : List ℕ) (n : ℕ) : Type 0 where
   pub cut : take (suc n) bs ≡ take n bs ++ q ∷ []
   pub lacks : Lacks q (take n bs)
 
-until-is : (q : ℕ) (bs : List ℕ) (n : ℕ) → until q bs ≡ Some n → IsUntil q bs n
+pub until-is : (q : ℕ) (bs : List ℕ) (n : ℕ) → until q bs ≡ Some n → IsUntil q bs n
 until-is q [] n e = absurd cc
 until-is q (b ∷ bs) n e = split (b == q) _ _ _ _ e
     (λ is g. subst (IsUntil q (b ∷ bs)) (some-same _ _ g) (record { lt = omega arith; cut = ap (λ y. y ∷ []) (eqb-true b q is); lacks = tt }))
@@ -111,7 +111,7 @@ rest-more : (b : ℕ) (bs : List ℕ) (t : Bool) → (b == 92) ≡ t → (b == 4
 rest-more b bs true e other r = subst (λ y. IsBody (y ∷ bs)) (sym (eqb-true b 92 e)) r
 rest-more b bs false e other r = plain b bs other e r
 
-body-is : (escaped : Bool) (bs : List ℕ) (n : ℕ) → body_length escaped bs ≡ Some n → IsEnd escaped bs n
+pub body-is : (escaped : Bool) (bs : List ℕ) (n : ℕ) → body_length escaped bs ≡ Some n → IsEnd escaped bs n
 body-is escaped [] n e = absurd cc
 body-is true (b ∷ bs) n e = let m = more (body_length false bs) n e in let w = body-is false bs m.0 m.1 in
     subst (IsEnd true (b ∷ bs)) (sym m.2) (record { lt = omega (arith, w.lt); cut = ap (λ ys. b ∷ ys) w.cut; body = pair b _ w.body })

@@ -12,7 +12,7 @@ use Rattle.ci_expr.proofs.Fronts.{split}
 abbrev kind_at : ℕ → Kind
 kind_at n =
     cond (n == 0) Name (cond (n == 1) Text (cond (n == 2) Null (cond (n == 3) Equal (cond (n == 4) Unequal (cond (n == 5) Match
-        (cond (n == 6) Mismatch (cond (n == 7) And (cond (n == 8) Or (cond (n == 9) Left (cond (n == 10) Right Pattern))))))))))
+    (cond (n == 6) Mismatch (cond (n == 7) And (cond (n == 8) Or (cond (n == 9) Left (cond (n == 10) Right Pattern))))))))))
 
 kind_at-place : (k : Kind) → kind_at (place k) ≡ k
 kind_at-place Name = refl

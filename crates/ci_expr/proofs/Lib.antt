@@ -10,3 +10,5 @@ pub mod ReadIsDerived
 pub mod DerivedIsRead
 pub mod Wholes
 pub mod ParseLemmas
+pub mod FrontLemmas
+pub mod TokenLemmas

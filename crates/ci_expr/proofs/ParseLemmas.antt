@@ -1,5 +1,5 @@
 -- What is computed of a list of tokens is what it means, and whatever it means is computed.
-use Rattle.std.proofs.Common.{◌≡◌, ℕ, ◌<◌, ◌≤◌, Bool, true, false, cond, List, [], ◌∷◌, ◌++◌, length, Option, None, Some, Result, Ok, Err, refl, sym, ◌∙◌, ap, subst, arith, ◌⊎◌, inl, inr}
+use Rattle.std.proofs.Common.{◌≡◌, ℕ, ◌<◌, ◌≤◌, Bool, true, false, cond, List, [], ◌∷◌, ◌++◌, None, Some, Result, Ok, Err, refl, sym, ◌∙◌, ap, subst, arith, ◌⊎◌, inl, inr}
 use Rattle.std.specs.Prelude.{nat_lt}
 use Rattle.std.proofs.lemmas.Bool.{le-ltb}
 use Rattle.std.proofs.lemmas.Bool.Decides.{nat_tests}
@@ -11,9 +11,8 @@ use Rattle.ci_expr.specs.Token.{Token}
 use Rattle.ci_expr.specs.Formula.{Formula, or, Derives, has_pattern}
 use Rattle.ci_expr.specs.Faults.{balances, deepest, has_stray, list_fault}
 use Rattle.ci_expr.specs.Descent.{formula_from}
-use Rattle.ci_expr.specs.View.{Gives}
+use Rattle.ci_expr.specs.View.{Fails}
 use Rattle.ci_expr.specs.Meaning.{Tokenizes, Parses, Means, Answers, Allows, AtMostOneFormula, parse_by, parse_of, IsBuilt}
-use Rattle.ci_expr.proofs.Fronts.{split}
 use Rattle.ci_expr.proofs.Wholes.{at-most-one, formula_from-derived, formula_from-is, formula_from-only, derived-balanced, derived-tidy}
 
 abbrev Parsed : Type 0
@@ -203,3 +202,8 @@ parse-only view text ts b only h r m = allowed view b (parse_of ts) r h (parse_o
 
 pub one-formula : AtMostOneFormula
 one-formula ts f g a b = at-most-one ts f g a b
+
+pub untokenized-error : {X : Type 0} (view : X → Formula) (text : List ℕ) (e : ExprError) → ((s : Tokenized) → Tokenizes text s → Fails e s) → (r : Parsed) → Means text r
+    → Allows view (Err e) r
+untokenized-error view text errors.Memory only r m = tt
+untokenized-error view text (errors.Fault x) only r m = untokenized-only view text x only r m

@@ -1,16 +1,15 @@
 -- What a token says, and how it is spelled.
-use Rattle.std.proofs.Common.{◌≡◌, ℕ, zero, suc, ◌+◌, ◌-◌, ◌<◌, ◌≤◌, Bool, true, false, cond, List, [], ◌∷◌, ◌++◌, length, take, drop, get_or, Option, None, Some, option_map, refl, sym, ◌∙◌, ap, subst, arith, take-suc, take_all}
-use Rattle.std.specs.Prelude.{◌==◌, ◌||◌, chars, unwrap_or}
+use Rattle.std.proofs.Common.{◌≡◌, ℕ, zero, suc, ◌-◌, ◌<◌, Bool, true, false, cond, List, [], ◌∷◌, ◌++◌, length, take, get_or, Option, None, Some, option_map, refl, sym, ◌∙◌, ap, subst, arith, take-suc, take_all}
+use Rattle.std.specs.Prelude.{◌==◌, ◌||◌, chars}
 use Rattle.std.specs.Option.{option_and_then}
 use Rattle.std.proofs.lemmas.Bool.{eqb-true}
 use Rattle.std.proofs.lemmas.List.{length-append}
 use Rattle.ci_expr.specs.declared.token.Kind.{Kind}
-use Rattle.ci_expr.specs.declared.token.Kind.TheVariants.{Name, Text, Null, Equal, Unequal, Match, Mismatch, And, Or, Left, Right, Pattern}
+use Rattle.ci_expr.specs.declared.token.Kind.TheVariants.{Name, Text, Null, Pattern}
 use Rattle.ci_expr.specs.Token.{Token, IsMark}
 use Rattle.ci_expr.specs.Formula.{Operand, null, text, variable, IsOperand, IsPatternOf, flag_of, unescaped}
 use Rattle.ci_expr.specs.Descent.{behind_byte, before_byte, text_of, flagged, body_by, body_of, pattern_of, operand_by}
 use Rattle.ci_expr.proofs.Fronts.{split, within}
-use Rattle.ci_expr.proofs.KindLemmas.{is_kind-true}
 
 abbrev Same : {A : Type 0} → Option A → A → Type 0
 Same o x = o ≡ Some x
@@ -45,7 +44,7 @@ last-of s q m e is some = omega (arith, e, within s m q is some)
 pub before_byte-is : (q : ℕ) (s n : List ℕ) → 0 < q → before_byte q s ≡ Some n → s ≡ n ++ q ∷ []
 before_byte-is q s n some e = split (get_or s (length s - 1) 0 == q) _ _ _ _ e
     (λ is g. let last = eqb-true _ q is in
-        last-cut s (length s - 1) (last-of s q (length s - 1) refl last some) ∙ ap (λ x. take (length s - 1) s ++ x ∷ []) last ∙ ap (λ xs. xs ++ q ∷ []) (same _ n g))
+    last-cut s (length s - 1) (last-of s q (length s - 1) refl last some) ∙ ap (λ x. take (length s - 1) s ++ x ∷ []) last ∙ ap (λ xs. xs ++ q ∷ []) (same _ n g))
     (λ is g. absurd cc)
 
 last-at : (bs : List ℕ) (q : ℕ) → get_or (bs ++ q ∷ []) (length bs) 0 ≡ q

@@ -51,8 +51,8 @@ step-slash s rest behind more c d all utf8 whole e f back slash h =
     ∙ append_assoc (chars s) (d ∷ []) (unescaped (chars more))
     ∙ ap (λ x. chars s ++ x ∷ unescaped (chars more)) slash
     ∙ ap (λ ys. chars s ++ unescaped ys) (sym (chars_past_char rest behind c whole e
-        ∙ ap (λ ys. c ∷ ys) (chars_past_char behind more d (IsUtf8-past_char rest behind c whole e) f)
-        ∙ ap (λ x. x ∷ d ∷ chars more) back ∙ ap (λ x. 92 ∷ x ∷ chars more) slash))
+    ∙ ap (λ ys. c ∷ ys) (chars_past_char behind more d (IsUtf8-past_char rest behind c whole e) f)
+    ∙ ap (λ x. x ∷ d ∷ chars more) back ∙ ap (λ x. 92 ∷ x ∷ chars more) slash))
     ∙ h
 
 pub step-pair : (s rest behind more : List ℕ) (c d : ℕ) (all : List ℕ) → IsUtf8 s → IsUtf8 (s ++ encode_utf8 c) → IsUtf8 rest → rest ≡ encode_utf8 c ++ behind
@@ -67,8 +67,8 @@ step-pair s rest behind more c d all utf8 utf8' whole e f back ne h =
     ∙ ap (λ x. chars s ++ x ∷ d ∷ unescaped (chars more)) back
     ∙ ap (λ ys. chars s ++ ys) (sym (other d (chars more) ne))
     ∙ ap (λ ys. chars s ++ unescaped ys) (sym (chars_past_char rest behind c whole e
-        ∙ ap (λ ys. c ∷ ys) (chars_past_char behind more d (IsUtf8-past_char rest behind c whole e) f)
-        ∙ ap (λ x. x ∷ d ∷ chars more) back))
+    ∙ ap (λ ys. c ∷ ys) (chars_past_char behind more d (IsUtf8-past_char rest behind c whole e) f)
+    ∙ ap (λ x. x ∷ d ∷ chars more) back))
     ∙ h
 
 pub step-last : (s rest behind : List ℕ) (c : ℕ) (all : List ℕ) → IsUtf8 s → IsUtf8 rest → rest ≡ encode_utf8 c ++ behind → behind ≡ []

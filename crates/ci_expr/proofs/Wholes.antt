@@ -1,17 +1,14 @@
 -- The formula of a whole list of tokens.
-use Rattle.std.proofs.Common.{◌≡◌, ℕ, zero, suc, ◌+◌, ◌-◌, ◌*◌, ◌<◌, ◌≤◌, Bool, true, false, cond, List, [], ◌∷◌, ◌++◌, length, Option, None, Some, Result, Ok, Err, refl, sym, ◌∙◌, ap, subst, arith, append_assoc, ◌⊎◌, inl, inr}
-use Rattle.std.specs.Prelude.{◌==◌, ◌&&◌, ◌||◌, not, nat_lt}
-use Rattle.std.proofs.lemmas.Bool.{le-ltb, ltb-true, ltb-false}
+use Rattle.std.proofs.Common.{◌≡◌, ℕ, zero, suc, ◌+◌, ◌-◌, Bool, true, false, cond, List, [], ◌∷◌, ◌++◌, Option, None, Some, Result, Ok, Err, refl, sym, ◌∙◌, ap, subst, arith, append_assoc}
+use Rattle.std.specs.Prelude.{◌==◌, ◌&&◌, ◌||◌, not}
 use Rattle.ci_expr.specs.declared.fault.ExprFault.{ExprFault}
-use Rattle.ci_expr.specs.declared.fault.ExprFault.TheVariants.{X1, X2, X3, X4, X5, X6, X7, X8}
+use Rattle.ci_expr.specs.declared.fault.ExprFault.TheVariants.{X4}
 use Rattle.ci_expr.specs.declared.token.Kind.{Kind}
 use Rattle.ci_expr.specs.declared.token.Kind.TheVariants as kind
 use Rattle.ci_expr.specs.Token.{Token, ◌>>=◌}
-use Rattle.ci_expr.specs.Formula.{Operand, null, text, variable, Formula, either, both, group, present, equal, found, Level, or, and, test, IsOperand, Derives, or_one, or_more, and_one, and_more, in_group, alone, compared, matched, has_pattern, comparing, matching}
-use Rattle.ci_expr.specs.Faults.{open_after, closes_none, balances, deepest, is_pattern, takes_pattern, has_stray, list_fault}
+use Rattle.ci_expr.specs.Formula.{Operand, null, text, variable, Formula, Level, or, and, test, IsOperand, Derives, or_one, or_more, and_one, and_more, in_group, alone, compared, matched, comparing, matching}
+use Rattle.ci_expr.specs.Faults.{open_after, closes_none, balances, is_pattern, takes_pattern, has_stray}
 use Rattle.ci_expr.specs.Descent.{Read, is_kind, behind, behind_byte, operand_by, pattern_of, compared_by, compared_from, matched_by, matched_from, sign_by, named_from, variable_by, closed, test_by, or_by, and_by, descend, reach, formula_from, whole_by}
-use Rattle.ci_expr.specs.Meaning.{Parses, parse_by, parse_of}
-use Rattle.ci_expr.proofs.Fronts.{split}
 use Rattle.ci_expr.proofs.ReadIsDerived.{Cut, descend-sound}
 use Rattle.ci_expr.proofs.DerivedIsRead.{derived-read}
 
@@ -183,11 +180,11 @@ pub derived-balanced : (l : Level) (ts : List Token) (f : Formula) → Derives l
 derived-balanced _ _ _ (or_one ts f d) = derived-balanced and ts f d
 derived-balanced _ _ _ (or_more left t right ts f g a is b e) =
     subst Balanced (sym e) (balanced-join left (t ∷ right) (derived-balanced and left f a)
-        (balanced-join (t ∷ []) right (level-one t kind.Or is (λ n ts. refl)) (derived-balanced or right g b)))
+    (balanced-join (t ∷ []) right (level-one t kind.Or is (λ n ts. refl)) (derived-balanced or right g b)))
 derived-balanced _ _ _ (and_one ts f d) = derived-balanced test ts f d
 derived-balanced _ _ _ (and_more left t right ts f g a is b e) =
     subst Balanced (sym e) (balanced-join left (t ∷ right) (derived-balanced test left f a)
-        (balanced-join (t ∷ []) right (level-one t kind.And is (λ n ts. refl)) (derived-balanced and right g b)))
+    (balanced-join (t ∷ []) right (level-one t kind.And is (λ n ts. refl)) (derived-balanced and right g b)))
 derived-balanced _ _ _ (in_group l inner r ts f left a right e) = subst Balanced (sym e) (group-balanced l inner r left (derived-balanced or inner f a) right)
 derived-balanced _ _ _ (alone v name named) = level-one v kind.Name named.0 (λ n ts. refl)
 derived-balanced _ _ _ (compared v c w negated name operand named sign is) =
@@ -235,7 +232,7 @@ derived-tidy _ _ _ (and_more left t right ts f g a is b e) =
     subst Tidy (sym e) (tidy-join left (t ∷ right) (derived-tidy test left f a) (tidy-join (t ∷ []) right (tidy-one false t kind.And is (refl, refl)) (derived-tidy and right g b)))
 derived-tidy _ _ _ (in_group l inner r ts f left a right e) =
     subst Tidy (sym e) (tidy-join (l ∷ []) (inner ++ r ∷ []) (tidy-one false l kind.Left left (refl, refl))
-        (tidy-join inner (r ∷ []) (derived-tidy or inner f a) (tidy-one false r kind.Right right (refl, refl))))
+    (tidy-join inner (r ∷ []) (derived-tidy or inner f a) (tidy-one false r kind.Right right (refl, refl))))
 derived-tidy _ _ _ (alone v name named) = tidy-one false v kind.Name named.0 (refl, refl)
 derived-tidy _ _ _ (compared v c w negated name operand named sign is) =
     tidy-join (v ∷ []) (c ∷ w ∷ []) (tidy-one false v kind.Name named.0 (refl, refl)) (tidy-join (c ∷ []) (w ∷ []) (comparing-tidy negated c sign) (operand-tidy operand w is))

@@ -1,5 +1,5 @@
 -- What a built formula says.
-use Rattle.std.specs.Prelude.{ℕ, List, map, chars, string_bytes}
+use Rattle.std.specs.Prelude.{map, chars, string_bytes}
 use Rattle.regex.specs.Strings.{regex_source}
 use Rattle.ci_expr.specs.declared.expr.Expr.{Expr}
 use Rattle.ci_expr.specs.declared.formula.Env.{Env}

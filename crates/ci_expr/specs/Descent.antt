@@ -1,5 +1,5 @@
 -- The grammar, read from the left.
-use Rattle.std.specs.Prelude.{◌≡◌, ℕ, zero, suc, ◌+◌, ◌*◌, ◌≤◌, Bool, true, false, List, [], ◌∷◌, ◌-◌, length, take, drop, get_or, Option, Some, None, option_map, Result, Ok, Err, map, nat_eq, ◌==◌, ◌||◌, if◌then◌else◌, chars}
+use Rattle.std.specs.Prelude.{ℕ, zero, suc, ◌+◌, ◌*◌, Bool, true, false, List, [], ◌∷◌, ◌-◌, length, take, drop, get_or, Option, Some, None, option_map, Result, Ok, Err, ◌==◌, ◌||◌, if◌then◌else◌, chars}
 use Rattle.std.specs.Option.{option_and_then}
 use Rattle.ci_expr.specs.declared.fault.ExprFault.{ExprFault}
 use Rattle.ci_expr.specs.declared.fault.ExprFault.TheVariants.{X4}

@@ -1,5 +1,5 @@
 -- What is wrong with a list of tokens, before the grammar is asked.
-use Rattle.std.specs.Prelude.{◌≡◌, ℕ, ◌+◌, ◌-◌, ◌<◌, ◌≤◌, Bool, true, false, List, [], ◌∷◌, Option, Some, None, max, nat_lt, ◌==◌, not, ◌&&◌, ◌||◌, if◌then◌else◌}
+use Rattle.std.specs.Prelude.{ℕ, ◌+◌, ◌-◌, Bool, true, false, List, [], ◌∷◌, Option, Some, None, max, nat_lt, ◌==◌, not, ◌&&◌, ◌||◌, if◌then◌else◌}
 use Rattle.ci_expr.specs.declared.fault.ExprFault.{ExprFault}
 use Rattle.ci_expr.specs.declared.fault.ExprFault.TheVariants.{X5, X6, X7}
 use Rattle.ci_expr.specs.declared.token.Kind.{Kind}

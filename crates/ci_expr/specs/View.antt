@@ -1,5 +1,5 @@
 -- What a call answers, without where it lies in memory.
-use Rattle.std.specs.Prelude.{◌≡◌, ℕ, ◌≤◌, List, Option, Result, Ok, Err, map, true, chars, ⊤}
+use Rattle.std.specs.Prelude.{◌≡◌, ℕ, ◌≤◌, List, Result, Ok, Err, map, true, chars, ⊤}
 use Rattle.std.specs.Global.{Vec}
 use Rattle.ci_expr.specs.declared.fault.ExprFault.{ExprFault}
 use Rattle.ci_expr.specs.declared.fault.ExprFault.TheVariants.{X8}
@@ -12,7 +12,7 @@ use Rattle.ci_expr.specs.declared.tree.Tree as trees
 use Rattle.ci_expr.specs.declared.tree.Tree.TheVariants.{Either', Both', Group', Present, Equal, Found}
 use Rattle.ci_expr.specs.Token.{Token}
 use Rattle.ci_expr.specs.Formula.{Operand, null, text, variable, Formula, either, both, group, present, equal, found, Level, unescaped, has_pattern}
-use Rattle.ci_expr.specs.Descent.{Read, descend, reach}
+use Rattle.ci_expr.specs.Descent.{descend, reach}
 
 abbrev pub token_view : rust.Token → Token
 token_view t = record { kind = t.kind; slice = t.slice.now; start = t.start; end = t.end }

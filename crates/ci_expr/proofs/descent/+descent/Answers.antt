@@ -1,6 +1,6 @@
-use Rattle.std.proofs.Common.{None, map, length, arith, refl, ◌≡◌, sym, ◌∙◌, ap}
+use Rattle.std.proofs.Common.{None, map, arith, ap}
 use Rattle.ci_expr.specs.View.{token_view, tree_view}
-use Rattle.ci_expr.proofs.Descending.{shorter, or-fails, or-one, or-two, or-two-fails, and-fails, and-one, and-two, and-two-fails, group-fails, group-by, test-empty, name-by, name-gives, in-either, in-both, in-group}
+use Rattle.ci_expr.proofs.Descending.{shorter, or-fails, or-one, or-two, or-two-fails, and-fails, and-one, and-two, and-two-fails, group-fails, group-by, in-either, in-both}
 use Rattle.ci_expr.proofs.descent.+descent.Goals as goal
 
 pub or_from-returns-clause-exact : goal.or_from-returns-clause-exact
@@ -21,8 +21,8 @@ or_from-returns-in-Ok-or_from-clause-exact t c = λ n le.
     in-either _ (map token_view c.in-Ok-or_from.rest.now) (tree_view c.in-Ok.first) (tree_view c.in-Ok-or_from.others) _ _
     (ap tree_view c.in_ok-new-in-Ok-or_from.ensures.ok) (ap tree_view c.in_ok-new-in-Ok-or_from-2.ensures.ok)
     (or-two (map token_view c.args.tokens.now) (map token_view c.in-Ok.rest.now) (map token_view c.in-Some.more.now) (map token_view c.in-Ok-or_from.rest.now)
-        (tree_view c.in-Ok.first) (tree_view c.in-Ok-or_from.others) c.in-Ok.ensures.exact c.in-Some.ensures.value
-        (shorter c.in-Some.more.now c.args.tokens.now (omega (arith, c.in-Some.ensures.size, c.in-Ok.ensures.size))) c.in-Ok-or_from.ensures.exact n le)
+    (tree_view c.in-Ok.first) (tree_view c.in-Ok-or_from.others) c.in-Ok.ensures.exact c.in-Some.ensures.value
+    (shorter c.in-Some.more.now c.args.tokens.now (omega (arith, c.in-Some.ensures.size, c.in-Ok.ensures.size))) c.in-Ok-or_from.ensures.exact n le)
 
 pub and_from-returns-clause-exact : goal.and_from-returns-clause-exact
 and_from-returns-clause-exact t c = and-fails (map token_view c.args.tokens.now) c.in-Err.error c.in-Err.ensures.exact
@@ -42,8 +42,8 @@ and_from-returns-in-Ok-and_from-clause-exact t c = λ n le.
     in-both _ (map token_view c.in-Ok-and_from.rest.now) (tree_view c.in-Ok.first) (tree_view c.in-Ok-and_from.others) _ _
     (ap tree_view c.in_ok-new-in-Ok-and_from.ensures.ok) (ap tree_view c.in_ok-new-in-Ok-and_from-2.ensures.ok)
     (and-two (map token_view c.args.tokens.now) (map token_view c.in-Ok.rest.now) (map token_view c.in-Some.more.now) (map token_view c.in-Ok-and_from.rest.now)
-        (tree_view c.in-Ok.first) (tree_view c.in-Ok-and_from.others) c.in-Ok.ensures.exact c.in-Some.ensures.value
-        (shorter c.in-Some.more.now c.args.tokens.now (omega (arith, c.in-Some.ensures.size, c.in-Ok.ensures.size))) c.in-Ok-and_from.ensures.exact n le)
+    (tree_view c.in-Ok.first) (tree_view c.in-Ok-and_from.others) c.in-Ok.ensures.exact c.in-Some.ensures.value
+    (shorter c.in-Some.more.now c.args.tokens.now (omega (arith, c.in-Some.ensures.size, c.in-Ok.ensures.size))) c.in-Ok-and_from.ensures.exact n le)
 
 pub test_from-returns-in-Left-clause-exact : goal.test_from-returns-in-Left-clause-exact
 test_from-returns-in-Left-clause-exact t c =

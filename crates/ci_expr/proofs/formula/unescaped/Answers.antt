@@ -1,4 +1,4 @@
-use Rattle.std.proofs.Common.{◌≡◌, ◌++◌, chars, string_bytes, refl, sym, ◌∙◌, ap, subst, IsUtf8}
+use Rattle.std.proofs.Common.{◌++◌, chars, string_bytes, refl, sym, ◌∙◌, ap, subst, IsUtf8}
 use Rattle.std.proofs.lemmas.Str.{chars-nil, IsUtf8-past_char, IsUtf8-string_bytes}
 use Rattle.ci_expr.specs.Formula.{unescaped}
 use Rattle.ci_expr.proofs.Unescaping.{step-plain, step-slash, step-pair, step-last, ne-test, empty-is}
@@ -15,7 +15,7 @@ loop-first-preserved-then-first-ne92 c = record {
   whole = IsUtf8-past_char c.loop-first.rest.rest.now c.next.new.self.rest.now c.in-Some.first c.loop-first.invariant.whole c.in-Some.ensures.steps.0;
   same = rw c.in_ok-push.ensures.bytes
       (step-plain (string_bytes c.loop-first.source) c.loop-first.rest.rest.now c.next.new.self.rest.now c.in-Some.first _ (IsUtf8-string_bytes c.loop-first.source) c.loop-first.invariant.whole
-          c.in-Some.ensures.steps.0 (ne-test c.in-Some.first 92 c.if-first-ne92.true) c.loop-first.invariant.same);
+      c.in-Some.ensures.steps.0 (ne-test c.in-Some.first 92 c.if-first-ne92.true) c.loop-first.invariant.same);
 }
 
 pub loop-first-preserved-in-Continue-branch-2 : goal.loop-first-preserved-in-Continue-branch-2
@@ -25,8 +25,8 @@ loop-first-preserved-in-Continue-branch-2 c =
       whole = IsUtf8-past_char c.next.new.self.rest.now c.next-in-Some.new.self.rest.now c.in-Some-eq47.field-0 whole c.in-Some-eq47.ensures.steps.0;
       same = rw c.in_ok-push-in-Some-eq47.ensures.bytes
           (step-slash (string_bytes c.loop-first.source) c.loop-first.rest.rest.now c.next.new.self.rest.now c.next-in-Some.new.self.rest.now c.in-Some.first 47 _
-              (IsUtf8-string_bytes c.loop-first.source) c.loop-first.invariant.whole c.in-Some.ensures.steps.0
-              (rw c.in-Some-eq47.field-0-test at c.in-Some-eq47.ensures.steps.0) c.if-first-ne92.false refl c.loop-first.invariant.same);
+          (IsUtf8-string_bytes c.loop-first.source) c.loop-first.invariant.whole c.in-Some.ensures.steps.0
+          (rw c.in-Some-eq47.field-0-test at c.in-Some-eq47.ensures.steps.0) c.if-first-ne92.false refl c.loop-first.invariant.same);
     }
 
 pub loop-first-preserved-in-Continue-branch-4 : goal.loop-first-preserved-in-Continue-branch-4
@@ -36,9 +36,9 @@ loop-first-preserved-in-Continue-branch-4 c =
       whole = IsUtf8-past_char c.next.new.self.rest.now c.next-in-Some.new.self.rest.now c.in-Some-next.second whole c.in-Some-next.ensures.steps.0;
       same = rw (c.in_ok-push-in-Some-next-2.ensures.bytes, c.in_ok-push-in-Some-next.ensures.bytes)
           (step-pair (string_bytes c.loop-first.source) c.loop-first.rest.rest.now c.next.new.self.rest.now c.next-in-Some.new.self.rest.now c.in-Some.first c.in-Some-next.second _
-              (IsUtf8-string_bytes c.loop-first.source) (subst IsUtf8 c.in_ok-push-in-Some-next.ensures.bytes (IsUtf8-string_bytes c.push-in-Some-next.new.self))
-              c.loop-first.invariant.whole c.in-Some.ensures.steps.0
-              c.in-Some-next.ensures.steps.0 c.if-first-ne92.false (ne-test c.in-Some-next.second 47 c.in-Some-next.second-test.1) c.loop-first.invariant.same);
+          (IsUtf8-string_bytes c.loop-first.source) (subst IsUtf8 c.in_ok-push-in-Some-next.ensures.bytes (IsUtf8-string_bytes c.push-in-Some-next.new.self))
+          c.loop-first.invariant.whole c.in-Some.ensures.steps.0
+          c.in-Some-next.ensures.steps.0 c.if-first-ne92.false (ne-test c.in-Some-next.second 47 c.in-Some-next.second-test.1) c.loop-first.invariant.same);
     }
 
 pub loop-first-preserved : goal.loop-first-preserved
@@ -49,5 +49,5 @@ loop-first-preserved c =
       whole = subst IsUtf8 (sym stays) whole;
       same = rw (c.in_ok-push-in-None.ensures.bytes, stays)
           (step-last (string_bytes c.loop-first.source) c.loop-first.rest.rest.now c.next.new.self.rest.now c.in-Some.first _ (IsUtf8-string_bytes c.loop-first.source)
-              c.loop-first.invariant.whole c.in-Some.ensures.steps.0 (empty-is c.next.new.self.rest.now c.in-None.ensures.steps.0.0) c.loop-first.invariant.same);
+          c.loop-first.invariant.whole c.in-Some.ensures.steps.0 (empty-is c.next.new.self.rest.now c.in-None.ensures.steps.0.0) c.loop-first.invariant.same);
     }
