@@ -6,7 +6,8 @@ use Rattle.ci_expr.specs.declared.fault.ExprError.{ExprError}
 use Rattle.ci_expr.specs.declared.fault.ExprError.TheVariants as errors
 use Rattle.ci_expr.specs.declared.token.Kind.TheVariants as kind
 use Rattle.ci_expr.specs.declared.token.Token as rust
-use Rattle.ci_expr.specs.Token.{Token, ◌>>=◌}
+use Rattle.ci_expr.specs.Token.{Token}
+use Rattle.ci_expr.specs.Reading.{◌>>=◌}
 use Rattle.ci_expr.specs.Formula.{Formula, either, both, group, or, and, test}
 use Rattle.ci_expr.specs.Descent.{Read, behind, behind_byte, or_by, and_by, closed, test_by, variable_by, named_from, descend}
 use Rattle.ci_expr.specs.View.{Fails, Gives, token_view}

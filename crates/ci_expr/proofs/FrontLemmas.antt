@@ -7,7 +7,8 @@ use Rattle.ci_expr.specs.declared.fault.ExprFault.{ExprFault}
 use Rattle.ci_expr.specs.declared.fault.ExprFault.TheVariants.{X2, X3}
 use Rattle.ci_expr.specs.declared.token.Kind.{Kind}
 use Rattle.ci_expr.specs.declared.token.Kind.TheVariants.{Name, Text, Null, Equal, Unequal, Match, Mismatch, And, Or, Left, Right, Pattern}
-use Rattle.ci_expr.specs.Lexeme.{is_blank, starts_word, is_word, word_length, until, escapes, body_length, name_front, text_by, pattern_by, null_front, lexeme}
+use Rattle.ci_expr.specs.Lexeme.{word_length, until, escapes, body_length, name_front, text_by, pattern_by, null_front, lexeme}
+use Rattle.ci_expr.specs.Character.{is_blank, starts_word, is_word}
 use Rattle.ci_expr.specs.Token.{AreWord, EndsWord, Lacks, IsMark, IsBody, empty, plain, pair, IsFlag, Spells, StaysOpen, quote, pattern, BeginsNone, Stops, unclosed, wrong}
 use Rattle.ci_expr.proofs.Fronts.{split, start-word, IsEnd, body-is, front-is}
 

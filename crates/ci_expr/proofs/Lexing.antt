@@ -1,8 +1,9 @@
 -- Tokens, read one after the other.
 use Rattle.std.proofs.Common.{◌≡◌, ℕ, suc, ◌+◌, zero, ◌-◌, ◌<◌, ◌≤◌, true, false, cond, List, [], ◌∷◌, ◌++◌, length, drop, get_or, Result, Ok, Err, refl, sym, ◌∙◌, ap, append_assoc, arith, add-one, drop-cons, drop-drop}
 use Rattle.ci_expr.specs.declared.fault.ExprFault.{ExprFault}
-use Rattle.ci_expr.specs.Lexeme.{is_blank}
-use Rattle.ci_expr.specs.Token.{Token, ◌>>=◌, with_token, token_from, lex, tokens_of}
+use Rattle.ci_expr.specs.Character.{is_blank}
+use Rattle.ci_expr.specs.Token.{Token}
+use Rattle.ci_expr.specs.Reading.{◌>>=◌, with_token, token_from, lex, tokens_of}
 use Rattle.std.proofs.Common.{map}
 use Rattle.std.proofs.lemmas.Bool.{le-ltb}
 use Rattle.ci_expr.specs.declared.fault.ExprFault.TheVariants.{X1}

@@ -3,7 +3,8 @@ use Rattle.std.proofs.Common.{◌≡◌, ℕ, zero, suc, Bool, true, false, List
 use Rattle.std.specs.Prelude.{chars}
 use Rattle.ci_expr.specs.declared.token.Kind.{Kind}
 use Rattle.ci_expr.specs.declared.token.Kind.TheVariants as kind
-use Rattle.ci_expr.specs.Token.{Token, ◌>>=◌}
+use Rattle.ci_expr.specs.Token.{Token}
+use Rattle.ci_expr.specs.Reading.{◌>>=◌}
 use Rattle.ci_expr.specs.Formula.{Operand, Formula, either, both, group, present, equal, found, Level, or, and, test, comparing, matching, IsNamed, unescaped, Derives, or_one, or_more, and_one, and_more, in_group, alone, compared, matched}
 use Rattle.ci_expr.specs.Descent.{Read, behind, behind_byte, is_kind, operand_by, pattern_of, compared_by, compared_from, matched_by, matched_from, sign_by, named_from, variable_by, closed, test_by, or_by, and_by, descend}
 use Rattle.ci_expr.proofs.Fronts.{split}

@@ -1,17 +1,15 @@
--- What is read is D4's list of tokens.
-use Rattle.std.proofs.Common.{◌≡◌, ℕ, zero, suc, ◌+◌, ◌-◌, ◌≤◌, List, [], ◌∷◌, length, take, drop, Result, Ok, Err, IfOk, refl, sym, ◌∙◌, ap, subst, arith}
+-- What is read is the list of tokens.
+use Rattle.std.proofs.Common.{◌≡◌, ℕ, zero, suc, ◌+◌, ◌-◌, ◌≤◌, List, [], ◌∷◌, length, take, drop, Result, Ok, Err, refl, sym, ◌∙◌, ap, subst, arith}
 use Rattle.std.specs.Prelude.{nat_lt}
 use Rattle.std.proofs.lemmas.List.{take-append-drop, length-drop}
 use Rattle.ci_expr.specs.declared.fault.ExprFault.{ExprFault}
-use Rattle.ci_expr.specs.declared.fault.ExprError.{ExprError}
 use Rattle.ci_expr.specs.declared.token.Kind.{Kind}
-use Rattle.ci_expr.specs.Lexeme.{is_blank, lexeme}
-use Rattle.ci_expr.specs.Token.{Token, token_at, IsFront, AreTokens, nothing, blank, token, ◌>>=◌, with_token, lex, tokens_of}
+use Rattle.ci_expr.specs.Lexeme.{lexeme}
+use Rattle.ci_expr.specs.Character.{is_blank}
+use Rattle.ci_expr.specs.Token.{Token, token_at, IsFront, AreTokens, nothing, blank, token}
+use Rattle.ci_expr.specs.Reading.{◌>>=◌, with_token, lex, tokens_of}
 use Rattle.ci_expr.proofs.Fronts.{split, front-is, bounds}
 use Rattle.ci_expr.proofs.Lexing.{Lexed}
-use Rattle.std.specs.Global.{Vec}
-use Rattle.ci_expr.specs.declared.token.Token as rust
-use Rattle.ci_expr.specs.View.{Gives, tokens_view}
 
 abbrev tokens_or : Lexed → List Token → List Token
 tokens_or (Ok ts) d = ts
@@ -37,7 +35,7 @@ made-is at bs x le = ap (λ (n : ℕ). made-end n) (taken x.1 bs le)
     made-end : ℕ → Token
     made-end n = record { kind = x.0; slice = take x.1 bs; start = at; end = at + n }
 
--- what so many steps answer is D4's list
+-- what so many steps answer is the list
 abbrev Sounds : ℕ → Type 0
 Sounds n = (at : ℕ) (bs : List ℕ) (ts : List Token) → length bs ≤ n → SameTokens (lex n at bs) ts → AreTokens at bs ts
 
@@ -69,7 +67,3 @@ lex-sound (suc n) at (b ∷ bs) ts le h = split (is_blank b) _ _ _ _ h
 
 pub tokens-sound : (bs : List ℕ) (ts : List Token) → SameTokens (tokens_of bs) ts → AreTokens 0 bs ts
 tokens-sound bs ts h = split (nat_lt 1024 (length bs)) _ _ _ _ h (λ e g. absurd cc) (λ e g. lex-sound (length bs) 0 bs ts (omega arith) g)
-
-pub sound-of : (bs : List ℕ) (r : Result (Vec rust.Token) ExprError) → Gives tokens_view r (tokens_of bs) → IfOk r (λ v. AreTokens 0 bs (tokens_view v))
-sound-of bs (Ok v) h = tokens-sound bs (tokens_view v) h
-sound-of bs (Err e) h = tt

@@ -12,8 +12,10 @@ use Rattle.ci_expr.specs.declared.fault.ExprError.TheVariants as errors
 use Rattle.ci_expr.specs.declared.token.Kind.{Kind}
 use Rattle.ci_expr.specs.declared.token.Kind.TheVariants as kind
 use Rattle.ci_expr.specs.declared.token.Token as rust
-use Rattle.ci_expr.specs.Lexeme.{is_blank, lexeme}
-use Rattle.ci_expr.specs.Token.{Token, token_at, IsMark, Spells, IsFront, AreTokens, nothing, blank, token, StaysOpen, quote, pattern, Stops, unclosed, wrong, ◌>>=◌, with_token, token_from, lex, tokens_of}
+use Rattle.ci_expr.specs.Lexeme.{lexeme}
+use Rattle.ci_expr.specs.Character.{is_blank}
+use Rattle.ci_expr.specs.Token.{Token, token_at, IsMark, Spells, IsFront, AreTokens, nothing, blank, token, StaysOpen, quote, pattern, Stops, unclosed, wrong}
+use Rattle.ci_expr.specs.Reading.{◌>>=◌, with_token, token_from, lex, tokens_of}
 use Rattle.ci_expr.specs.View.{Gives, tokens_view}
 use Rattle.ci_expr.specs.Meaning.{Tokenizes, Answers}
 use Rattle.ci_expr.proofs.Fronts.{split, bounds, front-is}

@@ -5,7 +5,8 @@ use Rattle.ci_expr.specs.declared.fault.ExprFault.{ExprFault}
 use Rattle.ci_expr.specs.declared.fault.ExprFault.TheVariants.{X4}
 use Rattle.ci_expr.specs.declared.token.Kind.{Kind}
 use Rattle.ci_expr.specs.declared.token.Kind.TheVariants as kind
-use Rattle.ci_expr.specs.Token.{Token, ◌>>=◌}
+use Rattle.ci_expr.specs.Token.{Token}
+use Rattle.ci_expr.specs.Reading.{◌>>=◌}
 use Rattle.ci_expr.specs.Formula.{Operand, null, text, variable, Formula, either, both, group, present, equal, found, Level, or, and, test, unescaped}
 
 -- the place of a kind among the kinds

@@ -1,20 +1,10 @@
 -- The token at the front of a text, read from the left.
-use Rattle.std.specs.Prelude.{ℕ, suc, ◌+◌, Bool, false, List, [], ◌∷◌, drop, get_or, Option, Some, None, option_map, Result, Ok, Err, nat_le, ◌==◌, not, ◌&&◌, ◌||◌, if◌then◌else◌}
+use Rattle.std.specs.Prelude.{ℕ, suc, ◌+◌, Bool, false, List, [], ◌∷◌, drop, get_or, Option, Some, None, option_map, Result, Ok, Err, ◌==◌, not, ◌&&◌, if◌then◌else◌}
 use Rattle.ci_expr.specs.declared.fault.ExprFault.{ExprFault}
+use Rattle.ci_expr.specs.Character.{starts_word, is_word}
 use Rattle.ci_expr.specs.declared.fault.ExprFault.TheVariants.{X2, X3}
 use Rattle.ci_expr.specs.declared.token.Kind.{Kind}
 use Rattle.ci_expr.specs.declared.token.Kind.TheVariants.{Name, Text, Null, Equal, Unequal, Match, Mismatch, And, Or, Left, Right, Pattern}
-
--- space, tab, CR and LF
-abbrev pub is_blank : ℕ → Bool
-is_blank b = (b == 32) || ((b == 9) || ((b == 13) || (b == 10)))
-
--- an ASCII letter or `_`
-abbrev pub starts_word : ℕ → Bool
-starts_word b = (nat_le 97 b && nat_le b 122) || ((nat_le 65 b && nat_le b 90) || (b == 95))
-
-abbrev pub is_word : ℕ → Bool
-is_word b = starts_word b || (nat_le 48 b && nat_le b 57)
 
 -- how many bytes of a name come first
 abbrev pub word_length : List ℕ → ℕ

@@ -1,5 +1,7 @@
+pub mod Character
 pub mod Lexeme
 pub mod Token
+pub mod Reading
 pub mod View
 pub mod Formula
 pub mod Truth

@@ -135,7 +135,7 @@ fn value_of<'a>(env: &Env<'a>, name: &str) -> Option<&'a str>
     ensures { option_map (λ v. v.now) result ≡ value_of (values_of env.now) name.now }
 {
     let pairs = env.pairs;
-    for (i, pair) in pairs.iter().enumerate() {
+    for pair in pairs {
         if pair.0 == name {
             return Some(pair.1);
         }

@@ -1,7 +1,8 @@
 //! The token at the front of a text.
 
 ghost use Rattle.std.specs.Prelude.{◌≡◌, ◌<◌, ◌≤◌, get_or, drop, false, length, IfSome, IfOk};
-ghost use Rattle.ci_expr.specs.Lexeme.{is_blank, starts_word, is_word, word_length, until, escapes, ends_body, body_length, name_front, text_front, pattern_front, null_front, lexeme};
+ghost use Rattle.ci_expr.specs.Lexeme.{word_length, until, escapes, ends_body, body_length, name_front, text_front, pattern_front, null_front, lexeme};
+ghost use Rattle.ci_expr.specs.Character.{is_blank, starts_word, is_word};
 ghost use Rattle.ci_expr.specs.Token.{IsFront};
 ghost use Rattle.ci_expr.specs.View.{Gives};
 

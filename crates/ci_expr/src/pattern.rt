@@ -17,7 +17,7 @@ pub struct Pattern {
 }
 
 /// Why a pattern was not built.
-#[derive(Debug, Drop)]
+#[derive(Drop)]
 pub enum Refusal {
     /// Memory was refused.
     Memory,

@@ -2,7 +2,8 @@
 
 ghost use Rattle.std.specs.Prelude.{◌<◌, ◌≤◌, drop, length, List, Result, IfOk};
 ghost use Rattle.ci_expr.specs.declared.fault.ExprFault.{ExprFault as Code};
-ghost use Rattle.ci_expr.specs.Token.{Token as Read, token_from, tokens_of};
+ghost use Rattle.ci_expr.specs.Token.{Token as Read};
+ghost use Rattle.ci_expr.specs.Reading.{token_from, tokens_of};
 ghost use Rattle.ci_expr.specs.Meaning.{Tokenizes, Answers};
 ghost use Rattle.ci_expr.specs.View.{Gives, token_view, tokens_view};
 
@@ -28,7 +29,7 @@ pub enum Kind {
 }
 
 /// A token, its slice of the text, and where it stands.
-#[derive(Clone, Copy, Debug)]
+#[derive(Clone, Copy)]
 pub struct Token<'a> {
     pub kind: Kind,
     pub slice: &'a str,

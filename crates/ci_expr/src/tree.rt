@@ -1,7 +1,7 @@
 //! Formulas as the grammar reads them, with slices of the text.
 
 /// What a variable is compared with.
-#[derive(Clone, Copy, Debug)]
+#[derive(Clone, Copy)]
 pub enum Operand<'a> {
     /// `null`: no value.
     Null,
