@@ -12,3 +12,4 @@ pub mod Wholes
 pub mod ParseLemmas
 pub mod FrontLemmas
 pub mod TokenLemmas
+pub mod OrderLemmas

@@ -9,14 +9,26 @@ use Rattle.ci_expr.specs.declared.fault.ExprError.{ExprError}
 use Rattle.ci_expr.specs.declared.fault.ExprError.TheVariants as errors
 use Rattle.ci_expr.specs.Token.{Token}
 use Rattle.ci_expr.specs.Formula.{Formula, or, Derives, has_pattern}
-use Rattle.ci_expr.specs.Faults.{balances, deepest, has_stray, list_fault}
+use Rattle.ci_expr.specs.Order.{balances, deepest, has_stray, list_fault}
 use Rattle.ci_expr.specs.Descent.{formula_from}
 use Rattle.ci_expr.specs.View.{Fails}
 use Rattle.ci_expr.specs.Meaning.{Tokenizes, Parses, Means, Answers, Allows, AtMostOneFormula, parse_by, parse_of, IsBuilt}
+use Rattle.ci_expr.specs.Faults.{IsBalanced, HasStray, IsDeep}
+use Rattle.ci_expr.proofs.OrderLemmas.{balances-is, balanced-balances, deepest-deep, deep-is, stray-is, has-stray}
 use Rattle.ci_expr.proofs.Wholes.{at-most-one, formula_from-derived, formula_from-is, formula_from-only, derived-balanced, derived-tidy}
 
 abbrev Parsed : Type 0
 Parsed = Result Formula ExprFault
+
+-- what a list of tokens means, by what is counted
+abbrev Counts : List Token → Parsed → Type 0
+Counts ts (Ok f) = (deepest 0 ts ≤ 32) × Derives or ts f
+Counts ts (Err X5) = balances 0 ts ≡ false
+Counts ts (Err X6) = (balances 0 ts ≡ true) × (has_stray false ts ≡ true)
+Counts ts (Err X7) = (balances 0 ts ≡ true) × (has_stray false ts ≡ false) × (32 < deepest 0 ts)
+Counts ts (Err X4) = (balances 0 ts ≡ true) × (has_stray false ts ≡ false) × (deepest 0 ts ≤ 32) × ((f : Formula) → Derives or ts f → ⊥)
+Counts ts (Err X8) = (deepest 0 ts ≤ 32) × ((f : Formula) × Derives or ts f × (has_pattern f ≡ true))
+Counts ts (Err x) = ⊥
 
 lt-ltb : (a b : ℕ) → a < b → nat_lt a b ≡ true
 lt-ltb a b lt = grind (arith, nat_tests)
@@ -54,31 +66,31 @@ derived-orderly ts f le d =
 no-formula : (ts : List Token) (x : ExprFault) → formula_from ts ≡ Err x → (f : Formula) → Derives or ts f → ⊥
 no-formula ts x e f d = let g = formula_from-derived ts f d in cc
 
-orderly-sound : (ts : List Token) (r : Parsed) → balances 0 ts ≡ true → has_stray false ts ≡ false → deepest 0 ts ≤ 32 → formula_from ts ≡ r → Parses ts r
+orderly-sound : (ts : List Token) (r : Parsed) → balances 0 ts ≡ true → has_stray false ts ≡ false → deepest 0 ts ≤ 32 → formula_from ts ≡ r → Counts ts r
 orderly-sound ts (Ok f) e g le h = (le, formula_from-is ts f h)
-orderly-sound ts (Err x) e g le h = subst (λ y. Parses ts (Err y)) (sym (formula_from-only ts x h)) (e, g, le, no-formula ts x h)
+orderly-sound ts (Err x) e g le h = subst (λ y. Counts ts (Err y)) (sym (formula_from-only ts x h)) (e, g, le, no-formula ts x h)
 
-fault-sound : (ts : List Token) (x y : ExprFault) → x ≡ y → Parses ts (Err x) → Parses ts (Err y)
-fault-sound ts x y e h = subst (λ z. Parses ts (Err z)) e h
+fault-sound : (ts : List Token) (x y : ExprFault) → x ≡ y → Counts ts (Err x) → Counts ts (Err y)
+fault-sound ts x y e h = subst (λ z. Counts ts (Err z)) e h
 
-pub parse_of-sound : (ts : List Token) → Parses ts (parse_of ts)
-parse_of-sound ts = by-balance (balances 0 ts) refl
+pub counted-sound : (ts : List Token) → Counts ts (parse_of ts)
+counted-sound ts = by-balance (balances 0 ts) refl
   where
-    by-depth : balances 0 ts ≡ true → has_stray false ts ≡ false → (b : Bool) → nat_lt 32 (deepest 0 ts) ≡ b → Parses ts (parse_of ts)
+    by-depth : balances 0 ts ≡ true → has_stray false ts ≡ false → (b : Bool) → nat_lt 32 (deepest 0 ts) ≡ b → Counts ts (parse_of ts)
     by-depth e f true g =
         let lt : 32 < deepest 0 ts = grind (arith, nat_tests) in
-        subst (λ o. Parses ts (parse_by ts o)) (sym (list-fault-third ts e f lt)) (e, f, lt)
+        subst (λ o. Counts ts (parse_by ts o)) (sym (list-fault-third ts e f lt)) (e, f, lt)
     by-depth e f false g =
         let le : deepest 0 ts ≤ 32 = grind (arith, nat_tests) in
-        subst (λ o. Parses ts (parse_by ts o)) (sym (list-fault-none ts e f le)) (orderly-sound ts (formula_from ts) e f le refl)
+        subst (λ o. Counts ts (parse_by ts o)) (sym (list-fault-none ts e f le)) (orderly-sound ts (formula_from ts) e f le refl)
 
-    by-stray : balances 0 ts ≡ true → (b : Bool) → has_stray false ts ≡ b → Parses ts (parse_of ts)
-    by-stray e true f = subst (λ o. Parses ts (parse_by ts o)) (sym (list-fault-second ts e f)) (e, f)
+    by-stray : balances 0 ts ≡ true → (b : Bool) → has_stray false ts ≡ b → Counts ts (parse_of ts)
+    by-stray e true f = subst (λ o. Counts ts (parse_by ts o)) (sym (list-fault-second ts e f)) (e, f)
     by-stray e false f = by-depth e f (nat_lt 32 (deepest 0 ts)) refl
 
-    by-balance : (b : Bool) → balances 0 ts ≡ b → Parses ts (parse_of ts)
+    by-balance : (b : Bool) → balances 0 ts ≡ b → Counts ts (parse_of ts)
     by-balance true e = by-stray e (has_stray false ts) refl
-    by-balance false e = subst (λ o. Parses ts (parse_by ts o)) (sym (list-fault-first ts e)) e
+    by-balance false e = subst (λ o. Counts ts (parse_by ts o)) (sym (list-fault-first ts e)) e
 
 -- ---- whatever is so is computed, a refused pattern aside
 abbrev pub Refused : Parsed → Parsed → Type 0
@@ -94,16 +106,76 @@ none-parsed ts (Err x) never e = e ∙ ap (λ y. err-at y) (formula_from-only ts
     err-at : ExprFault → Parsed
     err-at y = Err y
 
+pub counted-only : (ts : List Token) (r : Parsed) → Counts ts r → (parse_of ts ≡ r) ⊎ Refused (parse_of ts) r
+counted-only ts (Ok f) (le, d) = inl (parsed-formula ts f le d)
+counted-only ts (Err X5) h = inl (ap (parse_by ts) (list-fault-first ts h))
+counted-only ts (Err X6) h = inl (ap (parse_by ts) (list-fault-second ts h.0 h.1))
+counted-only ts (Err X7) h = inl (ap (parse_by ts) (list-fault-third ts h.0 h.1 h.2))
+counted-only ts (Err X4) h = inl (ap (parse_by ts) (list-fault-none ts h.0 h.1 h.2) ∙ none-parsed ts (formula_from ts) h.3 refl)
+counted-only ts (Err X8) (le, (f, d, has)) = inr (refl, (f, parsed-formula ts f le d, has))
+counted-only ts (Err X1) h = absurd h
+counted-only ts (Err X2) h = absurd h
+counted-only ts (Err X3) h = absurd h
+
+-- ---- what is counted is what is meant
+derived-balances : (ts : List Token) (f : Formula) → Derives or ts f → balances 0 ts ≡ true
+derived-balances ts f d = ap (balances 0) (sym (append-nil ts)) ∙ derived-balanced or ts f d 0 []
+
+not-balanced : (ts : List Token) → balances 0 ts ≡ false → ¬ (IsBalanced ts)
+not-balanced ts e h = let f = balanced-balances ts h in cc
+
+unbalanced : (ts : List Token) → ¬ (IsBalanced ts) → (b : Bool) → balances 0 ts ≡ b → balances 0 ts ≡ false
+unbalanced ts never true e = absurd (never (balances-is ts e))
+unbalanced ts never false e = e
+
+not-stray : (ts : List Token) → has_stray false ts ≡ false → ¬ (HasStray ts)
+not-stray ts e h = let f = has-stray ts h in cc
+
+unstrayed : (ts : List Token) → ¬ (HasStray ts) → (b : Bool) → has_stray false ts ≡ b → has_stray false ts ≡ false
+unstrayed ts never true e = absurd (never (stray-is ts e))
+unstrayed ts never false e = e
+
+not-deep : (ts : List Token) → balances 0 ts ≡ true → deepest 0 ts ≤ 32 → ¬ (IsDeep ts)
+not-deep ts e le h = let lt = deep-is ts e h in omega (arith, le, lt)
+
+shallow : (ts : List Token) → balances 0 ts ≡ true → ¬ (IsDeep ts) → deepest 0 ts ≤ 32
+shallow ts e never = by-test (nat_lt 32 (deepest 0 ts)) refl
+  where
+    by-test : (b : Bool) → nat_lt 32 (deepest 0 ts) ≡ b → deepest 0 ts ≤ 32
+    by-test true f = let lt : 32 < deepest 0 ts = grind (arith, nat_tests) in absurd (never (deepest-deep ts e lt))
+    by-test false f = let le : deepest 0 ts ≤ 32 = grind (arith, nat_tests) in le
+
+counted-parses : (ts : List Token) (r : Parsed) → Counts ts r → Parses ts r
+counted-parses ts (Ok f) (le, d) = (not-deep ts (derived-balances ts f d) le, d)
+counted-parses ts (Err X5) h = not-balanced ts h
+counted-parses ts (Err X6) h = (balances-is ts h.0, stray-is ts h.1)
+counted-parses ts (Err X7) h = (balances-is ts h.0, not-stray ts h.1, deepest-deep ts h.0 h.2)
+counted-parses ts (Err X4) h = (balances-is ts h.0, not-stray ts h.1, not-deep ts h.0 h.2, h.3)
+counted-parses ts (Err X8) (le, (f, d, has)) = (not-deep ts (derived-balances ts f d) le, (f, d, has))
+counted-parses ts (Err X1) h = absurd h
+counted-parses ts (Err X2) h = absurd h
+counted-parses ts (Err X3) h = absurd h
+
+parses-counted : (ts : List Token) (r : Parsed) → Parses ts r → Counts ts r
+parses-counted ts (Ok f) (never, d) = (shallow ts (derived-balances ts f d) never, d)
+parses-counted ts (Err X5) h = unbalanced ts h (balances 0 ts) refl
+parses-counted ts (Err X6) h = (balanced-balances ts h.0, has-stray ts h.1)
+parses-counted ts (Err X7) h =
+    let e = balanced-balances ts h.0 in
+    (e, unstrayed ts h.1 (has_stray false ts) refl, deep-is ts e h.2)
+parses-counted ts (Err X4) h =
+    let e = balanced-balances ts h.0 in
+    (e, unstrayed ts h.1 (has_stray false ts) refl, shallow ts e h.2, h.3)
+parses-counted ts (Err X8) (never, (f, d, has)) = (shallow ts (derived-balances ts f d) never, (f, d, has))
+parses-counted ts (Err X1) h = absurd h
+parses-counted ts (Err X2) h = absurd h
+parses-counted ts (Err X3) h = absurd h
+
+pub parse_of-sound : (ts : List Token) → Parses ts (parse_of ts)
+parse_of-sound ts = counted-parses ts (parse_of ts) (counted-sound ts)
+
 pub parse_of-only : (ts : List Token) (r : Parsed) → Parses ts r → (parse_of ts ≡ r) ⊎ Refused (parse_of ts) r
-parse_of-only ts (Ok f) (le, d) = inl (parsed-formula ts f le d)
-parse_of-only ts (Err X5) h = inl (ap (parse_by ts) (list-fault-first ts h))
-parse_of-only ts (Err X6) h = inl (ap (parse_by ts) (list-fault-second ts h.0 h.1))
-parse_of-only ts (Err X7) h = inl (ap (parse_by ts) (list-fault-third ts h.0 h.1 h.2))
-parse_of-only ts (Err X4) h = inl (ap (parse_by ts) (list-fault-none ts h.0 h.1 h.2) ∙ none-parsed ts (formula_from ts) h.3 refl)
-parse_of-only ts (Err X8) (le, (f, d, has)) = inr (refl, (f, parsed-formula ts f le d, has))
-parse_of-only ts (Err X1) h = absurd h
-parse_of-only ts (Err X2) h = absurd h
-parse_of-only ts (Err X3) h = absurd h
+parse_of-only ts r h = counted-only ts r (parses-counted ts r h)
 
 -- ---- the whole text
 abbrev OfToken : List ℕ → Result (List Token) ExprFault → Type 0

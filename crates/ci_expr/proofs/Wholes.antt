@@ -8,7 +8,8 @@ use Rattle.ci_expr.specs.declared.token.Kind.TheVariants as kind
 use Rattle.ci_expr.specs.Token.{Token}
 use Rattle.ci_expr.specs.Reading.{◌>>=◌}
 use Rattle.ci_expr.specs.Formula.{Operand, null, text, variable, Formula, Level, or, and, test, IsOperand, Derives, or_one, or_more, and_one, and_more, in_group, alone, compared, matched, comparing, matching}
-use Rattle.ci_expr.specs.Faults.{open_after, closes_none, balances, is_pattern, takes_pattern, has_stray}
+use Rattle.ci_expr.specs.Order.{open_after, closes_none, balances, is_pattern, has_stray}
+use Rattle.ci_expr.specs.Faults.{takes_pattern}
 use Rattle.ci_expr.specs.Descent.{Read, is_kind, behind, behind_byte, operand_by, pattern_of, compared_by, compared_from, matched_by, matched_from, sign_by, named_from, variable_by, closed, test_by, or_by, and_by, descend, reach, formula_from, whole_by}
 use Rattle.ci_expr.proofs.ReadIsDerived.{Cut, descend-sound}
 use Rattle.ci_expr.proofs.DerivedIsRead.{derived-read}

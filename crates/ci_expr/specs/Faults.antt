@@ -1,48 +1,45 @@
 -- What is wrong with a list of tokens, before the grammar is asked.
-use Rattle.std.specs.Prelude.{ℕ, ◌+◌, ◌-◌, Bool, true, false, List, [], ◌∷◌, Option, Some, None, max, nat_lt, ◌==◌, not, ◌&&◌, ◌||◌, if◌then◌else◌}
-use Rattle.ci_expr.specs.declared.fault.ExprFault.{ExprFault}
-use Rattle.ci_expr.specs.declared.fault.ExprFault.TheVariants.{X5, X6, X7}
+use Rattle.std.specs.Prelude.{◌≡◌, ℕ, ◌+◌, ◌<◌, ◌≤◌, Bool, true, false, List, [], ◌∷◌, ◌++◌, take}
 use Rattle.ci_expr.specs.declared.token.Kind.{Kind}
 use Rattle.ci_expr.specs.declared.token.Kind.TheVariants as kind
 use Rattle.ci_expr.specs.Token.{Token}
 
--- how many parentheses are open after a token
-abbrev pub open_after : ℕ → Kind → ℕ
-open_after n kind.Left = n + 1
-open_after n kind.Right = n - 1
-open_after n _ = n
+abbrev pub opens : Kind → ℕ
+opens kind.Left = 1
+opens _ = 0
 
--- a parenthesis that closes where none is open
-abbrev pub closes_none : ℕ → Kind → Bool
-closes_none n kind.Right = n == 0
-closes_none n _ = false
+abbrev pub closes : Kind → ℕ
+closes kind.Right = 1
+closes _ = 0
 
--- none closes what isn't open, and none is left open
-abbrev pub balances : ℕ → List Token → Bool
-balances n [] = n == 0
-balances n (t ∷ ts) = not (closes_none n t.kind) && balances (open_after n t.kind) ts
+-- how many parentheses are opened, and how many are closed
+abbrev pub opened : List Token → ℕ
+opened [] = 0
+opened (t ∷ ts) = opens t.kind + opened ts
 
--- the most parentheses that are open at once
-abbrev pub deepest : ℕ → List Token → ℕ
-deepest n [] = n
-deepest n (t ∷ ts) = max n (deepest (open_after n t.kind) ts)
+abbrev pub closed : List Token → ℕ
+closed [] = 0
+closed (t ∷ ts) = closes t.kind + closed ts
 
-abbrev pub is_pattern : Kind → Bool
-is_pattern kind.Pattern = true
-is_pattern _ = false
+-- No beginning closes more than it opens, and the whole closes all that it opens.
+abbrev pub IsBalanced : List Token → Type 0
+IsBalanced ts = ((k : ℕ) → closed (take k ts) ≤ opened (take k ts)) × (closed ts ≡ opened ts)
 
--- a pattern may come next
+-- behind some beginning more than 32 are open
+abbrev pub IsDeep : List Token → Type 0
+IsDeep ts = (k : ℕ) × (closed (take k ts) + 32 < opened (take k ts))
+
+-- `=~` and `!~`
 abbrev pub takes_pattern : Kind → Bool
 takes_pattern kind.Match = true
 takes_pattern kind.Mismatch = true
 takes_pattern _ = false
 
--- a pattern stands where no `=~` or `!~` is directly before it
-abbrev pub has_stray : Bool → List Token → Bool
-has_stray after [] = false
-has_stray after (t ∷ ts) = (is_pattern t.kind && not after) || has_stray (takes_pattern t.kind) ts
+abbrev pub ends_in_match : List Token → Bool
+ends_in_match [] = false
+ends_in_match (t ∷ []) = takes_pattern t.kind
+ends_in_match (t ∷ u ∷ ts) = ends_in_match (u ∷ ts)
 
--- the first of these faults
-abbrev pub list_fault : List Token → Option ExprFault
-list_fault ts =
-    if balances 0 ts then (if has_stray false ts then Some X6 else if nat_lt 32 (deepest 0 ts) then Some X7 else None) else Some X5
+-- a pattern stands where no `=~` or `!~` is directly before it
+abbrev pub HasStray : List Token → Type 0
+HasStray ts = (before : List Token) × (t : Token) × (behind : List Token) × (ts ≡ before ++ t ∷ behind) × (t.kind ≡ kind.Pattern) × (ends_in_match before ≡ false)

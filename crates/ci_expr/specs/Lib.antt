@@ -7,6 +7,7 @@ pub mod Formula
 pub mod Truth
 pub mod Found
 pub mod Faults
+pub mod Order
 pub mod Descent
 pub mod Meaning
 pub mod Built

@@ -1,12 +1,13 @@
 -- What a text means: its tokens and its formula, or why it has none.
-use Rattle.std.specs.Prelude.{◌≡◌, ℕ, ◌<◌, ◌≤◌, ◌⊎◌, true, false, List, length, Option, Some, None, Result, Ok, Err, ⊤}
+use Rattle.std.specs.Prelude.{◌≡◌, ℕ, ◌<◌, ◌≤◌, ◌⊎◌, true, List, length, Option, Some, None, Result, Ok, Err, ⊤}
 use Rattle.ci_expr.specs.declared.fault.ExprFault.{ExprFault}
 use Rattle.ci_expr.specs.declared.fault.ExprFault.TheVariants.{X1, X4, X5, X6, X7, X8}
 use Rattle.ci_expr.specs.declared.fault.ExprError.{ExprError}
 use Rattle.ci_expr.specs.declared.fault.ExprError.TheVariants as errors
 use Rattle.ci_expr.specs.Token.{Token, AreTokens, Stops}
 use Rattle.ci_expr.specs.Formula.{Formula, or, Derives, has_pattern}
-use Rattle.ci_expr.specs.Faults.{balances, has_stray, deepest, list_fault}
+use Rattle.ci_expr.specs.Faults.{IsBalanced, HasStray, IsDeep}
+use Rattle.ci_expr.specs.Order.{list_fault}
 use Rattle.ci_expr.specs.Descent.{formula_from}
 
 -- the tokens of a text, or its first fault: a text that is too long, or what stops the tokens
@@ -17,12 +18,12 @@ Tokenizes text (Err x) = (length text ≤ 1024) × Stops text x
 
 -- the formula of a list of tokens, or a fault: of those that hold, the first in the order X5, X6, X7, X4, X8
 abbrev pub Parses : List Token → Result Formula ExprFault → Type 0
-Parses ts (Ok f) = (deepest 0 ts ≤ 32) × Derives or ts f
-Parses ts (Err X5) = balances 0 ts ≡ false
-Parses ts (Err X6) = (balances 0 ts ≡ true) × (has_stray false ts ≡ true)
-Parses ts (Err X7) = (balances 0 ts ≡ true) × (has_stray false ts ≡ false) × (32 < deepest 0 ts)
-Parses ts (Err X4) = (balances 0 ts ≡ true) × (has_stray false ts ≡ false) × (deepest 0 ts ≤ 32) × ((f : Formula) → Derives or ts f → ⊥)
-Parses ts (Err X8) = (deepest 0 ts ≤ 32) × ((f : Formula) × Derives or ts f × (has_pattern f ≡ true))
+Parses ts (Ok f) = ¬ (IsDeep ts) × Derives or ts f
+Parses ts (Err X5) = ¬ (IsBalanced ts)
+Parses ts (Err X6) = IsBalanced ts × HasStray ts
+Parses ts (Err X7) = IsBalanced ts × ¬ (HasStray ts) × IsDeep ts
+Parses ts (Err X4) = IsBalanced ts × ¬ (HasStray ts) × ¬ (IsDeep ts) × ((f : Formula) → ¬ (Derives or ts f))
+Parses ts (Err X8) = ¬ (IsDeep ts) × ((f : Formula) × Derives or ts f × (has_pattern f ≡ true))
 Parses ts (Err x) = ⊥
 
 -- A text of which a formula is read; or a fault, those of the text before those of the tokens. X8 is a fault wherever the

@@ -1,7 +1,8 @@
 //! What is wrong with a list of tokens before the grammar is asked.
 
 ghost use Rattle.std.specs.Prelude.{◌≡◌, ◌+◌, ◌^◌, ◌<◌, map, false};
-ghost use Rattle.ci_expr.specs.Faults.{open_after, closes_none, balances, deepest, is_pattern, takes_pattern, has_stray, list_fault};
+ghost use Rattle.ci_expr.specs.Order.{open_after, closes_none, balances, deepest, is_pattern, has_stray, list_fault};
+ghost use Rattle.ci_expr.specs.Faults.{takes_pattern};
 ghost use Rattle.ci_expr.specs.View.{token_view};
 
 use crate::fault::ExprFault;

@@ -1,5 +1,5 @@
 use Rattle.std.proofs.Common.{◌≡◌, drop, map, false}
-use Rattle.ci_expr.specs.Faults.{has_stray}
+use Rattle.ci_expr.specs.Order.{has_stray}
 use Rattle.ci_expr.specs.View.{token_view}
 use Rattle.ci_expr.proofs.order.has_stray.Given as goal
 
