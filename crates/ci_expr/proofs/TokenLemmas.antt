@@ -17,7 +17,7 @@ use Rattle.ci_expr.specs.Character.{is_blank}
 use Rattle.ci_expr.specs.Token.{Token, token_at, IsMark, Spells, IsFront, AreTokens, nothing, blank, token, StaysOpen, quote, pattern, Stops, unclosed, wrong}
 use Rattle.ci_expr.specs.Reading.{◌>>=◌, with_token, token_from, lex, tokens_of}
 use Rattle.ci_expr.specs.View.{Gives, tokens_view}
-use Rattle.ci_expr.specs.Meaning.{Tokenizes, Answers}
+use Rattle.ci_expr.specs.Meaning.{Tokenizes, Answers, AtMostOneList}
 use Rattle.ci_expr.proofs.Fronts.{split, bounds, front-is}
 use Rattle.ci_expr.proofs.Sound.{tokens-sound}
 use Rattle.ci_expr.proofs.FrontLemmas.{spelled-read, open-read, unread-stops, wrong-unread}
@@ -141,6 +141,14 @@ stops-read _ _ (Stops.token k s rest bs x e spells h) (suc n) at le =
 stops-read _ _ (unclosed bs h) n at le = open-stops n at bs h le
 stops-read _ _ (wrong b bs e none closed) zero at le = absurd (omega (arith, le))
 stops-read _ _ (wrong b bs e none closed) (suc n) at le = fault-step n at b bs X2 e (wrong-unread b bs none closed)
+
+abbrev list_or : Lexed → List Token → List Token
+list_or (Ok ts) d = ts
+list_or (Err e) d = d
+
+pub one-list : AtMostOneList
+one-list text ts us a b =
+    ap (λ r. list_or r ts) (sym (tokens-read 0 text ts a (length text) (omega arith)) ∙ tokens-read 0 text us b (length text) (omega arith))
 
 -- ---- sound, of faults
 abbrev SameFault : Lexed → ExprFault → Type 0

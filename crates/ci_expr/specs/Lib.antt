@@ -1,3 +1,4 @@
+pub mod Code
 pub mod Character
 pub mod Lexeme
 pub mod Token

@@ -16,6 +16,10 @@ Tokenizes text (Ok ts) = (length text ≤ 1024) × AreTokens 0 text ts
 Tokenizes text (Err X1) = 1024 < length text
 Tokenizes text (Err x) = (length text ≤ 1024) × Stops text x
 
+-- a text has at most one list of tokens
+abbrev pub AtMostOneList : Type 0
+AtMostOneList = (text : List ℕ) (ts us : List Token) → AreTokens 0 text ts → AreTokens 0 text us → ts ≡ us
+
 -- the formula of a list of tokens, or a fault: of those that hold, the first in the order X5, X6, X7, X4, X8
 abbrev pub Parses : List Token → Result Formula ExprFault → Type 0
 Parses ts (Ok f) = ¬ (IsDeep ts) × Derives or ts f

@@ -105,18 +105,14 @@ fn or_from<'t, 'a>(alloc: Global, tokens: &'t [Token<'a>]) -> Result<Read<'t, 'a
     ensures exact { IsDescent (λ r. (tree_view r.0, map token_view r.1.now)) or (map token_view tokens.now) result }
     ensures size { IfOk result (λ r. length r.1.now < length tokens.now) }
 {
-    match and_from(alloc, tokens) {
-        Ok((first, rest)) => match behind(rest, Kind::Or) {
-            Some(more) => match or_from(alloc, more) {
-                Ok((others, rest)) => Ok((
-                    Tree::Either(Box::new(alloc, first)?, Box::new(alloc, others)?),
-                    rest,
-                )),
-                Err(error) => Err(error),
-            },
-            None => Ok((first, rest)),
-        },
-        Err(error) => Err(error),
+    let (first, rest) = and_from(alloc, tokens)?;
+    match behind(rest, Kind::Or) {
+        Some(more) => {
+            let (others, rest) = or_from(alloc, more)?;
+            let first = Box::new(alloc, first)?;
+            Ok((Tree::Either(first, Box::new(alloc, others)?), rest))
+        }
+        None => Ok((first, rest)),
     }
 }
 
@@ -126,18 +122,14 @@ fn and_from<'t, 'a>(alloc: Global, tokens: &'t [Token<'a>]) -> Result<Read<'t, '
     ensures exact { IsDescent (λ r. (tree_view r.0, map token_view r.1.now)) and (map token_view tokens.now) result }
     ensures size { IfOk result (λ r. length r.1.now < length tokens.now) }
 {
-    match test_from(alloc, tokens) {
-        Ok((first, rest)) => match behind(rest, Kind::And) {
-            Some(more) => match and_from(alloc, more) {
-                Ok((others, rest)) => Ok((
-                    Tree::Both(Box::new(alloc, first)?, Box::new(alloc, others)?),
-                    rest,
-                )),
-                Err(error) => Err(error),
-            },
-            None => Ok((first, rest)),
-        },
-        Err(error) => Err(error),
+    let (first, rest) = test_from(alloc, tokens)?;
+    match behind(rest, Kind::And) {
+        Some(more) => {
+            let (others, rest) = and_from(alloc, more)?;
+            let first = Box::new(alloc, first)?;
+            Ok((Tree::Both(first, Box::new(alloc, others)?), rest))
+        }
+        None => Ok((first, rest)),
     }
 }
 
@@ -149,13 +141,13 @@ fn test_from<'t, 'a>(alloc: Global, tokens: &'t [Token<'a>]) -> Result<Read<'t, 
 {
     match tokens.split_first() {
         Some((token, rest)) => match token.kind {
-            Kind::Left => match or_from(alloc, rest) {
-                Ok((inner, rest)) => match behind(rest, Kind::Right) {
+            Kind::Left => {
+                let (inner, rest) = or_from(alloc, rest)?;
+                match behind(rest, Kind::Right) {
                     Some(rest) => Ok((Tree::Group(Box::new(alloc, inner)?), rest)),
                     None => Err(ExprError::Fault(ExprFault::X4)),
-                },
-                Err(error) => Err(error),
-            },
+                }
+            }
             Kind::Name => match behind_byte(token.slice, b'$') {
                 Some(name) => named_from(name, rest),
                 None => Err(ExprError::Fault(ExprFault::X4)),
@@ -170,14 +162,10 @@ fn test_from<'t, 'a>(alloc: Global, tokens: &'t [Token<'a>]) -> Result<Read<'t, 
 pub fn formula_from<'a>(alloc: Global, tokens: &[Token<'a>]) -> Result<Tree<'a>, ExprError>
     ensures { Gives tree_view result (formula_from (map token_view tokens.now)) }
 {
-    match or_from(alloc, tokens) {
-        Ok((tree, rest)) => {
-            if rest.is_empty() {
-                Ok(tree)
-            } else {
-                Err(ExprError::Fault(ExprFault::X4))
-            }
-        }
-        Err(error) => Err(error),
+    let (tree, rest) = or_from(alloc, tokens)?;
+    if rest.is_empty() {
+        Ok(tree)
+    } else {
+        Err(ExprError::Fault(ExprFault::X4))
     }
 }

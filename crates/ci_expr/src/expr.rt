@@ -34,16 +34,12 @@ impl Expr {
 fn parse_tokens(alloc: Global, tokens: &[Token]) -> Result<Expr, ExprError>
     ensures { IsBuilt formula_of result (parse_of (map token_view tokens.now)) }
 {
-    match list_fault(tokens) {
-        Some(fault) => Err(ExprError::Fault(fault)),
-        None => match formula_from(alloc, tokens) {
-            Ok(tree) => match build(alloc, &tree) {
-                Ok(root) => Ok(Expr { root }),
-                Err(error) => Err(error),
-            },
-            Err(error) => Err(error),
-        },
+    if let Some(fault) = list_fault(tokens) {
+        return Err(ExprError::Fault(fault));
     }
+    let tree = formula_from(alloc, tokens)?;
+    let root = build(alloc, &tree)?;
+    Ok(Expr { root })
 }
 
 /// The expression of a text. A pattern is built once, here, and kept.
@@ -59,8 +55,6 @@ pub fn parse(alloc: Global, text: &str) -> Result<Expr, ExprError>
     // The grammar leaves no choice.
     ensures one { AtMostOneFormula }
 {
-    match tokens(alloc, text) {
-        Ok(tokens) => parse_tokens(alloc, &tokens),
-        Err(error) => Err(error),
-    }
+    let found = tokens(alloc, text)?;
+    parse_tokens(alloc, &found)
 }

@@ -28,6 +28,10 @@ pub enum ExprFault {
 }
 
 impl fmt::Display for ExprFault {
+    ghost use Rattle.ci_expr.specs.Code.{code_of};
+
+    ghost output = { λ fault. Some (code_of fault) };
+
     fn fmt<W: fmt::Write>(&self, f: &mut fmt::Formatter<W>) -> fmt::Result {
         f.write_str(match self {
             ExprFault::X1 => "X1",

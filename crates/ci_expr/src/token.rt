@@ -4,7 +4,7 @@ ghost use Rattle.std.specs.Prelude.{◌<◌, ◌≤◌, drop, length, List, Resu
 ghost use Rattle.ci_expr.specs.declared.fault.ExprFault.{ExprFault as Code};
 ghost use Rattle.ci_expr.specs.Token.{Token as Read};
 ghost use Rattle.ci_expr.specs.Reading.{token_from, tokens_of};
-ghost use Rattle.ci_expr.specs.Meaning.{Tokenizes, Answers};
+ghost use Rattle.ci_expr.specs.Meaning.{Tokenizes, Answers, AtMostOneList};
 ghost use Rattle.ci_expr.specs.View.{Gives, token_view, tokens_view};
 
 use crate::fault::{ExprError, ExprFault};
@@ -14,26 +14,42 @@ use std::alloc::Global;
 /// What a token is.
 #[derive(Clone, Copy, Debug, PartialEq, Eq)]
 pub enum Kind {
+    /// `$` and a name: an ASCII letter or `_`, then ASCII letters, ASCII digits and `_`.
     Name,
+    /// A text in `"` or `'`, without escapes.
     Text,
+    /// `null`.
     Null,
+    /// `==`.
     Equal,
+    /// `!=`.
     Unequal,
+    /// `=~`.
     Match,
+    /// `!~`.
     Mismatch,
+    /// `&&`.
     And,
+    /// `||`.
     Or,
+    /// `(`.
     Left,
+    /// `)`.
     Right,
+    /// A pattern between `/` and `/` or `/i`; in it a backslash takes the next character with it.
     Pattern,
 }
 
-/// A token, its slice of the text, and where it stands.
+/// A token.
 #[derive(Clone, Copy)]
 pub struct Token<'a> {
+    /// What it is.
     pub kind: Kind,
+    /// Its slice of the text, with its marks and flag.
     pub slice: &'a str,
+    /// The place of its first byte in the text.
     pub start: usize,
+    /// The place behind its last byte.
     pub end: usize,
 }
 
@@ -53,11 +69,14 @@ fn token_at(text: &str, at: usize) -> Result<Token<'_>, ExprError>
     })
 }
 
-/// The tokens of a text.
+/// The longest text that is read, in bytes.
+const MAX_LENGTH: usize = 1024;
+
+/// The tokens of a text, read from the left.
 fn read_tokens(alloc: Global, text: &str) -> Result<Vec<Token<'_>>, ExprError>
     ensures exact { Gives tokens_view result (tokens_of text.now) }
 {
-    if text.len() > 1024 {
+    if text.len() > MAX_LENGTH {
         return Err(ExprError::Fault(ExprFault::X1));
     }
     let mut found = Vec::new(alloc);
@@ -87,6 +106,8 @@ pub fn tokens(alloc: Global, text: &str) -> Result<Vec<Token<'_>>, ExprError>
     ensures answer { Answers tokens_view result (Tokenizes text.now) }
     // Where the text has tokens, or a fault, that is answered.
     ensures only { (r : Result (List Read) Code) → Tokenizes text.now r → Gives tokens_view result r }
+    // There is no choice.
+    ensures one { AtMostOneList }
 {
     read_tokens(alloc, text)
 }

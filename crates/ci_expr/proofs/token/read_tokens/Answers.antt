@@ -25,6 +25,6 @@ all-preserved c = record {
 
 pub returns-in-Err : goal.returns-in-Err
 returns-in-Err c = record {
-  exact = fails-of c.args.text.now c.all.at (map token_view c.all.found.items) c.in-Err.stop (omega (arith, c.if-text-gt1024.false)) c.all-test.true
+  exact = fails-of c.args.text.now c.all.at (map token_view c.all.found.items) c.in-Err.stop (omega (arith, c.if-text-gt-MAX_LENGTH.false)) c.all-test.true
       (rw c.as_bytes.ensures.value at (sym c.is_blank.ensures ∙ c.if-is_blank.false)) c.in-Err.ensures.exact c.all.invariant.steps;
 }
