@@ -24,7 +24,7 @@ formula_view (Both' p a q b) = both (formula_view a) (formula_view b)
 formula_view (Group' p a) = group (formula_view a)
 formula_view (Present name) = present (string_bytes name)
 formula_view (Equal negated name subject) = equal negated (string_bytes name) (subject_view subject)
-formula_view (Found negated name pattern) = found negated (string_bytes name) (chars (regex_source pattern.regex)) pattern.insensitive
+formula_view (Found negated name pattern) = found negated (string_bytes name) (chars (regex_source pattern.value.regex)) pattern.value.insensitive
 
 -- the formula that an expression says
 abbrev pub formula_of : Expr → Formula

@@ -45,7 +45,7 @@ pub enum Formula {
     /// The variable has the subject's value; with `true`, it hasn't.
     Equal(bool, String, Subject),
     /// The pattern is found in the variable; with `true`, it isn't.
-    Found(bool, String, Pattern),
+    Found(bool, String, Box<Pattern>),
 }
 
 /// The source of a pattern with this body: the pair `\/` stands for `/`, other pairs stay.
@@ -125,7 +125,7 @@ pub fn build(alloc: Global, tree: &Tree) -> Result<Formula, ExprError>
         Tree::Found(negated, name, body, insensitive) => {
             let name = String::from_str(alloc, name)?;
             let pattern = pattern_from(alloc, body, *insensitive)?;
-            Ok(Formula::Found(*negated, name, pattern))
+            Ok(Formula::Found(*negated, name, Box::new(alloc, pattern)?))
         }
     }
 }
