@@ -1,5 +1,6 @@
 -- What a call answers, without where it lies in memory.
 use Rattle.std.specs.Prelude.{◌≡◌, ℕ, ◌≤◌, List, Result, Ok, Err, map, true, chars, ⊤}
+use Rattle.std.specs.Borrow.{Bor}
 use Rattle.std.specs.Global.{Vec}
 use Rattle.ci_expr.specs.declared.fault.ExprFault.{ExprFault}
 use Rattle.ci_expr.specs.declared.fault.ExprFault.TheVariants.{X8}
@@ -33,6 +34,10 @@ tree_view (Present name) = present name.now
 tree_view (Equal negated name operand) = equal negated name.now (operand_view operand)
 tree_view (Found negated name body insensitive) = found negated name.now (unescaped (chars body.now)) insensitive
 
+-- a formula, and the tokens behind it
+abbrev pub read_view : trees.Tree × Bor (List rust.Token) → Formula × List Token
+read_view r = (tree_view r.0, map token_view r.1.now)
+
 -- What a function returned is what reading gives, unless memory ran out.
 abbrev pub Fails : {Y : Type 0} → ExprError → Result Y ExprFault → Type 0
 Fails errors.Memory read = ⊤
@@ -53,5 +58,5 @@ RefusesPattern errors.Memory f = ⊤
 RefusesPattern (errors.Fault x) f = (x ≡ X8) × (has_pattern f ≡ true)
 
 -- what reading a level answers, with any number of steps that is enough
-abbrev pub IsDescent : {X : Type 0} → (X → Formula × List Token) → Level → List Token → Result X ExprError → Type 0
-IsDescent view l ts result = (n : ℕ) → reach l ts ≤ n → Gives view result (descend n l ts)
+abbrev pub IsDescent : Level → List Token → Result (trees.Tree × Bor (List rust.Token)) ExprError → Type 0
+IsDescent l ts result = (n : ℕ) → reach l ts ≤ n → Gives read_view result (descend n l ts)

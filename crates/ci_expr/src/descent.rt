@@ -3,7 +3,7 @@
 ghost use Rattle.std.specs.Prelude.{◌≡◌, ◌+◌, ◌<◌, ◌≤◌, length, map, option_map, IfOk, IfSome};
 ghost use Rattle.ci_expr.specs.Descent.{is_kind, behind, compared_from, matched_from, named_from, formula_from};
 ghost use Rattle.ci_expr.specs.Formula.{or, and, test};
-ghost use Rattle.ci_expr.specs.View.{Gives, token_view, tree_view, IsDescent};
+ghost use Rattle.ci_expr.specs.View.{Gives, token_view, tree_view, read_view, IsDescent};
 
 use crate::fault::{ExprError, ExprFault};
 use crate::part::{behind_byte, operand_of, pattern_of};
@@ -44,7 +44,7 @@ fn compared_from<'t, 'a>(
     name: &'a str,
     tokens: &'t [Token<'a>],
 ) -> Result<Read<'t, 'a>, ExprError>
-    ensures exact { Gives (λ r. (tree_view r.0, map token_view r.1.now)) result (compared_from negated name.now (map token_view tokens.now)) }
+    ensures exact { Gives read_view result (compared_from negated name.now (map token_view tokens.now)) }
     ensures size { IfOk result (λ r. length r.1.now ≤ length tokens.now) }
 {
     match tokens.split_first() {
@@ -62,7 +62,7 @@ fn matched_from<'t, 'a>(
     name: &'a str,
     tokens: &'t [Token<'a>],
 ) -> Result<Read<'t, 'a>, ExprError>
-    ensures exact { Gives (λ r. (tree_view r.0, map token_view r.1.now)) result (matched_from negated name.now (map token_view tokens.now)) }
+    ensures exact { Gives read_view result (matched_from negated name.now (map token_view tokens.now)) }
     ensures size { IfOk result (λ r. length r.1.now ≤ length tokens.now) }
 {
     match tokens.split_first() {
@@ -84,7 +84,7 @@ fn matched_from<'t, 'a>(
 
 /// A test that begins with a variable, behind its name.
 fn named_from<'t, 'a>(name: &'a str, tokens: &'t [Token<'a>]) -> Result<Read<'t, 'a>, ExprError>
-    ensures exact { Gives (λ r. (tree_view r.0, map token_view r.1.now)) result (named_from name.now (map token_view tokens.now)) }
+    ensures exact { Gives read_view result (named_from name.now (map token_view tokens.now)) }
     ensures size { IfOk result (λ r. length r.1.now ≤ length tokens.now) }
 {
     match tokens.split_first() {
@@ -102,7 +102,7 @@ fn named_from<'t, 'a>(name: &'a str, tokens: &'t [Token<'a>]) -> Result<Read<'t,
 /// The longest `or` at the front.
 #[cycle(descent)]
 fn or_from<'t, 'a>(alloc: Global, tokens: &'t [Token<'a>]) -> Result<Read<'t, 'a>, ExprError>
-    ensures exact { IsDescent (λ r. (tree_view r.0, map token_view r.1.now)) or (map token_view tokens.now) result }
+    ensures exact { IsDescent or (map token_view tokens.now) result }
     ensures size { IfOk result (λ r. length r.1.now < length tokens.now) }
 {
     let (first, rest) = and_from(alloc, tokens)?;
@@ -119,7 +119,7 @@ fn or_from<'t, 'a>(alloc: Global, tokens: &'t [Token<'a>]) -> Result<Read<'t, 'a
 /// The longest `and` at the front.
 #[cycle(descent)]
 fn and_from<'t, 'a>(alloc: Global, tokens: &'t [Token<'a>]) -> Result<Read<'t, 'a>, ExprError>
-    ensures exact { IsDescent (λ r. (tree_view r.0, map token_view r.1.now)) and (map token_view tokens.now) result }
+    ensures exact { IsDescent and (map token_view tokens.now) result }
     ensures size { IfOk result (λ r. length r.1.now < length tokens.now) }
 {
     let (first, rest) = test_from(alloc, tokens)?;
@@ -136,7 +136,7 @@ fn and_from<'t, 'a>(alloc: Global, tokens: &'t [Token<'a>]) -> Result<Read<'t, '
 /// The test at the front.
 #[cycle(descent)]
 fn test_from<'t, 'a>(alloc: Global, tokens: &'t [Token<'a>]) -> Result<Read<'t, 'a>, ExprError>
-    ensures exact { IsDescent (λ r. (tree_view r.0, map token_view r.1.now)) test (map token_view tokens.now) result }
+    ensures exact { IsDescent test (map token_view tokens.now) result }
     ensures size { IfOk result (λ r. length r.1.now < length tokens.now) }
 {
     match tokens.split_first() {

@@ -42,7 +42,8 @@ pub fn build_pattern(alloc: Global, source: &str, insensitive: bool) -> Result<P
 
 /// Whether the pattern is found somewhere in a text.
 pub fn is_found(pattern: &Pattern, alloc: Global, text: &str) -> Result<bool, AllocError>
-    ensures { IfOk result (λ found. found ≡ is_found_in (config_of pattern.now.insensitive) (chars (regex_source pattern.now.regex)) text.now) }
+    ensures { IfOk result (λ found. found ≡
+        is_found_in (config_of pattern.now.insensitive) (chars (regex_source pattern.now.regex)) text.now) }
 {
     let mut matcher = pattern.regex.matcher(alloc)?;
     Ok(matcher.is_match(text))
