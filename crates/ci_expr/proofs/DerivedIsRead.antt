@@ -1,0 +1,86 @@
+-- What the grammar derives is read from the left, where nothing follows that would make it longer.
+use Rattle.std.proofs.Common.{◌≡◌, ℕ, ◌<◌, ◌≤◌, Bool, true, false, cond, List, [], ◌∷◌, ◌++◌, length, Some, Ok, Err, refl, sym, ◌∙◌, ap, subst, arith, append_assoc}
+use Rattle.std.proofs.lemmas.List.{length-append}
+use Rattle.ci_expr.specs.declared.fault.ExprFault.TheVariants.{X4}
+use Rattle.ci_expr.specs.declared.token.Kind.{Kind}
+use Rattle.ci_expr.specs.declared.token.Kind.TheVariants as kind
+use Rattle.ci_expr.specs.Token.{Token}
+use Rattle.ci_expr.specs.Formula.{Operand, Formula, either, both, group, present, equal, found, Level, or, and, test, comparing, matching, IsNamed, IsOperand, IsPatternOf, Derives, or_one, or_more, and_one, and_more, in_group, alone, compared, matched}
+use Rattle.ci_expr.specs.Descent.{Read, behind_byte, pattern_of, compared_by, matched_by, matched_from, sign_by, named_from, descend, reach}
+use Rattle.ci_expr.proofs.KindLemmas.{is_kind-at, behind-at, is_sign, Ends, ends-and, ends-test, no-or, no-and, no-sign, ends-at}
+use Rattle.ci_expr.proofs.Parts.{behind_byte-at, operand_by-at, pattern_of-at}
+use Rattle.ci_expr.proofs.Descending.{or-one, or-two, and-one, and-two, group-by, name-by}
+
+-- the tokens are read as the formula, whatever follows that doesn't make it longer
+abbrev pub IsRead : Level → List Token → Formula → Type 0
+IsRead l ts f = (rest : List Token) → Ends l rest → (n : ℕ) → reach l (ts ++ rest) ≤ n → descend n l (ts ++ rest) ≡ Ok (f, rest)
+
+sign-none : (name : List ℕ) (t : Token) (ts : List Token) (k : Kind) → is_sign k ≡ false → sign_by name t ts k ≡ Ok (present name, t ∷ ts)
+sign-none name t ts kind.Equal e = absurd cc
+sign-none name t ts kind.Unequal e = absurd cc
+sign-none name t ts kind.Match e = absurd cc
+sign-none name t ts kind.Mismatch e = absurd cc
+sign-none name t ts _ e = refl
+
+named-alone : (name : List ℕ) (rest : List Token) → Ends test rest → named_from name rest ≡ Ok (present name, rest)
+named-alone name [] h = refl
+named-alone name (t ∷ ts) h = sign-none name t ts t.kind (no-sign t ts h)
+
+named-compared : (negated : Bool) (name : List ℕ) (c w : Token) (operand : Operand) (rest : List Token) → c.kind ≡ comparing negated → IsOperand operand w
+    → named_from name (c ∷ w ∷ rest) ≡ Ok (equal negated name operand, rest)
+named-compared false name c w operand rest e h = ap (sign_by name c (w ∷ rest)) e ∙ ap (compared_by false name rest) (operand_by-at w operand h)
+named-compared true name c w operand rest e h = ap (sign_by name c (w ∷ rest)) e ∙ ap (compared_by true name rest) (operand_by-at w operand h)
+
+abbrev read_found : Bool → List ℕ → List Token → Bool → List ℕ → Read
+read_found negated name rest insensitive source = Ok (found negated name source insensitive, rest)
+
+matched-by : (negated : Bool) (name : List ℕ) (w : Token) (source : List ℕ) (insensitive : Bool) (rest : List Token) → IsPatternOf source insensitive w
+    → matched_from negated name (w ∷ rest) ≡ Ok (found negated name source insensitive, rest)
+matched-by negated name w source insensitive rest (is, (body, spelled, source-is)) =
+    ap (λ b. cond b (matched_by negated name rest (pattern_of w.slice)) (Err X4)) (is_kind-at w.kind kind.Pattern is)
+    ∙ ap (matched_by negated name rest) (pattern_of-at w body insensitive spelled)
+    ∙ ap (read_found negated name rest insensitive) (sym source-is)
+
+named-matched : (negated : Bool) (name : List ℕ) (c w : Token) (source : List ℕ) (insensitive : Bool) (rest : List Token) → c.kind ≡ matching negated → IsPatternOf source insensitive w
+    → named_from name (c ∷ w ∷ rest) ≡ Ok (found negated name source insensitive, rest)
+named-matched false name c w source insensitive rest e h = ap (sign_by name c (w ∷ rest)) e ∙ matched-by false name w source insensitive rest h
+named-matched true name c w source insensitive rest e h = ap (sign_by name c (w ∷ rest)) e ∙ matched-by true name w source insensitive rest h
+
+named-read : (v : Token) (name : List ℕ) (more rest : List Token) (f : Formula) → IsNamed name v → named_from name more ≡ Ok (f, rest) → (n : ℕ) → reach test (v ∷ more) ≤ n
+    → descend n test (v ∷ more) ≡ Ok (f, rest)
+named-read v name more rest f (is, spelled) e n le = name-by (v ∷ more) more v (Some name) refl is (sym (ap (behind_byte 36) spelled ∙ behind_byte-at 36 name)) n le ∙ e
+
+longer : (left : List Token) (t : Token) (more : List Token) → length more < length (left ++ t ∷ more)
+longer left t more = omega (arith, length-append left (t ∷ more))
+
+or-read : (left : List Token) (t : Token) (right : List Token) (f g : Formula) → IsRead and left f → t.kind ≡ kind.Or → IsRead or right g → IsRead or (left ++ t ∷ right) (either f g)
+or-read left t right f g a is b rest h =
+    let more = right ++ rest in
+    subst (λ us. (n : ℕ) → reach or us ≤ n → descend n or us ≡ Ok (either f g, rest)) (sym (append_assoc left (t ∷ right) rest))
+    (or-two (left ++ t ∷ more) (t ∷ more) more rest f g (a (t ∷ more) (ends-at and t more kind.Or is refl)) (behind-at kind.Or t more is) (longer left t more) (b rest h))
+
+and-read : (left : List Token) (t : Token) (right : List Token) (f g : Formula) → IsRead test left f → t.kind ≡ kind.And → IsRead and right g → IsRead and (left ++ t ∷ right) (both f g)
+and-read left t right f g a is b rest h =
+    let more = right ++ rest in
+    subst (λ us. (n : ℕ) → reach and us ≤ n → descend n and us ≡ Ok (both f g, rest)) (sym (append_assoc left (t ∷ right) rest))
+    (and-two (left ++ t ∷ more) (t ∷ more) more rest f g (a (t ∷ more) (ends-at test t more kind.And is refl)) (behind-at kind.And t more is) (longer left t more) (b rest h))
+
+group-read : (l : Token) (inner : List Token) (r : Token) (f : Formula) → l.kind ≡ kind.Left → IsRead or inner f → r.kind ≡ kind.Right → IsRead test (l ∷ (inner ++ r ∷ [])) (group f)
+group-read l inner r f left a right rest h =
+    subst (λ us. (n : ℕ) → reach test (l ∷ us) ≤ n → descend n test (l ∷ us) ≡ Ok (group f, rest)) (sym (append_assoc inner (r ∷ []) rest))
+    (group-by (l ∷ (inner ++ r ∷ rest)) (inner ++ r ∷ rest) (r ∷ rest) l f (Some rest) refl left (a (r ∷ rest) (ends-at or r rest kind.Right right refl)) (behind-at kind.Right r rest right))
+
+pub derived-read : (l : Level) (ts : List Token) (f : Formula) → Derives l ts f → IsRead l ts f
+derived-read _ _ _ (or_one ts f d) = λ rest h. or-one (ts ++ rest) rest f (derived-read and ts f d rest (ends-and rest h)) (no-or rest h)
+derived-read _ _ _ (or_more left t right ts f g a is b e) =
+    subst (λ us. IsRead or us (either f g)) (sym e) (or-read left t right f g (derived-read and left f a) is (derived-read or right g b))
+derived-read _ _ _ (and_one ts f d) = λ rest h. and-one (ts ++ rest) rest f (derived-read test ts f d rest (ends-test rest h)) (no-and rest h)
+derived-read _ _ _ (and_more left t right ts f g a is b e) =
+    subst (λ us. IsRead and us (both f g)) (sym e) (and-read left t right f g (derived-read test left f a) is (derived-read and right g b))
+derived-read _ _ _ (in_group l inner r ts f left a right e) =
+    subst (λ us. IsRead test us (group f)) (sym e) (group-read l inner r f left (derived-read or inner f a) right)
+derived-read _ _ _ (alone v name named) = λ rest h. named-read v name rest rest (present name) named (named-alone name rest h)
+derived-read _ _ _ (compared v c w negated name operand named sign is) = λ rest h.
+    named-read v name (c ∷ w ∷ rest) rest (equal negated name operand) named (named-compared negated name c w operand rest sign is)
+derived-read _ _ _ (matched v c w negated name source insensitive named sign is) = λ rest h.
+    named-read v name (c ∷ w ∷ rest) rest (found negated name source insensitive) named (named-matched negated name c w source insensitive rest sign is)

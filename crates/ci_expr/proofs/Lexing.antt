@@ -1,0 +1,91 @@
+-- Tokens, read one after the other.
+use Rattle.std.proofs.Common.{◌≡◌, ℕ, suc, ◌+◌, zero, ◌-◌, ◌<◌, ◌≤◌, true, false, cond, List, [], ◌∷◌, ◌++◌, length, drop, get_or, Result, Ok, Err, refl, sym, ◌∙◌, ap, append_assoc, arith, add-one, drop-cons, drop-drop}
+use Rattle.ci_expr.specs.declared.fault.ExprFault.{ExprFault}
+use Rattle.ci_expr.specs.Character.{is_blank}
+use Rattle.ci_expr.specs.Token.{Token}
+use Rattle.ci_expr.specs.Reading.{◌>>=◌, with_token, token_from, lex, tokens_of}
+use Rattle.std.proofs.Common.{map}
+use Rattle.std.proofs.lemmas.Bool.{le-ltb}
+use Rattle.ci_expr.specs.declared.fault.ExprFault.TheVariants.{X1}
+use Rattle.ci_expr.specs.declared.fault.ExprError.{ExprError}
+use Rattle.ci_expr.specs.declared.fault.ExprError.TheVariants as stops
+use Rattle.ci_expr.specs.declared.token.Token as rust
+use Rattle.ci_expr.specs.View.{Fails, token_view}
+
+abbrev pub with_front : List Token → Result (List Token) ExprFault → Result (List Token) ExprFault
+with_front front (Ok ts) = Ok (front ++ ts)
+with_front front (Err e) = Err e
+
+pub front-token : (front : List Token) (t : Token) (r : Result (List Token) ExprFault) → with_front front (with_token t r) ≡ with_front (front ++ t ∷ []) r
+front-token front t (Ok ts) = ap Ok (sym (append_assoc front (t ∷ []) ts))
+front-token front t (Err e) = refl
+
+pub front-nil : (r : Result (List Token) ExprFault) → with_front [] r ≡ r
+front-nil (Ok ts) = refl
+front-nil (Err e) = refl
+
+abbrev pub Lexed : Type 0
+Lexed = Result (List Token) ExprFault
+
+abbrev pub Steps : List ℕ → ℕ → List Token → Type 0
+Steps text at front = (n : ℕ) × (length text ≤ n + at) × (with_front front (lex n at (drop at text)) ≡ lex (length text) 0 text)
+
+abbrev rest_by : ℕ → ℕ → List ℕ → Result Token ExprFault → Lexed
+rest_by n at bs r = r >>= λ t. with_token t (lex n t.end (drop (t.end - at) bs))
+
+lex-blank : (n at b : ℕ) (bs : List ℕ) → is_blank b ≡ true → lex (suc n) at (b ∷ bs) ≡ lex n (at + 1) bs
+lex-blank n at b bs e = ap (λ t. cond t (lex n (at + 1) bs) (rest_by n at (b ∷ bs) (token_from at (b ∷ bs)))) e
+
+lex-by : (n at b : ℕ) (bs : List ℕ) (r : Result Token ExprFault) → is_blank b ≡ false → token_from at (b ∷ bs) ≡ r → lex (suc n) at (b ∷ bs) ≡ rest_by n at (b ∷ bs) r
+lex-by n at b bs r e f = ap (λ t. cond t (lex n (at + 1) bs) (rest_by n at (b ∷ bs) (token_from at (b ∷ bs)))) e ∙ ap (rest_by n at (b ∷ bs)) f
+
+next-is : (bs : List ℕ) (i : ℕ) → i < length bs → drop i bs ≡ get_or bs i 0 ∷ drop (i + 1) bs
+next-is bs i lt = rw (add-one, drop-cons bs i 0) refl
+
+pub steps-start : (text : List ℕ) → Steps text 0 []
+steps-start text = (length text, omega arith, front-nil (lex (length text) 0 text))
+
+pub steps-blank : (text : List ℕ) (at : ℕ) (front : List Token) → at < length text → is_blank (get_or text at 0) ≡ true → Steps text at front → Steps text (at + 1) front
+steps-blank text at front lt e (zero, le, h) = absurd (omega (arith, lt, le))
+steps-blank text at front lt e (suc n, le, h) = (
+  n,
+  omega (arith, le),
+  ap (with_front front) (sym (lex-blank n at (get_or text at 0) (drop (at + 1) text) e)) ∙ ap (λ x. with_front front (lex (suc n) at x)) (sym (next-is text at lt)) ∙ h,
+)
+
+by-token : (text : List ℕ) (at n : ℕ) (r : Result Token ExprFault) → at < length text → is_blank (get_or text at 0) ≡ false → token_from at (drop at text) ≡ r
+    → lex (suc n) at (drop at text) ≡ rest_by n at (drop at text) r
+by-token text at n r lt e f =
+    let is = next-is text at lt in
+    ap (lex (suc n) at) is ∙ lex-by n at (get_or text at 0) (drop (at + 1) text) r e (ap (token_from at) (sym is) ∙ f) ∙ ap (λ x. rest_by n at x r) (sym is)
+
+pub steps-token : (text : List ℕ) (at : ℕ) (front : List Token) (t : Token) → at < length text → is_blank (get_or text at 0) ≡ false
+    → token_from at (drop at text) ≡ Ok t → at < t.end → t.end ≤ length text → Steps text at front → Steps text t.end (front ++ t ∷ [])
+steps-token text at front t lt e f grows le (zero, more, h) = absurd (omega (arith, lt, more))
+steps-token text at front t lt e f grows le (suc n, more, h) =
+    let stop : ℕ = t.end in
+    let on : at + (stop - at) ≡ stop = omega (arith, grows) in
+    let cut : drop (stop - at) (drop at text) ≡ drop stop text = drop-drop (stop - at) at text ∙ ap (λ k. drop k text) on in (
+      n,
+      omega (arith, more, grows),
+      sym (front-token front t (lex n stop (drop stop text)))
+          ∙ ap (λ x. with_front front (with_token t (lex n stop x))) (sym cut)
+          ∙ ap (with_front front) (sym (by-token text at n (Ok t) lt e f)) ∙ h,
+    )
+
+pub steps-fault : (text : List ℕ) (at : ℕ) (front : List Token) (f : ExprFault) → at < length text → is_blank (get_or text at 0) ≡ false
+    → token_from at (drop at text) ≡ Err f → Steps text at front → lex (length text) 0 text ≡ Err f
+steps-fault text at front f lt e r (zero, more, h) = absurd (omega (arith, lt, more))
+steps-fault text at front f lt e r (suc n, more, h) = sym h ∙ ap (with_front front) (by-token text at n (Err f) lt e r)
+
+pub tokens-small : (text : List ℕ) → length text ≤ 1024 → tokens_of text ≡ lex (length text) 0 text
+tokens-small text le = ap (λ t. cond t (Err X1) (lex (length text) 0 text)) (le-ltb 1024 (length text) le)
+
+pub fails-of : (text : List ℕ) (at : ℕ) (front : List Token) (stop : ExprError) → length text ≤ 1024 → at < length text → is_blank (get_or text at 0) ≡ false
+    → Fails stop (token_from at (drop at text)) → Steps text at front → Fails stop (tokens_of text)
+fails-of text at front stops.Memory small lt e r h = tt
+fails-of text at front (stops.Fault f) small lt e r h = tokens-small text small ∙ steps-fault text at front f lt e r h
+
+pub view-push : (xs : List rust.Token) (x : rust.Token) → map token_view (xs ++ x ∷ []) ≡ map token_view xs ++ token_view x ∷ []
+view-push [] x = refl
+view-push (y ∷ ys) x = ap (λ zs. token_view y ∷ zs) (view-push ys x)

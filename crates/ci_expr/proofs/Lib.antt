@@ -1,0 +1,15 @@
+pub mod Lexing
+pub mod Fronts
+pub mod Sound
+pub mod FoundLemmas
+pub mod Unescaping
+pub mod Descending
+pub mod KindLemmas
+pub mod Parts
+pub mod ReadIsDerived
+pub mod DerivedIsRead
+pub mod Wholes
+pub mod ParseLemmas
+pub mod FrontLemmas
+pub mod TokenLemmas
+pub mod OrderLemmas

@@ -1,0 +1,145 @@
+-- The grammar, read from the left.
+use Rattle.std.specs.Prelude.{ℕ, zero, suc, ◌+◌, ◌*◌, Bool, true, false, List, [], ◌∷◌, ◌-◌, length, take, drop, get_or, Option, Some, None, option_map, Result, Ok, Err, ◌==◌, ◌||◌, if◌then◌else◌, chars}
+use Rattle.std.specs.Option.{option_and_then}
+use Rattle.ci_expr.specs.declared.fault.ExprFault.{ExprFault}
+use Rattle.ci_expr.specs.declared.fault.ExprFault.TheVariants.{X4}
+use Rattle.ci_expr.specs.declared.token.Kind.{Kind}
+use Rattle.ci_expr.specs.declared.token.Kind.TheVariants as kind
+use Rattle.ci_expr.specs.Token.{Token}
+use Rattle.ci_expr.specs.Reading.{◌>>=◌}
+use Rattle.ci_expr.specs.Formula.{Operand, null, text, variable, Formula, either, both, group, present, equal, found, Level, or, and, test, unescaped}
+
+-- the place of a kind among the kinds
+abbrev pub place : Kind → ℕ
+place kind.Name = 0
+place kind.Text = 1
+place kind.Null = 2
+place kind.Equal = 3
+place kind.Unequal = 4
+place kind.Match = 5
+place kind.Mismatch = 6
+place kind.And = 7
+place kind.Or = 8
+place kind.Left = 9
+place kind.Right = 10
+place kind.Pattern = 11
+
+abbrev pub is_kind : Kind → Kind → Bool
+is_kind a b = place a == place b
+
+-- ---- what a token says
+-- what follows a byte that a slice begins with
+abbrev pub behind_byte : ℕ → List ℕ → Option (List ℕ)
+behind_byte q s = if get_or s 0 0 == q then Some (drop 1 s) else None
+
+-- what comes before a byte that a slice ends with
+abbrev pub before_byte : ℕ → List ℕ → Option (List ℕ)
+before_byte q s = if get_or s (length s - 1) 0 == q then Some (take (length s - 1) s) else None
+
+-- the text between two equal marks
+abbrev pub text_of : List ℕ → Option (List ℕ)
+text_of s = if (get_or s 0 0 == 34) || (get_or s 0 0 == 39) then before_byte (get_or s 0 0) (drop 1 s) else None
+
+-- the body of a pattern, and whether `i` follows it
+abbrev pub flagged : Bool → Option (List ℕ) → Option (List ℕ × Bool)
+flagged insensitive body = option_map (λ b. (b, insensitive)) body
+
+abbrev pub body_by : List ℕ → Option (List ℕ) → Option (List ℕ × Bool)
+body_by s None = flagged false (before_byte 47 s)
+body_by s (Some cut) = flagged true (before_byte 47 cut)
+
+abbrev pub body_of : List ℕ → Option (List ℕ × Bool)
+body_of s = body_by s (before_byte 105 s)
+
+abbrev pub pattern_of : List ℕ → Option (List ℕ × Bool)
+pattern_of s = option_and_then body_of (behind_byte 47 s)
+
+abbrev pub operand_by : List ℕ → Kind → Option Operand
+operand_by s kind.Null = Some null
+operand_by s kind.Text = option_map text (text_of s)
+operand_by s kind.Name = option_map variable (behind_byte 36 s)
+operand_by s _ = None
+
+-- ---- formulas
+-- a formula, and the tokens behind it
+abbrev pub Read : Type 0
+Read = Result (Formula × List Token) ExprFault
+
+-- the tokens behind one of this kind
+abbrev pub behind : Kind → List Token → Option (List Token)
+behind k [] = None
+behind k (t ∷ ts) = if is_kind t.kind k then Some ts else None
+
+abbrev pub compared_by : Bool → List ℕ → List Token → Option Operand → Read
+compared_by negated name rest None = Err X4
+compared_by negated name rest (Some operand) = Ok (equal negated name operand, rest)
+
+abbrev pub compared_from : Bool → List ℕ → List Token → Read
+compared_from negated name [] = Err X4
+compared_from negated name (t ∷ ts) = compared_by negated name ts (operand_by t.slice t.kind)
+
+abbrev pub matched_by : Bool → List ℕ → List Token → Option (List ℕ × Bool) → Read
+matched_by negated name rest None = Err X4
+matched_by negated name rest (Some p) = Ok (found negated name (unescaped (chars p.0)) p.1, rest)
+
+abbrev pub matched_from : Bool → List ℕ → List Token → Read
+matched_from negated name [] = Err X4
+matched_from negated name (t ∷ ts) = if is_kind t.kind kind.Pattern then matched_by negated name ts (pattern_of t.slice) else Err X4
+
+abbrev pub sign_by : List ℕ → Token → List Token → Kind → Read
+sign_by name t ts kind.Equal = compared_from false name ts
+sign_by name t ts kind.Unequal = compared_from true name ts
+sign_by name t ts kind.Match = matched_from false name ts
+sign_by name t ts kind.Mismatch = matched_from true name ts
+sign_by name t ts _ = Ok (present name, t ∷ ts)
+
+abbrev pub named_from : List ℕ → List Token → Read
+named_from name [] = Ok (present name, [])
+named_from name (t ∷ ts) = sign_by name t ts t.kind
+
+abbrev pub variable_by : List Token → Option (List ℕ) → Read
+variable_by ts None = Err X4
+variable_by ts (Some name) = named_from name ts
+
+abbrev pub closed : Formula → Option (List Token) → Read
+closed f None = Err X4
+closed f (Some rest) = Ok (group f, rest)
+
+-- what a test is, where `next` reads an `or`
+abbrev pub test_by : (List Token → Read) → List ℕ → List Token → Kind → Read
+test_by next s ts kind.Left = next ts >>= λ x. closed x.0 (behind kind.Right x.1)
+test_by next s ts kind.Name = variable_by ts (behind_byte 36 s)
+test_by next s ts _ = Err X4
+
+abbrev pub or_by : (List Token → Read) → Formula → List Token → Option (List Token) → Read
+or_by next f rest None = Ok (f, rest)
+or_by next f rest (Some more) = next more >>= λ y. Ok (either f y.0, y.1)
+
+abbrev pub and_by : (List Token → Read) → Formula → List Token → Option (List Token) → Read
+and_by next f rest None = Ok (f, rest)
+and_by next f rest (Some more) = next more >>= λ y. Ok (both f y.0, y.1)
+
+-- the longest formula of a level at the front, with so many steps at most
+abbrev pub descend : ℕ → Level → List Token → Read
+descend zero l ts = Err X4
+descend (suc n) or ts = descend n and ts >>= λ x. or_by (descend n or) x.0 x.1 (behind kind.Or x.1)
+descend (suc n) and ts = descend n test ts >>= λ x. and_by (descend n and) x.0 x.1 (behind kind.And x.1)
+descend (suc n) test [] = Err X4
+descend (suc n) test (t ∷ ts) = test_by (descend n or) t.slice ts t.kind
+
+-- so many steps are enough
+abbrev pub reach : Level → List Token → ℕ
+reach or ts = 3 * length ts + 3
+reach and ts = 3 * length ts + 2
+reach test ts = 3 * length ts + 1
+
+abbrev pub whole_by : Formula × List Token → Result Formula ExprFault
+whole_by x = whole_at x.0 x.1
+  where
+    whole_at : Formula → List Token → Result Formula ExprFault
+    whole_at f [] = Ok f
+    whole_at f (t ∷ ts) = Err X4
+
+-- the formula of a whole list of tokens
+abbrev pub formula_from : List Token → Result Formula ExprFault
+formula_from ts = descend (reach or ts) or ts >>= whole_by

@@ -1,0 +1,94 @@
+-- Formulas, the tokens that spell them, and their truth.
+use Rattle.std.specs.Prelude.{◌≡◌, ℕ, Bool, true, false, List, [], ◌∷◌, ◌++◌, ◌==◌, ◌||◌, if◌then◌else◌, chars}
+use Rattle.ci_expr.specs.declared.token.Kind.{Kind}
+use Rattle.ci_expr.specs.declared.token.Kind.TheVariants as kind
+use Rattle.ci_expr.specs.Token.{Token, IsMark}
+
+-- what a variable is compared with
+pub data Operand : Type 0 where
+  null : Operand
+  text : List ℕ → Operand
+  variable : List ℕ → Operand
+
+pub data Formula : Type 0 where
+  -- one of the two is true
+  either : Formula → Formula → Formula
+  -- both are true
+  both : Formula → Formula → Formula
+  -- a formula in parentheses
+  group : Formula → Formula
+  -- the variable of this name is defined and not empty
+  present : List ℕ → Formula
+  -- the variable has the operand's value; with `true`, it hasn't
+  equal : Bool → List ℕ → Operand → Formula
+  -- the pattern of these characters is found in the variable, where the second flag lets letters match in either case;
+  -- with the first `true`, it isn't
+  found : Bool → List ℕ → List ℕ → Bool → Formula
+
+-- ---- which tokens spell a formula
+-- `or` is one or more `and` joined by `||`, `and` is one or more `test` joined by `&&`
+pub data Level : Type 0 where
+  or : Level
+  and : Level
+  test : Level
+
+-- `==`, and `!=` where it is negated
+abbrev pub comparing : Bool → Kind
+comparing false = kind.Equal
+comparing true = kind.Unequal
+
+-- `=~`, and `!~` where it is negated
+abbrev pub matching : Bool → Kind
+matching false = kind.Match
+matching true = kind.Mismatch
+
+-- a name, without its `$`
+abbrev pub IsNamed : List ℕ → Token → Type 0
+IsNamed name t = (t.kind ≡ kind.Name) × (t.slice ≡ 36 ∷ name)
+
+-- a text without its marks, `null` or a variable
+abbrev pub IsOperand : Operand → Token → Type 0
+IsOperand null t = t.kind ≡ kind.Null
+IsOperand (text bs) t = (t.kind ≡ kind.Text) × ((q : ℕ) × IsMark q × (t.slice ≡ q ∷ (bs ++ q ∷ [])))
+IsOperand (variable name) t = IsNamed name t
+
+-- the characters of a pattern with these in its body: a backslash takes the next with it, the pair `\/` stands for `/`, and
+-- other pairs stay
+abbrev pub unescaped : List ℕ → List ℕ
+unescaped [] = []
+unescaped (c ∷ []) = c ∷ []
+unescaped (c ∷ d ∷ cs) = if c == 92 then (if d == 47 then 47 ∷ unescaped cs else 92 ∷ d ∷ unescaped cs) else c ∷ unescaped (d ∷ cs)
+
+abbrev pub flag_of : Bool → List ℕ
+flag_of false = []
+flag_of true = 105 ∷ []
+
+-- `/body/`, or `/body/i`
+abbrev pub IsPatternOf : List ℕ → Bool → Token → Type 0
+IsPatternOf source insensitive t =
+    (t.kind ≡ kind.Pattern) × ((body : List ℕ) × (t.slice ≡ 47 ∷ (body ++ 47 ∷ flag_of insensitive)) × (source ≡ unescaped (chars body)))
+
+-- the grammar: the tokens are this formula, read at this level
+pub data Derives : Level → List Token → Formula → Type 0 where
+  or_one : (ts : List Token) (f : Formula) → Derives and ts f → Derives or ts f
+  or_more : (left : List Token) (t : Token) (right ts : List Token) (f g : Formula) → Derives and left f → t.kind ≡ kind.Or → Derives or right g
+      → ts ≡ left ++ t ∷ right → Derives or ts (either f g)
+  and_one : (ts : List Token) (f : Formula) → Derives test ts f → Derives and ts f
+  and_more : (left : List Token) (t : Token) (right ts : List Token) (f g : Formula) → Derives test left f → t.kind ≡ kind.And → Derives and right g
+      → ts ≡ left ++ t ∷ right → Derives and ts (both f g)
+  in_group : (l : Token) (inner : List Token) (r : Token) (ts : List Token) (f : Formula) → l.kind ≡ kind.Left → Derives or inner f → r.kind ≡ kind.Right
+      → ts ≡ l ∷ (inner ++ r ∷ []) → Derives test ts (group f)
+  alone : (v : Token) (name : List ℕ) → IsNamed name v → Derives test (v ∷ []) (present name)
+  compared : (v c w : Token) (negated : Bool) (name : List ℕ) (operand : Operand) → IsNamed name v → c.kind ≡ comparing negated → IsOperand operand w
+      → Derives test (v ∷ c ∷ w ∷ []) (equal negated name operand)
+  matched : (v c w : Token) (negated : Bool) (name source : List ℕ) (insensitive : Bool) → IsNamed name v → c.kind ≡ matching negated
+      → IsPatternOf source insensitive w → Derives test (v ∷ c ∷ w ∷ []) (found negated name source insensitive)
+
+-- the formula holds a pattern
+abbrev pub has_pattern : Formula → Bool
+has_pattern (either f g) = has_pattern f || has_pattern g
+has_pattern (both f g) = has_pattern f || has_pattern g
+has_pattern (group f) = has_pattern f
+has_pattern (present name) = false
+has_pattern (equal negated name operand) = false
+has_pattern (found negated name source insensitive) = true

@@ -1,0 +1,14 @@
+pub mod Code
+pub mod Character
+pub mod Lexeme
+pub mod Token
+pub mod Reading
+pub mod View
+pub mod Formula
+pub mod Truth
+pub mod Found
+pub mod Faults
+pub mod Order
+pub mod Descent
+pub mod Meaning
+pub mod Built

@@ -1,0 +1,60 @@
+//! Expressions that were read.
+
+ghost use Rattle.std.specs.Prelude.{◌≡◌, List, Result, IfOk, map};
+ghost use Rattle.ci_expr.specs.Formula.{Formula as Meant};
+ghost use Rattle.ci_expr.specs.declared.fault.ExprFault.{ExprFault as Code};
+ghost use Rattle.ci_expr.specs.Truth.{truth};
+ghost use Rattle.ci_expr.specs.View.{token_view};
+ghost use Rattle.ci_expr.specs.Meaning.{Means, Answers, Allows, AtMostOneFormula, parse_of, IsBuilt};
+ghost use Rattle.ci_expr.specs.Built.{values_of, formula_of};
+
+use crate::descent::formula_from;
+use crate::fault::ExprError;
+use crate::formula::{Env, Formula, build, truth};
+use crate::order::list_fault;
+use crate::token::{Token, tokens};
+use std::alloc::{AllocError, Global};
+
+/// An expression that was read, with its patterns built.
+#[derive(Drop)]
+pub struct Expr {
+    root: Formula,
+}
+
+impl Expr {
+    /// Whether the expression is true where variables have these values. Errors: memory was refused.
+    pub fn value(&self, alloc: Global, env: &Env) -> Result<bool, AllocError>
+        ensures { IfOk result (λ b. b ≡ truth (values_of env.now) (formula_of self.now)) }
+    {
+        truth(&self.root, alloc, env)
+    }
+}
+
+/// The expression of a list of tokens.
+fn parse_tokens(alloc: Global, tokens: &[Token]) -> Result<Expr, ExprError>
+    ensures { IsBuilt formula_of result (parse_of (map token_view tokens.now)) }
+{
+    if let Some(fault) = list_fault(tokens) {
+        return Err(ExprError::Fault(fault));
+    }
+    let tree = formula_from(alloc, tokens)?;
+    let root = build(alloc, &tree)?;
+    Ok(Expr { root })
+}
+
+/// The expression of a text. A pattern is built once, here, and kept.
+///
+/// Errors: memory was refused; or the first fault: the text is too long (X1), holds what begins no token (X2) or what
+/// doesn't end (X3), its parentheses don't balance (X5), a pattern doesn't stand directly after `=~` or `!~` (X6), more than
+/// 32 parentheses are open at once (X7), the tokens are no formula (X4), or `regex` refuses a pattern (X8).
+pub fn parse(alloc: Global, text: &str) -> Result<Expr, ExprError>
+    // What is answered is the formula of the text, or its first fault.
+    ensures answer { Answers formula_of result (Means text.now) }
+    // Where the text has a formula, it is answered, or X8 where it holds a pattern; where the text has a fault, that.
+    ensures only { (r : Result Meant Code) → Means text.now r → Allows formula_of result r }
+    // The grammar leaves no choice.
+    ensures one { AtMostOneFormula }
+{
+    let found = tokens(alloc, text)?;
+    parse_tokens(alloc, &found)
+}

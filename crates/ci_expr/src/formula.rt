@@ -1,0 +1,203 @@
+//! Formulas whose patterns are built, and their truth.
+
+ghost use Rattle.std.specs.Prelude.{◌≡◌, List, chars, string_bytes, IfOk, IfErr, option_map};
+ghost use Rattle.regex.specs.Strings.{regex_source};
+ghost use Rattle.ci_expr.specs.Formula.{unescaped};
+ghost use Rattle.ci_expr.specs.Truth.{same_value, negated_by, value_of, operand_value, truth};
+ghost use Rattle.ci_expr.specs.View.{tree_view, operand_view, IsOfPattern, RefusesPattern};
+ghost use Rattle.ci_expr.specs.Built.{subject_view, formula_view, values_of};
+
+use crate::fault::{ExprError, ExprFault};
+use crate::pattern::{Pattern, Refusal, build_pattern, is_found};
+use crate::tree::{Operand, Tree};
+use std::alloc::{AllocError, Global};
+
+/// The variables that an expression sees: names with their values. Of two pairs with one name the first counts, and a
+/// variable without a pair is undefined.
+#[derive(Clone, Copy)]
+pub struct Env<'a> {
+    /// The pairs, name and value.
+    pub pairs: &'a [(&'a str, &'a str)],
+}
+
+/// What a variable is compared with.
+#[derive(Drop)]
+pub enum Subject {
+    /// `null`: no value.
+    Null,
+    /// A text, without its marks.
+    Text(String),
+    /// A variable, without its `$`.
+    Variable(String),
+}
+
+/// A formula with its patterns built.
+#[derive(Drop)]
+pub enum Formula {
+    /// One of the two is true.
+    Either(Box<Formula>, Box<Formula>),
+    /// Both are true.
+    Both(Box<Formula>, Box<Formula>),
+    /// A formula in parentheses.
+    Group(Box<Formula>),
+    /// The variable is defined and not empty.
+    Present(String),
+    /// The variable has the subject's value; with `true`, it hasn't.
+    Equal(bool, String, Subject),
+    /// The pattern is found in the variable; with `true`, it isn't.
+    Found(bool, String, Box<Pattern>),
+}
+
+/// The source of a pattern with this body: the pair `\/` stands for `/`, other pairs stay.
+fn unescaped(alloc: Global, body: &str) -> Result<String, AllocError>
+    ensures { IfOk result (λ s. chars (string_bytes s) ≡ unescaped (chars body.now)) }
+{
+    let mut source = String::new(alloc);
+    let mut rest = body.chars();
+    while let Some(first) = rest.next() {
+        if first != '\\' {
+            source.push(first)?;
+            continue;
+        }
+        match rest.next() {
+            Some('/') => source.push('/')?,
+            Some(second) => {
+                source.push(first)?;
+                source.push(second)?;
+            }
+            None => source.push(first)?,
+        }
+    }
+    Ok(source)
+}
+
+/// An operand with texts of its own.
+fn subject_of(alloc: Global, operand: &Operand) -> Result<Subject, AllocError>
+    ensures { IfOk result (λ s. subject_view s ≡ operand_view operand.now) }
+{
+    match operand {
+        Operand::Null => Ok(Subject::Null),
+        Operand::Text(text) => Ok(Subject::Text(String::from_str(alloc, text)?)),
+        Operand::Variable(name) => Ok(Subject::Variable(String::from_str(alloc, name)?)),
+    }
+}
+
+/// The built pattern of a body.
+fn pattern_from(alloc: Global, body: &str, insensitive: bool) -> Result<Pattern, ExprError>
+    ensures source { IfOk result (λ p. chars (regex_source p.regex) ≡ unescaped (chars body.now)) }
+    ensures flag { IfOk result (λ p. p.insensitive ≡ insensitive) }
+    ensures refused { IfErr result IsOfPattern }
+{
+    let source = unescaped(alloc, body)?;
+    match build_pattern(alloc, source.as_str(), insensitive) {
+        Ok(pattern) => Ok(pattern),
+        Err(Refusal::Memory) => Err(ExprError::Memory),
+        Err(Refusal::Pattern) => Err(ExprError::Fault(ExprFault::X8)),
+    }
+}
+
+/// The formula with its patterns built.
+pub fn build(alloc: Global, tree: &Tree) -> Result<Formula, ExprError>
+    ensures built { IfOk result (λ f. formula_view f ≡ tree_view tree.now) }
+    ensures refused { IfErr result (λ e. RefusesPattern e (tree_view tree.now)) }
+{
+    match tree {
+        Tree::Either(a, b) => {
+            let a = build(alloc, a)?;
+            let b = build(alloc, b)?;
+            Ok(Formula::Either(Box::new(alloc, a)?, Box::new(alloc, b)?))
+        }
+        Tree::Both(a, b) => {
+            let a = build(alloc, a)?;
+            let b = build(alloc, b)?;
+            Ok(Formula::Both(Box::new(alloc, a)?, Box::new(alloc, b)?))
+        }
+        Tree::Group(a) => {
+            let a = build(alloc, a)?;
+            Ok(Formula::Group(Box::new(alloc, a)?))
+        }
+        Tree::Present(name) => Ok(Formula::Present(String::from_str(alloc, name)?)),
+        Tree::Equal(negated, name, operand) => {
+            let name = String::from_str(alloc, name)?;
+            let subject = subject_of(alloc, operand)?;
+            Ok(Formula::Equal(*negated, name, subject))
+        }
+        Tree::Found(negated, name, body, insensitive) => {
+            let name = String::from_str(alloc, name)?;
+            let pattern = pattern_from(alloc, body, *insensitive)?;
+            Ok(Formula::Found(*negated, name, Box::new(alloc, pattern)?))
+        }
+    }
+}
+
+/// The first value with a name, or none where the variable is undefined.
+fn value_of<'a>(env: &Env<'a>, name: &str) -> Option<&'a str>
+    ensures { option_map (λ v. v.now) result ≡ value_of (values_of env.now) name.now }
+{
+    let pairs = env.pairs;
+    for pair in pairs {
+        if pair.0 == name {
+            return Some(pair.1);
+        }
+    }
+    None
+}
+
+/// Are the two values the same? `null` and the empty text differ.
+fn same_value(a: Option<&str>, b: Option<&str>) -> bool
+    ensures { result ≡ same_value (option_map (λ v. v.now) a.entry) (option_map (λ v. v.now) b.entry) }
+{
+    match (a, b) {
+        (Some(a), Some(b)) => a == b,
+        (None, None) => true,
+        _ => false,
+    }
+}
+
+/// The value of what a variable is compared with.
+fn subject_value<'a>(env: &Env<'a>, subject: &'a Subject) -> Option<&'a str>
+    ensures { option_map (λ v. v.now) result ≡ operand_value (values_of env.now) (subject_view subject.now) }
+{
+    match subject {
+        Subject::Null => None,
+        Subject::Text(text) => Some(text.as_str()),
+        Subject::Variable(name) => value_of(env, name.as_str()),
+    }
+}
+
+/// The truth of a formula.
+pub fn truth(formula: &Formula, alloc: Global, env: &Env) -> Result<bool, AllocError>
+    ensures { IfOk result (λ b. b ≡ truth (values_of env.now) (formula_view formula.now)) }
+{
+    match formula {
+        Formula::Either(a, b) => {
+            if truth(a, alloc, env)? {
+                return Ok(true);
+            }
+            truth(b, alloc, env)
+        }
+        Formula::Both(a, b) => {
+            if !truth(a, alloc, env)? {
+                return Ok(false);
+            }
+            truth(b, alloc, env)
+        }
+        Formula::Group(a) => truth(a, alloc, env),
+        Formula::Present(name) => match value_of(env, name.as_str()) {
+            Some(text) => Ok(!text.is_empty()),
+            None => Ok(false),
+        },
+        Formula::Equal(negated, name, subject) => {
+            let same = same_value(value_of(env, name.as_str()), subject_value(env, subject));
+            if *negated { Ok(!same) } else { Ok(same) }
+        }
+        Formula::Found(negated, name, pattern) => {
+            let text = match value_of(env, name.as_str()) {
+                Some(text) => text,
+                None => "",
+            };
+            let found = is_found(pattern, alloc, text)?;
+            if *negated { Ok(!found) } else { Ok(found) }
+        }
+    }
+}

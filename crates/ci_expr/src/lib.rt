@@ -1,0 +1,21 @@
+//! Expressions of rules: their tokens, their grammar and their value.
+#![tactic(auto)]
+
+mod descent;
+mod expr;
+mod fault;
+mod formula;
+mod lexeme;
+mod order;
+mod part;
+mod pattern;
+mod token;
+mod tree;
+
+pub use expr::{Expr, parse};
+pub use fault::{ExprError, ExprFault};
+pub use formula::Env;
+pub use token::{Kind, Token, tokens};
+
+#[cfg(test)]
+mod tests;

@@ -1,0 +1,196 @@
+//! Expressions worked out by hand.
+
+use crate::{Env, Expr, ExprError, Kind, parse, tokens};
+use std::alloc::{AllocError, Global};
+use std::test::Fail;
+
+/// What reading a text answers, as a user sees it.
+fn reading(alloc: Global, text: &str) -> Result<String, AllocError> {
+    match parse(alloc, text) {
+        Ok(_) => String::from_str(alloc, "accepted"),
+        Err(ExprError::Memory) => Err(AllocError),
+        Err(ExprError::Fault(fault)) => format!(in alloc; "{fault}"),
+    }
+}
+
+/// What an expression is worth where the variables have these values.
+fn worth(alloc: Global, text: &str, pairs: &[(&str, &str)]) -> &'static str {
+    let expr: Expr = match parse(alloc, text) {
+        Ok(expr) => expr,
+        Err(_) => return "no expression",
+    };
+    match expr.value(alloc, &Env { pairs }) {
+        Ok(true) => "true",
+        Ok(false) => "false",
+        Err(_) => "Memory",
+    }
+}
+
+#[test]
+fn reads_or_refuses(rt: HostRuntime) -> Result<(), Fail> {
+    let alloc = rt.alloc();
+    for (text, want) in [
+        ("", "X4"),
+        (" \t\r\n", "X4"),
+        ("null", "X4"),
+        ("$A ==", "X4"),
+        ("$A =~ \"x\"", "X4"),
+        ("\"a\" == $A", "X4"),
+        ("$A $B", "X4"),
+        ("$A$B", "X4"),
+        ("$A && || $B", "X4"),
+        ("$A =~ $B", "X4"),
+        ("$A == (\"x\")", "X4"),
+        ("()", "X4"),
+        ("$A == \"x\" == \"y\"", "X4"),
+        ("$A =~ /(/ &&", "X4"),
+        ("a", "X2"),
+        ("$", "X2"),
+        ("$1", "X2"),
+        ("$A = \"x\"", "X2"),
+        ("$A & $B", "X2"),
+        ("nullx", "X2"),
+        ("null_", "X2"),
+        ("$A =~ /x/ix", "X2"),
+        ("$A\u{e9}", "X2"),
+        ("! $A", "X2"),
+        ("$A == \"x", "X3"),
+        ("$A == 'x\"", "X3"),
+        ("$A =~ /x", "X3"),
+        ("$A =~ /x\\/", "X3"),
+        ("a \"", "X2"),
+        ("\" a", "X3"),
+        ("($A", "X5"),
+        ("$A)", "X5"),
+        (")$A(", "X5"),
+        ("(/x/", "X5"),
+        ("$A == /x/", "X6"),
+        ("/x/", "X6"),
+        ("$A =~ (/x/)", "X6"),
+        ("/x/ ==", "X6"),
+        ("$A =~ /(/", "X8"),
+        ("$A =~ /x{1000000}/", "X8"),
+        ("$A", "accepted"),
+        ("$A =~ //", "accepted"),
+        ("$A == \"\n\" || ($B)", "accepted"),
+    ] {
+        assert_eq!(rt; reading(alloc, text)?.as_str(), want, "at {text}");
+    }
+    Ok(())
+}
+
+/// A text in so many pairs of parentheses.
+fn wrapped(alloc: Global, depth: usize) -> Result<String, Fail> {
+    let mut text = String::new(alloc);
+    for _ in 0..depth {
+        text.push('(')?;
+    }
+    text.push_str("$A")?;
+    for _ in 0..depth {
+        text.push(')')?;
+    }
+    Ok(text)
+}
+
+#[test]
+fn limits(rt: HostRuntime) -> Result<(), Fail> {
+    let alloc = rt.alloc();
+    assert_eq!(rt;
+        reading(alloc, wrapped(alloc, 32)?.as_str())?.as_str(),
+        "accepted"
+    );
+    assert_eq!(rt;
+        reading(alloc, wrapped(alloc, 33)?.as_str())?.as_str(),
+        "X7"
+    );
+    let mut text = String::new(alloc);
+    for _ in 0..1024 {
+        text.push('(')?;
+    }
+    assert_eq!(rt; reading(alloc, text.as_str())?.as_str(), "X5");
+    text.push('(')?;
+    assert_eq!(rt; reading(alloc, text.as_str())?.as_str(), "X1");
+    Ok(())
+}
+
+#[test]
+fn values(rt: HostRuntime) {
+    let alloc = rt.alloc();
+    let none = [].as_slice();
+    let slash = [("A", "xa/by")].as_slice();
+    let empty = [("A", "")].as_slice();
+    let twice = [("A", "x"), ("A", "y")].as_slice();
+    let both = [("A", "x"), ("B", "")].as_slice();
+    let same = [("B", "x"), ("A", "x")].as_slice();
+    for (text, pairs, want) in [
+        ("$A =~ /a\\/b/", slash, "true"),
+        ("$A =~ /a\\\\/", slash, "false"),
+        ("$A =~ /^a/", slash, "false"),
+        ("$A =~ /BY$/", slash, "false"),
+        ("$A =~ /BY$/i", slash, "true"),
+        ("$A !~ /by$/", slash, "false"),
+        ("$A =~ /x\\D\\/|q/", slash, "true"),
+        ("$A !~ /x/", none, "true"),
+        ("$A =~ //", none, "true"),
+        ("$A =~ /^$/", none, "true"),
+        ("$A != \"\"", none, "true"),
+        ("$A == $B", none, "true"),
+        ("$A != $B", none, "false"),
+        ("$A == null", none, "true"),
+        ("$A", none, "false"),
+        ("$A", empty, "false"),
+        ("$A == null", empty, "false"),
+        ("$A == \"\"", empty, "true"),
+        ("$A != ''", empty, "false"),
+        ("$A == 'x'", twice, "true"),
+        ("$A != \"y\"", twice, "true"),
+        ("$A == $B", both, "false"),
+        ("$A == $B", same, "true"),
+        ("$A || $B && $B", both, "true"),
+        ("($A || $B) && $B", both, "false"),
+        ("$B && $B || $A", both, "true"),
+        ("$A && ($B == '')", both, "true"),
+        ("$a", both, "false"),
+    ] {
+        assert_eq!(rt; worth(alloc, text, pairs), want, "at {text}");
+    }
+}
+
+#[test]
+fn binds_and_before_or(rt: HostRuntime) {
+    let alloc = rt.alloc();
+    let text = "$A == null || $A == \"\" && $B =~ /^v/i";
+    for (pairs, want) in [
+        ([("B", "V1")].as_slice(), "true"),
+        ([("B", "V1"), ("A", "")].as_slice(), "true"),
+        ([("B", "V1"), ("A", "z")].as_slice(), "false"),
+        ([("B", "x")].as_slice(), "true"),
+        ([("B", "x"), ("A", "")].as_slice(), "false"),
+        ([("B", "x"), ("A", "z")].as_slice(), "false"),
+        ([("A", "")].as_slice(), "false"),
+    ] {
+        assert_eq!(rt; worth(alloc, text, pairs), want);
+    }
+}
+
+#[test]
+fn tells_tokens_with_their_places(rt: HostRuntime) -> Result<(), ExprError> {
+    let found = tokens(rt.alloc(), "$A==\"x\"")?;
+    assert_eq!(rt; found.len(), 3);
+    for (i, want) in [
+        (Kind::Name, "$A", 0, 2),
+        (Kind::Equal, "==", 2, 4),
+        (Kind::Text, "\"x\"", 4, 7),
+    ]
+    .iter()
+    .enumerate()
+    {
+        assert!(rt; i < found.len());
+        let token = found[i];
+        assert_eq!(rt; token.kind, want.0);
+        assert_eq!(rt; token.slice, want.1);
+        assert_eq!(rt; token.start, want.2);
+        assert_eq!(rt; token.end, want.3);
+    }
+    Ok(())
+}
