@@ -1,0 +1,160 @@
+-- Quoted scalars, read from mark to mark.
+use Rattle.std.proofs.Common.{◌≡◌, ℕ, zero, suc, ◌+◌, ◌<◌, ◌≤◌, Bool, true, false, cond, List, [], ◌∷◌, ◌++◌, length, take, drop, get_or, ◌⊎◌, inl, inr, Option, Some, None, refl, sym, ◌∙◌, ap, subst, arith, append_assoc}
+use Rattle.std.specs.Prelude.{◌==◌, ◌&&◌, ◌||◌, nat_lt}
+use Rattle.std.specs.Prelude.{IfSome}
+use Rattle.std.specs.List.{position, position_or_len}
+use Rattle.std.proofs.lemmas.List.Sums.{fails_before_first}
+use Rattle.std.proofs.lemmas.List.Quantifiers.{position-Some}
+use Rattle.std.proofs.lemmas.Bool.{eqb-true, ltb-false}
+use Rattle.ci_yaml.specs.Scalar.{Quoted, with_byte, wrongly, closes, with_words, from_place, single, is_escape, escaped, escape_of, double, head_is, tail_of}
+use Rattle.ci_yaml.specs.View.{with_wrong}
+
+pub words-nil : (q : Option Quoted) → with_words [] q ≡ q
+words-nil None = refl
+words-nil (Some q) = refl
+
+pub words-words : (xs ys : List ℕ) (q : Option Quoted) → with_words xs (with_words ys q) ≡ with_words (xs ++ ys) q
+words-words xs ys None = refl
+words-words xs ys (Some q) = ap (λ (t : List ℕ). Some (record { text = t; wrong = q.wrong; rest = q.rest })) (sym (append_assoc xs ys q.text))
+
+byte-words : (b : ℕ) (ws : List ℕ) (q : Option Quoted) → with_byte b (with_words ws q) ≡ with_words (b ∷ ws) q
+byte-words b ws None = refl
+byte-words b ws (Some q) = refl
+
+pub byte-is : (b : ℕ) (q : Option Quoted) → with_byte b q ≡ with_words (b ∷ []) q
+byte-is b None = refl
+byte-is b (Some q) = refl
+
+pub wrong-words : (w : Bool) (ws : List ℕ) (q : Option Quoted) → with_wrong w (with_words ws q) ≡ with_words ws (with_wrong w q)
+wrong-words w ws None = refl
+wrong-words w ws (Some q) = refl
+
+or-assoc : (a b c : Bool) → (a || (b || c)) ≡ ((a || b) || c)
+or-assoc true b c = refl
+or-assoc false b c = refl
+
+pub wrong-wrong : (v w : Bool) (q : Option Quoted) → with_wrong v (with_wrong w q) ≡ with_wrong (v || w) q
+wrong-wrong v w None = refl
+wrong-wrong v w (Some q) = ap (λ t. Some (record { text = q.text; wrong = t; rest = q.rest })) (or-assoc v w q.wrong)
+
+pub wrong-not : (q : Option Quoted) → with_wrong false q ≡ q
+wrong-not None = refl
+wrong-not (Some q) = refl
+
+pub wrong-is : (q : Option Quoted) → wrongly q ≡ with_wrong true q
+wrong-is None = refl
+wrong-is (Some q) = refl
+
+-- ---- up to the first mark
+
+to-mark : (f : List ℕ → Option Quoted) (p : ℕ → Bool) → ((b : ℕ) (bs : List ℕ) → p b ≡ false → f (b ∷ bs) ≡ with_byte b (f bs))
+    → (bs : List ℕ) (i : ℕ) → i < length bs → ((k : ℕ) → k < i → p (get_or bs k 0) ≡ false) → f bs ≡ with_words (take i bs) (f (get_or bs i 0 ∷ drop (suc i) bs))
+to-mark f p other [] i lt fails = absurd (omega arith)
+to-mark f p other (b ∷ bs) zero lt fails = sym (words-nil (f (b ∷ bs)))
+to-mark f p other (b ∷ bs) (suc i) lt fails =
+    other b bs (fails 0 (omega arith)) ∙ ap (with_byte b) (to-mark f p other bs i (omega arith) (λ k l. fails (suc k) (omega arith)))
+    ∙ byte-words b (take i bs) (f (get_or bs i 0 ∷ drop (suc i) bs))
+
+no-mark : (f : List ℕ → Option Quoted) (p : ℕ → Bool) → ((b : ℕ) (bs : List ℕ) → p b ≡ false → f (b ∷ bs) ≡ with_byte b (f bs)) → f [] ≡ None
+    → (bs : List ℕ) → ((k : ℕ) → k < length bs → p (get_or bs k 0) ≡ false) → f bs ≡ None
+no-mark f p other nil [] fails = nil
+no-mark f p other nil (b ∷ bs) fails = other b bs (fails 0 (omega arith)) ∙ ap (with_byte b) (no-mark f p other nil bs (λ k l. fails (suc k) (omega arith)))
+
+pub found_by : (f : List ℕ → Option Quoted) (p : ℕ → Bool) → ((b : ℕ) (bs : List ℕ) → p b ≡ false → f (b ∷ bs) ≡ with_byte b (f bs)) → f [] ≡ None
+    → (bs : List ℕ) (r : Option ℕ) → r ≡ position p bs → f bs ≡ from_place f bs r
+found_by f p other nil bs None e = no-mark f p other nil bs (λ k lt. none (position_or_len p bs) (nat_lt (position_or_len p bs) (length bs)) refl e k lt)
+  where
+    none : (n : ℕ) (t : Bool) → nat_lt (position_or_len p bs) (length bs) ≡ t → None ≡ cond (nat_lt (position_or_len p bs) (length bs)) (Some (position_or_len p bs)) None → (k : ℕ) → k < length bs → p (get_or bs k 0) ≡ false
+    none n true is e k lt = let e2 : None ≡ Some (position_or_len p bs) = e ∙ ap (λ t. cond t (Some (position_or_len p bs)) None) is in absurd cc
+    none n false is e k lt = fails_before_first p bs k 0 (omega (arith, ltb-false (position_or_len p bs) (length bs) is))
+found_by f p other nil bs (Some i) e =
+    let at = position-Some p bs i 0 (sym e) in
+    (let one : suc i ≡ i + 1 = omega arith in to-mark f p other bs i at.0 at.2 ∙ ap (λ (k : ℕ). with_words (take i bs) (f (get_or bs i 0 ∷ drop k bs))) one)
+
+pub place_by : (p : ℕ → Bool) (bs : List ℕ) (r : Option ℕ) → r ≡ position p bs → IfSome r (λ i. (i < length bs) × (p (get_or bs i 0) ≡ true))
+place_by p bs None e = tt
+place_by p bs (Some i) e = let at = position-Some p bs i 0 (sym e) in (at.0, at.1)
+
+-- ---- the two kinds
+
+pub single-other : (b : ℕ) (bs : List ℕ) → (b == 39) ≡ false → single (b ∷ bs) ≡ with_byte b (single bs)
+single-other b [] e = ap (λ t. cond t (closes []) None) e
+single-other b (c ∷ bs) e = ap (λ t. cond t (cond (39 == c) (with_byte 39 (single bs)) (closes (c ∷ bs))) (with_byte b (single (c ∷ bs)))) e
+
+-- after a quote
+pub single-quote : (bs : List ℕ) → single (39 ∷ bs) ≡ cond (head_is 39 bs) (with_words (39 ∷ []) (single (tail_of bs))) (closes bs)
+single-quote [] = refl
+single-quote (c ∷ bs) = ap (λ q. cond (39 == c) q (closes (c ∷ bs))) (byte-is 39 (single bs))
+
+first-or : (a b : Bool) → (a || b) ≡ false → a ≡ false
+first-or true b e = absurd cc
+first-or false b e = refl
+
+second-or : (a b : Bool) → (a || b) ≡ false → b ≡ false
+second-or true b e = absurd cc
+second-or false b e = e
+
+pub double-other : (b : ℕ) (bs : List ℕ) → ((b == 34) || (b == 92)) ≡ false → double (b ∷ bs) ≡ with_byte b (double bs)
+double-other b [] e = ap (λ t. cond t (closes []) None) (first-or (b == 34) (b == 92) e)
+double-other b (c ∷ bs) e =
+    ap (λ t. cond t (closes (c ∷ bs)) (cond (b == 92) (cond (is_escape c) (with_byte (escaped c) (double bs)) (wrongly (double (c ∷ bs)))) (with_byte b (double (c ∷ bs))))) (first-or (b == 34) (b == 92) e)
+    ∙ ap (λ t. cond t (cond (is_escape c) (with_byte (escaped c) (double bs)) (wrongly (double (c ∷ bs)))) (with_byte b (double (c ∷ bs)))) (second-or (b == 34) (b == 92) e)
+
+pub double-quote : (bs : List ℕ) → double (34 ∷ bs) ≡ closes bs
+double-quote [] = refl
+double-quote (c ∷ bs) = refl
+
+-- after a backslash that stands rightly
+pub double-escape : (bs ws : List ℕ) → escape_of bs ≡ Some ws → double (92 ∷ bs) ≡ with_words ws (double (tail_of bs))
+double-escape [] ws e = absurd cc
+double-escape (c ∷ bs) ws e = by (is_escape c) refl
+  where
+    by : (t : Bool) → is_escape c ≡ t → double (92 ∷ c ∷ bs) ≡ with_words ws (double bs)
+    by true is =
+        let same : Some (escaped c ∷ []) ≡ Some ws = sym (ap (λ t. cond t (Some (escaped c ∷ [])) None) is) ∙ e in
+        let ws-is : escaped c ∷ [] ≡ ws = cc in
+        ap (λ t. cond t (with_byte (escaped c) (double bs)) (wrongly (double (c ∷ bs)))) is ∙ byte-is (escaped c) (double bs) ∙ ap (λ (x : List ℕ). with_words x (double bs)) ws-is
+    by false is = let bad : None ≡ Some ws = sym (ap (λ t. cond t (Some (escaped c ∷ [])) None) is) ∙ e in absurd cc
+
+-- after one that doesn't
+pub double-misused : (bs : List ℕ) → escape_of bs ≡ None → double (92 ∷ bs) ≡ with_wrong true (double bs)
+double-misused [] e = refl
+double-misused (c ∷ bs) e = by (is_escape c) refl
+  where
+    by : (t : Bool) → is_escape c ≡ t → double (92 ∷ c ∷ bs) ≡ with_wrong true (double (c ∷ bs))
+    by true is = let bad : Some (escaped c ∷ []) ≡ None = sym (ap (λ t. cond t (Some (escaped c ∷ [])) None) is) ∙ e in absurd cc
+    by false is = ap (λ t. cond t (with_byte (escaped c) (double bs)) (wrongly (double (c ∷ bs)))) is ∙ wrong-is (double (c ∷ bs))
+
+or-both : (a b : Bool) → (a || b) ≡ true → (a ≡ true) ⊎ (b ≡ true)
+or-both true b e = inl refl
+or-both false b e = inr e
+
+pub single-found : (bs : List ℕ) (r : Option ℕ) → r ≡ position (λ b. b == 39) bs → single bs ≡ from_place single bs r
+single-found bs r e = found_by single (λ b. b == 39) single-other refl bs r e
+
+pub double-found : (bs : List ℕ) (r : Option ℕ) → r ≡ position (λ b. (b == 34) || (b == 92)) bs → double bs ≡ from_place double bs r
+double-found bs r e = found_by double (λ b. (b == 34) || (b == 92)) double-other refl bs r e
+
+pub single-place : (bs : List ℕ) (r : Option ℕ) → r ≡ position (λ b. b == 39) bs → IfSome r (λ i. (i < length bs) × (get_or bs i 0 ≡ 39))
+single-place bs None e = tt
+single-place bs (Some i) e = let h = place_by (λ b. b == 39) bs (Some i) e in (h.0, eqb-true (get_or bs i 0) 39 h.1)
+
+either_mark : (b : ℕ) → ((b == 34) ≡ true) ⊎ ((b == 92) ≡ true) → (b ≡ 34) ⊎ (b ≡ 92)
+either_mark b (inl e) = inl (eqb-true b 34 e)
+either_mark b (inr e) = inr (eqb-true b 92 e)
+
+pub double-place : (bs : List ℕ) (r : Option ℕ) → r ≡ position (λ b. (b == 34) || (b == 92)) bs → IfSome r (λ i. (i < length bs) × ((get_or bs i 0 ≡ 34) ⊎ (get_or bs i 0 ≡ 92)))
+double-place bs None e = tt
+double-place bs (Some i) e =
+    let h = place_by (λ b. (b == 34) || (b == 92)) bs (Some i) e in
+    (h.0, either_mark (get_or bs i 0) (or-both (get_or bs i 0 == 34) (get_or bs i 0 == 92) h.1))
+
+-- ---- what the code does at a backslash
+
+pub unescaped : (w v m rest more : List ℕ) → v ≡ w ++ m → more ≡ tail_of rest → escape_of rest ≡ Some m → with_words v (with_wrong false (double more)) ≡ with_words w (double (92 ∷ rest))
+unescaped w v m rest more v-is more-is e =
+    ap (λ (q : Option Quoted). with_words v q) (wrong-not (double more) ∙ ap double more-is) ∙ ap (λ (x : List ℕ). with_words x (double (tail_of rest))) v-is
+    ∙ sym (words-words w m (double (tail_of rest))) ∙ ap (with_words w) (sym (double-escape rest m e))
+
+pub misused : (w rest : List ℕ) → escape_of rest ≡ None → with_words w (with_wrong true (double rest)) ≡ with_words w (double (92 ∷ rest))
+misused w rest e = ap (with_words w) (sym (double-misused rest e))

@@ -1,0 +1,127 @@
+//! Literal blocks.
+
+ghost use Rattle.std.specs.Prelude.{◌≡◌, ◌≤◌, ◌<◌, ◌++◌, [], IfOk, map, length, take, drop, string_bytes};
+ghost use Rattle.ci_yaml.specs.Document.{is_spaces, is_in_block, all_spaces, block_indent, block_lines, literal, block_codes, AreBlock, EndsBlock};
+ghost use Rattle.ci_yaml.specs.View.{chomp_view};
+
+use crate::cut::skip;
+use crate::fault::{Code, least_of, when};
+use crate::parts::Chomp;
+use crate::scan::{has_mark, spaces};
+use std::alloc::{AllocError, Global};
+
+/// Whether the line has spaces alone.
+fn is_spaces(line: &[u8]) -> bool
+    ensures { result ≡ is_spaces line.now }
+{
+    line.iter().all(|byte| *byte == b' ')
+}
+
+/// Whether the line belongs to the block of a key or dash in this column.
+fn is_in_block(column: u32, line: &[u8]) -> bool
+    ensures { result ≡ is_in_block column line.now }
+{
+    is_spaces(line) || (column as usize) < spaces(line)
+}
+
+/// The least code of a line of a block whose first line that is not all spaces has this indent.
+fn block_code(indent: Option<usize>, line: &[u8]) -> Option<Code> {
+    let low = match indent {
+        Some(indent) => !is_spaces(line) && spaces(line) < indent,
+        None => false,
+    };
+    least_of(when(low, Code::Y3), when(has_mark(line), Code::Y9))
+}
+
+/// The block's indent after one more line.
+fn more_indent(indent: Option<usize>, line: &[u8]) -> Option<usize> {
+    match indent {
+        Some(indent) => Some(indent),
+        None => {
+            if is_spaces(line) {
+                None
+            } else {
+                Some(spaces(line))
+            }
+        }
+    }
+}
+
+/// A line of a block that cannot follow those before it: its place among them, and the least code.
+#[derive(Drop)]
+pub struct BlockFault {
+    pub at: usize,
+    pub code: Code,
+}
+
+/// How many of the lines are the block of a key or dash in this column.
+pub fn block_len(column: u32, lines: &[&str]) -> Result<usize, BlockFault> {
+    let mut indent = None;
+    for (at, line) in lines.iter().enumerate() {
+        let bytes = line.as_bytes();
+        if !is_in_block(column, bytes) {
+            return Ok(at);
+        }
+        if let Some(code) = block_code(indent, bytes) {
+            return Err(BlockFault { at, code });
+        }
+        indent = more_indent(indent, bytes);
+    }
+    Ok(lines.len())
+}
+
+/// The indent of the first line that is not all spaces.
+fn block_indent(lines: &[&str]) -> usize {
+    for line in lines {
+        if !is_spaces(line.as_bytes()) {
+            return spaces(line.as_bytes());
+        }
+    }
+    0
+}
+
+/// The number of lines without the empty ones at the end.
+fn kept_len(lines: &[&str]) -> usize {
+    let mut rest = lines;
+    'scan: while let [more @ .., line] = rest {
+        if !is_spaces(line.as_bytes()) {
+            return rest.len();
+        }
+        rest = more;
+    }
+    0
+}
+
+/// Adds a line's text, cut by the block's indent. Errors: memory was refused.
+fn push_line(text: &mut String, indent: usize, line: &str) -> Result<(), AllocError> {
+    if !is_spaces(line.as_bytes()) {
+        text.push_str(skip(line, indent))?;
+    }
+    Ok(())
+}
+
+/// Adds the lines' texts, each with a line feed. Errors: memory was refused.
+fn push_lines(text: &mut String, indent: usize, lines: &[&str]) -> Result<(), AllocError> {
+    for line in lines {
+        push_line(text, indent, line)?;
+        text.push_str("\n")?;
+    }
+    Ok(())
+}
+
+/// The text of the lines of a block. Errors: memory was refused.
+pub fn literal(alloc: Global, how: Chomp, lines: &[&str]) -> Result<String, AllocError> {
+    let indent = block_indent(lines);
+    let mut text = String::new(alloc);
+    match how {
+        Chomp::Keep => push_lines(&mut text, indent, lines)?,
+        Chomp::Clip => push_lines(&mut text, indent, &lines[..kept_len(lines)])?,
+        Chomp::Strip => {
+            if let [front @ .., last] = &lines[..kept_len(lines)] {
+                push_lines(&mut text, indent, front)?;
+                push_line(&mut text, indent, last)?;
+            }
+        }
+    }
+    Ok(text)
+}
