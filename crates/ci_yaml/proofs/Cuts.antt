@@ -1,5 +1,5 @@
 -- Where a line's text may be cut.
-use Rattle.std.proofs.Common.{◌≡◌, ℕ, zero, suc, ◌+◌, ◌-◌, ◌<◌, ◌≤◌, Bool, true, false, cond, List, [], ◌∷◌, ◌++◌, length, take, drop, get_or, refl, sym, ◌∙◌, ap, subst, arith}
+use Rattle.std.proofs.Common.{◌≡◌, ◌≢◌, ℕ, zero, suc, ◌+◌, ◌-◌, ◌<◌, ◌≤◌, Bool, true, false, cond, List, [], ◌∷◌, ◌++◌, length, take, drop, get_or, refl, sym, ◌∙◌, ap, subst, arith}
 use Rattle.std.specs.Prelude.{◌==◌, ◌&&◌, ◌||◌}
 use Rattle.std.specs.Str.{IsUtf8, IsCharBoundary}
 use Rattle.std.specs.List.{prefix_len}
@@ -8,6 +8,7 @@ use Rattle.std.proofs.lemmas.List.Sums.{prefix_len-le-length, prefix_len_passes}
 use Rattle.std.proofs.lemmas.Bool.{eqb-true}
 use Rattle.std.proofs.lemmas.List.{take_more}
 use Rattle.std.proofs.Math.Seq.{take-length}
+use Rattle.ci_yaml.proofs.Opened.{eq-false}
 use Rattle.ci_yaml.specs.Scalar.{is_blank, blanks, trimmed_len, comment_len, space_next, head_is}
 use Rattle.ci_yaml.specs.Line.{place_len, key_len, is_space, spaces}
 
@@ -144,10 +145,9 @@ trimmed-more [] b e = ap (λ t. cond t 0 1) e
 trimmed-more (c ∷ bs) b e = ap (λ n. cond ((n == 0) && is_blank c) 0 (1 + n)) (trimmed-more bs b e)
 
 full : (n c : ℕ) → 0 < n → cond ((n == 0) && is_blank c) 0 (1 + n) ≡ suc n
-full zero c lt = absurd (omega arith)
-full (suc n) c lt = add n
+full n c lt = let some : n ≢ 0 = omega arith in ap (λ t. cond (t && is_blank c) 0 (1 + n)) (eq-false n 0 some) ∙ add n
   where
-    add : (m : ℕ) → 1 + suc m ≡ suc (suc m)
+    add : (m : ℕ) → 1 + m ≡ suc m
     add m = omega arith
 
 push-some : (bs : List ℕ) (b : ℕ) → 0 < length (bs ++ b ∷ [])

@@ -33,3 +33,6 @@ least_of_three (Some d) b c = ap (λ e. Some e) (lesser-more d b c)
 pub least_of_none : (a : Option Code) → least_of a None ≡ a
 least_of_none None = refl
 least_of_none (Some c) = refl
+
+pub least_two : (o a b : Option Code) (xs ys : List Code) → o ≡ least_of a b → a ≡ least xs → b ≡ least ys → o ≡ least (xs ++ ys)
+least_two o a b xs ys e f g = e ∙ ap (λ x. least_of x b) f ∙ ap (least_of (least xs)) g ∙ sym (least_append xs ys)

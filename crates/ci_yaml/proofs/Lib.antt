@@ -13,3 +13,4 @@ pub mod Cuts
 pub mod Leasts
 pub mod Quotes
 pub mod Turns
+pub mod Said

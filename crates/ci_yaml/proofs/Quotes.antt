@@ -1,11 +1,12 @@
 -- Quoted scalars, read from mark to mark.
-use Rattle.std.proofs.Common.{◌≡◌, ℕ, zero, suc, ◌+◌, ◌<◌, ◌≤◌, Bool, true, false, cond, List, [], ◌∷◌, ◌++◌, length, take, drop, get_or, ◌⊎◌, inl, inr, Option, Some, None, refl, sym, ◌∙◌, ap, subst, arith, append_assoc}
+use Rattle.std.proofs.Common.{◌≡◌, ℕ, zero, suc, ◌+◌, ◌<◌, ◌≤◌, Bool, true, false, cond, List, [], ◌∷◌, ◌++◌, length, take, drop, get_or, slice_index, ◌⊎◌, inl, inr, Option, Some, None, refl, sym, ◌∙◌, ap, subst, arith, append_assoc}
 use Rattle.std.specs.Prelude.{◌==◌, ◌&&◌, ◌||◌, nat_lt}
 use Rattle.std.specs.Prelude.{IfSome}
 use Rattle.std.specs.List.{position, position_or_len}
 use Rattle.std.proofs.lemmas.List.Sums.{fails_before_first}
 use Rattle.std.proofs.lemmas.List.Quantifiers.{position-Some}
 use Rattle.std.proofs.lemmas.Bool.{eqb-true, ltb-false}
+use Rattle.std.proofs.lemmas.List.{append-nil}
 use Rattle.ci_yaml.specs.Scalar.{Quoted, with_byte, wrongly, closes, with_words, from_place, single, is_escape, escaped, escape_of, double, head_is, tail_of}
 use Rattle.ci_yaml.specs.View.{with_wrong}
 
@@ -158,3 +159,55 @@ unescaped w v m rest more v-is more-is e =
 
 pub misused : (w rest : List ℕ) → escape_of rest ≡ None → with_words w (with_wrong true (double rest)) ≡ with_words w (double (92 ∷ rest))
 misused w rest e = ap (with_words w) (sym (double-misused rest e))
+
+pub doubled-turn : (w v1 v2 front more bs rest behind : List ℕ) (i : ℕ) → head_is 39 rest ≡ true → more ≡ tail_of rest → bs ≡ more → single bs ≡ from_place single bs (Some i) → slice_index bs i ≡ 39
+    → front ≡ take i more → behind ≡ drop (i + 1) more → v1 ≡ w ++ 39 ∷ [] → v2 ≡ v1 ++ front → with_words v2 (single (39 ∷ behind)) ≡ with_words w (single (39 ∷ rest))
+doubled-turn w v1 v2 front more bs rest behind i head more-is bs-is value place front-is behind-is v1-is v2-is =
+    let q : Option Quoted = single (39 ∷ behind) in
+    let goes : single more ≡ with_words front q =
+    ap single (sym bs-is) ∙ value ∙ ap (λ (b : ℕ). with_words (take i bs) (single (b ∷ drop (i + 1) bs))) place
+    ∙ ap (λ (x : List ℕ). with_words (take i x) (single (39 ∷ drop (i + 1) x))) bs-is
+    ∙ ap (λ (x : List ℕ). with_words x (single (39 ∷ drop (i + 1) more))) (sym front-is) ∙ ap (λ (x : List ℕ). with_words front (single (39 ∷ x))) (sym behind-is) in
+    let all : single (39 ∷ rest) ≡ with_words (39 ∷ []) (with_words front q) =
+    single-quote rest ∙ ap (λ t. cond t (with_words (39 ∷ []) (single (tail_of rest))) (closes rest)) head ∙ ap (λ (x : List ℕ). with_words (39 ∷ []) (single x)) (sym more-is) ∙ ap (with_words (39 ∷ [])) goes in
+    ap (λ (x : List ℕ). with_words x q) (v2-is ∙ ap (λ (x : List ℕ). x ++ front) v1-is) ∙ sym (words-words (w ++ 39 ∷ []) front q) ∙ sym (words-words w (39 ∷ []) (with_words front q)) ∙ ap (with_words w) (sym all)
+
+-- up to a mark
+pub double-goes : (front more bs behind : List ℕ) (i : ℕ) → bs ≡ more → double bs ≡ from_place double bs (Some i) → front ≡ take i more → behind ≡ drop (i + 1) more → double more ≡ with_words front (double (slice_index bs i ∷ behind))
+double-goes front more bs behind i bs-is value front-is behind-is =
+    ap double (sym bs-is) ∙ value
+    ∙ ap (λ (x : List ℕ). with_words (take i x) (double (slice_index bs i ∷ drop (i + 1) x))) bs-is
+    ∙ ap (λ (x : List ℕ). with_words x (double (slice_index bs i ∷ drop (i + 1) more))) (sym front-is) ∙ ap (λ (x : List ℕ). with_words front (double (slice_index bs i ∷ x))) (sym behind-is)
+
+not-92 : (b : ℕ) → (b ≡ 34) ⊎ (b ≡ 92) → (b ≡ 92 → ⊥) → b ≡ 34
+not-92 b (inl e) ne = e
+not-92 b (inr e) ne = absurd (ne e)
+
+pub double-closed : (front more bs behind : List ℕ) (i : ℕ) → bs ≡ more → double bs ≡ from_place double bs (Some i) → front ≡ take i more → behind ≡ drop (i + 1) more
+    → (slice_index bs i ≡ 34) ⊎ (slice_index bs i ≡ 92) → (slice_index bs i ≡ 92 → ⊥) → double more ≡ Some (record { text = front; wrong = false; rest = behind })
+double-closed front more bs behind i bs-is value front-is behind-is place ne =
+    double-goes front more bs behind i bs-is value front-is behind-is
+    ∙ ap (λ (b : ℕ). with_words front (double (b ∷ behind))) (not-92 (slice_index bs i) place ne)
+    ∙ ap (with_words front) (double-quote behind)
+    ∙ ap (λ (x : List ℕ). Some (record { text = x; wrong = false; rest = behind })) (append-nil front)
+
+-- a turn of the reading of escapes: what the backslash stood for has been added
+pub turn-wrong : (w v : List ℕ) (wrong misused : Bool) (x y : Option Quoted) → with_words v (with_wrong misused x) ≡ with_words w y → with_words v (with_wrong (wrong || misused) x) ≡ with_words w (with_wrong wrong y)
+turn-wrong w v wrong misused x y e =
+    ap (with_words v) (sym (wrong-wrong wrong misused x)) ∙ sym (wrong-words wrong v (with_wrong misused x)) ∙ ap (with_wrong wrong) e ∙ wrong-words wrong w y
+
+pub turn-front : (v u front : List ℕ) (wrong : Bool) (x y : Option Quoted) → u ≡ v ++ front → x ≡ with_words front y → with_words u (with_wrong wrong y) ≡ with_words v (with_wrong wrong x)
+turn-front v u front wrong x y u-is x-is =
+    ap (λ (t : List ℕ). with_words t (with_wrong wrong y)) u-is ∙ sym (words-words v front (with_wrong wrong y)) ∙ ap (with_words v) (sym (wrong-words wrong front y)) ∙ ap (λ (q : Option Quoted). with_words v (with_wrong wrong q)) (sym x-is)
+
+pub turn-closed : (u behind : List ℕ) (wrong : Bool) → with_words u (with_wrong wrong (double (34 ∷ behind))) ≡ Some (record { text = u; wrong = wrong; rest = behind })
+turn-closed u behind wrong =
+    ap (λ (q : Option Quoted). with_words u (with_wrong wrong q)) (double-quote behind)
+    ∙ ap (λ (x : List ℕ). Some (record { text = x; wrong = wrong || false; rest = behind })) (append-nil u) ∙ ap (λ t. Some (record { text = u; wrong = t; rest = behind })) (or-end wrong)
+  where
+    or-end : (b : Bool) → (b || false) ≡ b
+    or-end true = refl
+    or-end false = refl
+
+pub mark-34 : (b : ℕ) → (b ≡ 34) ⊎ (b ≡ 92) → (b ≡ 92 → ⊥) → b ≡ 34
+mark-34 b h ne = not-92 b h ne

@@ -18,10 +18,16 @@ pub joined-nil : (ms : Members) → joined ms no_members ≡ ms
 joined-nil no_members = refl
 joined-nil (member n w ms) = ap (member n w) (joined-nil ms)
 
+abbrev list_of : Members → Option (List ℕ) → Option Code → LeastListed
+list_of m r o = record { members = m; rest = r; code = o }
+
 step : (ms : Members) (code : Option Code) (v : Value) (cs : List Code) (l : Listed) → with_places (push ms [] v) (least_of code (least cs)) (least_listed l) ≡ with_places ms code (least_listed (with_place v cs l))
 step ms code v cs l =
-    ap (λ (m : Members). LeastListed.record { members = m; rest = l.rest; code = least_of (least_of code (least cs)) (least l.codes) }) (joined-push ms v l.members)
-    ∙ ap (λ (o : Option Code). LeastListed.record { members = joined ms (member [] v l.members); rest = l.rest; code = o }) (sym (least_of_three code (least cs) (least l.codes)) ∙ ap (least_of code) (sym (least_append cs l.codes)))
+    ap (λ m. list_of m l.rest (least_of (least_of code (least cs)) (least l.codes))) (joined-push ms v l.members)
+    ∙ ap (list_of (joined ms (member [] v l.members)) l.rest) (sym (least_of_three code (least cs) (least l.codes)) ∙ ap (least_of code) (sym (least_append cs l.codes)))
+
+pub places-end : (ms : Members) (code : Option Code) (r : Option (List ℕ)) (o : Option Code) → with_places ms code (list_of no_members r o) ≡ list_of ms r (least_of code o)
+places-end ms code r o = ap (λ m. list_of m r (least_of code o)) (joined-nil ms)
 
 -- one more place
 pub place-turn : (m : ℕ) (rest : List ℕ) (ms : Members) (code : Option Code) (p : LeastPlace) → p ≡ least_place (place rest)

@@ -8,13 +8,16 @@ use Rattle.ci_yaml.specs.Reading as reading
 use Rattle.ci_yaml.specs.View.{bytes_of, items_of, pairs_of, value_view, items_view, pairs_view, frame_view, frames_onto, frames_view}
 use Rattle.ci_yaml.specs.declared.tree.Text.{Text}
 use Rattle.ci_yaml.specs.declared.parts.Frame.{Frame}
-use Rattle.ci_yaml.specs.declared.tree.Tree.{Tree, List as ListTree, Map as MapTree, the_lemmas}
+use Rattle.ci_yaml.specs.declared.tree.Tree.{Tree, List as ListTree, Map as MapTree, Text as TextTree, the_lemmas}
 
 pub view-List : (v : Vec Tree) → value_view (ListTree v) ≡ node sequence (items_view v.items)
 view-List v = search (rules, the_lemmas)
 
 pub view-Map : (v : Vec (Text × Tree)) → value_view (MapTree v) ≡ node mapping (pairs_view v.items)
 view-Map v = search (rules, the_lemmas)
+
+pub view-Text : (x : Text) → value_view (TextTree x) ≡ text (bytes_of x)
+view-Text x = search (rules, the_lemmas)
 
 pub items-push : (vs : List Tree) (v : Tree) → items_view (vs ++ v ∷ []) ≡ reading.push (items_view vs) [] (value_view v)
 items-push [] v = refl

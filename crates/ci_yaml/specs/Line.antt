@@ -44,12 +44,12 @@ pub record Place : Type 0 where
   pub codes : List Code
   pub end : End
 
--- the codes of a plain place; `raw` reaches up to its end, and `bs` is it
-abbrev pub place_codes : List ℕ → List ℕ → List Code
-place_codes raw bs = if is_nil bs then Y8 ∷ [] else plain_codes raw bs ++ when (has_inner bs) Y9
+-- the codes of a plain place: `front` begins with it, `raw` reaches up to its end, and `bs` is it
+abbrev pub place_codes : List ℕ → List ℕ → List ℕ → List Code
+place_codes front raw bs = if is_nil bs then Y8 ∷ [] else plain_codes front raw bs ++ when (has_inner bs) Y9
 
-abbrev pub plain_place : Cut → Place
-plain_place c = record { value = plain_value (drop_blanks (trim_end c.raw)); codes = place_codes c.raw (drop_blanks (trim_end c.raw)); end = c.end }
+abbrev pub plain_place : List ℕ → Cut → Place
+plain_place bs c = record { value = plain_value (drop_blanks (trim_end c.raw)); codes = place_codes (drop_blanks bs) c.raw (drop_blanks (trim_end c.raw)); end = c.end }
 
 -- a quoted scalar, and behind it nothing but blanks
 abbrev pub behind_quoted : Quoted → Cut → Place
@@ -60,7 +60,7 @@ quoted_place None = record { value = null; codes = Y6 ∷ []; end = missing }
 quoted_place (Some q) = behind_quoted q (cut_place 39 q.rest)
 
 abbrev pub place : List ℕ → Place
-place bs = if is_quote (drop_blanks bs) then quoted_place (quoted (drop_blanks bs)) else plain_place (cut_place 44 bs)
+place bs = if is_quote (drop_blanks bs) then quoted_place (quoted (drop_blanks bs)) else plain_place bs (cut_place 44 bs)
 
 -- the places, what follows the closing bracket, and the codes that hold in them
 pub record Listed : Type 0 where
@@ -131,7 +131,7 @@ abbrev pub written_list : Listed → Written
 written_list r = record { given = Some (node sequence r.members); header = None; codes = r.codes ++ rest_codes r.rest }
 
 abbrev pub written_plain : List ℕ → Written
-written_plain raw = record { given = Some (plain_value (trim_end raw)); header = None; codes = plain_codes raw (trim_end raw) }
+written_plain raw = record { given = Some (plain_value (trim_end raw)); header = None; codes = plain_codes raw raw (trim_end raw) }
 
 -- the value that begins at the front
 abbrev pub written_at : List ℕ → Written

@@ -122,9 +122,9 @@ plain_value bs =
 abbrev pub when : Bool → Code → List Code
 when b c = if b then c ∷ [] else []
 
--- the codes that hold of a plain scalar that is a value; `raw` reaches up to its end, and `bs` is it
-abbrev pub plain_codes : List ℕ → List ℕ → List Code
-plain_codes raw bs = when (is_forbidden bs || has_tab_after raw) Y9 ++ when (has_colon bs) Y11
+-- the codes that hold of a plain scalar that is a value: `front` begins with it, `raw` reaches up to its end, and `bs` is it
+abbrev pub plain_codes : List ℕ → List ℕ → List ℕ → List Code
+plain_codes front raw bs = when (is_forbidden front || has_tab_after raw) Y9 ++ when (has_colon bs) Y11
 
 -- a quoted scalar: its text, whether a backslash stands wrongly in it, and what follows it
 pub record Quoted : Type 0 where

@@ -218,6 +218,12 @@ with_entries es s = record { entries = es ++ s.entries; header = s.header; code 
 abbrev pub least_entry : ℕ → entry.Head → LeastWritten → Option Code → LeastSpoken
 least_entry c hd w code = record { entries = (record { column = c; head = hd; given = w.given }) ∷ []; header = w.header; code = least_of code w.code }
 
+abbrev pub key_spoken : ℕ → LeastKeyed → LeastSpoken
+key_spoken c k = least_entry c (entry.key k.name) (least_written (line.written 58 k.rest)) k.code
+
+abbrev pub bare_spoken : ℕ → LeastWritten → LeastSpoken
+bare_spoken c v = least_entry c entry.bare v (least (line.header_code v.header))
+
 -- the columns that an item goes on stand in what follows its dash
 abbrev pub ColumnsFit : ℕ → LeastItem → Type 0
 ColumnsFit n (inner k t) = k + length t ≤ 1 + n

@@ -1,10 +1,10 @@
 //! Literal blocks.
 
-ghost use Rattle.std.specs.Prelude.{◌≡◌, ◌≤◌, ◌<◌, ◌++◌, [], IfOk, map, length, take, drop, string_bytes};
-ghost use Rattle.ci_yaml.specs.Document.{is_spaces, is_in_block, all_spaces, block_indent, block_lines, literal, block_codes, AreBlock, EndsBlock};
-ghost use Rattle.ci_yaml.specs.View.{chomp_view};
+ghost use Rattle.std.specs.Prelude.{◌≡◌, ◌≤◌, IfOk, length};
+ghost use Rattle.ci_yaml.specs.Least.{least};
+ghost use Rattle.ci_yaml.specs.Document.{is_spaces, is_in_block, is_low, indent_codes, more_indent};
 
-use crate::cut::skip;
+use crate::cut::skip_spaces;
 use crate::fault::{Code, least_of, when};
 use crate::parts::Chomp;
 use crate::scan::{has_mark, spaces};
@@ -24,17 +24,29 @@ fn is_in_block(column: u32, line: &[u8]) -> bool
     is_spaces(line) || (column as usize) < spaces(line)
 }
 
-/// The least code of a line of a block whose first line that is not all spaces has this indent.
-fn block_code(indent: Option<usize>, line: &[u8]) -> Option<Code> {
-    let low = match indent {
+/// Whether a line is indented less than the first line of its block.
+fn is_low(indent: Option<usize>, line: &[u8]) -> bool
+    ensures { result ≡ is_low indent line.now }
+{
+    match indent {
         Some(indent) => !is_spaces(line) && spaces(line) < indent,
         None => false,
-    };
-    least_of(when(low, Code::Y3), when(has_mark(line), Code::Y9))
+    }
+}
+
+/// The least code of a line of a block whose first line that is not all spaces has this indent.
+fn block_code(indent: Option<usize>, line: &[u8]) -> Option<Code>
+    ensures { result ≡ least (indent_codes indent line.now) }
+{
+    let low = when(is_low(indent, line), Code::Y3);
+    let mark = when(has_mark(line), Code::Y9);
+    least_of(low, mark)
 }
 
 /// The block's indent after one more line.
-fn more_indent(indent: Option<usize>, line: &[u8]) -> Option<usize> {
+fn more_indent(indent: Option<usize>, line: &[u8]) -> Option<usize>
+    ensures { result ≡ more_indent indent line.now }
+{
     match indent {
         Some(indent) => Some(indent),
         None => {
@@ -55,7 +67,11 @@ pub struct BlockFault {
 }
 
 /// How many of the lines are the block of a key or dash in this column.
-pub fn block_len(column: u32, lines: &[&str]) -> Result<usize, BlockFault> {
+///
+/// Errors: the first line of the block that cannot follow those before it.
+pub fn block_len(column: u32, lines: &[&str]) -> Result<usize, BlockFault>
+    ensures within { IfOk result (λ n. n ≤ length lines.now) }
+{
     let mut indent = None;
     for (at, line) in lines.iter().enumerate() {
         let bytes = line.as_bytes();
@@ -81,7 +97,9 @@ fn block_indent(lines: &[&str]) -> usize {
 }
 
 /// The number of lines without the empty ones at the end.
-fn kept_len(lines: &[&str]) -> usize {
+fn kept_len(lines: &[&str]) -> usize
+    ensures { result ≤ length lines.now }
+{
     let mut rest = lines;
     'scan: while let [more @ .., line] = rest {
         if !is_spaces(line.as_bytes()) {
@@ -95,7 +113,7 @@ fn kept_len(lines: &[&str]) -> usize {
 /// Adds a line's text, cut by the block's indent. Errors: memory was refused.
 fn push_line(text: &mut String, indent: usize, line: &str) -> Result<(), AllocError> {
     if !is_spaces(line.as_bytes()) {
-        text.push_str(skip(line, indent))?;
+        text.push_str(skip_spaces(line, indent))?;
     }
     Ok(())
 }

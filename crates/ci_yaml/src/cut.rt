@@ -1,8 +1,8 @@
 //! Cutting the text of a line, and where its parts stand.
 
-ghost use Rattle.std.specs.Prelude.{◌≡◌, ◌+◌, ◌≤◌, ◌<◌, length, take, drop, slice_index};
+ghost use Rattle.std.specs.Prelude.{◌≡◌, ◌+◌, ◌≤◌, ◌<◌, length, take, drop, min, slice_index};
 ghost use Rattle.std.specs.Str.{IsCharBoundary};
-ghost use Rattle.ci_yaml.specs.Scalar.{trim_end, drop_blanks, before_comment, tail_of};
+ghost use Rattle.ci_yaml.specs.Scalar.{is_nil, trim_end, drop_blanks, before_comment, tail_of};
 ghost use Rattle.ci_yaml.specs.Line.{spaces};
 
 use crate::scan::{blanks, comment_len, spaces, trimmed_len};
@@ -91,6 +91,13 @@ pub fn drop_blanks(text: &str) -> &str
     skip(text, blanks(text.as_bytes()))
 }
 
+/// Whether the text has spaces and tabs alone.
+pub fn is_all_blank(text: &str) -> bool
+    ensures { result ≡ is_nil (drop_blanks text.now) }
+{
+    drop_blanks(text).is_empty()
+}
+
 /// The text without the spaces that it begins with.
 pub fn drop_spaces(text: &str) -> &str
     ensures { result.now ≡ drop (spaces text.now) text.now }
@@ -103,4 +110,12 @@ pub fn before_comment(last: u8, text: &str) -> &str
     ensures { result.now ≡ before_comment last text.now }
 {
     front(text, comment_len(last, text.as_bytes()))
+}
+
+/// The text without the spaces that it begins with, but at most so many.
+pub fn skip_spaces(text: &str, most: usize) -> &str
+    ensures { result.now ≡ drop (min (spaces text.now) most) text.now }
+{
+    let n = spaces(text.as_bytes()).min(most);
+    skip(text, n)
 }

@@ -1,12 +1,12 @@
 //! Lists on one line.
 
-ghost use Rattle.std.specs.Prelude.{◌≡◌, IfOk, true};
+ghost use Rattle.std.specs.Prelude.{◌≡◌, ◌||◌, IfOk, true};
 ghost use Rattle.ci_yaml.specs.Least.{least};
-ghost use Rattle.ci_yaml.specs.Scalar.{head_is, plain_codes};
+ghost use Rattle.ci_yaml.specs.Scalar.{is_nil, head_is, is_forbidden, has_tab_after, plain_codes};
 ghost use Rattle.ci_yaml.specs.Line.{end_of, cut_place, place_codes, plain_place, behind_quoted, place, places, listed};
 ghost use Rattle.ci_yaml.specs.View.{quoted_view, end_view, cut_view, place_view, listed_view, least_place, least_listed};
 
-use crate::cut::{At, drop_blanks, front, skip, tail, trim_end};
+use crate::cut::{At, drop_blanks, front, is_all_blank, skip, tail, trim_end};
 use crate::fault::{Code, least_of, when};
 use crate::quoted::{Quoted, is_quote, read_quoted};
 use crate::scalar::plain;
@@ -70,30 +70,42 @@ fn cut_place(last: u8, text: &str) -> Cut<'_>
     }
 }
 
-/// The least code of a plain scalar that is a value; the raw text reaches up to its end.
-pub fn plain_code(raw: &str, text: &str) -> Option<Code>
-    ensures { result ≡ least (plain_codes raw.now text.now) }
+/// Whether a plain scalar begins with what it may not, or holds `-` or `:` before a tab.
+fn is_odd(front: &str, raw: &str) -> bool
+    ensures { result ≡ (is_forbidden front.now || has_tab_after raw.now) }
 {
-    let form = is_forbidden(text.as_bytes()) || has_tab_after(raw.as_bytes());
-    least_of(
-        when(form, Code::Y9),
-        when(has_colon(text.as_bytes()), Code::Y11),
-    )
+    is_forbidden(front.as_bytes()) || has_tab_after(raw.as_bytes())
 }
 
-#[tactic(auto, using(crate::proofs::Leasts::least_append))]
-fn place_code(raw: &str, text: &str) -> Option<Code>
-    ensures { result ≡ least (place_codes raw.now text.now) }
+/// The least code of a plain scalar that is a value. The front begins with it, the raw text reaches up to its end.
+pub fn plain_code(front: &str, raw: &str, text: &str) -> Option<Code>
+    ensures { result ≡ least (plain_codes front.now raw.now text.now) }
 {
-    if text.is_empty() {
+    let form = when(is_odd(front, raw), Code::Y9);
+    let colon = when(has_colon(text.as_bytes()), Code::Y11);
+    least_of(form, colon)
+}
+
+fn is_nil(text: &str) -> bool
+    ensures { result ≡ is_nil text.now }
+{
+    text.is_empty()
+}
+
+/// The least code of a plain place.
+fn place_code(front: &str, raw: &str, text: &str) -> Option<Code>
+    ensures { result ≡ least (place_codes front.now raw.now text.now) }
+{
+    if is_nil(text) {
         return Some(Code::Y8);
     }
+    let plain = plain_code(front, raw, text);
     let inner = when(has_inner(text.as_bytes()), Code::Y9);
-    least_of(plain_code(raw, text), inner)
+    least_of(plain, inner)
 }
 
 fn plain_place<'a>(at: At, text: &'a str) -> Place<'a>
-    ensures { place_view result ≡ least_place (plain_place (cut_place 44 text.now)) }
+    ensures { place_view result ≡ least_place (plain_place text.now (cut_place 44 text.now)) }
 {
     let Cut { raw, end } = cut_place(b',', text);
     let trimmed = trim_end(raw);
@@ -101,22 +113,23 @@ fn plain_place<'a>(at: At, text: &'a str) -> Place<'a>
     let from = drop_blanks(text);
     Place {
         value: plain(scalar, at.front(from, scalar.len())),
-        code: place_code(raw, scalar),
+        code: place_code(from, raw, scalar),
         end,
     }
 }
 
-#[tactic(auto, using(crate::proofs::Leasts::least_append))]
 fn behind_quoted<'a>(quoted: Quoted<'a>) -> Place<'a>
     ensures { place_view result ≡ least_place (behind_quoted (quoted_view quoted.entry) (cut_place 39 (quoted_view quoted.entry).rest)) }
 {
     let Quoted { text, wrong, rest } = quoted;
     let Cut { raw, end } = cut_place(b'\'', rest);
-    let other = when(!drop_blanks(raw).is_empty(), Code::Y11);
-    let behind = least_of(when(has_tab_after(raw.as_bytes()), Code::Y9), other);
+    let escape = when(wrong, Code::Y7);
+    let tab = when(has_tab_after(raw.as_bytes()), Code::Y9);
+    let other = when(!is_all_blank(raw), Code::Y11);
+    let behind = least_of(tab, other);
     Place {
         value: Tree::Text(text),
-        code: least_of(when(wrong, Code::Y7), behind),
+        code: least_of(escape, behind),
         end,
     }
 }

@@ -1,9 +1,9 @@
 //! What one line says.
 
-ghost use Rattle.std.specs.Prelude.{◌≡◌, ◌+◌, ◌≤◌, ◌||◌, suc, IfOk, option_map, map, length, is_some, []};
+ghost use Rattle.std.specs.Prelude.{◌≡◌, ◌==◌, ◌+◌, ◌≤◌, ◌&&◌, ◌||◌, suc, IfOk, option_map, map, length, is_some, []};
 ghost use Rattle.ci_yaml.specs.Least.{least_of};
-ghost use Rattle.ci_yaml.specs.Line.{split_colon, plain_key, quoted_key, keyed, is_dash, item, spoken, keyed_or_bare, content_spoken, is_skipped, line_spoken};
-ghost use Rattle.ci_yaml.specs.View.{quoted_view, keyed_view, least_keyed, written_view, head_view, entry_view, item_view, least_item, ColumnsFit, spoken_view, least_spoken, with_entries, least_entry};
+ghost use Rattle.ci_yaml.specs.Line.{split_colon, plain_key, quoted_key, keyed, is_dash, item, spoken, keyed_or_bare, content_spoken, is_document_mark, has_control, has_mark, is_skipped, line_spoken};
+ghost use Rattle.ci_yaml.specs.View.{quoted_view, keyed_view, least_keyed, written_view, head_view, entry_view, item_view, least_item, ColumnsFit, spoken_view, least_spoken, with_entries, least_entry, key_spoken, bare_spoken};
 
 use crate::cut::{At, drop_blanks, drop_spaces, front, skip, tail, trim_end};
 use crate::fault::{Code, least_of, when};
@@ -155,8 +155,37 @@ fn entry_of<'a>(
     })
 }
 
+/// A key after the entries before it. Errors: memory was refused.
+fn with_key<'a>(
+    alloc: Global,
+    at: At,
+    entries: Vec<Entry<'a>>,
+    column: u32,
+    key: Keyed<'a>,
+) -> Result<Spoken<'a>, AllocError>
+    ensures { IfOk result (λ s. spoken_view s ≡ with_entries (map entry_view entries.entry.items) (key_spoken column (keyed_view key.entry))) }
+{
+    let Keyed { name, rest, code } = key;
+    let value = read_written(alloc, at, b':', rest)?;
+    entry_of(entries, column, Head::Key(name), value, code)
+}
+
+/// A value alone after the entries before it. Errors: memory was refused.
+fn with_value<'a>(
+    entries: Vec<Entry<'a>>,
+    column: u32,
+    value: Written<'a>,
+) -> Result<Spoken<'a>, AllocError>
+    ensures { IfOk result (λ s. spoken_view s ≡ with_entries (map entry_view entries.entry.items) (bare_spoken column (written_view value.entry))) }
+{
+    let code = match value.header {
+        Some(_) => Some(Code::Y9),
+        None => None,
+    };
+    entry_of(entries, column, Head::Bare, value, code)
+}
+
 /// A key, or a value alone, after the entries before it. Errors: memory was refused.
-#[tactic(auto, using(crate::proofs::Leasts::least_append))]
 fn keyed_or_bare<'a>(
     alloc: Global,
     at: At,
@@ -167,27 +196,29 @@ fn keyed_or_bare<'a>(
     ensures { IfOk result (λ s. spoken_view s ≡ with_entries (map entry_view entries.entry.items) (least_spoken (keyed_or_bare column text.now (keyed text.now)))) }
 {
     match read_key(alloc, at, text)? {
-        Some(Keyed { name, rest, code }) => {
-            let value = read_written(alloc, at, b':', rest)?;
-            entry_of(entries, column, Head::Key(name), value, code)
-        }
+        Some(key) => with_key(alloc, at, entries, column, key),
         None => {
             let value = read_value(alloc, at, text)?;
-            let code = when(value.header.is_some(), Code::Y9);
-            entry_of(entries, column, Head::Bare, value, code)
+            with_value(entries, column, value)
         }
     }
 }
 
-/// What the text in a column says, which begins with no blank. Errors: memory was refused.
-fn spoken<'a>(alloc: Global, at: At, column: u32, text: &'a str) -> Result<Spoken<'a>, AllocError>
+/// What the text in a column says, which begins with no blank. It says at most n entries. Errors: memory was refused.
+fn spoken<'a>(
+    alloc: Global,
+    at: At,
+    n: usize,
+    column: u32,
+    text: &'a str,
+) -> Result<Spoken<'a>, AllocError>
     requires fits { column + length text.now ≤ 65536 }
-    ensures { IfOk result (λ s. spoken_view s ≡ least_spoken (spoken (suc (length text.now)) column text.now)) }
+    ensures { IfOk result (λ s. spoken_view s ≡ least_spoken (spoken n column text.now)) }
 {
     let mut entries = Vec::new(alloc);
     let mut column = column;
     let mut rest = text;
-    'dashes: for i in 0..text.len() + 1 {
+    'dashes: for i in 0..n {
         if !is_dash(rest.as_bytes()) {
             return keyed_or_bare(alloc, at, entries, column, rest);
         }
@@ -211,8 +242,21 @@ fn spoken<'a>(alloc: Global, at: At, column: u32, text: &'a str) -> Result<Spoke
     })
 }
 
+/// Whether a document mark stands in the first column.
+fn is_marked(column: u32, text: &str) -> bool
+    ensures { result ≡ ((column == 0) && is_document_mark text.now) }
+{
+    column == 0 && is_document_mark(text.as_bytes())
+}
+
+/// Whether a character stands in the line that the profile does not take.
+fn has_odd(line: &str) -> bool
+    ensures { result ≡ (has_control line.now || has_mark line.now) }
+{
+    has_control(line.as_bytes()) || has_mark(line.as_bytes())
+}
+
 /// What a content line says after so many spaces. Errors: memory was refused.
-#[tactic(auto, using(crate::proofs::Leasts::least_append))]
 fn content_spoken<'a>(
     alloc: Global,
     at: At,
@@ -229,8 +273,8 @@ fn content_spoken<'a>(
             code: Some(Code::Y2),
         });
     }
-    let mark = when(column == 0 && is_document_mark(text.as_bytes()), Code::Y9);
-    let said = spoken(alloc, at, column, text)?;
+    let mark = when(is_marked(column, text), Code::Y9);
+    let said = spoken(alloc, at, text.len() + 1, column, text)?;
     Ok(with_code(mark, said))
 }
 
@@ -258,7 +302,6 @@ fn is_skipped(line: &str) -> bool
 }
 
 /// What a line outside literal blocks says; its number is counted from 1. Errors: memory was refused.
-#[tactic(auto, using(crate::proofs::Leasts::least_append))]
 pub fn line_spoken<'a>(
     alloc: Global,
     number: usize,
@@ -267,8 +310,7 @@ pub fn line_spoken<'a>(
     requires fits { length line.now ≤ 65536 }
     ensures { IfOk result (λ s. spoken_view s ≡ least_spoken (line_spoken line.now)) }
 {
-    let bytes = line.as_bytes();
-    let form = when(has_control(bytes) || has_mark(bytes), Code::Y9);
+    let form = when(has_odd(line), Code::Y9);
     if is_skipped(line) {
         return Ok(Spoken {
             entries: Vec::new(alloc),
@@ -276,7 +318,7 @@ pub fn line_spoken<'a>(
             code: form,
         });
     }
-    let column = spaces(bytes);
+    let column = spaces(line.as_bytes());
     let text = trim_end(drop_spaces(line));
     let at = At {
         line: number,

@@ -1,6 +1,6 @@
 //! Quoted scalars.
 
-ghost use Rattle.std.specs.Prelude.{◌≡◌, ◌==◌, ◌||◌, ◌∷◌, ◌<◌, ◌⊎◌, IfOk, IfSome, option_map, slice_index, string_bytes, length};
+ghost use Rattle.std.specs.Prelude.{◌≡◌, ◌==◌, ◌||◌, ◌∷◌, ◌<◌, ◌≤◌, ◌⊎◌, IfOk, IfSome, option_map, slice_index, string_bytes, length};
 ghost use Rattle.std.specs.List.{position};
 ghost use Rattle.ci_yaml.specs.Scalar.{single, double, quoted, is_quote, with_words, from_place, escape_of};
 ghost use Rattle.ci_yaml.specs.View.{quoted_view, with_wrong};
@@ -114,11 +114,12 @@ fn escape(bytes: &[u8]) -> Option<&'static str>
 fn double<'a>(alloc: Global, at: At, text: &'a str) -> Result<Option<Quoted<'a>>, AllocError>
     ensures { IfOk result (λ q. option_map quoted_view q ≡ double text.now) }
 {
-    let Some(i) = mark_at(text.as_bytes()) else {
+    let bytes = text.as_bytes();
+    let Some(i) = mark_at(bytes) else {
         return Ok(None);
     };
     let (front, rest) = split_around(text, i);
-    if text.as_bytes()[i] == b'\\' {
+    if bytes[i] == b'\\' {
         return with_escapes(alloc, at, text, front, rest);
     }
     let text = Text::Lent(front, at.quoted(text, rest));
@@ -132,7 +133,8 @@ fn double<'a>(alloc: Global, at: At, text: &'a str) -> Result<Option<Quoted<'a>>
 /// Adds what a backslash and the byte behind it stand for, and answers what follows, and whether the backslash
 /// stands rightly. Errors: memory was refused.
 fn unescape<'a>(words: &mut String, rest: &'a str) -> Result<(bool, &'a str), AllocError>
-    ensures { IfOk result (λ r. with_words (string_bytes words.new) (with_wrong r.0 (double r.1.now)) ≡ with_words (string_bytes words.old) (double (92 ∷ rest.now))) }
+    ensures shorter { IfOk result (λ r. length r.1.now ≤ length rest.now) }
+    ensures value { IfOk result (λ r. with_words (string_bytes words.new) (with_wrong r.0 (double r.1.now)) ≡ with_words (string_bytes words.old) (double (92 ∷ rest.now))) }
 {
     match escape(rest.as_bytes()) {
         Some(meant) => {
@@ -158,14 +160,15 @@ fn with_escapes<'a>(
     let mut rest = rest;
     'escapes: loop {
         let (misused, more) = unescape(&mut words, rest)?;
-        wrong = wrong || misused;
-        let Some(i) = mark_at(more.as_bytes()) else {
+        wrong = wrong | misused;
+        let bytes = more.as_bytes();
+        let Some(i) = mark_at(bytes) else {
             return Ok(None);
         };
         let (front, behind) = split_around(more, i);
         words.push_str(front)?;
         rest = behind;
-        if more.as_bytes()[i] != b'\\' {
+        if bytes[i] != b'\\' {
             let text = Text::Owned(words, at.quoted(text, rest));
             return Ok(Some(Quoted { text, wrong, rest }));
         }

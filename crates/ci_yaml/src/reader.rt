@@ -34,6 +34,10 @@ fn read_line<'a>(
     number: usize,
     line: &'a str,
 ) -> Result<Passed<'a>, YamlFault> {
+    // No line is longer than its text.
+    if TEXT_LIMIT < line.len() {
+        return Err(YamlFault::Fault(Code::Y1, 1));
+    }
     let Spoken {
         entries,
         header,
@@ -71,21 +75,27 @@ fn read_block<'a>(
     column: u32,
     at: usize,
     lines: &[&'a str],
-) -> Result<(usize, Text<'a>), YamlFault> {
+) -> Result<(usize, Text<'a>), YamlFault>
+    ensures within { IfOk result (λ r. r.0 ≤ length lines.now) }
+{
     match block_len(column, lines) {
         Ok(len) => {
             let text = literal(alloc, how, &lines[..len])?;
+            let first = at.saturating_add(1);
             let start = Place {
-                line: at + 1,
+                line: first,
                 column: 0,
             };
             let end = Place {
-                line: at + 1 + len,
+                line: first.saturating_add(len),
                 column: 0,
             };
             Ok((len, Text::Owned(text, Span { start, end })))
         }
-        Err(BlockFault { at: place, code }) => Err(YamlFault::Fault(code, at + place + 1)),
+        Err(BlockFault { at: place, code }) => {
+            let line = at.saturating_add(place).saturating_add(1);
+            Err(YamlFault::Fault(code, line))
+        },
     }
 }
 

@@ -1,10 +1,11 @@
 //! What stands behind a dash or a colon, or alone on a line.
 
-ghost use Rattle.std.specs.Prelude.{◌≡◌, IfOk, option_map};
+ghost use Rattle.std.specs.Prelude.{◌≡◌, IfOk, Some, None, []};
 ghost use Rattle.ci_yaml.specs.Least.{least};
+ghost use Rattle.ci_yaml.specs.Tree.{text as text_value};
 ghost use Rattle.ci_yaml.specs.Line.{not_comment, header_rest, header_of, written_quoted, written_plain, written_at, written};
 ghost use Rattle.ci_yaml.specs.Scalar.{before_comment};
-ghost use Rattle.ci_yaml.specs.View.{quoted_view, chomp_view, listed_view, written_of_list, written_view, least_written};
+ghost use Rattle.ci_yaml.specs.View.{value_view, quoted_view, chomp_view, listed_view, written_of_list, written_view, least_written};
 
 use crate::cut::{At, before_comment, drop_blanks, tail, trim_end};
 use crate::fault::{Code, least_of, when};
@@ -35,13 +36,19 @@ fn not_comment(last: u8, text: &str) -> Option<Code>
     least_of(Some(Code::Y11), when(tab, Code::Y9))
 }
 
-#[tactic(auto, using(crate::proofs::Leasts::least_append))]
+/// The empty text before a text that reaches to the line's end.
+fn no_text<'a>(at: At, text: &'a str) -> Tree<'a>
+    ensures { value_view result ≡ text_value [] }
+{
+    Tree::Text(Text::Lent("", at.front(text, 0)))
+}
+
 fn header_rest<'a>(at: At, how: Chomp, last: u8, text: &'a str) -> Written<'a>
     ensures { written_view result ≡ least_written (header_rest (chomp_view how) last text.now) }
 {
     let digit = when(is_digit_next(text.as_bytes()), Code::Y9);
     Written {
-        given: Some(Tree::Text(Text::Lent("", at.front(text, 0)))),
+        given: Some(no_text(at, text)),
         header: Some(how),
         code: least_of(digit, not_comment(last, text)),
     }
@@ -60,21 +67,27 @@ fn header_of<'a>(at: At, text: &'a str) -> Written<'a>
     }
 }
 
-#[tactic(auto, using(crate::proofs::Leasts::least_append))]
-fn written_quoted<'a>(at: At, text: &'a str, quoted: Option<Quoted<'a>>) -> Written<'a>
-    ensures { written_view result ≡ least_written (written_quoted (option_map quoted_view quoted.entry)) }
+fn closed(quoted: Quoted<'_>) -> Written<'_>
+    ensures { written_view result ≡ least_written (written_quoted (Some (quoted_view quoted.entry))) }
 {
-    match quoted {
-        Some(Quoted { text, wrong, rest }) => Written {
-            given: Some(Tree::Text(text)),
-            header: None,
-            code: least_of(when(wrong, Code::Y7), not_comment(b'\'', rest)),
-        },
-        None => Written {
-            given: Some(Tree::Text(Text::Lent("", at.front(text, 0)))),
-            header: None,
-            code: Some(Code::Y6),
-        },
+    let Quoted { text, wrong, rest } = quoted;
+    let escape = when(wrong, Code::Y7);
+    let other = not_comment(b'\'', rest);
+    Written {
+        given: Some(Tree::Text(text)),
+        header: None,
+        code: least_of(escape, other),
+    }
+}
+
+/// A quoted scalar that isn't closed.
+fn unclosed<'a>(at: At, text: &'a str) -> Written<'a>
+    ensures { written_view result ≡ least_written (written_quoted None) }
+{
+    Written {
+        given: Some(no_text(at, text)),
+        header: None,
+        code: Some(Code::Y6),
     }
 }
 
@@ -101,18 +114,19 @@ fn written_plain<'a>(at: At, text: &'a str) -> Written<'a>
     Written {
         given: Some(plain(scalar, at.front(text, scalar.len()))),
         header: None,
-        code: plain_code(raw, scalar),
+        code: plain_code(raw, raw, scalar),
     }
 }
 
 /// The value that begins at the front. Errors: memory was refused.
-#[tactic(auto, using(crate::proofs::Leasts::least_append))]
 pub fn read_value<'a>(alloc: Global, at: At, text: &'a str) -> Result<Written<'a>, AllocError>
     ensures { IfOk result (λ w. written_view w ≡ least_written (written_at text.now)) }
 {
     if is_quote(text.as_bytes()) {
-        let quoted = read_quoted(alloc, at, text)?;
-        Ok(written_quoted(at, text, quoted))
+        match read_quoted(alloc, at, text)? {
+            Some(quoted) => Ok(closed(quoted)),
+            None => Ok(unclosed(at, text)),
+        }
     } else if head_is(b'[', text.as_bytes()) {
         let list = read_list(alloc, at, text)?;
         Ok(written_list(list))

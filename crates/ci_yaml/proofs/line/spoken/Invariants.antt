@@ -8,4 +8,4 @@ use Rattle.ci_yaml.proofs.line.spoken.Given as goal
 abbrev pub invariant-dashes : goal.invariant-dashes
 invariant-dashes l =
     shadow (Utf8 l.rest) × (l.column + length l.rest ≤ 65536)
-    × (with_entries (map entry_view l.entries.items) (least_spoken (spoken (suc (length l.fn.text) - l.i) l.column l.rest)) ≡ least_spoken (spoken (suc (length l.fn.text)) l.fn.column l.fn.text))
+    × (with_entries (map entry_view l.entries.items) (least_spoken (spoken (l.n - l.i) l.column l.rest)) ≡ least_spoken (spoken l.fn.n l.fn.column l.fn.text))
