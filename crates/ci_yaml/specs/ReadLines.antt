@@ -46,3 +46,7 @@ line_next r l = line_by r.end r.state l
 abbrev pub read_lines : Reader → List Line → Result Reader Code
 read_lines r [] = Ok r
 read_lines r (l ∷ ls) = line_next r l >>= λ s. read_lines s ls
+
+-- before the first line
+abbrev pub beginning : Reader
+beginning = record { state = start; end = outside }

@@ -9,6 +9,7 @@ mod entries;
 mod fault;
 mod flow;
 mod joins;
+pub mod laws;
 mod line;
 mod nodes;
 mod parts;
