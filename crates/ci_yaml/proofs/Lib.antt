@@ -14,3 +14,4 @@ pub mod Leasts
 pub mod Quotes
 pub mod Turns
 pub mod Said
+pub mod BlockLines

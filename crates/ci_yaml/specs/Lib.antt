@@ -9,3 +9,4 @@ pub mod Line
 pub mod Document
 pub mod ReadLines
 pub mod View
+pub mod Blocks

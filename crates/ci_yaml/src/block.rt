@@ -1,8 +1,9 @@
 //! Literal blocks.
 
-ghost use Rattle.std.specs.Prelude.{◌≡◌, ◌≤◌, IfOk, length};
+ghost use Rattle.std.specs.Prelude.{◌≡◌, ◌≤◌, ◌++◌, IfOk, length, string_bytes};
 ghost use Rattle.ci_yaml.specs.Least.{least};
-ghost use Rattle.ci_yaml.specs.Document.{is_spaces, is_in_block, is_low, indent_codes, more_indent};
+ghost use Rattle.ci_yaml.specs.Document.{is_spaces, is_in_block, is_low, indent_codes, more_indent, block_indent, kept_len};
+ghost use Rattle.ci_yaml.specs.Blocks.{texts_of, cut_text, cut_lines};
 
 use crate::cut::skip_spaces;
 use crate::fault::{Code, least_of, when};
@@ -87,7 +88,9 @@ pub fn block_len(column: u32, lines: &[&str]) -> Result<usize, BlockFault>
 }
 
 /// The indent of the first line that is not all spaces.
-fn block_indent(lines: &[&str]) -> usize {
+fn block_indent(lines: &[&str]) -> usize
+    ensures { result ≡ block_indent (texts_of lines.now) }
+{
     for line in lines {
         if !is_spaces(line.as_bytes()) {
             return spaces(line.as_bytes());
@@ -98,7 +101,8 @@ fn block_indent(lines: &[&str]) -> usize {
 
 /// The number of lines without the empty ones at the end.
 fn kept_len(lines: &[&str]) -> usize
-    ensures { result ≤ length lines.now }
+    ensures within { result ≤ length lines.now }
+    ensures value { result ≡ kept_len (texts_of lines.now) }
 {
     let mut rest = lines;
     'scan: while let [more @ .., line] = rest {
@@ -111,7 +115,9 @@ fn kept_len(lines: &[&str]) -> usize
 }
 
 /// Adds a line's text, cut by the block's indent. Errors: memory was refused.
-fn push_line(text: &mut String, indent: usize, line: &str) -> Result<(), AllocError> {
+fn push_line(text: &mut String, indent: usize, line: &str) -> Result<(), AllocError>
+    ensures { IfOk result (λ _. string_bytes text.new ≡ string_bytes text.old ++ cut_text indent line.now) }
+{
     if !is_spaces(line.as_bytes()) {
         text.push_str(skip_spaces(line, indent))?;
     }
@@ -119,7 +125,9 @@ fn push_line(text: &mut String, indent: usize, line: &str) -> Result<(), AllocEr
 }
 
 /// Adds the lines' texts, each with a line feed. Errors: memory was refused.
-fn push_lines(text: &mut String, indent: usize, lines: &[&str]) -> Result<(), AllocError> {
+fn push_lines(text: &mut String, indent: usize, lines: &[&str]) -> Result<(), AllocError>
+    ensures { IfOk result (λ _. string_bytes text.new ≡ string_bytes text.old ++ cut_lines indent (texts_of lines.now)) }
+{
     for line in lines {
         push_line(text, indent, line)?;
         text.push_str("\n")?;
