@@ -1,9 +1,9 @@
 //! Literal blocks.
 
-ghost use Rattle.std.specs.Prelude.{◌≡◌, ◌≤◌, ◌++◌, IfOk, length, string_bytes};
+ghost use Rattle.std.specs.Prelude.{◌≡◌, ◌≤◌, ◌++◌, [], IfOk, IfErr, length, take, drop, string_bytes};
 ghost use Rattle.ci_yaml.specs.Least.{least};
-ghost use Rattle.ci_yaml.specs.Document.{is_spaces, is_in_block, is_low, indent_codes, more_indent, block_indent, kept_len};
-ghost use Rattle.ci_yaml.specs.Blocks.{texts_of, cut_text, cut_lines};
+ghost use Rattle.ci_yaml.specs.Document.{is_spaces, is_in_block, is_low, indent_codes, more_indent, block_indent, kept_len, AreBlock, EndsBlock};
+ghost use Rattle.ci_yaml.specs.Blocks.{texts_of, cut_text, cut_lines, cut_strip, StopsBlock};
 
 use crate::cut::skip_spaces;
 use crate::fault::{Code, least_of, when};
@@ -72,6 +72,8 @@ pub struct BlockFault {
 /// Errors: the first line of the block that cannot follow those before it.
 pub fn block_len(column: u32, lines: &[&str]) -> Result<usize, BlockFault>
     ensures within { IfOk result (λ n. n ≤ length lines.now) }
+    ensures block { IfOk result (λ n. AreBlock column [] (texts_of (take n lines.now)) × EndsBlock column (texts_of (drop n lines.now))) }
+    ensures fault { IfErr result (λ f. AreBlock column [] (texts_of (take f.at lines.now)) × StopsBlock column (texts_of (take f.at lines.now)) (texts_of (drop f.at lines.now)) f.code) }
 {
     let mut indent = None;
     for (at, line) in lines.iter().enumerate() {
@@ -135,19 +137,36 @@ fn push_lines(text: &mut String, indent: usize, lines: &[&str]) -> Result<(), Al
     Ok(())
 }
 
+/// The same, without the last line feed. Errors: memory was refused.
+fn push_stripped(text: &mut String, indent: usize, lines: &[&str]) -> Result<(), AllocError>
+    ensures { IfOk result (λ _. string_bytes text.new ≡ string_bytes text.old ++ cut_strip indent (texts_of lines.now)) }
+{
+    match lines {
+        [front @ .., last] => {
+            push_lines(text, indent, front)?;
+            push_line(text, indent, last)
+        }
+        [] => Ok(()),
+    }
+}
+
 /// The text of the lines of a block. Errors: memory was refused.
 pub fn literal(alloc: Global, how: Chomp, lines: &[&str]) -> Result<String, AllocError> {
     let indent = block_indent(lines);
+    let kept = &lines[..kept_len(lines)];
     let mut text = String::new(alloc);
     match how {
-        Chomp::Keep => push_lines(&mut text, indent, lines)?,
-        Chomp::Clip => push_lines(&mut text, indent, &lines[..kept_len(lines)])?,
+        Chomp::Keep => {
+            push_lines(&mut text, indent, lines)?;
+            Ok(text)
+        }
+        Chomp::Clip => {
+            push_lines(&mut text, indent, kept)?;
+            Ok(text)
+        }
         Chomp::Strip => {
-            if let [front @ .., last] = &lines[..kept_len(lines)] {
-                push_lines(&mut text, indent, front)?;
-                push_line(&mut text, indent, last)?;
-            }
+            push_stripped(&mut text, indent, kept)?;
+            Ok(text)
         }
     }
-    Ok(text)
 }
