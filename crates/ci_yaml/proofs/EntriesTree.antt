@@ -13,7 +13,7 @@ use Rattle.ci_yaml.specs.Reading as reading
 use Rattle.ci_yaml.specs.Reading.{◌>>=◌, State, start, run, finished, tree_read, close_all, closed}
 use Rattle.ci_yaml.specs.View.{value_view, given_view, frame_view, frames_view, Gives}
 use Rattle.ci_yaml.proofs.Sound.{bind_ok, run-stands, finished-is}
-use Rattle.ci_yaml.proofs.Complete.{RanAll, document-ran}
+use Rattle.ci_yaml.proofs.Complete.{document-ran}
 use Rattle.ci_yaml.proofs.Views.{frames-push}
 
 abbrev done : State → Result (Option Value) Code

@@ -1,7 +1,7 @@
 -- The least of some codes and others.
-use Rattle.std.proofs.Common.{◌≡◌, ℕ, ◌≤◌, ◌<◌, Bool, true, false, cond, List, [], ◌∷◌, ◌++◌, Option, Some, None, refl, sym, ◌∙◌, ap, arith}
+use Rattle.std.proofs.Common.{◌≡◌, Bool, true, false, cond, List, [], ◌∷◌, ◌++◌, Option, Some, None, refl, sym, ◌∙◌, ap, arith}
 use Rattle.std.specs.Prelude.{nat_le}
-use Rattle.std.proofs.lemmas.Bool.{leb-true, le-leb, leb-false}
+use Rattle.std.proofs.lemmas.Bool.{leb-true, leb-false}
 use Rattle.ci_yaml.specs.declared.fault.Code.{Code}
 use Rattle.ci_yaml.specs.Least.{number_of, lesser, least, least_of}
 

@@ -1,17 +1,16 @@
 -- Lines that say entries with a tree are read.
-use Rattle.std.proofs.Common.{◌≡◌, ◌≢◌, ℕ, zero, suc, ◌+◌, ◌*◌, ◌<◌, ◌≤◌, ◌⊎◌, Bool, true, false, cond, List, [], ◌∷◌, ◌++◌, length, Option, Some, None, Result, Ok, Err, refl, sym, ◌∙◌, ap, subst, append_assoc, arith, inl, inr}
+use Rattle.std.proofs.Common.{◌≡◌, ℕ, Bool, true, false, cond, List, [], ◌∷◌, ◌++◌, length, Some, Result, Ok, Err, refl, sym, ◌∙◌, ap, subst, append_assoc}
 use Rattle.std.specs.Prelude.{⊤, ◌==◌, nat_lt}
 use Rattle.std.proofs.lemmas.List.{append-nil}
 use Rattle.ci_yaml.specs.declared.fault.Code.{Code}
 use Rattle.ci_yaml.specs.declared.fault.Code.TheVariants.{Y3, Y5, Y10}
 use Rattle.ci_yaml.specs.Tree.{Kind, sequence, mapping, Value, text, no_members}
 use Rattle.ci_yaml.specs.Entry.{Head, dash, key, bare, Entry, level_of}
-use Rattle.ci_yaml.specs.Line.{Chomp, Spoken, line_spoken}
-use Rattle.ci_yaml.specs.Reading.{◌>>=◌, push, Frame, level, State, start, whole, inside, settle, value_of, misplaced, with_given, begun, is_repeated, joined, begins, entered, member_next, whole_of, bare_next, next_by, next, run}
-use Rattle.ci_yaml.specs.Document.{Line, Ending, outside, within, ending_of, IsOutside, is_in_block, block_codes, literal, filled, entries_with, last_column, AreBlock, EndsBlock, Says, none, line, block}
-use Rattle.ci_yaml.specs.Least.{lesser, least}
+use Rattle.ci_yaml.specs.Line.{Chomp, line_spoken}
+use Rattle.ci_yaml.specs.Reading.{◌>>=◌, push, Frame, level, State, start, whole, inside, settle, value_of, misplaced, begun, is_repeated, joined, begins, member_next, bare_next, next_by, next, run}
+use Rattle.ci_yaml.specs.Document.{Line, Ending, outside, within, ending_of, IsOutside, block_codes, literal, filled, entries_with, last_column, AreBlock, EndsBlock, Says, none, line, block}
+use Rattle.ci_yaml.specs.Least.{least}
 use Rattle.ci_yaml.specs.ReadLines.{Reader, with_text, stop_or, ending_at, content_by, content, line_by, line_next, read_lines}
-use Rattle.ci_yaml.proofs.Complete.{run-append}
 use Rattle.ci_yaml.proofs.LinesSound.{spoken_entries, spoken_end, NotEmpty, header-fits}
 
 abbrev pub mapped : List ℕ → Result State Code → Result State Code

@@ -1,20 +1,19 @@
 -- What is read of lines stands over entries that the lines say.
-use Rattle.std.proofs.Common.{◌≡◌, ◌≢◌, ℕ, zero, suc, ◌+◌, ◌*◌, ◌<◌, ◌≤◌, ◌⊎◌, Bool, true, false, cond, List, [], ◌∷◌, ◌++◌, length, drop, Option, Some, None, Result, Ok, Err, refl, sym, ◌∙◌, ap, subst, append_assoc, arith, inl, inr}
+use Rattle.std.proofs.Common.{◌≡◌, ℕ, suc, Bool, true, false, cond, List, [], ◌∷◌, ◌++◌, length, drop, Option, Some, None, Result, Ok, Err, refl, sym, ◌∙◌, ap, subst, append_assoc}
 use Rattle.std.specs.Prelude.{⊤}
 use Rattle.std.proofs.lemmas.List.{append-nil}
 use Rattle.ci_yaml.specs.declared.fault.Code.{Code}
 use Rattle.ci_yaml.specs.Tree.{Value, text}
 use Rattle.ci_yaml.specs.Entry.{Entry}
-use Rattle.std.specs.Prelude.{◌==◌, ◌&&◌, ◌||◌}
+use Rattle.std.specs.Prelude.{◌==◌, ◌&&◌}
 use Rattle.ci_yaml.specs.declared.fault.Code.TheVariants.{Y2, Y9}
-use Rattle.ci_yaml.specs.Entry.{dash}
 use Rattle.ci_yaml.specs.Scalar.{trim_end, head_is, tail_of, when}
 use Rattle.ci_yaml.specs.Line.{Chomp, Spoken, line_spoken, Keyed, keyed, keyed_or_bare, is_dash, spaces, Item, inner, value, item, dashed, spoken, content_spoken, with_codes, is_document_mark, is_skipped}
 use Rattle.ci_yaml.specs.Reading.{◌>>=◌, Frame, State, start, whole, inside, run}
-use Rattle.ci_yaml.specs.Document.{Line, Ending, outside, within, ending_of, IsOutside, is_in_block, block_codes, literal, filled, entries_with, last_column, AreBlock, EndsBlock, Says, none, line, block}
-use Rattle.ci_yaml.specs.Least.{lesser, least}
+use Rattle.ci_yaml.specs.Document.{Line, Ending, outside, within, IsOutside, is_in_block, block_codes, literal, filled, entries_with, last_column, AreBlock, EndsBlock, Says, none, line, block}
+use Rattle.ci_yaml.specs.Least.{least}
 use Rattle.ci_yaml.specs.ReadLines.{Reader, with_text, stop_or, ending_at, content_by, content, line_by, line_next, read_lines}
-use Rattle.ci_yaml.proofs.Sound.{Stands, StateStands, run-stands, bind_ok}
+use Rattle.ci_yaml.proofs.Sound.{Stands, StateStands, run-stands}
 
 -- a list of codes without a least one is empty
 pub no_least : (cs : List Code) → least cs ≡ None → cs ≡ []

@@ -1,6 +1,6 @@
 -- What a line says, from what its parts say.
-use Rattle.std.proofs.Common.{◌≡◌, ℕ, zero, suc, ◌+◌, ◌-◌, ◌<◌, ◌≤◌, Bool, true, false, cond, List, [], ◌∷◌, ◌++◌, length, map, take, drop, Option, Some, None, refl, sym, ◌∙◌, ap, subst, append_assoc, arith, length-drop, length-take}
-use Rattle.std.specs.Prelude.{◌==◌, ◌&&◌, ◌||◌, option_map, is_some, nat_lt}
+use Rattle.std.proofs.Common.{◌≡◌, ℕ, suc, ◌+◌, ◌-◌, ◌<◌, ◌≤◌, true, false, cond, List, [], ◌∷◌, ◌++◌, length, map, drop, Option, Some, None, refl, sym, ◌∙◌, ap, append_assoc, arith, length-drop, length-take}
+use Rattle.std.specs.Prelude.{◌==◌, ◌&&◌, ◌||◌, option_map, is_some}
 use Rattle.std.proofs.lemmas.List.{append-nil}
 use Rattle.std.proofs.lemmas.List.Sums.{prefix_len-le-length}
 use Rattle.ci_yaml.specs.declared.fault.Code.{Code}
@@ -10,13 +10,13 @@ use Rattle.ci_yaml.specs.declared.tree.Tree.{Tree}
 use Rattle.ci_yaml.specs.declared.flow.Place as code
 use Rattle.ci_yaml.specs.declared.parts.Entry as parts
 use Rattle.ci_yaml.specs.Reading.{push}
-use Rattle.ci_yaml.specs.Tree.{Value, text, node, sequence, Members, no_members, member}
+use Rattle.ci_yaml.specs.Tree.{Value, text, node, sequence, Members}
 use Rattle.ci_yaml.specs.Least.{least, least_of}
-use Rattle.ci_yaml.specs.Entry.{Entry, Head, dash, key, bare}
+use Rattle.ci_yaml.specs.Entry.{Entry, dash, key, bare}
 use Rattle.ci_yaml.specs.Scalar.{head_is, tail_of, trim_end, trimmed_len, before_comment, is_quote, quoted, when}
 use Rattle.ci_yaml.specs.Line as line
 use Rattle.ci_yaml.specs.Line.{Item, item, spoken, keyed_or_bare, keyed, written, written_at, header_code, is_dash, is_document_mark, content_spoken, line_spoken, is_skipped, has_control, has_mark, spaces, is_space, place, places, after_place}
-use Rattle.ci_yaml.specs.View.{value_view, items_view, entry_view, place_view, end_view, keyed_view, least_keyed, LeastKeyed, LeastWritten, least_written, written_of_list, LeastItem, inner, value, least_item, LeastSpoken, least_spoken, with_entries, least_entry, key_spoken, bare_spoken, with_places, LeastListed, least_listed, LeastPlace, least_place}
+use Rattle.ci_yaml.specs.View.{value_view, items_view, entry_view, place_view, end_view, keyed_view, least_keyed, LeastKeyed, LeastWritten, least_written, written_of_list, inner, value, least_item, LeastSpoken, least_spoken, with_entries, least_entry, key_spoken, bare_spoken, with_places, LeastListed, least_listed, LeastPlace, least_place}
 use Rattle.ci_yaml.proofs.Leasts.{least_append, least_of_none}
 use Rattle.ci_yaml.proofs.Views.{items-push}
 use Rattle.ci_yaml.proofs.Turns.{place-turn, places-end}

@@ -1,12 +1,12 @@
 -- Steps of the code on open nodes.
-use Rattle.std.proofs.Common.{◌≡◌, ℕ, suc, ◌+◌, ◌<◌, ◌≤◌, Bool, true, false, cond, List, [], ◌∷◌, ◌++◌, length, take, drop, get_or, Option, Some, None, Result, Ok, Err, refl, sym, ◌∙◌, ap, subst, arith, add-one, drop-cons}
+use Rattle.std.proofs.Common.{◌≡◌, ℕ, ◌+◌, ◌<◌, ◌≤◌, Bool, true, false, cond, List, [], ◌∷◌, ◌++◌, length, take, drop, get_or, Option, Result, Ok, Err, refl, sym, ◌∙◌, ap, subst, arith, add-one, drop-cons}
 use Rattle.std.specs.Prelude.{nat_lt, ◌==◌}
 use Rattle.std.proofs.lemmas.Bool.{lt-ltb, le-ltb}
 use Rattle.std.proofs.lemmas.List.{take_more, take-append-drop}
 use Rattle.ci_yaml.specs.declared.fault.Code.{Code}
-use Rattle.ci_yaml.specs.declared.fault.Code.TheVariants.{Y3, Y4, Y5, Y10}
+use Rattle.ci_yaml.specs.declared.fault.Code.TheVariants.{Y5, Y10}
 use Rattle.ci_yaml.specs.declared.parts.Frame.{Frame}
-use Rattle.ci_yaml.specs.Tree.{Kind, sequence, mapping, Value, null, boolean, number, text, node, Members}
+use Rattle.ci_yaml.specs.Tree.{Kind, sequence, mapping, Value, Members}
 use Rattle.ci_yaml.specs.Reading as reading
 use Rattle.ci_yaml.specs.Reading.{State, inside, with_given, is_node, is_open_at, misplaced, has_name, same_text, joined, push, level, is_repeated}
 use Rattle.ci_yaml.specs.Entry.{Head, dash, key, Entry, level_of}

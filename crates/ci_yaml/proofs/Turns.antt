@@ -1,14 +1,12 @@
 -- One place after the other, and one dash after the other.
-use Rattle.std.proofs.Common.{◌≡◌, ℕ, suc, ◌+◌, List, [], ◌∷◌, ◌++◌, Option, Some, None, refl, sym, ◌∙◌, ap, append_assoc}
-use Rattle.std.proofs.lemmas.List.{append-nil}
+use Rattle.std.proofs.Common.{◌≡◌, ℕ, suc, List, [], Option, refl, sym, ◌∙◌, ap}
 use Rattle.ci_yaml.specs.declared.fault.Code.{Code}
 use Rattle.ci_yaml.specs.Tree.{Value, Members, no_members, member}
 use Rattle.ci_yaml.specs.Least.{least, least_of}
 use Rattle.ci_yaml.specs.Reading.{push}
-use Rattle.ci_yaml.specs.Entry.{Entry}
-use Rattle.ci_yaml.specs.Line.{End, comma, bracket, missing, Place, place, Listed, with_place, after_place, places}
-use Rattle.ci_yaml.specs.View.{joined, LeastPlace, least_place, LeastListed, least_listed, with_places, LeastSpoken, with_entries}
-use Rattle.ci_yaml.proofs.Leasts.{least_append, least_of_three, least_of_none}
+use Rattle.ci_yaml.specs.Line.{place, Listed, with_place, after_place, places}
+use Rattle.ci_yaml.specs.View.{joined, LeastPlace, least_place, LeastListed, least_listed, with_places}
+use Rattle.ci_yaml.proofs.Leasts.{least_append, least_of_three}
 
 joined-push : (ms : Members) (v : Value) (ns : Members) → joined (push ms [] v) ns ≡ joined ms (member [] v ns)
 joined-push no_members v ns = refl

@@ -1,11 +1,11 @@
 -- A tree of the code, level by level, and lists that grow at their end.
-use Rattle.std.proofs.Common.{◌≡◌, ℕ, Bool, true, false, cond, ◌∙◌, suc, ◌+◌, ◌-◌, ◌<◌, ◌≤◌, length, take, get_or, arith, List, [], ◌∷◌, ◌++◌, Option, Some, None, refl, ap, sym, rules}
+use Rattle.std.proofs.Common.{◌≡◌, ℕ, true, false, cond, ◌∙◌, ◌+◌, ◌-◌, ◌<◌, ◌≤◌, length, take, get_or, arith, List, [], ◌∷◌, ◌++◌, refl, ap, sym, rules}
 use Rattle.std.specs.Global.{Vec}
 use Rattle.std.proofs.lemmas.List.{take_more}
 use Rattle.std.proofs.Math.Seq.{take-length}
-use Rattle.ci_yaml.specs.Tree.{Kind, sequence, mapping, Value, null, boolean, number, text, node, Members, no_members, member}
+use Rattle.ci_yaml.specs.Tree.{sequence, mapping, Value, text, node, member}
 use Rattle.ci_yaml.specs.Reading as reading
-use Rattle.ci_yaml.specs.View.{bytes_of, items_of, pairs_of, value_view, items_view, pairs_view, frame_view, frames_onto, frames_view}
+use Rattle.ci_yaml.specs.View.{bytes_of, value_view, items_view, pairs_view, frame_view, frames_onto, frames_view}
 use Rattle.ci_yaml.specs.declared.tree.Text.{Text}
 use Rattle.ci_yaml.specs.declared.parts.Frame.{Frame}
 use Rattle.ci_yaml.specs.declared.tree.Tree.{Tree, List as ListTree, Map as MapTree, Text as TextTree, the_lemmas}

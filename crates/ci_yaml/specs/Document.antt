@@ -1,15 +1,15 @@
 -- Which tree a text has, and which fault.
-use Rattle.std.specs.Prelude.{◌≡◌, ℕ, suc, ◌+◌, ◌<◌, ◌≤◌, ◌⊎◌, Bool, true, false, List, [], ◌∷◌, ◌++◌, length, take, drop, Option, Some, None, unwrap_or, not, nat_lt, nat_le, ◌==◌, ◌&&◌, ◌||◌, if◌then◌else◌, IsTrue, Contains, ⊤}
+use Rattle.std.specs.Prelude.{◌≡◌, ℕ, suc, ◌+◌, ◌<◌, ◌≤◌, Bool, true, false, List, [], ◌∷◌, ◌++◌, length, take, drop, Option, Some, None, unwrap_or, not, nat_lt, ◌==◌, ◌&&◌, ◌||◌, if◌then◌else◌, Contains, ⊤}
 use Rattle.std.specs.Str.Lines.{lines}
 use Rattle.ci_yaml.specs.declared.fault.Code.{Code}
-use Rattle.ci_yaml.specs.declared.fault.Code.TheVariants.{Y1, Y2, Y3, Y4, Y5, Y6, Y7, Y8, Y9, Y10, Y11, Y12}
+use Rattle.ci_yaml.specs.declared.fault.Code.TheVariants.{Y1, Y3, Y4, Y5, Y9, Y10, Y12}
 use Rattle.std.specs.List.{list_all}
 use Rattle.ci_yaml.specs.Least.{number_of}
 use Rattle.ci_yaml.specs.Tree.{Value, text}
 use Rattle.ci_yaml.specs.Entry.{Entry}
 use Rattle.ci_yaml.specs.Node.{IsDocument}
 use Rattle.ci_yaml.specs.Scalar.{when}
-use Rattle.ci_yaml.specs.Line.{is_space, Chomp, clip, strip, keep, Spoken, spaces, has_mark, line_spoken}
+use Rattle.ci_yaml.specs.Line.{is_space, Chomp, clip, strip, keep, spaces, has_mark, line_spoken}
 use Rattle.ci_yaml.specs.Codes.{holds_Y3, holds_Y4, holds_Y5, holds_Y10}
 
 abbrev pub Line : Type 0

@@ -1,11 +1,11 @@
 -- What one line says: its entries, and the codes that hold of it by itself.
-use Rattle.std.specs.Prelude.{◌≡◌, ℕ, zero, suc, ◌+◌, Bool, true, false, List, [], ◌∷◌, ◌++◌, length, take, drop, Option, Some, None, is_some, nat_lt, nat_le, not, ◌==◌, ◌&&◌, ◌||◌, if◌then◌else◌, codes}
+use Rattle.std.specs.Prelude.{ℕ, zero, suc, ◌+◌, Bool, false, List, [], ◌∷◌, ◌++◌, length, take, drop, Option, Some, None, is_some, nat_lt, not, ◌==◌, ◌&&◌, ◌||◌, if◌then◌else◌}
 use Rattle.std.specs.List.{list_any, prefix_len}
 use Rattle.ci_yaml.specs.declared.fault.Code.{Code}
 use Rattle.ci_yaml.specs.declared.fault.Code.TheVariants.{Y2, Y6, Y7, Y8, Y9, Y11}
-use Rattle.ci_yaml.specs.Tree.{Kind, sequence, mapping, Value, null, boolean, number, text, node, Members, no_members, member}
+use Rattle.ci_yaml.specs.Tree.{sequence, Value, null, text, node, Members, no_members, member}
 use Rattle.ci_yaml.specs.Entry.{Head, dash, key, bare, Entry}
-use Rattle.ci_yaml.specs.Scalar.{is_blank, drop_blanks, is_nil, trim_end, space_next, head_is, tail_of, before_comment, only_comment, has_tab_after, is_forbidden, has_colon, is_digit, plain_value, plain_codes, when, Quoted, quoted, is_quote}
+use Rattle.ci_yaml.specs.Scalar.{drop_blanks, is_nil, trim_end, space_next, head_is, tail_of, before_comment, only_comment, has_tab_after, is_forbidden, is_digit, plain_value, plain_codes, when, Quoted, quoted, is_quote}
 
 -- ---- lists on one line
 

@@ -1,9 +1,8 @@
 -- Reading lines one after the other.
-use Rattle.std.specs.Prelude.{◌≡◌, ℕ, Bool, true, false, List, [], ◌∷◌, ◌++◌, Option, Some, None, Result, Ok, Err, nat_le, if◌then◌else◌}
+use Rattle.std.specs.Prelude.{ℕ, List, [], ◌∷◌, ◌++◌, Option, Some, None, Result, Ok, Err, if◌then◌else◌}
 use Rattle.ci_yaml.specs.declared.fault.Code.{Code}
 use Rattle.ci_yaml.specs.Least.{lesser, least}
-use Rattle.ci_yaml.specs.Tree.{Value, text}
-use Rattle.ci_yaml.specs.Entry.{Entry}
+use Rattle.ci_yaml.specs.Tree.{text}
 use Rattle.ci_yaml.specs.Line.{Chomp, Spoken, line_spoken}
 use Rattle.ci_yaml.specs.Reading.{◌>>=◌, State, start, whole, inside, run}
 use Rattle.ci_yaml.specs.Document.{Line, Ending, outside, within, is_in_block, block_codes, literal, entries_with, last_column}

@@ -1,6 +1,5 @@
 -- A tree of the code, without where it lies in memory.
-use Rattle.std.specs.Prelude.{◌≡◌, ◌≤◌, ◌||◌, ◌+◌, ℕ, Bool, true, false, List, [], ◌∷◌, ◌++◌, length, Option, Some, None, Result, Ok, Err, map, option_map, string_bytes, ⊤}
-use Rattle.std.specs.Global.{Vec}
+use Rattle.std.specs.Prelude.{◌≡◌, ◌≤◌, ◌||◌, ◌+◌, ℕ, Bool, List, [], ◌∷◌, ◌++◌, length, Option, Some, None, Result, Ok, Err, map, option_map, string_bytes, ⊤}
 use Rattle.ci_yaml.specs.declared.tree.Text.{Text}
 use Rattle.ci_yaml.specs.declared.tree.Text.TheVariants.{Lent, Owned}
 use Rattle.ci_yaml.specs.declared.tree.Span.{Span}

@@ -1,4 +1,4 @@
-use Rattle.std.proofs.Common.{◌≡◌, ◌∙◌, ap, sym, arith, Some}
+use Rattle.std.proofs.Common.{◌∙◌, ap, sym, arith}
 use Rattle.std.specs.Prelude.{unwrap_or}
 use Rattle.ci_yaml.specs.Line.{spaces}
 use Rattle.ci_yaml.proofs.BlockLines.{indent-here, indent-next, indent-past}

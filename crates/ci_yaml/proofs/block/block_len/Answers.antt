@@ -1,6 +1,4 @@
-use Rattle.std.proofs.Common.{◌≡◌, ◌∙◌, ap, sym, arith, true, None}
-use Rattle.ci_yaml.specs.Document.{is_in_block, indent_codes, more_indent}
-use Rattle.ci_yaml.specs.Least.{least}
+use Rattle.std.proofs.Common.{◌∙◌, sym, arith}
 use Rattle.ci_yaml.proofs.BlockLines.{indent-more, block-more}
 use Rattle.ci_yaml.proofs.block.block_len.Goals as goal
 

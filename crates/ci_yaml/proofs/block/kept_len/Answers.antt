@@ -1,4 +1,4 @@
-use Rattle.std.proofs.Common.{◌∙◌, sym, rules, arith}
+use Rattle.std.proofs.Common.{◌∙◌, sym, rules}
 use Rattle.ci_yaml.proofs.BlockLines.{kept-front, kept-whole}
 use Rattle.ci_yaml.proofs.block.kept_len.Goals as goal
 

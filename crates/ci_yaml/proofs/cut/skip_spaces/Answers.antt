@@ -1,4 +1,4 @@
-use Rattle.std.proofs.Common.{◌≡◌, ◌≤◌, ◌∙◌, ap, arith}
+use Rattle.std.proofs.Common.{◌≡◌, ◌∙◌, ap, arith}
 use Rattle.ci_yaml.specs.Line.{spaces}
 use Rattle.ci_yaml.proofs.Cuts.{spaces-inside}
 use Rattle.ci_yaml.proofs.cut.skip_spaces.Goals as goal

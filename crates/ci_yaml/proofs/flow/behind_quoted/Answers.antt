@@ -1,4 +1,4 @@
-use Rattle.std.proofs.Common.{◌≡◌, ◌∙◌, ap, not, ◌++◌}
+use Rattle.std.proofs.Common.{◌∙◌, ap, not, ◌++◌}
 use Rattle.ci_yaml.specs.declared.fault.Code.TheVariants.{Y7, Y9, Y11}
 use Rattle.ci_yaml.specs.Scalar.{when, is_nil, drop_blanks, has_tab_after}
 use Rattle.ci_yaml.specs.Least.{least}

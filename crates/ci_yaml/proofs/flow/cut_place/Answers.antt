@@ -1,4 +1,4 @@
-use Rattle.std.proofs.Common.{◌≡◌, ◌∙◌, ap, sym, subst}
+use Rattle.std.proofs.Common.{◌∙◌, ap, sym, subst}
 use Rattle.std.specs.Str.{IsCharBoundary}
 use Rattle.ci_yaml.specs.Line.{place_len}
 use Rattle.ci_yaml.proofs.Cuts.{place-boundary}

@@ -1,4 +1,4 @@
-use Rattle.std.proofs.Common.{◌≡◌, ◌∙◌, ap}
+use Rattle.std.proofs.Common.{◌∙◌, ap}
 use Rattle.std.specs.Prelude.{◌||◌}
 use Rattle.ci_yaml.specs.declared.fault.Code.TheVariants.{Y9, Y11}
 use Rattle.ci_yaml.specs.Scalar.{when, is_forbidden, has_tab_after, has_colon}

@@ -1,9 +1,8 @@
-use Rattle.ci_yaml.specs.Entry.{Entry}
-use Rattle.std.proofs.Common.{◌≡◌, List, ◌∙◌, ap, sym, subst, map, suc, length, rules, arith, true, false, ◌+◌, ◌≤◌, None}
+use Rattle.std.proofs.Common.{◌≡◌, ◌∙◌, ap, sym, subst, map, length, rules, arith, true, false, ◌+◌, ◌≤◌, None}
 use Rattle.std.specs.Prelude.{IfOk}
 use Rattle.ci_yaml.specs.declared.parts.Head.TheVariants.{Dash}
-use Rattle.ci_yaml.specs.Line.{is_dash, spoken}
-use Rattle.ci_yaml.specs.View.{entry_view, written_view, item_view, LeastSpoken, spoken_view, least_spoken, with_entries, ColumnsFit}
+use Rattle.ci_yaml.specs.Line.{is_dash}
+use Rattle.ci_yaml.specs.View.{entry_view, written_view, item_view, LeastSpoken, spoken_view, ColumnsFit}
 use Rattle.ci_yaml.proofs.Said.{stop-turn, value-turn, inner-turn, end-turn, entries-push, start-turn, dash-longer, added}
 use Rattle.ci_yaml.proofs.line.spoken.Goals as goal
 

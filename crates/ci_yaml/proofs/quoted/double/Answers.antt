@@ -1,4 +1,4 @@
-use Rattle.std.proofs.Common.{◌≡◌, ◌∙◌, sym}
+use Rattle.std.proofs.Common.{sym}
 use Rattle.ci_yaml.proofs.Quotes.{double-closed}
 use Rattle.ci_yaml.proofs.quoted.double.Goals as goal
 

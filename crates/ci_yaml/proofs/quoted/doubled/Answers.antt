@@ -1,4 +1,4 @@
-use Rattle.std.proofs.Common.{◌≡◌, ◌∙◌, ap, sym, rules, string_bytes}
+use Rattle.std.proofs.Common.{◌∙◌, ap, sym, rules, string_bytes}
 use Rattle.ci_yaml.specs.Scalar.{head_is}
 use Rattle.ci_yaml.proofs.Quotes.{doubled-turn}
 use Rattle.ci_yaml.proofs.quoted.doubled.Goals as goal

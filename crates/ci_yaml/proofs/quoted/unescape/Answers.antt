@@ -1,4 +1,4 @@
-use Rattle.std.proofs.Common.{◌≡◌, ◌∙◌, ap, sym, Some, None, string_bytes, ◌++◌}
+use Rattle.std.proofs.Common.{◌≡◌, Some, None, string_bytes}
 use Rattle.ci_yaml.specs.Scalar.{escape_of}
 use Rattle.ci_yaml.proofs.Quotes.{unescaped, misused}
 use Rattle.ci_yaml.proofs.quoted.unescape.Goals as goal

@@ -1,4 +1,4 @@
-use Rattle.std.proofs.Common.{◌≡◌, ◌∙◌, sym}
+use Rattle.std.proofs.Common.{◌∙◌, sym}
 use Rattle.ci_yaml.proofs.Cuts.{trimmed-front, trimmed-whole}
 use Rattle.ci_yaml.proofs.scan.trimmed_len.Goals as goal
 

@@ -1,4 +1,4 @@
-use Rattle.std.proofs.Common.{◌≡◌, ◌∙◌, ap}
+use Rattle.std.proofs.Common.{◌∙◌, ap}
 use Rattle.ci_yaml.specs.declared.fault.Code.TheVariants.{Y7}
 use Rattle.ci_yaml.specs.Scalar.{when}
 use Rattle.ci_yaml.specs.Line.{not_comment}

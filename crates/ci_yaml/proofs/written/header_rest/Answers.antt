@@ -1,11 +1,10 @@
-use Rattle.std.proofs.Common.{◌≡◌, ◌∙◌, ap, Option, Some}
-use Rattle.ci_yaml.specs.declared.fault.Code.{Code}
+use Rattle.std.proofs.Common.{◌∙◌, ap}
 use Rattle.ci_yaml.specs.declared.fault.Code.TheVariants.{Y9}
 use Rattle.ci_yaml.specs.Tree.{Value}
 use Rattle.ci_yaml.specs.Scalar.{when}
 use Rattle.ci_yaml.specs.Least.{least}
 use Rattle.ci_yaml.specs.Line.{digit_next, not_comment}
-use Rattle.ci_yaml.specs.View.{LeastWritten, chomp_view}
+use Rattle.ci_yaml.specs.View.{chomp_view}
 use Rattle.ci_yaml.proofs.Leasts.{least_two}
 use Rattle.ci_yaml.proofs.Said.{headed, headed_with}
 use Rattle.ci_yaml.proofs.written.header_rest.Goals as goal
