@@ -1,6 +1,8 @@
 //! Reading a text.
 
-ghost use Rattle.std.specs.Prelude.{◌≡◌, ◌≤◌, IfOk, map, length};
+ghost use Rattle.std.specs.Prelude.{◌≡◌, ◌<◌, ◌≤◌, IfOk, Err, length};
+ghost use Rattle.ci_yaml.specs.declared.fault.Code.TheVariants.{Y1};
+ghost use Rattle.ci_yaml.specs.declared.fault.YamlFault.TheVariants.{Fault};
 
 use crate::block::{BlockFault, block_len, literal};
 use crate::entries::{enter_all, finish};
@@ -121,7 +123,10 @@ fn read_lines<'a>(alloc: Global, lines: &[&'a str]) -> Result<Progress<'a>, Yaml
 ///
 /// Errors: the code that holds of the first line that cannot follow the lines before it, the least of those that
 /// hold there; or memory was refused.
-pub fn read(alloc: Global, text: &str) -> Result<Tree<'_>, YamlFault> {
+pub fn read(alloc: Global, text: &str) -> Result<Tree<'_>, YamlFault>
+    // A text that is too long is refused before all else.
+    ensures too_long { 65536 < length text.now → result ≡ Err (Fault Y1 1) }
+{
     if TEXT_LIMIT < text.len() {
         return Err(YamlFault::Fault(Code::Y1, 1));
     }
