@@ -1,0 +1,154 @@
+-- The lines of a block, one after the other.
+use Rattle.std.proofs.Common.{◌≡◌, ℕ, zero, suc, ◌+◌, ◌-◌, ◌<◌, ◌≤◌, Bool, true, false, cond, List, [], ◌∷◌, ◌++◌, length, take, drop, get_or, Option, Some, None, refl, sym, ◌∙◌, ap, subst, append_assoc, arith, add-one, drop-cons}
+use denote.Bor.{Bor}
+use Rattle.std.proofs.lemmas.List.{take_more, append-nil, length-drop, nil_from_length}
+use Rattle.std.proofs.Math.Seq.{take-length}
+use Rattle.ci_yaml.specs.Line.{spaces}
+use Rattle.ci_yaml.specs.Document.{Line, is_spaces, is_in_block, first_indent, more_indent, indent_codes, block_codes, kept_len, without_end, AreBlock, EndsBlock}
+use Rattle.ci_yaml.specs.Blocks.{texts_of, cut_text, cut_lines, cut_strip, StopsBlock}
+use Rattle.ci_yaml.specs.declared.fault.Code.{Code}
+use Rattle.ci_yaml.specs.Least.{least}
+use Rattle.ci_yaml.proofs.LinesSound.{no_least}
+use Rattle.ci_yaml.proofs.Opened.{eq-false}
+use Rattle.std.specs.Prelude.{◌==◌, ◌&&◌, IfOk, Result, Ok, Err}
+
+texts-push : (xs : List (Bor (List ℕ))) (x : Bor (List ℕ)) → texts_of (xs ++ x ∷ []) ≡ texts_of xs ++ x.now ∷ []
+texts-push [] x = refl
+texts-push (y ∷ xs) x = ap (λ (ls : List Line). y.now ∷ ls) (texts-push xs x)
+
+length-texts : (xs : List (Bor (List ℕ))) → length (texts_of xs) ≡ length xs
+length-texts [] = refl
+length-texts (x ∷ xs) = ap suc (length-texts xs)
+
+-- the lines from a place on
+pub texts-next : (xs : List (Bor (List ℕ))) (i : ℕ) (d : Bor (List ℕ)) (l : Line) → i < length xs → l ≡ (get_or xs i d).now → texts_of (drop i xs) ≡ l ∷ texts_of (drop (i + 1) xs)
+texts-next xs i d l lt is = ap texts_of (next xs i d lt) ∙ ap (λ (m : Line). m ∷ texts_of (drop (i + 1) xs)) (sym is)
+  where
+    next : (ys : List (Bor (List ℕ))) (k : ℕ) (d : Bor (List ℕ)) → k < length ys → drop k ys ≡ get_or ys k d ∷ drop (k + 1) ys
+    next ys k d lt = rw (add-one, drop-cons ys k d) refl
+
+pub texts-past : (xs : List (Bor (List ℕ))) (i : ℕ) → length xs ≤ i → texts_of (drop i xs) ≡ []
+texts-past xs i le = ap texts_of (nil_from_length (drop i xs) (omega (arith, length-drop i xs)))
+
+kept-more : (ls : List Line) (l : Line) → is_spaces l ≡ true → kept_len (ls ++ l ∷ []) ≡ kept_len ls
+kept-more [] l e = ap (λ t. cond t 0 1) e
+kept-more (m ∷ ls) l e = ap (λ n. cond ((n == 0) && is_spaces m) 0 (1 + n)) (kept-more ls l e)
+
+full : (n : ℕ) (l : Line) → 0 < n → cond ((n == 0) && is_spaces l) 0 (1 + n) ≡ suc n
+full n l lt = let some : n ≡ 0 → ⊥ = (λ e. absurd (omega (arith, e))) in ap (λ t. cond (t && is_spaces l) 0 (1 + n)) (eq-false n 0 some) ∙ add n
+  where
+    add : (m : ℕ) → 1 + m ≡ suc m
+    add m = omega arith
+
+push-some : (ls : List Line) (l : Line) → 0 < length (ls ++ l ∷ [])
+push-some [] l = omega arith
+push-some (m ∷ ls) l = omega arith
+
+kept-all : (ls : List Line) (l : Line) → is_spaces l ≡ false → kept_len (ls ++ l ∷ []) ≡ length (ls ++ l ∷ [])
+kept-all [] l e = ap (λ t. cond t 0 1) e
+kept-all (m ∷ ls) l e = ap (λ n. cond ((n == 0) && is_spaces m) 0 (1 + n)) (kept-all ls l e) ∙ full (length (ls ++ l ∷ [])) m (push-some ls l)
+
+parted : (xs : List (Bor (List ℕ))) (d : Bor (List ℕ)) → 1 ≤ length xs → xs ≡ take (length xs - 1) xs ++ get_or xs (length xs - 1) d ∷ []
+parted xs d le =
+    let less : length xs - 1 < length xs = omega arith in
+    let all : length xs - 1 + 1 ≡ length xs = omega arith in
+    sym (take-length xs) ∙ ap (λ n. take n xs) (sym all) ∙ take_more xs (length xs - 1) d less
+
+texts-parted : (xs : List (Bor (List ℕ))) (d : Bor (List ℕ)) (l : Line) → 1 ≤ length xs → l ≡ (get_or xs (length xs - 1) d).now → texts_of xs ≡ texts_of (take (length xs - 1) xs) ++ l ∷ []
+texts-parted xs d l le is =
+    ap texts_of (parted xs d le) ∙ texts-push (take (length xs - 1) xs) (get_or xs (length xs - 1) d) ∙ ap (λ (m : Line). texts_of (take (length xs - 1) xs) ++ m ∷ []) (sym is)
+
+pub kept-front : (xs : List (Bor (List ℕ))) (d : Bor (List ℕ)) (l : Line) → 1 ≤ length xs → l ≡ (get_or xs (length xs - 1) d).now → is_spaces l ≡ true → kept_len (texts_of (take (length xs - 1) xs)) ≡ kept_len (texts_of xs)
+kept-front xs d l le is e = sym (ap kept_len (texts-parted xs d l le is) ∙ kept-more (texts_of (take (length xs - 1) xs)) l e)
+
+pub kept-whole : (xs : List (Bor (List ℕ))) (d : Bor (List ℕ)) (l : Line) → 1 ≤ length xs → l ≡ (get_or xs (length xs - 1) d).now → is_spaces l ≡ false → length xs ≡ kept_len (texts_of xs)
+kept-whole xs d l le is e =
+    sym (ap kept_len (texts-parted xs d l le is) ∙ kept-all (texts_of (take (length xs - 1) xs)) l e ∙ ap length (sym (texts-parted xs d l le is)) ∙ length-texts xs)
+
+-- ---- steps of the loops
+
+pub indent-here : (xs : List (Bor (List ℕ))) (i : ℕ) (d : Bor (List ℕ)) (l : Line) → i < length xs → l ≡ (get_or xs i d).now → is_spaces l ≡ false → first_indent (texts_of (drop i xs)) ≡ Some (spaces l)
+indent-here xs i d l lt is e = ap first_indent (texts-next xs i d l lt is) ∙ ap (λ t. cond t (first_indent (texts_of (drop (i + 1) xs))) (Some (spaces l))) e
+
+pub indent-next : (xs : List (Bor (List ℕ))) (i : ℕ) (d : Bor (List ℕ)) (l : Line) → i < length xs → l ≡ (get_or xs i d).now → is_spaces l ≡ true → first_indent (texts_of (drop (i + 1) xs)) ≡ first_indent (texts_of (drop i xs))
+indent-next xs i d l lt is e = sym (ap first_indent (texts-next xs i d l lt is) ∙ ap (λ t. cond t (first_indent (texts_of (drop (i + 1) xs))) (Some (spaces l))) e)
+
+pub indent-past : (xs : List (Bor (List ℕ))) (i : ℕ) → length xs ≤ i → first_indent (texts_of (drop i xs)) ≡ None
+indent-past xs i le = ap first_indent (texts-past xs i le)
+
+pub push-next : (n : ℕ) (xs : List (Bor (List ℕ))) (i : ℕ) (d : Bor (List ℕ)) (a b e : List ℕ) → i < length xs → b ≡ a ++ cut_text n (get_or xs i d).now → e ≡ b ++ 10 ∷ []
+    → e ++ cut_lines n (texts_of (drop (i + 1) xs)) ≡ a ++ cut_lines n (texts_of (drop i xs))
+push-next n xs i d a b e lt b-is e-is =
+    let l : Line = (get_or xs i d).now in
+    let rest : List ℕ = cut_lines n (texts_of (drop (i + 1) xs)) in
+    ap (λ (y : List ℕ). y ++ rest) (e-is ∙ ap (λ (y : List ℕ). y ++ 10 ∷ []) b-is)
+    ∙ append_assoc (a ++ cut_text n l) (10 ∷ []) rest ∙ append_assoc a (cut_text n l) (10 ∷ rest)
+    ∙ ap (λ (ls : List Line). a ++ cut_lines n ls) (sym (texts-next xs i d l lt refl))
+
+pub push-past : (n : ℕ) (xs : List (Bor (List ℕ))) (i : ℕ) (a : List ℕ) → length xs ≤ i → a ≡ a ++ cut_lines n (texts_of (drop i xs))
+push-past n xs i a le = sym (ap (λ (ls : List Line). a ++ cut_lines n ls) (texts-past xs i le) ∙ append-nil a)
+
+-- ---- a block's text
+
+strip-push : (n : ℕ) (ls : List Line) (l : Line) → cut_strip n (ls ++ l ∷ []) ≡ cut_lines n ls ++ cut_text n l
+strip-push n [] l = refl
+strip-push n (m ∷ []) l = sym (append_assoc (cut_text n m) (10 ∷ []) (cut_text n l))
+strip-push n (m ∷ k ∷ ls) l =
+    ap (λ (x : List ℕ). cut_text n m ++ 10 ∷ x) (strip-push n (k ∷ ls) l) ∙ sym (append_assoc (cut_text n m) (10 ∷ cut_lines n (k ∷ ls)) (cut_text n l))
+
+pub strip-parts : (n : ℕ) (xs : List (Bor (List ℕ))) (d : Bor (List ℕ)) (a b e : List ℕ) → 1 ≤ length xs → b ≡ a ++ cut_lines n (texts_of (take (length xs - 1) xs)) → e ≡ b ++ cut_text n (get_or xs (length xs - 1) d).now
+    → e ≡ a ++ cut_strip n (texts_of xs)
+strip-parts n xs d a b e le b-is e-is =
+    let front : List Line = texts_of (take (length xs - 1) xs) in
+    let l : Line = (get_or xs (length xs - 1) d).now in
+    e-is ∙ ap (λ (x : List ℕ). x ++ cut_text n l) b-is ∙ append_assoc a (cut_lines n front) (cut_text n l) ∙ ap (λ (x : List ℕ). a ++ x) (sym (strip-push n front l))
+    ∙ ap (λ (ls : List Line). a ++ cut_strip n ls) (sym (texts-parted xs d l le refl))
+
+pub texts-take : (n : ℕ) (xs : List (Bor (List ℕ))) → texts_of (take n xs) ≡ take n (texts_of xs)
+texts-take zero xs = refl
+texts-take (suc n) [] = refl
+texts-take (suc n) (x ∷ xs) = ap (λ (ls : List Line). x.now ∷ ls) (texts-take n xs)
+
+pub texts-front : (n : ℕ) (xs : List (Bor (List ℕ))) → n ≡ kept_len (texts_of xs) → texts_of (take n xs) ≡ without_end (texts_of xs)
+texts-front n xs e = texts-take n xs ∙ ap (λ (k : ℕ). take k (texts_of xs)) e
+
+-- ---- the block's lines, one more
+
+indent-by : (t : Bool) (ls : List Line) (m l : Line) → first_indent (ls ++ l ∷ []) ≡ more_indent (first_indent ls) l
+    → cond t (first_indent (ls ++ l ∷ [])) (Some (spaces m)) ≡ more_indent (cond t (first_indent ls) (Some (spaces m))) l
+indent-by true ls m l ih = ih
+indent-by false ls m l ih = refl
+
+indent-push : (ls : List Line) (l : Line) → first_indent (ls ++ l ∷ []) ≡ more_indent (first_indent ls) l
+indent-push [] l = refl
+indent-push (m ∷ ls) l = indent-by (is_spaces m) ls m l (indent-push ls l)
+
+texts-more : (xs : List (Bor (List ℕ))) (i : ℕ) (d : Bor (List ℕ)) (l : Line) → i < length xs → l ≡ (get_or xs i d).now → texts_of (take (i + 1) xs) ≡ texts_of (take i xs) ++ l ∷ []
+texts-more xs i d l lt is = ap texts_of (take_more xs i d lt) ∙ texts-push (take i xs) (get_or xs i d) ∙ ap (λ (m : Line). texts_of (take i xs) ++ m ∷ []) (sym is)
+
+pub indent-more : (xs : List (Bor (List ℕ))) (i : ℕ) (d : Bor (List ℕ)) (l : Line) (o p : Option ℕ) → i < length xs → l ≡ (get_or xs i d).now → o ≡ first_indent (texts_of (take i xs)) → p ≡ more_indent o l → p ≡ first_indent (texts_of (take (i + 1) xs))
+indent-more xs i d l o p lt is o-is p-is =
+    p-is ∙ ap (λ x. more_indent x l) o-is ∙ sym (indent-push (texts_of (take i xs)) l) ∙ ap first_indent (sym (texts-more xs i d l lt is))
+
+are-more : (c : ℕ) (before ls : List Line) (l : Line) → AreBlock c before ls → is_in_block c l ≡ true → block_codes (before ++ ls) l ≡ [] → AreBlock c before (ls ++ l ∷ [])
+are-more c before [] l are inside_it clean = (inside_it, subst (λ (b : List Line). block_codes b l ≡ []) (append-nil before) clean, tt)
+are-more c before (m ∷ ls) l are inside_it clean =
+    (are.0, are.1, are-more c (before ++ m ∷ []) ls l are.2 inside_it (subst (λ (b : List Line). block_codes b l ≡ []) (sym (append_assoc before (m ∷ []) ls)) clean))
+
+pub block-more : (c : ℕ) (xs : List (Bor (List ℕ))) (i : ℕ) (d : Bor (List ℕ)) (l : Line) (o : Option ℕ) → i < length xs → l ≡ (get_or xs i d).now → o ≡ first_indent (texts_of (take i xs))
+    → AreBlock c [] (texts_of (take i xs)) → is_in_block c l ≡ true → least (indent_codes o l) ≡ None → AreBlock c [] (texts_of (take (i + 1) xs))
+block-more c xs i d l o lt is o-is are inside_it clean =
+    subst (AreBlock c []) (sym (texts-more xs i d l lt is))
+    (are-more c [] (texts_of (take i xs)) l are inside_it (no_least (block_codes (texts_of (take i xs)) l) (ap (λ x. least (indent_codes x l)) (sym o-is) ∙ clean)))
+
+pub block-ends : (c : ℕ) (xs : List (Bor (List ℕ))) (i : ℕ) (d : Bor (List ℕ)) (l : Line) → i < length xs → l ≡ (get_or xs i d).now → is_in_block c l ≡ false → EndsBlock c (texts_of (drop i xs))
+block-ends c xs i d l lt is e = subst (EndsBlock c) (sym (texts-next xs i d l lt is)) e
+
+pub block-stops : (c : ℕ) (xs : List (Bor (List ℕ))) (i : ℕ) (d : Bor (List ℕ)) (l : Line) (o : Option ℕ) (code : Code) → i < length xs → l ≡ (get_or xs i d).now → o ≡ first_indent (texts_of (take i xs))
+    → is_in_block c l ≡ true → least (indent_codes o l) ≡ Some code → StopsBlock c (texts_of (take i xs)) (texts_of (drop i xs)) code
+block-stops c xs i d l o code lt is o-is inside_it e =
+    subst (λ (ls : List Line). StopsBlock c (texts_of (take i xs)) ls code) (sym (texts-next xs i d l lt is)) (inside_it, ap (λ x. least (indent_codes x l)) (sym o-is) ∙ e)
+
+pub ok-map : {X E : Type 0} (r : Result X E) (P Q : Type 0) → (P → Q) → IfOk r (λ x. P) → IfOk r (λ x. Q)
+ok-map (Ok x) P Q f h = f h
+ok-map (Err e) P Q f h = tt

@@ -1,0 +1,17 @@
+pub mod Sound
+pub mod Complete
+pub mod Views
+pub mod Opened
+pub mod Faults
+pub mod Counts
+pub mod LinesSound
+pub mod LinesComplete
+pub mod Trees
+pub mod Steps
+pub mod EntriesTree
+pub mod Cuts
+pub mod Leasts
+pub mod Quotes
+pub mod Turns
+pub mod Said
+pub mod BlockLines

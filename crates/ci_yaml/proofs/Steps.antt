@@ -1,0 +1,163 @@
+-- Steps of the code on open nodes.
+use Rattle.std.proofs.Common.{◌≡◌, ℕ, ◌+◌, ◌<◌, ◌≤◌, Bool, true, false, cond, List, [], ◌∷◌, ◌++◌, length, take, drop, get_or, Option, Result, Ok, Err, refl, sym, ◌∙◌, ap, subst, arith, add-one, drop-cons}
+use Rattle.std.specs.Prelude.{nat_lt, ◌==◌}
+use Rattle.std.proofs.lemmas.Bool.{lt-ltb, le-ltb}
+use Rattle.std.proofs.lemmas.List.{take_more, take-append-drop}
+use Rattle.ci_yaml.specs.declared.fault.Code.{Code}
+use Rattle.ci_yaml.specs.declared.fault.Code.TheVariants.{Y5, Y10}
+use Rattle.ci_yaml.specs.declared.parts.Frame.{Frame}
+use Rattle.ci_yaml.specs.Tree.{Kind, sequence, mapping, Value, Members}
+use Rattle.ci_yaml.specs.Reading as reading
+use Rattle.ci_yaml.specs.Reading.{State, inside, with_given, is_node, is_open_at, misplaced, has_name, same_text, joined, push, level, is_repeated}
+use Rattle.ci_yaml.specs.Entry.{Head, dash, key, Entry, level_of}
+use Rattle.std.specs.Global.{Vec}
+use Rattle.ci_yaml.specs.declared.parts.Open.{Open}
+use Rattle.ci_yaml.specs.declared.parts.Open.TheVariants.{Items, Pairs}
+use Rattle.ci_yaml.specs.declared.tree.Text.{Text}
+use Rattle.ci_yaml.specs.declared.tree.Tree.{Tree}
+use Rattle.ci_yaml.proofs.Sound.{same_level}
+use Rattle.ci_yaml.specs.View.{bytes_of, items_view, pairs_view, open_kind, open_done, open_name, frame_view, frames_onto, frames_view, Gives}
+use Rattle.ci_yaml.specs.declared.fault.Stop.{Stop}
+use Rattle.ci_yaml.proofs.Opened.{eq-true, eq-false}
+use Rattle.ci_yaml.proofs.Views.{frames-push}
+
+onto-length : (fs : List Frame) (gs : List reading.Frame) → length (frames_onto fs gs) ≡ length fs + length gs
+onto-length [] gs = omega arith
+onto-length (f ∷ fs) gs = omega (arith, onto-length fs (frame_view f ∷ gs))
+
+pub frames-length : (fs : List Frame) → length (frames_view fs) ≡ length fs
+frames-length fs = omega (arith, onto-length fs [])
+
+pub with-flat : (fs : List reading.Frame) (g : Option Value) → is_node g ≡ false → with_given fs g ≡ Ok (inside fs g)
+with-flat fs g e = ap (λ b. cond b (cond (nat_lt (length fs) 10) (Ok (inside fs g)) (Err Y10)) (Ok (inside fs g))) e
+
+pub with-deep : (fs : List reading.Frame) (g : Option Value) → is_node g ≡ true → 10 ≤ length fs → with_given fs g ≡ Err Y10
+with-deep fs g e le =
+    ap (λ b. cond b (cond (nat_lt (length fs) 10) (Ok (inside fs g)) (Err Y10)) (Ok (inside fs g))) e
+    ∙ ap (λ b. cond b (Ok (inside fs g)) (Err Y10)) (le-ltb _ _ le)
+
+pub with-room : (fs : List reading.Frame) (g : Option Value) → is_node g ≡ true → length fs < 10 → with_given fs g ≡ Ok (inside fs g)
+with-room fs g e lt =
+    ap (λ b. cond b (cond (nat_lt (length fs) 10) (Ok (inside fs g)) (Err Y10)) (Ok (inside fs g))) e
+    ∙ ap (λ b. cond b (Ok (inside fs g)) (Err Y10)) (lt-ltb _ _ lt)
+
+-- ---- a node in a column
+
+or-true : (b : Bool) → cond b true true ≡ true
+or-true true = refl
+or-true false = refl
+
+onto-open : (c : ℕ) (fs : List Frame) (gs : List reading.Frame) → is_open_at c gs ≡ true → is_open_at c (frames_onto fs gs) ≡ true
+onto-open c [] gs h = h
+onto-open c (f ∷ fs) gs h = onto-open c fs (frame_view f ∷ gs) (ap (cond ((frame_view f).column == c) true) h ∙ or-true ((frame_view f).column == c))
+
+onto-append : (a b : List Frame) (gs : List reading.Frame) → frames_onto (a ++ b) gs ≡ frames_onto b (frames_onto a gs)
+onto-append [] b gs = refl
+onto-append (f ∷ a) b gs = onto-append a b (frame_view f ∷ gs)
+
+next-frame : (fs : List Frame) (i : ℕ) (d : Frame) → i < length fs → drop i fs ≡ get_or fs i d ∷ drop (i + 1) fs
+next-frame fs i d lt = rw (add-one, drop-cons fs i d) refl
+
+pub open-here : (fs : List Frame) (i c : ℕ) (f : Frame) → i < length fs → f ≡ get_or fs i f → f.column ≡ c → is_open_at c (frames_view fs) ≡ true
+open-here fs i c f lt is at =
+    let parts : fs ≡ take i fs ++ f ∷ drop (i + 1) fs = sym (take-append-drop i fs) ∙ ap (λ (x : List Frame). take i fs ++ x) (next-frame fs i f lt ∙ ap (λ (x : Frame). x ∷ drop (i + 1) fs) (sym is)) in
+    ap (λ (x : List Frame). is_open_at c (frames_view x)) parts ∙ ap (is_open_at c) (onto-append (take i fs) (f ∷ drop (i + 1) fs) [])
+    ∙ onto-open c (drop (i + 1) fs) (frame_view f ∷ frames_view (take i fs)) (ap (λ b. cond b true (is_open_at c (frames_view (take i fs)))) (eq-true f.column c at))
+
+pub open-not : (fs : List Frame) (i c : ℕ) (f : Frame) → i < length fs → f ≡ get_or fs i f → (f.column ≡ c → ⊥) → is_open_at c (frames_view (take i fs)) ≡ false
+    → is_open_at c (frames_view (take (i + 1) fs)) ≡ false
+open-not fs i c f lt is ne h =
+    let parts : take (i + 1) fs ≡ take i fs ++ f ∷ [] = take_more fs i f lt ∙ ap (λ (x : Frame). take i fs ++ x ∷ []) (sym is) in
+    ap (λ (x : List Frame). is_open_at c (frames_view x)) parts ∙ ap (is_open_at c) (frames-push (take i fs) f)
+    ∙ ap (λ b. cond b true (is_open_at c (frames_view (take i fs)))) (eq-false f.column c ne) ∙ h
+
+pub gives-is : {X Y : Type 0} (view : X → Y) (r : Result X Stop) (x y : Result Y Code) → x ≡ y → Gives view r x → Gives view r y
+gives-is view r x y e h = subst (λ z. Gives view r z) e h
+
+-- ---- keys
+
+next-pair : (ps : List (Text × Tree)) (i : ℕ) (d : Text × Tree) → i < length ps → drop i ps ≡ get_or ps i d ∷ drop (i + 1) ps
+next-pair ps i d lt = rw (add-one, drop-cons ps i d) refl
+
+pub key-next : (k : List ℕ) (ps : List (Text × Tree)) (i : ℕ) (m : Text × Tree) → i < length ps → m ≡ get_or ps i m
+    → has_name k (pairs_view (drop i ps)) ≡ cond (same_text k (bytes_of m.0)) true (has_name k (pairs_view (drop (i + 1) ps)))
+key-next k ps i m lt is =
+    ap (λ x. has_name k (pairs_view x)) (next-pair ps i m lt)
+    ∙ ap (λ (x : Text × Tree). cond (same_text k (bytes_of x.0)) true (has_name k (pairs_view (drop (i + 1) ps)))) (sym is)
+
+-- ---- the next member of the innermost node
+
+apart : (m : Code) (f : reading.Frame) (fs : List reading.Frame) (v : Value) (kind : Kind) (name : List ℕ) (e : Entry) → (level f ≡ level_of kind e.column → ⊥) → joined m (f ∷ fs) v kind name e ≡ Err m
+apart m f fs v kind name e ne =
+    ap (λ b. cond b (cond (is_repeated kind name (push f.done f.name v)) (Err Y5) (with_given (record f { done = push f.done f.name v; name = name } ∷ fs) e.given)) (Err m)) (eq-false (level f) (level_of kind e.column) ne)
+
+pub joined-column : (m : Code) (f : reading.Frame) (fs : List reading.Frame) (v : Value) (kind : Kind) (name : List ℕ) (e : Entry) → (f.column ≡ e.column → ⊥) → joined m (f ∷ fs) v kind name e ≡ Err m
+joined-column m f fs v kind name e ne = apart m f fs v kind name e (λ h. ne (same_level f.kind kind f.column e.column h).1)
+
+kinds-differ : (j k : Kind) → (sequence ≡ mapping → ⊥) × (mapping ≡ sequence → ⊥)
+kinds-differ j k = ((λ e. absurd cc), (λ e. absurd cc))
+
+pub joined-kind : (m : Code) (f : reading.Frame) (fs : List reading.Frame) (v : Value) (kind : Kind) (name : List ℕ) (e : Entry) → (f.kind ≡ kind → ⊥) → joined m (f ∷ fs) v kind name e ≡ Err m
+joined-kind m f fs v kind name e ne = apart m f fs v kind name e (λ h. ne (same_level f.kind kind f.column e.column h).0)
+
+pub joined-same : (m : Code) (f : reading.Frame) (fs : List reading.Frame) (v : Value) (kind : Kind) (name : List ℕ) (e : Entry) → f.kind ≡ kind → f.column ≡ e.column
+    → joined m (f ∷ fs) v kind name e ≡ cond (is_repeated kind name (push f.done f.name v)) (Err Y5) (with_given (record f { done = push f.done f.name v; name = name } ∷ fs) e.given)
+joined-same m f fs v kind name e k c =
+    ap (λ b. cond b (cond (is_repeated kind name (push f.done f.name v)) (Err Y5) (with_given (record f { done = push f.done f.name v; name = name } ∷ fs) e.given)) (Err m))
+    (eq-true (level f) (level_of kind e.column) (ap (λ x. level_of x f.column) k ∙ ap (level_of kind) c))
+
+-- ---- the code's frames: the last is the innermost
+
+abbrev pub entry_at : ℕ → Head → Option Value → Entry
+entry_at column head given = record { column = column; head = head; given = given }
+
+pub step-column : (m : Code) (old init : List Frame) (f : Frame) (v : Value) (kind : Kind) (name : List ℕ) (e : Entry) → old ≡ init ++ f ∷ [] → (f.column ≡ e.column → ⊥)
+    → joined m (frames_view old) v kind name e ≡ Err m
+step-column m old init f v kind name e parts ne =
+    ap (λ (x : List Frame). joined m (frames_view x) v kind name e) parts ∙ ap (λ (x : List reading.Frame). joined m x v kind name e) (frames-push init f)
+    ∙ joined-column m (frame_view f) (frames_view init) v kind name e ne
+
+pub step-kind : (m : Code) (old init : List Frame) (f : Frame) (v : Value) (kind : Kind) (name : List ℕ) (e : Entry) → old ≡ init ++ f ∷ [] → (open_kind f.members ≡ kind → ⊥)
+    → joined m (frames_view old) v kind name e ≡ Err m
+step-kind m old init f v kind name e parts ne =
+    ap (λ (x : List Frame). joined m (frames_view x) v kind name e) parts ∙ ap (λ (x : List reading.Frame). joined m x v kind name e) (frames-push init f)
+    ∙ joined-kind m (frame_view f) (frames_view init) v kind name e ne
+
+step-same : (m : Code) (old init : List Frame) (f : Frame) (o : Open) (v : Value) (name : List ℕ) (e : Entry) → old ≡ init ++ f ∷ [] → f.members ≡ o → f.column ≡ e.column
+    → joined m (frames_view old) v (open_kind o) name e
+    ≡ cond (is_repeated (open_kind o) name (push (open_done o) (open_name o) v)) (Err Y5) (with_given (record { kind = open_kind o; column = e.column; done = push (open_done o) (open_name o) v; name = name } ∷ frames_view init) e.given)
+step-same m old init f o v name e parts is column =
+    let whole : Frame = record { column = e.column; members = o } in
+    let made : f ≡ whole = ap (λ (c : ℕ). record { column = c; members = f.members }) column ∙ ap (λ (p : Open). record { column = e.column; members = p }) is in
+    ap (λ (x : List Frame). joined m (frames_view x) v (open_kind o) name e) (parts ∙ ap (λ (x : Frame). init ++ x ∷ []) made)
+    ∙ ap (λ (x : List reading.Frame). joined m x v (open_kind o) name e) (frames-push init whole)
+    ∙ joined-same m (frame_view whole) (frames_view init) v (open_kind o) name e refl refl
+
+pub item-joins : (m : Code) (old init new : List Frame) (f : Frame) (items more : Vec Tree) (column : ℕ) (v : Value) (g : Option Value) → old ≡ init ++ f ∷ [] → f.members ≡ Items items → f.column ≡ column
+    → items_view more.items ≡ push (items_view items.items) [] v → new ≡ init ++ (record { column = column; members = Items more }) ∷ []
+    → with_given (frames_view new) g ≡ joined m (frames_view old) v sequence [] (entry_at column dash g)
+item-joins m old init new f items more column v g parts is at pushed new-is =
+    ap (λ (x : List Frame). with_given (frames_view x) g) new-is ∙ ap (λ (x : List reading.Frame). with_given x g) (frames-push init (record { column = column; members = Items more }))
+    ∙ ap (λ (d : Members). with_given (record { kind = sequence; column = column; done = d; name = [] } ∷ frames_view init) g) pushed
+    ∙ sym (step-same m old init f (Items items) v [] (entry_at column dash g) parts is at)
+
+pub pair-joins : (m : Code) (old init new : List Frame) (f : Frame) (pairs more : Vec (Text × Tree)) (last name : Text) (column : ℕ) (v : Value) (g : Option Value) → old ≡ init ++ f ∷ [] → f.members ≡ Pairs pairs last → f.column ≡ column
+    → pairs_view more.items ≡ push (pairs_view pairs.items) (bytes_of last) v → has_name (bytes_of name) (pairs_view more.items) ≡ false → new ≡ init ++ (record { column = column; members = Pairs more name }) ∷ []
+    → with_given (frames_view new) g ≡ joined m (frames_view old) v mapping (bytes_of name) (entry_at column (key (bytes_of name)) g)
+pair-joins m old init new f pairs more last name column v g parts is at pushed fresh new-is =
+    let rest = with_given (record { kind = mapping; column = column; done = push (pairs_view pairs.items) (bytes_of last) v; name = bytes_of name } ∷ frames_view init) g in
+    ap (λ (x : List Frame). with_given (frames_view x) g) new-is ∙ ap (λ (x : List reading.Frame). with_given x g) (frames-push init (record { column = column; members = Pairs more name }))
+    ∙ ap (λ (d : Members). with_given (record { kind = mapping; column = column; done = d; name = bytes_of name } ∷ frames_view init) g) pushed
+    ∙ sym (ap (λ b. cond b (Err Y5) rest) (ap (has_name (bytes_of name)) (sym pushed) ∙ fresh))
+    ∙ sym (step-same m old init f (Pairs pairs last) v (bytes_of name) (entry_at column (key (bytes_of name)) g) parts is at)
+
+pub pair-repeats : (m : Code) (old init : List Frame) (f : Frame) (pairs more : Vec (Text × Tree)) (last name : Text) (column : ℕ) (v : Value) (g : Option Value) → old ≡ init ++ f ∷ [] → f.members ≡ Pairs pairs last → f.column ≡ column
+    → pairs_view more.items ≡ push (pairs_view pairs.items) (bytes_of last) v → has_name (bytes_of name) (pairs_view more.items) ≡ true
+    → joined m (frames_view old) v mapping (bytes_of name) (entry_at column (key (bytes_of name)) g) ≡ Err Y5
+pair-repeats m old init f pairs more last name column v g parts is at pushed there =
+    let rest = with_given (record { kind = mapping; column = column; done = push (pairs_view pairs.items) (bytes_of last) v; name = bytes_of name } ∷ frames_view init) g in
+    step-same m old init f (Pairs pairs last) v (bytes_of name) (entry_at column (key (bytes_of name)) g) parts is at
+    ∙ ap (λ b. cond b (Err Y5) rest) (ap (has_name (bytes_of name)) (sym pushed) ∙ there)
+
+none-empty : (m : Code) (v : Value) (kind : Kind) (name : List ℕ) (e : Entry) → joined m [] v kind name e ≡ Err m
+none-empty m v kind name e = refl

@@ -1,0 +1,40 @@
+use Rattle.std.proofs.Common.{◌≡◌, ◌∙◌, ap, sym, subst, map, length, rules, arith, true, false, ◌+◌, ◌≤◌, None}
+use Rattle.std.specs.Prelude.{IfOk}
+use Rattle.ci_yaml.specs.declared.parts.Head.TheVariants.{Dash}
+use Rattle.ci_yaml.specs.Line.{is_dash}
+use Rattle.ci_yaml.specs.View.{entry_view, written_view, item_view, LeastSpoken, spoken_view, ColumnsFit}
+use Rattle.ci_yaml.proofs.Said.{stop-turn, value-turn, inner-turn, end-turn, entries-push, start-turn, dash-longer, added}
+use Rattle.ci_yaml.proofs.line.spoken.Goals as goal
+
+pub dashes-init : goal.dashes-init
+dashes-init c = (search rules, c.requires.fits, start-turn c.new-entries.result.items c.args.n c.args.column c.args.text.now c.new-entries.ensures.items)
+
+pub returns-then-not-is_dash : goal.returns-then-not-is_dash
+returns-then-not-is_dash c =
+    let no : is_dash c.dashes.rest.now ≡ false = ap is_dash (sym c.as_bytes.ensures.value) ∙ sym c.if-not-is_dash.ensures in
+    subst (λ (x : LeastSpoken). IfOk c.keyed_or_bare.result (λ s. spoken_view s ≡ x))
+    (stop-turn (map entry_view c.dashes.entries.items) c.args.n c.dashes.i c.dashes.column c.dashes.rest.now (omega arith) no ∙ c.dashes.invariant.2) c.keyed_or_bare.ensures
+
+pub returns-in-Value : goal.returns-in-Value
+returns-in-Value c =
+    let yes : is_dash c.dashes.rest.now ≡ true = ap is_dash (sym c.as_bytes.ensures.value) ∙ sym c.if-not-is_dash.ensures in
+    subst (λ (x : LeastSpoken). IfOk c.entry_of.result (λ s. spoken_view s ≡ x))
+    (value-turn (map entry_view c.dashes.entries.items) c.args.n c.dashes.i c.dashes.column c.dashes.rest.now c.tail.result.now (written_view c.in-Value.value) (omega arith) yes c.tail.ensures
+    (sym (ap item_view c.in-Value.is) ∙ c.in_ok-columns.ensures.value) ∙ c.dashes.invariant.2) c.entry_of.ensures
+
+pub dashes-preserved : goal.dashes-preserved
+dashes-preserved c =
+    let yes : is_dash c.dashes.rest.now ≡ true = ap is_dash (sym c.as_bytes.ensures.value) ∙ sym c.if-not-is_dash.ensures in
+    let fits : c.in-Inner.columns + length c.in-Inner.inner.now ≤ 1 + length c.tail.result.now = subst (ColumnsFit (length c.tail.result.now)) (ap item_view c.in-Inner.is) c.in_ok-columns.ensures.fits in
+    let longer : 1 + length c.tail.result.now ≤ length c.dashes.rest.now = dash-longer c.dashes.rest.now c.tail.result.now yes c.tail.ensures in
+    let bound : c.dashes.column + length c.dashes.rest.now ≤ 65536 = c.dashes.invariant.1 in (
+      search rules,
+      added c.dashes.column c.in-Inner.columns (length c.in-Inner.inner.now) (length c.tail.result.now) (length c.dashes.rest.now) fits longer bound,
+      inner-turn (map entry_view c.dashes.entries.items) (map entry_view c.push.new.self.items) c.args.n c.dashes.i c.dashes.column c.in-Inner.columns c.dashes.rest.now c.tail.result.now c.in-Inner.inner.now (omega arith) yes c.tail.ensures
+          (sym (ap item_view c.in-Inner.is) ∙ c.in_ok-columns.ensures.value)
+          (ap (map entry_view) c.in_ok-push-in-Inner.ensures.items ∙ entries-push c.dashes.entries.items (record { column = c.dashes.column; head = Dash; given = None }))
+          ∙ c.dashes.invariant.2,
+    )
+
+pub returns : goal.returns
+returns c = end-turn (map entry_view c.dashes.entries.items) c.args.n c.dashes.i c.dashes.column c.dashes.rest.now (omega arith) ∙ c.dashes.invariant.2

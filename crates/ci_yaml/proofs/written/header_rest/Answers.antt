@@ -1,0 +1,17 @@
+use Rattle.std.proofs.Common.{◌∙◌, ap}
+use Rattle.ci_yaml.specs.declared.fault.Code.TheVariants.{Y9}
+use Rattle.ci_yaml.specs.Tree.{Value}
+use Rattle.ci_yaml.specs.Scalar.{when}
+use Rattle.ci_yaml.specs.Least.{least}
+use Rattle.ci_yaml.specs.Line.{digit_next, not_comment}
+use Rattle.ci_yaml.specs.View.{chomp_view}
+use Rattle.ci_yaml.proofs.Leasts.{least_two}
+use Rattle.ci_yaml.proofs.Said.{headed, headed_with}
+use Rattle.ci_yaml.proofs.written.header_rest.Goals as goal
+
+pub returns : goal.returns
+returns c =
+    ap (λ (v : Value). headed_with v (chomp_view c.args.how) c.least_of.result) c.no_text.ensures
+    ∙ ap (headed (chomp_view c.args.how))
+    (least_two c.least_of.result c.when-digit.result c.not_comment.result (when (digit_next c.args.text.now) Y9) (not_comment c.args.last c.args.text.now) c.least_of.ensures
+    (c.when-digit.ensures ∙ ap (λ b. least (when b Y9)) (c.is_digit_next.ensures ∙ ap digit_next c.as_bytes.ensures.value)) c.not_comment.ensures)

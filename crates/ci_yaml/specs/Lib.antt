@@ -1,0 +1,12 @@
+pub mod Least
+pub mod Tree
+pub mod Entry
+pub mod Node
+pub mod Reading
+pub mod Codes
+pub mod Scalar
+pub mod Line
+pub mod Document
+pub mod ReadLines
+pub mod View
+pub mod Blocks

@@ -1,0 +1,39 @@
+//! Laws of the definitions. These functions do nothing: what they ensure is what the checker proves.
+
+ghost use Rattle.std.specs.Prelude.{◌≡◌, ℕ, List, [], ◌∷◌, ◌++◌, Some, Ok, Err};
+ghost use Rattle.std.specs.Str.Lines.{lines};
+ghost use Rattle.ci_yaml.specs.declared.fault.Code.{Code};
+ghost use Rattle.ci_yaml.specs.Tree.{Value};
+ghost use Rattle.ci_yaml.specs.Entry.{Entry};
+ghost use Rattle.ci_yaml.specs.Node.{IsDocument};
+ghost use Rattle.ci_yaml.specs.Document.{Line, Ending, Says, HasTree, IsGood};
+ghost use Rattle.ci_yaml.specs.Reading.{finished};
+ghost use Rattle.ci_yaml.specs.ReadLines.{Reader, read_lines, beginning};
+
+/// A text has one tree at most.
+pub fn has_one_tree()
+    ensures { (bytes : List ℕ) (v w : Value) → HasTree bytes v → HasTree bytes w → v ≡ w }
+{}
+
+/// Each beginning of a good beginning is good.
+pub fn begins_well()
+    ensures { (a b : List Line) → IsGood (a ++ b) → IsGood a }
+{}
+
+/// Lines that are read to their end, one after the other, have the tree that is read.
+pub fn reads_trees()
+    ensures { (ls : List Line) (r : Reader) (v : Value) → read_lines beginning ls ≡ Ok r → finished r.state ≡ Some v
+        → (es : List Entry) × (end : Ending) × Says ls es end × IsDocument v es }
+{}
+
+/// Lines that have a tree are read to their end, and that tree is read.
+pub fn reads_all_trees()
+    ensures { (ls : List Line) (es : List Entry) (end : Ending) (v : Value) → Says ls es end → IsDocument v es
+        → (r : Reader) × (read_lines beginning ls ≡ Ok r) × (finished r.state ≡ Some v) }
+{}
+
+/// Reading stops at the first line that makes no good beginning.
+pub fn stops_first()
+    ensures { (ls : List Line) (code : Code) → read_lines beginning ls ≡ Err code
+        → (before : List Line) × (l : Line) × (after : List Line) × (ls ≡ before ++ l ∷ after) × IsGood before × (IsGood (before ++ l ∷ []) → ⊥) }
+{}

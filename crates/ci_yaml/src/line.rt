@@ -1,0 +1,329 @@
+//! What one line says.
+
+ghost use Rattle.std.specs.Prelude.{◌≡◌, ◌==◌, ◌+◌, ◌≤◌, ◌&&◌, ◌||◌, suc, IfOk, option_map, map, length, is_some, []};
+ghost use Rattle.ci_yaml.specs.Least.{least_of};
+ghost use Rattle.ci_yaml.specs.Line.{split_colon, plain_key, quoted_key, keyed, is_dash, item, spoken, keyed_or_bare, content_spoken, is_document_mark, has_control, has_mark, is_skipped, line_spoken};
+ghost use Rattle.ci_yaml.specs.View.{quoted_view, keyed_view, least_keyed, written_view, head_view, entry_view, item_view, least_item, ColumnsFit, spoken_view, least_spoken, with_entries, least_entry, key_spoken, bare_spoken};
+
+use crate::cut::{At, drop_blanks, drop_spaces, front, skip, tail, trim_end};
+use crate::fault::{Code, least_of, when};
+use crate::parts::{Entry, Head, Spoken};
+use crate::quoted::{Quoted, is_quote, read_quoted};
+use crate::scan::{
+    has_control, has_mark, has_tab_after, head_is, is_colon, is_dash, is_document_mark,
+    is_forbidden, is_only_comment, key_len, spaces,
+};
+use crate::tree::Text;
+use crate::written::{Written, read_value, read_written};
+use std::alloc::{AllocError, Global};
+
+/// A key, what follows its colon, and the least code that holds of it.
+#[derive(Drop)]
+struct Keyed<'a> {
+    name: Text<'a>,
+    rest: &'a str,
+    code: Option<Code>,
+}
+
+/// The text before the colon that ends a plain key, and the text behind it.
+fn split_colon(text: &str) -> Option<(&str, &str)>
+    ensures { split_colon text.now ≡ option_map (λ p. record { raw = p.0.now; rest = p.1.now }) result }
+{
+    let n = key_len(text.as_bytes());
+    let rest = skip(text, n);
+    if head_is(b':', rest.as_bytes()) {
+        Some((front(text, n), tail(rest)))
+    } else {
+        None
+    }
+}
+
+fn plain_key<'a>(at: At, text: &'a str) -> Option<Keyed<'a>>
+    ensures { option_map keyed_view result ≡ option_map least_keyed (plain_key (split_colon text.now)) }
+{
+    let (raw, rest) = split_colon(text)?;
+    let name = trim_end(raw);
+    Some(Keyed {
+        name: Text::Lent(name, at.front(text, name.len())),
+        rest,
+        code: when(has_tab_after(raw.as_bytes()), Code::Y9),
+    })
+}
+
+fn quoted_key(quoted: Option<Quoted<'_>>) -> Option<Keyed<'_>>
+    ensures { option_map keyed_view result ≡ option_map least_keyed (quoted_key (option_map quoted_view quoted.entry)) }
+{
+    let Quoted { text, wrong, rest } = quoted?;
+    let from = drop_blanks(rest);
+    if wrong || !is_colon(from.as_bytes()) {
+        return None;
+    }
+    Some(Keyed {
+        name: text,
+        rest: tail(from),
+        code: None,
+    })
+}
+
+/// The key that the text begins with, if it is a key line. Errors: memory was refused.
+fn read_key<'a>(alloc: Global, at: At, text: &'a str) -> Result<Option<Keyed<'a>>, AllocError>
+    ensures { IfOk result (λ k. option_map keyed_view k ≡ option_map least_keyed (keyed text.now)) }
+{
+    if is_quote(text.as_bytes()) {
+        let quoted = read_quoted(alloc, at, text)?;
+        Ok(quoted_key(quoted))
+    } else if is_forbidden(text.as_bytes()) {
+        Ok(None)
+    } else {
+        Ok(plain_key(at, text))
+    }
+}
+
+/// What stands behind a dash: further entries, so many columns on, or a value.
+#[derive(Drop)]
+enum Item<'a> {
+    Inner(u32, &'a str),
+    Value(Written<'a>),
+}
+
+/// Whether further entries stand there. Errors: memory was refused.
+fn has_entries(alloc: Global, at: At, text: &str) -> Result<bool, AllocError>
+    ensures { IfOk result (λ b. b ≡ (is_dash text.now || is_some (keyed text.now))) }
+{
+    if is_dash(text.as_bytes()) {
+        return Ok(true);
+    }
+    let keyed = read_key(alloc, at, text)?;
+    Ok(keyed.is_some())
+}
+
+/// What stands behind a dash. Errors: memory was refused.
+fn read_item<'a>(alloc: Global, at: At, text: &'a str) -> Result<Item<'a>, AllocError>
+    requires fits { length text.now ≤ 65536 }
+    ensures value { IfOk result (λ i. item_view i ≡ least_item (item text.now)) }
+    ensures fits { IfOk result (λ i. ColumnsFit (length text.now) (item_view i)) }
+{
+    let n = spaces(text.as_bytes());
+    let inner = drop_spaces(text);
+    if is_only_comment(b'-', text.as_bytes()) {
+        return Ok(Item::Value(Written {
+            given: None,
+            header: None,
+            code: None,
+        }));
+    }
+    if head_is(b'\t', inner.as_bytes()) {
+        return Ok(Item::Value(Written {
+            given: None,
+            header: None,
+            code: Some(Code::Y2),
+        }));
+    }
+    if has_entries(alloc, at, inner)? {
+        Ok(Item::Inner(1 + n as u32, inner))
+    } else {
+        let value = read_written(alloc, at, b'-', text)?;
+        Ok(Item::Value(value))
+    }
+}
+
+/// The last entry of a line, after those before it. Errors: memory was refused.
+fn entry_of<'a>(
+    entries: Vec<Entry<'a>>,
+    column: u32,
+    head: Head<'a>,
+    value: Written<'a>,
+    code: Option<Code>,
+) -> Result<Spoken<'a>, AllocError>
+    ensures { IfOk result (λ s. spoken_view s ≡ with_entries (map entry_view entries.entry.items) (least_entry column (head_view head.entry) (written_view value.entry) code)) }
+{
+    let mut entries = entries;
+    let Written {
+        given,
+        header,
+        code: holds,
+    } = value;
+    entries.push(Entry {
+        column,
+        head,
+        given,
+    })?;
+    Ok(Spoken {
+        entries,
+        header,
+        code: least_of(code, holds),
+    })
+}
+
+/// A key after the entries before it. Errors: memory was refused.
+fn with_key<'a>(
+    alloc: Global,
+    at: At,
+    entries: Vec<Entry<'a>>,
+    column: u32,
+    key: Keyed<'a>,
+) -> Result<Spoken<'a>, AllocError>
+    ensures { IfOk result (λ s. spoken_view s ≡ with_entries (map entry_view entries.entry.items) (key_spoken column (keyed_view key.entry))) }
+{
+    let Keyed { name, rest, code } = key;
+    let value = read_written(alloc, at, b':', rest)?;
+    entry_of(entries, column, Head::Key(name), value, code)
+}
+
+/// A value alone after the entries before it. Errors: memory was refused.
+fn with_value<'a>(
+    entries: Vec<Entry<'a>>,
+    column: u32,
+    value: Written<'a>,
+) -> Result<Spoken<'a>, AllocError>
+    ensures { IfOk result (λ s. spoken_view s ≡ with_entries (map entry_view entries.entry.items) (bare_spoken column (written_view value.entry))) }
+{
+    let code = match value.header {
+        Some(_) => Some(Code::Y9),
+        None => None,
+    };
+    entry_of(entries, column, Head::Bare, value, code)
+}
+
+/// A key, or a value alone, after the entries before it. Errors: memory was refused.
+fn keyed_or_bare<'a>(
+    alloc: Global,
+    at: At,
+    entries: Vec<Entry<'a>>,
+    column: u32,
+    text: &'a str,
+) -> Result<Spoken<'a>, AllocError>
+    ensures { IfOk result (λ s. spoken_view s ≡ with_entries (map entry_view entries.entry.items) (least_spoken (keyed_or_bare column text.now (keyed text.now)))) }
+{
+    match read_key(alloc, at, text)? {
+        Some(key) => with_key(alloc, at, entries, column, key),
+        None => {
+            let value = read_value(alloc, at, text)?;
+            with_value(entries, column, value)
+        }
+    }
+}
+
+/// What the text in a column says, which begins with no blank. It says at most n entries. Errors: memory was refused.
+fn spoken<'a>(
+    alloc: Global,
+    at: At,
+    n: usize,
+    column: u32,
+    text: &'a str,
+) -> Result<Spoken<'a>, AllocError>
+    requires fits { column + length text.now ≤ 65536 }
+    ensures { IfOk result (λ s. spoken_view s ≡ least_spoken (spoken n column text.now)) }
+{
+    let mut entries = Vec::new(alloc);
+    let mut column = column;
+    let mut rest = text;
+    'dashes: for i in 0..n {
+        if !is_dash(rest.as_bytes()) {
+            return keyed_or_bare(alloc, at, entries, column, rest);
+        }
+        match read_item(alloc, at, tail(rest))? {
+            Item::Inner(columns, inner) => {
+                entries.push(Entry {
+                    column,
+                    head: Head::Dash,
+                    given: None,
+                })?;
+                column += columns;
+                rest = inner;
+            }
+            Item::Value(value) => return entry_of(entries, column, Head::Dash, value, None),
+        }
+    }
+    Ok(Spoken {
+        entries,
+        header: None,
+        code: None,
+    })
+}
+
+/// Whether a document mark stands in the first column.
+fn is_marked(column: u32, text: &str) -> bool
+    ensures { result ≡ ((column == 0) && is_document_mark text.now) }
+{
+    column == 0 && is_document_mark(text.as_bytes())
+}
+
+/// Whether a character stands in the line that the profile does not take.
+fn has_odd(line: &str) -> bool
+    ensures { result ≡ (has_control line.now || has_mark line.now) }
+{
+    has_control(line.as_bytes()) || has_mark(line.as_bytes())
+}
+
+/// What a content line says after so many spaces. Errors: memory was refused.
+fn content_spoken<'a>(
+    alloc: Global,
+    at: At,
+    column: u32,
+    text: &'a str,
+) -> Result<Spoken<'a>, AllocError>
+    requires fits { column + length text.now ≤ 65536 }
+    ensures { IfOk result (λ s. spoken_view s ≡ least_spoken (content_spoken column text.now)) }
+{
+    if head_is(b'\t', text.as_bytes()) {
+        return Ok(Spoken {
+            entries: Vec::new(alloc),
+            header: None,
+            code: Some(Code::Y2),
+        });
+    }
+    let mark = when(is_marked(column, text), Code::Y9);
+    let said = spoken(alloc, at, text.len() + 1, column, text)?;
+    Ok(with_code(mark, said))
+}
+
+fn with_code<'a>(code: Option<Code>, said: Spoken<'a>) -> Spoken<'a>
+    ensures { spoken_view result ≡ (record { entries = (spoken_view said.entry).entries; header = (spoken_view said.entry).header; code = least_of code (spoken_view said.entry).code }) }
+{
+    let Spoken {
+        entries,
+        header,
+        code: holds,
+    } = said;
+    Spoken {
+        entries,
+        header,
+        code: least_of(code, holds),
+    }
+}
+
+/// Whether the line says nothing: it has spaces and tabs alone, or is a comment.
+fn is_skipped(line: &str) -> bool
+    ensures { result ≡ is_skipped line.now }
+{
+    let from = drop_blanks(line);
+    from.is_empty() || head_is(b'#', from.as_bytes())
+}
+
+/// What a line outside literal blocks says; its number is counted from 1. Errors: memory was refused.
+pub fn line_spoken<'a>(
+    alloc: Global,
+    number: usize,
+    line: &'a str,
+) -> Result<Spoken<'a>, AllocError>
+    requires fits { length line.now ≤ 65536 }
+    ensures { IfOk result (λ s. spoken_view s ≡ least_spoken (line_spoken line.now)) }
+{
+    let form = when(has_odd(line), Code::Y9);
+    if is_skipped(line) {
+        return Ok(Spoken {
+            entries: Vec::new(alloc),
+            header: None,
+            code: form,
+        });
+    }
+    let column = spaces(line.as_bytes());
+    let text = trim_end(drop_spaces(line));
+    let at = At {
+        line: number,
+        end: column + text.len(),
+    };
+    let said = content_spoken(alloc, at, column as u32, text)?;
+    Ok(with_code(form, said))
+}

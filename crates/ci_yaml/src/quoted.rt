@@ -1,0 +1,200 @@
+//! Quoted scalars.
+
+ghost use Rattle.std.specs.Prelude.{◌≡◌, ◌==◌, ◌||◌, ◌∷◌, ◌<◌, ◌≤◌, ◌⊎◌, IfOk, IfSome, option_map, slice_index, string_bytes, length};
+ghost use Rattle.std.specs.List.{position};
+ghost use Rattle.ci_yaml.specs.Scalar.{single, double, quoted, is_quote, with_words, from_place, escape_of};
+ghost use Rattle.ci_yaml.specs.View.{quoted_view, with_wrong};
+
+use crate::cut::{At, split_around, tail};
+use crate::scan::head_is;
+use crate::tree::Text;
+use std::alloc::{AllocError, Global};
+
+/// A quoted scalar: its text, whether a backslash stands wrongly in it, and what follows it.
+#[derive(Drop)]
+pub struct Quoted<'a> {
+    pub text: Text<'a>,
+    pub wrong: bool,
+    pub rest: &'a str,
+}
+
+fn first_quote(bytes: &[u8]) -> Option<usize>
+    ensures { result ≡ position (λ b. b == 39) bytes.now }
+{
+    bytes.iter().position(|byte| *byte == b'\'')
+}
+
+/// Where the first single quote stands.
+fn quote_at(bytes: &[u8]) -> Option<usize>
+    ensures place { IfSome result (λ i. (i < length bytes.now) × (slice_index bytes.now i ≡ 39)) }
+    ensures value { single bytes.now ≡ from_place single bytes.now result }
+{
+    first_quote(bytes)
+}
+
+/// A scalar in single quotes, after the first quote. Errors: memory was refused.
+fn single<'a>(alloc: Global, at: At, text: &'a str) -> Result<Option<Quoted<'a>>, AllocError>
+    ensures { IfOk result (λ q. option_map quoted_view q ≡ single text.now) }
+{
+    let Some(i) = quote_at(text.as_bytes()) else {
+        return Ok(None);
+    };
+    let (front, rest) = split_around(text, i);
+    if head_is(b'\'', rest.as_bytes()) {
+        return doubled(alloc, at, text, front, rest);
+    }
+    let text = Text::Lent(front, at.quoted(text, rest));
+    Ok(Some(Quoted {
+        text,
+        wrong: false,
+        rest,
+    }))
+}
+
+/// The same, where after this front and a quote the rest begins with a second quote.
+fn doubled<'a>(
+    alloc: Global,
+    at: At,
+    text: &'a str,
+    front: &str,
+    rest: &'a str,
+) -> Result<Option<Quoted<'a>>, AllocError>
+    ensures { IfOk result (λ q. option_map quoted_view q ≡ with_words front.now (single (39 ∷ rest.now))) }
+{
+    let mut words = String::from_str(alloc, front)?;
+    let mut rest = rest;
+    'pairs: while head_is(b'\'', rest.as_bytes()) {
+        let more = tail(rest);
+        let Some(i) = quote_at(more.as_bytes()) else {
+            return Ok(None);
+        };
+        let (front, behind) = split_around(more, i);
+        words.push_str("'")?;
+        words.push_str(front)?;
+        rest = behind;
+    }
+    let text = Text::Owned(words, at.quoted(text, rest));
+    Ok(Some(Quoted {
+        text,
+        wrong: false,
+        rest,
+    }))
+}
+
+fn first_mark(bytes: &[u8]) -> Option<usize>
+    ensures { result ≡ position (λ b. (b == 34) || (b == 92)) bytes.now }
+{
+    bytes
+        .iter()
+        .position(|byte| *byte == b'"' || *byte == b'\\')
+}
+
+/// Where the first double quote or backslash stands.
+fn mark_at(bytes: &[u8]) -> Option<usize>
+    ensures place { IfSome result (λ i. (i < length bytes.now) × ((slice_index bytes.now i ≡ 34) ⊎ (slice_index bytes.now i ≡ 92))) }
+    ensures value { double bytes.now ≡ from_place double bytes.now result }
+{
+    first_mark(bytes)
+}
+
+/// What the byte behind a backslash stands for.
+fn escape(bytes: &[u8]) -> Option<&'static str>
+    ensures { option_map (λ s. s.now) result ≡ escape_of bytes.now }
+{
+    match bytes {
+        [b'\\', ..] => Some("\\"),
+        [b'"', ..] => Some("\""),
+        [b'n', ..] => Some("\n"),
+        [b't', ..] => Some("\t"),
+        _ => None,
+    }
+}
+
+/// A scalar in double quotes, after the first quote. Errors: memory was refused.
+fn double<'a>(alloc: Global, at: At, text: &'a str) -> Result<Option<Quoted<'a>>, AllocError>
+    ensures { IfOk result (λ q. option_map quoted_view q ≡ double text.now) }
+{
+    let bytes = text.as_bytes();
+    let Some(i) = mark_at(bytes) else {
+        return Ok(None);
+    };
+    let (front, rest) = split_around(text, i);
+    if bytes[i] == b'\\' {
+        return with_escapes(alloc, at, text, front, rest);
+    }
+    let text = Text::Lent(front, at.quoted(text, rest));
+    Ok(Some(Quoted {
+        text,
+        wrong: false,
+        rest,
+    }))
+}
+
+/// Adds what a backslash and the byte behind it stand for, and answers what follows, and whether the backslash
+/// stands rightly. Errors: memory was refused.
+fn unescape<'a>(words: &mut String, rest: &'a str) -> Result<(bool, &'a str), AllocError>
+    ensures shorter { IfOk result (λ r. length r.1.now ≤ length rest.now) }
+    ensures value { IfOk result (λ r. with_words (string_bytes words.new) (with_wrong r.0 (double r.1.now)) ≡ with_words (string_bytes words.old) (double (92 ∷ rest.now))) }
+{
+    match escape(rest.as_bytes()) {
+        Some(meant) => {
+            words.push_str(meant)?;
+            Ok((false, tail(rest)))
+        }
+        None => Ok((true, rest)),
+    }
+}
+
+/// The same, where this front and a backslash come before the rest.
+fn with_escapes<'a>(
+    alloc: Global,
+    at: At,
+    text: &'a str,
+    front: &str,
+    rest: &'a str,
+) -> Result<Option<Quoted<'a>>, AllocError>
+    ensures { IfOk result (λ q. option_map quoted_view q ≡ with_words front.now (double (92 ∷ rest.now))) }
+{
+    let mut words = String::from_str(alloc, front)?;
+    let mut wrong = false;
+    let mut rest = rest;
+    'escapes: loop {
+        let (misused, more) = unescape(&mut words, rest)?;
+        wrong = wrong | misused;
+        let bytes = more.as_bytes();
+        let Some(i) = mark_at(bytes) else {
+            return Ok(None);
+        };
+        let (front, behind) = split_around(more, i);
+        words.push_str(front)?;
+        rest = behind;
+        if bytes[i] != b'\\' {
+            let text = Text::Owned(words, at.quoted(text, rest));
+            return Ok(Some(Quoted { text, wrong, rest }));
+        }
+    }
+}
+
+/// Whether a quoted scalar begins there.
+pub fn is_quote(bytes: &[u8]) -> bool
+    ensures { result ≡ is_quote bytes.now }
+{
+    head_is(b'\'', bytes) || head_is(b'"', bytes)
+}
+
+/// The quoted scalar at the front, if it is closed. Errors: memory was refused.
+pub fn read_quoted<'a>(
+    alloc: Global,
+    at: At,
+    text: &'a str,
+) -> Result<Option<Quoted<'a>>, AllocError>
+    ensures { IfOk result (λ q. option_map quoted_view q ≡ quoted text.now) }
+{
+    if head_is(b'\'', text.as_bytes()) {
+        single(alloc, at, tail(text))
+    } else if head_is(b'"', text.as_bytes()) {
+        double(alloc, at, tail(text))
+    } else {
+        Ok(None)
+    }
+}

@@ -1,0 +1,157 @@
+//! What stands behind a dash or a colon, or alone on a line.
+
+ghost use Rattle.std.specs.Prelude.{◌≡◌, IfOk, Some, None, []};
+ghost use Rattle.ci_yaml.specs.Least.{least};
+ghost use Rattle.ci_yaml.specs.Tree.{text as text_value};
+ghost use Rattle.ci_yaml.specs.Line.{not_comment, header_rest, header_of, written_quoted, written_plain, written_at, written};
+ghost use Rattle.ci_yaml.specs.Scalar.{before_comment};
+ghost use Rattle.ci_yaml.specs.View.{value_view, quoted_view, chomp_view, listed_view, written_of_list, written_view, least_written};
+
+use crate::cut::{At, before_comment, drop_blanks, tail, trim_end};
+use crate::fault::{Code, least_of, when};
+use crate::flow::{Listed, plain_code, read_list};
+use crate::parts::Chomp;
+use crate::quoted::{Quoted, is_quote, read_quoted};
+use crate::scalar::plain;
+use crate::scan::{has_tab_after, head_is, is_digit_next, is_only_comment};
+use crate::tree::{Text, Tree};
+use std::alloc::{AllocError, Global};
+
+/// The value that is written, or how the literal block below is read, and the least code that holds.
+#[derive(Drop)]
+pub struct Written<'a> {
+    pub given: Option<Tree<'a>>,
+    pub header: Option<Chomp>,
+    pub code: Option<Code>,
+}
+
+/// The least code of text that follows a value and is no comment.
+fn not_comment(last: u8, text: &str) -> Option<Code>
+    ensures { result ≡ least (not_comment last text.now) }
+{
+    if is_only_comment(last, text.as_bytes()) {
+        return None;
+    }
+    let tab = has_tab_after(before_comment(last, text).as_bytes());
+    least_of(Some(Code::Y11), when(tab, Code::Y9))
+}
+
+/// The empty text before a text that reaches to the line's end.
+fn no_text<'a>(at: At, text: &'a str) -> Tree<'a>
+    ensures { value_view result ≡ text_value [] }
+{
+    Tree::Text(Text::Lent("", at.front(text, 0)))
+}
+
+fn header_rest<'a>(at: At, how: Chomp, last: u8, text: &'a str) -> Written<'a>
+    ensures { written_view result ≡ least_written (header_rest (chomp_view how) last text.now) }
+{
+    let digit = when(is_digit_next(text.as_bytes()), Code::Y9);
+    Written {
+        given: Some(no_text(at, text)),
+        header: Some(how),
+        code: least_of(digit, not_comment(last, text)),
+    }
+}
+
+/// A literal block's header, after its bar.
+fn header_of<'a>(at: At, text: &'a str) -> Written<'a>
+    ensures { written_view result ≡ least_written (header_of text.now) }
+{
+    if head_is(b'-', text.as_bytes()) {
+        header_rest(at, Chomp::Strip, b'-', tail(text))
+    } else if head_is(b'+', text.as_bytes()) {
+        header_rest(at, Chomp::Keep, b'+', tail(text))
+    } else {
+        header_rest(at, Chomp::Clip, b'|', text)
+    }
+}
+
+fn closed(quoted: Quoted<'_>) -> Written<'_>
+    ensures { written_view result ≡ least_written (written_quoted (Some (quoted_view quoted.entry))) }
+{
+    let Quoted { text, wrong, rest } = quoted;
+    let escape = when(wrong, Code::Y7);
+    let other = not_comment(b'\'', rest);
+    Written {
+        given: Some(Tree::Text(text)),
+        header: None,
+        code: least_of(escape, other),
+    }
+}
+
+/// A quoted scalar that isn't closed.
+fn unclosed<'a>(at: At, text: &'a str) -> Written<'a>
+    ensures { written_view result ≡ least_written (written_quoted None) }
+{
+    Written {
+        given: Some(no_text(at, text)),
+        header: None,
+        code: Some(Code::Y6),
+    }
+}
+
+fn written_list(list: Listed<'_>) -> Written<'_>
+    ensures { written_view result ≡ written_of_list (listed_view list.entry) }
+{
+    let Listed { items, code, rest } = list;
+    let behind = match rest {
+        Some(text) => not_comment(b']', text),
+        None => None,
+    };
+    Written {
+        given: Some(Tree::List(items)),
+        header: None,
+        code: least_of(code, behind),
+    }
+}
+
+fn written_plain<'a>(at: At, text: &'a str) -> Written<'a>
+    ensures { written_view result ≡ least_written (written_plain (before_comment 0 text.now)) }
+{
+    let raw = before_comment(0, text);
+    let scalar = trim_end(raw);
+    Written {
+        given: Some(plain(scalar, at.front(text, scalar.len()))),
+        header: None,
+        code: plain_code(raw, raw, scalar),
+    }
+}
+
+/// The value that begins at the front. Errors: memory was refused.
+pub fn read_value<'a>(alloc: Global, at: At, text: &'a str) -> Result<Written<'a>, AllocError>
+    ensures { IfOk result (λ w. written_view w ≡ least_written (written_at text.now)) }
+{
+    if is_quote(text.as_bytes()) {
+        match read_quoted(alloc, at, text)? {
+            Some(quoted) => Ok(closed(quoted)),
+            None => Ok(unclosed(at, text)),
+        }
+    } else if head_is(b'[', text.as_bytes()) {
+        let list = read_list(alloc, at, text)?;
+        Ok(written_list(list))
+    } else if head_is(b'|', text.as_bytes()) {
+        Ok(header_of(at, tail(text)))
+    } else {
+        Ok(written_plain(at, text))
+    }
+}
+
+/// The value in the text behind this byte. Errors: memory was refused.
+pub fn read_written<'a>(
+    alloc: Global,
+    at: At,
+    last: u8,
+    text: &'a str,
+) -> Result<Written<'a>, AllocError>
+    ensures { IfOk result (λ w. written_view w ≡ least_written (written last text.now)) }
+{
+    if is_only_comment(last, text.as_bytes()) {
+        return Ok(Written {
+            given: None,
+            header: None,
+            code: None,
+        });
+    }
+    read_value(alloc, at, drop_blanks(text))
+}
