@@ -1,8 +1,8 @@
 //! The first path, event by event.
 
 use ci_machine::moment::Moment;
-use ci_machine::reply::{Code, Reply};
-use ci_machine::request::{NewJob, NewJobs, NewPipeline, Request, Seed};
+use ci_machine::reply::{Answer, Code, Reply};
+use ci_machine::request::{Event, NewJob, NewJobs, NewPipeline, Request, Seed};
 use ci_machine::text::{Text, Texts};
 use ci_server::server::Server;
 use ci_store::Alter;
@@ -181,4 +181,35 @@ fn each_refusal(rt: HostRuntime) -> Result<(), Fail> {
 /// Is the reply this refusal?
 pub fn is_refusal(reply: &Reply, code: Code) -> bool {
     reply.code == Some(code)
+}
+
+/// The events of the first path, each at its moment and with its seed.
+fn calls(alloc: Global) -> Result<Vec<(Event, Moment, Seed)>, Fail> {
+    let moment = Moment::new(1000).ok_or("moment")?;
+    let mut calls = Vec::new(alloc);
+    for step in STEPS {
+        let event = Event::Request(request(alloc, step)?);
+        calls.push((event, moment, Seed([0xab; 16])))?;
+    }
+    Ok(calls)
+}
+
+#[test]
+fn a_run_answers_in_turn(rt: HostRuntime) -> Result<(), Fail> {
+    let alloc = rt.alloc();
+    let mut server = over_memory(alloc)?;
+    if server.closed() {
+        Err("closed")?;
+    }
+    let calls = calls(alloc)?;
+    let answers = server.run(alloc, calls.as_slice())?;
+    assert!(rt; answers.len() == STEPS.len());
+    let mut place = 0;
+    for step in STEPS {
+        let Answer::Reply(reply) = answers.get(place).ok_or("no answer")?;
+        assert!(rt; says(reply, first_answer(step)));
+        place += 1;
+    }
+    assert!(rt; !server.closed());
+    Ok(())
 }
