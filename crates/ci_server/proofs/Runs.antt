@@ -1,21 +1,20 @@
 -- A run goes on by one call.
 use Rattle.std.proofs.Common.{◌≡◌, ◌⊎◌, inl, inr, ⊎_elim, ℕ, Bool, true, false, List, [], ◌∷◌, ◌++◌, refl, sym, ap, subst, ◌∙◌}
-use Rattle.std.proofs.lemmas.Bool.{false≢true, true≢false}
+use Rattle.std.proofs.lemmas.Bool.{false≢true}
 use Rattle.ci_machine.specs.declared.reply.Answer.{Answer}
 use Rattle.ci_machine.specs.declared.reply.Answer.TheVariants as answer
-use Rattle.ci_machine.specs.declared.reply.Code.TheVariants.{M16, M17}
 use Rattle.ci_machine.specs.declared.request.Event.{Event}
 use Rattle.ci_machine.specs.declared.request.Event.TheVariants as event
 use Rattle.ci_machine.specs.declared.request.Request.{Request}
 use Rattle.ci_machine.specs.declared.request.Seed.{Seed}
 use Rattle.ci_machine.specs.declared.reply.Reply.{Reply}
-use Rattle.ci_machine.specs.Reply.{Outcome, Stepped, LackedMemory, StoreFailed, outcome_of, refusal}
+use Rattle.ci_machine.specs.Reply.{Outcome, Stepped, LackedMemory, StoreFailed, outcome_of}
 use Rattle.ci_machine.specs.State.{State}
 use Rattle.ci_machine.specs.Step.{Step}
 use Rattle.ci_machine.specs.History.{Past, Leads}
 use Rattle.ci_machine.specs.Laws.{Laws}
 use Rattle.ci_server.specs.Handling.{Handled, answered, no_memory, look_failed, commit_failed}
-use Rattle.ci_server.specs.Runs.{Call, Happened, line, by_outcome, GoesOn, NoneFailed, IsUnanswered, OneMore, IsRun}
+use Rattle.ci_server.specs.Runs.{Call, Happened, line, by_outcome, GoesOn, NoneFailed, IsUnanswered, IsRun}
 
 -- the laws of each reached state, and that the machine answers with a step
 abbrev AllLaws : Type 0

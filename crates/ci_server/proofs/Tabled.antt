@@ -1,13 +1,12 @@
 -- From what the tables promise to what a store promises.
-use Rattle.std.specs.Prelude.{◌≡◌, ℕ, ◌≤◌, ◌<◌, cond, nat_lt, ◌==◌, List, find, filter, Option, Result, Ok, Err, IfOk, OnOk}
+use Rattle.std.specs.Prelude.{◌≡◌, ℕ, ◌≤◌, ◌<◌, cond, nat_lt, ◌==◌, List, find, filter, Result, Ok, Err, IfOk, OnOk}
 use Rattle.std.specs.Str.{bytes_eq}
 use Rattle.std.specs.Ordering.{nat_cmp, is_eq}
 use Rattle.std.specs.Cmp.Lexicographic.{slice_cmp}
 use Rattle.std.specs.declared.cmp.Ordering.TheVariants.{Less, Equal, Greater}
-use Rattle.std.proofs.Common.{refl, sym, ap, subst, ◌∙◌, inl, arith, ltb-true, ne_eqb}
+use Rattle.std.proofs.Common.{refl, sym, ap, subst, inl, arith, ltb-true, ne_eqb}
 use Rattle.std.proofs.lemmas.Bool.{cond_both}
 use Rattle.std.proofs.lemmas.Map.Text.{is_eq-slice_cmp}
-use Rattle.sqlite.specs.Tree.{Trees}
 use Rattle.sqlite.specs.State.{HasCleanDisk}
 use Rattle.sqlite.specs.Store.{Ghosts}
 use Rattle.sqlite.specs.Held.{Held, state}
@@ -15,7 +14,7 @@ use Rattle.sqlite_trees.specs.View.{doubt}
 use Rattle.ci_tables.specs.declared.fault.StoreFault.{StoreFault}
 use Rattle.ci_tables.specs.declared.fault.StoreFault.TheVariants.{Memory, Broken}
 use Rattle.ci_machine.specs.State.{State}
-use Rattle.ci_store.specs.Stands.{StandsIn, IsAt, LeavesOnly, LeavesEither}
+use Rattle.ci_store.specs.Stands.{IsAt, LeavesOnly, LeavesEither}
 use Rattle.ci_server.specs.Stores.{Looks, UnlessBroken}
 
 same_number : (a b : ℕ) → is_eq (nat_cmp a b) ≡ (a == b)

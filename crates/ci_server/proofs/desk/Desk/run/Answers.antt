@@ -1,7 +1,6 @@
-use Rattle.std.proofs.Common.{◌≡◌, ◌++◌, ◌∷◌, [], take, List, arith, sym, subst₂, ap, ◌∙◌}
-use Rattle.std.proofs.lemmas.List.{take_more, take_all}
+use Rattle.std.proofs.Common.{◌++◌, ◌∷◌, [], take, List, arith, sym, subst₂, ap, ◌∙◌}
+use Rattle.std.proofs.lemmas.List.{take_more}
 use Rattle.ci_machine.specs.declared.reply.Answer.{Answer}
-use Rattle.ci_machine.specs.State.{State}
 use Rattle.ci_server.specs.Runs.{Call, IsRun}
 use Rattle.ci_server.proofs.Runs.{run_more}
 use Rattle.ci_server.proofs.desk.Desk.run.Goals as goal

@@ -1,7 +1,6 @@
-use Rattle.std.proofs.Common.{◌≡◌, ◌∙◌, ℕ}
+use Rattle.std.proofs.Common.{◌≡◌, ◌∙◌}
 use Rattle.std.specs.Prelude.{filter}
 use Rattle.std.specs.Ordering.{nat_cmp, is_eq}
-use Rattle.ci_machine.specs.State.{State}
 use Rattle.ci_machine.specs.Step.{attempts_of}
 use Rattle.ci_machine.specs.declared.records.Attempt.{Attempt}
 use Rattle.ci_server.proofs.Tabled.{found_in, looked_up, filter_number}

@@ -1,8 +1,7 @@
-use Rattle.std.proofs.Common.{◌≡◌, ◌∙◌, ℕ}
+use Rattle.std.proofs.Common.{◌≡◌, ◌∙◌}
 use Rattle.std.specs.Prelude.{find}
 use Rattle.std.specs.Ordering.{nat_cmp, is_eq}
 use Rattle.std.specs.Cmp.Lexicographic.{slice_cmp}
-use Rattle.ci_machine.specs.State.{State}
 use Rattle.ci_machine.specs.Step.{runner_with}
 use Rattle.ci_machine.specs.declared.records.Runner.{Runner}
 use Rattle.ci_server.proofs.Tabled.{found_in, looked_up, find_text}
