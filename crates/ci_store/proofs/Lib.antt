@@ -7,6 +7,8 @@ mod Jobs
 mod Attempts
 mod JobVariables
 mod Meta
+mod Creates
+mod Fills
 mod JsonTexts
 mod Applied
 mod Removals

@@ -32,13 +32,13 @@ use Rattle.ci_store.specs.Rows.{number}
 use Rattle.ci_store.specs.Stands.{meta_row, meta_rows, counter_key, rows_of, IsRegular, Stands}
 use Rattle.ci_store.proofs.Records.{is, before_it, after_it}
 
-abbrev sets : List Term
+abbrev pub sets : List Term
 sets = col 1 0 ∷ col 0 0 ∷ col 0 1 ∷ []
 
-abbrev terms : List Term
+abbrev pub terms : List Term
 terms = lit Null ∷ col 0 0 ∷ col 0 1 ∷ []
 
-means : MeansPut the_schema 0 meta UPDATE_META.now INSERT_META.now (is 1 0 ∷ []) sets terms
+pub means : MeansPut the_schema 0 meta UPDATE_META.now INSERT_META.now (is 1 0 ∷ []) sets terms
 unfolding understood everything
 means = record { there = refl; apart = refl; update_is = refl; update_plain = (refl, refl); insert_is = refl; insert_plain = (refl, refl); uncounted = refl; unstamped = refl; idle = refl; alone = λ olds a. refl }
 
@@ -50,7 +50,7 @@ unnumbered false n v x y = refl
 agrees : (r new_row : Row) (key : List ℕ) (num : ℕ) → image (places meta) new_row ≡ meta_row key num → (equal Binary (column r 1) (Text key) && true) ≡ agree plain (1 ∷ []) r (1 ∷ []) new_row
 agrees r new_row key num is = sym (λ i. equal (first_key-plain i).collation (column r 1) (column (is i) 0) && true)
 
-gives : (key : List ℕ) (num : ℕ) → GivesRecord the_schema meta (is 1 0 ∷ []) sets terms (Text key ∷ []) (meta_row key num)
+pub gives : (key : List ℕ) (num : ℕ) → GivesRecord the_schema meta (is 1 0 ∷ []) sets terms (Text key ∷ []) (meta_row key num)
 gives key num = record {
   tested = λ r. refl;
   updated = λ old. λ i. Text key ∷ cast_int (pos num) i ∷ [];

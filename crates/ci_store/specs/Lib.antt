@@ -3,4 +3,5 @@ pub mod JsonText
 pub mod Rows
 pub mod Stands
 pub mod Commit
+pub mod Create
 pub mod Load

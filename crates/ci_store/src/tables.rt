@@ -1,14 +1,16 @@
 //! The tables, which are the only writer of their store.
 
-ghost use Rattle.std.specs.Prelude.{◌≡◌, ◌≤◌, ◌⊎◌, true, false, filter, find, IfOk, IfErr, OnOk, Err};
+ghost use Rattle.std.specs.Prelude.{◌≡◌, ◌≤◌, ◌⊎◌, true, false, filter, find, IsTrue, IfOk, IfErr, OnOk, Err};
 ghost use Rattle.sqlite.specs.State.{HasCleanDisk, Survives};
 ghost use Rattle.sqlite.specs.Held.{state};
 ghost use Rattle.sqlite.specs.Tree.{Trees};
 ghost use Rattle.sqlite_trees.specs.View.{doubt};
-ghost use Rattle.ci_machine.specs.State.{State, applied};
+ghost use Rattle.ci_machine.specs.State.{State, applied, empty};
 ghost use Rattle.std.specs.Ordering.{nat_cmp, is_eq};
 ghost use Rattle.std.specs.Cmp.Lexicographic.{slice_cmp};
-ghost use Rattle.ci_store.specs.Stands.{StandsIn, IsAt, LeavesOnly};
+ghost use Rattle.ci_store.specs.Schema.{the_schema};
+ghost use Rattle.ci_store.specs.Create.{IsBlank, IsBare};
+ghost use Rattle.ci_store.specs.Stands.{Stands, StandsIn, IsAt, LeavesOnly};
 ghost use Rattle.ci_store.specs.Load.{next_in};
 
 use crate::commit::commit;
@@ -82,8 +84,12 @@ const FIRST_ROWS: [(&str, u64); 7] = [
     ("next_attempt", 1),
 ];
 
+/// Makes the tables and the indexes, in a store that has none.
 fn define<S: Alter>(tx: &mut Transaction<'_, S>) -> Result<(), StoreFault>
     ensures same_reference { tx.new.conn.ghost_name ≡ tx.old.conn.ghost_name }
+    ensures makes { HasCleanDisk (state S.Store tx.new.conn.now) → IsTrue tx.old.conn.now.in_transaction
+        → OnOk result (IsTrue tx.new.conn.now.in_transaction × (IsBlank S.Store tx.old.conn.now → IsBare the_schema (state S.Store tx.new.conn.now).now)) }
+    ensures survives { Survives (state S.Store tx.old.conn.now) (state S.Store tx.new.conn.now) (λ _. ⊥) }
 {
     for text in texts::SCHEMA {
         change(tx, text, &[])?;
@@ -91,8 +97,12 @@ fn define<S: Alter>(tx: &mut Transaction<'_, S>) -> Result<(), StoreFault>
     Ok(())
 }
 
+/// Writes the first rows, in tables that have none.
 fn fill<S: Alter>(tx: &mut Transaction<'_, S>) -> Result<(), StoreFault>
     ensures same_reference { tx.new.conn.ghost_name ≡ tx.old.conn.ghost_name }
+    ensures makes { HasCleanDisk (state S.Store tx.new.conn.now) → IsTrue tx.old.conn.now.in_transaction
+        → OnOk result (IsTrue tx.new.conn.now.in_transaction × (IsBare the_schema (state S.Store tx.old.conn.now).now → Stands empty (state S.Store tx.new.conn.now).now)) }
+    ensures survives { Survives (state S.Store tx.old.conn.now) (state S.Store tx.new.conn.now) (λ _. ⊥) }
 {
     for (key, num) in FIRST_ROWS {
         change(tx, texts::INSERT_META, &[key.to_sql(), number(num)?])?;
@@ -100,16 +110,29 @@ fn fill<S: Alter>(tx: &mut Transaction<'_, S>) -> Result<(), StoreFault>
     Ok(())
 }
 
+fn define_and_fill<S: Alter>(tx: &mut Transaction<'_, S>) -> Result<(), StoreFault>
+    ensures same_reference { tx.new.conn.ghost_name ≡ tx.old.conn.ghost_name }
+    ensures makes { HasCleanDisk (state S.Store tx.new.conn.now) → IsTrue tx.old.conn.now.in_transaction
+        → OnOk result (IsTrue tx.new.conn.now.in_transaction × (IsBlank S.Store tx.old.conn.now → Stands empty (state S.Store tx.new.conn.now).now)) }
+    ensures survives { Survives (state S.Store tx.old.conn.now) (state S.Store tx.new.conn.now) (λ _. ⊥) }
+{
+    define(tx)?;
+    fill(tx)
+}
+
 fn make_tables<S: Alter>(conn: &mut Connection<S>) -> Result<(), OpenFault>
     requires { conn.old.in_transaction ≡ false }
     ensures idle { conn.new.in_transaction ≡ false }
+    ensures made { HasCleanDisk (state S.Store conn.new) → OnOk result (IsBlank S.Store conn.old → IsAt S.Store empty conn.new) }
+    ensures survives { Survives (state S.Store conn.old) (state S.Store conn.new) (λ db. IsBlank S.Store conn.old → StandsIn empty db) }
 {
     if !conn.schema().tables.is_empty() {
         return Err(OpenFault::O1);
     }
     let mut tx = conn.transaction();
-    define(&mut tx)?;
-    fill(&mut tx)?;
+    if let Err(fault) = define_and_fill(&mut tx) {
+        return Err(OpenFault::from(fault));
+    }
     match tx.commit() {
         Ok(()) => Ok(()),
         Err(error) => Err(OpenFault::from(StoreFault::from(error))),
@@ -167,7 +190,12 @@ fn recognize<S: Alter>(conn: &mut Connection<S>) -> Result<(), OpenFault>
 impl<S: Alter> Tables<S> {
     /// Makes the tables of an empty store, in one transaction. Errors: O1, the store has tables already; O3, it failed, or a
     /// transaction is open.
-    pub fn create(mut conn: Connection<S>) -> Result<Tables<S>, (OpenFault, Connection<S>)> {
+    pub fn create(mut conn: Connection<S>) -> Result<Tables<S>, (OpenFault, Connection<S>)>
+        ensures clean { IfOk result (λ t. doubt (state S.Store conn).is_clean ≤ doubt (state S.Store t).is_clean) }
+        ensures clean_fault { IfErr result (λ e. doubt (state S.Store conn).is_clean ≤ doubt (state S.Store e.1).is_clean) }
+        ensures made { IfOk result (λ t. HasCleanDisk (state S.Store t) → IsBlank S.Store conn → IsAt S.Store empty t) }
+        ensures left { IfErr result (λ e. HasCleanDisk (state S.Store e.1) → IsBlank S.Store conn → (db : Trees) → (state S.Store e.1).may_leave db → (state S.Store conn).may_leave db ⊎ StandsIn empty db) }
+    {
         if !conn.is_autocommit() {
             return Err((OpenFault::O3, conn));
         }
