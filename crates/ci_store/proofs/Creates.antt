@@ -1,5 +1,5 @@
 -- Each CREATE adds its table or its index to the schema.
-use Rattle.std.proofs.Common.{◌≡◌, ◌≢◌, ◌⊎◌, inl, inr, ℕ, zero, suc, map, ◌+◌, ◌<◌, List, [], ◌∷◌, ◌++◌, codes, Bool, false, Some, None, Ok, Err, Result, refl, sym, ap, subst, ◌∙◌, arith, slice_get, slice_index_or, get_or, length, Bor}
+use Rattle.std.proofs.Common.{◌≡◌, ◌⊎◌, inl, inr, ℕ, zero, suc, map, ◌+◌, ◌<◌, List, [], ◌∷◌, ◌++◌, false, Some, None, Ok, Err, Result, refl, sym, ap, subst, ◌∙◌, arith, slice_get, slice_index_or, get_or, length, Bor}
 use Rattle.std.specs.List.{AllByRecursion}
 use Rattle.sqlite.specs.Table.{Table}
 use Rattle.sqlite.specs.Schema.{Schema}
@@ -8,7 +8,7 @@ use Rattle.sqlite.specs.Effect.{Database}
 use Rattle.sqlite_tied.specs.Text.{table_defined_by, index_defined_by}
 use Rattle.sqlite_schema.specs.declared.schema.Index.{Index}
 use Rattle.sqlite_catalog.specs.Change.{created, indexed, next_tree, KeepsRows}
-use Rattle.sqlite.specs.Does.{Tally, Does, AtPlace, Defines, MakesIndex, lacks_sequence}
+use Rattle.sqlite.specs.Does.{Tally, AtPlace, Defines, MakesIndex, lacks_sequence}
 use Rattle.sqlite.specs.State.{State, mode_of, Writes, Executes, Survives}
 use Rattle.sqlite.specs.Listing.{understood}
 use Rattle.sqlite_tied.specs.Compute.{everything}
@@ -186,14 +186,8 @@ makes_next (suc (suc (suc (suc (suc (suc (suc zero))))))) low = creates_table sc
 makes_next (suc (suc (suc (suc (suc (suc (suc (suc zero)))))))) low = creates_index schema_8 the_schema 6 table.attempt (text_at 8) _ makes_attempt_job
 makes_next (suc (suc (suc (suc (suc (suc (suc (suc (suc k))))))))) low = absurd (omega (arith, low))
 
-pub step : (k : ℕ) → k < 9 → (text : List ℕ) → text ≡ text_at k → (old new : State) (count : ℕ) → IsBare (schema_after k) old.now → Executes text [] old new (Ok count) → IsBare (schema_after (k + 1)) new.now
-step k low text is old new count bare h = makes_next k low old new count bare (subst (λ t. Executes t [] old new (Ok count)) is h)
-
--- the text of a place in the array
-pub got : (texts : List (Bor (List ℕ))) (k : ℕ) (d : Bor (List ℕ)) (e : List ℕ) → k < length texts → (get_or texts k d).now ≡ slice_index_or (map (λ (t : Bor (List ℕ)). t.now) texts) k e
-got [] k d e low = absurd (omega (arith, low))
-got (t ∷ texts) zero d e low = refl
-got (t ∷ texts) (suc k) d e low = got texts k d e (omega (arith, low))
+pub runs_next : (k : ℕ) → k < 9 → (text : List ℕ) → text ≡ text_at k → (old new : State) (count : ℕ) → IsBare (schema_after k) old.now → Executes text [] old new (Ok count) → IsBare (schema_after (k + 1)) new.now
+runs_next k low text is old new count bare h = makes_next k low old new count bare (subst (λ t. Executes t [] old new (Ok count)) is h)
 
 pub survives_same : (s : State) (P : Trees → Type 0) → Survives s s P
 survives_same s P = record { clean = omega arith; shield = λ h. h; counts = omega arith; limit = refl; closes = λ _ h. inl h; crash = λ _ db h. inl h }

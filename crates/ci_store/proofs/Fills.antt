@@ -1,8 +1,7 @@
 -- The first rows of `meta`.
-use Rattle.std.proofs.Common.{◌≡◌, ◌≢◌, ◌⊎◌, inl, inr, ℕ, zero, suc, ◌+◌, ◌<◌, ◌==◌, if◌then◌else◌, cond, take, List, [], ◌∷◌, ◌++◌, codes, map, Some, None, Ok, refl, sym, ap, subst, ◌∙◌, arith, length, append-nil, slice_index_or, IsPermutation}
+use Rattle.std.proofs.Common.{◌≡◌, ◌⊎◌, inl, inr, ℕ, zero, suc, ◌+◌, ◌<◌, ◌==◌, if◌then◌else◌, take, List, [], ◌∷◌, ◌++◌, codes, map, Ok, refl, sym, subst, arith, append-nil, slice_index_or, IsPermutation}
 use Rattle.std.specs.List.{AllByRecursion}
 use Rattle.std.proofs.lemmas.List.Sorted.{IsPermutation-sym, IsPermutation-refl, IsPermutation-middle}
-use Rattle.sqlite.specs.declared.types.Value.{Value}
 use Rattle.sqlite.specs.declared.types.Value.TheVariants.{Text}
 use Rattle.sqlite_sql.specs.Ops.{binary}
 use Rattle.sqlite_value.specs.Order.{value_cmp}
@@ -14,8 +13,8 @@ use Rattle.sqlite.specs.State.{State as Store, Executes}
 use Rattle.sqlite_catalog.specs.Listing.{IsSound}
 use Rattle.sqlite_trees.specs.View.{IsShaped}
 use Rattle.sqlite_trees.specs.declared.store.Shape.TheVariants as shape
-use Rattle.ci_machine.specs.State.{State, empty, first_numbers}
-use Rattle.ci_tables.specs.Stands.{image, places, without, Holds, HoldsAll, IsOf}
+use Rattle.ci_machine.specs.State.{empty, first_numbers}
+use Rattle.ci_tables.specs.Stands.{image, places, without, Holds, IsOf}
 use Rattle.ci_tables.proofs.Puts.{inserts_one}
 use Rattle.ci_store.specs.declared.texts.TheConstants.{UPDATE_META, INSERT_META}
 use Rattle.ci_store.specs.Schema.{the_schema, meta}
@@ -72,12 +71,12 @@ grown (suc (suc (suc (suc (suc zero))))) low = adds (take 5 first_rows) _
 grown (suc (suc (suc (suc (suc (suc zero)))))) low = adds (take 6 first_rows) _
 grown (suc (suc (suc (suc (suc (suc (suc k))))))) low = absurd (omega (arith, low))
 
-pub fills_next : (k : ℕ) → k < 7 → (key : List ℕ) (num : ℕ) → key ≡ key_at k → num ≡ number_at k → (old new : Store) (count : ℕ) → IsOf the_schema (rows_after k) old.now → Executes INSERT_META.now (meta_row key num) old new (Ok count)
+pub fills_next : (k : ℕ) → k < 7 → (key : List ℕ) (num : ℕ) → (key ≡ key_at k) × (num ≡ number_at k) → (old new : Store) (count : ℕ) → IsOf the_schema (rows_after k) old.now → Executes INSERT_META.now (meta_row key num) old new (Ok count)
     → IsOf the_schema (rows_after (k + 1)) new.now
-fills_next k low key num same_key same_num old new count it h =
+fills_next k low key num same old new count it h =
     inserts_one the_schema 0 meta UPDATE_META.now INSERT_META.now (is 1 0 ∷ []) sets terms means (Text (key_at k) ∷ []) (meta_row (key_at k) (number_at k)) (gives (key_at k) (number_at k)) (rows_after k) (rows_after (k + 1))
     ((λ ne. absurd (ne refl)), ((λ _. refl), ((λ _. refl), ((λ _. refl), ((λ _. refl), ((λ _. refl), ((λ _. refl), tt))))))) (grown k low) old new count it
-    (subst (λ row. Executes INSERT_META.now row old new (Ok count)) (λ i. meta_row (same_key i) (same_num i)) h)
+    (subst (λ row. Executes INSERT_META.now row old new (Ok count)) (λ i. meta_row (same.0 i) (same.1 i)) h)
 
 -- each place below seven
 pub below_seven : (k : ℕ) → k < 7 → (k ≡ 0) ⊎ ((k ≡ 1) ⊎ ((k ≡ 2) ⊎ ((k ≡ 3) ⊎ ((k ≡ 4) ⊎ ((k ≡ 5) ⊎ (k ≡ 6))))))

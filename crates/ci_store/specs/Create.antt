@@ -1,5 +1,5 @@
 -- A database before the tables are made, and before they have rows.
-use Rattle.std.specs.Prelude.{◌≡◌, ◌≢◌, List, []}
+use Rattle.std.specs.Prelude.{◌≡◌, ◌≢◌, []}
 use Rattle.std.specs.List.{AllByRecursion}
 use Rattle.sqlite.specs.Schema.{Schema}
 use Rattle.sqlite.specs.Effect.{Database, IsDatabase}

@@ -1,8 +1,8 @@
-use Rattle.std.proofs.Common.{rules, ◌≡◌, Ok, [], ◌∙◌, refl, sym, subst, arith}
-use Rattle.sqlite.specs.State.{HasCleanDisk, Survives, Executes}
+use Rattle.std.proofs.Common.{rules, ◌≡◌, ◌∙◌, refl, subst, arith}
+use Rattle.sqlite.specs.State.{HasCleanDisk}
 use Rattle.sqlite.specs.Held.{state}
 use Rattle.sqlite.proofs.StateLemmas.{survives_then}
-use Rattle.ci_store.proofs.Creates.{step, got, schema_after, survives_same}
+use Rattle.ci_store.proofs.Creates.{runs_next, schema_after, survives_same}
 use Rattle.ci_store.specs.Create.{IsBare}
 use Rattle.ci_store.proofs.tables.define.Goals as goal
 
@@ -18,7 +18,7 @@ loop-text-preserved g c =
       λ clean inside.
           let early : HasCleanDisk (state g.S.Store mid) = omega (arith, clean, one.survives.clean) in
           let was = inv.1 early inside in
-          let ran = one.changed clean was.0 in (ran.0, λ blank. step c.loop-text.text-index low _ (search rules) (state g.S.Store mid) (state g.S.Store new) c.in_ok-change.field-0 (was.1 blank) ran.1),
+          let ran = one.changed clean was.0 in (ran.0, λ blank. runs_next c.loop-text.text-index low _ (search rules) (state g.S.Store mid) (state g.S.Store new) c.in_ok-change.field-0 (was.1 blank) ran.1),
       survives_then _ _ _ _ _ _ (λ _ db none. none) (λ _ db none. none) inv.2 one.survives,
     )
 

@@ -1,15 +1,12 @@
-use Rattle.std.proofs.Common.{inl, inr, rules, ◌≡◌, ◌∙◌, [], ◌∷◌, refl, sym, subst, arith}
-use Rattle.sqlite.specs.State.{HasCleanDisk, Survives, Executes}
-use Rattle.sqlite.specs.declared.types.Value.TheVariants.{Text}
+use Rattle.std.proofs.Common.{inl, inr, ◌≡◌, ◌∙◌, [], ◌∷◌, refl, subst, arith}
+use Rattle.sqlite.specs.State.{HasCleanDisk}
 use Rattle.sqlite.specs.Values.{bound_value}
 use Rattle.sqlite.specs.Held.{state}
 use Rattle.sqlite.proofs.StateLemmas.{survives_then}
-use Rattle.ci_machine.specs.State.{empty}
 use Rattle.ci_tables.specs.Stands.{IsOf}
 use Rattle.ci_tables.specs.Ran.{Changes}
 use Rattle.ci_store.specs.declared.texts.TheConstants.{INSERT_META}
 use Rattle.ci_store.specs.Schema.{the_schema}
-use Rattle.ci_store.specs.Stands.{meta_row, Stands}
 use Rattle.ci_store.proofs.Creates.{survives_same}
 use Rattle.ci_store.proofs.Fills.{rows_after, begins, ends, fills_next, below_seven}
 use Rattle.ci_store.proofs.tables.fill.Goals as goal
@@ -29,11 +26,21 @@ loop-key-preserved g c =
       λ clean inside.
           let early : HasCleanDisk (state g.S.Store mid) = omega (arith, clean, one.survives.clean) in
           let was = inv.1 early inside in
-          let ran = one.changed clean was.0 in
-          (ran.0, λ bare.
-              let row = (λ i. bound_value (c.to_sql.ensures i) ∷ bound_value (c.in_ok-number.ensures i) ∷ []) ∙ refl in
-              let h = subst (λ row. Changes g.S.Store INSERT_META.now row c.in_ok-change.field-0 mid new) row ran.1 in
-              fills_next c.loop-key.key-index low _ _ (elim (below_seven c.loop-key.key-index low) [ inl e ↦ rw e | inr (inl e) ↦ rw e | inr (inr (inl e)) ↦ rw e | inr (inr (inr (inl e))) ↦ rw e | inr (inr (inr (inr (inl e)))) ↦ rw e | inr (inr (inr (inr (inr (inl e))))) ↦ rw e | inr (inr (inr (inr (inr (inr e))))) ↦ rw e ]) (elim (below_seven c.loop-key.key-index low) [ inl e ↦ rw e | inr (inl e) ↦ rw e | inr (inr (inl e)) ↦ rw e | inr (inr (inr (inl e))) ↦ rw e | inr (inr (inr (inr (inl e)))) ↦ rw e | inr (inr (inr (inr (inr (inl e))))) ↦ rw e | inr (inr (inr (inr (inr (inr e))))) ↦ rw e ]) (state g.S.Store mid) (state g.S.Store new) c.in_ok-change.field-0 (was.1 bare) h),
+          let ran = one.changed clean was.0 in (
+            ran.0,
+            λ bare.
+                let row = (λ i. bound_value (c.to_sql.ensures i) ∷ bound_value (c.in_ok-number.ensures i) ∷ []) ∙ refl in
+                let h = subst (λ row. Changes g.S.Store INSERT_META.now row c.in_ok-change.field-0 mid new) row ran.1 in
+                fills_next c.loop-key.key-index low _ _ (elim (below_seven c.loop-key.key-index low) [
+                  | inl e ↦ (rw e, rw e)
+                  | inr (inl e) ↦ (rw e, rw e)
+                  | inr (inr (inl e)) ↦ (rw e, rw e)
+                  | inr (inr (inr (inl e))) ↦ (rw e, rw e)
+                  | inr (inr (inr (inr (inl e)))) ↦ (rw e, rw e)
+                  | inr (inr (inr (inr (inr (inl e))))) ↦ (rw e, rw e)
+                  | inr (inr (inr (inr (inr (inr e))))) ↦ (rw e, rw e)
+                ]) (state g.S.Store mid) (state g.S.Store new) c.in_ok-change.field-0 (was.1 bare) h,
+          ),
       survives_then _ _ _ _ _ _ (λ _ db none. none) (λ _ db none. none) inv.2 one.survives,
     )
 
