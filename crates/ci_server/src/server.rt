@@ -1,11 +1,14 @@
 //! The server: requests over the tables.
 
-ghost use Rattle.std.specs.Prelude.{◌≡◌, true, false, List, IfOk, IfErr, OnErr};
+ghost use Rattle.std.specs.Prelude.{◌≡◌, ◌≤◌, ◌⊎◌, true, false, List, IfOk, IfErr, OnErr};
 ghost use Rattle.sqlite.specs.State.{HasCleanDisk};
 ghost use Rattle.sqlite.specs.Held.{state};
-ghost use Rattle.ci_machine.specs.State.{State};
+ghost use Rattle.sqlite.specs.Tree.{Trees};
+ghost use Rattle.sqlite_trees.specs.View.{doubt};
+ghost use Rattle.ci_machine.specs.State.{State, empty};
 ghost use Rattle.ci_machine.specs.History.{Past, Leads};
-ghost use Rattle.ci_store.specs.Stands.{IsAt, LeavesOnly, LeavesEither};
+ghost use Rattle.ci_store.specs.Create.{IsBlank};
+ghost use Rattle.ci_store.specs.Stands.{StandsIn, IsAt, LeavesOnly, LeavesEither};
 ghost use Rattle.ci_server.specs.Served.{Handles};
 ghost use Rattle.ci_server.specs.Runs.{IsRun};
 
@@ -38,9 +41,13 @@ impl<S: Alter> Model for Server<S> {
 }
 
 impl<S: Alter> Server<S> {
-    /// A server over an empty store, whose tables it makes. Errors: as `Tables::create`; the connection comes back.
+    /// A server over an empty store, whose tables it makes: they hold the empty state, in which each next number is 1.
+    /// Errors: as `Tables::create`; the connection comes back.
     pub fn create(conn: Connection<S>) -> Result<Server<S>, (OpenFault, Connection<S>)>
         ensures open { IfOk result (λ server. server.closed ≡ false) }
+        ensures clean { IfOk result (λ server. doubt (state S.Store conn).is_clean ≤ doubt (state S.Store server.store).is_clean) }
+        ensures made { IfOk result (λ server. HasCleanDisk (state S.Store server.store) → IsBlank S.Store conn → IsAt S.Store empty server.store) }
+        ensures left { IfErr result (λ e. HasCleanDisk (state S.Store e.1) → IsBlank S.Store conn → (db : Trees) → (state S.Store e.1).may_leave db → (state S.Store conn).may_leave db ⊎ StandsIn empty db) }
     {
         match Tables::create(conn) {
             Ok(store) => Ok(Server {

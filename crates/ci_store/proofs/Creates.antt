@@ -1,5 +1,5 @@
 -- Each CREATE adds its table or its index to the schema.
-use Rattle.std.proofs.Common.{◌≡◌, ◌⊎◌, inl, inr, ℕ, zero, suc, map, ◌+◌, ◌<◌, List, [], ◌∷◌, ◌++◌, false, Some, None, Ok, Err, Result, refl, sym, ap, subst, ◌∙◌, arith, slice_get, slice_index_or, get_or, length, Bor}
+use Rattle.std.proofs.Common.{◌≡◌, ◌⊎◌, inl, inr, ℕ, zero, suc, map, ◌+◌, ◌<◌, List, [], ◌∷◌, ◌++◌, false, Some, None, Ok, Err, Result, refl, sym, ap, subst, ◌∙◌, arith, slice_get, slice_index_or}
 use Rattle.std.specs.List.{AllByRecursion}
 use Rattle.sqlite.specs.Table.{Table}
 use Rattle.sqlite.specs.Schema.{Schema}
