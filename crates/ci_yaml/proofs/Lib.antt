@@ -15,3 +15,4 @@ pub mod Quotes
 pub mod Turns
 pub mod Said
 pub mod BlockLines
+pub mod Literals
