@@ -10,3 +10,4 @@ pub mod Document
 pub mod ReadLines
 pub mod View
 pub mod Blocks
+pub mod Stops

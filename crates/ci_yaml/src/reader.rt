@@ -1,6 +1,10 @@
 //! Reading a text.
 
-ghost use Rattle.std.specs.Prelude.{◌≡◌, ◌<◌, ◌≤◌, IfOk, Err, length};
+ghost use Rattle.std.specs.Prelude.{◌≡◌, ◌+◌, ◌<◌, ◌≤◌, [], IfOk, IfErr, Err, length, take, drop};
+ghost use Rattle.ci_yaml.specs.View.{bytes_of, chomp_view};
+ghost use Rattle.ci_yaml.specs.Document.{literal, AreBlock, EndsBlock};
+ghost use Rattle.ci_yaml.specs.Blocks.{texts_of};
+ghost use Rattle.ci_yaml.specs.Stops.{BlockFails};
 ghost use Rattle.ci_yaml.specs.declared.fault.Code.TheVariants.{Y1};
 ghost use Rattle.ci_yaml.specs.declared.fault.YamlFault.TheVariants.{Fault};
 
@@ -78,7 +82,11 @@ fn read_block<'a>(
     at: usize,
     lines: &[&'a str],
 ) -> Result<(usize, Text<'a>), YamlFault>
+    requires fits { at + length lines.now < 18446744073709551616 }
     ensures within { IfOk result (λ r. r.0 ≤ length lines.now) }
+    ensures block { IfOk result (λ r. AreBlock column [] (texts_of (take r.0 lines.now)) × EndsBlock column (texts_of (drop r.0 lines.now))) }
+    ensures text { IfOk result (λ r. bytes_of r.1 ≡ literal (chomp_view how) (texts_of (take r.0 lines.now))) }
+    ensures fault { IfErr result (BlockFails column at lines.now) }
 {
     match block_len(column, lines) {
         Ok(len) => {
@@ -94,10 +102,7 @@ fn read_block<'a>(
             };
             Ok((len, Text::Owned(text, Span { start, end })))
         }
-        Err(BlockFault { at: place, code }) => {
-            let line = at.saturating_add(place).saturating_add(1);
-            Err(YamlFault::Fault(code, line))
-        },
+        Err(BlockFault { at: place, code }) => { Err(YamlFault::Fault(code, at + place + 1)) }
     }
 }
 

@@ -1,0 +1,50 @@
+-- Where the reading of lines stops, and what the code has when it goes on.
+use Rattle.std.specs.Prelude.{◌≡◌, ℕ, suc, ◌+◌, ◌≤◌, List, [], ◌∷◌, ◌++◌, length, take, drop, Option, Some, None, Result, Ok, Err, ⊤}
+use denote.Bor.{Bor}
+use Rattle.ci_yaml.specs.declared.fault.Code.{Code}
+use Rattle.ci_yaml.specs.declared.fault.YamlFault.{YamlFault}
+use Rattle.ci_yaml.specs.declared.fault.YamlFault.TheVariants as faults
+use Rattle.ci_yaml.specs.declared.parts.Chomp.{Chomp}
+use Rattle.ci_yaml.specs.declared.reader.Passed.{Passed}
+use Rattle.ci_yaml.specs.View.{chomp_view, state_view}
+use Rattle.ci_yaml.specs.Document.{Line, Ending, outside, within, AreBlock}
+use Rattle.ci_yaml.specs.Blocks.{texts_of, StopsBlock}
+use Rattle.ci_yaml.specs.ReadLines.{Reader, line_next, read_lines, beginning}
+
+abbrev pub below_view : Option (Chomp × ℕ) → Ending
+below_view None = outside
+below_view (Some b) = within (chomp_view b.0) b.1 []
+
+abbrev pub passed_view : Passed → Reader
+passed_view p = record { state = state_view p.progress; end = below_view p.below }
+
+-- What a function returned of the line of this number is what reading gives, unless memory ran out.
+abbrev pub FailsAt : {Y : Type 0} → ℕ → YamlFault → Result Y Code → Type 0
+FailsAt n faults.Memory read = ⊤
+FailsAt n (faults.Fault c m) read = (read ≡ Err c) × (m ≡ n)
+
+abbrev pub GivesAt : {X Y : Type 0} → (X → Y) → ℕ → Result X YamlFault → Result Y Code → Type 0
+GivesAt view n (Ok x) read = read ≡ Ok (view x)
+GivesAt view n (Err e) read = FailsAt n e read
+
+-- A fault in the block below column c that follows `at` lines: the line that it names is the first that cannot follow
+-- those before it, and the code is the least that holds of it.
+abbrev pub BlockFails : ℕ → ℕ → List (Bor (List ℕ)) → YamlFault → Type 0
+BlockFails c at ls faults.Memory = ⊤
+BlockFails c at ls (faults.Fault code n) =
+    (k : ℕ) × (n ≡ at + k + 1) × AreBlock c [] (texts_of (take k ls)) × StopsBlock c (texts_of (take k ls)) (texts_of (drop k ls)) code
+
+-- The lines before the one of this number can be read, and it can't follow them, for this reason.
+pub record StopsAt (ls : List Line) (at : ℕ) (code : Code) : Type 0 where
+  pub before : List Line
+  pub stop : Line
+  pub after : List Line
+  pub reader : Reader
+  pub parts : ls ≡ before ++ stop ∷ after
+  pub number : at ≡ suc (length before)
+  pub read : read_lines beginning before ≡ Ok reader
+  pub fault : line_next reader stop ≡ Err code
+
+abbrev pub StopsBy : List Line → YamlFault → Type 0
+StopsBy ls faults.Memory = ⊤
+StopsBy ls (faults.Fault code at) = StopsAt ls at code
