@@ -16,3 +16,6 @@ pub mod Turns
 pub mod Said
 pub mod BlockLines
 pub mod Literals
+pub mod Headers
+pub mod ReadSteps
+pub mod ReadParts

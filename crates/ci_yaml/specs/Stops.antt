@@ -6,10 +6,12 @@ use Rattle.ci_yaml.specs.declared.fault.YamlFault.{YamlFault}
 use Rattle.ci_yaml.specs.declared.fault.YamlFault.TheVariants as faults
 use Rattle.ci_yaml.specs.declared.parts.Chomp.{Chomp}
 use Rattle.ci_yaml.specs.declared.reader.Passed.{Passed}
-use Rattle.ci_yaml.specs.View.{chomp_view, state_view}
-use Rattle.ci_yaml.specs.Document.{Line, Ending, outside, within, AreBlock}
+use Rattle.ci_yaml.specs.View.{chomp_view, state_view, LeastSpoken}
+use Rattle.ci_yaml.specs.Least.{lesser}
+use Rattle.ci_yaml.specs.Reading.{State, run}
+use Rattle.ci_yaml.specs.Document.{Line, Ending, outside, within, last_column, IsOutside, AreBlock}
 use Rattle.ci_yaml.specs.Blocks.{texts_of, StopsBlock}
-use Rattle.ci_yaml.specs.ReadLines.{Reader, line_next, read_lines, beginning}
+use Rattle.ci_yaml.specs.ReadLines.{Reader, stop_or, ending_at, line_next, read_lines, beginning}
 
 abbrev pub below_view : Option (Chomp × ℕ) → Ending
 below_view None = outside
@@ -17,6 +19,14 @@ below_view (Some b) = within (chomp_view b.0) b.1 []
 
 abbrev pub passed_view : Passed → Reader
 passed_view p = record { state = state_view p.progress; end = below_view p.below }
+
+-- Reading what a line says, by the least code of the line itself.
+abbrev pub entered_by : Result State Code → LeastSpoken → Result Reader Code
+entered_by (Ok s) sp = stop_or sp.code (record { state = s; end = ending_at sp.header (last_column sp.entries) })
+entered_by (Err c) sp = Err (lesser c sp.code)
+
+abbrev pub entered : State → LeastSpoken → Result Reader Code
+entered s sp = entered_by (run s sp.entries) sp
 
 -- What a function returned of the line of this number is what reading gives, unless memory ran out.
 abbrev pub FailsAt : {Y : Type 0} → ℕ → YamlFault → Result Y Code → Type 0
@@ -48,3 +58,19 @@ pub record StopsAt (ls : List Line) (at : ℕ) (code : Code) : Type 0 where
 abbrev pub StopsBy : List Line → YamlFault → Type 0
 StopsBy ls faults.Memory = ⊤
 StopsBy ls (faults.Fault code at) = StopsAt ls at code
+
+-- the first of these lines is in no block that is open
+abbrev pub StartsOutside : Ending → List Line → Type 0
+StartsOutside end [] = ⊤
+StartsOutside end (l ∷ ls) = IsOutside end l
+
+-- The first lines, so many, are read to this state, and the next belongs to no block.
+pub record HasRead (ls : List Line) (at : ℕ) (st : State) : Type 0 where
+  pub end : Ending
+  pub read : read_lines beginning (take at ls) ≡ Ok (record { state = st; end = end })
+  pub next : StartsOutside end (drop at ls)
+
+-- no line is longer than a text may be
+abbrev pub AreShort : List Line → Type 0
+AreShort [] = ⊤
+AreShort (l ∷ ls) = (length l ≤ 65536) × AreShort ls

@@ -1,10 +1,13 @@
 //! Reading a text.
 
-ghost use Rattle.std.specs.Prelude.{◌≡◌, ◌+◌, ◌<◌, ◌≤◌, [], IfOk, IfErr, Err, length, take, drop};
-ghost use Rattle.ci_yaml.specs.View.{bytes_of, chomp_view};
-ghost use Rattle.ci_yaml.specs.Document.{literal, AreBlock, EndsBlock};
+ghost use Rattle.std.specs.Prelude.{◌≡◌, ◌+◌, ◌<◌, ◌≤◌, [], map, option_map, IfOk, IfErr, Ok, Err, length, take, drop};
+ghost use Rattle.ci_yaml.specs.View.{bytes_of, chomp_view, entry_view, state_view, spoken_view};
+ghost use Rattle.ci_yaml.specs.Line.{line_spoken};
+ghost use Rattle.ci_yaml.specs.ReadLines.{Reader, with_text, stop_or, ending_at, content, read_lines, beginning};
+ghost use Rattle.ci_yaml.specs.Least.{lesser};
+ghost use Rattle.ci_yaml.specs.Document.{literal, last_column, AreBlock, EndsBlock};
 ghost use Rattle.ci_yaml.specs.Blocks.{texts_of};
-ghost use Rattle.ci_yaml.specs.Stops.{BlockFails};
+ghost use Rattle.ci_yaml.specs.Stops.{below_view, passed_view, entered, GivesAt, BlockFails, StopsBy, HasRead, AreShort};
 ghost use Rattle.ci_yaml.specs.declared.fault.Code.TheVariants.{Y1};
 ghost use Rattle.ci_yaml.specs.declared.fault.YamlFault.TheVariants.{Fault};
 
@@ -26,10 +29,69 @@ struct Passed<'a> {
     below: Option<(Chomp, u32)>,
 }
 
-fn last_column(entries: &[Entry]) -> u32 {
+/// The column of the last entry.
+fn last_column(entries: &[Entry]) -> u32
+    ensures { result ≡ last_column (map entry_view entries.now) }
+{
     match entries {
         [.., entry] => entry.column,
         [] => 0,
+    }
+}
+
+/// How the literal block below a line is read, and below which column, if the line has a header.
+fn below_of(header: Option<Chomp>, column: u32) -> Option<(Chomp, u32)>
+    ensures { below_view result ≡ ending_at (option_map chomp_view header) column }
+{
+    match header {
+        Some(how) => Some((how, column)),
+        None => None,
+    }
+}
+
+/// What was read, unless a code holds of the line itself. Errors: that code.
+fn unless<'a>(
+    code: Option<Code>,
+    number: usize,
+    passed: Passed<'a>,
+) -> Result<Passed<'a>, YamlFault>
+    ensures { GivesAt passed_view number result (stop_or code (passed_view passed.entry)) }
+{
+    match code {
+        None => Ok(passed),
+        Some(code) => Err(YamlFault::Fault(code, number)),
+    }
+}
+
+/// The lesser of a code and another, if there is another.
+fn lesser_of(place: Code, code: Option<Code>) -> Code
+    ensures { result ≡ lesser place code }
+{
+    match code {
+        None => place,
+        Some(code) => lesser(place, code),
+    }
+}
+
+/// Enters what a line says, which is counted from 1.
+fn enter<'a>(
+    alloc: Global,
+    progress: Progress<'a>,
+    number: usize,
+    said: Spoken<'a>,
+) -> Result<Passed<'a>, YamlFault>
+    ensures { GivesAt passed_view number result (entered (state_view progress.entry) (spoken_view said.entry)) }
+{
+    let Spoken {
+        entries,
+        header,
+        code,
+    } = said;
+    let below = below_of(header, last_column(&entries));
+    match enter_all(alloc, progress, entries) {
+        Ok(progress) => unless(code, number, Passed { progress, below }),
+        Err(Stop::Memory) => Err(YamlFault::Memory),
+        Err(Stop::Fault(place)) => Err(YamlFault::Fault(lesser_of(place, code), number)),
     }
 }
 
@@ -39,34 +101,18 @@ fn read_line<'a>(
     progress: Progress<'a>,
     number: usize,
     line: &'a str,
-) -> Result<Passed<'a>, YamlFault> {
-    // No line is longer than its text.
-    if TEXT_LIMIT < line.len() {
-        return Err(YamlFault::Fault(Code::Y1, 1));
-    }
-    let Spoken {
-        entries,
-        header,
-        code,
-    } = line_spoken(alloc, number, line)?;
-    let column = last_column(&entries);
-    let below = match header {
-        Some(how) => Some((how, column)),
-        None => None,
-    };
-    match (enter_all(alloc, progress, entries), code) {
-        (Ok(progress), None) => Ok(Passed { progress, below }),
-        (Ok(_), Some(code)) => Err(YamlFault::Fault(code, number)),
-        (Err(Stop::Memory), _) => Err(YamlFault::Memory),
-        (Err(Stop::Fault(place)), None) => Err(YamlFault::Fault(place, number)),
-        (Err(Stop::Fault(place)), Some(code)) => {
-            Err(YamlFault::Fault(lesser(place, code), number))
-        }
-    }
+) -> Result<Passed<'a>, YamlFault>
+    requires fits { length line.now ≤ 65536 }
+    ensures { GivesAt passed_view number result (content (state_view progress.entry) (line_spoken line.now)) }
+{
+    let said = line_spoken(alloc, number, line)?;
+    enter(alloc, progress, number, said)
 }
 
 /// With this text for the value of the last entry.
-fn with_text<'a>(progress: Progress<'a>, text: Text<'a>) -> Progress<'a> {
+fn with_text<'a>(progress: Progress<'a>, text: Text<'a>) -> Progress<'a>
+    ensures { state_view result ≡ with_text (bytes_of text.entry) (state_view progress.entry) }
+{
     match progress {
         Progress::Start => Progress::Start,
         Progress::Whole(_) => Progress::Whole(Tree::Text(text)),
@@ -106,20 +152,43 @@ fn read_block<'a>(
     }
 }
 
-fn read_lines<'a>(alloc: Global, lines: &[&'a str]) -> Result<Progress<'a>, YamlFault> {
+/// Reads the line behind the first lines, so many, and the literal block below it: how many lines are read then.
+fn read_part<'a>(
+    alloc: Global,
+    progress: Progress<'a>,
+    at: usize,
+    lines: &[&'a str],
+) -> Result<(usize, Progress<'a>), YamlFault>
+    requires inside { at < length lines.now }
+    requires short { AreShort (texts_of lines.now) }
+    requires before { HasRead (texts_of lines.now) at (state_view progress) }
+    ensures more { IfOk result (λ r. (at < r.0) × (r.0 ≤ length lines.now)) }
+    ensures read { IfOk result (λ r. HasRead (texts_of lines.now) r.0 (state_view r.1)) }
+    ensures fault { IfErr result (StopsBy (texts_of lines.now)) }
+{
+    let Passed { progress, below } = read_line(alloc, progress, at + 1, lines[at])?;
+    let next = at + 1;
+    match below {
+        None => Ok((next, progress)),
+        Some((how, column)) => {
+            let (len, text) = read_block(alloc, how, column, next, &lines[next..])?;
+            Ok((next + len, with_text(progress, text)))
+        }
+    }
+}
+
+/// Reads the lines. Errors: the first line that cannot follow those before it, and its code; or memory was refused.
+fn read_lines<'a>(alloc: Global, lines: &[&'a str]) -> Result<Progress<'a>, YamlFault>
+    requires short { AreShort (texts_of lines.now) }
+    ensures read { IfOk result (λ p. (r : Reader) × (read_lines beginning (texts_of lines.now) ≡ Ok r) × (r.state ≡ state_view p)) }
+    ensures fault { IfErr result (StopsBy (texts_of lines.now)) }
+{
     let mut progress = Progress::Start;
     let mut at = 0;
     'lines: while at < lines.len() {
-        let passed = read_line(alloc, progress, at + 1, lines[at])?;
-        at += 1;
-        match passed.below {
-            None => progress = passed.progress,
-            Some((how, column)) => {
-                let (len, text) = read_block(alloc, how, column, at, &lines[at..])?;
-                progress = with_text(passed.progress, text);
-                at += len;
-            }
-        }
+        let (next, more) = read_part(alloc, progress, at, lines)?;
+        progress = more;
+        at = next;
     }
     Ok(progress)
 }
