@@ -1,12 +1,12 @@
 -- Before its block a header's entry holds an empty text.
-use Rattle.std.proofs.Common.{◌≡◌, ℕ, zero, suc, ◌+◌, Bool, true, false, cond, List, [], ◌∷◌, ◌++◌, length, drop, Option, Some, None, is_some, refl, sym, ◌∙◌, ap}
+use Rattle.std.proofs.Common.{◌≡◌, ℕ, zero, suc, ◌+◌, Bool, true, false, cond, List, [], ◌∷◌, length, drop, Option, Some, None, is_some, refl, sym, ◌∙◌, ap}
 use Rattle.std.specs.Prelude.{⊤, ◌==◌, ◌&&◌, ◌||◌}
 use Rattle.ci_yaml.specs.declared.fault.Code.{Code}
 use Rattle.ci_yaml.specs.declared.fault.Code.TheVariants.{Y2, Y9}
 use Rattle.ci_yaml.specs.Tree.{Value, text}
 use Rattle.ci_yaml.specs.Entry.{Head, dash, key, bare, Entry}
 use Rattle.ci_yaml.specs.Scalar.{drop_blanks, trim_end, head_is, tail_of, before_comment, only_comment, when, Quoted, quoted, is_quote}
-use Rattle.ci_yaml.specs.Line.{Chomp, clip, strip, keep, Written, header_rest, header_of, written_quoted, written_list, listed, written_plain, written_at, unwritten, written, Keyed, keyed, keyed_or_bare, is_dash, spaces, Item, inner, value, item, Spoken, entry_of, header_code, with_dash, dashed, spoken, with_codes, content_spoken, is_document_mark, has_control, has_mark, is_skipped, line_spoken}
+use Rattle.ci_yaml.specs.Line.{Chomp, clip, strip, keep, Written, header_rest, header_of, written_quoted, written_list, listed, written_plain, written_at, unwritten, written, Keyed, keyed, keyed_or_bare, is_dash, spaces, Item, inner, value, item, Spoken, entry_of, header_code, with_dash, dashed, spoken, with_codes, content_spoken, is_document_mark, is_skipped, line_spoken}
 use Rattle.ci_yaml.specs.Document.{Line, literal, filled, entries_with}
 
 -- the value beside a header is an empty text

@@ -19,3 +19,4 @@ pub mod Literals
 pub mod Headers
 pub mod ReadSteps
 pub mod ReadParts
+pub mod ReadTexts

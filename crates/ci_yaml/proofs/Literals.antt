@@ -1,5 +1,5 @@
 -- The text of a block whose lines fit it.
-use Rattle.std.proofs.Common.{◌≡◌, ℕ, zero, suc, ◌+◌, ◌<◌, ◌≤◌, Bool, true, false, cond, List, [], ◌∷◌, ◌++◌, length, take, drop, Option, Some, None, refl, sym, ◌∙◌, ap, subst, append_assoc, arith}
+use Rattle.std.proofs.Common.{◌≡◌, ℕ, zero, suc, ◌≤◌, Bool, true, false, cond, List, [], ◌∷◌, ◌++◌, take, drop, Option, Some, None, refl, sym, ◌∙◌, ap, subst, append_assoc, arith}
 use Rattle.std.specs.Prelude.{⊤, min, not, nat_lt, ◌&&◌, unwrap_or}
 use Rattle.std.proofs.Math.Nat.{min-eq_right}
 use Rattle.std.proofs.lemmas.List.{append-nil}
@@ -7,8 +7,8 @@ use Rattle.std.proofs.lemmas.Bool.{ltb-false}
 use Rattle.ci_yaml.specs.declared.fault.Code.{Code}
 use Rattle.ci_yaml.specs.declared.fault.Code.TheVariants.{Y3, Y9}
 use Rattle.ci_yaml.specs.Scalar.{when}
-use Rattle.ci_yaml.specs.Line.{Chomp, clip, strip, keep, spaces, has_mark}
-use Rattle.ci_yaml.specs.Document.{Line, is_spaces, first_indent, block_indent, line_text, block_lines, kept_len, without_end, without_last, literal, is_low, indent_codes, block_codes, AreBlock}
+use Rattle.ci_yaml.specs.Line.{clip, strip, keep, spaces, has_mark}
+use Rattle.ci_yaml.specs.Document.{Line, is_spaces, first_indent, block_indent, line_text, block_lines, kept_len, without_end, without_last, literal, is_low, indent_codes, AreBlock}
 use Rattle.ci_yaml.specs.Blocks.{cut_text, cut_lines, cut_strip}
 
 -- each of the lines that isn't all spaces has n spaces at least

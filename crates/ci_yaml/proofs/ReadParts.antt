@@ -1,5 +1,5 @@
 -- The same of lines as the code holds them.
-use Rattle.std.proofs.Common.{◌≡◌, ℕ, zero, suc, ◌+◌, ◌<◌, ◌≤◌, List, [], ◌∷◌, length, take, drop, get_or, Option, Some, None, Result, Ok, Err, refl, sym, ◌∙◌, ap, subst, arith}
+use Rattle.std.proofs.Common.{◌≡◌, ℕ, zero, suc, ◌+◌, ◌<◌, ◌≤◌, List, [], ◌∷◌, length, take, drop, get_or, Option, Some, None, Result, Ok, refl, sym, ◌∙◌, ap, subst, arith}
 use denote.Bor.{Bor}
 use Rattle.ci_yaml.specs.declared.fault.Code.{Code}
 use Rattle.ci_yaml.specs.declared.fault.YamlFault.{YamlFault}
@@ -8,7 +8,7 @@ use Rattle.ci_yaml.specs.declared.parts.Chomp.{Chomp}
 use Rattle.ci_yaml.specs.View.{chomp_view}
 use Rattle.ci_yaml.specs.Line.{line_spoken}
 use Rattle.ci_yaml.specs.Reading.{State}
-use Rattle.ci_yaml.specs.Document.{Line, Ending, outside, within, literal, AreBlock, EndsBlock}
+use Rattle.ci_yaml.specs.Document.{Line, within, literal, AreBlock, EndsBlock}
 use Rattle.ci_yaml.specs.Blocks.{texts_of, StopsBlock}
 use Rattle.ci_yaml.specs.ReadLines.{Reader, with_text, content, read_lines, beginning}
 use Rattle.ci_yaml.specs.Stops.{below_view, FailsAt, BlockFails, StopsAt, StopsBy, HasRead, AreShort}

@@ -1,5 +1,5 @@
 -- Lines that are read, one after the other, and where they stop.
-use Rattle.std.proofs.Common.{◌≡◌, ℕ, zero, suc, ◌+◌, ◌-◌, ◌<◌, ◌≤◌, List, [], ◌∷◌, ◌++◌, map, length, take, drop, get_or, Option, Some, None, Result, Ok, Err, refl, sym, ◌∙◌, ap, subst, append_assoc, arith}
+use Rattle.std.proofs.Common.{◌≡◌, ℕ, zero, suc, ◌+◌, ◌-◌, ◌<◌, ◌≤◌, List, [], ◌∷◌, ◌++◌, map, length, take, drop, get_or, Option, Some, None, Result, Ok, Err, refl, sym, ◌∙◌, ap, subst, arith}
 use Rattle.std.proofs.Common.{cond}
 use Rattle.std.proofs.lemmas.List.{take_more, take-append-drop, drop-drop, append-nil}
 use Rattle.std.proofs.Math.Seq.{take-length, take-add}
@@ -7,7 +7,7 @@ use Rattle.ci_yaml.specs.declared.fault.Code.{Code}
 use Rattle.ci_yaml.specs.declared.parts.Entry as parts
 use Rattle.ci_yaml.specs.Entry.{Entry}
 use Rattle.ci_yaml.specs.View.{entry_view, LeastSpoken, least_spoken}
-use Rattle.ci_yaml.specs.Least.{lesser, least}
+use Rattle.ci_yaml.specs.Least.{least}
 use Rattle.ci_yaml.specs.Line.{Chomp, Spoken, line_spoken}
 use Rattle.ci_yaml.specs.Reading.{◌>>=◌, State, start, run}
 use Rattle.ci_yaml.specs.Document.{Line, Ending, outside, within, block_codes, literal, filled, entries_with, last_column, AreBlock, EndsBlock}

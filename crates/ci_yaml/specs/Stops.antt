@@ -1,15 +1,19 @@
 -- Where the reading of lines stops, and what the code has when it goes on.
-use Rattle.std.specs.Prelude.{◌≡◌, ℕ, suc, ◌+◌, ◌≤◌, List, [], ◌∷◌, ◌++◌, length, take, drop, Option, Some, None, Result, Ok, Err, ⊤}
+use Rattle.std.specs.Prelude.{◌≡◌, ℕ, suc, ◌+◌, ◌<◌, ◌≤◌, ◌⊎◌, List, [], ◌∷◌, ◌++◌, length, take, drop, Option, Some, None, Result, Ok, Err, ⊤}
+use Rattle.std.specs.Str.Lines.{lines}
 use denote.Bor.{Bor}
+use Rattle.ci_yaml.specs.Tree.{Value}
+use Rattle.ci_yaml.specs.declared.fault.Code.TheVariants.{Y1, Y12}
+use Rattle.ci_yaml.specs.declared.tree.Tree.{Tree}
 use Rattle.ci_yaml.specs.declared.fault.Code.{Code}
 use Rattle.ci_yaml.specs.declared.fault.YamlFault.{YamlFault}
 use Rattle.ci_yaml.specs.declared.fault.YamlFault.TheVariants as faults
 use Rattle.ci_yaml.specs.declared.parts.Chomp.{Chomp}
 use Rattle.ci_yaml.specs.declared.reader.Passed.{Passed}
-use Rattle.ci_yaml.specs.View.{chomp_view, state_view, LeastSpoken}
+use Rattle.ci_yaml.specs.View.{chomp_view, value_view, state_view, LeastSpoken}
 use Rattle.ci_yaml.specs.Least.{lesser}
-use Rattle.ci_yaml.specs.Reading.{State, run}
-use Rattle.ci_yaml.specs.Document.{Line, Ending, outside, within, last_column, IsOutside, AreBlock}
+use Rattle.ci_yaml.specs.Reading.{State, run, finished}
+use Rattle.ci_yaml.specs.Document.{Line, Ending, outside, within, last_column, IsOutside, AreBlock, Says, IsGood}
 use Rattle.ci_yaml.specs.Blocks.{texts_of, StopsBlock}
 use Rattle.ci_yaml.specs.ReadLines.{Reader, stop_or, ending_at, line_next, read_lines, beginning}
 
@@ -74,3 +78,40 @@ pub record HasRead (ls : List Line) (at : ℕ) (st : State) : Type 0 where
 abbrev pub AreShort : List Line → Type 0
 AreShort [] = ⊤
 AreShort (l ∷ ls) = (length l ≤ 65536) × AreShort ls
+
+-- ---- a text
+
+-- What reading lines to their end gives: their tree, the fault of the first that can't follow, or, where no line has content, Y12.
+abbrev pub Reads : List Line → Result Tree YamlFault → Type 0
+Reads ls (Ok t) = (r : Reader) × (read_lines beginning ls ≡ Ok r) × (finished r.state ≡ Some (value_view t))
+Reads ls (Err faults.Memory) = ⊤
+Reads ls (Err (faults.Fault code at)) = StopsAt ls at code ⊎ ((r : Reader) × (read_lines beginning ls ≡ Ok r) × (finished r.state ≡ None) × (at ≡ 1) × (code ≡ Y12))
+
+-- The line of this number is the first that makes no good beginning, and reading stops there with this code.
+pub record IsFirstBad (ls : List Line) (at : ℕ) (code : Code) : Type 0 where
+  pub before : List Line
+  pub stop : Line
+  pub after : List Line
+  pub parts : ls ≡ before ++ stop ∷ after
+  pub number : at ≡ suc (length before)
+  pub good : (k : ℕ) → IsGood (take k before)
+  pub bad : IsGood (before ++ stop ∷ []) → ⊥
+  pub reader : Reader
+  pub read : read_lines beginning before ≡ Ok reader
+  pub fault : line_next reader stop ≡ Err code
+
+-- Why a text is refused: it is too long, a line is the first that makes no good beginning, or no line has content.
+pub data IsRefused (bs : List ℕ) (at : ℕ) (code : Code) : Type 0 where
+  too_long : 65536 < length bs → at ≡ 1 → code ≡ Y1 → IsRefused bs at code
+  at_line : length bs ≤ 65536 → IsFirstBad (lines bs) at code → IsRefused bs at code
+  no_content : length bs ≤ 65536 → (end : Ending) → Says (lines bs) [] end → at ≡ 1 → code ≡ Y12 → IsRefused bs at code
+
+abbrev pub RefusedBy : List ℕ → YamlFault → Type 0
+RefusedBy bs faults.Memory = ⊤
+RefusedBy bs (faults.Fault code at) = IsRefused bs at code
+
+-- The tree is the one that was returned, unless memory ran out.
+abbrev pub GivesTree : Value → Result Tree YamlFault → Type 0
+GivesTree v (Ok t) = value_view t ≡ v
+GivesTree v (Err faults.Memory) = ⊤
+GivesTree v (Err (faults.Fault code at)) = ⊥

@@ -1,13 +1,14 @@
 //! Reading a text.
 
 ghost use Rattle.std.specs.Prelude.{◌≡◌, ◌+◌, ◌<◌, ◌≤◌, [], map, option_map, IfOk, IfErr, Ok, Err, length, take, drop};
-ghost use Rattle.ci_yaml.specs.View.{bytes_of, chomp_view, entry_view, state_view, spoken_view};
+ghost use Rattle.ci_yaml.specs.View.{bytes_of, chomp_view, value_view, entry_view, state_view, spoken_view};
 ghost use Rattle.ci_yaml.specs.Line.{line_spoken};
 ghost use Rattle.ci_yaml.specs.ReadLines.{Reader, with_text, stop_or, ending_at, content, read_lines, beginning};
 ghost use Rattle.ci_yaml.specs.Least.{lesser};
-ghost use Rattle.ci_yaml.specs.Document.{literal, last_column, AreBlock, EndsBlock};
+ghost use Rattle.ci_yaml.specs.Document.{literal, last_column, AreBlock, EndsBlock, HasTree};
+ghost use Rattle.ci_yaml.specs.Tree.{Value};
 ghost use Rattle.ci_yaml.specs.Blocks.{texts_of};
-ghost use Rattle.ci_yaml.specs.Stops.{below_view, passed_view, entered, GivesAt, BlockFails, StopsBy, HasRead, AreShort};
+ghost use Rattle.ci_yaml.specs.Stops.{below_view, passed_view, entered, GivesAt, BlockFails, StopsBy, HasRead, AreShort, Reads, RefusedBy, GivesTree};
 ghost use Rattle.ci_yaml.specs.declared.fault.Code.TheVariants.{Y1};
 ghost use Rattle.ci_yaml.specs.declared.fault.YamlFault.TheVariants.{Fault};
 
@@ -193,11 +194,29 @@ fn read_lines<'a>(alloc: Global, lines: &[&'a str]) -> Result<Progress<'a>, Yaml
     Ok(progress)
 }
 
+/// The tree of the lines. Errors: the first line that cannot follow those before it, and its code; or memory was refused.
+fn tree_of<'a>(alloc: Global, lines: &[&'a str]) -> Result<Tree<'a>, YamlFault>
+    requires short { AreShort (texts_of lines.now) }
+    ensures { Reads (texts_of lines.now) result }
+{
+    let progress = read_lines(alloc, lines)?;
+    match finish(progress)? {
+        Some(tree) => Ok(tree),
+        None => Err(YamlFault::Fault(Code::Y12, 1)),
+    }
+}
+
 /// The tree of a text.
 ///
 /// Errors: the code that holds of the first line that cannot follow the lines before it, the least of those that
 /// hold there; or memory was refused.
 pub fn read(alloc: Global, text: &str) -> Result<Tree<'_>, YamlFault>
+    // What is returned is the tree that the text has.
+    ensures tree { IfOk result (λ t. HasTree text.now (value_view t)) }
+    // A text that has a tree is read, unless memory is refused.
+    ensures all { (v : Value) → HasTree text.now v → GivesTree v result }
+    // A fault names the first line that makes no good beginning, with the code that reading stops with there.
+    ensures fault { IfErr result (RefusedBy text.now) }
     // A text that is too long is refused before all else.
     ensures too_long { 65536 < length text.now → result ≡ Err (Fault Y1 1) }
 {
@@ -205,9 +224,5 @@ pub fn read(alloc: Global, text: &str) -> Result<Tree<'_>, YamlFault>
         return Err(YamlFault::Fault(Code::Y1, 1));
     }
     let lines: Vec<&str> = text.lines().collect(alloc)?;
-    let progress = read_lines(alloc, &lines)?;
-    match finish(progress)? {
-        Some(tree) => Ok(tree),
-        None => Err(YamlFault::Fault(Code::Y12, 1)),
-    }
+    tree_of(alloc, &lines)
 }
