@@ -1,6 +1,6 @@
 # make build  proves and builds the program, and leaves it at bin/ciserver
-# make demo   the same, and answers one job request with it
-# make test   the gate: every proof from nothing, the must-fail edits, the tests, the program's stored run
+# make demo   the same, answers one job request with it, and has it check the stored CI files
+# make test   the gate: every proof from nothing, the must-fail edits, the tests, the programs' stored runs
 
 .PHONY: build demo test
 
@@ -14,6 +14,9 @@ demo: build
 	@echo
 	bin/ciserver demo < crates/ci_cli/stdin
 	@echo
+	bin/ciserver check crates/ci_texts/data/pipeline.yml
+	bin/ciserver check crates/ci_texts/data/job_named_twice.yml; test $$? = 1
+	.ci/texts
 
 test:
 	rt ci

@@ -32,7 +32,7 @@ int main(int count, char **words) {
                         "DELETE FROM attempt; UPDATE meta SET num = 1 WHERE key = 'next_attempt'", 0, 0, 0), db);
     sqlite3_stmt *begin = prepared(db, "BEGIN IMMEDIATE");
     sqlite3_stmt *commit = prepared(db, "COMMIT");
-    sqlite3_stmt *add = prepared(db, "INSERT INTO attempt (id, job, runner, token, granted, seen, state, cause, exit) VALUES (?1, ?2, ?3, ?4, ?5, ?6, ?7, ?8, ?9)");
+    sqlite3_stmt *add = prepared(db, "INSERT INTO attempt (id, job, runner, token, granted, seen, state, cause, exit, pieces, size) VALUES (?1, ?2, ?3, ?4, ?5, ?6, ?7, ?8, ?9, 0, 0)");
     sqlite3_stmt *next = prepared(db, "UPDATE meta SET key = ?1, num = ?2 WHERE key = ?1");
     struct timespec from, to;
     clock_gettime(CLOCK_MONOTONIC, &from);

@@ -3,7 +3,7 @@
 ghost use Rattle.std.specs.Prelude.{◌≡◌, ◌<◌};
 
 use ci_machine::moment::Moment;
-use ci_machine::reply::{Reply, Status};
+use ci_machine::reply::Status;
 use ci_machine::request::{NewJob, NewJobs, NewPipeline, Request, Seed};
 use ci_machine::text::{Text, Texts};
 use ci_server::link::Link;
@@ -62,33 +62,47 @@ fn serve_links<R: Read + Drop, W: Write + Drop, A: Ledger, B: Ledger>(
 
 /// Makes the project, the runner and the pipeline. Did each of them get made?
 fn is_ready<S: Alter>(alloc: Global, server: &mut Server<S>, moment: Moment) -> bool {
-    match requests(alloc) {
-        Ok((project, runner, pipeline)) => {
-            is_made(&server.handle(alloc, project, moment, SEED))
-                && is_made(&server.handle(alloc, runner, moment, SEED))
-                && is_made(&server.handle(alloc, pipeline, moment, SEED))
+    is_made(alloc, server, moment, project(alloc))
+        && is_made(alloc, server, moment, runner(alloc))
+        && is_made(alloc, server, moment, pipeline(alloc))
+}
+
+/// Handles a request, if there is one. Did it make what it asks for?
+fn is_made<S: Alter>(
+    alloc: Global,
+    server: &mut Server<S>,
+    moment: Moment,
+    request: Result<Request, AllocError>,
+) -> bool {
+    match request {
+        Ok(request) => {
+            let reply = server.handle(alloc, request, moment, SEED);
+            reply.status == Status::Created
         }
         Err(_) => false,
     }
 }
 
-fn is_made(reply: &Reply) -> bool {
-    reply.status == Status::Created
+fn project(alloc: Global) -> Result<Request, AllocError> {
+    Ok(Request::AddProject(Text::copy_of(alloc, "p")?))
 }
 
-fn requests(alloc: Global) -> Result<(Request, Request, Request), AllocError> {
-    let project = Request::AddProject(Text::copy_of(alloc, "p")?);
-    let runner = Request::AddRunner(Text::copy_of(alloc, "r")?);
-    let script = Texts::new(vec![in alloc; Text::copy_of(alloc, "make")?]?);
-    let build = NewJob {
-        name: Text::copy_of(alloc, "build")?,
-        script,
-    };
-    let pipeline = Request::EnterPipeline(NewPipeline {
+fn runner(alloc: Global) -> Result<Request, AllocError> {
+    Ok(Request::AddRunner(Text::copy_of(alloc, "r")?))
+}
+
+fn pipeline(alloc: Global) -> Result<Request, AllocError> {
+    let jobs = NewJobs::new(vec![in alloc; build(alloc)?]?);
+    Ok(Request::EnterPipeline(NewPipeline {
         project: 1,
         git_ref: Text::copy_of(alloc, "main")?,
         stage: Text::copy_of(alloc, "build")?,
-        jobs: NewJobs::new(vec![in alloc; build]?),
-    });
-    Ok((project, runner, pipeline))
+        jobs,
+    }))
+}
+
+fn build(alloc: Global) -> Result<NewJob, AllocError> {
+    let name = Text::copy_of(alloc, "build")?;
+    let script = Texts::new(vec![in alloc; Text::copy_of(alloc, "make")?]?);
+    Ok(NewJob { name, script })
 }

@@ -1,7 +1,18 @@
 -- What holds of each effect: a refusal changes nothing, and the machine answers neither M16 nor M17.
-use Rattle.std.proofs.Common.{◌≡◌, ℕ, List, [], length, not, nat_lt, Option, None, Some, refl, sym, ap, subst, ◌∙◌}
+use Rattle.std.proofs.Common.{◌≡◌, ℕ, ◌==◌, List, [], length, not, nat_lt, Option, None, Some, Result, Ok, Err, refl, sym, ap, subst, ◌∙◌}
+use Rattle.std.specs.Str.{bytes_eq}
 use Rattle.std.proofs.lemmas.Bool.{cond_both, false≢true}
 use Rattle.ci_machine.specs.declared.records.Project.{Project}
+use Rattle.ci_machine.specs.declared.records.Pipeline.{Pipeline}
+use Rattle.ci_machine.specs.declared.records.Job.{Job}
+use Rattle.ci_machine.specs.declared.records.Attempt.{Attempt}
+use Rattle.ci_machine.specs.declared.records.AttemptState.{AttemptState}
+use Rattle.ci_machine.specs.declared.records.Piece.{Piece}
+use Rattle.ci_machine.specs.declared.lease.Lease.{Lease}
+use Rattle.ci_machine.specs.declared.lease.LeaseFault.{LeaseFault}
+use Rattle.ci_machine.specs.declared.lease.LeaseFault.TheVariants.{NotLive, LeaseOver}
+use Rattle.ci_machine.specs.declared.lease.PieceFault.{PieceFault}
+use Rattle.ci_machine.specs.declared.lease.PieceFault.TheVariants.{Unleased, WrongOffset, TraceFull}
 use Rattle.ci_machine.specs.declared.records.Runner.{Runner}
 use Rattle.ci_machine.specs.declared.records.QueuedJob.{QueuedJob}
 use Rattle.ci_machine.specs.declared.records.JobVariable.{JobVariable}
@@ -9,25 +20,34 @@ use Rattle.ci_machine.specs.declared.request.NewPipeline.{NewPipeline}
 use Rattle.ci_machine.specs.declared.request.Event.{Event}
 use Rattle.ci_machine.specs.declared.request.Event.TheVariants as event
 use Rattle.ci_machine.specs.declared.request.Request.{Request}
-use Rattle.ci_machine.specs.declared.request.Request.TheVariants.{AddProject, AddRunner, EnterPipeline, AskJob}
+use Rattle.ci_machine.specs.declared.request.Request.TheVariants.{AddProject, AddRunner, EnterPipeline, AskJob, UpdateJob, AppendTrace, ShowJob, ShowTrace}
+use Rattle.ci_machine.specs.declared.request.Report.{Report}
+use Rattle.ci_machine.specs.declared.request.Report.TheVariants as report
+use Rattle.ci_machine.specs.declared.request.JobUpdate.{JobUpdate}
+use Rattle.ci_machine.specs.declared.request.TracePart.{TracePart}
+use Rattle.ci_machine.specs.declared.request.JobQuery.{JobQuery}
 use Rattle.ci_machine.specs.declared.request.Seed.{Seed}
 use Rattle.ci_machine.specs.declared.reply.Code.{Code}
-use Rattle.ci_machine.specs.declared.reply.Code.TheVariants.{M2, M4, M14, M15, M16, M17, H1, H2, H3, H4, H5, H6, H7, H8}
+use Rattle.ci_machine.specs.declared.reply.Code.TheVariants.{M1, M2, M3, M4, M5, M6, M7, M8, M9, M14, M15, M16, M17, H1, H2, H3, H4, H5, H6, H7, H8}
 use Rattle.ci_machine.specs.declared.reply.Detail.{Detail}
 use Rattle.ci_machine.specs.declared.reply.Detail.TheVariants.{G4, K11, K16}
 use Rattle.ci_machine.specs.declared.reply.Effect.{Effect}
 use Rattle.ci_machine.specs.declared.reply.Answer.{Answer}
 use Rattle.ci_machine.specs.Names.{is_name}
 use Rattle.ci_machine.specs.State.{State, applied}
-use Rattle.ci_machine.specs.Effects.{greatest_number, most_jobs, replies, no_content, refuses, faults, made_project, add_project, made_runner, add_runner, has_names, lacks_numbers, entered, enter_pipeline, grant, ask_job}
-use Rattle.ci_machine.specs.Step.{Does, Happens, Step, project_at, runner_with, offer, offered_variables}
+use Rattle.ci_machine.specs.Effects.{greatest_number, most_jobs, replies, no_content, refuses, faults, made_project, add_project, made_runner, add_runner, has_names, lacks_numbers, entered, enter_pipeline, grant, ask_job, unleased, heard, ended, reported, update_job, not_accepted, grown, appended, append_trace, job_within, asked_job, shown, traced, sweep}
+use Rattle.ci_machine.specs.Leases.{accepted, first_due}
+use Rattle.ci_machine.specs.Step.{Does, Happens, Step, project_at, project_with, runner_with, pipeline_of, job_at, last_attempt, pieces_in, lease_at, leases, offer, offered_variables}
 use Rattle.ci_machine.specs.Laws.{IsRefusal}
 use Rattle.ci_machine.specs.Reply.{Stepped, outcome_of}
 
 -- the codes with which the machine refuses
 abbrev IsMachineCode : Code → Type 0
+IsMachineCode M1 = Unit {0}
 IsMachineCode M2 = Unit {0}
+IsMachineCode M3 = Unit {0}
 IsMachineCode M4 = Unit {0}
+IsMachineCode M5 = Unit {0}
 IsMachineCode M14 = Unit {0}
 IsMachineCode M15 = Unit {0}
 IsMachineCode _ = ⊥
@@ -41,6 +61,14 @@ record Each (P : Effect → Type 0) : Type 0 where
   pipeline : (pipeline job : ℕ) (p : NewPipeline) (now : ℕ) → P (entered pipeline job p now)
   nothing : P (replies no_content [])
   granted : (runner : Runner) (q : QueuedJob) (variables : List JobVariable) (next now : ℕ) (seed : Seed) → P (grant runner q variables next now seed)
+  turned_away : (fault : LeaseFault) → P (replies (unleased fault) [])
+  heard : (a : Attempt) (seen : ℕ) → P (heard a (Ok seen))
+  ended : (a : Attempt) (state : AttemptState) → P (ended a (Ok state))
+  misplaced : (fault : PieceFault) → P (replies (not_accepted fault) [])
+  grown : (a : Attempt) (bytes : List ℕ) (now size : ℕ) → P (grown a bytes now size)
+  shown : (job : Job) (last : Option Attempt) → P (shown (Ok job) last)
+  traced : (job : Job) (pieces : List Piece) → P (traced (Ok job) pieces)
+  swept : (due : Option Lease) → P (sweep due)
 
 projects : (P : Effect → Type 0) → Each P → (next : ℕ) (name : List ℕ) (seed : Seed) → P (add_project next name seed)
 projects P each next name seed =
@@ -67,6 +95,45 @@ grants P each (Some runner) None variables next now seed = each.nothing
 grants P each (Some runner) (Some q) variables next now seed =
     cond_both (nat_lt greatest_number next) (refuses M15) (grant runner q variables next now seed) P (λ _. each.refused M15 tt) (λ _. each.granted runner q variables next now seed)
 
+hears : (P : Effect → Type 0) → Each P → (a : Attempt) (seen : Result ℕ LeaseFault) → P (heard a seen)
+hears P each a (Ok seen) = each.heard a seen
+hears P each a (Err fault) = each.turned_away fault
+
+ends : (P : Effect → Type 0) → Each P → (a : Attempt) (state : Result AttemptState LeaseFault) → P (ended a state)
+ends P each a (Ok state) = each.ended a state
+ends P each a (Err fault) = each.turned_away fault
+
+reports : (P : Effect → Type 0) → Each P → (l : Lease) (r : Report) (now : ℕ) → P (reported l r now)
+reports P each l report.Running now = hears P each l.attempt _
+reports P each l (report.Success exit) now = ends P each l.attempt _
+reports P each l (report.Failed cause exit) now = ends P each l.attempt _
+
+updates : (P : Effect → Type 0) → Each P → (l : Option Lease) (update : JobUpdate) (now : ℕ) → P (update_job l update now)
+updates P each None update now = each.refused M5 tt
+updates P each (Some l) update now =
+    cond_both (bytes_eq l.attempt.token update.token) (reported l update.report now) (refuses M5) P (λ _. reports P each l update.report now) (λ _. each.refused M5 tt)
+
+grows : (P : Effect → Type 0) → Each P → (a : Attempt) (bytes : List ℕ) (now : ℕ) (size : Result ℕ PieceFault) → P (appended a bytes now size)
+grows P each a bytes now (Ok size) = cond_both (nat_lt greatest_number a.pieces) (refuses M15) (grown a bytes now size) P (λ _. each.refused M15 tt) (λ _. each.grown a bytes now size)
+grows P each a bytes now (Err fault) = each.misplaced fault
+
+appends : (P : Effect → Type 0) → Each P → (l : Option Lease) (part : TracePart) (now : ℕ) → P (append_trace l part now)
+appends P each None part now = each.refused M5 tt
+appends P each (Some l) part now =
+    cond_both (bytes_eq l.attempt.token part.token) _ (refuses M5) P (λ _. grows P each l.attempt part.bytes now (accepted l.attempt l.limit now l.attempt.size part.from (length part.bytes))) (λ _. each.refused M5 tt)
+
+-- a query names a job, or is refused
+within : (Q : Result Job Code → Type 0) → ((j : Job) → Q (Ok j)) → ((c : Code) → IsMachineCode c → Q (Err c)) → (job : Option Job) (pipeline : Option Pipeline) (project : ℕ) → Q (job_within job pipeline project)
+within Q fine refused None pipeline project = refused M3 tt
+within Q fine refused (Some job) None project = refused M3 tt
+within Q fine refused (Some job) (Some pipeline) project = cond_both (pipeline.project == project) (Ok job) (Err M3) Q (λ _. fine job) (λ _. refused M3 tt)
+
+asked : (Q : Result Job Code → Type 0) → ((j : Job) → Q (Ok j)) → ((c : Code) → IsMachineCode c → Q (Err c)) → (project : Option Project) (job : Option Job) (pipeline : Option Pipeline) (query : JobQuery)
+    → Q (asked_job project job pipeline query)
+asked Q fine refused None job pipeline query = refused M1 tt
+asked Q fine refused (Some project) job pipeline query =
+    cond_both (project.id == query.project) (job_within job pipeline project.id) (Err M2) Q (λ _. within Q fine refused job pipeline project.id) (λ _. refused M2 tt)
+
 does : (P : Effect → Type 0) → Each P → (s : State) (request : Request) (now : ℕ) (seed : Seed) (e : Effect) → Does s request now seed e → P e
 does P each s (AddProject name) now seed e is = subst P (sym is) (projects P each s.next.project name seed)
 does P each s (AddRunner name) now seed e is = subst P (sym is) (runners P each s.next.runner name seed)
@@ -74,9 +141,20 @@ does P each s (EnterPipeline p) now seed e is = subst P (sym is) (pipelines P ea
 does P each s (AskJob token) now seed e is =
     let runner = runner_with s token in
     subst P (sym is) (grants P each runner (offer s runner) (offered_variables s (offer s runner)) s.next.attempt now seed)
+does P each s (UpdateJob update) now seed e is = subst P (sym is) (updates P each (lease_at s update.attempt) update now)
+does P each s (AppendTrace part) now seed e is = subst P (sym is) (appends P each (lease_at s part.attempt) part now)
+does P each s (ShowJob query) now seed e is =
+    let job = job_at s query.job in
+    let last = last_attempt s query.job in
+    subst P (sym is) (asked (λ r. P (shown r last)) (λ j. each.shown j last) (λ c m. each.refused c m) (project_with s query.token) job (pipeline_of s job) query)
+does P each s (ShowTrace query) now seed e is =
+    let job = job_at s query.job in
+    let pieces = pieces_in s (last_attempt s query.job) in
+    subst P (sym is) (asked (λ r. P (traced r pieces)) (λ j. each.traced j pieces) (λ c m. each.refused c m) (project_with s query.token) job (pipeline_of s job) query)
 
 happens : (P : Effect → Type 0) → Each P → (s : State) (e : Event) (now : ℕ) (seed : Seed) (f : Effect) → Happens s e now seed f → P f
 happens P each s (event.Request request) now seed f is = does P each s request now seed f is
+happens P each s event.Sweep now seed f is = subst P (sym is) (each.swept (first_due (leases s) now))
 
 -- where the effect is a refusal, it changes nothing
 abbrev Keeps : Effect → Type 0
@@ -91,7 +169,18 @@ keeps = record {
   pipeline = λ pipeline job p now refused. absurd (false≢true refused);
   nothing = λ _. refl;
   granted = λ runner q variables next now seed refused. absurd (false≢true refused);
-}
+  turned_away = λ fault _. refl;
+  heard = λ a seen refused. absurd (false≢true refused);
+  ended = λ a state refused. absurd (false≢true refused);
+  misplaced = λ fault _. refl;
+  grown = λ a bytes now size refused. absurd (false≢true refused);
+  shown = λ job last refused. absurd (false≢true refused);
+  traced = λ job pieces refused. absurd (false≢true refused);
+  swept = sweeps;
+} where
+  sweeps : (due : Option Lease) → Keeps (sweep due)
+  sweeps None refused = refl
+  sweeps (Some l) refused = absurd refused
 
 pub unchanged : (s t : State) (e : Event) (now : ℕ) (seed : Seed) (a : Answer) → Step s e now seed a t → IsRefusal a → t ≡ s
 unchanged s t e now seed a step refused =
@@ -110,10 +199,38 @@ steps = record {
   pipeline = λ pipeline job p now. refl;
   nothing = refl;
   granted = λ runner q variables next now seed. refl;
+  turned_away = away;
+  heard = λ a seen. refl;
+  ended = λ a state. refl;
+  misplaced = misplaces;
+  grown = λ a bytes now size. refl;
+  shown = λ job last. refl;
+  traced = λ job pieces. refl;
+  swept = sweeps;
 } where
+  away : (fault : LeaseFault) → IsStep (replies (unleased fault) [])
+  away (NotLive state) = refl
+  away LeaseOver = refl
+
+  misplaces : (fault : PieceFault) → IsStep (replies (not_accepted fault) [])
+  misplaces (Unleased fault) = away fault
+  misplaces (WrongOffset size) = refl
+  misplaces TraceFull = refl
+
+  sweeps : (due : Option Lease) → IsStep (sweep due)
+  sweeps None = refl
+  sweeps (Some l) = refl
+
   stepped : (c : Code) → IsMachineCode c → IsStep (refuses c)
+  stepped M1 m = refl
   stepped M2 m = refl
+  stepped M3 m = refl
   stepped M4 m = refl
+  stepped M5 m = refl
+  stepped M6 m = refl
+  stepped M7 m = refl
+  stepped M8 m = refl
+  stepped M9 m = refl
   stepped M14 m = refl
   stepped M15 m = refl
   stepped M16 m = absurd m

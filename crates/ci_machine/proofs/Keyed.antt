@@ -1,8 +1,8 @@
 -- Lists of records in the order of their numbers.
 use Rattle.std.specs.Prelude.{◌≡◌, ◌≢◌, ◌⊎◌, ℕ, ◌+◌, ◌<◌, ◌≤◌, Bool, true, false, cond, nat_lt, ◌==◌, not, List, [], ◌∷◌, count_by, filter, find, map, length, All, Contains, Option, Some}
 use Rattle.std.specs.List.{last_or, AllByRecursion}
-use Rattle.std.proofs.Common.{refl, sym, ap, subst, ◌∙◌, inl, inr, ⊎_elim, arith, ltb-true, eq-eqb, ne_eqb}
-use Rattle.std.proofs.lemmas.Bool.{cond_both, both_ways, cond-true, cond-false, cases_Bool}
+use Rattle.std.proofs.Common.{refl, sym, ap, subst, ◌∙◌, inl, inr, ⊎_elim, arith, ltb-true, eqb-true, eq-eqb, ne_eqb}
+use Rattle.std.proofs.lemmas.Bool.{cond_both, both_ways, cond-true, cond-false, cases_Bool, false≢true}
 use Rattle.std.proofs.lemmas.List.Elements.{All-from_recursion, Contains-append_right, Contains-get_or}
 use Rattle.std.proofs.lemmas.List.Sums.{length-filter}
 use Rattle.std.proofs.lemmas.Map.Keys.{ge_from_not_lt}
@@ -60,23 +60,43 @@ pub has_put : {A : Type 0} (cmp : A → A → Ordering) (x y : A) (xs : List A) 
 has_put cmp x y xs h =
     ⊎_elim (λ e. inl e) (λ m. inr (has_filter (λ z. not (is_eq (cmp z x))) y xs m).0) (has_placed cmp x y (others cmp x xs) h)
 
+-- the others that it has are not of x's key
+pub has_put_other : {A : Type 0} (cmp : A → A → Ordering) (x y : A) (xs : List A) → Has y (put cmp x xs) → (y ≡ x) ⊎ (Has y xs × (not (is_eq (cmp y x)) ≡ true))
+has_put_other cmp x y xs h =
+    ⊎_elim (λ e. inl e) (λ m. inr (has_filter (λ z. not (is_eq (cmp z x))) y xs m)) (has_placed cmp x y (others cmp x xs) h)
+
 -- how numbers compare
-less : (a b : ℕ) → is_lt (nat_cmp a b) ≡ true → a < b
+pub less : (a b : ℕ) → is_lt (nat_cmp a b) ≡ true → a < b
 less a b =
     cond_both (nat_lt a b) Less (cond (a == b) Equal Greater) (λ o. is_lt o ≡ true → a < b)
     (λ e _. ltb-true a b e)
     (λ _. cond_both (a == b) Equal Greater (λ o. is_lt o ≡ true → a < b) (λ _ k. absurd (both_ways (is_lt Equal) refl k)) (λ _ k. absurd (both_ways (is_lt Greater) refl k)))
 
-not_less : (a b : ℕ) → is_lt (nat_cmp a b) ≡ false → b ≤ a
+pub not_less : (a b : ℕ) → is_lt (nat_cmp a b) ≡ false → b ≤ a
 not_less = ge_from_not_lt
 
-different : (a b : ℕ) → not (is_eq (nat_cmp a b)) ≡ true → a ≡ b → ⊥
+pub different : (a b : ℕ) → not (is_eq (nat_cmp a b)) ≡ true → a ≡ b → ⊥
 different a b =
     cond_both (nat_lt a b) Less (cond (a == b) Equal Greater) (λ o. not (is_eq o) ≡ true → a ≡ b → ⊥)
     (λ e _ same. let l : a < b = ltb-true a b e in absurd (omega arith))
     (λ _. cond_both (a == b) Equal Greater (λ o. not (is_eq o) ≡ true → a ≡ b → ⊥)
     (λ _ k _. both_ways (not (is_eq Equal)) refl k)
     (λ e _ same. both_ways (a == b) e (eq-eqb a b same)))
+
+pub same : (a b : ℕ) → is_eq (nat_cmp a b) ≡ true → a ≡ b
+same a b =
+    cond_both (nat_lt a b) Less (cond (a == b) Equal Greater) (λ o. is_eq o ≡ true → a ≡ b)
+    (λ _ k. absurd (false≢true k))
+    (λ _. cond_both (a == b) Equal Greater (λ o. is_eq o ≡ true → a ≡ b) (λ e _. eqb-true a b e) (λ _ k. absurd (false≢true k)))
+
+pub equal : (a b : ℕ) → a ≡ b → is_eq (nat_cmp a b) ≡ true
+equal a b e =
+    cond_both (nat_lt a b) Less (cond (a == b) Equal Greater) (λ o. is_eq o ≡ true)
+    (λ k. absurd (let l : a < b = ltb-true a b k in omega arith))
+    (λ _. cond_both (a == b) Equal Greater (λ o. is_eq o ≡ true) (λ _. refl) (λ k. absurd (both_ways (a == b) k (eq-eqb a b e))))
+
+pub unequal : (a b : ℕ) → (a ≡ b → ⊥) → not (is_eq (nat_cmp a b)) ≡ true
+unequal a b d = ⊎_elim (λ e. absurd (d (same a b e))) (λ e. ap not e) (cases_Bool (is_eq (nat_cmp a b)))
 
 -- a list with a record at its place rises too, where no other has its number
 rising_placed : {A : Type 0} (id : A → ℕ) (x : A) (low : ℕ) (xs : List A) → ((y : A) → Has y xs → id y ≡ id x → ⊥) → Rising id low xs → low ≤ id x
@@ -100,6 +120,15 @@ filter_has p x (z ∷ zs) h e =
     (λ _. ⊎_elim (λ f. inl f) (λ m. inr (filter_has p x zs m e)) h)
     (λ no. ⊎_elim (λ f. absurd (both_ways (p z) no (ap p (sym f) ∙ e))) (λ m. filter_has p x zs m e) h)
 
+-- a put list has the others
+placed_has : {A : Type 0} (cmp : A → A → Ordering) (x y : A) (xs : List A) → Has y xs → Has y (placed cmp x xs)
+placed_has cmp x y [] h = absurd h
+placed_has cmp x y (z ∷ zs) h =
+    cond_both (is_lt (cmp z x)) (z ∷ placed cmp x zs) (x ∷ z ∷ zs) (λ l. Has y l) (λ _. ⊎_elim (λ e. inl e) (λ m. inr (placed_has cmp x y zs m)) h) (λ _. inr h)
+
+pub put_has : {A : Type 0} (cmp : A → A → Ordering) (x y : A) (xs : List A) → Has y xs → not (is_eq (cmp y x)) ≡ true → Has y (put cmp x xs)
+put_has cmp x y xs h d = placed_has cmp x y (others cmp x xs) (filter_has (λ z. not (is_eq (cmp z x))) y xs h d)
+
 -- x is what find finds at its number
 pub find_has : {A : Type 0} (id : A → ℕ) (x : A) (low : ℕ) (xs : List A) → Rising id low xs → Has x xs → find (λ y. id y == id x) xs ≡ Some x
 find_has id x low [] r h = absurd h
@@ -109,6 +138,12 @@ find_has id x low (z ∷ zs) r h =
     (λ m. cond-false (id z == id x) (Some z) (find (λ y. id y == id x) zs) (ne_eqb (id z) (id x) (λ e. let q : id z + 1 ≤ id x = rising_from id x (id z + 1) zs r.1 m in absurd (omega arith)))
     ∙ find_has id x (id z + 1) zs r.1 m)
     h
+
+-- a rising list has one record of a number
+pub one_at : {A : Type 0} (id : A → ℕ) (a b : A) (low : ℕ) (xs : List A) → Rising id low xs → Has a xs → Has b xs → id a ≡ id b → a ≡ b
+one_at id a b low xs r k l e =
+    let both : Some a ≡ Some b = sym (find_has id a low xs r k) ∙ subst (λ n. find (λ y. id y == n) xs ≡ Some b) (sym e) (find_has id b low xs r l) in
+    cc
 
 -- what find finds
 pub has_find : {A : Type 0} (p : A → Bool) (x : A) (xs : List A) → find p xs ≡ Some x → Has x xs × (p x ≡ true)

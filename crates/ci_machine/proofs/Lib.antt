@@ -2,4 +2,8 @@ pub mod Floats
 pub mod EachEffect
 pub mod Tokens
 pub mod Keyed
+pub mod Pieces
+pub mod Grants
+pub mod Traces
+pub mod Ends
 pub mod Reached

@@ -1,10 +1,9 @@
 -- What holds of every state that a history leads to.
-use Rattle.std.specs.Prelude.{◌≡◌, ◌⊎◌, ℕ, ◌+◌, ◌<◌, ◌≤◌, Bool, true, false, not, ◌==◌, ◌&&◌, nat_lt, List, [], ◌∷◌, ◌++◌, filter, length, map, Option, Some, None}
+use Rattle.std.specs.Prelude.{◌≡◌, ℕ, ◌+◌, ◌<◌, ◌≤◌, Bool, true, false, not, ◌==◌, ◌&&◌, nat_lt, nat_le, List, [], ◌∷◌, ◌++◌, length, map, if◌then◌else◌, Option, Some, None, option_map, Result, Ok, Err, Contains}
 use Rattle.std.specs.List.{flat_map}
-use Rattle.std.specs.Ordering.{nat_cmp}
 use Rattle.std.specs.Str.{bytes_eq}
-use Rattle.std.proofs.Common.{refl, sym, ap, subst, subst₂, ◌∙◌, ⊎_elim, arith, eqb-true, eq-eqb}
-use Rattle.std.proofs.lemmas.Bool.{cond_both, cond-true, cond-false, and_parts, ne_eqb}
+use Rattle.std.proofs.Common.{refl, sym, ap, subst, subst₂, ◌∙◌, inl, inr, ⊎_elim, arith, eqb-true, eq-eqb}
+use Rattle.std.proofs.lemmas.Bool.{cond_both}
 use Rattle.ci_machine.specs.declared.records.Project.{Project}
 use Rattle.ci_machine.specs.declared.records.Runner.{Runner}
 use Rattle.ci_machine.specs.declared.records.Pipeline.{Pipeline}
@@ -12,123 +11,61 @@ use Rattle.ci_machine.specs.declared.records.Job.{Job}
 use Rattle.ci_machine.specs.declared.records.JobVariable.{JobVariable}
 use Rattle.ci_machine.specs.declared.records.QueuedJob.{QueuedJob}
 use Rattle.ci_machine.specs.declared.records.Attempt.{Attempt}
+use Rattle.ci_machine.specs.declared.records.AttemptState.{AttemptState}
+use Rattle.ci_machine.specs.declared.records.AttemptState.TheVariants.{Failed}
+use Rattle.ci_machine.specs.declared.records.Piece.{Piece}
+use Rattle.ci_machine.specs.declared.lease.Lease.{Lease}
+use Rattle.ci_machine.specs.declared.lease.LeaseFault.{LeaseFault}
+use Rattle.ci_machine.specs.declared.lease.LeaseFault.TheVariants.{NotLive, LeaseOver}
+use Rattle.ci_machine.specs.declared.lease.PieceFault.{PieceFault}
+use Rattle.ci_machine.specs.declared.lease.PieceFault.TheVariants.{Unleased, WrongOffset, TraceFull}
 use Rattle.ci_machine.specs.declared.change.Change.{Change}
-use Rattle.ci_machine.specs.declared.change.Change.TheVariants.{Add}
+use Rattle.ci_machine.specs.declared.change.Change.TheVariants.{Add, Put}
 use Rattle.ci_machine.specs.declared.change.Record.TheVariants as row
 use Rattle.ci_machine.specs.declared.request.NewPipeline.{NewPipeline}
+use Rattle.ci_machine.specs.declared.request.Report.{Report}
+use Rattle.ci_machine.specs.declared.request.Report.TheVariants as report
+use Rattle.ci_machine.specs.declared.request.JobUpdate.{JobUpdate}
+use Rattle.ci_machine.specs.declared.request.TracePart.{TracePart}
 use Rattle.ci_machine.specs.declared.request.Event.{Event}
 use Rattle.ci_machine.specs.declared.request.Event.TheVariants as event
 use Rattle.ci_machine.specs.declared.request.Request.{Request}
-use Rattle.ci_machine.specs.declared.request.Request.TheVariants.{AddProject, AddRunner, EnterPipeline, AskJob}
+use Rattle.ci_machine.specs.declared.request.Request.TheVariants.{AddProject, AddRunner, EnterPipeline, AskJob, UpdateJob, AppendTrace, ShowJob, ShowTrace}
 use Rattle.ci_machine.specs.declared.request.Seed.{Seed}
-use Rattle.ci_machine.specs.declared.reply.Code.TheVariants.{M15}
+use Rattle.ci_machine.specs.declared.reply.Code.{Code}
+use Rattle.ci_machine.specs.declared.reply.Code.TheVariants.{M5, M15}
 use Rattle.ci_machine.specs.declared.reply.Detail.TheVariants.{G4, K11, K16}
 use Rattle.ci_machine.specs.declared.reply.Effect.{Effect}
 use Rattle.ci_machine.specs.declared.reply.Answer.{Answer}
 use Rattle.ci_machine.specs.Names.{is_name}
-use Rattle.ci_machine.specs.State.{State, empty, put, applied}
-use Rattle.ci_machine.specs.Leases.{is_live}
+use Rattle.ci_machine.specs.State.{State, applied, attempt_cmp, put}
+use Rattle.ci_machine.specs.Leases.{is_live, trace_limit, renewed, if_leased, size_after, accepted, cause_of, is_over, first_due}
 use Rattle.ci_machine.specs.Eligible.{may_run, chosen}
-use Rattle.ci_machine.specs.Effects.{greatest_number, most_jobs, refuses, faults, made_project, add_project, made_runner, add_runner, has_names, lacks_numbers, new_jobs, new_pipeline, predefined, job_changes, entered, enter_pipeline, grant, ask_job}
-use Rattle.ci_machine.specs.Step.{Does, Happens, project_at, runner_with, attempts_of, is_pending, pending_jobs, queued, queue, offer, offered_variables}
+use Rattle.ci_machine.specs.Effects.{greatest_number, most_jobs, replies, refuses, faults, made_project, add_project, made_runner, add_runner, has_names, lacks_numbers, new_jobs, new_pipeline, predefined, job_changes, entered, enter_pipeline, grant, ask_job, told, status_of_state, heard, ended, reported, update_job, grown, appended, append_trace, asked_job, shown, traced, sweep}
+use Rattle.ci_machine.specs.Step.{Does, Happens, project_at, project_with, runner_with, job_at, attempt_at, pipeline_of, last_attempt, pieces_in, lease_of, leases, live_attempts, attempts_of, is_pending, pending_jobs, queued, queue, offer, offered_variables}
 use Rattle.ci_machine.specs.History.{Past, Leads}
-use Rattle.ci_machine.specs.Laws.{grants, is_grant, IsLeastEligible, WasGranted, Laws}
-use Rattle.ci_machine.proofs.Keyed.{Has, Rising, has_put, rising_put, rising_filter, has_filter, filter_has, has_find, least_find, find-map, count_one, All-from_has, contains_from_has}
+use Rattle.ci_machine.specs.Laws.{grants, is_grant, accepted_bytes, IsLeastEligible, WasGranted, IsTraced, EndsStay, Laws}
+use Rattle.ci_machine.proofs.Keyed.{Has, Rising, has_put, rising_put, rising_filter, has_filter, filter_has, has_find, least_find, find-map, one_at, All-from_has, contains_from_has}
+use Rattle.ci_machine.proofs.Grants as leased
+use Rattle.ci_machine.proofs.Grants.{Grants, one_lease, grants_empty}
+use Rattle.ci_machine.proofs.Traces as pieces
+use Rattle.ci_machine.proofs.Ends as finals
+use Rattle.ci_machine.proofs.Ends.{Ends, renewed_live, leased_live}
+use Rattle.ci_machine.proofs.Traces.{Traces, Was, IsNew, same, traces_empty}
 
 pub record Inv (h : List Past) (s : State) : Type 0 where
-  pub jobs_rise : Rising (λ (j : Job). j.id) 0 s.jobs
-  pub rise : Rising (λ (a : Attempt). a.id) 0 s.attempts
-  pub below : (a : Attempt) → Has a s.attempts → a.id < s.next.attempt
-  -- a live attempt is the last of its job
-  pub is_last : (a b : Attempt) → Has a s.attempts → Has b s.attempts → is_live a ≡ true → a.job ≡ b.job → b.id ≤ a.id
-  pub granted : (a : Attempt) → Has a s.attempts → WasGranted h a
-  -- no line grants a number that is still to come
-  pub fresh : (n : ℕ) → s.next.attempt ≤ n → filter (grants n) h ≡ []
+  pub grants : Grants h s
+  pub traces : Traces h s
+  pub ends : Ends h s
 
 -- the invariant gives the laws
 pub laws_from : (h : List Past) (s : State) → Inv h s → Laws h s
 laws_from h s i = record {
-  one_lease = λ job. count_one (λ a. a.id) (λ a. is_live a && (a.job == job)) 0 s.attempts i.rise (λ a b k l p q.
-      let x = and_parts (is_live a) (a.job == job) p in
-      let y = and_parts (is_live b) (b.job == job) q in
-      let same : a.job ≡ b.job = eqb-true a.job job x.1 ∙ sym (eqb-true b.job job y.1) in
-      let ba : b.id ≤ a.id = i.is_last a b k l x.0 same in
-      let ab : a.id ≤ b.id = i.is_last b a l k y.0 (sym same) in
-      omega arith);
-  was_granted = All-from_has (WasGranted h) s.attempts i.granted;
+  one_lease = one_lease h s i.grants;
+  was_granted = All-from_has (WasGranted h) s.attempts i.grants.granted;
+  traced = All-from_has (IsTraced h s) s.attempts i.traces.traced;
+  ends_stay = All-from_has (λ (p : Past). EndsStay p.before s) h (λ p k. All-from_has (λ (a : Attempt). is_live a ≡ false → Contains s.attempts a) p.before.attempts (λ a m l. contains_from_has a s.attempts (i.ends p k a m l)));
 }
-
-inv_empty : Inv [] empty
-inv_empty = record {
-  jobs_rise = tt;
-  rise = tt;
-  below = λ a k. absurd k;
-  is_last = λ a b k. absurd k;
-  granted = λ a k. absurd k;
-  fresh = λ n l. refl;
-}
-
--- a line that grants another number
-longer : (p : Past) (h : List Past) (a : Attempt) → grants a.id p ≡ false → WasGranted h a → WasGranted (p ∷ h) a
-longer p h a isnt w = record {
-  line = w.line;
-  once = cond-false (grants a.id p) (p ∷ filter (grants a.id) h) (filter (grants a.id) h) isnt ∙ w.once;
-  runner = w.runner;
-  job = w.job;
-  its_runner = w.its_runner;
-  its_job = w.its_job;
-  eligible = w.eligible;
-}
-
--- a step that leaves the attempts
-keeps : (h : List Past) (s t : State) (p : Past) → Inv h s → ((n : ℕ) → grants n p ≡ false)
-    → t.attempts ≡ s.attempts → t.next.attempt ≡ s.next.attempt → Rising (λ (j : Job). j.id) 0 t.jobs → Inv (p ∷ h) t
-keeps h s t p i isnt e f r = record {
-  jobs_rise = r;
-  rise = subst (λ l. Rising (λ (a : Attempt). a.id) 0 l) (sym e) i.rise;
-  below = λ a k. subst (λ n. a.id < n) (sym f) (i.below a (subst (Has a) e k));
-  is_last = λ a b k l. i.is_last a b (subst (Has a) e k) (subst (Has b) e l);
-  granted = λ a k. longer p h a (isnt a.id) (i.granted a (subst (Has a) e k));
-  fresh = λ n l. cond-false (grants n p) (p ∷ filter (grants n) h) (filter (grants n) h) (isnt n) ∙ i.fresh n (subst (λ m. m ≤ n) f l);
-}
-
--- a step that grants the next number, where its job has no live attempt
-gives : (h : List Past) (s t : State) (p : Past) (x : Attempt) → Inv h s → x.id ≡ s.next.attempt
-    → ((a : Attempt) → Has a s.attempts → is_live a ≡ true → a.job ≡ x.job → ⊥)
-    → ((n : ℕ) → grants n p ≡ (x.id == n))
-    → (runner : Runner) (job : Job) → runner.id ≡ x.runner → job.id ≡ x.job → IsLeastEligible p.before runner job
-    → t.attempts ≡ put (λ (a b : Attempt). nat_cmp a.id b.id) x s.attempts → t.next.attempt ≡ s.next.attempt + 1 → t.jobs ≡ s.jobs → Inv (p ∷ h) t
-gives h s t p x i at_next free grant_of runner job its_runner its_job eligible e f r =
-    let cases : (b : Attempt) → Has b t.attempts → (b ≡ x) ⊎ Has b s.attempts = λ b k. has_put (λ (a c : Attempt). nat_cmp a.id c.id) x b s.attempts (subst (Has b) e k) in
-    record {
-      jobs_rise = subst (λ l. Rising (λ (j : Job). j.id) 0 l) (sym r) i.jobs_rise;
-      rise = subst (λ l. Rising (λ (b : Attempt). b.id) 0 l) (sym e) (rising_put (λ (b : Attempt). b.id) x 0 s.attempts i.rise (omega arith));
-      below = λ b k. ⊎_elim (λ q. let m : b.id ≡ x.id = ap (λ (c : Attempt). c.id) q in omega arith) (λ m. let z : b.id < s.next.attempt = i.below b m in omega arith) (cases b k);
-      is_last = λ b c k l lv j.
-          ⊎_elim
-          (λ q. let bi : b.id ≡ x.id = ap (λ (w : Attempt). w.id) q in
-          ⊎_elim (λ u. let ci : c.id ≡ x.id = ap (λ (w : Attempt). w.id) u in omega arith)
-          (λ m. let z : c.id < s.next.attempt = i.below c m in omega arith) (cases c l))
-          (λ m. ⊎_elim (λ u. absurd (free b m lv (j ∙ ap (λ (w : Attempt). w.job) u)))
-          (λ w. i.is_last b c m w lv j) (cases c l))
-          (cases b k);
-      granted = λ b k. ⊎_elim
-          (λ q. subst (WasGranted (p ∷ h)) (sym q) (record {
-            line = p;
-            once = cond-true (grants x.id p) (p ∷ filter (grants x.id) h) (filter (grants x.id) h) (grant_of x.id ∙ eq-eqb x.id x.id refl)
-                ∙ ap (λ l. p ∷ l) (i.fresh x.id (let z : s.next.attempt ≤ x.id = omega arith in z));
-            runner = runner;
-            job = job;
-            its_runner = its_runner;
-            its_job = its_job;
-            eligible = eligible;
-          }))
-          (λ m. longer p h b (grant_of b.id ∙ ne_eqb x.id b.id (λ u. let z : b.id < s.next.attempt = i.below b m in absurd (omega arith))) (i.granted b m))
-          (cases b k);
-      fresh = λ n l. let m : s.next.attempt + 1 ≤ n = subst (λ w. w ≤ n) f l in
-          cond-false (grants n p) (p ∷ filter (grants n) h) (filter (grants n) h) (grant_of n ∙ ne_eqb x.id n (λ u. absurd (omega arith)))
-          ∙ i.fresh n (let z : s.next.attempt ≤ n = omega arith in z);
-    }
 
 -- the line of an event with this effect
 abbrev line : State → Event → ℕ → Seed → Effect → Past
@@ -138,11 +75,54 @@ line s e now seed f = record { before = s; event = e; now = now; seed = seed; an
 abbrev After : List Past → State → Event → ℕ → Seed → Effect → Type 0
 After h s e now seed f = Inv (line s e now seed f ∷ h) (applied f.changes s)
 
--- an effect that changes nothing, of an event that grants nothing with its answer
-rests : (h : List Past) (s : State) (e : Event) (now : ℕ) (seed : Seed) (f : Effect) → Inv h s → is_grant e f.answer ≡ false → f.changes ≡ [] → After h s e now seed f
-rests h s e now seed f i isnt none =
-    keeps h s (applied f.changes s) (line s e now seed f) i (λ n. ap (λ b. b && (s.next.attempt == n)) isnt)
-    (ap (λ cs. (applied cs s).attempts) none) (ap (λ cs. (applied cs s).next.attempt) none) (subst (λ cs. Rising (λ (j : Job). j.id) 0 (applied cs s).jobs) (sym none) i.jobs_rise)
+-- the event accepts no bytes with this answer
+abbrev Quiet : Event → Answer → Type 0
+Quiet e a = (n : ℕ) → accepted_bytes n e a ≡ []
+
+-- a step that leaves attempts and pieces
+keeps : (h : List Past) (s t : State) (p : Past) → p.before ≡ s → Inv h s → ((n : ℕ) → grants n p ≡ false) → Quiet p.event p.answer
+    → t.attempts ≡ s.attempts → t.pieces ≡ s.pieces → t.next.attempt ≡ s.next.attempt → Rising (λ (j : Job). j.id) 0 t.jobs → Inv (p ∷ h) t
+keeps h s t p b i isnt none e f g r = record {
+  grants = leased.keeps h s t p i.grants isnt e g r;
+  traces = pieces.stays h s t p i.traces none f (omega arith) (λ b k. same s b (subst (Has b) e k));
+  ends = finals.stays h s t p b i.ends e;
+}
+
+-- an effect that changes nothing, of an event that grants nothing and accepts no bytes with its answer
+rests : (h : List Past) (s : State) (e : Event) (now : ℕ) (seed : Seed) (f : Effect) → Inv h s → is_grant e f.answer ≡ false → Quiet e f.answer → f.changes ≡ [] → After h s e now seed f
+rests h s e now seed f i isnt quiet none =
+    keeps h s (applied f.changes s) (line s e now seed f) refl i (λ n. ap (λ b. b && (s.next.attempt == n)) isnt) quiet
+    (ap (λ cs. (applied cs s).attempts) none) (ap (λ cs. (applied cs s).pieces) none) (ap (λ cs. (applied cs s).next.attempt) none)
+    (subst (λ cs. Rising (λ (j : Job). j.id) 0 (applied cs s).jobs) (sym none) i.grants.jobs_rise)
+
+-- where an attempt is live, none of its number has ended
+only_live : {h : List Past} {s : State} {n : ℕ} → Inv h s → (a : Attempt) → Has a s.attempts → is_live a ≡ true → n ≡ a.id → (b : Attempt) → Has b s.attempts → b.id ≡ n → is_live b ≡ true
+only_live {h} {s} i a has live its b k e = ap is_live (one_at (λ (c : Attempt). c.id) b a 0 s.attempts i.grants.rise k has (e ∙ its)) ∙ live
+
+-- an effect that puts x in place of a live attempt of its number, job, runner and trace
+alters : (h : List Past) (s : State) (e : Event) (now : ℕ) (seed : Seed) (f : Effect) (a x : Attempt) → Inv h s → Has a s.attempts
+    → x.id ≡ a.id → x.job ≡ a.job → x.runner ≡ a.runner → x.pieces ≡ a.pieces → x.size ≡ a.size → is_live a ≡ true
+    → is_grant e f.answer ≡ false → Quiet e f.answer → f.changes ≡ Put (row.Attempt x) ∷ [] → After h s e now seed f
+alters h s e now seed f a x i has same_id same_job same_runner same_pieces same_size live isnt quiet puts =
+    let t = applied f.changes s in
+    let attempts : t.attempts ≡ put attempt_cmp x s.attempts = ap (λ cs. (applied cs s).attempts) puts in
+    record {
+      grants = leased.alters h s t (line s e now seed f) a x i.grants has same_id same_job same_runner (λ _. live) (λ n. ap (λ b. b && (s.next.attempt == n)) isnt) attempts
+          (ap (λ cs. (applied cs s).next.attempt) puts) (ap (λ cs. (applied cs s).jobs) puts);
+      traces = pieces.stays h s t (line s e now seed f) i.traces quiet (ap (λ cs. (applied cs s).pieces) puts)
+          (let n : t.next.attempt ≡ s.next.attempt = ap (λ cs. (applied cs s).next.attempt) puts in omega arith)
+          (λ b k. ⊎_elim
+          (λ q. inl (record {
+            old = a;
+            has = has;
+            id = sym (ap (λ (c : Attempt). c.id) q ∙ same_id);
+            pieces = sym (ap (λ (c : Attempt). c.pieces) q ∙ same_pieces);
+            size = sym (ap (λ (c : Attempt). c.size) q ∙ same_size);
+          }))
+          (λ m. same s b m)
+          (has_put attempt_cmp x b s.attempts (subst (Has b) attempts k)));
+      ends = finals.puts h s t (line s e now seed f) x refl i.ends attempts (only_live i a has live same_id);
+    }
 
 -- ---- a project, a runner
 
@@ -150,34 +130,35 @@ projects : (h : List Past) (s : State) (name : List ℕ) (now : ℕ) (seed : See
 projects h s name now seed i =
     let e = event.Request (AddProject name) in
     let next = s.next.project in
-    cond_both (not (is_name name)) (faults K16) _ (After h s e now seed) (λ _. rests h s e now seed (faults K16) i refl refl) (λ _.
-    cond_both (nat_lt greatest_number next) (refuses M15) (made_project next name seed) (After h s e now seed) (λ _. rests h s e now seed (refuses M15) i refl refl) (λ _.
-    keeps h s _ _ i (λ n. refl) refl refl i.jobs_rise))
+    cond_both (not (is_name name)) (faults K16) _ (After h s e now seed) (λ _. rests h s e now seed (faults K16) i refl (λ n. refl) refl) (λ _.
+    cond_both (nat_lt greatest_number next) (refuses M15) (made_project next name seed) (After h s e now seed) (λ _. rests h s e now seed (refuses M15) i refl (λ n. refl) refl) (λ _.
+    keeps h s _ _ refl i (λ n. refl) (λ n. refl) refl refl refl i.grants.jobs_rise))
 
 runners : (h : List Past) (s : State) (name : List ℕ) (now : ℕ) (seed : Seed) → Inv h s → After h s (event.Request (AddRunner name)) now seed (add_runner s.next.runner name seed)
 runners h s name now seed i =
     let e = event.Request (AddRunner name) in
     let next = s.next.runner in
-    cond_both (not (is_name name)) (faults K16) _ (After h s e now seed) (λ _. rests h s e now seed (faults K16) i refl refl) (λ _.
-    cond_both (nat_lt greatest_number next) (refuses M15) (made_runner next name seed) (After h s e now seed) (λ _. rests h s e now seed (refuses M15) i refl refl) (λ _.
-    keeps h s _ _ i (λ n. refl) refl refl i.jobs_rise))
+    cond_both (not (is_name name)) (faults K16) _ (After h s e now seed) (λ _. rests h s e now seed (faults K16) i refl (λ n. refl) refl) (λ _.
+    cond_both (nat_lt greatest_number next) (refuses M15) (made_runner next name seed) (After h s e now seed) (λ _. rests h s e now seed (refuses M15) i refl (λ n. refl) refl) (λ _.
+    keeps h s _ _ refl i (λ n. refl) (λ n. refl) refl refl refl i.grants.jobs_rise))
 
 -- ---- a pipeline
 
--- the rows of variables, and of jobs, leave the attempts, and the jobs rise
+-- the rows of variables, and of jobs, leave the attempts and the pieces, and the jobs rise
 record Leaves (s t : State) : Type 0 where
   attempts : t.attempts ≡ s.attempts
+  pieces : t.pieces ≡ s.pieces
   next : t.next ≡ s.next
   rise : Rising (λ (j : Job). j.id) 0 s.jobs → Rising (λ (j : Job). j.id) 0 t.jobs
 
-then : (s m t : State) → Leaves s m → Leaves m t → Leaves s t
-then s m t a b = record { attempts = b.attempts ∙ a.attempts; next = b.next ∙ a.next; rise = λ r. b.rise (a.rise r) }
+through : (s m t : State) → Leaves s m → Leaves m t → Leaves s t
+through s m t a b = record { attempts = b.attempts ∙ a.attempts; pieces = b.pieces ∙ a.pieces; next = b.next ∙ a.next; rise = λ r. b.rise (a.rise r) }
 
 variables_leave : (vs : List JobVariable) (s : State) → Leaves s (applied (map (λ v. Add (row.JobVariable v)) vs) s)
-variables_leave [] s = record { attempts = refl; next = refl; rise = λ r. r }
+variables_leave [] s = record { attempts = refl; pieces = refl; next = refl; rise = λ r. r }
 variables_leave (v ∷ vs) s =
     let m = applied (Add (row.JobVariable v) ∷ []) s in
-    then s m _ (record { attempts = refl; next = refl; rise = λ r. r }) (variables_leave vs m)
+    through s m _ (record { attempts = refl; pieces = refl; next = refl; rise = λ r. r }) (variables_leave vs m)
 
 applied-append : (xs ys : List Change) (s : State) → applied (xs ++ ys) s ≡ applied ys (applied xs s)
 applied-append [] ys s = refl
@@ -186,26 +167,26 @@ applied-append (x ∷ xs) ys s = applied-append xs ys _
 job_leaves : (p : Pipeline) (j : Job) (s : State) → Leaves s (applied (job_changes p j) s)
 job_leaves p j s =
     let m = applied (Add (row.Job j) ∷ []) s in
-    then s m _ (record { attempts = refl; next = refl; rise = λ r. rising_put (λ (x : Job). x.id) j 0 s.jobs r (omega arith) }) (variables_leave (predefined p j) m)
+    through s m _ (record { attempts = refl; pieces = refl; next = refl; rise = λ r. rising_put (λ (x : Job). x.id) j 0 s.jobs r (omega arith) }) (variables_leave (predefined p j) m)
 
 jobs_leave : (p : Pipeline) (js : List Job) (s : State) → Leaves s (applied (flat_map (job_changes p) js) s)
-jobs_leave p [] s = record { attempts = refl; next = refl; rise = λ r. r }
+jobs_leave p [] s = record { attempts = refl; pieces = refl; next = refl; rise = λ r. r }
 jobs_leave p (j ∷ js) s =
     let m = applied (job_changes p j) s in
-    subst (Leaves s) (sym (applied-append (job_changes p j) (flat_map (job_changes p) js) s)) (then s m _ (job_leaves p j s) (jobs_leave p js m))
+    subst (Leaves s) (sym (applied-append (job_changes p j) (flat_map (job_changes p) js) s)) (through s m _ (job_leaves p j s) (jobs_leave p js m))
 
 pipelines : (h : List Past) (s : State) (p : NewPipeline) (now : ℕ) (seed : Seed) → Inv h s → (project : Option Project)
     → After h s (event.Request (EnterPipeline p)) now seed (enter_pipeline project s.next.pipeline s.next.job p now)
-pipelines h s p now seed i None = rests h s (event.Request (EnterPipeline p)) now seed _ i refl refl
+pipelines h s p now seed i None = rests h s (event.Request (EnterPipeline p)) now seed _ i refl (λ n. refl) refl
 pipelines h s p now seed i (Some project) =
     let e = event.Request (EnterPipeline p) in
     let f = entered s.next.pipeline s.next.job p now in
-    cond_both (nat_lt (length p.jobs) 1) (faults G4) _ (After h s e now seed) (λ _. rests h s e now seed (faults G4) i refl refl) (λ _.
-    cond_both (nat_lt most_jobs (length p.jobs)) (faults K11) _ (After h s e now seed) (λ _. rests h s e now seed (faults K11) i refl refl) (λ _.
-    cond_both (not (has_names p)) (faults K16) _ (After h s e now seed) (λ _. rests h s e now seed (faults K16) i refl refl) (λ _.
-    cond_both (lacks_numbers s.next.pipeline s.next.job (length p.jobs)) (refuses M15) f (After h s e now seed) (λ _. rests h s e now seed (refuses M15) i refl refl) (λ _.
+    cond_both (nat_lt (length p.jobs) 1) (faults G4) _ (After h s e now seed) (λ _. rests h s e now seed (faults G4) i refl (λ n. refl) refl) (λ _.
+    cond_both (nat_lt most_jobs (length p.jobs)) (faults K11) _ (After h s e now seed) (λ _. rests h s e now seed (faults K11) i refl (λ n. refl) refl) (λ _.
+    cond_both (not (has_names p)) (faults K16) _ (After h s e now seed) (λ _. rests h s e now seed (faults K16) i refl (λ n. refl) refl) (λ _.
+    cond_both (lacks_numbers s.next.pipeline s.next.job (length p.jobs)) (refuses M15) f (After h s e now seed) (λ _. rests h s e now seed (refuses M15) i refl (λ n. refl) refl) (λ _.
     let l = jobs_leave (new_pipeline s.next.pipeline p now) (new_jobs p.stage s.next.pipeline s.next.job 0 p.jobs) _ in
-    keeps h s (applied f.changes s) (line s e now seed f) i (λ n. refl) l.attempts (ap (λ n. n.attempt) l.next) (l.rise i.jobs_rise)))))
+    keeps h s (applied f.changes s) (line s e now seed f) refl i (λ n. refl) (λ n. refl) l.attempts l.pieces (ap (λ n. n.attempt) l.next) (l.rise i.grants.jobs_rise)))))
 
 -- ---- a job request
 
@@ -218,6 +199,18 @@ pending_free : (s : State) (job : Job) → is_pending s job ≡ true → (a : At
 pending_free s job p a k e =
     none_of 0 (attempts_of s job.id) p a (filter_has (λ (b : Attempt). b.job == job.id) a s.attempts k (eq-eqb a.job job.id e))
 
+-- a grant
+starts : (h : List Past) (s : State) (token : List ℕ) (now : ℕ) (seed : Seed) (runner : Runner) (q : QueuedJob) (vs : List JobVariable) (job : Job) → Inv h s
+    → is_pending s job ≡ true → job.id ≡ q.job.id → IsLeastEligible s runner job → After h s (event.Request (AskJob token)) now seed (grant runner q vs s.next.attempt now seed)
+starts h s token now seed runner q vs job i pending its_job eligible = record {
+  grants = leased.gives h s _ _ _ i.grants refl (λ a k l m. pending_free s job pending a k (m ∙ sym its_job)) (λ n. refl) runner job refl its_job eligible refl refl refl;
+  traces = pieces.stays h s _ _ i.traces (λ n. refl) refl (omega arith) (λ b k. ⊎_elim
+      (λ w. inr (record { id = let m : b.id ≡ s.next.attempt = ap (λ (c : Attempt). c.id) w in omega arith; pieces = ap (λ (c : Attempt). c.pieces) w; size = ap (λ (c : Attempt). c.size) w }))
+      (λ m. same s b m)
+      (has_put attempt_cmp _ b s.attempts k));
+  ends = finals.puts h s (applied (grant runner q vs s.next.attempt now seed).changes s) _ _ refl i.ends refl (λ b k e. let l : b.id < s.next.attempt = i.grants.below b k in let m : b.id ≡ s.next.attempt = e in absurd (omega arith));
+}
+
 grants_least : (h : List Past) (s : State) (token : List ℕ) (now : ℕ) (seed : Seed) → Inv h s → (runner : Runner) → runner_with s token ≡ Some runner
     → (q : QueuedJob) → chosen (queue s) runner ≡ Some q → (vs : List JobVariable)
     → After h s (event.Request (AskJob token)) now seed (ask_job (Some runner) (Some q) vs s.next.attempt now seed)
@@ -229,31 +222,132 @@ grants_least h s token now seed i runner found q offered vs =
     let job = at.0 in
     let first = has_find test job (pending_jobs s) at.1.1 in
     let is_job = has_filter (is_pending s) job s.jobs first.0 in
-    let same : job.id ≡ q.job.id = ap (λ (w : QueuedJob). w.job.id) at.1.0 in
+    let same_job : job.id ≡ q.job.id = ap (λ (w : QueuedJob). w.job.id) at.1.0 in
     let Least : Job → Type 0 = λ other. is_pending s other ≡ true → may_run runner (queued s other) ≡ true → job.id ≤ other.id in
     cond_both (nat_lt greatest_number s.next.attempt) (refuses M15) (grant runner q vs s.next.attempt now seed) (After h s e now seed)
-    (λ _. rests h s e now seed (refuses M15) i refl refl)
-    (λ _. gives h s _ _ _ i refl (λ a k l m. pending_free s job is_job.1 a k (m ∙ sym same)) (λ n. refl) runner job refl same
-    (record {
+    (λ _. rests h s e now seed (refuses M15) i refl (λ n. refl) refl)
+    (λ _. starts h s token now seed runner q vs job i is_job.1 same_job (record {
       is_runner = contains_from_has runner s.runners is_runner.0;
       is_job = contains_from_has job s.jobs is_job.0;
       pending = is_job.1;
       allowed = first.1;
       least = All-from_has Least s.jobs (λ other k p m.
-          least_find (λ (w : Job). w.id) test job other 0 (pending_jobs s) (rising_filter (λ (w : Job). w.id) (is_pending s) 0 s.jobs i.jobs_rise) at.1.1 (filter_has (is_pending s) other s.jobs k p) m);
-    })
-    refl refl refl)
+          least_find (λ (w : Job). w.id) test job other 0 (pending_jobs s) (rising_filter (λ (w : Job). w.id) (is_pending s) 0 s.jobs i.grants.jobs_rise) at.1.1 (filter_has (is_pending s) other s.jobs k p) m);
+    }))
 
 offers : (h : List Past) (s : State) (token : List ℕ) (now : ℕ) (seed : Seed) → Inv h s → (runner : Runner) → runner_with s token ≡ Some runner
     → (q : Option QueuedJob) → chosen (queue s) runner ≡ q → (vs : List JobVariable)
     → After h s (event.Request (AskJob token)) now seed (ask_job (Some runner) q vs s.next.attempt now seed)
-offers h s token now seed i runner found None offered vs = rests h s (event.Request (AskJob token)) now seed _ i refl refl
+offers h s token now seed i runner found None offered vs = rests h s (event.Request (AskJob token)) now seed _ i refl (λ n. refl) refl
 offers h s token now seed i runner found (Some q) offered vs = grants_least h s token now seed i runner found q offered vs
 
 asks : (h : List Past) (s : State) (token : List ℕ) (now : ℕ) (seed : Seed) → Inv h s → (runner : Option Runner) → runner_with s token ≡ runner
     → After h s (event.Request (AskJob token)) now seed (ask_job runner (offer s runner) (offered_variables s (offer s runner)) s.next.attempt now seed)
-asks h s token now seed i None found = rests h s (event.Request (AskJob token)) now seed _ i refl refl
+asks h s token now seed i None found = rests h s (event.Request (AskJob token)) now seed _ i refl (λ n. refl) refl
 asks h s token now seed i (Some runner) found = offers h s token now seed i runner found (chosen (queue s) runner) refl _
+
+-- ---- what a runner says of an attempt
+
+hears : (h : List Past) (s : State) (u : JobUpdate) (now : ℕ) (seed : Seed) → Inv h s → (a : Attempt) → Has a s.attempts → (seen : Result ℕ LeaseFault) → ((z : ℕ) → seen ≡ Ok z → is_live a ≡ true)
+    → After h s (event.Request (UpdateJob u)) now seed (heard a seen)
+hears h s u now seed i a has (Ok seen) live =
+    alters h s (event.Request (UpdateJob u)) now seed (heard a (Ok seen)) a (record a { seen = seen }) i has refl refl refl refl refl (live seen refl) refl (λ n. refl) refl
+hears h s u now seed i a has (Err fault) live = rests h s (event.Request (UpdateJob u)) now seed (heard a (Err fault)) i refl (λ n. refl) refl
+
+ends : (h : List Past) (s : State) (u : JobUpdate) (now : ℕ) (seed : Seed) → Inv h s → (a : Attempt) → Has a s.attempts → (state : Result AttemptState LeaseFault)
+    → After h s (event.Request (UpdateJob u)) now seed (ended a state)
+ends h s u now seed i a has (Ok state) =
+    let e = event.Request (UpdateJob u) in
+    let x = record a { state = state } in
+    let reply = told (status_of_state state) in
+    cond_both (is_live a) (Put (row.Attempt x) ∷ []) [] (λ cs. After h s e now seed (replies reply cs))
+    (λ live. alters h s e now seed (replies reply (Put (row.Attempt x) ∷ [])) a x i has refl refl refl refl refl live refl (λ n. refl) refl)
+    (λ _. rests h s e now seed (replies reply []) i refl (λ n. refl) refl)
+ends h s u now seed i a has (Err fault) = rests h s (event.Request (UpdateJob u)) now seed (ended a (Err fault)) i refl (λ n. refl) refl
+
+reports : (h : List Past) (s : State) (u : JobUpdate) (now : ℕ) (seed : Seed) → Inv h s → (l : Lease) → Has l.attempt s.attempts → (r : Report)
+    → After h s (event.Request (UpdateJob u)) now seed (reported l r now)
+reports h s u now seed i l has report.Running = hears h s u now seed i l.attempt has _ (renewed_live l.attempt l.limit now)
+reports h s u now seed i l has (report.Success exit) = ends h s u now seed i l.attempt has _
+reports h s u now seed i l has (report.Failed cause exit) = ends h s u now seed i l.attempt has _
+
+updates : (h : List Past) (s : State) (u : JobUpdate) (now : ℕ) (seed : Seed) → Inv h s → (o : Option Attempt) → attempt_at s u.attempt ≡ o
+    → After h s (event.Request (UpdateJob u)) now seed (update_job (option_map (lease_of s) o) u now)
+updates h s u now seed i None found = rests h s (event.Request (UpdateJob u)) now seed (refuses M5) i refl (λ n. refl) refl
+updates h s u now seed i (Some a) found =
+    let e = event.Request (UpdateJob u) in
+    let has = has_find (λ (b : Attempt). b.id == u.attempt) a s.attempts found in
+    cond_both (bytes_eq a.token u.token) (reported (lease_of s a) u.report now) (refuses M5) (After h s e now seed)
+    (λ _. reports h s u now seed i (lease_of s a) has.0 u.report)
+    (λ _. rests h s e now seed (refuses M5) i refl (λ n. refl) refl)
+
+-- ---- a piece of a trace
+
+-- an accepted piece makes the trace longer by its bytes
+sum_of : (size from count z : ℕ) → size_after size from count ≡ Ok z → z ≡ size + count
+sum_of size from count z =
+    cond_both (from == size) (if nat_le (size + count) trace_limit then Ok (size + count) else Err TraceFull) (Err (WrongOffset size)) (λ (r : Result ℕ PieceFault). r ≡ Ok z → z ≡ size + count)
+    (λ _. cond_both (nat_le (size + count) trace_limit) (Ok (size + count)) (Err TraceFull) (λ (r : Result ℕ PieceFault). r ≡ Ok z → z ≡ size + count) (λ _ k. cc) (λ _ k. absurd (cc)))
+    (λ _ k. absurd (cc))
+
+accepted_size : (r : Result ℕ LeaseFault) (size from count z : ℕ) → if_leased r (size_after size from count) ≡ Ok z → z ≡ size + count
+accepted_size (Ok seen) size from count z e = sum_of size from count z e
+accepted_size (Err fault) size from count z e = absurd (cc)
+
+lengthens : (h : List Past) (s : State) (part : TracePart) (now : ℕ) (seed : Seed) → Inv h s → (a : Attempt) → Has a s.attempts → a.id ≡ part.attempt → is_live a ≡ true → (size : ℕ) → size ≡ a.size + length part.bytes
+    → After h s (event.Request (AppendTrace part)) now seed (grown a part.bytes now size)
+lengthens h s part now seed i a has its live size longer = record {
+  grants = leased.alters h s _ _ a _ i.grants has refl refl refl (λ l. l) (λ n. refl) refl refl refl;
+  traces = pieces.grows h s _ _ a _ (record { attempt = a.id; seq = a.pieces; bytes = part.bytes }) i.traces has (i.grants.below a has) refl refl refl refl longer
+      (λ n. ap (λ m. if m == n then part.bytes else []) (sym its)) refl refl refl;
+  ends = finals.puts h s (applied (grown a part.bytes now size).changes s) _ _ refl i.ends refl (only_live i a has live refl);
+}
+
+appends : (h : List Past) (s : State) (part : TracePart) (now : ℕ) (seed : Seed) → Inv h s → (a : Attempt) → Has a s.attempts → a.id ≡ part.attempt
+    → (r : Result ℕ PieceFault) → ((z : ℕ) → r ≡ Ok z → z ≡ a.size + length part.bytes) → ((z : ℕ) → r ≡ Ok z → is_live a ≡ true) → After h s (event.Request (AppendTrace part)) now seed (appended a part.bytes now r)
+appends h s part now seed i a has its (Ok size) sum live =
+    let e = event.Request (AppendTrace part) in
+    cond_both (nat_lt greatest_number a.pieces) (refuses M15) (grown a part.bytes now size) (After h s e now seed)
+    (λ _. rests h s e now seed (refuses M15) i refl (λ n. refl) refl)
+    (λ _. lengthens h s part now seed i a has its (live size refl) size (sum size refl))
+appends h s part now seed i a has its (Err (Unleased (NotLive state))) sum live = rests h s (event.Request (AppendTrace part)) now seed (appended a part.bytes now (Err (Unleased (NotLive state)))) i refl (λ n. refl) refl
+appends h s part now seed i a has its (Err (Unleased LeaseOver)) sum live = rests h s (event.Request (AppendTrace part)) now seed (appended a part.bytes now (Err (Unleased LeaseOver))) i refl (λ n. refl) refl
+appends h s part now seed i a has its (Err (WrongOffset size)) sum live = rests h s (event.Request (AppendTrace part)) now seed (appended a part.bytes now (Err (WrongOffset size))) i refl (λ n. refl) refl
+appends h s part now seed i a has its (Err TraceFull) sum live = rests h s (event.Request (AppendTrace part)) now seed (appended a part.bytes now (Err TraceFull)) i refl (λ n. refl) refl
+
+parts : (h : List Past) (s : State) (part : TracePart) (now : ℕ) (seed : Seed) → Inv h s → (o : Option Attempt) → attempt_at s part.attempt ≡ o
+    → After h s (event.Request (AppendTrace part)) now seed (append_trace (option_map (lease_of s) o) part now)
+parts h s part now seed i None found = rests h s (event.Request (AppendTrace part)) now seed (refuses M5) i refl (λ n. refl) refl
+parts h s part now seed i (Some a) found =
+    let e = event.Request (AppendTrace part) in
+    let l = lease_of s a in
+    let has = has_find (λ (b : Attempt). b.id == part.attempt) a s.attempts found in
+    let r = accepted a l.limit now a.size part.from (length part.bytes) in
+    cond_both (bytes_eq a.token part.token) (appended a part.bytes now r) (refuses M5) (After h s e now seed)
+    (λ _. appends h s part now seed i a has.0 (eqb-true a.id part.attempt has.1) r (λ z. accepted_size (renewed a l.limit now) a.size part.from (length part.bytes) z)
+    (leased_live a l.limit now (renewed a l.limit now) refl (size_after a.size part.from (length part.bytes))))
+    (λ _. rests h s e now seed (refuses M5) i refl (λ n. refl) refl)
+
+-- ---- a job is shown, a sweep
+
+looks : (h : List Past) (s : State) (e : Event) (now : ℕ) (seed : Seed) (last : Option Attempt) → Inv h s → ((a : Answer) → is_grant e a ≡ false) → ((a : Answer) → Quiet e a) → (r : Result Job Code) → After h s e now seed (shown r last)
+looks h s e now seed last i isnt quiet (Ok job) = rests h s e now seed (shown (Ok job) last) i (isnt _) (quiet _) refl
+looks h s e now seed last i isnt quiet (Err code) = rests h s e now seed (shown (Err code) last) i (isnt _) (quiet _) refl
+
+reads : (h : List Past) (s : State) (e : Event) (now : ℕ) (seed : Seed) (ps : List Piece) → Inv h s → ((a : Answer) → is_grant e a ≡ false) → ((a : Answer) → Quiet e a) → (r : Result Job Code) → After h s e now seed (traced r ps)
+reads h s e now seed ps i isnt quiet (Ok job) = rests h s e now seed (traced (Ok job) ps) i (isnt _) (quiet _) refl
+reads h s e now seed ps i isnt quiet (Err code) = rests h s e now seed (traced (Err code) ps) i (isnt _) (quiet _) refl
+
+sweeps : (h : List Past) (s : State) (now : ℕ) (seed : Seed) → Inv h s → (o : Option Lease) → first_due (leases s) now ≡ o → After h s event.Sweep now seed (sweep o)
+sweeps h s now seed i None found = rests h s event.Sweep now seed (sweep None) i refl (λ n. refl) refl
+sweeps h s now seed i (Some l) found =
+    let at = find-map (lease_of s) (λ (w : Lease). is_over w.attempt w.limit now) l (live_attempts s) found in
+    let a = at.0 in
+    let is : a ≡ l.attempt = ap (λ (w : Lease). w.attempt) at.1.0 in
+    let live = has_find (λ (b : Attempt). is_over b (lease_of s b).limit now) a (live_attempts s) at.1.1 in
+    let has = has_filter is_live a s.attempts live.0 in
+    alters h s event.Sweep now seed (sweep (Some l)) l.attempt (record l.attempt { state = Failed (cause_of l) None }) i (subst (λ (b : Attempt). Has b s.attempts) is has.0)
+    refl refl refl refl refl (subst (λ (b : Attempt). is_live b ≡ true) is has.1) refl (λ n. refl) refl
 
 -- each event keeps the invariant
 does : (h : List Past) (s : State) (r : Request) (now : ℕ) (seed : Seed) (f : Effect) → Inv h s → Does s r now seed f → After h s (event.Request r) now seed f
@@ -261,12 +355,23 @@ does h s (AddProject name) now seed f i is = subst (After h s (event.Request (Ad
 does h s (AddRunner name) now seed f i is = subst (After h s (event.Request (AddRunner name)) now seed) (sym is) (runners h s name now seed i)
 does h s (EnterPipeline p) now seed f i is = subst (After h s (event.Request (EnterPipeline p)) now seed) (sym is) (pipelines h s p now seed i (project_at s p.project))
 does h s (AskJob token) now seed f i is = subst (After h s (event.Request (AskJob token)) now seed) (sym is) (asks h s token now seed i (runner_with s token) refl)
+does h s (UpdateJob u) now seed f i is = subst (After h s (event.Request (UpdateJob u)) now seed) (sym is) (updates h s u now seed i (attempt_at s u.attempt) refl)
+does h s (AppendTrace part) now seed f i is = subst (After h s (event.Request (AppendTrace part)) now seed) (sym is) (parts h s part now seed i (attempt_at s part.attempt) refl)
+does h s (ShowJob query) now seed f i is =
+    let job = job_at s query.job in
+    subst (After h s (event.Request (ShowJob query)) now seed) (sym is)
+    (looks h s (event.Request (ShowJob query)) now seed (last_attempt s query.job) i (λ a. refl) (λ a n. refl) (asked_job (project_with s query.token) job (pipeline_of s job) query))
+does h s (ShowTrace query) now seed f i is =
+    let job = job_at s query.job in
+    subst (After h s (event.Request (ShowTrace query)) now seed) (sym is)
+    (reads h s (event.Request (ShowTrace query)) now seed (pieces_in s (last_attempt s query.job)) i (λ a. refl) (λ a n. refl) (asked_job (project_with s query.token) job (pipeline_of s job) query))
 
 goes_on : (h : List Past) (s : State) (e : Event) (now : ℕ) (seed : Seed) (f : Effect) → Inv h s → Happens s e now seed f → After h s e now seed f
 goes_on h s (event.Request r) now seed f i is = does h s r now seed f i is
+goes_on h s event.Sweep now seed f i is = subst (After h s event.Sweep now seed) (sym is) (sweeps h s now seed i (first_due (leases s) now) refl)
 
 pub reached : (h : List Past) (s : State) → Leads h s → Inv h s
-reached [] s l = subst (Inv []) (sym l) inv_empty
+reached [] s l = subst (Inv []) (sym l) (record { grants = grants_empty; traces = traces_empty; ends = λ p k. absurd k })
 reached (p ∷ h) s l =
     let i = goes_on h p.before p.event p.now p.seed l.1.effect (reached h p.before l.0) l.1.happens in
     subst₂ (λ (a : Answer) (t : State). Inv (record { before = p.before; event = p.event; now = p.now; seed = p.seed; answer = a } ∷ h) t) (sym l.1.answer) (sym l.1.state) i

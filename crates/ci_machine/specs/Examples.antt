@@ -1,18 +1,24 @@
 -- Worked examples: a first project, a runner, a pipeline of one job, and the runner's requests, each one computed.
-use Rattle.std.specs.Prelude.{ℕ, List, [], ◌∷◌, codes, replicate}
+use Rattle.std.specs.Prelude.{ℕ, false, List, [], ◌∷◌, None, codes, replicate}
 use Rattle.ci_machine.specs.declared.lease.Lease.{Lease}
+use Rattle.ci_machine.specs.declared.records.Job.{Job}
+use Rattle.ci_machine.specs.declared.records.RefKind.TheVariants.{Branch}
+use Rattle.ci_machine.specs.declared.records.Source.TheVariants.{Api}
 use Rattle.ci_machine.specs.declared.records.Attempt.{Attempt}
 use Rattle.ci_machine.specs.declared.records.AttemptState.{AttemptState}
 use Rattle.ci_machine.specs.declared.records.AttemptState.TheVariants.{Live}
 use Rattle.ci_machine.specs.declared.request.NewPipeline.{NewPipeline}
+use Rattle.ci_machine.specs.declared.request.Report.{Report}
+use Rattle.ci_machine.specs.declared.request.JobQuery.{JobQuery}
 use Rattle.ci_machine.specs.declared.request.Seed.{Seed}
 use Rattle.ci_machine.specs.declared.reply.Answer.{Answer}
 use Rattle.ci_machine.specs.declared.reply.Answer.TheVariants as answer
 use Rattle.ci_machine.specs.declared.reply.Effect.{Effect}
 use Rattle.ci_machine.specs.Reply.{body_text}
 use Rattle.ci_machine.specs.State.{State, empty, applied}
-use Rattle.ci_machine.specs.Effects.{add_project, add_runner, enter_pipeline, ask_job}
-use Rattle.ci_machine.specs.Step.{project_at, runner_with, offer, offered_variables}
+use Rattle.ci_machine.specs.Effects.{add_project, add_runner, enter_pipeline, ask_job, update_job, append_trace, show_job, show_trace, sweep}
+use Rattle.ci_machine.specs.Leases.{first_due}
+use Rattle.ci_machine.specs.Step.{project_at, project_with, runner_with, pipeline_of, job_at, last_attempt, pieces_in, lease_at, leases, offer, offered_variables}
 
 -- sixteen bytes ab
 abbrev pub seed : Seed
@@ -20,6 +26,7 @@ seed = record { 0 = replicate 16 171 }
 
 abbrev pub answer_text : Answer → List ℕ
 answer_text (answer.Reply reply) = body_text reply
+answer_text (answer.Swept swept) = []
 
 abbrev pub after : Effect → State → State
 after e s = applied e.changes s
@@ -66,7 +73,45 @@ with_attempt = after granted with_pipeline
 -- ---- an attempt granted at 1000
 
 abbrev pub attempt : ℕ → AttemptState → Attempt
-attempt seen state = record { id = 1; job = 1; runner = 1; token = []; granted = 1000; seen = seen; state = state }
+attempt seen state = record { id = 1; job = 1; runner = 1; token = []; granted = 1000; seen = seen; state = state; pieces = 0; size = 0 }
 
 abbrev pub lease : ℕ → ℕ → Lease
 lease seen limit = record { attempt = attempt seen Live; limit = limit }
+
+-- that attempt of the job 1, which has a limit of an hour, in the project 1 with the token `p`
+abbrev pub job : Job
+job = record { id = 1; pipeline = 1; position = 0; name = codes "build"; stage = codes "build"; spec = record { script = []; timeout = 3600 }; played = false; cancelled = false; set_aside = 0 }
+
+abbrev pub leased : State
+leased = record empty {
+  projects = (record { id = 1; name = codes "p"; token = codes "p"; file = None }) ∷ [];
+  pipelines = (record { id = 1; project = 1; git_ref = codes "main"; kind = Branch; source = Api; created = 1000 }) ∷ [];
+  jobs = job ∷ [];
+  attempts = attempt 1000 Live ∷ [];
+}
+
+-- its runner sends these bytes of its trace
+abbrev pub sent : State → ℕ → List ℕ → ℕ → Effect
+sent s from bytes now = append_trace (lease_at s 1) (record { attempt = 1; token = []; from = from; bytes = bytes }) now
+
+-- a runner says with this token how it stands
+abbrev pub said : State → List ℕ → Report → ℕ → Effect
+said s token report now = update_job (lease_at s 1) (record { attempt = 1; token = token; report = report }) now
+
+abbrev pub swept : State → ℕ → Effect
+swept s now = sweep (first_due (leases s) now)
+
+abbrev pub query : ℕ → ℕ → List ℕ → JobQuery
+query project number token = record { project = project; token = token; job = number }
+
+abbrev pub job_shown : State → JobQuery → Effect
+job_shown s q = show_job (project_with s q.token) (job_at s q.job) (pipeline_of s (job_at s q.job)) (last_attempt s q.job) q
+
+abbrev pub trace_shown : State → JobQuery → Effect
+trace_shown s q = show_trace (project_with s q.token) (job_at s q.job) (pipeline_of s (job_at s q.job)) (pieces_in s (last_attempt s q.job)) q
+
+abbrev pub hello : State
+hello = after (sent leased 0 (codes "hello") 1119) leased
+
+abbrev pub hello_world : State
+hello_world = after (sent hello 5 (codes "world") 1119) hello

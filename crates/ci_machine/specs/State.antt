@@ -9,6 +9,7 @@ use Rattle.ci_machine.specs.declared.records.Pipeline.{Pipeline}
 use Rattle.ci_machine.specs.declared.records.Job.{Job}
 use Rattle.ci_machine.specs.declared.records.JobVariable.{JobVariable}
 use Rattle.ci_machine.specs.declared.records.Attempt.{Attempt}
+use Rattle.ci_machine.specs.declared.records.Piece.{Piece}
 use Rattle.ci_machine.specs.declared.records.Numbers.{Numbers}
 use Rattle.ci_machine.specs.declared.change.Record.{Record}
 use Rattle.ci_machine.specs.declared.change.Record.TheVariants as row
@@ -26,6 +27,7 @@ pub record State : Type 0 where
   pub jobs : List Job
   pub job_variables : List JobVariable  -- by the job, then by the key
   pub attempts : List Attempt
+  pub pieces : List Piece  -- by the attempt, then by the place in its trace
   pub next : Numbers
 
 abbrev pub first_numbers : Numbers
@@ -33,9 +35,10 @@ first_numbers = record { project = 1; runner = 1; pipeline = 1; job = 1; attempt
 
 -- nothing, and each next number is 1
 abbrev pub empty : State
-empty = record { projects = []; runners = []; pipelines = []; jobs = []; job_variables = []; attempts = []; next = first_numbers }
+empty = record { projects = []; runners = []; pipelines = []; jobs = []; job_variables = []; attempts = []; pieces = []; next = first_numbers }
 
--- how records of a table are ordered: by their numbers, a job's variables by the job and then by the bytes of the key
+-- how records of a table are ordered: by their numbers, a job's variables by the job and then by the bytes of the key, the
+-- pieces of a trace by the attempt and then by their place
 abbrev pub project_cmp : Project → Project → Ordering
 project_cmp a b = nat_cmp a.id b.id
 
@@ -53,6 +56,9 @@ job_variable_cmp a b = ordering_then (nat_cmp a.job b.job) (slice_cmp nat_cmp a.
 
 abbrev pub attempt_cmp : Attempt → Attempt → Ordering
 attempt_cmp a b = nat_cmp a.id b.id
+
+abbrev pub piece_cmp : Piece → Piece → Ordering
+piece_cmp a b = ordering_then (nat_cmp a.attempt b.attempt) (nat_cmp a.seq b.seq)
 
 -- an ordered list with x at its place
 abbrev pub placed : {A : Type 0} → (A → A → Ordering) → A → List A → List A
@@ -78,6 +84,7 @@ with_record (row.Pipeline p) s = record s { pipelines = put pipeline_cmp p s.pip
 with_record (row.Job j) s = record s { jobs = put job_cmp j s.jobs }
 with_record (row.JobVariable v) s = record s { job_variables = put job_variable_cmp v s.job_variables }
 with_record (row.Attempt a) s = record s { attempts = put attempt_cmp a s.attempts }
+with_record (row.Piece p) s = record s { pieces = put piece_cmp p s.pieces }
 
 abbrev pub without_record : Key → State → State
 without_record (key.Project n) s = record s { projects = without (λ p. p.id) n s.projects }
@@ -86,6 +93,7 @@ without_record (key.Pipeline n) s = record s { pipelines = without (λ p. p.id) 
 without_record (key.Job n) s = record s { jobs = without (λ j. j.id) n s.jobs }
 without_record (key.JobVariable n name) s = record s { job_variables = filter (λ v. not (is_eq (ordering_then (nat_cmp v.job n) (slice_cmp nat_cmp v.key name)))) s.job_variables }
 without_record (key.Attempt n) s = record s { attempts = without (λ a. a.id) n s.attempts }
+without_record (key.Piece n seq) s = record s { pieces = filter (λ p. not (is_eq (ordering_then (nat_cmp p.attempt n) (nat_cmp p.seq seq)))) s.pieces }
 
 abbrev pub with_next : Counter → ℕ → Numbers → Numbers
 with_next counter.Project n next = record next { project = n }

@@ -1,5 +1,6 @@
 -- One step of the machine: the effect of an event on what the state holds, and then the changes applied.
-use Rattle.std.specs.Prelude.{◌≡◌, ℕ, Bool, List, [], filter, length, find, map, ◌==◌, Option, Some, None, option_and_then}
+use Rattle.std.specs.Prelude.{◌≡◌, ℕ, Bool, List, [], filter, length, find, map, ◌==◌, Option, Some, None, option_map, option_and_then}
+use Rattle.std.specs.List.{last_or}
 use Rattle.std.specs.Str.{bytes_eq}
 use Rattle.ci_machine.specs.declared.records.Project.{Project}
 use Rattle.ci_machine.specs.declared.records.Runner.{Runner}
@@ -8,11 +9,13 @@ use Rattle.ci_machine.specs.declared.records.Job.{Job}
 use Rattle.ci_machine.specs.declared.records.JobVariable.{JobVariable}
 use Rattle.ci_machine.specs.declared.records.QueuedJob.{QueuedJob}
 use Rattle.ci_machine.specs.declared.records.Attempt.{Attempt}
+use Rattle.ci_machine.specs.declared.records.Piece.{Piece}
 use Rattle.ci_machine.specs.declared.records.Numbers.{Numbers}
+use Rattle.ci_machine.specs.declared.lease.Lease.{Lease}
 use Rattle.ci_machine.specs.declared.change.Counter.{Counter}
 use Rattle.ci_machine.specs.declared.change.Counter.TheVariants as counter
 use Rattle.ci_machine.specs.declared.request.Request.{Request}
-use Rattle.ci_machine.specs.declared.request.Request.TheVariants.{AddProject, AddRunner, EnterPipeline, AskJob}
+use Rattle.ci_machine.specs.declared.request.Request.TheVariants.{AddProject, AddRunner, EnterPipeline, AskJob, UpdateJob, AppendTrace, ShowJob, ShowTrace}
 use Rattle.ci_machine.specs.declared.request.Event.{Event}
 use Rattle.ci_machine.specs.declared.request.Event.TheVariants as event
 use Rattle.ci_machine.specs.declared.request.Seed.{Seed}
@@ -20,18 +23,28 @@ use Rattle.ci_machine.specs.declared.reply.Answer.{Answer}
 use Rattle.ci_machine.specs.declared.reply.Effect.{Effect}
 use Rattle.ci_machine.specs.State.{State, applied}
 use Rattle.ci_machine.specs.Eligible.{chosen}
-use Rattle.ci_machine.specs.Effects.{add_project, add_runner, enter_pipeline, ask_job}
+use Rattle.ci_machine.specs.Leases.{is_live, first_due}
+use Rattle.ci_machine.specs.Effects.{add_project, add_runner, enter_pipeline, ask_job, update_job, append_trace, show_job, show_trace, sweep}
 
 -- ---- what is looked up in a state
 
 abbrev pub project_at : State → ℕ → Option Project
 project_at s n = find (λ p. p.id == n) s.projects
 
+abbrev pub project_with : State → List ℕ → Option Project
+project_with s token = find (λ p. bytes_eq p.token token) s.projects
+
 abbrev pub runner_with : State → List ℕ → Option Runner
 runner_with s token = find (λ r. bytes_eq r.token token) s.runners
 
 abbrev pub pipeline_at : State → ℕ → Option Pipeline
 pipeline_at s n = find (λ p. p.id == n) s.pipelines
+
+abbrev pub job_at : State → ℕ → Option Job
+job_at s n = find (λ j. j.id == n) s.jobs
+
+abbrev pub attempt_at : State → ℕ → Option Attempt
+attempt_at s n = find (λ a. a.id == n) s.attempts
 
 -- the variables of a job, by their keys
 abbrev pub variables_of : State → ℕ → List JobVariable
@@ -40,6 +53,31 @@ variables_of s job = filter (λ v. v.job == job) s.job_variables
 -- the attempts of a job, by number
 abbrev pub attempts_of : State → ℕ → List Attempt
 attempts_of s job = filter (λ a. a.job == job) s.attempts
+
+abbrev pub last_attempt : State → ℕ → Option Attempt
+last_attempt s job = last_or None (attempts_of s job)
+
+-- the pieces of the trace of an attempt, in order
+abbrev pub pieces_of : State → ℕ → List Piece
+pieces_of s attempt = filter (λ p. p.attempt == attempt) s.pieces
+
+-- the time limit of a job; an attempt's job is always there
+abbrev pub limit_or_none : Option Job → ℕ
+limit_or_none None = 0
+limit_or_none (Some job) = job.spec.timeout
+
+abbrev pub lease_of : State → Attempt → Lease
+lease_of s a = record { attempt = a; limit = limit_or_none (job_at s a.job) }
+
+abbrev pub lease_at : State → ℕ → Option Lease
+lease_at s n = option_map (lease_of s) (attempt_at s n)
+
+-- the attempts that have not ended, by number
+abbrev pub live_attempts : State → List Attempt
+live_attempts s = filter is_live s.attempts
+
+abbrev pub leases : State → List Lease
+leases s = map (lease_of s) (live_attempts s)
 
 -- a job is pending while it has no attempt
 abbrev pub is_pending : State → Job → Bool
@@ -68,6 +106,15 @@ abbrev pub offered_variables : State → Option QueuedJob → List JobVariable
 offered_variables s None = []
 offered_variables s (Some q) = variables_of s q.job.id
 
+-- the pipeline of a job, if there is one
+abbrev pub pipeline_of : State → Option Job → Option Pipeline
+pipeline_of s job = option_and_then (λ j. pipeline_at s j.pipeline) job
+
+-- the pieces of the trace of an attempt, if there is one
+abbrev pub pieces_in : State → Option Attempt → List Piece
+pieces_in s None = []
+pieces_in s (Some a) = pieces_of s a.id
+
 -- the next number of a kind
 abbrev pub next_of : Counter → Numbers → ℕ
 next_of counter.Project next = next.project
@@ -86,10 +133,19 @@ Does s (EnterPipeline p) now seed e = e ≡ enter_pipeline (project_at s p.proje
 Does s (AskJob token) now seed e =
     let runner = runner_with s token in
     e ≡ ask_job runner (offer s runner) (offered_variables s (offer s runner)) s.next.attempt now seed
+Does s (UpdateJob update) now seed e = e ≡ update_job (lease_at s update.attempt) update now
+Does s (AppendTrace part) now seed e = e ≡ append_trace (lease_at s part.attempt) part now
+Does s (ShowJob query) now seed e =
+    let job = job_at s query.job in
+    e ≡ show_job (project_with s query.token) job (pipeline_of s job) (last_attempt s query.job) query
+Does s (ShowTrace query) now seed e =
+    let job = job_at s query.job in
+    e ≡ show_trace (project_with s query.token) job (pipeline_of s job) (pieces_in s (last_attempt s query.job)) query
 
 -- the effect that an event has in a state
 abbrev pub Happens : State → Event → ℕ → Seed → Effect → Type 0
 Happens s (event.Request request) now seed e = Does s request now seed e
+Happens s event.Sweep now seed e = e ≡ sweep (first_due (leases s) now)
 
 -- from a state an event, at a moment and with a seed, leads to an answer and the next state
 pub record Step (s : State) (e : Event) (now : ℕ) (seed : Seed) (a : Answer) (t : State) : Type 0 where

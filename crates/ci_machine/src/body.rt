@@ -9,11 +9,11 @@ ghost use Rattle.std.specs.Fmt.{decimal};
 ghost use Rattle.serde_json.specs.Data.{array, string};
 ghost use Rattle.serde_json.specs.View.{view, items_of};
 ghost use Rattle.serde_json.specs.Written.{compact_text, has_float};
-ghost use Rattle.ci_machine.specs.Bodies.{fault_data, created_data, job_data, new_pipeline_data, variable_data, with_default, granted_variables, grant_data, source_text, detail_text};
+ghost use Rattle.ci_machine.specs.Bodies.{fault_data, created_data, job_data, new_pipeline_data, variable_data, with_default, granted_variables, grant_data, source_text, detail_text, status_text};
 ghost use Rattle.std.specs.Prelude.{false};
 
 use crate::records::{Job, JobVariable, Pipeline, QueuedJob, Source};
-use crate::reply::Detail;
+use crate::reply::{Detail, JobStatus};
 use crate::text::Text;
 use serde_json::{Value, json};
 use std::alloc::{AllocError, Global};
@@ -29,6 +29,20 @@ impl Source {
             Source::Schedule => "schedule",
             Source::Api => "api",
             Source::Trigger => "trigger",
+        }
+    }
+}
+
+impl JobStatus {
+    /// The status as replies name it.
+    pub fn as_str(self) -> &'static str
+        ensures { result.now ≡ status_text self }
+    {
+        match self {
+            JobStatus::Running => "running",
+            JobStatus::Success => "success",
+            JobStatus::Failed => "failed",
+            JobStatus::Canceled => "canceled",
         }
     }
 }
@@ -82,14 +96,22 @@ fn created_value(alloc: Global, id: u64, token: &Text) -> Result<Value, AllocErr
     json!(in alloc; {"id": id, "token": token.as_str()})
 }
 
-fn pending_job(alloc: Global, job: &Job) -> Result<Value, AllocError>
-    ensures { IfOk result (λ v. view v ≡ job_data (codes "pending") job.now) }
+/// The body that shows a job with its status.
+pub fn job(alloc: Global, status: &str, job: &Job) -> Result<Text, AllocError>
+    ensures { IfOk result (λ t. t ≡ compact_text (job_data status.now job.now)) }
+{
+    let value = job_value(alloc, status, job)?;
+    text_of(alloc, &value)
+}
+
+fn job_value(alloc: Global, status: &str, job: &Job) -> Result<Value, AllocError>
+    ensures { IfOk result (λ v. view v ≡ job_data status.now job.now) }
 {
     json!(in alloc; {
         "id": job.id,
         "name": job.name.as_str(),
         "stage": job.stage.as_str(),
-        "status": "pending"
+        "status": status
     })
 }
 
@@ -98,7 +120,7 @@ fn pending_jobs(alloc: Global, jobs: &[Job]) -> Result<Value, AllocError>
 {
     let mut items = Vec::new(alloc);
     for job in jobs {
-        items.push(pending_job(alloc, job)?)?;
+        items.push(job_value(alloc, "pending", job)?)?;
     }
     Ok(Value::Array(items))
 }

@@ -2,7 +2,7 @@
 
 ghost use Rattle.std.specs.Prelude.{◌≡◌, ◌↔◌, [], IsTrue};
 
-use crate::records::{Attempt, Job, JobVariable, Pipeline, Project, Runner};
+use crate::records::{Attempt, Job, JobVariable, Piece, Pipeline, Project, Runner};
 use crate::text::Text;
 use std::marker::Model;
 
@@ -15,6 +15,7 @@ pub enum Record {
     Job(Job),
     JobVariable(JobVariable),
     Attempt(Attempt),
+    Piece(Piece),
 }
 
 /// The key of a record of any table.
@@ -26,6 +27,8 @@ pub enum Key {
     Job(u64),
     JobVariable(u64, Text),
     Attempt(u64),
+    /// Of an attempt, at a place of its trace.
+    Piece(u64, u64),
 }
 
 /// One of the next numbers.

@@ -4,19 +4,21 @@ ghost use Rattle.std.specs.Prelude.{List, [], ◌∷◌, ℕ, ◌<◌, ◌^◌, 
 ghost use Rattle.ci_machine.specs.declared.request.Event.{Event};
 ghost use Rattle.ci_machine.specs.declared.request.Seed.{Seed};
 ghost use Rattle.ci_machine.specs.declared.reply.Answer.{Answer};
+ghost use Rattle.ci_machine.specs.declared.reply.Answer.TheVariants as answer;
 ghost use Rattle.ci_machine.specs.State.{State};
-ghost use Rattle.ci_machine.specs.Effects.{token_of, replies, refuses, no_content, add_project, made_project, add_runner, made_runner, lacks_numbers};
+ghost use Rattle.ci_machine.specs.Effects.{token_of, replies, refuses, no_content, add_project, made_project, add_runner, made_runner, lacks_numbers, told, unleased, accepted_to, not_accepted, sweeps};
 ghost use Rattle.ci_machine.specs.Names.{is_name};
 ghost use Rattle.ci_machine.specs.Step.{Step};
 ghost use Rattle.ci_machine.specs.Reply.{Stepped, outcome_of};
 ghost use Rattle.ci_machine.specs.Laws.{IsRefusal, Laws};
 ghost use Rattle.ci_machine.specs.History.{Past, Leads};
-ghost use Rattle.ci_machine.specs.Examples.{answer_text, project_added, runner_added, pipeline_entered, granted, with_attempt, token, asked, seed, attempt, lease};
+ghost use Rattle.ci_machine.specs.Examples.{answer_text, project_added, runner_added, pipeline_entered, granted, with_attempt, token, asked, seed, attempt, lease, leased, after, sent, said, swept, query, job_shown, trace_shown, hello, hello_world};
 ghost use Rattle.ci_machine.specs.Leases.{renewed, is_over, deadline, accepted, size_after, finished, cause_of};
 
 use crate::lease::{LeaseFault, PieceFault};
 use crate::records::{AttemptState, Cause};
-use crate::reply::Code;
+use crate::reply::{Code, JobStatus, Swept};
+use crate::request::Report;
 
 /// A step that refuses leaves the state as it was.
 pub fn a_refusal_changes_nothing()
@@ -91,8 +93,37 @@ pub fn lease_examples()
     ensures in_time { finished (attempt 1000 AttemptState.Live) 3600 1119 (AttemptState.Succeeded None) ≡ Ok (AttemptState.Succeeded None) }
 {}
 
-/// In each state that a history leads to, each job has at most one live attempt, and each attempt was granted by just
-/// one request, in a state in which its job was pending and, of those that its runner may run, the one of least number.
+/// Traces, final states and sweeps worked out by hand, of an attempt granted at 1000 with a limit of an hour.
+pub fn trace_examples()
+    ensures first_piece { (sent leased 0 (codes "hello") 1119).answer ≡ answer.Reply (accepted_to 5) }
+    ensures repeated_piece { sent hello 0 (codes "hello") 1119 ≡ replies (not_accepted (PieceFault.WrongOffset 5)) [] }
+    ensures next_piece { (sent hello 5 (codes "world") 1119).answer ≡ answer.Reply (accepted_to 10) }
+    ensures gap { sent hello_world 11 (codes "ab") 1119 ≡ replies (not_accepted (PieceFault.WrongOffset 10)) [] }
+    ensures trace { answer_text (trace_shown hello_world (query 1 1 (codes "p"))).answer ≡ codes "helloworld" }
+
+    ensures too_early { swept hello_world 1238 ≡ sweeps Swept.Nothing [] }
+    ensures late_piece { sent hello_world 10 (codes "!") 1239 ≡ refuses Code.M7 }
+    ensures ended { (swept hello_world 1239).answer ≡ answer.Swept (Swept.Ended 1 Cause.StuckOrTimeoutFailure) }
+    ensures ended_once { swept (after (swept hello_world 1239) hello_world) 1240 ≡ sweeps Swept.Nothing [] }
+
+    ensures went_back { (after (said (after (said leased [] Report.Running 1100) leased) [] Report.Running 1050) leased).attempts ≡ attempt 1100 AttemptState.Live ∷ [] }
+    ensures succeeded { (said leased [] (Report.Success None) 1119).answer ≡ answer.Reply (told JobStatus.Success) }
+    ensures repeated { said (after (said leased [] (Report.Success None) 1119) leased) [] (Report.Success None) 9000 ≡ replies (told JobStatus.Success) [] }
+    ensures other_exit { said (after (said leased [] (Report.Success None) 1119) leased) [] (Report.Success (Some 1)) 1119 ≡ replies (unleased (LeaseFault.NotLive (AttemptState.Succeeded None))) [] }
+    ensures late_end { said leased [] (Report.Success None) 1120 ≡ refuses Code.M7 }
+    ensures other_token { said leased (codes "j") Report.Running 1000 ≡ refuses Code.M5 }
+
+    ensures unknown_project { job_shown leased (query 1 1 (codes "q")) ≡ refuses Code.M1 }
+    ensures other_project { job_shown leased (query 2 1 (codes "p")) ≡ refuses Code.M2 }
+    ensures unknown_job { job_shown leased (query 1 2 (codes "p")) ≡ refuses Code.M3 }
+    ensures running { answer_text (job_shown leased (query 1 1 (codes "p"))).answer ≡ codes "{\"id\":1,\"name\":\"build\",\"stage\":\"build\",\"status\":\"running\"}" }
+    ensures failed { answer_text (job_shown (after (swept leased 1120) leased) (query 1 1 (codes "p"))).answer ≡ codes "{\"id\":1,\"name\":\"build\",\"stage\":\"build\",\"status\":\"failed\"}" }
+{}
+
+/// In each state that a history leads to, each job has at most one live attempt; each attempt was granted by just one
+/// request, in a state in which its job was pending and, of those that its runner may run, the one of least number; each
+/// trace is the bytes that were accepted of its attempt, joined in the order of the history; and an attempt that had
+/// ended in an earlier state stands as it ended.
 pub fn laws_of_each_reached_state()
     ensures { (h : List Past) (s : State) → Leads h s → Laws h s }
 {}

@@ -13,8 +13,8 @@ pub const LEASE_SECONDS: u64 = 120;
 /// The greatest size of a trace, in bytes.
 pub const TRACE_LIMIT: u64 = 4_194_304;
 
-/// A live attempt, with the time limit of its job in seconds.
-#[derive(Drop)]
+/// An attempt, with the time limit of its job in seconds. While it is live it is its runner's lease on the job.
+#[derive(Clone, Drop)]
 pub struct Lease {
     pub attempt: Attempt,
     pub limit: u32,

@@ -77,7 +77,7 @@ fn token(alloc: Global, letter: &str, number: u64, seed: Seed) -> Result<Text, A
 }
 
 /// Two changes, the first of them first.
-fn two(alloc: Global, first: Change, second: Change) -> Result<Vec<Change>, AllocError>
+pub(crate) fn two(alloc: Global, first: Change, second: Change) -> Result<Vec<Change>, AllocError>
     ensures { IfOk result (λ v. v.items ≡ first ∷ second ∷ []) }
 {
     let mut changes = Vec::new(alloc);
@@ -211,6 +211,8 @@ fn grant(
         granted: now,
         seen: now,
         state: AttemptState::Live,
+        pieces: 0,
+        size: 0,
     };
     let changes = two(
         alloc,

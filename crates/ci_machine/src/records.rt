@@ -3,7 +3,7 @@
 ghost use Rattle.std.specs.Prelude.{◌≡◌};
 
 use crate::moment::Moment;
-use crate::text::{Text, Texts};
+use crate::text::{Bytes, Text, Texts};
 use std::alloc::AllocError;
 
 /// The greatest number of a record: 2^53 - 1, up to which every reader of JSON keeps whole numbers exact.
@@ -150,6 +150,19 @@ pub struct Attempt {
     /// When its runner was last heard of.
     pub seen: Moment,
     pub state: AttemptState,
+    /// How many pieces its trace has.
+    pub pieces: u64,
+    /// The size of its trace, in bytes.
+    pub size: u64,
+}
+
+/// A piece of the trace of an attempt, as its runner sent it.
+#[derive(Clone, Drop)]
+pub struct Piece {
+    pub attempt: u64,
+    /// Its place among the pieces of the trace, from 0.
+    pub seq: u64,
+    pub bytes: Bytes,
 }
 
 /// The numbers that the next records get.

@@ -4,6 +4,7 @@ ghost use Rattle.std.specs.Prelude.{◌≡◌};
 ghost use Rattle.ci_machine.specs.Reply.{status_of, body_text, code_text, refusal_text, refusal};
 
 use crate::change::Delta;
+use crate::records::Cause;
 use crate::text::{Bytes, Text};
 
 /// How a request ended: the statuses of HTTP (RFC 9110, section 15) that the server sends.
@@ -29,10 +30,24 @@ pub enum Status {
 /// Why a request was refused: a code, which its reply's body names.
 #[derive(Clone, Copy, PartialEq, Eq, Drop)]
 pub enum Code {
+    /// The project token is unknown.
+    M1,
     /// The project doesn't exist, or isn't the token's.
     M2,
+    /// There is no such job.
+    M3,
     /// The runner token is unknown.
     M4,
+    /// There is no such attempt, or the token isn't its token.
+    M5,
+    /// The attempt has ended.
+    M6,
+    /// The lease is over.
+    M7,
+    /// The bytes don't begin where the trace ends.
+    M8,
+    /// The trace would pass its limit.
+    M9,
     /// What is to be made has a fault, which the detail names.
     M14,
     /// A number over the limit would be needed.
@@ -82,7 +97,10 @@ pub enum JobStatus {
 /// The methods of a path, as the field `Allow` lists them.
 #[derive(Clone, Copy, PartialEq, Eq, Drop)]
 pub enum Allow {
+    Get,
+    Patch,
     Post,
+    Put,
 }
 
 /// A body that was made for a reply.
@@ -112,13 +130,15 @@ impl Code {
         ensures { result ≡ status_of self }
     {
         match self {
-            Code::M2 | Code::H5 => Status::NotFound,
-            Code::M4 => Status::Forbidden,
+            Code::M1 => Status::Unauthorized,
+            Code::M2 | Code::M3 | Code::H5 => Status::NotFound,
+            Code::M4 | Code::M5 | Code::M6 | Code::M7 => Status::Forbidden,
+            Code::M8 => Status::RangeNotSatisfiable,
+            Code::M9 | Code::H4 => Status::PayloadTooLarge,
             Code::M14 | Code::H1 | Code::H7 => Status::BadRequest,
             Code::M15 | Code::M16 | Code::M17 => Status::ServiceUnavailable,
             Code::H2 => Status::HeaderFieldsTooLarge,
             Code::H3 => Status::LengthRequired,
-            Code::H4 => Status::PayloadTooLarge,
             Code::H6 => Status::MethodNotAllowed,
             Code::H8 => Status::NotImplemented,
         }
@@ -129,8 +149,15 @@ impl Code {
         ensures { result.now ≡ refusal_text self }
     {
         match self {
+            Code::M1 => "{\"code\":\"M1\"}",
             Code::M2 => "{\"code\":\"M2\"}",
+            Code::M3 => "{\"code\":\"M3\"}",
             Code::M4 => "{\"code\":\"M4\"}",
+            Code::M5 => "{\"code\":\"M5\"}",
+            Code::M6 => "{\"code\":\"M6\"}",
+            Code::M7 => "{\"code\":\"M7\"}",
+            Code::M8 => "{\"code\":\"M8\"}",
+            Code::M9 => "{\"code\":\"M9\"}",
             Code::M14 => "{\"code\":\"M14\"}",
             Code::M15 => "{\"code\":\"M15\"}",
             Code::M16 => "{\"code\":\"M16\"}",
@@ -175,10 +202,22 @@ impl Reply {
     }
 }
 
+/// What a sweep did.
+#[derive(Clone, Copy, Drop)]
+pub enum Swept {
+    /// It ended the attempt of this number, as failed for this cause.
+    Ended(u64, Cause),
+    /// No lease was over.
+    Nothing,
+    /// There was no sweep, for this cause.
+    Refused(Code),
+}
+
 /// What an event is answered.
 #[derive(Drop)]
 pub enum Answer {
     Reply(Reply),
+    Swept(Swept),
 }
 
 /// What an event does: its answer, and the changes that it makes.

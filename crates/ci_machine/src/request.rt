@@ -2,7 +2,8 @@
 
 ghost use Rattle.std.specs.Prelude.{◌≡◌};
 
-use crate::text::{Text, Texts};
+use crate::records::Cause;
+use crate::text::{Bytes, Text, Texts};
 use std::alloc::AllocError;
 use std::marker::Model;
 
@@ -72,6 +73,40 @@ pub struct NewPipeline {
     pub jobs: NewJobs,
 }
 
+/// What a runner says of an attempt: that it runs, or how it ended, with the exit code if there is one.
+#[derive(Clone, Copy, Drop)]
+pub enum Report {
+    Running,
+    Success(Option<u32>),
+    Failed(Cause, Option<u32>),
+}
+
+/// What a runner sends of an attempt, with the attempt's token.
+#[derive(Clone, Drop)]
+pub struct JobUpdate {
+    pub attempt: u64,
+    pub token: Text,
+    pub report: Report,
+}
+
+/// The next bytes of the trace of an attempt, as its runner sends them with the attempt's token.
+#[derive(Clone, Drop)]
+pub struct TracePart {
+    pub attempt: u64,
+    pub token: Text,
+    /// The place of the first byte in the trace, from 0.
+    pub from: u64,
+    pub bytes: Bytes,
+}
+
+/// A job of a project, asked for with the project's token.
+#[derive(Clone, Drop)]
+pub struct JobQuery {
+    pub project: u64,
+    pub token: Text,
+    pub job: u64,
+}
+
 /// What the server is asked to do.
 #[derive(Drop)]
 pub enum Request {
@@ -83,6 +118,14 @@ pub enum Request {
     EnterPipeline(NewPipeline),
     /// The runner with this token asks for a job.
     AskJob(Text),
+    /// A runner says how an attempt of its stands.
+    UpdateJob(JobUpdate),
+    /// A runner sends the next bytes of a trace.
+    AppendTrace(TracePart),
+    /// A job with its status is asked for.
+    ShowJob(JobQuery),
+    /// The trace of a job's last attempt is asked for.
+    ShowTrace(JobQuery),
 }
 
 impl Clone for Request {
@@ -94,22 +137,29 @@ impl Clone for Request {
             Request::AddRunner(name) => Request::AddRunner(name.clone()?),
             Request::EnterPipeline(new) => Request::EnterPipeline(new.clone()?),
             Request::AskJob(token) => Request::AskJob(token.clone()?),
+            Request::UpdateJob(update) => Request::UpdateJob(update.clone()?),
+            Request::AppendTrace(part) => Request::AppendTrace(part.clone()?),
+            Request::ShowJob(query) => Request::ShowJob(query.clone()?),
+            Request::ShowTrace(query) => Request::ShowTrace(query.clone()?),
         })
     }
 }
 
-/// What happens to the machine: a request. Sweeps join it with the attempts that end.
+/// What happens to the machine: a request, or a sweep, which ends one lease that is over.
 #[derive(Drop)]
 pub enum Event {
     Request(Request),
+    Sweep,
 }
 
 impl Clone for Event {
     ghost is_clone = { λ old new. new ≡ old };
 
     fn clone(&self) -> Result<Event, AllocError> {
-        let Event::Request(request) = self;
-        Ok(Event::Request(request.clone()?))
+        Ok(match self {
+            Event::Request(request) => Event::Request(request.clone()?),
+            Event::Sweep => Event::Sweep,
+        })
     }
 }
 

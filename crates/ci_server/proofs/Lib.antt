@@ -1,11 +1,5 @@
-pub mod Heads
-pub mod Lines
-pub mod Values
-pub mod Readings
-pub mod Unique
-pub mod Beginnings
-pub mod Responses
 pub mod Queues
 pub mod Handling
 pub mod Runs
+pub mod Lives
 mod Tabled

@@ -1,27 +1,39 @@
 -- A run goes on by one call.
-use Rattle.std.proofs.Common.{◌≡◌, ◌⊎◌, inl, inr, ⊎_elim, ℕ, Bool, true, false, List, [], ◌∷◌, ◌++◌, refl, sym, ap, subst, ◌∙◌}
+use Rattle.std.specs.Prelude.{Result, Ok, Err, IfOk}
+use Rattle.std.proofs.Common.{◌≡◌, ◌⊎◌, inl, inr, ⊎_elim, ℕ, Bool, true, false, List, [], ◌∷◌, ◌++◌, refl, sym, ap, subst, subst₂, append_assoc, append-nil, ◌∙◌}
 use Rattle.std.proofs.lemmas.Bool.{false≢true}
 use Rattle.ci_machine.specs.declared.reply.Answer.{Answer}
-use Rattle.ci_machine.specs.declared.reply.Answer.TheVariants as answer
 use Rattle.ci_machine.specs.declared.request.Event.{Event}
 use Rattle.ci_machine.specs.declared.request.Event.TheVariants as event
-use Rattle.ci_machine.specs.declared.request.Request.{Request}
 use Rattle.ci_machine.specs.declared.request.Seed.{Seed}
-use Rattle.ci_machine.specs.declared.reply.Reply.{Reply}
+use Rattle.ci_machine.specs.declared.reply.Code.TheVariants.{M16, M17}
 use Rattle.ci_machine.specs.Reply.{Outcome, Stepped, LackedMemory, StoreFailed, outcome_of}
 use Rattle.ci_machine.specs.State.{State}
 use Rattle.ci_machine.specs.Step.{Step}
 use Rattle.ci_machine.specs.History.{Past, Leads}
 use Rattle.ci_machine.specs.Laws.{Laws}
-use Rattle.ci_server.specs.Handling.{Handled, answered, no_memory, look_failed, commit_failed}
-use Rattle.ci_server.specs.Runs.{Call, Happened, line, by_outcome, GoesOn, NoneFailed, IsUnanswered, IsRun}
+use Rattle.ci_server.specs.Handling.{Call, refused, Handled, answered, no_memory, look_failed, commit_failed}
+use Rattle.sqlite.specs.Store.{Ghosts}
+use Rattle.sqlite.specs.Held.{Held}
+use Rattle.ci_store.specs.Stands.{IsAt, LeavesEither}
+use Rattle.ci_server.specs.Served.{Served, IsHonest, HandlesBy, HandlesEachBy, Handles, HandlesEach}
+use Rattle.ci_server.specs.Runs.{line, by_outcome, GoesOn, NoneFailed, IsUnanswered, IsRun, Runs}
 
 -- the laws of each reached state, and that the machine answers with a step
-abbrev AllLaws : Type 0
+abbrev pub AllLaws : Type 0
 AllLaws = (h : List Past) (s : State) → Leads h s → Laws h s
 
-abbrev AllStep : Type 0
+abbrev pub AllStep : Type 0
 AllStep = (s t : State) (e : Event) (now : ℕ) (seed : Seed) (a : Answer) → Step s e now seed a t → outcome_of a ≡ Stepped
+
+-- what the answers that refuse an event tell
+pub lacks_memory : (e : Event) → outcome_of (refused e M16) ≡ LackedMemory
+lacks_memory (event.Request request) = refl
+lacks_memory event.Sweep = refl
+
+pub has_failed : (e : Event) → outcome_of (refused e M17) ≡ StoreFailed
+has_failed (event.Request request) = refl
+has_failed event.Sweep = refl
 
 -- ---- one call more, in each of the relations
 
@@ -109,13 +121,10 @@ module _ {T : Type 0} (holds : T → State → Type 0) (leaves : T → State →
     is_closed = λ k. absurd (false≢true (sym is_open ∙ k));
   }
 
-  opened : (h : List Past) (cs : List Call) (rs : List Answer) (mid new : T) (was closed : Bool) (request : Request) (now : ℕ) (seed : Seed) (reply : Reply)
-      → (r : IsRun holds leaves h cs rs mid was) → NoneFailed rs → Handled holds leaves request now seed r.state new closed reply
-      → IsRun holds leaves h (cs ++ (event.Request request, now, seed) ∷ []) (rs ++ answer.Reply reply ∷ []) new closed
-  opened h cs rs mid new was closed request now seed reply r none (answered t step held is_open) =
-      let c : Call = (event.Request request, now, seed) in
-      let a = answer.Reply reply in
-      let o = steps r.state t (event.Request request) now seed a step in
+  opened : (h : List Past) (cs : List Call) (rs : List Answer) (mid new : T) (was closed : Bool) (c : Call) (a : Answer) → (r : IsRun holds leaves h cs rs mid was) → NoneFailed rs
+      → Handled holds leaves c r.state new closed a → IsRun holds leaves h (cs ++ c ∷ []) (rs ++ a ∷ []) new closed
+  opened h cs rs mid new was closed c a r none (answered t step held is_open) =
+      let o = steps r.state t c.0 c.1 c.2 a step in
       let here : Leads (line r.state c a ∷ r.history) t = (r.leads, step) in
       record {
         history = line r.state c a ∷ r.history;
@@ -126,10 +135,8 @@ module _ {T : Type 0} (holds : T → State → Type 0) (leaves : T → State →
         is_open = λ _. (none_more rs a (inl o) none, held);
         is_closed = λ k. absurd (false≢true (sym is_open ∙ k));
       }
-  opened h cs rs mid new was closed request now seed reply r none (no_memory is held is_open) =
-      let c : Call = (event.Request request, now, seed) in
-      let a = answer.Reply reply in
-      let o : outcome_of a ≡ LackedMemory = ap (λ w. outcome_of (answer.Reply w)) is in
+  opened h cs rs mid new was closed c a r none (no_memory is held is_open) =
+      let o : outcome_of a ≡ LackedMemory = ap outcome_of is ∙ lacks_memory c.0 in
       record {
         history = r.history;
         state = r.state;
@@ -139,10 +146,8 @@ module _ {T : Type 0} (holds : T → State → Type 0) (leaves : T → State →
         is_open = λ _. (none_more rs a (inr o) none, held);
         is_closed = λ k. absurd (false≢true (sym is_open ∙ k));
       }
-  opened h cs rs mid new was closed request now seed reply r none (look_failed is left is_closed) =
-      let c : Call = (event.Request request, now, seed) in
-      let a = answer.Reply reply in
-      let o : outcome_of a ≡ StoreFailed = ap (λ w. outcome_of (answer.Reply w)) is in
+  opened h cs rs mid new was closed c a r none (look_failed is left is_closed) =
+      let o : outcome_of a ≡ StoreFailed = ap outcome_of is ∙ has_failed c.0 in
       record {
         history = r.history;
         state = r.state;
@@ -152,11 +157,9 @@ module _ {T : Type 0} (holds : T → State → Type 0) (leaves : T → State →
         is_open = λ k. absurd (false≢true (sym k ∙ is_closed));
         is_closed = λ _. inl left;
       }
-  opened h cs rs mid new was closed request now seed reply r none (commit_failed b t step is left is_closed) =
-      let c : Call = (event.Request request, now, seed) in
-      let a = answer.Reply reply in
-      let o : outcome_of a ≡ StoreFailed = ap (λ w. outcome_of (answer.Reply w)) is in
-      let last = line r.state c (answer.Reply b) in
+  opened h cs rs mid new was closed c a r none (commit_failed b t step is left is_closed) =
+      let o : outcome_of a ≡ StoreFailed = ap outcome_of is ∙ has_failed c.0 in
+      let last = line r.state c b in
       let here : Leads (last ∷ r.history) t = (r.leads, step) in
       record {
         history = r.history;
@@ -175,14 +178,10 @@ module _ {T : Type 0} (holds : T → State → Type 0) (leaves : T → State →
         });
       }
 
-  happened : (h : List Past) (cs : List Call) (rs : List Answer) (mid new : T) (was closed : Bool) (c : Call) (a : Answer) → (r : IsRun holds leaves h cs rs mid was) → NoneFailed rs
-      → Happened holds leaves c r.state new closed a → IsRun holds leaves h (cs ++ c ∷ []) (rs ++ a ∷ []) new closed
-  happened h cs rs mid new was closed (event.Request request, now, seed) (answer.Reply reply) r none how = opened h cs rs mid new was closed request now seed reply r none how
-
   -- a closed server refuses
-  refused : (h : List Past) (cs : List Call) (rs : List Answer) (mid new : T) (closed : Bool) (c : Call) (a : Answer) → (r : IsRun holds leaves h cs rs mid true)
+  after_fault : (h : List Past) (cs : List Call) (rs : List Answer) (mid new : T) (closed : Bool) (c : Call) (a : Answer) → (r : IsRun holds leaves h cs rs mid true)
       → outcome_of a ≡ StoreFailed → closed ≡ true → new ≡ mid → IsRun holds leaves h (cs ++ c ∷ []) (rs ++ a ∷ []) new closed
-  refused h cs rs mid new closed c a r o is same = record {
+  after_fault h cs rs mid new closed c a r o is same = record {
     history = r.history;
     state = r.state;
     goes_on = more_unstepped h r.history cs rs c a (inr o) r.goes_on;
@@ -203,16 +202,69 @@ module _ {T : Type 0} (holds : T → State → Type 0) (leaves : T → State →
   }
 
   pub run_more : (h : List Past) (cs : List Call) (rs : List Answer) (mid new : T) (was closed : Bool) (c : Call) (a : Answer) → IsRun holds leaves h cs rs mid was
-      → (was ≡ false → (s : State) → holds mid s → Happened holds leaves c s new closed a)
+      → (was ≡ false → (s : State) → holds mid s → Handled holds leaves c s new closed a)
       → (was ≡ true → (outcome_of a ≡ StoreFailed) × (closed ≡ true) × (new ≡ mid))
       → IsRun holds leaves h (cs ++ c ∷ []) (rs ++ a ∷ []) new closed
   run_more h cs rs mid new true closed c a r open_call closed_call =
-      let w = closed_call refl in refused h cs rs mid new closed c a r w.0 w.1 w.2
+      let w = closed_call refl in after_fault h cs rs mid new closed c a r w.0 w.1 w.2
   run_more h cs rs mid new false closed c a r open_call closed_call =
-      let w = r.is_open refl in happened h cs rs mid new false closed c a r w.0 (open_call refl r.state w.1)
+      let w = r.is_open refl in opened h cs rs mid new false closed c a r w.0 (open_call refl r.state w.1)
 
--- a request that was handled is an event that happened
-pub happened_as : {T : Type 0} (holds : T → State → Type 0) (leaves : T → State → State → Type 0) (c : Call) (s : State) (new : T) (closed : Bool) (request : Request) (reply : Reply)
-    → event.Request request ≡ c.0 → Handled holds leaves request c.1 c.2 s new closed reply → Happened holds leaves c s new closed (answer.Reply reply)
-happened_as holds leaves (e, now, seed) s new closed request reply same handled =
-    subst (λ (w : Event). Happened holds leaves (w, now, seed) s new closed (answer.Reply reply)) same handled
+-- ---- calls one after the other
+
+module _ {T : Type 0} (honest : T → Type 0) (holds : T → State → Type 0) (leaves : T → State → State → Type 0) where
+  pub each_more : (old mid new : Served T) (cs : List Call) (rs : List Answer) (c : Call) (a : Answer) → HandlesEachBy honest holds leaves old cs rs mid
+      → HandlesBy honest holds leaves mid c new a → HandlesEachBy honest holds leaves old (cs ++ c ∷ []) (rs ++ a ∷ []) new
+  each_more old mid new [] [] c a same one = (new, subst (λ (o : Served T). HandlesBy honest holds leaves o c new a) same one, refl)
+  each_more old mid new [] (b ∷ rs) c a each one = absurd each
+  each_more old mid new (d ∷ cs) [] c a each one = absurd each
+  each_more old mid new (d ∷ cs) (b ∷ rs) c a each one = (each.0, each.1, each_more each.0 mid new cs rs c a each.2 one)
+
+  pub was_honest : (old new : Served T) (cs : List Call) (rs : List Answer) → HandlesEachBy honest holds leaves old cs rs new → honest new.store → honest old.store
+  was_honest old new [] [] same h = subst (λ (o : Served T). honest o.store) same h
+  was_honest old new [] (b ∷ rs) each h = absurd each
+  was_honest old new (d ∷ cs) [] each h = absurd each
+  was_honest old new (d ∷ cs) (b ∷ rs) each h = each.1.was_honest (was_honest each.0 new cs rs each.2 h)
+
+  -- what a call answers on a closed server
+  pub once_closed : (c : Call) (a : Answer) (old new : Served T) → HandlesBy honest holds leaves old c new a → old.closed ≡ true
+      → (outcome_of a ≡ StoreFailed) × (new.closed ≡ true) × (new.store ≡ old.store)
+  once_closed c a old new one shut =
+      let w = one.once_closed shut in (ap outcome_of w.0 ∙ has_failed c.0, ap (λ (o : Served T). o.closed) w.1 ∙ shut, ap (λ (o : Served T). o.store) w.1)
+
+  pub runs : AllLaws → AllStep → (h : List Past) (before : List Call) (earlier : List Answer) (old new : Served T) (cs : List Call) (rs : List Answer)
+      → IsRun holds leaves h before earlier old.store old.closed → HandlesEachBy honest holds leaves old cs rs new → honest new.store
+      → IsRun holds leaves h (before ++ cs) (earlier ++ rs) new.store new.closed
+  runs laws steps h before earlier old new [] [] r same ok =
+      subst₂ (λ (xs : List Call) (ys : List Answer). IsRun holds leaves h xs ys new.store new.closed) (sym (append-nil before)) (sym (append-nil earlier))
+      (subst (λ (o : Served T). IsRun holds leaves h before earlier o.store o.closed) (sym same) r)
+  runs laws steps h before earlier old new [] (a ∷ rs) r each ok = absurd each
+  runs laws steps h before earlier old new (c ∷ cs) [] r each ok = absurd each
+  runs laws steps h before earlier old new (c ∷ cs) (a ∷ rs) r each ok =
+      let mid = each.0 in
+      let there = was_honest mid new cs rs each.2 ok in
+      let more = run_more holds leaves laws steps h before earlier old.store mid.store old.closed mid.closed c a r
+      (λ was_open s held. each.1.while_open was_open there s held) (once_closed c a old mid each.1) in
+      subst₂ (λ (xs : List Call) (ys : List Answer). IsRun holds leaves h xs ys new.store new.closed) (append_assoc before (c ∷ []) cs) (append_assoc earlier (a ∷ []) rs)
+      (runs laws steps h (before ++ c ∷ []) (earlier ++ a ∷ []) mid new cs rs more each.2 ok)
+
+  pub run_from : AllLaws → AllStep → (h : List Past) (s : State) (old new : Served T) (cs : List Call) (rs : List Answer) → old.closed ≡ false → Leads h s → holds old.store s
+      → HandlesEachBy honest holds leaves old cs rs new → honest new.store → IsRun holds leaves h cs rs new.store new.closed
+  run_from laws steps h s old new cs rs was_open leads held each ok =
+      runs laws steps h [] [] old new cs rs (run_none holds leaves laws steps h s old.store old.closed leads held was_open) each ok
+
+-- ---- over tables
+
+pub run_of_each : {S : Type 0} (g : Ghosts S) → AllLaws → AllStep → (old new : Served (Held S)) (cs : List Call) (rs : List Answer) → old.closed ≡ false → HandlesEach g old cs rs new
+    → Runs g old cs rs new
+run_of_each {S = S} g laws steps old new cs rs was_open each = λ honest h s leads at.
+    run_from (IsHonest g) (λ (t : Held S) u. IsAt g u t) (λ (t : Held S) u v. LeavesEither g u v t) laws steps h s old new cs rs was_open leads at each honest
+
+pub run_of_one : {S : Type 0} (g : Ghosts S) → AllLaws → AllStep → (old new : Served (Held S)) (c : Call) (a : Answer) → old.closed ≡ false → Handles g old c new a
+    → Runs g old (c ∷ []) (a ∷ []) new
+run_of_one g laws steps old new c a was_open one = run_of_each g laws steps old new (c ∷ []) (a ∷ []) was_open (new, one, refl)
+
+-- a fact of what is in an Ok, by another
+pub ok_then : {A E : Type 0} {P Q : A → Type 0} (r : Result A E) → ((x : A) → P x → Q x) → IfOk r P → IfOk r Q
+ok_then (Ok x) so p = so x p
+ok_then (Err e) so p = tt

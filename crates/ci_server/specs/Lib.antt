@@ -1,13 +1,6 @@
-pub mod Sources
-pub mod Opening
-pub mod Head
-pub mod Fields
-pub mod BodyLength
-pub mod Reading
-pub mod RequestBytes
-pub mod ReplyText
 pub mod Serving
 pub mod Stores
 pub mod Handling
 pub mod Runs
 pub mod Served
+pub mod Lives

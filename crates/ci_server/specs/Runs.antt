@@ -1,23 +1,15 @@
 -- What a list of calls leaves: the history of the machine, and what a stop leaves of it.
-use Rattle.std.specs.Prelude.{◌≡◌, ◌⊎◌, ℕ, Bool, true, false, List, [], ◌∷◌}
+use Rattle.std.specs.Prelude.{◌≡◌, ◌⊎◌, Bool, true, false, List, [], ◌∷◌}
 use Rattle.ci_machine.specs.declared.reply.Answer.{Answer}
-use Rattle.ci_machine.specs.declared.reply.Answer.TheVariants as answer
-use Rattle.ci_machine.specs.declared.request.Event.{Event}
-use Rattle.ci_machine.specs.declared.request.Event.TheVariants as event
-use Rattle.ci_machine.specs.declared.request.Seed.{Seed}
 use Rattle.ci_machine.specs.Reply.{Outcome, Stepped, LackedMemory, StoreFailed, outcome_of}
 use Rattle.ci_machine.specs.State.{State}
 use Rattle.ci_machine.specs.History.{Past, Leads}
 use Rattle.ci_machine.specs.Laws.{Laws}
-use Rattle.ci_server.specs.Handling.{Handled}
-
--- an event, with its moment and its seed
-abbrev pub Call : Type 0
-Call = Event × ℕ × Seed
-
--- how an event ended on an open server
-abbrev pub Happened : {T : Type 0} → (T → State → Type 0) → (T → State → State → Type 0) → Call → State → T → Bool → Answer → Type 0
-Happened holds leaves (event.Request request, now, seed) s new closed (answer.Reply reply) = Handled holds leaves request now seed s new closed reply
+use Rattle.sqlite.specs.Store.{Ghosts}
+use Rattle.sqlite.specs.Held.{Held}
+use Rattle.ci_store.specs.Stands.{IsAt, LeavesEither}
+use Rattle.ci_server.specs.Handling.{Call}
+use Rattle.ci_server.specs.Served.{Served, IsHonest}
 
 -- the line of a history that a call adds in a state
 abbrev pub line : State → Call → Answer → Past
@@ -67,3 +59,9 @@ pub record IsRun {T : Type 0} (holds : T → State → Type 0) (leaves : T → S
   pub is_open : closed ≡ false → NoneFailed rs × holds new state
   -- from the first fault of the store on a stop leaves that state alone, or besides it the one after the one unanswered call
   pub is_closed : closed ≡ true → leaves new state state ⊎ OneMore leaves history state cs rs new
+
+-- from each state that a history leads to and that the server holds, the calls with these answers are a run
+abbrev pub Runs : {S : Type 0} → Ghosts S → Served (Held S) → List Call → List Answer → Served (Held S) → Type 0
+Runs {S} g old cs rs new =
+    IsHonest g new.store → (h : List Past) (s : State) → Leads h s → IsAt g s old.store
+    → IsRun (λ (t : Held S) u. IsAt g u t) (λ (t : Held S) u v. LeavesEither g u v t) h cs rs new.store new.closed

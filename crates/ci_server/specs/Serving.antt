@@ -6,9 +6,9 @@ use Rattle.ci_machine.specs.declared.reply.Reply.{Reply}
 use Rattle.ci_machine.specs.declared.request.Request.{Request}
 use Rattle.ci_machine.specs.declared.request.Seed.{Seed}
 use Rattle.ci_machine.specs.Reply.{refusal}
-use Rattle.ci_server.specs.Reading.{Reading, ended, refused, request, IsReading}
-use Rattle.ci_server.specs.RequestBytes.{request_in}
-use Rattle.ci_server.specs.Sources.{Tells}
+use Rattle.ci_http.specs.Reading.{Reading, ended, refused, request, IsReading}
+use Rattle.ci_http.specs.RequestBytes.{request_in}
+use Rattle.ci_http.specs.Sources.{Tells}
 
 module _ {S : Type 0} (Handles : S → Request → ℕ → Seed → S → Reply → Type 0) (moment : ℕ) (seed : Seed) (old new : S) (reply : Reply) where
   -- a request is handled once; where there is none, nothing is handled, and the reply is the one that refuses it

@@ -1,20 +1,16 @@
-//! The server: requests over the tables, and their bytes: HTTP/1.1 in, and replies out.
+//! The server: requests over the tables, served from bytes to bytes.
 #![tactic(auto)]
 
-mod body;
-pub mod call;
+mod attempts;
 mod desk;
-pub mod fault;
-pub mod fields;
-mod head;
-pub mod laws;
-pub mod link;
+pub mod life;
 mod loads;
-pub mod route;
+mod queries;
 pub mod serve;
 pub mod server;
 pub mod store;
 mod tables;
 #[cfg(test)]
 mod tests;
-pub mod text;
+
+pub use ci_http::link;

@@ -1,19 +1,22 @@
 //! What an event does, from what the store holds. The store stays as it is.
 
-ghost use Rattle.std.specs.Prelude.{◌≡◌, ℕ, ◌++◌, ◌∷◌, [], IfOk, IfSome, Some, map, filter, if◌then◌else◌};
+ghost use Rattle.std.specs.Prelude.{◌≡◌, ℕ, ◌++◌, ◌∷◌, [], IfOk, IfErr, IfSome, Some, map, filter, if◌then◌else◌};
 ghost use Rattle.ci_machine.specs.Eligible.{chosen};
+ghost use Rattle.ci_machine.specs.Leases.{first_due};
 ghost use Rattle.ci_machine.specs.State.{State};
 ghost use Rattle.ci_machine.specs.Effects as effects;
 ghost use Rattle.ci_machine.specs.Step as step;
 ghost use Rattle.ci_machine.specs.declared.request.Request.TheVariants as asked;
 ghost use Rattle.ci_server.specs.Stores.{Looks};
 
+use crate::attempts::{append_trace, sweep, update_job};
+use crate::queries::{show_job, show_trace};
 use crate::store::Store;
-use ci_machine::change::Counter;
+use ci_machine::change::{Counter, Delta};
 use ci_machine::choose::choose;
 use ci_machine::moment::Moment;
 use ci_machine::records::{Job, QueuedJob, Runner};
-use ci_machine::reply::Effect;
+use ci_machine::reply::{Answer, Effect, Reply, Swept};
 use ci_machine::request::{NewPipeline, Request, Seed};
 use ci_machine::text::Text;
 use ci_machine::{enter, plan};
@@ -188,7 +191,7 @@ fn grant<T: Store>(
 }
 
 /// What a request does, from what the store holds.
-pub(crate) fn effect_of<T: Store>(
+fn request_effect<T: Store>(
     alloc: Global,
     store: &mut T,
     request: Request,
@@ -203,5 +206,68 @@ pub(crate) fn effect_of<T: Store>(
         Request::AddRunner(name) => add_runner(alloc, store, name, seed),
         Request::EnterPipeline(new) => enter_pipeline(alloc, store, new, now),
         Request::AskJob(token) => ask_job(alloc, store, token, now, seed),
+        Request::UpdateJob(update) => update_job(alloc, store, &update, now),
+        Request::AppendTrace(part) => append_trace(alloc, store, part, now),
+        Request::ShowJob(query) => show_job(alloc, store, &query),
+        Request::ShowTrace(query) => show_trace(alloc, store, &query),
     }
+}
+
+/// The reply of an effect, and its changes. Errors: what the store holds is no state, since there each request has a
+/// reply.
+fn reply_of(effect: Effect) -> Result<(Reply, Delta), StoreFault>
+    ensures reply { IfOk result (λ r. effect ≡ effects.replies r.0 r.1) }
+    ensures broken { IfErr result (λ fault. fault ≡ StoreFault.Broken) }
+{
+    let Effect { answer, changes } = effect;
+    match answer {
+        Answer::Reply(reply) => Ok((reply, changes)),
+        Answer::Swept(_) => {
+            let _ = changes.into_vec();
+            Err(StoreFault::Broken)
+        }
+    }
+}
+
+/// What a sweep did by an effect, and its changes. Errors: as `reply_of`.
+fn swept_of(effect: Effect) -> Result<(Swept, Delta), StoreFault>
+    ensures swept { IfOk result (λ r. effect ≡ effects.sweeps r.0 r.1) }
+    ensures broken { IfErr result (λ fault. fault ≡ StoreFault.Broken) }
+{
+    let Effect { answer, changes } = effect;
+    match answer {
+        Answer::Swept(swept) => Ok((swept, changes)),
+        Answer::Reply(_) => {
+            let _ = changes.into_vec();
+            Err(StoreFault::Broken)
+        }
+    }
+}
+
+/// What a request does, from what the store holds: its reply and its changes.
+pub(crate) fn effect_of<T: Store>(
+    alloc: Global,
+    store: &mut T,
+    request: Request,
+    now: Moment,
+    seed: Seed,
+) -> Result<(Reply, Delta), StoreFault>
+    ensures value { T.honest store.new → (s : State) → T.holds store.old s → IfOk result (λ r. step.Does s request now seed (effects.replies r.0 r.1)) }
+    ensures looks { Looks T.honest T.holds T.leaves store.old store.new result }
+{
+    let effect = request_effect(alloc, store, request, now, seed)?;
+    reply_of(effect)
+}
+
+/// What a sweep does, from what the store holds: what it ended, and its changes.
+pub(crate) fn sweep_of<T: Store>(
+    alloc: Global,
+    store: &mut T,
+    now: Moment,
+) -> Result<(Swept, Delta), StoreFault>
+    ensures value { T.honest store.new → (s : State) → T.holds store.old s → IfOk result (λ r. effects.sweeps r.0 r.1 ≡ effects.sweep (first_due (step.leases s) now)) }
+    ensures looks { Looks T.honest T.holds T.leaves store.old store.new result }
+{
+    let effect = sweep(alloc, store, now)?;
+    swept_of(effect)
 }

@@ -3,17 +3,17 @@
 ghost use Rattle.std.specs.Prelude.{◌≡◌, ◌+◌, ◌⊎◌, Err, IfOk, OnOk, OnErr};
 ghost use Rattle.std.specs.Io.KnownBytes.{Appends};
 ghost use Rattle.ci_machine.specs.declared.reply.Reply.{Reply};
-ghost use Rattle.ci_server.specs.Reading.{ended, IsReading};
-ghost use Rattle.ci_server.specs.ReplyText.{reply_text};
-ghost use Rattle.ci_server.specs.RequestBytes.{request_in};
+ghost use Rattle.ci_http.specs.Reading.{ended, IsReading};
+ghost use Rattle.ci_http.specs.ReplyText.{reply_text};
+ghost use Rattle.ci_http.specs.RequestBytes.{request_in};
 ghost use Rattle.ci_server.specs.Serving.{AnswersAsked, LacksMemory, Serves, WritesFront};
-ghost use Rattle.ci_server.specs.Sources.{Tells, TakesFront, Fails};
+ghost use Rattle.ci_http.specs.Sources.{Tells, TakesFront, Fails};
 
-use crate::call::{Call, read_request};
-use crate::fault::HttpFault;
-use crate::link::{Failed, Sink, Source};
-use crate::route::request_of;
-use crate::text::reply_bytes;
+use ci_http::call::{Call, read_request};
+use ci_http::fault::HttpFault;
+use ci_http::link::{Failed, Sink, Source};
+use ci_http::route::request_of;
+use ci_http::text::reply_bytes;
 use ci_machine::moment::Moment;
 use ci_machine::reply::{Code, Reply};
 use ci_machine::request::{Request, Seed};

@@ -1,18 +1,23 @@
-//! The server: requests over the tables.
+//! The server: requests and sweeps over the tables.
 
-ghost use Rattle.std.specs.Prelude.{◌≡◌, true, false, List, IfOk, IfErr, OnErr};
+ghost use Rattle.std.specs.Prelude.{◌≡◌, ◌⊎◌, ◌∷◌, [], false, IfOk, IfErr, OnErr};
 ghost use Rattle.sqlite.specs.State.{HasCleanDisk};
 ghost use Rattle.sqlite.specs.Held.{state};
-ghost use Rattle.ci_machine.specs.State.{State};
-ghost use Rattle.ci_machine.specs.History.{Past, Leads};
-ghost use Rattle.ci_store.specs.Stands.{IsAt, LeavesOnly, LeavesEither};
-ghost use Rattle.ci_server.specs.Served.{Handles};
-ghost use Rattle.ci_server.specs.Runs.{IsRun};
+ghost use Rattle.sqlite.specs.Tree.{Trees};
+ghost use Rattle.ci_machine.specs.declared.reply.Answer.TheVariants as answer;
+ghost use Rattle.ci_machine.specs.declared.request.Event.TheVariants as event;
+ghost use Rattle.ci_machine.specs.declared.request.Seed.{Seed};
+ghost use Rattle.ci_machine.specs.State.{State, empty};
+ghost use Rattle.ci_store.specs.Create.{IsBlank};
+ghost use Rattle.ci_store.specs.Stands.{StandsIn, LeavesOnly};
+ghost use Rattle.ci_server.specs.Served.{Handles, HandlesEach, Creates, Opens};
+ghost use Rattle.ci_server.specs.Runs.{Runs};
 
 use crate::desk::Desk;
 use crate::serve::Handler;
+use ci_machine::laws::{a_step_is_answered, laws_of_each_reached_state};
 use ci_machine::moment::Moment;
-use ci_machine::reply::{Answer, Reply};
+use ci_machine::reply::{Answer, Reply, Swept};
 use ci_machine::request::{Event, Request, Seed};
 use ci_store::tables::{OpenFault, Tables};
 use ci_store::{Alter, Connection};
@@ -26,11 +31,12 @@ pub struct Server<S: Alter> {
 }
 
 impl<S: Alter> Model for Server<S> {
+    ghost use Rattle.sqlite.specs.Held.{Held, held_code};
     ghost use Rattle.ci_server.specs.Served.{Served, served_code};
 
-    ghost Value = { Served S };
+    ghost Value = { Served (Held S) };
 
-    ghost coded = { served_code S.code };
+    ghost coded = { served_code (held_code S.code) };
 
     ghost view = { λ s. record { store = s.desk.store; closed = s.desk.closed } };
 
@@ -38,16 +44,15 @@ impl<S: Alter> Model for Server<S> {
 }
 
 impl<S: Alter> Server<S> {
-    /// A server over an empty store, whose tables it makes. Errors: as `Tables::create`; the connection comes back.
+    /// A server over an empty store, whose tables it makes: they hold the empty state, in which each next number is 1.
+    /// Errors: as `Tables::create`; the connection comes back.
     pub fn create(conn: Connection<S>) -> Result<Server<S>, (OpenFault, Connection<S>)>
-        ensures open { IfOk result (λ server. server.closed ≡ false) }
+        ensures made { IfOk result (Creates S.Store conn) }
+        ensures left { IfErr result (λ e. HasCleanDisk (state S.Store e.1) → IsBlank S.Store conn → (db : Trees) → (state S.Store e.1).may_leave db → (state S.Store conn).may_leave db ⊎ StandsIn empty db) }
     {
         match Tables::create(conn) {
             Ok(store) => Ok(Server {
-                desk: Desk {
-                    store,
-                    closed: false,
-                },
+                desk: Desk::over(store),
             }),
             Err(fault) => Err(fault),
         }
@@ -56,16 +61,12 @@ impl<S: Alter> Server<S> {
     /// A server over the tables that a store has. It holds the state that each file which a stop may leave stands for.
     /// Errors: as `Tables::open`; the connection comes back.
     pub fn open(conn: Connection<S>) -> Result<Server<S>, (OpenFault, Connection<S>)>
-        ensures open { IfOk result (λ server. server.closed ≡ false) }
-        ensures opened { IfOk result (λ server. HasCleanDisk (state S.Store server.store) → (s : State) → LeavesOnly S.Store s conn → IsAt S.Store s server.store) }
+        ensures opened { IfOk result (Opens S.Store conn) }
         ensures left { IfErr result (λ e. HasCleanDisk (state S.Store e.1) → (s : State) → LeavesOnly S.Store s conn → LeavesOnly S.Store s e.1) }
     {
         match Tables::open(conn) {
             Ok(store) => Ok(Server {
-                desk: Desk {
-                    store,
-                    closed: false,
-                },
+                desk: Desk::over(store),
             }),
             Err(fault) => Err(fault),
         }
@@ -91,11 +92,27 @@ impl<S: Alter> Server<S> {
     /// Handles a request, at a moment and with a seed.
     ///
     /// Besides the machine's own replies: M16 where memory was refused, and nothing happened; M17 where the store
-    /// failed in this call or an earlier one.
+    /// failed in this call or an earlier one. The call is a run of one, whose laws hold.
     pub fn handle(&mut self, alloc: Global, request: Request, moment: Moment, seed: Seed) -> Reply
-        ensures handled { Handles S.Store self.old request moment seed self.new result }
+        ensures handled { Handles S.Store self.old (event.Request request, moment, seed) self.new (answer.Reply result) }
+        ensures run { self.old.closed ≡ false → Runs S.Store self.old ((event.Request request, moment, seed) ∷ []) (answer.Reply result ∷ []) self.new }
     {
+        laws_of_each_reached_state();
+        a_step_is_answered();
         self.desk.handle(alloc, request, moment, seed)
+    }
+
+    /// Sweeps at a moment: of the leases that are over it ends the one of the attempt of least number.
+    ///
+    /// Besides what it ended, or nothing: M16 where memory was refused, and nothing happened; M17 where the store failed in
+    /// this call or an earlier one. The call is a run of one, whose laws hold.
+    pub fn sweep(&mut self, alloc: Global, moment: Moment) -> Swept
+        ensures swept { (seed : Seed) → Handles S.Store self.old (event.Sweep, moment, seed) self.new (answer.Swept result) }
+        ensures run { self.old.closed ≡ false → (seed : Seed) → Runs S.Store self.old ((event.Sweep, moment, seed) ∷ []) (answer.Swept result ∷ []) self.new }
+    {
+        laws_of_each_reached_state();
+        a_step_is_answered();
+        self.desk.sweep(alloc, moment)
     }
 
     /// Handles events one after the other, each at its moment and with its seed.
@@ -112,18 +129,22 @@ impl<S: Alter> Server<S> {
     ) -> Result<Vec<Answer>, AllocError>
         requires { self.old.closed ≡ false }
         ensures was_honest { HasCleanDisk (state S.Store self.new.store) → HasCleanDisk (state S.Store self.old.store) }
-        ensures run { HasCleanDisk (state S.Store self.new.store) → (h : List Past) (s : State) → Leads h s → IsAt S.Store s self.old.store
-            → IfOk result (λ answers. IsRun (λ t u. IsAt S.Store u t) (λ t u v. LeavesEither S.Store u v t) h calls.now answers.items self.new.store self.new.closed) }
+        ensures each { IfOk result (λ answers. HandlesEach S.Store self.old calls.now answers.items self.new) }
+        ensures run { IfOk result (λ answers. Runs S.Store self.old calls.now answers.items self.new) }
         ensures memory { OnErr result (self.new ≡ self.old) }
     {
+        laws_of_each_reached_state();
+        a_step_is_answered();
         self.desk.run(alloc, calls)
     }
 }
 
 impl<S: Alter> Handler for Server<S> {
+    ghost use Rattle.ci_machine.specs.declared.reply.Answer.TheVariants as answer;
+    ghost use Rattle.ci_machine.specs.declared.request.Event.TheVariants as event;
     ghost use Rattle.ci_server.specs.Served.{Handles};
 
-    ghost handles = { λ old request moment seed new reply. Handles S.Store old request moment seed new reply };
+    ghost handles = { λ old request moment seed new reply. Handles S.Store old (event.Request request, moment, seed) new (answer.Reply reply) };
 
     fn handle(&mut self, alloc: Global, request: Request, moment: Moment, seed: Seed) -> Reply {
         self.handle(alloc, request, moment, seed)

@@ -1,41 +1,12 @@
 //! The tables as a store of requests.
 
-ghost use Rattle.std.specs.Prelude.{◌≡◌, ◌≤◌, Ok, Err, IfOk};
-ghost use Rattle.sqlite.specs.State.{HasCleanDisk};
-ghost use Rattle.sqlite.specs.Held.{state};
-ghost use Rattle.sqlite_trees.specs.View.{doubt};
-ghost use Rattle.ci_machine.specs.State.{State};
-ghost use Rattle.ci_store.specs.Stands.{IsAt, LeavesOnly};
-
 use crate::store::Store;
 use ci_machine::change::{Counter, Delta};
-use ci_machine::records::{Attempt, Job, JobVariable, Pipeline, Project, Runner};
+use ci_machine::records::{Attempt, Job, JobVariable, Piece, Pipeline, Project, Runner};
 use ci_machine::text::Text;
 use ci_store::Alter;
 use ci_store::fault::StoreFault;
 use ci_store::tables::Tables;
-
-/// What a look-up found. Where memory was refused, the tables have to be open still: else the store has failed.
-fn kept<S: Alter, A: Drop>(
-    tables: &mut Tables<S>,
-    found: Result<A, StoreFault>,
-) -> Result<A, StoreFault>
-    ensures clean { doubt (state S.Store tables.old).is_clean ≤ doubt (state S.Store tables.new).is_clean }
-    ensures ok { IfOk result (λ x. (found ≡ Ok x) × (tables.new ≡ tables.old)) }
-    ensures memory { HasCleanDisk (state S.Store tables.new) → result ≡ Err StoreFault.Memory → (s : State) → LeavesOnly S.Store s tables.old → IsAt S.Store s tables.new }
-    ensures left { HasCleanDisk (state S.Store tables.new) → (s : State) → LeavesOnly S.Store s tables.old → LeavesOnly S.Store s tables.new }
-{
-    match found {
-        Ok(found) => Ok(found),
-        Err(_) => {
-            if tables.is_settled() {
-                Err(StoreFault::Memory)
-            } else {
-                Err(StoreFault::Broken)
-            }
-        }
-    }
-}
 
 impl<S: Alter> Store for Tables<S> {
     ghost use Rattle.std.proofs.Common.{inl};
@@ -52,38 +23,51 @@ impl<S: Alter> Store for Tables<S> {
     ghost settled = { λ t s at db may. inl (at.left db may) };
 
     fn next(&mut self, counter: Counter) -> Result<u64, StoreFault> {
-        let found = self.next(counter);
-        kept(self, found)
+        self.next(counter)
     }
 
     fn project(&mut self, id: u64) -> Result<Option<Project>, StoreFault> {
-        let found = self.project(id);
-        kept(self, found)
+        self.project(id)
+    }
+
+    fn project_with(&mut self, token: &Text) -> Result<Option<Project>, StoreFault> {
+        self.project_with(token)
     }
 
     fn runner_with(&mut self, token: &Text) -> Result<Option<Runner>, StoreFault> {
-        let found = self.runner_with(token);
-        kept(self, found)
+        self.runner_with(token)
     }
 
     fn pipeline(&mut self, id: u64) -> Result<Option<Pipeline>, StoreFault> {
-        let found = self.pipeline(id);
-        kept(self, found)
+        self.pipeline(id)
+    }
+
+    fn job(&mut self, id: u64) -> Result<Option<Job>, StoreFault> {
+        self.job(id)
     }
 
     fn job_variables(&mut self, job: u64) -> Result<Vec<JobVariable>, StoreFault> {
-        let found = self.job_variables(job);
-        kept(self, found)
+        self.job_variables(job)
+    }
+
+    fn attempt(&mut self, id: u64) -> Result<Option<Attempt>, StoreFault> {
+        self.attempt(id)
     }
 
     fn attempts_of(&mut self, job: u64) -> Result<Vec<Attempt>, StoreFault> {
-        let found = self.attempts_of(job);
-        kept(self, found)
+        self.attempts_of(job)
+    }
+
+    fn live_attempts(&mut self) -> Result<Vec<Attempt>, StoreFault> {
+        self.live_attempts()
+    }
+
+    fn pieces_of(&mut self, attempt: u64) -> Result<Vec<Piece>, StoreFault> {
+        self.pieces_of(attempt)
     }
 
     fn jobs(&mut self) -> Result<Vec<Job>, StoreFault> {
-        let found = self.jobs();
-        kept(self, found)
+        self.jobs()
     }
 
     fn commit(&mut self, delta: Delta) -> Result<(), StoreFault> {

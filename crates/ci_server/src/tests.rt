@@ -2,15 +2,11 @@ ghost use Rattle.std.specs.Prelude.{◌≡◌, ◌<◌};
 ghost use Rattle.ci_machine.specs.declared.reply.Code.TheVariants.{M4};
 ghost use Rattle.ci_machine.specs.Reply.{refusal};
 
-use crate::call::read_request;
-use crate::fields::Found;
-use crate::link::Link;
 use crate::serve::{Handler, Served, serve_one};
-use crate::text::reply_bytes;
+use ci_http::link::Link;
 use ci_machine::moment::Moment;
-use ci_machine::reply::{Body, Code, JobStatus, Reply, Status};
+use ci_machine::reply::{Code, Reply};
 use ci_machine::request::{Request, Seed};
-use ci_machine::text::{Bytes, Text};
 use std::alloc::Global;
 use std::io;
 use std::io::{ErrorKind, Read, Write};
@@ -321,102 +317,6 @@ fn each_beginning_of_a_reply_may_be_all(rt: HostRuntime) -> Result<(), Fail> {
         assert!(&rt; served == wanted, "at {room}");
         assert!(&rt; asked == 1, "at {room}");
         assert!(&rt; written.as_slice() == &UNKNOWN[..room], "at {room}");
-    }
-    Ok(())
-}
-
-fn read_parts<L: Ledger>(rt: &impl Abort, alloc: Global, blank: Blank)
-    requires name { blank.name ≡ L.name }
-    requires parts { blank.parts ≡ L.parts }
-    requires one { 0 < blank.parts }
-{
-    let bytes =
-        b"PATCH /x?y HTTP/1.1\r\nA: 1\r\nJob-Token: \t t u \r\nContent-Length: 3\r\na: 2\r\n\r\nxyzw".as_slice();
-    let mut reader = Link::<&[u8], L>::new(bytes, blank);
-    let read = read_request(alloc, &mut reader);
-    assert!(rt; read.is_ok());
-    if let Ok(call) = read {
-        assert!(rt; call.method() == b"PATCH".as_slice());
-        assert!(rt; call.target() == b"/x?y".as_slice());
-        assert!(rt; call.body() == b"xyz".as_slice());
-        assert!(rt;
-            matches!(call.field(b"JOB-TOKEN"), Found::Once(value) if value == b"t u".as_slice())
-        );
-        assert!(rt; matches!(call.field(b"A"), Found::Twice));
-        assert!(rt; matches!(call.field(b"B"), Found::Absent));
-    }
-    assert!(rt; reader.into_inner() == b"w".as_slice());
-}
-
-#[test]
-fn parts_of_a_request(rt: HostRuntime) -> Result<(), Fail> {
-    read_parts::<Brand>(&rt, rt.alloc(), Blank::new(1));
-    Ok(())
-}
-
-// The text of a reply.
-fn text_of(alloc: Global, reply: &Reply) -> Result<Vec<u8>, Fail> {
-    let bytes = reply_bytes(reply);
-    let mut text = Vec::new(alloc);
-    text.extend_from_slice(bytes.head.as_slice())?;
-    text.extend_from_slice(bytes.body)?;
-    Ok(text)
-}
-
-#[test]
-fn fields_of_replies(rt: HostRuntime) -> Result<(), Fail> {
-    let plain = Reply {
-        status: Status::Fine,
-        code: None,
-        job_status: None,
-        range: None,
-        allow: None,
-        body: Some(Body::Plain(Bytes::new(vec![in rt.alloc(); b'a', b'b', b'\n']?))),
-    };
-    let made = Reply {
-        status: Status::Created,
-        code: None,
-        job_status: None,
-        range: None,
-        allow: None,
-        body: Some(Body::Json(Text::copy_of(rt.alloc(), "{\"id\":1}")?)),
-    };
-    let piece = Reply {
-        status: Status::Accepted,
-        code: None,
-        job_status: Some(JobStatus::Running),
-        range: Some(18446744073709551615),
-        allow: None,
-        body: None,
-    };
-    let none = Reply {
-        status: Status::NoContent,
-        code: None,
-        job_status: None,
-        range: None,
-        allow: None,
-        body: None,
-    };
-    let rows = [
-        (
-            plain,
-            b"HTTP/1.1 200 OK\r\nContent-Type: text/plain\r\nContent-Length: 3\r\nConnection: close\r\n\r\nab\n".as_slice(),
-        ),
-        (
-            made,
-            b"HTTP/1.1 201 Created\r\nContent-Type: application/json\r\nContent-Length: 8\r\nConnection: close\r\n\r\n{\"id\":1}",
-        ),
-        (
-            piece,
-            b"HTTP/1.1 202 Accepted\r\nJob-Status: running\r\nRange: 0-18446744073709551615\r\nContent-Length: 0\r\nConnection: close\r\n\r\n",
-        ),
-        (
-            none,
-            b"HTTP/1.1 204 No Content\r\nConnection: close\r\n\r\n",
-        ),
-    ];
-    for (reply, wanted) in &rows {
-        assert!(&rt; text_of(rt.alloc(), reply)?.as_slice() == *wanted);
     }
     Ok(())
 }

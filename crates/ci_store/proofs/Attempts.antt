@@ -1,38 +1,33 @@
 -- The statements that write `attempt`.
-use Rattle.std.proofs.Common.{◌≡◌, ◌∙◌, ℕ, ℤ, pos, List, [], ◌∷◌, Bool, true, false, if◌then◌else◌, Some, not, filter, is_eq, refl, ap, subst}
+use Rattle.std.proofs.Common.{◌∙◌, ℕ, pos, List, [], ◌∷◌, is_eq, refl, ap}
 use Rattle.std.specs.Ordering.{nat_cmp}
-use Rattle.sqlite.specs.declared.types.Value.TheVariants.{Null, Int, Text}
-use Rattle.sqlite.specs.Order.{Row, column}
-use Rattle.sqlite.specs.Term.{Term, lit, col, eval_all}
-use Rattle.sqlite.specs.Tree.{Trees}
-use Rattle.sqlite.specs.Cast.{cast_row}
+use Rattle.sqlite.specs.declared.types.Value.TheVariants.{Null, Text}
+use Rattle.sqlite.specs.Order.{column}
+use Rattle.sqlite.specs.Term.{Term, lit, col}
 use Rattle.sqlite_tied.specs.Compute.{everything}
 use Rattle.sqlite.specs.Listing.{understood}
 use Rattle.sqlite.specs.Store.{Ghosts}
 use Rattle.sqlite.specs.Held.{Held, state}
-use Rattle.sqlite_keyed.proofs.ListLemmas.{ascending-filter, all-filter}
-use Rattle.ci_machine.specs.State.{State, put, without, with_record, without_record, attempt_cmp}
+use Rattle.sqlite_keyed.proofs.ListLemmas.{ascending-filter}
+use Rattle.ci_machine.specs.State.{State, with_record, without_record, attempt_cmp}
 use Rattle.ci_machine.specs.declared.records.Attempt.{Attempt}
 use Rattle.ci_machine.specs.declared.change.Record.TheVariants as row
 use Rattle.ci_machine.specs.declared.change.Key.TheVariants as key
 use Rattle.ci_tables.specs.Stands.{image, places}
 use Rattle.ci_tables.specs.Ran.{Changes, HasPut}
-use Rattle.ci_tables.proofs.Queries.{picks}
-use Rattle.ci_tables.proofs.Writes.{IsWholeStep, whole_if_alone}
+use Rattle.ci_tables.proofs.Writes.{IsWholeStep}
 use Rattle.ci_tables.proofs.Puts.{MeansPut, MeansRemove, GivesRecord}
 use Rattle.ci_tables.proofs.Absent.{absent_rowid}
-use Rattle.ci_tables.proofs.Scalars.{cast_int, cast_text}
+use Rattle.ci_tables.proofs.Scalars.{cast_int}
 use Rattle.ci_store.specs.declared.texts.TheConstants.{UPDATE_ATTEMPT, INSERT_ATTEMPT, DELETE_ATTEMPT}
 use Rattle.ci_store.specs.Schema.{the_schema, attempt}
-use Rattle.ci_store.specs.JsonText.{tags_text, tags_data, spec_text, spec_data}
-use Rattle.serde_json.specs.Read.{read}
-use Rattle.ci_store.specs.Rows.{number, attempt_row, kind_number, source_number, state_number, cause_in, exit_in}
-use Rattle.ci_store.specs.Stands.{rows_of, IsRegular, Stands}
-use Rattle.ci_store.proofs.Lists.{put_rises, by_number, all_put}
+use Rattle.ci_store.specs.Rows.{number, attempt_row, state_number, cause_in, exit_in}
+use Rattle.ci_store.specs.Stands.{IsRegular, Stands}
+use Rattle.ci_store.proofs.Lists.{put_rises, by_number}
 use Rattle.ci_store.proofs.Records.{is, put_stands, remove_stands, same_number, numbered, cast_option}
 
 abbrev sets : List Term
-sets = col 0 0 ∷ lit Null ∷ col 0 1 ∷ col 0 2 ∷ col 0 3 ∷ col 0 4 ∷ col 0 5 ∷ col 0 6 ∷ col 0 7 ∷ col 0 8 ∷ []
+sets = col 0 0 ∷ lit Null ∷ col 0 1 ∷ col 0 2 ∷ col 0 3 ∷ col 0 4 ∷ col 0 5 ∷ col 0 6 ∷ col 0 7 ∷ col 0 8 ∷ col 0 9 ∷ col 0 10 ∷ []
 
 means : MeansPut the_schema 6 attempt UPDATE_ATTEMPT.now INSERT_ATTEMPT.now (is 0 0 ∷ []) sets sets
 unfolding understood everything
@@ -41,9 +36,9 @@ means = record { there = refl; apart = refl; update_is = refl; update_plain = (r
 gives : (a : Attempt) → GivesRecord the_schema attempt (is 0 0 ∷ []) sets sets (number a.id ∷ []) (attempt_row a)
 gives a = record {
   tested = λ r. refl;
-  updated = λ old. λ i. cast_int (pos a.id) i ∷ cast_int (pos a.job) i ∷ cast_int (pos a.runner) i ∷ Text a.token ∷ cast_int (pos a.granted) i ∷ cast_int (pos a.seen) i ∷ cast_int (pos (state_number a.state)) i ∷ cast_option (cause_in a.state) i ∷ cast_option (exit_in a.state) i ∷ [];
+  updated = λ old. λ i. cast_int (pos a.id) i ∷ cast_int (pos a.job) i ∷ cast_int (pos a.runner) i ∷ Text a.token ∷ cast_int (pos a.granted) i ∷ cast_int (pos a.seen) i ∷ cast_int (pos (state_number a.state)) i ∷ cast_option (cause_in a.state) i ∷ cast_option (exit_in a.state) i ∷ cast_int (pos a.pieces) i ∷ cast_int (pos a.size) i ∷ [];
   source = refl;
-  inserted = λ rows. ap (image (places attempt)) (numbered rows (pos a.id) _) ∙ (λ i. number a.id ∷ cast_int (pos a.job) i ∷ cast_int (pos a.runner) i ∷ Text a.token ∷ cast_int (pos a.granted) i ∷ cast_int (pos a.seen) i ∷ cast_int (pos (state_number a.state)) i ∷ cast_option (cause_in a.state) i ∷ cast_option (exit_in a.state) i ∷ []);
+  inserted = λ rows. ap (image (places attempt)) (numbered rows (pos a.id) _) ∙ (λ i. number a.id ∷ cast_int (pos a.job) i ∷ cast_int (pos a.runner) i ∷ Text a.token ∷ cast_int (pos a.granted) i ∷ cast_int (pos a.seen) i ∷ cast_int (pos (state_number a.state)) i ∷ cast_option (cause_in a.state) i ∷ cast_option (exit_in a.state) i ∷ cast_int (pos a.pieces) i ∷ cast_int (pos a.size) i ∷ []);
   absent = λ rows new_row db shaped is keyed fresh put sound. absent_rowid rows new_row (pos a.id) _ (λ r. refl) shaped (ap (λ image. column image 0) is) fresh;
 }
 
@@ -55,6 +50,7 @@ regular_put a s o = record {
   jobs = o.jobs;
   job_variables = o.job_variables;
   attempts = put_rises attempt_cmp (by_number (λ (q : Attempt). q.id)) a s.attempts o.attempts;
+  pieces = o.pieces;
   tags = o.tags;
   specs = o.specs;
 }
@@ -62,7 +58,7 @@ regular_put a s o = record {
 pub attempt_puts : {S : Type 0} (ghosts : Ghosts S) (before after : Held S) (a : Attempt) (s : State) → Stands s (state ghosts before).now → HasPut ghosts UPDATE_ATTEMPT.now INSERT_ATTEMPT.now (attempt_row a) before after
     → Stands (with_record (row.Attempt a) s) (state ghosts after).now
 attempt_puts ghosts before after a s stands h =
-    put_stands attempt_row s.attempts s (with_record (row.Attempt a) s) attempt refl ((λ _. refl), ((λ _. refl), ((λ _. refl), ((λ _. refl), ((λ _. refl), ((λ _. refl), ((λ ne. absurd (ne refl)), tt))))))) (regular_put a s stands.inside.regular)
+    put_stands attempt_row s.attempts s (with_record (row.Attempt a) s) attempt refl ((λ _. refl), ((λ _. refl), ((λ _. refl), ((λ _. refl), ((λ _. refl), ((λ _. refl), ((λ ne. absurd (ne refl)), ((λ _. refl), tt)))))))) (regular_put a s stands.inside.regular)
     6 UPDATE_ATTEMPT.now INSERT_ATTEMPT.now (is 0 0 ∷ []) sets sets means attempt_cmp (number a.id ∷ []) a (gives a) (λ q. same_number q.id a.id) refl ghosts before after stands h
 
 means_remove : MeansRemove the_schema 6 attempt DELETE_ATTEMPT.now (is 0 0 ∷ [])
@@ -77,6 +73,7 @@ regular_removed id s o = record {
   jobs = o.jobs;
   job_variables = o.job_variables;
   attempts = ascending-filter _ _ s.attempts o.attempts;
+  pieces = o.pieces;
   tags = o.tags;
   specs = o.specs;
 }
@@ -85,9 +82,5 @@ pub attempt_removes : {S : Type 0} (ghosts : Ghosts S) (before after : Held S) (
     → IsWholeStep the_schema attempt (is 0 0 ∷ []) (number id ∷ []) (state ghosts before).now.trees → Changes ghosts DELETE_ATTEMPT.now (number id ∷ []) count before after
     → Stands (without_record (key.Attempt id) s) (state ghosts after).now
 attempt_removes ghosts before after id count s stands whole h =
-    remove_stands attempt_row s.attempts s (without_record (key.Attempt id) s) attempt refl ((λ _. refl), ((λ _. refl), ((λ _. refl), ((λ _. refl), ((λ _. refl), ((λ _. refl), ((λ ne. absurd (ne refl)), tt))))))) (regular_removed id s stands.inside.regular)
+    remove_stands attempt_row s.attempts s (without_record (key.Attempt id) s) attempt refl ((λ _. refl), ((λ _. refl), ((λ _. refl), ((λ _. refl), ((λ _. refl), ((λ _. refl), ((λ ne. absurd (ne refl)), ((λ _. refl), tt)))))))) (regular_removed id s stands.inside.regular)
     6 DELETE_ATTEMPT.now (is 0 0 ∷ []) means_remove (number id ∷ []) (λ r. refl) (λ q. is_eq (nat_cmp q.id id)) (λ q. same_number q.id id) refl ghosts before after count stands whole h
-
-pub attempt_whole : (params : Row) (db : Trees) → IsWholeStep the_schema attempt (is 0 0 ∷ []) params db
-unfolding everything
-attempt_whole params db = whole_if_alone the_schema attempt (is 0 0 ∷ []) params db (λ olds. refl)

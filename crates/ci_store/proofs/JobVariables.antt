@@ -1,47 +1,40 @@
 -- The statements that write `jobvar`.
-use Rattle.std.proofs.Common.{◌≡◌, ◌∙◌, ℕ, ℤ, pos, List, [], ◌∷◌, Bool, true, false, if◌then◌else◌, Some, not, filter, is_eq, refl, sym, ap, subst, inl, inr, ◌&&◌, Ordering, Less, Equal, Greater, cond}
+use Rattle.std.proofs.Common.{◌≡◌, ◌∙◌, ℕ, pos, List, [], ◌∷◌, Bool, true, false, is_eq, refl, sym, inl, inr, ◌&&◌, cond}
 use Rattle.std.specs.Ordering.{nat_cmp, ordering_then}
 use Rattle.std.specs.Cmp.Lexicographic.{slice_cmp}
 use Rattle.sqlite.specs.declared.types.Value.{Value}
-use Rattle.sqlite_value.specs.declared.keys.Key.{Key}
 use Rattle.sqlite_value.specs.declared.keys.Collation.TheVariants.{Binary}
-use Rattle.sqlite_value.specs.Keys.{plain, first_key}
+use Rattle.sqlite_value.specs.Keys.{plain}
 use Rattle.sqlite_value.proofs.KeyLemmas.{first_key-plain}
 use Rattle.sqlite_sql.specs.Ops.{is_null}
 use Rattle.sqlite_schema.specs.Rules.{equal, agree}
-use Rattle.sqlite.specs.Edit.{with_rowid}
 use Rattle.sqlite.specs.Cast.{cast}
 use Rattle.sqlite.specs.Kind.TheVariants.{Integer}
-use Rattle.sqlite.specs.Rowids.TheVariants.{Chosen}
-use Rattle.sqlite.specs.declared.types.Value.TheVariants.{Null, Int, Text}
+use Rattle.sqlite.specs.declared.types.Value.TheVariants.{Null, Text}
 use Rattle.sqlite.specs.Order.{Row, column}
-use Rattle.sqlite.specs.Term.{Term, lit, col, eval_all}
+use Rattle.sqlite.specs.Term.{Term, lit, col}
 use Rattle.sqlite.specs.Tree.{Trees}
-use Rattle.sqlite.specs.Cast.{cast_row}
 use Rattle.sqlite_tied.specs.Compute.{everything}
 use Rattle.sqlite.specs.Listing.{understood}
 use Rattle.sqlite.specs.Store.{Ghosts}
 use Rattle.sqlite.specs.Held.{Held, state}
-use Rattle.sqlite_keyed.proofs.ListLemmas.{ascending-filter, all-filter}
-use Rattle.ci_machine.specs.State.{State, put, without, with_record, without_record, job_variable_cmp}
+use Rattle.sqlite_keyed.proofs.ListLemmas.{ascending-filter}
+use Rattle.ci_machine.specs.State.{State, with_record, without_record, job_variable_cmp}
 use Rattle.ci_machine.specs.declared.records.JobVariable.{JobVariable}
 use Rattle.ci_machine.specs.declared.change.Record.TheVariants as row
 use Rattle.ci_machine.specs.declared.change.Key.TheVariants as key
 use Rattle.ci_tables.specs.Stands.{image, places}
 use Rattle.ci_tables.specs.Ran.{Changes, HasPut}
-use Rattle.ci_tables.proofs.Queries.{picks}
 use Rattle.ci_tables.proofs.Writes.{IsWholeStep, whole_if_alone}
 use Rattle.ci_tables.proofs.Puts.{MeansPut, MeansRemove, GivesRecord}
 use Rattle.ci_tables.proofs.Absent.{absent_unique}
 use Rattle.ci_tables.proofs.Scalars.{cast_int, equal_int, equal_text}
 use Rattle.ci_store.specs.declared.texts.TheConstants.{UPDATE_JOB_VARIABLE, INSERT_JOB_VARIABLE, DELETE_JOB_VARIABLE}
 use Rattle.ci_store.specs.Schema.{the_schema, jobvar, jobvar_index_1}
-use Rattle.ci_store.specs.JsonText.{tags_text, tags_data, spec_text, spec_data}
-use Rattle.serde_json.specs.Read.{read}
-use Rattle.ci_store.specs.Rows.{number, job_variable_row, kind_number, source_number, state_number, cause_in, exit_in}
-use Rattle.ci_store.specs.Stands.{rows_of, IsRegular, Stands}
-use Rattle.ci_store.proofs.Lists.{put_rises, by_both, all_put}
-use Rattle.ci_store.proofs.Records.{is, put_stands, remove_stands, same_number}
+use Rattle.ci_store.specs.Rows.{number, job_variable_row}
+use Rattle.ci_store.specs.Stands.{IsRegular, Stands}
+use Rattle.ci_store.proofs.Lists.{put_rises, by_both}
+use Rattle.ci_store.proofs.Records.{is, put_stands, remove_stands, both_equal}
 
 abbrev tests : List Term
 tests = is 1 0 ∷ is 2 1 ∷ []
@@ -80,13 +73,6 @@ gives v = record {
       absent_unique the_schema jobvar jobvar_index_1 (inr (inr (inr (inr (inr (inl refl)))))) (inr (inr (inr (inr (inl refl))))) refl rows new_row db _ (λ r. agrees r new_row v is) shaped keyed fresh put sound;
 }
 
-both_equal : (a b : Ordering) → (is_eq a && (is_eq b && true)) ≡ is_eq (ordering_then a b)
-both_equal Less b = refl
-both_equal Equal Less = refl
-both_equal Equal Equal = refl
-both_equal Equal Greater = refl
-both_equal Greater b = refl
-
 same_key : (job : ℕ) (name : List ℕ) (q : JobVariable) → (equal Binary (number q.job) (number job) && (equal Binary (Text q.key) (Text name) && true)) ≡ is_eq (ordering_then (nat_cmp q.job job) (slice_cmp nat_cmp q.key name))
 same_key job name q = (λ i. equal_int q.job job i && (equal_text q.key name i && true)) ∙ both_equal (nat_cmp q.job job) (slice_cmp nat_cmp q.key name)
 
@@ -98,6 +84,7 @@ regular_put v s o = record {
   jobs = o.jobs;
   job_variables = put_rises job_variable_cmp (by_both (λ (q : JobVariable). q.job) (λ q. q.key)) v s.job_variables o.job_variables;
   attempts = o.attempts;
+  pieces = o.pieces;
   tags = o.tags;
   specs = o.specs;
 }
@@ -105,7 +92,7 @@ regular_put v s o = record {
 pub job_variable_puts : {S : Type 0} (ghosts : Ghosts S) (before after : Held S) (v : JobVariable) (s : State) → Stands s (state ghosts before).now → HasPut ghosts UPDATE_JOB_VARIABLE.now INSERT_JOB_VARIABLE.now (job_variable_row v) before after
     → Stands (with_record (row.JobVariable v) s) (state ghosts after).now
 job_variable_puts ghosts before after v s stands h =
-    put_stands job_variable_row s.job_variables s (with_record (row.JobVariable v) s) jobvar refl ((λ _. refl), ((λ _. refl), ((λ _. refl), ((λ _. refl), ((λ _. refl), ((λ ne. absurd (ne refl)), ((λ _. refl), tt))))))) (regular_put v s stands.inside.regular)
+    put_stands job_variable_row s.job_variables s (with_record (row.JobVariable v) s) jobvar refl ((λ _. refl), ((λ _. refl), ((λ _. refl), ((λ _. refl), ((λ _. refl), ((λ ne. absurd (ne refl)), ((λ _. refl), ((λ _. refl), tt)))))))) (regular_put v s stands.inside.regular)
     5 UPDATE_JOB_VARIABLE.now INSERT_JOB_VARIABLE.now tests sets terms means job_variable_cmp (key_of v.job v.key) v (gives v) (same_key v.job v.key) refl ghosts before after stands h
 
 means_remove : MeansRemove the_schema 5 jobvar DELETE_JOB_VARIABLE.now tests
@@ -120,6 +107,7 @@ regular_removed id name s o = record {
   jobs = o.jobs;
   job_variables = ascending-filter _ _ s.job_variables o.job_variables;
   attempts = o.attempts;
+  pieces = o.pieces;
   tags = o.tags;
   specs = o.specs;
 }
@@ -128,7 +116,7 @@ pub job_variable_removes : {S : Type 0} (ghosts : Ghosts S) (before after : Held
     → IsWholeStep the_schema jobvar tests (key_of id name) (state ghosts before).now.trees → Changes ghosts DELETE_JOB_VARIABLE.now (key_of id name) count before after
     → Stands (without_record (key.JobVariable id name) s) (state ghosts after).now
 job_variable_removes ghosts before after id name count s stands whole h =
-    remove_stands job_variable_row s.job_variables s (without_record (key.JobVariable id name) s) jobvar refl ((λ _. refl), ((λ _. refl), ((λ _. refl), ((λ _. refl), ((λ _. refl), ((λ ne. absurd (ne refl)), ((λ _. refl), tt))))))) (regular_removed id name s stands.inside.regular)
+    remove_stands job_variable_row s.job_variables s (without_record (key.JobVariable id name) s) jobvar refl ((λ _. refl), ((λ _. refl), ((λ _. refl), ((λ _. refl), ((λ _. refl), ((λ ne. absurd (ne refl)), ((λ _. refl), ((λ _. refl), tt)))))))) (regular_removed id name s stands.inside.regular)
     5 DELETE_JOB_VARIABLE.now tests means_remove (key_of id name) (λ r. refl) (λ q. is_eq (ordering_then (nat_cmp q.job id) (slice_cmp nat_cmp q.key name))) (same_key id name) refl ghosts before after count stands whole h
 
 pub job_variable_whole : (params : Row) (db : Trees) → IsWholeStep the_schema jobvar tests params db

@@ -1,35 +1,32 @@
 -- The statements that write `job`.
-use Rattle.std.proofs.Common.{◌≡◌, ◌∙◌, ℕ, ℤ, pos, List, [], ◌∷◌, Bool, true, false, if◌then◌else◌, Some, not, filter, is_eq, refl, ap, subst}
+use Rattle.std.proofs.Common.{◌≡◌, ◌∙◌, ℕ, pos, List, [], ◌∷◌, if◌then◌else◌, Some, is_eq, refl, ap}
 use Rattle.std.specs.Ordering.{nat_cmp}
-use Rattle.sqlite.specs.declared.types.Value.TheVariants.{Null, Int, Text}
-use Rattle.sqlite.specs.Order.{Row, column}
-use Rattle.sqlite.specs.Term.{Term, lit, col, eval_all}
-use Rattle.sqlite.specs.Tree.{Trees}
-use Rattle.sqlite.specs.Cast.{cast_row}
+use Rattle.sqlite.specs.declared.types.Value.TheVariants.{Null, Text}
+use Rattle.sqlite.specs.Order.{column}
+use Rattle.sqlite.specs.Term.{Term, lit, col}
 use Rattle.sqlite_tied.specs.Compute.{everything}
 use Rattle.sqlite.specs.Listing.{understood}
 use Rattle.sqlite.specs.Store.{Ghosts}
 use Rattle.sqlite.specs.Held.{Held, state}
 use Rattle.sqlite_keyed.proofs.ListLemmas.{ascending-filter, all-filter}
-use Rattle.ci_machine.specs.State.{State, put, without, with_record, without_record, job_cmp}
+use Rattle.ci_machine.specs.State.{State, with_record, without_record, job_cmp}
 use Rattle.ci_machine.specs.declared.records.Job.{Job}
 use Rattle.ci_machine.specs.declared.change.Record.TheVariants as row
 use Rattle.ci_machine.specs.declared.change.Key.TheVariants as key
 use Rattle.ci_tables.specs.Stands.{image, places}
 use Rattle.ci_tables.specs.Ran.{Changes, HasPut}
-use Rattle.ci_tables.proofs.Queries.{picks}
-use Rattle.ci_tables.proofs.Writes.{IsWholeStep, whole_if_alone}
+use Rattle.ci_tables.proofs.Writes.{IsWholeStep}
 use Rattle.ci_tables.proofs.Puts.{MeansPut, MeansRemove, GivesRecord}
 use Rattle.ci_tables.proofs.Absent.{absent_rowid}
-use Rattle.ci_tables.proofs.Scalars.{cast_int, cast_text}
+use Rattle.ci_tables.proofs.Scalars.{cast_int}
 use Rattle.ci_store.specs.declared.texts.TheConstants.{UPDATE_JOB, INSERT_JOB, DELETE_JOB}
 use Rattle.ci_store.specs.Schema.{the_schema, job}
-use Rattle.ci_store.specs.JsonText.{tags_text, tags_data, spec_text, spec_data}
+use Rattle.ci_store.specs.JsonText.{spec_text, spec_data}
 use Rattle.serde_json.specs.Read.{read}
-use Rattle.ci_store.specs.Rows.{number, job_row, kind_number, source_number, state_number, cause_in, exit_in}
-use Rattle.ci_store.specs.Stands.{rows_of, IsRegular, Stands}
+use Rattle.ci_store.specs.Rows.{number, job_row}
+use Rattle.ci_store.specs.Stands.{IsRegular, Stands}
 use Rattle.ci_store.proofs.Lists.{put_rises, by_number, all_put}
-use Rattle.ci_store.proofs.Records.{is, put_stands, remove_stands, same_number, numbered, cast_option}
+use Rattle.ci_store.proofs.Records.{is, put_stands, remove_stands, same_number, numbered}
 
 abbrev sets : List Term
 sets = col 0 0 ∷ lit Null ∷ col 0 1 ∷ col 0 2 ∷ col 0 3 ∷ col 0 4 ∷ col 0 5 ∷ col 0 6 ∷ col 0 7 ∷ col 0 8 ∷ []
@@ -55,6 +52,7 @@ regular_put j s read_back o = record {
   jobs = put_rises job_cmp (by_number (λ (q : Job). q.id)) j s.jobs o.jobs;
   job_variables = o.job_variables;
   attempts = o.attempts;
+  pieces = o.pieces;
   tags = o.tags;
   specs = all_put job_cmp _ j s.jobs read_back o.specs;
 }
@@ -62,7 +60,7 @@ regular_put j s read_back o = record {
 pub job_puts : {S : Type 0} (ghosts : Ghosts S) (before after : Held S) (j : Job) (s : State) → read (spec_text j.spec) ≡ Some (spec_data j.spec) → Stands s (state ghosts before).now → HasPut ghosts UPDATE_JOB.now INSERT_JOB.now (job_row j) before after
     → Stands (with_record (row.Job j) s) (state ghosts after).now
 job_puts ghosts before after j s read_back stands h =
-    put_stands job_row s.jobs s (with_record (row.Job j) s) job refl ((λ _. refl), ((λ _. refl), ((λ _. refl), ((λ _. refl), ((λ ne. absurd (ne refl)), ((λ _. refl), ((λ _. refl), tt))))))) (regular_put j s read_back stands.inside.regular)
+    put_stands job_row s.jobs s (with_record (row.Job j) s) job refl ((λ _. refl), ((λ _. refl), ((λ _. refl), ((λ _. refl), ((λ ne. absurd (ne refl)), ((λ _. refl), ((λ _. refl), ((λ _. refl), tt)))))))) (regular_put j s read_back stands.inside.regular)
     4 UPDATE_JOB.now INSERT_JOB.now (is 0 0 ∷ []) sets sets means job_cmp (number j.id ∷ []) j (gives j) (λ q. same_number q.id j.id) refl ghosts before after stands h
 
 means_remove : MeansRemove the_schema 4 job DELETE_JOB.now (is 0 0 ∷ [])
@@ -77,6 +75,7 @@ regular_removed id s o = record {
   jobs = ascending-filter _ _ s.jobs o.jobs;
   job_variables = o.job_variables;
   attempts = o.attempts;
+  pieces = o.pieces;
   tags = o.tags;
   specs = all-filter _ _ s.jobs o.specs;
 }
@@ -85,5 +84,5 @@ pub job_removes : {S : Type 0} (ghosts : Ghosts S) (before after : Held S) (id c
     → IsWholeStep the_schema job (is 0 0 ∷ []) (number id ∷ []) (state ghosts before).now.trees → Changes ghosts DELETE_JOB.now (number id ∷ []) count before after
     → Stands (without_record (key.Job id) s) (state ghosts after).now
 job_removes ghosts before after id count s stands whole h =
-    remove_stands job_row s.jobs s (without_record (key.Job id) s) job refl ((λ _. refl), ((λ _. refl), ((λ _. refl), ((λ _. refl), ((λ ne. absurd (ne refl)), ((λ _. refl), ((λ _. refl), tt))))))) (regular_removed id s stands.inside.regular)
+    remove_stands job_row s.jobs s (without_record (key.Job id) s) job refl ((λ _. refl), ((λ _. refl), ((λ _. refl), ((λ _. refl), ((λ ne. absurd (ne refl)), ((λ _. refl), ((λ _. refl), ((λ _. refl), tt)))))))) (regular_removed id s stands.inside.regular)
     4 DELETE_JOB.now (is 0 0 ∷ []) means_remove (number id ∷ []) (λ r. refl) (λ q. is_eq (nat_cmp q.id id)) (λ q. same_number q.id id) refl ghosts before after count stands whole h

@@ -1,5 +1,5 @@
 -- The texts of JSON values.
-use Rattle.std.proofs.Common.{◌≡◌, ◌∙◌, ◌≤◌, ℕ, List, [], ◌∷◌, map, Bool, false, Result, Ok, Err, Some, IfOk, OnOk, string_bytes, refl, sym, ap, max, arith}
+use Rattle.std.proofs.Common.{◌≡◌, ◌∙◌, ◌≤◌, ℕ, List, [], ◌∷◌, map, false, Result, Ok, Err, Some, IfOk, OnOk, string_bytes, refl, sym, ap, max, arith}
 use Rattle.std.specs.declared.string.String.{String}
 use Rattle.serde_json.specs.Data.{Data, string, depth, items_depth}
 use Rattle.serde_json.specs.Read.{read, max_depth}

@@ -6,12 +6,16 @@ mod Pipelines
 mod Jobs
 mod Attempts
 mod JobVariables
+mod Pieces
 mod Meta
+mod Creates
+mod Fills
 mod JsonTexts
 mod Applied
 mod Removals
 mod Reading
 mod Loads
+mod Looking
 mod Sorted
 mod Same
 mod NextLoads

@@ -7,7 +7,6 @@ use Rattle.std.specs.Cmp.Lexicographic.{slice_cmp}
 use Rattle.std.proofs.lemmas.Cmp.{on_total, then_total, nat_list_cmp_total, nat_cmp_total}
 use Rattle.std.proofs.lemmas.List.Sorted.{IsPermutation-map, IsPermutation-refl, IsPermutation-sym, IsPermutation-cons, IsPermutation-trans, IsPermutation-middle}
 use Rattle.sqlite.specs.Order.{Row}
-use Rattle.sqlite_trees.specs.Tree.{IsAscending}
 use Rattle.sqlite_keyed.proofs.ListLemmas.{filter-map, filter_same, IsPermutation-same, ascending-filter, all_weaker, all-filter}
 use Rattle.ci_tables.specs.Stands.{has_key, without}
 use Rattle.ci_machine.specs.State.{placed, others, put}
@@ -81,3 +80,6 @@ by_number id = on_total id nat_cmp_total
 
 pub by_both : {X : Type 0} (id : X → ℕ) (name : X → List ℕ) → IsTotalOrder (λ a b. ordering_then (nat_cmp (id a) (id b)) (slice_cmp nat_cmp (name a) (name b)))
 by_both id name = then_total (on_total id nat_cmp_total) (on_total name nat_list_cmp_total)
+
+pub by_two : {X : Type 0} (first second : X → ℕ) → IsTotalOrder (λ a b. ordering_then (nat_cmp (first a) (first b)) (nat_cmp (second a) (second b)))
+by_two first second = then_total (on_total first nat_cmp_total) (on_total second nat_cmp_total)

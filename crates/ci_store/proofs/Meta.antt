@@ -1,10 +1,10 @@
 -- The statements that write `meta`.
-use Rattle.std.proofs.Common.{◌≡◌, ◌∙◌, ℕ, pos, List, [], ◌∷◌, codes, Bool, true, false, ◌&&◌, cond, refl, sym, ap, subst, inl, inr, IsPermutation}
-use Rattle.std.proofs.lemmas.List.Sorted.{IsPermutation-sym, IsPermutation-refl, IsPermutation-middle}
+use Rattle.std.proofs.Common.{◌≡◌, ◌∙◌, ℕ, pos, List, [], ◌∷◌, codes, Bool, true, false, ◌&&◌, cond, refl, sym, inl, IsPermutation}
+use Rattle.std.proofs.lemmas.List.Sorted.{IsPermutation-sym, IsPermutation-middle}
 use Rattle.sqlite.specs.declared.types.Value.{Value}
-use Rattle.sqlite.specs.declared.types.Value.TheVariants.{Null, Int, Text}
+use Rattle.sqlite.specs.declared.types.Value.TheVariants.{Null, Text}
 use Rattle.sqlite_value.specs.declared.keys.Collation.TheVariants.{Binary}
-use Rattle.sqlite_value.specs.Keys.{plain, first_key}
+use Rattle.sqlite_value.specs.Keys.{plain}
 use Rattle.sqlite_value.proofs.KeyLemmas.{first_key-plain}
 use Rattle.sqlite_sql.specs.Ops.{is_null, binary}
 use Rattle.sqlite_value.specs.Order.{value_cmp}
@@ -28,17 +28,16 @@ use Rattle.ci_tables.proofs.Absent.{absent_unique}
 use Rattle.ci_tables.proofs.Scalars.{cast_int}
 use Rattle.ci_store.specs.declared.texts.TheConstants.{UPDATE_META, INSERT_META}
 use Rattle.ci_store.specs.Schema.{the_schema, meta, meta_index_1}
-use Rattle.ci_store.specs.Rows.{number}
 use Rattle.ci_store.specs.Stands.{meta_row, meta_rows, counter_key, rows_of, IsRegular, Stands}
 use Rattle.ci_store.proofs.Records.{is, before_it, after_it}
 
-abbrev sets : List Term
+abbrev pub sets : List Term
 sets = col 1 0 ∷ col 0 0 ∷ col 0 1 ∷ []
 
-abbrev terms : List Term
+abbrev pub terms : List Term
 terms = lit Null ∷ col 0 0 ∷ col 0 1 ∷ []
 
-means : MeansPut the_schema 0 meta UPDATE_META.now INSERT_META.now (is 1 0 ∷ []) sets terms
+pub means : MeansPut the_schema 0 meta UPDATE_META.now INSERT_META.now (is 1 0 ∷ []) sets terms
 unfolding understood everything
 means = record { there = refl; apart = refl; update_is = refl; update_plain = (refl, refl); insert_is = refl; insert_plain = (refl, refl); uncounted = refl; unstamped = refl; idle = refl; alone = λ olds a. refl }
 
@@ -50,7 +49,7 @@ unnumbered false n v x y = refl
 agrees : (r new_row : Row) (key : List ℕ) (num : ℕ) → image (places meta) new_row ≡ meta_row key num → (equal Binary (column r 1) (Text key) && true) ≡ agree plain (1 ∷ []) r (1 ∷ []) new_row
 agrees r new_row key num is = sym (λ i. equal (first_key-plain i).collation (column r 1) (column (is i) 0) && true)
 
-gives : (key : List ℕ) (num : ℕ) → GivesRecord the_schema meta (is 1 0 ∷ []) sets terms (Text key ∷ []) (meta_row key num)
+pub gives : (key : List ℕ) (num : ℕ) → GivesRecord the_schema meta (is 1 0 ∷ []) sets terms (Text key ∷ []) (meta_row key num)
 gives key num = record {
   tested = λ r. refl;
   updated = λ old. λ i. Text key ∷ cast_int (pos num) i ∷ [];
@@ -75,7 +74,7 @@ moved counter.Attempt n next =
     ∷ meta_row (codes "next_job") next.job ∷ []) _ _)
 
 same_order : (s : State) (next : Numbers) → IsRegular s → IsRegular (record s { next = next })
-same_order s next o = record { projects = o.projects; runners = o.runners; pipelines = o.pipelines; jobs = o.jobs; job_variables = o.job_variables; attempts = o.attempts; tags = o.tags; specs = o.specs }
+same_order s next o = record { projects = o.projects; runners = o.runners; pipelines = o.pipelines; jobs = o.jobs; job_variables = o.job_variables; attempts = o.attempts; pieces = o.pieces; tags = o.tags; specs = o.specs }
 
 pub next_sets : {S : Type 0} (ghosts : Ghosts S) (before after : Held S) (c : Counter) (n : ℕ) (s : State) → Stands s (state ghosts before).now → Changes ghosts UPDATE_META.now (meta_row (counter_key c) n) 1 before after
     → Stands (record s { next = with_next c n s.next }) (state ghosts after).now
@@ -83,4 +82,4 @@ next_sets ghosts before after c n s stands h =
     let t = record s { next = with_next c n s.next } in
     after_it ghosts t after (same_order s (with_next c n s.next) stands.inside.regular)
     (updates_one the_schema 0 meta UPDATE_META.now INSERT_META.now (is 1 0 ∷ []) sets terms means (Text (counter_key c) ∷ []) (meta_row (counter_key c) n) (gives (counter_key c) n) (rows_of s) (rows_of t)
-    ((λ ne. absurd (ne refl)), ((λ _. refl), ((λ _. refl), ((λ _. refl), ((λ _. refl), ((λ _. refl), ((λ _. refl), tt))))))) (moved c n s.next) (state ghosts before) (state ghosts after) (before_it ghosts s before stands) h)
+    ((λ ne. absurd (ne refl)), ((λ _. refl), ((λ _. refl), ((λ _. refl), ((λ _. refl), ((λ _. refl), ((λ _. refl), ((λ _. refl), tt)))))))) (moved c n s.next) (state ghosts before) (state ghosts after) (before_it ghosts s before stands) h)

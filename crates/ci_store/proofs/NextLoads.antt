@@ -1,5 +1,5 @@
 -- The loads of next numbers.
-use Rattle.std.proofs.Common.{◌≡◌, ◌∙◌, ◌<◌, ◌≤◌, ℕ, pos, List, [], ◌∷◌, filter, length, get_or, Bool, true, false, refl, sym, ap, subst, arith, IsPermutation, codes}
+use Rattle.std.proofs.Common.{◌≡◌, ◌∙◌, ℕ, pos, List, [], ◌∷◌, filter, refl, ap, subst, IsPermutation}
 use Rattle.sqlite.specs.declared.types.Value.TheVariants.{Int, Text}
 use Rattle.sqlite_sql.specs.Ops.{binary}
 use Rattle.sqlite_value.specs.Order.{value_cmp}
@@ -14,13 +14,12 @@ use Rattle.ci_tables.specs.Stands.{has_key}
 use Rattle.ci_tables.proofs.Selects.{selects}
 use Rattle.ci_store.specs.declared.texts.TheConstants.{SELECT_META}
 use Rattle.ci_store.specs.Schema.{the_schema, meta}
-use Rattle.ci_store.specs.Rows.{number}
 use Rattle.ci_store.specs.Stands.{Stands, counter_key, meta_row, meta_rows, rows_of}
-use Rattle.ci_store.specs.Load.{next_in}
+use Rattle.ci_machine.specs.Step.{next_of}
 use Rattle.ci_store.proofs.Records.{is}
 use Rattle.ci_store.proofs.Loads.{means_meta, held}
 
-one_row : (c : Counter) (next : Numbers) → filter (has_key (Text (counter_key c) ∷ [])) (meta_rows next) ≡ meta_row (counter_key c) (next_in c next) ∷ []
+one_row : (c : Counter) (next : Numbers) → filter (has_key (Text (counter_key c) ∷ [])) (meta_rows next) ≡ meta_row (counter_key c) (next_of c next) ∷ []
 unfolding binary value_cmp lib.Ieee.is_nan lib.Ieee.lt
 one_row counter.Project next = refl
 one_row counter.Runner next = refl
@@ -28,9 +27,9 @@ one_row counter.Pipeline next = refl
 one_row counter.Job next = refl
 one_row counter.Attempt next = refl
 
-pub next_found : (old new : Seen) (s : State) → Stands s old.now → (c : Counter) (rows : List Row) → Shown SELECT_META.now (Text (counter_key c) ∷ []) old new rows → rows ≡ meta_row (counter_key c) (next_in c s.next) ∷ []
+pub next_found : (old new : Seen) (s : State) → Stands s old.now → (c : Counter) (rows : List Row) → Shown SELECT_META.now (Text (counter_key c) ∷ []) old new rows → rows ≡ meta_row (counter_key c) (next_of c s.next) ∷ []
 next_found old new s stands c rows h =
-    one_permutation (meta_row (counter_key c) (next_in c s.next)) rows
+    one_permutation (meta_row (counter_key c) (next_of c s.next)) rows
     (subst (λ l. IsPermutation l rows) (one_row c s.next)
     (selects the_schema meta SELECT_META.now (is 1 0 ∷ []) _ [] _ means_meta (Text (counter_key c) ∷ []) (has_key (Text (counter_key c) ∷ [])) (λ r. refl) (λ r. refl) old new (rows_of s meta.tree) rows stands.listed (held s old.now stands 0 meta refl) h))
 

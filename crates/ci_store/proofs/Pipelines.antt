@@ -1,35 +1,30 @@
 -- The statements that write `pipeline`.
-use Rattle.std.proofs.Common.{◌≡◌, ◌∙◌, ℕ, ℤ, pos, List, [], ◌∷◌, Bool, true, false, if◌then◌else◌, Some, not, filter, is_eq, refl, ap, subst}
+use Rattle.std.proofs.Common.{◌∙◌, ℕ, pos, List, [], ◌∷◌, is_eq, refl, ap}
 use Rattle.std.specs.Ordering.{nat_cmp}
-use Rattle.sqlite.specs.declared.types.Value.TheVariants.{Null, Int, Text}
-use Rattle.sqlite.specs.Order.{Row, column}
-use Rattle.sqlite.specs.Term.{Term, lit, col, eval_all}
-use Rattle.sqlite.specs.Tree.{Trees}
-use Rattle.sqlite.specs.Cast.{cast_row}
+use Rattle.sqlite.specs.declared.types.Value.TheVariants.{Null, Text}
+use Rattle.sqlite.specs.Order.{column}
+use Rattle.sqlite.specs.Term.{Term, lit, col}
 use Rattle.sqlite_tied.specs.Compute.{everything}
 use Rattle.sqlite.specs.Listing.{understood}
 use Rattle.sqlite.specs.Store.{Ghosts}
 use Rattle.sqlite.specs.Held.{Held, state}
-use Rattle.sqlite_keyed.proofs.ListLemmas.{ascending-filter, all-filter}
-use Rattle.ci_machine.specs.State.{State, put, without, with_record, without_record, pipeline_cmp}
+use Rattle.sqlite_keyed.proofs.ListLemmas.{ascending-filter}
+use Rattle.ci_machine.specs.State.{State, with_record, without_record, pipeline_cmp}
 use Rattle.ci_machine.specs.declared.records.Pipeline.{Pipeline}
 use Rattle.ci_machine.specs.declared.change.Record.TheVariants as row
 use Rattle.ci_machine.specs.declared.change.Key.TheVariants as key
 use Rattle.ci_tables.specs.Stands.{image, places}
 use Rattle.ci_tables.specs.Ran.{Changes, HasPut}
-use Rattle.ci_tables.proofs.Queries.{picks}
-use Rattle.ci_tables.proofs.Writes.{IsWholeStep, whole_if_alone}
+use Rattle.ci_tables.proofs.Writes.{IsWholeStep}
 use Rattle.ci_tables.proofs.Puts.{MeansPut, MeansRemove, GivesRecord}
 use Rattle.ci_tables.proofs.Absent.{absent_rowid}
-use Rattle.ci_tables.proofs.Scalars.{cast_int, cast_text}
+use Rattle.ci_tables.proofs.Scalars.{cast_int}
 use Rattle.ci_store.specs.declared.texts.TheConstants.{UPDATE_PIPELINE, INSERT_PIPELINE, DELETE_PIPELINE}
 use Rattle.ci_store.specs.Schema.{the_schema, pipeline}
-use Rattle.ci_store.specs.JsonText.{tags_text, tags_data, spec_text, spec_data}
-use Rattle.serde_json.specs.Read.{read}
-use Rattle.ci_store.specs.Rows.{number, pipeline_row, kind_number, source_number, state_number, cause_in, exit_in}
-use Rattle.ci_store.specs.Stands.{rows_of, IsRegular, Stands}
-use Rattle.ci_store.proofs.Lists.{put_rises, by_number, all_put}
-use Rattle.ci_store.proofs.Records.{is, put_stands, remove_stands, same_number, numbered, cast_option}
+use Rattle.ci_store.specs.Rows.{number, pipeline_row, kind_number, source_number}
+use Rattle.ci_store.specs.Stands.{IsRegular, Stands}
+use Rattle.ci_store.proofs.Lists.{put_rises, by_number}
+use Rattle.ci_store.proofs.Records.{is, put_stands, remove_stands, same_number, numbered}
 
 abbrev sets : List Term
 sets = col 0 0 ∷ lit Null ∷ col 0 1 ∷ col 0 2 ∷ col 0 3 ∷ col 0 4 ∷ col 0 5 ∷ []
@@ -55,6 +50,7 @@ regular_put p s o = record {
   jobs = o.jobs;
   job_variables = o.job_variables;
   attempts = o.attempts;
+  pieces = o.pieces;
   tags = o.tags;
   specs = o.specs;
 }
@@ -62,7 +58,7 @@ regular_put p s o = record {
 pub pipeline_puts : {S : Type 0} (ghosts : Ghosts S) (before after : Held S) (p : Pipeline) (s : State) → Stands s (state ghosts before).now → HasPut ghosts UPDATE_PIPELINE.now INSERT_PIPELINE.now (pipeline_row p) before after
     → Stands (with_record (row.Pipeline p) s) (state ghosts after).now
 pipeline_puts ghosts before after p s stands h =
-    put_stands pipeline_row s.pipelines s (with_record (row.Pipeline p) s) pipeline refl ((λ _. refl), ((λ _. refl), ((λ _. refl), ((λ ne. absurd (ne refl)), ((λ _. refl), ((λ _. refl), ((λ _. refl), tt))))))) (regular_put p s stands.inside.regular)
+    put_stands pipeline_row s.pipelines s (with_record (row.Pipeline p) s) pipeline refl ((λ _. refl), ((λ _. refl), ((λ _. refl), ((λ ne. absurd (ne refl)), ((λ _. refl), ((λ _. refl), ((λ _. refl), ((λ _. refl), tt)))))))) (regular_put p s stands.inside.regular)
     3 UPDATE_PIPELINE.now INSERT_PIPELINE.now (is 0 0 ∷ []) sets sets means pipeline_cmp (number p.id ∷ []) p (gives p) (λ q. same_number q.id p.id) refl ghosts before after stands h
 
 means_remove : MeansRemove the_schema 3 pipeline DELETE_PIPELINE.now (is 0 0 ∷ [])
@@ -77,6 +73,7 @@ regular_removed id s o = record {
   jobs = o.jobs;
   job_variables = o.job_variables;
   attempts = o.attempts;
+  pieces = o.pieces;
   tags = o.tags;
   specs = o.specs;
 }
@@ -85,5 +82,5 @@ pub pipeline_removes : {S : Type 0} (ghosts : Ghosts S) (before after : Held S) 
     → IsWholeStep the_schema pipeline (is 0 0 ∷ []) (number id ∷ []) (state ghosts before).now.trees → Changes ghosts DELETE_PIPELINE.now (number id ∷ []) count before after
     → Stands (without_record (key.Pipeline id) s) (state ghosts after).now
 pipeline_removes ghosts before after id count s stands whole h =
-    remove_stands pipeline_row s.pipelines s (without_record (key.Pipeline id) s) pipeline refl ((λ _. refl), ((λ _. refl), ((λ _. refl), ((λ ne. absurd (ne refl)), ((λ _. refl), ((λ _. refl), ((λ _. refl), tt))))))) (regular_removed id s stands.inside.regular)
+    remove_stands pipeline_row s.pipelines s (without_record (key.Pipeline id) s) pipeline refl ((λ _. refl), ((λ _. refl), ((λ _. refl), ((λ ne. absurd (ne refl)), ((λ _. refl), ((λ _. refl), ((λ _. refl), ((λ _. refl), tt)))))))) (regular_removed id s stands.inside.regular)
     3 DELETE_PIPELINE.now (is 0 0 ∷ []) means_remove (number id ∷ []) (λ r. refl) (λ q. is_eq (nat_cmp q.id id)) (λ q. same_number q.id id) refl ghosts before after count stands whole h

@@ -1,11 +1,10 @@
 -- The records that rows are read as.
-use Rattle.std.proofs.Common.{◌≡◌, ◌∙◌, ℕ, List, [], ◌∷◌, map, length, Option, Some, None, Result, Ok, Err, IfOk, ◌≢◌, MatchOption, refl, sym, ap, subst, arith}
+use Rattle.std.proofs.Common.{◌≡◌, ◌∙◌, ℕ, List, [], ◌∷◌, length, Option, Some, None, Result, Ok, Err, IfOk, ◌≢◌, MatchOption, refl, sym, arith}
 use Rattle.sqlite.specs.declared.types.Value.{Value}
 use Rattle.sqlite.specs.declared.types.Value.TheVariants.{Null}
 use Rattle.sqlite.specs.Values.{or_null}
 use Rattle.sqlite.specs.Order.{Row, column}
-use Rattle.serde_json.specs.Data.{Data, string, array}
-use Rattle.serde_json.specs.View.{items_of}
+use Rattle.serde_json.specs.Data.{Data, array}
 use Rattle.serde_json.specs.Read.{read}
 use Rattle.ci_machine.specs.declared.records.JobSpec.{JobSpec}
 use Rattle.ci_store.specs.Rows.{number}
@@ -52,6 +51,12 @@ row9 (a ∷ b ∷ c ∷ d ∷ e ∷ f ∷ g ∷ []) is = cc
 row9 (a ∷ b ∷ c ∷ d ∷ e ∷ f ∷ g ∷ h ∷ []) is = cc
 row9 (a ∷ b ∷ c ∷ d ∷ e ∷ f ∷ g ∷ h ∷ i ∷ []) is = refl
 row9 (a ∷ b ∷ c ∷ d ∷ e ∷ f ∷ g ∷ h ∷ i ∷ x ∷ more) is = absurd (omega (arith, is))
+
+pub row11 : (row : Row) → length row ≡ 11
+    → row ≡ column row 0 ∷ column row 1 ∷ column row 2 ∷ column row 3 ∷ column row 4 ∷ column row 5 ∷ column row 6 ∷ column row 7 ∷ column row 8 ∷ column row 9 ∷ column row 10 ∷ []
+row11 [] is = cc
+row11 (a ∷ []) is = cc
+row11 (a ∷ b ∷ row) is = let short : length row ≡ 9 = omega (arith, is) in λ i. a ∷ b ∷ row9 row short i
 
 pub option_cell : (v : Value) (o : Option ℕ) → MatchOption o (v ≡ Null) (λ n. (v ≢ Null) × (v ≡ number n)) → v ≡ or_null number o
 option_cell v None h = h

@@ -1,14 +1,14 @@
 -- A record that is put, and one that is removed, in a table of its own.
-use Rattle.std.proofs.Common.{◌≡◌, ◌≢◌, ℕ, ℤ, pos, List, [], ◌∷◌, map, filter, Bool, true, false, not, ◌&&◌, Ordering, is_eq, refl, sym, ap, subst, ◌∙◌, Some, None, Option, IsPermutation}
+use Rattle.std.proofs.Common.{◌≡◌, ◌≢◌, ◌<◌, ◌==◌, ℕ, ℤ, pos, nat_lt, cond, arith, ltb-true, ne_eqb, Less, Equal, Greater, List, ◌∷◌, map, filter, Bool, true, false, not, ◌&&◌, Ordering, is_eq, refl, sym, ap, subst, ◌∙◌, Some, None, Option, IsPermutation}
 use Rattle.std.specs.List.{AllByRecursion}
-use Rattle.std.specs.Ordering.{nat_cmp}
-use Rattle.sqlite.specs.declared.types.Value.{Value}
-use Rattle.sqlite.specs.declared.types.Value.TheVariants.{Null, Int, Text}
+use Rattle.std.specs.Ordering.{nat_cmp, ordering_then}
+use Rattle.std.proofs.lemmas.Bool.{cond_both}
+use Rattle.sqlite.specs.declared.types.Value.TheVariants.{Int, Text}
 use Rattle.sqlite_value.specs.declared.keys.Collation.TheVariants.{Binary}
 use Rattle.sqlite_sql.specs.declared.ops.BinaryOp.TheVariants.{Compare}
 use Rattle.sqlite_sql.specs.declared.ops.CompareOp.TheVariants.{Eq}
 use Rattle.sqlite.specs.Order.{Row}
-use Rattle.sqlite.specs.Term.{Term, lit, col, op2}
+use Rattle.sqlite.specs.Term.{Term, col, op2}
 use Rattle.sqlite.specs.Table.{Table}
 use Rattle.sqlite.specs.Edit.{with_rowid}
 use Rattle.sqlite.specs.Cast.{cast}
@@ -17,7 +17,6 @@ use Rattle.sqlite.specs.Rowids.TheVariants.{Chosen}
 use Rattle.sqlite.specs.Values.{or_null, bound_value}
 use Rattle.sqlite.specs.Store.{Ghosts}
 use Rattle.sqlite.specs.Held.{Held, state}
-use Rattle.sqlite.specs.State.{Executes}
 use Rattle.ci_machine.specs.State.{State, put}
 use Rattle.ci_tables.specs.Stands.{has_key, image, places, without, IsOf}
 use Rattle.sqlite_schema.specs.Rules.{equal}
@@ -69,6 +68,24 @@ and_true false = refl
 -- a number is compared as the rowid is
 pub same_number : (m n : ℕ) → (equal Binary (number m) (number n) && true) ≡ is_eq (nat_cmp m n)
 same_number m n = and_true _ ∙ equal_int m n
+
+-- numbers that compare as equal are the same
+pub is_number : (m n : ℕ) → is_eq (nat_cmp m n) ≡ (m == n)
+is_number m n =
+    cond_both (nat_lt m n) Less (cond (m == n) Equal Greater) (λ o. is_eq o ≡ (m == n))
+    (λ e. let l : m < n = ltb-true m n e in sym (ne_eqb m n (λ same. omega arith)))
+    (λ _. cond_both (m == n) Equal Greater (λ o. is_eq o ≡ (m == n)) (λ e. sym e) (λ e. sym e))
+
+pub finds_number : (m n : ℕ) → (equal Binary (number m) (number n) && true) ≡ (m == n)
+finds_number m n = same_number m n ∙ is_number m n
+
+-- the two parts of a key are compared in turn
+pub both_equal : (a b : Ordering) → (is_eq a && (is_eq b && true)) ≡ is_eq (ordering_then a b)
+both_equal Less b = refl
+both_equal Equal Less = refl
+both_equal Equal Equal = refl
+both_equal Equal Greater = refl
+both_equal Greater b = refl
 
 -- the number is the rowid
 pub numbered : (rows : List Row) (n : ℤ) (rest : Row) → with_rowid Chosen rows (cast Integer (Int n) ∷ rest) ≡ Int n ∷ rest

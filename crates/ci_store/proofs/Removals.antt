@@ -1,21 +1,18 @@
 -- The removal of a row that others could refer to.
-use Rattle.std.proofs.Common.{◌≡◌, ◌≢◌, ◌∙◌, ℕ, pos, List, [], ◌∷◌, ◌++◌, codes, Bool, true, false, ◌&&◌, cond, Option, Some, None, slice_get, refl, sym, ap, subst, inl, inr}
+use Rattle.std.proofs.Common.{◌≡◌, ◌≢◌, ℕ, pos, List, [], ◌∷◌, ◌++◌, codes, Bool, true, false, ◌&&◌, cond, Some, None, slice_get, refl, sym, subst, inl, inr}
 use Rattle.std.specs.List.{AllByRecursion, list_any, cons_option}
-use Rattle.sqlite.specs.declared.types.Value.TheVariants.{Int}
 use Rattle.sqlite.specs.Collation.TheVariants.{Binary}
-use Rattle.sqlite_value.specs.declared.keys.Key.{Key}
 use Rattle.sqlite_value.specs.Keys.{plain, joined, ascending}
-use Rattle.sqlite.specs.Order.{Row, column}
-use Rattle.sqlite.specs.Term.{Term, col}
+use Rattle.sqlite.specs.Order.{Row}
+use Rattle.sqlite.specs.Term.{col}
 use Rattle.sqlite.specs.Table.{Table}
 use Rattle.sqlite.specs.Tree.{Trees}
-use Rattle.sqlite.specs.State.{State as Shows, Shown, IsUnchanged}
+use Rattle.sqlite.specs.State.{Shown}
 use Rattle.sqlite.specs.Store.{Ghosts}
 use Rattle.sqlite.specs.Held.{Held, state}
 use Rattle.sqlite.specs.Listing.{understood}
 use Rattle.sqlite_tied.specs.Compute.{everything}
 use Rattle.sqlite.proofs.Callers.{IsPlain}
-use Rattle.sqlite_schema.specs.Rules.{equal}
 use Rattle.sqlite_schema.specs.declared.schema.Keys.TheVariants.{Enforced}
 use Rattle.sqlite_rules.specs.Lists.{Has}
 use Rattle.sqlite_rules.specs.Action.{Work, works, pairs, loses}
@@ -26,8 +23,8 @@ use Rattle.ci_machine.specs.State.{State}
 use Rattle.ci_tables.proofs.Writes.{IsWholeStep}
 use Rattle.ci_tables.proofs.Childless.{IsChildless, LacksChild, cascade, lone, whole_if_childless}
 use Rattle.ci_tables.proofs.Selects.{MeansSelect, shows_none, shown_same}
-use Rattle.ci_store.specs.declared.texts.TheConstants.{SELECT_JOBS_OF, SELECT_JOB_VARIABLES, SELECT_ATTEMPTS_OF}
-use Rattle.ci_store.specs.Schema.{the_schema, pipeline, job, jobvar, attempt}
+use Rattle.ci_store.specs.declared.texts.TheConstants.{SELECT_JOBS_OF, SELECT_JOB_VARIABLES, SELECT_ATTEMPTS_OF, SELECT_PIECES}
+use Rattle.ci_store.specs.Schema.{the_schema, pipeline, job, jobvar, attempt, piece}
 use Rattle.ci_store.specs.Rows.{number}
 use Rattle.ci_store.specs.Stands.{Stands, rows_of}
 use Rattle.ci_tables.specs.Stands.{Holds}
@@ -44,10 +41,14 @@ pub means_variables : MeansSelect the_schema jobvar SELECT_JOB_VARIABLES.now (is
 unfolding understood everything
 means_variables = record { is = refl; unlisted = refl; plain = (refl, refl) }
 
-pub means_attempts : MeansSelect the_schema attempt SELECT_ATTEMPTS_OF.now (is 2 0 ∷ []) (col 1 0 ∷ col 1 2 ∷ col 1 3 ∷ col 1 4 ∷ col 1 5 ∷ col 1 6 ∷ col 1 7 ∷ col 1 8 ∷ col 1 9 ∷ []) ((col 1 0, ascending Binary) ∷ [])
-    (codes "id" ∷ codes "job" ∷ codes "runner" ∷ codes "token" ∷ codes "granted" ∷ codes "seen" ∷ codes "state" ∷ codes "cause" ∷ codes "exit" ∷ [])
+pub means_attempts : MeansSelect the_schema attempt SELECT_ATTEMPTS_OF.now (is 2 0 ∷ []) (col 1 0 ∷ col 1 2 ∷ col 1 3 ∷ col 1 4 ∷ col 1 5 ∷ col 1 6 ∷ col 1 7 ∷ col 1 8 ∷ col 1 9 ∷ col 1 10 ∷ col 1 11 ∷ []) ((col 1 0, ascending Binary) ∷ [])
+    (codes "id" ∷ codes "job" ∷ codes "runner" ∷ codes "token" ∷ codes "granted" ∷ codes "seen" ∷ codes "state" ∷ codes "cause" ∷ codes "exit" ∷ codes "pieces" ∷ codes "size" ∷ [])
 unfolding understood everything
 means_attempts = record { is = refl; unlisted = refl; plain = (refl, refl) }
+
+pub means_pieces : MeansSelect the_schema piece SELECT_PIECES.now (is 1 0 ∷ []) (col 1 1 ∷ col 1 2 ∷ col 1 3 ∷ []) ((col 1 2, ascending Binary) ∷ []) (codes "attempt" ∷ codes "seq" ∷ codes "bytes" ∷ [])
+unfolding understood everything
+means_pieces = record { is = refl; unlisted = refl; plain = (refl, refl) }
 
 -- ---- what a removal sets off
 
@@ -61,6 +62,10 @@ works_of_job : (olds : List Row)
     ++ (cons_option (cond (list_any (loses plain (0 ∷ [])) (pairs olds [])) (Some (cascade attempt 2 (codes "job") olds)) None) [] ++ [])
 unfolding everything joined
 works_of_job olds = refl
+
+works_of_attempt : (olds : List Row) → works the_schema Enforced 0 attempt.tree olds [] ≡ cons_option (cond (list_any (loses plain (0 ∷ [])) (pairs olds [])) (Some (cascade piece 1 (codes "attempt") olds)) None) [] ++ []
+unfolding everything joined
+works_of_attempt olds = refl
 
 module _ (P : Work → Type 0) where
   one_work : (b : Bool) (v w : Work) → P v → Has (cons_option (cond b (Some v) None) [] ++ []) w → P w
@@ -95,6 +100,13 @@ job_whole n db shaped lacks lacks' =
     (lone attempt 2 (codes "job") olds (pos n) mid are (lacks_still job attempt 2 n db mid (has_got the_schema.tables 6 attempt refl) (λ e. absurd cc) lacks' others))
     (subst (λ l. Has l w) (works_of_job olds) h))
 
+pub attempt_whole : (n : ℕ) (db : Trees) → IsShaped shape.Table (db attempt.tree) → LacksChild piece 1 (pos n) db → IsWholeStep the_schema attempt (is 0 0 ∷ []) (number n ∷ []) db
+attempt_whole n db shaped lacks =
+    whole_if_childless the_schema attempt (is 0 0 ∷ []) (number n ∷ []) (pos n) db (λ r. refl) shaped
+    (λ olds mid are others w h.
+    one_work (IsChildless mid) _ (cascade piece 1 (codes "attempt") olds) w (lone piece 1 (codes "attempt") olds (pos n) mid are (lacks_still attempt piece 1 n db mid (has_got the_schema.tables 7 piece refl) (λ e. absurd cc) lacks others))
+    (subst (λ l. Has l w) (works_of_attempt olds) h))
+
 pub shaped_in : (s : State) (db : Database) → Stands s db → (at : ℕ) (t : Table) → slice_get the_schema.tables at ≡ Some t → IsShaped shape.Table (db.trees t.tree)
 shaped_in s db stands at t there = (all_has (λ (t : Table). Holds t (rows_of s t.tree) db.trees) the_schema.tables t stands.inside.tables.holds (has_got the_schema.tables at t there)).shaped
 
@@ -120,3 +132,7 @@ module _ {S : Type 0} (g : Ghosts S) (old new : Held S) (s : State) (stands : St
   pub no_attempts : Shown SELECT_ATTEMPTS_OF.now (number n ∷ []) (state g old) (state g new) [] → ((state g old).now ≡ (state g new).now) × LacksChild attempt 2 (pos n) (state g old).now.trees
   no_attempts h =
       (still SELECT_ATTEMPTS_OF.now means_attempts.plain h, λ r there. just _ (shows_none the_schema attempt SELECT_ATTEMPTS_OF.now (is 2 0 ∷ []) _ _ _ means_attempts (number n ∷ []) (state g old) (state g new) stands.listed h r there))
+
+  pub no_pieces : Shown SELECT_PIECES.now (number n ∷ []) (state g old) (state g new) [] → ((state g old).now ≡ (state g new).now) × LacksChild piece 1 (pos n) (state g old).now.trees
+  no_pieces h =
+      (still SELECT_PIECES.now means_pieces.plain h, λ r there. just _ (shows_none the_schema piece SELECT_PIECES.now (is 1 0 ∷ []) _ _ _ means_pieces (number n ∷ []) (state g old) (state g new) stands.listed h r there))

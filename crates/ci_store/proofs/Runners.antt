@@ -1,33 +1,31 @@
 -- The statements that write `runner`.
-use Rattle.std.proofs.Common.{◌≡◌, ◌∙◌, ℕ, ℤ, pos, List, [], ◌∷◌, Bool, true, false, if◌then◌else◌, Some, not, filter, is_eq, refl, ap, subst}
+use Rattle.std.proofs.Common.{◌≡◌, ◌∙◌, ℕ, pos, List, [], ◌∷◌, if◌then◌else◌, Some, is_eq, refl, ap}
 use Rattle.std.specs.Ordering.{nat_cmp}
-use Rattle.sqlite.specs.declared.types.Value.TheVariants.{Null, Int, Text}
+use Rattle.sqlite.specs.declared.types.Value.TheVariants.{Null, Text}
 use Rattle.sqlite.specs.Order.{Row, column}
-use Rattle.sqlite.specs.Term.{Term, lit, col, eval_all}
+use Rattle.sqlite.specs.Term.{Term, lit, col}
 use Rattle.sqlite.specs.Tree.{Trees}
-use Rattle.sqlite.specs.Cast.{cast_row}
 use Rattle.sqlite_tied.specs.Compute.{everything}
 use Rattle.sqlite.specs.Listing.{understood}
 use Rattle.sqlite.specs.Store.{Ghosts}
 use Rattle.sqlite.specs.Held.{Held, state}
 use Rattle.sqlite_keyed.proofs.ListLemmas.{ascending-filter, all-filter}
-use Rattle.ci_machine.specs.State.{State, put, without, with_record, without_record, runner_cmp}
+use Rattle.ci_machine.specs.State.{State, with_record, without_record, runner_cmp}
 use Rattle.ci_machine.specs.declared.records.Runner.{Runner}
 use Rattle.ci_machine.specs.declared.change.Record.TheVariants as row
 use Rattle.ci_machine.specs.declared.change.Key.TheVariants as key
 use Rattle.ci_tables.specs.Stands.{image, places}
 use Rattle.ci_tables.specs.Ran.{Changes, HasPut}
-use Rattle.ci_tables.proofs.Queries.{picks}
 use Rattle.ci_tables.proofs.Writes.{IsWholeStep, whole_if_alone}
 use Rattle.ci_tables.proofs.Puts.{MeansPut, MeansRemove, GivesRecord}
 use Rattle.ci_tables.proofs.Absent.{absent_rowid}
-use Rattle.ci_tables.proofs.Scalars.{cast_int, cast_text}
+use Rattle.ci_tables.proofs.Scalars.{cast_int}
 use Rattle.ci_store.specs.declared.texts.TheConstants.{UPDATE_RUNNER, INSERT_RUNNER, DELETE_RUNNER}
 use Rattle.ci_store.specs.Schema.{the_schema, runner}
-use Rattle.ci_store.specs.JsonText.{tags_text, tags_data, spec_text, spec_data}
+use Rattle.ci_store.specs.JsonText.{tags_text, tags_data}
 use Rattle.serde_json.specs.Read.{read}
-use Rattle.ci_store.specs.Rows.{number, runner_row, kind_number, source_number, state_number, cause_in, exit_in}
-use Rattle.ci_store.specs.Stands.{rows_of, IsRegular, Stands}
+use Rattle.ci_store.specs.Rows.{number, runner_row}
+use Rattle.ci_store.specs.Stands.{IsRegular, Stands}
 use Rattle.ci_store.proofs.Lists.{put_rises, by_number, all_put}
 use Rattle.ci_store.proofs.Records.{is, put_stands, remove_stands, same_number, numbered, cast_option}
 
@@ -55,6 +53,7 @@ regular_put r s read_back o = record {
   jobs = o.jobs;
   job_variables = o.job_variables;
   attempts = o.attempts;
+  pieces = o.pieces;
   tags = all_put runner_cmp _ r s.runners read_back o.tags;
   specs = o.specs;
 }
@@ -62,7 +61,7 @@ regular_put r s read_back o = record {
 pub runner_puts : {S : Type 0} (ghosts : Ghosts S) (before after : Held S) (r : Runner) (s : State) → read (tags_text r.tags) ≡ Some (tags_data r.tags) → Stands s (state ghosts before).now → HasPut ghosts UPDATE_RUNNER.now INSERT_RUNNER.now (runner_row r) before after
     → Stands (with_record (row.Runner r) s) (state ghosts after).now
 runner_puts ghosts before after r s read_back stands h =
-    put_stands runner_row s.runners s (with_record (row.Runner r) s) runner refl ((λ _. refl), ((λ _. refl), ((λ ne. absurd (ne refl)), ((λ _. refl), ((λ _. refl), ((λ _. refl), ((λ _. refl), tt))))))) (regular_put r s read_back stands.inside.regular)
+    put_stands runner_row s.runners s (with_record (row.Runner r) s) runner refl ((λ _. refl), ((λ _. refl), ((λ ne. absurd (ne refl)), ((λ _. refl), ((λ _. refl), ((λ _. refl), ((λ _. refl), ((λ _. refl), tt)))))))) (regular_put r s read_back stands.inside.regular)
     2 UPDATE_RUNNER.now INSERT_RUNNER.now (is 0 0 ∷ []) sets sets means runner_cmp (number r.id ∷ []) r (gives r) (λ q. same_number q.id r.id) refl ghosts before after stands h
 
 means_remove : MeansRemove the_schema 2 runner DELETE_RUNNER.now (is 0 0 ∷ [])
@@ -77,6 +76,7 @@ regular_removed id s o = record {
   jobs = o.jobs;
   job_variables = o.job_variables;
   attempts = o.attempts;
+  pieces = o.pieces;
   tags = all-filter _ _ s.runners o.tags;
   specs = o.specs;
 }
@@ -85,7 +85,7 @@ pub runner_removes : {S : Type 0} (ghosts : Ghosts S) (before after : Held S) (i
     → IsWholeStep the_schema runner (is 0 0 ∷ []) (number id ∷ []) (state ghosts before).now.trees → Changes ghosts DELETE_RUNNER.now (number id ∷ []) count before after
     → Stands (without_record (key.Runner id) s) (state ghosts after).now
 runner_removes ghosts before after id count s stands whole h =
-    remove_stands runner_row s.runners s (without_record (key.Runner id) s) runner refl ((λ _. refl), ((λ _. refl), ((λ ne. absurd (ne refl)), ((λ _. refl), ((λ _. refl), ((λ _. refl), ((λ _. refl), tt))))))) (regular_removed id s stands.inside.regular)
+    remove_stands runner_row s.runners s (without_record (key.Runner id) s) runner refl ((λ _. refl), ((λ _. refl), ((λ ne. absurd (ne refl)), ((λ _. refl), ((λ _. refl), ((λ _. refl), ((λ _. refl), ((λ _. refl), tt)))))))) (regular_removed id s stands.inside.regular)
     2 DELETE_RUNNER.now (is 0 0 ∷ []) means_remove (number id ∷ []) (λ r. refl) (λ q. is_eq (nat_cmp q.id id)) (λ q. same_number q.id id) refl ghosts before after count stands whole h
 
 pub runner_whole : (params : Row) (db : Trees) → IsWholeStep the_schema runner (is 0 0 ∷ []) params db

@@ -1,7 +1,7 @@
 -- Records whose rows are the same are the same.
-use Rattle.std.proofs.Common.{◌≡◌, ◌∙◌, ℕ, pos, List, [], ◌∷◌, ◌++◌, map, Bool, true, false, Option, Some, None, Result, Ok, Err, IfOk, refl, sym, ap, ◌==◌, if◌then◌else◌}
+use Rattle.std.proofs.Common.{◌≡◌, ◌∙◌, ℕ, List, [], ◌∷◌, ◌++◌, map, Bool, true, false, Option, Some, None, Result, Ok, Err, IfOk, refl, sym, ap, ◌==◌, if◌then◌else◌}
 use Rattle.std.specs.List.{AllByRecursion, AllZip}
-use Rattle.sqlite.specs.declared.types.Value.TheVariants.{Int, Text}
+use Rattle.sqlite.specs.declared.types.Value.TheVariants.{Text}
 use Rattle.sqlite.specs.Values.{or_null}
 use Rattle.serde_json.specs.Read.{read}
 use Rattle.ci_machine.specs.declared.records.Project.{Project}
@@ -10,6 +10,7 @@ use Rattle.ci_machine.specs.declared.records.Pipeline.{Pipeline}
 use Rattle.ci_machine.specs.declared.records.Job.{Job}
 use Rattle.ci_machine.specs.declared.records.JobVariable.{JobVariable}
 use Rattle.ci_machine.specs.declared.records.Attempt.{Attempt}
+use Rattle.ci_machine.specs.declared.records.Piece.{Piece}
 use Rattle.ci_machine.specs.declared.records.RefKind.{RefKind}
 use Rattle.ci_machine.specs.declared.records.RefKind.TheVariants.{Branch, Tag}
 use Rattle.ci_machine.specs.declared.records.Source.{Source}
@@ -19,7 +20,7 @@ use Rattle.ci_machine.specs.declared.records.Cause.TheVariants.{UnknownFailure, 
 use Rattle.ci_machine.specs.declared.records.AttemptState.{AttemptState}
 use Rattle.ci_machine.specs.declared.records.AttemptState.TheVariants.{Live, Succeeded, Failed, Cancelled}
 use Rattle.ci_store.specs.JsonText.{tags_data, tags_text, spec_data, spec_text}
-use Rattle.ci_store.specs.Rows.{number, flag, kind_number, source_number, cause_number, state_number, cause_in, exit_in, project_row, runner_row, pipeline_row, job_row, job_variable_row, attempt_row}
+use Rattle.ci_store.specs.Rows.{number, flag, kind_number, source_number, cause_number, state_number, cause_in, exit_in, project_row, runner_row, pipeline_row, job_row, job_variable_row, attempt_row, piece_row}
 use Rattle.ci_store.specs.Load.{ReadsTags, ReadsSpec, runner_cells, job_cells, IsJobRow}
 
 same_words : (a b : Option (List ℕ)) → or_null Text a ≡ or_null Text b → a ≡ b
@@ -119,8 +120,17 @@ same_attempt p q h =
     let n : state_number p.state ≡ state_number q.state = cc in
     let m : or_null number (cause_in p.state) ≡ or_null number (cause_in q.state) = cc in
     let x : or_null number (exit_in p.state) ≡ or_null number (exit_in q.state) = cc in
+    let u : p.pieces ≡ q.pieces = cc in
+    let v : p.size ≡ q.size = cc in
     let state = sym (state_is p.state) ∙ (λ i. state_back (n i) (same_option _ _ m i) (same_option _ _ x i)) ∙ state_is q.state in
-    λ i. record { id = a i; job = b i; runner = c i; token = d i; granted = e i; seen = f i; state = state i }
+    λ i. record { id = a i; job = b i; runner = c i; token = d i; granted = e i; seen = f i; state = state i; pieces = u i; size = v i }
+
+pub same_piece : (p q : Piece) → piece_row p ≡ piece_row q → p ≡ q
+same_piece p q h =
+    let a : p.attempt ≡ q.attempt = cc in
+    let b : p.seq ≡ q.seq = cc in
+    let c : p.bytes ≡ q.bytes = cc in
+    λ i. record { attempt = a i; seq = b i; bytes = c i }
 
 pub same_runner : (r q : Runner) (text : List ℕ) → ReadsTags text r.tags → read (tags_text q.tags) ≡ Some (tags_data q.tags) → runner_cells r text ≡ runner_row q → r ≡ q
 same_runner r q text reads back h =

@@ -6,7 +6,7 @@ use Rattle.sqlite.specs.Held.{Held, state}
 use Rattle.ci_machine.specs.State.{State, applied}
 use Rattle.ci_machine.specs.declared.change.Change.{Change}
 use Rattle.ci_store.specs.declared.commit.Ended.{Ended}
-use Rattle.ci_store.specs.declared.commit.Ended.TheVariants.{Done, Undone, Unknown}
+use Rattle.ci_store.specs.declared.commit.Ended.TheVariants.{Done, Undone}
 use Rattle.ci_store.specs.Stands.{Stands, StandsIn}
 
 -- inside a transaction the tables follow this change of the state

@@ -2,5 +2,8 @@ pub mod Schema
 pub mod JsonText
 pub mod Rows
 pub mod Stands
+pub mod Calls
 pub mod Commit
+pub mod Create
 pub mod Load
+pub mod Open

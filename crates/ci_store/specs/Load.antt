@@ -8,9 +8,6 @@ use Rattle.ci_machine.specs.declared.records.Runner.{Runner}
 use Rattle.ci_machine.specs.declared.records.Job.{Job}
 use Rattle.ci_machine.specs.declared.records.JobSpec.{JobSpec}
 use Rattle.ci_machine.specs.declared.records.AttemptState.{AttemptState}
-use Rattle.ci_machine.specs.declared.records.Numbers.{Numbers}
-use Rattle.ci_machine.specs.declared.change.Counter.{Counter}
-use Rattle.ci_machine.specs.declared.change.Counter.TheVariants as counter
 use Rattle.ci_store.specs.JsonText.{tags_data, spec_data}
 use Rattle.ci_store.specs.Rows.{number, flag, state_number, cause_in, exit_in}
 
@@ -38,10 +35,3 @@ job_cells j text = number j.id ∷ number j.pipeline ∷ number j.position ∷ T
 
 abbrev pub IsJobRow : Row → Job → Type 0
 IsJobRow row j = (text : List ℕ) × (row ≡ job_cells j text) × ReadsSpec text j.spec
-
-abbrev pub next_in : Counter → Numbers → ℕ
-next_in counter.Project next = next.project
-next_in counter.Runner next = next.runner
-next_in counter.Pipeline next = next.pipeline
-next_in counter.Job next = next.job
-next_in counter.Attempt next = next.attempt

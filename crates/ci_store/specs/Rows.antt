@@ -1,7 +1,7 @@
 -- The row of each record: its values in the order of the table's columns.
-use Rattle.std.specs.Prelude.{ℕ, pos, Bool, if◌then◌else◌, List, [], ◌∷◌, Option, Some, None}
+use Rattle.std.specs.Prelude.{ℕ, pos, Bool, if◌then◌else◌, [], ◌∷◌, Option, Some, None}
 use Rattle.sqlite.specs.declared.types.Value.{Value}
-use Rattle.sqlite.specs.declared.types.Value.TheVariants.{Int, Text}
+use Rattle.sqlite.specs.declared.types.Value.TheVariants.{Int, Text, Blob}
 use Rattle.sqlite.specs.Values.{or_null}
 use Rattle.sqlite.specs.Order.{Row}
 use Rattle.ci_machine.specs.declared.records.Project.{Project}
@@ -10,6 +10,7 @@ use Rattle.ci_machine.specs.declared.records.Pipeline.{Pipeline}
 use Rattle.ci_machine.specs.declared.records.Job.{Job}
 use Rattle.ci_machine.specs.declared.records.JobVariable.{JobVariable}
 use Rattle.ci_machine.specs.declared.records.Attempt.{Attempt}
+use Rattle.ci_machine.specs.declared.records.Piece.{Piece}
 use Rattle.ci_machine.specs.declared.records.RefKind.{RefKind}
 use Rattle.ci_machine.specs.declared.records.RefKind.TheVariants.{Branch, Tag}
 use Rattle.ci_machine.specs.declared.records.Source.{Source}
@@ -77,4 +78,7 @@ job_variable_row v = number v.job ∷ Text v.key ∷ Text v.value ∷ []
 
 abbrev pub attempt_row : Attempt → Row
 attempt_row a =
-    number a.id ∷ number a.job ∷ number a.runner ∷ Text a.token ∷ number a.granted ∷ number a.seen ∷ number (state_number a.state) ∷ or_null number (cause_in a.state) ∷ or_null number (exit_in a.state) ∷ []
+    number a.id ∷ number a.job ∷ number a.runner ∷ Text a.token ∷ number a.granted ∷ number a.seen ∷ number (state_number a.state) ∷ or_null number (cause_in a.state) ∷ or_null number (exit_in a.state) ∷ number a.pieces ∷ number a.size ∷ []
+
+abbrev pub piece_row : Piece → Row
+piece_row p = number p.attempt ∷ number p.seq ∷ Blob p.bytes ∷ []

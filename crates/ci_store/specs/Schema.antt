@@ -1,5 +1,5 @@
 -- The tables and the indexes, as their texts define them.
-use Rattle.std.specs.Prelude.{true, false, [], ◌∷◌, Some, None, codes, List, ℕ}
+use Rattle.std.specs.Prelude.{true, false, [], ◌∷◌, Some, None, codes}
 use Rattle.sqlite.specs.Collation.TheVariants.{Binary}
 use Rattle.sqlite.specs.declared.types.Value.TheVariants.{Null}
 use Rattle.sqlite.specs.Table.{Table}
@@ -165,6 +165,8 @@ attempt = record {
       ∷ (record { name = codes "state"; kind = Integer; is_strict = true; not_null = true; default = Null; collation = Binary })
       ∷ (record { name = codes "cause"; kind = Integer; is_strict = true; not_null = false; default = Null; collation = Binary })
       ∷ (record { name = codes "exit"; kind = Integer; is_strict = true; not_null = false; default = Null; collation = Binary })
+      ∷ (record { name = codes "pieces"; kind = Integer; is_strict = true; not_null = true; default = Null; collation = Binary })
+      ∷ (record { name = codes "size"; kind = Integer; is_strict = true; not_null = true; default = Null; collation = Binary })
       ∷ [];
   key = Some 0;
   primary = 0 ∷ [];
@@ -180,5 +182,30 @@ attempt = record {
 abbrev pub attempt_job : Index
 attempt_job = record { name = codes "attempt_job"; tree = 12; table = 11; columns = 2 ∷ []; order = plain; is_unique = false }
 
+abbrev pub attempt_state : Index
+attempt_state = record { name = codes "attempt_state"; tree = 13; table = 11; columns = 7 ∷ []; order = plain; is_unique = false }
+
+abbrev pub piece : Table
+piece = record {
+  name = codes "piece";
+  tree = 14;
+  columns = (record { name = codes "attempt"; kind = Integer; is_strict = true; not_null = true; default = Null; collation = Binary })
+      ∷ (record { name = codes "seq"; kind = Integer; is_strict = true; not_null = true; default = Null; collation = Binary })
+      ∷ (record { name = codes "bytes"; kind = Blob; is_strict = true; not_null = true; default = Null; collation = Binary })
+      ∷ [];
+  key = None;
+  primary = 1 ∷ 2 ∷ [];
+  uniques = (1 ∷ 2 ∷ []) ∷ [];
+  orders = plain ∷ [];
+  checks = [];
+  references = (record { columns = 1 ∷ []; parent = codes "attempt"; parent_columns = codes "id" ∷ []; on_delete = Cascade; on_update = NoAction; is_deferred = false }) ∷ [];
+  computed = [];
+  stamps = record { places = []; terms = []; formats = [] };
+  is_counted = false;
+}
+
+abbrev pub piece_index_1 : Index
+piece_index_1 = automatic piece 0 (1 ∷ 2 ∷ []) 15
+
 abbrev pub the_schema : Schema
-the_schema = record { tables = meta ∷ project ∷ runner ∷ pipeline ∷ job ∷ jobvar ∷ attempt ∷ []; indexes = meta_index_1 ∷ project_index_1 ∷ runner_index_1 ∷ job_pipeline ∷ jobvar_index_1 ∷ attempt_job ∷ []; views = [] }
+the_schema = record { tables = meta ∷ project ∷ runner ∷ pipeline ∷ job ∷ jobvar ∷ attempt ∷ piece ∷ []; indexes = meta_index_1 ∷ project_index_1 ∷ runner_index_1 ∷ job_pipeline ∷ jobvar_index_1 ∷ attempt_job ∷ attempt_state ∷ piece_index_1 ∷ []; views = [] }

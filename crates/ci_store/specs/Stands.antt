@@ -1,5 +1,5 @@
 -- What it means that the tables of a database stand for a state.
-use Rattle.std.specs.Prelude.{◌≡◌, ◌⊎◌, ℕ, ◌==◌, if◌then◌else◌, false, List, [], ◌∷◌, map, codes, Some, IsTrue}
+use Rattle.std.specs.Prelude.{◌≡◌, ◌⊎◌, ℕ, ◌==◌, if◌then◌else◌, List, [], ◌∷◌, map, codes, Some, IsTrue}
 use Rattle.std.specs.List.{AllByRecursion}
 use Rattle.std.specs.declared.cmp.Ordering.{Ordering}
 use Rattle.std.specs.declared.cmp.Ordering.TheVariants.{Less}
@@ -10,7 +10,7 @@ use Rattle.sqlite.specs.Effect.{Database}
 use Rattle.sqlite.specs.Store.{Ghosts}
 use Rattle.sqlite.specs.Held.{Held, state}
 use Rattle.sqlite_trees.specs.Tree.{IsAscending}
-use Rattle.ci_machine.specs.State.{State, project_cmp, runner_cmp, pipeline_cmp, job_cmp, job_variable_cmp, attempt_cmp}
+use Rattle.ci_machine.specs.State.{State, project_cmp, runner_cmp, pipeline_cmp, job_cmp, job_variable_cmp, attempt_cmp, piece_cmp}
 use Rattle.ci_machine.specs.declared.records.Numbers.{Numbers}
 use Rattle.ci_machine.specs.declared.change.Counter.{Counter}
 use Rattle.ci_machine.specs.declared.change.Counter.TheVariants as counter
@@ -19,7 +19,7 @@ use Rattle.serde_json.specs.Read.{read}
 use Rattle.ci_store.specs.JsonText.{tags_data, tags_text, spec_data, spec_text}
 use Rattle.ci_store.specs.Schema as table
 use Rattle.ci_store.specs.Schema.{the_schema}
-use Rattle.ci_store.specs.Rows.{number, project_row, runner_row, pipeline_row, job_row, job_variable_row, attempt_row}
+use Rattle.ci_store.specs.Rows.{number, project_row, runner_row, pipeline_row, job_row, job_variable_row, attempt_row, piece_row}
 
 abbrev pub meta_row : List ℕ → ℕ → Row
 meta_row key num = Text key ∷ number num ∷ []
@@ -47,7 +47,8 @@ rows_of s tree =
     else (if tree == table.pipeline.tree then map pipeline_row s.pipelines
     else (if tree == table.job.tree then map job_row s.jobs
     else (if tree == table.jobvar.tree then map job_variable_row s.job_variables
-    else (if tree == table.attempt.tree then map attempt_row s.attempts else []))))))
+    else (if tree == table.attempt.tree then map attempt_row s.attempts
+    else (if tree == table.piece.tree then map piece_row s.pieces else [])))))))
 
 -- each record is strictly below those after it
 abbrev pub Rises : {A : Type 0} → (A → A → Ordering) → List A → Type 0
@@ -61,6 +62,7 @@ pub record IsRegular (s : State) : Type 0 where
   pub jobs : Rises job_cmp s.jobs
   pub job_variables : Rises job_variable_cmp s.job_variables
   pub attempts : Rises attempt_cmp s.attempts
+  pub pieces : Rises piece_cmp s.pieces
   pub tags : AllByRecursion (λ r. read (tags_text r.tags) ≡ Some (tags_data r.tags)) s.runners
   pub specs : AllByRecursion (λ j. read (spec_text j.spec) ≡ Some (spec_data j.spec)) s.jobs
 

@@ -1,15 +1,17 @@
 //! Many changes in one transaction.
 
-ghost use Rattle.std.specs.Prelude.{◌≡◌, ◌≤◌, ◌⊎◌, true, false, IsTrue, IfOk, OnOk, Err};
+ghost use Rattle.std.specs.Prelude.{◌≡◌, ◌≤◌, ◌⊎◌, true, false, IsTrue, OnOk};
 ghost use Rattle.sqlite.specs.State.{HasCleanDisk, KeepsCommit, Survives};
 ghost use Rattle.sqlite.specs.Tree.{Trees};
 ghost use Rattle.sqlite_trees.specs.View.{doubt};
 ghost use Rattle.sqlite.specs.Held.{state};
 ghost use Rattle.ci_machine.specs.State.{State, applied};
 ghost use Rattle.ci_store.specs.Stands.{StandsIn, IsAt};
-ghost use Rattle.ci_store.specs.Commit.{Makes, CommitsAll, is_done, is_undone, IsBack, IsDone, IsSame};
+ghost use Rattle.ci_store.specs.Calls.{KeepsForMemory};
+ghost use Rattle.ci_store.specs.Commit.{Makes, CommitsAll, is_done, is_undone, IsBack, IsDone};
 
 use crate::make::make;
+use crate::settle::is_open;
 use ci_machine::change::Change;
 use ci_tables::fault::StoreFault;
 use sqlite::{Alter, Connection, Transaction};
@@ -61,16 +63,6 @@ fn attempt<S: Alter>(conn: &mut Connection<S>, alloc: Global, changes: &[Change]
     }
 }
 
-/// Whether the connection is open, by a statement that is not run.
-fn is_open<S: Alter>(conn: &mut Connection<S>) -> bool
-    requires { conn.old.in_transaction ≡ false }
-    ensures idle { conn.new.in_transaction ≡ false }
-    ensures same { HasCleanDisk (state S.Store conn.new) → result ≡ true → IsSame S.Store conn.old conn.new }
-    ensures survives { Survives (state S.Store conn.old) (state S.Store conn.new) (λ _. ⊥) }
-{
-    conn.prepare("SELECT 1").is_ok()
-}
-
 /// Makes the changes in one transaction, or none of them.
 pub(crate) fn commit<S: Alter>(
     conn: &mut Connection<S>,
@@ -81,7 +73,7 @@ pub(crate) fn commit<S: Alter>(
     ensures idle { conn.new.in_transaction ≡ false }
     ensures clean { doubt (state S.Store conn.old).is_clean ≤ doubt (state S.Store conn.new).is_clean }
     ensures done { HasCleanDisk (state S.Store conn.new) → OnOk result ((s : State) → IsAt S.Store s conn.old → IsAt S.Store (applied changes.now s) conn.new) }
-    ensures memory { HasCleanDisk (state S.Store conn.new) → result ≡ Err StoreFault.Memory → (s : State) → IsAt S.Store s conn.old → IsAt S.Store s conn.new }
+    ensures memory { KeepsForMemory S.Store conn.old conn.new result }
     ensures fault { HasCleanDisk (state S.Store conn.new) → (s : State) → IsAt S.Store s conn.old → (db : Trees) → (state S.Store conn.new).may_leave db → StandsIn s db ⊎ StandsIn (applied changes.now s) db }
 {
     // With no transaction open, what is seen is what is committed.

@@ -9,11 +9,13 @@ ghost use Rattle.ci_machine.specs.declared.change.Record.TheVariants as row;
 ghost use Rattle.ci_machine.specs.declared.change.Key.TheVariants as key;
 ghost use Rattle.ci_store.specs.Commit.{Makes};
 
-use crate::columns::{counter_key, kind_number, optional_text, source_number, state_numbers, text};
+use crate::columns::{
+    blob, counter_key, kind_number, optional_text, source_number, state_numbers, text,
+};
 use crate::json_text::{spec_text, tags_text};
 use crate::texts;
 use ci_machine::change::{Change, Counter, Key, Record};
-use ci_machine::records::{Attempt, Job, JobVariable, Pipeline, Project, Runner};
+use ci_machine::records::{Attempt, Job, JobVariable, Piece, Pipeline, Project, Runner};
 use ci_machine::text::Text;
 use ci_tables::fault::StoreFault;
 use ci_tables::read::rows_inside;
@@ -185,6 +187,8 @@ fn put_attempt<S: Alter>(
     let granted = number(attempt.granted.seconds())?;
     let seen = number(attempt.seen.seconds())?;
     let (state, cause, exit) = state_numbers(attempt.state);
+    let pieces = number(attempt.pieces)?;
+    let size = number(attempt.size)?;
     put(
         tx,
         is_new,
@@ -200,7 +204,31 @@ fn put_attempt<S: Alter>(
             state.to_sql(),
             cause.to_sql(),
             exit.to_sql(),
+            pieces,
+            size,
         ],
+    )
+}
+
+fn put_piece<S: Alter>(
+    tx: &mut Transaction<'_, S>,
+    is_new: bool,
+    piece: &Piece,
+) -> Result<(), StoreFault>
+    ensures same_reference { tx.new.conn.ghost_name ≡ tx.old.conn.ghost_name }
+    ensures makes { HasCleanDisk (state S.Store tx.new.conn.now) → IsTrue tx.old.conn.now.in_transaction
+        → OnOk result (Makes S.Store (with_record (row.Piece piece.now)) tx.old.conn.now tx.new.conn.now) }
+    ensures kept { HasCleanDisk (state S.Store tx.new.conn.now) → IsTrue tx.old.conn.now.in_transaction → KeepsCommit (state S.Store tx.old.conn.now) (state S.Store tx.new.conn.now) }
+    ensures survives { Survives (state S.Store tx.old.conn.now) (state S.Store tx.new.conn.now) (λ _. ⊥) }
+{
+    let attempt = number(piece.attempt)?;
+    let seq = number(piece.seq)?;
+    put(
+        tx,
+        is_new,
+        texts::UPDATE_PIECE,
+        texts::INSERT_PIECE,
+        &[attempt, seq, blob(&piece.bytes)],
     )
 }
 
@@ -223,6 +251,7 @@ fn put_record<S: Alter>(
         Record::Job(job) => put_job(tx, alloc, is_new, job),
         Record::JobVariable(variable) => put_job_variable(tx, is_new, variable),
         Record::Attempt(attempt) => put_attempt(tx, is_new, attempt),
+        Record::Piece(piece) => put_piece(tx, is_new, piece),
     }
 }
 
@@ -245,17 +274,6 @@ fn remove_runner<S: Alter>(tx: &mut Transaction<'_, S>, id: u64) -> Result<(), S
     ensures survives { Survives (state S.Store tx.old.conn.now) (state S.Store tx.new.conn.now) (λ _. ⊥) }
 {
     change(tx, texts::DELETE_RUNNER, &[number(id)?])?;
-    Ok(())
-}
-
-fn remove_attempt<S: Alter>(tx: &mut Transaction<'_, S>, id: u64) -> Result<(), StoreFault>
-    ensures same_reference { tx.new.conn.ghost_name ≡ tx.old.conn.ghost_name }
-    ensures makes { HasCleanDisk (state S.Store tx.new.conn.now) → IsTrue tx.old.conn.now.in_transaction
-        → OnOk result (Makes S.Store (without_record (key.Attempt id)) tx.old.conn.now tx.new.conn.now) }
-    ensures kept { HasCleanDisk (state S.Store tx.new.conn.now) → IsTrue tx.old.conn.now.in_transaction → KeepsCommit (state S.Store tx.old.conn.now) (state S.Store tx.new.conn.now) }
-    ensures survives { Survives (state S.Store tx.old.conn.now) (state S.Store tx.new.conn.now) (λ _. ⊥) }
-{
-    change(tx, texts::DELETE_ATTEMPT, &[number(id)?])?;
     Ok(())
 }
 
@@ -320,6 +338,33 @@ fn remove_job_variable<S: Alter>(
     Ok(())
 }
 
+fn remove_attempt<S: Alter>(tx: &mut Transaction<'_, S>, id: u64) -> Result<(), StoreFault>
+    ensures same_reference { tx.new.conn.ghost_name ≡ tx.old.conn.ghost_name }
+    ensures makes { HasCleanDisk (state S.Store tx.new.conn.now) → IsTrue tx.old.conn.now.in_transaction
+        → OnOk result (Makes S.Store (without_record (key.Attempt id)) tx.old.conn.now tx.new.conn.now) }
+    ensures kept { HasCleanDisk (state S.Store tx.new.conn.now) → IsTrue tx.old.conn.now.in_transaction → KeepsCommit (state S.Store tx.old.conn.now) (state S.Store tx.new.conn.now) }
+    ensures survives { Survives (state S.Store tx.old.conn.now) (state S.Store tx.new.conn.now) (λ _. ⊥) }
+{
+    has_no_child(tx, texts::SELECT_PIECES, id)?;
+    change(tx, texts::DELETE_ATTEMPT, &[number(id)?])?;
+    Ok(())
+}
+
+fn remove_piece<S: Alter>(
+    tx: &mut Transaction<'_, S>,
+    attempt: u64,
+    seq: u64,
+) -> Result<(), StoreFault>
+    ensures same_reference { tx.new.conn.ghost_name ≡ tx.old.conn.ghost_name }
+    ensures makes { HasCleanDisk (state S.Store tx.new.conn.now) → IsTrue tx.old.conn.now.in_transaction
+        → OnOk result (Makes S.Store (without_record (key.Piece attempt seq)) tx.old.conn.now tx.new.conn.now) }
+    ensures kept { HasCleanDisk (state S.Store tx.new.conn.now) → IsTrue tx.old.conn.now.in_transaction → KeepsCommit (state S.Store tx.old.conn.now) (state S.Store tx.new.conn.now) }
+    ensures survives { Survives (state S.Store tx.old.conn.now) (state S.Store tx.new.conn.now) (λ _. ⊥) }
+{
+    change(tx, texts::DELETE_PIECE, &[number(attempt)?, number(seq)?])?;
+    Ok(())
+}
+
 fn remove_record<S: Alter>(tx: &mut Transaction<'_, S>, key: &Key) -> Result<(), StoreFault>
     ensures same_reference { tx.new.conn.ghost_name ≡ tx.old.conn.ghost_name }
     ensures makes { HasCleanDisk (state S.Store tx.new.conn.now) → IsTrue tx.old.conn.now.in_transaction
@@ -334,6 +379,7 @@ fn remove_record<S: Alter>(tx: &mut Transaction<'_, S>, key: &Key) -> Result<(),
         Key::Job(id) => remove_job(tx, *id),
         Key::JobVariable(job, name) => remove_job_variable(tx, *job, name),
         Key::Attempt(id) => remove_attempt(tx, *id),
+        Key::Piece(attempt, seq) => remove_piece(tx, *attempt, *seq),
     }
 }
 

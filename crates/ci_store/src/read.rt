@@ -4,17 +4,18 @@ ghost use Rattle.std.specs.Prelude.{◌≡◌, map, ℕ, List, Some, length, IfO
 ghost use Rattle.std.specs.List.{AllZip};
 ghost use Rattle.sqlite.specs.Order.{column};
 ghost use Rattle.sqlite.specs.Values.{or_null};
-ghost use Rattle.sqlite.specs.declared.types.Value.TheVariants.{Text as Words};
+ghost use Rattle.sqlite.specs.declared.types.Value.TheVariants.{Text as Words, Blob};
 ghost use Rattle.serde_json.specs.Read.{read};
-ghost use Rattle.ci_store.specs.Rows.{number, flag, kind_number, source_number, cause_number, state_number, cause_in, exit_in, project_row, runner_row, pipeline_row, job_row, job_variable_row, attempt_row};
+ghost use Rattle.ci_store.specs.Rows.{number, flag, kind_number, source_number, cause_number, state_number, cause_in, exit_in, project_row, runner_row, pipeline_row, job_row, job_variable_row, attempt_row, piece_row};
 ghost use Rattle.ci_store.specs.Load.{HasState, IsRunnerRow, IsJobRow};
 
 use crate::json_text::{read_spec, read_tags};
 use ci_machine::moment::Moment;
 use ci_machine::records::{
-    Attempt, AttemptState, Cause, Job, JobVariable, Pipeline, Project, RefKind, Runner, Source,
+    Attempt, AttemptState, Cause, Job, JobVariable, Piece, Pipeline, Project, RefKind, Runner,
+    Source,
 };
-use ci_machine::text::Text;
+use ci_machine::text::{Bytes, Text};
 use ci_tables::fault::StoreFault;
 use sqlite::Row;
 use std::alloc::Global;
@@ -34,6 +35,13 @@ fn optional_text_at(row: &Row, at: usize) -> Result<Option<Text>, StoreFault>
         Some(text) => Ok(Some(Text::new(text))),
         None => Ok(None),
     }
+}
+
+fn bytes_at(row: &Row, at: usize) -> Result<Bytes, StoreFault>
+    ensures { IfOk result (λ b. column row.now at ≡ Blob b) }
+{
+    let bytes: Vec<u8> = row.get(at)?;
+    Ok(Bytes::new(bytes))
 }
 
 fn moment_at(row: &Row, at: usize) -> Result<Moment, StoreFault>
@@ -193,7 +201,7 @@ pub fn read_job_variable(row: &Row) -> Result<JobVariable, StoreFault>
 pub fn read_attempt(row: &Row) -> Result<Attempt, StoreFault>
     ensures { IfOk result (λ a. row.now ≡ attempt_row a) }
 {
-    has_columns(row, 9)?;
+    has_columns(row, 11)?;
     let state = read_state(row.get(6)?, row.get(7)?, row.get(8)?);
     Ok(Attempt {
         id: row.get(0)?,
@@ -203,6 +211,20 @@ pub fn read_attempt(row: &Row) -> Result<Attempt, StoreFault>
         granted: moment_at(row, 4)?,
         seen: moment_at(row, 5)?,
         state: state.ok_or(StoreFault::Broken)?,
+        pieces: row.get(9)?,
+        size: row.get(10)?,
+    })
+}
+
+/// The piece of a row.
+pub fn read_piece(row: &Row) -> Result<Piece, StoreFault>
+    ensures { IfOk result (λ p. row.now ≡ piece_row p) }
+{
+    has_columns(row, 3)?;
+    Ok(Piece {
+        attempt: row.get(0)?,
+        seq: row.get(1)?,
+        bytes: bytes_at(row, 2)?,
     })
 }
 
@@ -224,6 +246,17 @@ pub fn read_attempts(alloc: Global, rows: &[Row]) -> Result<Vec<Attempt>, StoreF
     let mut found = Vec::new(alloc);
     for row in rows {
         found.push(read_attempt(row)?)?;
+    }
+    Ok(found)
+}
+
+/// The pieces of rows.
+pub fn read_pieces(alloc: Global, rows: &[Row]) -> Result<Vec<Piece>, StoreFault>
+    ensures { IfOk result (λ found. map piece_row found.items ≡ rows.now) }
+{
+    let mut found = Vec::new(alloc);
+    for row in rows {
+        found.push(read_piece(row)?)?;
     }
     Ok(found)
 }

@@ -1,13 +1,24 @@
-//! Whether a connection holds what a stop leaves.
+//! Whether a connection is open still, and holds what a stop leaves.
 
 ghost use Rattle.std.specs.Prelude.{◌≡◌, ◌≤◌, true, false};
-ghost use Rattle.sqlite.specs.State.{HasCleanDisk};
+ghost use Rattle.sqlite.specs.State.{HasCleanDisk, Survives};
 ghost use Rattle.sqlite_trees.specs.View.{doubt};
 ghost use Rattle.sqlite.specs.Held.{state};
 ghost use Rattle.ci_machine.specs.State.{State};
 ghost use Rattle.ci_store.specs.Stands.{IsAt, LeavesOnly};
+ghost use Rattle.ci_store.specs.Commit.{IsSame};
 
 use sqlite::{Alter, Connection};
+
+/// Is the connection open, by a statement that is not run?
+pub(crate) fn is_open<S: Alter>(conn: &mut Connection<S>) -> bool
+    requires { conn.old.in_transaction ≡ false }
+    ensures idle { conn.new.in_transaction ≡ false }
+    ensures same { HasCleanDisk (state S.Store conn.new) → result ≡ true → IsSame S.Store conn.old conn.new }
+    ensures survives { Survives (state S.Store conn.old) (state S.Store conn.new) (λ _. ⊥) }
+{
+    conn.prepare("SELECT 1").is_ok()
+}
 
 /// Is the connection open, by a statement that is not run? Then it holds the state that alone a stop leaves.
 pub(crate) fn is_settled<S: Alter>(conn: &mut Connection<S>) -> bool
@@ -19,5 +30,5 @@ pub(crate) fn is_settled<S: Alter>(conn: &mut Connection<S>) -> bool
 {
     let _schema = conn.schema();
     let _is_settled = conn.is_autocommit();
-    conn.prepare("SELECT 1").is_ok()
+    is_open(conn)
 }

@@ -1,12 +1,14 @@
-//! Each call of a disk fails in turn during a commit of two rows. The helpers have no clause, so that a test's proof carries little.
+//! Each call of the store fails in turn, on each of its two files; then the files are opened again. The helpers have no
+//! clause, so that a test's proof carries little.
 
+use crate::disks::{closed, connected, discard, empty, fused, stopped};
 use crate::records::project;
-use ci_machine::change::{Change, Delta};
+use ci_machine::change::{Change, Counter, Delta};
 use ci_store::fault::StoreFault;
-use ci_store::tables::Tables;
+use ci_store::tables::{OpenFault, Tables};
 use ci_store::{Alter, Connection};
-use sqlite::{FileStore, Files, Options};
-use sqlite_disk::{Crash, Disk, Fuse, Memory};
+use sqlite::{FileStore, Files};
+use sqlite_disk::{Fuse, Memory};
 use std::alloc::Global;
 use std::test::Fail;
 
@@ -23,87 +25,123 @@ fn renamed(alloc: Global) -> Result<Delta, Fail> {
     Ok(Delta::new(changes))
 }
 
-fn connected<D: Disk + Drop>(alloc: Global, files: Files<D>) -> Option<Connection<FileStore<D>>> {
-    if !files.may_be_used() {
-        return None;
-    }
-    match Connection::open_files(alloc, files, Options::new(1)) {
-        Ok(conn) => Some(conn),
-        Err(_) => None,
-    }
-}
-
-fn opened<D: Disk + Drop>(alloc: Global, files: Files<D>) -> Option<Tables<FileStore<D>>> {
-    let conn = connected(alloc, files)?;
-    match Tables::open(conn) {
-        Ok(tables) => Some(tables),
-        Err((_, conn)) => {
-            drop(conn.into_store().close());
-            None
-        }
-    }
-}
-
 fn created(alloc: Global, files: Files<Memory>) -> Option<Tables<FileStore<Memory>>> {
     let conn = connected(alloc, files)?;
     match Tables::create(conn) {
         Ok(tables) => Some(tables),
         Err((_, conn)) => {
-            drop(conn.into_store().close());
+            discard(conn);
             None
         }
     }
 }
 
-fn closed<D: Disk + Drop>(tables: Tables<FileStore<D>>) -> Option<Files<D>> {
-    match tables.close().close_files() {
-        Ok(files) => Some(files),
-        Err((_, store)) => {
-            drop(store.close());
-            None
-        }
-    }
-}
-
-fn empty(alloc: Global) -> Files<Memory> {
-    Files {
-        log: Memory::new(alloc),
-        db: Memory::new(alloc),
-    }
-}
-
-fn is_filled(tables: &mut Tables<FileStore<Memory>>, delta: Delta) -> bool {
-    tables.commit(delta).is_ok()
-}
-
-/// A file with the tables and project 1.
-fn made(alloc: Global) -> Result<Files<Memory>, Fail> {
+/// Tables with project 1.
+fn made(alloc: Global) -> Result<Tables<FileStore<Memory>>, Fail> {
     let delta = first(alloc)?;
     let Some(mut tables) = created(alloc, empty(alloc)) else {
         let _ = delta.into_vec();
         return Err("not created")?;
     };
-    let done = is_filled(&mut tables, delta);
-    let files = closed(tables).ok_or("not closed")?;
-    if done {
-        Ok(files)
-    } else {
-        Err("not committed")?
+    if tables.commit(delta).is_ok() {
+        return Ok(tables);
+    }
+    discard(tables.close());
+    Err("not committed")?
+}
+
+/// How a call ended on a store that fails.
+#[derive(Clone, Copy, PartialEq, Eq)]
+enum Ended {
+    /// The store did not open.
+    Unopened,
+    Faulted,
+    Done,
+}
+
+const COUNTERS: [Counter; 5] = [
+    Counter::Project,
+    Counter::Runner,
+    Counter::Pipeline,
+    Counter::Job,
+    Counter::Attempt,
+];
+
+/// Do the tables hold the empty state, as far as loads by key show it?
+fn is_empty<S: Alter>(tables: &mut Tables<S>) -> Result<bool, StoreFault> {
+    for counter in COUNTERS {
+        if tables.next(counter)? != 1 {
+            return Ok(false);
+        }
+    }
+    Ok(tables.project(1)?.is_none() && tables.jobs()?.is_empty())
+}
+
+/// What a store is after a stop.
+#[derive(Clone, Copy, PartialEq, Eq)]
+enum Remains {
+    /// It has the tables, with the empty state.
+    Tables,
+    /// It has none: they can be made.
+    Blank,
+    Neither,
+}
+
+fn holds_nothing(mut tables: Tables<FileStore<Fuse<Memory>>>) -> bool {
+    let found = is_empty(&mut tables);
+    discard(tables.close());
+    found == Ok(true)
+}
+
+fn is_blank(conn: Connection<FileStore<Fuse<Memory>>>) -> bool {
+    match Tables::create(conn) {
+        Ok(tables) => holds_nothing(tables),
+        Err((_, conn)) => {
+            discard(conn);
+            false
+        }
     }
 }
 
-fn fused(files: Files<Memory>, log: u64, db: u64) -> Files<Fuse<Memory>> {
-    Files {
-        log: Fuse::new(files.log, log),
-        db: Fuse::new(files.db, db),
+fn after_stop(alloc: Global, files: Files<Fuse<Memory>>) -> Remains {
+    let Some(conn) = connected(alloc, files) else {
+        return Remains::Neither;
+    };
+    let (is_sound, remains) = match Tables::open(conn) {
+        Ok(tables) => (holds_nothing(tables), Remains::Tables),
+        Err((_, conn)) => (is_blank(conn), Remains::Blank),
+    };
+    if is_sound { remains } else { Remains::Neither }
+}
+
+/// Makes the tables, and gives the connection back.
+fn is_made(
+    conn: Connection<FileStore<Fuse<Memory>>>,
+) -> (bool, Connection<FileStore<Fuse<Memory>>>) {
+    match Tables::create(conn) {
+        Ok(tables) => (true, tables.close()),
+        Err((_, conn)) => (false, conn),
     }
 }
 
-fn crashed<D: Crash + Drop>(tables: Tables<FileStore<D>>) -> Files<D> {
-    let mut left = tables.close().into_store().close();
-    left.log.crash();
-    left.db.crash();
-    left
+fn tried_create(alloc: Global, of_log: bool, calls: u64) -> Result<Ended, Fail> {
+    let Some(conn) = connected(alloc, fused(empty(alloc), of_log, calls)) else {
+        return Ok(Ended::Unopened);
+    };
+    let (is_made, conn) = is_made(conn);
+    match (is_made, after_stop(alloc, stopped(conn))) {
+        (true, Remains::Tables) => Ok(Ended::Done),
+        (false, Remains::Tables | Remains::Blank) => Ok(Ended::Faulted),
+        _ => Err("torn or lost")?,
+    }
+}
+
+/// Which state the tables hold, of those before and after the second commit.
+#[derive(Clone, Copy, PartialEq, Eq)]
+enum Found {
+    Before,
+    After,
+    Neither,
 }
 
 fn name_of<S: Alter>(tables: &mut Tables<S>, id: u64) -> Result<Option<String>, StoreFault> {
@@ -113,103 +151,172 @@ fn name_of<S: Alter>(tables: &mut Tables<S>, id: u64) -> Result<Option<String>, 
     }
 }
 
-/// 0: as before, 1: as after, 2: neither.
-fn judged(first: &str, has_second: bool) -> u64 {
+fn judged(first: &str, has_second: bool) -> Found {
     if first == "one" && !has_second {
-        0
+        Found::Before
     } else if first == "uno" && has_second {
-        1
+        Found::After
     } else {
-        2
+        Found::Neither
     }
 }
 
-fn outcome<S: Alter>(tables: &mut Tables<S>) -> u64 {
+fn outcome<S: Alter>(tables: &mut Tables<S>) -> Found {
     let Ok(second) = name_of(tables, 2) else {
-        return 2;
+        return Found::Neither;
     };
     match name_of(tables, 1) {
         Ok(Some(name)) => judged(name.as_str(), second.is_some()),
-        _ => 2,
+        _ => Found::Neither,
     }
 }
 
-fn reopened(alloc: Global, tables: Tables<FileStore<Fuse<Memory>>>) -> u64 {
-    match opened(alloc, crashed(tables)) {
-        Some(mut again) => {
-            let found = outcome(&mut again);
-            drop(again.close().into_store().close());
+/// What is found after a stop.
+fn reopened(alloc: Global, files: Files<Fuse<Memory>>) -> Found {
+    let Some(conn) = connected(alloc, files) else {
+        return Found::Neither;
+    };
+    match Tables::open(conn) {
+        Ok(mut tables) => {
+            let found = outcome(&mut tables);
+            discard(tables.close());
             found
         }
-        None => 3,
-    }
-}
-
-/// Whether the commit was answered well, and what is found after a crash.
-fn after_fault(alloc: Global, files: Files<Fuse<Memory>>) -> Result<Option<(bool, u64)>, Fail> {
-    let delta = renamed(alloc)?;
-    let Some(mut tables) = opened(alloc, files) else {
-        let _ = delta.into_vec();
-        return Ok(None);
-    };
-    let done = tables.commit(delta).is_ok();
-    Ok(Some((done, reopened(alloc, tables))))
-}
-
-fn is_sound(done: bool, found: u64) -> bool {
-    if done { found == 1 } else { found < 2 }
-}
-
-/// The first number of calls with which the commit is answered well, with each outcome before it sound.
-fn first_good(alloc: Global, from: u64, to: u64) -> Result<Option<u64>, Fail> {
-    for calls in from..to {
-        let files = made(alloc)?;
-        if let Some((done, found)) = after_fault(alloc, fused(files, calls, u64::MAX))? {
-            if !is_sound(done, found) {
-                return Err("torn")?;
-            }
-            if done {
-                return Ok(Some(calls));
-            }
+        Err((_, conn)) => {
+            discard(conn);
+            Found::Neither
         }
     }
-    Ok(None)
 }
 
-/// The least number of calls of the log with which the file opens.
-fn opens_from(alloc: Global) -> Result<u64, Fail> {
+/// Opens the tables, and gives the connection back.
+fn fault_of_open(
+    conn: Connection<FileStore<Fuse<Memory>>>,
+) -> (Option<OpenFault>, Connection<FileStore<Fuse<Memory>>>) {
+    match Tables::open(conn) {
+        Ok(tables) => (None, tables.close()),
+        Err((fault, conn)) => (Some(fault), conn),
+    }
+}
+
+/// The files are those that a stop leaves, so that the log has frames.
+fn tried_open(alloc: Global, of_log: bool, calls: u64) -> Result<Ended, Fail> {
+    let files = stopped(made(alloc)?.close());
+    let Some(conn) = connected(alloc, fused(files, of_log, calls)) else {
+        return Ok(Ended::Unopened);
+    };
+    let (fault, conn) = fault_of_open(conn);
+    match (fault, reopened(alloc, stopped(conn))) {
+        (None, Found::Before) => Ok(Ended::Done),
+        (Some(OpenFault::O3), Found::Before) => Ok(Ended::Faulted),
+        _ => Err("another fault or another state")?,
+    }
+}
+
+/// The tables of files that fail, if they open.
+fn opened(alloc: Global, files: Files<Fuse<Memory>>) -> Option<Tables<FileStore<Fuse<Memory>>>> {
+    let conn = connected(alloc, files)?;
+    match Tables::open(conn) {
+        Ok(tables) => Some(tables),
+        Err((_, conn)) => {
+            discard(conn);
+            None
+        }
+    }
+}
+
+fn tried_commit(alloc: Global, of_log: bool, calls: u64) -> Result<Ended, Fail> {
+    let files = closed(made(alloc)?.close()).ok_or("not closed")?;
+    let delta = renamed(alloc)?;
+    let Some(mut tables) = opened(alloc, fused(files, of_log, calls)) else {
+        let _ = delta.into_vec();
+        return Ok(Ended::Unopened);
+    };
+    let is_done = tables.commit(delta).is_ok();
+    match (is_done, reopened(alloc, stopped(tables.close()))) {
+        (true, Found::After) => Ok(Ended::Done),
+        (false, Found::Before | Found::After) => Ok(Ended::Faulted),
+        _ => Err("torn or lost")?,
+    }
+}
+
+/// A call that is tried on a store that fails.
+#[derive(Clone, Copy)]
+enum Call {
+    Create,
+    Open,
+    Commit,
+}
+
+fn tried(alloc: Global, call: Call, of_log: bool, calls: u64) -> Result<Ended, Fail> {
+    match call {
+        Call::Create => tried_create(alloc, of_log, calls),
+        Call::Open => tried_open(alloc, of_log, calls),
+        Call::Commit => tried_commit(alloc, of_log, calls),
+    }
+}
+
+/// The least number of calls with which the store opens.
+fn opens_from(alloc: Global, call: Call, of_log: bool) -> Result<u64, Fail> {
     let mut low = 0u64;
-    let mut high = 256u64;
-    for _ in 0..8 {
+    let mut high = 128u64;
+    for _ in 0..7 {
         let mid = low.midpoint(high);
-        if after_fault(alloc, fused(made(alloc)?, mid, u64::MAX))?.is_some() {
-            high = mid;
-        } else {
+        if tried(alloc, call, of_log, mid)? == Ended::Unopened {
             low = mid;
+        } else {
+            high = mid;
         }
     }
     Ok(high)
 }
 
+/// Each number of calls from which the store opens, until the call ends well. How many of them faulted?
+fn sweep(alloc: Global, call: Call, of_log: bool) -> Result<u64, Fail> {
+    let from = opens_from(alloc, call, of_log)?;
+    let mut faults = 0u64;
+    for calls in from..from.saturating_add(120) {
+        match tried(alloc, call, of_log, calls)? {
+            Ended::Done => return Ok(faults),
+            Ended::Faulted => faults = faults.saturating_add(1),
+            Ended::Unopened => {}
+        }
+    }
+    Err("never well")?
+}
+
 #[test]
-fn each_call_of_the_log_fails_in_turn(rt: HostRuntime) -> Result<(), Fail> {
-    let alloc = rt.alloc();
-    let from = opens_from(alloc)?;
-    let good = first_good(alloc, from, from.saturating_add(40))?;
-    let Some(calls) = good else {
-        return Err("never well")?;
-    };
-    assert!(rt; calls > from);
+fn each_call_of_the_log_fails_as_the_tables_are_made(rt: HostRuntime) -> Result<(), Fail> {
+    assert!(rt; sweep(rt.alloc(), Call::Create, true)? > 0);
     Ok(())
 }
 
 #[test]
-fn with_all_calls_the_commit_stands(rt: HostRuntime) -> Result<(), Fail> {
-    let alloc = rt.alloc();
-    let files = made(alloc)?;
-    assert_eq!(rt;
-        after_fault(alloc, fused(files, u64::MAX, u64::MAX))?,
-        Some((true, 1))
-    );
+fn each_call_of_the_file_fails_as_the_tables_are_made(rt: HostRuntime) -> Result<(), Fail> {
+    let _ = sweep(rt.alloc(), Call::Create, false)?;
+    Ok(())
+}
+
+#[test]
+fn each_call_of_the_log_fails_as_the_tables_open(rt: HostRuntime) -> Result<(), Fail> {
+    assert!(rt; sweep(rt.alloc(), Call::Open, true)? > 0);
+    Ok(())
+}
+
+#[test]
+fn each_call_of_the_file_fails_as_the_tables_open(rt: HostRuntime) -> Result<(), Fail> {
+    let _ = sweep(rt.alloc(), Call::Open, false)?;
+    Ok(())
+}
+
+#[test]
+fn each_call_of_the_log_fails_in_a_commit(rt: HostRuntime) -> Result<(), Fail> {
+    assert!(rt; sweep(rt.alloc(), Call::Commit, true)? > 0);
+    Ok(())
+}
+
+#[test]
+fn each_call_of_the_file_fails_in_a_commit(rt: HostRuntime) -> Result<(), Fail> {
+    let _ = sweep(rt.alloc(), Call::Commit, false)?;
     Ok(())
 }

@@ -3,7 +3,14 @@
 
 #[cfg(test)]
 mod crashes;
+pub mod disks;
+#[cfg(test)]
+mod foreign;
+#[cfg(test)]
+mod made;
 #[cfg(test)]
 mod records;
 #[cfg(test)]
 mod tests;
+#[cfg(test)]
+mod traces;

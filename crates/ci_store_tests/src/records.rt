@@ -3,10 +3,10 @@
 use ci_machine::change::{Change, Counter, Delta, Key, Record};
 use ci_machine::moment::Moment;
 use ci_machine::records::{
-    Attempt, AttemptState, Cause, Job, JobSpec, JobVariable, Pipeline, Project, RefKind, Runner,
-    Source,
+    Attempt, AttemptState, Cause, Job, JobSpec, JobVariable, Piece, Pipeline, Project, RefKind,
+    Runner, Source,
 };
-use ci_machine::text::{Text, Texts};
+use ci_machine::text::{Bytes, Text, Texts};
 use std::alloc::Global;
 use std::test::Fail;
 
@@ -83,16 +83,26 @@ pub fn variable(alloc: Global, key: &str) -> Result<Record, Fail> {
     }))
 }
 
-pub fn attempt(alloc: Global) -> Result<Record, Fail> {
+pub fn attempt(alloc: Global, id: u64, state: AttemptState) -> Result<Record, Fail> {
     Ok(Record::Attempt(Attempt {
-        id: 1,
+        id,
         job: 1,
         runner: 1,
         token: text(alloc, "j1")?,
         granted: moment(100)?,
         seen: moment(130)?,
-        state: AttemptState::Failed(Cause::ScriptFailure, Some(2)),
+        state,
+        pieces: 2,
+        size: 65_542,
     }))
+}
+
+pub fn piece(attempt: u64, seq: u64, bytes: Vec<u8>) -> Record {
+    Record::Piece(Piece {
+        attempt,
+        seq,
+        bytes: Bytes::new(bytes),
+    })
 }
 
 /// A change of each kind of record, with a next number.
@@ -105,7 +115,8 @@ pub fn one_of_each(alloc: Global) -> Result<Delta, Fail> {
     changes.push(Change::Add(job(alloc, 2)?))?;
     changes.push(Change::Add(variable(alloc, "KEY")?))?;
     changes.push(Change::Put(variable(alloc, "CI")?))?;
-    changes.push(Change::Add(attempt(alloc)?))?;
+    let failed = AttemptState::Failed(Cause::ScriptFailure, Some(2));
+    changes.push(Change::Add(attempt(alloc, 1, failed)?))?;
     changes.push(Change::SetNext(Counter::Job, 3))?;
     Ok(Delta::new(changes))
 }

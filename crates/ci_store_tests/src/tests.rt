@@ -1,44 +1,15 @@
 //! Each kind of record is committed and loaded.
 
-use crate::records::{one_of_each, removal, text};
+use crate::made::filled;
+use crate::records::{removal, text};
 use ci_machine::change::{Counter, Key};
 use ci_machine::records::{AttemptState, Cause};
 use ci_machine::text::Text;
 use ci_store::fault::StoreFault;
-use ci_store::tables::{OpenFault, Tables};
+use ci_store::tables::Tables;
 use ci_store::{Alter, Connection};
 use std::alloc::Global;
 use std::test::Fail;
-
-fn created<S: Alter + Drop>(conn: Connection<S>) -> Result<Tables<S>, Fail> {
-    match Tables::create(conn) {
-        Ok(tables) => Ok(tables),
-        Err(_) => Err("not created")?,
-    }
-}
-
-fn reopened<S: Alter + Drop>(tables: Tables<S>) -> Result<Tables<S>, Fail> {
-    match Tables::open(tables.close()) {
-        Ok(tables) => Ok(tables),
-        Err(_) => Err("not opened")?,
-    }
-}
-
-fn fault_of_open<S: Alter + Drop>(conn: Connection<S>) -> Option<OpenFault> {
-    match Tables::open(conn) {
-        Ok(_) => None,
-        Err((fault, _)) => Some(fault),
-    }
-}
-
-fn filled<S: Alter + Drop>(alloc: Global, conn: Connection<S>) -> Result<Tables<S>, Fail> {
-    let mut tables = created(conn)?;
-    let delta = one_of_each(alloc)?;
-    match tables.commit(delta) {
-        Ok(()) => reopened(tables),
-        Err(_) => Err("not committed")?,
-    }
-}
 
 fn has_project<S: Alter>(tables: &mut Tables<S>) -> Result<bool, StoreFault> {
     match tables.project(1)? {
@@ -125,12 +96,5 @@ fn a_row_that_others_name_is_not_removed(rt: HostRuntime) -> Result<(), Fail> {
     assert!(rt; !is_removed(alloc, &mut tables, Key::Job(1))?);
     assert!(rt; is_removed(alloc, &mut tables, Key::Job(2))?);
     assert!(rt; is_removed(alloc, &mut tables, Key::JobVariable(1, text(alloc, "CI")?))?);
-    Ok(())
-}
-
-#[test]
-fn an_empty_store_is_of_no_format(rt: HostRuntime) -> Result<(), Fail> {
-    let conn = Connection::open_in_memory(rt.alloc())?;
-    assert_eq!(rt; fault_of_open(conn), Some(OpenFault::O1));
     Ok(())
 }

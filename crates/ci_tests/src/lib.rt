@@ -8,4 +8,6 @@ mod disks;
 #[cfg(test)]
 mod path;
 #[cfg(test)]
+mod runner;
+#[cfg(test)]
 mod stops;

@@ -1,7 +1,7 @@
 //! The first path, event by event.
 
 use ci_machine::moment::Moment;
-use ci_machine::reply::{Answer, Code, Reply};
+use ci_machine::reply::{Answer, Reply};
 use ci_machine::request::{Event, NewJob, NewJobs, NewPipeline, Request, Seed};
 use ci_machine::text::{Text, Texts};
 use ci_server::server::Server;
@@ -98,7 +98,7 @@ pub fn second_answer(step: Step) -> &'static str {
 }
 
 /// A server over memory.
-fn over_memory(alloc: Global) -> Result<Server<sqlite::MemStore>, Fail> {
+pub fn over_memory(alloc: Global) -> Result<Server<sqlite::MemStore>, Fail> {
     let conn = Connection::open_in_memory(alloc)?;
     match Server::create(conn) {
         Ok(server) => Ok(server),
@@ -178,11 +178,6 @@ fn each_refusal(rt: HostRuntime) -> Result<(), Fail> {
     Ok(())
 }
 
-/// Is the reply this refusal?
-pub fn is_refusal(reply: &Reply, code: Code) -> bool {
-    reply.code == Some(code)
-}
-
 /// The events of the first path, each at its moment and with its seed.
 fn calls(alloc: Global) -> Result<Vec<(Event, Moment, Seed)>, Fail> {
     let moment = Moment::new(1000).ok_or("moment")?;
@@ -206,7 +201,9 @@ fn a_run_answers_in_turn(rt: HostRuntime) -> Result<(), Fail> {
     assert!(rt; answers.len() == STEPS.len());
     let mut place = 0;
     for step in STEPS {
-        let Answer::Reply(reply) = answers.get(place).ok_or("no answer")?;
+        let Answer::Reply(reply) = answers.get(place).ok_or("no answer")? else {
+            return Err("no reply")?;
+        };
         assert!(rt; says(reply, first_answer(step)));
         place += 1;
     }

@@ -1,14 +1,26 @@
 //! Each call of the store fails in turn, in each event, on each of its two files; then the server is opened again.
 
 use crate::disks::{closed, connected, empty, fused, opened, stopped};
-use crate::path::{STEPS, Step, first_answer, is_refusal, says, second_answer, send};
-use ci_machine::reply::{Code, Reply};
+use crate::path::{STEPS, Step, first_answer, says, second_answer, send};
+use crate::runner::{
+    Say, has_ended, is_accepted, is_nothing, is_refused, is_taken, is_text, shown, tell,
+};
+use ci_machine::records::Cause;
+use ci_machine::reply::{Answer, Code, JobStatus, Reply};
 use ci_server::server::Server;
+use ci_store::Alter;
 use sqlite::{FileStore, Files};
 use sqlite_disk::{Fuse, Memory};
 use std::alloc::Global;
 use std::process::Abort;
 use std::test::Fail;
+
+/// An event that is tried on a store that fails: one of the first path, or of the first attempt.
+#[derive(Clone, Copy)]
+enum What {
+    First(Step),
+    Later(Say),
+}
 
 /// A file in which the first events have happened.
 fn prepared(alloc: Global, events: usize) -> Result<Files<Memory>, Fail> {
@@ -33,7 +45,39 @@ enum Seen {
     Faulted,
 }
 
-/// What the event is answered when it is sent again, after the stop: it had happened, or it hadn't.
+/// When it comes. At 1120 the lease of the first attempt is over.
+fn moment_of(what: Say) -> u64 {
+    match what {
+        Say::Sweep => 1120,
+        _ => 1010,
+    }
+}
+
+/// Has the event handled.
+fn sent<S: Alter>(alloc: Global, server: &mut Server<S>, tried: What) -> Result<Answer, Fail> {
+    match tried {
+        What::First(step) => Ok(Answer::Reply(send(alloc, server, step)?)),
+        What::Later(what) => tell(alloc, server, moment_of(what), what),
+    }
+}
+
+/// Is it what the event is answered the first time?
+fn is_first(answer: &Answer, tried: What) -> bool {
+    match (answer, tried) {
+        (Answer::Reply(reply), What::First(step)) => says(reply, first_answer(step)),
+        (Answer::Swept(_), What::First(_)) => false,
+        (_, What::Later(what)) => match what {
+            Say::Running => is_taken(answer, JobStatus::Running),
+            Say::Success => is_taken(answer, JobStatus::Success),
+            Say::Append(_, _) => is_accepted(answer, 5),
+            Say::Show => is_text(answer, shown(JobStatus::Running)),
+            Say::Trace => is_text(answer, ""),
+            Say::Sweep => has_ended(answer, Cause::StuckOrTimeoutFailure),
+        },
+    }
+}
+
+/// What an event of the first path is answered when it is sent again, after the stop: it had happened, or it hadn't.
 fn had_happened(again: &Reply, step: Step) -> Result<bool, Fail> {
     if says(again, second_answer(step)) && again.code.is_none() {
         return Ok(true);
@@ -44,43 +88,100 @@ fn had_happened(again: &Reply, step: Step) -> Result<bool, Fail> {
     Err("a state of neither side")?
 }
 
-/// Opens the server again after a stop, and sends the event again. Had it happened?
+/// One of two.
+fn either(yes: bool, no: bool) -> Result<bool, Fail> {
+    if yes == no {
+        Err("a state of neither side")?;
+    }
+    Ok(yes)
+}
+
+/// Had the attempt ended well, before this final state was sent again? It has then.
+fn had_ended<S: Alter>(alloc: Global, server: &mut Server<S>) -> Result<bool, Fail> {
+    let job = tell(alloc, server, 1010, Say::Show)?;
+    let again = tell(alloc, server, 1119, Say::Success)?;
+    let then = tell(alloc, server, 1119, Say::Show)?;
+    if !is_taken(&again, JobStatus::Success) || !is_text(&then, shown(JobStatus::Success)) {
+        Err("not ended")?;
+    }
+    either(
+        is_text(&job, shown(JobStatus::Success)),
+        is_text(&job, shown(JobStatus::Running)),
+    )
+}
+
+/// Had the event of the attempt happened? It is sent again, or what follows tells.
+fn had_changed<S: Alter>(alloc: Global, server: &mut Server<S>, what: Say) -> Result<bool, Fail> {
+    let first = What::Later(what);
+    match what {
+        Say::Success => had_ended(alloc, server),
+        Say::Running => {
+            let swept = tell(alloc, server, 1125, Say::Sweep)?;
+            either(
+                is_nothing(&swept),
+                has_ended(&swept, Cause::StuckOrTimeoutFailure),
+            )
+        }
+        Say::Append(_, _) => {
+            let again = sent(alloc, server, first)?;
+            either(
+                is_refused(&again, Code::M8, Some(5)),
+                is_first(&again, first),
+            )
+        }
+        Say::Sweep => {
+            let again = sent(alloc, server, first)?;
+            either(is_nothing(&again), is_first(&again, first))
+        }
+        Say::Show | Say::Trace => {
+            let again = sent(alloc, server, first)?;
+            either(is_first(&again, first), false)
+        }
+    }
+}
+
+/// Opens the server again after a stop. Had the event happened?
 fn happened(
     alloc: Global,
     server: Server<FileStore<Fuse<Memory>>>,
-    step: Step,
+    tried: What,
 ) -> Result<bool, Fail> {
     let Some(mut server) = opened(alloc, stopped(server)) else {
         return Err("not opened again")?;
     };
-    let again = send(alloc, &mut server, step)?;
-    had_happened(&again, step)
+    match tried {
+        What::First(step) => {
+            let again = send(alloc, &mut server, step)?;
+            had_happened(&again, step)
+        }
+        What::Later(what) => had_changed(alloc, &mut server, what),
+    }
 }
 
 /// Sends the event on a store that fails from a call on.
 fn tried(
     alloc: Global,
     files: Files<Memory>,
-    step: Step,
+    event: What,
     of_log: bool,
     calls: u64,
 ) -> Result<Seen, Fail> {
     let Some(mut server) = opened(alloc, fused(files, of_log, calls)) else {
         return Ok(Seen::Unopened);
     };
-    let reply = send(alloc, &mut server, step)?;
-    if is_refusal(&reply, Code::M17) {
-        let later = send(alloc, &mut server, step)?;
-        if !server.closed() || !is_refusal(&later, Code::M17) {
+    let answer = sent(alloc, &mut server, event)?;
+    if is_refused(&answer, Code::M17, None) {
+        let later = sent(alloc, &mut server, event)?;
+        if !server.closed() || !is_refused(&later, Code::M17, None) {
             return Err("open after a fault")?;
         }
-        let _ = happened(alloc, server, step)?;
+        let _ = happened(alloc, server, event)?;
         return Ok(Seen::Faulted);
     }
-    if server.closed() || !says(&reply, first_answer(step)) {
+    if server.closed() || !is_first(&answer, event) {
         return Err("another answer")?;
     }
-    if happened(alloc, server, step)? {
+    if happened(alloc, server, event)? {
         Ok(Seen::Answered)
     } else {
         Err("an answered event is lost")?
@@ -88,12 +189,12 @@ fn tried(
 }
 
 /// The least number of calls with which the server opens.
-fn opens_from(alloc: Global, events: usize, step: Step, of_log: bool) -> Result<u64, Fail> {
+fn opens_from(alloc: Global, events: usize, event: What, of_log: bool) -> Result<u64, Fail> {
     let mut low = 0u64;
     let mut high = 256u64;
     for _ in 0..8 {
         let mid = low.midpoint(high);
-        let seen = tried(alloc, prepared(alloc, events)?, step, of_log, mid)?;
+        let seen = tried(alloc, prepared(alloc, events)?, event, of_log, mid)?;
         if seen == Seen::Unopened {
             low = mid;
         } else {
@@ -104,11 +205,11 @@ fn opens_from(alloc: Global, events: usize, step: Step, of_log: bool) -> Result<
 }
 
 /// Each number of calls from which the server opens, until the event is answered. How many of them faulted?
-fn sweep(alloc: Global, events: usize, step: Step, of_log: bool) -> Result<u64, Fail> {
-    let from = opens_from(alloc, events, step, of_log)?;
+fn sweep(alloc: Global, events: usize, event: What, of_log: bool) -> Result<u64, Fail> {
+    let from = opens_from(alloc, events, event, of_log)?;
     let mut faults = 0u64;
     for calls in from..from.saturating_add(80) {
-        match tried(alloc, prepared(alloc, events)?, step, of_log, calls)? {
+        match tried(alloc, prepared(alloc, events)?, event, of_log, calls)? {
             Seen::Answered => return Ok(faults),
             Seen::Faulted => faults = faults.saturating_add(1),
             Seen::Unopened => {}
@@ -118,28 +219,65 @@ fn sweep(alloc: Global, events: usize, step: Step, of_log: bool) -> Result<u64, 
 }
 
 /// Sweeps both files for the event that comes after the first ones. The log is written in each commit.
-fn both(rt: &impl Abort, alloc: Global, events: usize, step: Step) -> Result<(), Fail> {
-    assert!(rt; sweep(alloc, events, step, true)? > 0);
-    let _ = sweep(alloc, events, step, false)?;
+fn both(rt: &impl Abort, alloc: Global, events: usize, event: What) -> Result<(), Fail> {
+    assert!(rt; sweep(alloc, events, event, true)? > 0);
+    let _ = sweep(alloc, events, event, false)?;
+    Ok(())
+}
+
+/// The same for an event that commits nothing.
+fn both_unchanged(alloc: Global, event: What) -> Result<(), Fail> {
+    let _ = sweep(alloc, 4, event, true)?;
+    let _ = sweep(alloc, 4, event, false)?;
     Ok(())
 }
 
 #[test]
 fn each_call_fails_as_a_project_is_made(rt: HostRuntime) -> Result<(), Fail> {
-    both(&rt, rt.alloc(), 0, Step::AddProject)
+    both(&rt, rt.alloc(), 0, What::First(Step::AddProject))
 }
 
 #[test]
 fn each_call_fails_as_a_runner_is_made(rt: HostRuntime) -> Result<(), Fail> {
-    both(&rt, rt.alloc(), 1, Step::AddRunner)
+    both(&rt, rt.alloc(), 1, What::First(Step::AddRunner))
 }
 
 #[test]
 fn each_call_fails_as_a_pipeline_is_made(rt: HostRuntime) -> Result<(), Fail> {
-    both(&rt, rt.alloc(), 2, Step::EnterPipeline)
+    both(&rt, rt.alloc(), 2, What::First(Step::EnterPipeline))
 }
 
 #[test]
 fn each_call_fails_in_a_grant(rt: HostRuntime) -> Result<(), Fail> {
-    both(&rt, rt.alloc(), 3, Step::AskJob)
+    both(&rt, rt.alloc(), 3, What::First(Step::AskJob))
+}
+
+#[test]
+fn each_call_fails_as_a_runner_is_heard(rt: HostRuntime) -> Result<(), Fail> {
+    both(&rt, rt.alloc(), 4, What::Later(Say::Running))
+}
+
+#[test]
+fn each_call_fails_as_an_attempt_ends(rt: HostRuntime) -> Result<(), Fail> {
+    both(&rt, rt.alloc(), 4, What::Later(Say::Success))
+}
+
+#[test]
+fn each_call_fails_as_a_trace_grows(rt: HostRuntime) -> Result<(), Fail> {
+    both(&rt, rt.alloc(), 4, What::Later(Say::Append(0, "hello")))
+}
+
+#[test]
+fn each_call_fails_in_a_sweep(rt: HostRuntime) -> Result<(), Fail> {
+    both(&rt, rt.alloc(), 4, What::Later(Say::Sweep))
+}
+
+#[test]
+fn each_call_fails_as_a_job_is_shown(rt: HostRuntime) -> Result<(), Fail> {
+    both_unchanged(rt.alloc(), What::Later(Say::Show))
+}
+
+#[test]
+fn each_call_fails_as_a_trace_is_shown(rt: HostRuntime) -> Result<(), Fail> {
+    both_unchanged(rt.alloc(), What::Later(Say::Trace))
 }

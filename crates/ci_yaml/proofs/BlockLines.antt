@@ -16,7 +16,7 @@ texts-push : (xs : List (Bor (List ℕ))) (x : Bor (List ℕ)) → texts_of (xs 
 texts-push [] x = refl
 texts-push (y ∷ xs) x = ap (λ (ls : List Line). y.now ∷ ls) (texts-push xs x)
 
-length-texts : (xs : List (Bor (List ℕ))) → length (texts_of xs) ≡ length xs
+pub length-texts : (xs : List (Bor (List ℕ))) → length (texts_of xs) ≡ length xs
 length-texts [] = refl
 length-texts (x ∷ xs) = ap suc (length-texts xs)
 

@@ -15,3 +15,14 @@ pub mod Quotes
 pub mod Turns
 pub mod Said
 pub mod BlockLines
+pub mod Literals
+pub mod Headers
+pub mod ReadSteps
+pub mod ReadParts
+pub mod ReadTexts
+pub mod Keys
+pub mod Places
+pub mod PlaceCodes
+pub mod LeastCodes
+pub mod Shapes
+pub mod Verdicts

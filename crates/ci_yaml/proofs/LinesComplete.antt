@@ -72,7 +72,7 @@ run-two u (Ok s) a b h = h s
 run-two u (Err c) a b h = refl
 
 -- another text for the last entry's value
-run-filled : (s : State) (es : List Entry) (t u : List ℕ) → NotEmpty es → run s (filled es u) ≡ mapped u (run s (filled es t))
+pub run-filled : (s : State) (es : List Entry) (t u : List ℕ) → NotEmpty es → run s (filled es u) ≡ mapped u (run s (filled es t))
 run-filled s [] t u h = absurd h
 run-filled s (e ∷ []) t u h = run-one u (next s (texted e t)) (next s (texted e u)) (next-by-text e.head s e t u)
 run-filled s (e ∷ f ∷ es) t u h = run-two u (next s e) (filled (f ∷ es) t) (filled (f ∷ es) u) (λ s'. run-filled s' (f ∷ es) t u tt)
@@ -86,7 +86,7 @@ read-step : (r s : Reader) (l : Line) (ls : List Line) → line_next r l ≡ Ok 
 read-step r s l ls e = ap (λ (x : Result Reader Code). x >>= λ t. read_lines t ls) e
 
 -- the lines of a block
-block-read : (st : State) (how : Chomp) (c : ℕ) (so_far ls rest : List Line) → AreBlock c so_far ls
+pub block-read : (st : State) (how : Chomp) (c : ℕ) (so_far ls rest : List Line) → AreBlock c so_far ls
     → read_lines (record { state = with_text (literal how so_far) st; end = within how c so_far }) (ls ++ rest)
     ≡ read_lines (record { state = with_text (literal how (so_far ++ ls)) st; end = within how c (so_far ++ ls) }) rest
 block-read st how c so_far [] rest are = rw (append-nil so_far) refl
@@ -112,7 +112,7 @@ abbrev pub end_after : Ending → List Line → Ending → Ending
 end_after old [] new = old
 end_after old (l ∷ ls) new = new
 
-outside-next : (end : Ending) (s : State) (l : Line) → IsOutside end l → line_by end s l ≡ content s (line_spoken l)
+pub outside-next : (end : Ending) (s : State) (l : Line) → IsOutside end l → line_by end s l ≡ content s (line_spoken l)
 outside-next outside s l out = refl
 outside-next (within how c so_far) s l out =
     ap (λ b. cond b (stop_or (least (block_codes so_far l)) (record { state = with_text (literal how (so_far ++ l ∷ [])) s; end = within how c (so_far ++ l ∷ []) })) (content s (line_spoken l))) out
@@ -158,7 +158,7 @@ line-end-by ls es end (line l rest es' all end' clean no_header says all-is) = r
 line-end-by ls es end (block l lines rest below how es' all end' last clean header parts are ends says all-is last-is) = refl
 
 -- a filled last entry holds the text that fills it
-same-mapped : (t : List ℕ) (x : Result State Code) (s : State) → x ≡ mapped t x → x ≡ Ok s → s ≡ with_text t s
+pub same-mapped : (t : List ℕ) (x : Result State Code) (s : State) → x ≡ mapped t x → x ≡ Ok s → s ≡ with_text t s
 same-mapped t (Ok u) s e is = let same : u ≡ s = cc in let e' : u ≡ with_text t u = cc in subst (λ (v : State). v ≡ with_text t v) same e'
 same-mapped t (Err c) s e is = absurd cc
 

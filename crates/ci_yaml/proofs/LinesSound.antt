@@ -197,7 +197,7 @@ pub record LinesStand (r : Reader) (ls : List Line) : Type 0 where
   pub says : Says ls entries r.end
   pub stands : StateStands r.state entries
 
-stop-ok : (o : Option Code) (r s : Reader) → stop_or o r ≡ Ok s → (o ≡ None) × (r ≡ s)
+pub stop-ok : (o : Option Code) (r s : Reader) → stop_or o r ≡ Ok s → (o ≡ None) × (r ≡ s)
 stop-ok None r s e = (refl, cc)
 stop-ok (Some c) r s e = absurd cc
 

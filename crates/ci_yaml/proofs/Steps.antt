@@ -12,6 +12,7 @@ use Rattle.ci_yaml.specs.Reading.{State, inside, with_given, is_node, is_open_at
 use Rattle.ci_yaml.specs.Entry.{Head, dash, key, Entry, level_of}
 use Rattle.std.specs.Global.{Vec}
 use Rattle.ci_yaml.specs.declared.parts.Open.{Open}
+use Rattle.ci_yaml.specs.declared.open_map.OpenMap.{OpenMap}
 use Rattle.ci_yaml.specs.declared.parts.Open.TheVariants.{Items, Pairs}
 use Rattle.ci_yaml.specs.declared.tree.Text.{Text}
 use Rattle.ci_yaml.specs.declared.tree.Tree.{Tree}
@@ -74,17 +75,6 @@ open-not fs i c f lt is ne h =
 pub gives-is : {X Y : Type 0} (view : X → Y) (r : Result X Stop) (x y : Result Y Code) → x ≡ y → Gives view r x → Gives view r y
 gives-is view r x y e h = subst (λ z. Gives view r z) e h
 
--- ---- keys
-
-next-pair : (ps : List (Text × Tree)) (i : ℕ) (d : Text × Tree) → i < length ps → drop i ps ≡ get_or ps i d ∷ drop (i + 1) ps
-next-pair ps i d lt = rw (add-one, drop-cons ps i d) refl
-
-pub key-next : (k : List ℕ) (ps : List (Text × Tree)) (i : ℕ) (m : Text × Tree) → i < length ps → m ≡ get_or ps i m
-    → has_name k (pairs_view (drop i ps)) ≡ cond (same_text k (bytes_of m.0)) true (has_name k (pairs_view (drop (i + 1) ps)))
-key-next k ps i m lt is =
-    ap (λ x. has_name k (pairs_view x)) (next-pair ps i m lt)
-    ∙ ap (λ (x : Text × Tree). cond (same_text k (bytes_of x.0)) true (has_name k (pairs_view (drop (i + 1) ps)))) (sym is)
-
 -- ---- the next member of the innermost node
 
 apart : (m : Code) (f : reading.Frame) (fs : List reading.Frame) (v : Value) (kind : Kind) (name : List ℕ) (e : Entry) → (level f ≡ level_of kind e.column → ⊥) → joined m (f ∷ fs) v kind name e ≡ Err m
@@ -141,21 +131,21 @@ item-joins m old init new f items more column v g parts is at pushed new-is =
     ∙ ap (λ (d : Members). with_given (record { kind = sequence; column = column; done = d; name = [] } ∷ frames_view init) g) pushed
     ∙ sym (step-same m old init f (Items items) v [] (entry_at column dash g) parts is at)
 
-pub pair-joins : (m : Code) (old init new : List Frame) (f : Frame) (pairs more : Vec (Text × Tree)) (last name : Text) (column : ℕ) (v : Value) (g : Option Value) → old ≡ init ++ f ∷ [] → f.members ≡ Pairs pairs last → f.column ≡ column
-    → pairs_view more.items ≡ push (pairs_view pairs.items) (bytes_of last) v → has_name (bytes_of name) (pairs_view more.items) ≡ false → new ≡ init ++ (record { column = column; members = Pairs more name }) ∷ []
+pub pair-joins : (m : Code) (old init new : List Frame) (f : Frame) (pairs more : OpenMap) (last name : Text) (column : ℕ) (v : Value) (g : Option Value) → old ≡ init ++ f ∷ [] → f.members ≡ Pairs pairs last → f.column ≡ column
+    → pairs_view more.pairs.items ≡ push (pairs_view pairs.pairs.items) (bytes_of last) v → has_name (bytes_of name) (pairs_view more.pairs.items) ≡ false → new ≡ init ++ (record { column = column; members = Pairs more name }) ∷ []
     → with_given (frames_view new) g ≡ joined m (frames_view old) v mapping (bytes_of name) (entry_at column (key (bytes_of name)) g)
 pair-joins m old init new f pairs more last name column v g parts is at pushed fresh new-is =
-    let rest = with_given (record { kind = mapping; column = column; done = push (pairs_view pairs.items) (bytes_of last) v; name = bytes_of name } ∷ frames_view init) g in
+    let rest = with_given (record { kind = mapping; column = column; done = push (pairs_view pairs.pairs.items) (bytes_of last) v; name = bytes_of name } ∷ frames_view init) g in
     ap (λ (x : List Frame). with_given (frames_view x) g) new-is ∙ ap (λ (x : List reading.Frame). with_given x g) (frames-push init (record { column = column; members = Pairs more name }))
     ∙ ap (λ (d : Members). with_given (record { kind = mapping; column = column; done = d; name = bytes_of name } ∷ frames_view init) g) pushed
     ∙ sym (ap (λ b. cond b (Err Y5) rest) (ap (has_name (bytes_of name)) (sym pushed) ∙ fresh))
     ∙ sym (step-same m old init f (Pairs pairs last) v (bytes_of name) (entry_at column (key (bytes_of name)) g) parts is at)
 
-pub pair-repeats : (m : Code) (old init : List Frame) (f : Frame) (pairs more : Vec (Text × Tree)) (last name : Text) (column : ℕ) (v : Value) (g : Option Value) → old ≡ init ++ f ∷ [] → f.members ≡ Pairs pairs last → f.column ≡ column
-    → pairs_view more.items ≡ push (pairs_view pairs.items) (bytes_of last) v → has_name (bytes_of name) (pairs_view more.items) ≡ true
+pub pair-repeats : (m : Code) (old init : List Frame) (f : Frame) (pairs more : OpenMap) (last name : Text) (column : ℕ) (v : Value) (g : Option Value) → old ≡ init ++ f ∷ [] → f.members ≡ Pairs pairs last → f.column ≡ column
+    → pairs_view more.pairs.items ≡ push (pairs_view pairs.pairs.items) (bytes_of last) v → has_name (bytes_of name) (pairs_view more.pairs.items) ≡ true
     → joined m (frames_view old) v mapping (bytes_of name) (entry_at column (key (bytes_of name)) g) ≡ Err Y5
 pair-repeats m old init f pairs more last name column v g parts is at pushed there =
-    let rest = with_given (record { kind = mapping; column = column; done = push (pairs_view pairs.items) (bytes_of last) v; name = bytes_of name } ∷ frames_view init) g in
+    let rest = with_given (record { kind = mapping; column = column; done = push (pairs_view pairs.pairs.items) (bytes_of last) v; name = bytes_of name } ∷ frames_view init) g in
     step-same m old init f (Pairs pairs last) v (bytes_of name) (entry_at column (key (bytes_of name)) g) parts is at
     ∙ ap (λ b. cond b (Err Y5) rest) (ap (has_name (bytes_of name)) (sym pushed) ∙ there)
 

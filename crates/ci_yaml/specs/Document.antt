@@ -162,9 +162,16 @@ pub data Holds (ls : List Line) (l : Line) (code : Code) : Type 0 where
   of_line : (es : List Entry) (end : Ending) → Says ls es end → IsOutside end l → Contains (line_spoken l).codes code → Holds ls l code
   of_place : (es : List Entry) (end : Ending) → Says ls es end → IsOutside end l → Contains (place_codes es (line_spoken l).entries) code → Holds ls l code
 
+-- This code holds of the line after the lines before it, and no lesser code does.
+pub record IsLeast (ls : List Line) (l : Line) (code : Code) : Type 0 where
+  pub holds : Holds ls l code
+  pub least : (other : Code) → Holds ls l other → number_of code ≤ number_of other
+
+-- Why a text has no tree: it is too long; or this line is the first that makes no good beginning, and of the codes that hold
+-- of it this is the least; or no line has content.
 pub data IsFault (bs : List ℕ) (at : ℕ) (code : Code) : Type 0 where
   too_long : 65536 < length bs → at ≡ 1 → code ≡ Y1 → IsFault bs at code
   at_line : length bs ≤ 65536 → (before : List Line) (l : Line) (after : List Line) → lines bs ≡ before ++ l ∷ after → at ≡ suc (length before)
       → ((k : ℕ) → k ≤ length before → IsGood (take k before)) → (IsGood (before ++ l ∷ []) → ⊥)
-      → Holds before l code → ((other : Code) → Holds before l other → number_of code ≤ number_of other) → IsFault bs at code
+      → IsLeast before l code → IsFault bs at code
   no_content : length bs ≤ 65536 → (end : Ending) → Says (lines bs) [] end → at ≡ 1 → code ≡ Y12 → IsFault bs at code

@@ -2,11 +2,14 @@ pub mod Least
 pub mod Tree
 pub mod Entry
 pub mod Node
+pub mod Shape
 pub mod Reading
 pub mod Codes
 pub mod Scalar
 pub mod Line
 pub mod Document
 pub mod ReadLines
+pub mod TreeView
 pub mod View
 pub mod Blocks
+pub mod Stops

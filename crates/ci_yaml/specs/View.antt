@@ -1,10 +1,7 @@
--- A tree of the code, without where it lies in memory.
+-- What the code holds of lines and open nodes, without where it lies in memory.
 use Rattle.std.specs.Prelude.{◌≡◌, ◌≤◌, ◌||◌, ◌+◌, ℕ, Bool, List, [], ◌∷◌, ◌++◌, length, Option, Some, None, Result, Ok, Err, map, option_map, string_bytes, ⊤}
-use Rattle.ci_yaml.specs.declared.tree.Text.{Text}
-use Rattle.ci_yaml.specs.declared.tree.Text.TheVariants.{Lent, Owned}
-use Rattle.ci_yaml.specs.declared.tree.Span.{Span}
-use Rattle.ci_yaml.specs.declared.tree.Tree.{Tree, fold-Tree}
-use Rattle.ci_yaml.specs.declared.tree.Tree.TheOpen.{Tree-F}
+use Rattle.ci_yaml.specs.declared.tree.Tree.{Tree}
+pub use Rattle.ci_yaml.specs.TreeView.{bytes_of, span_of, items_of, pairs_of, joined, view_step, value_view, items_view, pairs_view}
 use Rattle.ci_yaml.specs.declared.parts.Frame.{Frame}
 use Rattle.ci_yaml.specs.declared.parts.Open.{Open}
 use Rattle.ci_yaml.specs.declared.parts.Open.TheVariants.{Items, Pairs}
@@ -36,56 +33,17 @@ use Rattle.ci_yaml.specs.declared.parts.Entry.{Entry}
 use Rattle.ci_yaml.specs.declared.parts.Progress.{Progress}
 use Rattle.ci_yaml.specs.declared.parts.Progress.TheVariants.{Start, Whole, Inside}
 
-abbrev pub bytes_of : Text → List ℕ
-bytes_of (Lent s p) = s.now
-bytes_of (Owned s p) = string_bytes s
-
-abbrev pub span_of : Text → Span
-span_of (Lent s p) = p
-span_of (Owned s p) = p
-
-abbrev pub items_of : List Value → Members
-items_of [] = no_members
-items_of (v ∷ vs) = member [] v (items_of vs)
-
-abbrev pub pairs_of : List (Text × Value) → Members
-pairs_of [] = no_members
-pairs_of (m ∷ ms) = member (bytes_of m.0) m.1 (pairs_of ms)
-
--- the members of both
-abbrev pub joined : Members → Members → Members
-joined no_members ns = ns
-joined (member n v ms) ns = member n v (joined ms ns)
-
--- one level, with each tree inside already seen as its value
-abbrev pub view_step : Tree-F Value → Value
-view_step Tree-F.Null = null
-view_step (Tree-F.Bool b) = boolean b
-view_step (Tree-F.Int n) = number n
-view_step (Tree-F.Text t) = text (bytes_of t)
-view_step (Tree-F.List v) = node sequence (items_of v.items)
-view_step (Tree-F.Map v) = node mapping (pairs_of v.items)
-
-abbrev pub value_view : Tree → Value
-value_view = fold-Tree Value view_step
-
-abbrev pub items_view : List Tree → Members
-items_view vs = items_of (map value_view vs)
-
-abbrev pub pairs_view : List (Text × Tree) → Members
-pairs_view ms = pairs_of (map (λ m. (m.0, value_view m.1)) ms)
-
 abbrev pub open_kind : Open → Kind
 open_kind (Items v) = sequence
-open_kind (Pairs v k) = mapping
+open_kind (Pairs m k) = mapping
 
 abbrev pub open_done : Open → Members
 open_done (Items v) = items_view v.items
-open_done (Pairs v k) = pairs_view v.items
+open_done (Pairs m k) = pairs_view m.pairs.items
 
 abbrev pub open_name : Open → List ℕ
 open_name (Items v) = []
-open_name (Pairs v k) = bytes_of k
+open_name (Pairs m k) = bytes_of k
 
 abbrev pub frame_view : Frame → reading.Frame
 frame_view f = record { kind = open_kind f.members; column = f.column; done = open_done f.members; name = open_name f.members }

@@ -1,8 +1,9 @@
 //! Literal blocks.
 
-ghost use Rattle.std.specs.Prelude.{◌≡◌, ◌≤◌, ◌++◌, [], IfOk, IfErr, length, take, drop, string_bytes};
+ghost use Rattle.std.specs.Prelude.{◌≡◌, ℕ, ◌<◌, ◌≤◌, ◌++◌, [], IfOk, IfErr, length, take, drop, string_bytes};
 ghost use Rattle.ci_yaml.specs.Least.{least};
-ghost use Rattle.ci_yaml.specs.Document.{is_spaces, is_in_block, is_low, indent_codes, more_indent, block_indent, kept_len, AreBlock, EndsBlock};
+ghost use Rattle.ci_yaml.specs.Document.{is_spaces, is_in_block, is_low, indent_codes, more_indent, block_indent, kept_len, literal, AreBlock, EndsBlock};
+ghost use Rattle.ci_yaml.specs.View.{chomp_view};
 ghost use Rattle.ci_yaml.specs.Blocks.{texts_of, cut_text, cut_lines, cut_strip, StopsBlock};
 
 use crate::cut::skip_spaces;
@@ -73,6 +74,7 @@ pub struct BlockFault {
 pub fn block_len(column: u32, lines: &[&str]) -> Result<usize, BlockFault>
     ensures within { IfOk result (λ n. n ≤ length lines.now) }
     ensures block { IfOk result (λ n. AreBlock column [] (texts_of (take n lines.now)) × EndsBlock column (texts_of (drop n lines.now))) }
+    ensures inside { IfErr result (λ f. f.at < length lines.now) }
     ensures fault { IfErr result (λ f. AreBlock column [] (texts_of (take f.at lines.now)) × StopsBlock column (texts_of (take f.at lines.now)) (texts_of (drop f.at lines.now)) f.code) }
 {
     let mut indent = None;
@@ -151,7 +153,9 @@ fn push_stripped(text: &mut String, indent: usize, lines: &[&str]) -> Result<(),
 }
 
 /// The text of the lines of a block. Errors: memory was refused.
-pub fn literal(alloc: Global, how: Chomp, lines: &[&str]) -> Result<String, AllocError> {
+pub fn literal(alloc: Global, how: Chomp, lines: &[&str]) -> Result<String, AllocError>
+    ensures { IfOk result (λ s. (c : ℕ) → AreBlock c [] (texts_of lines.now) → string_bytes s ≡ literal (chomp_view how) (texts_of lines.now)) }
+{
     let indent = block_indent(lines);
     let kept = &lines[..kept_len(lines)];
     let mut text = String::new(alloc);

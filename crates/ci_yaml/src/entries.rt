@@ -11,6 +11,7 @@ ghost use Rattle.ci_yaml.specs.Reading.{member_next, bare_next, next, run, start
 use crate::fault::{Code, Stop};
 use crate::joins::{enter_item, enter_pair, or_null};
 use crate::nodes::{begun, misplaced};
+use crate::open_map::OpenMap;
 use crate::parts::{Entry, Frame, Head, Open, Progress};
 use crate::tree::{Text, Tree};
 use std::alloc::{AllocError, Global};
@@ -55,7 +56,7 @@ fn next_pair<'a>(
             }
             let frame = Frame {
                 column,
-                members: Open::Pairs(Vec::new(alloc), name),
+                members: Open::Pairs(OpenMap::new(alloc), name),
             };
             begun(Vec::new(alloc), frame, given)
         }

@@ -8,21 +8,10 @@ ghost use Rattle.ci_yaml.specs.Reading.{push, has_name, joined, begins, value_of
 
 use crate::fault::{Code, Stop};
 use crate::nodes::{begun, misplaced, settled, with_given};
+use crate::open_map::OpenMap;
 use crate::parts::{Frame, Open, Progress};
 use crate::tree::{Text, Tree};
 use std::alloc::{AllocError, Global};
-
-/// Whether one of these keys is this text.
-fn has_key(pairs: &[(Text, Tree)], key: &str) -> bool
-    ensures { result ≡ has_name key.now (pairs_view pairs.now) }
-{
-    for (name, _) in pairs {
-        if key == name.as_str() {
-            return true;
-        }
-    }
-    false
-}
 
 fn more_items<'a>(items: Vec<Tree<'a>>, value: Tree<'a>) -> Result<Vec<Tree<'a>>, AllocError>
     ensures { IfOk result (λ v. items_view v.items ≡ push (items_view items.entry.items) [] (value_view value.entry)) }
@@ -30,18 +19,6 @@ fn more_items<'a>(items: Vec<Tree<'a>>, value: Tree<'a>) -> Result<Vec<Tree<'a>>
     let mut items = items;
     items.push(value)?;
     Ok(items)
-}
-
-fn more_pairs<'a>(
-    pairs: Vec<(Text<'a>, Tree<'a>)>,
-    key: Text<'a>,
-    value: Tree<'a>,
-) -> Result<Vec<(Text<'a>, Tree<'a>)>, AllocError>
-    ensures { IfOk result (λ v. pairs_view v.items ≡ push (pairs_view pairs.entry.items) (bytes_of key.entry) (value_view value.entry)) }
-{
-    let mut pairs = pairs;
-    pairs.push((key, value))?;
-    Ok(pairs)
 }
 
 /// The next item of the innermost node, which is a list in this column, or the code.
@@ -77,6 +54,7 @@ fn joined_item<'a>(
 
 /// The next pair of the innermost node, which is a map in this column, or the code.
 fn joined_pair<'a>(
+    alloc: Global,
     frames: Vec<Frame<'a>>,
     value: Tree<'a>,
     misplaced: Code,
@@ -97,8 +75,8 @@ fn joined_pair<'a>(
     match frame.members {
         Open::Items(_) => Err(Stop::Fault(misplaced)),
         Open::Pairs(pairs, last) => {
-            let pairs = more_pairs(pairs, last, value)?;
-            if has_key(&pairs, name.as_str()) {
+            let pairs = pairs.more(alloc, last, value)?;
+            if pairs.has_key(name.as_str()) {
                 return Err(Stop::Fault(Code::Y5));
             }
             frames.push(Frame {
@@ -174,11 +152,11 @@ pub fn enter_pair<'a>(
     if is_awaited(&frames, &awaiting, level) {
         let frame = Frame {
             column,
-            members: Open::Pairs(Vec::new(alloc), name),
+            members: Open::Pairs(OpenMap::new(alloc), name),
         };
         return begun(frames, frame, given);
     }
     let code = misplaced(&frames, column);
     let value = settled(&mut frames, or_null(awaiting), level)?;
-    joined_pair(frames, value, code, column, name, given)
+    joined_pair(alloc, frames, value, code, column, name, given)
 }

@@ -1,14 +1,40 @@
 //! Laws of the definitions. These functions do nothing: what they ensure is what the checker proves.
 
-ghost use Rattle.std.specs.Prelude.{◌≡◌, ℕ, List, [], ◌∷◌, ◌++◌, Some, Ok, Err};
+ghost use Rattle.std.specs.Prelude.{◌≡◌, ℕ, ◌≤◌, ◌⊎◌, List, [], ◌∷◌, ◌++◌, Some, Ok, Err};
 ghost use Rattle.std.specs.Str.Lines.{lines};
 ghost use Rattle.ci_yaml.specs.declared.fault.Code.{Code};
 ghost use Rattle.ci_yaml.specs.Tree.{Value};
 ghost use Rattle.ci_yaml.specs.Entry.{Entry};
 ghost use Rattle.ci_yaml.specs.Node.{IsDocument};
-ghost use Rattle.ci_yaml.specs.Document.{Line, Ending, Says, HasTree, IsGood};
+ghost use Rattle.ci_yaml.specs.Document.{Line, Ending, Says, HasTree, IsGood, IsLeast, IsFault};
+ghost use Rattle.ci_yaml.specs.Shape.{KeysDiffer, depth};
 ghost use Rattle.ci_yaml.specs.Reading.{finished};
 ghost use Rattle.ci_yaml.specs.ReadLines.{Reader, read_lines, beginning};
+
+/// A text has a tree or a fault.
+pub fn has_tree_or_fault()
+    ensures { (bytes : List ℕ) → ((v : Value) × HasTree bytes v) ⊎ ((at : ℕ) × (code : Code) × IsFault bytes at code) }
+{}
+
+/// No text has both.
+pub fn has_not_both()
+    ensures { (bytes : List ℕ) (v : Value) (at : ℕ) (code : Code) → HasTree bytes v → IsFault bytes at code → ⊥ }
+{}
+
+/// A text has one fault at most: one line, and one code.
+pub fn has_one_fault()
+    ensures { (bytes : List ℕ) (i j : ℕ) (c d : Code) → IsFault bytes i c → IsFault bytes j d → (i ≡ j) × (c ≡ d) }
+{}
+
+/// In each map of a text's tree the keys differ, and at most ten maps and lists lie within one another.
+pub fn fits()
+    ensures { (bytes : List ℕ) (v : Value) → HasTree bytes v → KeysDiffer v × (depth v ≤ 10) }
+{}
+
+/// Lines say one list of entries at most, and end in one way.
+pub fn say_one_thing()
+    ensures { (ls : List Line) (es fs : List Entry) (d e : Ending) → Says ls es d → Says ls fs e → (es ≡ fs) × (d ≡ e) }
+{}
 
 /// A text has one tree at most.
 pub fn has_one_tree()
@@ -32,8 +58,8 @@ pub fn reads_all_trees()
         → (r : Reader) × (read_lines beginning ls ≡ Ok r) × (finished r.state ≡ Some v) }
 {}
 
-/// Reading stops at the first line that makes no good beginning.
+/// Reading stops at the first line that makes no good beginning, with the least code that holds of it.
 pub fn stops_first()
     ensures { (ls : List Line) (code : Code) → read_lines beginning ls ≡ Err code
-        → (before : List Line) × (l : Line) × (after : List Line) × (ls ≡ before ++ l ∷ after) × IsGood before × (IsGood (before ++ l ∷ []) → ⊥) }
+        → (before : List Line) × (l : Line) × (after : List Line) × (ls ≡ before ++ l ∷ after) × IsGood before × (IsGood (before ++ l ∷ []) → ⊥) × IsLeast before l code }
 {}

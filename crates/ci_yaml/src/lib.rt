@@ -12,6 +12,7 @@ mod joins;
 pub mod laws;
 mod line;
 mod nodes;
+mod open_map;
 mod parts;
 mod quoted;
 mod reader;

@@ -7,9 +7,13 @@ ghost use Rattle.ci_yaml.specs.Reading.{push, closed, level, settle, top_deeper,
 ghost use Rattle.ci_yaml.specs.declared.fault.Code.TheVariants.{Y10};
 
 use crate::fault::{Code, Stop};
+use crate::open_map::OpenMap;
 use crate::parts::{Frame, Open, Progress};
 use crate::tree::{Text, Tree};
 use std::alloc::AllocError;
+
+/// How many maps and lists may lie within one another.
+const DEPTH_LIMIT: usize = 10;
 
 fn with_item<'a>(items: Vec<Tree<'a>>, value: Tree<'a>) -> Result<Tree<'a>, AllocError>
     ensures { IfOk result (λ t. value_view t ≡ node sequence (push (items_view items.entry.items) [] (value_view value.entry))) }
@@ -19,14 +23,10 @@ fn with_item<'a>(items: Vec<Tree<'a>>, value: Tree<'a>) -> Result<Tree<'a>, Allo
     Ok(Tree::List(items))
 }
 
-fn with_pair<'a>(
-    pairs: Vec<(Text<'a>, Tree<'a>)>,
-    key: Text<'a>,
-    value: Tree<'a>,
-) -> Result<Tree<'a>, AllocError>
-    ensures { IfOk result (λ t. value_view t ≡ node mapping (push (pairs_view pairs.entry.items) (bytes_of key.entry) (value_view value.entry))) }
+fn with_pair<'a>(map: OpenMap<'a>, key: Text<'a>, value: Tree<'a>) -> Result<Tree<'a>, AllocError>
+    ensures { IfOk result (λ t. value_view t ≡ node mapping (push (pairs_view map.entry.pairs.items) (bytes_of key.entry) (value_view value.entry))) }
 {
-    let mut pairs = pairs;
+    let OpenMap { mut pairs, .. } = map;
     pairs.push((key, value))?;
     Ok(Tree::Map(pairs))
 }
@@ -48,7 +48,7 @@ impl<'a> Frame<'a> {
     {
         match self.members {
             Open::Items(items) => with_item(items, value),
-            Open::Pairs(pairs, key) => with_pair(pairs, key, value),
+            Open::Pairs(map, key) => with_pair(map, key, value),
         }
     }
 }
@@ -110,7 +110,7 @@ pub fn with_given<'a>(frames: Vec<Frame<'a>>, given: Option<Tree<'a>>) -> Result
     if !is_node(&given) {
         return Ok(Progress::Inside(frames, given));
     }
-    if 10 <= frames.len() {
+    if DEPTH_LIMIT <= frames.len() {
         return Err(Stop::Fault(Code::Y10));
     }
     Ok(Progress::Inside(frames, given))
@@ -126,7 +126,7 @@ pub fn begun<'a>(
         then with_given (frame_view frame.entry ∷ frames_view frames.entry.items) (given_view given.entry) else Err Y10) }
 {
     let mut frames = frames;
-    if 10 <= frames.len() {
+    if DEPTH_LIMIT <= frames.len() {
         return Err(Stop::Fault(Code::Y10));
     }
     frames.push(frame)?;

@@ -1,6 +1,7 @@
 //! What the lines of a text say, and the nodes that are open between them.
 
 use crate::fault::Code;
+use crate::open_map::OpenMap;
 use crate::tree::{Text, Tree};
 
 /// What an entry begins with.
@@ -39,7 +40,7 @@ pub struct Spoken<'a> {
 #[derive(Drop)]
 pub enum Open<'a> {
     Items(Vec<Tree<'a>>),
-    Pairs(Vec<(Text<'a>, Tree<'a>)>, Text<'a>),
+    Pairs(OpenMap<'a>, Text<'a>),
 }
 
 /// An open node.

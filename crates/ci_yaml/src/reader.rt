@@ -1,6 +1,15 @@
 //! Reading a text.
 
-ghost use Rattle.std.specs.Prelude.{◌≡◌, ◌<◌, ◌≤◌, IfOk, Err, length};
+ghost use Rattle.std.specs.Prelude.{◌≡◌, ℕ, ◌+◌, ◌<◌, ◌≤◌, [], map, option_map, IfOk, IfErr, Ok, Err, length, take, drop};
+ghost use Rattle.ci_yaml.specs.View.{bytes_of, chomp_view, value_view, entry_view, state_view, spoken_view};
+ghost use Rattle.ci_yaml.specs.Line.{line_spoken};
+ghost use Rattle.ci_yaml.specs.ReadLines.{Reader, with_text, stop_or, ending_at, content, read_lines, beginning};
+ghost use Rattle.ci_yaml.specs.Least.{lesser};
+ghost use Rattle.ci_yaml.specs.Document.{literal, last_column, AreBlock, EndsBlock, HasTree, IsFault};
+ghost use Rattle.ci_yaml.specs.Tree.{Value};
+ghost use Rattle.ci_yaml.specs.Blocks.{texts_of};
+ghost use Rattle.ci_yaml.specs.Stops.{below_view, passed_view, entered, GivesAt, BlockFails, StopsBy, HasRead, AreShort, Reads, RefusedBy, GivesTree, GivesFault};
+ghost use Rattle.ci_yaml.specs.declared.fault.Code.{Code};
 ghost use Rattle.ci_yaml.specs.declared.fault.Code.TheVariants.{Y1};
 ghost use Rattle.ci_yaml.specs.declared.fault.YamlFault.TheVariants.{Fault};
 
@@ -22,10 +31,69 @@ struct Passed<'a> {
     below: Option<(Chomp, u32)>,
 }
 
-fn last_column(entries: &[Entry]) -> u32 {
+/// The column of the last entry.
+fn last_column(entries: &[Entry]) -> u32
+    ensures { result ≡ last_column (map entry_view entries.now) }
+{
     match entries {
         [.., entry] => entry.column,
         [] => 0,
+    }
+}
+
+/// How the literal block below a line is read, and below which column, if the line has a header.
+fn below_of(header: Option<Chomp>, column: u32) -> Option<(Chomp, u32)>
+    ensures { below_view result ≡ ending_at (option_map chomp_view header) column }
+{
+    match header {
+        Some(how) => Some((how, column)),
+        None => None,
+    }
+}
+
+/// What was read, unless a code holds of the line itself. Errors: that code.
+fn unless<'a>(
+    code: Option<Code>,
+    number: usize,
+    passed: Passed<'a>,
+) -> Result<Passed<'a>, YamlFault>
+    ensures { GivesAt passed_view number result (stop_or code (passed_view passed.entry)) }
+{
+    match code {
+        None => Ok(passed),
+        Some(code) => Err(YamlFault::Fault(code, number)),
+    }
+}
+
+/// The lesser of a code and another, if there is another.
+fn lesser_of(place: Code, code: Option<Code>) -> Code
+    ensures { result ≡ lesser place code }
+{
+    match code {
+        None => place,
+        Some(code) => lesser(place, code),
+    }
+}
+
+/// Enters what a line says, which is counted from 1.
+fn enter<'a>(
+    alloc: Global,
+    progress: Progress<'a>,
+    number: usize,
+    said: Spoken<'a>,
+) -> Result<Passed<'a>, YamlFault>
+    ensures { GivesAt passed_view number result (entered (state_view progress.entry) (spoken_view said.entry)) }
+{
+    let Spoken {
+        entries,
+        header,
+        code,
+    } = said;
+    let below = below_of(header, last_column(&entries));
+    match enter_all(alloc, progress, entries) {
+        Ok(progress) => unless(code, number, Passed { progress, below }),
+        Err(Stop::Memory) => Err(YamlFault::Memory),
+        Err(Stop::Fault(place)) => Err(YamlFault::Fault(lesser_of(place, code), number)),
     }
 }
 
@@ -35,34 +103,18 @@ fn read_line<'a>(
     progress: Progress<'a>,
     number: usize,
     line: &'a str,
-) -> Result<Passed<'a>, YamlFault> {
-    // No line is longer than its text.
-    if TEXT_LIMIT < line.len() {
-        return Err(YamlFault::Fault(Code::Y1, 1));
-    }
-    let Spoken {
-        entries,
-        header,
-        code,
-    } = line_spoken(alloc, number, line)?;
-    let column = last_column(&entries);
-    let below = match header {
-        Some(how) => Some((how, column)),
-        None => None,
-    };
-    match (enter_all(alloc, progress, entries), code) {
-        (Ok(progress), None) => Ok(Passed { progress, below }),
-        (Ok(_), Some(code)) => Err(YamlFault::Fault(code, number)),
-        (Err(Stop::Memory), _) => Err(YamlFault::Memory),
-        (Err(Stop::Fault(place)), None) => Err(YamlFault::Fault(place, number)),
-        (Err(Stop::Fault(place)), Some(code)) => {
-            Err(YamlFault::Fault(lesser(place, code), number))
-        }
-    }
+) -> Result<Passed<'a>, YamlFault>
+    requires fits { length line.now ≤ 65536 }
+    ensures { GivesAt passed_view number result (content (state_view progress.entry) (line_spoken line.now)) }
+{
+    let said = line_spoken(alloc, number, line)?;
+    enter(alloc, progress, number, said)
 }
 
 /// With this text for the value of the last entry.
-fn with_text<'a>(progress: Progress<'a>, text: Text<'a>) -> Progress<'a> {
+fn with_text<'a>(progress: Progress<'a>, text: Text<'a>) -> Progress<'a>
+    ensures { state_view result ≡ with_text (bytes_of text.entry) (state_view progress.entry) }
+{
     match progress {
         Progress::Start => Progress::Start,
         Progress::Whole(_) => Progress::Whole(Tree::Text(text)),
@@ -78,7 +130,11 @@ fn read_block<'a>(
     at: usize,
     lines: &[&'a str],
 ) -> Result<(usize, Text<'a>), YamlFault>
+    requires fits { at + length lines.now < 18446744073709551616 }
     ensures within { IfOk result (λ r. r.0 ≤ length lines.now) }
+    ensures block { IfOk result (λ r. AreBlock column [] (texts_of (take r.0 lines.now)) × EndsBlock column (texts_of (drop r.0 lines.now))) }
+    ensures text { IfOk result (λ r. bytes_of r.1 ≡ literal (chomp_view how) (texts_of (take r.0 lines.now))) }
+    ensures fault { IfErr result (BlockFails column at lines.now) }
 {
     match block_len(column, lines) {
         Ok(len) => {
@@ -94,29 +150,61 @@ fn read_block<'a>(
             };
             Ok((len, Text::Owned(text, Span { start, end })))
         }
-        Err(BlockFault { at: place, code }) => {
-            let line = at.saturating_add(place).saturating_add(1);
-            Err(YamlFault::Fault(code, line))
-        },
+        Err(BlockFault { at: place, code }) => { Err(YamlFault::Fault(code, at + place + 1)) }
     }
 }
 
-fn read_lines<'a>(alloc: Global, lines: &[&'a str]) -> Result<Progress<'a>, YamlFault> {
+/// Reads the line behind the first lines, so many, and the literal block below it: how many lines are read then.
+fn read_part<'a>(
+    alloc: Global,
+    progress: Progress<'a>,
+    at: usize,
+    lines: &[&'a str],
+) -> Result<(usize, Progress<'a>), YamlFault>
+    requires inside { at < length lines.now }
+    requires short { AreShort (texts_of lines.now) }
+    requires before { HasRead (texts_of lines.now) at (state_view progress) }
+    ensures more { IfOk result (λ r. (at < r.0) × (r.0 ≤ length lines.now)) }
+    ensures read { IfOk result (λ r. HasRead (texts_of lines.now) r.0 (state_view r.1)) }
+    ensures fault { IfErr result (StopsBy (texts_of lines.now)) }
+{
+    let Passed { progress, below } = read_line(alloc, progress, at + 1, lines[at])?;
+    let next = at + 1;
+    match below {
+        None => Ok((next, progress)),
+        Some((how, column)) => {
+            let (len, text) = read_block(alloc, how, column, next, &lines[next..])?;
+            Ok((next + len, with_text(progress, text)))
+        }
+    }
+}
+
+/// Reads the lines. Errors: the first line that cannot follow those before it, and its code; or memory was refused.
+fn read_lines<'a>(alloc: Global, lines: &[&'a str]) -> Result<Progress<'a>, YamlFault>
+    requires short { AreShort (texts_of lines.now) }
+    ensures read { IfOk result (λ p. (r : Reader) × (read_lines beginning (texts_of lines.now) ≡ Ok r) × (r.state ≡ state_view p)) }
+    ensures fault { IfErr result (StopsBy (texts_of lines.now)) }
+{
     let mut progress = Progress::Start;
     let mut at = 0;
     'lines: while at < lines.len() {
-        let passed = read_line(alloc, progress, at + 1, lines[at])?;
-        at += 1;
-        match passed.below {
-            None => progress = passed.progress,
-            Some((how, column)) => {
-                let (len, text) = read_block(alloc, how, column, at, &lines[at..])?;
-                progress = with_text(passed.progress, text);
-                at += len;
-            }
-        }
+        let (next, more) = read_part(alloc, progress, at, lines)?;
+        progress = more;
+        at = next;
     }
     Ok(progress)
+}
+
+/// The tree of the lines. Errors: the first line that cannot follow those before it, and its code; or memory was refused.
+fn tree_of<'a>(alloc: Global, lines: &[&'a str]) -> Result<Tree<'a>, YamlFault>
+    requires short { AreShort (texts_of lines.now) }
+    ensures { Reads (texts_of lines.now) result }
+{
+    let progress = read_lines(alloc, lines)?;
+    match finish(progress)? {
+        Some(tree) => Ok(tree),
+        None => Err(YamlFault::Fault(Code::Y12, 1)),
+    }
 }
 
 /// The tree of a text.
@@ -124,6 +212,14 @@ fn read_lines<'a>(alloc: Global, lines: &[&'a str]) -> Result<Progress<'a>, Yaml
 /// Errors: the code that holds of the first line that cannot follow the lines before it, the least of those that
 /// hold there; or memory was refused.
 pub fn read(alloc: Global, text: &str) -> Result<Tree<'_>, YamlFault>
+    // What is returned is the tree that the text has.
+    ensures tree { IfOk result (λ t. HasTree text.now (value_view t)) }
+    // A text that has a tree is read, unless memory is refused.
+    ensures all { (v : Value) → HasTree text.now v → GivesTree v result }
+    // A fault is the one that the text has: the first line that makes no good beginning, and the least code that holds of it.
+    ensures fault { IfErr result (RefusedBy text.now) }
+    // A text that has a fault is refused with it, unless memory is refused.
+    ensures refused { (at : ℕ) (code : Code) → IsFault text.now at code → GivesFault at code result }
     // A text that is too long is refused before all else.
     ensures too_long { 65536 < length text.now → result ≡ Err (Fault Y1 1) }
 {
@@ -131,9 +227,5 @@ pub fn read(alloc: Global, text: &str) -> Result<Tree<'_>, YamlFault>
         return Err(YamlFault::Fault(Code::Y1, 1));
     }
     let lines: Vec<&str> = text.lines().collect(alloc)?;
-    let progress = read_lines(alloc, &lines)?;
-    match finish(progress)? {
-        Some(tree) => Ok(tree),
-        None => Err(YamlFault::Fault(Code::Y12, 1)),
-    }
+    tree_of(alloc, &lines)
 }

@@ -4,6 +4,7 @@ use crate::fault::YamlFault;
 use crate::reader::read;
 use crate::tree::{Text, Tree};
 use std::alloc::{AllocError, Global};
+use std::process::Abort;
 
 /// The tree on one line: texts in angle brackets, pairs as `key:value`, each member with a `;` behind it.
 fn push_shown(out: &mut String, tree: &Tree) -> Result<(), AllocError> {
@@ -50,126 +51,139 @@ fn answer(alloc: Global, text: &str) -> Result<String, AllocError> {
     Ok(out)
 }
 
-#[test]
-fn faults(rt: HostRuntime) -> Result<(), AllocError> {
-    let rows = [
-        ("a: 'x", "Y6 line 1"),
-        ("a: \"\\q\"", "Y7 line 1"),
-        ("a: [1, , 2]", "Y8 line 1"),
-        ("a: &x 1", "Y9 line 1"),
-        ("a: 'x' y", "Y11 line 1"),
-        ("a: b: c", "Y11 line 1"),
-        ("- 1\na: 2", "Y4 line 2"),
-        ("a:\n    b: 1\n  c: 2", "Y3 line 3"),
-        ("a: 1\n  b: 2", "Y3 line 2"),
-        ("a: 1\nb: 2\na: 3", "Y5 line 3"),
-        ("a:\n\tb: 1", "Y2 line 2"),
-        ("", "Y12 line 1"),
-        ("# c\n\n", "Y12 line 1"),
-        ("a: 1\n'b: 2", "Y4 line 2"),
-        ("a: 1\n&x b: 2", "Y4 line 2"),
-        ("a: 1\n? b", "Y4 line 2"),
-        ("a: 1\nb:\tc", "Y4 line 2"),
-        ("a:\n  &x b: 1", "Y3 line 2"),
-        ("a:\n  x", "Y3 line 2"),
-        ("--- a: 1", "Y9 line 1"),
-        ("a: 1\n--- b: 1", "Y9 line 2"),
-        ("a: 1\n---", "Y4 line 2"),
-        ("x\n---", "Y3 line 2"),
-        ("x\ny", "Y3 line 2"),
-        (" a: 1", "Y3 line 1"),
-        ("a: 1\n- x", "Y4 line 2"),
-        ("1: a\n'1': b", "Y5 line 2"),
-        ("a: 1\na: 'x", "Y5 line 2"),
-        ("\"b\\q\": 2", "Y7 line 1"),
-        ("a: 1\n\"b\\q\": 2", "Y4 line 2"),
-        ("- \"b\\q\": 2", "Y7 line 1"),
-        ("- \tx", "Y2 line 1"),
-        ("- \t#c", "Y2 line 1"),
-        ("-\tx", "Y9 line 1"),
-        ("a:\tb", "Y9 line 1"),
-        (": x", "Y9 line 1"),
-        ("a: ,x", "Y9 line 1"),
-        ("a: [a:]", "Y11 line 1"),
-        ("a: [a: ]", "Y11 line 1"),
-        ("a: [a: b]", "Y9 line 1"),
-        ("a: [- ]", "Y9 line 1"),
-        ("a: [#a]", "Y9 line 1"),
-        ("a: [a #b]", "Y8 line 1"),
-        ("a: [a, ]", "Y8 line 1"),
-        ("a: ['a' \"b]", "Y11 line 1"),
-        ("a: [\"\\q\", 'b", "Y6 line 1"),
-        ("a: \"x\\", "Y6 line 1"),
-        ("a: 'x'\t# c", "Y11 line 1"),
-        ("a: |5", "Y9 line 1"),
-        ("a: |-5", "Y9 line 1"),
-        ("a: |x", "Y11 line 1"),
-        ("|", "Y9 line 1"),
-        ("a: |\n   x\n  y", "Y3 line 3"),
-        ("a: |\n  x\n\t\n  y", "Y3 line 4"),
-        ("\u{FEFF}a: 1", "Y9 line 1"),
-        ("a: |\n  \u{FEFF}", "Y9 line 2"),
-        ("# \u{1}", "Y9 line 1"),
-        ("a: x\u{7F}", "Y9 line 1"),
-        ("a: 1\r", "Y9 line 1"),
-    ];
+/// Each text's answer is as expected.
+fn answers(rt: &impl Abort, alloc: Global, rows: &[(&str, &str)]) -> Result<(), AllocError> {
     for (text, expected) in rows {
-        let found = answer(rt.alloc(), text)?;
-        assert_eq!(rt; found.as_str(), expected, "at {text:?}");
+        let found = answer(alloc, text)?;
+        assert_eq!(rt; found.as_str(), *expected, "at {text:?}");
     }
     Ok(())
 }
 
+/// Lines that can't stand where they are.
+const PLACES: &[(&str, &str)] = &[
+    ("- 1\na: 2", "Y4 line 2"),
+    ("a:\n    b: 1\n  c: 2", "Y3 line 3"),
+    ("a: 1\n  b: 2", "Y3 line 2"),
+    ("a: 1\nb: 2\na: 3", "Y5 line 3"),
+    ("a:\n\tb: 1", "Y2 line 2"),
+    ("", "Y12 line 1"),
+    ("# c\n\n", "Y12 line 1"),
+    ("a: 1\n'b: 2", "Y4 line 2"),
+    ("a: 1\n&x b: 2", "Y4 line 2"),
+    ("a: 1\n? b", "Y4 line 2"),
+    ("a: 1\nb:\tc", "Y4 line 2"),
+    ("a:\n  &x b: 1", "Y3 line 2"),
+    ("a:\n  x", "Y3 line 2"),
+    ("a: 1\n---", "Y4 line 2"),
+    ("x\n---", "Y3 line 2"),
+    ("x\ny", "Y3 line 2"),
+    (" a: 1", "Y3 line 1"),
+    ("a: 1\n- x", "Y4 line 2"),
+    ("1: a\n'1': b", "Y5 line 2"),
+    ("a: 1\na: 'x", "Y5 line 2"),
+    ("a: 1\n\"b\\q\": 2", "Y4 line 2"),
+    ("- \tx", "Y2 line 1"),
+    ("- \t#c", "Y2 line 1"),
+    ("a: |\n   x\n  y", "Y3 line 3"),
+    ("a: |\n  x\n\t\n  y", "Y3 line 4"),
+];
+
+#[test]
+fn places(rt: HostRuntime) -> Result<(), AllocError> {
+    answers(&rt, rt.alloc(), PLACES)
+}
+
+/// Lines on which something is wrongly written.
+const FORMS: &[(&str, &str)] = &[
+    ("a: 'x", "Y6 line 1"),
+    ("a: \"\\q\"", "Y7 line 1"),
+    ("a: [1, , 2]", "Y8 line 1"),
+    ("a: &x 1", "Y9 line 1"),
+    ("a: 'x' y", "Y11 line 1"),
+    ("a: b: c", "Y11 line 1"),
+    ("--- a: 1", "Y9 line 1"),
+    ("a: 1\n--- b: 1", "Y9 line 2"),
+    ("\"b\\q\": 2", "Y7 line 1"),
+    ("- \"b\\q\": 2", "Y7 line 1"),
+    ("-\tx", "Y9 line 1"),
+    ("a:\tb", "Y9 line 1"),
+    (": x", "Y9 line 1"),
+    ("a: ,x", "Y9 line 1"),
+    ("a: [a:]", "Y11 line 1"),
+    ("a: [a: ]", "Y11 line 1"),
+    ("a: [a: b]", "Y9 line 1"),
+    ("a: [- ]", "Y9 line 1"),
+    ("a: [#a]", "Y9 line 1"),
+    ("a: [a #b]", "Y8 line 1"),
+    ("a: [a, ]", "Y8 line 1"),
+    ("a: ['a' \"b]", "Y11 line 1"),
+    ("a: [\"\\q\", 'b", "Y6 line 1"),
+    ("a: \"x\\", "Y6 line 1"),
+    ("a: 'x'\t# c", "Y11 line 1"),
+    ("a: |5", "Y9 line 1"),
+    ("a: |-5", "Y9 line 1"),
+    ("a: |x", "Y11 line 1"),
+    ("|", "Y9 line 1"),
+    ("\u{FEFF}a: 1", "Y9 line 1"),
+    ("a: |\n  \u{FEFF}", "Y9 line 2"),
+    ("# \u{1}", "Y9 line 1"),
+    ("a: x\u{7F}", "Y9 line 1"),
+    ("a: 1\r", "Y9 line 1"),
+];
+
+#[test]
+fn forms(rt: HostRuntime) -> Result<(), AllocError> {
+    answers(&rt, rt.alloc(), FORMS)
+}
+
+const TREES: &[(&str, &str)] = &[
+    ("a: 007", "{<a>:<007>;}"),
+    ("a: []", "{<a>:[];}"),
+    ("a: [ ]", "{<a>:[];}"),
+    ("a: [ x , 'y, z' ,3]", "{<a>:[<x>;<y, z>;3;];}"),
+    ("[-, ?, a#b]", "[<->;<?>;<a#b>;]"),
+    ("x y # c", "<x y>"),
+    ("a: x\t# c", "{<a>:<x\t# c>;}"),
+    ("a: x\t # c", "{<a>:<x>;}"),
+    ("a:\t", "{<a>:null;}"),
+    ("a:\nb: ~\nc: null", "{<a>:null;<b>:null;<c>:null;}"),
+    (
+        "a: true\nb: false\nc: 'true'\nd: True",
+        "{<a>:true;<b>:false;<c>:<true>;<d>:<True>;}",
+    ),
+    (
+        "a: 0\nb: -0\nc: -1\nd: 10",
+        "{<a>:0;<b>:<-0>;<c>:-1;<d>:10;}",
+    ),
+    (
+        "a: 9007199254740991\nb: 9007199254740992",
+        "{<a>:9007199254740991;<b>:<9007199254740992>;}",
+    ),
+    ("a: 'it''s'\nb: ''\nc: ''''", "{<a>:<it's>;<b>:<>;<c>:<'>;}"),
+    ("a: \"\\\\ \\\" \\n\\t.\"", "{<a>:<\\ \" \n\t.>;}"),
+    ("\"\": x\n'a b'\t: y", "{<>:<x>;<a b>:<y>;}"),
+    ("a:\n- 1\n- 2\nb: 3", "{<a>:[1;2;];<b>:3;}"),
+    (
+        "- - 1\n  - 2\n- a: 3\n  b: 4\n-",
+        "[[1;2;];{<a>:3;<b>:4;};null;]",
+    ),
+    ("- a:\n  - x", "[{<a>:[<x>;];};]"),
+    ("a: 1\r\nb: 2", "{<a>:1;<b>:2;}"),
+    ("a: |\n  x\n\nb: 1", "{<a>:<x\n>;<b>:1;}"),
+    ("a: |-\n  x\n\n  y\n\n", "{<a>:<x\n\ny>;}"),
+    ("a: |+\n  x\n\n", "{<a>:<x\n\n>;}"),
+    ("a: |\n\n\nb: 1", "{<a>:<>;<b>:1;}"),
+    ("- |\n x", "[<x\n>;]"),
+    (
+        "job:\n  rules:\n  - if: $A\n    when: never\n  - when: always\n  script: |\n    # no comment\n     x\n\n  tags: [a, 'b c']",
+        "{<job>:{<rules>:[{<if>:<$A>;<when>:<never>;};{<when>:<always>;};];<script>:<# no comment\n x\n>;<tags>:[<a>;<b c>;];};}",
+    ),
+];
+
 #[test]
 fn trees(rt: HostRuntime) -> Result<(), AllocError> {
-    let rows = [
-        ("a: 007", "{<a>:<007>;}"),
-        ("a: []", "{<a>:[];}"),
-        ("a: [ ]", "{<a>:[];}"),
-        ("a: [ x , 'y, z' ,3]", "{<a>:[<x>;<y, z>;3;];}"),
-        ("[-, ?, a#b]", "[<->;<?>;<a#b>;]"),
-        ("x y # c", "<x y>"),
-        ("a: x\t# c", "{<a>:<x\t# c>;}"),
-        ("a: x\t # c", "{<a>:<x>;}"),
-        ("a:\t", "{<a>:null;}"),
-        ("a:\nb: ~\nc: null", "{<a>:null;<b>:null;<c>:null;}"),
-        (
-            "a: true\nb: false\nc: 'true'\nd: True",
-            "{<a>:true;<b>:false;<c>:<true>;<d>:<True>;}",
-        ),
-        (
-            "a: 0\nb: -0\nc: -1\nd: 10",
-            "{<a>:0;<b>:<-0>;<c>:-1;<d>:10;}",
-        ),
-        (
-            "a: 9007199254740991\nb: 9007199254740992",
-            "{<a>:9007199254740991;<b>:<9007199254740992>;}",
-        ),
-        ("a: 'it''s'\nb: ''\nc: ''''", "{<a>:<it's>;<b>:<>;<c>:<'>;}"),
-        ("a: \"\\\\ \\\" \\n\\t.\"", "{<a>:<\\ \" \n\t.>;}"),
-        ("\"\": x\n'a b'\t: y", "{<>:<x>;<a b>:<y>;}"),
-        ("a:\n- 1\n- 2\nb: 3", "{<a>:[1;2;];<b>:3;}"),
-        (
-            "- - 1\n  - 2\n- a: 3\n  b: 4\n-",
-            "[[1;2;];{<a>:3;<b>:4;};null;]",
-        ),
-        ("- a:\n  - x", "[{<a>:[<x>;];};]"),
-        ("a: 1\r\nb: 2", "{<a>:1;<b>:2;}"),
-        ("a: |\n  x\n\nb: 1", "{<a>:<x\n>;<b>:1;}"),
-        ("a: |-\n  x\n\n  y\n\n", "{<a>:<x\n\ny>;}"),
-        ("a: |+\n  x\n\n", "{<a>:<x\n\n>;}"),
-        ("a: |\n\n\nb: 1", "{<a>:<>;<b>:1;}"),
-        ("- |\n x", "[<x\n>;]"),
-        (
-            "job:\n  rules:\n  - if: $A\n    when: never\n  - when: always\n  script: |\n    # no comment\n     x\n\n  tags: [a, 'b c']",
-            "{<job>:{<rules>:[{<if>:<$A>;<when>:<never>;};{<when>:<always>;};];<script>:<# no comment\n x\n>;<tags>:[<a>;<b c>;];};}",
-        ),
-    ];
-    for (text, expected) in rows {
-        let found = answer(rt.alloc(), text)?;
-        assert_eq!(rt; found.as_str(), expected, "at {text:?}");
-    }
-    Ok(())
+    answers(&rt, rt.alloc(), TREES)
 }
 
 fn answer_filled(alloc: Global, start: &str, fill: &str, n: usize) -> Result<String, AllocError> {

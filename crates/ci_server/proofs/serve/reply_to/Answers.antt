@@ -1,7 +1,7 @@
 use Rattle.std.proofs.Common.{refl, ap, ◌∙◌, inl, inr}
 use Rattle.std.specs.Prelude.{Err}
 use Rattle.ci_machine.specs.Reply.{refusal}
-use Rattle.ci_server.specs.Reading.{request, refused}
+use Rattle.ci_http.specs.Reading.{request, refused}
 use Rattle.ci_server.proofs.serve.reply_to.Goals as goal
 
 pub returns-in-Ok-clause-reply : goal.returns-in-Ok-clause-reply

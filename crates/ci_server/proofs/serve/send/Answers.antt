@@ -2,7 +2,7 @@ use Rattle.std.proofs.Common.{◌≡◌, ℕ, List, ◌++◌, sym, ap, ◌∙◌
 use Rattle.std.specs.Prelude.{Option, Result, Ok, Err, OnOk, OnErr}
 use Rattle.std.specs.Io.KnownBytes.{Appends}
 use Rattle.std.proofs.KnownBytes.{Appends-trans}
-use Rattle.ci_server.specs.ReplyText.{reply_text}
+use Rattle.ci_http.specs.ReplyText.{reply_text}
 use Rattle.ci_server.specs.Serving.{WritesFront}
 use Rattle.ci_server.proofs.serve.send.Goals as goal
 

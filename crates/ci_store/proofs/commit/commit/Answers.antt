@@ -1,11 +1,7 @@
-use Rattle.std.proofs.Common.{◌≡◌, ◌∙◌, refl, sym, subst, ap, inl, inr, arith, true, false, IsTrue}
-use Rattle.sqlite.specs.Tree.{Trees}
+use Rattle.std.proofs.Common.{◌∙◌, refl, sym, subst, ap, inr}
 use Rattle.sqlite.specs.Effect.{Database}
-use Rattle.sqlite.specs.State.{HasCleanDisk}
-use Rattle.sqlite.specs.Held.{state}
-use Rattle.ci_machine.specs.State.{State, applied, changed}
-use Rattle.ci_store.specs.Stands.{Stands, StandsIn, IsAt}
-use Rattle.ci_store.specs.Commit.{Makes}
+use Rattle.ci_machine.specs.State.{applied}
+use Rattle.ci_store.specs.Stands.{StandsIn}
 use Rattle.ci_store.proofs.commit.commit.Goals as goal
 
 pub returns-in-Done-clause-done : goal.returns-in-Done-clause-done

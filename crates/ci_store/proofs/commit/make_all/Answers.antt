@@ -1,11 +1,10 @@
-use Rattle.std.proofs.Common.{rules, ◌≡◌, ◌∙◌, sym, subst, take, arith, ◌+◌, length, ◌<◌, get_or, ap}
-use Rattle.sqlite.specs.State.{HasCleanDisk, KeepsCommit, Survives}
+use Rattle.std.proofs.Common.{rules, ◌≡◌, ◌∙◌, sym, subst, take, arith, get_or, ap}
+use Rattle.sqlite.specs.State.{HasCleanDisk}
 use Rattle.sqlite.specs.Held.{state}
 use Rattle.sqlite.proofs.StateLemmas.{survives_then}
 use Rattle.sqlite.proofs.InsideLemmas.{keeps_then}
-use Rattle.ci_machine.specs.State.{State, applied, changed}
-use Rattle.ci_store.specs.Stands.{Stands, StandsIn, IsAt}
-use Rattle.ci_store.specs.Commit.{Makes}
+use Rattle.ci_machine.specs.State.{applied, changed}
+use Rattle.ci_store.specs.Stands.{Stands}
 use Rattle.ci_store.proofs.Applied.{applied_more}
 use Rattle.ci_store.proofs.commit.make_all.Goals as goal
 

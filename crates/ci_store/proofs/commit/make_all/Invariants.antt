@@ -1,8 +1,7 @@
 use Rattle.std.proofs.Common.{◌≡◌, take, IsTrue}
 use Rattle.sqlite.specs.State.{HasCleanDisk, KeepsCommit, Survives}
 use Rattle.sqlite.specs.Held.{state}
-use Rattle.ci_machine.specs.State.{State, applied, changed}
-use Rattle.ci_store.specs.Stands.{Stands, StandsIn, IsAt}
+use Rattle.ci_machine.specs.State.{applied}
 use Rattle.ci_store.specs.Commit.{Makes}
 use Rattle.ci_store.proofs.commit.make_all.Given as goal
 

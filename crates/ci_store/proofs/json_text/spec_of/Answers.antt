@@ -1,6 +1,6 @@
-use Rattle.std.proofs.Common.{rules, ◌≡◌, ◌∙◌, Some, codes, option_map, option_and_then, sym, ap}
-use Rattle.serde_json.specs.Data.{Data, array, number, unsigned}
-use Rattle.serde_json.specs.Find.{get, as_number, as_u64}
+use Rattle.std.proofs.Common.{rules, ◌≡◌, codes, ap}
+use Rattle.serde_json.specs.Data.{array, number, unsigned}
+use Rattle.serde_json.specs.Find.{get}
 use Rattle.serde_json.specs.View.{view}
 use Rattle.ci_store.specs.JsonText.{strings}
 use Rattle.ci_store.proofs.Reading.{same_strings}

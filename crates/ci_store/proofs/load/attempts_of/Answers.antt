@@ -1,4 +1,4 @@
-use Rattle.std.proofs.Common.{◌≡◌, ◌∙◌, [], ◌∷◌, subst}
+use Rattle.std.proofs.Common.{◌∙◌, [], ◌∷◌, subst}
 use Rattle.sqlite.specs.Values.{bound_value}
 use Rattle.sqlite.specs.State.{Shown}
 use Rattle.sqlite.specs.Held.{state}
@@ -12,9 +12,9 @@ pub look_up-requires-clause-plain : goal.look_up-requires-clause-plain
 look_up-requires-clause-plain g c = plain_attempts
 
 pub returns-clause-found : goal.returns-clause-found
-returns-clause-found g c clean =
+returns-clause-found g c clean s at =
     let old = state g.S.Store c.args.conn.now in
     let new = state g.S.Store c.look_up.new.conn in
     let rows = c.in_ok-rows.rows.items in
     let shown = subst (λ row. Shown SELECT_ATTEMPTS_OF.now row old new rows) (λ i. bound_value (c.in_ok-number.ensures i) ∷ []) (c.in_ok-rows.ensures.shown clean) in
-    if_ok c.read_attempts.result (λ found read s at. same_map attempt_row same_attempt _ _ (read ∙ c.as_slice.ensures.value ∙ attempts_shown old new s c.args.job rows at.now shown)) c.read_attempts.ensures
+    if_ok c.read_attempts.result (λ found read. same_map attempt_row same_attempt _ _ (read ∙ c.as_slice.ensures.value ∙ attempts_shown old new s c.args.job rows at.now shown)) c.read_attempts.ensures

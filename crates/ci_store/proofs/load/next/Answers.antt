@@ -1,12 +1,11 @@
-use Rattle.std.proofs.Common.{rules, ◌≡◌, ◌∙◌, pos, [], ◌∷◌, ◌<◌, ◌≤◌, length, get_or, subst}
+use Rattle.std.proofs.Common.{rules, ◌≡◌, ◌∙◌, [], ◌∷◌, subst}
 use Rattle.sqlite.specs.declared.types.Value.TheVariants.{Text}
 use Rattle.sqlite.specs.Values.{bound_value}
-use Rattle.sqlite.specs.Order.{column}
 use Rattle.sqlite.specs.State.{Shown}
 use Rattle.sqlite.specs.Held.{state}
 use Rattle.ci_store.specs.declared.texts.TheConstants.{SELECT_META}
 use Rattle.ci_store.specs.Stands.{counter_key, meta_row}
-use Rattle.ci_store.specs.Load.{next_in}
+use Rattle.ci_machine.specs.Step.{next_of}
 use Rattle.ci_store.proofs.Loads.{plain_meta}
 use Rattle.ci_store.proofs.NextLoads.{next_found, number_read}
 use Rattle.ci_store.proofs.load.next.Goals as goal
@@ -23,5 +22,5 @@ returns-in-len1-clause-found g c clean s at =
     let shown = subst (λ row. Shown SELECT_META.now row old new rows) key (c.in_ok-rows.ensures.shown clean) in
     let is = next_found old new s at.now c.args.counter rows shown in
     let item = c.row-item.is in
-    let first : meta_row (counter_key c.args.counter) (next_in c.args.counter s.next) ≡ c.row-item.result = search (rules, is, item) in
-    number_read (counter_key c.args.counter) _ (next_in c.args.counter s.next) c.row-item.result first c.in_ok-get-in-len1.ensures.ok.1
+    let first : meta_row (counter_key c.args.counter) (next_of c.args.counter s.next) ≡ c.row-item.result = search (rules, is, item) in
+    number_read (counter_key c.args.counter) _ (next_of c.args.counter s.next) c.row-item.result first c.in_ok-get-in-len1.ensures.ok.1

@@ -1,14 +1,9 @@
-use Rattle.std.proofs.Common.{rules, ◌≡◌, [], ◌∷◌, ◌<◌, ◌≤◌, length, get_or, is_eq, subst}
-use Rattle.std.specs.Ordering.{nat_cmp}
-use Rattle.std.specs.Cmp.Lexicographic.{slice_cmp}
-use Rattle.sqlite.specs.declared.types.Value.TheVariants.{Text}
+use Rattle.std.proofs.Common.{rules, ◌≡◌, [], ◌∷◌, ◌<◌, ◌≤◌, ◌==◌, length, get_or, subst}
 use Rattle.sqlite.specs.Values.{bound_value}
 use Rattle.sqlite.specs.State.{Shown}
 use Rattle.sqlite.specs.Held.{state}
-use Rattle.sqlite_rules.proofs.ListLemmas.{all_has}
 use Rattle.ci_store.specs.declared.texts.TheConstants.{SELECT_PROJECT}
-use Rattle.ci_store.specs.Rows.{number, project_row}
-use Rattle.ci_store.specs.Load.{runner_cells, job_cells}
+use Rattle.ci_store.specs.Rows.{project_row}
 use Rattle.ci_store.proofs.Loads.{plain_project, project_among, none_found, one_found}
 use Rattle.ci_store.proofs.Same.{same_project}
 use Rattle.ci_store.proofs.load.project.Goals as goal
@@ -23,7 +18,7 @@ returns-in-empty-clause-found g c clean s at =
     let rows = c.in_ok-rows.rows.items in
     let shown = subst (λ row. Shown SELECT_PROJECT.now row old new rows) (λ i. bound_value (c.in_ok-number.ensures i) ∷ []) (c.in_ok-rows.ensures.shown clean) in
     let low : length rows < 1 = search rules in
-    none_found project_row (λ x. is_eq (nat_cmp x.id c.args.id)) s.projects rows (project_among old new s at.now c.args.id rows shown) low
+    none_found project_row (λ x. x.id == c.args.id) s.projects rows (project_among old new s at.now c.args.id rows shown) low
 
 pub returns-in-len1-clause-found : goal.returns-in-len1-clause-found
 returns-in-len1-clause-found g c clean s at =
@@ -37,4 +32,4 @@ returns-in-len1-clause-found g c clean s at =
     let read = c.in_ok-read_project-in-len1.ensures in
     let item = c.row-item.is in
     let first : get_or rows 0 (project_row x) ≡ project_row x = search (rules, read, item) in
-    one_found project_row (λ x. is_eq (nat_cmp x.id c.args.id)) s.projects rows (project_among old new s at.now c.args.id rows shown) x (project_row x) high low first (λ y h same. same_project x y same)
+    one_found project_row (λ x. x.id == c.args.id) s.projects rows (project_among old new s at.now c.args.id rows shown) x (project_row x) high low first (λ y h same. same_project x y same)

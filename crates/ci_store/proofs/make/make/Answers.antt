@@ -1,4 +1,4 @@
-use Rattle.std.proofs.Common.{◌≡◌, subst, sym, OnOk}
+use Rattle.std.proofs.Common.{subst, sym, OnOk}
 use Rattle.ci_machine.specs.State.{changed}
 use Rattle.ci_store.specs.Commit.{Makes}
 use Rattle.ci_store.proofs.make.make.Goals as goal

@@ -1,4 +1,4 @@
-use Rattle.std.proofs.Common.{◌≡◌, subst, sym, OnOk}
+use Rattle.std.proofs.Common.{subst, sym, OnOk}
 use Rattle.ci_machine.specs.State.{with_record}
 use Rattle.ci_store.specs.Commit.{Makes}
 use Rattle.ci_store.proofs.make.put_record.Goals as goal
@@ -26,3 +26,7 @@ returns-in-JobVariable-clause-makes g c clean inside =
 pub returns-in-Attempt-clause-makes : goal.returns-in-Attempt-clause-makes
 returns-in-Attempt-clause-makes g c clean inside =
     subst (λ x. OnOk c.put_attempt.result (Makes g.S.Store (with_record x) c.args.tx.now.conn.now c.put_attempt.new.tx.conn.now)) (sym c.in-Attempt.is) (c.put_attempt.ensures.makes clean inside)
+
+pub returns-in-Piece-clause-makes : goal.returns-in-Piece-clause-makes
+returns-in-Piece-clause-makes g c clean inside =
+    subst (λ x. OnOk c.put_piece.result (Makes g.S.Store (with_record x) c.args.tx.now.conn.now c.put_piece.new.tx.conn.now)) (sym c.in-Piece.is) (c.put_piece.ensures.makes clean inside)

@@ -1,15 +1,32 @@
-use Rattle.std.proofs.Common.{◌≡◌, [], ◌∷◌, refl, subst}
+use Rattle.std.proofs.Common.{[], ◌∷◌, refl, pos, subst, arith}
 use Rattle.sqlite.specs.Values.{bound_value}
+use Rattle.sqlite.specs.State.{HasCleanDisk}
+use Rattle.sqlite.specs.Held.{state}
 use Rattle.ci_tables.specs.Ran.{Changes}
 use Rattle.ci_store.specs.declared.texts.TheConstants.{DELETE_ATTEMPT}
-use Rattle.ci_store.proofs.Attempts.{attempt_removes, attempt_whole}
-use Rattle.ci_store.specs.Rows.{number}
+use Rattle.ci_store.specs.Schema.{attempt, piece}
+use Rattle.sqlite.specs.Effect.{Database}
+use Rattle.ci_tables.proofs.Childless.{LacksChild}
+use Rattle.ci_store.specs.Stands.{Stands}
+use Rattle.ci_store.proofs.Attempts.{attempt_removes}
+use Rattle.ci_store.proofs.Removals.{shaped_in, no_pieces, attempt_whole}
 use Rattle.ci_store.proofs.make.remove_attempt.Goals as goal
 
 pub returns-clause-makes : goal.returns-clause-makes
 returns-clause-makes g c clean inside =
     let old = c.args.tx.now.conn.now in
+    let mid = c.has_no_child.new.tx.conn.now in
     let new = c.change.new.tx.conn.now in
-    let ran = c.in_ok-change.ensures.changed clean inside in
-    let done = subst (λ row. Changes g.S.Store DELETE_ATTEMPT.now row c.in_ok-change.field-0 old new) (λ i. bound_value (c.in_ok-number.ensures i) ∷ []) ran.1 in
-    (ran.0, λ s stands. attempt_removes g.S.Store old new c.args.id c.in_ok-change.field-0 s stands (attempt_whole (number c.args.id ∷ []) _) done)
+    let id = c.args.id in
+    let early : HasCleanDisk (state g.S.Store mid) = omega (arith, c.change.ensures.survives.clean) in
+    let none = c.in_ok-has_no_child.ensures.none early inside in
+    let ran = c.in_ok-change.ensures.changed clean none.0 in
+    let done = subst (λ row. Changes g.S.Store DELETE_ATTEMPT.now row c.in_ok-change.field-0 mid new) (λ i. bound_value (c.in_ok-number.ensures i) ∷ []) ran.1 in (
+      ran.0,
+      λ s stands.
+          let found = no_pieces g.S.Store old mid s stands id none.1 in
+          let stands' = subst (Stands s) found.0 stands in
+          let lacks = subst (λ (db : Database). LacksChild piece 1 (pos id) db.trees) found.0 found.1 in
+          let shaped = shaped_in s (state g.S.Store mid).now stands' 6 attempt refl in
+          attempt_removes g.S.Store mid new id c.in_ok-change.field-0 s stands' (attempt_whole id (state g.S.Store mid).now.trees shaped lacks) done,
+    )

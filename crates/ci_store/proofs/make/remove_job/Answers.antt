@@ -1,4 +1,4 @@
-use Rattle.std.proofs.Common.{◌≡◌, [], ◌∷◌, refl, pos, subst, arith}
+use Rattle.std.proofs.Common.{[], ◌∷◌, refl, pos, subst, arith}
 use Rattle.sqlite.specs.Values.{bound_value}
 use Rattle.sqlite.specs.State.{HasCleanDisk}
 use Rattle.sqlite.specs.Held.{state}
@@ -8,7 +8,6 @@ use Rattle.ci_store.specs.Schema.{job, jobvar, attempt}
 use Rattle.sqlite.specs.Effect.{Database}
 use Rattle.ci_tables.proofs.Childless.{LacksChild}
 use Rattle.ci_store.specs.Stands.{Stands}
-use Rattle.ci_store.specs.Rows.{number}
 use Rattle.ci_store.proofs.Jobs.{job_removes}
 use Rattle.ci_store.proofs.Removals.{shaped_in, no_variables, no_attempts, job_whole}
 use Rattle.ci_store.proofs.make.remove_job.Goals as goal

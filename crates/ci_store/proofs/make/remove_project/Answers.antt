@@ -1,4 +1,4 @@
-use Rattle.std.proofs.Common.{◌≡◌, [], ◌∷◌, refl, subst}
+use Rattle.std.proofs.Common.{[], ◌∷◌, subst}
 use Rattle.sqlite.specs.Values.{bound_value}
 use Rattle.ci_tables.specs.Ran.{Changes}
 use Rattle.ci_store.specs.declared.texts.TheConstants.{DELETE_PROJECT}

@@ -1,4 +1,4 @@
-use Rattle.std.proofs.Common.{◌≡◌, ◌∙◌, [], ◌∷◌, string_bytes, subst}
+use Rattle.std.proofs.Common.{◌∙◌, [], ◌∷◌, string_bytes, subst}
 use Rattle.ci_store.specs.Load.{ReadsSpec}
 use Rattle.ci_store.proofs.Reading.{row9}
 use Rattle.ci_store.proofs.read.read_job.Goals as goal

@@ -1,4 +1,4 @@
-use Rattle.std.proofs.Common.{◌≡◌, ◌∙◌, [], ◌∷◌, string_bytes, subst}
+use Rattle.std.proofs.Common.{◌∙◌, [], ◌∷◌, string_bytes, subst}
 use Rattle.sqlite.specs.Order.{column}
 use Rattle.ci_store.specs.Load.{ReadsTags}
 use Rattle.ci_store.proofs.Reading.{row7, option_cell}

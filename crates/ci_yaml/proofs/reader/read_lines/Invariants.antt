@@ -1,8 +1,11 @@
 use Rattle.std.proofs.Common.{◌≤◌, ◌-◌, length}
+use Rattle.ci_yaml.specs.View.{state_view}
+use Rattle.ci_yaml.specs.Blocks.{texts_of}
+use Rattle.ci_yaml.specs.Stops.{HasRead, AreShort}
 use Rattle.ci_yaml.proofs.reader.read_lines.Given as goal
 
 abbrev pub invariant-lines : goal.invariant-lines
-invariant-lines l = l.at ≤ length l.lines
+invariant-lines l = (l.at ≤ length l.lines) × AreShort (texts_of l.lines) × HasRead (texts_of l.lines) l.at (state_view l.progress)
 
 abbrev pub decreases-lines : goal.decreases-lines
 decreases-lines l = length l.lines - l.at

@@ -1,0 +1,49 @@
+#!/usr/bin/env bash
+# Times `ciserver check` on texts of 60 KB and of 30 KB beside a C program that reads the same with libyaml: the
+# microseconds of a whole process, the least of many runs, and the instructions of one. Wants bin/ciserver (make build),
+# gcc, libyaml-dev, python3 and valgrind.
+set -eu
+export LC_ALL=C
+root=$(cd "$(dirname "$0")/.." && pwd)
+work=$(mktemp -d)
+trap 'rm -rf "$work"' EXIT
+runs=${1:-300}
+ours=$root/bin/ciserver
+theirs=$work/yaml_c
+gcc -O2 -o "$theirs" "$root/bench/yaml.c" -lyaml
+
+# the least time of a run, in microseconds
+micros() {
+  local best=1000000000 start took
+  for ((i = 0; i < runs; i++)); do
+    start=${EPOCHREALTIME/./}
+    "$@" > /dev/null
+    took=$((${EPOCHREALTIME/./} - start))
+    if ((took < best)); then best=$took; fi
+  done
+  echo "$best"
+}
+
+# the instructions of a run, in thousands
+instructions() {
+  local count
+  count=$(valgrind --tool=callgrind --callgrind-out-file=/dev/null "$@" 2>&1 > /dev/null | sed -n 's/.*Collected : //p')
+  echo $((count / 1000))
+}
+
+printf '%-14s %6s | %10s %10s | %12s %12s\n' text bytes 'ours us' 'libyaml us' 'ours kinstr' 'libyaml kinstr'
+row() {
+  printf '%-14s %6d | %10d %10d | %12d %12d\n' "$1" "$(stat -c %s "$2")" \
+    "$(micros "$ours" check "$2")" "$(micros "$theirs" "$2")" \
+    "$(instructions "$ours" check "$2")" "$(instructions "$theirs" "$2")"
+}
+echo 'a: 1' > "$work/small.yml"
+row small "$work/small.yml"
+for size in 30000 60000; do
+  mkdir "$work/$size"
+  python3 "$root/bench/yaml_texts.py" "$work/$size" "$size"
+  for text in ordinary flow_list nested_maps literal_block double_quoted short_keys; do
+    "$ours" check "$work/$size/$text.yml" | grep -qx read
+    row "$text" "$work/$size/$text.yml"
+  done
+done

@@ -1,0 +1,41 @@
+-- Which verdicts fit which bytes.
+use Rattle.std.proofs.Common.{◌≡◌, ℕ, inl, inr, List, [], ◌++◌, length, take, None, Some, Option, Result, Ok, Err, refl, sym, ◌∙◌, ap, subst, arith}
+use Rattle.std.specs.Prelude.{IfOk, IfErr, IfSome, option_map}
+use Rattle.std.specs.Str.{IsUtf8}
+use Rattle.std.proofs.lemmas.List.{take_all, length-take-le}
+use Rattle.std.proofs.lemmas.Bool.{cases_lt}
+use Rattle.ci_yaml.specs.Tree.{Value}
+use Rattle.ci_yaml.specs.View.{value_view}
+use Rattle.ci_yaml.specs.Document.{HasTree}
+use Rattle.ci_yaml.specs.Stops.{RefusedBy, GivesTree}
+use Rattle.ci_yaml.specs.declared.tree.Tree.{Tree}
+use Rattle.ci_yaml.specs.declared.fault.Code.TheVariants.{Y1}
+use Rattle.ci_yaml.specs.declared.fault.YamlFault.{YamlFault}
+use Rattle.ci_yaml.specs.declared.fault.YamlFault.TheVariants.{Fault, Memory}
+use Rattle.ci_check.specs.Verdicts.{Fits, IsTooLong, verdict_by}
+use Rattle.ci_check.specs.declared.verdict.Verdict.{Verdict}
+use Rattle.ci_check.specs.declared.verdict.Verdict.TheVariants.{Refused}
+
+pub reading-fits : (bs : List ℕ) (r : Result Tree YamlFault) → IsUtf8 bs → IfOk r (λ t. HasTree bs (value_view t))
+    → ((v : Value) → HasTree bs v → GivesTree v r) → IfErr r (RefusedBy bs) → Fits bs (verdict_by r)
+reading-fits bs (Ok tree) utf8 has all refused = (utf8, (value_view tree, has))
+reading-fits bs (Err (Fault code line)) utf8 has all refused = inr (utf8, (refused, λ h. all h.0 h.1))
+reading-fits bs (Err Memory) utf8 has all refused = tt
+
+-- the first bytes, where a reader tells its bytes
+pub first-taken : (told : Option (List ℕ)) (got old : List ℕ) (n : ℕ) → n ≡ 65537 → old ≡ []
+    → IfSome (option_map (take n) told) (λ xs. got ≡ old ++ xs) → IfSome told (λ bs. got ≡ take 65537 bs)
+first-taken None got old n limit empty h = tt
+first-taken (Some bs) got old n limit empty h = h ∙ ap (λ k. old ++ take k bs) limit ∙ ap (λ o. o ++ take 65537 bs) empty
+
+-- What fits the first bytes fits them all: where there are 65,537 or more, the first are too many already.
+pub first-fits : (told : Option (List ℕ)) (got seen : List ℕ) (v : Verdict) → IfSome told (λ bs. got ≡ take 65537 bs)
+    → seen ≡ got → Fits seen v → (IsTooLong seen → v ≡ Refused Y1 1) → IfSome told (λ bs. Fits bs v)
+first-fits None got seen v first same fits long = tt
+first-fits (Some bs) got seen v first same fits long = elim (cases_lt (length bs) 65537) [
+  | inl few ↦ subst (λ b. Fits b v) (same ∙ first ∙ take_all 65537 bs (omega (arith, few))) fits
+  | inr many ↦
+      let size : length seen ≡ 65537 = ap length (same ∙ first) ∙ length-take-le 65537 bs (omega (arith, many)) in
+      let is : v ≡ Refused Y1 1 = long (omega (arith, size)) in
+      subst (λ w. Fits bs w) (sym is) (inl (omega (arith, many), refl, refl))
+]

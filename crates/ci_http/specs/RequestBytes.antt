@@ -1,0 +1,85 @@
+-- The request that a message asks for, or the reply that refuses it.
+use Rattle.std.specs.Prelude.{◌≡◌, ◌⊎◌, ℕ, List, [], ◌∷◌, if◌then◌else◌, Option, Some, None, option_map, option_and_then, ok_or, Result, Err, codes, length}
+use Rattle.std.specs.Str.{is_utf8}
+use Rattle.ci_machine.specs.declared.reply.Allow.{Allow}
+use Rattle.ci_machine.specs.declared.reply.Allow.TheVariants.{Get, Patch, Post, Put}
+use Rattle.ci_machine.specs.declared.reply.Code.{Code}
+use Rattle.ci_machine.specs.declared.reply.Code.TheVariants.{M16, H5, H6, H7}
+use Rattle.ci_machine.specs.declared.reply.Reply.{Reply}
+use Rattle.ci_machine.specs.declared.request.Request.{Request}
+use Rattle.ci_machine.specs.declared.request.Request.TheVariants.{AskJob, UpdateJob, AppendTrace, ShowJob, ShowTrace}
+use Rattle.ci_machine.specs.declared.request.TracePart.{TracePart}
+use Rattle.ci_machine.specs.declared.request.JobQuery.{JobQuery}
+use Rattle.ci_machine.specs.Reply.{refusal}
+use Rattle.ci_http.specs.declared.path.Place.{Place}
+use Rattle.ci_http.specs.declared.path.Place.TheVariants.{Queue, Attempt, AttemptTrace, Job, JobTrace}
+use Rattle.ci_http.specs.Fields.{values_of}
+use Rattle.ci_http.specs.Json.{object_in, text_in}
+use Rattle.ci_http.specs.Paths.{is_text, path_of, place_of}
+use Rattle.ci_http.specs.Ranges.{start_in}
+use Rattle.ci_http.specs.Reading.{Message}
+use Rattle.ci_http.specs.ReplyText.{allow_text}
+use Rattle.ci_http.specs.Updates.{update_in}
+
+-- the one value of a field; a field that is missing counts as an empty one, and one that stands twice has none
+abbrev pub single : List (List ℕ) → Option (List ℕ)
+single [] = Some []
+single (value ∷ []) = Some value
+single (value ∷ other ∷ more) = None
+
+abbrev pub field_in : List ℕ → Message → Option (List ℕ)
+field_in name m = single (values_of name m.fields)
+
+-- bytes that aren't UTF-8 are no token, so the empty text, which is none either, stands for them
+abbrev pub text_or_empty : List ℕ → List ℕ
+text_or_empty bytes = if is_utf8 bytes then bytes else []
+
+-- the token in the field of this name
+abbrev pub field_token : List ℕ → Message → Option (List ℕ)
+field_token name m = option_map text_or_empty (field_in name m)
+
+-- the token in a body
+abbrev pub token_in : List ℕ → Option (List ℕ)
+token_in body = option_and_then (text_in (codes "token")) (object_in body)
+
+-- the piece of an attempt's trace: the body, at the place that its range says
+abbrev pub part_in : ℕ → Message → Option TracePart
+part_in attempt m =
+    option_and_then (λ token. option_map (λ from. record { attempt = attempt; token = token; from = from; bytes = m.body })
+    (option_and_then (start_in (length m.body)) (field_in (codes "content-range") m))) (field_token (codes "job-token") m)
+
+abbrev pub query_in : ℕ → ℕ → Message → Option JobQuery
+query_in project job m = option_map (λ token. record { project = project; token = token; job = job }) (field_token (codes "private-token") m)
+
+-- the methods of a place
+abbrev pub methods_of : Place → Allow
+methods_of Queue = Post
+methods_of (Attempt n) = Put
+methods_of (AttemptTrace n) = Patch
+methods_of (Job project n) = Get
+methods_of (JobTrace project n) = Get
+
+-- what a message with the right method asks for at a place, if its fields and its body are as the place wants them
+abbrev pub wanted : Place → Message → Option Request
+wanted Queue m = option_map AskJob (token_in m.body)
+wanted (Attempt n) m = option_map UpdateJob (update_in n m.body)
+wanted (AttemptTrace n) m = option_map AppendTrace (part_in n m)
+wanted (Job project n) m = option_map ShowJob (query_in project n m)
+wanted (JobTrace project n) m = option_map ShowTrace (query_in project n m)
+
+-- the reply where the path has these methods, and not the request's
+abbrev pub not_allowed : Allow → Reply
+not_allowed methods = record (refusal H6) { allow = Some methods }
+
+abbrev pub request_at : Option Place → Message → Result Request Reply
+request_at None m = Err (refusal H5)
+request_at (Some place) m =
+    if is_text m.method (allow_text (methods_of place)) then ok_or (wanted place m) (refusal H7) else Err (not_allowed (methods_of place))
+
+-- what a message asks for
+abbrev pub request_in : Message → Result Request Reply
+request_in m = request_at (place_of (path_of m.target)) m
+
+-- why a part of a request wasn't read: memory was refused, or there is no such part
+abbrev pub IsWhyNot : {A : Type 0} → Code → Option A → Type 0
+IsWhyNot why found = (why ≡ M16) ⊎ ((why ≡ H7) × (found ≡ None))

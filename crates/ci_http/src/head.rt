@@ -1,0 +1,76 @@
+//! The head of a request: the bytes up to its first empty line, and their parts.
+
+ghost use Rattle.std.specs.Prelude.{◌≡◌, ◌≤◌, length, count_by, IfOk, IfSome, IfNone, Some, None};
+ghost use Rattle.httparse.specs.Spans.{IsRequestWithin};
+ghost use Rattle.ci_machine.specs.declared.reply.Code.{Code};
+ghost use Rattle.ci_http.specs.Head.{IsHeadOf, head_at};
+ghost use Rattle.ci_http.specs.Opening.{is_line_feed, short, too_large, opened, opening_of, max_lines};
+ghost use Rattle.ci_http.specs.Sources.{Tells, TakesFront, Fails};
+
+use crate::fault::HttpFault;
+use crate::link::Source;
+use ci_machine::reply::Code;
+use httparse::Status;
+use httparse::spans::{HeaderSpan, RequestSpans, parse_request};
+use std::alloc::Global;
+
+/// The most bytes of a head, with its empty line.
+pub const MAX_HEAD: usize = 8192;
+
+/// The most line feeds of a head: those of the request line, of 32 fields and of the empty line.
+pub const MAX_LINES: usize = 34;
+
+/// Reads a head, up to and with its first CR LF CR LF, and not a byte more.
+///
+/// Errors: the bytes end first; there is no CR LF CR LF within 8,192 bytes, or there are more than
+/// 34 line feeds up to it (H2); a call of the reader failed; memory was refused.
+pub fn read_head<R: Source>(alloc: Global, reader: &mut R) -> Result<Vec<u8>, HttpFault>
+    ensures head { IfOk result (λ head. Tells (R.left reader.old) (R.left reader.new)
+        (λ bytes rest. opening_of bytes ≡ (opened head.items, rest))) }
+    ensures lines { IfOk result (λ head. count_by is_line_feed head.items ≤ max_lines) }
+    ensures ended { result ≡ Err HttpFault.Ended → Tells (R.left reader.old) (R.left reader.new)
+        (λ bytes rest. opening_of bytes ≡ (short, rest)) }
+    ensures refused { (why : Code) → result ≡ Err (HttpFault.Refused why) → why ≡ Code.H2 }
+    ensures too_large { result ≡ Err (HttpFault.Refused Code.H2) → Tells (R.left reader.old) (R.left reader.new)
+        (λ bytes rest. opening_of bytes ≡ (too_large, rest)) }
+    ensures took { TakesFront (R.left reader.old) (R.left reader.new) }
+    ensures failed { Fails result (Err HttpFault.ReadFailed) (R.failures reader.old) (R.failures reader.new) }
+{
+    let mut head = Vec::new(alloc);
+    for _ in 0..MAX_HEAD {
+        let mut byte = [0];
+        if reader.get(&mut byte)? == 0 {
+            return Err(HttpFault::Ended);
+        }
+        head.push(byte[0])?;
+        if head.ends_with(b"\r\n\r\n") {
+            if lines_of(&head) > MAX_LINES {
+                return Err(HttpFault::Refused(Code::H2));
+            }
+            return Ok(head);
+        }
+    }
+    Err(HttpFault::Refused(Code::H2))
+}
+
+// How many line feeds the bytes have.
+fn lines_of(bytes: &[u8]) -> usize
+    ensures { result ≡ count_by is_line_feed bytes.now }
+{
+    bytes.iter().filter(|b| **b == b'\n').count()
+}
+
+/// The spans of the head that the bytes are as a whole, or `None` where they aren't one. With so
+/// few lines its fields always have room.
+pub fn whole_head(bytes: &[u8], headers: &mut [HeaderSpan]) -> Option<RequestSpans>
+    requires room { length headers.old ≡ 32 }
+    requires lines { count_by is_line_feed bytes.now ≤ max_lines }
+    ensures within { IfSome result (IsRequestWithin bytes.now headers.new) }
+    ensures found { IfSome result (λ spans. IsHeadOf bytes.now (Some (head_at bytes.now headers.new spans))) }
+    ensures none { IfNone result (IsHeadOf bytes.now None) }
+{
+    match parse_request(bytes, headers) {
+        Ok(Status::Complete(spans)) if spans.len == bytes.len() => Some(spans),
+        _ => None,
+    }
+}

@@ -1,0 +1,192 @@
+//! The bytes of a reply.
+
+ghost use Rattle.std.specs.Prelude.{◌≡◌, ◌<◌, ◌≤◌, ◌+◌, ◌^◌, ◌++◌, length, decimal, IfSome};
+ghost use Rattle.arrayvec.specs.ArrayVec.{array_vec_len};
+ghost use Rattle.ci_machine.specs.Reply.{body_text};
+ghost use Rattle.ci_http.specs.ReplyText.{status_line, job_status_text, allow_text, type_text, crlf, job_status_line, range_line, allow_line, type_line, length_line, head_text, reply_text, IsResponse};
+
+use arrayvec::ArrayVec;
+use ci_machine::reply::{Allow, Body, JobStatus, Reply, Status};
+use itoa::Buffer;
+
+/// Room for the longest head.
+pub const HEAD_SIZE: usize = 512;
+
+/// The bytes of a reply: its head, which is kept here, and its body, which is lent.
+#[derive(Drop)]
+pub struct ReplyBytes<'a> {
+    pub head: ArrayVec<u8, HEAD_SIZE>,
+    pub body: &'a [u8],
+}
+
+/// The bytes of a reply. It takes no memory.
+///
+/// Lines end by CR LF, in this order: the status line; `Job-Status`, `Range` and `Allow`, each
+/// where the reply has it; `Content-Type`, where there is a body; `Content-Length`, but not with
+/// 204; `Connection: close`; an empty line. Then comes the body.
+pub fn reply_bytes(reply: &Reply) -> ReplyBytes<'_>
+    ensures text { result.head.items ++ result.body.now ≡ reply_text reply.now }
+    ensures response { IsResponse (result.head.items ++ result.body.now) reply.now.status result.body.now }
+{
+    let body = reply.body();
+    let head = head_of(reply, body);
+    ReplyBytes { head, body }
+}
+
+// The head of a reply with this body.
+fn head_of(reply: &Reply, body: &[u8]) -> ArrayVec<u8, HEAD_SIZE>
+    requires { body.now ≡ body_text reply.now }
+    ensures text { result.items ≡ head_text reply.now }
+    ensures size { IfSome reply.now.range (λ n. n < 2 ^ 64) }
+{
+    let mut head = ArrayVec::new();
+    put(&mut head, status_line(reply.status));
+    put_job_status(&mut head, reply.job_status);
+    put_range(&mut head, reply.range);
+    put_allow(&mut head, reply.allow);
+    put_type(&mut head, type_text(&reply.body), body);
+    put_length(&mut head, reply.status, body.len() as u64);
+    put(&mut head, b"Connection: close\r\n\r\n");
+    head
+}
+
+// Writes the bytes at the end.
+fn put(head: &mut ArrayVec<u8, HEAD_SIZE>, bytes: &[u8])
+    requires { array_vec_len head.old + length bytes.now ≤ 512 }
+    ensures items { head.new.items ≡ head.old.items ++ bytes.now }
+    ensures len { array_vec_len head.new ≡ array_vec_len head.old + length bytes.now }
+{
+    let written = head.try_extend_from_slice(bytes).is_ok();
+    prove!(written);
+}
+
+// Writes a field: its name with what parts it from the value, and the value.
+fn put_field(head: &mut ArrayVec<u8, HEAD_SIZE>, name: &[u8], value: &[u8])
+    requires { array_vec_len head.old + length name.now + length value.now + 2 ≤ 512 }
+    ensures items { head.new.items ≡ head.old.items ++ (name.now ++ value.now ++ crlf) }
+    ensures len { array_vec_len head.new ≡ array_vec_len head.old + length name.now + length value.now + 2 }
+{
+    put(head, name);
+    put(head, value);
+    put(head, b"\r\n");
+}
+
+// Writes a field whose value is a number.
+fn put_number_field(head: &mut ArrayVec<u8, HEAD_SIZE>, name: &[u8], n: u64)
+    requires { array_vec_len head.old + length name.now + 22 ≤ 512 }
+    ensures items { head.new.items ≡ head.old.items ++ (name.now ++ decimal n ++ crlf) }
+    ensures len { array_vec_len head.new ≤ array_vec_len head.old + length name.now + 22 }
+{
+    let mut buffer = Buffer::new();
+    put_field(head, name, buffer.format(n).as_bytes());
+}
+
+fn put_job_status(head: &mut ArrayVec<u8, HEAD_SIZE>, status: Option<JobStatus>)
+    requires { array_vec_len head.old + 24 ≤ 512 }
+    ensures items { head.new.items ≡ head.old.items ++ job_status_line status }
+    ensures len { array_vec_len head.new ≤ array_vec_len head.old + 24 }
+{
+    if let Some(status) = status {
+        put_field(head, b"Job-Status: ", job_status_text(status));
+    }
+}
+
+fn put_range(head: &mut ArrayVec<u8, HEAD_SIZE>, size: Option<u64>)
+    requires { array_vec_len head.old + 40 ≤ 512 }
+    ensures items { head.new.items ≡ head.old.items ++ range_line size }
+    ensures size { IfSome size (λ n. n < 2 ^ 64) }
+    ensures len { array_vec_len head.new ≤ array_vec_len head.old + 40 }
+{
+    if let Some(size) = size {
+        put_number_field(head, b"Range: 0-", size);
+    }
+}
+
+fn put_allow(head: &mut ArrayVec<u8, HEAD_SIZE>, allow: Option<Allow>)
+    requires { array_vec_len head.old + 32 ≤ 512 }
+    ensures items { head.new.items ≡ head.old.items ++ allow_line allow }
+    ensures len { array_vec_len head.new ≤ array_vec_len head.old + 32 }
+{
+    if let Some(methods) = allow {
+        put_field(head, b"Allow: ", allow_text(methods));
+    }
+}
+
+fn put_type(head: &mut ArrayVec<u8, HEAD_SIZE>, kind: &[u8], body: &[u8])
+    requires { array_vec_len head.old + length kind.now + 24 ≤ 512 }
+    ensures items { head.new.items ≡ head.old.items ++ type_line kind.now body.now }
+    ensures len { array_vec_len head.new ≤ array_vec_len head.old + length kind.now + 24 }
+{
+    if !body.is_empty() {
+        put_field(head, b"Content-Type: ", kind);
+    }
+}
+
+fn put_length(head: &mut ArrayVec<u8, HEAD_SIZE>, status: Status, len: u64)
+    requires { array_vec_len head.old + 40 ≤ 512 }
+    ensures items { head.new.items ≡ head.old.items ++ length_line status len }
+    ensures len { array_vec_len head.new ≤ array_vec_len head.old + 40 }
+{
+    if status != Status::NoContent {
+        put_number_field(head, b"Content-Length: ", len);
+    }
+}
+
+// The first line of a reply with this status.
+fn status_line(status: Status) -> &'static [u8]
+    ensures line { result.now ≡ status_line status }
+    ensures len { length result.now ≤ 64 }
+{
+    match status {
+        Status::Fine => b"HTTP/1.1 200 OK\r\n",
+        Status::Created => b"HTTP/1.1 201 Created\r\n",
+        Status::Accepted => b"HTTP/1.1 202 Accepted\r\n",
+        Status::NoContent => b"HTTP/1.1 204 No Content\r\n",
+        Status::BadRequest => b"HTTP/1.1 400 Bad Request\r\n",
+        Status::Unauthorized => b"HTTP/1.1 401 Unauthorized\r\n",
+        Status::Forbidden => b"HTTP/1.1 403 Forbidden\r\n",
+        Status::NotFound => b"HTTP/1.1 404 Not Found\r\n",
+        Status::MethodNotAllowed => b"HTTP/1.1 405 Method Not Allowed\r\n",
+        Status::LengthRequired => b"HTTP/1.1 411 Length Required\r\n",
+        Status::PayloadTooLarge => b"HTTP/1.1 413 Payload Too Large\r\n",
+        Status::RangeNotSatisfiable => b"HTTP/1.1 416 Range Not Satisfiable\r\n",
+        Status::HeaderFieldsTooLarge => b"HTTP/1.1 431 Request Header Fields Too Large\r\n",
+        Status::NotImplemented => b"HTTP/1.1 501 Not Implemented\r\n",
+        Status::ServiceUnavailable => b"HTTP/1.1 503 Service Unavailable\r\n",
+    }
+}
+
+fn job_status_text(status: JobStatus) -> &'static [u8]
+    ensures text { result.now ≡ job_status_text status }
+    ensures len { length result.now ≤ 8 }
+{
+    match status {
+        JobStatus::Running => b"running",
+        JobStatus::Success => b"success",
+        JobStatus::Failed => b"failed",
+        JobStatus::Canceled => b"canceled",
+    }
+}
+
+/// The methods of a path, as the field `Allow` lists them.
+pub(crate) fn allow_text(methods: Allow) -> &'static [u8]
+    ensures text { result.now ≡ allow_text methods }
+    ensures len { length result.now ≤ 16 }
+{
+    match methods {
+        Allow::Get => b"GET",
+        Allow::Patch => b"PATCH",
+        Allow::Post => b"POST",
+        Allow::Put => b"PUT",
+    }
+}
+
+fn type_text(body: &Option<Body>) -> &'static [u8]
+    ensures text { result.now ≡ type_text body.now }
+    ensures len { length result.now ≤ 16 }
+{
+    match body {
+        Some(Body::Plain(_)) => b"text/plain",
+        _ => b"application/json",
+    }
+}

@@ -1,0 +1,115 @@
+//! A runner sends the next bytes of a trace.
+
+ghost use Rattle.std.specs.Prelude.{◌≡◌, IfOk, Ok, length};
+ghost use Rattle.std.specs.Option.{option_copied};
+ghost use Rattle.ci_machine.specs.Leases.{accepted};
+ghost use Rattle.ci_machine.specs.Effects as effects;
+
+use crate::change::{Change, Record};
+use crate::lease::{Lease, PieceFault, accept_piece};
+use crate::moment::Moment;
+use crate::plan::{refuses, replies, two};
+use crate::records::{Attempt, GREATEST_NUMBER, Piece};
+use crate::reply::{Code, Effect, JobStatus, Reply, Status};
+use crate::report::unleased;
+use crate::request::TracePart;
+use crate::text::Bytes;
+use std::alloc::{AllocError, Global};
+
+fn accepted_to(size: u64) -> Reply
+    ensures { result ≡ effects.accepted_to size }
+{
+    Reply {
+        status: Status::Accepted,
+        code: None,
+        job_status: Some(JobStatus::Running),
+        range: Some(size),
+        allow: None,
+        body: None,
+    }
+}
+
+fn not_accepted(fault: PieceFault) -> Reply
+    ensures { result ≡ effects.not_accepted fault }
+{
+    match fault {
+        PieceFault::Unleased(fault) => unleased(fault),
+        PieceFault::WrongOffset(size) => {
+            let mut reply = Reply::refusal(Code::M8);
+            reply.range = Some(size);
+            reply
+        }
+        PieceFault::TraceFull => Reply::refusal(Code::M9),
+    }
+}
+
+/// The bytes are the next piece of the trace, which has this size then.
+fn grow(
+    alloc: Global,
+    attempt: &Attempt,
+    bytes: Bytes,
+    now: Moment,
+    size: u64,
+) -> Result<Effect, AllocError>
+    ensures { IfOk result (λ e. e ≡ effects.appended attempt.now bytes now (Ok size)) }
+{
+    if attempt.pieces > GREATEST_NUMBER {
+        return Ok(refuses(alloc, Code::M15));
+    }
+    let mut grown = attempt.clone()?;
+    grown.seen = attempt.seen.later(now);
+    grown.pieces = attempt.pieces + 1;
+    grown.size = size;
+    let piece = Piece {
+        attempt: attempt.id,
+        seq: attempt.pieces,
+        bytes,
+    };
+    let changes = two(
+        alloc,
+        Change::Add(Record::Piece(piece)),
+        Change::Put(Record::Attempt(grown)),
+    )?;
+    Ok(replies(accepted_to(size), changes))
+}
+
+/// The bytes come from an offset of the trace of the attempt, whose time limit is in seconds.
+fn append(
+    alloc: Global,
+    lease: &Lease,
+    from: u64,
+    bytes: Bytes,
+    now: Moment,
+) -> Result<Effect, AllocError>
+    ensures { IfOk result (λ e. e ≡ effects.appended lease.now.attempt bytes now (accepted lease.now.attempt lease.now.limit now lease.now.attempt.size from (length bytes))) }
+{
+    let Lease { attempt, limit } = lease;
+    let count = bytes.as_slice().len() as u64;
+    match accept_piece(attempt, *limit, now, attempt.size, from, count) {
+        Ok(size) => grow(alloc, attempt, bytes, now, size),
+        Err(fault) => Ok(replies(not_accepted(fault), Vec::new(alloc))),
+    }
+}
+
+/// A runner sends the next bytes of the trace of the attempt with the number that it names. The reply (202) has the
+/// size of the trace with them. This renews the attempt's lease.
+///
+/// Refusals, in order: M5 where there is no such attempt, or the token isn't its token; M6 where it has ended, with its
+/// status; M7 where its lease is over; M8 where the bytes don't begin where the trace ends, with the trace's size; M9
+/// where the trace would pass its limit; M15 where the piece's number is over the limit.
+pub fn append_trace(
+    alloc: Global,
+    lease: Option<&Lease>,
+    part: TracePart,
+    now: Moment,
+) -> Result<Effect, AllocError>
+    ensures { IfOk result (λ e. e ≡ effects.append_trace (option_copied lease.entry) part now) }
+{
+    let Some(lease) = lease else {
+        return Ok(refuses(alloc, Code::M5));
+    };
+    if !lease.attempt.token.is_same(&part.token) {
+        return Ok(refuses(alloc, Code::M5));
+    }
+    append(alloc, lease, part.from, part.bytes, now)
+}

@@ -1,0 +1,217 @@
+-- Each CREATE adds its table or its index to the schema.
+use Rattle.std.proofs.Common.{◌≡◌, ◌⊎◌, inl, inr, ℕ, zero, suc, map, ◌+◌, ◌<◌, List, [], ◌∷◌, ◌++◌, false, Some, None, Ok, Err, Result, refl, sym, ap, subst, ◌∙◌, arith, slice_get, slice_index_or}
+use Rattle.std.specs.List.{AllByRecursion}
+use Rattle.sqlite.specs.Table.{Table}
+use Rattle.sqlite.specs.Schema.{Schema}
+use Rattle.sqlite.specs.Tree.{Trees}
+use Rattle.sqlite.specs.Effect.{Database}
+use Rattle.sqlite_tied.specs.Text.{table_defined_by, index_defined_by}
+use Rattle.sqlite_schema.specs.declared.schema.Index.{Index}
+use Rattle.sqlite_catalog.specs.Change.{created, indexed, next_tree, KeepsRows}
+use Rattle.sqlite.specs.Does.{Tally, AtPlace, Defines, MakesIndex, lacks_sequence}
+use Rattle.sqlite.specs.State.{State, mode_of, Writes, Executes, Survives}
+use Rattle.sqlite.specs.Listing.{understood}
+use Rattle.sqlite_tied.specs.Compute.{everything}
+use Rattle.sqlite.specs.Command.TheVariants.{CreateTable, CreateIndex}
+use Rattle.sqlite.proofs.Callers.{IsPlain, command_of, statement_of, runs_as}
+use Rattle.ci_store.specs.declared.texts.TheConstants.{SCHEMA}
+use Rattle.ci_store.specs.Schema as table
+use Rattle.ci_store.specs.Schema.{the_schema}
+use Rattle.ci_store.specs.Create.{no_schema, IsBare}
+
+-- a part that gave a value did not stop on the way
+went : {B E R : Type 0} {b : B} {Stops : E → Type 0} → ((stop : E) × Stops stop × (Ok b ≡ Err stop)) ⊎ R → R
+went (inl stopped) = absurd (let e = stopped.2 in cc)
+went (inr on) = on
+
+same_value : {B E : Type 0} {a b : B} → ◌≡◌ {A = Result B E} (Ok a) (Ok b) → a ≡ b
+same_value e = cc
+
+kept_bare : (tables : List Table) (old new : Trees) → AllByRecursion (λ t. old t.tree ≡ []) tables → KeepsRows tables old new → AllByRecursion (λ t. new t.tree ≡ []) tables
+kept_bare [] old new bare kept = tt
+kept_bare (t ∷ tables) old new bare kept = (kept.0 ∙ bare.0, kept_bare tables old new bare.1 kept.1)
+
+more_bare : (tables : List Table) (table : Table) (db : Trees) → AllByRecursion (λ t. db t.tree ≡ []) tables → db table.tree ≡ [] → AllByRecursion (λ t. db t.tree ≡ []) (tables ++ table ∷ [])
+more_bare [] table db bare own = (own, tt)
+more_bare (t ∷ tables) table db bare own = (bare.0, more_bare tables table db bare.1 own)
+
+-- what the text of a table means, which `refl` finds
+pub record MeansTable (before after : Schema) (text : List ℕ) (table : Table) : Type 0 where
+  pub command : command_of (understood before text) ≡ CreateTable
+  pub plain : IsPlain (understood before text)
+  pub whole : statement_of text (understood before text) ≡ text
+  pub defined : table_defined_by text ≡ Ok table
+  pub is : created before table ≡ after
+  pub uncounted : lacks_sequence after ≡ false
+
+creates_table : (before after : Schema) (text : List ℕ) (table : Table) → MeansTable before after text table → (old new : State) (count : ℕ) → IsBare before old.now → Executes text [] old new (Ok count) → IsBare after new.now
+creates_table before after text table means old new count bare h =
+    let w = subst (λ t. Writes old new None CreateTable t [] count) means.whole (runs_as text [] old new before bare.listed CreateTable means.command means.plain count h) in
+    let all = went w.changed in
+    let first = went all.1 in
+    let made = first.1 in
+    let both : Ok made.table ≡ Ok table = sym made.defined ∙ means.defined in
+    let same : made.table ≡ table = cc in
+    let schema : first.0.schema ≡ after = made.is ∙ ap (λ s. created s made.table) bare.listed ∙ ap (created before) same ∙ means.is in
+    let plain : lacks_sequence first.0.schema ≡ false = ap lacks_sequence schema ∙ means.uncounted in
+    let now : new.now ≡ first.0 = ap (λ (p : Tally × Database). p.1) (same_value all.2) ∙ same_value (rw plain at first.2) in
+    let empty : first.0.trees (next_tree before) ≡ [] = subst (λ s. first.0.trees (next_tree s) ≡ []) bare.listed made.empty in
+    let kept : KeepsRows before.tables old.now.trees first.0.trees = subst (λ (s : Schema). KeepsRows s.tables old.now.trees first.0.trees) bare.listed made.others in
+    let rows = more_bare before.tables (record table { tree = next_tree before }) first.0.trees (kept_bare before.tables old.now.trees first.0.trees bare.rows kept) empty in
+    record {
+      listed = ap (λ (d : Database). d.schema) now ∙ schema;
+      rows = subst (λ (s : Schema). AllByRecursion (λ t. new.now.trees t.tree ≡ []) s.tables) means.is (subst (λ (d : Database). AllByRecursion (λ t. d.trees t.tree ≡ []) (created before table).tables) (sym now) rows);
+      sound = λ _. w.sound;
+    }
+
+-- what the text of an index means
+pub record MeansIndex (before after : Schema) (at : ℕ) (table : Table) (text : List ℕ) (index : Index) : Type 0 where
+  pub there : slice_get before.tables at ≡ Some table
+  pub command : command_of (understood before text) ≡ CreateIndex at
+  pub plain : IsPlain (understood before text)
+  pub whole : statement_of text (understood before text) ≡ text
+  pub defined : index_defined_by table text ≡ Ok index
+  pub is : indexed before table index ≡ after
+
+creates_index : (before after : Schema) (at : ℕ) (table : Table) (text : List ℕ) (index : Index) → MeansIndex before after at table text index → (old new : State) (count : ℕ) → IsBare before old.now → Executes text [] old new (Ok count)
+    → IsBare after new.now
+creates_index before after at table text index means old new count bare h =
+    let w = subst (λ t. Writes old new None (CreateIndex at) t [] count) means.whole (runs_as text [] old new before bare.listed (CreateIndex at) means.command means.plain count h) in
+    let there : slice_get old.now.schema.tables at ≡ Some table = ap (λ (s : Schema). slice_get s.tables at) bare.listed ∙ means.there in
+    let done = subst (λ o. AtPlace (λ (table : Table). Defines (mode_of old) (MakesIndex text old.now table)) o (Ok (w.tally, new.now))) there w.changed in
+    let all = went done in
+    let made = all.1 in
+    let both : Ok made.index ≡ Ok index = sym made.defined ∙ means.defined in
+    let same : made.index ≡ index = cc in
+    let schema : all.0.schema ≡ after = made.is ∙ ap (λ s. indexed s table made.index) bare.listed ∙ ap (indexed before table) same ∙ means.is in
+    let now : new.now ≡ all.0 = ap (λ (p : Tally × Database). p.1) (same_value all.2) in
+    let kept : KeepsRows before.tables old.now.trees all.0.trees = subst (λ (s : Schema). KeepsRows s.tables old.now.trees all.0.trees) bare.listed made.rows in
+    let rows = kept_bare before.tables old.now.trees all.0.trees bare.rows kept in
+    record {
+      listed = ap (λ (d : Database). d.schema) now ∙ schema;
+      rows = subst (λ (s : Schema). AllByRecursion (λ t. new.now.trees t.tree ≡ []) s.tables) means.is (subst (λ (d : Database). AllByRecursion (λ t. d.trees t.tree ≡ []) before.tables) (sym now) rows);
+      sound = λ _. w.sound;
+    }
+
+abbrev schema_1 : Schema
+schema_1 = record { tables = table.meta ∷ []; indexes = table.meta_index_1 ∷ []; views = [] }
+
+abbrev schema_2 : Schema
+schema_2 = record { tables = table.meta ∷ table.project ∷ []; indexes = table.meta_index_1 ∷ table.project_index_1 ∷ []; views = [] }
+
+abbrev schema_3 : Schema
+schema_3 = record { tables = table.meta ∷ table.project ∷ table.runner ∷ []; indexes = table.meta_index_1 ∷ table.project_index_1 ∷ table.runner_index_1 ∷ []; views = [] }
+
+abbrev schema_4 : Schema
+schema_4 = record { tables = table.meta ∷ table.project ∷ table.runner ∷ table.pipeline ∷ []; indexes = table.meta_index_1 ∷ table.project_index_1 ∷ table.runner_index_1 ∷ []; views = [] }
+
+abbrev schema_5 : Schema
+schema_5 =
+    record { tables = table.meta ∷ table.project ∷ table.runner ∷ table.pipeline ∷ table.job ∷ []; indexes = table.meta_index_1 ∷ table.project_index_1 ∷ table.runner_index_1 ∷ []; views = [] }
+
+abbrev schema_6 : Schema
+schema_6 = record {
+  tables = table.meta ∷ table.project ∷ table.runner ∷ table.pipeline ∷ table.job ∷ [];
+  indexes = table.meta_index_1 ∷ table.project_index_1 ∷ table.runner_index_1 ∷ table.job_pipeline ∷ [];
+  views = [];
+}
+
+abbrev schema_7 : Schema
+schema_7 = record {
+  tables = table.meta ∷ table.project ∷ table.runner ∷ table.pipeline ∷ table.job ∷ table.jobvar ∷ [];
+  indexes = table.meta_index_1 ∷ table.project_index_1 ∷ table.runner_index_1 ∷ table.job_pipeline ∷ table.jobvar_index_1 ∷ [];
+  views = [];
+}
+
+abbrev schema_8 : Schema
+schema_8 = record {
+  tables = table.meta ∷ table.project ∷ table.runner ∷ table.pipeline ∷ table.job ∷ table.jobvar ∷ table.attempt ∷ [];
+  indexes = table.meta_index_1 ∷ table.project_index_1 ∷ table.runner_index_1 ∷ table.job_pipeline ∷ table.jobvar_index_1 ∷ [];
+  views = [];
+}
+
+abbrev schema_9 : Schema
+schema_9 = record {
+  tables = table.meta ∷ table.project ∷ table.runner ∷ table.pipeline ∷ table.job ∷ table.jobvar ∷ table.attempt ∷ [];
+  indexes = table.meta_index_1 ∷ table.project_index_1 ∷ table.runner_index_1 ∷ table.job_pipeline ∷ table.jobvar_index_1 ∷ table.attempt_job ∷ [];
+  views = [];
+}
+
+abbrev schema_10 : Schema
+schema_10 = record {
+  tables = table.meta ∷ table.project ∷ table.runner ∷ table.pipeline ∷ table.job ∷ table.jobvar ∷ table.attempt ∷ [];
+  indexes = table.meta_index_1 ∷ table.project_index_1 ∷ table.runner_index_1 ∷ table.job_pipeline ∷ table.jobvar_index_1 ∷ table.attempt_job ∷ table.attempt_state ∷ [];
+  views = [];
+}
+
+-- the schema after the first texts
+abbrev pub schema_after : ℕ → Schema
+schema_after k = slice_index_or (no_schema ∷ schema_1 ∷ schema_2 ∷ schema_3 ∷ schema_4 ∷ schema_5 ∷ schema_6 ∷ schema_7 ∷ schema_8 ∷ schema_9 ∷ schema_10 ∷ []) k the_schema
+
+abbrev pub text_at : ℕ → List ℕ
+text_at k = slice_index_or (map (λ t. t.now) SCHEMA) k []
+
+makes_meta : MeansTable no_schema schema_1 (text_at 0) (record table.meta { tree = 0 })
+unfolding understood everything
+makes_meta = record { command = refl; plain = (refl, refl); whole = refl; defined = refl; is = refl; uncounted = refl }
+
+makes_project : MeansTable schema_1 schema_2 (text_at 1) (record table.project { tree = 0 })
+unfolding understood everything
+makes_project = record { command = refl; plain = (refl, refl); whole = refl; defined = refl; is = refl; uncounted = refl }
+
+makes_runner : MeansTable schema_2 schema_3 (text_at 2) (record table.runner { tree = 0 })
+unfolding understood everything
+makes_runner = record { command = refl; plain = (refl, refl); whole = refl; defined = refl; is = refl; uncounted = refl }
+
+makes_pipeline : MeansTable schema_3 schema_4 (text_at 3) (record table.pipeline { tree = 0 })
+unfolding understood everything
+makes_pipeline = record { command = refl; plain = (refl, refl); whole = refl; defined = refl; is = refl; uncounted = refl }
+
+makes_job : MeansTable schema_4 schema_5 (text_at 4) (record table.job { tree = 0 })
+unfolding understood everything
+makes_job = record { command = refl; plain = (refl, refl); whole = refl; defined = refl; is = refl; uncounted = refl }
+
+makes_job_pipeline : MeansIndex schema_5 schema_6 4 table.job (text_at 5) (record table.job_pipeline { tree = 0 })
+unfolding understood everything
+makes_job_pipeline = record { there = refl; command = refl; plain = (refl, refl); whole = refl; defined = refl; is = refl }
+
+makes_jobvar : MeansTable schema_6 schema_7 (text_at 6) (record table.jobvar { tree = 0 })
+unfolding understood everything
+makes_jobvar = record { command = refl; plain = (refl, refl); whole = refl; defined = refl; is = refl; uncounted = refl }
+
+makes_attempt : MeansTable schema_7 schema_8 (text_at 7) (record table.attempt { tree = 0 })
+unfolding understood everything
+makes_attempt = record { command = refl; plain = (refl, refl); whole = refl; defined = refl; is = refl; uncounted = refl }
+
+makes_attempt_job : MeansIndex schema_8 schema_9 6 table.attempt (text_at 8) (record table.attempt_job { tree = 0 })
+unfolding understood everything
+makes_attempt_job = record { there = refl; command = refl; plain = (refl, refl); whole = refl; defined = refl; is = refl }
+
+makes_attempt_state : MeansIndex schema_9 schema_10 6 table.attempt (text_at 9) (record table.attempt_state { tree = 0 })
+unfolding understood everything
+makes_attempt_state = record { there = refl; command = refl; plain = (refl, refl); whole = refl; defined = refl; is = refl }
+
+makes_piece : MeansTable schema_10 the_schema (text_at 10) (record table.piece { tree = 0 })
+unfolding understood everything
+makes_piece = record { command = refl; plain = (refl, refl); whole = refl; defined = refl; is = refl; uncounted = refl }
+
+-- after each text the schema is that of one text more
+makes_next : (k : ℕ) → k < 11 → (old new : State) (count : ℕ) → IsBare (schema_after k) old.now → Executes (text_at k) [] old new (Ok count) → IsBare (schema_after (k + 1)) new.now
+makes_next zero low = creates_table no_schema schema_1 (text_at 0) _ makes_meta
+makes_next (suc zero) low = creates_table schema_1 schema_2 (text_at 1) _ makes_project
+makes_next (suc (suc zero)) low = creates_table schema_2 schema_3 (text_at 2) _ makes_runner
+makes_next (suc (suc (suc zero))) low = creates_table schema_3 schema_4 (text_at 3) _ makes_pipeline
+makes_next (suc (suc (suc (suc zero)))) low = creates_table schema_4 schema_5 (text_at 4) _ makes_job
+makes_next (suc (suc (suc (suc (suc zero))))) low = creates_index schema_5 schema_6 4 table.job (text_at 5) _ makes_job_pipeline
+makes_next (suc (suc (suc (suc (suc (suc zero)))))) low = creates_table schema_6 schema_7 (text_at 6) _ makes_jobvar
+makes_next (suc (suc (suc (suc (suc (suc (suc zero))))))) low = creates_table schema_7 schema_8 (text_at 7) _ makes_attempt
+makes_next (suc (suc (suc (suc (suc (suc (suc (suc zero)))))))) low = creates_index schema_8 schema_9 6 table.attempt (text_at 8) _ makes_attempt_job
+makes_next (suc (suc (suc (suc (suc (suc (suc (suc (suc zero))))))))) low = creates_index schema_9 schema_10 6 table.attempt (text_at 9) _ makes_attempt_state
+makes_next (suc (suc (suc (suc (suc (suc (suc (suc (suc (suc zero)))))))))) low = creates_table schema_10 the_schema (text_at 10) _ makes_piece
+makes_next (suc (suc (suc (suc (suc (suc (suc (suc (suc (suc (suc k))))))))))) low = absurd (omega (arith, low))
+
+pub runs_next : (k : ℕ) → k < 11 → (text : List ℕ) → text ≡ text_at k → (old new : State) (count : ℕ) → IsBare (schema_after k) old.now → Executes text [] old new (Ok count) → IsBare (schema_after (k + 1)) new.now
+runs_next k low text is old new count bare h = makes_next k low old new count bare (subst (λ t. Executes t [] old new (Ok count)) is h)
+
+pub survives_same : (s : State) (P : Trees → Type 0) → Survives s s P
+survives_same s P = record { clean = omega arith; shield = λ h. h; counts = omega arith; limit = refl; closes = λ _ h. inl h; crash = λ _ db h. inl h }

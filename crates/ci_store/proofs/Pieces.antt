@@ -1,0 +1,123 @@
+-- The statements that write `piece`.
+use Rattle.std.proofs.Common.{◌≡◌, ◌∙◌, ℕ, pos, List, [], ◌∷◌, Bool, true, false, is_eq, refl, sym, inl, inr, ◌&&◌, cond}
+use Rattle.std.specs.Ordering.{nat_cmp, ordering_then}
+use Rattle.sqlite.specs.declared.types.Value.{Value}
+use Rattle.sqlite_value.specs.declared.keys.Collation.TheVariants.{Binary}
+use Rattle.sqlite_value.specs.Keys.{plain}
+use Rattle.sqlite_value.proofs.KeyLemmas.{first_key-plain}
+use Rattle.sqlite_sql.specs.Ops.{is_null}
+use Rattle.sqlite_schema.specs.Rules.{equal, agree}
+use Rattle.sqlite.specs.Cast.{cast}
+use Rattle.sqlite.specs.Kind.TheVariants.{Integer}
+use Rattle.sqlite.specs.declared.types.Value.TheVariants.{Null, Blob}
+use Rattle.sqlite.specs.Order.{Row, column}
+use Rattle.sqlite.specs.Term.{Term, lit, col}
+use Rattle.sqlite.specs.Tree.{Trees}
+use Rattle.sqlite_tied.specs.Compute.{everything}
+use Rattle.sqlite.specs.Listing.{understood}
+use Rattle.sqlite.specs.Store.{Ghosts}
+use Rattle.sqlite.specs.Held.{Held, state}
+use Rattle.sqlite_keyed.proofs.ListLemmas.{ascending-filter}
+use Rattle.ci_machine.specs.State.{State, with_record, without_record, piece_cmp}
+use Rattle.ci_machine.specs.declared.records.Piece.{Piece}
+use Rattle.ci_machine.specs.declared.change.Record.TheVariants as row
+use Rattle.ci_machine.specs.declared.change.Key.TheVariants as key
+use Rattle.ci_tables.specs.Stands.{image, places}
+use Rattle.ci_tables.specs.Ran.{Changes, HasPut}
+use Rattle.ci_tables.proofs.Writes.{IsWholeStep, whole_if_alone}
+use Rattle.ci_tables.proofs.Puts.{MeansPut, MeansRemove, GivesRecord}
+use Rattle.ci_tables.proofs.Absent.{absent_unique}
+use Rattle.ci_tables.proofs.Scalars.{cast_int, equal_int}
+use Rattle.ci_store.specs.declared.texts.TheConstants.{UPDATE_PIECE, INSERT_PIECE, DELETE_PIECE}
+use Rattle.ci_store.specs.Schema.{the_schema, piece, piece_index_1}
+use Rattle.ci_store.specs.Rows.{number, piece_row}
+use Rattle.ci_store.specs.Stands.{IsRegular, Stands}
+use Rattle.ci_store.proofs.Lists.{put_rises, by_two}
+use Rattle.ci_store.proofs.Records.{is, put_stands, remove_stands, both_equal}
+
+abbrev tests : List Term
+tests = is 1 0 ∷ is 2 1 ∷ []
+
+abbrev sets : List Term
+sets = col 1 0 ∷ col 0 0 ∷ col 0 1 ∷ col 0 2 ∷ []
+
+abbrev terms : List Term
+terms = lit Null ∷ col 0 0 ∷ col 0 1 ∷ col 0 2 ∷ []
+
+means : MeansPut the_schema 7 piece UPDATE_PIECE.now INSERT_PIECE.now tests sets terms
+unfolding understood everything
+means = record { there = refl; apart = refl; update_is = refl; update_plain = (refl, refl); insert_is = refl; insert_plain = (refl, refl); uncounted = refl; unstamped = refl; idle = refl; alone = λ olds a. refl }
+
+abbrev key_of : ℕ → ℕ → Row
+key_of attempt seq = number attempt ∷ number seq ∷ []
+
+-- a rowid that is chosen changes no column
+unnumbered : (b : Bool) (n v x y z : Value) → image (places piece) (cond b (n ∷ x ∷ y ∷ z ∷ []) (v ∷ x ∷ y ∷ z ∷ [])) ≡ x ∷ y ∷ z ∷ []
+unnumbered true n v x y z = refl
+unnumbered false n v x y z = refl
+
+-- rows agree on the key where both columns are equal
+agrees : (r new_row : Row) (p : Piece) → image (places piece) new_row ≡ piece_row p
+    → (equal Binary (column r 1) (number p.attempt) && (equal Binary (column r 2) (number p.seq) && true)) ≡ agree plain (1 ∷ 2 ∷ []) r (1 ∷ 2 ∷ []) new_row
+agrees r new_row p is =
+    sym (λ i. equal (first_key-plain i).collation (column r 1) (column (is i) 0) && (equal (first_key-plain i).collation (column r 2) (column (is i) 1) && true))
+
+gives : (p : Piece) → GivesRecord the_schema piece tests sets terms (key_of p.attempt p.seq) (piece_row p)
+gives p = record {
+  tested = λ r. refl;
+  updated = λ old. λ i. cast_int (pos p.attempt) i ∷ cast_int (pos p.seq) i ∷ Blob p.bytes ∷ [];
+  source = refl;
+  inserted = λ rows. unnumbered (is_null (cast Integer Null)) _ _ _ _ _ ∙ (λ i. cast_int (pos p.attempt) i ∷ cast_int (pos p.seq) i ∷ Blob p.bytes ∷ []);
+  absent = λ rows new_row db shaped is keyed fresh put sound.
+      absent_unique the_schema piece piece_index_1 (inr (inr (inr (inr (inr (inr (inr (inl refl)))))))) (inr (inr (inr (inr (inr (inr (inr (inl refl)))))))) refl rows new_row db _ (λ r. agrees r new_row p is) shaped keyed fresh put sound;
+}
+
+same_key : (attempt seq : ℕ) (q : Piece) → (equal Binary (number q.attempt) (number attempt) && (equal Binary (number q.seq) (number seq) && true)) ≡ is_eq (ordering_then (nat_cmp q.attempt attempt) (nat_cmp q.seq seq))
+same_key attempt seq q = (λ i. equal_int q.attempt attempt i && (equal_int q.seq seq i && true)) ∙ both_equal (nat_cmp q.attempt attempt) (nat_cmp q.seq seq)
+
+regular_put : (p : Piece) (s : State) → IsRegular s → IsRegular (with_record (row.Piece p) s)
+regular_put p s o = record {
+  projects = o.projects;
+  runners = o.runners;
+  pipelines = o.pipelines;
+  jobs = o.jobs;
+  job_variables = o.job_variables;
+  attempts = o.attempts;
+  pieces = put_rises piece_cmp (by_two (λ (q : Piece). q.attempt) (λ q. q.seq)) p s.pieces o.pieces;
+  tags = o.tags;
+  specs = o.specs;
+}
+
+pub piece_puts : {S : Type 0} (ghosts : Ghosts S) (before after : Held S) (p : Piece) (s : State) → Stands s (state ghosts before).now → HasPut ghosts UPDATE_PIECE.now INSERT_PIECE.now (piece_row p) before after
+    → Stands (with_record (row.Piece p) s) (state ghosts after).now
+piece_puts ghosts before after p s stands h =
+    put_stands piece_row s.pieces s (with_record (row.Piece p) s) piece refl ((λ _. refl), ((λ _. refl), ((λ _. refl), ((λ _. refl), ((λ _. refl), ((λ _. refl), ((λ _. refl), ((λ ne. absurd (ne refl)), tt)))))))) (regular_put p s stands.inside.regular)
+    7 UPDATE_PIECE.now INSERT_PIECE.now tests sets terms means piece_cmp (key_of p.attempt p.seq) p (gives p) (same_key p.attempt p.seq) refl ghosts before after stands h
+
+means_remove : MeansRemove the_schema 7 piece DELETE_PIECE.now tests
+unfolding understood everything
+means_remove = record { there = refl; apart = refl; delete_is = refl; delete_plain = (refl, refl) }
+
+regular_removed : (attempt seq : ℕ) (s : State) → IsRegular s → IsRegular (without_record (key.Piece attempt seq) s)
+regular_removed attempt seq s o = record {
+  projects = o.projects;
+  runners = o.runners;
+  pipelines = o.pipelines;
+  jobs = o.jobs;
+  job_variables = o.job_variables;
+  attempts = o.attempts;
+  pieces = ascending-filter _ _ s.pieces o.pieces;
+  tags = o.tags;
+  specs = o.specs;
+}
+
+pub piece_removes : {S : Type 0} (ghosts : Ghosts S) (before after : Held S) (attempt seq count : ℕ) (s : State) → Stands s (state ghosts before).now
+    → IsWholeStep the_schema piece tests (key_of attempt seq) (state ghosts before).now.trees → Changes ghosts DELETE_PIECE.now (key_of attempt seq) count before after
+    → Stands (without_record (key.Piece attempt seq) s) (state ghosts after).now
+piece_removes ghosts before after attempt seq count s stands whole h =
+    remove_stands piece_row s.pieces s (without_record (key.Piece attempt seq) s) piece refl ((λ _. refl), ((λ _. refl), ((λ _. refl), ((λ _. refl), ((λ _. refl), ((λ _. refl), ((λ _. refl), ((λ ne. absurd (ne refl)), tt)))))))) (regular_removed attempt seq s stands.inside.regular)
+    7 DELETE_PIECE.now tests means_remove (key_of attempt seq) (λ r. refl) (λ q. is_eq (ordering_then (nat_cmp q.attempt attempt) (nat_cmp q.seq seq))) (same_key attempt seq) refl ghosts before after count stands whole h
+
+pub piece_whole : (params : Row) (db : Trees) → IsWholeStep the_schema piece tests params db
+unfolding everything
+piece_whole params db = whole_if_alone the_schema piece tests params db (λ olds. refl)

@@ -1,0 +1,15 @@
+use Rattle.std.proofs.Common.{[], ◌∷◌, subst}
+use Rattle.sqlite.specs.Values.{bound_value}
+use Rattle.ci_tables.specs.Ran.{Changes}
+use Rattle.ci_store.specs.declared.texts.TheConstants.{DELETE_PIECE}
+use Rattle.ci_store.proofs.Pieces.{piece_removes, piece_whole}
+use Rattle.ci_store.specs.Rows.{number}
+use Rattle.ci_store.proofs.make.remove_piece.Goals as goal
+
+pub returns-clause-makes : goal.returns-clause-makes
+returns-clause-makes g c clean inside =
+    let old = c.args.tx.now.conn.now in
+    let new = c.change.new.tx.conn.now in
+    let ran = c.in_ok-change.ensures.changed clean inside in
+    let done = subst (λ row. Changes g.S.Store DELETE_PIECE.now row c.in_ok-change.field-0 old new) (λ i. bound_value (c.in_ok-number.ensures i) ∷ bound_value (c.in_ok-number-2.ensures i) ∷ []) ran.1 in
+    (ran.0, λ s stands. piece_removes g.S.Store old new c.args.attempt c.args.seq c.in_ok-change.field-0 s stands (piece_whole (number c.args.attempt ∷ number c.args.seq ∷ []) _) done)

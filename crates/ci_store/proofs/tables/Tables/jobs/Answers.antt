@@ -1,6 +1,0 @@
-use Rattle.std.proofs.Common.{subst, sym}
-use Rattle.ci_store.specs.Stands.{IsAt}
-use Rattle.ci_store.proofs.tables.Tables.jobs.Goals as goal
-
-pub returns-clause-left : goal.returns-clause-left
-returns-clause-left g c clean s at db may = c.jobs.ensures.left clean s (subst (IsAt g.S.Store s) (sym c.self.view_is) at) db may

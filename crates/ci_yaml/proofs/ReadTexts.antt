@@ -1,0 +1,171 @@
+-- What reading the lines of a text says of the text.
+use Rattle.std.proofs.Common.{◌≡◌, ℕ, zero, suc, ◌-◌, ◌≤◌, ◌⊎◌, inl, inr, Bool, true, false, cond, List, [], ◌∷◌, ◌++◌, map, length, take, Some, None, Result, Ok, Err, refl, sym, ◌∙◌, ap, subst, arith}
+use Rattle.std.specs.Prelude.{⊤, ◌==◌, IfOk, IfErr, slice_index}
+use Rattle.std.specs.List.{slice_split, onto_first}
+use Rattle.std.specs.Str.Lines.{lines, lines_of_parts}
+use Rattle.std.proofs.lemmas.List.{take-append-drop}
+use denote.Bor.{Bor}
+use Rattle.ci_yaml.specs.declared.fault.Code.{Code}
+use Rattle.ci_yaml.specs.declared.fault.Code.TheVariants.{Y12}
+use Rattle.ci_yaml.specs.declared.fault.YamlFault.{YamlFault}
+use Rattle.ci_yaml.specs.declared.fault.YamlFault.TheVariants as faults
+use Rattle.ci_yaml.specs.declared.tree.Tree.{Tree}
+use Rattle.ci_yaml.specs.View.{value_view}
+use Rattle.ci_yaml.specs.Tree.{Value}
+use Rattle.ci_yaml.specs.Entry.{Entry}
+use Rattle.ci_yaml.specs.Reading.{◌>>=◌, State, start, whole, inside, finished}
+use Rattle.ci_yaml.specs.Document.{Line, Says, none, HasTree, IsGood, IsFault, at_line, no_content}
+use Rattle.ci_yaml.specs.Blocks.{texts_of}
+use Rattle.ci_yaml.specs.ReadLines.{Reader, line_next, read_lines, beginning}
+use Rattle.ci_yaml.specs.Stops.{StopsAt, AreShort, Reads, RefusedBy, GivesTree}
+use Rattle.ci_yaml.proofs.Sound.{StateStands}
+use Rattle.ci_yaml.proofs.LinesSound.{read-stands}
+use Rattle.ci_yaml.proofs.LeastCodes.{stop-least}
+use Rattle.ci_yaml.proofs.Trees.{tree-is, tree-read, read-good, good-read, good-front, last-by}
+
+-- ---- how long lines are
+
+abbrev AreWithin : ℕ → List Line → Type 0
+AreWithin n [] = ⊤
+AreWithin n (l ∷ ls) = (length l ≤ n) × AreWithin n ls
+
+within-more : (n : ℕ) (ls : List Line) → AreWithin n ls → AreWithin (suc n) ls
+within-more n [] h = tt
+within-more n (l ∷ ls) h = (omega (arith, h.0), within-more n ls h.1)
+
+onto-within : (n b : ℕ) (ls : List Line) → AreWithin n ls → AreWithin (suc n) (onto_first b ls)
+onto-within n b [] h = (omega arith, tt)
+onto-within n b (l ∷ ls) h = (omega (arith, h.0), within-more n ls h.1)
+
+either-within : (t : Bool) (n : ℕ) (x y : List Line) → AreWithin n x → AreWithin n y → AreWithin n (cond t x y)
+either-within true n x y p q = p
+either-within false n x y p q = q
+
+split-within : (p : ℕ → Bool) (bs : List ℕ) → AreWithin (length bs) (slice_split p bs)
+split-within p [] = (omega arith, tt)
+split-within p (b ∷ bs) =
+    let h : AreWithin (length bs) (slice_split p bs) = split-within p bs in
+    either-within (p b) (suc (length bs)) ([] ∷ slice_split p bs) (onto_first b (slice_split p bs)) (omega arith, within-more (length bs) (slice_split p bs) h) (onto-within (length bs) b (slice_split p bs) h)
+
+take-within : (n k : ℕ) (l : Line) → length l ≤ n → length (take k l) ≤ n
+take-within n zero l le = omega arith
+take-within n (suc k) [] le = le
+take-within n (suc k) (b ∷ l) le = by n le
+  where
+    shorter : (j : ℕ) (xs : Line) → length (take j xs) ≤ length xs
+    shorter zero xs = omega arith
+    shorter (suc j) [] = omega arith
+    shorter (suc j) (x ∷ xs) = let h : length (take j xs) ≤ length xs = shorter j xs in omega arith
+
+    by : (m : ℕ) → suc (length l) ≤ m → suc (length (take k l)) ≤ m
+    by m h = let s : length (take k l) ≤ length l = shorter k l in omega arith
+
+strip-by : (t : Bool) (n k : ℕ) (l : Line) → length l ≤ n → length (cond t (take k l) l) ≤ n
+strip-by true n k l le = take-within n k l le
+strip-by false n k l le = le
+
+last-by-length : (t : Bool) (n : ℕ) (l : Line) → length l ≤ n → AreWithin n (cond t [] (l ∷ []))
+last-by-length true n l le = tt
+last-by-length false n l le = (le, tt)
+
+parts-within : (n : ℕ) (ps : List Line) → AreWithin n ps → AreWithin n (lines_of_parts ps)
+parts-within n [] h = tt
+parts-within n (l ∷ []) h = last-by-length (length l == 0) n l h.0
+parts-within n (l ∷ m ∷ ps) h = (strip-by (slice_index l (length l - 1) == 13) n (length l - 1) l h.0, parts-within n (m ∷ ps) h.1)
+
+short-within : (n : ℕ) (ls : List Line) → n ≤ 65536 → AreWithin n ls → AreShort ls
+short-within n [] le h = tt
+short-within n (l ∷ ls) le h = (omega (arith, h.0), short-within n ls le h.1)
+
+lines-short : (bs : List ℕ) → length bs ≤ 65536 → AreShort (lines bs)
+lines-short bs le = short-within (length bs) (lines bs) le (parts-within (length bs) (slice_split (λ b. b == 10) bs) (split-within (λ b. b == 10) bs))
+
+texts-now : (xs : List (Bor (List ℕ))) → texts_of xs ≡ map (λ x. x.now) xs
+texts-now [] = refl
+texts-now (x ∷ xs) = ap (λ (ls : List Line). x.now ∷ ls) (texts-now xs)
+
+pub texts-are : (bs : List ℕ) (xs : List (Bor (List ℕ))) → map (λ x. x.now) xs ≡ lines bs → texts_of xs ≡ lines bs
+texts-are bs xs e = texts-now xs ∙ e
+
+pub texts-short : (bs : List ℕ) (xs : List (Bor (List ℕ))) → length bs ≤ 65536 → map (λ x. x.now) xs ≡ lines bs → AreShort (texts_of xs)
+texts-short bs xs le e = subst AreShort (sym (texts-are bs xs e)) (lines-short bs le)
+
+-- ---- what a text has
+
+ok-same : (r s : Reader) (x : Result Reader Code) → x ≡ Ok r → x ≡ Ok s → r ≡ s
+ok-same r s x p q = cc
+
+pub text-tree : (bs : List ℕ) (res : Result Tree YamlFault) → length bs ≤ 65536 → Reads (lines bs) res → IfOk res (λ t. HasTree bs (value_view t))
+text-tree bs (Ok t) le h =
+    let d = tree-is (lines bs) h.0 (value_view t) h.1 h.2 in
+    record { size = le; entries = d.0; end = d.1; says = d.2; document = d.3 }
+text-tree bs (Err e) le h = tt
+
+pub fault-at : (bs : List ℕ) (at : ℕ) (code : Code) → length bs ≤ 65536 → StopsAt (lines bs) at code → IsFault bs at code
+fault-at bs at code le s =
+    let good : IsGood s.before = read-good s.before s.reader s.read in
+    let stand = read-stands beginning [] s.before s.reader s.read (record { entries = []; says = none; stands = refl }) in
+    let code-is = stop-least s.before s.stop s.reader code stand s.fault in
+    at_line le s.before s.stop s.after s.parts s.number
+    (λ k le'. good-front (take k s.before) _ (subst IsGood (sym (take-append-drop k s.before)) good))
+    (λ g. bad (good-read (s.before ++ s.stop ∷ []) g))
+    code-is
+  where
+    bad : (r : Reader) × (read_lines beginning (s.before ++ s.stop ∷ []) ≡ Ok r) → ⊥
+    bad r =
+        let e : Err code ≡ Ok r.0 = sym (last-by beginning s.before s.stop s.reader s.read ∙ ap (λ (y : Result Reader Code). y >>= λ t. read_lines t []) s.fault) ∙ r.1 in
+        absurd cc
+
+pub nothing-by : (ls : List Line) (r : Reader) (st : State) → r.state ≡ st → read_lines beginning ls ≡ Ok r → finished st ≡ None → Says ls [] r.end
+nothing-by ls r (whole v) is e f = absurd cc
+nothing-by ls r (inside fs given) is e f = absurd cc
+nothing-by ls r start is e f =
+    let h = read-stands beginning [] ls r e (record { entries = []; says = none; stands = refl }) in
+    let empty : h.entries ≡ [] = subst (λ (s : State). StateStands s h.entries) is h.stands in
+    subst (λ (es : List Entry). Says ls es r.end) empty h.says
+
+refused-by : (bs : List ℕ) (at : ℕ) (code : Code) → length bs ≤ 65536
+    → StopsAt (lines bs) at code ⊎ ((r : Reader) × (read_lines beginning (lines bs) ≡ Ok r) × (finished r.state ≡ None) × (at ≡ 1) × (code ≡ Y12)) → IsFault bs at code
+refused-by bs at code le (inl s) = fault-at bs at code le s
+refused-by bs at code le (inr h) = no_content le h.0.end (nothing-by (lines bs) h.0 h.0.state refl h.1 h.2) h.3 h.4
+
+pub text-refused : (bs : List ℕ) (res : Result Tree YamlFault) → length bs ≤ 65536 → Reads (lines bs) res → IfErr res (RefusedBy bs)
+text-refused bs (Ok t) le h = tt
+text-refused bs (Err faults.Memory) le h = tt
+text-refused bs (Err (faults.Fault code at)) le h = refused-by bs at code le h
+
+some-same : (v w : Value) → Some v ≡ Some w → v ≡ w
+some-same v w e = cc
+
+prefix-read : (r : Reader) (a b : List Line) (l : Line) (m : Reader) (s : Reader) (code : Code) → read_lines r a ≡ Ok m → line_next m l ≡ Err code → read_lines r (a ++ l ∷ b) ≡ Ok s → ⊥
+prefix-read r [] b l m s code read fault e =
+    let same : r ≡ m = cc in
+    let no : Err code ≡ Ok s = sym (ap (λ (x : Reader). line_next x l >>= λ t. read_lines t b) same ∙ ap (λ (y : Result Reader Code). y >>= λ t. read_lines t b) fault) ∙ e in
+    absurd cc
+prefix-read r (x ∷ a) b l m s code read fault e = by (line_next r x) read e (λ t. prefix-read t a b l m s code)
+  where
+    by : (res : Result Reader Code) → (res >>= λ t. read_lines t a) ≡ Ok m → (res >>= λ t. read_lines t (a ++ l ∷ b)) ≡ Ok s
+        → ((t : Reader) → read_lines t a ≡ Ok m → line_next m l ≡ Err code → read_lines t (a ++ l ∷ b) ≡ Ok s → ⊥) → ⊥
+    by (Ok t) p q ih = ih t p fault q
+    by (Err d) p q ih = absurd cc
+
+no-tree-by : (bs : List ℕ) (v : Value) (at : ℕ) (code : Code) (s : Reader) → read_lines beginning (lines bs) ≡ Ok s → finished s.state ≡ Some v
+    → StopsAt (lines bs) at code ⊎ ((r : Reader) × (read_lines beginning (lines bs) ≡ Ok r) × (finished r.state ≡ None) × (at ≡ 1) × (code ≡ Y12)) → ⊥
+no-tree-by bs v at code s e f (inl h) = prefix-read beginning h.before h.after h.stop h.reader s code h.read h.fault (ap (read_lines beginning) (sym h.parts) ∙ e)
+no-tree-by bs v at code s e f (inr h) =
+    let same : s ≡ h.0 = ok-same s h.0 (read_lines beginning (lines bs)) e h.1 in
+    let no : Some v ≡ None = sym f ∙ ap (λ (r : Reader). finished r.state) same ∙ h.2 in
+    absurd cc
+
+pub text-all : (bs : List ℕ) (res : Result Tree YamlFault) → Reads (lines bs) res → (v : Value) → HasTree bs v → GivesTree v res
+text-all bs (Ok t) h v d =
+    let a = tree-read (lines bs) d.entries d.end v d.says d.document in
+    let same : h.0 ≡ a.reader = ok-same h.0 a.reader (read_lines beginning (lines bs)) h.1 a.read in
+    some-same (value_view t) v (sym h.2 ∙ ap (λ (r : Reader). finished r.state) same ∙ a.tree)
+text-all bs (Err faults.Memory) h v d = tt
+text-all bs (Err (faults.Fault code at)) h v d =
+    let a = tree-read (lines bs) d.entries d.end v d.says d.document in
+    no-tree-by bs v at code a.reader a.read a.tree h
+
+pub from-ok : {V E : Type 0} (r : Result V E) (v : V) (P : V → Type 0) → r ≡ Ok v → IfOk r P → P v
+from-ok r v P e h = subst (λ x. IfOk x P) e h

@@ -1,0 +1,161 @@
+-- A text has one tree, or one fault.
+use Rattle.std.proofs.Common.{◌≡◌, ℕ, zero, suc, ◌<◌, ◌≤◌, ◌⊎◌, inl, inr, List, [], ◌∷◌, ◌++◌, length, take, Option, Some, None, Result, Ok, Err, refl, sym, ◌∙◌, ap, subst, arith, append_assoc}
+use Rattle.std.specs.Prelude.{◌==◌, if◌then◌else◌, IfOk, IfErr}
+use Rattle.std.specs.Str.Lines.{lines}
+use Rattle.std.proofs.lemmas.Bool.{cases_lt}
+use Rattle.std.proofs.lemmas.List.{length-append}
+use Rattle.ci_yaml.specs.declared.fault.Code.{Code}
+use Rattle.ci_yaml.specs.declared.fault.Code.TheVariants.{Y1, Y2, Y3, Y4, Y5, Y6, Y7, Y8, Y9, Y10, Y11, Y12}
+use Rattle.ci_yaml.specs.Tree.{Value, null, boolean, number, text, node}
+use Rattle.ci_yaml.specs.Entry.{Entry}
+use Rattle.ci_yaml.specs.Node.{IsNode, IsDocument, of_node, of_line}
+use Rattle.ci_yaml.specs.Least.{number_of}
+use Rattle.ci_yaml.specs.Reading.{finished}
+use Rattle.ci_yaml.specs.Document.{Line, Holds, HasTree, IsGood, has_tree, skipped, IsFault, too_long, at_line, no_content}
+use Rattle.ci_yaml.specs.ReadLines.{Reader, read_lines, beginning}
+use Rattle.ci_yaml.specs.Stops.{StopsAt, RefusedBy, GivesFault}
+use Rattle.ci_yaml.specs.View.{value_view}
+use Rattle.ci_yaml.specs.declared.tree.Tree.{Tree}
+use Rattle.ci_yaml.specs.declared.fault.YamlFault.{YamlFault}
+use Rattle.ci_yaml.specs.declared.fault.YamlFault.TheVariants as faults
+use Rattle.ci_yaml.proofs.LeastCodes.{says-same}
+use Rattle.ci_yaml.proofs.Trees.{tree-is, good-front, stops}
+use Rattle.ci_yaml.proofs.ReadTexts.{fault-at, nothing-by}
+
+-- ---- codes differ in their numbers
+
+abbrev from_number : ℕ → Option Code
+from_number n =
+    if n == 1 then Some Y1 else (
+    if n == 2 then Some Y2 else (
+    if n == 3 then Some Y3 else (
+    if n == 4 then Some Y4 else (
+    if n == 5 then Some Y5 else (
+    if n == 6 then Some Y6 else (
+    if n == 7 then Some Y7 else (
+    if n == 8 then Some Y8 else (
+    if n == 9 then Some Y9 else (
+    if n == 10 then Some Y10 else (
+    if n == 11 then Some Y11 else (
+    if n == 12 then Some Y12 else (
+    None))))))))))))
+
+number-back : (c : Code) → from_number (number_of c) ≡ Some c
+number-back Y1 = refl
+number-back Y2 = refl
+number-back Y3 = refl
+number-back Y4 = refl
+number-back Y5 = refl
+number-back Y6 = refl
+number-back Y7 = refl
+number-back Y8 = refl
+number-back Y9 = refl
+number-back Y10 = refl
+number-back Y11 = refl
+number-back Y12 = refl
+
+some-is : (c d : Code) → Some c ≡ Some d → c ≡ d
+some-is c d e = cc
+
+same-number : (c d : Code) → number_of c ≡ number_of d → c ≡ d
+same-number c d e = some-is c d (sym (number-back c) ∙ ap from_number e ∙ number-back d)
+
+-- ---- one fault
+
+parts-same : (a b : List Line) (l m : Line) (c d : List Line) → length a ≡ length b → a ++ l ∷ c ≡ b ++ m ∷ d → (a ≡ b) × (l ≡ m)
+parts-same [] [] l m c d n e = (refl, cc)
+parts-same [] (y ∷ b) l m c d n e = absurd (omega (arith, n))
+parts-same (x ∷ a) [] l m c d n e = absurd (omega (arith, n))
+parts-same (x ∷ a) (y ∷ b) l m c d n e =
+    let heads : x ≡ y = cc in
+    let r = parts-same a b l m c d (omega (arith, n)) cc in
+    (ap (λ (z : Line). z ∷ a) heads ∙ ap (λ (z : List Line). y ∷ z) r.0, r.1)
+
+-- a shorter beginning lies in the longer one
+front-of : (a b : List Line) (l m : Line) (c d : List Line) → length a < length b → a ++ l ∷ c ≡ b ++ m ∷ d → take (suc (length a)) b ≡ a ++ l ∷ []
+front-of [] [] l m c d lt e = absurd (omega (arith, lt))
+front-of [] (y ∷ b) l m c d lt e = let heads : l ≡ y = cc in ap (λ (z : Line). z ∷ []) (sym heads)
+front-of (x ∷ a) [] l m c d lt e = absurd (omega (arith, lt))
+front-of (x ∷ a) (y ∷ b) l m c d lt e =
+    let heads : x ≡ y = cc in
+    ap (λ (z : Line). z ∷ take (suc (length a)) b) (sym heads) ∙ ap (λ (z : List Line). x ∷ z) (front-of a b l m c d (omega (arith, lt)) cc)
+
+-- no earlier line is bad
+not-earlier : (a b : List Line) (l m : Line) (c d : List Line) → length a < length b → a ++ l ∷ c ≡ b ++ m ∷ d
+    → (IsGood (a ++ l ∷ []) → ⊥) → ((k : ℕ) → k ≤ length b → IsGood (take k b)) → ⊥
+not-earlier a b l m c d lt e bad good = bad (subst IsGood (front-of a b l m c d lt e) (good (suc (length a)) (omega arith)))
+
+-- not all lines are a good beginning
+not-all : (ls a : List Line) (l : Line) (c : List Line) → ls ≡ a ++ l ∷ c → (IsGood (a ++ l ∷ []) → ⊥) → IsGood ls → ⊥
+not-all ls a l c e bad good = bad (good-front (a ++ l ∷ []) c (subst IsGood (e ∙ sym (append_assoc a (l ∷ []) c)) good))
+
+pub one_fault : (bs : List ℕ) (i j : ℕ) (c d : Code) → IsFault bs i c → IsFault bs j d → (i ≡ j) × (c ≡ d)
+one_fault bs i j c d (too_long long at is) (too_long long' at' is') = (at ∙ sym at', is ∙ sym is')
+one_fault bs i j c d (too_long long at is) (at_line size before l after parts at' good bad least) = absurd (omega arith)
+one_fault bs i j c d (too_long long at is) (no_content size end says at' is') = absurd (omega arith)
+one_fault bs i j c d (at_line size before l after parts at good bad least) (too_long long at' is') = absurd (omega arith)
+one_fault bs i j c d (at_line size before l after parts at good bad least) (no_content size' end says at' is') = absurd (not-all (lines bs) before l after parts bad (skipped end says))
+one_fault bs i j c d (no_content size end says at is) (too_long long at' is') = absurd (omega arith)
+one_fault bs i j c d (no_content size end says at is) (no_content size' end' says' at' is') = (at ∙ sym at', is ∙ sym is')
+one_fault bs i j c d (no_content size end says at is) (at_line size' before l after parts at' good bad least) = absurd (not-all (lines bs) before l after parts bad (skipped end says))
+one_fault bs i j c d (at_line size before l after parts at good bad least) (at_line size' before' l' after' parts' at' good' bad' least') =
+    elim (cases_lt (length before) (length before')) [
+      | inl lt ↦ absurd (not-earlier before before' l l' after after' lt (sym parts ∙ parts') bad good')
+      | inr le ↦ elim (cases_lt (length before') (length before)) [
+        | inl lt ↦ absurd (not-earlier before' before l' l after' after lt (sym parts' ∙ parts) bad' good)
+        | inr ge ↦
+            let same : length before ≡ length before' = omega arith in
+            let both = parts-same before before' l l' after after' same (sym parts ∙ parts') in
+            let here : Holds before l d = subst (λ (x : Line). Holds before x d) (sym both.1) (subst (λ (x : List Line). Holds x l' d) (sym both.0) least'.holds) in
+            let there : Holds before' l' c = subst (λ (x : Line). Holds before' x c) both.1 (subst (λ (x : List Line). Holds x l c) both.0 least.holds) in
+            let le1 : number_of c ≤ number_of d = least.least d here in
+            let le2 : number_of d ≤ number_of c = least'.least c there in
+            (at ∙ ap suc same ∙ sym at', same-number c d (omega arith))
+      ]
+    ]
+
+-- ---- not both
+
+empty-node : (v : Value) (l : ℕ) → IsNode v 1 l [] → ⊥
+empty-node null l h = h
+empty-node (boolean b) l h = h
+empty-node (number n) l h = h
+empty-node (text bs) l h = h
+empty-node (node kind ms) l h = omega (arith, h.1)
+
+nothing-has : (v : Value) (es : List Entry) → es ≡ [] → IsDocument v es → ⊥
+nothing-has v es nil (of_node l le h) = empty-node v l (subst (λ (x : List Entry). IsNode v 1 l x) nil h)
+nothing-has v es nil (of_line e is head column given) = let bad : e ∷ [] ≡ [] = sym is ∙ nil in absurd cc
+
+pub not_both : (bs : List ℕ) (v : Value) (i : ℕ) (c : Code) → HasTree bs v → IsFault bs i c → ⊥
+not_both bs v i c h (too_long long at is) = omega (arith, h.size)
+not_both bs v i c h (at_line size before l after parts at good bad least) = not-all (lines bs) before l after parts bad (has_tree h.entries h.end v h.says h.document)
+not_both bs v i c h (no_content size end says at is) = nothing-has v h.entries (says-same (lines bs) (lines bs) h.entries [] h.end end h.says says refl).0 h.document
+
+-- ---- one of both
+
+stops-at : (ls : List Line) (code : Code) → read_lines beginning ls ≡ Err code → (at : ℕ) × StopsAt ls at code
+stops-at ls code e =
+    let s = stops beginning ls code e in
+    (suc (length s.before), record { before = s.before; stop = s.at; after = s.after; reader = s.reader; parts = s.parts; number = refl; read = s.read; fault = s.fault })
+
+verdict-by : (bs : List ℕ) (res : Result Reader Code) → length bs ≤ 65536 → read_lines beginning (lines bs) ≡ res → ((v : Value) × HasTree bs v) ⊎ ((at : ℕ) × (code : Code) × IsFault bs at code)
+verdict-by bs (Err code) le e = let s = stops-at (lines bs) code e in inr (s.0, code, fault-at bs s.0 code le s.1)
+verdict-by bs (Ok r) le e = by (finished r.state) refl
+  where
+    by : (o : Option Value) → finished r.state ≡ o → ((v : Value) × HasTree bs v) ⊎ ((at : ℕ) × (code : Code) × IsFault bs at code)
+    by (Some v) is = let d = tree-is (lines bs) r v e is in inl (v, record { size = le; entries = d.0; end = d.1; says = d.2; document = d.3 })
+    by None is = inr (1, Y12, no_content le r.end (nothing-by (lines bs) r r.state refl e is) refl refl)
+
+pub tree-or-fault : (bs : List ℕ) → ((v : Value) × HasTree bs v) ⊎ ((at : ℕ) × (code : Code) × IsFault bs at code)
+tree-or-fault bs = elim (cases_lt 65536 (length bs)) [
+  | inl lt ↦ inr (1, Y1, too_long lt refl refl)
+  | inr le ↦ verdict-by bs (read_lines beginning (lines bs)) le refl
+]
+
+-- a text that has a fault is refused with it
+pub text-all_faults : (bs : List ℕ) (res : Result Tree YamlFault) → IfOk res (λ t. HasTree bs (value_view t)) → IfErr res (RefusedBy bs)
+    → (at : ℕ) (code : Code) → IsFault bs at code → GivesFault at code res
+text-all_faults bs (Ok t) tree fault at code f = not_both bs (value_view t) at code tree f
+text-all_faults bs (Err faults.Memory) tree fault at code f = tt
+text-all_faults bs (Err (faults.Fault c n)) tree fault at code f = one_fault bs n at c code fault f

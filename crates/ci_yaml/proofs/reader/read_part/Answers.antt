@@ -1,0 +1,32 @@
+use Rattle.std.proofs.Common.{◌+◌, rules}
+use Rattle.std.proofs.lemmas.List.{take_rest}
+use Rattle.ci_yaml.specs.View.{bytes_of, state_view}
+use Rattle.ci_yaml.specs.Blocks.{texts_of}
+use Rattle.ci_yaml.specs.Stops.{StopsBy}
+use Rattle.ci_yaml.proofs.ReadParts.{short-at, part-more, part-fails, part-block, part-block_fails}
+use Rattle.ci_yaml.proofs.reader.read_part.Goals as goal
+
+pub read_line-requires : goal.read_line-requires
+read_line-requires c = record { fits = short-at c.args.lines.now c.args.at _ c.requires.inside c.requires.short }
+
+pub returns-in_err-progress-clause-fault : goal.returns-in_err-progress-clause-fault
+returns-in_err-progress-clause-fault c =
+    let h : StopsBy (texts_of c.args.lines.now) c.in_err-progress.field-0.0 =
+    part-fails c.args.lines.now c.args.at _ (state_view c.args.progress) c.in_err-progress.field-0.0 c.requires.inside c.requires.before c.in_err-progress.ensures in
+    search (rules, h)
+
+pub returns-in_err-len-in-Some-clause-fault : goal.returns-in_err-len-in-Some-clause-fault
+returns-in_err-len-in-Some-clause-fault c =
+    let h : StopsBy (texts_of c.args.lines.now) c.in_err-len-in-Some.field-0.0 =
+    part-block_fails c.args.lines.now _ c.args.at _ (state_view c.args.progress) (state_view c.in_ok-progress.field-0.progress) c.in_ok-progress.field-0.below c.in-Some.how c.in-Some.column c.in_err-len-in-Some.field-0.0
+    c.requires.inside c.requires.before c.in_ok-progress.ensures c.in-Some.is (take_rest c.args.lines.now (c.args.at + 1)) c.in_err-len-in-Some.ensures.fault in
+    search (rules, h)
+
+pub returns-in-None-clause-read : goal.returns-in-None-clause-read
+returns-in-None-clause-read c =
+    part-more c.args.lines.now c.args.at _ (state_view c.args.progress) (state_view c.in_ok-progress.field-0.progress) c.in_ok-progress.field-0.below c.requires.inside c.requires.before c.in_ok-progress.ensures c.in-None.is
+
+pub returns-in_ok-len-in-Some-clause-read : goal.returns-in_ok-len-in-Some-clause-read
+returns-in_ok-len-in-Some-clause-read c =
+    part-block c.args.lines.now _ c.args.at c.in_ok-len-in-Some.len _ (state_view c.args.progress) (state_view c.in_ok-progress.field-0.progress) (state_view c.with_text.result) c.in_ok-progress.field-0.below c.in-Some.how c.in-Some.column (bytes_of c.in_ok-len-in-Some.text)
+    c.requires.inside c.requires.before c.in_ok-progress.ensures c.in-Some.is (take_rest c.args.lines.now (c.args.at + 1)) c.in_ok-len-in-Some.ensures.block.0 c.in_ok-len-in-Some.ensures.block.1 c.in_ok-len-in-Some.ensures.text c.with_text.ensures

@@ -1,0 +1,29 @@
+-- What each tree of a text has: keys that differ, and at most ten maps and lists within one another.
+use Rattle.std.specs.Prelude.{ℕ, suc, max, ⊤}
+use Rattle.ci_yaml.specs.Tree.{Value, null, boolean, number, text, node, Members, no_members, member, NamesFit}
+
+abbrev mutual
+  -- in each map of it the keys differ
+  pub KeysDiffer : Value → Type 0
+  KeysDiffer null = ⊤
+  KeysDiffer (boolean b) = ⊤
+  KeysDiffer (number n) = ⊤
+  KeysDiffer (text bs) = ⊤
+  KeysDiffer (node kind ms) = NamesFit kind ms × AllKeysDiffer ms
+
+  pub AllKeysDiffer : Members → Type 0
+  AllKeysDiffer no_members = ⊤
+  AllKeysDiffer (member name v ms) = KeysDiffer v × AllKeysDiffer ms
+
+abbrev mutual
+  -- how many maps and lists lie within one another in it
+  pub depth : Value → ℕ
+  depth null = 0
+  depth (boolean b) = 0
+  depth (number n) = 0
+  depth (text bs) = 0
+  depth (node kind ms) = suc (members_depth ms)
+
+  pub members_depth : Members → ℕ
+  members_depth no_members = 0
+  members_depth (member name v ms) = max (depth v) (members_depth ms)

@@ -1,0 +1,104 @@
+-- Where the reading of lines stops, and what the code has when it goes on.
+use Rattle.std.specs.Prelude.{◌≡◌, ℕ, suc, ◌+◌, ◌≤◌, ◌⊎◌, List, [], ◌∷◌, ◌++◌, length, take, drop, Option, Some, None, Result, Ok, Err, ⊤}
+use denote.Bor.{Bor}
+use Rattle.ci_yaml.specs.Tree.{Value}
+use Rattle.ci_yaml.specs.declared.fault.Code.TheVariants.{Y12}
+use Rattle.ci_yaml.specs.declared.tree.Tree.{Tree}
+use Rattle.ci_yaml.specs.declared.fault.Code.{Code}
+use Rattle.ci_yaml.specs.declared.fault.YamlFault.{YamlFault}
+use Rattle.ci_yaml.specs.declared.fault.YamlFault.TheVariants as faults
+use Rattle.ci_yaml.specs.declared.parts.Chomp.{Chomp}
+use Rattle.ci_yaml.specs.declared.reader.Passed.{Passed}
+use Rattle.ci_yaml.specs.View.{chomp_view, value_view, state_view, LeastSpoken}
+use Rattle.ci_yaml.specs.Least.{lesser}
+use Rattle.ci_yaml.specs.Reading.{State, run, finished}
+use Rattle.ci_yaml.specs.Document.{Line, Ending, outside, within, last_column, IsOutside, AreBlock, IsFault}
+use Rattle.ci_yaml.specs.Blocks.{texts_of, StopsBlock}
+use Rattle.ci_yaml.specs.ReadLines.{Reader, stop_or, ending_at, line_next, read_lines, beginning}
+
+abbrev pub below_view : Option (Chomp × ℕ) → Ending
+below_view None = outside
+below_view (Some b) = within (chomp_view b.0) b.1 []
+
+abbrev pub passed_view : Passed → Reader
+passed_view p = record { state = state_view p.progress; end = below_view p.below }
+
+-- Reading what a line says, by the least code of the line itself.
+abbrev pub entered_by : Result State Code → LeastSpoken → Result Reader Code
+entered_by (Ok s) sp = stop_or sp.code (record { state = s; end = ending_at sp.header (last_column sp.entries) })
+entered_by (Err c) sp = Err (lesser c sp.code)
+
+abbrev pub entered : State → LeastSpoken → Result Reader Code
+entered s sp = entered_by (run s sp.entries) sp
+
+-- What a function returned of the line of this number is what reading gives, unless memory ran out.
+abbrev pub FailsAt : {Y : Type 0} → ℕ → YamlFault → Result Y Code → Type 0
+FailsAt n faults.Memory read = ⊤
+FailsAt n (faults.Fault c m) read = (read ≡ Err c) × (m ≡ n)
+
+abbrev pub GivesAt : {X Y : Type 0} → (X → Y) → ℕ → Result X YamlFault → Result Y Code → Type 0
+GivesAt view n (Ok x) read = read ≡ Ok (view x)
+GivesAt view n (Err e) read = FailsAt n e read
+
+-- A fault in the block below column c that follows `at` lines: the line that it names is the first that cannot follow
+-- those before it, and the code is the least that holds of it.
+abbrev pub BlockFails : ℕ → ℕ → List (Bor (List ℕ)) → YamlFault → Type 0
+BlockFails c at ls faults.Memory = ⊤
+BlockFails c at ls (faults.Fault code n) =
+    (k : ℕ) × (n ≡ at + k + 1) × AreBlock c [] (texts_of (take k ls)) × StopsBlock c (texts_of (take k ls)) (texts_of (drop k ls)) code
+
+-- The lines before the one of this number can be read, and it can't follow them, for this reason.
+pub record StopsAt (ls : List Line) (at : ℕ) (code : Code) : Type 0 where
+  pub before : List Line
+  pub stop : Line
+  pub after : List Line
+  pub reader : Reader
+  pub parts : ls ≡ before ++ stop ∷ after
+  pub number : at ≡ suc (length before)
+  pub read : read_lines beginning before ≡ Ok reader
+  pub fault : line_next reader stop ≡ Err code
+
+abbrev pub StopsBy : List Line → YamlFault → Type 0
+StopsBy ls faults.Memory = ⊤
+StopsBy ls (faults.Fault code at) = StopsAt ls at code
+
+-- the first of these lines is in no block that is open
+abbrev pub StartsOutside : Ending → List Line → Type 0
+StartsOutside end [] = ⊤
+StartsOutside end (l ∷ ls) = IsOutside end l
+
+-- The first lines, so many, are read to this state, and the next belongs to no block.
+pub record HasRead (ls : List Line) (at : ℕ) (st : State) : Type 0 where
+  pub end : Ending
+  pub read : read_lines beginning (take at ls) ≡ Ok (record { state = st; end = end })
+  pub next : StartsOutside end (drop at ls)
+
+-- no line is longer than a text may be
+abbrev pub AreShort : List Line → Type 0
+AreShort [] = ⊤
+AreShort (l ∷ ls) = (length l ≤ 65536) × AreShort ls
+
+-- ---- a text
+
+-- What reading lines to their end gives: their tree, the fault of the first that can't follow, or, where no line has content, Y12.
+abbrev pub Reads : List Line → Result Tree YamlFault → Type 0
+Reads ls (Ok t) = (r : Reader) × (read_lines beginning ls ≡ Ok r) × (finished r.state ≡ Some (value_view t))
+Reads ls (Err faults.Memory) = ⊤
+Reads ls (Err (faults.Fault code at)) = StopsAt ls at code ⊎ ((r : Reader) × (read_lines beginning ls ≡ Ok r) × (finished r.state ≡ None) × (at ≡ 1) × (code ≡ Y12))
+
+-- The fault is the one that the text has.
+abbrev pub RefusedBy : List ℕ → YamlFault → Type 0
+RefusedBy bs faults.Memory = ⊤
+RefusedBy bs (faults.Fault code at) = IsFault bs at code
+
+-- The tree is the one that was returned, unless memory ran out.
+abbrev pub GivesTree : Value → Result Tree YamlFault → Type 0
+GivesTree v (Ok t) = value_view t ≡ v
+GivesTree v (Err faults.Memory) = ⊤
+GivesTree v (Err (faults.Fault code at)) = ⊥
+
+-- The fault is the one that was returned, unless memory ran out.
+abbrev pub GivesFault : ℕ → Code → Result Tree YamlFault → Type 0
+GivesFault at code (Ok t) = ⊥
+GivesFault at code (Err faults.Memory) = ⊤
+GivesFault at code (Err (faults.Fault c n)) = (n ≡ at) × (c ≡ code)
