@@ -41,7 +41,10 @@ fn job_within<'a>(
 }
 
 /// The job that a query names, of the project with the query's token, the job with its number, and that job's pipeline.
-fn asked_job<'a>(
+///
+/// Refusals, in order: M1 where there is no such project; M2 where it isn't the one that the query names; M3 where there
+/// is no such job, or its pipeline isn't the project's.
+pub fn asked_job<'a>(
     project: Option<&Project>,
     job: Option<&'a Job>,
     pipeline: Option<&Pipeline>,
@@ -69,8 +72,7 @@ fn shown_status(last: Option<&Attempt>) -> &'static str
 /// A job of a project is asked for. The project is the one with the query's token, the job and its pipeline those that
 /// the query names, and `last` the last of the job's attempts. The reply (200) shows the job with its status.
 ///
-/// Refusals, in order: M1 where there is no such project; M2 where it isn't the one that the query names; M3 where there
-/// is no such job, or its pipeline isn't the project's.
+/// Refusals: those of `asked_job`.
 pub fn show_job(
     alloc: Global,
     project: Option<&Project>,
@@ -101,22 +103,18 @@ fn joined(alloc: Global, pieces: &[Piece]) -> Result<Bytes, AllocError>
     Ok(Bytes::new(bytes))
 }
 
-/// The trace of a job's last attempt is asked for. The project is the one with the query's token, the job and its
-/// pipeline those that the query names, and the pieces those of the last attempt, by their places. The reply (200) is the
-/// trace, which is empty where there is no attempt.
+/// The trace of a job's last attempt is asked for. The job is the one that `asked_job` finds, and the pieces are those of
+/// its last attempt, by their places. The reply (200) is the trace, which is empty where there is no attempt.
 ///
-/// Refusals: as for `show_job`.
+/// Refusals: those of `asked_job`.
 pub fn show_trace(
     alloc: Global,
-    project: Option<&Project>,
-    job: Option<&Job>,
-    pipeline: Option<&Pipeline>,
+    asked: Result<&Job, Code>,
     pieces: &[Piece],
-    query: &JobQuery,
 ) -> Result<Effect, AllocError>
-    ensures { IfOk result (λ e. e ≡ effects.show_trace (option_copied project.entry) (option_copied job.entry) (option_copied pipeline.entry) pieces.now query.now) }
+    ensures { IfOk result (λ e. e ≡ effects.traced (result_map_both (λ j. j.now) (λ c. c) asked.entry) pieces.now) }
 {
-    match asked_job(project, job, pipeline, query) {
+    match asked {
         Ok(_) => {
             let bytes = joined(alloc, pieces)?;
             Ok(replies(fine(Body::Plain(bytes)), Vec::new(alloc)))

@@ -1,7 +1,7 @@
 -- Lists that are looked up one record after the other, and the last of a list.
-use Rattle.std.specs.Prelude.{◌-◌, length, Some, None}
-use Rattle.std.specs.List.{last_or, slice_get}
-use Rattle.std.proofs.Common.{◌≡◌, ◌++◌, List, [], ◌∷◌, map, filter, Bool, true, false, cond, refl, ap, arith, ◌∙◌}
+use Rattle.std.specs.Prelude.{ℕ, ◌+◌, length, Option, Some, None, MatchOption, option_to_list}
+use Rattle.std.specs.List.{last_or}
+use Rattle.std.proofs.Common.{◌≡◌, ◌++◌, List, [], ◌∷◌, map, filter, Bool, true, false, cond, refl, ap, sym, arith, ◌∙◌}
 use Rattle.std.proofs.lemmas.List.{map-append}
 use Rattle.std.proofs.lemmas.List.Elements.{filter-append}
 use Rattle.ci_machine.specs.State.{State}
@@ -21,11 +21,12 @@ pub one_more : {A B : Type 0} (f : A → B) (p : A → Bool) (xs : List A) (x : 
 one_more f p xs x =
     ap (map f) (filter-append p xs (x ∷ [])) ∙ map-append f (filter p xs) (filter p (x ∷ [])) ∙ ap (λ l. map f (filter p xs) ++ l) (chosen f x (p x))
 
-last_at : {A : Type 0} (x : A) (xs : List A) → slice_get (x ∷ xs) (length xs) ≡ last_or (Some x) xs
-last_at x [] = refl
-last_at x (y ∷ ys) = last_at y ys
+last_behind : {A : Type 0} (d : Option A) (ys : List A) (x : A) → last_or d (ys ++ x ∷ []) ≡ Some x
+last_behind d [] x = refl
+last_behind d (y ∷ ys) x = last_behind (Some y) ys x
 
--- the element at the last place of a list is its last
-pub last_got : {A : Type 0} (xs : List A) → slice_get xs (length xs - 1) ≡ last_or None xs
-last_got [] = refl
-last_got (x ∷ xs) = let at : length (x ∷ xs) - 1 ≡ length xs = omega arith in ap (slice_get (x ∷ xs)) at ∙ last_at x xs
+-- the element that leaves a list at its end is its last
+pub popped : {A : Type 0} (n m : ℕ) (xs ys : List A) (o : Option A) → n ≡ length xs → MatchOption o ((n ≡ 0) × (m ≡ 0)) (λ _. m + 1 ≡ n) → xs ≡ ys ++ option_to_list o → o ≡ last_or None xs
+popped n m [] ys None len none is = refl
+popped n m (x ∷ xs) ys None len none is = let bad : ⊥ = omega (arith, len, none.0) in cc
+popped n m xs ys (Some x) len none is = sym (last_behind None ys x) ∙ ap (last_or None) (sym is)

@@ -142,8 +142,7 @@ impl<T: Store> Desk<T> {
         ensures closed { self.old.closed ≡ true → (result ≡ refused call.now.0 M17) × (self.new ≡ self.old) }
     {
         let (event, moment, seed) = call;
-        let is_closed = self.closed;
-        if is_closed {
+        if self.closed {
             return refused(event, Code::M17);
         }
         match event.clone() {

@@ -10,6 +10,7 @@ use ci_store::{Alter, Connection};
 use sqlite::{FileStore, Files};
 use sqlite_disk::{Fuse, Memory};
 use std::alloc::Global;
+use std::process::Abort;
 use std::test::Fail;
 
 fn first(alloc: Global) -> Result<Delta, Fail> {
@@ -259,8 +260,8 @@ fn tried(alloc: Global, call: Call, of_log: bool, calls: u64) -> Result<Ended, F
 /// The least number of calls with which the store opens.
 fn opens_from(alloc: Global, call: Call, of_log: bool) -> Result<u64, Fail> {
     let mut low = 0u64;
-    let mut high = 128u64;
-    for _ in 0..7 {
+    let mut high = 256u64;
+    for _ in 0..8 {
         let mid = low.midpoint(high);
         if tried(alloc, call, of_log, mid)? == Ended::Unopened {
             low = mid;
@@ -271,15 +272,24 @@ fn opens_from(alloc: Global, call: Call, of_log: bool) -> Result<u64, Fail> {
     Ok(high)
 }
 
-/// Each number of calls from which the store opens, until the call ends well. How many of them faulted?
-fn sweep(alloc: Global, call: Call, of_log: bool) -> Result<u64, Fail> {
-    let from = opens_from(alloc, call, of_log)?;
+/// What came of the calls that were let through, one more each time.
+#[derive(Drop)]
+struct Swept {
+    /// So many are needed for the store to open.
+    opens_from: u64,
+    /// From there on, so often the call met the fault before it ended well.
+    faults: u64,
+}
+
+/// Lets each number of calls through from which the store opens, until the call ends well.
+fn sweep(alloc: Global, call: Call, of_log: bool) -> Result<Swept, Fail> {
+    let opens_from = opens_from(alloc, call, of_log)?;
     let mut faults = 0u64;
-    for calls in from..from.saturating_add(120) {
+    for calls in opens_from..opens_from.saturating_add(120) {
         match tried(alloc, call, of_log, calls)? {
-            Ended::Done => return Ok(faults),
+            Ended::Done => return Ok(Swept { opens_from, faults }),
             Ended::Faulted => faults = faults.saturating_add(1),
-            Ended::Unopened => {}
+            Ended::Unopened => return Err("opened with less, and not with more")?,
         }
     }
     Err("never well")?
@@ -287,7 +297,8 @@ fn sweep(alloc: Global, call: Call, of_log: bool) -> Result<u64, Fail> {
 
 #[test]
 fn each_call_of_the_log_fails_as_the_tables_are_made(rt: HostRuntime) -> Result<(), Fail> {
-    assert!(rt; sweep(rt.alloc(), Call::Create, true)? > 0);
+    let swept = sweep(rt.alloc(), Call::Create, true)?;
+    assert!(rt; swept.faults > 0);
     Ok(())
 }
 
@@ -297,21 +308,28 @@ fn each_call_of_the_file_fails_as_the_tables_are_made(rt: HostRuntime) -> Result
     Ok(())
 }
 
+/// Both files are read as the store opens, so that no call of them is left to the tables.
+fn opens_or_not(rt: &impl Abort, alloc: Global, of_log: bool) -> Result<(), Fail> {
+    let swept = sweep(alloc, Call::Open, of_log)?;
+    assert!(rt; swept.opens_from > 0);
+    assert_eq!(rt; swept.faults, 0, "faults of the tables");
+    Ok(())
+}
+
 #[test]
 fn each_call_of_the_log_fails_as_the_tables_open(rt: HostRuntime) -> Result<(), Fail> {
-    assert!(rt; sweep(rt.alloc(), Call::Open, true)? > 0);
-    Ok(())
+    opens_or_not(&rt, rt.alloc(), true)
 }
 
 #[test]
 fn each_call_of_the_file_fails_as_the_tables_open(rt: HostRuntime) -> Result<(), Fail> {
-    let _ = sweep(rt.alloc(), Call::Open, false)?;
-    Ok(())
+    opens_or_not(&rt, rt.alloc(), false)
 }
 
 #[test]
 fn each_call_of_the_log_fails_in_a_commit(rt: HostRuntime) -> Result<(), Fail> {
-    assert!(rt; sweep(rt.alloc(), Call::Commit, true)? > 0);
+    let swept = sweep(rt.alloc(), Call::Commit, true)?;
+    assert!(rt; swept.faults > 0);
     Ok(())
 }
 

@@ -4,8 +4,6 @@
 #[cfg(test)]
 mod calls;
 #[cfg(test)]
-mod disks;
-#[cfg(test)]
 mod path;
 #[cfg(test)]
 mod runner;

@@ -1,6 +1,5 @@
 //! Each call of the store fails in turn, in each event, on each of its two files; then the server is opened again.
 
-use crate::disks::{closed, connected, empty, fused, opened, stopped};
 use crate::path::{STEPS, Step, first_answer, says, second_answer, send};
 use crate::runner::{
     Say, has_ended, is_accepted, is_nothing, is_refused, is_taken, is_text, shown, tell,
@@ -9,8 +8,9 @@ use ci_machine::records::Cause;
 use ci_machine::reply::{Answer, Code, JobStatus, Reply};
 use ci_server::server::Server;
 use ci_store::Alter;
+use ci_store_tests::disks::{closed, connected, empty, fused, stopped};
 use sqlite::{FileStore, Files};
-use sqlite_disk::{Fuse, Memory};
+use sqlite_disk::{Disk, Fuse, Memory};
 use std::alloc::Global;
 use std::process::Abort;
 use std::test::Fail;
@@ -22,6 +22,12 @@ enum What {
     Later(Say),
 }
 
+/// The server of files that have its tables, if it opens.
+fn opened<D: Disk + Drop>(alloc: Global, files: Files<D>) -> Option<Server<FileStore<D>>> {
+    let conn = connected(alloc, files)?;
+    Server::open(conn).ok()
+}
+
 /// A file in which the first events have happened.
 fn prepared(alloc: Global, events: usize) -> Result<Files<Memory>, Fail> {
     let conn = connected(alloc, empty(alloc)).ok_or("not opened")?;
@@ -31,7 +37,7 @@ fn prepared(alloc: Global, events: usize) -> Result<Files<Memory>, Fail> {
     for step in STEPS.iter().take(events) {
         let _ = send(alloc, &mut server, *step)?;
     }
-    Ok(closed(server).ok_or("not closed")?)
+    Ok(closed(server.close()).ok_or("not closed")?)
 }
 
 /// What was seen of an event on a store that fails.
@@ -146,7 +152,7 @@ fn happened(
     server: Server<FileStore<Fuse<Memory>>>,
     tried: What,
 ) -> Result<bool, Fail> {
-    let Some(mut server) = opened(alloc, stopped(server)) else {
+    let Some(mut server) = opened(alloc, stopped(server.close())) else {
         return Err("not opened again")?;
     };
     match tried {
