@@ -13,7 +13,7 @@ use crate::scan::{
     has_control, has_mark, has_tab_after, head_is, is_colon, is_dash, is_document_mark,
     is_forbidden, is_only_comment, key_len, spaces,
 };
-use crate::tree::Text;
+use crate::tree::{Text, Words};
 use crate::written::{Written, read_value, read_written};
 use std::alloc::{AllocError, Global};
 
@@ -44,7 +44,10 @@ fn plain_key<'a>(at: At, text: &'a str) -> Option<Keyed<'a>>
     let (raw, rest) = split_colon(text)?;
     let name = trim_end(raw);
     Some(Keyed {
-        name: Text::Lent(name, at.front(text, name.len())),
+        name: Text {
+            words: Words::Lent(name),
+            span: at.front(text, name.len()),
+        },
         rest,
         code: when(has_tab_after(raw.as_bytes()), Code::Y9),
     })

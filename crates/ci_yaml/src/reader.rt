@@ -18,7 +18,7 @@ use crate::entries::{enter_all, finish};
 use crate::fault::{Code, Stop, YamlFault, lesser};
 use crate::line::line_spoken;
 use crate::parts::{Chomp, Entry, Progress, Spoken};
-use crate::tree::{Place, Span, Text, Tree};
+use crate::tree::{Place, Span, Text, Tree, Words};
 use std::alloc::Global;
 
 /// The greatest length of a text, in bytes.
@@ -148,7 +148,13 @@ fn read_block<'a>(
                 line: first.saturating_add(len),
                 column: 0,
             };
-            Ok((len, Text::Owned(text, Span { start, end })))
+            Ok((
+                len,
+                Text {
+                    words: Words::Owned(text),
+                    span: Span { start, end },
+                },
+            ))
         }
         Err(BlockFault { at: place, code }) => { Err(YamlFault::Fault(code, at + place + 1)) }
     }

@@ -4,7 +4,7 @@ ghost use Rattle.std.specs.Prelude.{◌≡◌, ◌≤◌, IfSome};
 ghost use Rattle.ci_yaml.specs.Scalar.{count_of, negative_of, number_or_text, plain_value};
 ghost use Rattle.ci_yaml.specs.View.{value_view};
 
-use crate::tree::{Span, Text, Tree};
+use crate::tree::{Span, Text, Tree, Words};
 
 /// The greatest number that is read as one: 2^53 - 1.
 const LIMIT: u64 = 9_007_199_254_740_991;
@@ -69,7 +69,10 @@ fn number_or_text(text: &str, span: Span) -> Tree<'_>
         Some(number) => Tree::Int(number as i64),
         None => match negative(text.as_bytes()) {
             Some(number) => Tree::Int(-(number as i64)),
-            None => Tree::Text(Text::Lent(text, span)),
+            None => Tree::Text(Text {
+                words: Words::Lent(text),
+                span,
+            }),
         },
     }
 }

@@ -14,7 +14,7 @@ use crate::parts::Chomp;
 use crate::quoted::{Quoted, is_quote, read_quoted};
 use crate::scalar::plain;
 use crate::scan::{has_tab_after, head_is, is_digit_next, is_only_comment};
-use crate::tree::{Text, Tree};
+use crate::tree::{Text, Tree, Words};
 use std::alloc::{AllocError, Global};
 
 /// The value that is written, or how the literal block below is read, and the least code that holds.
@@ -40,7 +40,10 @@ fn not_comment(last: u8, text: &str) -> Option<Code>
 fn no_text<'a>(at: At, text: &'a str) -> Tree<'a>
     ensures { value_view result ≡ text_value [] }
 {
-    Tree::Text(Text::Lent("", at.front(text, 0)))
+    Tree::Text(Text {
+        words: Words::Lent(""),
+        span: at.before(text, text),
+    })
 }
 
 fn header_rest<'a>(at: At, how: Chomp, last: u8, text: &'a str) -> Written<'a>
