@@ -28,3 +28,4 @@ pub mod Shapes
 pub mod Verdicts
 pub mod SpansStand
 pub mod SpansQuoted
+pub mod SpansFlow

@@ -1,6 +1,7 @@
 //! Lists on one line.
 
-ghost use Rattle.std.specs.Prelude.{◌≡◌, ◌||◌, IfOk, true};
+ghost use Rattle.std.specs.Prelude.{◌≡◌, ℕ, ◌||◌, List, [], ◌∷◌, IfOk, true};
+ghost use Rattle.ci_yaml.specs.declared.cut.At.{At};
 ghost use Rattle.ci_yaml.specs.Least.{least};
 ghost use Rattle.ci_yaml.specs.Scalar.{is_nil, head_is, is_forbidden, has_tab_after, plain_codes};
 ghost use Rattle.ci_yaml.specs.Line.{end_of, cut_place, place_codes, plain_place, behind_quoted, place, places, listed};
@@ -122,7 +123,8 @@ fn plain_place<'a>(at: At, text: &'a str) -> Place<'a>
 }
 
 fn behind_quoted<'a>(quoted: Quoted<'a>) -> Place<'a>
-    ensures { place_view result ≡ least_place (behind_quoted (quoted_view quoted.entry) (cut_place 39 (quoted_view quoted.entry).rest)) }
+    ensures value { place_view result ≡ least_place (behind_quoted (quoted_view quoted.entry) (cut_place 39 (quoted_view quoted.entry).rest)) }
+    ensures spans { (at : At) (bs : List ℕ) → Stand at bs (quoted.entry.text ∷ []) quoted.entry.rest.now → Stand at bs (texts_in result.value) (behind_end result.end) }
 {
     let Quoted { text, wrong, rest } = quoted;
     let Cut { raw, end } = cut_place(b'\'', rest);
