@@ -1,6 +1,6 @@
 -- Where the texts of a list on one line stand.
 use Rattle.std.proofs.Common.{◌≡◌, ℕ, suc, ◌+◌, Bool, true, false, cond, List, [], ◌∷◌, ◌++◌, length, map, take, drop, ◌⊎◌, inl, inr, refl, sym, ◌∙◌, ap, subst, append_assoc, arith, rules}
-use Rattle.std.specs.Prelude.{◌==◌}
+use Rattle.std.specs.Prelude.{◌==◌, Result, Ok, Err, IfOk}
 use Rattle.std.proofs.lemmas.Bool.{eqb-true}
 use Rattle.std.proofs.lemmas.List.{append-nil, take-append-drop}
 use Rattle.std.proofs.Math.Seq.{drop-append_seam}
@@ -10,15 +10,16 @@ use Rattle.ci_yaml.specs.Line.{place_len, end_of, cut_place}
 use Rattle.ci_yaml.specs.declared.cut.At.{At}
 use Rattle.ci_yaml.specs.declared.tree.Span.{Span}
 use Rattle.ci_yaml.specs.declared.tree.Text.{Text}
-use Rattle.ci_yaml.specs.declared.tree.Tree.{Tree, Text as TextTree, the_lemmas}
+use Rattle.ci_yaml.specs.declared.tree.Tree.{Tree, Null as NullTree, Text as TextTree, the_lemmas}
 use Rattle.ci_yaml.specs.declared.flow.End.{End}
 use Rattle.ci_yaml.specs.declared.flow.End.TheVariants.{Comma, Bracket, Missing}
 use Rattle.ci_yaml.specs.declared.flow.Cut.{Cut}
+use Rattle.ci_yaml.specs.declared.flow.Listed.{Listed}
 use Rattle.ci_yaml.specs.View.{bytes_of, end_view, cut_view}
 use Rattle.ci_yaml.specs.Spans.{plain, span_before, Stand, none, texts_in, items_texts}
 use Rattle.ci_yaml.specs.SpansScalar.{OnlyText}
-use Rattle.ci_yaml.specs.SpansFlow.{behind_end}
-use Rattle.ci_yaml.proofs.SpansStand.{stand-earlier, stand-then, stand-one}
+use Rattle.ci_yaml.specs.SpansFlow.{behind_end, behind_list}
+use Rattle.ci_yaml.proofs.SpansStand.{stand-earlier, stand-none, stand-then, stand-all, stand-one}
 
 -- ---- what comes last
 
@@ -189,3 +190,32 @@ stand-more at bs rest ds vs us v end before us-is one end-is =
     let texts : items_texts us ≡ items_texts vs ++ texts_in v = ap items_texts us-is ∙ items-more vs v in
     subst (λ (ts : List Text). Stand at bs ts ds) (sym texts)
     (stand-then at bs rest ds (items_texts vs) (texts_in v) before (subst (Stand at rest (texts_in v)) end-is one))
+
+pub stand-null : (at : At) (bs : List ℕ) → Stand at bs (texts_in NullTree) []
+stand-null at bs = subst (λ (ts : List Text). Stand at bs ts []) (sym texts) (stand-end at bs [] (ends-none bs))
+  where
+    texts : texts_in NullTree ≡ []
+    texts = search (rules, the_lemmas)
+
+pub stand-behind-blanks : (at : At) (bs from cs : List ℕ) (ts : List Text) → from ≡ drop_blanks bs → Stand at from ts cs → Stand at bs ts cs
+stand-behind-blanks at bs from cs ts is stand = stand-within at bs from cs ts (subst (EndsIn bs) (sym is) (ends-drop (blanks bs) bs)) stand
+
+-- no places yet
+pub stand-nothing : (at : At) (bs : List ℕ) (vs : List Tree) → vs ≡ [] → Stand at bs (items_texts vs) bs
+stand-nothing at bs vs is = subst (λ (us : List Tree). Stand at bs (items_texts us) bs) (sym is) (stand-none at bs)
+
+pub stand-all-of : (at : At) (bs cs : List ℕ) (vs : List Tree) → Stand at bs (items_texts vs) cs → Stand at bs (items_texts vs) []
+stand-all-of at bs cs vs stand = stand-all at bs cs (items_texts vs) stand
+
+-- an empty list
+pub stand-empty : (at : At) (bs inner from cs : List ℕ) (vs : List Tree) → inner ≡ tail_of bs → from ≡ drop_blanks inner → cs ≡ tail_of from → vs ≡ [] → Stand at bs (items_texts vs) cs
+stand-empty at bs inner from cs vs inner-is from-is cs-is vs-is =
+    let behind-from : EndsIn from cs = subst (EndsIn from) (sym cs-is) (ends-tail from) in
+    let behind-inner : EndsIn inner cs = ends-then inner from cs (subst (EndsIn inner) (sym from-is) (ends-drop (blanks inner) inner)) behind-from in
+    let behind-all : EndsIn bs cs = ends-then bs inner cs (subst (EndsIn bs) (sym inner-is) (ends-tail bs)) behind-inner in
+    subst (λ (us : List Tree). Stand at bs (items_texts us) cs) (sym vs-is) (stand-end at bs cs behind-all)
+
+pub list-within : {E : Type 0} (at : At) (bs inner : List ℕ) → inner ≡ tail_of bs → (r : Result Listed E) → IfOk r (λ l. Stand at inner (items_texts l.items.items) (behind_list l.rest))
+    → IfOk r (λ l. Stand at bs (items_texts l.items.items) (behind_list l.rest))
+list-within at bs inner is (Ok l) stand = stand-within at bs inner (behind_list l.rest) (items_texts l.items.items) (subst (EndsIn bs) (sym is) (ends-tail bs)) stand
+list-within at bs inner is (Err e) stand = tt

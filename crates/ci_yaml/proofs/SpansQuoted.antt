@@ -98,8 +98,8 @@ double-alone (b ∷ c ∷ bs) = by (b == 34) refl (double-alone bs) (double-alon
     escape true quote slash is h next =
         pair-alone double bs b c (escaped c)
         (λ xs. ap (λ t. cond t (closes (c ∷ xs)) (cond (b == 92) (cond (is_escape c) (with_byte (escaped c) (double xs)) (wrongly (double (c ∷ xs)))) (with_byte b (double (c ∷ xs))))) quote
-            ∙ ap (λ t. cond t (cond (is_escape c) (with_byte (escaped c) (double xs)) (wrongly (double (c ∷ xs)))) (with_byte b (double (c ∷ xs)))) slash
-            ∙ ap (λ t. cond t (with_byte (escaped c) (double xs)) (wrongly (double (c ∷ xs)))) is)
+        ∙ ap (λ t. cond t (cond (is_escape c) (with_byte (escaped c) (double xs)) (wrongly (double (c ∷ xs)))) (with_byte b (double (c ∷ xs)))) slash
+        ∙ ap (λ t. cond t (with_byte (escaped c) (double xs)) (wrongly (double (c ∷ xs)))) is)
         (double bs) h
     escape false quote slash is h next = wrong-alone b c bs quote slash is (double (c ∷ bs)) next
 
