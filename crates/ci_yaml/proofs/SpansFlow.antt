@@ -1,5 +1,5 @@
 -- Where the texts of a list on one line stand.
-use Rattle.std.proofs.Common.{◌≡◌, ℕ, suc, ◌+◌, Bool, true, false, cond, List, [], ◌∷◌, ◌++◌, length, map, take, drop, ◌⊎◌, inl, inr, refl, sym, ◌∙◌, ap, subst, append_assoc, arith, rules}
+use Rattle.std.proofs.Common.{◌≡◌, ℕ, suc, ◌+◌, Bool, true, false, cond, List, [], ◌∷◌, ◌++◌, length, take, drop, ◌⊎◌, inl, inr, refl, sym, ◌∙◌, ap, subst, append_assoc, arith, rules}
 use Rattle.std.specs.Prelude.{◌==◌, Result, Ok, Err, IfOk}
 use Rattle.std.proofs.lemmas.Bool.{eqb-true}
 use Rattle.std.proofs.lemmas.List.{append-nil, take-append-drop}
@@ -15,7 +15,7 @@ use Rattle.ci_yaml.specs.declared.flow.End.{End}
 use Rattle.ci_yaml.specs.declared.flow.End.TheVariants.{Comma, Bracket, Missing}
 use Rattle.ci_yaml.specs.declared.flow.Cut.{Cut}
 use Rattle.ci_yaml.specs.declared.flow.Listed.{Listed}
-use Rattle.ci_yaml.specs.View.{bytes_of, end_view, cut_view}
+use Rattle.ci_yaml.specs.View.{end_view, cut_view}
 use Rattle.ci_yaml.specs.Spans.{plain, span_before, Stand, none, texts_in, items_texts}
 use Rattle.ci_yaml.specs.SpansScalar.{OnlyText}
 use Rattle.ci_yaml.specs.SpansFlow.{behind_end, behind_list}

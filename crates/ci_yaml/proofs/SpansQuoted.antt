@@ -1,12 +1,10 @@
 -- How far a quoted scalar reaches: it is read alone as it is before a rest.
-use Rattle.std.proofs.Common.{◌≡◌, ℕ, Bool, true, false, cond, List, [], ◌∷◌, ◌++◌, Option, Some, None, refl, sym, ◌∙◌, ap, subst}
-use Rattle.std.specs.Prelude.{◌==◌, ◌||◌, IfSome, option_map}
-use Rattle.std.proofs.lemmas.Bool.{eqb-true}
+use Rattle.std.proofs.Common.{◌≡◌, ℕ, Bool, true, false, cond, List, [], ◌∷◌, ◌++◌, Option, Some, None, refl, ◌∙◌, ap, subst}
+use Rattle.std.specs.Prelude.{◌==◌, ◌||◌, IfSome}
 use Rattle.ci_yaml.specs.Scalar.{Quoted, with_byte, wrongly, closes, single, is_escape, escaped, double, quoted}
 use Rattle.ci_yaml.specs.declared.cut.At.{At}
 use Rattle.ci_yaml.specs.declared.quoted.Quoted as code
-use Rattle.ci_yaml.specs.declared.tree.Text.{Text}
-use Rattle.ci_yaml.specs.View.{quoted_view, bytes_of}
+use Rattle.ci_yaml.specs.View.{quoted_view}
 use Rattle.ci_yaml.specs.Spans.{Stand, in_quotes, span_before}
 use Rattle.ci_yaml.proofs.Quotes.{single-other, double-other}
 use Rattle.ci_yaml.proofs.SpansStand.{stand-one}

@@ -1,5 +1,3 @@
-use Rattle.ci_yaml.specs.Spans.{Stand, items_texts}
-use Rattle.ci_yaml.specs.SpansFlow.{behind_list}
 use Rattle.ci_yaml.proofs.SpansFlow.{stand-empty, list-within}
 use Rattle.ci_yaml.proofs.flow.read_list.Goals as goal
 

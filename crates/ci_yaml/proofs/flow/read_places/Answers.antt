@@ -1,4 +1,4 @@
-use Rattle.std.proofs.Common.{◌≡◌, ◌∙◌, ap, rules, [], ◌-◌, ◌+◌, arith}
+use Rattle.std.proofs.Common.{◌∙◌, ap, rules, [], ◌-◌, ◌+◌, arith}
 use Rattle.ci_yaml.specs.Line as line
 use Rattle.ci_yaml.specs.View.{items_view, end_view}
 use Rattle.ci_yaml.specs.SpansFlow.{behind_end}
