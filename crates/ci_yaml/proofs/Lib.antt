@@ -12,6 +12,8 @@ pub mod EntriesTree
 pub mod Cuts
 pub mod Leasts
 pub mod Quotes
+pub mod SpansQuoted
+pub mod SpansFlow
 pub mod Turns
 pub mod Said
 pub mod BlockLines

@@ -11,6 +11,8 @@ pub mod Document
 pub mod ReadLines
 pub mod TreeView
 pub mod Spans
+pub mod SpansScalar
+pub mod SpansFlow
 pub mod View
 pub mod Blocks
 pub mod Stops

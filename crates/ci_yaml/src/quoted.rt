@@ -1,9 +1,10 @@
 //! Quoted scalars.
 
-ghost use Rattle.std.specs.Prelude.{◌≡◌, ◌==◌, ◌||◌, ◌∷◌, ◌<◌, ◌≤◌, ◌⊎◌, IfOk, IfSome, option_map, slice_index, string_bytes, length};
+ghost use Rattle.std.specs.Prelude.{◌≡◌, ◌==◌, ◌||◌, [], ◌∷◌, ◌<◌, ◌≤◌, ◌⊎◌, IfOk, IfSome, option_map, slice_index, string_bytes, length};
 ghost use Rattle.std.specs.List.{position};
 ghost use Rattle.ci_yaml.specs.Scalar.{single, double, quoted, is_quote, with_words, from_place, escape_of};
 ghost use Rattle.ci_yaml.specs.View.{quoted_view, quoted_words_view, with_wrong};
+ghost use Rattle.ci_yaml.specs.Spans.{Stand};
 
 use crate::cut::{At, split_around, tail};
 use crate::scan::head_is;
@@ -205,7 +206,8 @@ pub fn read_quoted<'a>(
     at: At,
     text: &'a str,
 ) -> Result<Option<Quoted<'a>>, AllocError>
-    ensures { IfOk result (λ q. option_map quoted_view q ≡ quoted text.now) }
+    ensures value { IfOk result (λ q. option_map quoted_view q ≡ quoted text.now) }
+    ensures spans { IfOk result (λ o. IfSome o (λ q. Stand at text.now (q.text ∷ []) q.rest.now)) }
 {
     match read_words(alloc, text)? {
         Some(QuotedWords { words, wrong, rest }) => Ok(Some(Quoted {
