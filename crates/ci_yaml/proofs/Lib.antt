@@ -26,3 +26,4 @@ pub mod PlaceCodes
 pub mod LeastCodes
 pub mod Shapes
 pub mod Verdicts
+pub mod SpansTexts
