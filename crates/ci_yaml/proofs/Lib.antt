@@ -27,3 +27,4 @@ pub mod LeastCodes
 pub mod Shapes
 pub mod Verdicts
 pub mod SpansTexts
+pub mod SpansStand
