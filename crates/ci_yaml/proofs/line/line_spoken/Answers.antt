@@ -20,10 +20,16 @@ content_spoken-requires c =
     let l : length c.trim_end-text.result.now ≡ length (trim_end (drop (spaces c.args.line.now) c.args.line.now)) = ap length t in
     record { fits = omega (arith, line-fits c.args.line.now c.requires.fits) }
 
-pub returns : goal.returns
-returns c =
+pub returns-clause-value : goal.returns-clause-value
+returns-clause-value c =
     let away : is_skipped c.args.line.now ≡ false = sym c.if-is_skipped.ensures in
     let column : c.spaces-column.result ≡ spaces c.args.line.now = c.spaces-column.ensures ∙ ap spaces c.as_bytes.ensures.value in
     let t : c.trim_end-text.result.now ≡ trim_end (drop (spaces c.args.line.now) c.args.line.now) = c.trim_end-text.ensures ∙ ap trim_end c.drop_spaces.ensures in
     c.with_code.ensures ∙ line-said c.args.line.now c.when-form.result (spoken_view c.in_ok-said.said) away (c.when-form.ensures ∙ ap (λ b. least (when b Y9)) c.has_odd.ensures)
     (c.in_ok-said.ensures ∙ ap (λ (n : ℕ). least_spoken (content_spoken n c.trim_end-text.result.now)) column ∙ ap (λ (x : List ℕ). least_spoken (content_spoken (spaces c.args.line.now) x)) t)
+
+pub returns-clause-spans : goal.returns-clause-spans
+returns-clause-spans c = ?
+
+pub returns-then-is_skipped-clause-spans : goal.returns-then-is_skipped-clause-spans
+returns-then-is_skipped-clause-spans c = ?
