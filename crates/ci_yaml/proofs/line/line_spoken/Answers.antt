@@ -27,9 +27,3 @@ returns-clause-value c =
     let t : c.trim_end-text.result.now ≡ trim_end (drop (spaces c.args.line.now) c.args.line.now) = c.trim_end-text.ensures ∙ ap trim_end c.drop_spaces.ensures in
     c.with_code.ensures ∙ line-said c.args.line.now c.when-form.result (spoken_view c.in_ok-said.said) away (c.when-form.ensures ∙ ap (λ b. least (when b Y9)) c.has_odd.ensures)
     (c.in_ok-said.ensures ∙ ap (λ (n : ℕ). least_spoken (content_spoken n c.trim_end-text.result.now)) column ∙ ap (λ (x : List ℕ). least_spoken (content_spoken (spaces c.args.line.now) x)) t)
-
-pub returns-clause-spans : goal.returns-clause-spans
-returns-clause-spans c = ?
-
-pub returns-then-is_skipped-clause-spans : goal.returns-then-is_skipped-clause-spans
-returns-then-is_skipped-clause-spans c = ?

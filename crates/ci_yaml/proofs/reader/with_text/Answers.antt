@@ -1,5 +1,5 @@
-use Rattle.std.proofs.Common.{◌≡◌, ◌∷◌, ◌++◌, [], refl, sym, ◌∙◌, ap}
-use Rattle.ci_yaml.specs.Spans.{texts_in, given_texts, frames_texts, state_texts, last_text}
+use Rattle.std.proofs.Common.{◌++◌, [], refl, ap}
+use Rattle.ci_yaml.specs.Spans.{given_texts, frames_texts, state_texts, last_text}
 use Rattle.ci_yaml.proofs.SpansTexts.{texts-Text}
 use Rattle.ci_yaml.proofs.reader.with_text.Goals as goal
 
