@@ -29,3 +29,8 @@ pub mod LeastCodes
 pub mod Shapes
 pub mod Verdicts
 pub mod SpansStand
+pub mod SpansTexts
+pub mod SpansStand
+pub mod SpansLines
+pub mod SpansWritten
+pub mod SpansParts
