@@ -30,7 +30,6 @@ pub mod Shapes
 pub mod Verdicts
 pub mod SpansStand
 pub mod SpansTexts
-pub mod SpansStand
 pub mod SpansLines
 pub mod SpansWritten
 pub mod SpansParts
