@@ -29,3 +29,7 @@ pub mod LeastCodes
 pub mod Shapes
 pub mod Verdicts
 pub mod SpansStand
+pub mod SpansTexts
+pub mod SpansLines
+pub mod SpansWritten
+pub mod SpansParts

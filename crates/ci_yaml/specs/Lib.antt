@@ -10,6 +10,7 @@ pub mod Line
 pub mod Document
 pub mod ReadLines
 pub mod TreeView
+pub mod TreeTexts
 pub mod Spans
 pub mod SpansScalar
 pub mod SpansFlow

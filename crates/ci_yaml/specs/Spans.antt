@@ -4,8 +4,7 @@ use Rattle.ci_yaml.specs.declared.cut.At.{At}
 use Rattle.ci_yaml.specs.declared.tree.Place.{Place}
 use Rattle.ci_yaml.specs.declared.tree.Span.{Span}
 use Rattle.ci_yaml.specs.declared.tree.Text.{Text}
-use Rattle.ci_yaml.specs.declared.tree.Tree.{Tree, fold-Tree}
-use Rattle.ci_yaml.specs.declared.tree.Tree.TheOpen.{Tree-F}
+use Rattle.ci_yaml.specs.declared.tree.Tree.{Tree}
 use Rattle.ci_yaml.specs.declared.parts.Frame.{Frame}
 use Rattle.ci_yaml.specs.declared.parts.Open.{Open}
 use Rattle.ci_yaml.specs.declared.parts.Open.TheVariants.{Items, Pairs}
@@ -18,34 +17,9 @@ use Rattle.ci_yaml.specs.Scalar.{quoted}
 use Rattle.ci_yaml.specs.Line.{Chomp}
 use Rattle.ci_yaml.specs.Document.{Line, literal}
 use Rattle.ci_yaml.specs.TreeView.{bytes_of}
+pub use Rattle.ci_yaml.specs.TreeTexts.{lists, pairs, texts_step, texts_in, items_texts, pairs_texts}
 
--- ---- the texts of a tree, in the order in which they are written: a key comes before its value
-
-abbrev pub lists : List (List Text) → List Text
-lists [] = []
-lists (ts ∷ tss) = ts ++ lists tss
-
-abbrev pub pairs : List (Text × List Text) → List Text
-pairs [] = []
-pairs (m ∷ ms) = m.0 ∷ (m.1 ++ pairs ms)
-
--- one level, with each tree inside already seen as its texts
-abbrev pub texts_step : Tree-F (List Text) → List Text
-texts_step Tree-F.Null = []
-texts_step (Tree-F.Bool b) = []
-texts_step (Tree-F.Int n) = []
-texts_step (Tree-F.Text t) = t ∷ []
-texts_step (Tree-F.List v) = lists v.items
-texts_step (Tree-F.Map v) = pairs v.items
-
-abbrev pub texts_in : Tree → List Text
-texts_in = fold-Tree (List Text) texts_step
-
-abbrev pub items_texts : List Tree → List Text
-items_texts vs = lists (map texts_in vs)
-
-abbrev pub pairs_texts : List (Text × Tree) → List Text
-pairs_texts ms = pairs (map (λ m. (m.0, texts_in m.1)) ms)
+-- ---- the texts of what was read so far, and of a line's entries
 
 abbrev pub given_texts : Option Tree → List Text
 given_texts None = []
@@ -148,3 +122,14 @@ pub data Lines : ℕ → List Line → List Text → Type 0 where
         start = record { line = suc n; column = 0 };
         end = record { line = suc (n + length block); column = 0 };
       } → Lines (n + length block) rest ts → Lines n ls (t ∷ ts)
+
+-- After some texts come those of this line, which is counted from 1.
+pub record Follow (n : ℕ) (l : Line) (before all : List Text) : Type 0 where
+  pub texts : List Text
+  pub stand : StandOn n l texts
+  pub parts : all ≡ before ++ texts
+
+-- What comes of texts when this text takes the place of the last of them.
+pub data Ends (t : Text) (all ending : List Text) : Type 0 where
+  no_text : ending ≡ [] → Ends t all ending
+  last_text : (before behind : List Text) → all ≡ before ++ behind → ending ≡ before ++ t ∷ [] → Ends t all ending

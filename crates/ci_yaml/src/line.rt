@@ -4,6 +4,7 @@ ghost use Rattle.std.specs.Prelude.{◌≡◌, ◌==◌, ◌+◌, ◌≤◌, ◌
 ghost use Rattle.ci_yaml.specs.Least.{least_of};
 ghost use Rattle.ci_yaml.specs.Line.{split_colon, plain_key, quoted_key, keyed, is_dash, item, spoken, keyed_or_bare, content_spoken, is_document_mark, has_control, has_mark, is_skipped, line_spoken};
 ghost use Rattle.ci_yaml.specs.View.{quoted_view, keyed_view, least_keyed, written_view, head_view, entry_view, item_view, least_item, ColumnsFit, spoken_view, least_spoken, with_entries, least_entry, key_spoken, bare_spoken};
+ghost use Rattle.ci_yaml.specs.Spans.{StandOn, entries_texts};
 
 use crate::cut::{At, drop_blanks, drop_spaces, front, skip, tail, trim_end};
 use crate::fault::{Code, least_of, when};
@@ -311,7 +312,9 @@ pub fn line_spoken<'a>(
     line: &'a str,
 ) -> Result<Spoken<'a>, AllocError>
     requires fits { length line.now ≤ 65536 }
-    ensures { IfOk result (λ s. spoken_view s ≡ least_spoken (line_spoken line.now)) }
+    ensures value { IfOk result (λ s. spoken_view s ≡ least_spoken (line_spoken line.now)) }
+    // The texts stand in the line.
+    ensures spans { IfOk result (λ s. StandOn number line.now (entries_texts s.entries.items)) }
 {
     let form = when(has_odd(line), Code::Y9);
     if is_skipped(line) {

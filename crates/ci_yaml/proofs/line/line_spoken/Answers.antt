@@ -20,8 +20,8 @@ content_spoken-requires c =
     let l : length c.trim_end-text.result.now ≡ length (trim_end (drop (spaces c.args.line.now) c.args.line.now)) = ap length t in
     record { fits = omega (arith, line-fits c.args.line.now c.requires.fits) }
 
-pub returns : goal.returns
-returns c =
+pub returns-clause-value : goal.returns-clause-value
+returns-clause-value c =
     let away : is_skipped c.args.line.now ≡ false = sym c.if-is_skipped.ensures in
     let column : c.spaces-column.result ≡ spaces c.args.line.now = c.spaces-column.ensures ∙ ap spaces c.as_bytes.ensures.value in
     let t : c.trim_end-text.result.now ≡ trim_end (drop (spaces c.args.line.now) c.args.line.now) = c.trim_end-text.ensures ∙ ap trim_end c.drop_spaces.ensures in
