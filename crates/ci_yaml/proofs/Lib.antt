@@ -14,6 +14,8 @@ pub mod Leasts
 pub mod Quotes
 pub mod SpansQuoted
 pub mod SpansFlow
+pub mod SpansGiven
+pub mod SpansSpoken
 pub mod Turns
 pub mod Said
 pub mod BlockLines

@@ -4,7 +4,7 @@ use Rattle.std.proofs.lemmas.List.{append-nil, length-append}
 use Rattle.ci_yaml.specs.declared.cut.At.{At}
 use Rattle.ci_yaml.specs.declared.tree.Text.{Text}
 use Rattle.ci_yaml.specs.TreeView.{bytes_of}
-use Rattle.ci_yaml.specs.Spans.{Writes, plain, span_before, Stand, none, more}
+use Rattle.ci_yaml.specs.Spans.{Writes, span_before, Stand, none, more}
 
 -- from further in front
 pub stand-earlier : (at : At) (a b c front : List ℕ) (ts : List Text) → a ≡ front ++ b → Stand at b ts c → Stand at a ts c

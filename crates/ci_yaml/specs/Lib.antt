@@ -14,6 +14,7 @@ pub mod TreeTexts
 pub mod Spans
 pub mod SpansScalar
 pub mod SpansFlow
+pub mod SpansSpoken
 pub mod View
 pub mod Blocks
 pub mod Stops
