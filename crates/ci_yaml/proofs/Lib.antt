@@ -12,6 +12,10 @@ pub mod EntriesTree
 pub mod Cuts
 pub mod Leasts
 pub mod Quotes
+pub mod SpansQuoted
+pub mod SpansFlow
+pub mod SpansGiven
+pub mod SpansSpoken
 pub mod Turns
 pub mod Said
 pub mod BlockLines
@@ -26,3 +30,8 @@ pub mod PlaceCodes
 pub mod LeastCodes
 pub mod Shapes
 pub mod Verdicts
+pub mod SpansStand
+pub mod SpansTexts
+pub mod SpansLines
+pub mod SpansWritten
+pub mod SpansParts

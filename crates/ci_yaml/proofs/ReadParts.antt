@@ -15,12 +15,12 @@ use Rattle.ci_yaml.specs.Stops.{below_view, FailsAt, BlockFails, StopsAt, StopsB
 use Rattle.ci_yaml.proofs.BlockLines.{texts-next, texts-take, length-texts}
 use Rattle.ci_yaml.proofs.ReadSteps.{line-more, line-stops, block-more, block-stops, all-read}
 
-texts-drop : (n : ℕ) (xs : List (Bor (List ℕ))) → texts_of (drop n xs) ≡ drop n (texts_of xs)
+pub texts-drop : (n : ℕ) (xs : List (Bor (List ℕ))) → texts_of (drop n xs) ≡ drop n (texts_of xs)
 texts-drop zero xs = refl
 texts-drop (suc n) [] = refl
 texts-drop (suc n) (x ∷ xs) = texts-drop n xs
 
-part-at : (xs : List (Bor (List ℕ))) (at : ℕ) (d : Bor (List ℕ)) → at < length xs → drop at (texts_of xs) ≡ (get_or xs at d).now ∷ texts_of (drop (at + 1) xs)
+pub part-at : (xs : List (Bor (List ℕ))) (at : ℕ) (d : Bor (List ℕ)) → at < length xs → drop at (texts_of xs) ≡ (get_or xs at d).now ∷ texts_of (drop (at + 1) xs)
 part-at xs at d lt = sym (texts-drop at xs) ∙ texts-next xs at d (get_or xs at d).now lt refl
 
 short-drop : (n : ℕ) (ls : List Line) → AreShort ls → AreShort (drop n ls)

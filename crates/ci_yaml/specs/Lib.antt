@@ -10,6 +10,11 @@ pub mod Line
 pub mod Document
 pub mod ReadLines
 pub mod TreeView
+pub mod TreeTexts
+pub mod Spans
+pub mod SpansScalar
+pub mod SpansFlow
+pub mod SpansSpoken
 pub mod View
 pub mod Blocks
 pub mod Stops

@@ -1,19 +1,18 @@
 -- A tree of the code, without where it lies in memory.
 use Rattle.std.specs.Prelude.{ℕ, List, [], ◌∷◌, map, string_bytes}
 use Rattle.ci_yaml.specs.declared.tree.Text.{Text}
-use Rattle.ci_yaml.specs.declared.tree.Text.TheVariants.{Lent, Owned}
-use Rattle.ci_yaml.specs.declared.tree.Span.{Span}
+use Rattle.ci_yaml.specs.declared.tree.Words.{Words}
+use Rattle.ci_yaml.specs.declared.tree.Words.TheVariants.{Lent, Owned}
 use Rattle.ci_yaml.specs.declared.tree.Tree.{Tree, fold-Tree}
 use Rattle.ci_yaml.specs.declared.tree.Tree.TheOpen.{Tree-F}
 use Rattle.ci_yaml.specs.Tree.{sequence, mapping, Value, null, boolean, number, text, node, Members, no_members, member}
 
-abbrev pub bytes_of : Text → List ℕ
-bytes_of (Lent s p) = s.now
-bytes_of (Owned s p) = string_bytes s
+abbrev pub words_of : Words → List ℕ
+words_of (Lent s) = s.now
+words_of (Owned s) = string_bytes s
 
-abbrev pub span_of : Text → Span
-span_of (Lent s p) = p
-span_of (Owned s p) = p
+abbrev pub bytes_of : Text → List ℕ
+bytes_of t = words_of t.words
 
 abbrev pub items_of : List Value → Members
 items_of [] = no_members

@@ -1,7 +1,7 @@
 -- What the code holds of lines and open nodes, without where it lies in memory.
 use Rattle.std.specs.Prelude.{◌≡◌, ◌≤◌, ◌||◌, ◌+◌, ℕ, Bool, List, [], ◌∷◌, ◌++◌, length, Option, Some, None, Result, Ok, Err, map, option_map, string_bytes, ⊤}
 use Rattle.ci_yaml.specs.declared.tree.Tree.{Tree}
-pub use Rattle.ci_yaml.specs.TreeView.{bytes_of, span_of, items_of, pairs_of, joined, view_step, value_view, items_view, pairs_view}
+pub use Rattle.ci_yaml.specs.TreeView.{words_of, bytes_of, items_of, pairs_of, joined, view_step, value_view, items_view, pairs_view}
 use Rattle.ci_yaml.specs.declared.parts.Frame.{Frame}
 use Rattle.ci_yaml.specs.declared.parts.Open.{Open}
 use Rattle.ci_yaml.specs.declared.parts.Open.TheVariants.{Items, Pairs}
@@ -13,6 +13,7 @@ use Rattle.ci_yaml.specs.declared.parts.Chomp.{Chomp}
 use Rattle.ci_yaml.specs.declared.parts.Chomp.TheVariants.{Clip, Strip, Keep}
 use Rattle.ci_yaml.specs.declared.parts.Spoken.{Spoken}
 use Rattle.ci_yaml.specs.declared.quoted.Quoted.{Quoted}
+use Rattle.ci_yaml.specs.declared.quoted.QuotedWords.{QuotedWords}
 use Rattle.ci_yaml.specs.declared.flow.End.{End}
 use Rattle.ci_yaml.specs.declared.flow.End.TheVariants.{Comma, Bracket, Missing}
 use Rattle.ci_yaml.specs.declared.flow.Cut.{Cut}
@@ -77,6 +78,9 @@ state_view (Inside fs given) = reading.inside (frames_view fs.items) (given_view
 
 abbrev pub quoted_view : Quoted → scalar.Quoted
 quoted_view q = record { text = bytes_of q.text; wrong = q.wrong; rest = q.rest.now }
+
+abbrev pub quoted_words_view : QuotedWords → scalar.Quoted
+quoted_words_view q = record { text = words_of q.words; wrong = q.wrong; rest = q.rest.now }
 
 abbrev pub with_wrong : Bool → Option scalar.Quoted → Option scalar.Quoted
 with_wrong w None = None

@@ -4,6 +4,7 @@ ghost use Rattle.std.specs.Prelude.{◌≡◌, ◌+◌, ◌≤◌, ◌<◌, leng
 ghost use Rattle.std.specs.Str.{IsCharBoundary};
 ghost use Rattle.ci_yaml.specs.Scalar.{is_nil, trim_end, drop_blanks, before_comment, tail_of};
 ghost use Rattle.ci_yaml.specs.Line.{spaces};
+ghost use Rattle.ci_yaml.specs.Spans.{span_before};
 
 use crate::scan::{blanks, comment_len, spaces, trimmed_len};
 use crate::tree::{Place, Span};
@@ -16,28 +17,35 @@ pub struct At {
 }
 
 impl At {
-    fn place(self, column: usize) -> Place {
-        Place {
-            line: self.line,
-            column,
+    /// Where the first bytes stand of a text that reaches to the line's end.
+    pub fn front(self, text: &str, len: usize) -> Span
+        ensures { result ≡ span_before self text.now (drop len text.now) }
+    {
+        Span {
+            start: Place {
+                line: self.line,
+                column: self.end.saturating_sub(text.len()),
+            },
+            end: Place {
+                line: self.line,
+                column: self.end.saturating_sub(text.len().saturating_sub(len)),
+            },
         }
     }
 
-    /// Where the first bytes of a text stand that reaches to the line's end.
-    pub fn front(self, text: &str, len: usize) -> Span {
-        let start = self.end.saturating_sub(text.len());
+    /// Where the bytes stand that come before a rest, in a text that reaches to the line's end as the rest does.
+    pub fn before(self, text: &str, rest: &str) -> Span
+        ensures { result ≡ span_before self text.now rest.now }
+    {
         Span {
-            start: self.place(start),
-            end: self.place(start.saturating_add(len)),
-        }
-    }
-
-    /// Where a quoted scalar stands, whose text begins here after its quote, and which this rest follows.
-    pub fn quoted(self, text: &str, rest: &str) -> Span {
-        let start = self.end.saturating_sub(text.len());
-        Span {
-            start: self.place(start.saturating_sub(1)),
-            end: self.place(self.end.saturating_sub(rest.len())),
+            start: Place {
+                line: self.line,
+                column: self.end.saturating_sub(text.len()),
+            },
+            end: Place {
+                line: self.line,
+                column: self.end.saturating_sub(rest.len()),
+            },
         }
     }
 }

@@ -1,12 +1,13 @@
 //! The tree of a list of entries.
 
-ghost use Rattle.std.specs.Prelude.{◌≡◌, [], map, Some, Ok, Err, IfOk, IfSome};
+ghost use Rattle.std.specs.Prelude.{◌≡◌, ◌∷◌, ◌++◌, [], map, Some, Ok, Err, IfOk, IfSome};
 ghost use Rattle.ci_yaml.specs.declared.fault.Code.{Code};
 ghost use Rattle.ci_yaml.specs.Tree.{sequence, mapping, Value};
 ghost use Rattle.ci_yaml.specs.Node.{IsDocument};
 ghost use Rattle.ci_yaml.specs.Entry.{dash, key, bare};
 ghost use Rattle.ci_yaml.specs.View.{bytes_of, value_view, frames_view, given_view, entry_view, state_view, Gives};
 ghost use Rattle.ci_yaml.specs.Reading.{member_next, bare_next, next, run, start, finished, close_all, tree_read};
+ghost use Rattle.ci_yaml.specs.Spans.{texts_in, given_texts, frames_texts, state_texts, entry_texts, entries_texts};
 
 use crate::fault::{Code, Stop};
 use crate::joins::{enter_item, enter_pair, or_null};
@@ -22,7 +23,8 @@ fn next_item<'a>(
     column: u32,
     given: Option<Tree<'a>>,
 ) -> Result<Progress<'a>, Stop>
-    ensures { Gives state_view result (member_next (state_view progress.entry) (record { column = column; head = dash; given = given_view given.entry }) sequence []) }
+    ensures value { Gives state_view result (member_next (state_view progress.entry) (record { column = column; head = dash; given = given_view given.entry }) sequence []) }
+    ensures spans { IfOk result (λ p. state_texts p ≡ state_texts progress.entry ++ given_texts given.entry) }
 {
     match progress {
         Progress::Start => {
@@ -47,7 +49,8 @@ fn next_pair<'a>(
     name: Text<'a>,
     given: Option<Tree<'a>>,
 ) -> Result<Progress<'a>, Stop>
-    ensures { Gives state_view result (member_next (state_view progress.entry) (record { column = column; head = key (bytes_of name.entry); given = given_view given.entry }) mapping (bytes_of name.entry)) }
+    ensures value { Gives state_view result (member_next (state_view progress.entry) (record { column = column; head = key (bytes_of name.entry); given = given_view given.entry }) mapping (bytes_of name.entry)) }
+    ensures spans { IfOk result (λ p. state_texts p ≡ state_texts progress.entry ++ (name.entry ∷ given_texts given.entry)) }
 {
     match progress {
         Progress::Start => {
@@ -72,7 +75,8 @@ fn next_bare<'a>(
     column: u32,
     given: Option<Tree<'a>>,
 ) -> Result<Progress<'a>, Stop>
-    ensures { Gives state_view result (bare_next (state_view progress.entry) (record { column = column; head = bare; given = given_view given.entry })) }
+    ensures value { Gives state_view result (bare_next (state_view progress.entry) (record { column = column; head = bare; given = given_view given.entry })) }
+    ensures spans { IfOk result (λ p. state_texts p ≡ state_texts progress.entry ++ given_texts given.entry) }
 {
     match progress {
         Progress::Start => {
@@ -95,7 +99,8 @@ fn next_entry<'a>(
     progress: Progress<'a>,
     entry: Entry<'a>,
 ) -> Result<Progress<'a>, Stop>
-    ensures { Gives state_view result (next (state_view progress.entry) (entry_view entry.entry)) }
+    ensures value { Gives state_view result (next (state_view progress.entry) (entry_view entry.entry)) }
+    ensures spans { IfOk result (λ p. state_texts p ≡ state_texts progress.entry ++ entry_texts entry.entry) }
 {
     let Entry {
         column,
@@ -110,7 +115,8 @@ fn next_entry<'a>(
 }
 
 fn closed_all<'a>(frames: Vec<Frame<'a>>, value: Tree<'a>) -> Result<Tree<'a>, AllocError>
-    ensures { IfOk result (λ t. value_view t ≡ close_all (frames_view frames.entry.items) (value_view value.entry)) }
+    ensures value { IfOk result (λ t. value_view t ≡ close_all (frames_view frames.entry.items) (value_view value.entry)) }
+    ensures spans { IfOk result (λ t. texts_in t ≡ frames_texts frames.entry.items ++ texts_in value.entry) }
 {
     let mut frames = frames;
     let mut value = value;
@@ -122,7 +128,8 @@ fn closed_all<'a>(frames: Vec<Frame<'a>>, value: Tree<'a>) -> Result<Tree<'a>, A
 
 /// The tree that was read, if anything was.
 pub fn finish(progress: Progress<'_>) -> Result<Option<Tree<'_>>, AllocError>
-    ensures { IfOk result (λ o. given_view o ≡ finished (state_view progress.entry)) }
+    ensures value { IfOk result (λ o. given_view o ≡ finished (state_view progress.entry)) }
+    ensures spans { IfOk result (λ o. given_texts o ≡ state_texts progress.entry) }
 {
     match progress {
         Progress::Start => Ok(None),
@@ -137,7 +144,8 @@ pub fn enter_all<'a>(
     progress: Progress<'a>,
     entries: Vec<Entry<'a>>,
 ) -> Result<Progress<'a>, Stop>
-    ensures { Gives state_view result (run (state_view progress.entry) (map entry_view entries.entry.items)) }
+    ensures value { Gives state_view result (run (state_view progress.entry) (map entry_view entries.entry.items)) }
+    ensures spans { IfOk result (λ p. state_texts p ≡ state_texts progress.entry ++ entries_texts entries.entry.items) }
 {
     let mut entries = entries;
     let mut progress = progress;

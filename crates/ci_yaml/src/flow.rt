@@ -1,9 +1,12 @@
 //! Lists on one line.
 
-ghost use Rattle.std.specs.Prelude.{◌≡◌, ◌||◌, IfOk, true};
+ghost use Rattle.std.specs.Prelude.{◌≡◌, ℕ, ◌||◌, List, [], ◌∷◌, IfOk, true};
+ghost use Rattle.ci_yaml.specs.declared.cut.At.{At};
 ghost use Rattle.ci_yaml.specs.Least.{least};
 ghost use Rattle.ci_yaml.specs.Scalar.{is_nil, head_is, is_forbidden, has_tab_after, plain_codes};
 ghost use Rattle.ci_yaml.specs.Line.{end_of, cut_place, place_codes, plain_place, behind_quoted, place, places, listed};
+ghost use Rattle.ci_yaml.specs.Spans.{texts_in, items_texts, Stand};
+ghost use Rattle.ci_yaml.specs.SpansFlow.{behind_end, behind_list};
 ghost use Rattle.ci_yaml.specs.View.{quoted_view, end_view, cut_view, place_view, listed_view, least_place, least_listed};
 
 use crate::cut::{At, drop_blanks, front, is_all_blank, skip, tail, trim_end};
@@ -105,7 +108,8 @@ fn place_code(front: &str, raw: &str, text: &str) -> Option<Code>
 }
 
 fn plain_place<'a>(at: At, text: &'a str) -> Place<'a>
-    ensures { place_view result ≡ least_place (plain_place text.now (cut_place 44 text.now)) }
+    ensures value { place_view result ≡ least_place (plain_place text.now (cut_place 44 text.now)) }
+    ensures spans { Stand at text.now (texts_in result.value) (behind_end result.end) }
 {
     let Cut { raw, end } = cut_place(b',', text);
     let trimmed = trim_end(raw);
@@ -119,7 +123,8 @@ fn plain_place<'a>(at: At, text: &'a str) -> Place<'a>
 }
 
 fn behind_quoted<'a>(quoted: Quoted<'a>) -> Place<'a>
-    ensures { place_view result ≡ least_place (behind_quoted (quoted_view quoted.entry) (cut_place 39 (quoted_view quoted.entry).rest)) }
+    ensures value { place_view result ≡ least_place (behind_quoted (quoted_view quoted.entry) (cut_place 39 (quoted_view quoted.entry).rest)) }
+    ensures spans { (at : At) (bs : List ℕ) → Stand at bs (quoted.entry.text ∷ []) quoted.entry.rest.now → Stand at bs (texts_in result.value) (behind_end result.end) }
 {
     let Quoted { text, wrong, rest } = quoted;
     let Cut { raw, end } = cut_place(b'\'', rest);
@@ -136,7 +141,8 @@ fn behind_quoted<'a>(quoted: Quoted<'a>) -> Place<'a>
 
 /// The place that the text begins with. Errors: memory was refused.
 fn read_place<'a>(alloc: Global, at: At, text: &'a str) -> Result<Place<'a>, AllocError>
-    ensures { IfOk result (λ p. place_view p ≡ least_place (place text.now)) }
+    ensures value { IfOk result (λ p. place_view p ≡ least_place (place text.now)) }
+    ensures spans { IfOk result (λ p. Stand at text.now (texts_in p.value) (behind_end p.end)) }
 {
     let from = drop_blanks(text);
     if !is_quote(from.as_bytes()) {
@@ -154,7 +160,8 @@ fn read_place<'a>(alloc: Global, at: At, text: &'a str) -> Result<Place<'a>, All
 
 /// The first n places from here on; no list has more places than bytes, its bracket counted. Errors: memory was refused.
 fn read_places<'a>(alloc: Global, at: At, n: usize, text: &'a str) -> Result<Listed<'a>, AllocError>
-    ensures { IfOk result (λ l. listed_view l ≡ least_listed (places n text.now)) }
+    ensures value { IfOk result (λ l. listed_view l ≡ least_listed (places n text.now)) }
+    ensures spans { IfOk result (λ l. Stand at text.now (items_texts l.items.items) (behind_list l.rest)) }
 {
     let mut items = Vec::new(alloc);
     let mut code = None;
@@ -195,7 +202,8 @@ fn read_places<'a>(alloc: Global, at: At, n: usize, text: &'a str) -> Result<Lis
 /// The list that begins here with its bracket. Errors: memory was refused.
 pub fn read_list<'a>(alloc: Global, at: At, text: &'a str) -> Result<Listed<'a>, AllocError>
     requires { head_is 91 text.now ≡ true }
-    ensures { IfOk result (λ l. listed_view l ≡ least_listed (listed text.now)) }
+    ensures value { IfOk result (λ l. listed_view l ≡ least_listed (listed text.now)) }
+    ensures spans { IfOk result (λ l. Stand at text.now (items_texts l.items.items) (behind_list l.rest)) }
 {
     let inner = tail(text);
     let from = drop_blanks(inner);

@@ -1,10 +1,11 @@
 //! An entry after the entries before it.
 
-ghost use Rattle.std.specs.Prelude.{◌≡◌, [], IfOk};
+ghost use Rattle.std.specs.Prelude.{◌≡◌, ◌∷◌, ◌++◌, [], IfOk};
 ghost use Rattle.ci_yaml.specs.Tree.{sequence, mapping};
 ghost use Rattle.ci_yaml.specs.Entry.{dash, key};
 ghost use Rattle.ci_yaml.specs.View.{bytes_of, value_view, items_view, pairs_view, frames_view, given_view, state_view, Gives};
 ghost use Rattle.ci_yaml.specs.Reading.{push, has_name, joined, begins, value_of, entered};
+ghost use Rattle.ci_yaml.specs.Spans.{texts_in, items_texts, given_texts, frames_texts, state_texts};
 
 use crate::fault::{Code, Stop};
 use crate::nodes::{begun, misplaced, settled, with_given};
@@ -14,7 +15,8 @@ use crate::tree::{Text, Tree};
 use std::alloc::{AllocError, Global};
 
 fn more_items<'a>(items: Vec<Tree<'a>>, value: Tree<'a>) -> Result<Vec<Tree<'a>>, AllocError>
-    ensures { IfOk result (λ v. items_view v.items ≡ push (items_view items.entry.items) [] (value_view value.entry)) }
+    ensures value { IfOk result (λ v. items_view v.items ≡ push (items_view items.entry.items) [] (value_view value.entry)) }
+    ensures spans { IfOk result (λ v. items_texts v.items ≡ items_texts items.entry.items ++ texts_in value.entry) }
 {
     let mut items = items;
     items.push(value)?;
@@ -29,8 +31,9 @@ fn joined_item<'a>(
     column: u32,
     given: Option<Tree<'a>>,
 ) -> Result<Progress<'a>, Stop>
-    ensures { Gives state_view result (joined misplaced (frames_view frames.entry.items) (value_view value.entry) sequence []
+    ensures value { Gives state_view result (joined misplaced (frames_view frames.entry.items) (value_view value.entry) sequence []
         (record { column = column; head = dash; given = given_view given.entry })) }
+    ensures spans { IfOk result (λ p. state_texts p ≡ frames_texts frames.entry.items ++ texts_in value.entry ++ given_texts given.entry) }
 {
     let mut frames = frames;
     let Some(frame) = frames.pop() else {
@@ -62,8 +65,9 @@ fn joined_pair<'a>(
     name: Text<'a>,
     given: Option<Tree<'a>>,
 ) -> Result<Progress<'a>, Stop>
-    ensures { Gives state_view result (joined misplaced (frames_view frames.entry.items) (value_view value.entry) mapping (bytes_of name.entry)
+    ensures value { Gives state_view result (joined misplaced (frames_view frames.entry.items) (value_view value.entry) mapping (bytes_of name.entry)
         (record { column = column; head = key (bytes_of name.entry); given = given_view given.entry })) }
+    ensures spans { IfOk result (λ p. state_texts p ≡ frames_texts frames.entry.items ++ texts_in value.entry ++ (name.entry ∷ given_texts given.entry)) }
 {
     let mut frames = frames;
     let Some(frame) = frames.pop() else {
@@ -102,7 +106,8 @@ fn is_awaited(frames: &[Frame], given: &Option<Tree>, level: u64) -> bool
 }
 
 pub fn or_null<'a>(given: Option<Tree<'a>>) -> Tree<'a>
-    ensures { value_view result ≡ value_of (given_view given.entry) }
+    ensures value { value_view result ≡ value_of (given_view given.entry) }
+    ensures spans { texts_in result ≡ given_texts given.entry }
 {
     match given {
         Some(value) => value,
@@ -118,8 +123,9 @@ pub fn enter_item<'a>(
     column: u32,
     given: Option<Tree<'a>>,
 ) -> Result<Progress<'a>, Stop>
-    ensures { Gives state_view result (entered (frames_view frames.entry.items) (given_view awaiting.entry) sequence []
+    ensures value { Gives state_view result (entered (frames_view frames.entry.items) (given_view awaiting.entry) sequence []
         (record { column = column; head = dash; given = given_view given.entry })) }
+    ensures spans { IfOk result (λ p. state_texts p ≡ frames_texts frames.entry.items ++ given_texts awaiting.entry ++ given_texts given.entry) }
 {
     let mut frames = frames;
     let level = 2 * column as u64 + 1;
@@ -144,8 +150,9 @@ pub fn enter_pair<'a>(
     name: Text<'a>,
     given: Option<Tree<'a>>,
 ) -> Result<Progress<'a>, Stop>
-    ensures { Gives state_view result (entered (frames_view frames.entry.items) (given_view awaiting.entry) mapping (bytes_of name.entry)
+    ensures value { Gives state_view result (entered (frames_view frames.entry.items) (given_view awaiting.entry) mapping (bytes_of name.entry)
         (record { column = column; head = key (bytes_of name.entry); given = given_view given.entry })) }
+    ensures spans { IfOk result (λ p. state_texts p ≡ frames_texts frames.entry.items ++ given_texts awaiting.entry ++ (name.entry ∷ given_texts given.entry)) }
 {
     let mut frames = frames;
     let level = 2 * column as u64;

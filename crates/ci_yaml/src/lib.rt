@@ -25,4 +25,4 @@ mod written;
 
 pub use fault::{Code, YamlFault};
 pub use reader::{TEXT_LIMIT, read};
-pub use tree::{Place, Span, Text, Tree};
+pub use tree::{Place, Span, Text, Tree, Words};

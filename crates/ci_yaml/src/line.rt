@@ -1,9 +1,11 @@
 //! What one line says.
 
-ghost use Rattle.std.specs.Prelude.{◌≡◌, ◌==◌, ◌+◌, ◌≤◌, ◌&&◌, ◌||◌, suc, IfOk, option_map, map, length, is_some, []};
+ghost use Rattle.std.specs.Prelude.{◌≡◌, ◌==◌, ◌+◌, ◌≤◌, ◌&&◌, ◌||◌, suc, IfOk, IfSome, option_map, map, length, is_some, [], ◌∷◌, ◌++◌};
 ghost use Rattle.ci_yaml.specs.Least.{least_of};
 ghost use Rattle.ci_yaml.specs.Line.{split_colon, plain_key, quoted_key, keyed, is_dash, item, spoken, keyed_or_bare, content_spoken, is_document_mark, has_control, has_mark, is_skipped, line_spoken};
 ghost use Rattle.ci_yaml.specs.View.{quoted_view, keyed_view, least_keyed, written_view, head_view, entry_view, item_view, least_item, ColumnsFit, spoken_view, least_spoken, with_entries, least_entry, key_spoken, bare_spoken};
+ghost use Rattle.ci_yaml.specs.Spans.{head_texts, given_texts, entries_texts, Stand, StandOn};
+ghost use Rattle.ci_yaml.specs.SpansSpoken.{GoOn, KeyOf, ItemStands};
 
 use crate::cut::{At, drop_blanks, drop_spaces, front, skip, tail, trim_end};
 use crate::fault::{Code, least_of, when};
@@ -13,7 +15,7 @@ use crate::scan::{
     has_control, has_mark, has_tab_after, head_is, is_colon, is_dash, is_document_mark,
     is_forbidden, is_only_comment, key_len, spaces,
 };
-use crate::tree::Text;
+use crate::tree::{Text, Words};
 use crate::written::{Written, read_value, read_written};
 use std::alloc::{AllocError, Global};
 
@@ -39,19 +41,24 @@ fn split_colon(text: &str) -> Option<(&str, &str)>
 }
 
 fn plain_key<'a>(at: At, text: &'a str) -> Option<Keyed<'a>>
-    ensures { option_map keyed_view result ≡ option_map least_keyed (plain_key (split_colon text.now)) }
+    ensures value { option_map keyed_view result ≡ option_map least_keyed (plain_key (split_colon text.now)) }
+    ensures spans { IfSome result (λ k. Stand at text.now (k.name ∷ []) k.rest.now) }
 {
     let (raw, rest) = split_colon(text)?;
     let name = trim_end(raw);
     Some(Keyed {
-        name: Text::Lent(name, at.front(text, name.len())),
+        name: Text {
+            words: Words::Lent(name),
+            span: at.front(text, name.len()),
+        },
         rest,
         code: when(has_tab_after(raw.as_bytes()), Code::Y9),
     })
 }
 
 fn quoted_key(quoted: Option<Quoted<'_>>) -> Option<Keyed<'_>>
-    ensures { option_map keyed_view result ≡ option_map least_keyed (quoted_key (option_map quoted_view quoted.entry)) }
+    ensures value { option_map keyed_view result ≡ option_map least_keyed (quoted_key (option_map quoted_view quoted.entry)) }
+    ensures spans { KeyOf quoted.entry result }
 {
     let Quoted { text, wrong, rest } = quoted?;
     let from = drop_blanks(rest);
@@ -67,7 +74,8 @@ fn quoted_key(quoted: Option<Quoted<'_>>) -> Option<Keyed<'_>>
 
 /// The key that the text begins with, if it is a key line. Errors: memory was refused.
 fn read_key<'a>(alloc: Global, at: At, text: &'a str) -> Result<Option<Keyed<'a>>, AllocError>
-    ensures { IfOk result (λ k. option_map keyed_view k ≡ option_map least_keyed (keyed text.now)) }
+    ensures value { IfOk result (λ k. option_map keyed_view k ≡ option_map least_keyed (keyed text.now)) }
+    ensures spans { IfOk result (λ o. IfSome o (λ k. Stand at text.now (k.name ∷ []) k.rest.now)) }
 {
     if is_quote(text.as_bytes()) {
         let quoted = read_quoted(alloc, at, text)?;
@@ -102,6 +110,7 @@ fn read_item<'a>(alloc: Global, at: At, text: &'a str) -> Result<Item<'a>, Alloc
     requires fits { length text.now ≤ 65536 }
     ensures value { IfOk result (λ i. item_view i ≡ least_item (item text.now)) }
     ensures fits { IfOk result (λ i. ColumnsFit (length text.now) (item_view i)) }
+    ensures spans { IfOk result (λ i. ItemStands at text.now i) }
 {
     let n = spaces(text.as_bytes());
     let inner = drop_spaces(text);
@@ -135,7 +144,8 @@ fn entry_of<'a>(
     value: Written<'a>,
     code: Option<Code>,
 ) -> Result<Spoken<'a>, AllocError>
-    ensures { IfOk result (λ s. spoken_view s ≡ with_entries (map entry_view entries.entry.items) (least_entry column (head_view head.entry) (written_view value.entry) code)) }
+    ensures value { IfOk result (λ s. spoken_view s ≡ with_entries (map entry_view entries.entry.items) (least_entry column (head_view head.entry) (written_view value.entry) code)) }
+    ensures spans { IfOk result (λ s. entries_texts s.entries.items ≡ entries_texts entries.entry.items ++ (head_texts head.entry ++ given_texts value.entry.given)) }
 {
     let mut entries = entries;
     let Written {
@@ -163,7 +173,8 @@ fn with_key<'a>(
     column: u32,
     key: Keyed<'a>,
 ) -> Result<Spoken<'a>, AllocError>
-    ensures { IfOk result (λ s. spoken_view s ≡ with_entries (map entry_view entries.entry.items) (key_spoken column (keyed_view key.entry))) }
+    ensures value { IfOk result (λ s. spoken_view s ≡ with_entries (map entry_view entries.entry.items) (key_spoken column (keyed_view key.entry))) }
+    ensures spans { IfOk result (λ s. GoOn at (entries_texts entries.entry.items ++ key.entry.name ∷ []) key.entry.rest.now (entries_texts s.entries.items)) }
 {
     let Keyed { name, rest, code } = key;
     let value = read_written(alloc, at, b':', rest)?;
@@ -176,7 +187,8 @@ fn with_value<'a>(
     column: u32,
     value: Written<'a>,
 ) -> Result<Spoken<'a>, AllocError>
-    ensures { IfOk result (λ s. spoken_view s ≡ with_entries (map entry_view entries.entry.items) (bare_spoken column (written_view value.entry))) }
+    ensures value { IfOk result (λ s. spoken_view s ≡ with_entries (map entry_view entries.entry.items) (bare_spoken column (written_view value.entry))) }
+    ensures spans { IfOk result (λ s. entries_texts s.entries.items ≡ entries_texts entries.entry.items ++ given_texts value.entry.given) }
 {
     let code = match value.header {
         Some(_) => Some(Code::Y9),
@@ -193,7 +205,8 @@ fn keyed_or_bare<'a>(
     column: u32,
     text: &'a str,
 ) -> Result<Spoken<'a>, AllocError>
-    ensures { IfOk result (λ s. spoken_view s ≡ with_entries (map entry_view entries.entry.items) (least_spoken (keyed_or_bare column text.now (keyed text.now)))) }
+    ensures value { IfOk result (λ s. spoken_view s ≡ with_entries (map entry_view entries.entry.items) (least_spoken (keyed_or_bare column text.now (keyed text.now)))) }
+    ensures spans { IfOk result (λ s. GoOn at (entries_texts entries.entry.items) text.now (entries_texts s.entries.items)) }
 {
     match read_key(alloc, at, text)? {
         Some(key) => with_key(alloc, at, entries, column, key),
@@ -213,7 +226,8 @@ fn spoken<'a>(
     text: &'a str,
 ) -> Result<Spoken<'a>, AllocError>
     requires fits { column + length text.now ≤ 65536 }
-    ensures { IfOk result (λ s. spoken_view s ≡ least_spoken (spoken n column text.now)) }
+    ensures value { IfOk result (λ s. spoken_view s ≡ least_spoken (spoken n column text.now)) }
+    ensures spans { IfOk result (λ s. Stand at text.now (entries_texts s.entries.items) []) }
 {
     let mut entries = Vec::new(alloc);
     let mut column = column;
@@ -264,7 +278,8 @@ fn content_spoken<'a>(
     text: &'a str,
 ) -> Result<Spoken<'a>, AllocError>
     requires fits { column + length text.now ≤ 65536 }
-    ensures { IfOk result (λ s. spoken_view s ≡ least_spoken (content_spoken column text.now)) }
+    ensures value { IfOk result (λ s. spoken_view s ≡ least_spoken (content_spoken column text.now)) }
+    ensures spans { IfOk result (λ s. Stand at text.now (entries_texts s.entries.items) []) }
 {
     if head_is(b'\t', text.as_bytes()) {
         return Ok(Spoken {
@@ -279,7 +294,8 @@ fn content_spoken<'a>(
 }
 
 fn with_code<'a>(code: Option<Code>, said: Spoken<'a>) -> Spoken<'a>
-    ensures { spoken_view result ≡ (record { entries = (spoken_view said.entry).entries; header = (spoken_view said.entry).header; code = least_of code (spoken_view said.entry).code }) }
+    ensures value { spoken_view result ≡ (record { entries = (spoken_view said.entry).entries; header = (spoken_view said.entry).header; code = least_of code (spoken_view said.entry).code }) }
+    ensures entries { result.entries ≡ said.entry.entries }
 {
     let Spoken {
         entries,
@@ -308,7 +324,9 @@ pub fn line_spoken<'a>(
     line: &'a str,
 ) -> Result<Spoken<'a>, AllocError>
     requires fits { length line.now ≤ 65536 }
-    ensures { IfOk result (λ s. spoken_view s ≡ least_spoken (line_spoken line.now)) }
+    ensures value { IfOk result (λ s. spoken_view s ≡ least_spoken (line_spoken line.now)) }
+    // The texts stand in the line.
+    ensures spans { IfOk result (λ s. StandOn number line.now (entries_texts s.entries.items)) }
 {
     let form = when(has_odd(line), Code::Y9);
     if is_skipped(line) {

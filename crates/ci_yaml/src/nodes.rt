@@ -1,9 +1,10 @@
 //! The open nodes.
 
-ghost use Rattle.std.specs.Prelude.{◌≡◌, ◌+◌, ◌*◌, ◌∷◌, [], IfOk, Ok, Err, length, nat_lt, if◌then◌else◌};
+ghost use Rattle.std.specs.Prelude.{◌≡◌, ◌+◌, ◌*◌, ◌∷◌, ◌++◌, [], IfOk, Ok, Err, length, nat_lt, if◌then◌else◌};
 ghost use Rattle.ci_yaml.specs.Tree.{sequence, mapping, node};
 ghost use Rattle.ci_yaml.specs.View.{bytes_of, value_view, items_view, pairs_view, frame_view, frames_view, given_view, state_view, Gives};
 ghost use Rattle.ci_yaml.specs.Reading.{push, closed, level, settle, top_deeper, misplaced, is_node, with_given};
+ghost use Rattle.ci_yaml.specs.Spans.{texts_in, items_texts, pairs_texts, given_texts, open_texts, frames_texts, state_texts};
 ghost use Rattle.ci_yaml.specs.declared.fault.Code.TheVariants.{Y10};
 
 use crate::fault::{Code, Stop};
@@ -16,7 +17,8 @@ use std::alloc::AllocError;
 const DEPTH_LIMIT: usize = 10;
 
 fn with_item<'a>(items: Vec<Tree<'a>>, value: Tree<'a>) -> Result<Tree<'a>, AllocError>
-    ensures { IfOk result (λ t. value_view t ≡ node sequence (push (items_view items.entry.items) [] (value_view value.entry))) }
+    ensures value { IfOk result (λ t. value_view t ≡ node sequence (push (items_view items.entry.items) [] (value_view value.entry))) }
+    ensures spans { IfOk result (λ t. texts_in t ≡ items_texts items.entry.items ++ texts_in value.entry) }
 {
     let mut items = items;
     items.push(value)?;
@@ -24,7 +26,8 @@ fn with_item<'a>(items: Vec<Tree<'a>>, value: Tree<'a>) -> Result<Tree<'a>, Allo
 }
 
 fn with_pair<'a>(map: OpenMap<'a>, key: Text<'a>, value: Tree<'a>) -> Result<Tree<'a>, AllocError>
-    ensures { IfOk result (λ t. value_view t ≡ node mapping (push (pairs_view map.entry.pairs.items) (bytes_of key.entry) (value_view value.entry))) }
+    ensures value { IfOk result (λ t. value_view t ≡ node mapping (push (pairs_view map.entry.pairs.items) (bytes_of key.entry) (value_view value.entry))) }
+    ensures spans { IfOk result (λ t. texts_in t ≡ pairs_texts map.entry.pairs.items ++ (key.entry ∷ texts_in value.entry)) }
 {
     let OpenMap { mut pairs, .. } = map;
     pairs.push((key, value))?;
@@ -44,7 +47,8 @@ impl<'a> Frame<'a> {
 
     /// The node, with this value for its last member.
     pub fn close(self, value: Tree<'a>) -> Result<Tree<'a>, AllocError>
-        ensures { IfOk result (λ t. value_view t ≡ closed (frame_view self.entry) (value_view value.entry)) }
+        ensures value { IfOk result (λ t. value_view t ≡ closed (frame_view self.entry) (value_view value.entry)) }
+        ensures spans { IfOk result (λ t. texts_in t ≡ open_texts self.entry.members ++ texts_in value.entry) }
     {
         match self.members {
             Open::Items(items) => with_item(items, value),
@@ -69,8 +73,9 @@ pub fn settled<'a>(
     value: Tree<'a>,
     level: u64,
 ) -> Result<Tree<'a>, AllocError>
-    ensures { IfOk result (λ v. settle level (frames_view frames.old.items) (value_view value.entry)
+    ensures value { IfOk result (λ v. settle level (frames_view frames.old.items) (value_view value.entry)
         ≡ record { frames = frames_view frames.new.items; value = value_view v }) }
+    ensures spans { IfOk result (λ v. frames_texts frames.new.items ++ texts_in v ≡ frames_texts frames.old.items ++ texts_in value.entry) }
 {
     let mut value = value;
     while ends_above(frames, level) {
@@ -105,7 +110,8 @@ fn is_node(given: &Option<Tree>) -> bool
 }
 
 pub fn with_given<'a>(frames: Vec<Frame<'a>>, given: Option<Tree<'a>>) -> Result<Progress<'a>, Stop>
-    ensures { Gives state_view result (with_given (frames_view frames.entry.items) (given_view given.entry)) }
+    ensures value { Gives state_view result (with_given (frames_view frames.entry.items) (given_view given.entry)) }
+    ensures spans { IfOk result (λ p. state_texts p ≡ frames_texts frames.entry.items ++ given_texts given.entry) }
 {
     if !is_node(&given) {
         return Ok(Progress::Inside(frames, given));
@@ -122,8 +128,9 @@ pub fn begun<'a>(
     frame: Frame<'a>,
     given: Option<Tree<'a>>,
 ) -> Result<Progress<'a>, Stop>
-    ensures { Gives state_view result (if nat_lt (length (frames_view frames.entry.items)) 10
+    ensures value { Gives state_view result (if nat_lt (length (frames_view frames.entry.items)) 10
         then with_given (frame_view frame.entry ∷ frames_view frames.entry.items) (given_view given.entry) else Err Y10) }
+    ensures spans { IfOk result (λ p. state_texts p ≡ frames_texts frames.entry.items ++ open_texts frame.entry.members ++ given_texts given.entry) }
 {
     let mut frames = frames;
     if DEPTH_LIMIT <= frames.len() {

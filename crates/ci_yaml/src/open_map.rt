@@ -1,10 +1,11 @@
 //! The pairs of an open map, and their keys.
 
-ghost use Rattle.std.specs.Prelude.{◌≡◌, ℕ, List, IfOk};
+ghost use Rattle.std.specs.Prelude.{◌≡◌, ℕ, List, [], ◌∷◌, ◌++◌, IfOk};
 ghost use Rattle.std.specs.BTreeSet.{contains_text};
 ghost use Rattle.ci_yaml.specs.Tree.{no_members};
 ghost use Rattle.ci_yaml.specs.Reading.{push, has_name};
 ghost use Rattle.ci_yaml.specs.TreeView.{bytes_of, value_view, pairs_view};
+ghost use Rattle.ci_yaml.specs.TreeTexts.{texts_in, pairs_texts};
 
 use crate::tree::{Text, Tree};
 use std::alloc::{AllocError, Global};
@@ -21,7 +22,8 @@ pub struct OpenMap<'a> {
 impl<'a> OpenMap<'a> {
     /// A map without pairs.
     pub fn new(alloc: Global) -> OpenMap<'a>
-        ensures { pairs_view result.pairs.items ≡ no_members }
+        ensures value { pairs_view result.pairs.items ≡ no_members }
+        ensures spans { pairs_texts result.pairs.items ≡ [] }
     {
         OpenMap {
             pairs: Vec::new(alloc),
@@ -43,7 +45,8 @@ impl<'a> OpenMap<'a> {
         key: Text<'a>,
         value: Tree<'a>,
     ) -> Result<OpenMap<'a>, AllocError>
-        ensures { IfOk result (λ m. pairs_view m.pairs.items ≡ push (pairs_view self.entry.pairs.items) (bytes_of key.entry) (value_view value.entry)) }
+        ensures value { IfOk result (λ m. pairs_view m.pairs.items ≡ push (pairs_view self.entry.pairs.items) (bytes_of key.entry) (value_view value.entry)) }
+        ensures spans { IfOk result (λ m. pairs_texts m.pairs.items ≡ pairs_texts self.entry.pairs.items ++ (key.entry ∷ texts_in value.entry)) }
     {
         let OpenMap {
             mut pairs,

@@ -1,13 +1,14 @@
 //! Quoted scalars.
 
-ghost use Rattle.std.specs.Prelude.{◌≡◌, ◌==◌, ◌||◌, ◌∷◌, ◌<◌, ◌≤◌, ◌⊎◌, IfOk, IfSome, option_map, slice_index, string_bytes, length};
+ghost use Rattle.std.specs.Prelude.{◌≡◌, ◌==◌, ◌||◌, [], ◌∷◌, ◌<◌, ◌≤◌, ◌⊎◌, IfOk, IfSome, option_map, slice_index, string_bytes, length};
 ghost use Rattle.std.specs.List.{position};
 ghost use Rattle.ci_yaml.specs.Scalar.{single, double, quoted, is_quote, with_words, from_place, escape_of};
-ghost use Rattle.ci_yaml.specs.View.{quoted_view, with_wrong};
+ghost use Rattle.ci_yaml.specs.View.{quoted_view, quoted_words_view, with_wrong};
+ghost use Rattle.ci_yaml.specs.Spans.{Stand};
 
 use crate::cut::{At, split_around, tail};
 use crate::scan::head_is;
-use crate::tree::Text;
+use crate::tree::{Text, Words};
 use std::alloc::{AllocError, Global};
 
 /// A quoted scalar: its text, whether a backslash stands wrongly in it, and what follows it.
@@ -16,6 +17,14 @@ pub struct Quoted<'a> {
     pub text: Text<'a>,
     pub wrong: bool,
     pub rest: &'a str,
+}
+
+/// The same after the opening quote: its words, whether a backslash stands wrongly in it, and what follows it.
+#[derive(Drop)]
+struct QuotedWords<'a> {
+    words: Words<'a>,
+    wrong: bool,
+    rest: &'a str,
 }
 
 fn first_quote(bytes: &[u8]) -> Option<usize>
@@ -33,19 +42,18 @@ fn quote_at(bytes: &[u8]) -> Option<usize>
 }
 
 /// A scalar in single quotes, after the first quote. Errors: memory was refused.
-fn single<'a>(alloc: Global, at: At, text: &'a str) -> Result<Option<Quoted<'a>>, AllocError>
-    ensures { IfOk result (λ q. option_map quoted_view q ≡ single text.now) }
+fn single<'a>(alloc: Global, text: &'a str) -> Result<Option<QuotedWords<'a>>, AllocError>
+    ensures { IfOk result (λ q. option_map quoted_words_view q ≡ single text.now) }
 {
     let Some(i) = quote_at(text.as_bytes()) else {
         return Ok(None);
     };
     let (front, rest) = split_around(text, i);
     if head_is(b'\'', rest.as_bytes()) {
-        return doubled(alloc, at, text, front, rest);
+        return doubled(alloc, front, rest);
     }
-    let text = Text::Lent(front, at.quoted(text, rest));
-    Ok(Some(Quoted {
-        text,
+    Ok(Some(QuotedWords {
+        words: Words::Lent(front),
         wrong: false,
         rest,
     }))
@@ -54,12 +62,10 @@ fn single<'a>(alloc: Global, at: At, text: &'a str) -> Result<Option<Quoted<'a>>
 /// The same, where after this front and a quote the rest begins with a second quote.
 fn doubled<'a>(
     alloc: Global,
-    at: At,
-    text: &'a str,
     front: &str,
     rest: &'a str,
-) -> Result<Option<Quoted<'a>>, AllocError>
-    ensures { IfOk result (λ q. option_map quoted_view q ≡ with_words front.now (single (39 ∷ rest.now))) }
+) -> Result<Option<QuotedWords<'a>>, AllocError>
+    ensures { IfOk result (λ q. option_map quoted_words_view q ≡ with_words front.now (single (39 ∷ rest.now))) }
 {
     let mut words = String::from_str(alloc, front)?;
     let mut rest = rest;
@@ -73,9 +79,8 @@ fn doubled<'a>(
         words.push_str(front)?;
         rest = behind;
     }
-    let text = Text::Owned(words, at.quoted(text, rest));
-    Ok(Some(Quoted {
-        text,
+    Ok(Some(QuotedWords {
+        words: Words::Owned(words),
         wrong: false,
         rest,
     }))
@@ -111,8 +116,8 @@ fn escape(bytes: &[u8]) -> Option<&'static str>
 }
 
 /// A scalar in double quotes, after the first quote. Errors: memory was refused.
-fn double<'a>(alloc: Global, at: At, text: &'a str) -> Result<Option<Quoted<'a>>, AllocError>
-    ensures { IfOk result (λ q. option_map quoted_view q ≡ double text.now) }
+fn double<'a>(alloc: Global, text: &'a str) -> Result<Option<QuotedWords<'a>>, AllocError>
+    ensures { IfOk result (λ q. option_map quoted_words_view q ≡ double text.now) }
 {
     let bytes = text.as_bytes();
     let Some(i) = mark_at(bytes) else {
@@ -120,11 +125,10 @@ fn double<'a>(alloc: Global, at: At, text: &'a str) -> Result<Option<Quoted<'a>>
     };
     let (front, rest) = split_around(text, i);
     if bytes[i] == b'\\' {
-        return with_escapes(alloc, at, text, front, rest);
+        return with_escapes(alloc, front, rest);
     }
-    let text = Text::Lent(front, at.quoted(text, rest));
-    Ok(Some(Quoted {
-        text,
+    Ok(Some(QuotedWords {
+        words: Words::Lent(front),
         wrong: false,
         rest,
     }))
@@ -148,12 +152,10 @@ fn unescape<'a>(words: &mut String, rest: &'a str) -> Result<(bool, &'a str), Al
 /// The same, where this front and a backslash come before the rest.
 fn with_escapes<'a>(
     alloc: Global,
-    at: At,
-    text: &'a str,
     front: &str,
     rest: &'a str,
-) -> Result<Option<Quoted<'a>>, AllocError>
-    ensures { IfOk result (λ q. option_map quoted_view q ≡ with_words front.now (double (92 ∷ rest.now))) }
+) -> Result<Option<QuotedWords<'a>>, AllocError>
+    ensures { IfOk result (λ q. option_map quoted_words_view q ≡ with_words front.now (double (92 ∷ rest.now))) }
 {
     let mut words = String::from_str(alloc, front)?;
     let mut wrong = false;
@@ -169,8 +171,11 @@ fn with_escapes<'a>(
         words.push_str(front)?;
         rest = behind;
         if bytes[i] != b'\\' {
-            let text = Text::Owned(words, at.quoted(text, rest));
-            return Ok(Some(Quoted { text, wrong, rest }));
+            return Ok(Some(QuotedWords {
+                words: Words::Owned(words),
+                wrong,
+                rest,
+            }));
         }
     }
 }
@@ -182,19 +187,37 @@ pub fn is_quote(bytes: &[u8]) -> bool
     head_is(b'\'', bytes) || head_is(b'"', bytes)
 }
 
+/// What stands inside the quotes at the front, if they are closed. Errors: memory was refused.
+fn read_words<'a>(alloc: Global, text: &'a str) -> Result<Option<QuotedWords<'a>>, AllocError>
+    ensures { IfOk result (λ q. option_map quoted_words_view q ≡ quoted text.now) }
+{
+    if head_is(b'\'', text.as_bytes()) {
+        single(alloc, tail(text))
+    } else if head_is(b'"', text.as_bytes()) {
+        double(alloc, tail(text))
+    } else {
+        Ok(None)
+    }
+}
+
 /// The quoted scalar at the front, if it is closed. Errors: memory was refused.
 pub fn read_quoted<'a>(
     alloc: Global,
     at: At,
     text: &'a str,
 ) -> Result<Option<Quoted<'a>>, AllocError>
-    ensures { IfOk result (λ q. option_map quoted_view q ≡ quoted text.now) }
+    ensures value { IfOk result (λ q. option_map quoted_view q ≡ quoted text.now) }
+    ensures spans { IfOk result (λ o. IfSome o (λ q. Stand at text.now (q.text ∷ []) q.rest.now)) }
 {
-    if head_is(b'\'', text.as_bytes()) {
-        single(alloc, at, tail(text))
-    } else if head_is(b'"', text.as_bytes()) {
-        double(alloc, at, tail(text))
-    } else {
-        Ok(None)
+    match read_words(alloc, text)? {
+        Some(QuotedWords { words, wrong, rest }) => Ok(Some(Quoted {
+            text: Text {
+                words,
+                span: at.before(text, rest),
+            },
+            wrong,
+            rest,
+        })),
+        None => Ok(None),
     }
 }

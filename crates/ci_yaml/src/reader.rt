@@ -1,6 +1,6 @@
 //! Reading a text.
 
-ghost use Rattle.std.specs.Prelude.{◌≡◌, ℕ, ◌+◌, ◌<◌, ◌≤◌, [], map, option_map, IfOk, IfErr, Ok, Err, length, take, drop};
+ghost use Rattle.std.specs.Prelude.{◌≡◌, ℕ, suc, ◌+◌, ◌<◌, ◌≤◌, ◌++◌, [], map, option_map, IfOk, IfErr, Ok, Err, length, take, drop};
 ghost use Rattle.ci_yaml.specs.View.{bytes_of, chomp_view, value_view, entry_view, state_view, spoken_view};
 ghost use Rattle.ci_yaml.specs.Line.{line_spoken};
 ghost use Rattle.ci_yaml.specs.ReadLines.{Reader, with_text, stop_or, ending_at, content, read_lines, beginning};
@@ -9,6 +9,8 @@ ghost use Rattle.ci_yaml.specs.Document.{literal, last_column, AreBlock, EndsBlo
 ghost use Rattle.ci_yaml.specs.Tree.{Value};
 ghost use Rattle.ci_yaml.specs.Blocks.{texts_of};
 ghost use Rattle.ci_yaml.specs.Stops.{below_view, passed_view, entered, GivesAt, BlockFails, StopsBy, HasRead, AreShort, Reads, RefusedBy, GivesTree, GivesFault};
+ghost use Rattle.std.specs.Str.Lines.{lines};
+ghost use Rattle.ci_yaml.specs.Spans.{texts_in, state_texts, entries_texts, Follow, Ends, Lines, AreWritten};
 ghost use Rattle.ci_yaml.specs.declared.fault.Code.{Code};
 ghost use Rattle.ci_yaml.specs.declared.fault.Code.TheVariants.{Y1};
 ghost use Rattle.ci_yaml.specs.declared.fault.YamlFault.TheVariants.{Fault};
@@ -18,7 +20,7 @@ use crate::entries::{enter_all, finish};
 use crate::fault::{Code, Stop, YamlFault, lesser};
 use crate::line::line_spoken;
 use crate::parts::{Chomp, Entry, Progress, Spoken};
-use crate::tree::{Place, Span, Text, Tree};
+use crate::tree::{Place, Span, Text, Tree, Words};
 use std::alloc::Global;
 
 /// The greatest length of a text, in bytes.
@@ -57,7 +59,8 @@ fn unless<'a>(
     number: usize,
     passed: Passed<'a>,
 ) -> Result<Passed<'a>, YamlFault>
-    ensures { GivesAt passed_view number result (stop_or code (passed_view passed.entry)) }
+    ensures value { GivesAt passed_view number result (stop_or code (passed_view passed.entry)) }
+    ensures spans { IfOk result (λ p. state_texts p.progress ≡ state_texts passed.entry.progress) }
 {
     match code {
         None => Ok(passed),
@@ -82,7 +85,8 @@ fn enter<'a>(
     number: usize,
     said: Spoken<'a>,
 ) -> Result<Passed<'a>, YamlFault>
-    ensures { GivesAt passed_view number result (entered (state_view progress.entry) (spoken_view said.entry)) }
+    ensures value { GivesAt passed_view number result (entered (state_view progress.entry) (spoken_view said.entry)) }
+    ensures spans { IfOk result (λ p. state_texts p.progress ≡ state_texts progress.entry ++ entries_texts said.entry.entries.items) }
 {
     let Spoken {
         entries,
@@ -105,7 +109,8 @@ fn read_line<'a>(
     line: &'a str,
 ) -> Result<Passed<'a>, YamlFault>
     requires fits { length line.now ≤ 65536 }
-    ensures { GivesAt passed_view number result (content (state_view progress.entry) (line_spoken line.now)) }
+    ensures value { GivesAt passed_view number result (content (state_view progress.entry) (line_spoken line.now)) }
+    ensures spans { IfOk result (λ p. Follow number line.now (state_texts progress.entry) (state_texts p.progress)) }
 {
     let said = line_spoken(alloc, number, line)?;
     enter(alloc, progress, number, said)
@@ -113,7 +118,8 @@ fn read_line<'a>(
 
 /// With this text for the value of the last entry.
 fn with_text<'a>(progress: Progress<'a>, text: Text<'a>) -> Progress<'a>
-    ensures { state_view result ≡ with_text (bytes_of text.entry) (state_view progress.entry) }
+    ensures value { state_view result ≡ with_text (bytes_of text.entry) (state_view progress.entry) }
+    ensures spans { Ends text.entry (state_texts progress.entry) (state_texts result) }
 {
     match progress {
         Progress::Start => Progress::Start,
@@ -130,25 +136,31 @@ fn read_block<'a>(
     at: usize,
     lines: &[&'a str],
 ) -> Result<(usize, Text<'a>), YamlFault>
-    requires fits { at + length lines.now < 18446744073709551616 }
+    requires fits { at + length lines.now + 1 < 18446744073709551616 }
     ensures within { IfOk result (λ r. r.0 ≤ length lines.now) }
     ensures block { IfOk result (λ r. AreBlock column [] (texts_of (take r.0 lines.now)) × EndsBlock column (texts_of (drop r.0 lines.now))) }
+    ensures span { IfOk result (λ r. r.1.span ≡ (record { start = record { line = suc at; column = 0 }; end = record { line = suc (at + r.0); column = 0 } })) }
     ensures text { IfOk result (λ r. bytes_of r.1 ≡ literal (chomp_view how) (texts_of (take r.0 lines.now))) }
     ensures fault { IfErr result (BlockFails column at lines.now) }
 {
     match block_len(column, lines) {
         Ok(len) => {
             let text = literal(alloc, how, &lines[..len])?;
-            let first = at.saturating_add(1);
             let start = Place {
-                line: first,
+                line: at + 1,
                 column: 0,
             };
             let end = Place {
-                line: first.saturating_add(len),
+                line: at + len + 1,
                 column: 0,
             };
-            Ok((len, Text::Owned(text, Span { start, end })))
+            Ok((
+                len,
+                Text {
+                    words: Words::Owned(text),
+                    span: Span { start, end },
+                },
+            ))
         }
         Err(BlockFault { at: place, code }) => { Err(YamlFault::Fault(code, at + place + 1)) }
     }
@@ -164,8 +176,10 @@ fn read_part<'a>(
     requires inside { at < length lines.now }
     requires short { AreShort (texts_of lines.now) }
     requires before { HasRead (texts_of lines.now) at (state_view progress) }
+    requires texts { Lines 0 (take at (texts_of lines.now)) (state_texts progress) }
     ensures more { IfOk result (λ r. (at < r.0) × (r.0 ≤ length lines.now)) }
     ensures read { IfOk result (λ r. HasRead (texts_of lines.now) r.0 (state_view r.1)) }
+    ensures spans { IfOk result (λ r. Lines 0 (take r.0 (texts_of lines.now)) (state_texts r.1)) }
     ensures fault { IfErr result (StopsBy (texts_of lines.now)) }
 {
     let Passed { progress, below } = read_line(alloc, progress, at + 1, lines[at])?;
@@ -183,6 +197,7 @@ fn read_part<'a>(
 fn read_lines<'a>(alloc: Global, lines: &[&'a str]) -> Result<Progress<'a>, YamlFault>
     requires short { AreShort (texts_of lines.now) }
     ensures read { IfOk result (λ p. (r : Reader) × (read_lines beginning (texts_of lines.now) ≡ Ok r) × (r.state ≡ state_view p)) }
+    ensures spans { IfOk result (λ p. Lines 0 (texts_of lines.now) (state_texts p)) }
     ensures fault { IfErr result (StopsBy (texts_of lines.now)) }
 {
     let mut progress = Progress::Start;
@@ -198,7 +213,8 @@ fn read_lines<'a>(alloc: Global, lines: &[&'a str]) -> Result<Progress<'a>, Yaml
 /// The tree of the lines. Errors: the first line that cannot follow those before it, and its code; or memory was refused.
 fn tree_of<'a>(alloc: Global, lines: &[&'a str]) -> Result<Tree<'a>, YamlFault>
     requires short { AreShort (texts_of lines.now) }
-    ensures { Reads (texts_of lines.now) result }
+    ensures tree { Reads (texts_of lines.now) result }
+    ensures spans { IfOk result (λ t. Lines 0 (texts_of lines.now) (texts_in t)) }
 {
     let progress = read_lines(alloc, lines)?;
     match finish(progress)? {
@@ -220,6 +236,8 @@ pub fn read(alloc: Global, text: &str) -> Result<Tree<'_>, YamlFault>
     ensures fault { IfErr result (RefusedBy text.now) }
     // A text that has a fault is refused with it, unless memory is refused.
     ensures refused { (at : ℕ) (code : Code) → IsFault text.now at code → GivesFault at code result }
+    // Each text is what its span holds, read by the scalar rules, and the spans ascend.
+    ensures spans { IfOk result (λ t. AreWritten (lines text.now) (texts_in t)) }
     // A text that is too long is refused before all else.
     ensures too_long { 65536 < length text.now → result ≡ Err (Fault Y1 1) }
 {

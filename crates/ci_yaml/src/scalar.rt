@@ -3,8 +3,10 @@
 ghost use Rattle.std.specs.Prelude.{◌≡◌, ◌≤◌, IfSome};
 ghost use Rattle.ci_yaml.specs.Scalar.{count_of, negative_of, number_or_text, plain_value};
 ghost use Rattle.ci_yaml.specs.View.{value_view};
+ghost use Rattle.ci_yaml.specs.Spans.{texts_in};
+ghost use Rattle.ci_yaml.specs.SpansScalar.{OnlyText};
 
-use crate::tree::{Span, Text, Tree};
+use crate::tree::{Span, Text, Tree, Words};
 
 /// The greatest number that is read as one: 2^53 - 1.
 const LIMIT: u64 = 9_007_199_254_740_991;
@@ -33,7 +35,8 @@ fn count(digits: &[u8]) -> Option<u64>
 
 /// The value of a plain scalar.
 pub fn plain(text: &str, span: Span) -> Tree<'_>
-    ensures { value_view result ≡ plain_value text.now }
+    ensures value { value_view result ≡ plain_value text.now }
+    ensures spans { OnlyText text.now span (texts_in result) }
 {
     if text == "true" {
         return Tree::Bool(true);
@@ -63,13 +66,17 @@ fn negative(bytes: &[u8]) -> Option<u64>
 
 /// A number that is written in decimal, or a text.
 fn number_or_text(text: &str, span: Span) -> Tree<'_>
-    ensures { value_view result ≡ number_or_text text.now }
+    ensures value { value_view result ≡ number_or_text text.now }
+    ensures spans { OnlyText text.now span (texts_in result) }
 {
     match count(text.as_bytes()) {
         Some(number) => Tree::Int(number as i64),
         None => match negative(text.as_bytes()) {
             Some(number) => Tree::Int(-(number as i64)),
-            None => Tree::Text(Text::Lent(text, span)),
+            None => Tree::Text(Text {
+                words: Words::Lent(text),
+                span,
+            }),
         },
     }
 }

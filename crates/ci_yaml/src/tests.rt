@@ -2,7 +2,7 @@
 
 use crate::fault::YamlFault;
 use crate::reader::read;
-use crate::tree::{Text, Tree};
+use crate::tree::{Text, Tree, Words};
 use std::alloc::{AllocError, Global};
 use std::process::Abort;
 
@@ -246,14 +246,14 @@ fn depths(rt: HostRuntime) -> Result<(), AllocError> {
 
 /// The text, if it is a slice of its source, and its columns.
 fn place_of(alloc: Global, text: &Text) -> Result<String, AllocError> {
-    let span = text.span();
+    let span = text.span;
     let first = span.start.line;
     let start = span.start.column;
     let last = span.end.line;
     let end = span.end.column;
-    match text {
-        Text::Lent(words, _) => format!(in alloc; "lent {words} {first}.{start} {last}.{end}"),
-        Text::Owned(words, _) => format!(in alloc; "owned {words} {first}.{start} {last}.{end}"),
+    match &text.words {
+        Words::Lent(words) => format!(in alloc; "lent {words} {first}.{start} {last}.{end}"),
+        Words::Owned(words) => format!(in alloc; "owned {words} {first}.{start} {last}.{end}"),
     }
 }
 

@@ -1,7 +1,7 @@
 //! The tree of a text.
 
 ghost use Rattle.std.specs.Prelude.{◌≡◌};
-ghost use Rattle.ci_yaml.specs.View.{bytes_of, span_of};
+ghost use Rattle.ci_yaml.specs.View.{bytes_of};
 
 /// A place in a source: its line, counted from 1, and the bytes of that line before it.
 #[derive(Clone, Copy)]
@@ -17,11 +17,18 @@ pub struct Span {
     pub end: Place,
 }
 
-/// A text: a slice of the source, or its own bytes where the source writes it in another way.
+/// The words of a text: a slice of the source, or their own bytes where the source writes them in another way.
 #[derive(Drop)]
-pub enum Text<'a> {
-    Lent(&'a str, Span),
-    Owned(String, Span),
+pub enum Words<'a> {
+    Lent(&'a str),
+    Owned(String),
+}
+
+/// A text, and where the source writes it.
+#[derive(Drop)]
+pub struct Text<'a> {
+    pub words: Words<'a>,
+    pub span: Span,
 }
 
 impl<'a> Text<'a> {
@@ -29,19 +36,9 @@ impl<'a> Text<'a> {
     pub fn as_str(&self) -> &str
         ensures { result.now ≡ bytes_of self.now }
     {
-        match self {
-            Text::Lent(text, _) => text,
-            Text::Owned(text, _) => text.as_str(),
-        }
-    }
-
-    /// Where the source writes it.
-    pub fn span(&self) -> Span
-        ensures { result ≡ span_of self.now }
-    {
-        match self {
-            Text::Lent(_, span) => *span,
-            Text::Owned(_, span) => *span,
+        match &self.words {
+            Words::Lent(text) => text,
+            Words::Owned(text) => text.as_str(),
         }
     }
 }

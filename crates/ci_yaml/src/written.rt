@@ -1,11 +1,12 @@
 //! What stands behind a dash or a colon, or alone on a line.
 
-ghost use Rattle.std.specs.Prelude.{◌≡◌, IfOk, Some, None, []};
+ghost use Rattle.std.specs.Prelude.{◌≡◌, IfOk, Some, None, [], ◌∷◌};
 ghost use Rattle.ci_yaml.specs.Least.{least};
 ghost use Rattle.ci_yaml.specs.Tree.{text as text_value};
 ghost use Rattle.ci_yaml.specs.Line.{not_comment, header_rest, header_of, written_quoted, written_plain, written_at, written};
 ghost use Rattle.ci_yaml.specs.Scalar.{before_comment};
 ghost use Rattle.ci_yaml.specs.View.{value_view, quoted_view, chomp_view, listed_view, written_of_list, written_view, least_written};
+ghost use Rattle.ci_yaml.specs.Spans.{texts_in, items_texts, given_texts, Stand};
 
 use crate::cut::{At, before_comment, drop_blanks, tail, trim_end};
 use crate::fault::{Code, least_of, when};
@@ -14,7 +15,7 @@ use crate::parts::Chomp;
 use crate::quoted::{Quoted, is_quote, read_quoted};
 use crate::scalar::plain;
 use crate::scan::{has_tab_after, head_is, is_digit_next, is_only_comment};
-use crate::tree::{Text, Tree};
+use crate::tree::{Text, Tree, Words};
 use std::alloc::{AllocError, Global};
 
 /// The value that is written, or how the literal block below is read, and the least code that holds.
@@ -38,13 +39,18 @@ fn not_comment(last: u8, text: &str) -> Option<Code>
 
 /// The empty text before a text that reaches to the line's end.
 fn no_text<'a>(at: At, text: &'a str) -> Tree<'a>
-    ensures { value_view result ≡ text_value [] }
+    ensures value { value_view result ≡ text_value [] }
+    ensures spans { Stand at text.now (texts_in result) text.now }
 {
-    Tree::Text(Text::Lent("", at.front(text, 0)))
+    Tree::Text(Text {
+        words: Words::Lent(""),
+        span: at.before(text, text),
+    })
 }
 
 fn header_rest<'a>(at: At, how: Chomp, last: u8, text: &'a str) -> Written<'a>
-    ensures { written_view result ≡ least_written (header_rest (chomp_view how) last text.now) }
+    ensures value { written_view result ≡ least_written (header_rest (chomp_view how) last text.now) }
+    ensures spans { Stand at text.now (given_texts result.given) [] }
 {
     let digit = when(is_digit_next(text.as_bytes()), Code::Y9);
     Written {
@@ -56,7 +62,8 @@ fn header_rest<'a>(at: At, how: Chomp, last: u8, text: &'a str) -> Written<'a>
 
 /// A literal block's header, after its bar.
 fn header_of<'a>(at: At, text: &'a str) -> Written<'a>
-    ensures { written_view result ≡ least_written (header_of text.now) }
+    ensures value { written_view result ≡ least_written (header_of text.now) }
+    ensures spans { Stand at text.now (given_texts result.given) [] }
 {
     if head_is(b'-', text.as_bytes()) {
         header_rest(at, Chomp::Strip, b'-', tail(text))
@@ -68,7 +75,8 @@ fn header_of<'a>(at: At, text: &'a str) -> Written<'a>
 }
 
 fn closed(quoted: Quoted<'_>) -> Written<'_>
-    ensures { written_view result ≡ least_written (written_quoted (Some (quoted_view quoted.entry))) }
+    ensures value { written_view result ≡ least_written (written_quoted (Some (quoted_view quoted.entry))) }
+    ensures spans { given_texts result.given ≡ quoted.entry.text ∷ [] }
 {
     let Quoted { text, wrong, rest } = quoted;
     let escape = when(wrong, Code::Y7);
@@ -82,7 +90,8 @@ fn closed(quoted: Quoted<'_>) -> Written<'_>
 
 /// A quoted scalar that isn't closed.
 fn unclosed<'a>(at: At, text: &'a str) -> Written<'a>
-    ensures { written_view result ≡ least_written (written_quoted None) }
+    ensures value { written_view result ≡ least_written (written_quoted None) }
+    ensures spans { Stand at text.now (given_texts result.given) [] }
 {
     Written {
         given: Some(no_text(at, text)),
@@ -92,7 +101,8 @@ fn unclosed<'a>(at: At, text: &'a str) -> Written<'a>
 }
 
 fn written_list(list: Listed<'_>) -> Written<'_>
-    ensures { written_view result ≡ written_of_list (listed_view list.entry) }
+    ensures value { written_view result ≡ written_of_list (listed_view list.entry) }
+    ensures spans { given_texts result.given ≡ items_texts list.entry.items.items }
 {
     let Listed { items, code, rest } = list;
     let behind = match rest {
@@ -107,7 +117,8 @@ fn written_list(list: Listed<'_>) -> Written<'_>
 }
 
 fn written_plain<'a>(at: At, text: &'a str) -> Written<'a>
-    ensures { written_view result ≡ least_written (written_plain (before_comment 0 text.now)) }
+    ensures value { written_view result ≡ least_written (written_plain (before_comment 0 text.now)) }
+    ensures spans { Stand at text.now (given_texts result.given) [] }
 {
     let raw = before_comment(0, text);
     let scalar = trim_end(raw);
@@ -120,7 +131,8 @@ fn written_plain<'a>(at: At, text: &'a str) -> Written<'a>
 
 /// The value that begins at the front. Errors: memory was refused.
 pub fn read_value<'a>(alloc: Global, at: At, text: &'a str) -> Result<Written<'a>, AllocError>
-    ensures { IfOk result (λ w. written_view w ≡ least_written (written_at text.now)) }
+    ensures value { IfOk result (λ w. written_view w ≡ least_written (written_at text.now)) }
+    ensures spans { IfOk result (λ w. Stand at text.now (given_texts w.given) []) }
 {
     if is_quote(text.as_bytes()) {
         match read_quoted(alloc, at, text)? {
@@ -144,7 +156,8 @@ pub fn read_written<'a>(
     last: u8,
     text: &'a str,
 ) -> Result<Written<'a>, AllocError>
-    ensures { IfOk result (λ w. written_view w ≡ least_written (written last text.now)) }
+    ensures value { IfOk result (λ w. written_view w ≡ least_written (written last text.now)) }
+    ensures spans { IfOk result (λ w. Stand at text.now (given_texts w.given) []) }
 {
     if is_only_comment(last, text.as_bytes()) {
         return Ok(Written {

@@ -1,4 +1,4 @@
-use Rattle.std.proofs.Common.{◌∙◌, ap, not, ◌++◌}
+use Rattle.std.proofs.Common.{◌∙◌, refl, ap, not, ◌++◌}
 use Rattle.ci_yaml.specs.declared.fault.Code.TheVariants.{Y7, Y9, Y11}
 use Rattle.ci_yaml.specs.Scalar.{when, is_nil, drop_blanks, has_tab_after}
 use Rattle.ci_yaml.specs.Least.{least}
@@ -9,10 +9,12 @@ use Rattle.ci_yaml.proofs.Views.{view-Text}
 use Rattle.ci_yaml.specs.View.{bytes_of, end_view}
 use Rattle.ci_yaml.proofs.Leasts.{least_two}
 use Rattle.ci_yaml.proofs.Said.{text_place, value_place}
+use Rattle.ci_yaml.specs.declared.tree.Tree.{Text as TextTree}
+use Rattle.ci_yaml.proofs.SpansFlow.{stand-behind-quoted}
 use Rattle.ci_yaml.proofs.flow.behind_quoted.Goals as goal
 
-pub returns : goal.returns
-returns c =
+pub returns-clause-value : goal.returns-clause-value
+returns-clause-value c =
     let cut : line.Cut = cut_place 39 c.args.quoted.rest.now in
     let raw_is = ap (λ (x : line.Cut). x.raw) c.cut_place.ensures in
     ap (λ (v : Value). value_place v c.least_of.result (end_view c.cut_place.result.end)) (view-Text c.args.quoted.text)
@@ -22,3 +24,6 @@ returns c =
     (c.when-tab.ensures ∙ ap (λ b. least (when b Y9)) (c.has_tab_after.ensures ∙ ap has_tab_after (c.as_bytes.ensures.value ∙ raw_is)))
     (c.when-other.ensures ∙ ap (λ b. least (when (not b) Y11)) (c.is_all_blank.ensures ∙ ap (λ x. is_nil (drop_blanks x)) raw_is))))
     ∙ ap (text_place (bytes_of c.args.quoted.text) (least (line.behind_quoted (record { text = bytes_of c.args.quoted.text; wrong = c.args.quoted.wrong; rest = c.args.quoted.rest.now }) cut).codes)) (ap (λ (x : line.Cut). x.end) c.cut_place.ensures)
+
+pub returns-clause-spans : goal.returns-clause-spans
+returns-clause-spans c = stand-behind-quoted c.args.quoted.text c.args.quoted.rest.now (TextTree c.args.quoted.text) c.cut_place.result refl c.cut_place.ensures

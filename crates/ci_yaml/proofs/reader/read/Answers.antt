@@ -9,6 +9,8 @@ use Rattle.std.proofs.lemmas.Iterator.Splits.{YieldsList-from_lines}
 use Rattle.std.proofs.lemmas.Iterator.Consumers.{map_from_collect}
 use Rattle.ci_yaml.specs.Stops.{Reads}
 use Rattle.ci_yaml.proofs.ReadTexts.{texts-are, texts-short, text-tree, text-all, text-refused, from-ok}
+use Rattle.ci_yaml.specs.Blocks.{texts_of}
+use Rattle.ci_yaml.proofs.SpansParts.{tree-written}
 use Rattle.ci_yaml.proofs.reader.read.Goals as goal
 
 pub tree_of-requires : goal.tree_of-requires
@@ -26,11 +28,12 @@ returns c =
     let all : map (λ x. x.now) c.deref.result.now ≡ lines c.args.text.now =
     ap (λ xs. map (λ x. x.now) xs) c.deref.ensures.value
     ∙ from-ok c.collect.result c.in_ok-lines.lines (λ w. map (λ x. x.now) (vec_items w) ≡ lines c.args.text.now) c.in_ok-lines.was (map_from_collect c.collect.result c.collect.ensures.ran (YieldsList-from_lines c.args.text.now c.lines.ensures.rest)) in
-    let reads : Reads (lines c.args.text.now) c.tree_of.result = subst (λ ls. Reads ls c.tree_of.result) (texts-are c.args.text.now c.deref.result.now all) c.tree_of.ensures in
+    let reads : Reads (lines c.args.text.now) c.tree_of.result = subst (λ ls. Reads ls c.tree_of.result) (texts-are c.args.text.now c.deref.result.now all) c.tree_of.ensures.tree in
     record {
       tree = text-tree c.args.text.now c.tree_of.result c.if-text-gt-TEXT_LIMIT.false reads;
       all = text-all c.args.text.now c.tree_of.result reads;
       fault = text-refused c.args.text.now c.tree_of.result c.if-text-gt-TEXT_LIMIT.false reads;
       refused = text-all_faults c.args.text.now c.tree_of.result (text-tree c.args.text.now c.tree_of.result c.if-text-gt-TEXT_LIMIT.false reads) (text-refused c.args.text.now c.tree_of.result c.if-text-gt-TEXT_LIMIT.false reads);
+      spans = tree-written (lines c.args.text.now) (texts_of c.deref.result.now) c.tree_of.result (texts-are c.args.text.now c.deref.result.now all) c.tree_of.ensures.spans;
       too_long = λ long. absurd (omega arith);
     }

@@ -1,11 +1,17 @@
-use Rattle.std.proofs.Common.{◌≤◌, ◌-◌, length}
+use Rattle.std.proofs.Common.{◌≤◌, ◌-◌, length, take}
 use Rattle.ci_yaml.specs.View.{state_view}
 use Rattle.ci_yaml.specs.Blocks.{texts_of}
 use Rattle.ci_yaml.specs.Stops.{HasRead, AreShort}
+use Rattle.ci_yaml.specs.Spans.{state_texts, Lines}
 use Rattle.ci_yaml.proofs.reader.read_lines.Given as goal
 
 abbrev pub invariant-lines : goal.invariant-lines
-invariant-lines l = (l.at ≤ length l.lines) × AreShort (texts_of l.lines) × HasRead (texts_of l.lines) l.at (state_view l.progress)
+invariant-lines l = record {
+  within : l.at ≤ length l.lines;
+  short : AreShort (texts_of l.lines);
+  read : HasRead (texts_of l.lines) l.at (state_view l.progress);
+  texts : Lines 0 (take l.at (texts_of l.lines)) (state_texts l.progress);
+}
 
 abbrev pub decreases-lines : goal.decreases-lines
 decreases-lines l = length l.lines - l.at

@@ -4,6 +4,8 @@ use Rattle.ci_yaml.specs.View.{bytes_of, state_view}
 use Rattle.ci_yaml.specs.Blocks.{texts_of}
 use Rattle.ci_yaml.specs.Stops.{StopsBy}
 use Rattle.ci_yaml.proofs.ReadParts.{short-at, part-more, part-fails, part-block, part-block_fails}
+use Rattle.ci_yaml.specs.Spans.{state_texts}
+use Rattle.ci_yaml.proofs.SpansParts.{part-texts, part-block_texts}
 use Rattle.ci_yaml.proofs.reader.read_part.Goals as goal
 
 pub read_line-requires : goal.read_line-requires
@@ -12,21 +14,30 @@ read_line-requires c = record { fits = short-at c.args.lines.now c.args.at _ c.r
 pub returns-in_err-progress-clause-fault : goal.returns-in_err-progress-clause-fault
 returns-in_err-progress-clause-fault c =
     let h : StopsBy (texts_of c.args.lines.now) c.in_err-progress.field-0.0 =
-    part-fails c.args.lines.now c.args.at _ (state_view c.args.progress) c.in_err-progress.field-0.0 c.requires.inside c.requires.before c.in_err-progress.ensures in
+    part-fails c.args.lines.now c.args.at _ (state_view c.args.progress) c.in_err-progress.field-0.0 c.requires.inside c.requires.before c.in_err-progress.ensures.value in
     search (rules, h)
 
 pub returns-in_err-len-in-Some-clause-fault : goal.returns-in_err-len-in-Some-clause-fault
 returns-in_err-len-in-Some-clause-fault c =
     let h : StopsBy (texts_of c.args.lines.now) c.in_err-len-in-Some.field-0.0 =
     part-block_fails c.args.lines.now _ c.args.at _ (state_view c.args.progress) (state_view c.in_ok-progress.field-0.progress) c.in_ok-progress.field-0.below c.in-Some.how c.in-Some.column c.in_err-len-in-Some.field-0.0
-    c.requires.inside c.requires.before c.in_ok-progress.ensures c.in-Some.is (take_rest c.args.lines.now (c.args.at + 1)) c.in_err-len-in-Some.ensures.fault in
+    c.requires.inside c.requires.before c.in_ok-progress.ensures.value c.in-Some.is (take_rest c.args.lines.now (c.args.at + 1)) c.in_err-len-in-Some.ensures.fault in
     search (rules, h)
 
 pub returns-in-None-clause-read : goal.returns-in-None-clause-read
 returns-in-None-clause-read c =
-    part-more c.args.lines.now c.args.at _ (state_view c.args.progress) (state_view c.in_ok-progress.field-0.progress) c.in_ok-progress.field-0.below c.requires.inside c.requires.before c.in_ok-progress.ensures c.in-None.is
+    part-more c.args.lines.now c.args.at _ (state_view c.args.progress) (state_view c.in_ok-progress.field-0.progress) c.in_ok-progress.field-0.below c.requires.inside c.requires.before c.in_ok-progress.ensures.value c.in-None.is
 
 pub returns-in_ok-len-in-Some-clause-read : goal.returns-in_ok-len-in-Some-clause-read
 returns-in_ok-len-in-Some-clause-read c =
     part-block c.args.lines.now _ c.args.at c.in_ok-len-in-Some.len _ (state_view c.args.progress) (state_view c.in_ok-progress.field-0.progress) (state_view c.with_text.result) c.in_ok-progress.field-0.below c.in-Some.how c.in-Some.column (bytes_of c.in_ok-len-in-Some.text)
-    c.requires.inside c.requires.before c.in_ok-progress.ensures c.in-Some.is (take_rest c.args.lines.now (c.args.at + 1)) c.in_ok-len-in-Some.ensures.block.0 c.in_ok-len-in-Some.ensures.block.1 c.in_ok-len-in-Some.ensures.text c.with_text.ensures
+    c.requires.inside c.requires.before c.in_ok-progress.ensures.value c.in-Some.is (take_rest c.args.lines.now (c.args.at + 1)) c.in_ok-len-in-Some.ensures.block.0 c.in_ok-len-in-Some.ensures.block.1 c.in_ok-len-in-Some.ensures.text c.with_text.ensures.value
+
+pub returns-in-None-clause-spans : goal.returns-in-None-clause-spans
+returns-in-None-clause-spans c =
+    part-texts c.args.lines.now c.args.at _ (state_texts c.args.progress) (state_texts c.in_ok-progress.field-0.progress) c.requires.inside c.requires.texts c.in_ok-progress.ensures.spans
+
+pub returns-in_ok-len-in-Some-clause-spans : goal.returns-in_ok-len-in-Some-clause-spans
+returns-in_ok-len-in-Some-clause-spans c =
+    part-block_texts c.args.lines.now _ c.args.at c.in_ok-len-in-Some.len _ c.in-Some.how c.in_ok-len-in-Some.text (state_texts c.args.progress) (state_texts c.in_ok-progress.field-0.progress) (state_texts c.with_text.result)
+    c.requires.inside c.requires.texts c.in_ok-progress.ensures.spans (take_rest c.args.lines.now (c.args.at + 1)) c.in_ok-len-in-Some.ensures.within c.in_ok-len-in-Some.ensures.text c.in_ok-len-in-Some.ensures.span c.with_text.ensures.spans

@@ -9,8 +9,8 @@ use Rattle.ci_yaml.proofs.Leasts.{least_two}
 use Rattle.ci_yaml.proofs.Said.{texted, texted_with}
 use Rattle.ci_yaml.proofs.written.closed.Goals as goal
 
-pub returns : goal.returns
-returns c =
+pub returns-clause-value : goal.returns-clause-value
+returns-clause-value c =
     ap (λ (v : Value). texted_with v c.least_of.result) (view-Text c.args.quoted.text)
     ∙ ap (texted (bytes_of c.args.quoted.text))
     (least_two c.least_of.result c.when-escape.result c.not_comment-other.result (when c.args.quoted.wrong Y7) (not_comment 39 c.args.quoted.rest.now) c.least_of.ensures c.when-escape.ensures c.not_comment-other.ensures)

@@ -2,7 +2,9 @@ use Rattle.std.proofs.Common.{◌∙◌, ap, sym}
 use Rattle.ci_yaml.specs.Reading.{has_name}
 use Rattle.ci_yaml.specs.TreeView.{pairs_view}
 use Rattle.ci_yaml.proofs.Keys.{keys-more}
+use Rattle.ci_yaml.specs.TreeTexts.{pairs_texts}
 use Rattle.ci_yaml.proofs.Views.{pairs-push}
+use Rattle.ci_yaml.proofs.SpansTexts.{pairs_texts-push}
 use Rattle.ci_yaml.proofs.open_map.OpenMap.more.Goals as goal
 
 pub invariant_of-result : goal.invariant_of-result
@@ -12,5 +14,8 @@ invariant_of-result c = record {
       ∙ ap (λ ps. has_name k (pairs_view ps)) (sym c.in_ok-push.ensures.items);
 }
 
-pub returns : goal.returns
-returns c = ap pairs_view c.in_ok-push.ensures.items ∙ pairs-push c.args.self.pairs.items c.args.key c.args.value
+pub returns-clause-value : goal.returns-clause-value
+returns-clause-value c = ap pairs_view c.in_ok-push.ensures.items ∙ pairs-push c.args.self.pairs.items c.args.key c.args.value
+
+pub returns-clause-spans : goal.returns-clause-spans
+returns-clause-spans c = ap pairs_texts c.in_ok-push.ensures.items ∙ pairs_texts-push c.args.self.pairs.items c.args.key c.args.value

@@ -1,0 +1,135 @@
+-- Where a source writes the texts of a tree.
+use Rattle.std.specs.Prelude.{◌≡◌, ℕ, suc, ◌+◌, ◌-◌, ◌<◌, ◌≤◌, ◌⊎◌, Bool, List, [], ◌∷◌, ◌++◌, length, Option, Some, None, map, ⊤}
+use Rattle.ci_yaml.specs.declared.cut.At.{At}
+use Rattle.ci_yaml.specs.declared.tree.Place.{Place}
+use Rattle.ci_yaml.specs.declared.tree.Span.{Span}
+use Rattle.ci_yaml.specs.declared.tree.Text.{Text}
+use Rattle.ci_yaml.specs.declared.tree.Tree.{Tree}
+use Rattle.ci_yaml.specs.declared.parts.Frame.{Frame}
+use Rattle.ci_yaml.specs.declared.parts.Open.{Open}
+use Rattle.ci_yaml.specs.declared.parts.Open.TheVariants.{Items, Pairs}
+use Rattle.ci_yaml.specs.declared.parts.Head.{Head}
+use Rattle.ci_yaml.specs.declared.parts.Head.TheVariants.{Dash, Key, Bare}
+use Rattle.ci_yaml.specs.declared.parts.Entry.{Entry}
+use Rattle.ci_yaml.specs.declared.parts.Progress.{Progress}
+use Rattle.ci_yaml.specs.declared.parts.Progress.TheVariants.{Start, Whole, Inside}
+use Rattle.ci_yaml.specs.Scalar.{quoted}
+use Rattle.ci_yaml.specs.Line.{Chomp}
+use Rattle.ci_yaml.specs.Document.{Line, literal}
+use Rattle.ci_yaml.specs.TreeView.{bytes_of}
+pub use Rattle.ci_yaml.specs.TreeTexts.{lists, pairs, texts_step, texts_in, items_texts, pairs_texts}
+
+-- ---- the texts of what was read so far, and of a line's entries
+
+abbrev pub given_texts : Option Tree → List Text
+given_texts None = []
+given_texts (Some t) = texts_in t
+
+abbrev pub open_texts : Open → List Text
+open_texts (Items v) = items_texts v.items
+open_texts (Pairs m k) = pairs_texts m.pairs.items ++ k ∷ []
+
+-- the outermost open node comes first
+abbrev pub frames_texts : List Frame → List Text
+frames_texts [] = []
+frames_texts (f ∷ fs) = open_texts f.members ++ frames_texts fs
+
+abbrev pub state_texts : Progress → List Text
+state_texts Start = []
+state_texts (Whole t) = texts_in t
+state_texts (Inside fs given) = frames_texts fs.items ++ given_texts given
+
+abbrev pub head_texts : Head → List Text
+head_texts Dash = []
+head_texts (Key k) = k ∷ []
+head_texts Bare = []
+
+abbrev pub entry_texts : Entry → List Text
+entry_texts e = head_texts e.head ++ given_texts e.given
+
+abbrev pub entries_texts : List Entry → List Text
+entries_texts [] = []
+entries_texts (e ∷ es) = entry_texts e ++ entries_texts es
+
+-- ---- one line
+
+-- What is written is read as these bytes: as it stands, or as a quoted scalar.
+pub data Writes (raw : List ℕ) (bytes : List ℕ) : Type 0 where
+  plain : raw ≡ bytes → Writes raw bytes
+  in_quotes : (wrong : Bool) → quoted raw ≡ Some (record { text = bytes; wrong = wrong; rest = [] }) → Writes raw bytes
+
+-- where the bytes stand that come before a rest, in a text that reaches to the line's end as the rest does
+abbrev pub span_before : At → List ℕ → List ℕ → Span
+span_before at text rest = record {
+  start = record { line = at.line; column = at.end - length text };
+  end = record { line = at.line; column = at.end - length rest };
+}
+
+-- In a text that reaches to the line's end the texts stand one behind the other, and this rest comes behind them.
+pub data Stand (at : At) : List ℕ → List Text → List ℕ → Type 0 where
+  none : (bs front rest : List ℕ) → bs ≡ front ++ rest → Stand at bs [] rest
+  more : (bs front raw behind rest : List ℕ) (t : Text) (ts : List Text) → bs ≡ front ++ raw ++ behind
+      → Writes raw (bytes_of t) → t.span ≡ span_before at (raw ++ behind) behind
+      → Stand at behind ts rest → Stand at bs (t ∷ ts) rest
+
+-- the texts stand in a line, which is counted from 1
+abbrev pub StandOn : ℕ → Line → List Text → Type 0
+StandOn n l ts = Stand (record { line = n; end = length l }) l ts []
+
+-- ---- a text
+
+-- The text is what its span holds: a part of a line, or the lines of a literal block.
+pub data IsAt (ls : List Line) (t : Text) : Type 0 where
+  on_line : (before : List Line) (l : Line) (after : List Line) (front raw behind : List ℕ)
+      → ls ≡ before ++ l ∷ after → l ≡ front ++ raw ++ behind → Writes raw (bytes_of t)
+      → t.span ≡ record {
+        start = record { line = suc (length before); column = length front };
+        end = record { line = suc (length before); column = length front + length raw };
+      } → IsAt ls t
+  in_block : (before block after : List Line) (how : Chomp)
+      → ls ≡ before ++ block ++ after → bytes_of t ≡ literal how block
+      → t.span ≡ record {
+        start = record { line = suc (length before); column = 0 };
+        end = record { line = suc (length before + length block); column = 0 };
+      } → IsAt ls t
+
+abbrev pub AllAt : List Line → List Text → Type 0
+AllAt ls [] = ⊤
+AllAt ls (t ∷ ts) = IsAt ls t × AllAt ls ts
+
+abbrev pub Precedes : Place → Place → Type 0
+Precedes p q = (p.line < q.line) ⊎ ((p.line ≡ q.line) × (p.column ≤ q.column))
+
+-- each text ends before the next begins
+abbrev pub Ascend : List Text → Type 0
+Ascend [] = ⊤
+Ascend (t ∷ []) = ⊤
+Ascend (t ∷ u ∷ ts) = Precedes t.span.end u.span.start × Ascend (u ∷ ts)
+
+-- each text is what its span holds, and the spans ascend
+pub record AreWritten (ls : List Line) (ts : List Text) : Type 0 where
+  pub held : AllAt ls ts
+  pub ascend : Ascend ts
+
+-- The same, line by line: so many lines come before these, and the texts stand on them one behind the other.
+pub data Lines : ℕ → List Line → List Text → Type 0 where
+  none : (n : ℕ) (ls : List Line) → Lines n ls []
+  line : (n : ℕ) (l : Line) (ls : List Line) (us ts all : List Text) → StandOn (suc n) l us → Lines (suc n) ls ts
+      → all ≡ us ++ ts → Lines n (l ∷ ls) all
+  block : (n : ℕ) (ls block rest : List Line) (how : Chomp) (t : Text) (ts : List Text) → ls ≡ block ++ rest
+      → bytes_of t ≡ literal how block
+      → t.span ≡ record {
+        start = record { line = suc n; column = 0 };
+        end = record { line = suc (n + length block); column = 0 };
+      } → Lines (n + length block) rest ts → Lines n ls (t ∷ ts)
+
+-- After some texts come those of this line, which is counted from 1.
+pub record Follow (n : ℕ) (l : Line) (before all : List Text) : Type 0 where
+  pub texts : List Text
+  pub stand : StandOn n l texts
+  pub parts : all ≡ before ++ texts
+
+-- What comes of texts when this text takes the place of the last of them.
+pub data Ends (t : Text) (all ending : List Text) : Type 0 where
+  no_text : ending ≡ [] → Ends t all ending
+  last_text : (before behind : List Text) → all ≡ before ++ behind → ending ≡ before ++ t ∷ [] → Ends t all ending
