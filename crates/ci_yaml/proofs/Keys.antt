@@ -2,8 +2,6 @@
 use Rattle.std.proofs.Common.{◌≡◌, ℕ, Bool, true, false, cond, List, [], ◌∷◌, ◌++◌, refl, sym, ◌∙◌, ap}
 use Rattle.std.specs.Prelude.{◌||◌, String, string_bytes}
 use Rattle.std.specs.BTreeSet.{BTreeSet, UpdatesBy, contains_text}
-use Rattle.std.specs.Cmp.Lexicographic.{slice_cmp}
-use Rattle.std.specs.Ordering.{nat_cmp}
 use Rattle.std.specs.Str.{bytes_eq}
 use Rattle.std.specs.Prelude.{string_cmp}
 use Rattle.std.proofs.lemmas.Map.Text.{btree_set_updates_text}

@@ -1,6 +1,6 @@
 -- The code that reading stops with at a line is the least of those that hold of it.
 use Rattle.std.proofs.Common.{◌≡◌, ℕ, zero, suc, ◌<◌, ◌≤◌, ◌⊎◌, inl, inr, Bool, true, false, cond, List, [], ◌∷◌, ◌++◌, length, drop, Option, Some, None, Result, Ok, Err, refl, sym, ◌∙◌, ap, subst, arith}
-use Rattle.std.specs.Prelude.{⊤, nat_le, slice_index_or, ◌==◌, ◌&&◌, Contains}
+use Rattle.std.specs.Prelude.{nat_le, slice_index_or, ◌==◌, ◌&&◌, Contains}
 use Rattle.std.proofs.lemmas.Bool.{leb-true, leb-false}
 use Rattle.ci_yaml.specs.declared.fault.Code.{Code}
 use Rattle.ci_yaml.specs.declared.fault.Code.TheVariants.{Y2, Y9}

@@ -1,21 +1,20 @@
 -- A step stops with the least of the codes that hold of its entry's place, and goes on where none does.
-use Rattle.std.proofs.Common.{◌≡◌, ℕ, suc, ◌<◌, ◌≤◌, Bool, true, false, cond, List, [], ◌∷◌, ◌++◌, length, Option, Some, None, Result, Ok, Err, refl, sym, ◌∙◌, ap, subst, arith, inl, inr}
+use Rattle.std.proofs.Common.{◌≡◌, ℕ, suc, ◌<◌, Bool, true, false, cond, List, [], ◌∷◌, ◌++◌, length, Option, Some, None, Result, Ok, Err, refl, sym, ◌∙◌, ap, arith, inl, inr}
 use Rattle.std.specs.Prelude.{⊤, nat_lt, nat_le, ◌==◌, ◌&&◌, ◌||◌}
 use Rattle.std.proofs.lemmas.Bool.{lt-ltb, le-ltb, le-leb, cases_lt}
 use Rattle.ci_yaml.specs.declared.fault.Code.{Code}
 use Rattle.ci_yaml.specs.declared.fault.Code.TheVariants.{Y3, Y4, Y5, Y10}
-use Rattle.ci_yaml.specs.Tree.{Kind, sequence, mapping, Value, null, boolean, number, text, node, Members, no_members, member}
+use Rattle.ci_yaml.specs.Tree.{Kind, sequence, mapping, Value, Members, no_members}
 use Rattle.ci_yaml.specs.Entry.{Head, dash, key, bare, Entry, head_of, level_of}
 use Rattle.ci_yaml.specs.Reading.{◌>>=◌, push, Frame, level, State, start, whole, inside, closed, Settled, settle, value_of, same_text, has_name, misplaced, is_node, with_given, begun, is_repeated, joined, begins, entered, member_next, whole_of, bare_next, next_by, next, run}
 use Rattle.ci_yaml.specs.Scalar.{when}
 use Rattle.ci_yaml.specs.Least.{least}
 use Rattle.ci_yaml.specs.Codes.{level_open, column_open, awaited, is_empty, member_fits, fits_by, is_named, opens_above, too_deep, repeats_by, deep_by, place_code}
 use Rattle.ci_yaml.specs.Document.{codes_at, or_else, place_codes}
-use Rattle.ci_yaml.proofs.Sound.{Stands, StateStands, NameOf, begins-none, next-stands}
-use Rattle.ci_yaml.proofs.Complete.{settle-closes, settle-stays, next-is}
+use Rattle.ci_yaml.proofs.Sound.{Stands, StateStands, begins-none, next-stands}
+use Rattle.ci_yaml.proofs.Complete.{settle-closes, settle-stays}
 use Rattle.ci_yaml.proofs.Opened.{has_level, AllBelow, none-below, below-more, stands-below, open-is, eq-false, eq-true, le-false, or_false, cases_order}
-use Rattle.ci_yaml.proofs.Faults.{misplaced-is, awaited-is, entered-not, stands-ascend, neither}
-use Rattle.ci_yaml.proofs.LinesSound.{no_least}
+use Rattle.ci_yaml.proofs.Faults.{misplaced-is, awaited-is, entered-not, stands-ascend}
 use Rattle.ci_yaml.proofs.Keys.{has-push}
 use Rattle.ci_yaml.proofs.Places.{named_at, none-named_below, named-is, levels_above, above-is, no-levels, above-inner, above-all}
 

@@ -1,15 +1,14 @@
 -- In the maps of a text's tree the keys differ, and it is at most ten deep.
-use Rattle.std.proofs.Common.{◌≡◌, ℕ, zero, suc, pos, ◌+◌, ◌<◌, ◌≤◌, Bool, true, false, cond, List, [], ◌∷◌, ◌++◌, length, drop, Option, Some, None, is_some, refl, sym, ◌∙◌, ap, subst, arith}
+use Rattle.std.proofs.Common.{◌≡◌, ℕ, zero, suc, pos, ◌+◌, ◌<◌, ◌≤◌, Bool, true, false, cond, List, [], ◌∷◌, ◌++◌, length, drop, Option, Some, None, is_some, refl, sym, subst, arith}
 use Rattle.std.specs.Prelude.{⊤, max, ◌==◌, ◌&&◌, ◌||◌, codes}
 use Rattle.std.specs.Str.{bytes_eq}
 use Rattle.std.specs.Str.Lines.{lines}
-use Rattle.ci_yaml.specs.declared.fault.Code.{Code}
 use Rattle.ci_yaml.specs.declared.fault.Code.TheVariants.{Y2, Y9}
-use Rattle.ci_yaml.specs.Tree.{Kind, sequence, mapping, Value, null, boolean, number, text, node, Members, no_members, member, HaveNoNames, NamesFit}
+use Rattle.ci_yaml.specs.Tree.{Kind, sequence, mapping, Value, null, boolean, number, text, node, Members, no_members, member, HaveNoNames}
 use Rattle.ci_yaml.specs.Entry.{Entry}
 use Rattle.ci_yaml.specs.Node.{IsWithin, HasValue, here, deeper, nothing, IsNode, AreMembers, IsDocument, of_node, of_line}
 use Rattle.ci_yaml.specs.Scalar.{drop_blanks, trim_end, head_is, tail_of, before_comment, only_comment, when, Quoted, quoted, is_quote, count_of, negative_of, number_of, number_or_text, plain_value}
-use Rattle.ci_yaml.specs.Line.{End, comma, bracket, missing, cut_place, Place, plain_place, quoted_place, place, Listed, with_place, after_place, places, listed_inside, listed, Chomp, clip, strip, keep, Written, header_rest, header_of, written_quoted, written_list, written_plain, written_at, unwritten, written, Keyed, keyed, keyed_or_bare, is_dash, spaces, Item, inner, value, item, is_skipped, Spoken, dashed, spoken, with_codes, content_spoken, is_document_mark, line_spoken}
+use Rattle.ci_yaml.specs.Line.{End, comma, bracket, missing, cut_place, Place, plain_place, quoted_place, place, Listed, after_place, places, listed, clip, strip, keep, Written, header_rest, header_of, written_quoted, written_list, written_plain, written_at, unwritten, written, Keyed, keyed, keyed_or_bare, is_dash, spaces, Item, inner, value, item, is_skipped, Spoken, dashed, spoken, with_codes, content_spoken, is_document_mark, line_spoken}
 use Rattle.ci_yaml.specs.Document.{Line, Ending, filled, literal, Says, none, line, block, HasTree}
 use Rattle.ci_yaml.specs.Shape.{KeysDiffer, AllKeysDiffer, depth, members_depth}
 

@@ -1,12 +1,11 @@
 -- Texts that stand one behind the other, line by line, are written there.
-use Rattle.std.proofs.Common.{◌≡◌, ℕ, suc, ◌+◌, ◌-◌, ◌<◌, ◌≤◌, ◌⊎◌, inl, inr, List, [], ◌∷◌, ◌++◌, length, refl, sym, ◌∙◌, ap, subst, append_assoc, length-append, arith}
+use Rattle.std.proofs.Common.{◌≡◌, ℕ, suc, ◌+◌, ◌-◌, ◌<◌, ◌≤◌, inl, inr, List, [], ◌∷◌, ◌++◌, length, refl, sym, ◌∙◌, ap, subst, append_assoc, length-append, arith}
 use Rattle.std.specs.Prelude.{⊤}
-use Rattle.std.proofs.lemmas.List.{append-nil}
 use Rattle.ci_yaml.specs.declared.cut.At.{At}
 use Rattle.ci_yaml.specs.declared.tree.Place.{Place}
 use Rattle.ci_yaml.specs.declared.tree.Text.{Text}
 use Rattle.ci_yaml.specs.Document.{Line}
-use Rattle.ci_yaml.specs.Spans.{Stand, none, more, StandOn, IsAt, on_line, in_block, AllAt, Precedes, Ascend, AreWritten, Lines, line, block}
+use Rattle.ci_yaml.specs.Spans.{Stand, none, more, StandOn, on_line, in_block, AllAt, Precedes, Ascend, AreWritten, Lines, line, block}
 
 -- ---- each text is what its span holds
 

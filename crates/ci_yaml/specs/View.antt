@@ -1,11 +1,11 @@
 -- What the code holds of lines and open nodes, without where it lies in memory.
-use Rattle.std.specs.Prelude.{◌≡◌, ◌≤◌, ◌||◌, ◌+◌, ℕ, Bool, List, [], ◌∷◌, ◌++◌, length, Option, Some, None, Result, Ok, Err, map, option_map, string_bytes, ⊤}
+use Rattle.std.specs.Prelude.{◌≡◌, ◌≤◌, ◌||◌, ◌+◌, ℕ, Bool, List, [], ◌∷◌, ◌++◌, length, Option, Some, None, Result, Ok, Err, map, option_map, ⊤}
 use Rattle.ci_yaml.specs.declared.tree.Tree.{Tree}
 pub use Rattle.ci_yaml.specs.TreeView.{words_of, bytes_of, items_of, pairs_of, joined, view_step, value_view, items_view, pairs_view}
 use Rattle.ci_yaml.specs.declared.parts.Frame.{Frame}
 use Rattle.ci_yaml.specs.declared.parts.Open.{Open}
 use Rattle.ci_yaml.specs.declared.parts.Open.TheVariants.{Items, Pairs}
-use Rattle.ci_yaml.specs.Tree.{Kind, sequence, mapping, Value, null, boolean, number, text, node, Members, no_members, member}
+use Rattle.ci_yaml.specs.Tree.{Kind, sequence, mapping, Value, node, Members}
 use Rattle.ci_yaml.specs.Scalar as scalar
 use Rattle.ci_yaml.specs.Line as line
 use Rattle.ci_yaml.specs.Least.{least, least_of}

@@ -1,4 +1,4 @@
-use Rattle.std.proofs.Common.{List, [], refl}
+use Rattle.std.proofs.Common.{[], refl}
 use Rattle.ci_yaml.specs.Document.{none}
 use Rattle.ci_yaml.specs.ReadLines.{beginning}
 use Rattle.ci_yaml.proofs.LinesSound.{read-stands}
