@@ -19,6 +19,7 @@ use Rattle.ci_yaml.specs.View.{end_view, cut_view}
 use Rattle.ci_yaml.specs.Spans.{plain, span_before, Stand, none, texts_in, items_texts}
 use Rattle.ci_yaml.specs.SpansScalar.{OnlyText}
 use Rattle.ci_yaml.specs.SpansFlow.{behind_end, behind_list}
+use Rattle.ci_yaml.proofs.SpansTexts.{texts-Text, items_texts-push}
 use Rattle.ci_yaml.proofs.SpansStand.{stand-earlier, stand-none, stand-then, stand-all, stand-one}
 
 -- ---- what comes last
@@ -130,9 +131,6 @@ ends-cut last bs c is =
 
 -- ---- a place
 
-pub texts-Text : (x : Text) → texts_in (TextTree x) ≡ x ∷ []
-texts-Text x = search (rules, the_lemmas)
-
 -- the text of a plain scalar stands where it begins
 pub stand-only : (at : At) (bs scalar rest cs : List ℕ) (span : Span) (ts : List Text) → EndsIn bs (scalar ++ rest) → EndsIn rest cs → span ≡ span_before at (scalar ++ rest) rest → OnlyText scalar span ts → Stand at bs ts cs
 stand-only at bs scalar rest cs span [] from to is only =
@@ -181,13 +179,9 @@ stand-behind-quoted t rest v c v-is cut-is at bs stand =
 
 -- ---- a list
 
-pub items-more : (vs : List Tree) (v : Tree) → items_texts (vs ++ v ∷ []) ≡ items_texts vs ++ texts_in v
-items-more [] v = append-nil (texts_in v)
-items-more (w ∷ vs) v = ap (λ (ts : List Text). texts_in w ++ ts) (items-more vs v) ∙ sym (append_assoc (texts_in w) (items_texts vs) (texts_in v))
-
 pub stand-more : (at : At) (bs rest ds : List ℕ) (vs us : List Tree) (v : Tree) (end : End) → Stand at bs (items_texts vs) rest → us ≡ vs ++ v ∷ [] → Stand at rest (texts_in v) (behind_end end) → behind_end end ≡ ds → Stand at bs (items_texts us) ds
 stand-more at bs rest ds vs us v end before us-is one end-is =
-    let texts : items_texts us ≡ items_texts vs ++ texts_in v = ap items_texts us-is ∙ items-more vs v in
+    let texts : items_texts us ≡ items_texts vs ++ texts_in v = ap items_texts us-is ∙ items_texts-push vs v in
     subst (λ (ts : List Text). Stand at bs ts ds) (sym texts)
     (stand-then at bs rest ds (items_texts vs) (texts_in v) before (subst (Stand at rest (texts_in v)) end-is one))
 

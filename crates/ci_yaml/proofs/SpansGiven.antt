@@ -13,7 +13,8 @@ use Rattle.ci_yaml.specs.Scalar.{tail_of, trim_end, trimmed_len, before_comment,
 use Rattle.ci_yaml.specs.Spans.{plain, span_before, Stand, texts_in}
 use Rattle.ci_yaml.specs.SpansScalar.{OnlyText}
 use Rattle.ci_yaml.proofs.SpansStand.{stand-none, stand-all, stand-one}
-use Rattle.ci_yaml.proofs.SpansFlow.{EndsIn, ends-none, ends-drop, ends-tail, stand-within, stand-only, texts-Text}
+use Rattle.ci_yaml.proofs.SpansFlow.{EndsIn, ends-none, ends-drop, ends-tail, stand-within, stand-only}
+use Rattle.ci_yaml.proofs.SpansTexts.{texts-Text}
 
 -- ---- further in front
 
