@@ -1,0 +1,110 @@
+//! A runner's path over bytes: what it sends, and what it gets back.
+
+ghost use Rattle.std.specs.Prelude.{◌≡◌, ◌<◌};
+
+use crate::path::{STEPS, over_memory, send};
+use ci_machine::moment::Moment;
+use ci_machine::request::Seed;
+use ci_server::link::Link;
+use ci_server::serve::{Served, serve_one};
+use ci_server::server::Server;
+use ci_store::Alter;
+use std::alloc::Global;
+use std::marker::Brand;
+use std::sync::ledger::{Blank, Ledger};
+use std::test::Fail;
+
+/// Serves the bytes of one request, and answers those of its reply.
+fn serve<S: Alter, A: Ledger, B: Ledger>(
+    alloc: Global,
+    server: &mut Server<S>,
+    moment: Moment,
+    bytes: &[u8],
+    reads: Blank,
+    writes: Blank,
+) -> Option<Vec<u8>>
+    requires reads_name { reads.name ≡ A.name }
+    requires reads_parts { reads.parts ≡ A.parts }
+    requires reads_one { 0 < reads.parts }
+    requires writes_name { writes.name ≡ B.name }
+    requires writes_parts { writes.parts ≡ B.parts }
+    requires writes_one { 0 < writes.parts }
+{
+    let mut reader = Link::<&[u8], A>::new(bytes, reads);
+    let mut writer = Link::<Vec<u8>, B>::new(Vec::new(alloc), writes);
+    let seed = Seed([0xab; 16]);
+    match serve_one(alloc, &mut reader, &mut writer, server, moment, seed) {
+        Served::Replied => Some(writer.into_inner()),
+        _ => None,
+    }
+}
+
+/// What a request is answered at 1000.
+fn answer<S: Alter>(alloc: Global, server: &mut Server<S>, request: &str) -> Result<Vec<u8>, Fail> {
+    let moment = Moment::new(1000).ok_or("moment")?;
+    let bytes = request.as_bytes();
+    let (reads, writes) = (Blank::new(1), Blank::new(1));
+    Ok(serve::<S, Brand, Brand>(alloc, server, moment, bytes, reads, writes).ok_or("no reply")?)
+}
+
+/// What the runner sends, and what it gets back.
+const PATH: &[(&str, &str)] = &[
+    (
+        "POST /api/v4/jobs/request HTTP/1.1\r\nContent-Length: 47\r\n\r\n{\"token\":\"r1-abababababababababababababababab\"}",
+        "HTTP/1.1 201 Created\r\nContent-Type: application/json\r\nContent-Length: 499\r\nConnection: close\r\n\r\n{\"id\":1,\"job_info\":{\"name\":\"build\",\"project_id\":1,\"stage\":\"build\"},\"script\":[\"make\"],\"timeout\":3600,\"token\":\"j1-abababababababababababababababab\",\"variables\":[{\"key\":\"CI\",\"value\":\"true\"},{\"key\":\"CI_COMMIT_BRANCH\",\"value\":\"main\"},{\"key\":\"CI_COMMIT_REF_NAME\",\"value\":\"main\"},{\"key\":\"CI_JOB_ID\",\"value\":\"1\"},{\"key\":\"CI_JOB_NAME\",\"value\":\"build\"},{\"key\":\"CI_JOB_STAGE\",\"value\":\"build\"},{\"key\":\"CI_PIPELINE_ID\",\"value\":\"1\"},{\"key\":\"CI_PIPELINE_SOURCE\",\"value\":\"api\"},{\"key\":\"CI_PROJECT_ID\",\"value\":\"1\"}]}",
+    ),
+    (
+        "PATCH /api/v4/jobs/1/trace HTTP/1.1\r\nJOB-TOKEN: j1-abababababababababababababababab\r\nContent-Range: 0-4\r\nContent-Length: 5\r\n\r\nhello",
+        "HTTP/1.1 202 Accepted\r\nJob-Status: running\r\nRange: 0-5\r\nContent-Length: 0\r\nConnection: close\r\n\r\n",
+    ),
+    (
+        "PATCH /api/v4/jobs/1/trace HTTP/1.1\r\nJOB-TOKEN: j1-abababababababababababababababab\r\nContent-Range: 0-4\r\nContent-Length: 5\r\n\r\nhello",
+        "HTTP/1.1 416 Range Not Satisfiable\r\nRange: 0-5\r\nContent-Type: application/json\r\nContent-Length: 13\r\nConnection: close\r\n\r\n{\"code\":\"M8\"}",
+    ),
+    (
+        "PATCH /api/v4/jobs/1/trace HTTP/1.1\r\nJOB-TOKEN: j1-abababababababababababababababab\r\nContent-Range: 5-9\r\nContent-Length: 5\r\n\r\nworld",
+        "HTTP/1.1 202 Accepted\r\nJob-Status: running\r\nRange: 0-10\r\nContent-Length: 0\r\nConnection: close\r\n\r\n",
+    ),
+    (
+        "PATCH /api/v4/jobs/1/trace HTTP/1.1\r\nJOB-TOKEN: j1-abababababababababababababababab\r\nContent-Range: 11-12\r\nContent-Length: 2\r\n\r\nab",
+        "HTTP/1.1 416 Range Not Satisfiable\r\nRange: 0-10\r\nContent-Type: application/json\r\nContent-Length: 13\r\nConnection: close\r\n\r\n{\"code\":\"M8\"}",
+    ),
+    (
+        "PATCH /api/v4/jobs/1/trace HTTP/1.1\r\nJOB-TOKEN: j1-abababababababababababababababab\r\nContent-Range: 10-9\r\nContent-Length: 0\r\n\r\n",
+        "HTTP/1.1 400 Bad Request\r\nContent-Type: application/json\r\nContent-Length: 13\r\nConnection: close\r\n\r\n{\"code\":\"H7\"}",
+    ),
+    (
+        "PATCH /api/v4/jobs/1/trace HTTP/1.1\r\nJOB-TOKEN: j1-abababababababababababababababab\r\nContent-Length: 5\r\n\r\nworld",
+        "HTTP/1.1 400 Bad Request\r\nContent-Type: application/json\r\nContent-Length: 13\r\nConnection: close\r\n\r\n{\"code\":\"H7\"}",
+    ),
+    (
+        "GET /api/v4/projects/1/jobs/1/trace HTTP/1.1\r\nPRIVATE-TOKEN: p1-abababababababababababababababab\r\n\r\n",
+        "HTTP/1.1 200 OK\r\nContent-Type: text/plain\r\nContent-Length: 10\r\nConnection: close\r\n\r\nhelloworld",
+    ),
+    (
+        "PUT /api/v4/jobs/1 HTTP/1.1\r\nContent-Length: 65\r\n\r\n{\"token\":\"j1-abababababababababababababababab\",\"state\":\"success\"}",
+        "HTTP/1.1 200 OK\r\nJob-Status: success\r\nContent-Length: 0\r\nConnection: close\r\n\r\n",
+    ),
+    (
+        "PATCH /api/v4/jobs/1/trace HTTP/1.1\r\nJOB-TOKEN: j1-abababababababababababababababab\r\nContent-Range: 10-10\r\nContent-Length: 1\r\n\r\n!",
+        "HTTP/1.1 403 Forbidden\r\nJob-Status: success\r\nContent-Type: application/json\r\nContent-Length: 13\r\nConnection: close\r\n\r\n{\"code\":\"M6\"}",
+    ),
+    (
+        "GET /api/v4/projects/1/jobs/1 HTTP/1.1\r\nPRIVATE-TOKEN: p1-abababababababababababababababab\r\n\r\n",
+        "HTTP/1.1 200 OK\r\nContent-Type: application/json\r\nContent-Length: 58\r\nConnection: close\r\n\r\n{\"id\":1,\"name\":\"build\",\"stage\":\"build\",\"status\":\"success\"}",
+    ),
+];
+
+#[test]
+fn a_runner_is_answered(rt: HostRuntime) -> Result<(), Fail> {
+    let alloc = rt.alloc();
+    let mut server = over_memory(alloc)?;
+    for step in STEPS.iter().take(3) {
+        let _ = send(alloc, &mut server, *step)?;
+    }
+    for (request, reply) in PATH {
+        let found = answer(alloc, &mut server, request)?;
+        assert!(rt; found.as_slice() == reply.as_bytes(), "{request}");
+    }
+    Ok(())
+}
