@@ -1,5 +1,6 @@
 -- What a transaction of changes makes of the tables.
-use Rattle.std.specs.Prelude.{◌≡◌, Bool, true, false, List, IsTrue}
+use Rattle.std.specs.Prelude.{◌≡◌, Bool, true, false, List, Result, IsTrue, OnOk}
+use Rattle.sqlite.specs.State.{HasCleanDisk}
 use Rattle.sqlite.specs.Tree.{Trees}
 use Rattle.sqlite.specs.Store.{Ghosts}
 use Rattle.sqlite.specs.Held.{Held, state}
@@ -12,6 +13,10 @@ use Rattle.ci_store.specs.Stands.{Stands, StandsIn}
 -- inside a transaction the tables follow this change of the state
 abbrev pub Makes : {S : Type 0} → Ghosts S → (State → State) → Held S → Held S → Type 0
 Makes g change old new = IsTrue new.in_transaction × ((s : State) → Stands s (state g old).now → Stands (change s) (state g new).now)
+
+-- where a call inside a transaction ends well, the tables follow this change of the state
+abbrev pub MakesInside : {S A E : Type 0} → Ghosts S → (State → State) → Held S → Held S → Result A E → Type 0
+MakesInside g change old new result = HasCleanDisk (state g new) → IsTrue old.in_transaction → OnOk result (Makes g change old new)
 
 -- what is committed after the changes stands for the state after them
 abbrev pub CommitsAll : {S : Type 0} → Ghosts S → List Change → Held S → Trees → Type 0

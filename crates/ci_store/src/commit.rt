@@ -1,14 +1,15 @@
 //! Many changes in one transaction.
 
-ghost use Rattle.std.specs.Prelude.{◌≡◌, ◌≤◌, ◌⊎◌, true, false, IsTrue, OnOk};
-ghost use Rattle.sqlite.specs.State.{HasCleanDisk, KeepsCommit, Survives};
+ghost use Rattle.std.specs.Prelude.{◌≡◌, ◌≤◌, ◌⊎◌, true, false, OnOk};
+ghost use Rattle.sqlite.specs.State.{HasCleanDisk, Survives};
 ghost use Rattle.sqlite.specs.Tree.{Trees};
 ghost use Rattle.sqlite_trees.specs.View.{doubt};
 ghost use Rattle.sqlite.specs.Held.{state};
 ghost use Rattle.ci_machine.specs.State.{State, applied};
 ghost use Rattle.ci_store.specs.Stands.{StandsIn, IsAt};
 ghost use Rattle.ci_store.specs.Calls.{KeepsForMemory};
-ghost use Rattle.ci_store.specs.Commit.{Makes, CommitsAll, is_done, is_undone, IsBack, IsDone};
+ghost use Rattle.ci_tables.specs.Ran.{KeepsInside, CommitsNothing};
+ghost use Rattle.ci_store.specs.Commit.{MakesInside, CommitsAll, is_done, is_undone, IsBack, IsDone};
 
 use crate::make::make;
 use crate::settle::is_open;
@@ -24,10 +25,9 @@ fn make_all<S: Alter>(
     changes: &[Change],
 ) -> Result<(), StoreFault>
     ensures same_reference { tx.new.conn.ghost_name ≡ tx.old.conn.ghost_name }
-    ensures makes { HasCleanDisk (state S.Store tx.new.conn.now) → IsTrue tx.old.conn.now.in_transaction
-        → OnOk result (Makes S.Store (applied changes.now) tx.old.conn.now tx.new.conn.now) }
-    ensures kept { HasCleanDisk (state S.Store tx.new.conn.now) → IsTrue tx.old.conn.now.in_transaction → KeepsCommit (state S.Store tx.old.conn.now) (state S.Store tx.new.conn.now) }
-    ensures survives { Survives (state S.Store tx.old.conn.now) (state S.Store tx.new.conn.now) (λ _. ⊥) }
+    ensures makes { MakesInside S.Store (applied changes.now) tx.old.conn.now tx.new.conn.now result }
+    ensures kept { KeepsInside S.Store tx.old.conn.now tx.new.conn.now }
+    ensures survives { CommitsNothing S.Store tx.old.conn.now tx.new.conn.now }
 {
     for change in changes {
         make(tx, alloc, change)?;

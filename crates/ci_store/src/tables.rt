@@ -6,6 +6,7 @@ ghost use Rattle.sqlite.specs.Held.{state};
 ghost use Rattle.sqlite.specs.Tree.{Trees};
 ghost use Rattle.sqlite_trees.specs.View.{doubt};
 ghost use Rattle.ci_machine.specs.State.{State, applied, empty};
+ghost use Rattle.ci_tables.specs.Ran.{CommitsNothing};
 ghost use Rattle.ci_store.specs.Schema.{the_schema};
 ghost use Rattle.ci_store.specs.Create.{IsBlank, IsBare};
 ghost use Rattle.ci_store.specs.Stands.{Stands, StandsIn, IsAt, LeavesOnly};
@@ -93,7 +94,7 @@ fn define<S: Alter>(tx: &mut Transaction<'_, S>) -> Result<(), StoreFault>
     ensures same_reference { tx.new.conn.ghost_name ≡ tx.old.conn.ghost_name }
     ensures makes { HasCleanDisk (state S.Store tx.new.conn.now) → IsTrue tx.old.conn.now.in_transaction
         → OnOk result (IsTrue tx.new.conn.now.in_transaction × (IsBlank S.Store tx.old.conn.now → IsBare the_schema (state S.Store tx.new.conn.now).now)) }
-    ensures survives { Survives (state S.Store tx.old.conn.now) (state S.Store tx.new.conn.now) (λ _. ⊥) }
+    ensures survives { CommitsNothing S.Store tx.old.conn.now tx.new.conn.now }
 {
     for text in texts::SCHEMA {
         change(tx, text, &[])?;
@@ -106,7 +107,7 @@ fn fill<S: Alter>(tx: &mut Transaction<'_, S>) -> Result<(), StoreFault>
     ensures same_reference { tx.new.conn.ghost_name ≡ tx.old.conn.ghost_name }
     ensures makes { HasCleanDisk (state S.Store tx.new.conn.now) → IsTrue tx.old.conn.now.in_transaction
         → OnOk result (IsTrue tx.new.conn.now.in_transaction × (IsBare the_schema (state S.Store tx.old.conn.now).now → Stands empty (state S.Store tx.new.conn.now).now)) }
-    ensures survives { Survives (state S.Store tx.old.conn.now) (state S.Store tx.new.conn.now) (λ _. ⊥) }
+    ensures survives { CommitsNothing S.Store tx.old.conn.now tx.new.conn.now }
 {
     for (key, num) in FIRST_ROWS {
         change(tx, texts::INSERT_META, &[key.to_sql(), number(num)?])?;
@@ -118,7 +119,7 @@ fn define_and_fill<S: Alter>(tx: &mut Transaction<'_, S>) -> Result<(), StoreFau
     ensures same_reference { tx.new.conn.ghost_name ≡ tx.old.conn.ghost_name }
     ensures makes { HasCleanDisk (state S.Store tx.new.conn.now) → IsTrue tx.old.conn.now.in_transaction
         → OnOk result (IsTrue tx.new.conn.now.in_transaction × (IsBlank S.Store tx.old.conn.now → Stands empty (state S.Store tx.new.conn.now).now)) }
-    ensures survives { Survives (state S.Store tx.old.conn.now) (state S.Store tx.new.conn.now) (λ _. ⊥) }
+    ensures survives { CommitsNothing S.Store tx.old.conn.now tx.new.conn.now }
 {
     define(tx)?;
     fill(tx)
