@@ -1,4 +1,5 @@
 pub mod Least
+pub mod Told
 pub mod Tree
 pub mod Entry
 pub mod Node

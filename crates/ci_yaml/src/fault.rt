@@ -4,6 +4,7 @@ ghost use Rattle.std.specs.Prelude.{◌≡◌, Some};
 ghost use Rattle.ci_yaml.specs.declared.fault.Stop.TheVariants.{Memory};
 ghost use Rattle.ci_yaml.specs.declared.fault.YamlFault.TheVariants.{Memory as Refused};
 ghost use Rattle.ci_yaml.specs.Least.{number_of, lesser, least, least_of};
+ghost use Rattle.ci_yaml.specs.Told.{said};
 ghost use Rattle.ci_yaml.specs.Scalar.{when};
 
 use std::alloc::{AllocError, AllocFailed};
@@ -99,6 +100,8 @@ pub enum YamlFault {
 }
 
 impl fmt::Display for YamlFault {
+    ghost output = { λ e. Some (said e) };
+
     fn fmt<W: fmt::Write>(&self, f: &mut fmt::Formatter<W>) -> fmt::Result {
         match self {
             YamlFault::Memory => write!(f, "memory was refused"),
