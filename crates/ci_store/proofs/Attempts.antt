@@ -30,10 +30,11 @@ use Rattle.sqlite_schema.specs.Rules.{equal}
 use Rattle.sqlite.proofs.Callers.{IsPlain}
 use Rattle.ci_tables.proofs.Selects.{MeansSelect}
 use Rattle.ci_store.specs.Calls.{ShowsRecords, listed}
-use Rattle.ci_machine.specs.Leases.{is_live, is_live_state}
+use Rattle.ci_values.specs.Attempts.{is_live_state}
+use Rattle.ci_machine.specs.Leases.{is_live}
 use Rattle.ci_machine.specs.Step.{attempt_at, attempts_of, live_attempts}
-use Rattle.ci_machine.specs.declared.records.AttemptState.{AttemptState}
-use Rattle.ci_machine.specs.declared.records.AttemptState.TheVariants.{Live, Succeeded, Failed, Cancelled}
+use Rattle.ci_values.specs.declared.attempts.AttemptState.{AttemptState}
+use Rattle.ci_values.specs.declared.attempts.AttemptState.TheVariants.{Live, Succeeded, Failed, Cancelled}
 use Rattle.ci_store.proofs.Shows.{columns_of, names_of, by, shows_passing, shows_sorted, found_one, found_all, rising_numbers}
 use Rattle.ci_store.proofs.Same.{same_attempt}
 

@@ -50,7 +50,7 @@ regular_with_runners s xs up back o = search rules
 pub regular_with_pipelines : (s : State) (xs : List Pipeline) → Rises pipeline_cmp xs → IsRegular s → IsRegular (record s { pipelines = xs })
 regular_with_pipelines s xs up o = search rules
 
-pub regular_with_jobs : (s : State) (xs : List Job) → Rises job_cmp xs → AllByRecursion (λ j. read (spec_text j.spec) ≡ Some (spec_data j.spec)) xs → IsRegular s → IsRegular (record s { jobs = xs })
+pub regular_with_jobs : (s : State) (xs : List Job) → Rises job_cmp xs → AllByRecursion (λ j. read (spec_text j.options) ≡ Some (spec_data j.options)) xs → IsRegular s → IsRegular (record s { jobs = xs })
 regular_with_jobs s xs up back o = search rules
 
 pub regular_with_job_variables : (s : State) (xs : List JobVariable) → Rises job_variable_cmp xs → IsRegular s → IsRegular (record s { job_variables = xs })

@@ -211,7 +211,7 @@ impl Stored for Job {
             position: row.get(2)?,
             name: text_at(row, 3)?,
             stage: text_at(row, 4)?,
-            spec: read_spec(alloc, spec.as_str())?,
+            options: read_spec(alloc, spec.as_str())?,
             played: flag_at(row, 6)?,
             cancelled: flag_at(row, 7)?,
             set_aside: row.get(8)?,
