@@ -1,15 +1,16 @@
 -- What the grammar derives is read from the left, where nothing follows that would make it longer.
 use Rattle.std.proofs.Common.{◌≡◌, ℕ, ◌<◌, ◌≤◌, Bool, true, false, cond, List, [], ◌∷◌, ◌++◌, length, Some, Ok, Err, refl, sym, ◌∙◌, ap, subst, arith, append_assoc}
 use Rattle.std.proofs.lemmas.List.{length-append}
-use Rattle.ci_expr.specs.declared.fault.ExprFault.TheVariants.{X4}
+use Rattle.ci_expr.specs.declared.fault.ExprCode.TheVariants.{X4}
 use Rattle.ci_expr.specs.declared.token.Kind.{Kind}
 use Rattle.ci_expr.specs.declared.token.Kind.TheVariants as kind
+use Rattle.ci_expr.specs.declared.tree.Join.{Join}
 use Rattle.ci_expr.specs.Token.{Token}
-use Rattle.ci_expr.specs.Formula.{Operand, Formula, either, both, group, present, equal, found, Level, or, and, test, comparing, matching, IsNamed, IsOperand, IsPatternOf, Derives, or_one, or_more, and_one, and_more, in_group, alone, compared, matched}
+use Rattle.ci_expr.specs.Formula.{Operand, Formula, joined, group, present, equal, found, Level, chain, or, test, part, sign, comparing, matching, IsNamed, IsOperand, IsPatternOf, Derives, single, several, in_group, alone, compared, matched}
 use Rattle.ci_expr.specs.Descent.{Read, behind_byte, pattern_of, compared_by, matched_by, matched_from, sign_by, named_from, descend, reach}
-use Rattle.ci_expr.proofs.KindLemmas.{is_kind-at, behind-at, is_sign, Ends, ends-and, ends-test, no-or, no-and, no-sign, ends-at}
+use Rattle.ci_expr.proofs.KindLemmas.{is_kind-at, behind-at, is_sign, Ends, ends-part, none-behind, sign-ends, no-sign, ends-at}
 use Rattle.ci_expr.proofs.Parts.{behind_byte-at, operand_by-at, pattern_of-at}
-use Rattle.ci_expr.proofs.Descending.{or-one, or-two, and-one, and-two, group-by, name-by}
+use Rattle.ci_expr.proofs.Descending.{part-alone, joined-reads, group-by, name-by}
 
 -- the tokens are read as the formula, whatever follows that doesn't make it longer
 abbrev pub IsRead : Level → List Token → Formula → Type 0
@@ -53,17 +54,13 @@ named-read v name more rest f (is, spelled) e n le = name-by (v ∷ more) more v
 longer : (left : List Token) (t : Token) (more : List Token) → length more < length (left ++ t ∷ more)
 longer left t more = omega (arith, length-append left (t ∷ more))
 
-or-read : (left : List Token) (t : Token) (right : List Token) (f g : Formula) → IsRead and left f → t.kind ≡ kind.Or → IsRead or right g → IsRead or (left ++ t ∷ right) (either f g)
-or-read left t right f g a is b rest h =
-    let more = right ++ rest in
-    subst (λ us. (n : ℕ) → reach or us ≤ n → descend n or us ≡ Ok (either f g, rest)) (sym (append_assoc left (t ∷ right) rest))
-    (or-two (left ++ t ∷ more) (t ∷ more) more rest f g (a (t ∷ more) (ends-at and t more kind.Or is refl)) (behind-at kind.Or t more is) (longer left t more) (b rest h))
-
-and-read : (left : List Token) (t : Token) (right : List Token) (f g : Formula) → IsRead test left f → t.kind ≡ kind.And → IsRead and right g → IsRead and (left ++ t ∷ right) (both f g)
-and-read left t right f g a is b rest h =
-    let more = right ++ rest in
-    subst (λ us. (n : ℕ) → reach and us ≤ n → descend n and us ≡ Ok (both f g, rest)) (sym (append_assoc left (t ∷ right) rest))
-    (and-two (left ++ t ∷ more) (t ∷ more) more rest f g (a (t ∷ more) (ends-at test t more kind.And is refl)) (behind-at kind.And t more is) (longer left t more) (b rest h))
+joined-read : (j : Join) (left : List Token) (t : Token) (right : List Token) (f g : Formula) → IsRead (part j) left f → t.kind ≡ sign j → IsRead (chain j) right g
+    → IsRead (chain j) (left ++ t ∷ right) (joined j f g)
+joined-read j left t right f g a is b rest h =
+    let behind = right ++ rest in
+    subst (λ us. (n : ℕ) → reach (chain j) us ≤ n → descend n (chain j) us ≡ Ok (joined j f g, rest)) (sym (append_assoc left (t ∷ right) rest))
+    (joined-reads j (left ++ t ∷ behind) (t ∷ behind) behind rest f g (a (t ∷ behind) (ends-at (part j) t behind (sign j) is (sign-ends j))) (behind-at (sign j) t behind is)
+    (longer left t behind) (b rest h))
 
 group-read : (l : Token) (inner : List Token) (r : Token) (f : Formula) → l.kind ≡ kind.Left → IsRead or inner f → r.kind ≡ kind.Right → IsRead test (l ∷ (inner ++ r ∷ [])) (group f)
 group-read l inner r f left a right rest h =
@@ -71,12 +68,9 @@ group-read l inner r f left a right rest h =
     (group-by (l ∷ (inner ++ r ∷ rest)) (inner ++ r ∷ rest) (r ∷ rest) l f (Some rest) refl left (a (r ∷ rest) (ends-at or r rest kind.Right right refl)) (behind-at kind.Right r rest right))
 
 pub derived-read : (l : Level) (ts : List Token) (f : Formula) → Derives l ts f → IsRead l ts f
-derived-read _ _ _ (or_one ts f d) = λ rest h. or-one (ts ++ rest) rest f (derived-read and ts f d rest (ends-and rest h)) (no-or rest h)
-derived-read _ _ _ (or_more left t right ts f g a is b e) =
-    subst (λ us. IsRead or us (either f g)) (sym e) (or-read left t right f g (derived-read and left f a) is (derived-read or right g b))
-derived-read _ _ _ (and_one ts f d) = λ rest h. and-one (ts ++ rest) rest f (derived-read test ts f d rest (ends-test rest h)) (no-and rest h)
-derived-read _ _ _ (and_more left t right ts f g a is b e) =
-    subst (λ us. IsRead and us (both f g)) (sym e) (and-read left t right f g (derived-read test left f a) is (derived-read and right g b))
+derived-read _ _ _ (single j ts f d) = λ rest h. part-alone j (ts ++ rest) rest f (derived-read (part j) ts f d rest (ends-part j rest h)) (none-behind j rest h)
+derived-read _ _ _ (several j left t right ts f g a is b e) =
+    subst (λ us. IsRead (chain j) us (joined j f g)) (sym e) (joined-read j left t right f g (derived-read (part j) left f a) is (derived-read (chain j) right g b))
 derived-read _ _ _ (in_group l inner r ts f left a right e) =
     subst (λ us. IsRead test us (group f)) (sym e) (group-read l inner r f left (derived-read or inner f a) right)
 derived-read _ _ _ (alone v name named) = λ rest h. named-read v name rest rest (present name) named (named-alone name rest h)

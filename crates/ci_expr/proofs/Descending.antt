@@ -1,89 +1,62 @@
 -- One step of reading a level, with any number of steps that is enough.
 use Rattle.std.proofs.Common.{◌≡◌, ℕ, zero, suc, ◌+◌, ◌*◌, ◌<◌, ◌≤◌, List, [], ◌∷◌, length, map, Option, None, Some, Result, Ok, Err, refl, sym, ◌∙◌, ap, subst, arith}
 use Rattle.std.proofs.lemmas.List.{length-map}
-use Rattle.ci_expr.specs.declared.fault.ExprFault.TheVariants.{X4}
-use Rattle.ci_expr.specs.declared.fault.ExprError.{ExprError}
-use Rattle.ci_expr.specs.declared.fault.ExprError.TheVariants as errors
+use Rattle.ci_expr.specs.declared.fault.ExprCode.TheVariants.{X4}
+use Rattle.ci_expr.specs.declared.fault.ExprFault.{ExprFault}
+use Rattle.ci_expr.specs.declared.fault.ExprFault.TheVariants as errors
 use Rattle.ci_expr.specs.declared.token.Kind.TheVariants as kind
 use Rattle.ci_expr.specs.declared.token.Token as rust
 use Rattle.ci_expr.specs.Token.{Token}
 use Rattle.ci_expr.specs.Reading.{◌>>=◌}
-use Rattle.ci_expr.specs.Formula.{Formula, either, both, group, or, and, test}
-use Rattle.ci_expr.specs.Descent.{Read, behind, behind_byte, or_by, and_by, closed, test_by, variable_by, named_from, descend}
+use Rattle.ci_expr.specs.declared.tree.Join.{Join}
+use Rattle.ci_expr.specs.declared.tree.Join.TheVariants as join
+use Rattle.ci_expr.specs.Formula.{Formula, joined, group, chain, or, test, part, sign}
+use Rattle.ci_expr.specs.Descent.{Read, behind, behind_byte, joined_by, closed, test_by, variable_by, named_from, descend, height, reach}
 use Rattle.ci_expr.specs.View.{Fails, Gives, token_view}
 
 pub shorter : (xs ys : List rust.Token) → length xs < length ys → length (map token_view xs) < length (map token_view ys)
 shorter xs ys lt = omega (arith, lt, length-map xs token_view, length-map ys token_view)
 
-abbrev or_after : ℕ → Read → Read
-or_after n r = r >>= λ x. or_by (descend n or) x.0 x.1 (behind kind.Or x.1)
+-- ---- formulas that are joined
+abbrev after_part : Join → ℕ → Read → Read
+after_part j n r = r >>= λ x. joined_by j (descend n (chain j)) x.0 x.1 (behind (sign j) x.1)
 
-abbrev and_after : ℕ → Read → Read
-and_after n r = r >>= λ x. and_by (descend n and) x.0 x.1 (behind kind.And x.1)
+abbrev with_first : Join → Formula → Read → Read
+with_first j f r = r >>= λ y. Ok (joined j f y.0, y.1)
 
-abbrev either_after : Formula → Read → Read
-either_after f r = r >>= λ y. Ok (either f y.0, y.1)
+part-below : (j : Join) → height (part j) < height (chain j)
+part-below join.Or = omega arith
+part-below join.And = omega arith
 
-abbrev both_after : Formula → Read → Read
-both_after f r = r >>= λ y. Ok (both f y.0, y.1)
+pub part-fails : (j : Join) (ts : List Token) (e : ExprFault) → ((n : ℕ) → reach (part j) ts ≤ n → Fails e (descend n (part j) ts)) → (n : ℕ) → reach (chain j) ts ≤ n
+    → Fails e (descend n (chain j) ts)
+part-fails j ts errors.Memory h n le = tt
+part-fails j ts (errors.Fault x) h zero le = absurd (omega (arith, le, part-below j))
+part-fails j ts (errors.Fault x) h (suc n) le = ap (after_part j n) (h n (omega (arith, le, part-below j)))
 
--- ---- or
-pub or-fails : (ts : List Token) (e : ExprError) → ((n : ℕ) → 3 * length ts + 2 ≤ n → Fails e (descend n and ts)) → (n : ℕ) → 3 * length ts + 3 ≤ n
-    → Fails e (descend n or ts)
-or-fails ts errors.Memory h n le = tt
-or-fails ts (errors.Fault x) h zero le = absurd (omega (arith, le))
-or-fails ts (errors.Fault x) h (suc n) le = ap (or_after n) (h n (omega (arith, le)))
+pub part-alone : (j : Join) (ts rest : List Token) (f : Formula) → ((n : ℕ) → reach (part j) ts ≤ n → descend n (part j) ts ≡ Ok (f, rest)) → None ≡ behind (sign j) rest
+    → (n : ℕ) → reach (chain j) ts ≤ n → descend n (chain j) ts ≡ Ok (f, rest)
+part-alone j ts rest f h none zero le = absurd (omega (arith, le, part-below j))
+part-alone j ts rest f h none (suc n) le =
+    ap (after_part j n) (h n (omega (arith, le, part-below j))) ∙ ap (joined_by j (descend n (chain j)) f rest) (sym none)
 
-pub or-one : (ts rest : List Token) (f : Formula) → ((n : ℕ) → 3 * length ts + 2 ≤ n → descend n and ts ≡ Ok (f, rest)) → None ≡ behind kind.Or rest → (n : ℕ)
-    → 3 * length ts + 3 ≤ n → descend n or ts ≡ Ok (f, rest)
-or-one ts rest f h none zero le = absurd (omega (arith, le))
-or-one ts rest f h none (suc n) le = ap (or_after n) (h n (omega (arith, le))) ∙ ap (or_by (descend n or) f rest) (sym none)
+joined-on : (j : Join) (ts rest more : List Token) (f : Formula) → ((n : ℕ) → reach (part j) ts ≤ n → descend n (part j) ts ≡ Ok (f, rest)) → Some more ≡ behind (sign j) rest
+    → (n : ℕ) → reach (chain j) ts ≤ suc n → descend (suc n) (chain j) ts ≡ with_first j f (descend n (chain j) more)
+joined-on j ts rest more f h some n le =
+    ap (after_part j n) (h n (omega (arith, le, part-below j))) ∙ ap (joined_by j (descend n (chain j)) f rest) (sym some)
 
-or-on : (ts rest more : List Token) (f : Formula) → ((n : ℕ) → 3 * length ts + 2 ≤ n → descend n and ts ≡ Ok (f, rest)) → Some more ≡ behind kind.Or rest → (n : ℕ)
-    → 3 * length ts + 3 ≤ suc n → descend (suc n) or ts ≡ either_after f (descend n or more)
-or-on ts rest more f h some n le = ap (or_after n) (h n (omega (arith, le))) ∙ ap (or_by (descend n or) f rest) (sym some)
+pub joined-reads : (j : Join) (ts rest more after : List Token) (f g : Formula) → ((n : ℕ) → reach (part j) ts ≤ n → descend n (part j) ts ≡ Ok (f, rest))
+    → Some more ≡ behind (sign j) rest → length more < length ts → ((n : ℕ) → reach (chain j) more ≤ n → descend n (chain j) more ≡ Ok (g, after)) → (n : ℕ)
+    → reach (chain j) ts ≤ n → descend n (chain j) ts ≡ Ok (joined j f g, after)
+joined-reads j ts rest more after f g h some lt k zero le = absurd (omega (arith, le, part-below j))
+joined-reads j ts rest more after f g h some lt k (suc n) le = joined-on j ts rest more f h some n le ∙ ap (with_first j f) (k n (omega (arith, le, lt)))
 
-pub or-two : (ts rest more after : List Token) (f g : Formula) → ((n : ℕ) → 3 * length ts + 2 ≤ n → descend n and ts ≡ Ok (f, rest)) → Some more ≡ behind kind.Or rest
-    → length more < length ts → ((n : ℕ) → 3 * length more + 3 ≤ n → descend n or more ≡ Ok (g, after)) → (n : ℕ) → 3 * length ts + 3 ≤ n
-    → descend n or ts ≡ Ok (either f g, after)
-or-two ts rest more after f g h some lt k zero le = absurd (omega (arith, le))
-or-two ts rest more after f g h some lt k (suc n) le = or-on ts rest more f h some n le ∙ ap (either_after f) (k n (omega (arith, le, lt)))
-
-pub or-two-fails : (ts rest more : List Token) (f : Formula) (e : ExprError) → ((n : ℕ) → 3 * length ts + 2 ≤ n → descend n and ts ≡ Ok (f, rest))
-    → Some more ≡ behind kind.Or rest → length more < length ts → ((n : ℕ) → 3 * length more + 3 ≤ n → Fails e (descend n or more)) → (n : ℕ) → 3 * length ts + 3 ≤ n
-    → Fails e (descend n or ts)
-or-two-fails ts rest more f errors.Memory h some lt k n le = tt
-or-two-fails ts rest more f (errors.Fault x) h some lt k zero le = absurd (omega (arith, le))
-or-two-fails ts rest more f (errors.Fault x) h some lt k (suc n) le = or-on ts rest more f h some n le ∙ ap (either_after f) (k n (omega (arith, le, lt)))
-
--- ---- and
-pub and-fails : (ts : List Token) (e : ExprError) → ((n : ℕ) → 3 * length ts + 1 ≤ n → Fails e (descend n test ts)) → (n : ℕ) → 3 * length ts + 2 ≤ n
-    → Fails e (descend n and ts)
-and-fails ts errors.Memory h n le = tt
-and-fails ts (errors.Fault x) h zero le = absurd (omega (arith, le))
-and-fails ts (errors.Fault x) h (suc n) le = ap (and_after n) (h n (omega (arith, le)))
-
-pub and-one : (ts rest : List Token) (f : Formula) → ((n : ℕ) → 3 * length ts + 1 ≤ n → descend n test ts ≡ Ok (f, rest)) → None ≡ behind kind.And rest → (n : ℕ)
-    → 3 * length ts + 2 ≤ n → descend n and ts ≡ Ok (f, rest)
-and-one ts rest f h none zero le = absurd (omega (arith, le))
-and-one ts rest f h none (suc n) le = ap (and_after n) (h n (omega (arith, le))) ∙ ap (and_by (descend n and) f rest) (sym none)
-
-and-on : (ts rest more : List Token) (f : Formula) → ((n : ℕ) → 3 * length ts + 1 ≤ n → descend n test ts ≡ Ok (f, rest)) → Some more ≡ behind kind.And rest → (n : ℕ)
-    → 3 * length ts + 2 ≤ suc n → descend (suc n) and ts ≡ both_after f (descend n and more)
-and-on ts rest more f h some n le = ap (and_after n) (h n (omega (arith, le))) ∙ ap (and_by (descend n and) f rest) (sym some)
-
-pub and-two : (ts rest more after : List Token) (f g : Formula) → ((n : ℕ) → 3 * length ts + 1 ≤ n → descend n test ts ≡ Ok (f, rest)) → Some more ≡ behind kind.And rest
-    → length more < length ts → ((n : ℕ) → 3 * length more + 2 ≤ n → descend n and more ≡ Ok (g, after)) → (n : ℕ) → 3 * length ts + 2 ≤ n
-    → descend n and ts ≡ Ok (both f g, after)
-and-two ts rest more after f g h some lt k zero le = absurd (omega (arith, le))
-and-two ts rest more after f g h some lt k (suc n) le = and-on ts rest more f h some n le ∙ ap (both_after f) (k n (omega (arith, le, lt)))
-
-pub and-two-fails : (ts rest more : List Token) (f : Formula) (e : ExprError) → ((n : ℕ) → 3 * length ts + 1 ≤ n → descend n test ts ≡ Ok (f, rest))
-    → Some more ≡ behind kind.And rest → length more < length ts → ((n : ℕ) → 3 * length more + 2 ≤ n → Fails e (descend n and more)) → (n : ℕ) → 3 * length ts + 2 ≤ n
-    → Fails e (descend n and ts)
-and-two-fails ts rest more f errors.Memory h some lt k n le = tt
-and-two-fails ts rest more f (errors.Fault x) h some lt k zero le = absurd (omega (arith, le))
-and-two-fails ts rest more f (errors.Fault x) h some lt k (suc n) le = and-on ts rest more f h some n le ∙ ap (both_after f) (k n (omega (arith, le, lt)))
+pub joined-fails : (j : Join) (ts rest more : List Token) (f : Formula) (e : ExprFault) → ((n : ℕ) → reach (part j) ts ≤ n → descend n (part j) ts ≡ Ok (f, rest))
+    → Some more ≡ behind (sign j) rest → length more < length ts → ((n : ℕ) → reach (chain j) more ≤ n → Fails e (descend n (chain j) more)) → (n : ℕ)
+    → reach (chain j) ts ≤ n → Fails e (descend n (chain j) ts)
+joined-fails j ts rest more f errors.Memory h some lt k n le = tt
+joined-fails j ts rest more f (errors.Fault x) h some lt k zero le = absurd (omega (arith, le, part-below j))
+joined-fails j ts rest more f (errors.Fault x) h some lt k (suc n) le = joined-on j ts rest more f h some n le ∙ ap (with_first j f) (k n (omega (arith, le, lt)))
 
 -- ---- test
 abbrev group_after : Read → Read
@@ -105,7 +78,7 @@ size-of ts rest t e = ap length e
 test-left : (ts rest : List Token) (t : Token) → ts ≡ t ∷ rest → t.kind ≡ kind.Left → (n : ℕ) → descend (suc n) test ts ≡ group_after (descend n or rest)
 test-left ts rest t e left n = test-in ts rest t e n ∙ ap (test_by (descend n or) t.slice rest) left
 
-pub group-fails : (ts rest : List Token) (t : Token) (e : ExprError) → ts ≡ t ∷ rest → t.kind ≡ kind.Left → ((n : ℕ) → 3 * length rest + 3 ≤ n → Fails e (descend n or rest)) → (n : ℕ)
+pub group-fails : (ts rest : List Token) (t : Token) (e : ExprFault) → ts ≡ t ∷ rest → t.kind ≡ kind.Left → ((n : ℕ) → 3 * length rest + 3 ≤ n → Fails e (descend n or rest)) → (n : ℕ)
     → 3 * length ts + 1 ≤ n → Fails e (descend n test ts)
 group-fails ts rest t errors.Memory is left h n le = tt
 group-fails ts rest t (errors.Fault x) is left h zero le = absurd (omega (arith, le))
@@ -124,25 +97,19 @@ name-by ts rest t o is name e zero le = absurd (omega (arith, le))
 name-by ts rest t o is name e (suc n) le =
     test-in ts rest t is n ∙ ap (test_by (descend n or) t.slice rest) name ∙ ap (variable_by rest) (sym e)
 
-pub name-gives : {X : Type 0} (view : X → Formula × List Token) (r : Result X ExprError) (ts rest : List Token) (t : Token) (name : List ℕ) → ts ≡ t ∷ rest → t.kind ≡ kind.Name
+pub name-gives : {X : Type 0} (view : X → Formula × List Token) (r : Result X ExprFault) (ts rest : List Token) (t : Token) (name : List ℕ) → ts ≡ t ∷ rest → t.kind ≡ kind.Name
     → Some name ≡ behind_byte 36 t.slice → Gives view r (named_from name rest) → (n : ℕ) → 3 * length ts + 1 ≤ n → Gives view r (descend n test ts)
 name-gives view r ts rest t name is named e h n le = subst (Gives view r) (sym (name-by ts rest t (Some name) is named e n le)) h
 
 -- ---- what a box holds
-abbrev read_either : List Token → Formula → Formula → Read
-read_either rest f g = Ok (either f g, rest)
-
-abbrev read_both : List Token → Formula → Formula → Read
-read_both rest f g = Ok (both f g, rest)
+abbrev read_joined : Join → List Token → Formula → Formula → Read
+read_joined j rest f g = Ok (joined j f g, rest)
 
 abbrev read_group : List Token → Formula → Read
 read_group rest f = Ok (group f, rest)
 
-pub in-either : (r : Read) (rest : List Token) (f g p q : Formula) → p ≡ f → q ≡ g → r ≡ Ok (either f g, rest) → r ≡ Ok (either p q, rest)
-in-either r rest f g p q e d h = h ∙ ap (λ x. read_either rest x g) (sym e) ∙ ap (read_either rest p) (sym d)
-
-pub in-both : (r : Read) (rest : List Token) (f g p q : Formula) → p ≡ f → q ≡ g → r ≡ Ok (both f g, rest) → r ≡ Ok (both p q, rest)
-in-both r rest f g p q e d h = h ∙ ap (λ x. read_both rest x g) (sym e) ∙ ap (read_both rest p) (sym d)
+pub in-joined : (j : Join) (r : Read) (rest : List Token) (f g p q : Formula) → p ≡ f → q ≡ g → r ≡ Ok (joined j f g, rest) → r ≡ Ok (joined j p q, rest)
+in-joined j r rest f g p q e d h = h ∙ ap (λ x. read_joined j rest x g) (sym e) ∙ ap (read_joined j rest p) (sym d)
 
 pub in-group : (r : Read) (rest : List Token) (f p : Formula) → p ≡ f → r ≡ Ok (group f, rest) → r ≡ Ok (group p, rest)
 in-group r rest f p e h = h ∙ ap (read_group rest) (sym e)

@@ -3,8 +3,8 @@ use Rattle.std.proofs.Common.{◌≡◌, ℕ, suc, ◌+◌, Bool, true, false, c
 use Rattle.std.specs.Prelude.{◌==◌, ◌||◌}
 use Rattle.std.proofs.lemmas.Bool.{eqb-true}
 use Rattle.std.proofs.lemmas.List.{length-append, take-append-drop}
-use Rattle.ci_expr.specs.declared.fault.ExprFault.{ExprFault}
-use Rattle.ci_expr.specs.declared.fault.ExprFault.TheVariants.{X2, X3}
+use Rattle.ci_expr.specs.declared.fault.ExprCode.{ExprCode}
+use Rattle.ci_expr.specs.declared.fault.ExprCode.TheVariants.{X2, X3}
 use Rattle.ci_expr.specs.declared.token.Kind.{Kind}
 use Rattle.ci_expr.specs.declared.token.Kind.TheVariants.{Name, Text, Null, Equal, Unequal, Match, Mismatch, And, Or, Left, Right, Pattern}
 use Rattle.ci_expr.specs.Lexeme.{word_length, until, escapes, body_length, name_front, text_by, pattern_by, null_front, lexeme}
@@ -13,7 +13,7 @@ use Rattle.ci_expr.specs.Token.{AreWord, EndsWord, Lacks, IsMark, IsBody, empty,
 use Rattle.ci_expr.proofs.Fronts.{split, start-word, IsEnd, body-is, front-is}
 
 abbrev Front : Type 0
-Front = Result (Kind × ℕ) ExprFault
+Front = Result (Kind × ℕ) ExprCode
 
 abbrev front_of : Kind → ℕ → Front
 front_of k n = Ok (k, n)
@@ -183,40 +183,40 @@ open-read _ (quote q bs mark lacks) = quoted q bs mark ∙ ap text_by (until-non
 open-read _ (pattern bs never) = ap (pattern_by bs) (never-ends bs never (body_length false bs) refl)
 
 -- ---- and what is read so stays open
-abbrev SameFault : Front → ExprFault → Type 0
+abbrev SameFault : Front → ExprCode → Type 0
 SameFault r x = r ≡ Err x
 
-abbrev fault_or : Front → ExprFault → ExprFault
+abbrev fault_or : Front → ExprCode → ExprCode
 fault_or (Ok x) d = d
 fault_or (Err e) d = e
 
-fault-same : (x y : ExprFault) → SameFault (Err x) y → x ≡ y
+fault-same : (x y : ExprCode) → SameFault (Err x) y → x ≡ y
 fault-same x y e = ap (λ r. fault_or r x) e
 
 -- X2, or X3 where something stays open
-abbrev pub IsFrontFault : List ℕ → ExprFault → Type 0
+abbrev pub IsFrontFault : List ℕ → ExprCode → Type 0
 IsFrontFault bs x = (x ≡ X2) ⊎ ((x ≡ X3) × StaysOpen bs)
 
-second : (bs : List ℕ) (x : ExprFault) → SameFault (Err X2) x → IsFrontFault bs x
+second : (bs : List ℕ) (x : ExprCode) → SameFault (Err X2) x → IsFrontFault bs x
 second bs x e = inl (sym (fault-same X2 x e))
 
-text-fault : (q : ℕ) (bs : List ℕ) (x : ExprFault) → IsMark q → (o : Option ℕ) → until q bs ≡ o → SameFault (text_by o) x → IsFrontFault (q ∷ bs) x
+text-fault : (q : ℕ) (bs : List ℕ) (x : ExprCode) → IsMark q → (o : Option ℕ) → until q bs ≡ o → SameFault (text_by o) x → IsFrontFault (q ∷ bs) x
 text-fault q bs x mark None e h = inr (sym (fault-same X3 x h), quote q bs mark (none-until q bs e))
 text-fault q bs x mark (Some n) e h = absurd cc
 
 none-body : (bs : List ℕ) → body_length false bs ≡ None → NeverEnds bs
 none-body bs e body rest is h = let k = body-length-at body rest h in let f = ap (body_length false) is in cc
 
-pattern-fault : (bs : List ℕ) (x : ExprFault) → (o : Option ℕ) → body_length false bs ≡ o → SameFault (pattern_by bs o) x → IsFrontFault (47 ∷ bs) x
+pattern-fault : (bs : List ℕ) (x : ExprCode) → (o : Option ℕ) → body_length false bs ≡ o → SameFault (pattern_by bs o) x → IsFrontFault (47 ∷ bs) x
 pattern-fault bs x None e h = inr (sym (fault-same X3 x h), pattern bs (none-body bs e))
 pattern-fault bs x (Some n) e h = split (get_or bs (n + 1) 0 == 105) _ _ _ _ h
     (λ flag g. split (is_word (get_or bs (n + 2) 0)) _ _ _ _ g (λ t k. second (47 ∷ bs) x k) (λ t k. absurd cc))
     (λ flag g. absurd cc)
 
-name-fault : (all bs : List ℕ) (x : ExprFault) → SameFault (name_front bs) x → IsFrontFault all x
+name-fault : (all bs : List ℕ) (x : ExprCode) → SameFault (name_front bs) x → IsFrontFault all x
 name-fault all bs x h = split (starts_word (get_or bs 0 0)) _ _ _ _ h (λ t g. absurd cc) (λ t g. second all x g)
 
-null-fault : (all bs : List ℕ) (x : ExprFault) → SameFault (null_front bs) x → IsFrontFault all x
+null-fault : (all bs : List ℕ) (x : ExprCode) → SameFault (null_front bs) x → IsFrontFault all x
 null-fault all bs x h = split (get_or bs 1 0 == 117) _ _ _ _ h
     (λ t h. split (get_or bs 2 0 == 108) _ _ _ _ h
     (λ t h. split (get_or bs 3 0 == 108) _ _ _ _ h
@@ -225,7 +225,7 @@ null-fault all bs x h = split (get_or bs 1 0 == 117) _ _ _ _ h
     (λ t g. second all x g))
     (λ t g. second all x g)
 
-pub front-fault : (b : ℕ) (bs : List ℕ) (x : ExprFault) → SameFault (lexeme (b ∷ bs)) x → IsFrontFault (b ∷ bs) x
+pub front-fault : (b : ℕ) (bs : List ℕ) (x : ExprCode) → SameFault (lexeme (b ∷ bs)) x → IsFrontFault (b ∷ bs) x
 front-fault b bs x h =
     let c : ℕ = get_or bs 0 0 in
     let all = b ∷ bs in
@@ -244,34 +244,34 @@ front-fault b bs x h =
     (λ e h. split (b == 124) _ _ _ _ h (λ e g. split (c == 124) _ _ _ _ g (λ d g. absurd cc) (λ d g. second all x g))
     (λ e h. second all x h)))))))))))
 
-none-begins : (bs : List ℕ) (x : ExprFault) → lexeme bs ≡ Err x → BeginsNone bs
+none-begins : (bs : List ℕ) (x : ExprCode) → lexeme bs ≡ Err x → BeginsNone bs
 none-begins bs x e kind slice rest is spells = let h = spelled-read kind slice rest spells in let f = ap lexeme is in cc
 
 not-open : (bs : List ℕ) → lexeme bs ≡ Err X2 → StaysOpen bs → ⊥
 not-open bs e h = let f = open-read bs h in cc
 
-stops-by : (b : ℕ) (bs : List ℕ) (x : ExprFault) → is_blank b ≡ false → lexeme (b ∷ bs) ≡ Err x → IsFrontFault (b ∷ bs) x → Stops (b ∷ bs) x
+stops-by : (b : ℕ) (bs : List ℕ) (x : ExprCode) → is_blank b ≡ false → lexeme (b ∷ bs) ≡ Err x → IsFrontFault (b ∷ bs) x → Stops (b ∷ bs) x
 stops-by b bs x blank e (inl is) =
-    let h : lexeme (b ∷ bs) ≡ Err X2 = e ∙ ap (λ (y : ExprFault). erred y) is in
+    let h : lexeme (b ∷ bs) ≡ Err X2 = e ∙ ap (λ (y : ExprCode). erred y) is in
     subst (Stops (b ∷ bs)) (sym is) (wrong b bs blank (none-begins (b ∷ bs) x e) (not-open (b ∷ bs) h))
   where
-    erred : ExprFault → Front
+    erred : ExprCode → Front
     erred y = Err y
 stops-by b bs x blank e (inr (is, stays)) = subst (Stops (b ∷ bs)) (sym is) (unclosed (b ∷ bs) stays)
 
 -- what isn't read stops the tokens
-pub unread-stops : (b : ℕ) (bs : List ℕ) (x : ExprFault) → is_blank b ≡ false → lexeme (b ∷ bs) ≡ Err x → Stops (b ∷ bs) x
+pub unread-stops : (b : ℕ) (bs : List ℕ) (x : ExprCode) → is_blank b ≡ false → lexeme (b ∷ bs) ≡ Err x → Stops (b ∷ bs) x
 unread-stops b bs x blank e = stops-by b bs x blank e (front-fault b bs x e)
 
 -- and what is wrong isn't read
 pub wrong-unread : (b : ℕ) (bs : List ℕ) → BeginsNone (b ∷ bs) → (StaysOpen (b ∷ bs) → ⊥) → lexeme (b ∷ bs) ≡ Err X2
 wrong-unread b bs none closed = by-front (lexeme (b ∷ bs)) refl
   where
-    erred : ExprFault → Front
+    erred : ExprCode → Front
     erred y = Err y
 
-    by-fault : (x : ExprFault) → lexeme (b ∷ bs) ≡ Err x → IsFrontFault (b ∷ bs) x → lexeme (b ∷ bs) ≡ Err X2
-    by-fault x e (inl is) = e ∙ ap (λ (y : ExprFault). erred y) is
+    by-fault : (x : ExprCode) → lexeme (b ∷ bs) ≡ Err x → IsFrontFault (b ∷ bs) x → lexeme (b ∷ bs) ≡ Err X2
+    by-fault x e (inl is) = e ∙ ap (λ (y : ExprCode). erred y) is
     by-fault x e (inr (is, stays)) = absurd (closed stays)
 
     by-front : (r : Front) → lexeme (b ∷ bs) ≡ r → lexeme (b ∷ bs) ≡ Err X2

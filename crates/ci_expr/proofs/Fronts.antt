@@ -5,8 +5,8 @@ use Rattle.std.proofs.lemmas.Bool.{eqb-true}
 use Rattle.std.proofs.lemmas.List.{length-drop}
 use Rattle.std.proofs.lemmas.Str.{IsCharBoundary-after_ascii}
 use Rattle.std.proofs.lemmas.Bool.Decides.{nat_tests}
+use Rattle.ci_expr.specs.declared.fault.ExprCode.{ExprCode}
 use Rattle.ci_expr.specs.declared.fault.ExprFault.{ExprFault}
-use Rattle.ci_expr.specs.declared.fault.ExprError.{ExprError}
 use Rattle.ci_expr.specs.View.{Gives}
 use Rattle.ci_expr.specs.declared.token.Kind.{Kind}
 use Rattle.ci_expr.specs.declared.token.Kind.TheVariants.{Name, Text, Null, Equal, Unequal, Match, Mismatch, And, Or, Left, Right, Pattern}
@@ -19,7 +19,7 @@ split true x y r P h f g = f refl h
 split false x y r P h f g = g refl h
 
 abbrev Front : Type 0
-Front = Result (Kind × ℕ) ExprFault
+Front = Result (Kind × ℕ) ExprCode
 
 abbrev value_of : Front → Kind × ℕ → Kind × ℕ
 value_of (Ok x) d = x
@@ -218,7 +218,7 @@ pub front-is : (bs : List ℕ) (x : Kind × ℕ) → SameOk (lexeme bs) x → Is
 front-is [] x h = absurd cc
 front-is (b ∷ bs) x h = lexeme-is b bs x h
 
-pub front-of : (bs : List ℕ) (r : Result (Kind × ℕ) ExprError) → Gives (λ x. x) r (lexeme bs) → IfOk r (IsFront bs)
+pub front-of : (bs : List ℕ) (r : Result (Kind × ℕ) ExprFault) → Gives (λ x. x) r (lexeme bs) → IfOk r (IsFront bs)
 front-of bs (Ok x) h = front-is bs x h
 front-of bs (Err e) h = tt
 

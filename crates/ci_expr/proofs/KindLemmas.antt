@@ -5,7 +5,9 @@ use Rattle.std.proofs.lemmas.Bool.{eqb-true}
 use Rattle.ci_expr.specs.declared.token.Kind.{Kind}
 use Rattle.ci_expr.specs.declared.token.Kind.TheVariants.{Name, Text, Null, Equal, Unequal, Match, Mismatch, And, Or, Left, Right, Pattern}
 use Rattle.ci_expr.specs.Token.{Token}
-use Rattle.ci_expr.specs.Formula.{Level, or, and, test}
+use Rattle.ci_expr.specs.declared.tree.Join.{Join}
+use Rattle.ci_expr.specs.declared.tree.Join.TheVariants as join
+use Rattle.ci_expr.specs.Formula.{Level, chain, test, part, sign}
 use Rattle.ci_expr.specs.Descent.{place, is_kind, behind}
 use Rattle.ci_expr.proofs.Fronts.{split}
 
@@ -83,8 +85,8 @@ is_sign _ = false
 
 abbrev pub ends : Level → Kind → Bool
 ends test k = not (is_sign k)
-ends and k = not (is_sign k) && not (is_kind k And)
-ends or k = (not (is_sign k) && not (is_kind k And)) && not (is_kind k Or)
+ends (chain join.And) k = not (is_sign k) && not (is_kind k And)
+ends (chain join.Or) k = (not (is_sign k) && not (is_kind k And)) && not (is_kind k Or)
 
 abbrev pub Ends : Level → List Token → Type 0
 Ends l [] = Unit {0}
@@ -102,21 +104,23 @@ not-true : (b : Bool) → not b ≡ true → b ≡ false
 not-true true h = absurd cc
 not-true false h = refl
 
-pub ends-and : (ts : List Token) → Ends or ts → Ends and ts
-ends-and [] h = tt
-ends-and (t ∷ ts) h = both-first (not (is_sign t.kind) && not (is_kind t.kind And)) (not (is_kind t.kind Or)) h
+ends-below : (j : Join) (k : Kind) → ends (chain j) k ≡ (ends (part j) k && not (is_kind k (sign j)))
+ends-below join.Or k = refl
+ends-below join.And k = refl
 
-pub ends-test : (ts : List Token) → Ends and ts → Ends test ts
-ends-test [] h = tt
-ends-test (t ∷ ts) h = both-first (not (is_sign t.kind)) (not (is_kind t.kind And)) h
+pub ends-part : (j : Join) (ts : List Token) → Ends (chain j) ts → Ends (part j) ts
+ends-part j [] h = tt
+ends-part j (t ∷ ts) h = both-first (ends (part j) t.kind) (not (is_kind t.kind (sign j))) (sym (ends-below j t.kind) ∙ h)
 
-pub no-or : (ts : List Token) → Ends or ts → None ≡ behind Or ts
-no-or [] h = refl
-no-or (t ∷ ts) h = sym (ap (λ b. cond b (Some ts) None) (not-true (is_kind t.kind Or) (both-second (not (is_sign t.kind) && not (is_kind t.kind And)) (not (is_kind t.kind Or)) h)))
+pub none-behind : (j : Join) (ts : List Token) → Ends (chain j) ts → None ≡ behind (sign j) ts
+none-behind j [] h = refl
+none-behind j (t ∷ ts) h =
+    let other = not-true (is_kind t.kind (sign j)) (both-second (ends (part j) t.kind) (not (is_kind t.kind (sign j))) (sym (ends-below j t.kind) ∙ h)) in
+    sym (ap (λ b. cond b (Some ts) None) other)
 
-pub no-and : (ts : List Token) → Ends and ts → None ≡ behind And ts
-no-and [] h = refl
-no-and (t ∷ ts) h = sym (ap (λ b. cond b (Some ts) None) (not-true (is_kind t.kind And) (both-second (not (is_sign t.kind)) (not (is_kind t.kind And)) h)))
+pub sign-ends : (j : Join) → ends (part j) (sign j) ≡ true
+sign-ends join.Or = refl
+sign-ends join.And = refl
 
 pub no-sign : (t : Token) (ts : List Token) → Ends test (t ∷ ts) → is_sign t.kind ≡ false
 no-sign t ts h = not-true (is_sign t.kind) h

@@ -1,42 +1,42 @@
 -- Tokens, read one after the other.
 use Rattle.std.proofs.Common.{◌≡◌, ℕ, suc, ◌+◌, zero, ◌-◌, ◌<◌, ◌≤◌, true, false, cond, List, [], ◌∷◌, ◌++◌, length, drop, get_or, Result, Ok, Err, refl, sym, ◌∙◌, ap, append_assoc, arith, add-one, drop-cons, drop-drop}
-use Rattle.ci_expr.specs.declared.fault.ExprFault.{ExprFault}
+use Rattle.ci_expr.specs.declared.fault.ExprCode.{ExprCode}
 use Rattle.ci_expr.specs.Character.{is_blank}
 use Rattle.ci_expr.specs.Token.{Token}
 use Rattle.ci_expr.specs.Reading.{◌>>=◌, with_token, token_from, lex, tokens_of}
 use Rattle.std.proofs.Common.{map}
 use Rattle.std.proofs.lemmas.Bool.{le-ltb}
-use Rattle.ci_expr.specs.declared.fault.ExprFault.TheVariants.{X1}
-use Rattle.ci_expr.specs.declared.fault.ExprError.{ExprError}
-use Rattle.ci_expr.specs.declared.fault.ExprError.TheVariants as stops
+use Rattle.ci_expr.specs.declared.fault.ExprCode.TheVariants.{X1}
+use Rattle.ci_expr.specs.declared.fault.ExprFault.{ExprFault}
+use Rattle.ci_expr.specs.declared.fault.ExprFault.TheVariants as stops
 use Rattle.ci_expr.specs.declared.token.Token as rust
 use Rattle.ci_expr.specs.View.{Fails, token_view}
 
-abbrev pub with_front : List Token → Result (List Token) ExprFault → Result (List Token) ExprFault
+abbrev pub with_front : List Token → Result (List Token) ExprCode → Result (List Token) ExprCode
 with_front front (Ok ts) = Ok (front ++ ts)
 with_front front (Err e) = Err e
 
-pub front-token : (front : List Token) (t : Token) (r : Result (List Token) ExprFault) → with_front front (with_token t r) ≡ with_front (front ++ t ∷ []) r
+pub front-token : (front : List Token) (t : Token) (r : Result (List Token) ExprCode) → with_front front (with_token t r) ≡ with_front (front ++ t ∷ []) r
 front-token front t (Ok ts) = ap Ok (sym (append_assoc front (t ∷ []) ts))
 front-token front t (Err e) = refl
 
-pub front-nil : (r : Result (List Token) ExprFault) → with_front [] r ≡ r
+pub front-nil : (r : Result (List Token) ExprCode) → with_front [] r ≡ r
 front-nil (Ok ts) = refl
 front-nil (Err e) = refl
 
 abbrev pub Lexed : Type 0
-Lexed = Result (List Token) ExprFault
+Lexed = Result (List Token) ExprCode
 
 abbrev pub Steps : List ℕ → ℕ → List Token → Type 0
 Steps text at front = (n : ℕ) × (length text ≤ n + at) × (with_front front (lex n at (drop at text)) ≡ lex (length text) 0 text)
 
-abbrev rest_by : ℕ → ℕ → List ℕ → Result Token ExprFault → Lexed
+abbrev rest_by : ℕ → ℕ → List ℕ → Result Token ExprCode → Lexed
 rest_by n at bs r = r >>= λ t. with_token t (lex n t.end (drop (t.end - at) bs))
 
 lex-blank : (n at b : ℕ) (bs : List ℕ) → is_blank b ≡ true → lex (suc n) at (b ∷ bs) ≡ lex n (at + 1) bs
 lex-blank n at b bs e = ap (λ t. cond t (lex n (at + 1) bs) (rest_by n at (b ∷ bs) (token_from at (b ∷ bs)))) e
 
-lex-by : (n at b : ℕ) (bs : List ℕ) (r : Result Token ExprFault) → is_blank b ≡ false → token_from at (b ∷ bs) ≡ r → lex (suc n) at (b ∷ bs) ≡ rest_by n at (b ∷ bs) r
+lex-by : (n at b : ℕ) (bs : List ℕ) (r : Result Token ExprCode) → is_blank b ≡ false → token_from at (b ∷ bs) ≡ r → lex (suc n) at (b ∷ bs) ≡ rest_by n at (b ∷ bs) r
 lex-by n at b bs r e f = ap (λ t. cond t (lex n (at + 1) bs) (rest_by n at (b ∷ bs) (token_from at (b ∷ bs)))) e ∙ ap (rest_by n at (b ∷ bs)) f
 
 next-is : (bs : List ℕ) (i : ℕ) → i < length bs → drop i bs ≡ get_or bs i 0 ∷ drop (i + 1) bs
@@ -53,7 +53,7 @@ steps-blank text at front lt e (suc n, le, h) = (
   ap (with_front front) (sym (lex-blank n at (get_or text at 0) (drop (at + 1) text) e)) ∙ ap (λ x. with_front front (lex (suc n) at x)) (sym (next-is text at lt)) ∙ h,
 )
 
-by-token : (text : List ℕ) (at n : ℕ) (r : Result Token ExprFault) → at < length text → is_blank (get_or text at 0) ≡ false → token_from at (drop at text) ≡ r
+by-token : (text : List ℕ) (at n : ℕ) (r : Result Token ExprCode) → at < length text → is_blank (get_or text at 0) ≡ false → token_from at (drop at text) ≡ r
     → lex (suc n) at (drop at text) ≡ rest_by n at (drop at text) r
 by-token text at n r lt e f =
     let is = next-is text at lt in
@@ -73,7 +73,7 @@ steps-token text at front t lt e f grows le (suc n, more, h) =
           ∙ ap (with_front front) (sym (by-token text at n (Ok t) lt e f)) ∙ h,
     )
 
-pub steps-fault : (text : List ℕ) (at : ℕ) (front : List Token) (f : ExprFault) → at < length text → is_blank (get_or text at 0) ≡ false
+pub steps-fault : (text : List ℕ) (at : ℕ) (front : List Token) (f : ExprCode) → at < length text → is_blank (get_or text at 0) ≡ false
     → token_from at (drop at text) ≡ Err f → Steps text at front → lex (length text) 0 text ≡ Err f
 steps-fault text at front f lt e r (zero, more, h) = absurd (omega (arith, lt, more))
 steps-fault text at front f lt e r (suc n, more, h) = sym h ∙ ap (with_front front) (by-token text at n (Err f) lt e r)
@@ -81,7 +81,7 @@ steps-fault text at front f lt e r (suc n, more, h) = sym h ∙ ap (with_front f
 pub tokens-small : (text : List ℕ) → length text ≤ 1024 → tokens_of text ≡ lex (length text) 0 text
 tokens-small text le = ap (λ t. cond t (Err X1) (lex (length text) 0 text)) (le-ltb 1024 (length text) le)
 
-pub fails-of : (text : List ℕ) (at : ℕ) (front : List Token) (stop : ExprError) → length text ≤ 1024 → at < length text → is_blank (get_or text at 0) ≡ false
+pub fails-of : (text : List ℕ) (at : ℕ) (front : List Token) (stop : ExprFault) → length text ≤ 1024 → at < length text → is_blank (get_or text at 0) ≡ false
     → Fails stop (token_from at (drop at text)) → Steps text at front → Fails stop (tokens_of text)
 fails-of text at front stops.Memory small lt e r h = tt
 fails-of text at front (stops.Fault f) small lt e r h = tokens-small text small ∙ steps-fault text at front f lt e r h

@@ -13,3 +13,4 @@ pub mod ParseLemmas
 pub mod FrontLemmas
 pub mod TokenLemmas
 pub mod OrderLemmas
+pub mod OneMeaning

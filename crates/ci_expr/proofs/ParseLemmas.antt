@@ -3,22 +3,22 @@ use Rattle.std.proofs.Common.{◌≡◌, ℕ, ◌<◌, ◌≤◌, Bool, true, fa
 use Rattle.std.specs.Prelude.{nat_lt}
 use Rattle.std.proofs.lemmas.Bool.{le-ltb}
 use Rattle.std.proofs.lemmas.Bool.Decides.{nat_tests}
+use Rattle.ci_expr.specs.declared.fault.ExprCode.{ExprCode}
+use Rattle.ci_expr.specs.declared.fault.ExprCode.TheVariants.{X1, X2, X3, X4, X5, X6, X7, X8}
 use Rattle.ci_expr.specs.declared.fault.ExprFault.{ExprFault}
-use Rattle.ci_expr.specs.declared.fault.ExprFault.TheVariants.{X1, X2, X3, X4, X5, X6, X7, X8}
-use Rattle.ci_expr.specs.declared.fault.ExprError.{ExprError}
-use Rattle.ci_expr.specs.declared.fault.ExprError.TheVariants as errors
+use Rattle.ci_expr.specs.declared.fault.ExprFault.TheVariants as errors
 use Rattle.ci_expr.specs.Token.{Token}
 use Rattle.ci_expr.specs.Formula.{Formula, or, Derives, has_pattern}
 use Rattle.ci_expr.specs.Order.{balances, deepest, has_stray, list_fault}
 use Rattle.ci_expr.specs.Descent.{formula_from}
 use Rattle.ci_expr.specs.View.{Fails}
-use Rattle.ci_expr.specs.Meaning.{Tokenizes, Parses, Means, Answers, Allows, AtMostOneFormula, parse_by, parse_of, IsBuilt}
+use Rattle.ci_expr.specs.Meaning.{Tokenizes, Parses, Means, Answers, Allows, AtMostOneFormula, IsOwn, parse_by, parse_of, IsBuilt}
 use Rattle.ci_expr.specs.Faults.{IsBalanced, HasStray, IsDeep}
 use Rattle.ci_expr.proofs.OrderLemmas.{balances-is, balanced-balances, deepest-deep, deep-is, stray-is, has-stray}
 use Rattle.ci_expr.proofs.Wholes.{at-most-one, formula_from-derived, formula_from-is, formula_from-only, derived-balanced, derived-tidy}
 
 abbrev Parsed : Type 0
-Parsed = Result Formula ExprFault
+Parsed = Result Formula ExprCode
 
 -- what a list of tokens means, by what is counted
 abbrev Counts : List Token → Parsed → Type 0
@@ -63,14 +63,14 @@ derived-orderly ts f le d =
     list-fault-none ts (ap (balances 0) (sym (append-nil ts)) ∙ derived-balanced or ts f d 0 []) (ap (has_stray false) (sym (append-nil ts)) ∙ derived-tidy or ts f d []) le
 
 -- ---- what is computed is so
-no-formula : (ts : List Token) (x : ExprFault) → formula_from ts ≡ Err x → (f : Formula) → Derives or ts f → ⊥
+no-formula : (ts : List Token) (x : ExprCode) → formula_from ts ≡ Err x → (f : Formula) → Derives or ts f → ⊥
 no-formula ts x e f d = let g = formula_from-derived ts f d in cc
 
 orderly-sound : (ts : List Token) (r : Parsed) → balances 0 ts ≡ true → has_stray false ts ≡ false → deepest 0 ts ≤ 32 → formula_from ts ≡ r → Counts ts r
 orderly-sound ts (Ok f) e g le h = (le, formula_from-is ts f h)
 orderly-sound ts (Err x) e g le h = subst (λ y. Counts ts (Err y)) (sym (formula_from-only ts x h)) (e, g, le, no-formula ts x h)
 
-fault-sound : (ts : List Token) (x y : ExprFault) → x ≡ y → Counts ts (Err x) → Counts ts (Err y)
+fault-sound : (ts : List Token) (x y : ExprCode) → x ≡ y → Counts ts (Err x) → Counts ts (Err y)
 fault-sound ts x y e h = subst (λ z. Counts ts (Err z)) e h
 
 pub counted-sound : (ts : List Token) → Counts ts (parse_of ts)
@@ -103,7 +103,7 @@ none-parsed : (ts : List Token) (r : Parsed) → ((f : Formula) → Derives or t
 none-parsed ts (Ok f) never e = absurd (never f (formula_from-is ts f e))
 none-parsed ts (Err x) never e = e ∙ ap (λ y. err-at y) (formula_from-only ts x e)
   where
-    err-at : ExprFault → Parsed
+    err-at : ExprCode → Parsed
     err-at y = Err y
 
 pub counted-only : (ts : List Token) (r : Parsed) → Counts ts r → (parse_of ts ≡ r) ⊎ Refused (parse_of ts) r
@@ -116,6 +116,16 @@ counted-only ts (Err X8) (le, (f, d, has)) = inr (refl, (f, parsed-formula ts f 
 counted-only ts (Err X1) h = absurd h
 counted-only ts (Err X2) h = absurd h
 counted-only ts (Err X3) h = absurd h
+
+no-eight : (ts : List Token) (r : Parsed) → parse_of ts ≡ r → IsOwn r
+no-eight ts (Ok f) e = tt
+no-eight ts (Err x) e = λ is. contrary (subst (λ y. Counts ts (Err y)) is (subst (Counts ts) e (counted-sound ts)))
+  where
+    contrary : (deepest 0 ts ≤ 32) × ((f : Formula) × Derives or ts f × (has_pattern f ≡ true)) → ⊥
+    contrary (le, (f, d, has)) = let g = parsed-formula ts f le d in cc
+
+pub parse_of-own : (ts : List Token) → IsOwn (parse_of ts)
+parse_of-own ts = no-eight ts (parse_of ts) refl
 
 -- ---- what is counted is what is meant
 derived-balances : (ts : List Token) (f : Formula) → Derives or ts f → balances 0 ts ≡ true
@@ -178,37 +188,37 @@ pub parse_of-only : (ts : List Token) (r : Parsed) → Parses ts r → (parse_of
 parse_of-only ts r h = counted-only ts r (parses-counted ts r h)
 
 -- ---- the whole text
-abbrev OfToken : List ℕ → Result (List Token) ExprFault → Type 0
-OfToken text r = (s : Result (List Token) ExprFault) → Tokenizes text s → s ≡ r
+abbrev OfToken : List ℕ → Result (List Token) ExprCode → Type 0
+OfToken text r = (s : Result (List Token) ExprCode) → Tokenizes text s → s ≡ r
 
 abbrev Tokenized : Type 0
-Tokenized = Result (List Token) ExprFault
+Tokenized = Result (List Token) ExprCode
 
 abbrev tokens_or : Tokenized → List Token → List Token
 tokens_or (Ok ts) d = ts
 tokens_or (Err e) d = d
 
-abbrev fault_or : Tokenized → ExprFault → ExprFault
+abbrev fault_or : Tokenized → ExprCode → ExprCode
 fault_or (Ok ts) d = d
 fault_or (Err e) d = e
 
 abbrev SameTokens : Tokenized → List Token → Type 0
 SameTokens r ts = r ≡ Ok ts
 
-abbrev SameFault : Tokenized → ExprFault → Type 0
+abbrev SameFault : Tokenized → ExprCode → Type 0
 SameFault r x = r ≡ Err x
 
 ok-same : (ts us : List Token) → SameTokens (Ok ts) us → ts ≡ us
 ok-same ts us e = ap (λ r. tokens_or r ts) e
 
-fault-same : (x y : ExprFault) → SameFault (Err x) y → x ≡ y
+fault-same : (x y : ExprCode) → SameFault (Err x) y → x ≡ y
 fault-same x y e = ap (λ r. fault_or r x) e
 
 abbrev formula_or : Parsed → Formula → Formula
 formula_or (Ok f) d = f
 formula_or (Err e) d = d
 
-abbrev parse_fault_or : Parsed → ExprFault → ExprFault
+abbrev parse_fault_or : Parsed → ExprCode → ExprCode
 parse_fault_or (Ok f) d = d
 parse_fault_or (Err e) d = e
 
@@ -218,11 +228,11 @@ SameParsed r s = r ≡ s
 parsed-same : (f g : Formula) → SameParsed (Ok f) (Ok g) → f ≡ g
 parsed-same f g e = ap (λ r. formula_or r f) e
 
-parsed-fault : (x y : ExprFault) → SameParsed (Err x) (Err y) → x ≡ y
+parsed-fault : (x y : ExprCode) → SameParsed (Err x) (Err y) → x ≡ y
 parsed-fault x y e = ap (λ r. parse_fault_or r x) e
 
 -- a text without tokens
-pub untokenized-only : {X : Type 0} (view : X → Formula) (text : List ℕ) (x : ExprFault) → OfToken text (Err x) → (r : Parsed) → Means text r → Allows view (Err (errors.Fault x)) r
+pub untokenized-only : {X : Type 0} (view : X → Formula) (text : List ℕ) (x : ExprCode) → OfToken text (Err x) → (r : Parsed) → Means text r → Allows view (Err (errors.Fault x)) r
 untokenized-only view text x only (Ok f) (ts, t, p) = let e = only (Ok ts) t in absurd cc
 untokenized-only view text x only (Err y) (inl t) = fault-same y x (only (Err y) t)
 untokenized-only view text x only (Err y) (inr (ts, t, p)) = let e = only (Ok ts) t in absurd cc
@@ -233,14 +243,14 @@ tokens-mean text ts only (Ok f) (us, t, p) = subst (λ vs. Parses vs (Ok f)) (ok
 tokens-mean text ts only (Err y) (inl t) = let e = only (Err y) t in absurd cc
 tokens-mean text ts only (Err y) (inr (us, t, p)) = subst (λ vs. Parses vs (Err y)) (ok-same us ts (only (Ok us) t)) p
 
-mean-tokens : (text : List ℕ) (ts : List Token) → Tokenizes text (Ok ts) → (r : Parsed) → Parses ts r → Means text r
+pub mean-tokens : (text : List ℕ) (ts : List Token) → Tokenizes text (Ok ts) → (r : Parsed) → Parses ts r → Means text r
 mean-tokens text ts t (Ok f) p = (ts, t, p)
 mean-tokens text ts t (Err x) p = inr (ts, t, p)
 
 refused-parses : (ts : List Token) (f : Formula) → parse_of ts ≡ Ok f → has_pattern f ≡ true → Parses ts (Err X8)
 refused-parses ts f e has = let p : Parses ts (Ok f) = subst (Parses ts) e (parse_of-sound ts) in (p.0, (f, p.1, has))
 
-built-answers : {X : Type 0} (view : X → Formula) (text : List ℕ) (ts : List Token) (r : Result X ExprError) → Tokenizes text (Ok ts) → IsBuilt view r (parse_of ts)
+built-answers : {X : Type 0} (view : X → Formula) (text : List ℕ) (ts : List Token) (r : Result X ExprFault) → Tokenizes text (Ok ts) → IsBuilt view r (parse_of ts)
     → Answers view r (Means text)
 built-answers view text ts (Ok x) t h = mean-tokens text ts t (Ok (view x)) (subst (Parses ts) h (parse_of-sound ts))
 built-answers view text ts (Err errors.Memory) t h = tt
@@ -248,7 +258,7 @@ built-answers view text ts (Err (errors.Fault x)) t (inl e) = mean-tokens text t
 built-answers view text ts (Err (errors.Fault x)) t (inr (is, (f, e, has))) =
     subst (λ y. Means text (Err y)) (sym is) (mean-tokens text ts t (Err X8) (refused-parses ts f e has))
 
-allowed : {X : Type 0} (view : X → Formula) (b : Result X ExprError) (computed r : Parsed) → IsBuilt view b computed → (computed ≡ r) ⊎ Refused computed r → Allows view b r
+allowed : {X : Type 0} (view : X → Formula) (b : Result X ExprFault) (computed r : Parsed) → IsBuilt view b computed → (computed ≡ r) ⊎ Refused computed r → Allows view b r
 allowed view (Ok x) computed (Ok f) h (inl e) = parsed-same f (view x) (sym e ∙ h)
 allowed view (Ok x) computed (Ok f) h (inr (bad, w)) = absurd cc
 allowed view (Ok x) computed (Err y) h (inl e) = absurd cc
@@ -264,18 +274,18 @@ allowed view (Err (errors.Fault x)) computed (Err y) (inl g) (inr (is, (f, e, ha
 allowed view (Err (errors.Fault x)) computed (Err y) (inr (is, (f, g, has))) (inl e) = absurd cc
 allowed view (Err (errors.Fault x)) computed (Err y) (inr (is, w)) (inr (also, v)) = parsed-fault y X8 also ∙ sym is
 
-pub parse-answer : {X : Type 0} (view : X → Formula) (text : List ℕ) (ts : List Token) (r : Result X ExprError) → Tokenizes text (Ok ts) → IsBuilt view r (parse_of ts)
+pub parse-answer : {X : Type 0} (view : X → Formula) (text : List ℕ) (ts : List Token) (r : Result X ExprFault) → Tokenizes text (Ok ts) → IsBuilt view r (parse_of ts)
     → Answers view r (Means text)
 parse-answer view text ts r t h = built-answers view text ts r t h
 
-pub parse-only : {X : Type 0} (view : X → Formula) (text : List ℕ) (ts : List Token) (b : Result X ExprError) → OfToken text (Ok ts) → IsBuilt view b (parse_of ts) → (r : Parsed)
+pub parse-only : {X : Type 0} (view : X → Formula) (text : List ℕ) (ts : List Token) (b : Result X ExprFault) → OfToken text (Ok ts) → IsBuilt view b (parse_of ts) → (r : Parsed)
     → Means text r → Allows view b r
 parse-only view text ts b only h r m = allowed view b (parse_of ts) r h (parse_of-only ts r (tokens-mean text ts only r m))
 
 pub one-formula : AtMostOneFormula
 one-formula ts f g a b = at-most-one ts f g a b
 
-pub untokenized-error : {X : Type 0} (view : X → Formula) (text : List ℕ) (e : ExprError) → ((s : Tokenized) → Tokenizes text s → Fails e s) → (r : Parsed) → Means text r
+pub untokenized-error : {X : Type 0} (view : X → Formula) (text : List ℕ) (e : ExprFault) → ((s : Tokenized) → Tokenizes text s → Fails e s) → (r : Parsed) → Means text r
     → Allows view (Err e) r
 untokenized-error view text errors.Memory only r m = tt
 untokenized-error view text (errors.Fault x) only r m = untokenized-only view text x only r m

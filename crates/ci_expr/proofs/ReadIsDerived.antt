@@ -3,10 +3,11 @@ use Rattle.std.proofs.Common.{◌≡◌, ℕ, zero, suc, Bool, true, false, List
 use Rattle.std.specs.Prelude.{chars}
 use Rattle.ci_expr.specs.declared.token.Kind.{Kind}
 use Rattle.ci_expr.specs.declared.token.Kind.TheVariants as kind
+use Rattle.ci_expr.specs.declared.tree.Join.{Join}
 use Rattle.ci_expr.specs.Token.{Token}
 use Rattle.ci_expr.specs.Reading.{◌>>=◌}
-use Rattle.ci_expr.specs.Formula.{Operand, Formula, either, both, group, present, equal, found, Level, or, and, test, comparing, matching, IsNamed, unescaped, Derives, or_one, or_more, and_one, and_more, in_group, alone, compared, matched}
-use Rattle.ci_expr.specs.Descent.{Read, behind, behind_byte, is_kind, operand_by, pattern_of, compared_by, compared_from, matched_by, matched_from, sign_by, named_from, variable_by, closed, test_by, or_by, and_by, descend}
+use Rattle.ci_expr.specs.Formula.{Operand, Formula, joined, group, present, equal, found, Level, chain, or, test, part, sign, comparing, matching, IsNamed, unescaped, Derives, single, several, in_group, alone, compared, matched}
+use Rattle.ci_expr.specs.Descent.{Read, behind, behind_byte, is_kind, operand_by, pattern_of, compared_by, compared_from, matched_by, matched_from, sign_by, named_from, variable_by, closed, test_by, joined_by, descend}
 use Rattle.ci_expr.proofs.Fronts.{split}
 use Rattle.ci_expr.proofs.KindLemmas.{is_kind-true, Headed, behind-is}
 use Rattle.ci_expr.proofs.Parts.{behind_byte-is, operand_by-is, pattern_of-is}
@@ -40,49 +41,30 @@ pair f ts = (f, ts)
 pair-by : (left right rest : List Token) (t : Token) (ts mid : List Token) → ts ≡ left ++ mid → mid ≡ t ∷ (right ++ rest) → ts ≡ (left ++ t ∷ right) ++ rest
 pair-by left right rest t ts mid e h = e ∙ ap (λ us. left ++ us) h ∙ sym (append_assoc left (t ∷ right) rest)
 
-or-joined : (ts mid : List Token) (f g : Formula) (more rest : List Token) → Cut and ts f mid → Headed kind.Or mid more → Cut or more g rest → Cut or ts (either f g) rest
-or-joined ts mid f g more rest a h b = record {
+join-cuts : (j : Join) (ts mid : List Token) (f g : Formula) (left rest : List Token) → Cut (part j) ts f mid → Headed (sign j) mid left → Cut (chain j) left g rest
+    → Cut (chain j) ts (joined j f g) rest
+join-cuts j ts mid f g left rest a h b = record {
   front = a.front ++ h.head ∷ b.front;
   whole = pair-by a.front b.front rest h.head ts mid a.whole (h.whole ∙ ap (λ us. h.head ∷ us) b.whole);
-  derives = or_more a.front h.head b.front _ f g a.derives h.is b.derives refl;
+  derives = several j a.front h.head b.front _ f g a.derives h.is b.derives refl;
 }
 
-and-joined : (ts mid : List Token) (f g : Formula) (more rest : List Token) → Cut test ts f mid → Headed kind.And mid more → Cut and more g rest → Cut and ts (both f g) rest
-and-joined ts mid f g more rest a h b = record {
-  front = a.front ++ h.head ∷ b.front;
-  whole = pair-by a.front b.front rest h.head ts mid a.whole (h.whole ∙ ap (λ us. h.head ∷ us) b.whole);
-  derives = and_more a.front h.head b.front _ f g a.derives h.is b.derives refl;
-}
+others-sound : (j : Join) (n : ℕ) (ts mid left : List Token) (f : Formula) (x : Formula × List Token) → Sounds n → Cut (part j) ts f mid → Headed (sign j) mid left → (r : Read)
+    → descend n (chain j) left ≡ r → SameRead (r >>= λ y. Ok (joined j f y.0, y.1)) x → Cut (chain j) ts x.0 x.1
+others-sound j n ts mid left f x ih a h (Err e) is g = absurd cc
+others-sound j n ts mid left f x ih a h (Ok y) is g =
+    cut-same (chain j) ts (pair (joined j f y.0) y.1) x g (join-cuts j ts mid f y.0 left y.1 a h (ih (chain j) left y is))
 
-or-rest : (n : ℕ) (ts mid more : List Token) (f : Formula) (x : Formula × List Token) → Sounds n → Cut and ts f mid → Headed kind.Or mid more → (r : Read) → descend n or more ≡ r
-    → SameRead (r >>= λ y. Ok (either f y.0, y.1)) x → Cut or ts x.0 x.1
-or-rest n ts mid more f x ih a h (Err e) is g = absurd cc
-or-rest n ts mid more f x ih a h (Ok y) is g = cut-same or ts (pair (either f y.0) y.1) x g (or-joined ts mid f y.0 more y.1 a h (ih or more y is))
+joined-sound : (j : Join) (n : ℕ) (ts mid : List Token) (f : Formula) (x : Formula × List Token) → Sounds n → Cut (part j) ts f mid → (o : Option (List Token))
+    → behind (sign j) mid ≡ o → SameRead (joined_by j (descend n (chain j)) f mid o) x → Cut (chain j) ts x.0 x.1
+joined-sound j n ts mid f x ih a None is g =
+    cut-same (chain j) ts (pair f mid) x g (record { front = a.front; whole = a.whole; derives = single j a.front f a.derives })
+joined-sound j n ts mid f x ih a (Some left) is g = others-sound j n ts mid left f x ih a (behind-is (sign j) mid left is) (descend n (chain j) left) refl g
 
-or-sound : (n : ℕ) (ts mid : List Token) (f : Formula) (x : Formula × List Token) → Sounds n → Cut and ts f mid → (o : Option (List Token)) → behind kind.Or mid ≡ o
-    → SameRead (or_by (descend n or) f mid o) x → Cut or ts x.0 x.1
-or-sound n ts mid f x ih a None is g = cut-same or ts (pair f mid) x g (record { front = a.front; whole = a.whole; derives = or_one a.front f a.derives })
-or-sound n ts mid f x ih a (Some more) is g = or-rest n ts mid more f x ih a (behind-is kind.Or mid more is) (descend n or more) refl g
-
-or-first : (n : ℕ) (ts : List Token) (x : Formula × List Token) → Sounds n → (r : Read) → descend n and ts ≡ r
-    → SameRead (r >>= λ y. or_by (descend n or) y.0 y.1 (behind kind.Or y.1)) x → Cut or ts x.0 x.1
-or-first n ts x ih (Err e) is g = absurd cc
-or-first n ts x ih (Ok y) is g = or-sound n ts y.1 y.0 x ih (ih and ts y is) (behind kind.Or y.1) refl g
-
-and-rest : (n : ℕ) (ts mid more : List Token) (f : Formula) (x : Formula × List Token) → Sounds n → Cut test ts f mid → Headed kind.And mid more → (r : Read) → descend n and more ≡ r
-    → SameRead (r >>= λ y. Ok (both f y.0, y.1)) x → Cut and ts x.0 x.1
-and-rest n ts mid more f x ih a h (Err e) is g = absurd cc
-and-rest n ts mid more f x ih a h (Ok y) is g = cut-same and ts (pair (both f y.0) y.1) x g (and-joined ts mid f y.0 more y.1 a h (ih and more y is))
-
-and-sound : (n : ℕ) (ts mid : List Token) (f : Formula) (x : Formula × List Token) → Sounds n → Cut test ts f mid → (o : Option (List Token)) → behind kind.And mid ≡ o
-    → SameRead (and_by (descend n and) f mid o) x → Cut and ts x.0 x.1
-and-sound n ts mid f x ih a None is g = cut-same and ts (pair f mid) x g (record { front = a.front; whole = a.whole; derives = and_one a.front f a.derives })
-and-sound n ts mid f x ih a (Some more) is g = and-rest n ts mid more f x ih a (behind-is kind.And mid more is) (descend n and more) refl g
-
-and-first : (n : ℕ) (ts : List Token) (x : Formula × List Token) → Sounds n → (r : Read) → descend n test ts ≡ r
-    → SameRead (r >>= λ y. and_by (descend n and) y.0 y.1 (behind kind.And y.1)) x → Cut and ts x.0 x.1
-and-first n ts x ih (Err e) is g = absurd cc
-and-first n ts x ih (Ok y) is g = and-sound n ts y.1 y.0 x ih (ih test ts y is) (behind kind.And y.1) refl g
+chain-sound : (j : Join) (n : ℕ) (ts : List Token) (x : Formula × List Token) → Sounds n → (r : Read) → descend n (part j) ts ≡ r
+    → SameRead (r >>= λ y. joined_by j (descend n (chain j)) y.0 y.1 (behind (sign j) y.1)) x → Cut (chain j) ts x.0 x.1
+chain-sound j n ts x ih (Err e) is g = absurd cc
+chain-sound j n ts x ih (Ok y) is g = joined-sound j n ts y.1 y.0 x ih (ih (part j) ts y is) (behind (sign j) y.1) refl g
 
 -- ---- a test
 compared-sound : (v c w : Token) (ts : List Token) (negated : Bool) (name : List ℕ) (x : Formula × List Token) → IsNamed name v → c.kind ≡ comparing negated → (o : Option Operand)
@@ -153,7 +135,6 @@ test-sound n t ts x ih _ is g = absurd cc
 
 pub descend-sound : (n : ℕ) → Sounds n
 descend-sound zero l ts x g = absurd cc
-descend-sound (suc n) or ts x g = or-first n ts x (λ l ts x g. descend-sound n l ts x g) (descend n and ts) refl g
-descend-sound (suc n) and ts x g = and-first n ts x (λ l ts x g. descend-sound n l ts x g) (descend n test ts) refl g
+descend-sound (suc n) (chain j) ts x g = chain-sound j n ts x (λ l ts x g. descend-sound n l ts x g) (descend n (part j) ts) refl g
 descend-sound (suc n) test [] x g = absurd cc
 descend-sound (suc n) test (t ∷ ts) x g = test-sound n t ts x (λ l ts x g. descend-sound n l ts x g) t.kind refl g

@@ -2,7 +2,7 @@
 use Rattle.std.proofs.Common.{◌≡◌, ℕ, zero, suc, ◌+◌, ◌-◌, ◌≤◌, List, [], ◌∷◌, length, take, drop, Result, Ok, Err, refl, sym, ◌∙◌, ap, subst, arith}
 use Rattle.std.specs.Prelude.{nat_lt}
 use Rattle.std.proofs.lemmas.List.{take-append-drop, length-drop}
-use Rattle.ci_expr.specs.declared.fault.ExprFault.{ExprFault}
+use Rattle.ci_expr.specs.declared.fault.ExprCode.{ExprCode}
 use Rattle.ci_expr.specs.declared.token.Kind.{Kind}
 use Rattle.ci_expr.specs.Lexeme.{lexeme}
 use Rattle.ci_expr.specs.Character.{is_blank}
@@ -52,7 +52,7 @@ with-sound n at b bs ts x ih le front (Ok us) f h =
     (token at x.0 (take k (b ∷ bs)) (drop k (b ∷ bs)) (b ∷ bs) us (sym (take-append-drop k (b ∷ bs))) front.1
     (subst (λ j. AreTokens (at + j) (drop k (b ∷ bs)) us) (sym size) rest))
 
-by-sound : (n at b : ℕ) (bs : List ℕ) (ts : List Token) → Sounds n → length bs ≤ n → (r : Result (Kind × ℕ) ExprFault) → lexeme (b ∷ bs) ≡ r
+by-sound : (n at b : ℕ) (bs : List ℕ) (ts : List Token) → Sounds n → length bs ≤ n → (r : Result (Kind × ℕ) ExprCode) → lexeme (b ∷ bs) ≡ r
     → SameTokens ((r >>= λ x. Ok (made at (b ∷ bs) x)) >>= λ t. with_token t (lex n t.end (drop (t.end - at) (b ∷ bs)))) ts → AreTokens at (b ∷ bs) ts
 by-sound n at b bs ts ih le (Err e) f h = absurd cc
 by-sound n at b bs ts ih le (Ok x) f h = with-sound n at b bs ts x ih le (front-is (b ∷ bs) x f) (lex n (at + x.1) (drop (at + x.1 - at) (b ∷ bs))) refl h

@@ -5,10 +5,10 @@ use Rattle.std.proofs.lemmas.Bool.{le-ltb}
 use Rattle.std.proofs.lemmas.Bool.Decides.{nat_tests}
 use Rattle.std.proofs.lemmas.List.{length-append, length-drop, take-append-drop}
 use Rattle.std.specs.Global.{Vec}
+use Rattle.ci_expr.specs.declared.fault.ExprCode.{ExprCode}
+use Rattle.ci_expr.specs.declared.fault.ExprCode.TheVariants.{X1, X2, X3, X8}
 use Rattle.ci_expr.specs.declared.fault.ExprFault.{ExprFault}
-use Rattle.ci_expr.specs.declared.fault.ExprFault.TheVariants.{X1, X2, X3}
-use Rattle.ci_expr.specs.declared.fault.ExprError.{ExprError}
-use Rattle.ci_expr.specs.declared.fault.ExprError.TheVariants as errors
+use Rattle.ci_expr.specs.declared.fault.ExprFault.TheVariants as errors
 use Rattle.ci_expr.specs.declared.token.Kind.{Kind}
 use Rattle.ci_expr.specs.declared.token.Kind.TheVariants as kind
 use Rattle.ci_expr.specs.declared.token.Token as rust
@@ -23,7 +23,7 @@ use Rattle.ci_expr.proofs.Sound.{tokens-sound}
 use Rattle.ci_expr.proofs.FrontLemmas.{spelled-read, open-read, unread-stops, wrong-unread}
 
 abbrev Lexed : Type 0
-Lexed = Result (List Token) ExprFault
+Lexed = Result (List Token) ExprCode
 
 -- ---- a token begins with no blank
 first-filled : (k : Kind) (s rest : List ℕ) → Spells k s rest → (b : ℕ) × (bs : List ℕ) × (s ≡ b ∷ bs) × (is_blank b ≡ false)
@@ -44,16 +44,16 @@ first-filled kind.Right s rest h = (41, [], h, refl)
 first-filled kind.Pattern s rest (body, flag, e, is, fits) = (47, body ++ 47 ∷ flag, e, refl)
 
 -- ---- one step of reading
-abbrev rest_by : ℕ → ℕ → List ℕ → Result Token ExprFault → Lexed
+abbrev rest_by : ℕ → ℕ → List ℕ → Result Token ExprCode → Lexed
 rest_by n at bs r = r >>= λ t. with_token t (lex n t.end (drop (t.end - at) bs))
 
-abbrev made_by : ℕ → List ℕ → Result (Kind × ℕ) ExprFault → Result Token ExprFault
+abbrev made_by : ℕ → List ℕ → Result (Kind × ℕ) ExprCode → Result Token ExprCode
 made_by at bs r = r >>= λ x. Ok (record { kind = x.0; slice = take x.1 bs; start = at; end = at + x.1 })
 
 blank-step : (n at b : ℕ) (bs : List ℕ) → is_blank b ≡ true → lex (suc n) at (b ∷ bs) ≡ lex n (at + 1) bs
 blank-step n at b bs e = ap (λ t. cond t (lex n (at + 1) bs) (rest_by n at (b ∷ bs) (token_from at (b ∷ bs)))) e
 
-front-step : (n at b : ℕ) (bs : List ℕ) (r : Result (Kind × ℕ) ExprFault) → is_blank b ≡ false → lexeme (b ∷ bs) ≡ r
+front-step : (n at b : ℕ) (bs : List ℕ) (r : Result (Kind × ℕ) ExprCode) → is_blank b ≡ false → lexeme (b ∷ bs) ≡ r
     → lex (suc n) at (b ∷ bs) ≡ rest_by n at (b ∷ bs) (made_by at (b ∷ bs) r)
 front-step n at b bs r e f =
     ap (λ t. cond t (lex n (at + 1) bs) (rest_by n at (b ∷ bs) (token_from at (b ∷ bs)))) e ∙ ap (λ x. rest_by n at (b ∷ bs) (made_by at (b ∷ bs) x)) f
@@ -115,7 +115,7 @@ tokens-read _ _ _ (token at k s rest bs ts e spells h) (suc n) le =
     ap (λ (ys : List ℕ). lex (suc n) at ys) e ∙ token-step n at k s rest spells
     ∙ ap (with_token (token_at at k s)) (tokens-read (at + length s) rest ts h n (rest-fits k s rest bs n e spells le))
 
-fault-step : (n at b : ℕ) (bs : List ℕ) (x : ExprFault) → is_blank b ≡ false → lexeme (b ∷ bs) ≡ Err x → lex (suc n) at (b ∷ bs) ≡ Err x
+fault-step : (n at b : ℕ) (bs : List ℕ) (x : ExprCode) → is_blank b ≡ false → lexeme (b ∷ bs) ≡ Err x → lex (suc n) at (b ∷ bs) ≡ Err x
 fault-step n at b bs x e f = front-step n at b bs (Err x) e f
 
 open-first : (bs : List ℕ) → StaysOpen bs → (b : ℕ) × (rest : List ℕ) × (bs ≡ b ∷ rest) × (is_blank b ≡ false)
@@ -131,7 +131,7 @@ open-stops (suc n) at bs h le =
     let w = open-first bs h in
     ap (λ (ys : List ℕ). lex (suc n) at ys) w.2 ∙ fault-step n at w.0 w.1 X3 w.3 (ap lexeme (sym w.2) ∙ open-read bs h)
 
-pub stops-read : (bs : List ℕ) (x : ExprFault) → Stops bs x → (n at : ℕ) → length bs ≤ n → lex n at bs ≡ Err x
+pub stops-read : (bs : List ℕ) (x : ExprCode) → Stops bs x → (n at : ℕ) → length bs ≤ n → lex n at bs ≡ Err x
 stops-read _ _ (Stops.blank b bs x e h) zero at le = absurd (omega (arith, le))
 stops-read _ _ (Stops.blank b bs x e h) (suc n) at le = blank-step n at b bs e ∙ stops-read bs x h n (at + 1) (omega (arith, le))
 stops-read _ _ (Stops.token k s rest bs x e spells h) zero at le = absurd (token-never k s rest bs e spells le)
@@ -151,20 +151,20 @@ one-list text ts us a b =
     ap (λ r. list_or r ts) (sym (tokens-read 0 text ts a (length text) (omega arith)) ∙ tokens-read 0 text us b (length text) (omega arith))
 
 -- ---- sound, of faults
-abbrev SameFault : Lexed → ExprFault → Type 0
+abbrev SameFault : Lexed → ExprCode → Type 0
 SameFault r x = r ≡ Err x
 
-abbrev fault_or : Lexed → ExprFault → ExprFault
+abbrev fault_or : Lexed → ExprCode → ExprCode
 fault_or (Ok ts) d = d
 fault_or (Err e) d = e
 
-fault-same : (x y : ExprFault) → SameFault (Err x) y → x ≡ y
+fault-same : (x y : ExprCode) → SameFault (Err x) y → x ≡ y
 fault-same x y e = ap (λ r. fault_or r x) e
 
 abbrev Faults : ℕ → Type 0
-Faults n = (at : ℕ) (bs : List ℕ) (x : ExprFault) → length bs ≤ n → SameFault (lex n at bs) x → Stops bs x
+Faults n = (at : ℕ) (bs : List ℕ) (x : ExprCode) → length bs ≤ n → SameFault (lex n at bs) x → Stops bs x
 
-token-fault : (n at b : ℕ) (bs : List ℕ) (x : ExprFault) (z : Kind × ℕ) → Faults n → length bs ≤ n → IsFront (b ∷ bs) z → (q : Lexed)
+token-fault : (n at b : ℕ) (bs : List ℕ) (x : ExprCode) (z : Kind × ℕ) → Faults n → length bs ≤ n → IsFront (b ∷ bs) z → (q : Lexed)
     → lex n (at + z.1) (drop (at + z.1 - at) (b ∷ bs)) ≡ q → (t : Token) → SameFault (with_token t q) x → Stops (b ∷ bs) x
 token-fault n at b bs x z ih le front (Ok ts) e t h = absurd cc
 token-fault n at b bs x z ih le front (Err y) e t h =
@@ -175,7 +175,7 @@ token-fault n at b bs x z ih le front (Err y) e t h =
     ih (at + k) (drop k (b ∷ bs)) y (omega (arith, le, low.some, length-drop k (b ∷ bs))) (ap (λ (j : ℕ). lex n (at + k) (drop j (b ∷ bs))) (sym back) ∙ e) in
     subst (Stops (b ∷ bs)) (fault-same y x h) (Stops.token z.0 (take k (b ∷ bs)) (drop k (b ∷ bs)) (b ∷ bs) y (sym (take-append-drop k (b ∷ bs))) front.1 rest)
 
-front-stops : (n at b : ℕ) (bs : List ℕ) (x : ExprFault) → Faults n → length bs ≤ n → is_blank b ≡ false → (r : Result (Kind × ℕ) ExprFault) → lexeme (b ∷ bs) ≡ r
+front-stops : (n at b : ℕ) (bs : List ℕ) (x : ExprCode) → Faults n → length bs ≤ n → is_blank b ≡ false → (r : Result (Kind × ℕ) ExprCode) → lexeme (b ∷ bs) ≡ r
     → SameFault (rest_by n at (b ∷ bs) (made_by at (b ∷ bs) r)) x → Stops (b ∷ bs) x
 front-stops n at b bs x ih le filled (Err y) f h = subst (Stops (b ∷ bs)) (fault-same y x h) (unread-stops b bs y filled f)
 front-stops n at b bs x ih le filled (Ok z) f h =
@@ -200,13 +200,13 @@ tokens_of-short : (text : List ℕ) → length text ≤ 1024 → tokens_of text 
 tokens_of-short text le = ap (λ t. cond t (Err X1) (lex (length text) 0 text)) (le-ltb 1024 (length text) le)
 
 -- no text stops for another cause
-stops-x1 : (bs : List ℕ) (x : ExprFault) → Stops bs x → (x ≡ X2) ⊎ (x ≡ X3)
+stops-x1 : (bs : List ℕ) (x : ExprCode) → Stops bs x → (x ≡ X2) ⊎ (x ≡ X3)
 stops-x1 _ _ (Stops.blank b bs x e h) = stops-x1 bs x h
 stops-x1 _ _ (Stops.token k s rest bs x e spells h) = stops-x1 rest x h
 stops-x1 _ _ (unclosed bs h) = inr refl
 stops-x1 _ _ (wrong b bs e none closed) = inl refl
 
-short-fault : (text : List ℕ) (x : ExprFault) → length text ≤ 1024 → Stops text x → Tokenizes text (Err x)
+short-fault : (text : List ℕ) (x : ExprCode) → length text ≤ 1024 → Stops text x → Tokenizes text (Err x)
 short-fault text x le h = by-fault (stops-x1 text x h)
   where
     by-fault : (x ≡ X2) ⊎ (x ≡ X3) → Tokenizes text (Err x)
@@ -229,7 +229,7 @@ tokens_of-sound text = by-length (nat_lt 1024 (length text)) refl
         let f = tokens_of-short text le in
         subst (Tokenizes text) (sym f) (short-sound text (lex (length text) 0 text) le refl f)
 
-short-stops : (text : List ℕ) (x : ExprFault) → (length text ≤ 1024) × Stops text x → tokens_of text ≡ Err x
+short-stops : (text : List ℕ) (x : ExprCode) → (length text ≤ 1024) × Stops text x → tokens_of text ≡ Err x
 short-stops text x (le, h) = tokens_of-short text le ∙ stops-read text x h (length text) 0 (omega arith)
 
 pub tokens_of-only : (text : List ℕ) (r : Lexed) → Tokenizes text r → tokens_of text ≡ r
@@ -237,10 +237,20 @@ tokens_of-only text (Ok ts) (le, h) = tokens_of-short text le ∙ tokens-read 0 
 tokens_of-only text (Err X1) lt = tokens_of-long text lt
 tokens_of-only text (Err x) h = short-stops text x h
 
-pub tokens-answer : (text : List ℕ) (r : Result (Vec rust.Token) ExprError) → Gives tokens_view r (tokens_of text) → Answers tokens_view r (Tokenizes text)
+pub tokens-answer : (text : List ℕ) (r : Result (Vec rust.Token) ExprFault) → Gives tokens_view r (tokens_of text) → Answers tokens_view r (Tokenizes text)
 tokens-answer text (Ok v) h = subst (Tokenizes text) h (tokens_of-sound text)
 tokens-answer text (Err errors.Memory) h = tt
 tokens-answer text (Err (errors.Fault x)) h = subst (Tokenizes text) h (tokens_of-sound text)
 
-pub tokens-only : (text : List ℕ) (r : Result (Vec rust.Token) ExprError) → Gives tokens_view r (tokens_of text) → (s : Lexed) → Tokenizes text s → Gives tokens_view r s
+pub tokens-only : (text : List ℕ) (r : Result (Vec rust.Token) ExprFault) → Gives tokens_view r (tokens_of text) → (s : Lexed) → Tokenizes text s → Gives tokens_view r s
 tokens-only text r h s t = subst (λ (q : Lexed). Gives tokens_view r q) (tokens_of-only text s t) h
+
+pub tokens-own : (text : List ℕ) (x : ExprCode) → Tokenizes text (Err x) → x ≡ X8 → ⊥
+tokens-own text x h is = by-stop (subst (λ y. Tokenizes text (Err y)) is h)
+  where
+    by-cause : (X8 ≡ X2) ⊎ (X8 ≡ X3) → ⊥
+    by-cause (inl e) = cc
+    by-cause (inr e) = cc
+
+    by-stop : (length text ≤ 1024) × Stops text X8 → ⊥
+    by-stop (le, h) = by-cause (stops-x1 text X8 h)

@@ -1,16 +1,18 @@
 -- The formula of a whole list of tokens.
 use Rattle.std.proofs.Common.{◌≡◌, ℕ, zero, suc, ◌+◌, ◌-◌, Bool, true, false, cond, List, [], ◌∷◌, ◌++◌, Option, None, Some, Result, Ok, Err, refl, sym, ◌∙◌, ap, subst, arith, append_assoc}
 use Rattle.std.specs.Prelude.{◌==◌, ◌&&◌, ◌||◌, not}
-use Rattle.ci_expr.specs.declared.fault.ExprFault.{ExprFault}
-use Rattle.ci_expr.specs.declared.fault.ExprFault.TheVariants.{X4}
+use Rattle.ci_expr.specs.declared.fault.ExprCode.{ExprCode}
+use Rattle.ci_expr.specs.declared.fault.ExprCode.TheVariants.{X4}
 use Rattle.ci_expr.specs.declared.token.Kind.{Kind}
 use Rattle.ci_expr.specs.declared.token.Kind.TheVariants as kind
+use Rattle.ci_expr.specs.declared.tree.Join.{Join}
+use Rattle.ci_expr.specs.declared.tree.Join.TheVariants as join
 use Rattle.ci_expr.specs.Token.{Token}
 use Rattle.ci_expr.specs.Reading.{◌>>=◌}
-use Rattle.ci_expr.specs.Formula.{Operand, null, text, variable, Formula, Level, or, and, test, IsOperand, Derives, or_one, or_more, and_one, and_more, in_group, alone, compared, matched, comparing, matching}
+use Rattle.ci_expr.specs.Formula.{Operand, null, text, variable, Formula, joined, Level, chain, or, test, part, sign, IsOperand, Derives, single, several, in_group, alone, compared, matched, comparing, matching}
 use Rattle.ci_expr.specs.Order.{open_after, closes_none, balances, is_pattern, has_stray}
 use Rattle.ci_expr.specs.Faults.{takes_pattern}
-use Rattle.ci_expr.specs.Descent.{Read, is_kind, behind, behind_byte, operand_by, pattern_of, compared_by, compared_from, matched_by, matched_from, sign_by, named_from, variable_by, closed, test_by, or_by, and_by, descend, reach, formula_from, whole_by}
+use Rattle.ci_expr.specs.Descent.{Read, is_kind, behind, behind_byte, operand_by, pattern_of, compared_by, compared_from, matched_by, matched_from, sign_by, named_from, variable_by, closed, test_by, joined_by, descend, reach, formula_from, whole_by}
 use Rattle.ci_expr.proofs.ReadIsDerived.{Cut, descend-sound}
 use Rattle.ci_expr.proofs.DerivedIsRead.{derived-read}
 
@@ -33,10 +35,10 @@ pub formula_from-derived : (ts : List Token) (f : Formula) → Derives or ts f �
 formula_from-derived ts f d =
     ap (λ r. r >>= whole_by) (ap (λ us. descend (reach or us) or us) (sym (append-nil ts)) ∙ derived-read or ts f d [] tt (reach or (ts ++ [])) (omega arith))
 
-abbrev SameFormula : Result Formula ExprFault → Formula → Type 0
+abbrev SameFormula : Result Formula ExprCode → Formula → Type 0
 SameFormula r f = r ≡ Ok f
 
-abbrev ok_or : Formula → Result Formula ExprFault → Formula
+abbrev ok_or : Formula → Result Formula ExprCode → Formula
 ok_or d (Ok f) = f
 ok_or d (Err e) = d
 
@@ -55,11 +57,11 @@ pub formula_from-is : (ts : List Token) (f : Formula) → formula_from ts ≡ Ok
 formula_from-is ts f e = derived-by ts f (descend (reach or ts) or ts) refl e
 
 -- ---- the only fault of the grammar
-abbrev Only : {A : Type 0} → Result A ExprFault → Type 0
+abbrev Only : {A : Type 0} → Result A ExprCode → Type 0
 Only (Ok x) = Unit {0}
 Only (Err x) = x ≡ X4
 
-only-bind : {A B : Type 0} (r : Result A ExprFault) (f : A → Result B ExprFault) → Only r → ((x : A) → Only (f x)) → Only (r >>= f)
+only-bind : {A B : Type 0} (r : Result A ExprCode) (f : A → Result B ExprCode) → Only r → ((x : A) → Only (f x)) → Only (r >>= f)
 only-bind (Ok x) f h k = k x
 only-bind (Err e) f h k = h
 
@@ -107,20 +109,14 @@ test-only next s ts kind.Left h = only-bind (next ts) _ (h ts) (λ x. closed-onl
 test-only next s ts kind.Name h = variable-only ts (behind_byte 36 s)
 test-only next s ts _ h = refl
 
-or-only : (next : List Token → Read) (f : Formula) (rest : List Token) (o : Option (List Token)) → ((us : List Token) → Only (next us)) → Only (or_by next f rest o)
-or-only next f rest None h = tt
-or-only next f rest (Some more) h = only-bind (next more) _ (h more) (λ x. tt)
-
-and-only : (next : List Token → Read) (f : Formula) (rest : List Token) (o : Option (List Token)) → ((us : List Token) → Only (next us)) → Only (and_by next f rest o)
-and-only next f rest None h = tt
-and-only next f rest (Some more) h = only-bind (next more) _ (h more) (λ x. tt)
+joined-only : (j : Join) (next : List Token → Read) (f : Formula) (rest : List Token) (o : Option (List Token)) → ((us : List Token) → Only (next us)) → Only (joined_by j next f rest o)
+joined-only j next f rest None h = tt
+joined-only j next f rest (Some left) h = only-bind (next left) _ (h left) (λ x. tt)
 
 descend-only : (n : ℕ) (l : Level) (ts : List Token) → Only (descend n l ts)
 descend-only zero l ts = refl
-descend-only (suc n) or ts =
-    only-bind (descend n and ts) _ (descend-only n and ts) (λ x. or-only (descend n or) x.0 x.1 (behind kind.Or x.1) (λ us. descend-only n or us))
-descend-only (suc n) and ts =
-    only-bind (descend n test ts) _ (descend-only n test ts) (λ x. and-only (descend n and) x.0 x.1 (behind kind.And x.1) (λ us. descend-only n and us))
+descend-only (suc n) (chain j) ts =
+    only-bind (descend n (part j) ts) _ (descend-only n (part j) ts) (λ x. joined-only j (descend n (chain j)) x.0 x.1 (behind (sign j) x.1) (λ us. descend-only n (chain j) us))
 descend-only (suc n) test [] = refl
 descend-only (suc n) test (t ∷ ts) = test-only (descend n or) t.slice ts t.kind (λ us. descend-only n or us)
 
@@ -128,10 +124,10 @@ whole-only : (f : Formula) (ts : List Token) → Only (whole_by (f, ts))
 whole-only f [] = tt
 whole-only f (t ∷ ts) = refl
 
-only-at : (r : Result Formula ExprFault) (x : ExprFault) → r ≡ Err x → Only r → x ≡ X4
+only-at : (r : Result Formula ExprCode) (x : ExprCode) → r ≡ Err x → Only r → x ≡ X4
 only-at r x e h = subst Only e h
 
-pub formula_from-only : (ts : List Token) (x : ExprFault) → formula_from ts ≡ Err x → x ≡ X4
+pub formula_from-only : (ts : List Token) (x : ExprCode) → formula_from ts ≡ Err x → x ≡ X4
 formula_from-only ts x e = only-at (formula_from ts) x e (only-bind (descend (reach or ts) or ts) whole_by (descend-only (reach or ts) or ts) (λ y. whole-only y.0 y.1))
 
 -- ---- what is derived balances and has no stray pattern
@@ -178,15 +174,15 @@ group-balanced l inner r left a right n rest =
     ∙ ap (λ b. not b && balances ((n + 1) - 1) rest) (opened n)
     ∙ ap (λ m. balances m rest) (closes n)
 
+sign-balanced : (j : Join) (t : Token) → t.kind ≡ sign j → Balanced (t ∷ [])
+sign-balanced join.Or t e = level-one t kind.Or e (λ n ts. refl)
+sign-balanced join.And t e = level-one t kind.And e (λ n ts. refl)
+
 pub derived-balanced : (l : Level) (ts : List Token) (f : Formula) → Derives l ts f → Balanced ts
-derived-balanced _ _ _ (or_one ts f d) = derived-balanced and ts f d
-derived-balanced _ _ _ (or_more left t right ts f g a is b e) =
-    subst Balanced (sym e) (balanced-join left (t ∷ right) (derived-balanced and left f a)
-    (balanced-join (t ∷ []) right (level-one t kind.Or is (λ n ts. refl)) (derived-balanced or right g b)))
-derived-balanced _ _ _ (and_one ts f d) = derived-balanced test ts f d
-derived-balanced _ _ _ (and_more left t right ts f g a is b e) =
-    subst Balanced (sym e) (balanced-join left (t ∷ right) (derived-balanced test left f a)
-    (balanced-join (t ∷ []) right (level-one t kind.And is (λ n ts. refl)) (derived-balanced and right g b)))
+derived-balanced _ _ _ (single j ts f d) = derived-balanced (part j) ts f d
+derived-balanced _ _ _ (several j left t right ts f g a is b e) =
+    subst Balanced (sym e) (balanced-join left (t ∷ right) (derived-balanced (part j) left f a)
+    (balanced-join (t ∷ []) right (sign-balanced j t is) (derived-balanced (chain j) right g b)))
 derived-balanced _ _ _ (in_group l inner r ts f left a right e) = subst Balanced (sym e) (group-balanced l inner r left (derived-balanced or inner f a) right)
 derived-balanced _ _ _ (alone v name named) = level-one v kind.Name named.0 (λ n ts. refl)
 derived-balanced _ _ _ (compared v c w negated name operand named sign is) =
@@ -225,13 +221,14 @@ matching-tidy : (negated : Bool) (c w : Token) → c.kind ≡ matching negated �
 matching-tidy false c w e p rest = stray-step false c (w ∷ rest) kind.Match e ∙ stray-step true w rest kind.Pattern p
 matching-tidy true c w e p rest = stray-step false c (w ∷ rest) kind.Mismatch e ∙ stray-step true w rest kind.Pattern p
 
+sign-tidy : (j : Join) (t : Token) → t.kind ≡ sign j → Tidy (t ∷ [])
+sign-tidy join.Or t e = tidy-one false t kind.Or e (refl, refl)
+sign-tidy join.And t e = tidy-one false t kind.And e (refl, refl)
+
 pub derived-tidy : (l : Level) (ts : List Token) (f : Formula) → Derives l ts f → Tidy ts
-derived-tidy _ _ _ (or_one ts f d) = derived-tidy and ts f d
-derived-tidy _ _ _ (or_more left t right ts f g a is b e) =
-    subst Tidy (sym e) (tidy-join left (t ∷ right) (derived-tidy and left f a) (tidy-join (t ∷ []) right (tidy-one false t kind.Or is (refl, refl)) (derived-tidy or right g b)))
-derived-tidy _ _ _ (and_one ts f d) = derived-tidy test ts f d
-derived-tidy _ _ _ (and_more left t right ts f g a is b e) =
-    subst Tidy (sym e) (tidy-join left (t ∷ right) (derived-tidy test left f a) (tidy-join (t ∷ []) right (tidy-one false t kind.And is (refl, refl)) (derived-tidy and right g b)))
+derived-tidy _ _ _ (single j ts f d) = derived-tidy (part j) ts f d
+derived-tidy _ _ _ (several j left t right ts f g a is b e) =
+    subst Tidy (sym e) (tidy-join left (t ∷ right) (derived-tidy (part j) left f a) (tidy-join (t ∷ []) right (sign-tidy j t is) (derived-tidy (chain j) right g b)))
 derived-tidy _ _ _ (in_group l inner r ts f left a right e) =
     subst Tidy (sym e) (tidy-join (l ∷ []) (inner ++ r ∷ []) (tidy-one false l kind.Left left (refl, refl))
     (tidy-join inner (r ∷ []) (derived-tidy or inner f a) (tidy-one false r kind.Right right (refl, refl))))

@@ -1,13 +1,12 @@
 -- What a built formula says.
 use Rattle.std.specs.Prelude.{map, chars, string_bytes}
-use Rattle.regex.specs.Strings.{regex_source}
 use Rattle.ci_expr.specs.declared.expr.Expr.{Expr}
 use Rattle.ci_expr.specs.declared.formula.Env.{Env}
 use Rattle.ci_expr.specs.declared.formula.Subject as subjects
 use Rattle.ci_expr.specs.declared.formula.Subject.TheVariants as subject
 use Rattle.ci_expr.specs.declared.formula.Formula as formulas
-use Rattle.ci_expr.specs.declared.formula.Formula.TheVariants.{Either', Both', Group', Present, Equal, Found}
-use Rattle.ci_expr.specs.Formula.{Operand, null, text, variable, Formula, either, both, group, present, equal, found}
+use Rattle.ci_expr.specs.declared.formula.Formula.TheVariants.{Joined', Group', Present, Equal, Found}
+use Rattle.ci_expr.specs.Formula.{Operand, null, text, variable, Formula, joined, group, present, equal, found}
 use Rattle.ci_expr.specs.Truth.{Values}
 
 abbrev pub values_of : Env → Values
@@ -19,12 +18,11 @@ subject_view (subject.Text s) = text (string_bytes s)
 subject_view (subject.Variable s) = variable (string_bytes s)
 
 abbrev pub formula_view : formulas.Formula → Formula
-formula_view (Either' p a q b) = either (formula_view a) (formula_view b)
-formula_view (Both' p a q b) = both (formula_view a) (formula_view b)
+formula_view (Joined' j p a q b) = joined j (formula_view a) (formula_view b)
 formula_view (Group' p a) = group (formula_view a)
 formula_view (Present name) = present (string_bytes name)
 formula_view (Equal negated name subject) = equal negated (string_bytes name) (subject_view subject)
-formula_view (Found negated name pattern) = found negated (string_bytes name) (chars (regex_source pattern.value.regex)) pattern.value.insensitive
+formula_view (Found negated name pattern) = found negated (string_bytes name) (chars (string_bytes pattern.value.source)) pattern.value.insensitive
 
 -- the formula that an expression says
 abbrev pub formula_of : Expr → Formula

@@ -1,13 +1,15 @@
 -- The grammar, read from the left.
 use Rattle.std.specs.Prelude.{ℕ, zero, suc, ◌+◌, ◌*◌, Bool, true, false, List, [], ◌∷◌, ◌-◌, length, take, drop, get_or, Option, Some, None, option_map, Result, Ok, Err, ◌==◌, ◌||◌, if◌then◌else◌, chars}
 use Rattle.std.specs.Option.{option_and_then}
-use Rattle.ci_expr.specs.declared.fault.ExprFault.{ExprFault}
-use Rattle.ci_expr.specs.declared.fault.ExprFault.TheVariants.{X4}
+use Rattle.ci_expr.specs.declared.fault.ExprCode.{ExprCode}
+use Rattle.ci_expr.specs.declared.fault.ExprCode.TheVariants.{X4}
 use Rattle.ci_expr.specs.declared.token.Kind.{Kind}
 use Rattle.ci_expr.specs.declared.token.Kind.TheVariants as kind
+use Rattle.ci_expr.specs.declared.tree.Join.{Join}
+use Rattle.ci_expr.specs.declared.tree.Join.TheVariants as join
 use Rattle.ci_expr.specs.Token.{Token}
 use Rattle.ci_expr.specs.Reading.{◌>>=◌}
-use Rattle.ci_expr.specs.Formula.{Operand, null, text, variable, Formula, either, both, group, present, equal, found, Level, or, and, test, unescaped}
+use Rattle.ci_expr.specs.Formula.{Operand, null, text, variable, Formula, joined, group, present, equal, found, Level, chain, or, test, part, sign, unescaped}
 
 -- the place of a kind among the kinds
 abbrev pub place : Kind → ℕ
@@ -63,7 +65,7 @@ operand_by s _ = None
 -- ---- formulas
 -- a formula, and the tokens behind it
 abbrev pub Read : Type 0
-Read = Result (Formula × List Token) ExprFault
+Read = Result (Formula × List Token) ExprCode
 
 -- the tokens behind one of this kind
 abbrev pub behind : Kind → List Token → Option (List Token)
@@ -111,35 +113,35 @@ test_by next s ts kind.Left = next ts >>= λ x. closed x.0 (behind kind.Right x.
 test_by next s ts kind.Name = variable_by ts (behind_byte 36 s)
 test_by next s ts _ = Err X4
 
-abbrev pub or_by : (List Token → Read) → Formula → List Token → Option (List Token) → Read
-or_by next f rest None = Ok (f, rest)
-or_by next f rest (Some more) = next more >>= λ y. Ok (either f y.0, y.1)
-
-abbrev pub and_by : (List Token → Read) → Formula → List Token → Option (List Token) → Read
-and_by next f rest None = Ok (f, rest)
-and_by next f rest (Some more) = next more >>= λ y. Ok (both f y.0, y.1)
+-- a formula and those that are joined to it, where `next` reads the others
+abbrev pub joined_by : Join → (List Token → Read) → Formula → List Token → Option (List Token) → Read
+joined_by j next f rest None = Ok (f, rest)
+joined_by j next f rest (Some more) = next more >>= λ y. Ok (joined j f y.0, y.1)
 
 -- the longest formula of a level at the front, with so many steps at most
 abbrev pub descend : ℕ → Level → List Token → Read
 descend zero l ts = Err X4
-descend (suc n) or ts = descend n and ts >>= λ x. or_by (descend n or) x.0 x.1 (behind kind.Or x.1)
-descend (suc n) and ts = descend n test ts >>= λ x. and_by (descend n and) x.0 x.1 (behind kind.And x.1)
+descend (suc n) (chain j) ts = descend n (part j) ts >>= λ x. joined_by j (descend n (chain j)) x.0 x.1 (behind (sign j) x.1)
 descend (suc n) test [] = Err X4
 descend (suc n) test (t ∷ ts) = test_by (descend n or) t.slice ts t.kind
 
+-- how far a level lies above the tokens
+abbrev pub height : Level → ℕ
+height (chain join.Or) = 3
+height (chain join.And) = 2
+height test = 1
+
 -- so many steps are enough
 abbrev pub reach : Level → List Token → ℕ
-reach or ts = 3 * length ts + 3
-reach and ts = 3 * length ts + 2
-reach test ts = 3 * length ts + 1
+reach l ts = 3 * length ts + height l
 
-abbrev pub whole_by : Formula × List Token → Result Formula ExprFault
+abbrev pub whole_by : Formula × List Token → Result Formula ExprCode
 whole_by x = whole_at x.0 x.1
   where
-    whole_at : Formula → List Token → Result Formula ExprFault
+    whole_at : Formula → List Token → Result Formula ExprCode
     whole_at f [] = Ok f
     whole_at f (t ∷ ts) = Err X4
 
 -- the formula of a whole list of tokens
-abbrev pub formula_from : List Token → Result Formula ExprFault
+abbrev pub formula_from : List Token → Result Formula ExprCode
 formula_from ts = descend (reach or ts) or ts >>= whole_by

@@ -2,6 +2,8 @@
 use Rattle.std.specs.Prelude.{◌≡◌, ℕ, Bool, true, false, List, [], ◌∷◌, ◌++◌, ◌==◌, ◌||◌, if◌then◌else◌, chars}
 use Rattle.ci_expr.specs.declared.token.Kind.{Kind}
 use Rattle.ci_expr.specs.declared.token.Kind.TheVariants as kind
+use Rattle.ci_expr.specs.declared.tree.Join.{Join}
+use Rattle.ci_expr.specs.declared.tree.Join.TheVariants as join
 use Rattle.ci_expr.specs.Token.{Token, IsMark}
 
 -- what a variable is compared with
@@ -11,10 +13,8 @@ pub data Operand : Type 0 where
   variable : List ℕ → Operand
 
 pub data Formula : Type 0 where
-  -- one of the two is true
-  either : Formula → Formula → Formula
-  -- both are true
-  both : Formula → Formula → Formula
+  -- with `||` one of the two is true, with `&&` both are
+  joined : Join → Formula → Formula → Formula
   -- a formula in parentheses
   group : Formula → Formula
   -- the variable of this name is defined and not empty
@@ -26,11 +26,24 @@ pub data Formula : Type 0 where
   found : Bool → List ℕ → List ℕ → Bool → Formula
 
 -- ---- which tokens spell a formula
--- `or` is one or more `and` joined by `||`, `and` is one or more `test` joined by `&&`
+-- one or more formulas joined in this way, or a single test
 pub data Level : Type 0 where
-  or : Level
-  and : Level
+  chain : Join → Level
   test : Level
+
+-- any formula
+abbrev pub or : Level
+or = chain join.Or
+
+-- what is joined: `||` joins chains of `&&`, and `&&` joins tests
+abbrev pub part : Join → Level
+part join.Or = chain join.And
+part join.And = test
+
+-- the token that joins
+abbrev pub sign : Join → Kind
+sign join.Or = kind.Or
+sign join.And = kind.And
 
 -- `==`, and `!=` where it is negated
 abbrev pub comparing : Bool → Kind
@@ -70,12 +83,9 @@ IsPatternOf source insensitive t =
 
 -- the grammar: the tokens are this formula, read at this level
 pub data Derives : Level → List Token → Formula → Type 0 where
-  or_one : (ts : List Token) (f : Formula) → Derives and ts f → Derives or ts f
-  or_more : (left : List Token) (t : Token) (right ts : List Token) (f g : Formula) → Derives and left f → t.kind ≡ kind.Or → Derives or right g
-      → ts ≡ left ++ t ∷ right → Derives or ts (either f g)
-  and_one : (ts : List Token) (f : Formula) → Derives test ts f → Derives and ts f
-  and_more : (left : List Token) (t : Token) (right ts : List Token) (f g : Formula) → Derives test left f → t.kind ≡ kind.And → Derives and right g
-      → ts ≡ left ++ t ∷ right → Derives and ts (both f g)
+  single : (j : Join) (ts : List Token) (f : Formula) → Derives (part j) ts f → Derives (chain j) ts f
+  several : (j : Join) (left : List Token) (t : Token) (right ts : List Token) (f g : Formula) → Derives (part j) left f → t.kind ≡ sign j → Derives (chain j) right g
+      → ts ≡ left ++ t ∷ right → Derives (chain j) ts (joined j f g)
   in_group : (l : Token) (inner : List Token) (r : Token) (ts : List Token) (f : Formula) → l.kind ≡ kind.Left → Derives or inner f → r.kind ≡ kind.Right
       → ts ≡ l ∷ (inner ++ r ∷ []) → Derives test ts (group f)
   alone : (v : Token) (name : List ℕ) → IsNamed name v → Derives test (v ∷ []) (present name)
@@ -86,8 +96,7 @@ pub data Derives : Level → List Token → Formula → Type 0 where
 
 -- the formula holds a pattern
 abbrev pub has_pattern : Formula → Bool
-has_pattern (either f g) = has_pattern f || has_pattern g
-has_pattern (both f g) = has_pattern f || has_pattern g
+has_pattern (joined j f g) = has_pattern f || has_pattern g
 has_pattern (group f) = has_pattern f
 has_pattern (present name) = false
 has_pattern (equal negated name operand) = false

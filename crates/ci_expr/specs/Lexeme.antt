@@ -1,8 +1,8 @@
 -- The token at the front of a text, read from the left.
 use Rattle.std.specs.Prelude.{ℕ, suc, ◌+◌, Bool, false, List, [], ◌∷◌, drop, get_or, Option, Some, None, option_map, Result, Ok, Err, ◌==◌, not, ◌&&◌, if◌then◌else◌}
-use Rattle.ci_expr.specs.declared.fault.ExprFault.{ExprFault}
+use Rattle.ci_expr.specs.declared.fault.ExprCode.{ExprCode}
 use Rattle.ci_expr.specs.Character.{starts_word, is_word}
-use Rattle.ci_expr.specs.declared.fault.ExprFault.TheVariants.{X2, X3}
+use Rattle.ci_expr.specs.declared.fault.ExprCode.TheVariants.{X2, X3}
 use Rattle.ci_expr.specs.declared.token.Kind.{Kind}
 use Rattle.ci_expr.specs.declared.token.Kind.TheVariants.{Name, Text, Null, Equal, Unequal, Match, Mismatch, And, Or, Left, Right, Pattern}
 
@@ -28,31 +28,31 @@ abbrev pub body_length : Bool → List ℕ → Option ℕ
 body_length escaped [] = None
 body_length escaped (b ∷ bs) = if ends_body escaped b then Some 0 else option_map suc (body_length (escapes escaped b) bs)
 
-abbrev pub name_front : List ℕ → Result (Kind × ℕ) ExprFault
+abbrev pub name_front : List ℕ → Result (Kind × ℕ) ExprCode
 name_front bs = if starts_word (get_or bs 0 0) then Ok (Name, suc (word_length bs)) else Err X2
 
-abbrev pub text_by : Option ℕ → Result (Kind × ℕ) ExprFault
+abbrev pub text_by : Option ℕ → Result (Kind × ℕ) ExprCode
 text_by None = Err X3
 text_by (Some n) = Ok (Text, suc (suc n))
 
-abbrev pub text_front : ℕ → List ℕ → Result (Kind × ℕ) ExprFault
+abbrev pub text_front : ℕ → List ℕ → Result (Kind × ℕ) ExprCode
 text_front q bs = text_by (until q bs)
 
-abbrev pub pattern_by : List ℕ → Option ℕ → Result (Kind × ℕ) ExprFault
+abbrev pub pattern_by : List ℕ → Option ℕ → Result (Kind × ℕ) ExprCode
 pattern_by bs None = Err X3
 pattern_by bs (Some n) =
     if get_or bs (n + 1) 0 == 105 then (if is_word (get_or bs (n + 2) 0) then Err X2 else Ok (Pattern, suc (suc (suc n))))
     else Ok (Pattern, suc (suc n))
 
-abbrev pub pattern_front : List ℕ → Result (Kind × ℕ) ExprFault
+abbrev pub pattern_front : List ℕ → Result (Kind × ℕ) ExprCode
 pattern_front bs = pattern_by bs (body_length false bs)
 
-abbrev pub null_front : List ℕ → Result (Kind × ℕ) ExprFault
+abbrev pub null_front : List ℕ → Result (Kind × ℕ) ExprCode
 null_front bs =
     if get_or bs 1 0 == 117 then (if get_or bs 2 0 == 108 then (if get_or bs 3 0 == 108 then
     (if is_word (get_or bs 4 0) then Err X2 else Ok (Null, 4)) else Err X2) else Err X2) else Err X2
 
-abbrev pub lexeme : List ℕ → Result (Kind × ℕ) ExprFault
+abbrev pub lexeme : List ℕ → Result (Kind × ℕ) ExprCode
 lexeme bs =
     if get_or bs 0 0 == 36 then name_front (drop 1 bs)
     else if get_or bs 0 0 == 34 then text_front 34 (drop 1 bs)

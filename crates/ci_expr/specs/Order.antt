@@ -1,7 +1,7 @@
 -- The faults of a list of tokens before the grammar is asked, counted from the left.
 use Rattle.std.specs.Prelude.{ℕ, ◌+◌, ◌-◌, Bool, true, false, List, [], ◌∷◌, Option, Some, None, max, nat_lt, ◌==◌, not, ◌&&◌, ◌||◌, if◌then◌else◌}
-use Rattle.ci_expr.specs.declared.fault.ExprFault.{ExprFault}
-use Rattle.ci_expr.specs.declared.fault.ExprFault.TheVariants.{X5, X6, X7}
+use Rattle.ci_expr.specs.declared.fault.ExprCode.{ExprCode}
+use Rattle.ci_expr.specs.declared.fault.ExprCode.TheVariants.{X5, X6, X7}
 use Rattle.ci_expr.specs.declared.token.Kind.{Kind}
 use Rattle.ci_expr.specs.declared.token.Kind.TheVariants as kind
 use Rattle.ci_expr.specs.Token.{Token}
@@ -38,6 +38,6 @@ has_stray after [] = false
 has_stray after (t ∷ ts) = (is_pattern t.kind && not after) || has_stray (takes_pattern t.kind) ts
 
 -- the first of these faults
-abbrev pub list_fault : List Token → Option ExprFault
+abbrev pub list_fault : List Token → Option ExprCode
 list_fault ts =
     if balances 0 ts then (if has_stray false ts then Some X6 else if nat_lt 32 (deepest 0 ts) then Some X7 else None) else Some X5

@@ -1,7 +1,7 @@
 -- The tokens of a text.
 use Rattle.std.specs.Prelude.{◌≡◌, ℕ, ◌+◌, ◌≤◌, true, false, List, [], ◌∷◌, ◌++◌, length, take, drop, ◌==◌, ◌||◌, codes, ⊤}
-use Rattle.ci_expr.specs.declared.fault.ExprFault.{ExprFault}
-use Rattle.ci_expr.specs.declared.fault.ExprFault.TheVariants.{X2, X3}
+use Rattle.ci_expr.specs.declared.fault.ExprCode.{ExprCode}
+use Rattle.ci_expr.specs.declared.fault.ExprCode.TheVariants.{X2, X3}
 use Rattle.ci_expr.specs.declared.token.Kind.{Kind}
 use Rattle.ci_expr.specs.declared.token.Kind.TheVariants.{Name, Text, Null, Equal, Unequal, Match, Mismatch, And, Or, Left, Right, Pattern}
 use Rattle.ci_expr.specs.Character.{is_blank, starts_word, is_word}
@@ -82,8 +82,8 @@ abbrev pub BeginsNone : List ℕ → Type 0
 BeginsNone bs = (kind : Kind) (slice rest : List ℕ) → bs ≡ slice ++ rest → Spells kind slice rest → ⊥
 
 -- what stops the tokens, where tokens and blanks come before it
-pub data Stops : List ℕ → ExprFault → Type 0 where
-  blank : (b : ℕ) (bs : List ℕ) (f : ExprFault) → is_blank b ≡ true → Stops bs f → Stops (b ∷ bs) f
-  token : (kind : Kind) (slice rest bs : List ℕ) (f : ExprFault) → bs ≡ slice ++ rest → Spells kind slice rest → Stops rest f → Stops bs f
+pub data Stops : List ℕ → ExprCode → Type 0 where
+  blank : (b : ℕ) (bs : List ℕ) (f : ExprCode) → is_blank b ≡ true → Stops bs f → Stops (b ∷ bs) f
+  token : (kind : Kind) (slice rest bs : List ℕ) (f : ExprCode) → bs ≡ slice ++ rest → Spells kind slice rest → Stops rest f → Stops bs f
   unclosed : (bs : List ℕ) → StaysOpen bs → Stops bs X3
   wrong : (b : ℕ) (bs : List ℕ) → is_blank b ≡ false → BeginsNone (b ∷ bs) → (StaysOpen (b ∷ bs) → ⊥) → Stops (b ∷ bs) X2

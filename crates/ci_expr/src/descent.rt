@@ -2,13 +2,13 @@
 
 ghost use Rattle.std.specs.Prelude.{◌≡◌, ◌+◌, ◌<◌, ◌≤◌, length, map, option_map, IfOk, IfSome};
 ghost use Rattle.ci_expr.specs.Descent.{is_kind, behind, compared_from, matched_from, named_from, formula_from};
-ghost use Rattle.ci_expr.specs.Formula.{or, and, test};
+ghost use Rattle.ci_expr.specs.Formula.{chain, test, part, sign};
 ghost use Rattle.ci_expr.specs.View.{Gives, token_view, tree_view, read_view, IsDescent};
 
-use crate::fault::{ExprError, ExprFault};
+use crate::fault::{ExprCode, ExprFault};
 use crate::part::{behind_byte, operand_of, pattern_of};
 use crate::token::{Kind, Token};
-use crate::tree::Tree;
+use crate::tree::{Join, Tree};
 use std::alloc::Global;
 
 /// A formula, and the tokens behind it.
@@ -43,16 +43,16 @@ fn compared_from<'t, 'a>(
     negated: bool,
     name: &'a str,
     tokens: &'t [Token<'a>],
-) -> Result<Read<'t, 'a>, ExprError>
+) -> Result<Read<'t, 'a>, ExprFault>
     ensures exact { Gives read_view result (compared_from negated name.now (map token_view tokens.now)) }
     ensures size { IfOk result (λ r. length r.1.now ≤ length tokens.now) }
 {
     match tokens.split_first() {
         Some((token, rest)) => match operand_of(token) {
             Some(operand) => Ok((Tree::Equal(negated, name, operand), rest)),
-            None => Err(ExprError::Fault(ExprFault::X4)),
+            None => Err(ExprFault::Fault(ExprCode::X4)),
         },
-        None => Err(ExprError::Fault(ExprFault::X4)),
+        None => Err(ExprFault::Fault(ExprCode::X4)),
     }
 }
 
@@ -61,29 +61,29 @@ fn matched_from<'t, 'a>(
     negated: bool,
     name: &'a str,
     tokens: &'t [Token<'a>],
-) -> Result<Read<'t, 'a>, ExprError>
+) -> Result<Read<'t, 'a>, ExprFault>
     ensures exact { Gives read_view result (matched_from negated name.now (map token_view tokens.now)) }
     ensures size { IfOk result (λ r. length r.1.now ≤ length tokens.now) }
 {
     match tokens.split_first() {
         Some((token, rest)) => {
             if !is_kind(token.kind, Kind::Pattern) {
-                return Err(ExprError::Fault(ExprFault::X4));
+                return Err(ExprFault::Fault(ExprCode::X4));
             }
             match pattern_of(token.slice) {
                 Some((body, insensitive)) => Ok((
                     Tree::Found(negated, name, body, insensitive),
                     rest,
                 )),
-                None => Err(ExprError::Fault(ExprFault::X4)),
+                None => Err(ExprFault::Fault(ExprCode::X4)),
             }
         }
-        None => Err(ExprError::Fault(ExprFault::X4)),
+        None => Err(ExprFault::Fault(ExprCode::X4)),
     }
 }
 
 /// A test that begins with a variable, behind its name.
-fn named_from<'t, 'a>(name: &'a str, tokens: &'t [Token<'a>]) -> Result<Read<'t, 'a>, ExprError>
+fn named_from<'t, 'a>(name: &'a str, tokens: &'t [Token<'a>]) -> Result<Read<'t, 'a>, ExprFault>
     ensures exact { Gives read_view result (named_from name.now (map token_view tokens.now)) }
     ensures size { IfOk result (λ r. length r.1.now ≤ length tokens.now) }
 {
@@ -99,73 +99,87 @@ fn named_from<'t, 'a>(name: &'a str, tokens: &'t [Token<'a>]) -> Result<Read<'t,
     }
 }
 
-/// The longest `or` at the front.
+/// The kind of the token that joins.
+fn sign_of(join: Join) -> Kind
+    ensures { result ≡ sign join }
+{
+    match join {
+        Join::Or => Kind::Or,
+        Join::And => Kind::And,
+    }
+}
+
+/// The longest run of formulas at the front that are joined so.
 #[cycle(descent)]
-fn or_from<'t, 'a>(alloc: Global, tokens: &'t [Token<'a>]) -> Result<Read<'t, 'a>, ExprError>
-    ensures exact { IsDescent or (map token_view tokens.now) result }
+fn chain_from<'t, 'a>(
+    alloc: Global,
+    join: Join,
+    tokens: &'t [Token<'a>],
+) -> Result<Read<'t, 'a>, ExprFault>
+    ensures exact { IsDescent (chain join) (map token_view tokens.now) result }
     ensures size { IfOk result (λ r. length r.1.now < length tokens.now) }
 {
-    let (first, rest) = and_from(alloc, tokens)?;
-    match behind(rest, Kind::Or) {
+    let (first, rest) = part_from(alloc, join, tokens)?;
+    match behind(rest, sign_of(join)) {
         Some(more) => {
-            let (others, rest) = or_from(alloc, more)?;
+            let (others, rest) = chain_from(alloc, join, more)?;
             let first = Box::new(alloc, first)?;
-            Ok((Tree::Either(first, Box::new(alloc, others)?), rest))
+            let others = Box::new(alloc, others)?;
+            Ok((Tree::Joined(join, first, others), rest))
         }
         None => Ok((first, rest)),
     }
 }
 
-/// The longest `and` at the front.
+/// The formula at the front of those that are joined so.
 #[cycle(descent)]
-fn and_from<'t, 'a>(alloc: Global, tokens: &'t [Token<'a>]) -> Result<Read<'t, 'a>, ExprError>
-    ensures exact { IsDescent and (map token_view tokens.now) result }
+fn part_from<'t, 'a>(
+    alloc: Global,
+    join: Join,
+    tokens: &'t [Token<'a>],
+) -> Result<Read<'t, 'a>, ExprFault>
+    ensures exact { IsDescent (part join) (map token_view tokens.now) result }
     ensures size { IfOk result (λ r. length r.1.now < length tokens.now) }
 {
-    let (first, rest) = test_from(alloc, tokens)?;
-    match behind(rest, Kind::And) {
-        Some(more) => {
-            let (others, rest) = and_from(alloc, more)?;
-            let first = Box::new(alloc, first)?;
-            Ok((Tree::Both(first, Box::new(alloc, others)?), rest))
-        }
-        None => Ok((first, rest)),
+    match join {
+        Join::Or => chain_from(alloc, Join::And, tokens),
+        Join::And => test_from(alloc, tokens),
     }
 }
 
 /// The test at the front.
 #[cycle(descent)]
-fn test_from<'t, 'a>(alloc: Global, tokens: &'t [Token<'a>]) -> Result<Read<'t, 'a>, ExprError>
+fn test_from<'t, 'a>(alloc: Global, tokens: &'t [Token<'a>]) -> Result<Read<'t, 'a>, ExprFault>
     ensures exact { IsDescent test (map token_view tokens.now) result }
     ensures size { IfOk result (λ r. length r.1.now < length tokens.now) }
 {
     match tokens.split_first() {
         Some((token, rest)) => match token.kind {
             Kind::Left => {
-                let (inner, rest) = or_from(alloc, rest)?;
+                let (inner, rest) = chain_from(alloc, Join::Or, rest)?;
                 match behind(rest, Kind::Right) {
                     Some(rest) => Ok((Tree::Group(Box::new(alloc, inner)?), rest)),
-                    None => Err(ExprError::Fault(ExprFault::X4)),
+                    None => Err(ExprFault::Fault(ExprCode::X4)),
                 }
             }
             Kind::Name => match behind_byte(token.slice, b'$') {
                 Some(name) => named_from(name, rest),
-                None => Err(ExprError::Fault(ExprFault::X4)),
+                None => Err(ExprFault::Fault(ExprCode::X4)),
             },
-            _ => Err(ExprError::Fault(ExprFault::X4)),
+            _ => Err(ExprFault::Fault(ExprCode::X4)),
         },
-        None => Err(ExprError::Fault(ExprFault::X4)),
+        None => Err(ExprFault::Fault(ExprCode::X4)),
     }
 }
 
 /// The formula of a whole list of tokens.
-pub fn formula_from<'a>(alloc: Global, tokens: &[Token<'a>]) -> Result<Tree<'a>, ExprError>
+pub fn formula_from<'a>(alloc: Global, tokens: &[Token<'a>]) -> Result<Tree<'a>, ExprFault>
     ensures { Gives tree_view result (formula_from (map token_view tokens.now)) }
 {
-    let (tree, rest) = or_from(alloc, tokens)?;
+    let (tree, rest) = chain_from(alloc, Join::Or, tokens)?;
     if rest.is_empty() {
         Ok(tree)
     } else {
-        Err(ExprError::Fault(ExprFault::X4))
+        Err(ExprFault::Fault(ExprCode::X4))
     }
 }

@@ -2,20 +2,20 @@
 
 ghost use Rattle.std.specs.Prelude.{◌≡◌, List, Result, IfOk, map};
 ghost use Rattle.ci_expr.specs.Formula.{Formula as Meant};
-ghost use Rattle.ci_expr.specs.declared.fault.ExprFault.{ExprFault as Code};
+ghost use Rattle.ci_expr.specs.declared.fault.ExprCode.{ExprCode as Code};
 ghost use Rattle.ci_expr.specs.Truth.{truth};
 ghost use Rattle.ci_expr.specs.View.{token_view};
-ghost use Rattle.ci_expr.specs.Meaning.{Means, Answers, Allows, AtMostOneFormula, parse_of, IsBuilt};
+ghost use Rattle.ci_expr.specs.Meaning.{Means, Answers, Allows, AtMostOneFormula, MeansOneThing, ArePatterns, parse_of, IsBuilt};
 ghost use Rattle.ci_expr.specs.Built.{values_of, formula_of};
 
 use crate::descent::formula_from;
-use crate::fault::ExprError;
+use crate::fault::ExprFault;
 use crate::formula::{Env, Formula, build, truth};
 use crate::order::list_fault;
 use crate::token::{Token, tokens};
 use std::alloc::{AllocError, Global};
 
-/// An expression that was read, with its patterns built.
+/// An expression that was read. It keeps the texts of its patterns, which are built when its value is asked.
 #[derive(Drop)]
 pub struct Expr {
     root: Formula,
@@ -31,29 +31,35 @@ impl Expr {
 }
 
 /// The expression of a list of tokens.
-fn parse_tokens(alloc: Global, tokens: &[Token]) -> Result<Expr, ExprError>
-    ensures { IsBuilt formula_of result (parse_of (map token_view tokens.now)) }
+fn parse_tokens(alloc: Global, tokens: &[Token]) -> Result<Expr, ExprFault>
+    ensures built { IsBuilt formula_of result (parse_of (map token_view tokens.now)) }
+    ensures patterns { IfOk result (λ e. ArePatterns (formula_of e)) }
 {
     if let Some(fault) = list_fault(tokens) {
-        return Err(ExprError::Fault(fault));
+        return Err(ExprFault::Fault(fault));
     }
     let tree = formula_from(alloc, tokens)?;
     let root = build(alloc, &tree)?;
     Ok(Expr { root })
 }
 
-/// The expression of a text. A pattern is built once, here, and kept.
+/// The expression of a text. Each pattern is built here, to see that it can be, and let go.
 ///
 /// Errors: memory was refused; or the first fault: the text is too long (X1), holds what begins no token (X2) or what
 /// doesn't end (X3), its parentheses don't balance (X5), a pattern doesn't stand directly after `=~` or `!~` (X6), more than
-/// 32 parentheses are open at once (X7), the tokens are no formula (X4), or `regex` refuses a pattern (X8).
-pub fn parse(alloc: Global, text: &str) -> Result<Expr, ExprError>
+/// 32 parentheses are open at once (X7), the tokens are no formula (X4), or `regex` refuses a pattern, or takes
+/// more than `MAX_PATTERN_BYTES` for it (X8).
+pub fn parse(alloc: Global, text: &str) -> Result<Expr, ExprFault>
     // What is answered is the formula of the text, or its first fault.
     ensures answer { Answers formula_of result (Means text.now) }
     // Where the text has a formula, it is answered, or X8 where it holds a pattern; where the text has a fault, that.
     ensures only { (r : Result Meant Code) → Means text.now r → Allows formula_of result r }
+    // An expression that is answered holds no pattern but such as the grammar of `regex` reads.
+    ensures patterns { IfOk result (λ e. ArePatterns (formula_of e)) }
     // The grammar leaves no choice.
     ensures one { AtMostOneFormula }
+    // Nor does the text.
+    ensures single { MeansOneThing }
 {
     let found = tokens(alloc, text)?;
     parse_tokens(alloc, &found)

@@ -1,15 +1,16 @@
-//! Formulas whose patterns are built, and their truth.
+//! Formulas with texts of their own, and their truth.
 
 ghost use Rattle.std.specs.Prelude.{◌≡◌, List, chars, string_bytes, IfOk, IfErr, option_map};
-ghost use Rattle.regex.specs.Strings.{regex_source};
 ghost use Rattle.ci_expr.specs.Formula.{unescaped};
 ghost use Rattle.ci_expr.specs.Truth.{same_value, negated_by, value_of, operand_value, truth};
 ghost use Rattle.ci_expr.specs.View.{tree_view, operand_view, IsOfPattern, RefusesPattern};
+ghost use Rattle.ci_expr.specs.Found.{IsPattern};
+ghost use Rattle.ci_expr.specs.Meaning.{ArePatterns};
 ghost use Rattle.ci_expr.specs.Built.{subject_view, formula_view, values_of};
 
-use crate::fault::{ExprError, ExprFault};
-use crate::pattern::{Pattern, Refusal, build_pattern, is_found};
-use crate::tree::{Operand, Tree};
+use crate::fault::{ExprCode, ExprFault};
+use crate::pattern::{Pattern, Refusal, checked, is_found};
+use crate::tree::{Join, Operand, Tree};
 use std::alloc::{AllocError, Global};
 
 /// The variables that an expression sees: names with their values. Of two pairs with one name the first counts, and a
@@ -31,13 +32,11 @@ pub enum Subject {
     Variable(String),
 }
 
-/// A formula with its patterns built.
+/// A formula with texts of its own, each of whose patterns `regex` has built once.
 #[derive(Drop)]
 pub enum Formula {
-    /// One of the two is true.
-    Either(Box<Formula>, Box<Formula>),
-    /// Both are true.
-    Both(Box<Formula>, Box<Formula>),
+    /// Two formulas, joined so.
+    Joined(Join, Box<Formula>, Box<Formula>),
     /// A formula in parentheses.
     Group(Box<Formula>),
     /// The variable is defined and not empty.
@@ -82,35 +81,33 @@ fn subject_of(alloc: Global, operand: &Operand) -> Result<Subject, AllocError>
     }
 }
 
-/// The built pattern of a body.
-fn pattern_from(alloc: Global, body: &str, insensitive: bool) -> Result<Pattern, ExprError>
-    ensures source { IfOk result (λ p. chars (regex_source p.regex) ≡ unescaped (chars body.now)) }
+/// The pattern of a body.
+fn pattern_from(alloc: Global, body: &str, insensitive: bool) -> Result<Pattern, ExprFault>
+    ensures source { IfOk result (λ p. chars (string_bytes p.source) ≡ unescaped (chars body.now)) }
     ensures flag { IfOk result (λ p. p.insensitive ≡ insensitive) }
+    ensures pattern { IfOk result (λ p. IsPattern insensitive (unescaped (chars body.now))) }
     ensures refused { IfErr result IsOfPattern }
 {
     let source = unescaped(alloc, body)?;
-    match build_pattern(alloc, source.as_str(), insensitive) {
+    match checked(alloc, source, insensitive) {
         Ok(pattern) => Ok(pattern),
-        Err(Refusal::Memory) => Err(ExprError::Memory),
-        Err(Refusal::Pattern) => Err(ExprError::Fault(ExprFault::X8)),
+        Err(Refusal::Memory) => Err(ExprFault::Memory),
+        Err(Refusal::Syntax | Refusal::Size) => Err(ExprFault::Fault(ExprCode::X8)),
     }
 }
 
-/// The formula with its patterns built.
-pub fn build(alloc: Global, tree: &Tree) -> Result<Formula, ExprError>
+/// The formula with texts of its own, where `regex` builds each of its patterns.
+pub fn build(alloc: Global, tree: &Tree) -> Result<Formula, ExprFault>
     ensures built { IfOk result (λ f. formula_view f ≡ tree_view tree.now) }
+    ensures patterns { IfOk result (λ f. ArePatterns (tree_view tree.now)) }
     ensures refused { IfErr result (λ e. RefusesPattern e (tree_view tree.now)) }
 {
     match tree {
-        Tree::Either(a, b) => {
+        Tree::Joined(join, a, b) => {
             let a = build(alloc, a)?;
             let b = build(alloc, b)?;
-            Ok(Formula::Either(Box::new(alloc, a)?, Box::new(alloc, b)?))
-        }
-        Tree::Both(a, b) => {
-            let a = build(alloc, a)?;
-            let b = build(alloc, b)?;
-            Ok(Formula::Both(Box::new(alloc, a)?, Box::new(alloc, b)?))
+            let a = Box::new(alloc, a)?;
+            Ok(Formula::Joined(*join, a, Box::new(alloc, b)?))
         }
         Tree::Group(a) => {
             let a = build(alloc, a)?;
@@ -170,13 +167,13 @@ pub fn truth(formula: &Formula, alloc: Global, env: &Env) -> Result<bool, AllocE
     ensures { IfOk result (λ b. b ≡ truth (values_of env.now) (formula_view formula.now)) }
 {
     match formula {
-        Formula::Either(a, b) => {
+        Formula::Joined(Join::Or, a, b) => {
             if truth(a, alloc, env)? {
                 return Ok(true);
             }
             truth(b, alloc, env)
         }
-        Formula::Both(a, b) => {
+        Formula::Joined(Join::And, a, b) => {
             if !truth(a, alloc, env)? {
                 return Ok(false);
             }

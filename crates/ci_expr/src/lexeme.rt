@@ -6,7 +6,7 @@ ghost use Rattle.ci_expr.specs.Character.{is_blank, starts_word, is_word};
 ghost use Rattle.ci_expr.specs.Token.{IsFront};
 ghost use Rattle.ci_expr.specs.View.{Gives};
 
-use crate::fault::{ExprError, ExprFault};
+use crate::fault::{ExprCode, ExprFault};
 use crate::token::Kind;
 
 /// A byte that parts tokens.
@@ -93,35 +93,35 @@ fn ends_body(escaped: bool, byte: u8) -> bool
 }
 
 /// The name behind a `$`.
-fn name_front(bytes: &[u8]) -> Result<(Kind, usize), ExprError>
+fn name_front(bytes: &[u8]) -> Result<(Kind, usize), ExprFault>
     ensures { Gives (λ x. x) result (name_front bytes.now) }
 {
     if starts_word(byte_at(bytes, 0)) {
         Ok((Kind::Name, 1 + word_length(bytes)))
     } else {
-        Err(ExprError::Fault(ExprFault::X2))
+        Err(ExprFault::Fault(ExprCode::X2))
     }
 }
 
 /// The text behind a mark.
-fn text_front(bytes: &[u8], mark: u8) -> Result<(Kind, usize), ExprError>
+fn text_front(bytes: &[u8], mark: u8) -> Result<(Kind, usize), ExprFault>
     ensures { Gives (λ x. x) result (text_front mark bytes.now) }
 {
     match until(bytes, mark) {
         Some(i) => Ok((Kind::Text, 2 + i)),
-        None => Err(ExprError::Fault(ExprFault::X3)),
+        None => Err(ExprFault::Fault(ExprCode::X3)),
     }
 }
 
 /// The pattern behind a `/`.
-fn pattern_front(bytes: &[u8]) -> Result<(Kind, usize), ExprError>
+fn pattern_front(bytes: &[u8]) -> Result<(Kind, usize), ExprFault>
     ensures { Gives (λ x. x) result (pattern_front bytes.now) }
 {
     match body_length(bytes) {
         Some(i) => {
             if byte_at(bytes, i + 1) == b'i' {
                 if is_word(byte_at(bytes, i + 2)) {
-                    Err(ExprError::Fault(ExprFault::X2))
+                    Err(ExprFault::Fault(ExprCode::X2))
                 } else {
                     Ok((Kind::Pattern, 3 + i))
                 }
@@ -129,31 +129,31 @@ fn pattern_front(bytes: &[u8]) -> Result<(Kind, usize), ExprError>
                 Ok((Kind::Pattern, 2 + i))
             }
         }
-        None => Err(ExprError::Fault(ExprFault::X3)),
+        None => Err(ExprFault::Fault(ExprCode::X3)),
     }
 }
 
 /// The word `null`.
-fn null_front(bytes: &[u8]) -> Result<(Kind, usize), ExprError>
+fn null_front(bytes: &[u8]) -> Result<(Kind, usize), ExprFault>
     ensures { Gives (λ x. x) result (null_front bytes.now) }
 {
     if byte_at(bytes, 1) != b'u' {
-        return Err(ExprError::Fault(ExprFault::X2));
+        return Err(ExprFault::Fault(ExprCode::X2));
     }
     if byte_at(bytes, 2) != b'l' {
-        return Err(ExprError::Fault(ExprFault::X2));
+        return Err(ExprFault::Fault(ExprCode::X2));
     }
     if byte_at(bytes, 3) != b'l' {
-        return Err(ExprError::Fault(ExprFault::X2));
+        return Err(ExprFault::Fault(ExprCode::X2));
     }
     if is_word(byte_at(bytes, 4)) {
-        return Err(ExprError::Fault(ExprFault::X2));
+        return Err(ExprFault::Fault(ExprCode::X2));
     }
     Ok((Kind::Null, 4))
 }
 
 /// The token at the front of a text that begins with no blank.
-fn lexeme(bytes: &[u8]) -> Result<(Kind, usize), ExprError>
+fn lexeme(bytes: &[u8]) -> Result<(Kind, usize), ExprFault>
     ensures { Gives (λ x. x) result (lexeme bytes.now) }
 {
     let first = byte_at(bytes, 0);
@@ -186,7 +186,7 @@ fn lexeme(bytes: &[u8]) -> Result<(Kind, usize), ExprError>
         if second == b'~' {
             return Ok((Kind::Match, 2));
         }
-        return Err(ExprError::Fault(ExprFault::X2));
+        return Err(ExprFault::Fault(ExprCode::X2));
     }
     if first == b'!' {
         if second == b'=' {
@@ -195,21 +195,21 @@ fn lexeme(bytes: &[u8]) -> Result<(Kind, usize), ExprError>
         if second == b'~' {
             return Ok((Kind::Mismatch, 2));
         }
-        return Err(ExprError::Fault(ExprFault::X2));
+        return Err(ExprFault::Fault(ExprCode::X2));
     }
     if first == b'&' {
         if second == b'&' {
             return Ok((Kind::And, 2));
         }
-        return Err(ExprError::Fault(ExprFault::X2));
+        return Err(ExprFault::Fault(ExprCode::X2));
     }
     if first == b'|' {
         if second == b'|' {
             return Ok((Kind::Or, 2));
         }
-        return Err(ExprError::Fault(ExprFault::X2));
+        return Err(ExprFault::Fault(ExprCode::X2));
     }
-    Err(ExprError::Fault(ExprFault::X2))
+    Err(ExprFault::Fault(ExprCode::X2))
 }
 
 /// The bytes behind the first.
@@ -220,7 +220,7 @@ fn rest_of(bytes: &[u8]) -> &[u8]
 }
 
 /// The token at the front, which is one of the language.
-pub fn front(bytes: &[u8]) -> Result<(Kind, usize), ExprError>
+pub fn front(bytes: &[u8]) -> Result<(Kind, usize), ExprFault>
     ensures exact { Gives (λ x. x) result (lexeme bytes.now) }
     ensures front { IfOk result (IsFront bytes.now) }
 {

@@ -13,7 +13,7 @@ mod token;
 mod tree;
 
 pub use expr::{Expr, parse};
-pub use fault::{ExprError, ExprFault};
+pub use fault::{ExprCode, ExprFault};
 pub use formula::Env;
 pub use token::{Kind, Token, tokens};
 

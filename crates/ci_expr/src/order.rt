@@ -5,7 +5,7 @@ ghost use Rattle.ci_expr.specs.Order.{open_after, closes_none, balances, deepest
 ghost use Rattle.ci_expr.specs.Faults.{takes_pattern};
 ghost use Rattle.ci_expr.specs.View.{token_view};
 
-use crate::fault::ExprFault;
+use crate::fault::ExprCode;
 use crate::token::{Kind, Token};
 
 /// The most parentheses that may be open at once.
@@ -89,17 +89,17 @@ fn has_stray(tokens: &[Token]) -> bool
 }
 
 /// The first fault of a list of tokens that isn't the grammar's.
-pub fn list_fault(tokens: &[Token]) -> Option<ExprFault>
+pub fn list_fault(tokens: &[Token]) -> Option<ExprCode>
     ensures { result ≡ list_fault (map token_view tokens.now) }
 {
     if !balances(tokens) {
-        return Some(ExprFault::X5);
+        return Some(ExprCode::X5);
     }
     if has_stray(tokens) {
-        return Some(ExprFault::X6);
+        return Some(ExprCode::X6);
     }
     if deepest(tokens) > MAX_DEPTH {
-        return Some(ExprFault::X7);
+        return Some(ExprCode::X7);
     }
     None
 }

@@ -1,6 +1,6 @@
 //! Expressions worked out by hand.
 
-use crate::{Env, Expr, ExprError, Kind, parse, tokens};
+use crate::{Env, Expr, ExprFault, Kind, parse, tokens};
 use std::alloc::{AllocError, Global};
 use std::test::Fail;
 
@@ -8,8 +8,8 @@ use std::test::Fail;
 fn reading(alloc: Global, text: &str) -> Result<String, AllocError> {
     match parse(alloc, text) {
         Ok(_) => String::from_str(alloc, "accepted"),
-        Err(ExprError::Memory) => Err(AllocError),
-        Err(ExprError::Fault(fault)) => format!(in alloc; "{fault}"),
+        Err(ExprFault::Memory) => Err(AllocError),
+        Err(ExprFault::Fault(fault)) => format!(in alloc; "{fault}"),
     }
 }
 
@@ -70,6 +70,9 @@ fn reads_or_refuses(rt: HostRuntime) -> Result<(), Fail> {
         ("/x/ ==", "X6"),
         ("$A =~ /(/", "X8"),
         ("$A =~ /x{1000000}/", "X8"),
+        ("$A =~ /(x{200}){200}z/", "X8"),
+        ("$A =~ /\\w{500}/i", "X8"),
+        ("$A =~ /\\w{3}/", "X8"),
         ("$A", "accepted"),
         ("$A =~ //", "accepted"),
         ("$A == \"\n\" || ($B)", "accepted"),
@@ -174,7 +177,7 @@ fn binds_and_before_or(rt: HostRuntime) {
 }
 
 #[test]
-fn tells_tokens_with_their_places(rt: HostRuntime) -> Result<(), ExprError> {
+fn tells_tokens_with_their_places(rt: HostRuntime) -> Result<(), ExprFault> {
     let found = tokens(rt.alloc(), "$A==\"x\"")?;
     assert_eq!(rt; found.len(), 3);
     for (i, want) in [
@@ -193,4 +196,95 @@ fn tells_tokens_with_their_places(rt: HostRuntime) -> Result<(), ExprError> {
         assert_eq!(rt; token.end, want.3);
     }
     Ok(())
+}
+
+/// That each of these patterns is read, in an expression of its own, with letters in either case or not.
+fn reads_each(rt: HostRuntime, patterns: &[&str]) -> Result<(), Fail> {
+    let alloc = rt.alloc();
+    for pattern in patterns {
+        let plain = format!(in alloc; "$A =~ /{pattern}/")?;
+        assert_eq!(rt;
+            reading(alloc, plain.as_str())?.as_str(),
+            "accepted",
+            "at {pattern}"
+        );
+        let insensitive = format!(in alloc; "$A =~ /{pattern}/i")?;
+        assert_eq!(rt;
+            reading(alloc, insensitive.as_str())?.as_str(),
+            "accepted",
+            "at {pattern}"
+        );
+    }
+    Ok(())
+}
+
+/// Patterns as CI files have them, of the names of branches and tags.
+#[test]
+fn patterns_of_refs_are_within_the_limit(rt: HostRuntime) -> Result<(), Fail> {
+    let patterns = [
+        "^main$",
+        "^master$",
+        "^(main|master|develop)$",
+        "^feature\\/",
+        "^release\\/",
+        "^hotfix\\/.*$",
+        "^release\\/\\d+\\.\\d+$",
+        "^release\\/v?\\d+\\.\\d+\\.\\d+$",
+        "^v\\d+\\.\\d+\\.\\d+$",
+        "^v\\d+\\.\\d+\\.\\d+-rc\\d+$",
+        "^v\\d+\\.\\d+\\.\\d+(-\\w+)?$",
+        "^\\d+\\.\\d+\\.\\d+$",
+        "^(0|[1-9]\\d*)\\.(0|[1-9]\\d*)\\.(0|[1-9]\\d*)$",
+        "^v[0-9]+(\\.[0-9]+){2}$",
+        "^v[0-9]{1,3}\\.[0-9]{1,3}\\.[0-9]{1,3}$",
+        "^\\d{4}-\\d{2}-\\d{2}$",
+        "^\\d{8}$",
+        "-stable$",
+        "-(alpha|beta|rc)\\.?\\d*$",
+        "^[A-Z]+-\\d+",
+        "^[A-Z]{2,10}-[0-9]{1,6}\\b",
+        "(?i)^wip:",
+        "^(feat|fix|docs|chore|test)(\\(\\w+\\))?!?:",
+        "\\[skip ci\\]",
+        "\\[ci (skip|run)\\]",
+        "draft",
+        "\\bdeploy\\b",
+        "^Merge branch",
+    ];
+    reads_each(rt, patterns.as_slice())
+}
+
+/// Patterns as CI files have them, of titles, sources, hashes, paths and addresses.
+#[test]
+fn patterns_of_other_values_are_within_the_limit(rt: HostRuntime) -> Result<(), Fail> {
+    let patterns = [
+        "Merge branch '.+' into '.+'",
+        "^(?:push|web|schedule|trigger)$",
+        "merge_request",
+        "^(push|web)$",
+        "^[0-9a-f]{40}$",
+        "^[0-9a-f]{7,40}$",
+        "^sha256:[0-9a-f]{64}$",
+        "^dependabot\\/",
+        "^renovate\\/\\S+$",
+        "^user\\/\\w+\\/.*",
+        "^\\w+\\/\\w+$",
+        "^\\w+-\\w+$",
+        "^[\\w.-]+$",
+        "^[\\w.+-]+@example\\.com$",
+        "@(example|company)\\.(com|org)$",
+        "^https?:\\/\\/[^\\/\\s]+\\/",
+        "^staging-[a-z0-9]+(?:-[a-z0-9]+)*$",
+        "^env\\/(prod|stage|dev)-eu-\\d$",
+        ".*",
+        ".+",
+        "\\.(md|txt|rst)$",
+        "^\\s*$",
+        "^no-\\S+",
+        "\\.rb$",
+        "^group\\/(sub\\/)?project$",
+        "^(true|yes|on|1)$",
+        "^linux-(amd64|arm64)$",
+    ];
+    reads_each(rt, patterns.as_slice())
 }

@@ -1,13 +1,13 @@
 //! Tokens of an expression.
 
 ghost use Rattle.std.specs.Prelude.{◌<◌, ◌≤◌, drop, length, List, Result, IfOk};
-ghost use Rattle.ci_expr.specs.declared.fault.ExprFault.{ExprFault as Code};
+ghost use Rattle.ci_expr.specs.declared.fault.ExprCode.{ExprCode as Code};
 ghost use Rattle.ci_expr.specs.Token.{Token as Read};
 ghost use Rattle.ci_expr.specs.Reading.{token_from, tokens_of};
 ghost use Rattle.ci_expr.specs.Meaning.{Tokenizes, Answers, AtMostOneList};
 ghost use Rattle.ci_expr.specs.View.{Gives, token_view, tokens_view};
 
-use crate::fault::{ExprError, ExprFault};
+use crate::fault::{ExprCode, ExprFault};
 use crate::lexeme::{front, is_blank};
 use std::alloc::Global;
 
@@ -54,7 +54,7 @@ pub struct Token<'a> {
 }
 
 /// The token at a place where no blank stands.
-fn token_at(text: &str, at: usize) -> Result<Token<'_>, ExprError>
+fn token_at(text: &str, at: usize) -> Result<Token<'_>, ExprFault>
     requires { at < length text.now }
     ensures exact { Gives token_view result (token_from at (drop at text.now)) }
     ensures size { IfOk result (λ t. (at < t.end) × (t.end ≤ length text.now)) }
@@ -73,11 +73,11 @@ fn token_at(text: &str, at: usize) -> Result<Token<'_>, ExprError>
 const MAX_LENGTH: usize = 1024;
 
 /// The tokens of a text, read from the left.
-fn read_tokens(alloc: Global, text: &str) -> Result<Vec<Token<'_>>, ExprError>
+fn read_tokens(alloc: Global, text: &str) -> Result<Vec<Token<'_>>, ExprFault>
     ensures exact { Gives tokens_view result (tokens_of text.now) }
 {
     if text.len() > MAX_LENGTH {
-        return Err(ExprError::Fault(ExprFault::X1));
+        return Err(ExprFault::Fault(ExprCode::X1));
     }
     let mut found = Vec::new(alloc);
     let mut at = 0;
@@ -101,7 +101,7 @@ fn read_tokens(alloc: Global, text: &str) -> Result<Vec<Token<'_>>, ExprError>
 ///
 /// Errors: memory was refused; or the first fault: the text is longer than 1,024 bytes (X1), or what comes first of a
 /// character or word that begins no token (X2) and a quoted text or pattern that doesn't end (X3).
-pub fn tokens(alloc: Global, text: &str) -> Result<Vec<Token<'_>>, ExprError>
+pub fn tokens(alloc: Global, text: &str) -> Result<Vec<Token<'_>>, ExprFault>
     // What is answered are the tokens of the text, or its first fault.
     ensures answer { Answers tokens_view result (Tokenizes text.now) }
     // Where the text has tokens, or a fault, that is answered.

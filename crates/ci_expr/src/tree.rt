@@ -11,13 +11,20 @@ pub enum Operand<'a> {
     Variable(&'a str),
 }
 
+/// How two formulas are joined.
+#[derive(Clone, Copy)]
+pub enum Join {
+    /// `||`: one of the two is true.
+    Or,
+    /// `&&`: both are true.
+    And,
+}
+
 /// A formula whose patterns aren't built yet.
 #[derive(Drop)]
 pub enum Tree<'a> {
-    /// One of the two is true.
-    Either(Box<Tree<'a>>, Box<Tree<'a>>),
-    /// Both are true.
-    Both(Box<Tree<'a>>, Box<Tree<'a>>),
+    /// Two formulas, joined so.
+    Joined(Join, Box<Tree<'a>>, Box<Tree<'a>>),
     /// A formula in parentheses.
     Group(Box<Tree<'a>>),
     /// The variable is defined and not empty.

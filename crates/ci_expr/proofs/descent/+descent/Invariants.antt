@@ -1,11 +1,13 @@
 use Rattle.std.proofs.Common.{◌+◌, ◌*◌, length}
+use Rattle.ci_expr.specs.Formula.{chain}
+use Rattle.ci_expr.specs.Descent.{height}
 use Rattle.ci_expr.proofs.descent.+descent.Given as goal
 
-abbrev pub decreases-or_from : goal.decreases-or_from
-decreases-or_from l = 3 * length l.tokens.now + 3
+abbrev pub decreases-chain_from : goal.decreases-chain_from
+decreases-chain_from l = 6 * length l.tokens.now + 2 * height (chain l.join) + 1
 
-abbrev pub decreases-and_from : goal.decreases-and_from
-decreases-and_from l = 3 * length l.tokens.now + 2
+abbrev pub decreases-part_from : goal.decreases-part_from
+decreases-part_from l = 6 * length l.tokens.now + 2 * height (chain l.join)
 
 abbrev pub decreases-test_from : goal.decreases-test_from
-decreases-test_from l = 3 * length l.tokens.now + 1
+decreases-test_from l = 6 * length l.tokens.now + 2
