@@ -3,7 +3,7 @@
 ghost use Rattle.std.specs.Prelude.{◌≡◌, ◌<◌};
 
 use ci_machine::moment::Moment;
-use ci_machine::reply::Status;
+use ci_machine::reply::HttpStatus;
 use ci_machine::request::{NewJob, NewJobs, NewPipeline, Request, Seed};
 use ci_machine::text::{Text, Texts};
 use ci_server::link::Link;
@@ -77,7 +77,7 @@ fn is_made<S: Alter>(
     match request {
         Ok(request) => {
             let reply = server.handle(alloc, request, moment, SEED);
-            reply.status == Status::Created
+            reply.status == HttpStatus::Created
         }
         Err(_) => false,
     }

@@ -24,8 +24,8 @@ use Rattle.ci_machine.specs.declared.reply.Body.{Body}
 use Rattle.ci_machine.specs.declared.reply.Body.TheVariants.{Json, Plain}
 use Rattle.ci_machine.specs.declared.reply.JobStatus.{JobStatus}
 use Rattle.ci_machine.specs.declared.reply.JobStatus.TheVariants.{Running, Success, Failed, Canceled}
-use Rattle.ci_machine.specs.declared.reply.Status.{Status}
-use Rattle.ci_machine.specs.declared.reply.Status.TheVariants.{Fine, Created, Accepted, NoContent, BadRequest, Unauthorized, Forbidden, NotFound, MethodNotAllowed, LengthRequired, PayloadTooLarge, RangeNotSatisfiable, HeaderFieldsTooLarge, NotImplemented, ServiceUnavailable}
+use Rattle.ci_machine.specs.declared.reply.HttpStatus.{HttpStatus}
+use Rattle.ci_machine.specs.declared.reply.HttpStatus.TheVariants.{Fine, Created, Accepted, NoContent, BadRequest, Unauthorized, Forbidden, NotFound, MethodNotAllowed, LengthRequired, PayloadTooLarge, RangeNotSatisfiable, HeaderFieldsTooLarge, NotImplemented, ServiceUnavailable}
 use Rattle.ci_machine.specs.declared.reply.Reply.{Reply}
 use Rattle.ci_machine.specs.Reply.{body_text}
 use Rattle.ci_http.specs.Fields.{values_of}
@@ -45,12 +45,12 @@ is_field name value some n v = record {
 }
 
 -- the reason and the digits of each status
-abbrev IsStatus : Status → Type 0
+abbrev IsStatus : HttpStatus → Type 0
 IsStatus s =
     (list_all is_ascii_digit (code_digits (number_of s)) ≡ true) × (is_value (unwrap_or (reason_phrase (number_of s)) []) ≡ true)
     × (digits_value 10 (code_digits (number_of s)) ≡ number_of s)
 
-is_status : (s : Status) → IsStatus s
+is_status : (s : HttpStatus) → IsStatus s
 is_status Fine = (refl, refl, refl)
 is_status Created = (refl, refl, refl)
 is_status Accepted = (refl, refl, refl)
@@ -230,7 +230,7 @@ start_by : (d1 d2 d3 : ℕ) (phrase rest : List ℕ) → (codes "HTTP/1.1 " ++ (
     ≡ codes "HTTP/1.1 " ++ (d1 ∷ d2 ∷ d3 ∷ 32 ∷ (phrase ++ (crlf ++ rest)))
 start_by d1 d2 d3 phrase rest = ap (λ l. codes "HTTP/1.1 " ++ (d1 ∷ d2 ∷ d3 ∷ 32 ∷ l)) (append_assoc phrase crlf rest)
 
-start : (s : Status) (rest : List ℕ) → status_line s ++ rest
+start : (s : HttpStatus) (rest : List ℕ) → status_line s ++ rest
     ≡ codes "HTTP/1.1 " ++ (code_digits (number_of s) ++ (32 ∷ (unwrap_or (reason_phrase (number_of s)) [] ++ (crlf ++ rest))))
 unfolding status_line
 start s rest = start_by _ _ _ (unwrap_or (reason_phrase (number_of s)) []) rest

@@ -3,8 +3,8 @@ use Rattle.std.specs.Prelude.{◌≡◌, ℕ, List, [], ◌∷◌, ◌++◌, len
 use Rattle.httparse.specs.Grammar.{ResponseHead, ReadsResponse, status_code}
 use Rattle.httparse.specs.Spans.{name_and_value}
 use Rattle.http.specs.StatusCode.{reason_phrase, code_digits}
-use Rattle.ci_machine.specs.declared.reply.Status.{Status}
-use Rattle.ci_machine.specs.declared.reply.Status.TheVariants.{Fine, Created, Accepted, NoContent, BadRequest, Unauthorized, Forbidden, NotFound, MethodNotAllowed, LengthRequired, PayloadTooLarge, RangeNotSatisfiable, HeaderFieldsTooLarge, NotImplemented, ServiceUnavailable}
+use Rattle.ci_machine.specs.declared.reply.HttpStatus.{HttpStatus}
+use Rattle.ci_machine.specs.declared.reply.HttpStatus.TheVariants.{Fine, Created, Accepted, NoContent, BadRequest, Unauthorized, Forbidden, NotFound, MethodNotAllowed, LengthRequired, PayloadTooLarge, RangeNotSatisfiable, HeaderFieldsTooLarge, NotImplemented, ServiceUnavailable}
 use Rattle.ci_machine.specs.declared.reply.JobStatus.{JobStatus}
 use Rattle.ci_machine.specs.declared.reply.JobStatus.TheVariants.{Running, Success, Failed, Canceled}
 use Rattle.ci_machine.specs.declared.reply.Allow.{Allow}
@@ -16,7 +16,7 @@ use Rattle.ci_machine.specs.Reply.{body_text}
 use Rattle.ci_http.specs.Fields.{values_of}
 
 -- the number of a status
-abbrev pub number_of : Status → ℕ
+abbrev pub number_of : HttpStatus → ℕ
 number_of Fine = 200
 number_of Created = 201
 number_of Accepted = 202
@@ -55,7 +55,7 @@ abbrev pub crlf : List ℕ
 crlf = 13 ∷ 10 ∷ []
 
 -- the version, the three digits of the status, and the reason phrase that the crate http has for it
-unfoldable pub status_line : Status → List ℕ
+unfoldable pub status_line : HttpStatus → List ℕ
 status_line s = codes "HTTP/1.1 " ++ code_digits (number_of s) ++ codes " " ++ unwrap_or (reason_phrase (number_of s)) [] ++ crlf
 
 abbrev pub job_status_line : Option JobStatus → List ℕ
@@ -76,7 +76,7 @@ type_line kind [] = []
 type_line kind (b ∷ body) = codes "Content-Type: " ++ kind ++ crlf
 
 -- not with 204
-abbrev pub length_line : Status → ℕ → List ℕ
+abbrev pub length_line : HttpStatus → ℕ → List ℕ
 length_line s n = if number_of s == 204 then [] else codes "Content-Length: " ++ decimal n ++ crlf
 
 -- the head, with the empty line that ends it
@@ -90,11 +90,11 @@ abbrev pub reply_text : Reply → List ℕ
 reply_text r = head_text r ++ body_text r
 
 -- the values of Content-Length: one, the body's length, but none with 204
-abbrev pub length_values : Status → ℕ → List (List ℕ)
+abbrev pub length_values : HttpStatus → ℕ → List (List ℕ)
 length_values s n = if number_of s == 204 then [] else decimal n ∷ []
 
 -- the bytes are a response by the grammar of HTTP/1.1: a head with this status that says how long the body is, and then the body
-abbrev pub IsResponse : List ℕ → Status → List ℕ → Type 0
+abbrev pub IsResponse : List ℕ → HttpStatus → List ℕ → Type 0
 IsResponse bytes status body =
     (head : ResponseHead) × ReadsResponse bytes head body × (status_code head ≡ number_of status)
     × (values_of (codes "content-length") (map name_and_value head.fields) ≡ length_values status (length body))

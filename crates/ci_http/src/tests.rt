@@ -6,7 +6,7 @@ use crate::link::Link;
 use crate::route::request_of;
 use crate::text::reply_bytes;
 use ci_machine::records::Cause;
-use ci_machine::reply::{Body, Code, JobStatus, Reply, Status};
+use ci_machine::reply::{Body, Code, HttpStatus, JobStatus, Reply};
 use ci_machine::request::{Report, Request};
 use ci_machine::text::{Bytes, Text};
 use std::alloc::Global;
@@ -57,7 +57,7 @@ fn text_of(alloc: Global, reply: &Reply) -> Result<Vec<u8>, Fail> {
 #[test]
 fn fields_of_replies(rt: HostRuntime) -> Result<(), Fail> {
     let plain = Reply {
-        status: Status::Fine,
+        status: HttpStatus::Fine,
         code: None,
         job_status: None,
         range: None,
@@ -65,7 +65,7 @@ fn fields_of_replies(rt: HostRuntime) -> Result<(), Fail> {
         body: Some(Body::Plain(Bytes::new(vec![in rt.alloc(); b'a', b'b', b'\n']?))),
     };
     let made = Reply {
-        status: Status::Created,
+        status: HttpStatus::Created,
         code: None,
         job_status: None,
         range: None,
@@ -73,7 +73,7 @@ fn fields_of_replies(rt: HostRuntime) -> Result<(), Fail> {
         body: Some(Body::Json(Text::copy_of(rt.alloc(), "{\"id\":1}")?)),
     };
     let piece = Reply {
-        status: Status::Accepted,
+        status: HttpStatus::Accepted,
         code: None,
         job_status: Some(JobStatus::Running),
         range: Some(18446744073709551615),
@@ -81,7 +81,7 @@ fn fields_of_replies(rt: HostRuntime) -> Result<(), Fail> {
         body: None,
     };
     let none = Reply {
-        status: Status::NoContent,
+        status: HttpStatus::NoContent,
         code: None,
         job_status: None,
         range: None,
@@ -89,7 +89,7 @@ fn fields_of_replies(rt: HostRuntime) -> Result<(), Fail> {
         body: None,
     };
     let ended = Reply {
-        status: Status::Fine,
+        status: HttpStatus::Fine,
         code: None,
         job_status: Some(JobStatus::Success),
         range: None,
@@ -97,7 +97,7 @@ fn fields_of_replies(rt: HostRuntime) -> Result<(), Fail> {
         body: None,
     };
     let empty = Reply {
-        status: Status::Fine,
+        status: HttpStatus::Fine,
         code: None,
         job_status: None,
         range: None,

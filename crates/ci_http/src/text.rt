@@ -6,7 +6,7 @@ ghost use Rattle.ci_machine.specs.Reply.{body_text};
 ghost use Rattle.ci_http.specs.ReplyText.{status_line, job_status_text, allow_text, type_text, crlf, job_status_line, range_line, allow_line, type_line, length_line, head_text, reply_text, IsResponse};
 
 use arrayvec::ArrayVec;
-use ci_machine::reply::{Allow, Body, JobStatus, Reply, Status};
+use ci_machine::reply::{Allow, Body, HttpStatus, JobStatus, Reply};
 use itoa::Buffer;
 
 /// Room for the longest head.
@@ -122,37 +122,37 @@ fn put_type(head: &mut ArrayVec<u8, HEAD_SIZE>, kind: &[u8], body: &[u8])
     }
 }
 
-fn put_length(head: &mut ArrayVec<u8, HEAD_SIZE>, status: Status, len: u64)
+fn put_length(head: &mut ArrayVec<u8, HEAD_SIZE>, status: HttpStatus, len: u64)
     requires { array_vec_len head.old + 40 ≤ 512 }
     ensures items { head.new.items ≡ head.old.items ++ length_line status len }
     ensures len { array_vec_len head.new ≤ array_vec_len head.old + 40 }
 {
-    if status != Status::NoContent {
+    if status != HttpStatus::NoContent {
         put_number_field(head, b"Content-Length: ", len);
     }
 }
 
 // The first line of a reply with this status.
-fn status_line(status: Status) -> &'static [u8]
+fn status_line(status: HttpStatus) -> &'static [u8]
     ensures line { result.now ≡ status_line status }
     ensures len { length result.now ≤ 64 }
 {
     match status {
-        Status::Fine => b"HTTP/1.1 200 OK\r\n",
-        Status::Created => b"HTTP/1.1 201 Created\r\n",
-        Status::Accepted => b"HTTP/1.1 202 Accepted\r\n",
-        Status::NoContent => b"HTTP/1.1 204 No Content\r\n",
-        Status::BadRequest => b"HTTP/1.1 400 Bad Request\r\n",
-        Status::Unauthorized => b"HTTP/1.1 401 Unauthorized\r\n",
-        Status::Forbidden => b"HTTP/1.1 403 Forbidden\r\n",
-        Status::NotFound => b"HTTP/1.1 404 Not Found\r\n",
-        Status::MethodNotAllowed => b"HTTP/1.1 405 Method Not Allowed\r\n",
-        Status::LengthRequired => b"HTTP/1.1 411 Length Required\r\n",
-        Status::PayloadTooLarge => b"HTTP/1.1 413 Payload Too Large\r\n",
-        Status::RangeNotSatisfiable => b"HTTP/1.1 416 Range Not Satisfiable\r\n",
-        Status::HeaderFieldsTooLarge => b"HTTP/1.1 431 Request Header Fields Too Large\r\n",
-        Status::NotImplemented => b"HTTP/1.1 501 Not Implemented\r\n",
-        Status::ServiceUnavailable => b"HTTP/1.1 503 Service Unavailable\r\n",
+        HttpStatus::Fine => b"HTTP/1.1 200 OK\r\n",
+        HttpStatus::Created => b"HTTP/1.1 201 Created\r\n",
+        HttpStatus::Accepted => b"HTTP/1.1 202 Accepted\r\n",
+        HttpStatus::NoContent => b"HTTP/1.1 204 No Content\r\n",
+        HttpStatus::BadRequest => b"HTTP/1.1 400 Bad Request\r\n",
+        HttpStatus::Unauthorized => b"HTTP/1.1 401 Unauthorized\r\n",
+        HttpStatus::Forbidden => b"HTTP/1.1 403 Forbidden\r\n",
+        HttpStatus::NotFound => b"HTTP/1.1 404 Not Found\r\n",
+        HttpStatus::MethodNotAllowed => b"HTTP/1.1 405 Method Not Allowed\r\n",
+        HttpStatus::LengthRequired => b"HTTP/1.1 411 Length Required\r\n",
+        HttpStatus::PayloadTooLarge => b"HTTP/1.1 413 Payload Too Large\r\n",
+        HttpStatus::RangeNotSatisfiable => b"HTTP/1.1 416 Range Not Satisfiable\r\n",
+        HttpStatus::HeaderFieldsTooLarge => b"HTTP/1.1 431 Request Header Fields Too Large\r\n",
+        HttpStatus::NotImplemented => b"HTTP/1.1 501 Not Implemented\r\n",
+        HttpStatus::ServiceUnavailable => b"HTTP/1.1 503 Service Unavailable\r\n",
     }
 }
 

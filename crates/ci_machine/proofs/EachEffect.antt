@@ -6,7 +6,7 @@ use Rattle.ci_machine.specs.declared.records.Project.{Project}
 use Rattle.ci_machine.specs.declared.records.Pipeline.{Pipeline}
 use Rattle.ci_machine.specs.declared.records.Job.{Job}
 use Rattle.ci_machine.specs.declared.records.Attempt.{Attempt}
-use Rattle.ci_machine.specs.declared.records.AttemptState.{AttemptState}
+use Rattle.ci_values.specs.declared.attempts.AttemptState.{AttemptState}
 use Rattle.ci_machine.specs.declared.records.Piece.{Piece}
 use Rattle.ci_machine.specs.declared.lease.Lease.{Lease}
 use Rattle.ci_machine.specs.declared.lease.LeaseFault.{LeaseFault}
@@ -33,9 +33,11 @@ use Rattle.ci_machine.specs.declared.reply.Detail.{Detail}
 use Rattle.ci_machine.specs.declared.reply.Detail.TheVariants.{G4, K11, K16}
 use Rattle.ci_machine.specs.declared.reply.Effect.{Effect}
 use Rattle.ci_machine.specs.declared.reply.Answer.{Answer}
-use Rattle.ci_machine.specs.Names.{is_name}
+use Rattle.ci_values.specs.Names.{is_name}
 use Rattle.ci_machine.specs.State.{State, applied}
-use Rattle.ci_machine.specs.Effects.{greatest_number, most_jobs, replies, no_content, refuses, faults, made_project, add_project, made_runner, add_runner, has_names, lacks_numbers, entered, enter_pipeline, grant, ask_job, unleased, heard, ended, reported, update_job, not_accepted, grown, appended, append_trace, job_within, asked_job, shown, traced, sweep}
+use Rattle.ci_values.specs.declared.limits.TheConstants.{MAX_NUMBER}
+use Rattle.ci_machine.specs.declared.limits.TheConstants.{MAX_JOBS}
+use Rattle.ci_machine.specs.Effects.{replies, no_content, refuses, faults, made_project, add_project, made_runner, add_runner, has_names, lacks_numbers, entered, enter_pipeline, grant, ask_job, unleased, heard, ended, reported, update_job, not_accepted, grown, appended, append_trace, job_within, asked_job, shown, traced, sweep}
 use Rattle.ci_machine.specs.Leases.{accepted, first_due}
 use Rattle.ci_machine.specs.Step.{Does, Happens, Step, project_at, project_with, runner_with, pipeline_of, job_at, last_attempt, pieces_in, lease_at, leases, offer, offered_variables}
 use Rattle.ci_machine.specs.Laws.{IsRefusal}
@@ -73,18 +75,18 @@ record Each (P : Effect → Type 0) : Type 0 where
 projects : (P : Effect → Type 0) → Each P → (next : ℕ) (name : List ℕ) (seed : Seed) → P (add_project next name seed)
 projects P each next name seed =
     cond_both (not (is_name name)) (faults K16) _ P (λ _. each.faulted K16) (λ _.
-    cond_both (nat_lt greatest_number next) (refuses M15) (made_project next name seed) P (λ _. each.refused M15 tt) (λ _. each.project next name seed))
+    cond_both (nat_lt MAX_NUMBER next) (refuses M15) (made_project next name seed) P (λ _. each.refused M15 tt) (λ _. each.project next name seed))
 
 runners : (P : Effect → Type 0) → Each P → (next : ℕ) (name : List ℕ) (seed : Seed) → P (add_runner next name seed)
 runners P each next name seed =
     cond_both (not (is_name name)) (faults K16) _ P (λ _. each.faulted K16) (λ _.
-    cond_both (nat_lt greatest_number next) (refuses M15) (made_runner next name seed) P (λ _. each.refused M15 tt) (λ _. each.runner next name seed))
+    cond_both (nat_lt MAX_NUMBER next) (refuses M15) (made_runner next name seed) P (λ _. each.refused M15 tt) (λ _. each.runner next name seed))
 
 pipelines : (P : Effect → Type 0) → Each P → (project : Option Project) (next_pipeline next_job : ℕ) (p : NewPipeline) (now : ℕ) → P (enter_pipeline project next_pipeline next_job p now)
 pipelines P each None next_pipeline next_job p now = each.refused M2 tt
 pipelines P each (Some project) next_pipeline next_job p now =
     cond_both (nat_lt (length p.jobs) 1) (faults G4) _ P (λ _. each.faulted G4) (λ _.
-    cond_both (nat_lt most_jobs (length p.jobs)) (faults K11) _ P (λ _. each.faulted K11) (λ _.
+    cond_both (nat_lt MAX_JOBS (length p.jobs)) (faults K11) _ P (λ _. each.faulted K11) (λ _.
     cond_both (not (has_names p)) (faults K16) _ P (λ _. each.faulted K16) (λ _.
     cond_both (lacks_numbers next_pipeline next_job (length p.jobs)) (refuses M15) (entered next_pipeline next_job p now) P (λ _. each.refused M15 tt)
     (λ _. each.pipeline next_pipeline next_job p now))))
@@ -93,7 +95,7 @@ grants : (P : Effect → Type 0) → Each P → (runner : Option Runner) (q : Op
 grants P each None q variables next now seed = each.refused M4 tt
 grants P each (Some runner) None variables next now seed = each.nothing
 grants P each (Some runner) (Some q) variables next now seed =
-    cond_both (nat_lt greatest_number next) (refuses M15) (grant runner q variables next now seed) P (λ _. each.refused M15 tt) (λ _. each.granted runner q variables next now seed)
+    cond_both (nat_lt MAX_NUMBER next) (refuses M15) (grant runner q variables next now seed) P (λ _. each.refused M15 tt) (λ _. each.granted runner q variables next now seed)
 
 hears : (P : Effect → Type 0) → Each P → (a : Attempt) (seen : Result ℕ LeaseFault) → P (heard a seen)
 hears P each a (Ok seen) = each.heard a seen
@@ -114,7 +116,7 @@ updates P each (Some l) update now =
     cond_both (bytes_eq l.attempt.token update.token) (reported l update.report now) (refuses M5) P (λ _. reports P each l update.report now) (λ _. each.refused M5 tt)
 
 grows : (P : Effect → Type 0) → Each P → (a : Attempt) (bytes : List ℕ) (now : ℕ) (size : Result ℕ PieceFault) → P (appended a bytes now size)
-grows P each a bytes now (Ok size) = cond_both (nat_lt greatest_number a.pieces) (refuses M15) (grown a bytes now size) P (λ _. each.refused M15 tt) (λ _. each.grown a bytes now size)
+grows P each a bytes now (Ok size) = cond_both (nat_lt MAX_NUMBER a.pieces) (refuses M15) (grown a bytes now size) P (λ _. each.refused M15 tt) (λ _. each.grown a bytes now size)
 grows P each a bytes now (Err fault) = each.misplaced fault
 
 appends : (P : Effect → Type 0) → Each P → (l : Option Lease) (part : TracePart) (now : ℕ) → P (append_trace l part now)

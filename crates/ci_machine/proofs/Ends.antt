@@ -3,11 +3,12 @@ use Rattle.std.specs.Prelude.{◌≡◌, ℕ, Bool, true, false, List, ◌∷◌
 use Rattle.std.proofs.Common.{refl, sym, ap, subst, ◌∙◌, ⊎_elim}
 use Rattle.std.proofs.lemmas.Bool.{both_ways}
 use Rattle.ci_machine.specs.declared.records.Attempt.{Attempt}
-use Rattle.ci_machine.specs.declared.records.AttemptState.{AttemptState}
-use Rattle.ci_machine.specs.declared.records.AttemptState.TheVariants.{Live, Succeeded, Failed, Cancelled}
+use Rattle.ci_values.specs.declared.attempts.AttemptState.{AttemptState}
+use Rattle.ci_values.specs.declared.attempts.AttemptState.TheVariants.{Live, Succeeded, Failed, Cancelled}
+use Rattle.ci_values.specs.Attempts.{is_live_state}
 use Rattle.ci_machine.specs.declared.lease.LeaseFault.{LeaseFault}
 use Rattle.ci_machine.specs.declared.lease.PieceFault.{PieceFault}
-use Rattle.ci_machine.specs.Leases.{is_live, is_live_state, while_leased, renewed, if_leased}
+use Rattle.ci_machine.specs.Leases.{is_live, while_leased, renewed, if_leased}
 use Rattle.ci_machine.specs.State.{State, attempt_cmp, put}
 use Rattle.ci_machine.specs.History.{Past}
 use Rattle.ci_machine.proofs.Keyed.{Has, put_has, unequal}

@@ -20,4 +20,4 @@ new_pipeline_has_none p jobs = ap (λ b. b || false) (items (job_data (codes "pe
 
 pub grant_has_none : (attempt : ℕ) (token : List ℕ) (q : QueuedJob) (vs : List JobVariable) → has_float (grant_data attempt token q vs) ≡ false
 grant_has_none attempt token q vs =
-    λ i. items string (λ s. refl) q.job.spec.script i || (items variable_data (λ v. refl) (granted_variables q.job attempt vs) i || false)
+    λ i. items string (λ s. refl) q.job.options.script i || (items variable_data (λ v. refl) (granted_variables q.job attempt vs) i || false)

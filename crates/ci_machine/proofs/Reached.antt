@@ -11,16 +11,16 @@ use Rattle.ci_machine.specs.declared.records.Job.{Job}
 use Rattle.ci_machine.specs.declared.records.JobVariable.{JobVariable}
 use Rattle.ci_machine.specs.declared.records.QueuedJob.{QueuedJob}
 use Rattle.ci_machine.specs.declared.records.Attempt.{Attempt}
-use Rattle.ci_machine.specs.declared.records.AttemptState.{AttemptState}
-use Rattle.ci_machine.specs.declared.records.AttemptState.TheVariants.{Failed}
+use Rattle.ci_values.specs.declared.attempts.AttemptState.{AttemptState}
+use Rattle.ci_values.specs.declared.attempts.AttemptState.TheVariants.{Failed}
 use Rattle.ci_machine.specs.declared.records.Piece.{Piece}
 use Rattle.ci_machine.specs.declared.lease.Lease.{Lease}
 use Rattle.ci_machine.specs.declared.lease.LeaseFault.{LeaseFault}
 use Rattle.ci_machine.specs.declared.lease.LeaseFault.TheVariants.{NotLive, LeaseOver}
 use Rattle.ci_machine.specs.declared.lease.PieceFault.{PieceFault}
 use Rattle.ci_machine.specs.declared.lease.PieceFault.TheVariants.{Unleased, WrongOffset, TraceFull}
-use Rattle.ci_machine.specs.declared.change.Change.{Change}
-use Rattle.ci_machine.specs.declared.change.Change.TheVariants.{Add, Put}
+use Rattle.ci_machine.specs.declared.change.RowChange.{RowChange}
+use Rattle.ci_machine.specs.declared.change.RowChange.TheVariants.{Add, Put}
 use Rattle.ci_machine.specs.declared.change.Record.TheVariants as row
 use Rattle.ci_machine.specs.declared.request.NewPipeline.{NewPipeline}
 use Rattle.ci_machine.specs.declared.request.Report.{Report}
@@ -37,11 +37,13 @@ use Rattle.ci_machine.specs.declared.reply.Code.TheVariants.{M5, M15}
 use Rattle.ci_machine.specs.declared.reply.Detail.TheVariants.{G4, K11, K16}
 use Rattle.ci_machine.specs.declared.reply.Effect.{Effect}
 use Rattle.ci_machine.specs.declared.reply.Answer.{Answer}
-use Rattle.ci_machine.specs.Names.{is_name}
+use Rattle.ci_values.specs.Names.{is_name}
 use Rattle.ci_machine.specs.State.{State, applied, attempt_cmp, put}
-use Rattle.ci_machine.specs.Leases.{is_live, trace_limit, renewed, if_leased, size_after, accepted, cause_of, is_over, first_due}
+use Rattle.ci_machine.specs.Leases.{is_live, renewed, if_leased, size_after, accepted, cause_of, is_over, first_due}
 use Rattle.ci_machine.specs.Eligible.{may_run, chosen}
-use Rattle.ci_machine.specs.Effects.{greatest_number, most_jobs, replies, refuses, faults, made_project, add_project, made_runner, add_runner, has_names, lacks_numbers, new_jobs, new_pipeline, predefined, job_changes, entered, enter_pipeline, grant, ask_job, told, status_of_state, heard, ended, reported, update_job, grown, appended, append_trace, asked_job, shown, traced, sweep}
+use Rattle.ci_values.specs.declared.limits.TheConstants.{MAX_NUMBER}
+use Rattle.ci_machine.specs.declared.limits.TheConstants.{MAX_JOBS, MAX_TRACE_BYTES}
+use Rattle.ci_machine.specs.Effects.{replies, refuses, faults, made_project, add_project, made_runner, add_runner, has_names, lacks_numbers, new_jobs, new_pipeline, predefined, job_changes, entered, enter_pipeline, grant, ask_job, told, status_of_state, heard, ended, reported, update_job, grown, appended, append_trace, asked_job, shown, traced, sweep}
 use Rattle.ci_machine.specs.Step.{Does, Happens, project_at, project_with, runner_with, job_at, attempt_at, pipeline_of, last_attempt, pieces_in, lease_of, leases, live_attempts, attempts_of, is_pending, pending_jobs, queued, queue, offer, offered_variables}
 use Rattle.ci_machine.specs.History.{Past, Leads}
 use Rattle.ci_machine.specs.Laws.{grants, is_grant, accepted_bytes, IsLeastEligible, WasGranted, IsTraced, EndsStay, Laws}
@@ -131,7 +133,7 @@ projects h s name now seed i =
     let e = event.Request (AddProject name) in
     let next = s.next.project in
     cond_both (not (is_name name)) (faults K16) _ (After h s e now seed) (λ _. rests h s e now seed (faults K16) i refl (λ n. refl) refl) (λ _.
-    cond_both (nat_lt greatest_number next) (refuses M15) (made_project next name seed) (After h s e now seed) (λ _. rests h s e now seed (refuses M15) i refl (λ n. refl) refl) (λ _.
+    cond_both (nat_lt MAX_NUMBER next) (refuses M15) (made_project next name seed) (After h s e now seed) (λ _. rests h s e now seed (refuses M15) i refl (λ n. refl) refl) (λ _.
     keeps h s _ _ refl i (λ n. refl) (λ n. refl) refl refl refl i.grants.jobs_rise))
 
 runners : (h : List Past) (s : State) (name : List ℕ) (now : ℕ) (seed : Seed) → Inv h s → After h s (event.Request (AddRunner name)) now seed (add_runner s.next.runner name seed)
@@ -139,7 +141,7 @@ runners h s name now seed i =
     let e = event.Request (AddRunner name) in
     let next = s.next.runner in
     cond_both (not (is_name name)) (faults K16) _ (After h s e now seed) (λ _. rests h s e now seed (faults K16) i refl (λ n. refl) refl) (λ _.
-    cond_both (nat_lt greatest_number next) (refuses M15) (made_runner next name seed) (After h s e now seed) (λ _. rests h s e now seed (refuses M15) i refl (λ n. refl) refl) (λ _.
+    cond_both (nat_lt MAX_NUMBER next) (refuses M15) (made_runner next name seed) (After h s e now seed) (λ _. rests h s e now seed (refuses M15) i refl (λ n. refl) refl) (λ _.
     keeps h s _ _ refl i (λ n. refl) (λ n. refl) refl refl refl i.grants.jobs_rise))
 
 -- ---- a pipeline
@@ -160,7 +162,7 @@ variables_leave (v ∷ vs) s =
     let m = applied (Add (row.JobVariable v) ∷ []) s in
     through s m _ (record { attempts = refl; pieces = refl; next = refl; rise = λ r. r }) (variables_leave vs m)
 
-applied-append : (xs ys : List Change) (s : State) → applied (xs ++ ys) s ≡ applied ys (applied xs s)
+applied-append : (xs ys : List RowChange) (s : State) → applied (xs ++ ys) s ≡ applied ys (applied xs s)
 applied-append [] ys s = refl
 applied-append (x ∷ xs) ys s = applied-append xs ys _
 
@@ -182,7 +184,7 @@ pipelines h s p now seed i (Some project) =
     let e = event.Request (EnterPipeline p) in
     let f = entered s.next.pipeline s.next.job p now in
     cond_both (nat_lt (length p.jobs) 1) (faults G4) _ (After h s e now seed) (λ _. rests h s e now seed (faults G4) i refl (λ n. refl) refl) (λ _.
-    cond_both (nat_lt most_jobs (length p.jobs)) (faults K11) _ (After h s e now seed) (λ _. rests h s e now seed (faults K11) i refl (λ n. refl) refl) (λ _.
+    cond_both (nat_lt MAX_JOBS (length p.jobs)) (faults K11) _ (After h s e now seed) (λ _. rests h s e now seed (faults K11) i refl (λ n. refl) refl) (λ _.
     cond_both (not (has_names p)) (faults K16) _ (After h s e now seed) (λ _. rests h s e now seed (faults K16) i refl (λ n. refl) refl) (λ _.
     cond_both (lacks_numbers s.next.pipeline s.next.job (length p.jobs)) (refuses M15) f (After h s e now seed) (λ _. rests h s e now seed (refuses M15) i refl (λ n. refl) refl) (λ _.
     let l = jobs_leave (new_pipeline s.next.pipeline p now) (new_jobs p.stage s.next.pipeline s.next.job 0 p.jobs) _ in
@@ -224,7 +226,7 @@ grants_least h s token now seed i runner found q offered vs =
     let is_job = has_filter (is_pending s) job s.jobs first.0 in
     let same_job : job.id ≡ q.job.id = ap (λ (w : QueuedJob). w.job.id) at.1.0 in
     let Least : Job → Type 0 = λ other. is_pending s other ≡ true → may_run runner (queued s other) ≡ true → job.id ≤ other.id in
-    cond_both (nat_lt greatest_number s.next.attempt) (refuses M15) (grant runner q vs s.next.attempt now seed) (After h s e now seed)
+    cond_both (nat_lt MAX_NUMBER s.next.attempt) (refuses M15) (grant runner q vs s.next.attempt now seed) (After h s e now seed)
     (λ _. rests h s e now seed (refuses M15) i refl (λ n. refl) refl)
     (λ _. starts h s token now seed runner q vs job i is_job.1 same_job (record {
       is_runner = contains_from_has runner s.runners is_runner.0;
@@ -286,8 +288,8 @@ updates h s u now seed i (Some a) found =
 -- an accepted piece makes the trace longer by its bytes
 sum_of : (size from count z : ℕ) → size_after size from count ≡ Ok z → z ≡ size + count
 sum_of size from count z =
-    cond_both (from == size) (if nat_le (size + count) trace_limit then Ok (size + count) else Err TraceFull) (Err (WrongOffset size)) (λ (r : Result ℕ PieceFault). r ≡ Ok z → z ≡ size + count)
-    (λ _. cond_both (nat_le (size + count) trace_limit) (Ok (size + count)) (Err TraceFull) (λ (r : Result ℕ PieceFault). r ≡ Ok z → z ≡ size + count) (λ _ k. cc) (λ _ k. absurd (cc)))
+    cond_both (from == size) (if nat_le (size + count) MAX_TRACE_BYTES then Ok (size + count) else Err TraceFull) (Err (WrongOffset size)) (λ (r : Result ℕ PieceFault). r ≡ Ok z → z ≡ size + count)
+    (λ _. cond_both (nat_le (size + count) MAX_TRACE_BYTES) (Ok (size + count)) (Err TraceFull) (λ (r : Result ℕ PieceFault). r ≡ Ok z → z ≡ size + count) (λ _ k. cc) (λ _ k. absurd (cc)))
     (λ _ k. absurd (cc))
 
 accepted_size : (r : Result ℕ LeaseFault) (size from count z : ℕ) → if_leased r (size_after size from count) ≡ Ok z → z ≡ size + count
@@ -307,7 +309,7 @@ appends : (h : List Past) (s : State) (part : TracePart) (now : ℕ) (seed : See
     → (r : Result ℕ PieceFault) → ((z : ℕ) → r ≡ Ok z → z ≡ a.size + length part.bytes) → ((z : ℕ) → r ≡ Ok z → is_live a ≡ true) → After h s (event.Request (AppendTrace part)) now seed (appended a part.bytes now r)
 appends h s part now seed i a has its (Ok size) sum live =
     let e = event.Request (AppendTrace part) in
-    cond_both (nat_lt greatest_number a.pieces) (refuses M15) (grown a part.bytes now size) (After h s e now seed)
+    cond_both (nat_lt MAX_NUMBER a.pieces) (refuses M15) (grown a part.bytes now size) (After h s e now seed)
     (λ _. rests h s e now seed (refuses M15) i refl (λ n. refl) refl)
     (λ _. lengthens h s part now seed i a has its (live size refl) size (sum size refl))
 appends h s part now seed i a has its (Err (Unleased (NotLive state))) sum live = rests h s (event.Request (AppendTrace part)) now seed (appended a part.bytes now (Err (Unleased (NotLive state)))) i refl (λ n. refl) refl

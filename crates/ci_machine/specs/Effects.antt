@@ -14,16 +14,16 @@ use Rattle.ci_machine.specs.declared.records.Job.{Job}
 use Rattle.ci_machine.specs.declared.records.JobVariable.{JobVariable}
 use Rattle.ci_machine.specs.declared.records.QueuedJob.{QueuedJob}
 use Rattle.ci_machine.specs.declared.records.Attempt.{Attempt}
-use Rattle.ci_machine.specs.declared.records.AttemptState.{AttemptState}
-use Rattle.ci_machine.specs.declared.records.AttemptState.TheVariants.{Live, Succeeded, Failed, Cancelled}
+use Rattle.ci_values.specs.declared.attempts.AttemptState.{AttemptState}
+use Rattle.ci_values.specs.declared.attempts.AttemptState.TheVariants.{Live, Succeeded, Failed, Cancelled}
 use Rattle.ci_machine.specs.declared.records.Piece.{Piece}
 use Rattle.ci_machine.specs.declared.lease.Lease.{Lease}
 use Rattle.ci_machine.specs.declared.lease.LeaseFault.{LeaseFault}
 use Rattle.ci_machine.specs.declared.lease.LeaseFault.TheVariants.{NotLive, LeaseOver}
 use Rattle.ci_machine.specs.declared.lease.PieceFault.{PieceFault}
 use Rattle.ci_machine.specs.declared.lease.PieceFault.TheVariants.{Unleased, WrongOffset, TraceFull}
-use Rattle.ci_machine.specs.declared.change.Change.{Change}
-use Rattle.ci_machine.specs.declared.change.Change.TheVariants.{Add, Put, SetNext}
+use Rattle.ci_machine.specs.declared.change.RowChange.{RowChange}
+use Rattle.ci_machine.specs.declared.change.RowChange.TheVariants.{Add, Put, SetNext}
 use Rattle.ci_machine.specs.declared.change.Record.TheVariants as row
 use Rattle.ci_machine.specs.declared.change.Counter.TheVariants as counter
 use Rattle.ci_machine.specs.declared.request.NewJob.{NewJob}
@@ -38,7 +38,7 @@ use Rattle.ci_machine.specs.declared.reply.Code.{Code}
 use Rattle.ci_machine.specs.declared.reply.Code.TheVariants.{M1, M2, M3, M4, M5, M6, M7, M8, M9, M14, M15}
 use Rattle.ci_machine.specs.declared.reply.Detail.{Detail}
 use Rattle.ci_machine.specs.declared.reply.Detail.TheVariants.{G4, K11, K16}
-use Rattle.ci_machine.specs.declared.reply.Status.TheVariants.{Fine, Created, Accepted, NoContent}
+use Rattle.ci_machine.specs.declared.reply.HttpStatus.TheVariants.{Fine, Created, Accepted, NoContent}
 use Rattle.ci_machine.specs.declared.reply.JobStatus.{JobStatus}
 use Rattle.ci_machine.specs.declared.reply.JobStatus.TheVariants as job_status
 use Rattle.ci_machine.specs.declared.reply.Body.{Body}
@@ -48,22 +48,16 @@ use Rattle.ci_machine.specs.declared.reply.Swept.{Swept}
 use Rattle.ci_machine.specs.declared.reply.Swept.TheVariants.{Ended, Nothing}
 use Rattle.ci_machine.specs.declared.reply.Answer.TheVariants as answer
 use Rattle.ci_machine.specs.declared.reply.Effect.{Effect}
-use Rattle.ci_machine.specs.Names.{is_name}
+use Rattle.ci_values.specs.Names.{is_name}
+use Rattle.ci_values.specs.declared.limits.TheConstants.{MAX_NUMBER}
+use Rattle.ci_machine.specs.declared.limits.TheConstants.{MAX_JOBS, DEFAULT_TIMEOUT_SECONDS}
 use Rattle.ci_machine.specs.Reply.{status_of, refusal}
 use Rattle.ci_machine.specs.Leases.{is_live, renewed, accepted, finished, cause_of}
 use Rattle.ci_machine.specs.Bodies.{fault_data, created_data, job_data, job_status_text, new_pipeline_data, grant_data}
 
--- the greatest number of a record
-abbrev pub greatest_number : ℕ
-greatest_number = 9007199254740991
-
--- the most jobs of a pipeline
-abbrev pub most_jobs : ℕ
-most_jobs = 100
-
 -- ---- replies
 
-abbrev pub replies : Reply → List Change → Effect
+abbrev pub replies : Reply → List RowChange → Effect
 replies reply changes = record { answer = answer.Reply reply; changes = changes }
 
 -- a refusal changes nothing
@@ -98,7 +92,7 @@ made_project id name seed =
 abbrev pub add_project : ℕ → List ℕ → Seed → Effect
 add_project next name seed =
     if not (is_name name) then faults K16
-    else if nat_lt greatest_number next then refuses M15
+    else if nat_lt MAX_NUMBER next then refuses M15
     else made_project next name seed
 
 -- a runner of the instance, which has no tags and runs untagged jobs
@@ -112,7 +106,7 @@ made_runner id name seed =
 abbrev pub add_runner : ℕ → List ℕ → Seed → Effect
 add_runner next name seed =
     if not (is_name name) then faults K16
-    else if nat_lt greatest_number next then refuses M15
+    else if nat_lt MAX_NUMBER next then refuses M15
     else made_runner next name seed
 
 -- ---- a pipeline
@@ -124,7 +118,7 @@ has_names p = is_name p.git_ref && is_name p.stage && list_all (λ j. is_name j.
 -- the job at a position of a pipeline, whose first job has the number first: it has an hour, the limit of a job that sets none
 abbrev pub new_job : List ℕ → ℕ → ℕ → ℕ → NewJob → Job
 new_job stage pipeline first position j =
-    record { id = first + position; pipeline = pipeline; position = position; name = j.name; stage = stage; spec = record { script = j.script; timeout = 3600 }; played = false; cancelled = false; set_aside = 0 }
+    record { id = first + position; pipeline = pipeline; position = position; name = j.name; stage = stage; options = record { script = j.script; timeout = DEFAULT_TIMEOUT_SECONDS }; played = false; cancelled = false; set_aside = 0 }
 
 -- the jobs from a position on
 abbrev pub new_jobs : List ℕ → ℕ → ℕ → ℕ → List NewJob → List Job
@@ -146,7 +140,7 @@ predefined p j =
     ∷ variable j.id (codes "CI_PROJECT_ID") (decimal p.project)
     ∷ []
 
-abbrev pub job_changes : Pipeline → Job → List Change
+abbrev pub job_changes : Pipeline → Job → List RowChange
 job_changes p j = Add (row.Job j) ∷ map (λ v. Add (row.JobVariable v)) (predefined p j)
 
 -- the pipeline with this number
@@ -163,14 +157,14 @@ entered next_pipeline next_job p now =
 
 -- the number of the pipeline, or that of the last of so many jobs from the first on, is over the limit
 abbrev pub lacks_numbers : ℕ → ℕ → ℕ → Bool
-lacks_numbers pipeline first count = nat_lt greatest_number pipeline || nat_lt greatest_number (first + count - 1)
+lacks_numbers pipeline first count = nat_lt MAX_NUMBER pipeline || nat_lt MAX_NUMBER (first + count - 1)
 
 -- a pipeline is to be made, of this project and with these next numbers
 abbrev pub enter_pipeline : Option Project → ℕ → ℕ → NewPipeline → ℕ → Effect
 enter_pipeline None next_pipeline next_job p now = refuses M2
 enter_pipeline (Some project) next_pipeline next_job p now =
     if nat_lt (length p.jobs) 1 then faults G4
-    else if nat_lt most_jobs (length p.jobs) then faults K11
+    else if nat_lt MAX_JOBS (length p.jobs) then faults K11
     else if not (has_names p) then faults K16
     else if lacks_numbers next_pipeline next_job (length p.jobs) then refuses M15
     else entered next_pipeline next_job p now
@@ -188,7 +182,7 @@ abbrev pub ask_job : Option Runner → Option QueuedJob → List JobVariable →
 ask_job None offer variables next now seed = refuses M4
 ask_job (Some runner) None variables next now seed = replies no_content []
 ask_job (Some runner) (Some q) variables next now seed =
-    if nat_lt greatest_number next then refuses M15 else grant runner q variables next now seed
+    if nat_lt MAX_NUMBER next then refuses M15 else grant runner q variables next now seed
 
 -- ---- what a runner says of an attempt
 
@@ -212,7 +206,7 @@ heard a (Ok seen) = replies (told job_status.Running) (Put (row.Attempt (record 
 heard a (Err fault) = replies (unleased fault) []
 
 -- the changes by which an attempt comes into a state: none, where it has ended
-abbrev pub ending : Attempt → AttemptState → List Change
+abbrev pub ending : Attempt → AttemptState → List RowChange
 ending a state = if is_live a then Put (row.Attempt (record a { state = state })) ∷ [] else []
 
 abbrev pub ended : Attempt → Result AttemptState LeaseFault → Effect
@@ -247,7 +241,7 @@ grown a bytes now size =
     (Add (row.Piece (record { attempt = a.id; seq = a.pieces; bytes = bytes })) ∷ Put (row.Attempt (record a { seen = max a.seen now; pieces = a.pieces + 1; size = size })) ∷ [])
 
 abbrev pub appended : Attempt → List ℕ → ℕ → Result ℕ PieceFault → Effect
-appended a bytes now (Ok size) = if nat_lt greatest_number a.pieces then refuses M15 else grown a bytes now size
+appended a bytes now (Ok size) = if nat_lt MAX_NUMBER a.pieces then refuses M15 else grown a bytes now size
 appended a bytes now (Err fault) = replies (not_accepted fault) []
 
 -- a runner sends the next bytes of the trace of the attempt with the number that it names
@@ -300,7 +294,7 @@ show_trace project job pipeline pieces query = traced (asked_job project job pip
 
 -- ---- a sweep
 
-abbrev pub sweeps : Swept → List Change → Effect
+abbrev pub sweeps : Swept → List RowChange → Effect
 sweeps swept changes = record { answer = answer.Swept swept; changes = changes }
 
 -- a lease that is over, if there is one, ends

@@ -5,8 +5,8 @@ use Rattle.ci_machine.specs.declared.records.Job.{Job}
 use Rattle.ci_machine.specs.declared.records.RefKind.TheVariants.{Branch}
 use Rattle.ci_machine.specs.declared.records.Source.TheVariants.{Api}
 use Rattle.ci_machine.specs.declared.records.Attempt.{Attempt}
-use Rattle.ci_machine.specs.declared.records.AttemptState.{AttemptState}
-use Rattle.ci_machine.specs.declared.records.AttemptState.TheVariants.{Live}
+use Rattle.ci_values.specs.declared.attempts.AttemptState.{AttemptState}
+use Rattle.ci_values.specs.declared.attempts.AttemptState.TheVariants.{Live}
 use Rattle.ci_machine.specs.declared.request.NewPipeline.{NewPipeline}
 use Rattle.ci_machine.specs.declared.request.Report.{Report}
 use Rattle.ci_machine.specs.declared.request.JobQuery.{JobQuery}
@@ -80,7 +80,7 @@ lease seen limit = record { attempt = attempt seen Live; limit = limit }
 
 -- that attempt of the job 1, which has a limit of an hour, in the project 1 with the token `p`
 abbrev pub job : Job
-job = record { id = 1; pipeline = 1; position = 0; name = codes "build"; stage = codes "build"; spec = record { script = []; timeout = 3600 }; played = false; cancelled = false; set_aside = 0 }
+job = record { id = 1; pipeline = 1; position = 0; name = codes "build"; stage = codes "build"; options = record { script = []; timeout = 3600 }; played = false; cancelled = false; set_aside = 0 }
 
 abbrev pub leased : State
 leased = record empty {

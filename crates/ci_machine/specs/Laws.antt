@@ -9,8 +9,8 @@ use Rattle.ci_machine.specs.declared.request.Event.TheVariants as event
 use Rattle.ci_machine.specs.declared.request.Request.TheVariants.{AskJob, AppendTrace}
 use Rattle.ci_machine.specs.declared.reply.Answer.{Answer}
 use Rattle.ci_machine.specs.declared.reply.Answer.TheVariants as answer
-use Rattle.ci_machine.specs.declared.reply.Status.{Status}
-use Rattle.ci_machine.specs.declared.reply.Status.TheVariants.{Created, Accepted}
+use Rattle.ci_machine.specs.declared.reply.HttpStatus.{HttpStatus}
+use Rattle.ci_machine.specs.declared.reply.HttpStatus.TheVariants.{Created, Accepted}
 use Rattle.ci_machine.specs.declared.reply.Swept.TheVariants as swept
 use Rattle.ci_machine.specs.Leases.{is_live}
 use Rattle.ci_machine.specs.Eligible.{may_run}
@@ -31,7 +31,7 @@ abbrev pub OneLease : State → Type 0
 OneLease s = (job : ℕ) → count_by (λ a. is_live a && (a.job == job)) s.attempts ≤ 1
 
 -- a job request was answered with a grant, which drew the number n
-abbrev pub is_created : Status → Bool
+abbrev pub is_created : HttpStatus → Bool
 is_created Created = true
 is_created _ = false
 
@@ -60,7 +60,7 @@ pub record WasGranted (h : List Past) (a : Attempt) : Type 0 where
   pub its_job : job.id ≡ a.job
   pub eligible : IsLeastEligible line.before runner job
 
-abbrev pub is_accepted : Status → Bool
+abbrev pub is_accepted : HttpStatus → Bool
 is_accepted Accepted = true
 is_accepted _ = false
 

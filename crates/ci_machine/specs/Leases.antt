@@ -1,37 +1,25 @@
 -- Leases: when a runner was last heard of, when its lease is over, what of it is accepted, and how an attempt ends.
 use Rattle.std.specs.Prelude.{ℕ, ◌+◌, Bool, true, false, List, find, if◌then◌else◌, nat_le, ◌==◌, min, max, Option, Some, None, Result, Ok, Err}
 use Rattle.ci_machine.specs.declared.records.Attempt.{Attempt}
-use Rattle.ci_machine.specs.declared.records.AttemptState.{AttemptState}
-use Rattle.ci_machine.specs.declared.records.AttemptState.TheVariants.{Live, Succeeded, Failed, Cancelled}
-use Rattle.ci_machine.specs.declared.records.Cause.{Cause}
-use Rattle.ci_machine.specs.declared.records.Cause.TheVariants.{JobExecutionTimeout, StuckOrTimeoutFailure}
+use Rattle.ci_values.specs.declared.attempts.AttemptState.{AttemptState}
+use Rattle.ci_values.specs.declared.attempts.AttemptState.TheVariants.{Live, Succeeded, Failed, Cancelled}
+use Rattle.ci_values.specs.declared.attempts.Cause.{Cause}
+use Rattle.ci_values.specs.declared.attempts.Cause.TheVariants.{JobExecutionTimeout, StuckOrTimeoutFailure}
+use Rattle.ci_values.specs.Attempts.{is_live_state}
+use Rattle.ci_machine.specs.declared.limits.TheConstants.{LEASE_SECONDS, MAX_TRACE_BYTES}
 use Rattle.ci_machine.specs.declared.lease.Lease.{Lease}
 use Rattle.ci_machine.specs.declared.lease.LeaseFault.{LeaseFault}
 use Rattle.ci_machine.specs.declared.lease.LeaseFault.TheVariants.{NotLive, LeaseOver}
 use Rattle.ci_machine.specs.declared.lease.PieceFault.{PieceFault}
 use Rattle.ci_machine.specs.declared.lease.PieceFault.TheVariants.{Unleased, WrongOffset, TraceFull}
 
-abbrev pub is_live_state : AttemptState → Bool
-is_live_state Live = true
-is_live_state (Succeeded exit) = false
-is_live_state (Failed cause exit) = false
-is_live_state Cancelled = false
-
 -- a live attempt is its runner's lease on the job
 abbrev pub is_live : Attempt → Bool
 is_live a = is_live_state a.state
 
--- how long a lease lasts after its runner was last heard of, in seconds
-abbrev pub lease_seconds : ℕ
-lease_seconds = 120
-
--- the greatest size of a trace, in bytes
-abbrev pub trace_limit : ℕ
-trace_limit = 4194304
-
 -- the moment at which the lease of an attempt with this time limit is over
 abbrev pub deadline : Attempt → ℕ → ℕ
-deadline a limit = min (a.seen + lease_seconds) (a.granted + limit)
+deadline a limit = min (a.seen + LEASE_SECONDS) (a.granted + limit)
 
 abbrev pub is_over : Attempt → ℕ → ℕ → Bool
 is_over a limit now = nat_le (deadline a limit) now
@@ -50,7 +38,7 @@ renewed a limit now = while_leased a.state (is_over a limit now) (max a.seen now
 -- the size of a trace of this size after a piece of so many bytes from an offset
 abbrev pub size_after : ℕ → ℕ → ℕ → Result ℕ PieceFault
 size_after size from count =
-    if from == size then (if nat_le (size + count) trace_limit then Ok (size + count) else Err TraceFull)
+    if from == size then (if nat_le (size + count) MAX_TRACE_BYTES then Ok (size + count) else Err TraceFull)
     else Err (WrongOffset size)
 
 abbrev pub if_leased : Result ℕ LeaseFault → Result ℕ PieceFault → Result ℕ PieceFault
@@ -85,7 +73,7 @@ finished a limit now final = if is_same_end a.state final then Ok a.state else w
 
 -- why a lease that is over ends: by its job's time limit, where that comes no later than the runner's silence
 abbrev pub cause_of : Lease → Cause
-cause_of l = if nat_le (l.attempt.granted + l.limit) (l.attempt.seen + lease_seconds) then JobExecutionTimeout else StuckOrTimeoutFailure
+cause_of l = if nat_le (l.attempt.granted + l.limit) (l.attempt.seen + LEASE_SECONDS) then JobExecutionTimeout else StuckOrTimeoutFailure
 
 -- the first lease that is over, of leases by number
 abbrev pub first_due : List Lease → ℕ → Option Lease

@@ -1,4 +1,3 @@
-pub mod Names
 pub mod State
 pub mod Reply
 pub mod Bodies

@@ -1,7 +1,7 @@
 -- Replies: the statuses and the bodies of refusals.
 use Rattle.std.specs.Prelude.{ℕ, List, [], ◌++◌, Option, Some, None, codes}
-use Rattle.ci_machine.specs.declared.reply.Status.{Status}
-use Rattle.ci_machine.specs.declared.reply.Status.TheVariants.{BadRequest, Unauthorized, Forbidden, NotFound, MethodNotAllowed, LengthRequired, PayloadTooLarge, RangeNotSatisfiable, HeaderFieldsTooLarge, NotImplemented, ServiceUnavailable}
+use Rattle.ci_machine.specs.declared.reply.HttpStatus.{HttpStatus}
+use Rattle.ci_machine.specs.declared.reply.HttpStatus.TheVariants.{BadRequest, Unauthorized, Forbidden, NotFound, MethodNotAllowed, LengthRequired, PayloadTooLarge, RangeNotSatisfiable, HeaderFieldsTooLarge, NotImplemented, ServiceUnavailable}
 use Rattle.ci_machine.specs.declared.reply.Code.{Code}
 use Rattle.ci_machine.specs.declared.reply.Code.TheVariants.{M1, M2, M3, M4, M5, M6, M7, M8, M9, M14, M15, M16, M17, H1, H2, H3, H4, H5, H6, H7, H8}
 use Rattle.ci_machine.specs.declared.reply.Body.{Body}
@@ -12,7 +12,7 @@ use Rattle.ci_machine.specs.declared.reply.Answer.TheVariants as answer
 use Rattle.ci_machine.specs.declared.reply.Swept.TheVariants as swept
 
 -- the status of a refusal
-abbrev pub status_of : Code → Status
+abbrev pub status_of : Code → HttpStatus
 status_of M1 = Unauthorized
 status_of M2 = NotFound
 status_of M3 = NotFound

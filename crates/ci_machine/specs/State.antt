@@ -17,8 +17,8 @@ use Rattle.ci_machine.specs.declared.change.Key.{Key}
 use Rattle.ci_machine.specs.declared.change.Key.TheVariants as key
 use Rattle.ci_machine.specs.declared.change.Counter.{Counter}
 use Rattle.ci_machine.specs.declared.change.Counter.TheVariants as counter
-use Rattle.ci_machine.specs.declared.change.Change.{Change}
-use Rattle.ci_machine.specs.declared.change.Change.TheVariants.{Add, Put, Remove, SetNext}
+use Rattle.ci_machine.specs.declared.change.RowChange.{RowChange}
+use Rattle.ci_machine.specs.declared.change.RowChange.TheVariants.{Add, Put, Remove, SetNext}
 
 pub record State : Type 0 where
   pub projects : List Project
@@ -103,13 +103,13 @@ with_next counter.Job n next = record next { job = n }
 with_next counter.Attempt n next = record next { attempt = n }
 
 -- the state after one change
-abbrev pub changed : Change → State → State
+abbrev pub changed : RowChange → State → State
 changed (Add r) s = with_record r s
 changed (Put r) s = with_record r s
 changed (Remove k) s = without_record k s
 changed (SetNext c n) s = record s { next = with_next c n s.next }
 
 -- the state after changes, the first of them first
-abbrev pub applied : List Change → State → State
+abbrev pub applied : List RowChange → State → State
 applied [] s = s
 applied (c ∷ cs) s = applied cs (changed c s)

@@ -64,7 +64,7 @@ pieces_of s attempt = filter (λ p. p.attempt == attempt) s.pieces
 -- the time limit of a job; an attempt's job is always there
 abbrev pub limit_or_none : Option Job → ℕ
 limit_or_none None = 0
-limit_or_none (Some job) = job.spec.timeout
+limit_or_none (Some job) = job.options.timeout
 
 abbrev pub lease_of : State → Attempt → Lease
 lease_of s a = record { attempt = a; limit = limit_or_none (job_at s a.job) }

@@ -255,7 +255,7 @@ fn grant_value(
     ensures { IfOk result (λ v. view v ≡ grant_data attempt token.now queued.now job_variables.now) }
 {
     let job = &queued.job;
-    let script = lines(alloc, job.spec.script.as_slice())?;
+    let script = lines(alloc, job.options.script.as_slice())?;
     let all = all_variables(alloc, job, attempt, job_variables)?;
     let all = variables(alloc, all.as_slice())?;
     json!(in alloc; {
@@ -266,7 +266,7 @@ fn grant_value(
             "stage": job.stage.as_str()
         },
         "script": script,
-        "timeout": job.spec.timeout,
+        "timeout": job.options.timeout,
         "token": token.as_str(),
         "variables": all
     })

@@ -43,7 +43,7 @@ pub enum Counter {
 
 /// A change of one row.
 #[derive(Drop)]
-pub enum Change {
+pub enum RowChange {
     /// A record whose key is new.
     Add(Record),
     /// A record in place of the one with its key, or a new one.
@@ -56,21 +56,21 @@ pub enum Change {
 
 /// A list of changes, which one transaction makes. It has to be spent: it can't be dropped.
 pub struct Delta {
-    changes: Vec<Change>,
+    changes: Vec<RowChange>,
 }
 
 impl Model for Delta {
     ghost use Rattle.std.specs.Prelude.{List};
-    ghost use Rattle.ci_machine.specs.declared.change.Change.{Change};
+    ghost use Rattle.ci_machine.specs.declared.change.RowChange.{RowChange};
 
-    ghost Value = { List Change };
+    ghost Value = { List RowChange };
 
     ghost view = { λ d. d.changes.items };
 }
 
 impl Delta {
     /// The changes of a list, the first of them first.
-    pub fn new(changes: Vec<Change>) -> Delta
+    pub fn new(changes: Vec<RowChange>) -> Delta
         ensures { result ≡ changes.items }
     {
         Delta { changes }
@@ -84,14 +84,14 @@ impl Delta {
     }
 
     /// The changes, lent.
-    pub fn as_slice(&self) -> &[Change]
+    pub fn as_slice(&self) -> &[RowChange]
         ensures { result.now ≡ self.now }
     {
         self.changes.as_slice()
     }
 
     /// Spends the delta, and gives its changes.
-    pub fn into_vec(self) -> Vec<Change>
+    pub fn into_vec(self) -> Vec<RowChange>
         ensures { result.items ≡ self }
     {
         let Delta { changes } = self;

@@ -4,28 +4,23 @@ ghost use Rattle.std.specs.Prelude.{◌≡◌, ◌+◌, ◌≤◌, ◌<◌, ◌^
 ghost use Rattle.std.specs.List.{list_all, flat_map};
 ghost use Rattle.std.specs.Option.{option_copied};
 ghost use Rattle.std.specs.Fmt.{decimal};
-ghost use Rattle.ci_machine.specs.Names.{is_name};
+ghost use Rattle.ci_values.specs.Names.{is_name};
 ghost use Rattle.ci_machine.specs.Effects as effects;
-ghost use Rattle.ci_machine.specs.declared.change.Change.TheVariants as change;
+ghost use Rattle.ci_machine.specs.declared.change.RowChange.TheVariants as change;
 ghost use Rattle.ci_machine.specs.declared.change.Record.TheVariants as row;
 
 use crate::body;
-use crate::change::{Change, Counter, Record};
+use crate::change::{Counter, Record, RowChange};
+use crate::limits::{DEFAULT_TIMEOUT_SECONDS, MAX_JOBS};
 use crate::moment::Moment;
 use crate::plan::{created, faults, refuses, replies};
 use crate::records::{
-    GREATEST_NUMBER, Job, JobSpec, JobVariable, Pipeline, Project, RefKind, Source,
+    Job, JobOptions, JobVariable, MAX_NUMBER, Pipeline, Project, RefKind, Source,
 };
 use crate::reply::{Code, Detail, Effect};
 use crate::request::{NewJob, NewPipeline};
 use crate::text::Text;
 use std::alloc::{AllocError, Global};
-
-/// The most jobs of a pipeline.
-pub const MOST_JOBS: usize = 100;
-
-/// The time limit of a job that sets none, in seconds.
-pub const DEFAULT_TIMEOUT: u32 = 3600;
 
 fn has_names(new: &NewPipeline) -> bool
     ensures { result ≡ effects.has_names new.now }
@@ -60,9 +55,9 @@ fn new_jobs(
             position,
             name,
             stage: stage.clone()?,
-            spec: JobSpec {
+            options: JobOptions {
                 script,
-                timeout: DEFAULT_TIMEOUT,
+                timeout: DEFAULT_TIMEOUT_SECONDS,
             },
             played: false,
             cancelled: false,
@@ -73,16 +68,16 @@ fn new_jobs(
     Ok(jobs)
 }
 
-fn variable(alloc: Global, job: u64, key: &str, value: &str) -> Result<Change, AllocError>
+fn variable(alloc: Global, job: u64, key: &str, value: &str) -> Result<RowChange, AllocError>
     ensures { IfOk result (λ c. c ≡ change.Add (row.JobVariable (effects.variable job key.now value.now))) }
 {
     let key = Text::copy_of(alloc, key)?;
     let value = Text::copy_of(alloc, value)?;
-    Ok(Change::Add(Record::JobVariable(JobVariable { job, key, value })))
+    Ok(RowChange::Add(Record::JobVariable(JobVariable { job, key, value })))
 }
 
 /// The rows of a job's predefined variables.
-fn predefined(alloc: Global, pipeline: &Pipeline, job: &Job) -> Result<Vec<Change>, AllocError>
+fn predefined(alloc: Global, pipeline: &Pipeline, job: &Job) -> Result<Vec<RowChange>, AllocError>
     ensures { IfOk result (λ v. v.items ≡ map (λ x. change.Add (row.JobVariable x)) (effects.predefined pipeline.now job.now)) }
 {
     let project = pipeline.project;
@@ -102,14 +97,14 @@ fn predefined(alloc: Global, pipeline: &Pipeline, job: &Job) -> Result<Vec<Chang
 /// Adds the rows of a job and its variables.
 fn add_job(
     alloc: Global,
-    changes: &mut Vec<Change>,
+    changes: &mut Vec<RowChange>,
     pipeline: &Pipeline,
     job: Job,
 ) -> Result<(), AllocError>
     ensures { OnOk result (changes.new.items ≡ changes.old.items ++ effects.job_changes pipeline.now job) }
 {
     let mut variables = predefined(alloc, pipeline, &job)?;
-    changes.push(Change::Add(Record::Job(job)))?;
+    changes.push(RowChange::Add(Record::Job(job)))?;
     changes.append(&mut variables)?;
     Ok(())
 }
@@ -117,7 +112,7 @@ fn add_job(
 /// Adds the rows of the jobs and their variables.
 fn add_jobs(
     alloc: Global,
-    changes: &mut Vec<Change>,
+    changes: &mut Vec<RowChange>,
     pipeline: &Pipeline,
     mut jobs: Vec<Job>,
 ) -> Result<(), AllocError>
@@ -150,7 +145,7 @@ pub fn enter_pipeline(
     if count < 1 {
         return faults(alloc, Detail::G4);
     }
-    if count > MOST_JOBS {
+    if count > MAX_JOBS {
         return faults(alloc, Detail::K11);
     }
     if !has_names(&new) {
@@ -167,7 +162,7 @@ fn lacks_numbers(pipeline: u64, first: u64, count: u64) -> bool
     requires { 0 < count }
     ensures { result ≡ effects.lacks_numbers pipeline first count }
 {
-    pipeline > GREATEST_NUMBER || first > GREATEST_NUMBER || count - 1 > GREATEST_NUMBER - first
+    pipeline > MAX_NUMBER || first > MAX_NUMBER || count - 1 > MAX_NUMBER - first
 }
 
 fn make_pipeline(
@@ -177,8 +172,8 @@ fn make_pipeline(
     new: NewPipeline,
     now: Moment,
 ) -> Result<Effect, AllocError>
-    requires pipeline { next_pipeline ≤ 9007199254740991 }
-    requires jobs { next_job + length new.jobs ≤ 9007199254740992 }
+    requires pipeline { next_pipeline ≤ MAX_NUMBER }
+    requires jobs { next_job + length new.jobs ≤ MAX_NUMBER + 1 }
     ensures { IfOk result (λ e. e ≡ effects.entered next_pipeline next_job new now) }
 {
     let NewPipeline {
@@ -201,9 +196,9 @@ fn make_pipeline(
     let jobs = new_jobs(alloc, &stage, next_pipeline, next_job, jobs)?;
     let text = body::new_pipeline(alloc, &pipeline, jobs.as_slice())?;
     let mut changes = Vec::new(alloc);
-    changes.push(Change::Add(Record::Pipeline(pipeline.clone()?)))?;
-    changes.push(Change::SetNext(Counter::Pipeline, next_pipeline_after))?;
-    changes.push(Change::SetNext(Counter::Job, next_job_after))?;
+    changes.push(RowChange::Add(Record::Pipeline(pipeline.clone()?)))?;
+    changes.push(RowChange::SetNext(Counter::Pipeline, next_pipeline_after))?;
+    changes.push(RowChange::SetNext(Counter::Job, next_job_after))?;
     add_jobs(alloc, &mut changes, &pipeline, jobs)?;
     Ok(replies(created(text), changes))
 }

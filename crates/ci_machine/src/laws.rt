@@ -7,7 +7,7 @@ ghost use Rattle.ci_machine.specs.declared.reply.Answer.{Answer};
 ghost use Rattle.ci_machine.specs.declared.reply.Answer.TheVariants as answer;
 ghost use Rattle.ci_machine.specs.State.{State};
 ghost use Rattle.ci_machine.specs.Effects.{token_of, replies, refuses, no_content, add_project, made_project, add_runner, made_runner, lacks_numbers, told, unleased, accepted_to, not_accepted, sweeps};
-ghost use Rattle.ci_machine.specs.Names.{is_name};
+ghost use Rattle.ci_values.specs.Names.{is_name};
 ghost use Rattle.ci_machine.specs.Step.{Step};
 ghost use Rattle.ci_machine.specs.Reply.{Stepped, outcome_of};
 ghost use Rattle.ci_machine.specs.Laws.{IsRefusal, Laws};

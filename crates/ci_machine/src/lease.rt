@@ -4,14 +4,9 @@ ghost use Rattle.std.specs.Prelude.{◌≡◌};
 ghost use Rattle.std.specs.Option.{option_copied};
 ghost use Rattle.ci_machine.specs.Leases.{is_over, renewed, accepted, is_same_end, finished, cause_of, first_due};
 
+use crate::limits::{LEASE_SECONDS, MAX_TRACE_BYTES};
 use crate::moment::Moment;
 use crate::records::{Attempt, AttemptState, Cause};
-
-/// How long a lease lasts after its runner was last heard of, in seconds.
-pub const LEASE_SECONDS: u64 = 120;
-
-/// The greatest size of a trace, in bytes.
-pub const TRACE_LIMIT: u64 = 4_194_304;
 
 /// An attempt, with the time limit of its job in seconds. While it is live it is its runner's lease on the job.
 #[derive(Clone, Drop)]
@@ -82,7 +77,7 @@ pub fn accept_piece(
     if from != size {
         return Err(PieceFault::WrongOffset(size));
     }
-    if size > TRACE_LIMIT || count > TRACE_LIMIT - size {
+    if size > MAX_TRACE_BYTES || count > MAX_TRACE_BYTES - size {
         return Err(PieceFault::TraceFull);
     }
     Ok(size + count)

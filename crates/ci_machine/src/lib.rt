@@ -7,6 +7,7 @@ pub mod choose;
 pub mod enter;
 pub mod laws;
 pub mod lease;
+pub mod limits;
 pub mod moment;
 pub mod plan;
 pub mod records;

@@ -6,17 +6,15 @@ ghost use Rattle.std.specs.Option.{option_copied};
 ghost use Rattle.ci_machine.specs.Effects as effects;
 
 use crate::body;
-use crate::change::{Change, Counter, Delta, Record};
+use crate::change::{Counter, Delta, Record, RowChange};
 use crate::moment::Moment;
-use crate::records::{
-    Attempt, AttemptState, GREATEST_NUMBER, JobVariable, Project, QueuedJob, Runner,
-};
-use crate::reply::{Answer, Body, Code, Detail, Effect, Reply, Status};
+use crate::records::{Attempt, AttemptState, JobVariable, MAX_NUMBER, Project, QueuedJob, Runner};
+use crate::reply::{Answer, Body, Code, Detail, Effect, HttpStatus, Reply};
 use crate::request::Seed;
 use crate::text::{Text, Texts};
 use std::alloc::{AllocError, Global};
 
-pub(crate) fn replies(reply: Reply, changes: Vec<Change>) -> Effect
+pub(crate) fn replies(reply: Reply, changes: Vec<RowChange>) -> Effect
     ensures { result ≡ effects.replies reply changes.items }
 {
     Effect {
@@ -44,7 +42,7 @@ pub(crate) fn created(text: Text) -> Reply
     ensures { result ≡ effects.created text }
 {
     Reply {
-        status: Status::Created,
+        status: HttpStatus::Created,
         code: None,
         job_status: None,
         range: None,
@@ -57,7 +55,7 @@ fn no_content() -> Reply
     ensures { result ≡ effects.no_content }
 {
     Reply {
-        status: Status::NoContent,
+        status: HttpStatus::NoContent,
         code: None,
         job_status: None,
         range: None,
@@ -77,7 +75,11 @@ fn token(alloc: Global, letter: &str, number: u64, seed: Seed) -> Result<Text, A
 }
 
 /// Two changes, the first of them first.
-pub(crate) fn two(alloc: Global, first: Change, second: Change) -> Result<Vec<Change>, AllocError>
+pub(crate) fn two(
+    alloc: Global,
+    first: RowChange,
+    second: RowChange,
+) -> Result<Vec<RowChange>, AllocError>
     ensures { IfOk result (λ v. v.items ≡ first ∷ second ∷ []) }
 {
     let mut changes = Vec::new(alloc);
@@ -95,14 +97,14 @@ pub fn add_project(alloc: Global, next: u64, name: Text, seed: Seed) -> Result<E
     if !name.is_name() {
         return faults(alloc, Detail::K16);
     }
-    if next > GREATEST_NUMBER {
+    if next > MAX_NUMBER {
         return Ok(refuses(alloc, Code::M15));
     }
     make_project(alloc, next, name, seed)
 }
 
 fn make_project(alloc: Global, id: u64, name: Text, seed: Seed) -> Result<Effect, AllocError>
-    requires { id ≤ 9007199254740991 }
+    requires { id ≤ MAX_NUMBER }
     ensures { IfOk result (λ e. e ≡ effects.made_project id name seed) }
 {
     let token = token(alloc, "p", id, seed)?;
@@ -115,8 +117,8 @@ fn make_project(alloc: Global, id: u64, name: Text, seed: Seed) -> Result<Effect
     };
     let changes = two(
         alloc,
-        Change::Add(Record::Project(project)),
-        Change::SetNext(Counter::Project, id + 1),
+        RowChange::Add(Record::Project(project)),
+        RowChange::SetNext(Counter::Project, id + 1),
     )?;
     Ok(replies(created(text), changes))
 }
@@ -130,14 +132,14 @@ pub fn add_runner(alloc: Global, next: u64, name: Text, seed: Seed) -> Result<Ef
     if !name.is_name() {
         return faults(alloc, Detail::K16);
     }
-    if next > GREATEST_NUMBER {
+    if next > MAX_NUMBER {
         return Ok(refuses(alloc, Code::M15));
     }
     make_runner(alloc, next, name, seed)
 }
 
 fn make_runner(alloc: Global, id: u64, name: Text, seed: Seed) -> Result<Effect, AllocError>
-    requires { id ≤ 9007199254740991 }
+    requires { id ≤ MAX_NUMBER }
     ensures { IfOk result (λ e. e ≡ effects.made_runner id name seed) }
 {
     let token = token(alloc, "r", id, seed)?;
@@ -153,8 +155,8 @@ fn make_runner(alloc: Global, id: u64, name: Text, seed: Seed) -> Result<Effect,
     };
     let changes = two(
         alloc,
-        Change::Add(Record::Runner(runner)),
-        Change::SetNext(Counter::Runner, id + 1),
+        RowChange::Add(Record::Runner(runner)),
+        RowChange::SetNext(Counter::Runner, id + 1),
     )?;
     Ok(replies(created(text), changes))
 }
@@ -183,7 +185,7 @@ pub fn ask_job(
     let Some(queued) = offer else {
         return Ok(replies(no_content(), Vec::new(alloc)));
     };
-    if next > GREATEST_NUMBER {
+    if next > MAX_NUMBER {
         return Ok(refuses(alloc, Code::M15));
     }
     grant(alloc, runner, queued, variables, next, now, seed)
@@ -198,7 +200,7 @@ fn grant(
     now: Moment,
     seed: Seed,
 ) -> Result<Effect, AllocError>
-    requires { id ≤ 9007199254740991 }
+    requires { id ≤ MAX_NUMBER }
     ensures { IfOk result (λ e. e ≡ effects.grant runner.now queued.now variables.now id now seed) }
 {
     let token = token(alloc, "j", id, seed)?;
@@ -216,8 +218,8 @@ fn grant(
     };
     let changes = two(
         alloc,
-        Change::Add(Record::Attempt(attempt)),
-        Change::SetNext(Counter::Attempt, id + 1),
+        RowChange::Add(Record::Attempt(attempt)),
+        RowChange::SetNext(Counter::Attempt, id + 1),
     )?;
     Ok(replies(created(text), changes))
 }

@@ -4,10 +4,9 @@ ghost use Rattle.std.specs.Prelude.{◌≡◌};
 
 use crate::moment::Moment;
 use crate::text::{Bytes, Text, Texts};
+pub use ci_values::attempts::{AttemptState, Cause};
+pub use ci_values::limits::MAX_NUMBER;
 use std::alloc::AllocError;
-
-/// The greatest number of a record: 2^53 - 1, up to which every reader of JSON keeps whole numbers exact.
-pub const GREATEST_NUMBER: u64 = 9_007_199_254_740_991;
 
 /// A project, with the token that its users send and its pipeline file.
 #[derive(Clone, Drop)]
@@ -65,7 +64,7 @@ pub struct Pipeline {
 
 /// What the file and the rules fixed of a job when its pipeline was made.
 #[derive(Clone, Drop)]
-pub struct JobSpec {
+pub struct JobOptions {
     pub script: Texts,
     /// The time limit of an attempt, in seconds.
     pub timeout: u32,
@@ -80,7 +79,7 @@ pub struct Job {
     pub position: u64,
     pub name: Text,
     pub stage: Text,
-    pub spec: JobSpec,
+    pub options: JobOptions,
     /// Whether a user started it, where it is manual.
     pub played: bool,
     /// Whether a user or a sweep cancelled it.
@@ -116,26 +115,6 @@ impl Clone for JobVariable {
             value,
         })
     }
-}
-
-/// Why an attempt failed, in GitLab's words.
-#[derive(Clone, Copy, PartialEq, Eq, Drop)]
-pub enum Cause {
-    UnknownFailure,
-    ScriptFailure,
-    ApiFailure,
-    StuckOrTimeoutFailure,
-    RunnerSystemFailure,
-    JobExecutionTimeout,
-}
-
-/// How an attempt stands: live, or how it ended, with the exit code that its runner sent.
-#[derive(Clone, Copy, Drop)]
-pub enum AttemptState {
-    Live,
-    Succeeded(Option<u32>),
-    Failed(Cause, Option<u32>),
-    Cancelled,
 }
 
 /// A run of a job by a runner. While it is live it is the runner's lease on the job.

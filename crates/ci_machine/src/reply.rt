@@ -9,7 +9,7 @@ use crate::text::{Bytes, Text};
 
 /// How a request ended: the statuses of HTTP (RFC 9110, section 15) that the server sends.
 #[derive(Clone, Copy, PartialEq, Eq, Drop)]
-pub enum Status {
+pub enum HttpStatus {
     Fine,
     Created,
     Accepted,
@@ -113,7 +113,7 @@ pub enum Body {
 /// The reply to a request.
 #[derive(Drop)]
 pub struct Reply {
-    pub status: Status,
+    pub status: HttpStatus,
     /// Why the request was refused, if it was.
     pub code: Option<Code>,
     pub job_status: Option<JobStatus>,
@@ -126,21 +126,21 @@ pub struct Reply {
 
 impl Code {
     /// The status of a reply with this code.
-    pub fn status(self) -> Status
+    pub fn status(self) -> HttpStatus
         ensures { result ≡ status_of self }
     {
         match self {
-            Code::M1 => Status::Unauthorized,
-            Code::M2 | Code::M3 | Code::H5 => Status::NotFound,
-            Code::M4 | Code::M5 | Code::M6 | Code::M7 => Status::Forbidden,
-            Code::M8 => Status::RangeNotSatisfiable,
-            Code::M9 | Code::H4 => Status::PayloadTooLarge,
-            Code::M14 | Code::H1 | Code::H7 => Status::BadRequest,
-            Code::M15 | Code::M16 | Code::M17 => Status::ServiceUnavailable,
-            Code::H2 => Status::HeaderFieldsTooLarge,
-            Code::H3 => Status::LengthRequired,
-            Code::H6 => Status::MethodNotAllowed,
-            Code::H8 => Status::NotImplemented,
+            Code::M1 => HttpStatus::Unauthorized,
+            Code::M2 | Code::M3 | Code::H5 => HttpStatus::NotFound,
+            Code::M4 | Code::M5 | Code::M6 | Code::M7 => HttpStatus::Forbidden,
+            Code::M8 => HttpStatus::RangeNotSatisfiable,
+            Code::M9 | Code::H4 => HttpStatus::PayloadTooLarge,
+            Code::M14 | Code::H1 | Code::H7 => HttpStatus::BadRequest,
+            Code::M15 | Code::M16 | Code::M17 => HttpStatus::ServiceUnavailable,
+            Code::H2 => HttpStatus::HeaderFieldsTooLarge,
+            Code::H3 => HttpStatus::LengthRequired,
+            Code::H6 => HttpStatus::MethodNotAllowed,
+            Code::H8 => HttpStatus::NotImplemented,
         }
     }
 

@@ -2,41 +2,28 @@
 
 ghost use Rattle.std.specs.Prelude.{◌≡◌, ◌∷◌, [], IfOk};
 ghost use Rattle.std.specs.Option.{option_copied};
-ghost use Rattle.ci_machine.specs.Leases.{is_live_state};
 ghost use Rattle.ci_machine.specs.Effects as effects;
-ghost use Rattle.ci_machine.specs.declared.change.Change.TheVariants as change;
+ghost use Rattle.ci_machine.specs.declared.change.RowChange.TheVariants as change;
 ghost use Rattle.ci_machine.specs.declared.change.Record.TheVariants as row;
 
-use crate::change::{Change, Record};
+use crate::change::{Record, RowChange};
 use crate::lease::{Lease, LeaseFault, finish, renew};
 use crate::moment::Moment;
 use crate::plan::{refuses, replies};
 use crate::records::{Attempt, AttemptState};
-use crate::reply::{Code, Effect, JobStatus, Reply, Status};
+use crate::reply::{Code, Effect, HttpStatus, JobStatus, Reply};
 use crate::request::{JobUpdate, Report};
 use std::alloc::{AllocError, Global};
 
-impl AttemptState {
-    /// The status of an attempt in this state.
-    pub fn status(self) -> JobStatus
-        ensures { result ≡ effects.status_of_state self }
-    {
-        match self {
-            AttemptState::Live => JobStatus::Running,
-            AttemptState::Succeeded(_) => JobStatus::Success,
-            AttemptState::Failed(_, _) => JobStatus::Failed,
-            AttemptState::Cancelled => JobStatus::Canceled,
-        }
-    }
-
-    /// Has the attempt not ended?
-    pub fn is_live(self) -> bool
-        ensures { result ≡ is_live_state self }
-    {
-        match self {
-            AttemptState::Live => true,
-            _ => false,
-        }
+/// The status of an attempt in this state.
+pub fn job_status(state: AttemptState) -> JobStatus
+    ensures { result ≡ effects.status_of_state state }
+{
+    match state {
+        AttemptState::Live => JobStatus::Running,
+        AttemptState::Succeeded(_) => JobStatus::Success,
+        AttemptState::Failed(_, _) => JobStatus::Failed,
+        AttemptState::Cancelled => JobStatus::Canceled,
     }
 }
 
@@ -44,7 +31,7 @@ fn told(status: JobStatus) -> Reply
     ensures { result ≡ effects.told status }
 {
     Reply {
-        status: Status::Fine,
+        status: HttpStatus::Fine,
         code: None,
         job_status: Some(status),
         range: None,
@@ -60,7 +47,7 @@ pub(crate) fn unleased(fault: LeaseFault) -> Reply
     match fault {
         LeaseFault::NotLive(state) => {
             let mut reply = Reply::refusal(Code::M6);
-            reply.job_status = Some(state.status());
+            reply.job_status = Some(job_status(state));
             reply
         }
         LeaseFault::LeaseOver => Reply::refusal(Code::M7),
@@ -68,11 +55,11 @@ pub(crate) fn unleased(fault: LeaseFault) -> Reply
 }
 
 /// An attempt in place of the one with its number.
-pub(crate) fn put(alloc: Global, attempt: Attempt) -> Result<Vec<Change>, AllocError>
+pub(crate) fn put(alloc: Global, attempt: Attempt) -> Result<Vec<RowChange>, AllocError>
     ensures { IfOk result (λ v. v.items ≡ change.Put (row.Attempt attempt) ∷ []) }
 {
     let mut changes = Vec::new(alloc);
-    changes.push(Change::Put(Record::Attempt(attempt)))?;
+    changes.push(RowChange::Put(Record::Attempt(attempt)))?;
     Ok(changes)
 }
 
@@ -95,7 +82,11 @@ fn heard(
 }
 
 /// The changes by which an attempt comes into a final state: none, where it has ended.
-fn ending(alloc: Global, attempt: &Attempt, state: AttemptState) -> Result<Vec<Change>, AllocError>
+fn ending(
+    alloc: Global,
+    attempt: &Attempt,
+    state: AttemptState,
+) -> Result<Vec<RowChange>, AllocError>
     ensures { IfOk result (λ v. v.items ≡ effects.ending attempt.now state) }
 {
     if !attempt.state.is_live() {
@@ -115,7 +106,7 @@ fn ended(
     ensures { IfOk result (λ e. e ≡ effects.ended attempt.now state) }
 {
     match state {
-        Ok(state) => Ok(replies(told(state.status()), ending(alloc, attempt, state)?)),
+        Ok(state) => Ok(replies(told(job_status(state)), ending(alloc, attempt, state)?)),
         Err(fault) => Ok(replies(unleased(fault), Vec::new(alloc))),
     }
 }

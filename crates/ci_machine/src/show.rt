@@ -8,7 +8,8 @@ ghost use Rattle.ci_machine.specs.Effects as effects;
 use crate::body;
 use crate::plan::{refuses, replies};
 use crate::records::{Attempt, Job, Piece, Pipeline, Project};
-use crate::reply::{Body, Code, Effect, Reply, Status};
+use crate::reply::{Body, Code, Effect, HttpStatus, Reply};
+use crate::report::job_status;
 use crate::request::JobQuery;
 use crate::text::Bytes;
 use std::alloc::{AllocError, Global};
@@ -17,7 +18,7 @@ fn fine(body: Body) -> Reply
     ensures { result ≡ effects.fine body }
 {
     Reply {
-        status: Status::Fine,
+        status: HttpStatus::Fine,
         code: None,
         job_status: None,
         range: None,
@@ -65,7 +66,7 @@ fn shown_status(last: Option<&Attempt>) -> &'static str
 {
     match last {
         None => "pending",
-        Some(attempt) => attempt.state.status().as_str(),
+        Some(attempt) => job_status(attempt.state).as_str(),
     }
 }
 

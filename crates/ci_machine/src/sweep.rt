@@ -4,14 +4,14 @@ ghost use Rattle.std.specs.Prelude.{◌≡◌, IfOk};
 ghost use Rattle.std.specs.Option.{option_copied};
 ghost use Rattle.ci_machine.specs.Effects as effects;
 
-use crate::change::{Change, Delta};
+use crate::change::{Delta, RowChange};
 use crate::lease::{Lease, cause};
 use crate::records::AttemptState;
 use crate::reply::{Answer, Effect, Swept};
 use crate::report::put;
 use std::alloc::{AllocError, Global};
 
-fn sweeps(swept: Swept, changes: Vec<Change>) -> Effect
+fn sweeps(swept: Swept, changes: Vec<RowChange>) -> Effect
     ensures { result ≡ effects.sweeps swept changes.items }
 {
     Effect {

@@ -5,12 +5,12 @@ ghost use Rattle.std.specs.Option.{option_copied};
 ghost use Rattle.ci_machine.specs.Leases.{accepted};
 ghost use Rattle.ci_machine.specs.Effects as effects;
 
-use crate::change::{Change, Record};
+use crate::change::{Record, RowChange};
 use crate::lease::{Lease, PieceFault, accept_piece};
 use crate::moment::Moment;
 use crate::plan::{refuses, replies, two};
-use crate::records::{Attempt, GREATEST_NUMBER, Piece};
-use crate::reply::{Code, Effect, JobStatus, Reply, Status};
+use crate::records::{Attempt, MAX_NUMBER, Piece};
+use crate::reply::{Code, Effect, HttpStatus, JobStatus, Reply};
 use crate::report::unleased;
 use crate::request::TracePart;
 use crate::text::Bytes;
@@ -20,7 +20,7 @@ fn accepted_to(size: u64) -> Reply
     ensures { result ≡ effects.accepted_to size }
 {
     Reply {
-        status: Status::Accepted,
+        status: HttpStatus::Accepted,
         code: None,
         job_status: Some(JobStatus::Running),
         range: Some(size),
@@ -53,7 +53,7 @@ fn grow(
 ) -> Result<Effect, AllocError>
     ensures { IfOk result (λ e. e ≡ effects.appended attempt.now bytes now (Ok size)) }
 {
-    if attempt.pieces > GREATEST_NUMBER {
+    if attempt.pieces > MAX_NUMBER {
         return Ok(refuses(alloc, Code::M15));
     }
     let mut grown = attempt.clone()?;
@@ -67,8 +67,8 @@ fn grow(
     };
     let changes = two(
         alloc,
-        Change::Add(Record::Piece(piece)),
-        Change::Put(Record::Attempt(grown)),
+        RowChange::Add(Record::Piece(piece)),
+        RowChange::Put(Record::Attempt(grown)),
     )?;
     Ok(replies(accepted_to(size), changes))
 }

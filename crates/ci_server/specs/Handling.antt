@@ -1,6 +1,6 @@
 -- What one event does to a server.
 use Rattle.std.specs.Prelude.{◌≡◌, ℕ, Bool, true, false, List, Result, Ok, Err}
-use Rattle.ci_machine.specs.declared.change.Change.{Change}
+use Rattle.ci_machine.specs.declared.change.RowChange.{RowChange}
 use Rattle.ci_machine.specs.declared.reply.Answer.{Answer}
 use Rattle.ci_machine.specs.declared.reply.Answer.TheVariants as answer
 use Rattle.ci_machine.specs.declared.reply.Code.{Code}
@@ -34,7 +34,7 @@ pub data Handled {T : Type 0} (holds : T → State → Type 0) (leaves : T → S
   commit_failed : (b : Answer) (t : State) → Step s c.0 c.1 c.2 b t → a ≡ refused c.0 M17 → leaves new s t → closed ≡ true → Handled holds leaves c s new closed a
 
 -- How the commit of changes ended, by its result: they are made, or there is no step, for a cause.
-pub data Made {T A : Type 0} (holds : T → State → Type 0) (leaves : T → State → State → Type 0) (changes : List Change) (s : State) (new : T) (closed : Bool) (r : Result A Code) : Type 0 where
+pub data Made {T A : Type 0} (holds : T → State → Type 0) (leaves : T → State → State → Type 0) (changes : List RowChange) (s : State) (new : T) (closed : Bool) (r : Result A Code) : Type 0 where
   made : (done : A) → r ≡ Ok done → holds new (applied changes s) → closed ≡ false → Made holds leaves changes s new closed r
   lacked_memory : r ≡ Err M16 → holds new s → closed ≡ false → Made holds leaves changes s new closed r
   failed : r ≡ Err M17 → leaves new s (applied changes s) → closed ≡ true → Made holds leaves changes s new closed r

@@ -25,7 +25,7 @@ fn lease_of<T: Store>(store: &mut T, attempt: Attempt) -> Result<Lease, StoreFau
     match store.job(attempt.job)? {
         Some(job) => Ok(Lease {
             attempt,
-            limit: job.spec.timeout,
+            limit: job.options.timeout,
         }),
         None => Err(StoreFault::Broken),
     }

@@ -38,13 +38,13 @@ means = record { there = refl; apart = refl; update_is = refl; update_plain = (r
 gives : (j : Job) → GivesRecord the_schema job (is 0 0 ∷ []) sets sets (number j.id ∷ []) (job_row j)
 gives j = record {
   tested = λ r. refl;
-  updated = λ old. λ i. cast_int (pos j.id) i ∷ cast_int (pos j.pipeline) i ∷ cast_int (pos j.position) i ∷ Text j.name ∷ Text j.stage ∷ Text (spec_text j.spec) ∷ cast_int (if j.played then pos 1 else pos 0) i ∷ cast_int (if j.cancelled then pos 1 else pos 0) i ∷ cast_int (pos j.set_aside) i ∷ [];
+  updated = λ old. λ i. cast_int (pos j.id) i ∷ cast_int (pos j.pipeline) i ∷ cast_int (pos j.position) i ∷ Text j.name ∷ Text j.stage ∷ Text (spec_text j.options) ∷ cast_int (if j.played then pos 1 else pos 0) i ∷ cast_int (if j.cancelled then pos 1 else pos 0) i ∷ cast_int (pos j.set_aside) i ∷ [];
   source = refl;
-  inserted = λ rows. ap (image (places job)) (numbered rows (pos j.id) _) ∙ (λ i. number j.id ∷ cast_int (pos j.pipeline) i ∷ cast_int (pos j.position) i ∷ Text j.name ∷ Text j.stage ∷ Text (spec_text j.spec) ∷ cast_int (if j.played then pos 1 else pos 0) i ∷ cast_int (if j.cancelled then pos 1 else pos 0) i ∷ cast_int (pos j.set_aside) i ∷ []);
+  inserted = λ rows. ap (image (places job)) (numbered rows (pos j.id) _) ∙ (λ i. number j.id ∷ cast_int (pos j.pipeline) i ∷ cast_int (pos j.position) i ∷ Text j.name ∷ Text j.stage ∷ Text (spec_text j.options) ∷ cast_int (if j.played then pos 1 else pos 0) i ∷ cast_int (if j.cancelled then pos 1 else pos 0) i ∷ cast_int (pos j.set_aside) i ∷ []);
   absent = λ rows new_row db shaped is keyed fresh put sound. absent_rowid rows new_row (pos j.id) _ (λ r. refl) shaped (ap (λ image. column image 0) is) fresh;
 }
 
-regular_put : (j : Job) (s : State) → read (spec_text j.spec) ≡ Some (spec_data j.spec) → IsRegular s → IsRegular (with_record (row.Job j) s)
+regular_put : (j : Job) (s : State) → read (spec_text j.options) ≡ Some (spec_data j.options) → IsRegular s → IsRegular (with_record (row.Job j) s)
 regular_put j s read_back o = record {
   projects = o.projects;
   runners = o.runners;
@@ -57,7 +57,7 @@ regular_put j s read_back o = record {
   specs = all_put job_cmp _ j s.jobs read_back o.specs;
 }
 
-pub job_puts : {S : Type 0} (ghosts : Ghosts S) (before after : Held S) (j : Job) (s : State) → read (spec_text j.spec) ≡ Some (spec_data j.spec) → Stands s (state ghosts before).now → HasPut ghosts UPDATE_JOB.now INSERT_JOB.now (job_row j) before after
+pub job_puts : {S : Type 0} (ghosts : Ghosts S) (before after : Held S) (j : Job) (s : State) → read (spec_text j.options) ≡ Some (spec_data j.options) → Stands s (state ghosts before).now → HasPut ghosts UPDATE_JOB.now INSERT_JOB.now (job_row j) before after
     → Stands (with_record (row.Job j) s) (state ghosts after).now
 job_puts ghosts before after j s read_back stands h =
     put_stands job_row s.jobs s (with_record (row.Job j) s) job refl ((λ _. refl), ((λ _. refl), ((λ _. refl), ((λ _. refl), ((λ ne. absurd (ne refl)), ((λ _. refl), ((λ _. refl), ((λ _. refl), tt)))))))) (regular_put j s read_back stands.inside.regular)

@@ -6,7 +6,7 @@ use Rattle.sqlite.specs.Values.{or_null}
 use Rattle.sqlite.specs.Order.{Row, column}
 use Rattle.serde_json.specs.Data.{Data, array}
 use Rattle.serde_json.specs.Read.{read}
-use Rattle.ci_machine.specs.declared.records.JobSpec.{JobSpec}
+use Rattle.ci_machine.specs.declared.records.JobOptions.{JobOptions}
 use Rattle.ci_store.specs.Rows.{number}
 use Rattle.ci_store.specs.JsonText.{strings, tags_data, spec_data}
 use Rattle.ci_store.specs.Load.{ReadsTags, ReadsSpec}
@@ -24,7 +24,7 @@ pub tags_read : {E : Type 0} (r : Result (List (List ℕ)) E) (text : List ℕ) 
 tags_read (Ok ts) text v is h = λ others reads. let same : tags_data ts ≡ tags_data others = let a = sym is ∙ reads in cc in let inner : strings ts ≡ strings others = cc in same_strings ts others inner
 tags_read (Err e) text v is h = tt
 
-pub spec_read : {E : Type 0} (r : Result JobSpec E) (text : List ℕ) (v : Data) → read text ≡ Some v → IfOk r (λ spec. (other : JobSpec) → v ≡ spec_data other → spec ≡ other) → IfOk r (ReadsSpec text)
+pub spec_read : {E : Type 0} (r : Result JobOptions E) (text : List ℕ) (v : Data) → read text ≡ Some v → IfOk r (λ spec. (other : JobOptions) → v ≡ spec_data other → spec ≡ other) → IfOk r (ReadsSpec text)
 spec_read (Ok spec) text v is h = λ other reads. let same : v ≡ spec_data other = let a = sym is ∙ reads in cc in h other same
 spec_read (Err e) text v is h = tt
 

@@ -15,10 +15,10 @@ use Rattle.ci_machine.specs.declared.records.RefKind.{RefKind}
 use Rattle.ci_machine.specs.declared.records.RefKind.TheVariants.{Branch, Tag}
 use Rattle.ci_machine.specs.declared.records.Source.{Source}
 use Rattle.ci_machine.specs.declared.records.Source.TheVariants.{Push, Web, Schedule, Api, Trigger}
-use Rattle.ci_machine.specs.declared.records.Cause.{Cause}
-use Rattle.ci_machine.specs.declared.records.Cause.TheVariants.{UnknownFailure, ScriptFailure, ApiFailure, StuckOrTimeoutFailure, RunnerSystemFailure, JobExecutionTimeout}
-use Rattle.ci_machine.specs.declared.records.AttemptState.{AttemptState}
-use Rattle.ci_machine.specs.declared.records.AttemptState.TheVariants.{Live, Succeeded, Failed, Cancelled}
+use Rattle.ci_values.specs.declared.attempts.Cause.{Cause}
+use Rattle.ci_values.specs.declared.attempts.Cause.TheVariants.{UnknownFailure, ScriptFailure, ApiFailure, StuckOrTimeoutFailure, RunnerSystemFailure, JobExecutionTimeout}
+use Rattle.ci_values.specs.declared.attempts.AttemptState.{AttemptState}
+use Rattle.ci_values.specs.declared.attempts.AttemptState.TheVariants.{Live, Succeeded, Failed, Cancelled}
 use Rattle.ci_store.specs.JsonText.{tags_data, tags_text, spec_data, spec_text}
 use Rattle.ci_store.specs.Rows.{number, flag, kind_number, source_number, cause_number, state_number, cause_in, exit_in, project_row, runner_row, pipeline_row, job_row, job_variable_row, attempt_row, piece_row}
 use Rattle.ci_store.specs.Load.{ReadsTags, ReadsSpec, runner_cells, job_cells, IsJobRow}
@@ -144,19 +144,19 @@ same_runner r q text reads back h =
     let tags = reads q.tags (ap read t ∙ back) in
     λ i. record { id = a i; name = b i; token = c i; project = same_option r.project q.project d i; tags = tags i; untagged = same_flag r.untagged q.untagged u i; paused = same_flag r.paused q.paused p i }
 
-pub same_job : (j q : Job) (text : List ℕ) → ReadsSpec text j.spec → read (spec_text q.spec) ≡ Some (spec_data q.spec) → job_cells j text ≡ job_row q → j ≡ q
+pub same_job : (j q : Job) (text : List ℕ) → ReadsSpec text j.options → read (spec_text q.options) ≡ Some (spec_data q.options) → job_cells j text ≡ job_row q → j ≡ q
 same_job j q text reads back h =
     let a : j.id ≡ q.id = cc in
     let b : j.pipeline ≡ q.pipeline = cc in
     let c : j.position ≡ q.position = cc in
     let d : j.name ≡ q.name = cc in
     let e : j.stage ≡ q.stage = cc in
-    let t : text ≡ spec_text q.spec = cc in
+    let t : text ≡ spec_text q.options = cc in
     let u : flag j.played ≡ flag q.played = cc in
     let v : flag j.cancelled ≡ flag q.cancelled = cc in
     let w : j.set_aside ≡ q.set_aside = cc in
-    let spec = reads q.spec (ap read t ∙ back) in
-    λ i. record { id = a i; pipeline = b i; position = c i; name = d i; stage = e i; spec = spec i; played = same_flag j.played q.played u i; cancelled = same_flag j.cancelled q.cancelled v i; set_aside = w i }
+    let spec = reads q.options (ap read t ∙ back) in
+    λ i. record { id = a i; pipeline = b i; position = c i; name = d i; stage = e i; options = spec i; played = same_flag j.played q.played u i; cancelled = same_flag j.cancelled q.cancelled v i; set_aside = w i }
 
 pub same_map : {A : Type 0} {B : Type 0} (f : A → B) → ((x y : A) → f x ≡ f y → x ≡ y) → (xs ys : List A) → map f xs ≡ map f ys → xs ≡ ys
 same_map f one [] [] h = refl
@@ -173,7 +173,7 @@ zip_push R [] (b ∷ ys) x y all h = absurd all
 zip_push R (a ∷ xs) [] x y all h = absurd all
 zip_push R (a ∷ xs) (b ∷ ys) x y all h = (all.0, zip_push R xs ys x y all.1 h)
 
-pub same_jobs : (js qs : List Job) → AllByRecursion (λ q. read (spec_text q.spec) ≡ Some (spec_data q.spec)) qs → AllZip IsJobRow (map job_row qs) js → js ≡ qs
+pub same_jobs : (js qs : List Job) → AllByRecursion (λ q. read (spec_text q.options) ≡ Some (spec_data q.options)) qs → AllZip IsJobRow (map job_row qs) js → js ≡ qs
 same_jobs [] [] back all = refl
 same_jobs [] (q ∷ qs) back all = absurd all
 same_jobs (j ∷ js) [] back all = absurd all

@@ -21,10 +21,11 @@ use Rattle.sqlite_tied.specs.Compute.{everything}
 use Rattle.sqlite.proofs.Callers.{IsPlain}
 use Rattle.sqlite_keyed.proofs.ListLemmas.{filter-map, filter_same, ascending-map, ascending_weaker, ascending-filter}
 use Rattle.ci_machine.specs.State.{State}
-use Rattle.ci_machine.specs.Leases.{is_live, is_live_state}
+use Rattle.ci_values.specs.Attempts.{is_live_state}
+use Rattle.ci_machine.specs.Leases.{is_live}
 use Rattle.ci_machine.specs.declared.records.Attempt.{Attempt}
-use Rattle.ci_machine.specs.declared.records.AttemptState.{AttemptState}
-use Rattle.ci_machine.specs.declared.records.AttemptState.TheVariants.{Live, Succeeded, Failed, Cancelled}
+use Rattle.ci_values.specs.declared.attempts.AttemptState.{AttemptState}
+use Rattle.ci_values.specs.declared.attempts.AttemptState.TheVariants.{Live, Succeeded, Failed, Cancelled}
 use Rattle.ci_tables.proofs.Queries.{query}
 use Rattle.ci_tables.proofs.Selects.{MeansSelect}
 use Rattle.ci_tables.proofs.Ordered.{no_key_total, selects_sorted}

@@ -5,7 +5,7 @@ use Rattle.sqlite.specs.Tree.{Trees}
 use Rattle.sqlite.specs.Store.{Ghosts}
 use Rattle.sqlite.specs.Held.{Held, state}
 use Rattle.ci_machine.specs.State.{State, applied}
-use Rattle.ci_machine.specs.declared.change.Change.{Change}
+use Rattle.ci_machine.specs.declared.change.RowChange.{RowChange}
 use Rattle.ci_store.specs.declared.commit.Ended.{Ended}
 use Rattle.ci_store.specs.declared.commit.Ended.TheVariants.{Done, Undone}
 use Rattle.ci_store.specs.Stands.{Stands, StandsIn}
@@ -19,7 +19,7 @@ abbrev pub MakesInside : {S A E : Type 0} → Ghosts S → (State → State) →
 MakesInside g change old new result = HasCleanDisk (state g new) → IsTrue old.in_transaction → OnOk result (Makes g change old new)
 
 -- what is committed after the changes stands for the state after them
-abbrev pub CommitsAll : {S : Type 0} → Ghosts S → List Change → Held S → Trees → Type 0
+abbrev pub CommitsAll : {S : Type 0} → Ghosts S → List RowChange → Held S → Trees → Type 0
 CommitsAll g changes old db = (s : State) → Stands s (state g old).now → StandsIn (applied changes s) db
 
 abbrev pub is_done : Ended → Bool
@@ -36,7 +36,7 @@ pub record IsBack {S : Type 0} (g : Ghosts S) (old new : Held S) : Type 0 where
   pub back : IsTrue (state g new).is_open → ((state g new).now ≡ (state g old).committed) × ((state g new).committed ≡ (state g old).committed)
 
 -- the changes are made and committed
-pub record IsDone {S : Type 0} (g : Ghosts S) (changes : List Change) (old new : Held S) : Type 0 where
+pub record IsDone {S : Type 0} (g : Ghosts S) (changes : List RowChange) (old new : Held S) : Type 0 where
   pub is_open : IsTrue (state g new).is_open
   pub stands : (s : State) → Stands s (state g old).now → Stands (applied changes s) (state g new).now
   pub settled : (state g new).committed ≡ (state g new).now

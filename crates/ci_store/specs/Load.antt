@@ -6,8 +6,8 @@ use Rattle.sqlite.specs.Order.{Row}
 use Rattle.serde_json.specs.Read.{read}
 use Rattle.ci_machine.specs.declared.records.Runner.{Runner}
 use Rattle.ci_machine.specs.declared.records.Job.{Job}
-use Rattle.ci_machine.specs.declared.records.JobSpec.{JobSpec}
-use Rattle.ci_machine.specs.declared.records.AttemptState.{AttemptState}
+use Rattle.ci_machine.specs.declared.records.JobOptions.{JobOptions}
+use Rattle.ci_values.specs.declared.attempts.AttemptState.{AttemptState}
 use Rattle.ci_store.specs.JsonText.{tags_data, spec_data}
 use Rattle.ci_store.specs.Rows.{number, flag, state_number, cause_in, exit_in}
 
@@ -19,8 +19,8 @@ HasState number cause exit state = (number ≡ state_number state) × (cause ≡
 abbrev pub ReadsTags : List ℕ → List (List ℕ) → Type 0
 ReadsTags text tags = (others : List (List ℕ)) → read text ≡ Some (tags_data others) → tags ≡ others
 
-abbrev pub ReadsSpec : List ℕ → JobSpec → Type 0
-ReadsSpec text spec = (others : JobSpec) → read text ≡ Some (spec_data others) → spec ≡ others
+abbrev pub ReadsSpec : List ℕ → JobOptions → Type 0
+ReadsSpec text spec = (others : JobOptions) → read text ≡ Some (spec_data others) → spec ≡ others
 
 -- the values of a runner's row, with this text of its tags
 abbrev pub runner_cells : Runner → List ℕ → Row
@@ -34,4 +34,4 @@ abbrev pub job_cells : Job → List ℕ → Row
 job_cells j text = number j.id ∷ number j.pipeline ∷ number j.position ∷ Text j.name ∷ Text j.stage ∷ Text text ∷ flag j.played ∷ flag j.cancelled ∷ number j.set_aside ∷ []
 
 abbrev pub IsJobRow : Row → Job → Type 0
-IsJobRow row j = (text : List ℕ) × (row ≡ job_cells j text) × ReadsSpec text j.spec
+IsJobRow row j = (text : List ℕ) × (row ≡ job_cells j text) × ReadsSpec text j.options

@@ -15,10 +15,10 @@ use Rattle.ci_machine.specs.declared.records.RefKind.{RefKind}
 use Rattle.ci_machine.specs.declared.records.RefKind.TheVariants.{Branch, Tag}
 use Rattle.ci_machine.specs.declared.records.Source.{Source}
 use Rattle.ci_machine.specs.declared.records.Source.TheVariants.{Push, Web, Schedule, Api, Trigger}
-use Rattle.ci_machine.specs.declared.records.Cause.{Cause}
-use Rattle.ci_machine.specs.declared.records.Cause.TheVariants.{UnknownFailure, ScriptFailure, ApiFailure, StuckOrTimeoutFailure, RunnerSystemFailure, JobExecutionTimeout}
-use Rattle.ci_machine.specs.declared.records.AttemptState.{AttemptState}
-use Rattle.ci_machine.specs.declared.records.AttemptState.TheVariants.{Live, Succeeded, Failed, Cancelled}
+use Rattle.ci_values.specs.declared.attempts.Cause.{Cause}
+use Rattle.ci_values.specs.declared.attempts.Cause.TheVariants.{UnknownFailure, ScriptFailure, ApiFailure, StuckOrTimeoutFailure, RunnerSystemFailure, JobExecutionTimeout}
+use Rattle.ci_values.specs.declared.attempts.AttemptState.{AttemptState}
+use Rattle.ci_values.specs.declared.attempts.AttemptState.TheVariants.{Live, Succeeded, Failed, Cancelled}
 use Rattle.ci_store.specs.JsonText.{tags_text, spec_text}
 
 abbrev pub number : ℕ → Value
@@ -71,7 +71,7 @@ abbrev pub pipeline_row : Pipeline → Row
 pipeline_row p = number p.id ∷ number p.project ∷ Text p.git_ref ∷ number (kind_number p.kind) ∷ number (source_number p.source) ∷ number p.created ∷ []
 
 abbrev pub job_row : Job → Row
-job_row j = number j.id ∷ number j.pipeline ∷ number j.position ∷ Text j.name ∷ Text j.stage ∷ Text (spec_text j.spec) ∷ flag j.played ∷ flag j.cancelled ∷ number j.set_aside ∷ []
+job_row j = number j.id ∷ number j.pipeline ∷ number j.position ∷ Text j.name ∷ Text j.stage ∷ Text (spec_text j.options) ∷ flag j.played ∷ flag j.cancelled ∷ number j.set_aside ∷ []
 
 abbrev pub job_variable_row : JobVariable → Row
 job_variable_row v = number v.job ∷ Text v.key ∷ Text v.value ∷ []

@@ -64,7 +64,7 @@ pub record IsRegular (s : State) : Type 0 where
   pub attempts : Rises attempt_cmp s.attempts
   pub pieces : Rises piece_cmp s.pieces
   pub tags : AllByRecursion (λ r. read (tags_text r.tags) ≡ Some (tags_data r.tags)) s.runners
-  pub specs : AllByRecursion (λ j. read (spec_text j.spec) ≡ Some (spec_data j.spec)) s.jobs
+  pub specs : AllByRecursion (λ j. read (spec_text j.options) ≡ Some (spec_data j.options)) s.jobs
 
 -- the trees of a file, as a stop may leave them, stand for the state
 pub record StandsIn (s : State) (db : Trees) : Type 0 where

@@ -13,7 +13,7 @@ ghost use Rattle.ci_store.specs.Commit.{MakesInside, CommitsAll, is_done, is_und
 
 use crate::make::make;
 use crate::settle::is_open;
-use ci_machine::change::Change;
+use ci_machine::change::RowChange;
 use ci_tables::fault::StoreFault;
 use sqlite::{Alter, Connection, Transaction};
 use std::alloc::Global;
@@ -22,7 +22,7 @@ use std::alloc::Global;
 fn make_all<S: Alter>(
     tx: &mut Transaction<'_, S>,
     alloc: Global,
-    changes: &[Change],
+    changes: &[RowChange],
 ) -> Result<(), StoreFault>
     ensures same_reference { tx.new.conn.ghost_name ≡ tx.old.conn.ghost_name }
     ensures makes { MakesInside S.Store (applied changes.now) tx.old.conn.now tx.new.conn.now result }
@@ -45,7 +45,7 @@ enum Ended {
     Unknown(StoreFault),
 }
 
-fn attempt<S: Alter>(conn: &mut Connection<S>, alloc: Global, changes: &[Change]) -> Ended
+fn attempt<S: Alter>(conn: &mut Connection<S>, alloc: Global, changes: &[RowChange]) -> Ended
     requires { conn.old.in_transaction ≡ false }
     ensures idle { conn.new.in_transaction ≡ false }
     ensures done { HasCleanDisk (state S.Store conn.new) → is_done result ≡ true → IsDone S.Store changes.now conn.old conn.new }
@@ -67,7 +67,7 @@ fn attempt<S: Alter>(conn: &mut Connection<S>, alloc: Global, changes: &[Change]
 pub(crate) fn commit<S: Alter>(
     conn: &mut Connection<S>,
     alloc: Global,
-    changes: &[Change],
+    changes: &[RowChange],
 ) -> Result<(), StoreFault>
     requires { conn.old.in_transaction ≡ false }
     ensures idle { conn.new.in_transaction ≡ false }

@@ -4,11 +4,11 @@ ghost use Rattle.std.specs.Prelude.{◌≡◌, map, List, ℕ, IfOk, OnOk, Some,
 ghost use Rattle.serde_json.specs.Data.{array, string};
 ghost use Rattle.serde_json.specs.View.{view};
 ghost use Rattle.serde_json.specs.Read.{read};
-ghost use Rattle.ci_machine.specs.declared.records.JobSpec.{JobSpec};
+ghost use Rattle.ci_machine.specs.declared.records.JobOptions.{JobOptions};
 ghost use Rattle.ci_store.specs.Load.{ReadsTags, ReadsSpec};
 ghost use Rattle.ci_store.specs.JsonText.{strings, tags_data, spec_data, tags_text, spec_text};
 
-use ci_machine::records::JobSpec;
+use ci_machine::records::JobOptions;
 use ci_machine::text::{Text, Texts};
 use ci_tables::fault::StoreFault;
 use serde_json::{Map, Value, put};
@@ -33,7 +33,7 @@ pub fn tags_text(alloc: Global, tags: &Texts) -> Result<String, AllocError>
     value.to_string(alloc)
 }
 
-fn spec_value(alloc: Global, spec: &JobSpec) -> Result<Value, AllocError>
+fn spec_value(alloc: Global, spec: &JobOptions) -> Result<Value, AllocError>
     ensures { IfOk result (λ v. view v ≡ spec_data spec.now) }
 {
     let script = texts_value(alloc, &spec.script)?;
@@ -44,7 +44,7 @@ fn spec_value(alloc: Global, spec: &JobSpec) -> Result<Value, AllocError>
 }
 
 /// The JSON object of what was fixed of a job. Errors: memory was refused.
-pub fn spec_text(alloc: Global, spec: &JobSpec) -> Result<String, AllocError>
+pub fn spec_text(alloc: Global, spec: &JobOptions) -> Result<String, AllocError>
     ensures text { IfOk result (λ t. string_bytes t ≡ spec_text spec.now) }
     ensures reads_back { OnOk result (read (spec_text spec.now) ≡ Some (spec_data spec.now)) }
 {
@@ -98,8 +98,8 @@ pub fn read_tags(alloc: Global, text: &str) -> Result<Texts, StoreFault>
     texts_of(alloc, &value)
 }
 
-fn spec_of(alloc: Global, value: &Value) -> Result<JobSpec, StoreFault>
-    ensures { IfOk result (λ spec. (other : JobSpec) → view value.now ≡ spec_data other → spec ≡ other) }
+fn spec_of(alloc: Global, value: &Value) -> Result<JobOptions, StoreFault>
+    ensures { IfOk result (λ spec. (other : JobOptions) → view value.now ≡ spec_data other → spec ≡ other) }
 {
     let (Some(script), Some(timeout)) = (value.get("script"), value.get("timeout")) else {
         return Err(StoreFault::Broken);
@@ -107,13 +107,13 @@ fn spec_of(alloc: Global, value: &Value) -> Result<JobSpec, StoreFault>
     let script = texts_of(alloc, script)?;
     let seconds = timeout.as_u64().ok_or(StoreFault::Broken)?;
     match u32::try_from(seconds) {
-        Ok(timeout) => Ok(JobSpec { script, timeout }),
+        Ok(timeout) => Ok(JobOptions { script, timeout }),
         Err(_) => Err(StoreFault::Broken),
     }
 }
 
 /// What was fixed of a job, of its JSON object. Errors: memory was refused, or the text is no such object.
-pub fn read_spec(alloc: Global, text: &str) -> Result<JobSpec, StoreFault>
+pub fn read_spec(alloc: Global, text: &str) -> Result<JobOptions, StoreFault>
     ensures { IfOk result (ReadsSpec text.now) }
 {
     let value = parsed(alloc, text)?;

@@ -15,7 +15,7 @@ use crate::columns::{
 };
 use crate::json_text::{spec_text, tags_text};
 use crate::texts;
-use ci_machine::change::{Change, Counter, Key, Record};
+use ci_machine::change::{Counter, Key, Record, RowChange};
 use ci_machine::records::{Attempt, Job, JobVariable, Piece, Pipeline, Project, Runner};
 use ci_machine::text::Text;
 use ci_tables::fault::StoreFault;
@@ -122,7 +122,7 @@ fn put_job<S: Alter>(
     ensures kept { KeepsInside S.Store tx.old.conn.now tx.new.conn.now }
     ensures survives { CommitsNothing S.Store tx.old.conn.now tx.new.conn.now }
 {
-    let spec = spec_text(alloc, &job.spec)?;
+    let spec = spec_text(alloc, &job.options)?;
     let id = number(job.id)?;
     let pipeline = number(job.pipeline)?;
     let position = number(job.position)?;
@@ -390,7 +390,7 @@ fn set_next<S: Alter>(
 pub(crate) fn make<S: Alter>(
     tx: &mut Transaction<'_, S>,
     alloc: Global,
-    change: &Change,
+    change: &RowChange,
 ) -> Result<(), StoreFault>
     ensures same_reference { tx.new.conn.ghost_name ≡ tx.old.conn.ghost_name }
     ensures makes { MakesInside S.Store (changed change.now) tx.old.conn.now tx.new.conn.now result }
@@ -398,9 +398,9 @@ pub(crate) fn make<S: Alter>(
     ensures survives { CommitsNothing S.Store tx.old.conn.now tx.new.conn.now }
 {
     match change {
-        Change::Add(record) => put_record(tx, alloc, true, record),
-        Change::Put(record) => put_record(tx, alloc, false, record),
-        Change::Remove(key) => remove_record(tx, key),
-        Change::SetNext(counter, next) => set_next(tx, *counter, *next),
+        RowChange::Add(record) => put_record(tx, alloc, true, record),
+        RowChange::Put(record) => put_record(tx, alloc, false, record),
+        RowChange::Remove(key) => remove_record(tx, key),
+        RowChange::SetNext(counter, next) => set_next(tx, *counter, *next),
     }
 }

@@ -178,7 +178,7 @@ pub fn read_job(alloc: Global, row: &Row) -> Result<Job, StoreFault>
         position: row.get(2)?,
         name: text_at(row, 3)?,
         stage: text_at(row, 4)?,
-        spec: read_spec(alloc, spec.as_str())?,
+        options: read_spec(alloc, spec.as_str())?,
         played: flag_at(row, 6)?,
         cancelled: flag_at(row, 7)?,
         set_aside: row.get(8)?,

@@ -3,7 +3,7 @@
 
 use crate::disks::{closed, connected, discard, empty, fused, stopped};
 use crate::records::project;
-use ci_machine::change::{Change, Counter, Delta};
+use ci_machine::change::{Counter, Delta, RowChange};
 use ci_store::fault::StoreFault;
 use ci_store::tables::{OpenFault, Tables};
 use ci_store::{Alter, Connection};
@@ -15,14 +15,14 @@ use std::test::Fail;
 
 fn first(alloc: Global) -> Result<Delta, Fail> {
     let mut changes = Vec::new(alloc);
-    changes.push(Change::Add(project(alloc, 1, "one", "p1")?))?;
+    changes.push(RowChange::Add(project(alloc, 1, "one", "p1")?))?;
     Ok(Delta::new(changes))
 }
 
 fn renamed(alloc: Global) -> Result<Delta, Fail> {
     let mut changes = Vec::new(alloc);
-    changes.push(Change::Put(project(alloc, 1, "uno", "p1")?))?;
-    changes.push(Change::Add(project(alloc, 2, "two", "p2")?))?;
+    changes.push(RowChange::Put(project(alloc, 1, "uno", "p1")?))?;
+    changes.push(RowChange::Add(project(alloc, 2, "two", "p2")?))?;
     Ok(Delta::new(changes))
 }
 

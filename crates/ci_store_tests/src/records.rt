@@ -1,9 +1,9 @@
 //! Records for the tests.
 
-use ci_machine::change::{Change, Counter, Delta, Key, Record};
+use ci_machine::change::{Counter, Delta, Key, Record, RowChange};
 use ci_machine::moment::Moment;
 use ci_machine::records::{
-    Attempt, AttemptState, Cause, Job, JobSpec, JobVariable, Piece, Pipeline, Project, RefKind,
+    Attempt, AttemptState, Cause, Job, JobOptions, JobVariable, Piece, Pipeline, Project, RefKind,
     Runner, Source,
 };
 use ci_machine::text::{Bytes, Text, Texts};
@@ -65,7 +65,7 @@ pub fn job(alloc: Global, id: u64) -> Result<Record, Fail> {
         position: 0,
         name: text(alloc, "build")?,
         stage: text(alloc, "test")?,
-        spec: JobSpec {
+        options: JobOptions {
             script: texts(alloc, ["make", "make check"])?,
             timeout: 3600,
         },
@@ -108,22 +108,22 @@ pub fn piece(attempt: u64, seq: u64, bytes: Vec<u8>) -> Record {
 /// A change of each kind of record, with a next number.
 pub fn one_of_each(alloc: Global) -> Result<Delta, Fail> {
     let mut changes = Vec::new(alloc);
-    changes.push(Change::Add(project(alloc, 1, "one", "p1")?))?;
-    changes.push(Change::Add(runner(alloc)?))?;
-    changes.push(Change::Add(pipeline(alloc)?))?;
-    changes.push(Change::Add(job(alloc, 1)?))?;
-    changes.push(Change::Add(job(alloc, 2)?))?;
-    changes.push(Change::Add(variable(alloc, "KEY")?))?;
-    changes.push(Change::Put(variable(alloc, "CI")?))?;
+    changes.push(RowChange::Add(project(alloc, 1, "one", "p1")?))?;
+    changes.push(RowChange::Add(runner(alloc)?))?;
+    changes.push(RowChange::Add(pipeline(alloc)?))?;
+    changes.push(RowChange::Add(job(alloc, 1)?))?;
+    changes.push(RowChange::Add(job(alloc, 2)?))?;
+    changes.push(RowChange::Add(variable(alloc, "KEY")?))?;
+    changes.push(RowChange::Put(variable(alloc, "CI")?))?;
     let failed = AttemptState::Failed(Cause::ScriptFailure, Some(2));
-    changes.push(Change::Add(attempt(alloc, 1, failed)?))?;
-    changes.push(Change::SetNext(Counter::Job, 3))?;
+    changes.push(RowChange::Add(attempt(alloc, 1, failed)?))?;
+    changes.push(RowChange::SetNext(Counter::Job, 3))?;
     Ok(Delta::new(changes))
 }
 
 /// The removal of one row.
 pub fn removal(alloc: Global, key: Key) -> Result<Delta, Fail> {
     let mut changes = Vec::new(alloc);
-    changes.push(Change::Remove(key))?;
+    changes.push(RowChange::Remove(key))?;
     Ok(Delta::new(changes))
 }

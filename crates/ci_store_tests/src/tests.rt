@@ -38,8 +38,8 @@ fn has_pipeline<S: Alter>(tables: &mut Tables<S>) -> Result<bool, StoreFault> {
 
 fn has_job<S: Alter>(tables: &mut Tables<S>) -> Result<bool, StoreFault> {
     match tables.job(2)? {
-        Some(found) => match found.spec.script.as_slice() {
-            [_, second] => Ok(second.as_str() == "make check" && found.spec.timeout == 3600),
+        Some(found) => match found.options.script.as_slice() {
+            [_, second] => Ok(second.as_str() == "make check" && found.options.timeout == 3600),
             _ => Ok(false),
         },
         None => Ok(false),

@@ -2,7 +2,7 @@
 
 use crate::made::{filled, reopened};
 use crate::records::{attempt, piece, removal};
-use ci_machine::change::{Change, Delta, Key};
+use ci_machine::change::{Delta, Key, RowChange};
 use ci_machine::records::{AttemptState, Piece};
 use ci_store::fault::StoreFault;
 use ci_store::tables::Tables;
@@ -27,8 +27,8 @@ fn is_short(piece: &Piece) -> bool {
 fn two_pieces(alloc: Global) -> Result<Delta, Fail> {
     let long = vec![in alloc; 255u8; LONG]?;
     let mut changes = Vec::new(alloc);
-    changes.push(Change::Add(piece(1, 1, Vec::from_slice(alloc, b"wor\0ld")?)))?;
-    changes.push(Change::Add(piece(1, 0, long)))?;
+    changes.push(RowChange::Add(piece(1, 1, Vec::from_slice(alloc, b"wor\0ld")?)))?;
+    changes.push(RowChange::Add(piece(1, 0, long)))?;
     Ok(Delta::new(changes))
 }
 
@@ -69,14 +69,14 @@ fn pieces_are_loaded_in_their_order_and_removed(rt: HostRuntime) -> Result<(), F
 
 fn two_live(alloc: Global) -> Result<Delta, Fail> {
     let mut changes = Vec::new(alloc);
-    changes.push(Change::Add(attempt(alloc, 3, AttemptState::Live)?))?;
-    changes.push(Change::Add(attempt(alloc, 2, AttemptState::Live)?))?;
+    changes.push(RowChange::Add(attempt(alloc, 3, AttemptState::Live)?))?;
+    changes.push(RowChange::Add(attempt(alloc, 2, AttemptState::Live)?))?;
     Ok(Delta::new(changes))
 }
 
 fn ended(alloc: Global, id: u64) -> Result<Delta, Fail> {
     let mut changes = Vec::new(alloc);
-    changes.push(Change::Put(attempt(alloc, id, AttemptState::Succeeded(Some(0)))?))?;
+    changes.push(RowChange::Put(attempt(alloc, id, AttemptState::Succeeded(Some(0)))?))?;
     Ok(Delta::new(changes))
 }
 

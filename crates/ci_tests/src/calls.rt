@@ -1,11 +1,13 @@
 //! Each public call of the machine on its happy path, with what it answers worked out by hand.
 
-use ci_machine::change::{Change, Counter, Delta};
+use ci_machine::change::{Counter, Delta, RowChange};
 use ci_machine::choose::choose;
 use ci_machine::lease::{Lease, accept_piece, cause, due, finish, is_over, renew};
 use ci_machine::moment::Moment;
-use ci_machine::records::{Attempt, AttemptState, Cause, Job, JobSpec, QueuedJob, Runner, Source};
-use ci_machine::reply::{Body, Code, Detail, Reply, Status};
+use ci_machine::records::{
+    Attempt, AttemptState, Cause, Job, JobOptions, QueuedJob, Runner, Source,
+};
+use ci_machine::reply::{Body, Code, Detail, HttpStatus, Reply};
 use ci_machine::text::{Bytes, Text, Texts};
 use std::alloc::{AllocError, Global};
 use std::test::Fail;
@@ -110,7 +112,7 @@ fn queued(alloc: Global, id: u64, project: u64) -> Result<QueuedJob, AllocError>
             position: 0,
             name: Text::copy_of(alloc, "build")?,
             stage: Text::copy_of(alloc, "build")?,
-            spec: JobSpec {
+            options: JobOptions {
                 script: Texts::new(Vec::new(alloc)),
                 timeout: 3600,
             },
@@ -166,13 +168,13 @@ fn small_types(rt: HostRuntime) -> Result<(), Fail> {
     assert!(rt; Texts::new(vec![in alloc; other]?).as_slice().len() == 1);
     assert!(rt; Moment::new(253_402_300_799).is_some() && Moment::new(253_402_300_800).is_none());
     assert!(rt; Source::Trigger.as_str() == "trigger" && Detail::G4.as_str() == "G4");
-    let delta = Delta::new(vec![in alloc; Change::SetNext(Counter::Job, 2)]?);
+    let delta = Delta::new(vec![in alloc; RowChange::SetNext(Counter::Job, 2)]?);
     assert!(rt; !delta.is_empty() && delta.as_slice().len() == 1);
     assert!(rt; delta.into_vec().len() == 1);
     let plain = Body::Plain(Bytes::new(vec![in alloc; 104, 105]?));
     let mut reply = Reply::refusal(Code::M4);
     assert!(rt;
-        reply.status == Status::Forbidden && reply.body() == b"{\"code\":\"M4\"}".as_slice()
+        reply.status == HttpStatus::Forbidden && reply.body() == b"{\"code\":\"M4\"}".as_slice()
     );
     reply.body = Some(plain);
     assert!(rt; reply.body() == b"hi".as_slice());

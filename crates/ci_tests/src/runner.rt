@@ -3,7 +3,7 @@
 use crate::path::{STEPS, over_memory, says, send};
 use ci_machine::moment::Moment;
 use ci_machine::records::Cause;
-use ci_machine::reply::{Answer, Code, JobStatus, Status, Swept};
+use ci_machine::reply::{Answer, Code, HttpStatus, JobStatus, Swept};
 use ci_machine::request::{Event, JobQuery, JobUpdate, Report, Request, Seed, TracePart};
 use ci_machine::text::{Bytes, Text};
 use ci_server::server::Server;
@@ -85,7 +85,12 @@ pub fn tell<S: Alter>(
 }
 
 /// Does the reply have this status, this `Job-Status`, this `Range` and no body?
-fn is_told(answer: &Answer, status: Status, job: Option<JobStatus>, range: Option<u64>) -> bool {
+fn is_told(
+    answer: &Answer,
+    status: HttpStatus,
+    job: Option<JobStatus>,
+    range: Option<u64>,
+) -> bool {
     match answer {
         Answer::Reply(reply) => {
             reply.status == status
@@ -100,14 +105,14 @@ fn is_told(answer: &Answer, status: Status, job: Option<JobStatus>, range: Optio
 
 /// Was the report taken, and does the attempt stand so?
 pub fn is_taken(answer: &Answer, job: JobStatus) -> bool {
-    is_told(answer, Status::Fine, Some(job), None)
+    is_told(answer, HttpStatus::Fine, Some(job), None)
 }
 
 /// Was the piece accepted, and has the trace this size?
 pub fn is_accepted(answer: &Answer, size: u64) -> bool {
     is_told(
         answer,
-        Status::Accepted,
+        HttpStatus::Accepted,
         Some(JobStatus::Running),
         Some(size),
     )
@@ -138,7 +143,7 @@ pub fn is_nothing(answer: &Answer) -> bool {
 /// Is it this text?
 pub fn is_text(answer: &Answer, text: &str) -> bool {
     match answer {
-        Answer::Reply(reply) => reply.status == Status::Fine && says(reply, text),
+        Answer::Reply(reply) => reply.status == HttpStatus::Fine && says(reply, text),
         Answer::Swept(_) => false,
     }
 }

@@ -1,0 +1,172 @@
+//! Texts and bytes, which contracts see as lists of bytes.
+
+ghost use Rattle.std.specs.Prelude.{◌≡◌, ℕ, List, IfOk, length, string_bytes};
+ghost use Rattle.std.specs.Ordering.{nat_cmp, is_lt};
+ghost use Rattle.std.specs.Cmp.Lexicographic.{slice_cmp};
+ghost use Rattle.std.specs.Str.{bytes_eq};
+ghost use Rattle.ci_values.specs.Names.{is_name, has_no_control};
+
+use crate::limits::MAX_NAME_BYTES;
+use std::alloc::{AllocError, Global};
+use std::marker::Model;
+
+/// A text, seen as its bytes.
+#[derive(Drop)]
+pub struct Text {
+    text: String,
+}
+
+impl Model for Text {
+    ghost use Rattle.std.specs.Prelude.{ℕ, List, string_bytes};
+
+    ghost Value = { List ℕ };
+
+    ghost view = { λ t. string_bytes t.text };
+}
+
+impl Text {
+    /// The text that a `String` holds.
+    pub fn new(text: String) -> Text
+        ensures { result ≡ string_bytes text }
+    {
+        Text { text }
+    }
+
+    /// A copy of a text. Errors: memory was refused.
+    pub fn copy_of(alloc: Global, text: &str) -> Result<Text, AllocError>
+        ensures { IfOk result (λ copy. copy ≡ text.now) }
+    {
+        let text = String::from_str(alloc, text)?;
+        Ok(Text { text })
+    }
+
+    /// The text, lent.
+    pub fn as_str(&self) -> &str
+        ensures { result.now ≡ self.now }
+    {
+        self.text.as_str()
+    }
+
+    /// The `String` that holds the text.
+    pub fn into_string(self) -> String
+        ensures { string_bytes result ≡ self }
+    {
+        let Text { text } = self;
+        text
+    }
+
+    /// Are the two texts the same?
+    pub fn is_same(&self, other: &Text) -> bool
+        ensures { result ≡ bytes_eq self.now other.now }
+    {
+        self.text.as_str() == other.text.as_str()
+    }
+
+    /// Does this text come before the other, by its bytes?
+    pub fn is_before(&self, other: &Text) -> bool
+        ensures { result ≡ is_lt (slice_cmp nat_cmp self.now other.now) }
+    {
+        self.text.as_str() < other.text.as_str()
+    }
+
+    /// Is it a name: 1 to 255 bytes of UTF-8 with no control character (U+0000 to U+001F and U+007F)?
+    pub fn is_name(&self) -> bool
+        ensures { result ≡ is_name self.now }
+    {
+        let bytes = self.text.as_bytes();
+        !bytes.is_empty() && bytes.len() <= MAX_NAME_BYTES && has_no_control(bytes)
+    }
+}
+
+fn has_no_control(bytes: &[u8]) -> bool
+    ensures { result ≡ has_no_control bytes.now }
+{
+    bytes.iter().all(|b| *b >= 32 && *b != 127)
+}
+
+impl Clone for Text {
+    ghost is_clone = { λ old new. new ≡ old };
+
+    fn clone(&self) -> Result<Text, AllocError> {
+        let text = self.text.clone()?;
+        Ok(Text { text })
+    }
+}
+
+/// Bytes, seen as a list.
+#[derive(Drop)]
+pub struct Bytes {
+    bytes: Vec<u8>,
+}
+
+impl Model for Bytes {
+    ghost use Rattle.std.specs.Prelude.{ℕ, List};
+
+    ghost Value = { List ℕ };
+
+    ghost view = { λ b. b.bytes.items };
+}
+
+impl Bytes {
+    /// The bytes that a `Vec` holds.
+    pub fn new(bytes: Vec<u8>) -> Bytes
+        ensures { result ≡ bytes.items }
+    {
+        Bytes { bytes }
+    }
+
+    /// The bytes, lent.
+    pub fn as_slice(&self) -> &[u8]
+        ensures { result.now ≡ self.now }
+    {
+        self.bytes.as_slice()
+    }
+}
+
+impl Clone for Bytes {
+    ghost is_clone = { λ old new. new ≡ old };
+
+    fn clone(&self) -> Result<Bytes, AllocError> {
+        let bytes = self.bytes.clone()?;
+        Ok(Bytes { bytes })
+    }
+}
+
+/// A list of texts.
+#[derive(Drop)]
+pub struct Texts {
+    texts: Vec<Text>,
+}
+
+impl Model for Texts {
+    ghost use Rattle.std.specs.Prelude.{ℕ, List};
+
+    ghost Value = { List (List ℕ) };
+
+    ghost view = { λ t. t.texts.items };
+}
+
+impl Texts {
+    /// The texts that a `Vec` holds.
+    pub fn new(texts: Vec<Text>) -> Texts
+        ensures { result ≡ texts.items }
+    {
+        Texts { texts }
+    }
+
+    /// The texts, lent.
+    pub fn as_slice(&self) -> &[Text]
+        ensures { result.now ≡ self.now }
+    {
+        self.texts.as_slice()
+    }
+}
+
+impl Clone for Texts {
+    ghost is_clone = { λ old new. new ≡ old };
+
+    fn clone(&self) -> Result<Texts, AllocError> {
+        let texts = self.texts.clone()?;
+        Ok(Texts { texts })
+    }
+}
