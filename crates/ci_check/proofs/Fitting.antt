@@ -30,12 +30,12 @@ first-taken (Some bs) got old n limit empty h = h ∙ ap (λ k. old ++ take k bs
 
 -- What fits the first bytes fits them all: where there are 65,537 or more, the first are too many already.
 pub first-fits : (told : Option (List ℕ)) (got seen : List ℕ) (v : Verdict) → IfSome told (λ bs. got ≡ take 65537 bs)
-    → seen ≡ got → Fits seen v → (IsTooLong seen → v ≡ Refused Y1 1) → IfSome told (λ bs. Fits bs v)
+    → seen ≡ got → Fits seen v → (IsTooLong seen → v ≡ Refused (Fault Y1 1)) → IfSome told (λ bs. Fits bs v)
 first-fits None got seen v first same fits long = tt
 first-fits (Some bs) got seen v first same fits long = elim (cases_lt (length bs) 65537) [
   | inl few ↦ subst (λ b. Fits b v) (same ∙ first ∙ take_all 65537 bs (omega (arith, few))) fits
   | inr many ↦
       let size : length seen ≡ 65537 = ap length (same ∙ first) ∙ length-take-le 65537 bs (omega (arith, many)) in
-      let is : v ≡ Refused Y1 1 = long (omega (arith, size)) in
+      let is : v ≡ Refused (Fault Y1 1) = long (omega (arith, size)) in
       subst (λ w. Fits bs w) (sym is) (inl (omega (arith, many), refl, refl))
 ]
