@@ -1,6 +1,7 @@
 -- What is said of a file's bytes.
 use Rattle.std.specs.Prelude.{◌≡◌, ◌<◌, ◌≤◌, ◌⊎◌, ℕ, List, ◌++◌, length, Result, Ok, Err, ⊤, codes}
 use Rattle.std.specs.Str.{IsUtf8}
+use Rattle.ci_values.specs.declared.limits.TheConstants.{MAX_FILE_BYTES}
 use Rattle.ci_yaml.specs.Tree.{Value}
 use Rattle.ci_yaml.specs.Document.{HasTree}
 use Rattle.ci_yaml.specs.Stops.{RefusedBy}
@@ -14,7 +15,7 @@ use Rattle.ci_check.specs.declared.verdict.Verdict.{Verdict}
 use Rattle.ci_check.specs.declared.verdict.Verdict.TheVariants.{Read, Refused, NotText, Unread}
 
 abbrev pub IsTooLong : List ℕ → Type 0
-IsTooLong bs = 65536 < length bs
+IsTooLong bs = MAX_FILE_BYTES < length bs
 
 abbrev pub HasSomeTree : List ℕ → Type 0
 HasSomeTree bs = (v : Value) × HasTree bs v
@@ -29,7 +30,7 @@ abbrev pub Fits : List ℕ → Verdict → Type 0
 Fits bs Read = IsUtf8 bs × HasSomeTree bs
 Fits bs (Refused (Fault code line)) = (IsTooLong bs × (code ≡ Y1) × (line ≡ 1)) ⊎ (IsUtf8 bs × LacksTree bs code line)
 Fits bs (Refused Memory) = ⊤
-Fits bs NotText = (length bs ≤ 65536) × (IsUtf8 bs → ⊥)
+Fits bs NotText = (length bs ≤ MAX_FILE_BYTES) × (IsUtf8 bs → ⊥)
 Fits bs Unread = ⊤
 
 -- the verdict on a text, by what reading it gives

@@ -1,20 +1,22 @@
 //! A file that is read, judged and reported.
 
-ghost use Rattle.std.specs.Prelude.{◌≡◌, ◌⊎◌, take, IfOk, OnErr, IfSome, Some, codes};
+ghost use Rattle.std.specs.Prelude.{◌≡◌, ◌+◌, ◌⊎◌, take, IfOk, OnErr, IfSome, Some, codes};
 ghost use Rattle.std.specs.Io.KnownBytes.{Appends};
 ghost use Rattle.ci_yaml.specs.declared.fault.YamlFault.TheVariants.{Memory};
+ghost use Rattle.ci_values.specs.declared.limits.TheConstants.{MAX_FILE_BYTES};
 ghost use Rattle.ci_check.specs.Verdicts.{Fits, report_line};
 ghost use Rattle.ci_check.specs.declared.verdict.Verdict.TheVariants.{Unread, Refused};
 
 use crate::verdict::{Verdict, verdict_of};
-use ci_yaml::{TEXT_LIMIT, YamlFault};
+use ci_values::limits::MAX_FILE_BYTES;
+use ci_yaml::YamlFault;
 use std::alloc::Global;
 use std::io::{self, ErrorKind, Read, Write};
 use std::rt::Files;
 use std::{fmt, fs};
 
-/// How many bytes of a file are read: one more than a text may have.
-const READ_LIMIT: u64 = TEXT_LIMIT as u64 + 1;
+/// How many bytes of a file are read: one more than a file may have.
+const READ_LIMIT: u64 = MAX_FILE_BYTES as u64 + 1;
 
 /// The word that stands for standard input, in the place of a path.
 const INPUT: &str = "-";
@@ -23,7 +25,7 @@ const INPUT: &str = "-";
 ///
 /// Errors: a read failed, or memory was refused.
 pub fn first_bytes<R: Read + Drop>(alloc: Global, reader: R) -> io::Result<Vec<u8>>
-    ensures { IfOk result (λ read. IfSome (R.remaining reader) (λ bytes. read.items ≡ take 65537 bytes)) }
+    ensures { IfOk result (λ read. IfSome (R.remaining reader) (λ bytes. read.items ≡ take (MAX_FILE_BYTES + 1) bytes)) }
 {
     let mut bytes = Vec::new(alloc);
     reader.take(READ_LIMIT).read_to_end(&mut bytes)?;

@@ -6,7 +6,8 @@ ghost use Rattle.ci_yaml.specs.declared.fault.YamlFault.TheVariants.{Fault};
 ghost use Rattle.ci_check.specs.Verdicts.{Fits, IsTooLong, status, verdict_by};
 ghost use Rattle.ci_check.specs.declared.verdict.Verdict.TheVariants.{Refused, Unread};
 
-use ci_yaml::{Code, TEXT_LIMIT, Tree, YamlFault, read};
+use ci_values::limits::MAX_FILE_BYTES;
+use ci_yaml::{Code, Tree, YamlFault, read};
 use std::alloc::Global;
 use std::io;
 
@@ -53,7 +54,7 @@ pub fn verdict_of(alloc: Global, bytes: &[u8]) -> Verdict
     ensures too_long { IsTooLong bytes.now → result ≡ Refused (Fault Y1 1) }
     ensures read { result ≢ Unread }
 {
-    if TEXT_LIMIT < bytes.len() {
+    if MAX_FILE_BYTES < bytes.len() {
         return Verdict::Refused(YamlFault::Fault(Code::Y1, 1));
     }
     let Ok(text) = str::from_utf8(bytes) else {
