@@ -4,9 +4,9 @@
 
 .PHONY: build demo test
 
+# The prover says on standard error how far it is.
 build:
-	cd crates/ci_cli && rt run -- demo < stdin > out.log 2>&1 || { cat out.log; rm -f out.log; exit 1; }
-	rm -f crates/ci_cli/out.log
+	cd crates/ci_cli && rt run -- demo < stdin > /dev/null
 	mkdir -p bin
 	cp crates/ci_cli/out/ci_cli bin/ciserver
 

@@ -10,14 +10,31 @@ trap 'rm -rf "$work"' EXIT
 runs=${1:-300}
 ours=$root/bin/ciserver
 theirs=$work/yaml_c
-gcc -O2 -o "$theirs" "$root/bench/yaml.c" -lyaml
+
+stop() {
+  echo "$0: $*" >&2
+  exit 1
+}
+
+for tool in gcc python3 valgrind; do
+  command -v "$tool" > /dev/null || stop "there is no $tool"
+done
+[ -x "$ours" ] || stop "there is no bin/ciserver: make build"
+gcc -O2 -o "$theirs" "$root/bench/yaml.c" -lyaml || stop "bench/yaml.c was not built: libyaml-dev is wanted"
+
+# Stops unless a program reads a text.
+reads() {
+  local said
+  said=$("$@" 2>&1) || stop "$*: status $?, $said"
+  [ "$said" = read ] || stop "$*: $said, and not read"
+}
 
 # the least time of a run, in microseconds
 micros() {
   local best=1000000000 start took
   for ((i = 0; i < runs; i++)); do
     start=${EPOCHREALTIME/./}
-    "$@" > /dev/null
+    "$@" > /dev/null || stop "$*: status $?"
     took=$((${EPOCHREALTIME/./} - start))
     if ((took < best)); then best=$took; fi
   done
@@ -28,14 +45,20 @@ micros() {
 instructions() {
   local count
   count=$(valgrind --tool=callgrind --callgrind-out-file=/dev/null "$@" 2>&1 > /dev/null | sed -n 's/.*Collected : //p')
+  [ -n "$count" ] || stop "$*: valgrind counted nothing"
   echo $((count / 1000))
 }
 
 printf '%-14s %6s | %10s %10s | %12s %12s\n' text bytes 'ours us' 'libyaml us' 'ours kinstr' 'libyaml kinstr'
 row() {
-  printf '%-14s %6d | %10d %10d | %12d %12d\n' "$1" "$(stat -c %s "$2")" \
-    "$(micros "$ours" check "$2")" "$(micros "$theirs" "$2")" \
-    "$(instructions "$ours" check "$2")" "$(instructions "$theirs" "$2")"
+  local ours_us theirs_us ours_count theirs_count
+  reads "$ours" check "$2"
+  reads "$theirs" "$2"
+  ours_us=$(micros "$ours" check "$2")
+  theirs_us=$(micros "$theirs" "$2")
+  ours_count=$(instructions "$ours" check "$2")
+  theirs_count=$(instructions "$theirs" "$2")
+  printf '%-14s %6d | %10d %10d | %12d %12d\n' "$1" "$(stat -c %s "$2")" "$ours_us" "$theirs_us" "$ours_count" "$theirs_count"
 }
 echo 'a: 1' > "$work/small.yml"
 row small "$work/small.yml"
@@ -43,7 +66,6 @@ for size in 30000 60000; do
   mkdir "$work/$size"
   python3 "$root/bench/yaml_texts.py" "$work/$size" "$size"
   for text in ordinary flow_list nested_maps literal_block double_quoted short_keys; do
-    "$ours" check "$work/$size/$text.yml" | grep -qx read
     row "$text" "$work/$size/$text.yml"
   done
 done

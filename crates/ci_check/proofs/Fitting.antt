@@ -1,9 +1,10 @@
 -- Which verdicts fit which bytes.
-use Rattle.std.proofs.Common.{◌≡◌, ℕ, inl, inr, List, [], ◌++◌, length, take, None, Some, Option, Result, Ok, Err, refl, sym, ◌∙◌, ap, subst, arith}
+use Rattle.std.proofs.Common.{◌≡◌, ◌+◌, ℕ, inl, inr, List, [], ◌++◌, length, take, None, Some, Option, Result, Ok, Err, refl, sym, ◌∙◌, ap, subst, arith}
 use Rattle.std.specs.Prelude.{IfOk, IfErr, IfSome, option_map}
 use Rattle.std.specs.Str.{IsUtf8}
 use Rattle.std.proofs.lemmas.List.{take_all, length-take-le}
 use Rattle.std.proofs.lemmas.Bool.{cases_lt}
+use Rattle.ci_values.specs.declared.limits.TheConstants.{MAX_FILE_BYTES}
 use Rattle.ci_yaml.specs.Tree.{Value}
 use Rattle.ci_yaml.specs.View.{value_view}
 use Rattle.ci_yaml.specs.Document.{HasTree}
@@ -23,19 +24,19 @@ reading-fits bs (Err (Fault code line)) utf8 has all refused = inr (utf8, (refus
 reading-fits bs (Err Memory) utf8 has all refused = tt
 
 -- the first bytes, where a reader tells its bytes
-pub first-taken : (told : Option (List ℕ)) (got old : List ℕ) (n : ℕ) → n ≡ 65537 → old ≡ []
-    → IfSome (option_map (take n) told) (λ xs. got ≡ old ++ xs) → IfSome told (λ bs. got ≡ take 65537 bs)
+pub first-taken : (told : Option (List ℕ)) (got old : List ℕ) (n : ℕ) → n ≡ MAX_FILE_BYTES + 1 → old ≡ []
+    → IfSome (option_map (take n) told) (λ xs. got ≡ old ++ xs) → IfSome told (λ bs. got ≡ take (MAX_FILE_BYTES + 1) bs)
 first-taken None got old n limit empty h = tt
-first-taken (Some bs) got old n limit empty h = h ∙ ap (λ k. old ++ take k bs) limit ∙ ap (λ o. o ++ take 65537 bs) empty
+first-taken (Some bs) got old n limit empty h = h ∙ ap (λ k. old ++ take k bs) limit ∙ ap (λ o. o ++ take (MAX_FILE_BYTES + 1) bs) empty
 
 -- What fits the first bytes fits them all: where there are 65,537 or more, the first are too many already.
-pub first-fits : (told : Option (List ℕ)) (got seen : List ℕ) (v : Verdict) → IfSome told (λ bs. got ≡ take 65537 bs)
-    → seen ≡ got → Fits seen v → (IsTooLong seen → v ≡ Refused Y1 1) → IfSome told (λ bs. Fits bs v)
+pub first-fits : (told : Option (List ℕ)) (got seen : List ℕ) (v : Verdict) → IfSome told (λ bs. got ≡ take (MAX_FILE_BYTES + 1) bs)
+    → seen ≡ got → Fits seen v → (IsTooLong seen → v ≡ Refused (Fault Y1 1)) → IfSome told (λ bs. Fits bs v)
 first-fits None got seen v first same fits long = tt
-first-fits (Some bs) got seen v first same fits long = elim (cases_lt (length bs) 65537) [
-  | inl few ↦ subst (λ b. Fits b v) (same ∙ first ∙ take_all 65537 bs (omega (arith, few))) fits
+first-fits (Some bs) got seen v first same fits long = elim (cases_lt (length bs) (MAX_FILE_BYTES + 1)) [
+  | inl few ↦ subst (λ b. Fits b v) (same ∙ first ∙ take_all (MAX_FILE_BYTES + 1) bs (omega (arith, few))) fits
   | inr many ↦
-      let size : length seen ≡ 65537 = ap length (same ∙ first) ∙ length-take-le 65537 bs (omega (arith, many)) in
-      let is : v ≡ Refused Y1 1 = long (omega (arith, size)) in
+      let size : length seen ≡ MAX_FILE_BYTES + 1 = ap length (same ∙ first) ∙ length-take-le (MAX_FILE_BYTES + 1) bs (omega (arith, many)) in
+      let is : v ≡ Refused (Fault Y1 1) = long (omega (arith, size)) in
       subst (λ w. Fits bs w) (sym is) (inl (omega (arith, many), refl, refl))
 ]

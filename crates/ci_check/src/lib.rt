@@ -6,5 +6,5 @@ mod file;
 mod tests;
 mod verdict;
 
-pub use file::{Report, check, check_path, first_bytes};
-pub use verdict::{Verdict, verdict_of};
+pub use file::{Report, check, check_path, check_word, first_bytes};
+pub use verdict::{Verdict, exit_status, verdict_of};

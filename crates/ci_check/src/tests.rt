@@ -1,9 +1,10 @@
 //! What is printed of texts in memory, from tables: the expected lines were worked out by hand from the profile.
 
-use crate::file::check;
+use crate::file::{check, check_word};
+use crate::verdict::exit_status;
 use std::alloc::{AllocError, Global};
 use std::io;
-use std::io::{ErrorKind, Read};
+use std::io::{ErrorKind, Read, Write};
 use std::test::Fail;
 
 /// The line that is printed of bytes, and the exit status.
@@ -132,6 +133,45 @@ fn failures(rt: HostRuntime) -> Result<(), Fail> {
             "what is printed"
         );
         assert_eq!(rt; verdict.status(), 3, "the exit status");
+    }
+    Ok(())
+}
+
+#[test]
+fn words(rt: HostRuntime) -> Result<(), Fail> {
+    let rows = [
+        ("-", "refused: Y12 line 1\n", 1),
+        ("./-", "cannot read ./-\n", 3),
+    ];
+    for (word, line, status) in rows {
+        let mut out: Vec<u8> = Vec::new(rt.alloc());
+        let verdict = check_word(&rt, rt.alloc(), word, b"# no more\n".as_slice(), &mut out)?;
+        assert_eq!(rt; String::from_utf8(out)?.as_str(), line, "at {word}");
+        assert_eq!(rt; verdict.status(), status, "at {word}");
+    }
+    Ok(())
+}
+
+/// A writer that takes nothing.
+#[derive(Drop)]
+struct Full;
+
+impl Write for Full {
+    fn write(&mut self, _buf: &[u8]) -> io::Result<usize> {
+        Err(io::Error::from(ErrorKind::StorageFull))
+    }
+
+    fn flush(&mut self) -> io::Result<()> {
+        Ok(())
+    }
+}
+
+#[test]
+fn unprinted(rt: HostRuntime) -> Result<(), Fail> {
+    for text in ["a: 1", "a: &x 1"] {
+        let printed = check(rt.alloc(), "f.yml", Ok(text.as_bytes()), &mut Full);
+        assert!(rt; printed.is_err(), "at {text}");
+        assert_eq!(rt; exit_status(&printed), 3, "at {text}");
     }
     Ok(())
 }

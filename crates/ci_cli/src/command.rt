@@ -1,10 +1,14 @@
 //! The command line: what it asks for, and what is done.
 
+ghost use Rattle.std.specs.Prelude.{◌≡◌, ◌↔◌, Some, codes};
+ghost use Rattle.clap.specs.Matches.{subcommand_name_of};
+ghost use Rattle.ci_cli.specs.declared.command.Task.TheVariants.{Demo};
+
 use crate::demo::serve_demo;
-use ci_check::check_path;
+use ci_check::{check_word, exit_status};
 use clap::error::ErrorKind;
-use clap::{Arg, Command, Error};
-use std::alloc::Global;
+use clap::{Arg, ArgMatches, Command, Error};
+use std::alloc::{AllocError, Global};
 use std::env;
 
 /// The exit status where what was asked for was done.
@@ -16,12 +20,27 @@ const REFUSED: u8 = 1;
 /// The exit status of a command line that isn't understood.
 const USAGE: u8 = 2;
 
+/// The exit status where what is to be said can't be written.
+const UNWRITTEN: u8 = 3;
+
+const VERSION: &str = "0.1.0";
+
+const DEMO: &str = "demo";
+
+const CHECK: &str = "check";
+
+/// The name of the argument of `check`.
+const FILE: &str = "FILE";
+
+/// Where the rules of CI files stand.
+const RULES: &str = "The profile, with examples and its codes, is described in docs/PROFILE.md.";
+
 /// What a command line asks for.
 #[derive(Clone, Copy)]
 enum Task<'a> {
     /// To answer the request on standard input, over memory.
     Demo,
-    /// To check the CI file at a path.
+    /// To check the CI file at a path, or on standard input for `-`.
     Check(&'a str),
 }
 
@@ -37,38 +56,53 @@ pub fn run(rt: &HostRuntime) -> u8 {
     match task_of(rt.alloc(), &words) {
         Ok(task) => perform(rt, task),
         Err(error) if error.kind() == ErrorKind::OutOfMemory => refuse_memory(rt),
-        Err(error) => {
-            let _ = error.print(rt);
-            if error.use_stderr() { USAGE } else { DONE }
-        }
+        Err(error) => print_words(rt, &error),
     }
+}
+
+/// The command line that the program takes.
+fn command_line<'a>(alloc: Global) -> Result<Command<'a>, AllocError> {
+    let demo = Command::new(alloc, DEMO).about(
+        "Answers the request on standard input, over memory",
+    );
+    let file = Arg::new(alloc, FILE)
+        .required(true)
+        .help("The path of the CI file, or - for standard input");
+    let check = Command::new(alloc, CHECK)
+        .about("Says whether a CI file is in the profile of YAML")
+        .after_help(RULES)
+        .arg(file)?;
+    Command::new(alloc, "ciserver")
+        .about("A continuous integration server")
+        .version(VERSION)
+        .after_help(RULES)
+        .subcommand_required(true)
+        .subcommand(demo)?
+        .subcommand(check)
 }
 
 /// What the words of a command line ask for, of which the first is the program's name.
 ///
-/// Errors: they are no command line of this program, or ask for help; or memory was refused.
+/// Errors: they are no command line of this program, or ask for help or the version; or memory was refused.
 fn task_of<'a>(alloc: Global, words: &'a [String]) -> Result<Task<'a>, Error> {
-    let demo = Command::new(alloc, "demo").about(
-        "Answers the request on standard input, over memory",
-    );
-    let file = Arg::new(alloc, "FILE").required(true);
-    let check = Command::new(alloc, "check")
-        .about("Says whether a CI file is in the profile of YAML")
-        .arg(file)?;
-    let command = Command::new(alloc, "ciserver")
-        .about("A continuous integration server")
-        .subcommand_required(true)
-        .subcommand(demo)?
-        .subcommand(check)?;
-    let matches = command.try_get_matches_from(words)?;
-    let path = match matches.subcommand() {
-        Some((_, found)) => found.get_str("FILE"),
-        None => None,
-    };
-    match path {
-        Some(path) => Ok(Task::Check(path)),
-        None => Ok(Task::Demo),
+    let mut command = command_line(alloc)?;
+    let matches = command.try_get_matches_from_mut(words)?;
+    match task_named(&matches) {
+        Some(task) => Ok(task),
+        None => Err(command.error(ErrorKind::MissingSubcommand, "a command is wanted")?),
     }
+}
+
+/// What the command asks for that was found among the words, by its name.
+fn task_named<'a>(matches: &ArgMatches<'a>) -> Option<Task<'a>>
+    ensures demo { (result ≡ Some Demo) ↔ (subcommand_name_of matches.now ≡ Some (codes "demo")) }
+{
+    if matches.subcommand_matches(DEMO).is_some() {
+        return Some(Task::Demo);
+    }
+    let found = matches.subcommand_matches(CHECK)?;
+    let file = found.get_str(FILE)?;
+    Some(Task::Check(file))
 }
 
 fn perform(rt: &HostRuntime, task: Task<'_>) -> u8 {
@@ -80,14 +114,26 @@ fn perform(rt: &HostRuntime, task: Task<'_>) -> u8 {
                 REFUSED
             }
         }
-        Task::Check(path) => match check_path(rt, rt.alloc(), path, &mut rt.stdout()) {
-            Ok(verdict) => verdict.status(),
-            Err(_) => REFUSED,
-        },
+        Task::Check(file) => {
+            let printed = check_word(rt, rt.alloc(), file, rt.stdin(), &mut rt.stdout());
+            exit_status(&printed)
+        }
+    }
+}
+
+/// Prints what `clap` has to say: help or the version, which were asked for, or what is wrong with the words.
+fn print_words(rt: &HostRuntime, error: &Error) -> u8 {
+    let is_printed = error.print(rt).is_ok();
+    match (error.use_stderr(), is_printed) {
+        (true, _) => USAGE,
+        (false, true) => DONE,
+        (false, false) => UNWRITTEN,
     }
 }
 
 fn refuse_memory(rt: &HostRuntime) -> u8 {
-    let _ = println!(rt; "refused: M16");
-    REFUSED
+    match println!(rt; "refused: M16") {
+        Ok(()) => REFUSED,
+        Err(_) => UNWRITTEN,
+    }
 }
