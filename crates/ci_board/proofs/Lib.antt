@@ -1,0 +1,12 @@
+pub mod Orders
+pub mod Passes
+pub mod Tallies
+pub mod Corrects
+pub mod Steps
+pub mod Whole
+pub mod Meters
+pub mod Answered
+pub mod Unique
+pub mod Assignments
+pub mod Exact
+pub mod Started

@@ -1,0 +1,75 @@
+-- A pending job that starts changes no other row: to others both of its statuses are open.
+use Rattle.std.proofs.Common.{◌≡◌, ℕ, ◌<◌, ◌==◌, Bool, true, List, length, slice_set, sym, ap, subst, ◌∙◌, eqb-true, Some}
+use Rattle.std.proofs.lemmas.Bool.{cond_both, eqb-false, cond-true}
+use Rattle.std.proofs.lemmas.List.{get_or-set_same, get_or-set_other}
+use Rattle.ci_graph.specs.Lists.{tally}
+use Rattle.ci_graph.specs.JobGraph.{JobGraph, part_at, predecessors_of}
+use Rattle.ci_board.specs.declared.facts.Effect.{Effect}
+use Rattle.ci_board.specs.declared.facts.Facts.{Facts}
+use Rattle.ci_board.specs.declared.facts.Row.{Row}
+use Rattle.ci_board.specs.declared.facts.Status.{Status}
+use Rattle.ci_board.specs.declared.facts.Status.TheVariants as status
+use Rattle.ci_board.specs.Standing.{is_live}
+use Rattle.ci_board.specs.Effects.{effect, is_open, is_fail, is_bar, status_of_row, status_by, idle_by_counts}
+use Rattle.ci_board.specs.Rows.{AreRows, facts_at, row_at, effect_at, no_facts, no_row}
+use Rattle.ci_board.proofs.Unique.{tally_members}
+
+abbrev running : Row → Row
+running r = record r { status = status.Running }
+
+module _ (g : JobGraph) (facts : List Facts) (rows : List Row) (j : ℕ) (fresh : Facts) (facts_long : j < length facts) (rows_long : j < length rows)
+    (pending : (row_at rows j).status ≡ status.Pending) (live : is_live fresh.last ≡ true) (are : AreRows g facts rows) where
+  abbrev now_facts : List Facts
+  now_facts = slice_set facts j fresh
+
+  abbrev now_rows : List Row
+  now_rows = slice_set rows j (running (row_at rows j))
+
+  row_there : row_at now_rows j ≡ running (row_at rows j)
+  row_there = get_or-set_same rows j (running (row_at rows j)) no_row rows_long
+
+  row_elsewhere : (i : ℕ) → (i ≡ j → ⊥) → row_at now_rows i ≡ row_at rows i
+  row_elsewhere i d = get_or-set_other rows j i (running (row_at rows j)) no_row d
+
+  facts_elsewhere : (i : ℕ) → (i ≡ j → ⊥) → facts_at now_facts i ≡ facts_at facts i
+  facts_elsewhere i d = get_or-set_other facts j i fresh no_facts d
+
+  effects : (needs : Bool) (p : ℕ) → effect_at g now_facts now_rows needs p ≡ effect_at g facts rows needs p
+  effects needs p =
+      cond_both (p == j) 0 0 (λ (_ : ℕ). effect_at g now_facts now_rows needs p ≡ effect_at g facts rows needs p)
+      (λ e. subst (λ (q : ℕ). effect_at g now_facts now_rows needs q ≡ effect_at g facts rows needs q) (sym (eqb-true p j e))
+      (ap (λ (r : Row). effect (part_at g j) (facts_at now_facts j) needs r.status) row_there
+      ∙ sym (ap (λ (s : Status). effect (part_at g j) (facts_at facts j) needs s) pending)))
+      (λ e. ap (λ (r : Row). effect (part_at g p) (facts_at now_facts p) needs r.status) (row_elsewhere p (eqb-false p j e))
+      ∙ ap (λ (f : Facts). effect (part_at g p) f needs (row_at rows p).status) (facts_elsewhere p (eqb-false p j e)))
+
+  numbers : (i : ℕ) → ((row_at now_rows i).opens ≡ (row_at rows i).opens) × (((row_at now_rows i).failed ≡ (row_at rows i).failed) × ((row_at now_rows i).barred ≡ (row_at rows i).barred))
+  numbers i =
+      cond_both (i == j) 0 0 (λ (_ : ℕ). ((row_at now_rows i).opens ≡ (row_at rows i).opens) × (((row_at now_rows i).failed ≡ (row_at rows i).failed) × ((row_at now_rows i).barred ≡ (row_at rows i).barred)))
+      (λ e. subst (λ (q : ℕ). ((row_at now_rows q).opens ≡ (row_at rows q).opens) × (((row_at now_rows q).failed ≡ (row_at rows q).failed) × ((row_at now_rows q).barred ≡ (row_at rows q).barred))) (sym (eqb-true i j e))
+      (ap (λ (r : Row). r.opens) row_there, (ap (λ (r : Row). r.failed) row_there, ap (λ (r : Row). r.barred) row_there)))
+      (λ e. let same = row_elsewhere i (eqb-false i j e) in (ap (λ (r : Row). r.opens) same, (ap (λ (r : Row). r.failed) same, ap (λ (r : Row). r.barred) same)))
+
+  counts : (f : Effect → Bool) (i : ℕ) → tally (λ p. f (effect_at g facts rows (part_at g i).gives_needs p)) (predecessors_of g i) ≡ tally (λ p. f (effect_at g now_facts now_rows (part_at g i).gives_needs p)) (predecessors_of g i)
+  counts f i = tally_members _ _ (predecessors_of g i) (λ p _. ap f (sym (effects (part_at g i).gives_needs p)))
+
+  settled_there : status.Running ≡ status_of_row (part_at g j) (facts_at now_facts j) (row_at now_rows j)
+  settled_there =
+      sym (ap (λ (f : Facts). status_of_row (part_at g j) f (row_at now_rows j)) (get_or-set_same facts j fresh no_facts facts_long)
+      ∙ ap (λ o. status_by o (idle_by_counts (part_at g j) fresh (row_at now_rows j).opens (row_at now_rows j).failed (row_at now_rows j).barred))
+      (cond-true (is_live fresh.last) (Some status.Running) _ live))
+
+  pub started_rows : AreRows g now_facts now_rows
+  started_rows = record {
+    counted = λ i l. let c = are.counted i l in record {
+      opens = (numbers i).0 ∙ (c.opens ∙ counts is_open i);
+      failed = (numbers i).1.0 ∙ (c.failed ∙ counts is_fail i);
+      barred = (numbers i).1.1 ∙ (c.barred ∙ counts is_bar i);
+    };
+    settled = λ i l. cond_both (i == j) 0 0 (λ (_ : ℕ). (row_at now_rows i).status ≡ status_of_row (part_at g i) (facts_at now_facts i) (row_at now_rows i))
+        (λ e. subst (λ (q : ℕ). (row_at now_rows q).status ≡ status_of_row (part_at g q) (facts_at now_facts q) (row_at now_rows q)) (sym (eqb-true i j e))
+        (ap (λ (r : Row). r.status) row_there ∙ settled_there))
+        (λ e. let r = row_elsewhere i (eqb-false i j e) in let f = facts_elsewhere i (eqb-false i j e) in
+        ap (λ (w : Row). w.status) r ∙ (are.settled i l
+        ∙ sym (ap (λ (w : Row). status_of_row (part_at g i) (facts_at now_facts i) w) r ∙ ap (λ (w : Facts). status_of_row (part_at g i) w (row_at rows i)) f)));
+  }

@@ -1,0 +1,116 @@
+-- What a job's status means to the jobs that wait for it, and what an idle job makes of it.
+use Rattle.std.specs.Prelude.{ℕ, Bool, true, false, ◌&&◌, ◌||◌, not, List, if◌then◌else◌, ◌==◌, Option, Some, None}
+use Rattle.std.specs.List.{list_any}
+use Rattle.ci_values.specs.declared.attempts.AttemptState.{AttemptState}
+use Rattle.ci_values.specs.declared.attempts.AttemptState.TheVariants as attempt
+use Rattle.ci_values.specs.declared.when.When.{When}
+use Rattle.ci_values.specs.declared.when.When.TheVariants as «when»
+use Rattle.ci_values.specs.declared.when.AllowFailure.{AllowFailure}
+use Rattle.ci_values.specs.declared.when.AllowFailure.TheVariants as allow
+use Rattle.ci_graph.specs.declared.part.Part.{Part}
+use Rattle.ci_board.specs.declared.facts.Status.{Status}
+use Rattle.ci_board.specs.declared.facts.Status.TheVariants as status
+use Rattle.ci_board.specs.declared.facts.Facts.{Facts}
+use Rattle.ci_board.specs.declared.facts.Row.{Row}
+use Rattle.ci_board.specs.declared.facts.Effect.{Effect}
+use Rattle.ci_board.specs.declared.facts.Effect.TheVariants.{Good, Fails, Bars, Open}
+use Rattle.ci_board.specs.Standing.{standing}
+
+abbrev pub status_number : Status → ℕ
+status_number status.Created = 0
+status_number status.Pending = 1
+status_number status.Running = 2
+status_number status.Success = 3
+status_number status.Failed = 4
+status_number status.Canceled = 5
+status_number status.Skipped = 6
+status_number status.Manual = 7
+
+-- both are the same
+abbrev pub is_status : Status → Status → Bool
+is_status a b = status_number a == status_number b
+
+-- the last attempt failed with one of these exit codes
+abbrev pub is_listed : List ℕ → Option AttemptState → Bool
+is_listed codes (Some (attempt.Failed cause (Some exit))) = list_any (λ c. c == exit) codes
+is_listed codes (Some (attempt.Failed cause None)) = false
+is_listed codes (Some attempt.Live) = false
+is_listed codes (Some (attempt.Succeeded exit)) = false
+is_listed codes (Some attempt.Cancelled) = false
+is_listed codes None = false
+
+-- the pipeline goes on though the job has this status
+abbrev pub is_allowed_by : AllowFailure → Facts → Status → Bool
+is_allowed_by allow.No facts s = false
+is_allowed_by allow.Yes facts s = true
+is_allowed_by (allow.ExitCodes codes) facts s = is_status status.Failed s && is_listed codes facts.last
+
+abbrev pub is_allowed : Part → Facts → Status → Bool
+is_allowed part facts s = is_allowed_by part.allow_failure facts s
+
+-- what a job's part, facts and status mean to a job behind it, which gives `needs` or not
+abbrev pub effect : Part → Facts → Bool → Status → Effect
+effect part facts gives_needs status.Success = Good
+effect part facts gives_needs status.Failed = if is_allowed part facts status.Failed then Good else Fails
+effect part facts gives_needs status.Canceled = if is_allowed part facts status.Canceled then Good else Bars
+effect part facts gives_needs status.Skipped = if gives_needs then Bars else Good
+effect part facts gives_needs status.Manual = if is_allowed part facts status.Manual then Good else Open
+effect part facts gives_needs status.Created = Open
+effect part facts gives_needs status.Pending = Open
+effect part facts gives_needs status.Running = Open
+
+abbrev pub is_open : Effect → Bool
+is_open Open = true
+is_open _ = false
+
+abbrev pub is_fail : Effect → Bool
+is_fail Fails = true
+is_fail _ = false
+
+abbrev pub is_bar : Effect → Bool
+is_bar Bars = true
+is_bar _ = false
+
+-- the job's `when` is met by these effects of its predecessors
+abbrev pub is_met : When → List Effect → Bool
+is_met «when».OnSuccess effects = not (list_any is_fail effects) && not (list_any is_bar effects)
+is_met «when».Manual effects = not (list_any is_fail effects) && not (list_any is_bar effects)
+is_met «when».OnFailure effects = list_any is_fail effects
+is_met «when».Always effects = true
+
+-- a user has to play the job first
+abbrev pub waits_for_play : When → Facts → Bool
+waits_for_play «when».Manual facts = not facts.played
+waits_for_play «when».OnSuccess facts = false
+waits_for_play «when».OnFailure facts = false
+waits_for_play «when».Always facts = false
+
+-- the status of an idle job, by the effects of its predecessors
+abbrev pub idle_status : Part → Facts → List Effect → Status
+idle_status part facts effects =
+    if list_any is_open effects then status.Created
+    else if is_met part.«when» effects then (if waits_for_play part.«when» facts then status.Manual else status.Pending)
+    else status.Skipped
+
+abbrev pub status_by : Option Status → Status → Status
+status_by (Some standing) idle = standing
+status_by None idle = idle
+
+-- the status of a job: its standing, or where it is idle what its predecessors' effects make of it
+abbrev pub status_of_effects : Part → Facts → List Effect → Status
+status_of_effects part facts effects = status_by (standing part facts) (idle_status part facts effects)
+
+-- the same by the numbers of open, failed and barred predecessors, as rows keep them
+abbrev pub is_met_by_counts : When → ℕ → ℕ → Bool
+is_met_by_counts «when».OnSuccess failed barred = (failed == 0) && (barred == 0)
+is_met_by_counts «when».Manual failed barred = (failed == 0) && (barred == 0)
+is_met_by_counts «when».OnFailure failed barred = not (failed == 0)
+is_met_by_counts «when».Always failed barred = true
+
+abbrev pub idle_by_counts : Part → Facts → ℕ → ℕ → ℕ → Status
+idle_by_counts part facts opens failed barred =
+    if opens == 0 then (if is_met_by_counts part.«when» failed barred then (if waits_for_play part.«when» facts then status.Manual else status.Pending) else status.Skipped)
+    else status.Created
+
+abbrev pub status_of_row : Part → Facts → Row → Status
+status_of_row part facts row = status_by (standing part facts) (idle_by_counts part facts row.opens row.failed row.barred)

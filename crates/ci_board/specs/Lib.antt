@@ -1,0 +1,6 @@
+pub mod Standing
+pub mod Effects
+pub mod Rows
+pub mod Statuses
+pub mod PipelineStatus
+pub mod Pass

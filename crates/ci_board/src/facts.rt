@@ -1,0 +1,56 @@
+//! What a job's status is made of: its facts, its row, and what it means to others.
+
+use ci_values::attempts::AttemptState;
+
+/// The status of a job, and of a pipeline.
+#[derive(Clone, Copy, Debug, PartialEq, Eq, Drop)]
+pub enum Status {
+    Created,
+    Pending,
+    Running,
+    Success,
+    Failed,
+    Canceled,
+    Skipped,
+    Manual,
+}
+
+/// What events change of a job.
+#[derive(Clone, Copy, Drop)]
+pub struct Facts {
+    /// Its last attempt; none where it was never tried.
+    pub last: Option<AttemptState>,
+    /// How many attempts it has that aren't set aside.
+    pub attempts: u64,
+    pub cancelled: bool,
+    pub played: bool,
+}
+
+/// What a job's status means to a job behind it.
+#[derive(Clone, Copy, Debug, PartialEq, Eq, Drop)]
+pub enum Effect {
+    /// The job behind may run.
+    Good,
+    /// It counts as failed.
+    Fails,
+    /// The job behind must not run.
+    Bars,
+    /// It isn't decided yet.
+    Open,
+}
+
+/// A job's status, and how many of its predecessors are open, count as failed, and bar it.
+#[derive(Clone, Copy, Debug, Drop)]
+pub struct Row {
+    pub status: Status,
+    pub opens: usize,
+    pub failed: usize,
+    pub barred: usize,
+}
+
+/// The new facts of the job at a position.
+#[derive(Clone, Copy, Drop)]
+pub struct FactsChange {
+    pub position: usize,
+    pub facts: Facts,
+}

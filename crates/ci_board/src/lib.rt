@@ -1,0 +1,13 @@
+//! The statuses of a pipeline's jobs, kept under changes of their facts.
+#![tactic(auto)]
+
+pub mod board;
+mod changes;
+mod effect;
+pub mod facts;
+pub mod laws;
+mod pass;
+pub mod pipeline;
+mod rows;
+mod rule;
+mod standing;

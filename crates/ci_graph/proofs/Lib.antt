@@ -1,0 +1,5 @@
+pub mod Counts
+pub mod Groups
+pub mod Queues
+pub mod Cycles
+pub mod Graphs

@@ -1,0 +1,39 @@
+use Rattle.std.proofs.Common.{◌≡◌, ◌<◌, ℕ, length, arith, ap, ◌∙◌}
+use Rattle.std.proofs.lemmas.List.{get_or_read}
+use Rattle.ci_graph.specs.Lists.{number_at, list_at}
+use Rattle.ci_graph.specs.Steps.{released}
+use Rattle.ci_graph.proofs.Queues.{taken_inside, succ_inside, ready_more, ready_end, ready_stuck}
+use Rattle.ci_graph.proofs.order.take_all.Goals as goal
+
+pub returns-then-k-len-clause-stuck : goal.returns-then-k-len-clause-stuck
+returns-then-k-len-clause-stuck c = λ e.
+    ready_stuck (length c.args.predecessors.now) c.args.predecessors.now c.loop-k.k (record { queue = c.loop-k.queue.items; left = c.loop-k.left }) c.loop-k.invariant (omega arith) (omega arith)
+
+pub take_one-requires-clause-job : goal.take_one-requires-clause-job
+take_one-requires-clause-job c =
+    let at : c.index-j.result.now ≡ number_at c.loop-k.queue.items c.loop-k.k = get_or_read c.loop-k.queue.items c.loop-k.k c.index-j.result.now (omega arith) c.index-j.ensures 0 in
+    let low : number_at c.loop-k.queue.items c.loop-k.k < length c.args.predecessors.now
+    = taken_inside (length c.args.predecessors.now) c.args.predecessors.now c.loop-k.k (record { queue = c.loop-k.queue.items; left = c.loop-k.left }) c.loop-k.invariant (omega arith) in
+    let long : length c.args.successors.now ≡ length c.args.predecessors.now = c.requires.pairs.1.successors_long in
+    omega arith
+
+pub take_one-requires-clause-inside : goal.take_one-requires-clause-inside
+take_one-requires-clause-inside c = λ k l.
+    let at : c.index-j.result.now ≡ number_at c.loop-k.queue.items c.loop-k.k = get_or_read c.loop-k.queue.items c.loop-k.k c.index-j.result.now (omega arith) c.index-j.ensures 0 in
+    let low : number_at c.loop-k.queue.items c.loop-k.k < length c.args.predecessors.now
+    = taken_inside (length c.args.predecessors.now) c.args.predecessors.now c.loop-k.k (record { queue = c.loop-k.queue.items; left = c.loop-k.left }) c.loop-k.invariant (omega arith) in
+    let b : number_at (list_at c.args.successors.now c.index-j.result.now) k < length c.args.predecessors.now
+    = succ_inside (length c.args.predecessors.now) c.requires.pairs.0 (record { predecessors = c.args.predecessors.now; successors = c.args.successors.now }) c.requires.pairs.1 c.index-j.result.now k (omega arith) l in
+    let long : length c.loop-k.left ≡ length c.args.predecessors.now = c.loop-k.invariant.long in
+    omega arith
+
+pub loop-k-preserved : goal.loop-k-preserved
+loop-k-preserved c =
+    let at : c.index-j.result.now ≡ number_at c.loop-k.queue.items c.loop-k.k = get_or_read c.loop-k.queue.items c.loop-k.k c.index-j.result.now (omega arith) c.index-j.ensures 0 in
+    ready_more (length c.args.predecessors.now) c.requires.pairs.0 c.args.predecessors.now c.args.successors.now c.loop-k.k (record { queue = c.loop-k.queue.items; left = c.loop-k.left }) _
+    c.requires.pairs.1 c.loop-k.invariant (omega arith)
+    (c.in_ok-take_one.ensures.released ∙ ap (λ (x : ℕ). released (list_at c.args.successors.now x) (record { queue = c.loop-k.queue.items; left = c.loop-k.left })) at)
+
+pub returns-clause-order : goal.returns-clause-order
+returns-clause-order c = λ e.
+    ready_end (length c.args.predecessors.now) c.args.predecessors.now c.loop-k.k (record { queue = c.loop-k.queue.items; left = c.loop-k.left }) (omega arith) c.loop-k.invariant

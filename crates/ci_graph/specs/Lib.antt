@@ -1,0 +1,4 @@
+pub mod Lists
+pub mod Pairs
+pub mod JobGraph
+pub mod Steps
