@@ -48,14 +48,6 @@ impl Text {
         self.text.as_str()
     }
 
-    /// The `String` that holds the text.
-    pub fn into_string(self) -> String
-        ensures { string_bytes result ≡ self }
-    {
-        let Text { text } = self;
-        text
-    }
-
     /// Are the two texts the same?
     pub fn is_same(&self, other: &Text) -> bool
         ensures { result ≡ bytes_eq self.now other.now }
