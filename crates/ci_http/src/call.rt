@@ -7,7 +7,7 @@ ghost use Rattle.ci_http.specs.BodyLength.{body_length};
 ghost use Rattle.ci_http.specs.Fields.{values_of, Shows};
 ghost use Rattle.ci_http.specs.Head.{Head, IsHeadOf, head_at};
 ghost use Rattle.ci_http.specs.Opening.{is_line_feed};
-ghost use Rattle.ci_http.specs.Reading.{message, ended, refused, request, IsReading, Refuses};
+ghost use Rattle.ci_http.specs.Reading.{message, ended, refused, request, IsReading, IsReadingCode, Refuses};
 ghost use Rattle.ci_http.specs.Sources.{Tells, TakesFront, Fails};
 
 use crate::body::{body_length, read_body};
@@ -83,6 +83,8 @@ pub fn read_request<R: Source>(alloc: Global, reader: &mut R) -> Result<Call, Ht
         (λ bytes rest. IsReading bytes (request call) rest)) }
     ensures refused { (why : Code) → result ≡ Err (HttpFault.Refused why) → Tells (R.left reader.old) (R.left reader.new)
         (λ bytes rest. IsReading bytes (refused why) rest) }
+    // Also where the reader doesn't tell its bytes.
+    ensures codes { (why : Code) → result ≡ Err (HttpFault.Refused why) → IsReadingCode why }
     ensures ended { result ≡ Err HttpFault.Ended → Tells (R.left reader.old) (R.left reader.new)
         (λ bytes rest. IsReading bytes ended rest) }
     ensures took { TakesFront (R.left reader.old) (R.left reader.new) }

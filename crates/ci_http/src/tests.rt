@@ -1,8 +1,8 @@
 ghost use Rattle.ci_http.specs.Blanks.{OpensWhole};
 
 use crate::call::read_request;
-use crate::fields::Found;
 use crate::fault::HttpFault;
+use crate::fields::Found;
 use crate::link::{Link, Sink};
 use crate::route::request_of;
 use crate::text::reply_bytes;
