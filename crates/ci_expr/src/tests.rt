@@ -2,6 +2,7 @@
 
 use crate::{Env, Expr, ExprFault, Kind, parse, tokens};
 use std::alloc::{AllocError, Global};
+use std::process::Abort;
 use std::test::Fail;
 
 /// What reading a text answers, as a user sees it.
@@ -199,8 +200,7 @@ fn tells_tokens_with_their_places(rt: HostRuntime) -> Result<(), ExprFault> {
 }
 
 /// That each of these patterns is read, in an expression of its own, with letters in either case or not.
-fn reads_each(rt: HostRuntime, patterns: &[&str]) -> Result<(), Fail> {
-    let alloc = rt.alloc();
+fn reads_each(rt: &impl Abort, alloc: Global, patterns: &[&str]) -> Result<(), Fail> {
     for pattern in patterns {
         let plain = format!(in alloc; "$A =~ /{pattern}/")?;
         assert_eq!(rt;
@@ -251,7 +251,7 @@ fn patterns_of_refs_are_within_the_limit(rt: HostRuntime) -> Result<(), Fail> {
         "\\bdeploy\\b",
         "^Merge branch",
     ];
-    reads_each(rt, patterns.as_slice())
+    reads_each(&rt, rt.alloc(), patterns.as_slice())
 }
 
 /// Patterns as CI files have them, of titles, sources, hashes, paths and addresses.
@@ -286,5 +286,5 @@ fn patterns_of_other_values_are_within_the_limit(rt: HostRuntime) -> Result<(), 
         "^(true|yes|on|1)$",
         "^linux-(amd64|arm64)$",
     ];
-    reads_each(rt, patterns.as_slice())
+    reads_each(&rt, rt.alloc(), patterns.as_slice())
 }

@@ -7,10 +7,11 @@ use Rattle.ci_machine.specs.declared.reply.Code.{Code}
 use Rattle.ci_machine.specs.declared.reply.Code.TheVariants.{H1, H2}
 use Rattle.ci_http.specs.BodyLength.{body_length}
 use Rattle.ci_http.specs.Head.{Head, IsHeadOf}
-use Rattle.ci_http.specs.Opening.{Opening, short, too_large, opened, opening_at, opening_of, head_len, max_head, max_lines, is_line_feed}
+use Rattle.ci_http.specs.Opening.{Opening, short, too_large, opened, opening_at, opening_of, head_len, is_line_feed}
 use Rattle.ci_http.specs.Reading.{Message, message, Reading, ended, refused, request, reading_by, reading_after, IsReadingAt, IsReading}
 use Rattle.ci_http.proofs.Heads.{head_len-bounds, head_len-front, opening-head, opening-lines, opening-long}
 use Rattle.ci_http.proofs.Readings.{after_body, by_few, by_enough, reading_ended}
+use Rattle.ci_http.specs.declared.limits.TheConstants.{MAX_HEAD_BYTES, MAX_HEAD_LINES}
 
 -- the text has a front that opens it alike, whatever follows
 abbrev Cuts : List ℕ → (List ℕ → Opening) → Type 0
@@ -21,15 +22,15 @@ Cuts bytes opening =
 abbrev Opens : List ℕ → Type 0
 Opens bytes = (opening_of bytes ≡ (short, [])) ⊎ (Cuts bytes (λ front. too_large) ⊎ Cuts bytes opened)
 
-opens_none : (bytes : List ℕ) (s : Bool) → head_len (take max_head bytes) ≡ None → nat_lt (length bytes) max_head ≡ s → Opens bytes
+opens_none : (bytes : List ℕ) (s : Bool) → head_len (take MAX_HEAD_BYTES bytes) ≡ None → nat_lt (length bytes) MAX_HEAD_BYTES ≡ s → Opens bytes
 opens_none bytes true e p =
-    inl (ap (opening_at bytes) e ∙ ap (λ t. if t then (short, []) else (too_large, drop max_head bytes)) p)
+    inl (ap (opening_at bytes) e ∙ ap (λ t. if t then (short, []) else (too_large, drop MAX_HEAD_BYTES bytes)) p)
 opens_none bytes false e p =
-    let long : max_head ≤ length bytes = grind (arith, nat_tests) in
-    inr (inl (take max_head bytes, drop max_head bytes, sym (take-append-drop max_head bytes), λ other. opening-long (take max_head bytes) other e (length-take-le max_head bytes long)))
+    let long : MAX_HEAD_BYTES ≤ length bytes = grind (arith, nat_tests) in
+    inr (inl (take MAX_HEAD_BYTES bytes, drop MAX_HEAD_BYTES bytes, sym (take-append-drop MAX_HEAD_BYTES bytes), λ other. opening-long (take MAX_HEAD_BYTES bytes) other e (length-take-le MAX_HEAD_BYTES bytes long)))
 
-opens_some : (bytes : List ℕ) (n : ℕ) (s : Bool) → head_len (take max_head bytes) ≡ Some n
-    → nat_lt max_lines (count_by is_line_feed (take n bytes)) ≡ s → n ≤ max_head → n ≤ length bytes → head_len (take n bytes) ≡ Some (length (take n bytes)) → Opens bytes
+opens_some : (bytes : List ℕ) (n : ℕ) (s : Bool) → head_len (take MAX_HEAD_BYTES bytes) ≡ Some n
+    → nat_lt MAX_HEAD_LINES (count_by is_line_feed (take n bytes)) ≡ s → n ≤ MAX_HEAD_BYTES → n ≤ length bytes → head_len (take n bytes) ≡ Some (length (take n bytes)) → Opens bytes
 opens_some bytes n true e p less fits found =
     inr (inl (take n bytes, drop n bytes, sym (take-append-drop n bytes), λ other. opening-lines (take n bytes) other found (omega (arith, length-take-le n bytes fits)) p))
 opens_some bytes n false e p less fits found =
@@ -38,19 +39,19 @@ opens_some bytes n false e p less fits found =
 length_take_most : (n : ℕ) (l : List ℕ) → (length (take n l) ≤ n) × (length (take n l) ≤ length l)
 length_take_most n l = (omega (arith, length-take n l), omega (arith, length-take n l))
 
-opens_by : (bytes : List ℕ) (o : Option ℕ) → head_len (take max_head bytes) ≡ o → Opens bytes
-opens_by bytes None e = opens_none bytes (nat_lt (length bytes) max_head) e refl
+opens_by : (bytes : List ℕ) (o : Option ℕ) → head_len (take MAX_HEAD_BYTES bytes) ≡ o → Opens bytes
+opens_by bytes None e = opens_none bytes (nat_lt (length bytes) MAX_HEAD_BYTES) e refl
 opens_by bytes (Some n) e =
-    let b = head_len-bounds (take max_head bytes) n e in
-    let most = length_take_most max_head bytes in
-    let less : n ≤ max_head = omega (arith, most.0) in
+    let b = head_len-bounds (take MAX_HEAD_BYTES bytes) n e in
+    let most = length_take_most MAX_HEAD_BYTES bytes in
+    let less : n ≤ MAX_HEAD_BYTES = omega (arith, most.0) in
     let fits : n ≤ length bytes = omega (arith, most.1) in
-    let front : head_len (take n bytes) ≡ Some n = ap head_len (sym (take-take n max_head bytes less)) ∙ head_len-front (take max_head bytes) n e in
+    let front : head_len (take n bytes) ≡ Some n = ap head_len (sym (take-take n MAX_HEAD_BYTES bytes less)) ∙ head_len-front (take MAX_HEAD_BYTES bytes) n e in
     let found = front ∙ ap Some (sym (length-take-le n bytes fits)) in
-    opens_some bytes n (nat_lt max_lines (count_by is_line_feed (take n bytes))) e refl less fits found
+    opens_some bytes n (nat_lt MAX_HEAD_LINES (count_by is_line_feed (take n bytes))) e refl less fits found
 
 opens : (bytes : List ℕ) → Opens bytes
-opens bytes = opens_by bytes (head_len (take max_head bytes)) refl
+opens bytes = opens_by bytes (head_len (take MAX_HEAD_BYTES bytes)) refl
 
 -- what a reading took of the bytes after the head
 abbrev Takes : Option Head → List ℕ → Reading → List ℕ → Type 0

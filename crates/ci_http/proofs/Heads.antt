@@ -8,7 +8,8 @@ use Rattle.std.specs.List.{starts_with, ends_with}
 use Rattle.std.specs.Cmp.Lexicographic.{pointwise, unequal, as_long}
 use Rattle.std.proofs.Math.Seq.{take-append-add, take-append_seam, drop-append_seam}
 use Rattle.std.proofs.lemmas.Bool.Decides.{nat_tests}
-use Rattle.ci_http.specs.Opening.{empty_line, head_len, Opening, short, too_large, opened, opening_at, opening_of, max_head, max_lines, is_line_feed}
+use Rattle.ci_http.specs.Opening.{empty_line, head_len, Opening, short, too_large, opened, opening_at, opening_of, is_line_feed}
+use Rattle.ci_http.specs.declared.limits.TheConstants.{MAX_HEAD_BYTES, MAX_HEAD_LINES}
 
 abbrev starts : List ℕ → Bool
 starts l = starts_with nat_eq l empty_line
@@ -143,45 +144,45 @@ head_in limit v rest n h fits =
     ap head_len e ∙ head_len-append v (take (limit - length v) rest) n h
 
 abbrev at_end : List ℕ → List ℕ → Opening × List ℕ
-at_end front rest = if nat_lt max_lines (count_by is_line_feed front) then (too_large, rest) else (opened front, rest)
+at_end front rest = if nat_lt MAX_HEAD_LINES (count_by is_line_feed front) then (too_large, rest) else (opened front, rest)
 
-at_head : (v rest : List ℕ) → head_len v ≡ Some (length v) → length v ≤ max_head → opening_of (v ++ rest) ≡ at_end v rest
+at_head : (v rest : List ℕ) → head_len v ≡ Some (length v) → length v ≤ MAX_HEAD_BYTES → opening_of (v ++ rest) ≡ at_end v rest
 at_head v rest h fits =
-    ap (opening_at (v ++ rest)) (head_in max_head v rest (length v) h fits)
+    ap (opening_at (v ++ rest)) (head_in MAX_HEAD_BYTES v rest (length v) h fits)
     ∙ ap (λ f. at_end f (drop (length v) (v ++ rest))) (take-append_seam v rest)
     ∙ ap (at_end v) (drop-append_seam v rest)
 
-pub opening-head : (v rest : List ℕ) → head_len v ≡ Some (length v) → length v ≤ max_head
-    → nat_lt max_lines (count_by is_line_feed v) ≡ false → opening_of (v ++ rest) ≡ (opened v, rest)
+pub opening-head : (v rest : List ℕ) → head_len v ≡ Some (length v) → length v ≤ MAX_HEAD_BYTES
+    → nat_lt MAX_HEAD_LINES (count_by is_line_feed v) ≡ false → opening_of (v ++ rest) ≡ (opened v, rest)
 opening-head v rest h fits lines =
     at_head v rest h fits ∙ ap (λ b. if b then (too_large, rest) else (opened v, rest)) lines
 
-pub opening-lines : (v rest : List ℕ) → head_len v ≡ Some (length v) → length v ≤ max_head
-    → nat_lt max_lines (count_by is_line_feed v) ≡ true → opening_of (v ++ rest) ≡ (too_large, rest)
+pub opening-lines : (v rest : List ℕ) → head_len v ≡ Some (length v) → length v ≤ MAX_HEAD_BYTES
+    → nat_lt MAX_HEAD_LINES (count_by is_line_feed v) ≡ true → opening_of (v ++ rest) ≡ (too_large, rest)
 opening-lines v rest h fits lines =
     at_head v rest h fits ∙ ap (λ b. if b then (too_large, rest) else (opened v, rest)) lines
 
 none_in : (limit : ℕ) (v rest : List ℕ) → head_len v ≡ None → length v ≡ limit → head_len (take limit (v ++ rest)) ≡ None
 none_in limit v rest h e = ap (λ m. head_len (take m (v ++ rest))) (sym e) ∙ ap head_len (take-append_seam v rest) ∙ h
 
-at_limit : (bytes : List ℕ) → nat_lt (length bytes) max_head ≡ false → opening_at bytes None ≡ (too_large, drop max_head bytes)
-at_limit bytes h = ap (λ b. if b then (short, []) else (too_large, drop max_head bytes)) h
+at_limit : (bytes : List ℕ) → nat_lt (length bytes) MAX_HEAD_BYTES ≡ false → opening_at bytes None ≡ (too_large, drop MAX_HEAD_BYTES bytes)
+at_limit bytes h = ap (λ b. if b then (short, []) else (too_large, drop MAX_HEAD_BYTES bytes)) h
 
 after_limit : (limit : ℕ) (v rest : List ℕ) → length v ≡ limit → drop limit (v ++ rest) ≡ rest
 after_limit limit v rest e = ap (λ m. drop m (v ++ rest)) (sym e) ∙ drop-append_seam v rest
 
-pub opening-long : (v rest : List ℕ) → head_len v ≡ None → length v ≡ max_head → opening_of (v ++ rest) ≡ (too_large, rest)
+pub opening-long : (v rest : List ℕ) → head_len v ≡ None → length v ≡ MAX_HEAD_BYTES → opening_of (v ++ rest) ≡ (too_large, rest)
 opening-long v rest h e =
-    let long : nat_lt (length (v ++ rest)) max_head ≡ false = grind (arith, nat_tests, length-append v rest) in
-    ap (opening_at (v ++ rest)) (none_in max_head v rest h e)
-    ∙ at_limit (v ++ rest) long ∙ ap (λ r. (too_large, r)) (after_limit max_head v rest e)
+    let long : nat_lt (length (v ++ rest)) MAX_HEAD_BYTES ≡ false = grind (arith, nat_tests, length-append v rest) in
+    ap (opening_at (v ++ rest)) (none_in MAX_HEAD_BYTES v rest h e)
+    ∙ at_limit (v ++ rest) long ∙ ap (λ r. (too_large, r)) (after_limit MAX_HEAD_BYTES v rest e)
 
-pub opening-short : (v : List ℕ) → head_len v ≡ None → length v < max_head → opening_of v ≡ (short, [])
+pub opening-short : (v : List ℕ) → head_len v ≡ None → length v < MAX_HEAD_BYTES → opening_of v ≡ (short, [])
 opening-short v h fits =
-    let whole : take max_head v ≡ v = take_all max_head v (omega arith) in
-    let less : nat_lt (length v) max_head ≡ true = grind (arith, nat_tests) in
+    let whole : take MAX_HEAD_BYTES v ≡ v = take_all MAX_HEAD_BYTES v (omega arith) in
+    let less : nat_lt (length v) MAX_HEAD_BYTES ≡ true = grind (arith, nat_tests) in
     ap (λ t. opening_at v (head_len t)) whole ∙ ap (opening_at v) h
-    ∙ ap (λ b. if b then (short, []) else (too_large, drop max_head v)) less
+    ∙ ap (λ b. if b then (short, []) else (too_large, drop MAX_HEAD_BYTES v)) less
 
 -- so many bytes were taken, with no head among them
 pub record Taken (old new : Option (List ℕ)) (taken : List ℕ) (count : ℕ) : Type 0 where
@@ -226,10 +227,10 @@ taken_more old mid new v w b n e t a same test fails = record {
 pub record Whole (old new : Option (List ℕ)) (head : List ℕ) : Type 0 where
   pub told : Consumes old new head
   pub found : head_len head ≡ Some (length head)
-  pub size : length head ≤ max_head
+  pub size : length head ≤ MAX_HEAD_BYTES
 
 pub taken_last : (old mid new : Option (List ℕ)) (v w : List ℕ) (b n : ℕ) (e : Bool) → Taken old mid v n → Consumes mid new (b ∷ [])
-    → w ≡ v ++ b ∷ [] → e ≡ ends_with nat_eq w empty_line → e ≡ true → n < max_head → Whole old new w
+    → w ≡ v ++ b ∷ [] → e ≡ ends_with nat_eq w empty_line → e ≡ true → n < MAX_HEAD_BYTES → Whole old new w
 taken_last old mid new v w b n e t a same test holds less =
     let size : length w ≡ length v + 1 = ap length same ∙ length-append v (b ∷ []) in record {
       told = subst (λ l. Consumes old new l) (sym same) (consumes_more old mid new v (b ∷ []) t.told a);
@@ -237,22 +238,28 @@ taken_last old mid new v w b n e t a same test holds less =
       size = let s = t.size in omega arith;
     }
 
-pub whole_head : (old new : Option (List ℕ)) (head : List ℕ) → Whole old new head → count_by is_line_feed head ≤ max_lines
+-- the same, where the byte was read into a buffer of one
+pub whole_read : (old mid new : Option (List ℕ)) (v w buf : List ℕ) (m n : ℕ) (e : Bool) → Taken old mid v n → (m ≡ 0 → ⊥) → m ≤ length buf → length buf ≡ 1
+    → Consumes mid new (take m buf) → w ≡ v ++ get_or buf 0 0 ∷ [] → e ≡ ends_with nat_eq w empty_line → e ≡ true → n < MAX_HEAD_BYTES → Whole old new w
+whole_read old mid new v w buf m n e t some room one got same test holds less =
+    taken_last old mid new v w (get_or buf 0 0) n e t (subst (λ l. Consumes mid new l) (one_byte m buf some room one) got) same test holds less
+
+pub whole_head : (old new : Option (List ℕ)) (head : List ℕ) → Whole old new head → count_by is_line_feed head ≤ MAX_HEAD_LINES
     → Tells old new (λ bytes rest. opening_of bytes ≡ (opened head, rest))
 whole_head old new head w lines =
     tells_from (λ bytes rest. opening_of bytes ≡ (opened head, rest)) old new head w.told (λ rest e. opening-head head rest w.found w.size (grind (arith, nat_tests, lines)))
 
-pub whole_lines : (old new : Option (List ℕ)) (head : List ℕ) → Whole old new head → max_lines < count_by is_line_feed head
+pub whole_lines : (old new : Option (List ℕ)) (head : List ℕ) → Whole old new head → MAX_HEAD_LINES < count_by is_line_feed head
     → Tells old new (λ bytes rest. opening_of bytes ≡ (too_large, rest))
 whole_lines old new head w lines =
     tells_from (λ bytes rest. opening_of bytes ≡ (too_large, rest)) old new head w.told (λ rest e. opening-lines head rest w.found w.size (grind (arith, nat_tests, lines)))
 
-pub taken_all : (old new : Option (List ℕ)) (v : List ℕ) (n : ℕ) → Taken old new v n → n ≡ max_head
+pub taken_all : (old new : Option (List ℕ)) (v : List ℕ) (n : ℕ) → Taken old new v n → n ≡ MAX_HEAD_BYTES
     → Tells old new (λ bytes rest. opening_of bytes ≡ (too_large, rest))
 taken_all old new v n t e =
     tells_from (λ bytes rest. opening_of bytes ≡ (too_large, rest)) old new v t.told (λ rest q. opening-long v rest t.none (t.size ∙ e))
 
-pub taken_ended : (old mid new : Option (List ℕ)) (v : List ℕ) (n : ℕ) → Taken old mid v n → n < max_head → Consumes mid new [] → IsAtEnd new
+pub taken_ended : (old mid new : Option (List ℕ)) (v : List ℕ) (n : ℕ) → Taken old mid v n → n < MAX_HEAD_BYTES → Consumes mid new [] → IsAtEnd new
     → Tells old new (λ bytes rest. opening_of bytes ≡ (short, rest))
 taken_ended None mid new v n t less a e = tt
 taken_ended (Some xs) None new v n t less a e = absurd t.told

@@ -7,3 +7,4 @@ pub mod Beginnings
 pub mod Responses
 pub mod Digits
 pub mod Paths
+pub mod Codes

@@ -7,7 +7,8 @@ use Rattle.std.proofs.lemmas.List.Sums.{sum_by-append}
 use Rattle.httparse.specs.Grammar.{LineEnd, crlf, lf, print_end, Field, print_field, print_section, RequestHead, print_blank, print_version, ReadsRequest}
 use Rattle.httparse.specs.Spans.{RequestOverflows}
 use Rattle.httparse.proofs.GrammarLemmas.{print_request-append, request_unique}
-use Rattle.ci_http.specs.Opening.{is_line_feed, max_lines}
+use Rattle.ci_http.specs.Opening.{is_line_feed}
+use Rattle.ci_http.specs.declared.limits.TheConstants.{MAX_HEAD_LINES}
 
 abbrev feeds : List ℕ → ℕ
 feeds l = count_by is_line_feed l
@@ -66,7 +67,7 @@ not_whole buf h k n reads fits short whole =
     short (omega (arith, ap length same.1, length-drop n buf))
 
 -- there is room for the fields of each head with so few lines
-pub no_head : (buf : List ℕ) (k : RequestHead) → feeds buf ≤ max_lines → RequestOverflows 32 buf → ReadsRequest buf k [] → ⊥
+pub no_head : (buf : List ℕ) (k : RequestHead) → feeds buf ≤ MAX_HEAD_LINES → RequestOverflows 32 buf → ReadsRequest buf k [] → ⊥
 no_head buf k few over whole =
     let h = over [] k [] (subst (λ l. ReadsRequest l k []) (sym (append-nil buf)) whole) in
     absurd (omega (arith, feeds_head buf k [] whole))

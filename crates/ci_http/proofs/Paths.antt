@@ -15,9 +15,10 @@ use Rattle.std.proofs.lemmas.Slice.Eq.{bytes_eq-Decides}
 use Rattle.std.proofs.lemmas.Str.Parse.{not_in_digits}
 use Rattle.ci_http.specs.declared.path.Place.{Place}
 use Rattle.ci_http.specs.declared.path.Place.TheVariants.{Queue, Attempt, AttemptTrace, Job, JobTrace}
-use Rattle.ci_http.specs.Numbers.{is_number, within, number_within, max_id, id_in, IsId}
+use Rattle.ci_http.specs.Numbers.{is_number, within, number_within, id_in, IsId}
 use Rattle.ci_http.specs.Paths.{is_text, after, before, numbered_by, numbered, place_of_project, project_place_at, project_place, place_by, place_of, IsPlace, path_text}
 use Rattle.ci_http.proofs.Digits.{numerals, all_digits, each_digit}
+use Rattle.ci_values.specs.declared.limits.TheConstants.{MAX_NUMBER}
 
 some_is : {A : Type 0} (d x y : A) → Some x ≡ Some y → x ≡ y
 some_is d x y e = ap (λ o. unwrap_or o d) e
@@ -91,15 +92,15 @@ id_names n h =
     let filled : nat_lt 0 (length (decimal n)) ≡ true = grind (arith, nat_tests, decimal_nonempty n (small n h)) in
     let number : is_number (decimal n) ≡ true = and_from _ _ filled (each_digit (decimal n) (digits n h)) in
     let value : digits_value 10 (decimal n) ≡ n = digits_value-decimal numerals n (small n h) in
-    let fits : nat_lt max_id n ≡ false = grind (arith, nat_tests, h.1) in
-    ap (λ b. if b then None else number_within max_id (decimal n)) first
-    ∙ ap (λ b. if b then within max_id (digits_value 10 (decimal n)) else None) number
-    ∙ ap (within max_id) value ∙ ap (λ b. if b then None else Some n) fits
+    let fits : nat_lt MAX_NUMBER n ≡ false = grind (arith, nat_tests, h.1) in
+    ap (λ b. if b then None else number_within MAX_NUMBER (decimal n)) first
+    ∙ ap (λ b. if b then within MAX_NUMBER (digits_value 10 (decimal n)) else None) number
+    ∙ ap (within MAX_NUMBER) value ∙ ap (λ b. if b then None else Some n) fits
 
 abbrev IsOf : List ℕ → ℕ → Type 0
 IsOf text n = IsId n × (text ≡ decimal n)
 
-value_is : (text : List ℕ) (n : ℕ) → starts_with nat_eq text (codes "0") ≡ false → is_number text ≡ true → n ≡ digits_value 10 text → n ≤ max_id → IsOf text n
+value_is : (text : List ℕ) (n : ℕ) → starts_with nat_eq text (codes "0") ≡ false → is_number text ≡ true → n ≡ digits_value 10 text → n ≤ MAX_NUMBER → IsOf text n
 value_is text n first number e most =
     let parts = and_parts (nat_lt 0 (length text)) (list_all is_ascii_digit text) number in
     let filled : 0 < length text = grind (arith, nat_tests, parts.0) in
@@ -113,18 +114,18 @@ value_is text n first number e most =
     positive (suc n) t leads = omega arith
 
 within_by : (text : List ℕ) (n v : ℕ) → starts_with nat_eq text (codes "0") ≡ false → is_number text ≡ true → v ≡ digits_value 10 text
-    → (b : Bool) → nat_lt max_id v ≡ b → (if b then None else Some v) ≡ Some n → IsOf text n
+    → (b : Bool) → nat_lt MAX_NUMBER v ≡ b → (if b then None else Some v) ≡ Some n → IsOf text n
 within_by text n v first number is_value true h e = absurd (none_is_not n e)
 within_by text n v first number is_value false h e =
     let same_number : v ≡ n = some_is 0 v n e in
     value_is text n first number (sym same_number ∙ is_value) (grind (arith, nat_tests, h, same_number))
 
 number_by : (text : List ℕ) (n : ℕ) → starts_with nat_eq text (codes "0") ≡ false
-    → (b : Bool) → is_number text ≡ b → (if b then within max_id (digits_value 10 text) else None) ≡ Some n → IsOf text n
+    → (b : Bool) → is_number text ≡ b → (if b then within MAX_NUMBER (digits_value 10 text) else None) ≡ Some n → IsOf text n
 number_by text n first true h e = within_by text n _ first h refl _ refl e
 number_by text n first false h e = absurd (none_is_not n e)
 
-id_by : (text : List ℕ) (n : ℕ) (b : Bool) → starts_with nat_eq text (codes "0") ≡ b → (if b then None else number_within max_id text) ≡ Some n → IsOf text n
+id_by : (text : List ℕ) (n : ℕ) (b : Bool) → starts_with nat_eq text (codes "0") ≡ b → (if b then None else number_within MAX_NUMBER text) ≡ Some n → IsOf text n
 id_by text n true h e = absurd (none_is_not n e)
 id_by text n false h e = number_by text n h _ refl e
 

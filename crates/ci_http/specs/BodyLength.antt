@@ -8,10 +8,7 @@ use Rattle.ci_machine.specs.declared.reply.Code.TheVariants.{H1, H3, H4, H8}
 use Rattle.ci_http.specs.Fields.{values_of}
 use Rattle.ci_http.specs.Head.{Head}
 use Rattle.ci_http.specs.Numbers.{is_number, within}
-
--- the most bytes of a body
-abbrev pub max_body : ℕ
-max_body = 65536
+use Rattle.ci_http.specs.declared.limits.TheConstants.{MAX_BODY_BYTES}
 
 -- a request of this method says how long its body is
 abbrev pub wants_length : List ℕ → Bool
@@ -20,7 +17,7 @@ wants_length method = list_any (λ name. pointwise nat_eq method name) (codes "P
 -- the length of the body, by the values of Content-Length
 abbrev pub length_by : List ℕ → List (List ℕ) → Result ℕ Code
 length_by method [] = if wants_length method then Err H3 else Ok 0
-length_by method (text ∷ []) = if is_number text then ok_or (within max_body (digits_value 10 text)) H4 else Err H1
+length_by method (text ∷ []) = if is_number text then ok_or (within MAX_BODY_BYTES (digits_value 10 text)) H4 else Err H1
 length_by method (text ∷ other ∷ more) = Err H1
 
 -- a body whose head has a value of Transfer-Encoding is refused before its length is looked at

@@ -11,3 +11,4 @@ pub mod Updates
 pub mod Ranges
 pub mod RequestBytes
 pub mod ReplyText
+pub mod Blanks

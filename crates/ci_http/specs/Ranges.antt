@@ -2,10 +2,11 @@
 use Rattle.std.specs.Prelude.{ℕ, ◌+◌, ◌==◌, ◌&&◌, not, List, length, take, drop, nat_lt, if◌then◌else◌, Option, Some, None, option_and_then, position}
 use Rattle.std.specs.Str.Parse.{digits_value}
 use Rattle.ci_http.specs.Numbers.{is_number}
+use Rattle.ci_http.specs.declared.limits.TheConstants.{MAX_PLACE_DIGITS}
 
--- a place in a trace: 1 to 16 digits
+-- a place in a trace, of few enough digits
 abbrev pub place_in : List ℕ → Option ℕ
-place_in text = if is_number text && not (nat_lt 16 (length text)) then Some (digits_value 10 text) else None
+place_in text = if is_number text && not (nat_lt MAX_PLACE_DIGITS (length text)) then Some (digits_value 10 text) else None
 
 -- the first place, where the piece between the two has this length
 abbrev pub start_by : ℕ → Option ℕ → Option ℕ → Option ℕ

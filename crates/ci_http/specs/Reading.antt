@@ -1,7 +1,7 @@
 -- The request that a text begins with, or why it begins with none.
-use Rattle.std.specs.Prelude.{◌≡◌, ℕ, List, [], length, take, drop, nat_lt, if◌then◌else◌, Option, Some, None, Result, Ok, Err}
+use Rattle.std.specs.Prelude.{◌≡◌, ℕ, List, [], length, take, drop, nat_lt, if◌then◌else◌, Option, Some, None, Result, Ok, Err, ⊤}
 use Rattle.ci_machine.specs.declared.reply.Code.{Code}
-use Rattle.ci_machine.specs.declared.reply.Code.TheVariants.{H1, H2}
+use Rattle.ci_machine.specs.declared.reply.Code.TheVariants.{H1, H2, H3, H4, H8}
 use Rattle.ci_http.specs.Opening.{Opening, short, too_large, opened, opening_of}
 use Rattle.ci_http.specs.Head.{Head, IsHeadOf}
 use Rattle.ci_http.specs.BodyLength.{body_length}
@@ -39,6 +39,15 @@ IsReadingAt (opened front, after) r = (head : Option Head) × IsHeadOf front hea
 -- what the text is, and the bytes that are not needed to say so
 abbrev pub IsReading : List ℕ → Reading → List ℕ → Type 0
 IsReading bytes reading rest = IsReadingAt (opening_of bytes) (reading, rest)
+
+-- a code with which a request is refused while it is read
+abbrev pub IsReadingCode : Code → Type 0
+IsReadingCode H1 = ⊤
+IsReadingCode H2 = ⊤
+IsReadingCode H3 = ⊤
+IsReadingCode H4 = ⊤
+IsReadingCode H8 = ⊤
+IsReadingCode _ = ⊥
 
 -- why a text with this head, or with none, is refused whatever follows
 abbrev pub Refuses : Option Head → Code → Type 0

@@ -10,6 +10,7 @@ use Rattle.ci_machine.specs.declared.request.JobUpdate.{JobUpdate}
 use Rattle.ci_http.specs.Numbers.{within}
 use Rattle.ci_http.specs.Paths.{is_text}
 use Rattle.ci_http.specs.Json.{object_in, text_in}
+use Rattle.ci_http.specs.declared.limits.TheConstants.{MAX_EXIT_CODE}
 
 -- the cause that a failure's reason names; any other text names an unknown one
 abbrev pub cause_named : List ℕ → Cause
@@ -21,14 +22,10 @@ cause_named reason =
     else (if is_text reason (codes "job_execution_timeout") then JobExecutionTimeout
     else UnknownFailure))))
 
--- the greatest exit code
-abbrev pub max_exit : ℕ
-max_exit = 4294967295
-
 -- an exit code, or that there is none; what isn't a number in digits alone, or is over the limit, is neither
 abbrev pub exit_of : Option Data → Option (Option ℕ)
 exit_of None = Some None
-exit_of (Some value) = option_map (λ n. Some n) (option_and_then (within max_exit) (option_and_then as_u64 (as_number value)))
+exit_of (Some value) = option_map (λ n. Some n) (option_and_then (within MAX_EXIT_CODE) (option_and_then as_u64 (as_number value)))
 
 abbrev pub exit_in : Data → Option (Option ℕ)
 exit_in value = exit_of (get (codes "exit_code") value)

@@ -4,20 +4,18 @@ ghost use Rattle.std.specs.Prelude.{◌≡◌, ◌<◌, ℕ, List, [], length, I
 ghost use Rattle.std.specs.Str.Parse.{digits_value};
 ghost use Rattle.std.specs.Io.KnownBytes.{Consumes};
 ghost use Rattle.ci_machine.specs.declared.reply.Code.{Code};
-ghost use Rattle.ci_http.specs.BodyLength.{length_after, max_body, wants_length};
+ghost use Rattle.ci_http.specs.BodyLength.{length_after, wants_length};
 ghost use Rattle.ci_http.specs.Fields.{Shows};
 ghost use Rattle.ci_http.specs.Numbers.{is_number, within};
 ghost use Rattle.ci_http.specs.Sources.{Tells, TakesFront, Fails};
 
 use crate::fault::HttpFault;
 use crate::fields::Found;
+use crate::limits::MAX_BODY_BYTES;
 use crate::link::Source;
 use crate::number::{is_number, value_within};
 use ci_machine::reply::Code;
 use std::alloc::Global;
-
-/// The most bytes of a body.
-pub const MAX_BODY: u64 = 65536;
 
 /// How long the body of a request is, by its method and the values of `Content-Length` and
 /// `Transfer-Encoding` (RFC 9112, section 6).
@@ -48,12 +46,12 @@ fn wants_length(method: &[u8]) -> bool
 
 // The number that the text writes, within the limit of a body.
 fn number_of(text: &[u8]) -> Result<usize, Code>
-    ensures { result ≡ (if is_number text.now then ok_or (within max_body (digits_value 10 text.now)) Code.H4 else Err Code.H1) }
+    ensures { result ≡ (if is_number text.now then ok_or (within MAX_BODY_BYTES (digits_value 10 text.now)) Code.H4 else Err Code.H1) }
 {
     if !is_number(text) {
         return Err(Code::H1);
     }
-    match value_within(MAX_BODY, text) {
+    match value_within(MAX_BODY_BYTES as u64, text) {
         Some(len) => Ok(len as usize),
         None => Err(Code::H4),
     }

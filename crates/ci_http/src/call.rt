@@ -6,28 +6,26 @@ ghost use Rattle.ci_machine.specs.declared.reply.Code.{Code};
 ghost use Rattle.ci_http.specs.BodyLength.{body_length};
 ghost use Rattle.ci_http.specs.Fields.{values_of, Shows};
 ghost use Rattle.ci_http.specs.Head.{Head, IsHeadOf, head_at};
-ghost use Rattle.ci_http.specs.Opening.{is_line_feed, max_lines};
-ghost use Rattle.ci_http.specs.Reading.{message, ended, refused, request, IsReading, Refuses};
+ghost use Rattle.ci_http.specs.Opening.{is_line_feed};
+ghost use Rattle.ci_http.specs.Reading.{message, ended, refused, request, IsReading, IsReadingCode, Refuses};
 ghost use Rattle.ci_http.specs.Sources.{Tells, TakesFront, Fails};
 
 use crate::body::{body_length, read_body};
 use crate::fault::HttpFault;
 use crate::fields::{Found, find_field};
 use crate::head::{read_head, whole_head};
+use crate::limits::{MAX_HEAD_FIELDS, MAX_HEAD_LINES};
 use crate::link::Source;
 use ci_machine::reply::Code;
 use httparse::spans::{EMPTY_HEADER_SPAN, HeaderSpan, RequestSpans};
 use std::alloc::Global;
 use std::marker::Model;
 
-/// The most fields of a head.
-pub const MAX_FIELDS: usize = 32;
-
 /// A request as it was sent: its method, its target, its fields and its body.
 #[derive(Drop)]
 pub struct Call {
     head: Vec<u8>,
-    headers: [HeaderSpan; MAX_FIELDS],
+    headers: [HeaderSpan; MAX_HEAD_FIELDS],
     spans: RequestSpans,
     body: Vec<u8>,
 }
@@ -35,6 +33,7 @@ pub struct Call {
 impl Model for Call {
     ghost use Rattle.std.specs.Prelude.{◌≡◌, length};
     ghost use Rattle.httparse.specs.Spans.{IsRequestWithin};
+    ghost use Rattle.ci_http.specs.declared.limits.TheConstants.{MAX_HEAD_FIELDS};
     ghost use Rattle.ci_http.specs.Head.{head_at};
     ghost use Rattle.ci_http.specs.Reading.{Message, message};
 
@@ -42,7 +41,7 @@ impl Model for Call {
 
     ghost view = { λ c. message (head_at c.head.items c.headers c.spans) c.body.items };
 
-    ghost invariant = { λ c. (length c.headers ≡ 32) × IsRequestWithin c.head.items c.headers c.spans };
+    ghost invariant = { λ c. (length c.headers ≡ MAX_HEAD_FIELDS) × IsRequestWithin c.head.items c.headers c.spans };
 }
 
 impl Call {
@@ -84,13 +83,15 @@ pub fn read_request<R: Source>(alloc: Global, reader: &mut R) -> Result<Call, Ht
         (λ bytes rest. IsReading bytes (request call) rest)) }
     ensures refused { (why : Code) → result ≡ Err (HttpFault.Refused why) → Tells (R.left reader.old) (R.left reader.new)
         (λ bytes rest. IsReading bytes (refused why) rest) }
+    // Also where the reader doesn't tell its bytes.
+    ensures codes { (why : Code) → result ≡ Err (HttpFault.Refused why) → IsReadingCode why }
     ensures ended { result ≡ Err HttpFault.Ended → Tells (R.left reader.old) (R.left reader.new)
         (λ bytes rest. IsReading bytes ended rest) }
     ensures took { TakesFront (R.left reader.old) (R.left reader.new) }
     ensures failed { Fails result (Err HttpFault.ReadFailed) (R.failures reader.old) (R.failures reader.new) }
 {
     let head = read_head(alloc, reader)?;
-    let mut headers = [EMPTY_HEADER_SPAN; MAX_FIELDS];
+    let mut headers = [EMPTY_HEADER_SPAN; MAX_HEAD_FIELDS];
     let (spans, len) = match frame(&head, &mut headers) {
         Ok(parts) => parts,
         Err(why) => return Err(HttpFault::Refused(why)),
@@ -101,8 +102,8 @@ pub fn read_request<R: Source>(alloc: Global, reader: &mut R) -> Result<Call, Ht
 
 // The parts of a head, and how long the body is that follows it.
 fn frame(bytes: &[u8], headers: &mut [HeaderSpan]) -> Result<(RequestSpans, usize), Code>
-    requires room { length headers.old ≡ 32 }
-    requires lines { count_by is_line_feed bytes.now ≤ max_lines }
+    requires room { length headers.old ≡ MAX_HEAD_FIELDS }
+    requires lines { count_by is_line_feed bytes.now ≤ MAX_HEAD_LINES }
     ensures within { IfOk result (λ p. IsRequestWithin bytes.now headers.new p.0) }
     ensures head { IfOk result (λ p. IsHeadOf bytes.now (Some (head_at bytes.now headers.new p.0))) }
     ensures len { IfOk result (λ p. body_length (head_at bytes.now headers.new p.0) ≡ Ok p.1) }
@@ -123,7 +124,7 @@ fn frame(bytes: &[u8], headers: &mut [HeaderSpan]) -> Result<(RequestSpans, usiz
 // A request of its parts.
 fn assemble(
     head: Vec<u8>,
-    headers: [HeaderSpan; MAX_FIELDS],
+    headers: [HeaderSpan; MAX_HEAD_FIELDS],
     spans: RequestSpans,
     body: Vec<u8>,
 ) -> Call

@@ -4,21 +4,16 @@ ghost use Rattle.std.specs.Prelude.{◌≡◌, ◌≤◌, length, count_by, IfOk
 ghost use Rattle.httparse.specs.Spans.{IsRequestWithin};
 ghost use Rattle.ci_machine.specs.declared.reply.Code.{Code};
 ghost use Rattle.ci_http.specs.Head.{IsHeadOf, head_at};
-ghost use Rattle.ci_http.specs.Opening.{is_line_feed, short, too_large, opened, opening_of, max_lines};
+ghost use Rattle.ci_http.specs.Opening.{is_line_feed, short, too_large, opened, opening_of};
 ghost use Rattle.ci_http.specs.Sources.{Tells, TakesFront, Fails};
 
 use crate::fault::HttpFault;
+use crate::limits::{MAX_HEAD_BYTES, MAX_HEAD_FIELDS, MAX_HEAD_LINES};
 use crate::link::Source;
 use ci_machine::reply::Code;
 use httparse::Status;
 use httparse::spans::{HeaderSpan, RequestSpans, parse_request};
 use std::alloc::Global;
-
-/// The most bytes of a head, with its empty line.
-pub const MAX_HEAD: usize = 8192;
-
-/// The most line feeds of a head: those of the request line, of 32 fields and of the empty line.
-pub const MAX_LINES: usize = 34;
 
 /// Reads a head, up to and with its first CR LF CR LF, and not a byte more.
 ///
@@ -27,7 +22,7 @@ pub const MAX_LINES: usize = 34;
 pub fn read_head<R: Source>(alloc: Global, reader: &mut R) -> Result<Vec<u8>, HttpFault>
     ensures head { IfOk result (λ head. Tells (R.left reader.old) (R.left reader.new)
         (λ bytes rest. opening_of bytes ≡ (opened head.items, rest))) }
-    ensures lines { IfOk result (λ head. count_by is_line_feed head.items ≤ max_lines) }
+    ensures lines { IfOk result (λ head. count_by is_line_feed head.items ≤ MAX_HEAD_LINES) }
     ensures ended { result ≡ Err HttpFault.Ended → Tells (R.left reader.old) (R.left reader.new)
         (λ bytes rest. opening_of bytes ≡ (short, rest)) }
     ensures refused { (why : Code) → result ≡ Err (HttpFault.Refused why) → why ≡ Code.H2 }
@@ -37,14 +32,14 @@ pub fn read_head<R: Source>(alloc: Global, reader: &mut R) -> Result<Vec<u8>, Ht
     ensures failed { Fails result (Err HttpFault.ReadFailed) (R.failures reader.old) (R.failures reader.new) }
 {
     let mut head = Vec::new(alloc);
-    for _ in 0..MAX_HEAD {
+    for _ in 0..MAX_HEAD_BYTES {
         let mut byte = [0];
         if reader.get(&mut byte)? == 0 {
             return Err(HttpFault::Ended);
         }
         head.push(byte[0])?;
         if head.ends_with(b"\r\n\r\n") {
-            if lines_of(&head) > MAX_LINES {
+            if lines_of(&head) > MAX_HEAD_LINES {
                 return Err(HttpFault::Refused(Code::H2));
             }
             return Ok(head);
@@ -63,8 +58,8 @@ fn lines_of(bytes: &[u8]) -> usize
 /// The spans of the head that the bytes are as a whole, or `None` where they aren't one. With so
 /// few lines its fields always have room.
 pub fn whole_head(bytes: &[u8], headers: &mut [HeaderSpan]) -> Option<RequestSpans>
-    requires room { length headers.old ≡ 32 }
-    requires lines { count_by is_line_feed bytes.now ≤ max_lines }
+    requires room { length headers.old ≡ MAX_HEAD_FIELDS }
+    requires lines { count_by is_line_feed bytes.now ≤ MAX_HEAD_LINES }
     ensures within { IfSome result (IsRequestWithin bytes.now headers.new) }
     ensures found { IfSome result (λ spans. IsHeadOf bytes.now (Some (head_at bytes.now headers.new spans))) }
     ensures none { IfNone result (IsHeadOf bytes.now None) }

@@ -8,6 +8,7 @@ pub mod fields;
 mod head;
 mod json;
 pub mod laws;
+pub mod limits;
 pub mod link;
 mod number;
 pub mod path;

@@ -72,11 +72,11 @@ pub struct Link<T, L: Ledger = Brand> {
 }
 
 impl<T, L: Ledger> Link<T, L> {
+    ghost use Rattle.ci_http.specs.Blanks.{OpensWhole};
+
     /// A link that has seen no failed call.
     pub fn new(inner: T, blank: Blank) -> Self
-        requires name { blank.name ≡ L.name }
-        requires parts { blank.parts ≡ L.parts }
-        requires one { 0 < blank.parts }
+        requires { OpensWhole blank.name blank.parts L.name L.parts }
         ensures inner { result.inner ≡ inner }
         ensures count { result.book.total ≡ 0 }
     {

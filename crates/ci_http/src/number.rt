@@ -6,17 +6,16 @@ ghost use Rattle.std.specs.Char.{is_ascii_digit, digit_value};
 ghost use Rattle.std.specs.Str.Parse.{digits_value};
 ghost use Rattle.ci_http.specs.Numbers.{is_number, within, number_within, id_in};
 
-/// The greatest number of a record.
-pub const MAX_ID: u64 = 9_007_199_254_740_991;
+use ci_values::limits::MAX_NUMBER;
 
-/// The number of a record: digits without a zero in front, from 1 to `MAX_ID`.
+/// The number of a record: digits without a zero in front, from 1 to `MAX_NUMBER`.
 pub(crate) fn id_in(text: &[u8]) -> Option<u64>
     ensures { result ≡ id_in text.now }
 {
     if text.starts_with(b"0") {
         return None;
     }
-    number_within(MAX_ID, text)
+    number_within(MAX_NUMBER, text)
 }
 
 /// The number that the digits write, unless it is over the limit or there are none.

@@ -3,13 +3,8 @@
 ghost use Rattle.std.specs.Prelude.{◌≡◌, ◌==◌, ◌<◌, ◌^◌, IfSome, position};
 ghost use Rattle.ci_http.specs.Ranges.{place_in, start_in};
 
+use crate::limits::{MAX_PLACE, MAX_PLACE_DIGITS};
 use crate::number::number_within;
-
-/// The most digits of a place in a range.
-pub const MAX_DIGITS: usize = 16;
-
-/// The greatest number of so many digits.
-pub const MAX_PLACE: u64 = 9_999_999_999_999_999;
 
 /// Where a piece of this length begins, by its range, `from-to`: the places of its first byte and
 /// of its last. `None` where the range is written otherwise, or isn't that of so many bytes.
@@ -34,7 +29,7 @@ fn place_in(text: &[u8]) -> Option<u64>
     ensures place { result ≡ place_in text.now }
     ensures bound { IfSome result (λ n. n < 10 ^ 16) }
 {
-    if text.len() > MAX_DIGITS {
+    if text.len() > MAX_PLACE_DIGITS {
         return None;
     }
     number_within(MAX_PLACE, text)

@@ -1,8 +1,9 @@
-ghost use Rattle.std.specs.Prelude.{◌≡◌, ◌<◌};
+ghost use Rattle.ci_http.specs.Blanks.{OpensWhole};
 
 use crate::call::read_request;
+use crate::fault::HttpFault;
 use crate::fields::Found;
-use crate::link::Link;
+use crate::link::{Link, Sink};
 use crate::route::request_of;
 use crate::text::reply_bytes;
 use ci_machine::records::Cause;
@@ -10,6 +11,7 @@ use ci_machine::reply::{Body, Code, HttpStatus, JobStatus, Reply};
 use ci_machine::request::{Report, Request};
 use ci_machine::text::{Bytes, Text};
 use std::alloc::Global;
+use std::io::{self, ErrorKind, Read, Write};
 use std::marker::Brand;
 use std::process::Abort;
 use std::str;
@@ -17,9 +19,7 @@ use std::sync::ledger::{Blank, Ledger};
 use std::test::Fail;
 
 fn read_parts<L: Ledger>(rt: &impl Abort, alloc: Global, blank: Blank)
-    requires name { blank.name ≡ L.name }
-    requires parts { blank.parts ≡ L.parts }
-    requires one { 0 < blank.parts }
+    requires { OpensWhole blank.name blank.parts L.name L.parts }
 {
     let bytes =
         b"PATCH /x?y HTTP/1.1\r\nA: 1\r\nJob-Token: \t t u \r\nContent-Length: 3\r\na: 2\r\n\r\nxyzw".as_slice();
@@ -227,9 +227,7 @@ fn request_text(alloc: Global, request: &Request) -> Result<String, Fail> {
 
 // What the bytes ask for, in words, or the reply that refuses it.
 fn asked_over<L: Ledger>(alloc: Global, bytes: &[u8], blank: Blank) -> Result<Vec<u8>, Fail>
-    requires name { blank.name ≡ L.name }
-    requires parts { blank.parts ≡ L.parts }
-    requires one { 0 < blank.parts }
+    requires { OpensWhole blank.name blank.parts L.name L.parts }
 {
     let mut reader = Link::<&[u8], L>::new(bytes, blank);
     let Ok(call) = read_request(alloc, &mut reader) else {
@@ -529,5 +527,91 @@ fn methods_that_a_path_lacks(rt: HostRuntime) -> Result<(), Fail> {
             "{line}"
         );
     }
+    Ok(())
+}
+
+// A reader of a byte a call and a writer, of which one call fails and the others don't.
+#[derive(Drop)]
+struct Flaky<'a> {
+    rest: &'a [u8],
+    // The call that fails, counted from 0, and how many calls there were.
+    failing: usize,
+    calls: usize,
+}
+
+impl<'a> Flaky<'a> {
+    // Does this call fail? It is counted.
+    fn fails(&mut self) -> bool {
+        let call = self.calls;
+        self.calls = call.saturating_add(1);
+        call == self.failing
+    }
+}
+
+impl<'a> Read for Flaky<'a> {
+    fn read(&mut self, buf: &mut [u8]) -> io::Result<usize> {
+        if self.fails() {
+            return Err(io::Error::from(ErrorKind::Interrupted));
+        }
+        if self.rest.is_empty() || buf.is_empty() {
+            return Ok(0);
+        }
+        buf[0] = self.rest[0];
+        self.rest = &self.rest[1..];
+        Ok(1)
+    }
+}
+
+impl<'a> Write for Flaky<'a> {
+    fn write(&mut self, bytes: &[u8]) -> io::Result<usize> {
+        if self.fails() {
+            return Err(io::Error::from(ErrorKind::Interrupted));
+        }
+        Ok(bytes.len())
+    }
+
+    fn flush(&mut self) -> io::Result<()> {
+        Ok(())
+    }
+}
+
+// Whether a failed call was answered as such, how often the reader or the writer was called, and how many bytes it has left.
+fn read_once<L: Ledger>(alloc: Global, flaky: Flaky<'_>, blank: Blank) -> (bool, usize, usize)
+    requires { OpensWhole blank.name blank.parts L.name L.parts }
+{
+    let mut reader = Link::<Flaky<'_>, L>::new(flaky, blank);
+    let failed = matches!(read_request(alloc, &mut reader), Err(HttpFault::ReadFailed));
+    let flaky = reader.into_inner();
+    (failed, flaky.calls, flaky.rest.len())
+}
+
+fn written_once<L: Ledger>(flaky: Flaky<'_>, blank: Blank) -> (bool, usize, usize)
+    requires { OpensWhole blank.name blank.parts L.name L.parts }
+{
+    let mut writer = Link::<Flaky<'_>, L>::new(flaky, blank);
+    let failed = writer.put(b"xyz").is_err();
+    let flaky = writer.into_inner();
+    (failed, flaky.calls, flaky.rest.len())
+}
+
+#[test]
+fn failed_calls_are_not_tried_again(rt: HostRuntime) -> Result<(), Fail> {
+    let bytes = b"GET / HTTP/1.1\r\nContent-Length: 2\r\n\r\nab".as_slice();
+    for failing in 0..bytes.len() {
+        let flaky = Flaky {
+            rest: bytes,
+            failing,
+            calls: 0,
+        };
+        let seen = read_once::<Brand>(rt.alloc(), flaky, Blank::new(1));
+        assert_eq!(rt; seen, (true, failing + 1, bytes.len() - failing));
+    }
+    let flaky = Flaky {
+        rest: bytes,
+        failing: 0,
+        calls: 0,
+    };
+    let seen = written_once::<Brand>(flaky, Blank::new(1));
+    assert_eq!(rt; seen, (true, 1, bytes.len()));
     Ok(())
 }

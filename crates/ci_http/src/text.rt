@@ -5,17 +5,15 @@ ghost use Rattle.arrayvec.specs.ArrayVec.{array_vec_len};
 ghost use Rattle.ci_machine.specs.Reply.{body_text};
 ghost use Rattle.ci_http.specs.ReplyText.{status_line, job_status_text, allow_text, type_text, crlf, job_status_line, range_line, allow_line, type_line, length_line, head_text, reply_text, IsResponse};
 
+use crate::limits::MAX_REPLY_HEAD_BYTES;
 use arrayvec::ArrayVec;
 use ci_machine::reply::{Allow, Body, HttpStatus, JobStatus, Reply};
 use itoa::Buffer;
 
-/// Room for the longest head.
-pub const HEAD_SIZE: usize = 512;
-
 /// The bytes of a reply: its head, which is kept here, and its body, which is lent.
 #[derive(Drop)]
 pub struct ReplyBytes<'a> {
-    pub head: ArrayVec<u8, HEAD_SIZE>,
+    pub head: ArrayVec<u8, MAX_REPLY_HEAD_BYTES>,
     pub body: &'a [u8],
 }
 
@@ -34,7 +32,7 @@ pub fn reply_bytes(reply: &Reply) -> ReplyBytes<'_>
 }
 
 // The head of a reply with this body.
-fn head_of(reply: &Reply, body: &[u8]) -> ArrayVec<u8, HEAD_SIZE>
+fn head_of(reply: &Reply, body: &[u8]) -> ArrayVec<u8, MAX_REPLY_HEAD_BYTES>
     requires { body.now ≡ body_text reply.now }
     ensures text { result.items ≡ head_text reply.now }
     ensures size { IfSome reply.now.range (λ n. n < 2 ^ 64) }
@@ -51,8 +49,8 @@ fn head_of(reply: &Reply, body: &[u8]) -> ArrayVec<u8, HEAD_SIZE>
 }
 
 // Writes the bytes at the end.
-fn put(head: &mut ArrayVec<u8, HEAD_SIZE>, bytes: &[u8])
-    requires { array_vec_len head.old + length bytes.now ≤ 512 }
+fn put(head: &mut ArrayVec<u8, MAX_REPLY_HEAD_BYTES>, bytes: &[u8])
+    requires { array_vec_len head.old + length bytes.now ≤ MAX_REPLY_HEAD_BYTES }
     ensures items { head.new.items ≡ head.old.items ++ bytes.now }
     ensures len { array_vec_len head.new ≡ array_vec_len head.old + length bytes.now }
 {
@@ -61,8 +59,8 @@ fn put(head: &mut ArrayVec<u8, HEAD_SIZE>, bytes: &[u8])
 }
 
 // Writes a field: its name with what parts it from the value, and the value.
-fn put_field(head: &mut ArrayVec<u8, HEAD_SIZE>, name: &[u8], value: &[u8])
-    requires { array_vec_len head.old + length name.now + length value.now + 2 ≤ 512 }
+fn put_field(head: &mut ArrayVec<u8, MAX_REPLY_HEAD_BYTES>, name: &[u8], value: &[u8])
+    requires { array_vec_len head.old + length name.now + length value.now + 2 ≤ MAX_REPLY_HEAD_BYTES }
     ensures items { head.new.items ≡ head.old.items ++ (name.now ++ value.now ++ crlf) }
     ensures len { array_vec_len head.new ≡ array_vec_len head.old + length name.now + length value.now + 2 }
 {
@@ -72,8 +70,8 @@ fn put_field(head: &mut ArrayVec<u8, HEAD_SIZE>, name: &[u8], value: &[u8])
 }
 
 // Writes a field whose value is a number.
-fn put_number_field(head: &mut ArrayVec<u8, HEAD_SIZE>, name: &[u8], n: u64)
-    requires { array_vec_len head.old + length name.now + 22 ≤ 512 }
+fn put_number_field(head: &mut ArrayVec<u8, MAX_REPLY_HEAD_BYTES>, name: &[u8], n: u64)
+    requires { array_vec_len head.old + length name.now + 22 ≤ MAX_REPLY_HEAD_BYTES }
     ensures items { head.new.items ≡ head.old.items ++ (name.now ++ decimal n ++ crlf) }
     ensures len { array_vec_len head.new ≤ array_vec_len head.old + length name.now + 22 }
 {
@@ -81,8 +79,8 @@ fn put_number_field(head: &mut ArrayVec<u8, HEAD_SIZE>, name: &[u8], n: u64)
     put_field(head, name, buffer.format(n).as_bytes());
 }
 
-fn put_job_status(head: &mut ArrayVec<u8, HEAD_SIZE>, status: Option<JobStatus>)
-    requires { array_vec_len head.old + 24 ≤ 512 }
+fn put_job_status(head: &mut ArrayVec<u8, MAX_REPLY_HEAD_BYTES>, status: Option<JobStatus>)
+    requires { array_vec_len head.old + 24 ≤ MAX_REPLY_HEAD_BYTES }
     ensures items { head.new.items ≡ head.old.items ++ job_status_line status }
     ensures len { array_vec_len head.new ≤ array_vec_len head.old + 24 }
 {
@@ -91,8 +89,8 @@ fn put_job_status(head: &mut ArrayVec<u8, HEAD_SIZE>, status: Option<JobStatus>)
     }
 }
 
-fn put_range(head: &mut ArrayVec<u8, HEAD_SIZE>, size: Option<u64>)
-    requires { array_vec_len head.old + 40 ≤ 512 }
+fn put_range(head: &mut ArrayVec<u8, MAX_REPLY_HEAD_BYTES>, size: Option<u64>)
+    requires { array_vec_len head.old + 40 ≤ MAX_REPLY_HEAD_BYTES }
     ensures items { head.new.items ≡ head.old.items ++ range_line size }
     ensures size { IfSome size (λ n. n < 2 ^ 64) }
     ensures len { array_vec_len head.new ≤ array_vec_len head.old + 40 }
@@ -102,8 +100,8 @@ fn put_range(head: &mut ArrayVec<u8, HEAD_SIZE>, size: Option<u64>)
     }
 }
 
-fn put_allow(head: &mut ArrayVec<u8, HEAD_SIZE>, allow: Option<Allow>)
-    requires { array_vec_len head.old + 32 ≤ 512 }
+fn put_allow(head: &mut ArrayVec<u8, MAX_REPLY_HEAD_BYTES>, allow: Option<Allow>)
+    requires { array_vec_len head.old + 32 ≤ MAX_REPLY_HEAD_BYTES }
     ensures items { head.new.items ≡ head.old.items ++ allow_line allow }
     ensures len { array_vec_len head.new ≤ array_vec_len head.old + 32 }
 {
@@ -112,8 +110,8 @@ fn put_allow(head: &mut ArrayVec<u8, HEAD_SIZE>, allow: Option<Allow>)
     }
 }
 
-fn put_type(head: &mut ArrayVec<u8, HEAD_SIZE>, kind: &[u8], body: &[u8])
-    requires { array_vec_len head.old + length kind.now + 24 ≤ 512 }
+fn put_type(head: &mut ArrayVec<u8, MAX_REPLY_HEAD_BYTES>, kind: &[u8], body: &[u8])
+    requires { array_vec_len head.old + length kind.now + 24 ≤ MAX_REPLY_HEAD_BYTES }
     ensures items { head.new.items ≡ head.old.items ++ type_line kind.now body.now }
     ensures len { array_vec_len head.new ≤ array_vec_len head.old + length kind.now + 24 }
 {
@@ -122,8 +120,8 @@ fn put_type(head: &mut ArrayVec<u8, HEAD_SIZE>, kind: &[u8], body: &[u8])
     }
 }
 
-fn put_length(head: &mut ArrayVec<u8, HEAD_SIZE>, status: HttpStatus, len: u64)
-    requires { array_vec_len head.old + 40 ≤ 512 }
+fn put_length(head: &mut ArrayVec<u8, MAX_REPLY_HEAD_BYTES>, status: HttpStatus, len: u64)
+    requires { array_vec_len head.old + 40 ≤ MAX_REPLY_HEAD_BYTES }
     ensures items { head.new.items ≡ head.old.items ++ length_line status len }
     ensures len { array_vec_len head.new ≤ array_vec_len head.old + 40 }
 {

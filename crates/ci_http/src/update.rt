@@ -6,6 +6,7 @@ ghost use Rattle.ci_http.specs.RequestBytes.{IsWhyNot};
 ghost use Rattle.ci_http.specs.Updates.{cause_named, exit_in, report_by, report_in, update_in};
 
 use crate::json::{object_in, text_in};
+use crate::limits::MAX_EXIT_CODE;
 use crate::path::is_text;
 use ci_machine::records::Cause;
 use ci_machine::reply::Code;
@@ -13,9 +14,6 @@ use ci_machine::request::{JobUpdate, Report};
 use ci_machine::text::Text;
 use serde_json::Value;
 use std::alloc::Global;
-
-/// The greatest exit code.
-pub const MAX_EXIT: u64 = 4_294_967_295;
 
 /// The update of an attempt that a body asks for: a JSON object with `token`, `state`,
 /// `failure_reason` and `exit_code`, of which all but `state` may be missing.
@@ -94,7 +92,7 @@ fn exit_in(object: &Value) -> Option<Option<u32>>
         return Some(None);
     };
     match member.as_u64() {
-        Some(n) if n <= MAX_EXIT => Some(Some(n as u32)),
+        Some(n) if n <= MAX_EXIT_CODE => Some(Some(n as u32)),
         _ => None,
     }
 }

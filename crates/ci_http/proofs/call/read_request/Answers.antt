@@ -3,9 +3,10 @@ use Rattle.std.specs.Prelude.{Err, Option}
 use Rattle.std.proofs.lemmas.Result.{err_from_is_err_and}
 use Rattle.ci_http.specs.declared.fault.HttpFault.TheVariants.{Refused, Ended}
 use Rattle.ci_http.specs.Head.{Head, IsHeadOf, head_at}
-use Rattle.ci_http.specs.Reading.{Refuses, IsReading, request, message}
+use Rattle.ci_http.specs.Reading.{Refuses, IsReading, IsReadingCode, request, message}
 use Rattle.ci_http.specs.Sources.{Tells}
 use Rattle.ci_http.specs.Opening.{opening_of, opened}
+use Rattle.ci_http.proofs.Codes.{refused-code}
 use Rattle.ci_http.proofs.Heads.{takes_more}
 use Rattle.ci_http.proofs.Readings.{tells_map, tells_then, consumes_tells, reading_large, reading_refused, reading_ended, reading_call}
 use Rattle.ci_http.proofs.call.read_request.Goals as goal
@@ -55,3 +56,16 @@ returns-in_err-body-clause-took g c = takes_more _ _ _ c.read_head.ensures.took 
 
 pub returns-clause-took : goal.returns-clause-took
 returns-clause-took g c = takes_more _ _ _ c.read_head.ensures.took c.read_body.ensures.took
+
+pub returns-in_err-head-clause-codes : goal.returns-in_err-head-clause-codes
+returns-in_err-head-clause-codes g c why e =
+    let p = err_from_is_err_and c.from_residual.result c.from_residual.ensures.1 in
+    let was = c.in_err-head.was in
+    let same : c.read_head.result ≡ Err (Refused why) = cc in
+    subst IsReadingCode (sym (c.read_head.ensures.refused why same)) tt
+
+pub returns-in-Err-clause-codes : goal.returns-in-Err-clause-codes
+returns-in-Err-clause-codes g c why e =
+    let same : c.in-Err.why ≡ why = cc in
+    let how = rw c.in-Err.is at c.frame.ensures.refused in
+    subst IsReadingCode same (refused-code how.0 c.in-Err.why how.2)
