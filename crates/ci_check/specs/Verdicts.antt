@@ -1,15 +1,15 @@
 -- What is said of a file's bytes.
 use Rattle.std.specs.Prelude.{◌≡◌, ◌<◌, ◌≤◌, ◌⊎◌, ℕ, List, ◌++◌, length, Result, Ok, Err, ⊤, codes, decimal}
 use Rattle.std.specs.Str.{IsUtf8}
-use Rattle.ci_yaml.specs.Tree.{Value}
+use Rattle.ci_yaml_lines.specs.Tree.{Value}
+use Rattle.ci_yaml_lines.specs.Least.{number_of}
+use Rattle.ci_yaml_lines.specs.declared.code.Code.{Code}
+use Rattle.ci_yaml_lines.specs.declared.code.Code.TheVariants.{Y1}
+use Rattle.ci_yaml_lines.specs.declared.tree.Tree.{Tree}
 use Rattle.ci_yaml.specs.Document.{HasTree}
 use Rattle.ci_yaml.specs.Stops.{RefusedBy}
-use Rattle.ci_yaml.specs.Least.{number_of}
-use Rattle.ci_yaml.specs.declared.fault.Code.{Code}
-use Rattle.ci_yaml.specs.declared.fault.Code.TheVariants.{Y1}
 use Rattle.ci_yaml.specs.declared.fault.YamlFault.{YamlFault}
 use Rattle.ci_yaml.specs.declared.fault.YamlFault.TheVariants.{Fault, Memory}
-use Rattle.ci_yaml.specs.declared.tree.Tree.{Tree}
 use Rattle.ci_check.specs.declared.verdict.Verdict.{Verdict}
 use Rattle.ci_check.specs.declared.verdict.Verdict.TheVariants.{Read, Refused, NotText, Unread, NoMemory}
 
