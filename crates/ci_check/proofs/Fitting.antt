@@ -5,12 +5,12 @@ use Rattle.std.specs.Str.{IsUtf8}
 use Rattle.std.proofs.lemmas.List.{take_all, length-take-le}
 use Rattle.std.proofs.lemmas.Bool.{cases_lt}
 use Rattle.ci_values.specs.declared.limits.TheConstants.{MAX_FILE_BYTES}
-use Rattle.ci_yaml.specs.Tree.{Value}
-use Rattle.ci_yaml.specs.View.{value_view}
+use Rattle.ci_yaml_lines.specs.Tree.{Value}
+use Rattle.ci_yaml_lines.specs.View.{value_view}
+use Rattle.ci_yaml_lines.specs.declared.tree.Tree.{Tree}
+use Rattle.ci_yaml_lines.specs.declared.code.Code.TheVariants.{Y1}
 use Rattle.ci_yaml.specs.Document.{HasTree}
 use Rattle.ci_yaml.specs.Stops.{RefusedBy, GivesTree}
-use Rattle.ci_yaml.specs.declared.tree.Tree.{Tree}
-use Rattle.ci_yaml.specs.declared.fault.Code.TheVariants.{Y1}
 use Rattle.ci_yaml.specs.declared.fault.YamlFault.{YamlFault}
 use Rattle.ci_yaml.specs.declared.fault.YamlFault.TheVariants.{Fault, Memory}
 use Rattle.ci_check.specs.Verdicts.{Fits, IsTooLong, verdict_by}

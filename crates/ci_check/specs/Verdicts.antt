@@ -2,15 +2,15 @@
 use Rattle.std.specs.Prelude.{◌≡◌, ◌<◌, ◌≤◌, ◌⊎◌, ℕ, List, ◌++◌, length, Result, Ok, Err, ⊤, codes}
 use Rattle.std.specs.Str.{IsUtf8}
 use Rattle.ci_values.specs.declared.limits.TheConstants.{MAX_FILE_BYTES}
-use Rattle.ci_yaml.specs.Tree.{Value}
+use Rattle.ci_yaml_lines.specs.Tree.{Value}
+use Rattle.ci_yaml_lines.specs.declared.code.Code.{Code}
+use Rattle.ci_yaml_lines.specs.declared.code.Code.TheVariants.{Y1}
+use Rattle.ci_yaml_lines.specs.declared.tree.Tree.{Tree}
 use Rattle.ci_yaml.specs.Document.{HasTree}
 use Rattle.ci_yaml.specs.Stops.{RefusedBy}
-use Rattle.ci_yaml.specs.Told.{said as fault_text}
-use Rattle.ci_yaml.specs.declared.fault.Code.{Code}
-use Rattle.ci_yaml.specs.declared.fault.Code.TheVariants.{Y1}
+use Rattle.ci_yaml.specs.FaultText.{fault_text}
 use Rattle.ci_yaml.specs.declared.fault.YamlFault.{YamlFault}
 use Rattle.ci_yaml.specs.declared.fault.YamlFault.TheVariants.{Fault, Memory}
-use Rattle.ci_yaml.specs.declared.tree.Tree.{Tree}
 use Rattle.ci_check.specs.declared.verdict.Verdict.{Verdict}
 use Rattle.ci_check.specs.declared.verdict.Verdict.TheVariants.{Read, Refused, NotText, Unread}
 

@@ -1,7 +1,7 @@
 //! What is said of bytes, and the exit status that goes with it.
 
 ghost use Rattle.std.specs.Prelude.{◌≡◌, ◌≢◌, ◌<◌, length, IfOk, OnErr};
-ghost use Rattle.ci_yaml.specs.declared.fault.Code.TheVariants.{Y1};
+ghost use Rattle.ci_yaml_lines.specs.declared.code.Code.TheVariants.{Y1};
 ghost use Rattle.ci_yaml.specs.declared.fault.YamlFault.TheVariants.{Fault};
 ghost use Rattle.ci_check.specs.Verdicts.{Fits, IsTooLong, status, verdict_by};
 ghost use Rattle.ci_check.specs.declared.verdict.Verdict.TheVariants.{Refused, Unread};

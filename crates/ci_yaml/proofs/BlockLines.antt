@@ -3,13 +3,14 @@ use Rattle.std.proofs.Common.{◌≡◌, ℕ, zero, suc, ◌+◌, ◌-◌, ◌<�
 use denote.Bor.{Bor}
 use Rattle.std.proofs.lemmas.List.{take_more, append-nil, length-drop, nil_from_length}
 use Rattle.std.proofs.Math.Seq.{take-length}
-use Rattle.ci_yaml.specs.Line.{spaces}
-use Rattle.ci_yaml.specs.Document.{Line, is_spaces, is_in_block, first_indent, more_indent, indent_codes, block_codes, kept_len, without_end, AreBlock, EndsBlock}
+use Rattle.ci_yaml_lines.proofs.Lists.{last-parted, drop-at, push-some}
+use Rattle.ci_yaml_lines.specs.Line.{spaces, Line}
+use Rattle.ci_yaml.specs.Block.{is_spaces, is_in_block, first_indent, more_indent, indent_codes, block_codes, kept_len, without_end, AreBlock, EndsBlock}
 use Rattle.ci_yaml.specs.Blocks.{texts_of, cut_text, cut_lines, cut_strip, StopsBlock}
-use Rattle.ci_yaml.specs.declared.fault.Code.{Code}
-use Rattle.ci_yaml.specs.Least.{least}
-use Rattle.ci_yaml.proofs.LinesSound.{no_least}
-use Rattle.ci_yaml.proofs.Opened.{eq-false}
+use Rattle.ci_yaml_lines.specs.declared.code.Code.{Code}
+use Rattle.ci_yaml_lines.specs.Least.{least}
+use Rattle.ci_yaml_lines.proofs.Leasts.{no_least}
+use Rattle.ci_yaml_lines.proofs.Bools.{eq-false}
 use Rattle.std.specs.Prelude.{◌==◌, ◌&&◌, IfOk, Result, Ok, Err}
 
 texts-push : (xs : List (Bor (List ℕ))) (x : Bor (List ℕ)) → texts_of (xs ++ x ∷ []) ≡ texts_of xs ++ x.now ∷ []
@@ -22,10 +23,7 @@ length-texts (x ∷ xs) = ap suc (length-texts xs)
 
 -- the lines from a place on
 pub texts-next : (xs : List (Bor (List ℕ))) (i : ℕ) (d : Bor (List ℕ)) (l : Line) → i < length xs → l ≡ (get_or xs i d).now → texts_of (drop i xs) ≡ l ∷ texts_of (drop (i + 1) xs)
-texts-next xs i d l lt is = ap texts_of (next xs i d lt) ∙ ap (λ (m : Line). m ∷ texts_of (drop (i + 1) xs)) (sym is)
-  where
-    next : (ys : List (Bor (List ℕ))) (k : ℕ) (d : Bor (List ℕ)) → k < length ys → drop k ys ≡ get_or ys k d ∷ drop (k + 1) ys
-    next ys k d lt = rw (add-one, drop-cons ys k d) refl
+texts-next xs i d l lt is = ap texts_of (drop-at xs i d lt) ∙ ap (λ (m : Line). m ∷ texts_of (drop (i + 1) xs)) (sym is)
 
 pub texts-past : (xs : List (Bor (List ℕ))) (i : ℕ) → length xs ≤ i → texts_of (drop i xs) ≡ []
 texts-past xs i le = ap texts_of (nil_from_length (drop i xs) (omega (arith, length-drop i xs)))
@@ -40,23 +38,13 @@ full n l lt = let some : n ≡ 0 → ⊥ = (λ e. absurd (omega (arith, e))) in 
     add : (m : ℕ) → 1 + m ≡ suc m
     add m = omega arith
 
-push-some : (ls : List Line) (l : Line) → 0 < length (ls ++ l ∷ [])
-push-some [] l = omega arith
-push-some (m ∷ ls) l = omega arith
-
 kept-all : (ls : List Line) (l : Line) → is_spaces l ≡ false → kept_len (ls ++ l ∷ []) ≡ length (ls ++ l ∷ [])
 kept-all [] l e = ap (λ t. cond t 0 1) e
 kept-all (m ∷ ls) l e = ap (λ n. cond ((n == 0) && is_spaces m) 0 (1 + n)) (kept-all ls l e) ∙ full (length (ls ++ l ∷ [])) m (push-some ls l)
 
-parted : (xs : List (Bor (List ℕ))) (d : Bor (List ℕ)) → 1 ≤ length xs → xs ≡ take (length xs - 1) xs ++ get_or xs (length xs - 1) d ∷ []
-parted xs d le =
-    let less : length xs - 1 < length xs = omega arith in
-    let all : length xs - 1 + 1 ≡ length xs = omega arith in
-    sym (take-length xs) ∙ ap (λ n. take n xs) (sym all) ∙ take_more xs (length xs - 1) d less
-
 texts-parted : (xs : List (Bor (List ℕ))) (d : Bor (List ℕ)) (l : Line) → 1 ≤ length xs → l ≡ (get_or xs (length xs - 1) d).now → texts_of xs ≡ texts_of (take (length xs - 1) xs) ++ l ∷ []
 texts-parted xs d l le is =
-    ap texts_of (parted xs d le) ∙ texts-push (take (length xs - 1) xs) (get_or xs (length xs - 1) d) ∙ ap (λ (m : Line). texts_of (take (length xs - 1) xs) ++ m ∷ []) (sym is)
+    ap texts_of (last-parted xs d le) ∙ texts-push (take (length xs - 1) xs) (get_or xs (length xs - 1) d) ∙ ap (λ (m : Line). texts_of (take (length xs - 1) xs) ++ m ∷ []) (sym is)
 
 pub kept-front : (xs : List (Bor (List ℕ))) (d : Bor (List ℕ)) (l : Line) → 1 ≤ length xs → l ≡ (get_or xs (length xs - 1) d).now → is_spaces l ≡ true → kept_len (texts_of (take (length xs - 1) xs)) ≡ kept_len (texts_of xs)
 kept-front xs d l le is e = sym (ap kept_len (texts-parted xs d l le is) ∙ kept-more (texts_of (take (length xs - 1) xs)) l e)
@@ -130,19 +118,15 @@ pub indent-more : (xs : List (Bor (List ℕ))) (i : ℕ) (d : Bor (List ℕ)) (l
 indent-more xs i d l o p lt is o-is p-is =
     p-is ∙ ap (λ x. more_indent x l) o-is ∙ sym (indent-push (texts_of (take i xs)) l) ∙ ap first_indent (sym (texts-more xs i d l lt is))
 
-are-more : (c : ℕ) (before ls : List Line) (l : Line) → AreBlock c before ls → is_in_block c l ≡ true → block_codes (before ++ ls) l ≡ [] → AreBlock c before (ls ++ l ∷ [])
-are-more c before [] l are inside_it clean = (inside_it, subst (λ (b : List Line). block_codes b l ≡ []) (append-nil before) clean, tt)
-are-more c before (m ∷ ls) l are inside_it clean =
-    (are.0, are.1, are-more c (before ++ m ∷ []) ls l are.2 inside_it (subst (λ (b : List Line). block_codes b l ≡ []) (sym (append_assoc before (m ∷ []) ls)) clean))
+pub are-push : (c : ℕ) (before ls : List Line) (l : Line) → AreBlock c before ls → is_in_block c l ≡ true → block_codes (before ++ ls) l ≡ [] → AreBlock c before (ls ++ l ∷ [])
+are-push c before [] l are inside_it clean = (inside_it, subst (λ (b : List Line). block_codes b l ≡ []) (append-nil before) clean, tt)
+are-push c before (m ∷ ls) l are inside_it clean = (are.0, are.1, are-push c (before ++ m ∷ []) ls l are.2 inside_it (subst (λ (b : List Line). block_codes b l ≡ []) (sym (append_assoc before (m ∷ []) ls)) clean))
 
 pub block-more : (c : ℕ) (xs : List (Bor (List ℕ))) (i : ℕ) (d : Bor (List ℕ)) (l : Line) (o : Option ℕ) → i < length xs → l ≡ (get_or xs i d).now → o ≡ first_indent (texts_of (take i xs))
     → AreBlock c [] (texts_of (take i xs)) → is_in_block c l ≡ true → least (indent_codes o l) ≡ None → AreBlock c [] (texts_of (take (i + 1) xs))
 block-more c xs i d l o lt is o-is are inside_it clean =
     subst (AreBlock c []) (sym (texts-more xs i d l lt is))
-    (are-more c [] (texts_of (take i xs)) l are inside_it (no_least (block_codes (texts_of (take i xs)) l) (ap (λ x. least (indent_codes x l)) (sym o-is) ∙ clean)))
-
-pub block-ends : (c : ℕ) (xs : List (Bor (List ℕ))) (i : ℕ) (d : Bor (List ℕ)) (l : Line) → i < length xs → l ≡ (get_or xs i d).now → is_in_block c l ≡ false → EndsBlock c (texts_of (drop i xs))
-block-ends c xs i d l lt is e = subst (EndsBlock c) (sym (texts-next xs i d l lt is)) e
+    (are-push c [] (texts_of (take i xs)) l are inside_it (no_least (block_codes (texts_of (take i xs)) l) (ap (λ x. least (indent_codes x l)) (sym o-is) ∙ clean)))
 
 pub block-stops : (c : ℕ) (xs : List (Bor (List ℕ))) (i : ℕ) (d : Bor (List ℕ)) (l : Line) (o : Option ℕ) (code : Code) → i < length xs → l ≡ (get_or xs i d).now → o ≡ first_indent (texts_of (take i xs))
     → is_in_block c l ≡ true → least (indent_codes o l) ≡ Some code → StopsBlock c (texts_of (take i xs)) (texts_of (drop i xs)) code

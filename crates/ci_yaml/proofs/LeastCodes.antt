@@ -2,20 +2,23 @@
 use Rattle.std.proofs.Common.{◌≡◌, ℕ, zero, suc, ◌<◌, ◌≤◌, ◌⊎◌, inl, inr, Bool, true, false, cond, List, [], ◌∷◌, ◌++◌, length, drop, Option, Some, None, Result, Ok, Err, refl, sym, ◌∙◌, ap, subst, arith}
 use Rattle.std.specs.Prelude.{nat_le, slice_index_or, ◌==◌, ◌&&◌, Contains}
 use Rattle.std.proofs.lemmas.Bool.{leb-true, leb-false}
-use Rattle.ci_yaml.specs.declared.fault.Code.{Code}
-use Rattle.ci_yaml.specs.declared.fault.Code.TheVariants.{Y2, Y9}
-use Rattle.ci_yaml.specs.Entry.{bare, Entry}
-use Rattle.ci_yaml.specs.Scalar.{trim_end, head_is, tail_of, before_comment, when, Quoted, quoted, is_quote}
-use Rattle.ci_yaml.specs.Line.{Chomp, clip, strip, keep, Written, header_rest, header_of, written_quoted, written_list, listed, written_plain, written_at, Keyed, keyed, keyed_or_bare, is_dash, spaces, Item, inner, value, item, Spoken, dashed, spoken, with_codes, content_spoken, is_document_mark, is_skipped, line_spoken}
+use Rattle.ci_yaml_lines.specs.declared.code.Code.{Code}
+use Rattle.ci_yaml_lines.specs.declared.code.Code.TheVariants.{Y2, Y9}
+use Rattle.ci_yaml_lines.specs.Entry.{bare, Entry}
+use Rattle.ci_yaml_lines.specs.Scalar.{trim_end, head_is, tail_of, before_comment, when, Quoted, quoted, is_quote}
+use Rattle.ci_yaml_lines.specs.Line.{Chomp, clip, strip, keep, Written, header_rest, header_of, written_quoted, written_list, listed, written_plain, written_at, Keyed, keyed, keyed_or_bare, is_dash, spaces, Item, inner, value, item, ParsedLine, dashed, parse_entries, with_codes, parse_content, is_document_mark, is_skipped, parse_line, Line}
 use Rattle.ci_yaml.specs.Reading.{State, run}
-use Rattle.ci_yaml.specs.Least.{number_of, lesser, least, least_of}
-use Rattle.ci_yaml.specs.Document.{Line, Ending, outside, within, ending_of, IsOutside, is_in_block, block_codes, literal, filled, last_column, AreBlock, EndsBlock, Says, none, line, block, place_codes, Holds, of_block, of_line, of_place, IsLeast}
+use Rattle.ci_yaml_lines.specs.Least.{number_of, lesser, least, least_of}
+use Rattle.ci_yaml.specs.Block.{is_in_block, block_codes, literal, AreBlock, EndsBlock}
+use Rattle.ci_yaml.specs.Document.{Ending, outside, within, ending_of, IsOutside, filled, last_column, Parses, none, line, block, place_codes, Holds, of_block, of_line, of_place, IsLeast}
 use Rattle.ci_yaml.specs.ReadLines.{Reader, with_text, stop_or, content_by, content, line_by, line_next}
 use Rattle.ci_yaml.proofs.Sound.{StateStands}
-use Rattle.ci_yaml.proofs.LinesSound.{no_least, LinesStand}
-use Rattle.ci_yaml.proofs.Leasts.{least_append}
+use Rattle.ci_yaml_lines.proofs.Leasts.{no_least, least_append}
+use Rattle.ci_yaml.proofs.LinesSound.{LinesStand}
 use Rattle.ci_yaml.proofs.Headers.{entries-same}
 use Rattle.ci_yaml.proofs.PlaceCodes.{fault_of, HasGiven, AllGiven, run-code}
+use Rattle.ci_yaml_lines.proofs.Forms.{OfForms, OfLines, written_at-each, line-each}
+use Rattle.ci_yaml.proofs.Trees.{some_is}
 
 -- ---- what lines say is one thing
 
@@ -29,44 +32,41 @@ front-same c before (l ∷ a) (m ∷ b) rest more p q e f is =
     let r = front-same c (before ++ l ∷ []) a b rest more p.2 (subst (λ (x : Line). AreBlock c (before ++ x ∷ []) b) (sym heads) q.2) e f tails in
     (ap (λ (x : Line). x ∷ a) heads ∙ ap (λ (x : List Line). m ∷ x) r.0, r.1)
 
-pub says-same : (ls ms : List Line) (es fs : List Entry) (d e : Ending) → Says ls es d → Says ms fs e → ls ≡ ms → (es ≡ fs) × (d ≡ e)
-says-same ls ms es fs d e none none is = (refl, refl)
-says-same ls ms es fs d e none (line m rest es' all end' clean no_header says all-is) is = absurd cc
-says-same ls ms es fs d e none (block m lines rest below how es' all end' last clean header parts are ends says all-is last-is) is = absurd cc
-says-same ls ms es fs d e (line m rest es' all end' clean no_header says all-is) none is = absurd cc
-says-same ls ms es fs d e (block m lines rest below how es' all end' last clean header parts are ends says all-is last-is) none is = absurd cc
-says-same ls ms es fs d e (line m rest es' all end' clean no_header says all-is) (line m2 rest2 es2 all2 end2 clean2 no_header2 says2 all-is2) is =
+pub parses-same : (ls ms : List Line) (es fs : List Entry) (d e : Ending) → Parses ls es d → Parses ms fs e → ls ≡ ms → (es ≡ fs) × (d ≡ e)
+parses-same ls ms es fs d e none none is = (refl, refl)
+parses-same ls ms es fs d e none (line m rest es' all end' clean no_header parses all-is) is = absurd cc
+parses-same ls ms es fs d e none (block m lines rest below how es' all end' last clean header parts are ends parses all-is last-is) is = absurd cc
+parses-same ls ms es fs d e (line m rest es' all end' clean no_header parses all-is) none is = absurd cc
+parses-same ls ms es fs d e (block m lines rest below how es' all end' last clean header parts are ends parses all-is last-is) none is = absurd cc
+parses-same ls ms es fs d e (line m rest es' all end' clean no_header parses all-is) (line m2 rest2 es2 all2 end2 clean2 no_header2 says2 all-is2) is =
     let heads : m ≡ m2 = cc in
     let tails : rest ≡ rest2 = cc in
-    let r = says-same rest rest2 es' es2 end' end2 says says2 tails in
-    (all-is ∙ ap (λ (x : Line). (line_spoken x).entries ++ es') heads ∙ ap (λ (x : List Entry). (line_spoken m2).entries ++ x) r.0 ∙ sym all-is2, r.1)
-says-same ls ms es fs d e (line m rest es' all end' clean no_header says all-is) (block m2 lines2 rest2 below2 how2 es2 all2 end2 last2 clean2 header2 parts2 are2 ends2 says2 all-is2 last-is2) is =
+    let r = parses-same rest rest2 es' es2 end' end2 parses says2 tails in
+    (all-is ∙ ap (λ (x : Line). (parse_line x).entries ++ es') heads ∙ ap (λ (x : List Entry). (parse_line m2).entries ++ x) r.0 ∙ sym all-is2, r.1)
+parses-same ls ms es fs d e (line m rest es' all end' clean no_header parses all-is) (block m2 lines2 rest2 below2 how2 es2 all2 end2 last2 clean2 header2 parts2 are2 ends2 says2 all-is2 last-is2) is =
     let heads : m ≡ m2 = cc in
-    let no : Some how2 ≡ None = sym header2 ∙ ap (λ (x : Line). (line_spoken x).header) (sym heads) ∙ no_header in
+    let no : Some how2 ≡ None = sym header2 ∙ ap (λ (x : Line). (parse_line x).header) (sym heads) ∙ no_header in
     absurd cc
-says-same ls ms es fs d e (block m lines rest below how es' all end' last clean header parts are ends says all-is last-is) (line m2 rest2 es2 all2 end2 clean2 no_header2 says2 all-is2) is =
+parses-same ls ms es fs d e (block m lines rest below how es' all end' last clean header parts are ends parses all-is last-is) (line m2 rest2 es2 all2 end2 clean2 no_header2 says2 all-is2) is =
     let heads : m ≡ m2 = cc in
-    let no : Some how ≡ None = sym header ∙ ap (λ (x : Line). (line_spoken x).header) heads ∙ no_header2 in
+    let no : Some how ≡ None = sym header ∙ ap (λ (x : Line). (parse_line x).header) heads ∙ no_header2 in
     absurd cc
-says-same ls ms es fs d e (block m lines rest below how es' all end' last clean header parts are ends says all-is last-is) (block m2 lines2 rest2 below2 how2 es2 all2 end2 last2 clean2 header2 parts2 are2 ends2 says2 all-is2 last-is2) is =
+parses-same ls ms es fs d e (block m lines rest below how es' all end' last clean header parts are ends parses all-is last-is) (block m2 lines2 rest2 below2 how2 es2 all2 end2 last2 clean2 header2 parts2 are2 ends2 says2 all-is2 last-is2) is =
     let heads : m ≡ m2 = cc in
     let tails : below ≡ below2 = cc in
-    let col : ℕ = last_column (line_spoken m).entries in
-    let cols : last_column (line_spoken m2).entries ≡ last_column (line_spoken m).entries = ap (λ (x : Line). last_column (line_spoken x).entries) (sym heads) in
-    let hows : how ≡ how2 = some-same how how2 (sym header ∙ ap (λ (x : Line). (line_spoken x).header) heads ∙ header2) in
+    let col : ℕ = last_column (parse_line m).entries in
+    let cols : last_column (parse_line m2).entries ≡ last_column (parse_line m).entries = ap (λ (x : Line). last_column (parse_line x).entries) (sym heads) in
+    let hows : how ≡ how2 = some_is how how2 (sym header ∙ ap (λ (x : Line). (parse_line x).header) heads ∙ header2) in
     let f = front-same col [] lines lines2 rest rest2 are (subst (λ n. AreBlock n [] lines2) cols are2) ends (subst (λ n. EndsBlock n rest2) cols ends2) (sym parts ∙ tails ∙ parts2) in
-    let r = says-same rest rest2 es' es2 end' end2 says says2 f.1 in (
-      all-is ∙ ap (λ (x : Line). filled (line_spoken x).entries (literal how lines) ++ es') heads
-          ∙ ap (λ (h : Chomp). filled (line_spoken m2).entries (literal h lines) ++ es') hows
-          ∙ ap (λ (x : List Line). filled (line_spoken m2).entries (literal how2 x) ++ es') f.0
-          ∙ ap (λ (x : List Entry). filled (line_spoken m2).entries (literal how2 lines2) ++ x) r.0 ∙ sym all-is2,
+    let r = parses-same rest rest2 es' es2 end' end2 parses says2 f.1 in (
+      all-is ∙ ap (λ (x : Line). filled (parse_line x).entries (literal how lines) ++ es') heads
+          ∙ ap (λ (h : Chomp). filled (parse_line m2).entries (literal h lines) ++ es') hows
+          ∙ ap (λ (x : List Line). filled (parse_line m2).entries (literal how2 x) ++ es') f.0
+          ∙ ap (λ (x : List Entry). filled (parse_line m2).entries (literal how2 lines2) ++ x) r.0 ∙ sym all-is2,
       last-is ∙ ap (λ (x : List Line). ending_of x how col lines end') f.1 ∙ ap (λ (h : Chomp). ending_of rest2 h col lines end') hows
-          ∙ ap (λ n. ending_of rest2 how2 n lines end') (sym cols) ∙ ap (λ (x : List Line). ending_of rest2 how2 (last_column (line_spoken m2).entries) x end') f.0
-          ∙ ap (λ (x : Ending). ending_of rest2 how2 (last_column (line_spoken m2).entries) lines2 x) r.1 ∙ sym last-is2,
+          ∙ ap (λ n. ending_of rest2 how2 n lines end') (sym cols) ∙ ap (λ (x : List Line). ending_of rest2 how2 (last_column (parse_line m2).entries) x end') f.0
+          ∙ ap (λ (x : Ending). ending_of rest2 how2 (last_column (parse_line m2).entries) lines2 x) r.1 ∙ sym last-is2,
     )
-  where
-    some-same : (x y : Chomp) → Some x ≡ Some y → x ≡ y
-    some-same x y e = cc
 
 -- ---- the least of a list
 
@@ -88,12 +88,9 @@ lesser-second c d = by (nat_le (number_of c) (number_of d)) refl
 contains-more : (d : Code) (cs : List Code) (c : Code) → Contains cs c → Contains (d ∷ cs) c
 contains-more d cs c h = (suc h.0, omega (arith, h.1), h.2)
 
-some-is : (c d : Code) → Some c ≡ Some d → c ≡ d
-some-is c d e = cc
-
 least-in : (cs : List Code) (c : Code) → least cs ≡ Some c → Contains cs c
 least-in [] c e = absurd cc
-least-in (d ∷ cs) c e = by (least cs) (λ x is. least-in cs x is) refl (some-is (lesser d (least cs)) c e)
+least-in (d ∷ cs) c e = by (least cs) (λ x is. least-in cs x is) refl (some_is (lesser d (least cs)) c e)
   where
     chosen : (x : Code) (b : Bool) → Contains cs x → cond b d x ≡ c → Contains (d ∷ cs) c
     chosen x true has e = (0, omega arith, e)
@@ -108,7 +105,7 @@ least-under [] c d e h = absurd cc
 least-under (x ∷ cs) c d e h = at (λ y is. least-under cs y d is) h.0 h.1 h.2
   where
     c-is : lesser x (least cs) ≡ c
-    c-is = some-is (lesser x (least cs)) c e
+    c-is = some_is (lesser x (least cs)) c e
 
     later : ((y : Code) → least cs ≡ Some y → Contains cs d → number_of y ≤ number_of d) → (o : Option Code) (k : ℕ) → least cs ≡ o → k < length cs → slice_index_or cs k d ≡ d → lesser x o ≡ c
         → number_of c ≤ number_of d
@@ -148,57 +145,29 @@ in-either (x ∷ xs) ys c h = at (in-either xs ys c) h.0 h.1 h.2
 
 -- ---- an entry without dash and key has a value
 
-either-given : (b : Bool) (x y : Written) → HasGiven bare x.given → HasGiven bare y.given → HasGiven bare (cond b x y).given
-either-given true x y p q = p
-either-given false x y p q = q
+abbrev WrittenGiven : Written → Type 0
+WrittenGiven w = HasGiven bare w.given
 
-quoted-given : (q : Option Quoted) → HasGiven bare (written_quoted q).given
-quoted-given None = tt
-quoted-given (Some q) = tt
+forms-given : OfForms WrittenGiven
+forms-given = record { in_quotes = λ q. quoted-given q; in_list = λ w. tt; in_block = λ how last bs. tt; plain = λ raw. tt }
+  where
+    quoted-given : (q : Option Quoted) → WrittenGiven (written_quoted q)
+    quoted-given None = tt
+    quoted-given (Some q) = tt
 
-header-given : (bs : List ℕ) → HasGiven bare (header_of bs).given
-header-given [] = tt
-header-given (b ∷ bs) =
-    either-given (b == 45) (header_rest strip 45 bs) (cond (b == 43) (header_rest keep 43 bs) (header_rest clip 124 (b ∷ bs))) tt
-    (either-given (b == 43) (header_rest keep 43 bs) (header_rest clip 124 (b ∷ bs)) tt tt)
+abbrev ParsedGiven : ParsedLine → Type 0
+ParsedGiven s = AllGiven s.entries
 
-written-given : (w : List ℕ) → HasGiven bare (written_at w).given
-written-given w =
-    let plain : Written = written_plain (before_comment 0 w) in
-    let header : Written = cond (head_is 124 w) (header_of (tail_of w)) plain in
-    let list : Written = cond (head_is 91 w) (written_list (listed w)) header in
-    either-given (is_quote w) (written_quoted (quoted w)) list (quoted-given (quoted w))
-    (either-given (head_is 91 w) (written_list (listed w)) header tt (either-given (head_is 124 w) (header_of (tail_of w)) plain (header-given (tail_of w)) tt))
-
-either-all : (b : Bool) (x y : Spoken) → AllGiven x.entries → AllGiven y.entries → AllGiven (cond b x y).entries
-either-all true x y p q = p
-either-all false x y p q = q
-
-keyed-all : (c : ℕ) (w : List ℕ) (k : Option Keyed) → AllGiven (keyed_or_bare c w k).entries
-keyed-all c w None = (written-given w, tt)
-keyed-all c w (Some k) = (tt, tt)
-
-dashed-all : (c : ℕ) (i : Item) (more : ℕ → List ℕ → Spoken) → ((d : ℕ) (t : List ℕ) → AllGiven (more d t).entries) → AllGiven (dashed c i more).entries
-dashed-all c (inner k t) more ih = (tt, ih _ t)
-dashed-all c (value w) more ih = (tt, tt)
-
-spoken-all : (n c : ℕ) (w : List ℕ) → AllGiven (spoken n c w).entries
-spoken-all zero c w = tt
-spoken-all (suc n) c w =
-    either-all (is_dash w) (dashed c (item (tail_of w)) (λ d t. spoken n d t)) (keyed_or_bare c w (keyed w))
-    (dashed-all c (item (tail_of w)) (λ d t. spoken n d t) (λ d t. spoken-all n d t)) (keyed-all c w (keyed w))
-
-content-all : (c : ℕ) (w : List ℕ) → AllGiven (content_spoken c w).entries
-content-all c w =
-    let tab : Spoken = record { entries = []; header = None; codes = Y2 ∷ [] } in
-    let body : Spoken = with_codes (when ((c == 0) && is_document_mark w) Y9) (spoken (suc (length w)) c w) in
-    either-all (head_is 9 w) tab body tt (spoken-all (suc (length w)) c w)
-
-line-all : (l : Line) → AllGiven (line_spoken l).entries
-line-all l =
-    let skip : Spoken = record { entries = []; header = None; codes = [] } in
-    let w : List ℕ = trim_end (drop (spaces l) l) in
-    either-all (is_skipped l) skip (content_spoken (spaces l) w) tt (content-all (spaces l) w)
+lines-given : OfLines ParsedGiven
+lines-given = record {
+  empty = λ cs. tt;
+  bare_value = λ c w. (written_at-each WrittenGiven forms-given w, tt);
+  key_value = λ c k. (tt, tt);
+  item_value = λ c bs. (tt, tt);
+  no_value = λ c cs. (tt, tt);
+  behind_dash = λ c s p. (tt, p);
+  more_codes = λ cs s p. p;
+}
 
 -- ---- one line
 
@@ -206,62 +175,62 @@ stop-code : (o : Option Code) (r : Reader) → fault_of (stop_or o r) ≡ o
 stop-code None r = refl
 stop-code (Some c) r = refl
 
-content-by-code : (res : Result State Code) (sp : Spoken) → fault_of (content_by res sp) ≡ least_of (fault_of res) (least sp.codes)
+content-by-code : (res : Result State Code) (sp : ParsedLine) → fault_of (content_by res sp) ≡ least_of (fault_of res) (least sp.codes)
 content-by-code (Ok s) sp = stop-code (least sp.codes) _
 content-by-code (Err c) sp = refl
 
-content-code : (st : State) (es : List Entry) (l : Line) → StateStands st es → fault_of (content st (line_spoken l)) ≡ least (place_codes es (line_spoken l).entries ++ (line_spoken l).codes)
+content-code : (st : State) (es : List Entry) (l : Line) → StateStands st es → fault_of (content st (parse_line l)) ≡ least (place_codes es (parse_line l).entries ++ (parse_line l).codes)
 content-code st es l h =
-    let own : List Entry = (line_spoken l).entries in
-    ap (λ (x : List Entry). fault_of (content_by (run st x) (line_spoken l))) (entries-same l)
-    ∙ content-by-code (run st own) (line_spoken l)
-    ∙ ap (λ o. least_of o (least (line_spoken l).codes)) (run-code st es own h (line-all l))
-    ∙ sym (least_append (place_codes es own) (line_spoken l).codes)
+    let own : List Entry = (parse_line l).entries in
+    ap (λ (x : List Entry). fault_of (content_by (run st x) (parse_line l))) (entries-same l)
+    ∙ content-by-code (run st own) (parse_line l)
+    ∙ ap (λ o. least_of o (least (parse_line l).codes)) (run-code st es own h (line-each ParsedGiven lines-given l))
+    ∙ sym (least_append (place_codes es own) (parse_line l).codes)
 
 outside-least : (before : List Line) (l : Line) (st : State) (end : Ending) (code : Code) → LinesStand (record { state = st; end = end }) before → IsOutside end l
-    → content st (line_spoken l) ≡ Err code → IsLeast before l code
+    → content st (parse_line l) ≡ Err code → IsLeast before l code
 outside-least before l st end code h out e =
-    let places : List Code = place_codes h.entries (line_spoken l).entries in
-    let own : List Code = (line_spoken l).codes in
+    let places : List Code = place_codes h.entries (parse_line l).entries in
+    let own : List Code = (parse_line l).codes in
     let first : least (places ++ own) ≡ Some code = sym (content-code st h.entries l h.stands) ∙ ap fault_of e in
     record {
       holds = elim (in-either places own code (least-in (places ++ own) code first)) [
-        | inl p ↦ of_place h.entries end h.says out p
-        | inr p ↦ of_line h.entries end h.says out p
+        | inl p ↦ of_place h.entries end h.parses out p
+        | inr p ↦ of_line h.entries end h.parses out p
       ];
       least = λ other has. under other has first;
     }
   where
-    under : (other : Code) → Holds before l other → least (place_codes h.entries (line_spoken l).entries ++ (line_spoken l).codes) ≡ Some code → number_of code ≤ number_of other
-    under other (of_block fs how c lines says inside_it has) first =
-        let same = says-same before before h.entries fs end (within how c lines) h.says says refl in
+    under : (other : Code) → Holds before l other → least (place_codes h.entries (parse_line l).entries ++ (parse_line l).codes) ≡ Some code → number_of code ≤ number_of other
+    under other (of_block fs how c lines parses inside_it has) first =
+        let same = parses-same before before h.entries fs end (within how c lines) h.parses parses refl in
         let no : is_in_block c l ≡ false = subst (λ (x : Ending). IsOutside x l) same.1 out in
         absurd cc
-    under other (of_line fs end' says out' has) first = least-under _ code other first (in-second (place_codes h.entries (line_spoken l).entries) (line_spoken l).codes other has)
-    under other (of_place fs end' says out' has) first =
-        let same = says-same before before h.entries fs end end' h.says says refl in
-        least-under _ code other first (in-first (place_codes h.entries (line_spoken l).entries) (line_spoken l).codes other
-        (subst (λ (x : List Entry). Contains (place_codes x (line_spoken l).entries) other) (sym same.0) has))
+    under other (of_line fs end' parses out' has) first = least-under _ code other first (in-second (place_codes h.entries (parse_line l).entries) (parse_line l).codes other has)
+    under other (of_place fs end' parses out' has) first =
+        let same = parses-same before before h.entries fs end end' h.parses parses refl in
+        least-under _ code other first (in-first (place_codes h.entries (parse_line l).entries) (parse_line l).codes other
+        (subst (λ (x : List Entry). Contains (place_codes x (parse_line l).entries) other) (sym same.0) has))
 
 inside-least : (before : List Line) (l : Line) (st : State) (how : Chomp) (c : ℕ) (so_far : List Line) (code : Code) → LinesStand (record { state = st; end = within how c so_far }) before
     → is_in_block c l ≡ true → least (block_codes so_far l) ≡ Some code → IsLeast before l code
 inside-least before l st how c so_far code h inside_it first = record {
-  holds = of_block h.entries how c so_far h.says inside_it (least-in (block_codes so_far l) code first);
+  holds = of_block h.entries how c so_far h.parses inside_it (least-in (block_codes so_far l) code first);
   least = λ other has. under other has;
 }
   where
     under : (other : Code) → Holds before l other → number_of code ≤ number_of other
-    under other (of_block fs how' c' lines says inside' has) =
-        let same = says-same before before h.entries fs (within how c so_far) (within how' c' lines) h.says says refl in
+    under other (of_block fs how' c' lines parses inside' has) =
+        let same = parses-same before before h.entries fs (within how c so_far) (within how' c' lines) h.parses parses refl in
         let is : within how c so_far ≡ within how' c' lines = same.1 in
         let lines-is : so_far ≡ lines = cc in
         least-under (block_codes so_far l) code other first (subst (λ (x : List Line). Contains (block_codes x l) other) (sym lines-is) has)
-    under other (of_line fs end' says out' has) =
-        let same = says-same before before h.entries fs (within how c so_far) end' h.says says refl in
+    under other (of_line fs end' parses out' has) =
+        let same = parses-same before before h.entries fs (within how c so_far) end' h.parses parses refl in
         let no : is_in_block c l ≡ false = subst (λ (x : Ending). IsOutside x l) (sym same.1) out' in
         absurd cc
-    under other (of_place fs end' says out' has) =
-        let same = says-same before before h.entries fs (within how c so_far) end' h.says says refl in
+    under other (of_place fs end' parses out' has) =
+        let same = parses-same before before h.entries fs (within how c so_far) end' h.parses parses refl in
         let no : is_in_block c l ≡ false = subst (λ (x : Ending). IsOutside x l) (sym same.1) out' in
         absurd cc
 
@@ -270,7 +239,7 @@ line-least before l st outside code h e = outside-least before l st outside code
 line-least before l st (within how c so_far) code h e = by (is_in_block c l) refl e
   where
     by : (b : Bool) → is_in_block c l ≡ b
-        → cond b (stop_or (least (block_codes so_far l)) (record { state = with_text (literal how (so_far ++ l ∷ [])) st; end = within how c (so_far ++ l ∷ []) })) (content st (line_spoken l)) ≡ Err code
+        → cond b (stop_or (least (block_codes so_far l)) (record { state = with_text (literal how (so_far ++ l ∷ [])) st; end = within how c (so_far ++ l ∷ []) })) (content st (parse_line l)) ≡ Err code
         → IsLeast before l code
     by true is e = inside-least before l st how c so_far code h is (sym (stop-code (least (block_codes so_far l)) _) ∙ ap fault_of e)
     by false is e = outside-least before l st (within how c so_far) code h is e

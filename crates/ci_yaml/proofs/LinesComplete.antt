@@ -2,16 +2,18 @@
 use Rattle.std.proofs.Common.{◌≡◌, ℕ, Bool, true, false, cond, List, [], ◌∷◌, ◌++◌, length, Some, Result, Ok, Err, refl, sym, ◌∙◌, ap, subst, append_assoc}
 use Rattle.std.specs.Prelude.{⊤, ◌==◌, nat_lt}
 use Rattle.std.proofs.lemmas.List.{append-nil}
-use Rattle.ci_yaml.specs.declared.fault.Code.{Code}
-use Rattle.ci_yaml.specs.declared.fault.Code.TheVariants.{Y3, Y5, Y10}
-use Rattle.ci_yaml.specs.Tree.{Kind, sequence, mapping, Value, text, no_members}
-use Rattle.ci_yaml.specs.Entry.{Head, dash, key, bare, Entry, level_of}
-use Rattle.ci_yaml.specs.Line.{Chomp, line_spoken}
-use Rattle.ci_yaml.specs.Reading.{◌>>=◌, push, Frame, level, State, start, whole, inside, settle, value_of, misplaced, begun, is_repeated, joined, begins, member_next, bare_next, next_by, next, run}
-use Rattle.ci_yaml.specs.Document.{Line, Ending, outside, within, ending_of, IsOutside, block_codes, literal, filled, entries_with, last_column, AreBlock, EndsBlock, Says, none, line, block}
-use Rattle.ci_yaml.specs.Least.{least}
+use Rattle.ci_yaml_lines.specs.declared.code.Code.{Code}
+use Rattle.ci_yaml_lines.specs.declared.code.Code.TheVariants.{Y3, Y5, Y10}
+use Rattle.ci_yaml_lines.specs.Tree.{Kind, sequence, mapping, Value, text, no_members, push}
+use Rattle.ci_yaml_lines.specs.Entry.{Head, dash, key, bare, Entry, level_of}
+use Rattle.ci_yaml_lines.specs.Line.{Chomp, parse_line, Line}
+use Rattle.ci_yaml.specs.Reading.{◌>>=◌, Frame, level, State, start, whole, inside, settle, value_of, misplaced, begun, is_repeated, joined, begins, member_next, bare_next, next_by, next, run}
+use Rattle.ci_yaml.specs.Block.{block_codes, literal, AreBlock, EndsBlock}
+use Rattle.ci_yaml.specs.Document.{Ending, outside, within, ending_of, IsOutside, filled, entries_with, last_column, Parses, none, line, block}
+use Rattle.ci_yaml_lines.specs.Least.{least}
 use Rattle.ci_yaml.specs.ReadLines.{Reader, with_text, stop_or, ending_at, content_by, content, line_by, line_next, read_lines}
-use Rattle.ci_yaml.proofs.LinesSound.{spoken_entries, spoken_end, NotEmpty, header-fits}
+use Rattle.ci_yaml.proofs.LinesSound.{parsed_entries, parsed_end, NotEmpty, header-fits}
+use Rattle.ci_yaml.specs.Stops.{StartsOutside}
 
 abbrev pub mapped : List ℕ → Result State Code → Result State Code
 mapped u (Ok s) = Ok (with_text u s)
@@ -95,33 +97,28 @@ block-read st how c so_far (l ∷ ls) rest are =
     let u : List ℕ = literal how (so_far ++ l ∷ []) in
     let old : State = with_text t st in
     let one : line_next (record { state = old; end = within how c so_far }) l ≡ Ok (record { state = with_text u st; end = within how c (so_far ++ l ∷ []) }) =
-    ap (λ b. cond b (stop_or (least (block_codes so_far l)) (record { state = with_text u old; end = within how c (so_far ++ l ∷ []) })) (content old (line_spoken l))) are.0
+    ap (λ b. cond b (stop_or (least (block_codes so_far l)) (record { state = with_text u old; end = within how c (so_far ++ l ∷ []) })) (content old (parse_line l))) are.0
     ∙ ap (λ cs. stop_or (least cs) (record { state = with_text u old; end = within how c (so_far ++ l ∷ []) })) are.1
     ∙ ap (λ (s : State). Ok (record { state = s; end = within how c (so_far ++ l ∷ []) })) (twice t u st) in
     read-step (record { state = old; end = within how c so_far }) (record { state = with_text u st; end = within how c (so_far ++ l ∷ []) }) l (ls ++ rest) one
     ∙ block-read st how c (so_far ++ l ∷ []) ls rest are.2
     ∙ ap (λ (x : List Line). read_lines (record { state = with_text (literal how x) st; end = within how c x }) rest) (append_assoc so_far (l ∷ []) ls)
 
--- the first of these lines is in no block that is open
-abbrev pub StartsOutside : Ending → List Line → Type 0
-StartsOutside end [] = ⊤
-StartsOutside end (l ∷ ls) = IsOutside end l
-
 -- the ending after lines, at least one of which came
 abbrev pub end_after : Ending → List Line → Ending → Ending
 end_after old [] new = old
 end_after old (l ∷ ls) new = new
 
-pub outside-next : (end : Ending) (s : State) (l : Line) → IsOutside end l → line_by end s l ≡ content s (line_spoken l)
+pub outside-next : (end : Ending) (s : State) (l : Line) → IsOutside end l → line_by end s l ≡ content s (parse_line l)
 outside-next outside s l out = refl
 outside-next (within how c so_far) s l out =
-    ap (λ b. cond b (stop_or (least (block_codes so_far l)) (record { state = with_text (literal how (so_far ++ l ∷ [])) s; end = within how c (so_far ++ l ∷ []) })) (content s (line_spoken l))) out
+    ap (λ b. cond b (stop_or (least (block_codes so_far l)) (record { state = with_text (literal how (so_far ++ l ∷ [])) s; end = within how c (so_far ++ l ∷ []) })) (content s (parse_line l))) out
 
-content-read : (r : Reader) (l : Line) (t : State) → IsOutside r.end l → (line_spoken l).codes ≡ [] → run r.state (spoken_entries l) ≡ Ok t
-    → line_next r l ≡ Ok (record { state = t; end = spoken_end l })
+content-read : (r : Reader) (l : Line) (t : State) → IsOutside r.end l → (parse_line l).codes ≡ [] → run r.state (parsed_entries l) ≡ Ok t
+    → line_next r l ≡ Ok (record { state = t; end = parsed_end l })
 content-read r l t out clean ran =
-    outside-next r.end r.state l out ∙ ap (λ (x : Result State Code). content_by x (line_spoken l)) ran
-    ∙ ap (λ cs. stop_or (least cs) (record { state = t; end = spoken_end l })) clean
+    outside-next r.end r.state l out ∙ ap (λ (x : Result State Code). content_by x (parse_line l)) ran
+    ∙ ap (λ cs. stop_or (least cs) (record { state = t; end = parsed_end l })) clean
 
 -- a run of entries in two parts
 parts-by : (r : Result State Code) (es : List Entry) (s : State) → (r >>= λ t. run t es) ≡ Ok s → (t : State) × (r ≡ Ok t) × (run t es ≡ Ok s)
@@ -139,7 +136,7 @@ from-mapped : (u : List ℕ) (x : Result State Code) (s : State) → mapped u x 
 from-mapped u (Ok t) s e = (t, refl, cc)
 from-mapped u (Err c) s e = absurd cc
 
-starts-from : (how : Chomp) (c : ℕ) (so_far rest : List Line) → EndsBlock c rest → StartsOutside (within how c so_far) rest
+pub starts-from : (how : Chomp) (c : ℕ) (so_far rest : List Line) → EndsBlock c rest → StartsOutside (within how c so_far) rest
 starts-from how c so_far [] h = tt
 starts-from how c so_far (l ∷ rest) h = h
 
@@ -152,10 +149,10 @@ end-is [] lines how c end = refl
 end-is (l ∷ rest) lines how c end = refl
 
 -- lines without one end outside
-line-end-by : (ls : List Line) (es : List Entry) (end : Ending) → Says ls es end → end_after outside ls end ≡ end
+line-end-by : (ls : List Line) (es : List Entry) (end : Ending) → Parses ls es end → end_after outside ls end ≡ end
 line-end-by ls es end none = refl
-line-end-by ls es end (line l rest es' all end' clean no_header says all-is) = refl
-line-end-by ls es end (block l lines rest below how es' all end' last clean header parts are ends says all-is last-is) = refl
+line-end-by ls es end (line l rest es' all end' clean no_header parses all-is) = refl
+line-end-by ls es end (block l lines rest below how es' all end' last clean header parts are ends parses all-is last-is) = refl
 
 -- a filled last entry holds the text that fills it
 pub same-mapped : (t : List ℕ) (x : Result State Code) (s : State) → x ≡ mapped t x → x ≡ Ok s → s ≡ with_text t s
@@ -163,33 +160,33 @@ same-mapped t (Ok u) s e is = let same : u ≡ s = cc in let e' : u ≡ with_tex
 same-mapped t (Err c) s e is = absurd cc
 
 -- Lines whose entries can be read are read.
-pub says-read : (ls : List Line) (es : List Entry) (end : Ending) (r : Reader) (s : State) → Says ls es end → StartsOutside r.end ls → run r.state es ≡ Ok s
+pub parses-read : (ls : List Line) (es : List Entry) (end : Ending) (r : Reader) (s : State) → Parses ls es end → StartsOutside r.end ls → run r.state es ≡ Ok s
     → read_lines r ls ≡ Ok (record { state = s; end = end_after r.end ls end })
-says-read ls es end r s none out ran = let same : r.state ≡ s = cc in ap (λ (x : State). Ok (record { state = x; end = r.end })) same
-says-read ls es end r s (line l rest es' all end' clean no_header says all-is) out ran =
-    let p = run-parts r.state (line_spoken l).entries es' s (ap (run r.state) (sym all-is) ∙ ran) in
-    let own : spoken_entries l ≡ (line_spoken l).entries = ap (λ h. entries_with h (line_spoken l).entries []) no_header in
-    let open_end : spoken_end l ≡ outside = ap (λ h. ending_at h (last_column (line_spoken l).entries)) no_header in
+parses-read ls es end r s none out ran = let same : r.state ≡ s = cc in ap (λ (x : State). Ok (record { state = x; end = r.end })) same
+parses-read ls es end r s (line l rest es' all end' clean no_header parses all-is) out ran =
+    let p = run-parts r.state (parse_line l).entries es' s (ap (run r.state) (sym all-is) ∙ ran) in
+    let own : parsed_entries l ≡ (parse_line l).entries = ap (λ h. entries_with h (parse_line l).entries []) no_header in
+    let open_end : parsed_end l ≡ outside = ap (λ h. ending_at h (last_column (parse_line l).entries)) no_header in
     let one = content-read r l p.0 out clean (ap (run r.state) own ∙ p.1) in
-    read-step r (record { state = p.0; end = spoken_end l }) l rest one
+    read-step r (record { state = p.0; end = parsed_end l }) l rest one
     ∙ ap (λ (x : Ending). read_lines (record { state = p.0; end = x }) rest) open_end
-    ∙ says-read rest es' end' (record { state = p.0; end = outside }) s says (starts-anywhere rest) p.2
-    ∙ ap (λ (x : Ending). Ok (record { state = s; end = x })) (line-end-by rest es' end' says)
-says-read ls es end r s (block l lines rest below how es' all end' last clean header parts are ends says all-is last-is) out ran =
-    let heads : List Entry = (line_spoken l).entries in
-    let c : ℕ = last_column (line_spoken l).entries in
+    ∙ parses-read rest es' end' (record { state = p.0; end = outside }) s parses (starts-anywhere rest) p.2
+    ∙ ap (λ (x : Ending). Ok (record { state = s; end = x })) (line-end-by rest es' end' parses)
+parses-read ls es end r s (block l lines rest below how es' all end' last clean header parts are ends parses all-is last-is) out ran =
+    let heads : List Entry = (parse_line l).entries in
+    let c : ℕ = last_column (parse_line l).entries in
     let t : List ℕ = literal how lines in
     let p = run-parts r.state (filled heads t) es' s (ap (run r.state) (sym all-is) ∙ ran) in
     let m = from-mapped t (run r.state (filled heads (literal how []))) p.0 (sym (run-filled r.state heads (literal how []) t (header-fits l how header)) ∙ p.1) in
-    let own : spoken_entries l ≡ filled heads (literal how []) = ap (λ h. entries_with h heads []) header in
-    let at_end : spoken_end l ≡ within how c [] = ap (λ h. ending_at h c) header in
+    let own : parsed_entries l ≡ filled heads (literal how []) = ap (λ h. entries_with h heads []) header in
+    let at_end : parsed_end l ≡ within how c [] = ap (λ h. ending_at h c) header in
     let one = content-read r l m.0 out clean (ap (run r.state) own ∙ m.1) in
     let same : m.0 ≡ with_text (literal how []) m.0 = same-mapped (literal how []) (run r.state (filled heads (literal how []))) m.0 (run-filled r.state heads (literal how []) (literal how []) (header-fits l how header)) m.1 in
-    read-step r (record { state = m.0; end = spoken_end l }) l below one
-    ∙ ap (λ (x : List Line). read_lines (record { state = m.0; end = spoken_end l }) x) parts
+    read-step r (record { state = m.0; end = parsed_end l }) l below one
+    ∙ ap (λ (x : List Line). read_lines (record { state = m.0; end = parsed_end l }) x) parts
     ∙ ap (λ (x : Ending). read_lines (record { state = m.0; end = x }) (lines ++ rest)) at_end
     ∙ ap (λ (x : State). read_lines (record { state = x; end = within how c [] }) (lines ++ rest)) same
     ∙ block-read m.0 how c [] lines rest are
     ∙ ap (λ (x : State). read_lines (record { state = x; end = within how c lines }) rest) m.2
-    ∙ says-read rest es' end' (record { state = p.0; end = within how c lines }) s says (starts-from how c lines rest ends) p.2
+    ∙ parses-read rest es' end' (record { state = p.0; end = within how c lines }) s parses (starts-from how c lines rest ends) p.2
     ∙ ap (λ (x : Ending). Ok (record { state = s; end = x })) (end-is rest lines how c end' ∙ sym last-is)

@@ -1,75 +1,66 @@
 -- What is read of lines stands over entries that the lines say.
 use Rattle.std.proofs.Common.{◌≡◌, ℕ, suc, Bool, true, false, cond, List, [], ◌∷◌, ◌++◌, length, drop, Option, Some, None, Result, Ok, Err, refl, sym, ◌∙◌, ap, subst, append_assoc}
-use Rattle.std.specs.Prelude.{⊤}
+use Rattle.std.specs.Prelude.{⊤, ◌==◌, ◌&&◌}
 use Rattle.std.proofs.lemmas.List.{append-nil}
-use Rattle.ci_yaml.specs.declared.fault.Code.{Code}
-use Rattle.ci_yaml.specs.Tree.{Value, text}
-use Rattle.ci_yaml.specs.Entry.{Entry}
-use Rattle.std.specs.Prelude.{◌==◌, ◌&&◌}
-use Rattle.ci_yaml.specs.declared.fault.Code.TheVariants.{Y2, Y9}
-use Rattle.ci_yaml.specs.Scalar.{trim_end, head_is, tail_of, when}
-use Rattle.ci_yaml.specs.Line.{Chomp, Spoken, line_spoken, Keyed, keyed, keyed_or_bare, is_dash, spaces, Item, inner, value, item, dashed, spoken, content_spoken, with_codes, is_document_mark, is_skipped}
+use Rattle.ci_yaml_lines.specs.declared.code.Code.{Code}
+use Rattle.ci_yaml_lines.specs.Tree.{Value, text}
+use Rattle.ci_yaml_lines.specs.Entry.{Entry}
+use Rattle.ci_yaml_lines.specs.declared.code.Code.TheVariants.{Y2, Y9}
+use Rattle.ci_yaml_lines.specs.Scalar.{trim_end, head_is, tail_of, when}
+use Rattle.ci_yaml_lines.specs.Line.{Chomp, ParsedLine, parse_line, Keyed, keyed, keyed_or_bare, is_dash, spaces, Item, inner, value, item, dashed, parse_entries, parse_content, with_codes, is_document_mark, is_skipped, Line}
 use Rattle.ci_yaml.specs.Reading.{◌>>=◌, Frame, State, start, whole, inside, run}
-use Rattle.ci_yaml.specs.Document.{Line, Ending, outside, within, IsOutside, is_in_block, block_codes, literal, filled, entries_with, last_column, AreBlock, EndsBlock, Says, none, line, block}
-use Rattle.ci_yaml.specs.Least.{least}
+use Rattle.ci_yaml.specs.Block.{is_in_block, block_codes, literal, AreBlock, EndsBlock}
+use Rattle.ci_yaml.specs.Document.{Ending, outside, within, IsOutside, filled, entries_with, last_column, Parses, none, line, block}
+use Rattle.ci_yaml_lines.specs.Least.{least}
 use Rattle.ci_yaml.specs.ReadLines.{Reader, with_text, stop_or, ending_at, content_by, content, line_by, line_next, read_lines}
 use Rattle.ci_yaml.proofs.Sound.{Stands, StateStands, run-stands}
+use Rattle.ci_yaml_lines.proofs.Leasts.{no_least}
+use Rattle.ci_yaml_lines.proofs.Forms.{OfLines, line-each}
+use Rattle.ci_yaml.proofs.BlockLines.{are-push}
 
--- a list of codes without a least one is empty
-pub no_least : (cs : List Code) → least cs ≡ None → cs ≡ []
-no_least [] e = refl
-no_least (c ∷ cs) e = absurd cc
+abbrev pub parsed_entries : Line → List Entry
+parsed_entries l = entries_with (parse_line l).header (parse_line l).entries []
 
-abbrev pub spoken_entries : Line → List Entry
-spoken_entries l = entries_with (line_spoken l).header (line_spoken l).entries []
-
-abbrev pub spoken_end : Line → Ending
-spoken_end l = ending_at (line_spoken l).header (last_column (line_spoken l).entries)
+abbrev pub parsed_end : Line → Ending
+parsed_end l = ending_at (parse_line l).header (last_column (parse_line l).entries)
 
 -- one line alone
-alone-by : (l : Line) (h : Option Chomp) → (line_spoken l).header ≡ h → (line_spoken l).codes ≡ []
-    → Says (l ∷ []) (entries_with h (line_spoken l).entries []) (ending_at h (last_column (line_spoken l).entries))
-alone-by l None is clean = line l [] [] (line_spoken l).entries outside clean is none (sym (append-nil (line_spoken l).entries))
+alone-by : (l : Line) (h : Option Chomp) → (parse_line l).header ≡ h → (parse_line l).codes ≡ []
+    → Parses (l ∷ []) (entries_with h (parse_line l).entries []) (ending_at h (last_column (parse_line l).entries))
+alone-by l None is clean = line l [] [] (parse_line l).entries outside clean is none (sym (append-nil (parse_line l).entries))
 alone-by l (Some how) is clean =
-    block l [] [] [] how [] (filled (line_spoken l).entries (literal how [])) outside (within how (last_column (line_spoken l).entries) []) clean is refl tt tt none
-    (sym (append-nil (filled (line_spoken l).entries (literal how [])))) refl
+    block l [] [] [] how [] (filled (parse_line l).entries (literal how [])) outside (within how (last_column (parse_line l).entries) []) clean is refl tt tt none
+    (sym (append-nil (filled (parse_line l).entries (literal how [])))) refl
 
-alone : (l : Line) → (line_spoken l).codes ≡ [] → Says (l ∷ []) (spoken_entries l) (spoken_end l)
-alone l clean = alone-by l (line_spoken l).header refl clean
+alone : (l : Line) → (parse_line l).codes ≡ [] → Parses (l ∷ []) (parsed_entries l) (parsed_end l)
+alone l clean = alone-by l (parse_line l).header refl clean
 
-outside-ends : (how : Chomp) (c : ℕ) (ls : List Line) (l : Line) → IsOutside (within how c ls) l → EndsBlock c (l ∷ [])
-outside-ends how c ls l h = h
-
-says-nil : (ls : List Line) (es : List Entry) (end : Ending) → Says ls es end → ls ≡ [] → es ≡ []
-says-nil ls es end none e = refl
-says-nil ls es end (line m rest es' all end' clean' no_header says all-is) e = absurd cc
-says-nil ls es end (block m lines rest below how es' all end' last clean' header parts are ends says all-is last-is) e = absurd cc
+parses-nil : (ls : List Line) (es : List Entry) (end : Ending) → Parses ls es end → ls ≡ [] → es ≡ []
+parses-nil ls es end none e = refl
+parses-nil ls es end (line m rest es' all end' clean' no_header parses all-is) e = absurd cc
+parses-nil ls es end (block m lines rest below how es' all end' last clean' header parts are ends parses all-is last-is) e = absurd cc
 
 -- one more line, outside the block that may be open
-pub says-line : (ls : List Line) (es : List Entry) (end : Ending) (l : Line) → Says ls es end → IsOutside end l → (line_spoken l).codes ≡ []
-    → Says (ls ++ l ∷ []) (es ++ spoken_entries l) (spoken_end l)
-says-line ls es end l none out clean = alone l clean
-says-line ls es end l (line m rest es' all end' clean' no_header says all-is) out clean =
-    line m (rest ++ l ∷ []) (es' ++ spoken_entries l) (all ++ spoken_entries l) (spoken_end l) clean' no_header
-    (says-line rest es' end' l says out clean) (rw all-is (append_assoc (line_spoken m).entries es' (spoken_entries l)))
-says-line ls es end l (block m lines [] below how es' all end' last clean' header parts are ends says all-is last-is) out clean =
-    block m lines (l ∷ []) (below ++ l ∷ []) how (spoken_entries l) (all ++ spoken_entries l) (spoken_end l) (spoken_end l) clean' header
+pub parses-line : (ls : List Line) (es : List Entry) (end : Ending) (l : Line) → Parses ls es end → IsOutside end l → (parse_line l).codes ≡ []
+    → Parses (ls ++ l ∷ []) (es ++ parsed_entries l) (parsed_end l)
+parses-line ls es end l none out clean = alone l clean
+parses-line ls es end l (line m rest es' all end' clean' no_header parses all-is) out clean =
+    line m (rest ++ l ∷ []) (es' ++ parsed_entries l) (all ++ parsed_entries l) (parsed_end l) clean' no_header
+    (parses-line rest es' end' l parses out clean) (rw all-is (append_assoc (parse_line m).entries es' (parsed_entries l)))
+parses-line ls es end l (block m lines [] below how es' all end' last clean' header parts are ends parses all-is last-is) out clean =
+    block m lines (l ∷ []) (below ++ l ∷ []) how (parsed_entries l) (all ++ parsed_entries l) (parsed_end l) (parsed_end l) clean' header
     (ap (λ (x : List Line). x ++ l ∷ []) (parts ∙ append-nil lines)) are
     (subst (λ (e : Ending). IsOutside e l) last-is out) (alone l clean)
-    (ap (λ (x : List Entry). x ++ spoken_entries l) (all-is ∙ ap (λ (x : List Entry). filled (line_spoken m).entries (literal how lines) ++ x) (says-nil [] es' end' says refl) ∙ append-nil (filled (line_spoken m).entries (literal how lines))))
+    (ap (λ (x : List Entry). x ++ parsed_entries l) (all-is ∙ ap (λ (x : List Entry). filled (parse_line m).entries (literal how lines) ++ x) (parses-nil [] es' end' parses refl) ∙ append-nil (filled (parse_line m).entries (literal how lines))))
     refl
-says-line ls es end l (block m lines (r ∷ rest) below how es' all end' last clean' header parts are ends says all-is last-is) out clean =
-    block m lines (r ∷ (rest ++ l ∷ [])) (below ++ l ∷ []) how (es' ++ spoken_entries l) (all ++ spoken_entries l) (spoken_end l) (spoken_end l) clean' header
+parses-line ls es end l (block m lines (r ∷ rest) below how es' all end' last clean' header parts are ends parses all-is last-is) out clean =
+    block m lines (r ∷ (rest ++ l ∷ [])) (below ++ l ∷ []) how (es' ++ parsed_entries l) (all ++ parsed_entries l) (parsed_end l) (parsed_end l) clean' header
     (ap (λ (x : List Line). x ++ l ∷ []) parts ∙ append_assoc lines (r ∷ rest) (l ∷ [])) are ends
-    (says-line (r ∷ rest) es' end' l says (subst (λ (e : Ending). IsOutside e l) last-is out) clean)
-    (ap (λ (x : List Entry). x ++ spoken_entries l) all-is ∙ append_assoc (filled (line_spoken m).entries (literal how lines)) es' (spoken_entries l))
+    (parses-line (r ∷ rest) es' end' l parses (subst (λ (e : Ending). IsOutside e l) last-is out) clean)
+    (ap (λ (x : List Entry). x ++ parsed_entries l) all-is ∙ append_assoc (filled (parse_line m).entries (literal how lines)) es' (parsed_entries l))
     refl
 
 -- ---- one more line of a block
-
-are-push : (c : ℕ) (before ls : List Line) (l : Line) → AreBlock c before ls → is_in_block c l ≡ true → block_codes (before ++ ls) l ≡ [] → AreBlock c before (ls ++ l ∷ [])
-are-push c before [] l are inside_it clean = (inside_it, subst (λ (b : List Line). block_codes b l ≡ []) (append-nil before) clean, tt)
-are-push c before (m ∷ ls) l are inside_it clean = (are.0, are.1, are-push c (before ++ m ∷ []) ls l are.2 inside_it (subst (λ (b : List Line). block_codes b l ≡ []) (sym (append_assoc before (m ∷ []) ls)) clean))
 
 abbrev pub NotEmpty : List Entry → Type 0
 NotEmpty [] = ⊥
@@ -96,82 +87,62 @@ append-not_empty : (a b : List Entry) → NotEmpty b → NotEmpty (a ++ b)
 append-not_empty [] b h = h
 append-not_empty (e ∷ a) b h = tt
 
-chosen : (b : Bool) (x y : Spoken) → NotEmpty x.entries → NotEmpty y.entries → NotEmpty (cond b x y).entries
-chosen true x y p q = p
-chosen false x y p q = q
-
-keyed-not_empty : (c : ℕ) (w : List ℕ) (k : Option Keyed) → NotEmpty (keyed_or_bare c w k).entries
-keyed-not_empty c w None = tt
-keyed-not_empty c w (Some k) = tt
-
-dashed-not_empty : (c : ℕ) (i : Item) (more : ℕ → List ℕ → Spoken) → NotEmpty (dashed c i more).entries
-dashed-not_empty c (inner k t) more = tt
-dashed-not_empty c (value w) more = tt
-
-spoken-not_empty : (n c : ℕ) (w : List ℕ) → NotEmpty (spoken (suc n) c w).entries
-spoken-not_empty n c w =
-    chosen (is_dash w) (dashed c (item (tail_of w)) (λ d t. spoken n d t)) (keyed_or_bare c w (keyed w))
-    (dashed-not_empty c (item (tail_of w)) (λ d t. spoken n d t)) (keyed-not_empty c w (keyed w))
-
-abbrev pub HeaderFits : Spoken → Type 0
+abbrev pub HeaderFits : ParsedLine → Type 0
 HeaderFits s = (how : Chomp) → s.header ≡ Some how → NotEmpty s.entries
 
-chosen-fits : (b : Bool) (x y : Spoken) → HeaderFits x → HeaderFits y → HeaderFits (cond b x y)
-chosen-fits true x y p q = p
-chosen-fits false x y p q = q
-
-content-fits : (c : ℕ) (w : List ℕ) → HeaderFits (content_spoken c w)
-content-fits c w =
-    let tab : Spoken = record { entries = []; header = None; codes = Y2 ∷ [] } in
-    let body : Spoken = with_codes (when ((c == 0) && is_document_mark w) Y9) (spoken (suc (length w)) c w) in
-    chosen-fits (head_is 9 w) tab body (λ how e. absurd cc) (λ how e. spoken-not_empty (length w) c w)
+lines-header : OfLines HeaderFits
+lines-header = record {
+  empty = λ cs how e. absurd cc;
+  bare_value = λ c w how e. tt;
+  key_value = λ c k how e. tt;
+  item_value = λ c bs how e. tt;
+  no_value = λ c cs how e. tt;
+  behind_dash = λ c s p how e. tt;
+  more_codes = λ cs s p. p;
+}
 
 -- a line with a header has an entry
-pub header-fits : (l : Line) → HeaderFits (line_spoken l)
-header-fits l =
-    let skip : Spoken = record { entries = []; header = None; codes = [] } in
-    let c : ℕ = spaces l in
-    let w : List ℕ = trim_end (drop (spaces l) l) in
-    chosen-fits (is_skipped l) skip (content_spoken c w) (λ how e. absurd cc) (content-fits c w)
+pub header-fits : (l : Line) → HeaderFits (parse_line l)
+header-fits l = line-each HeaderFits lines-header l
 
-says-in : (ls : List Line) (es : List Entry) (end : Ending) (how : Chomp) (c : ℕ) (so_far : List Line) (l : Line) → Says ls es end → end ≡ within how c so_far
+parses-in : (ls : List Line) (es : List Entry) (end : Ending) (how : Chomp) (c : ℕ) (so_far : List Line) (l : Line) → Parses ls es end → end ≡ within how c so_far
     → is_in_block c l ≡ true → block_codes so_far l ≡ []
-    → NotEmpty es × Says (ls ++ l ∷ []) (filled es (literal how (so_far ++ l ∷ []))) (within how c (so_far ++ l ∷ []))
-says-in ls es end how c so_far l none is inside_it clean = absurd cc
-says-in ls es end how c so_far l (line m rest es' all end' clean' no_header says all-is) is inside_it clean =
-    let more = says-in rest es' end' how c so_far l says is inside_it clean in (
-      subst NotEmpty (sym all-is) (append-not_empty (line_spoken m).entries es' more.0),
+    → NotEmpty es × Parses (ls ++ l ∷ []) (filled es (literal how (so_far ++ l ∷ []))) (within how c (so_far ++ l ∷ []))
+parses-in ls es end how c so_far l none is inside_it clean = absurd cc
+parses-in ls es end how c so_far l (line m rest es' all end' clean' no_header parses all-is) is inside_it clean =
+    let more = parses-in rest es' end' how c so_far l parses is inside_it clean in (
+      subst NotEmpty (sym all-is) (append-not_empty (parse_line m).entries es' more.0),
       line m (rest ++ l ∷ []) (filled es' (literal how (so_far ++ l ∷ []))) (filled all (literal how (so_far ++ l ∷ []))) (within how c (so_far ++ l ∷ [])) clean' no_header more.1
-          (ap (λ (x : List Entry). filled x (literal how (so_far ++ l ∷ []))) all-is ∙ filled-append (line_spoken m).entries es' (literal how (so_far ++ l ∷ [])) more.0),
+          (ap (λ (x : List Entry). filled x (literal how (so_far ++ l ∷ []))) all-is ∙ filled-append (parse_line m).entries es' (literal how (so_far ++ l ∷ [])) more.0),
     )
-says-in ls es end how c so_far l (block m lines [] below how' es' all end' last clean' header parts are ends says all-is last-is) is inside_it clean =
-    let heads : List Entry = (line_spoken m).entries in
-    let col : ℕ = last_column (line_spoken m).entries in
-    let same : within how' (last_column (line_spoken m).entries) lines ≡ within how c so_far = sym last-is ∙ is in
+parses-in ls es end how c so_far l (block m lines [] below how' es' all end' last clean' header parts are ends parses all-is last-is) is inside_it clean =
+    let heads : List Entry = (parse_line m).entries in
+    let col : ℕ = last_column (parse_line m).entries in
+    let same : within how' (last_column (parse_line m).entries) lines ≡ within how c so_far = sym last-is ∙ is in
     let how-is : how' ≡ how = cc in
-    let col-is : last_column (line_spoken m).entries ≡ c = cc in
+    let col-is : last_column (parse_line m).entries ≡ c = cc in
     let lines-is : lines ≡ so_far = cc in
     let t : List ℕ = literal how' (lines ++ l ∷ []) in
-    let alls : all ≡ filled heads (literal how' lines) = all-is ∙ ap (λ (x : List Entry). filled heads (literal how' lines) ++ x) (says-nil [] es' end' says refl) ∙ append-nil (filled heads (literal how' lines)) in
+    let alls : all ≡ filled heads (literal how' lines) = all-is ∙ ap (λ (x : List Entry). filled heads (literal how' lines) ++ x) (parses-nil [] es' end' parses refl) ∙ append-nil (filled heads (literal how' lines)) in
     let some : NotEmpty heads = header-fits m how' header in
     let within' : is_in_block col l ≡ true = ap (λ n. is_in_block n l) col-is ∙ inside_it in
     let clean2 : block_codes lines l ≡ [] = ap (λ (x : List Line). block_codes x l) lines-is ∙ clean in
-    let made : Says (m ∷ (below ++ l ∷ [])) (filled all t) (within how' col (lines ++ l ∷ [])) =
+    let made : Parses (m ∷ (below ++ l ∷ [])) (filled all t) (within how' col (lines ++ l ∷ [])) =
     block m (lines ++ l ∷ []) [] (below ++ l ∷ []) how' [] (filled all t) outside (within how' col (lines ++ l ∷ [])) clean' header
     (ap (λ (x : List Line). x ++ l ∷ []) (parts ∙ append-nil lines) ∙ sym (append-nil (lines ++ l ∷ [])))
     (are-push col [] lines l are within' clean2) tt none
     (ap (λ (x : List Entry). filled x t) alls ∙ filled-twice heads (literal how' lines) t ∙ sym (append-nil (filled heads t))) refl in (
       subst NotEmpty (sym alls) (filled-not_empty heads (literal how' lines) some),
-      subst (λ (n : ℕ). Says (m ∷ (below ++ l ∷ [])) (filled all (literal how (so_far ++ l ∷ []))) (within how n (so_far ++ l ∷ []))) col-is
-          (subst (λ (h : Chomp). Says (m ∷ (below ++ l ∷ [])) (filled all (literal h (so_far ++ l ∷ []))) (within h col (so_far ++ l ∷ []))) how-is
-          (subst (λ (x : List Line). Says (m ∷ (below ++ l ∷ [])) (filled all (literal how' (x ++ l ∷ []))) (within how' col (x ++ l ∷ []))) lines-is made)),
+      subst (λ (n : ℕ). Parses (m ∷ (below ++ l ∷ [])) (filled all (literal how (so_far ++ l ∷ []))) (within how n (so_far ++ l ∷ []))) col-is
+          (subst (λ (h : Chomp). Parses (m ∷ (below ++ l ∷ [])) (filled all (literal h (so_far ++ l ∷ []))) (within h col (so_far ++ l ∷ []))) how-is
+          (subst (λ (x : List Line). Parses (m ∷ (below ++ l ∷ [])) (filled all (literal how' (x ++ l ∷ []))) (within how' col (x ++ l ∷ []))) lines-is made)),
     )
-says-in ls es end how c so_far l (block m lines (r ∷ rest) below how' es' all end' last clean' header parts are ends says all-is last-is) is inside_it clean =
-    let more = says-in (r ∷ rest) es' end' how c so_far l says (sym last-is ∙ is) inside_it clean in (
-      subst NotEmpty (sym all-is) (append-not_empty (filled (line_spoken m).entries (literal how' lines)) es' more.0),
+parses-in ls es end how c so_far l (block m lines (r ∷ rest) below how' es' all end' last clean' header parts are ends parses all-is last-is) is inside_it clean =
+    let more = parses-in (r ∷ rest) es' end' how c so_far l parses (sym last-is ∙ is) inside_it clean in (
+      subst NotEmpty (sym all-is) (append-not_empty (filled (parse_line m).entries (literal how' lines)) es' more.0),
       block m lines (r ∷ (rest ++ l ∷ [])) (below ++ l ∷ []) how' (filled es' (literal how (so_far ++ l ∷ []))) (filled all (literal how (so_far ++ l ∷ []))) (within how c (so_far ++ l ∷ [])) (within how c (so_far ++ l ∷ [])) clean' header
           (ap (λ (x : List Line). x ++ l ∷ []) parts ∙ append_assoc lines (r ∷ rest) (l ∷ [])) are ends more.1
-          (ap (λ (x : List Entry). filled x (literal how (so_far ++ l ∷ []))) all-is ∙ filled-append (filled (line_spoken m).entries (literal how' lines)) es' (literal how (so_far ++ l ∷ [])) more.0)
+          (ap (λ (x : List Entry). filled x (literal how (so_far ++ l ∷ []))) all-is ∙ filled-append (filled (parse_line m).entries (literal how' lines)) es' (literal how (so_far ++ l ∷ [])) more.0)
           refl,
     )
 
@@ -194,35 +165,35 @@ state-with_text (inside fs given) es t h = (h.0, stands-with_text fs given es t 
 
 pub record LinesStand (r : Reader) (ls : List Line) : Type 0 where
   pub entries : List Entry
-  pub says : Says ls entries r.end
+  pub parses : Parses ls entries r.end
   pub stands : StateStands r.state entries
 
 pub stop-ok : (o : Option Code) (r s : Reader) → stop_or o r ≡ Ok s → (o ≡ None) × (r ≡ s)
 stop-ok None r s e = (refl, cc)
 stop-ok (Some c) r s e = absurd cc
 
-content-stands-by : (res : Result State Code) (l : Line) (ls : List Line) (r s : Reader) → content_by res (line_spoken l) ≡ Ok s → run r.state (spoken_entries l) ≡ res
+content-stands-by : (res : Result State Code) (l : Line) (ls : List Line) (r s : Reader) → content_by res (parse_line l) ≡ Ok s → run r.state (parsed_entries l) ≡ res
     → LinesStand r ls → IsOutside r.end l → LinesStand s (ls ++ l ∷ [])
 content-stands-by (Err c) l ls r s e ran h out = absurd cc
 content-stands-by (Ok t) l ls r s e ran h out =
-    let p = stop-ok (least (line_spoken l).codes) (record { state = t; end = spoken_end l }) s e in
+    let p = stop-ok (least (parse_line l).codes) (record { state = t; end = parsed_end l }) s e in
     subst (λ (x : Reader). LinesStand x (ls ++ l ∷ [])) p.1 (record {
-      entries = h.entries ++ spoken_entries l;
-      says = says-line ls h.entries r.end l h.says out (no_least (line_spoken l).codes p.0);
-      stands = run-stands r.state h.entries (spoken_entries l) t ran h.stands;
+      entries = h.entries ++ parsed_entries l;
+      parses = parses-line ls h.entries r.end l h.parses out (no_least (parse_line l).codes p.0);
+      stands = run-stands r.state h.entries (parsed_entries l) t ran h.stands;
     })
 
-content-stands : (l : Line) (ls : List Line) (r s : Reader) → content r.state (line_spoken l) ≡ Ok s → LinesStand r ls → IsOutside r.end l → LinesStand s (ls ++ l ∷ [])
-content-stands l ls r s e h out = content-stands-by (run r.state (spoken_entries l)) l ls r s e refl h out
+content-stands : (l : Line) (ls : List Line) (r s : Reader) → content r.state (parse_line l) ≡ Ok s → LinesStand r ls → IsOutside r.end l → LinesStand s (ls ++ l ∷ [])
+content-stands l ls r s e h out = content-stands-by (run r.state (parsed_entries l)) l ls r s e refl h out
 
 in-stands : (st : State) (how : Chomp) (c : ℕ) (so_far : List Line) (l : Line) (ls : List Line) (s : Reader) (b : Bool) → is_in_block c l ≡ b
-    → cond b (stop_or (least (block_codes so_far l)) (record { state = with_text (literal how (so_far ++ l ∷ [])) st; end = within how c (so_far ++ l ∷ []) })) (content st (line_spoken l)) ≡ Ok s
+    → cond b (stop_or (least (block_codes so_far l)) (record { state = with_text (literal how (so_far ++ l ∷ [])) st; end = within how c (so_far ++ l ∷ []) })) (content st (parse_line l)) ≡ Ok s
     → LinesStand (record { state = st; end = within how c so_far }) ls → LinesStand s (ls ++ l ∷ [])
 in-stands st how c so_far l ls s true is e h =
     let t : List ℕ = literal how (so_far ++ l ∷ []) in
     let p = stop-ok (least (block_codes so_far l)) (record { state = with_text t st; end = within how c (so_far ++ l ∷ []) }) s e in
-    let says = says-in ls h.entries (within how c so_far) how c so_far l h.says refl is (no_least (block_codes so_far l) p.0) in
-    subst (λ (x : Reader). LinesStand x (ls ++ l ∷ [])) p.1 (record { entries = filled h.entries t; says = says.1; stands = state-with_text st h.entries t h.stands })
+    let parses = parses-in ls h.entries (within how c so_far) how c so_far l h.parses refl is (no_least (block_codes so_far l) p.0) in
+    subst (λ (x : Reader). LinesStand x (ls ++ l ∷ [])) p.1 (record { entries = filled h.entries t; parses = parses.1; stands = state-with_text st h.entries t h.stands })
 in-stands st how c so_far l ls s false is e h = content-stands l ls (record { state = st; end = within how c so_far }) s e h is
 
 line-stands-by : (end : Ending) (st : State) (l : Line) (ls : List Line) (s : Reader) → line_by end st l ≡ Ok s → LinesStand (record { state = st; end = end }) ls → LinesStand s (ls ++ l ∷ [])

@@ -4,11 +4,11 @@ use Rattle.std.specs.Prelude.{⊤, min, not, nat_lt, ◌&&◌, unwrap_or}
 use Rattle.std.proofs.Math.Nat.{min-eq_right}
 use Rattle.std.proofs.lemmas.List.{append-nil}
 use Rattle.std.proofs.lemmas.Bool.{ltb-false}
-use Rattle.ci_yaml.specs.declared.fault.Code.{Code}
-use Rattle.ci_yaml.specs.declared.fault.Code.TheVariants.{Y3, Y9}
-use Rattle.ci_yaml.specs.Scalar.{when}
-use Rattle.ci_yaml.specs.Line.{clip, strip, keep, spaces, has_mark}
-use Rattle.ci_yaml.specs.Document.{Line, is_spaces, first_indent, block_indent, line_text, block_lines, kept_len, without_end, without_last, literal, is_low, indent_codes, AreBlock}
+use Rattle.ci_yaml_lines.specs.declared.code.Code.{Code}
+use Rattle.ci_yaml_lines.specs.declared.code.Code.TheVariants.{Y3, Y9}
+use Rattle.ci_yaml_lines.specs.Scalar.{when}
+use Rattle.ci_yaml_lines.specs.Line.{clip, strip, keep, spaces, has_byte_order_mark, Line}
+use Rattle.ci_yaml.specs.Block.{is_spaces, first_indent, block_indent, line_text, block_lines, kept_len, without_end, without_last, literal, is_low, indent_codes, AreBlock}
 use Rattle.ci_yaml.specs.Blocks.{cut_text, cut_lines, cut_strip}
 
 -- each of the lines that isn't all spaces has n spaces at least
@@ -46,7 +46,7 @@ when-front false c more e = refl
 high-by : (o : Option ℕ) (before : List Line) (l : Line) (ls : List Line) → first_indent before ≡ o → indent_codes o l ≡ [] → is_spaces l ≡ false → block_indent (before ++ l ∷ ls) ≤ spaces l
 high-by (Some m) before l ls is clean e =
     let n-is : block_indent (before ++ l ∷ ls) ≡ m = ap (λ o. unwrap_or o 0) (first-some before (l ∷ ls) m is) in
-    let le : m ≤ spaces l = not-low-by (is_spaces l) (spaces l) m (nat_lt (spaces l) m) refl e (when-front (is_low (Some m) l) Y3 (when (has_mark l) Y9) clean) in
+    let le : m ≤ spaces l = not-low-by (is_spaces l) (spaces l) m (nat_lt (spaces l) m) refl e (when-front (is_low (Some m) l) Y3 (when (has_byte_order_mark l) Y9) clean) in
     omega (arith, n-is, le)
 high-by None before l ls is clean e =
     let n-is : block_indent (before ++ l ∷ ls) ≡ spaces l = ap (λ o. unwrap_or o 0) (first-none before (l ∷ ls) is ∙ ap (λ t. cond t (first_indent ls) (Some (spaces l))) e) in

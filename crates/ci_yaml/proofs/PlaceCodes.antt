@@ -2,18 +2,19 @@
 use Rattle.std.proofs.Common.{◌≡◌, ℕ, suc, ◌<◌, Bool, true, false, cond, List, [], ◌∷◌, ◌++◌, length, Option, Some, None, Result, Ok, Err, refl, sym, ◌∙◌, ap, arith, inl, inr}
 use Rattle.std.specs.Prelude.{⊤, nat_lt, nat_le, ◌==◌, ◌&&◌, ◌||◌}
 use Rattle.std.proofs.lemmas.Bool.{lt-ltb, le-ltb, le-leb, cases_lt}
-use Rattle.ci_yaml.specs.declared.fault.Code.{Code}
-use Rattle.ci_yaml.specs.declared.fault.Code.TheVariants.{Y3, Y4, Y5, Y10}
-use Rattle.ci_yaml.specs.Tree.{Kind, sequence, mapping, Value, Members, no_members}
-use Rattle.ci_yaml.specs.Entry.{Head, dash, key, bare, Entry, head_of, level_of}
-use Rattle.ci_yaml.specs.Reading.{◌>>=◌, push, Frame, level, State, start, whole, inside, closed, Settled, settle, value_of, same_text, has_name, misplaced, is_node, with_given, begun, is_repeated, joined, begins, entered, member_next, whole_of, bare_next, next_by, next, run}
-use Rattle.ci_yaml.specs.Scalar.{when}
-use Rattle.ci_yaml.specs.Least.{least}
+use Rattle.ci_yaml_lines.specs.declared.code.Code.{Code}
+use Rattle.ci_yaml_lines.specs.declared.code.Code.TheVariants.{Y3, Y4, Y5, Y10}
+use Rattle.ci_yaml_lines.specs.Tree.{Kind, sequence, mapping, Value, Members, no_members, push}
+use Rattle.ci_yaml_lines.specs.Entry.{Head, dash, key, bare, Entry, head_of, level_of}
+use Rattle.ci_yaml.specs.Reading.{◌>>=◌, Frame, level, State, start, whole, inside, closed, Settled, settle, value_of, same_text, has_name, misplaced, is_node, with_given, begun, is_repeated, joined, begins, entered, member_next, whole_of, bare_next, next_by, next, run}
+use Rattle.ci_yaml_lines.specs.Scalar.{when}
+use Rattle.ci_yaml_lines.specs.Least.{least}
 use Rattle.ci_yaml.specs.Codes.{level_open, column_open, awaited, is_empty, member_fits, fits_by, is_named, opens_above, too_deep, repeats_by, deep_by, place_code}
 use Rattle.ci_yaml.specs.Document.{codes_at, or_else, place_codes}
 use Rattle.ci_yaml.proofs.Sound.{Stands, StateStands, begins-none, next-stands}
 use Rattle.ci_yaml.proofs.Complete.{settle-closes, settle-stays}
-use Rattle.ci_yaml.proofs.Opened.{has_level, AllBelow, none-below, below-more, stands-below, open-is, eq-false, eq-true, le-false, or_false, cases_order}
+use Rattle.ci_yaml.proofs.Opened.{has_level, AllBelow, none-below, below-more, stands-below, open-is}
+use Rattle.ci_yaml_lines.proofs.Bools.{eq-false, eq-true, le-false, or_false, cases_order}
 use Rattle.ci_yaml.proofs.Faults.{misplaced-is, awaited-is, entered-not, stands-ascend}
 use Rattle.ci_yaml.proofs.Keys.{has-push}
 use Rattle.ci_yaml.proofs.Places.{named_at, none-named_below, named-is, levels_above, above-is, no-levels, above-inner, above-all}
@@ -155,11 +156,6 @@ code-by e es kind name f r d head p q s =
 
 depth-is : (l n : ℕ) (es : List Entry) (given : Option Value) → opens_above l es ≡ n → too_deep l es given ≡ deep_at n (is_node given)
 depth-is l n es given e = ap (λ m. deep_at m (is_node given)) e
-
-none-repeats : (kind : Kind) (name : List ℕ) (c : ℕ) (fs : List Frame) (given : Option Value) (es : List Entry) → Stands fs given es → named_at name (level_of mapping c) fs ≡ false
-    → repeats_kind kind name (level_of kind c) es ≡ false
-none-repeats sequence name c fs given es h e = refl
-none-repeats mapping name c fs given es h e = named-is name c fs given es h ∙ e
 
 kind-below : (kind : Kind) (c : ℕ) (name : List ℕ) (fs : List Frame) (given : Option Value) (es : List Entry) → Stands fs given es → AllBelow fs (level_of kind c) → repeats_kind kind name (level_of kind c) es ≡ false
 kind-below sequence c name fs given es h below = refl

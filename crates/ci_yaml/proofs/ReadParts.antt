@@ -1,14 +1,15 @@
 -- The same of lines as the code holds them.
 use Rattle.std.proofs.Common.{◌≡◌, ℕ, zero, suc, ◌+◌, ◌<◌, ◌≤◌, List, [], ◌∷◌, length, take, drop, get_or, Option, Some, None, Result, Ok, refl, sym, ◌∙◌, ap, subst, arith}
 use denote.Bor.{Bor}
-use Rattle.ci_yaml.specs.declared.fault.Code.{Code}
+use Rattle.ci_yaml_lines.specs.declared.code.Code.{Code}
 use Rattle.ci_yaml.specs.declared.fault.YamlFault.{YamlFault}
 use Rattle.ci_yaml.specs.declared.fault.YamlFault.TheVariants as faults
-use Rattle.ci_yaml.specs.declared.parts.Chomp.{Chomp}
-use Rattle.ci_yaml.specs.View.{chomp_view}
-use Rattle.ci_yaml.specs.Line.{line_spoken}
+use Rattle.ci_yaml_lines.specs.declared.entry.Chomp.{Chomp}
+use Rattle.ci_yaml_lines.specs.View.{chomp_view}
+use Rattle.ci_yaml_lines.specs.Line.{parse_line, Line}
 use Rattle.ci_yaml.specs.Reading.{State}
-use Rattle.ci_yaml.specs.Document.{Line, within, literal, AreBlock, EndsBlock}
+use Rattle.ci_yaml.specs.Block.{literal, AreBlock, EndsBlock}
+use Rattle.ci_yaml.specs.Document.{within}
 use Rattle.ci_yaml.specs.Blocks.{texts_of, StopsBlock}
 use Rattle.ci_yaml.specs.ReadLines.{Reader, with_text, content, read_lines, beginning}
 use Rattle.ci_yaml.specs.Stops.{below_view, FailsAt, BlockFails, StopsAt, StopsBy, HasRead, AreShort}
@@ -31,20 +32,20 @@ short-drop (suc n) (l ∷ ls) h = short-drop n ls h.1
 pub short-at : (xs : List (Bor (List ℕ))) (at : ℕ) (d : Bor (List ℕ)) → at < length xs → AreShort (texts_of xs) → length (get_or xs at d).now ≤ 65536
 short-at xs at d lt h = (subst AreShort (part-at xs at d lt) (short-drop at (texts_of xs) h)).0
 
-one : (n : ℕ) → suc n ≡ n + 1
+pub one : (n : ℕ) → suc n ≡ n + 1
 one n = omega arith
 
 two : (n k : ℕ) → suc n + k ≡ n + 1 + k
 two n k = omega arith
 
 pub part-more : (xs : List (Bor (List ℕ))) (at : ℕ) (d : Bor (List ℕ)) (st s : State) (b : Option (Chomp × ℕ)) → at < length xs → HasRead (texts_of xs) at st
-    → content st (line_spoken (get_or xs at d).now) ≡ Ok (record { state = s; end = below_view b }) → b ≡ None → HasRead (texts_of xs) (at + 1) s
+    → content st (parse_line (get_or xs at d).now) ≡ Ok (record { state = s; end = below_view b }) → b ≡ None → HasRead (texts_of xs) (at + 1) s
 part-more xs at d st s b lt h e is =
     subst (λ n. HasRead (texts_of xs) n s) (one at)
     (line-more (texts_of xs) (texts_of (drop (at + 1) xs)) at (get_or xs at d).now st s h (part-at xs at d lt) (e ∙ ap (λ x. Ok (record { state = s; end = below_view x })) is))
 
 pub part-fails : (xs : List (Bor (List ℕ))) (at : ℕ) (d : Bor (List ℕ)) (st : State) (e : YamlFault) → at < length xs → HasRead (texts_of xs) at st
-    → FailsAt (at + 1) e (content st (line_spoken (get_or xs at d).now)) → StopsBy (texts_of xs) e
+    → FailsAt (at + 1) e (content st (parse_line (get_or xs at d).now)) → StopsBy (texts_of xs) e
 part-fails xs at d st faults.Memory lt h f = tt
 part-fails xs at d st (faults.Fault code n) lt h f =
     subst (λ m. StopsAt (texts_of xs) m code) (one at ∙ sym f.1) (line-stops (texts_of xs) (texts_of (drop (at + 1) xs)) at (get_or xs at d).now st code h (part-at xs at d lt) f.0)
@@ -53,7 +54,7 @@ below-is : (s : State) (b : Option (Chomp × ℕ)) (how : Chomp) (c : ℕ) (x : 
 below-is s b how c x e is = e ∙ ap (λ y. Ok (record { state = s; end = below_view y })) is
 
 pub part-block : (xs ys : List (Bor (List ℕ))) (at k : ℕ) (d : Bor (List ℕ)) (st s t : State) (b : Option (Chomp × ℕ)) (how : Chomp) (c : ℕ) (bytes : List ℕ) → at < length xs → HasRead (texts_of xs) at st
-    → content st (line_spoken (get_or xs at d).now) ≡ Ok (record { state = s; end = below_view b }) → b ≡ Some (how, c) → ys ≡ drop (at + 1) xs
+    → content st (parse_line (get_or xs at d).now) ≡ Ok (record { state = s; end = below_view b }) → b ≡ Some (how, c) → ys ≡ drop (at + 1) xs
     → AreBlock c [] (texts_of (take k ys)) → EndsBlock c (texts_of (drop k ys))
     → bytes ≡ literal (chomp_view how) (texts_of (take k ys)) → t ≡ with_text bytes s → HasRead (texts_of xs) (at + 1 + k) t
 part-block xs ys at k d st s t b how c bytes lt h e is ys-is are' ends' bytes-is' t-is =
@@ -62,13 +63,13 @@ part-block xs ys at k d st s t b how c bytes lt h e is ys-is are' ends' bytes-is
     let ends : EndsBlock c (texts_of (drop k rest)) = subst (λ (y : List (Bor (List ℕ))). EndsBlock c (texts_of (drop k y))) ys-is ends' in
     let bytes-is : bytes ≡ literal (chomp_view how) (texts_of (take k rest)) = bytes-is' ∙ ap (λ (y : List (Bor (List ℕ))). literal (chomp_view how) (texts_of (take k y))) ys-is in
     let made : HasRead (texts_of xs) (suc at + k) (with_text (literal (chomp_view how) (take k (texts_of rest))) s) =
-    block-more (texts_of xs) (texts_of rest) at k (get_or xs at d).now st s (chomp_view how) c h (part-at xs at d lt) (below-is s b how c (content st (line_spoken (get_or xs at d).now)) e is)
+    block-more (texts_of xs) (texts_of rest) at k (get_or xs at d).now st s (chomp_view how) c h (part-at xs at d lt) (below-is s b how c (content st (parse_line (get_or xs at d).now)) e is)
     (subst (AreBlock c []) (texts-take k rest) are) (subst (EndsBlock c) (texts-drop k rest) ends) in
     subst (λ n. HasRead (texts_of xs) n t) (two at k)
     (subst (HasRead (texts_of xs) (suc at + k)) (sym (t-is ∙ ap (λ x. with_text x s) (bytes-is ∙ ap (literal (chomp_view how)) (texts-take k rest)))) made)
 
 pub part-block_fails : (xs ys : List (Bor (List ℕ))) (at : ℕ) (d : Bor (List ℕ)) (st s : State) (b : Option (Chomp × ℕ)) (how : Chomp) (c : ℕ) (f : YamlFault) → at < length xs → HasRead (texts_of xs) at st
-    → content st (line_spoken (get_or xs at d).now) ≡ Ok (record { state = s; end = below_view b }) → b ≡ Some (how, c) → ys ≡ drop (at + 1) xs
+    → content st (parse_line (get_or xs at d).now) ≡ Ok (record { state = s; end = below_view b }) → b ≡ Some (how, c) → ys ≡ drop (at + 1) xs
     → BlockFails c (at + 1) ys f → StopsBy (texts_of xs) f
 part-block_fails xs ys at d st s b how c faults.Memory lt h e is ys-is fails = tt
 part-block_fails xs ys at d st s b how c (faults.Fault code n) lt h e is ys-is fails' =
@@ -77,7 +78,7 @@ part-block_fails xs ys at d st s b how c (faults.Fault code n) lt h e is ys-is f
     let k : ℕ = fails.0 in
     let number : suc (suc at + k) ≡ n = three at k n fails.1 in
     subst (λ m. StopsAt (texts_of xs) m code) number
-    (block-stops (texts_of xs) (texts_of rest) at k (get_or xs at d).now st s (chomp_view how) c code h (part-at xs at d lt) (below-is s b how c (content st (line_spoken (get_or xs at d).now)) e is)
+    (block-stops (texts_of xs) (texts_of rest) at k (get_or xs at d).now st s (chomp_view how) c code h (part-at xs at d lt) (below-is s b how c (content st (parse_line (get_or xs at d).now)) e is)
     (subst (AreBlock c []) (texts-take k rest) fails.2)
     (subst (λ (x : List Line). StopsBlock c (take k (texts_of rest)) x code) (texts-drop k rest)
     (subst (λ (x : List Line). StopsBlock c x (texts_of (drop k rest)) code) (texts-take k rest) fails.3)))

@@ -1,22 +1,24 @@
 -- Lines that are read, one after the other, and where they stop.
-use Rattle.std.proofs.Common.{◌≡◌, ℕ, zero, suc, ◌+◌, ◌-◌, ◌<◌, ◌≤◌, List, [], ◌∷◌, ◌++◌, map, length, take, drop, get_or, Option, Some, None, Result, Ok, Err, refl, sym, ◌∙◌, ap, subst, arith}
-use Rattle.std.proofs.Common.{cond}
+use Rattle.std.proofs.Common.{◌≡◌, ℕ, zero, suc, ◌+◌, ◌-◌, ◌<◌, ◌≤◌, List, [], ◌∷◌, ◌++◌, map, length, take, drop, get_or, Option, Some, None, Result, Ok, Err, refl, sym, ◌∙◌, ap, subst, arith, cond}
 use Rattle.std.proofs.lemmas.List.{take_more, take-append-drop, drop-drop, append-nil}
 use Rattle.std.proofs.Math.Seq.{take-length, take-add}
-use Rattle.ci_yaml.specs.declared.fault.Code.{Code}
-use Rattle.ci_yaml.specs.declared.parts.Entry as parts
-use Rattle.ci_yaml.specs.Entry.{Entry}
-use Rattle.ci_yaml.specs.View.{entry_view, LeastSpoken, least_spoken}
-use Rattle.ci_yaml.specs.Least.{least}
-use Rattle.ci_yaml.specs.Line.{Chomp, Spoken, line_spoken}
+use Rattle.ci_yaml_lines.specs.declared.code.Code.{Code}
+use Rattle.ci_yaml_lines.specs.declared.entry.Entry as parts
+use Rattle.ci_yaml_lines.specs.Entry.{Entry}
+use Rattle.ci_yaml_lines.specs.View.{entry_view, LeastParsed, least_parsed}
+use Rattle.ci_yaml_lines.specs.Least.{least}
+use Rattle.ci_yaml_lines.specs.Line.{Chomp, ParsedLine, parse_line, Line}
 use Rattle.ci_yaml.specs.Reading.{◌>>=◌, State, start, run}
-use Rattle.ci_yaml.specs.Document.{Line, Ending, outside, within, block_codes, literal, filled, entries_with, last_column, AreBlock, EndsBlock}
+use Rattle.ci_yaml.specs.Block.{block_codes, literal, AreBlock, EndsBlock}
+use Rattle.ci_yaml.specs.Document.{Ending, outside, within, filled, entries_with, last_column}
 use Rattle.ci_yaml.specs.ReadLines.{Reader, with_text, stop_or, ending_at, content_by, content, line_by, line_next, read_lines, beginning}
 use Rattle.ci_yaml.specs.Blocks.{StopsBlock}
 use Rattle.ci_yaml.specs.Stops.{entered_by, entered, StopsAt, StartsOutside, HasRead}
 use Rattle.ci_yaml.proofs.Headers.{entries-same}
 use Rattle.ci_yaml.proofs.LinesSound.{stop-ok, header-fits, read-by}
-use Rattle.ci_yaml.proofs.LinesComplete.{outside-next, block-read, run-filled, same-mapped}
+use Rattle.ci_yaml.proofs.LinesComplete.{starts-anywhere, starts-from, outside-next, block-read, run-filled, same-mapped}
+use Rattle.ci_yaml_lines.proofs.Lists.{last-parted, take-past}
+use Rattle.ci_yaml_lines.proofs.Parsed.{entries-push}
 
 -- ---- one line
 
@@ -25,25 +27,19 @@ column-push [] e = refl
 column-push (f ∷ []) e = refl
 column-push (f ∷ g ∷ es) e = column-push (g ∷ es) e
 
-entries-push : (es : List parts.Entry) (e : parts.Entry) → map entry_view (es ++ e ∷ []) ≡ map entry_view es ++ entry_view e ∷ []
-entries-push [] e = refl
-entries-push (f ∷ es) e = ap (λ (x : List Entry). entry_view f ∷ x) (entries-push es e)
-
 pub column-last : (es : List parts.Entry) (e : parts.Entry) → 1 ≤ length es → e ≡ get_or es (length es - 1) e → e.column ≡ last_column (map entry_view es)
 column-last es e le is =
-    let less : length es - 1 < length es = omega arith in
-    let all : length es - 1 + 1 ≡ length es = omega arith in
     let front : List parts.Entry = take (length es - 1) es in
-    let parted : es ≡ front ++ e ∷ [] = sym (take-length es) ∙ ap (λ n. take n es) (sym all) ∙ take_more es (length es - 1) e less ∙ ap (λ (x : parts.Entry). front ++ x ∷ []) (sym is) in
+    let parted : es ≡ front ++ e ∷ [] = last-parted es e le ∙ ap (λ (x : parts.Entry). front ++ x ∷ []) (sym is) in
     sym (ap (λ (x : List parts.Entry). last_column (map entry_view x)) parted ∙ ap last_column (entries-push front e) ∙ column-push (map entry_view front) (entry_view e))
 
-content-least : (r : Result State Code) (sp : Spoken) → content_by r sp ≡ entered_by r (least_spoken sp)
+content-least : (r : Result State Code) (sp : ParsedLine) → content_by r sp ≡ entered_by r (least_parsed sp)
 content-least (Ok s) sp = refl
 content-least (Err c) sp = refl
 
-pub content-is : (s : State) (l : Line) (sp : LeastSpoken) → sp ≡ least_spoken (line_spoken l) → entered s sp ≡ content s (line_spoken l)
+pub content-is : (s : State) (l : Line) (sp : LeastParsed) → sp ≡ least_parsed (parse_line l) → entered s sp ≡ content s (parse_line l)
 content-is s l sp e =
-    ap (entered s) e ∙ sym (ap (λ (es : List Entry). content_by (run s es) (line_spoken l)) (entries-same l) ∙ content-least (run s (line_spoken l).entries) (line_spoken l))
+    ap (entered s) e ∙ sym (ap (λ (es : List Entry). content_by (run s es) (parse_line l)) (entries-same l) ∙ content-least (run s (parse_line l).entries) (parse_line l))
 
 -- ---- the lines before and behind a place
 
@@ -75,10 +71,10 @@ read-append r (l ∷ a) b m e =
 alone-read : (r s : Reader) (l : Line) → line_next r l ≡ Ok s → read_lines r (l ∷ []) ≡ Ok s
 alone-read r s l e = ap (λ (x : Result Reader Code). x >>= λ t. read_lines t []) e
 
-outside-line : (end : Ending) (st : State) (l : Line) (ls rest : List Line) → ls ≡ l ∷ rest → StartsOutside end ls → line_by end st l ≡ content st (line_spoken l)
+outside-line : (end : Ending) (st : State) (l : Line) (ls rest : List Line) → ls ≡ l ∷ rest → StartsOutside end ls → line_by end st l ≡ content st (parse_line l)
 outside-line end st l ls rest e out = outside-next end st l (subst (StartsOutside end) e out)
 
-pub line-read : (ls rest : List Line) (at : ℕ) (l : Line) (st : State) (r : Reader) → HasRead ls at st → drop at ls ≡ l ∷ rest → content st (line_spoken l) ≡ Ok r → read_lines beginning (take (suc at) ls) ≡ Ok r
+pub line-read : (ls rest : List Line) (at : ℕ) (l : Line) (st : State) (r : Reader) → HasRead ls at st → drop at ls ≡ l ∷ rest → content st (parse_line l) ≡ Ok r → read_lines beginning (take (suc at) ls) ≡ Ok r
 line-read ls rest at l st r h e ok =
     ap (read_lines beginning) (take-next at ls rest l e) ∙ read-append beginning (take at ls) (l ∷ []) (record { state = st; end = h.end }) h.read
     ∙ alone-read (record { state = st; end = h.end }) r l (outside-line h.end st l (drop at ls) rest e h.next ∙ ok)
@@ -95,29 +91,25 @@ stop-here ls after n l r code read e fault = record {
   fault = fault;
 }
 
-pub line-stops : (ls rest : List Line) (at : ℕ) (l : Line) (st : State) (code : Code) → HasRead ls at st → drop at ls ≡ l ∷ rest → content st (line_spoken l) ≡ Err code → StopsAt ls (suc at) code
+pub line-stops : (ls rest : List Line) (at : ℕ) (l : Line) (st : State) (code : Code) → HasRead ls at st → drop at ls ≡ l ∷ rest → content st (parse_line l) ≡ Err code → StopsAt ls (suc at) code
 line-stops ls rest at l st code h e fault =
     stop-here ls rest at l (record { state = st; end = h.end }) code h.read e (outside-line h.end st l (drop at ls) rest e h.next ∙ fault)
 
-starts-outside : (ls : List Line) → StartsOutside outside ls
-starts-outside [] = tt
-starts-outside (l ∷ ls) = tt
-
-pub line-more : (ls rest : List Line) (at : ℕ) (l : Line) (st s : State) → HasRead ls at st → drop at ls ≡ l ∷ rest → content st (line_spoken l) ≡ Ok (record { state = s; end = outside }) → HasRead ls (suc at) s
-line-more ls rest at l st s h e ok = record { end = outside; read = line-read ls rest at l st (record { state = s; end = outside }) h e ok; next = starts-outside (drop (suc at) ls) }
+pub line-more : (ls rest : List Line) (at : ℕ) (l : Line) (st s : State) → HasRead ls at st → drop at ls ≡ l ∷ rest → content st (parse_line l) ≡ Ok (record { state = s; end = outside }) → HasRead ls (suc at) s
+line-more ls rest at l st s h e ok = record { end = outside; read = line-read ls rest at l st (record { state = s; end = outside }) h e ok; next = starts-anywhere (drop (suc at) ls) }
 
 -- ---- a block
 
-text-by : (h : Option Chomp) (l : Line) (st s : State) (how : Chomp) (c : ℕ) (res : Result State Code) → (line_spoken l).header ≡ h → run st (entries_with h (line_spoken l).entries []) ≡ res
-    → content_by res (line_spoken l) ≡ Ok (record { state = s; end = within how c [] }) → with_text (literal how []) s ≡ s
+text-by : (h : Option Chomp) (l : Line) (st s : State) (how : Chomp) (c : ℕ) (res : Result State Code) → (parse_line l).header ≡ h → run st (entries_with h (parse_line l).entries []) ≡ res
+    → content_by res (parse_line l) ≡ Ok (record { state = s; end = within how c [] }) → with_text (literal how []) s ≡ s
 text-by h l st s how c (Err code) is ran e = absurd cc
 text-by None l st s how c (Ok t) is ran e =
-    let p = stop-ok (least (line_spoken l).codes) (record { state = t; end = ending_at (line_spoken l).header (last_column (line_spoken l).entries) }) (record { state = s; end = within how c [] }) e in
-    let no : outside ≡ within how c [] = sym (ap (λ o. ending_at o (last_column (line_spoken l).entries)) is) ∙ ap (λ (r : Reader). r.end) p.1 in
+    let p = stop-ok (least (parse_line l).codes) (record { state = t; end = ending_at (parse_line l).header (last_column (parse_line l).entries) }) (record { state = s; end = within how c [] }) e in
+    let no : outside ≡ within how c [] = sym (ap (λ o. ending_at o (last_column (parse_line l).entries)) is) ∙ ap (λ (r : Reader). r.end) p.1 in
     absurd cc
 text-by (Some how') l st s how c (Ok t) is ran e =
-    let heads : List Entry = (line_spoken l).entries in
-    let p = stop-ok (least (line_spoken l).codes) (record { state = t; end = ending_at (line_spoken l).header (last_column heads) }) (record { state = s; end = within how c [] }) e in
+    let heads : List Entry = (parse_line l).entries in
+    let p = stop-ok (least (parse_line l).codes) (record { state = t; end = ending_at (parse_line l).header (last_column heads) }) (record { state = s; end = within how c [] }) e in
     let ends : within how' (last_column heads) [] ≡ within how c [] = sym (ap (λ o. ending_at o (last_column heads)) is) ∙ ap (λ (r : Reader). r.end) p.1 in
     let how-is : how' ≡ how = cc in
     let state-is : t ≡ s = ap (λ (r : Reader). r.state) p.1 in
@@ -125,11 +117,11 @@ text-by (Some how') l st s how c (Ok t) is ran e =
     same-mapped (literal how' []) (run st (filled heads (literal how' []))) t (run-filled st heads (literal how' []) (literal how' []) (header-fits l how' is)) ran in
     sym (subst (λ (x : State). x ≡ with_text (literal how []) x) state-is (subst (λ (x : Chomp). t ≡ with_text (literal x []) t) how-is same))
 
-text-same : (l : Line) (st s : State) (how : Chomp) (c : ℕ) → content st (line_spoken l) ≡ Ok (record { state = s; end = within how c [] }) → with_text (literal how []) s ≡ s
-text-same l st s how c e = text-by (line_spoken l).header l st s how c (run st (entries_with (line_spoken l).header (line_spoken l).entries [])) refl refl e
+text-same : (l : Line) (st s : State) (how : Chomp) (c : ℕ) → content st (parse_line l) ≡ Ok (record { state = s; end = within how c [] }) → with_text (literal how []) s ≡ s
+text-same l st s how c e = text-by (parse_line l).header l st s how c (run st (entries_with (parse_line l).header (parse_line l).entries [])) refl refl e
 
 -- the lines of a block that follow a line with a header
-block-lines : (ls rest : List Line) (at k : ℕ) (l : Line) (st s : State) (how : Chomp) (c : ℕ) → HasRead ls at st → drop at ls ≡ l ∷ rest → content st (line_spoken l) ≡ Ok (record { state = s; end = within how c [] })
+block-lines : (ls rest : List Line) (at k : ℕ) (l : Line) (st s : State) (how : Chomp) (c : ℕ) → HasRead ls at st → drop at ls ≡ l ∷ rest → content st (parse_line l) ≡ Ok (record { state = s; end = within how c [] })
     → AreBlock c [] (take k rest) → read_lines beginning (take (suc at + k) ls) ≡ Ok (record { state = with_text (literal how (take k rest)) s; end = within how c (take k rest) })
 block-lines ls rest at k l st s how c h e ok are =
     let block : List Line = take k rest in
@@ -140,19 +132,15 @@ block-lines ls rest at k l st s how c h e ok are =
     ∙ ap (read_lines (record { state = with_text (literal how []) s; end = within how c [] })) (sym (append-nil block))
     ∙ block-read s how c [] block [] are
 
-ends-outside : (how : Chomp) (c : ℕ) (block rest : List Line) → EndsBlock c rest → StartsOutside (within how c block) rest
-ends-outside how c block [] h = tt
-ends-outside how c block (l ∷ rest) h = h
-
 behind : (ls rest : List Line) (at k : ℕ) (l : Line) → drop at ls ≡ l ∷ rest → drop (suc at + k) ls ≡ drop k rest
 behind ls rest at k l e = sym (drop-drop k (suc at) ls) ∙ ap (drop k) (drop-next at ls rest l e)
 
-pub block-more : (ls rest : List Line) (at k : ℕ) (l : Line) (st s : State) (how : Chomp) (c : ℕ) → HasRead ls at st → drop at ls ≡ l ∷ rest → content st (line_spoken l) ≡ Ok (record { state = s; end = within how c [] })
+pub block-more : (ls rest : List Line) (at k : ℕ) (l : Line) (st s : State) (how : Chomp) (c : ℕ) → HasRead ls at st → drop at ls ≡ l ∷ rest → content st (parse_line l) ≡ Ok (record { state = s; end = within how c [] })
     → AreBlock c [] (take k rest) → EndsBlock c (drop k rest) → HasRead ls (suc at + k) (with_text (literal how (take k rest)) s)
 block-more ls rest at k l st s how c h e ok are ends = record {
   end = within how c (take k rest);
   read = block-lines ls rest at k l st s how c h e ok are;
-  next = subst (StartsOutside (within how c (take k rest))) (sym (behind ls rest at k l e)) (ends-outside how c (take k rest) (drop k rest) ends);
+  next = subst (StartsOutside (within how c (take k rest))) (sym (behind ls rest at k l e)) (starts-from how c (take k rest) (drop k rest) ends);
 }
 
 stops-by : (ls : List Line) (n c : ℕ) (how : Chomp) (block tail : List Line) (s : State) (code : Code) → read_lines beginning (take n ls) ≡ Ok (record { state = s; end = within how c block }) → drop n ls ≡ tail → StopsBlock c block tail code → StopsAt ls (suc n) code
@@ -160,9 +148,9 @@ stops-by ls n c how block [] s code read e stop = absurd stop
 stops-by ls n c how block (l ∷ after) s code read e stop =
     let go : Reader = record { state = with_text (literal how (block ++ l ∷ [])) s; end = within how c (block ++ l ∷ []) } in
     stop-here ls after n l (record { state = s; end = within how c block }) code read e
-    (ap (λ b. cond b (stop_or (least (block_codes block l)) go) (content s (line_spoken l))) stop.0 ∙ ap (λ o. stop_or o go) stop.1)
+    (ap (λ b. cond b (stop_or (least (block_codes block l)) go) (content s (parse_line l))) stop.0 ∙ ap (λ o. stop_or o go) stop.1)
 
-pub block-stops : (ls rest : List Line) (at k : ℕ) (l : Line) (st s : State) (how : Chomp) (c : ℕ) (code : Code) → HasRead ls at st → drop at ls ≡ l ∷ rest → content st (line_spoken l) ≡ Ok (record { state = s; end = within how c [] })
+pub block-stops : (ls rest : List Line) (at k : ℕ) (l : Line) (st s : State) (how : Chomp) (c : ℕ) (code : Code) → HasRead ls at st → drop at ls ≡ l ∷ rest → content st (parse_line l) ≡ Ok (record { state = s; end = within how c [] })
     → AreBlock c [] (take k rest) → StopsBlock c (take k rest) (drop k rest) code → StopsAt ls (suc (suc at + k)) code
 block-stops ls rest at k l st s how c code h e ok are stop =
     stops-by ls (suc at + k) c how (take k rest) (drop k rest) (with_text (literal how (take k rest)) s) code (block-lines ls rest at k l st s how c h e ok are) (behind ls rest at k l e) stop
@@ -170,13 +158,7 @@ block-stops ls rest at k l st s how c code h e ok are stop =
 -- ---- before the first line, and behind the last
 
 pub nothing-read : (ls : List Line) → HasRead ls 0 start
-nothing-read ls = record { end = outside; read = refl; next = starts-outside ls }
+nothing-read ls = record { end = outside; read = refl; next = starts-anywhere ls }
 
 pub all-read : (ls : List Line) (at : ℕ) (st : State) → length ls ≤ at → HasRead ls at st → (r : Reader) × (read_lines beginning ls ≡ Ok r) × (r.state ≡ st)
 all-read ls at st le h = (record { state = st; end = h.end }, ap (read_lines beginning) (sym (take-past at ls le)) ∙ h.read, refl)
-  where
-    take-past : (n : ℕ) (xs : List Line) → length xs ≤ n → take n xs ≡ xs
-    take-past zero [] le = refl
-    take-past zero (x ∷ xs) le = absurd (omega arith)
-    take-past (suc n) [] le = refl
-    take-past (suc n) (x ∷ xs) le = let less : length xs ≤ n = omega arith in ap (λ (y : List Line). x ∷ y) (take-past n xs less)

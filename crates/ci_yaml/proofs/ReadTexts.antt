@@ -5,16 +5,17 @@ use Rattle.std.specs.List.{slice_split, onto_first}
 use Rattle.std.specs.Str.Lines.{lines, lines_of_parts}
 use Rattle.std.proofs.lemmas.List.{take-append-drop}
 use denote.Bor.{Bor}
-use Rattle.ci_yaml.specs.declared.fault.Code.{Code}
-use Rattle.ci_yaml.specs.declared.fault.Code.TheVariants.{Y12}
+use Rattle.ci_yaml_lines.specs.declared.code.Code.{Code}
+use Rattle.ci_yaml_lines.specs.declared.code.Code.TheVariants.{Y12}
 use Rattle.ci_yaml.specs.declared.fault.YamlFault.{YamlFault}
 use Rattle.ci_yaml.specs.declared.fault.YamlFault.TheVariants as faults
-use Rattle.ci_yaml.specs.declared.tree.Tree.{Tree}
-use Rattle.ci_yaml.specs.View.{value_view}
-use Rattle.ci_yaml.specs.Tree.{Value}
-use Rattle.ci_yaml.specs.Entry.{Entry}
+use Rattle.ci_yaml_lines.specs.declared.tree.Tree.{Tree}
+use Rattle.ci_yaml_lines.specs.View.{value_view}
+use Rattle.ci_yaml_lines.specs.Tree.{Value}
+use Rattle.ci_yaml_lines.specs.Entry.{Entry}
 use Rattle.ci_yaml.specs.Reading.{◌>>=◌, State, start, whole, inside, finished}
-use Rattle.ci_yaml.specs.Document.{Line, Says, none, HasTree, IsGood, IsFault, at_line, no_content}
+use Rattle.ci_yaml_lines.specs.Line.{Line}
+use Rattle.ci_yaml.specs.Document.{Parses, none, HasTree, IsGood, IsFault, at_line, no_content}
 use Rattle.ci_yaml.specs.Blocks.{texts_of}
 use Rattle.ci_yaml.specs.ReadLines.{Reader, line_next, read_lines, beginning}
 use Rattle.ci_yaml.specs.Stops.{StopsAt, AreShort, Reads, RefusedBy, GivesTree}
@@ -98,13 +99,13 @@ ok-same r s x p q = cc
 pub text-tree : (bs : List ℕ) (res : Result Tree YamlFault) → length bs ≤ 65536 → Reads (lines bs) res → IfOk res (λ t. HasTree bs (value_view t))
 text-tree bs (Ok t) le h =
     let d = tree-is (lines bs) h.0 (value_view t) h.1 h.2 in
-    record { size = le; entries = d.0; end = d.1; says = d.2; document = d.3 }
+    record { size = le; entries = d.0; end = d.1; parses = d.2; document = d.3 }
 text-tree bs (Err e) le h = tt
 
 pub fault-at : (bs : List ℕ) (at : ℕ) (code : Code) → length bs ≤ 65536 → StopsAt (lines bs) at code → IsFault bs at code
 fault-at bs at code le s =
     let good : IsGood s.before = read-good s.before s.reader s.read in
-    let stand = read-stands beginning [] s.before s.reader s.read (record { entries = []; says = none; stands = refl }) in
+    let stand = read-stands beginning [] s.before s.reader s.read (record { entries = []; parses = none; stands = refl }) in
     let code-is = stop-least s.before s.stop s.reader code stand s.fault in
     at_line le s.before s.stop s.after s.parts s.number
     (λ k le'. good-front (take k s.before) _ (subst IsGood (sym (take-append-drop k s.before)) good))
@@ -116,13 +117,13 @@ fault-at bs at code le s =
         let e : Err code ≡ Ok r.0 = sym (last-by beginning s.before s.stop s.reader s.read ∙ ap (λ (y : Result Reader Code). y >>= λ t. read_lines t []) s.fault) ∙ r.1 in
         absurd cc
 
-pub nothing-by : (ls : List Line) (r : Reader) (st : State) → r.state ≡ st → read_lines beginning ls ≡ Ok r → finished st ≡ None → Says ls [] r.end
+pub nothing-by : (ls : List Line) (r : Reader) (st : State) → r.state ≡ st → read_lines beginning ls ≡ Ok r → finished st ≡ None → Parses ls [] r.end
 nothing-by ls r (whole v) is e f = absurd cc
 nothing-by ls r (inside fs given) is e f = absurd cc
 nothing-by ls r start is e f =
-    let h = read-stands beginning [] ls r e (record { entries = []; says = none; stands = refl }) in
+    let h = read-stands beginning [] ls r e (record { entries = []; parses = none; stands = refl }) in
     let empty : h.entries ≡ [] = subst (λ (s : State). StateStands s h.entries) is h.stands in
-    subst (λ (es : List Entry). Says ls es r.end) empty h.says
+    subst (λ (es : List Entry). Parses ls es r.end) empty h.parses
 
 refused-by : (bs : List ℕ) (at : ℕ) (code : Code) → length bs ≤ 65536
     → StopsAt (lines bs) at code ⊎ ((r : Reader) × (read_lines beginning (lines bs) ≡ Ok r) × (finished r.state ≡ None) × (at ≡ 1) × (code ≡ Y12)) → IsFault bs at code
@@ -159,12 +160,12 @@ no-tree-by bs v at code s e f (inr h) =
 
 pub text-all : (bs : List ℕ) (res : Result Tree YamlFault) → Reads (lines bs) res → (v : Value) → HasTree bs v → GivesTree v res
 text-all bs (Ok t) h v d =
-    let a = tree-read (lines bs) d.entries d.end v d.says d.document in
+    let a = tree-read (lines bs) d.entries d.end v d.parses d.document in
     let same : h.0 ≡ a.reader = ok-same h.0 a.reader (read_lines beginning (lines bs)) h.1 a.read in
     some-same (value_view t) v (sym h.2 ∙ ap (λ (r : Reader). finished r.state) same ∙ a.tree)
 text-all bs (Err faults.Memory) h v d = tt
 text-all bs (Err (faults.Fault code at)) h v d =
-    let a = tree-read (lines bs) d.entries d.end v d.says d.document in
+    let a = tree-read (lines bs) d.entries d.end v d.parses d.document in
     no-tree-by bs v at code a.reader a.read a.tree h
 
 pub from-ok : {V E : Type 0} (r : Result V E) (v : V) (P : V → Type 0) → r ≡ Ok v → IfOk r P → P v

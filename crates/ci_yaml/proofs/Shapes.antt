@@ -3,14 +3,16 @@ use Rattle.std.proofs.Common.{◌≡◌, ℕ, zero, suc, pos, ◌+◌, ◌<◌, 
 use Rattle.std.specs.Prelude.{⊤, max, ◌==◌, ◌&&◌, ◌||◌, codes}
 use Rattle.std.specs.Str.{bytes_eq}
 use Rattle.std.specs.Str.Lines.{lines}
-use Rattle.ci_yaml.specs.declared.fault.Code.TheVariants.{Y2, Y9}
-use Rattle.ci_yaml.specs.Tree.{Kind, sequence, mapping, Value, null, boolean, number, text, node, Members, no_members, member, HaveNoNames}
-use Rattle.ci_yaml.specs.Entry.{Entry}
+use Rattle.ci_yaml_lines.specs.declared.code.Code.TheVariants.{Y2, Y9}
+use Rattle.ci_yaml_lines.specs.Tree.{Kind, sequence, mapping, Value, null, boolean, number, text, node, Members, no_members, member, HaveNoNames}
+use Rattle.ci_yaml_lines.specs.Entry.{Entry}
 use Rattle.ci_yaml.specs.Node.{IsWithin, HasValue, here, deeper, nothing, IsNode, AreMembers, IsDocument, of_node, of_line}
-use Rattle.ci_yaml.specs.Scalar.{drop_blanks, trim_end, head_is, tail_of, before_comment, only_comment, when, Quoted, quoted, is_quote, count_of, negative_of, number_of, number_or_text, plain_value}
-use Rattle.ci_yaml.specs.Line.{End, comma, bracket, missing, cut_place, Place, plain_place, quoted_place, place, Listed, after_place, places, listed, clip, strip, keep, Written, header_rest, header_of, written_quoted, written_list, written_plain, written_at, unwritten, written, Keyed, keyed, keyed_or_bare, is_dash, spaces, Item, inner, value, item, is_skipped, Spoken, dashed, spoken, with_codes, content_spoken, is_document_mark, line_spoken}
-use Rattle.ci_yaml.specs.Document.{Line, Ending, filled, literal, Says, none, line, block, HasTree}
+use Rattle.ci_yaml_lines.specs.Scalar.{drop_blanks, trim_end, head_is, tail_of, before_comment, only_comment, when, Quoted, quoted, is_quote, count_of, negative_of, number_of, number_or_text, plain_value}
+use Rattle.ci_yaml_lines.specs.Line.{End, comma, bracket, missing, cut_place, Place, plain_place, quoted_place, place, Listed, after_place, places, listed, clip, strip, keep, Written, header_rest, header_of, written_quoted, written_list, written_plain, written_at, unwritten, written, Keyed, keyed, keyed_or_bare, is_dash, spaces, Item, inner, value, item, is_skipped, ParsedLine, dashed, parse_entries, with_codes, parse_content, is_document_mark, parse_line, Line}
+use Rattle.ci_yaml.specs.Block.{literal}
+use Rattle.ci_yaml.specs.Document.{Ending, filled, Parses, none, line, block, HasTree}
 use Rattle.ci_yaml.specs.Shape.{KeysDiffer, AllKeysDiffer, depth, members_depth}
+use Rattle.ci_yaml_lines.proofs.Forms.{either, OfForms, OfLines, written_at-each, written-each, line-each}
 
 -- ---- a value on a line is a scalar, or a list of scalars
 
@@ -41,10 +43,6 @@ abbrev AllFlat : List Entry → Type 0
 AllFlat [] = ⊤
 AllFlat (e ∷ es) = GivenFlat e.given × AllFlat es
 
-either-value : (P : Value → Type 0) (b : Bool) (x y : Value) → P x → P y → P (cond b x y)
-either-value P true x y p q = p
-either-value P false x y p q = q
-
 number-scalar : (m n : Option ℕ) (bs : List ℕ) → IsScalar (number_of m n bs)
 number-scalar (Some k) n bs = tt
 number-scalar None (Some k) bs = tt
@@ -56,10 +54,10 @@ plain-scalar bs =
     let zero_or : Value = cond (bytes_eq bs (codes "0")) (number (pos 0)) other in
     let null_or : Value = cond (bytes_eq bs (codes "null") || bytes_eq bs (codes "~")) null zero_or in
     let false_or : Value = cond (bytes_eq bs (codes "false")) (boolean false) null_or in
-    either-value IsScalar (bytes_eq bs (codes "true")) (boolean true) false_or tt
-    (either-value IsScalar (bytes_eq bs (codes "false")) (boolean false) null_or tt
-    (either-value IsScalar (bytes_eq bs (codes "null") || bytes_eq bs (codes "~")) null zero_or tt
-    (either-value IsScalar (bytes_eq bs (codes "0")) (number (pos 0)) other tt (number-scalar (count_of bs) (negative_of bs) bs))))
+    either IsScalar (bytes_eq bs (codes "true")) (boolean true) false_or tt
+    (either IsScalar (bytes_eq bs (codes "false")) (boolean false) null_or tt
+    (either IsScalar (bytes_eq bs (codes "null") || bytes_eq bs (codes "~")) null zero_or tt
+    (either IsScalar (bytes_eq bs (codes "0")) (number (pos 0)) other tt (number-scalar (count_of bs) (negative_of bs) bs))))
 
 scalar-flat : (v : Value) → IsScalar v → IsFlat v
 scalar-flat null h = tt
@@ -72,13 +70,9 @@ quoted-scalar : (q : Option Quoted) → IsScalar (quoted_place q).value
 quoted-scalar None = tt
 quoted-scalar (Some q) = tt
 
-either-place : (b : Bool) (x y : Place) → IsScalar x.value → IsScalar y.value → IsScalar (cond b x y).value
-either-place true x y p q = p
-either-place false x y p q = q
-
 place-scalar : (bs : List ℕ) → IsScalar (place bs).value
 place-scalar bs =
-    either-place (is_quote (drop_blanks bs)) (quoted_place (quoted (drop_blanks bs))) (plain_place bs (cut_place 44 bs))
+    either (λ (p : Place). IsScalar p.value) (is_quote (drop_blanks bs)) (quoted_place (quoted (drop_blanks bs))) (plain_place bs (cut_place 44 bs))
     (quoted-scalar (quoted (drop_blanks bs))) (plain-scalar (drop_blanks (trim_end (cut_place 44 bs).raw)))
 
 after-scalars : (end : End) (more : List ℕ → Listed) → ((r : List ℕ) → AreScalars (more r).members) → AreScalars (after_place end more).members
@@ -90,91 +84,45 @@ places-scalars : (n : ℕ) (bs : List ℕ) → AreScalars (places n bs).members
 places-scalars zero bs = tt
 places-scalars (suc n) bs = (refl, place-scalar bs, after-scalars (place bs).end (λ r. places n r) (λ r. places-scalars n r))
 
-either-listed : (b : Bool) (x y : Listed) → AreScalars x.members → AreScalars y.members → AreScalars (cond b x y).members
-either-listed true x y p q = p
-either-listed false x y p q = q
-
 listed-scalars : (w : List ℕ) → AreScalars (listed w).members
 listed-scalars w =
     let bs : List ℕ = tail_of w in
     let empty : Listed = record { members = no_members; rest = Some (tail_of (drop_blanks bs)); codes = [] } in
-    either-listed (head_is 93 (drop_blanks bs)) empty (places (length w) bs) tt (places-scalars (length w) bs)
+    either (λ (l : Listed). AreScalars l.members) (head_is 93 (drop_blanks bs)) empty (places (length w) bs) tt (places-scalars (length w) bs)
 
-either-flat : (b : Bool) (x y : Written) → GivenFlat x.given → GivenFlat y.given → GivenFlat (cond b x y).given
-either-flat true x y p q = p
-either-flat false x y p q = q
+abbrev WrittenFlat : Written → Type 0
+WrittenFlat w = GivenFlat w.given
 
-quoted-flat : (q : Option Quoted) → GivenFlat (written_quoted q).given
-quoted-flat None = tt
-quoted-flat (Some q) = tt
-
-header-flat : (bs : List ℕ) → GivenFlat (header_of bs).given
-header-flat [] = tt
-header-flat (b ∷ bs) =
-    either-flat (b == 45) (header_rest strip 45 bs) (cond (b == 43) (header_rest keep 43 bs) (header_rest clip 124 (b ∷ bs))) tt
-    (either-flat (b == 43) (header_rest keep 43 bs) (header_rest clip 124 (b ∷ bs)) tt tt)
-
-at-flat : (w : List ℕ) → GivenFlat (written_at w).given
-at-flat w =
-    let raw : List ℕ = before_comment 0 w in
-    let plain : Written = written_plain raw in
-    let header : Written = cond (head_is 124 w) (header_of (tail_of w)) plain in
-    let list : Written = cond (head_is 91 w) (written_list (listed w)) header in
-    either-flat (is_quote w) (written_quoted (quoted w)) list (quoted-flat (quoted w))
-    (either-flat (head_is 91 w) (written_list (listed w)) header (listed-scalars w)
-    (either-flat (head_is 124 w) (header_of (tail_of w)) plain (header-flat (tail_of w)) (scalar-flat (plain_value (trim_end raw)) (plain-scalar (trim_end raw)))))
-
-written-flat : (last : ℕ) (bs : List ℕ) → GivenFlat (written last bs).given
-written-flat last bs = either-flat (only_comment last bs) (unwritten []) (written_at (drop_blanks bs)) tt (at-flat (drop_blanks bs))
+forms-flat : OfForms WrittenFlat
+forms-flat = record {
+  in_quotes = λ q. quoted-flat q;
+  in_list = λ w. listed-scalars w;
+  in_block = λ how last bs. tt;
+  plain = λ raw. scalar-flat (plain_value (trim_end raw)) (plain-scalar (trim_end raw));
+}
+  where
+    quoted-flat : (q : Option Quoted) → WrittenFlat (written_quoted q)
+    quoted-flat None = tt
+    quoted-flat (Some q) = tt
 
 -- ---- the values of a line's entries
 
-either-entries : (b : Bool) (x y : Spoken) → AllFlat x.entries → AllFlat y.entries → AllFlat (cond b x y).entries
-either-entries true x y p q = p
-either-entries false x y p q = q
+abbrev ParsedFlat : ParsedLine → Type 0
+ParsedFlat s = AllFlat s.entries
 
-keyed-flat : (c : ℕ) (w : List ℕ) (k : Option Keyed) → AllFlat (keyed_or_bare c w k).entries
-keyed-flat c w None = (at-flat w, tt)
-keyed-flat c w (Some k) = (written-flat 58 k.rest, tt)
+lines-flat : OfLines ParsedFlat
+lines-flat = record {
+  empty = λ cs. tt;
+  bare_value = λ c w. (written_at-each WrittenFlat forms-flat w, tt);
+  key_value = λ c k. (written-each WrittenFlat forms-flat tt 58 k.rest, tt);
+  item_value = λ c bs. (written-each WrittenFlat forms-flat tt 45 bs, tt);
+  no_value = λ c cs. (tt, tt);
+  behind_dash = λ c s p. (tt, p);
+  more_codes = λ cs s p. p;
+}
 
-abbrev ItemFlat : Item → Type 0
-ItemFlat (inner k t) = ⊤
-ItemFlat (value w) = GivenFlat w.given
-
-either-item : (b : Bool) (x y : Item) → ItemFlat x → ItemFlat y → ItemFlat (cond b x y)
-either-item true x y p q = p
-either-item false x y p q = q
-
-item-flat : (r : List ℕ) → ItemFlat (item r)
-item-flat r =
-    let w : List ℕ = drop (spaces r) r in
-    let more : Item = cond (is_dash w || is_some (keyed w)) (inner (1 + spaces r) w) (value (written 45 r)) in
-    let tab : Item = cond (head_is 9 w) (value (unwritten (Y2 ∷ []))) more in
-    either-item (only_comment 45 r) (value (unwritten [])) tab tt
-    (either-item (head_is 9 w) (value (unwritten (Y2 ∷ []))) more tt
-    (either-item (is_dash w || is_some (keyed w)) (inner (1 + spaces r) w) (value (written 45 r)) tt (written-flat 45 r)))
-
-dashed-flat : (c : ℕ) (i : Item) (more : ℕ → List ℕ → Spoken) → ItemFlat i → ((d : ℕ) (t : List ℕ) → AllFlat (more d t).entries) → AllFlat (dashed c i more).entries
-dashed-flat c (inner k t) more h ih = (tt, ih _ t)
-dashed-flat c (value w) more h ih = (h, tt)
-
-spoken-flat : (n c : ℕ) (w : List ℕ) → AllFlat (spoken n c w).entries
-spoken-flat zero c w = tt
-spoken-flat (suc n) c w =
-    either-entries (is_dash w) (dashed c (item (tail_of w)) (λ d t. spoken n d t)) (keyed_or_bare c w (keyed w))
-    (dashed-flat c (item (tail_of w)) (λ d t. spoken n d t) (item-flat (tail_of w)) (λ d t. spoken-flat n d t)) (keyed-flat c w (keyed w))
-
-content-flat : (c : ℕ) (w : List ℕ) → AllFlat (content_spoken c w).entries
-content-flat c w =
-    let tab : Spoken = record { entries = []; header = None; codes = Y2 ∷ [] } in
-    let body : Spoken = with_codes (when ((c == 0) && is_document_mark w) Y9) (spoken (suc (length w)) c w) in
-    either-entries (head_is 9 w) tab body tt (spoken-flat (suc (length w)) c w)
-
-line-flat : (l : Line) → AllFlat (line_spoken l).entries
-line-flat l =
-    let skip : Spoken = record { entries = []; header = None; codes = [] } in
-    let w : List ℕ = trim_end (drop (spaces l) l) in
-    either-entries (is_skipped l) skip (content_spoken (spaces l) w) tt (content-flat (spaces l) w)
+line-flat : (l : Line) → AllFlat (parse_line l).entries
+line-flat l = line-each ParsedFlat lines-flat l
 
 filled-flat : (es : List Entry) (t : List ℕ) → AllFlat es → AllFlat (filled es t)
 filled-flat [] t h = tt
@@ -193,12 +141,12 @@ flat-behind : (a b : List Entry) → AllFlat (a ++ b) → AllFlat b
 flat-behind [] b h = h
 flat-behind (e ∷ a) b h = flat-behind a b h.1
 
-says-flat : (ls : List Line) (es : List Entry) (end : Ending) → Says ls es end → AllFlat es
-says-flat ls es end none = tt
-says-flat ls es end (line l rest es' all end' clean no_header says all-is) =
-    subst AllFlat (sym all-is) (flat-append (line_spoken l).entries es' (line-flat l) (says-flat rest es' end' says))
-says-flat ls es end (block l lines rest below how es' all end' last clean header parts are ends says all-is last-is) =
-    subst AllFlat (sym all-is) (flat-append (filled (line_spoken l).entries (literal how lines)) es' (filled-flat (line_spoken l).entries (literal how lines) (line-flat l)) (says-flat rest es' end' says))
+parses-flat : (ls : List Line) (es : List Entry) (end : Ending) → Parses ls es end → AllFlat es
+parses-flat ls es end none = tt
+parses-flat ls es end (line l rest es' all end' clean no_header parses all-is) =
+    subst AllFlat (sym all-is) (flat-append (parse_line l).entries es' (line-flat l) (parses-flat rest es' end' parses))
+parses-flat ls es end (block l lines rest below how es' all end' last clean header parts are ends parses all-is last-is) =
+    subst AllFlat (sym all-is) (flat-append (filled (parse_line l).entries (literal how lines)) es' (filled-flat (parse_line l).entries (literal how lines) (line-flat l)) (parses-flat rest es' end' parses))
 
 -- ---- the tree
 
@@ -277,4 +225,4 @@ document-fits v es (of_line e is head column given) flat =
 
 -- The tree of a text has keys that differ, and is at most ten deep.
 pub tree-fits : (bs : List ℕ) (v : Value) → HasTree bs v → KeysDiffer v × (depth v ≤ 10)
-tree-fits bs v h = document-fits v h.entries h.document (says-flat (lines bs) h.entries h.end h.says)
+tree-fits bs v h = document-fits v h.entries h.document (parses-flat (lines bs) h.entries h.end h.parses)

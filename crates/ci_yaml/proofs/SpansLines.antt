@@ -2,12 +2,13 @@
 use Rattle.std.proofs.Common.{◌≡◌, ℕ, zero, suc, ◌+◌, ◌≤◌, ◌⊎◌, inl, inr, List, [], ◌∷◌, ◌++◌, length, take, drop, refl, sym, ◌∙◌, ap, subst, append_assoc, length-append, arith}
 use Rattle.std.proofs.lemmas.List.{append-nil}
 use Rattle.std.proofs.Math.Seq.{take-add}
-use Rattle.ci_yaml.specs.declared.tree.Text.{Text}
-use Rattle.ci_yaml.specs.TreeView.{bytes_of}
-use Rattle.ci_yaml.specs.Line.{Chomp}
-use Rattle.ci_yaml.specs.Document.{Line, literal}
-use Rattle.ci_yaml.specs.Spans.{Stand, StandOn, Lines, none, line, block, Follow, Ends, no_text, last_text}
-use Rattle.ci_yaml.proofs.SpansStand.{stand-front}
+use Rattle.ci_yaml_lines.specs.declared.tree.Text.{Text}
+use Rattle.ci_yaml_lines.specs.TreeView.{bytes_of}
+use Rattle.ci_yaml_lines.specs.Line.{Chomp, Line}
+use Rattle.ci_yaml.specs.Block.{literal}
+use Rattle.ci_yaml_lines.specs.Spans.{Stand, StandOn}
+use Rattle.ci_yaml.specs.Spans.{Lines, line, block, Follow, Ends, no_text, last_text, none}
+use Rattle.ci_yaml_lines.proofs.SpansStand.{stand-front}
 
 nothing-on : (n : ℕ) (l : Line) → StandOn n l []
 nothing-on n l = Stand.none l l [] (sym (append-nil l))

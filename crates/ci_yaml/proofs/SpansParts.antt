@@ -3,26 +3,26 @@ use Rattle.std.proofs.Common.{◌≡◌, ℕ, zero, suc, ◌+◌, ◌<◌, ◌�
 use Rattle.std.specs.Prelude.{IfOk}
 use denote.Bor.{Bor}
 use Rattle.ci_yaml.specs.declared.fault.YamlFault.{YamlFault}
-use Rattle.ci_yaml.specs.declared.parts.Chomp.{Chomp}
+use Rattle.ci_yaml_lines.specs.declared.entry.Chomp.{Chomp}
 use Rattle.ci_yaml.specs.declared.reader.Passed.{Passed}
-use Rattle.ci_yaml.specs.declared.tree.Text.{Text}
-use Rattle.ci_yaml.specs.declared.tree.Tree.{Tree}
-use Rattle.ci_yaml.specs.View.{bytes_of, chomp_view}
-use Rattle.ci_yaml.specs.Document.{Line, literal}
+use Rattle.ci_yaml_lines.specs.declared.tree.Text.{Text}
+use Rattle.ci_yaml_lines.specs.declared.tree.Tree.{Tree}
+use Rattle.ci_yaml_lines.specs.View.{bytes_of, chomp_view}
+use Rattle.ci_yaml_lines.specs.Line.{Line}
+use Rattle.ci_yaml.specs.Block.{literal}
 use Rattle.ci_yaml.specs.Blocks.{texts_of}
-use Rattle.ci_yaml.specs.Spans.{texts_in, state_texts, StandOn, Lines, Follow, Ends, AreWritten}
+use Rattle.ci_yaml_lines.specs.Spans.{texts_in, StandOn}
+use Rattle.ci_yaml.specs.Spans.{state_texts, Lines, Follow, Ends, AreWritten}
 use Rattle.ci_yaml.proofs.BlockLines.{texts-take, length-texts}
-use Rattle.ci_yaml.proofs.ReadParts.{texts-drop, part-at}
+use Rattle.ci_yaml.proofs.ReadParts.{texts-drop, part-at, one}
 use Rattle.ci_yaml.proofs.SpansLines.{line-follows, block-follows}
 use Rattle.ci_yaml.proofs.SpansWritten.{lines-written}
+use Rattle.ci_yaml_lines.proofs.Lists.{take-past}
 
 pub line-texts : (n : ℕ) (l : Line) (before texts : List Text) (res : Result Passed YamlFault) → StandOn n l texts → IfOk res (λ p. state_texts p.progress ≡ before ++ texts)
     → IfOk res (λ p. Follow n l before (state_texts p.progress))
 line-texts n l before texts (Ok p) stand is = record { texts = texts; stand = stand; parts = is }
 line-texts n l before texts (Err e) stand is = tt
-
-one : (n : ℕ) → suc n ≡ n + 1
-one n = omega arith
 
 pub part-texts : (xs : List (Bor (List ℕ))) (at : ℕ) (d : Bor (List ℕ)) (ts all : List Text) → at < length xs → Lines 0 (take at (texts_of xs)) ts → Follow (at + 1) (get_or xs at d).now ts all
     → Lines 0 (take (at + 1) (texts_of xs)) all
@@ -44,12 +44,6 @@ part-block_texts xs ys at k d how t ts all ending lt h f is less bytes span ends
 
 pub all-texts : (xs : List (Bor (List ℕ))) (at : ℕ) (ts : List Text) → length xs ≤ at → Lines 0 (take at (texts_of xs)) ts → Lines 0 (texts_of xs) ts
 all-texts xs at ts le h = let past : length (texts_of xs) ≤ at = omega (arith, length-texts xs) in subst (λ (x : List Line). Lines 0 x ts) (take-past at (texts_of xs) past) h
-  where
-    take-past : (n : ℕ) (ls : List Line) → length ls ≤ n → take n ls ≡ ls
-    take-past zero [] le = refl
-    take-past zero (x ∷ ls) le = absurd (omega arith)
-    take-past (suc n) [] le = refl
-    take-past (suc n) (x ∷ ls) le = let less : length ls ≤ n = omega arith in ap (λ (y : List Line). x ∷ y) (take-past n ls less)
 
 pub tree-written : (ls texts : List Line) (res : Result Tree YamlFault) → texts ≡ ls → IfOk res (λ t. Lines 0 texts (texts_in t)) → IfOk res (λ t. AreWritten ls (texts_in t))
 tree-written ls texts (Ok t) is h = lines-written ls (texts_in t) (subst (λ (x : List Line). Lines 0 x (texts_in t)) is h)

@@ -1,11 +1,12 @@
 -- Texts that stand one behind the other, line by line, are written there.
 use Rattle.std.proofs.Common.{◌≡◌, ℕ, suc, ◌+◌, ◌-◌, ◌<◌, ◌≤◌, inl, inr, List, [], ◌∷◌, ◌++◌, length, refl, sym, ◌∙◌, ap, subst, append_assoc, length-append, arith}
 use Rattle.std.specs.Prelude.{⊤}
-use Rattle.ci_yaml.specs.declared.cut.At.{At}
-use Rattle.ci_yaml.specs.declared.tree.Place.{Place}
-use Rattle.ci_yaml.specs.declared.tree.Text.{Text}
-use Rattle.ci_yaml.specs.Document.{Line}
-use Rattle.ci_yaml.specs.Spans.{Stand, none, more, StandOn, on_line, in_block, AllAt, Precedes, Ascend, AreWritten, Lines, line, block}
+use Rattle.ci_yaml_lines.specs.declared.cut.SourceLine.{SourceLine}
+use Rattle.ci_yaml_lines.specs.declared.tree.Place.{Place}
+use Rattle.ci_yaml_lines.specs.declared.tree.Text.{Text}
+use Rattle.ci_yaml_lines.specs.Line.{Line}
+use Rattle.ci_yaml_lines.specs.Spans.{Stand, none, more, StandOn}
+use Rattle.ci_yaml.specs.Spans.{on_line, in_block, AllAt, Precedes, Ascend, AreWritten, Lines, line, block}
 
 -- ---- each text is what its span holds
 
@@ -72,10 +73,10 @@ ascend-more t [] p q = tt
 ascend-more t (u ∷ ts) p q = (p, q)
 
 -- where a text stands on the line that has so many bytes more
-abbrev spot : At → ℕ → Place
+abbrev spot : SourceLine → ℕ → Place
 spot at n = record { line = at.line; column = at.end - n }
 
-stand-ascend : (at : At) (bs rest : List ℕ) (us ts : List Text) → Stand at bs us rest → From (spot at 0) ts → Ascend ts → From (spot at (length bs)) (us ++ ts) × Ascend (us ++ ts)
+stand-ascend : (at : SourceLine) (bs rest : List ℕ) (us ts : List Text) → Stand at bs us rest → From (spot at 0) ts → Ascend ts → From (spot at (length bs)) (us ++ ts) × Ascend (us ++ ts)
 stand-ascend at bs rest us ts (none bs' front rest' is) from up =
     let le : at.end - length bs ≤ at.end - 0 = omega arith in
     (from-later (spot at (length bs)) (spot at 0) ts (inr (refl, le)) from, up)
@@ -90,7 +91,7 @@ stand-ascend at bs rest all ts (more bs' front raw behind rest' t us is written 
 lines-ascend : (n : ℕ) (ls : List Line) (ts : List Text) → Lines n ls ts → From (record { line = suc n; column = 0 }) ts × Ascend ts
 lines-ascend n ls ts (Lines.none n' ls') = (tt, tt)
 lines-ascend n ls all (line n' l ls' us ts all' stand rest is) =
-    let at : At = record { line = suc n; end = length l } in
+    let at : SourceLine = record { line = suc n; end = length l } in
     let later = lines-ascend (suc n) ls' ts rest in
     let less : suc n < suc (suc n) = omega arith in
     let here = stand-ascend at l [] us ts stand (from-later (spot at 0) (record { line = suc (suc n); column = 0 }) ts (inl less) later.0) later.1 in

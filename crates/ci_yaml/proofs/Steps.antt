@@ -3,24 +3,26 @@ use Rattle.std.proofs.Common.{◌≡◌, ℕ, ◌+◌, ◌<◌, ◌≤◌, Bool,
 use Rattle.std.specs.Prelude.{nat_lt, ◌==◌}
 use Rattle.std.proofs.lemmas.Bool.{lt-ltb, le-ltb}
 use Rattle.std.proofs.lemmas.List.{take_more, take-append-drop}
-use Rattle.ci_yaml.specs.declared.fault.Code.{Code}
-use Rattle.ci_yaml.specs.declared.fault.Code.TheVariants.{Y5, Y10}
-use Rattle.ci_yaml.specs.declared.parts.Frame.{Frame}
-use Rattle.ci_yaml.specs.Tree.{Kind, sequence, mapping, Value, Members}
+use Rattle.ci_yaml_lines.specs.declared.code.Code.{Code}
+use Rattle.ci_yaml_lines.specs.declared.code.Code.TheVariants.{Y5, Y10}
+use Rattle.ci_yaml.specs.declared.progress.Frame.{Frame}
+use Rattle.ci_yaml_lines.specs.Tree.{Kind, sequence, mapping, Value, Members, push}
 use Rattle.ci_yaml.specs.Reading as reading
-use Rattle.ci_yaml.specs.Reading.{State, inside, with_given, is_node, is_open_at, misplaced, has_name, same_text, joined, push, level, is_repeated}
-use Rattle.ci_yaml.specs.Entry.{Head, dash, key, Entry, level_of}
+use Rattle.ci_yaml.specs.Reading.{State, inside, Settled, settle, value_of, misplaced, with_given, is_node, is_open_at, has_name, begun, begins, joined, entered, level, is_repeated}
+use Rattle.ci_yaml_lines.specs.Entry.{Head, dash, key, Entry, level_of}
 use Rattle.std.specs.Global.{Vec}
-use Rattle.ci_yaml.specs.declared.parts.Open.{Open}
+use Rattle.ci_yaml.specs.declared.progress.Open.{Open}
 use Rattle.ci_yaml.specs.declared.open_map.OpenMap.{OpenMap}
-use Rattle.ci_yaml.specs.declared.parts.Open.TheVariants.{Items, Pairs}
-use Rattle.ci_yaml.specs.declared.tree.Text.{Text}
-use Rattle.ci_yaml.specs.declared.tree.Tree.{Tree}
+use Rattle.ci_yaml.specs.declared.progress.Open.TheVariants.{Items, Pairs}
+use Rattle.ci_yaml_lines.specs.declared.tree.Text.{Text}
+use Rattle.ci_yaml_lines.specs.declared.tree.Tree.{Tree}
 use Rattle.ci_yaml.proofs.Sound.{same_level}
-use Rattle.ci_yaml.specs.View.{bytes_of, items_view, pairs_view, open_kind, open_done, open_name, frame_view, frames_onto, frames_view, Gives}
+use Rattle.ci_yaml_lines.specs.View.{bytes_of, items_view, pairs_view}
+use Rattle.ci_yaml.specs.View.{open_kind, open_done, open_name, frame_view, frames_onto, frames_view, Gives, GivesNodes, NoneJoins}
 use Rattle.ci_yaml.specs.declared.fault.Stop.{Stop}
-use Rattle.ci_yaml.proofs.Opened.{eq-true, eq-false}
-use Rattle.ci_yaml.proofs.Views.{frames-push}
+use Rattle.ci_yaml_lines.proofs.Lists.{drop-at}
+use Rattle.ci_yaml_lines.proofs.Bools.{eq-true, eq-false}
+use Rattle.ci_yaml.proofs.Frames.{frames-push}
 
 onto-length : (fs : List Frame) (gs : List reading.Frame) → length (frames_onto fs gs) ≡ length fs + length gs
 onto-length [] gs = omega arith
@@ -28,9 +30,6 @@ onto-length (f ∷ fs) gs = omega (arith, onto-length fs (frame_view f ∷ gs))
 
 pub frames-length : (fs : List Frame) → length (frames_view fs) ≡ length fs
 frames-length fs = omega (arith, onto-length fs [])
-
-pub with-flat : (fs : List reading.Frame) (g : Option Value) → is_node g ≡ false → with_given fs g ≡ Ok (inside fs g)
-with-flat fs g e = ap (λ b. cond b (cond (nat_lt (length fs) 10) (Ok (inside fs g)) (Err Y10)) (Ok (inside fs g))) e
 
 pub with-deep : (fs : List reading.Frame) (g : Option Value) → is_node g ≡ true → 10 ≤ length fs → with_given fs g ≡ Err Y10
 with-deep fs g e le =
@@ -56,12 +55,9 @@ onto-append : (a b : List Frame) (gs : List reading.Frame) → frames_onto (a ++
 onto-append [] b gs = refl
 onto-append (f ∷ a) b gs = onto-append a b (frame_view f ∷ gs)
 
-next-frame : (fs : List Frame) (i : ℕ) (d : Frame) → i < length fs → drop i fs ≡ get_or fs i d ∷ drop (i + 1) fs
-next-frame fs i d lt = rw (add-one, drop-cons fs i d) refl
-
 pub open-here : (fs : List Frame) (i c : ℕ) (f : Frame) → i < length fs → f ≡ get_or fs i f → f.column ≡ c → is_open_at c (frames_view fs) ≡ true
 open-here fs i c f lt is at =
-    let parts : fs ≡ take i fs ++ f ∷ drop (i + 1) fs = sym (take-append-drop i fs) ∙ ap (λ (x : List Frame). take i fs ++ x) (next-frame fs i f lt ∙ ap (λ (x : Frame). x ∷ drop (i + 1) fs) (sym is)) in
+    let parts : fs ≡ take i fs ++ f ∷ drop (i + 1) fs = sym (take-append-drop i fs) ∙ ap (λ (x : List Frame). take i fs ++ x) (drop-at fs i f lt ∙ ap (λ (x : Frame). x ∷ drop (i + 1) fs) (sym is)) in
     ap (λ (x : List Frame). is_open_at c (frames_view x)) parts ∙ ap (is_open_at c) (onto-append (take i fs) (f ∷ drop (i + 1) fs) [])
     ∙ onto-open c (drop (i + 1) fs) (frame_view f ∷ frames_view (take i fs)) (ap (λ b. cond b true (is_open_at c (frames_view (take i fs)))) (eq-true f.column c at))
 
@@ -83,9 +79,6 @@ apart m f fs v kind name e ne =
 
 pub joined-column : (m : Code) (f : reading.Frame) (fs : List reading.Frame) (v : Value) (kind : Kind) (name : List ℕ) (e : Entry) → (f.column ≡ e.column → ⊥) → joined m (f ∷ fs) v kind name e ≡ Err m
 joined-column m f fs v kind name e ne = apart m f fs v kind name e (λ h. ne (same_level f.kind kind f.column e.column h).1)
-
-kinds-differ : (j k : Kind) → (sequence ≡ mapping → ⊥) × (mapping ≡ sequence → ⊥)
-kinds-differ j k = ((λ e. absurd cc), (λ e. absurd cc))
 
 pub joined-kind : (m : Code) (f : reading.Frame) (fs : List reading.Frame) (v : Value) (kind : Kind) (name : List ℕ) (e : Entry) → (f.kind ≡ kind → ⊥) → joined m (f ∷ fs) v kind name e ≡ Err m
 joined-kind m f fs v kind name e ne = apart m f fs v kind name e (λ h. ne (same_level f.kind kind f.column e.column h).0)
@@ -149,5 +142,35 @@ pair-repeats m old init f pairs more last name column v g parts is at pushed the
     step-same m old init f (Pairs pairs last) v (bytes_of name) (entry_at column (key (bytes_of name)) g) parts is at
     ∙ ap (λ b. cond b (Err Y5) rest) (ap (has_name (bytes_of name)) (sym pushed) ∙ there)
 
-none-empty : (m : Code) (v : Value) (kind : Kind) (name : List ℕ) (e : Entry) → joined m [] v kind name e ≡ Err m
-none-empty m v kind name e = refl
+-- ---- no member joins
+
+pub none-in : (kind : Kind) (column : ℕ) (old : List Frame) → old ≡ [] → NoneJoins kind column (frames_view old)
+none-in kind column old is = λ m v name e at. ap (λ (fs : List Frame). joined m (frames_view fs) v kind name e) is
+
+pub none-at : (kind : Kind) (column : ℕ) (old init : List Frame) (f : Frame) → old ≡ init ++ f ∷ [] → (f.column ≡ column → ⊥) → NoneJoins kind column (frames_view old)
+none-at kind column old init f parts ne = λ m v name e at. step-column m old init f v kind name e parts (λ h. ne (h ∙ at))
+
+pub none-of : (kind : Kind) (column : ℕ) (old init : List Frame) (f : Frame) → old ≡ init ++ f ∷ [] → (open_kind f.members ≡ kind → ⊥) → NoneJoins kind column (frames_view old)
+none-of kind column old init f parts ne = λ m v name e at. step-kind m old init f v kind name e parts ne
+
+-- ---- an entry after open nodes
+
+pub nodes-is : {X : Type 0} (nodes : X → List reading.Frame) (r : Result X Stop) (g : Option Value) (x y : Result State Code) → x ≡ y → GivesNodes nodes r g x → GivesNodes nodes r g y
+nodes-is nodes r g x y e h = subst (λ z. GivesNodes nodes r g z) e h
+
+-- it begins the value that is awaited
+pub entered-begins : (fs : List reading.Frame) (given : Option Value) (kind : Kind) (name : List ℕ) (e : Entry) → begins (level_of kind e.column) fs given ≡ true → entered fs given kind name e ≡ begun fs kind name e
+entered-begins fs given kind name e is =
+    let u = settle (level_of kind e.column) fs (value_of given) in
+    ap (λ b. cond b (begun fs kind name e) (joined (misplaced e.column fs) u.frames u.value kind name e)) is
+
+-- it is the next member of an open node
+pub entered-joins : (fs gs : List reading.Frame) (given : Option Value) (kind : Kind) (name : List ℕ) (e : Entry) (m : Code) (v w : Value) → begins (level_of kind e.column) fs given ≡ false → m ≡ misplaced e.column fs
+    → w ≡ value_of given → settle (level_of kind e.column) fs w ≡ record { frames = gs; value = v } → entered fs given kind name e ≡ joined m gs v kind name e
+entered-joins fs gs given kind name e m v w is m-is w-is settled =
+    let l : ℕ = level_of kind e.column in
+    let u = settle l fs (value_of given) in
+    ap (λ b. cond b (begun fs kind name e) (joined (misplaced e.column fs) u.frames u.value kind name e)) is
+    ∙ ap (λ (x : Value). joined (misplaced e.column fs) (settle l fs x).frames (settle l fs x).value kind name e) (sym w-is)
+    ∙ ap (λ (x : Settled). joined (misplaced e.column fs) x.frames x.value kind name e) settled
+    ∙ ap (λ (c : Code). joined c gs v kind name e) (sym m-is)

@@ -3,22 +3,23 @@ use Rattle.std.proofs.Common.{◌≡◌, ℕ, suc, ◌<◌, ◌≤◌, ◌⊎◌
 use Rattle.std.specs.Prelude.{◌==◌, if◌then◌else◌, IfOk, IfErr}
 use Rattle.std.specs.Str.Lines.{lines}
 use Rattle.std.proofs.lemmas.Bool.{cases_lt}
-use Rattle.ci_yaml.specs.declared.fault.Code.{Code}
-use Rattle.ci_yaml.specs.declared.fault.Code.TheVariants.{Y1, Y2, Y3, Y4, Y5, Y6, Y7, Y8, Y9, Y10, Y11, Y12}
-use Rattle.ci_yaml.specs.Tree.{Value, null, boolean, number, text, node}
-use Rattle.ci_yaml.specs.Entry.{Entry}
+use Rattle.ci_yaml_lines.specs.declared.code.Code.{Code}
+use Rattle.ci_yaml_lines.specs.declared.code.Code.TheVariants.{Y1, Y2, Y3, Y4, Y5, Y6, Y7, Y8, Y9, Y10, Y11, Y12}
+use Rattle.ci_yaml_lines.specs.Tree.{Value, null, boolean, number, text, node}
+use Rattle.ci_yaml_lines.specs.Entry.{Entry}
 use Rattle.ci_yaml.specs.Node.{IsNode, IsDocument, of_node, of_line}
-use Rattle.ci_yaml.specs.Least.{number_of}
+use Rattle.ci_yaml_lines.specs.Least.{number_of}
 use Rattle.ci_yaml.specs.Reading.{finished}
-use Rattle.ci_yaml.specs.Document.{Line, Holds, HasTree, IsGood, has_tree, skipped, IsFault, too_long, at_line, no_content}
+use Rattle.ci_yaml_lines.specs.Line.{Line}
+use Rattle.ci_yaml.specs.Document.{Holds, HasTree, IsGood, has_tree, skipped, IsFault, too_long, at_line, no_content}
 use Rattle.ci_yaml.specs.ReadLines.{Reader, read_lines, beginning}
 use Rattle.ci_yaml.specs.Stops.{StopsAt, RefusedBy, GivesFault}
-use Rattle.ci_yaml.specs.View.{value_view}
-use Rattle.ci_yaml.specs.declared.tree.Tree.{Tree}
+use Rattle.ci_yaml_lines.specs.View.{value_view}
+use Rattle.ci_yaml_lines.specs.declared.tree.Tree.{Tree}
 use Rattle.ci_yaml.specs.declared.fault.YamlFault.{YamlFault}
 use Rattle.ci_yaml.specs.declared.fault.YamlFault.TheVariants as faults
-use Rattle.ci_yaml.proofs.LeastCodes.{says-same}
-use Rattle.ci_yaml.proofs.Trees.{tree-is, good-front, stops}
+use Rattle.ci_yaml.proofs.LeastCodes.{parses-same}
+use Rattle.ci_yaml.proofs.Trees.{some_is, tree-is, good-front, stops}
 use Rattle.ci_yaml.proofs.ReadTexts.{fault-at, nothing-by}
 
 -- ---- codes differ in their numbers
@@ -53,11 +54,8 @@ number-back Y10 = refl
 number-back Y11 = refl
 number-back Y12 = refl
 
-some-is : (c d : Code) → Some c ≡ Some d → c ≡ d
-some-is c d e = cc
-
 same-number : (c d : Code) → number_of c ≡ number_of d → c ≡ d
-same-number c d e = some-is c d (sym (number-back c) ∙ ap from_number e ∙ number-back d)
+same-number c d e = some_is c d (sym (number-back c) ∙ ap from_number e ∙ number-back d)
 
 -- ---- one fault
 
@@ -91,12 +89,12 @@ not-all ls a l c e bad good = bad (good-front (a ++ l ∷ []) c (subst IsGood (e
 pub one_fault : (bs : List ℕ) (i j : ℕ) (c d : Code) → IsFault bs i c → IsFault bs j d → (i ≡ j) × (c ≡ d)
 one_fault bs i j c d (too_long long at is) (too_long long' at' is') = (at ∙ sym at', is ∙ sym is')
 one_fault bs i j c d (too_long long at is) (at_line size before l after parts at' good bad least) = absurd (omega arith)
-one_fault bs i j c d (too_long long at is) (no_content size end says at' is') = absurd (omega arith)
+one_fault bs i j c d (too_long long at is) (no_content size end parses at' is') = absurd (omega arith)
 one_fault bs i j c d (at_line size before l after parts at good bad least) (too_long long at' is') = absurd (omega arith)
-one_fault bs i j c d (at_line size before l after parts at good bad least) (no_content size' end says at' is') = absurd (not-all (lines bs) before l after parts bad (skipped end says))
-one_fault bs i j c d (no_content size end says at is) (too_long long at' is') = absurd (omega arith)
-one_fault bs i j c d (no_content size end says at is) (no_content size' end' says' at' is') = (at ∙ sym at', is ∙ sym is')
-one_fault bs i j c d (no_content size end says at is) (at_line size' before l after parts at' good bad least) = absurd (not-all (lines bs) before l after parts bad (skipped end says))
+one_fault bs i j c d (at_line size before l after parts at good bad least) (no_content size' end parses at' is') = absurd (not-all (lines bs) before l after parts bad (skipped end parses))
+one_fault bs i j c d (no_content size end parses at is) (too_long long at' is') = absurd (omega arith)
+one_fault bs i j c d (no_content size end parses at is) (no_content size' end' parses' at' is') = (at ∙ sym at', is ∙ sym is')
+one_fault bs i j c d (no_content size end parses at is) (at_line size' before l after parts at' good bad least) = absurd (not-all (lines bs) before l after parts bad (skipped end parses))
 one_fault bs i j c d (at_line size before l after parts at good bad least) (at_line size' before' l' after' parts' at' good' bad' least') =
     elim (cases_lt (length before) (length before')) [
       | inl lt ↦ absurd (not-earlier before before' l l' after after' lt (sym parts ∙ parts') bad good')
@@ -128,8 +126,8 @@ nothing-has v es nil (of_line e is head column given) = let bad : e ∷ [] ≡ [
 
 pub not_both : (bs : List ℕ) (v : Value) (i : ℕ) (c : Code) → HasTree bs v → IsFault bs i c → ⊥
 not_both bs v i c h (too_long long at is) = omega (arith, h.size)
-not_both bs v i c h (at_line size before l after parts at good bad least) = not-all (lines bs) before l after parts bad (has_tree h.entries h.end v h.says h.document)
-not_both bs v i c h (no_content size end says at is) = nothing-has v h.entries (says-same (lines bs) (lines bs) h.entries [] h.end end h.says says refl).0 h.document
+not_both bs v i c h (at_line size before l after parts at good bad least) = not-all (lines bs) before l after parts bad (has_tree h.entries h.end v h.parses h.document)
+not_both bs v i c h (no_content size end parses at is) = nothing-has v h.entries (parses-same (lines bs) (lines bs) h.entries [] h.end end h.parses parses refl).0 h.document
 
 -- ---- one of both
 
@@ -143,7 +141,7 @@ verdict-by bs (Err code) le e = let s = stops-at (lines bs) code e in inr (s.0, 
 verdict-by bs (Ok r) le e = by (finished r.state) refl
   where
     by : (o : Option Value) → finished r.state ≡ o → ((v : Value) × HasTree bs v) ⊎ ((at : ℕ) × (code : Code) × IsFault bs at code)
-    by (Some v) is = let d = tree-is (lines bs) r v e is in inl (v, record { size = le; entries = d.0; end = d.1; says = d.2; document = d.3 })
+    by (Some v) is = let d = tree-is (lines bs) r v e is in inl (v, record { size = le; entries = d.0; end = d.1; parses = d.2; document = d.3 })
     by None is = inr (1, Y12, no_content le r.end (nothing-by (lines bs) r r.state refl e is) refl refl)
 
 pub tree-or-fault : (bs : List ℕ) → ((v : Value) × HasTree bs v) ⊎ ((at : ℕ) × (code : Code) × IsFault bs at code)

@@ -1,10 +1,10 @@
 -- The lines of a literal block, as the code holds them.
 use Rattle.std.specs.Prelude.{◌≡◌, ℕ, true, Some, List, [], ◌∷◌, ◌++◌, if◌then◌else◌, drop, min}
 use denote.Bor.{Bor}
-use Rattle.ci_yaml.specs.declared.fault.Code.{Code}
-use Rattle.ci_yaml.specs.Least.{least}
-use Rattle.ci_yaml.specs.Line.{spaces}
-use Rattle.ci_yaml.specs.Document.{Line, is_spaces, is_in_block, block_codes}
+use Rattle.ci_yaml_lines.specs.declared.code.Code.{Code}
+use Rattle.ci_yaml_lines.specs.Least.{least}
+use Rattle.ci_yaml_lines.specs.Line.{spaces, Line}
+use Rattle.ci_yaml.specs.Block.{is_spaces, is_in_block, block_codes}
 
 -- the texts that are lent
 abbrev pub texts_of : List (Bor (List ℕ)) → List Line

@@ -1,11 +1,12 @@
 -- Reading lines one after the other.
 use Rattle.std.specs.Prelude.{ℕ, List, [], ◌∷◌, ◌++◌, Option, Some, None, Result, Ok, Err, if◌then◌else◌}
-use Rattle.ci_yaml.specs.declared.fault.Code.{Code}
-use Rattle.ci_yaml.specs.Least.{lesser, least}
-use Rattle.ci_yaml.specs.Tree.{text}
-use Rattle.ci_yaml.specs.Line.{Chomp, Spoken, line_spoken}
+use Rattle.ci_yaml_lines.specs.declared.code.Code.{Code}
+use Rattle.ci_yaml_lines.specs.Least.{lesser, least}
+use Rattle.ci_yaml_lines.specs.Tree.{text}
+use Rattle.ci_yaml_lines.specs.Line.{Chomp, ParsedLine, parse_line, Line}
 use Rattle.ci_yaml.specs.Reading.{◌>>=◌, State, start, whole, inside, run}
-use Rattle.ci_yaml.specs.Document.{Line, Ending, outside, within, is_in_block, block_codes, literal, entries_with, last_column}
+use Rattle.ci_yaml.specs.Block.{is_in_block, block_codes, literal}
+use Rattle.ci_yaml.specs.Document.{Ending, outside, within, entries_with, last_column}
 
 pub record Reader : Type 0 where
   pub state : State
@@ -26,18 +27,18 @@ ending_at None c = outside
 ending_at (Some how) c = within how c []
 
 -- a line outside blocks, once its entries were read
-abbrev pub content_by : Result State Code → Spoken → Result Reader Code
+abbrev pub content_by : Result State Code → ParsedLine → Result Reader Code
 content_by (Ok s) sp = stop_or (least sp.codes) (record { state = s; end = ending_at sp.header (last_column sp.entries) })
 content_by (Err c) sp = Err (lesser c (least sp.codes))
 
-abbrev pub content : State → Spoken → Result Reader Code
+abbrev pub content : State → ParsedLine → Result Reader Code
 content s sp = content_by (run s (entries_with sp.header sp.entries [])) sp
 
 abbrev pub line_by : Ending → State → Line → Result Reader Code
-line_by outside s l = content s (line_spoken l)
+line_by outside s l = content s (parse_line l)
 line_by (within how c ls) s l =
     if is_in_block c l then stop_or (least (block_codes ls l)) (record { state = with_text (literal how (ls ++ l ∷ [])) s; end = within how c (ls ++ l ∷ []) })
-    else content s (line_spoken l)
+    else content s (parse_line l)
 
 abbrev pub line_next : Reader → Line → Result Reader Code
 line_next r l = line_by r.end r.state l

@@ -1,29 +1,17 @@
 -- Where a source writes the texts of a tree.
 use Rattle.std.specs.Prelude.{◌≡◌, ℕ, suc, ◌+◌, ◌-◌, ◌<◌, ◌≤◌, ◌⊎◌, Bool, List, [], ◌∷◌, ◌++◌, length, Option, Some, None, ⊤}
-use Rattle.ci_yaml.specs.declared.cut.At.{At}
-use Rattle.ci_yaml.specs.declared.tree.Place.{Place}
-use Rattle.ci_yaml.specs.declared.tree.Span.{Span}
-use Rattle.ci_yaml.specs.declared.tree.Text.{Text}
-use Rattle.ci_yaml.specs.declared.tree.Tree.{Tree}
-use Rattle.ci_yaml.specs.declared.parts.Frame.{Frame}
-use Rattle.ci_yaml.specs.declared.parts.Open.{Open}
-use Rattle.ci_yaml.specs.declared.parts.Open.TheVariants.{Items, Pairs}
-use Rattle.ci_yaml.specs.declared.parts.Head.{Head}
-use Rattle.ci_yaml.specs.declared.parts.Head.TheVariants.{Dash, Key, Bare}
-use Rattle.ci_yaml.specs.declared.parts.Entry.{Entry}
-use Rattle.ci_yaml.specs.declared.parts.Progress.{Progress}
-use Rattle.ci_yaml.specs.declared.parts.Progress.TheVariants.{Start, Whole, Inside}
-use Rattle.ci_yaml.specs.Scalar.{quoted}
-use Rattle.ci_yaml.specs.Line.{Chomp}
-use Rattle.ci_yaml.specs.Document.{Line, literal}
-use Rattle.ci_yaml.specs.TreeView.{bytes_of}
-pub use Rattle.ci_yaml.specs.TreeTexts.{lists, pairs, texts_step, texts_in, items_texts, pairs_texts}
-
--- ---- the texts of what was read so far, and of a line's entries
-
-abbrev pub given_texts : Option Tree → List Text
-given_texts None = []
-given_texts (Some t) = texts_in t
+use Rattle.ci_yaml_lines.specs.declared.tree.Place.{Place}
+use Rattle.ci_yaml_lines.specs.declared.tree.Text.{Text}
+use Rattle.ci_yaml.specs.declared.progress.Frame.{Frame}
+use Rattle.ci_yaml.specs.declared.progress.Open.{Open}
+use Rattle.ci_yaml.specs.declared.progress.Open.TheVariants.{Items, Pairs}
+use Rattle.ci_yaml.specs.declared.progress.Progress.{Progress}
+use Rattle.ci_yaml.specs.declared.progress.Progress.TheVariants.{Start, Whole, Inside}
+use Rattle.ci_yaml_lines.specs.Line.{Chomp, Line}
+use Rattle.ci_yaml.specs.Block.{literal}
+use Rattle.ci_yaml_lines.specs.TreeView.{bytes_of}
+use Rattle.ci_yaml_lines.specs.TreeTexts.{texts_in, items_texts, pairs_texts}
+use Rattle.ci_yaml_lines.specs.Spans.{given_texts, Writes, StandOn}
 
 abbrev pub open_texts : Open → List Text
 open_texts (Items v) = items_texts v.items
@@ -38,43 +26,6 @@ abbrev pub state_texts : Progress → List Text
 state_texts Start = []
 state_texts (Whole t) = texts_in t
 state_texts (Inside fs given) = frames_texts fs.items ++ given_texts given
-
-abbrev pub head_texts : Head → List Text
-head_texts Dash = []
-head_texts (Key k) = k ∷ []
-head_texts Bare = []
-
-abbrev pub entry_texts : Entry → List Text
-entry_texts e = head_texts e.head ++ given_texts e.given
-
-abbrev pub entries_texts : List Entry → List Text
-entries_texts [] = []
-entries_texts (e ∷ es) = entry_texts e ++ entries_texts es
-
--- ---- one line
-
--- What is written is read as these bytes: as it stands, or as a quoted scalar.
-pub data Writes (raw : List ℕ) (bytes : List ℕ) : Type 0 where
-  plain : raw ≡ bytes → Writes raw bytes
-  in_quotes : (wrong : Bool) → quoted raw ≡ Some (record { text = bytes; wrong = wrong; rest = [] }) → Writes raw bytes
-
--- where the bytes stand that come before a rest, in a text that reaches to the line's end as the rest does
-abbrev pub span_before : At → List ℕ → List ℕ → Span
-span_before at text rest = record {
-  start = record { line = at.line; column = at.end - length text };
-  end = record { line = at.line; column = at.end - length rest };
-}
-
--- In a text that reaches to the line's end the texts stand one behind the other, and this rest comes behind them.
-pub data Stand (at : At) : List ℕ → List Text → List ℕ → Type 0 where
-  none : (bs front rest : List ℕ) → bs ≡ front ++ rest → Stand at bs [] rest
-  more : (bs front raw behind rest : List ℕ) (t : Text) (ts : List Text) → bs ≡ front ++ raw ++ behind
-      → Writes raw (bytes_of t) → t.span ≡ span_before at (raw ++ behind) behind
-      → Stand at behind ts rest → Stand at bs (t ∷ ts) rest
-
--- the texts stand in a line, which is counted from 1
-abbrev pub StandOn : ℕ → Line → List Text → Type 0
-StandOn n l ts = Stand (record { line = n; end = length l }) l ts []
 
 -- ---- a text
 

@@ -1,18 +1,21 @@
 -- Where the reading of lines stops, and what the code has when it goes on.
 use Rattle.std.specs.Prelude.{◌≡◌, ℕ, suc, ◌+◌, ◌≤◌, ◌⊎◌, List, [], ◌∷◌, ◌++◌, length, take, drop, Option, Some, None, Result, Ok, Err, ⊤}
 use denote.Bor.{Bor}
-use Rattle.ci_yaml.specs.Tree.{Value}
-use Rattle.ci_yaml.specs.declared.fault.Code.TheVariants.{Y12}
-use Rattle.ci_yaml.specs.declared.tree.Tree.{Tree}
-use Rattle.ci_yaml.specs.declared.fault.Code.{Code}
+use Rattle.ci_yaml_lines.specs.Tree.{Value}
+use Rattle.ci_yaml_lines.specs.declared.code.Code.TheVariants.{Y12}
+use Rattle.ci_yaml_lines.specs.declared.tree.Tree.{Tree}
+use Rattle.ci_yaml_lines.specs.declared.code.Code.{Code}
 use Rattle.ci_yaml.specs.declared.fault.YamlFault.{YamlFault}
 use Rattle.ci_yaml.specs.declared.fault.YamlFault.TheVariants as faults
-use Rattle.ci_yaml.specs.declared.parts.Chomp.{Chomp}
+use Rattle.ci_yaml_lines.specs.declared.entry.Chomp.{Chomp}
 use Rattle.ci_yaml.specs.declared.reader.Passed.{Passed}
-use Rattle.ci_yaml.specs.View.{chomp_view, value_view, state_view, LeastSpoken}
-use Rattle.ci_yaml.specs.Least.{lesser}
+use Rattle.ci_yaml_lines.specs.View.{chomp_view, value_view, LeastParsed}
+use Rattle.ci_yaml.specs.View.{state_view}
+use Rattle.ci_yaml_lines.specs.Least.{lesser}
 use Rattle.ci_yaml.specs.Reading.{State, run, finished}
-use Rattle.ci_yaml.specs.Document.{Line, Ending, outside, within, last_column, IsOutside, AreBlock, IsFault}
+use Rattle.ci_yaml_lines.specs.Line.{Line}
+use Rattle.ci_yaml.specs.Block.{AreBlock}
+use Rattle.ci_yaml.specs.Document.{Ending, outside, within, last_column, IsOutside, IsFault}
 use Rattle.ci_yaml.specs.Blocks.{texts_of, StopsBlock}
 use Rattle.ci_yaml.specs.ReadLines.{Reader, stop_or, ending_at, line_next, read_lines, beginning}
 
@@ -24,11 +27,11 @@ abbrev pub passed_view : Passed → Reader
 passed_view p = record { state = state_view p.progress; end = below_view p.below }
 
 -- Reading what a line says, by the least code of the line itself.
-abbrev pub entered_by : Result State Code → LeastSpoken → Result Reader Code
+abbrev pub entered_by : Result State Code → LeastParsed → Result Reader Code
 entered_by (Ok s) sp = stop_or sp.code (record { state = s; end = ending_at sp.header (last_column sp.entries) })
 entered_by (Err c) sp = Err (lesser c sp.code)
 
-abbrev pub entered : State → LeastSpoken → Result Reader Code
+abbrev pub entered : State → LeastParsed → Result Reader Code
 entered s sp = entered_by (run s sp.entries) sp
 
 -- What a function returned of the line of this number is what reading gives, unless memory ran out.

@@ -1,15 +1,15 @@
 //! Literal blocks.
 
 ghost use Rattle.std.specs.Prelude.{◌≡◌, ℕ, ◌<◌, ◌≤◌, ◌++◌, [], IfOk, IfErr, length, take, drop, string_bytes};
-ghost use Rattle.ci_yaml.specs.Least.{least};
-ghost use Rattle.ci_yaml.specs.Document.{is_spaces, is_in_block, is_low, indent_codes, more_indent, block_indent, kept_len, literal, AreBlock, EndsBlock};
-ghost use Rattle.ci_yaml.specs.View.{chomp_view};
+ghost use Rattle.ci_yaml_lines.specs.Least.{least};
+ghost use Rattle.ci_yaml.specs.Block.{is_spaces, is_in_block, is_low, indent_codes, more_indent, block_indent, kept_len, literal, AreBlock, EndsBlock};
+ghost use Rattle.ci_yaml_lines.specs.View.{chomp_view};
 ghost use Rattle.ci_yaml.specs.Blocks.{texts_of, cut_text, cut_lines, cut_strip, StopsBlock};
 
-use crate::cut::skip_spaces;
-use crate::fault::{Code, least_of, when};
-use crate::parts::Chomp;
-use crate::scan::{has_mark, spaces};
+use ci_yaml_lines::code::{Code, least_of, when};
+use ci_yaml_lines::cut::skip_spaces;
+use ci_yaml_lines::entry::Chomp;
+use ci_yaml_lines::scan::{has_byte_order_mark, spaces};
 use std::alloc::{AllocError, Global};
 
 /// Whether the line has spaces alone.
@@ -41,7 +41,7 @@ fn block_code(indent: Option<usize>, line: &[u8]) -> Option<Code>
     ensures { result ≡ least (indent_codes indent line.now) }
 {
     let low = when(is_low(indent, line), Code::Y3);
-    let mark = when(has_mark(line), Code::Y9);
+    let mark = when(has_byte_order_mark(line), Code::Y9);
     least_of(low, mark)
 }
 

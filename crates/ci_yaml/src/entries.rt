@@ -1,21 +1,58 @@
 //! The tree of a list of entries.
 
-ghost use Rattle.std.specs.Prelude.{◌≡◌, ◌∷◌, ◌++◌, [], map, Some, Ok, Err, IfOk, IfSome};
-ghost use Rattle.ci_yaml.specs.declared.fault.Code.{Code};
-ghost use Rattle.ci_yaml.specs.Tree.{sequence, mapping, Value};
-ghost use Rattle.ci_yaml.specs.Node.{IsDocument};
-ghost use Rattle.ci_yaml.specs.Entry.{dash, key, bare};
-ghost use Rattle.ci_yaml.specs.View.{bytes_of, value_view, frames_view, given_view, entry_view, state_view, Gives};
-ghost use Rattle.ci_yaml.specs.Reading.{member_next, bare_next, next, run, start, finished, close_all, tree_read};
-ghost use Rattle.ci_yaml.specs.Spans.{texts_in, given_texts, frames_texts, state_texts, entry_texts, entries_texts};
+ghost use Rattle.std.specs.Prelude.{◌≡◌, ◌==◌, ◌∷◌, ◌++◌, [], map, Option, Some, Ok, Err, IfOk, IfSome, if◌then◌else◌};
+ghost use Rattle.ci_yaml_lines.specs.declared.code.Code.TheVariants.{Y3};
+ghost use Rattle.ci_yaml.specs.declared.progress.Frame.{Frame};
+ghost use Rattle.ci_yaml_lines.specs.Tree.{sequence, mapping, Value};
+ghost use Rattle.ci_yaml_lines.specs.Entry.{dash, key, bare};
+ghost use Rattle.ci_yaml_lines.specs.View.{bytes_of, value_view, given_view, entry_view};
+ghost use Rattle.ci_yaml.specs.View.{frame_view, frames_view, state_view, Gives, GivesNodes};
+ghost use Rattle.ci_yaml.specs.Reading.{with_given, member_next, bare_next, next, run, finished, close_all};
+ghost use Rattle.ci_yaml_lines.specs.Spans.{texts_in, given_texts, entry_texts, entries_texts};
+ghost use Rattle.ci_yaml.specs.Spans.{open_texts, frames_texts, state_texts};
 
-use crate::fault::{Code, Stop};
-use crate::joins::{enter_item, enter_pair, or_null};
-use crate::nodes::{begun, misplaced};
+use crate::fault::Stop;
+use crate::members::{enter_item, enter_pair, or_null};
+use crate::nodes::{misplaced, with_given};
 use crate::open_map::OpenMap;
-use crate::parts::{Entry, Frame, Head, Open, Progress};
-use crate::tree::{Text, Tree};
+use crate::progress::{Frame, Open, Progress};
+use ci_yaml_lines::code::Code;
+use ci_yaml_lines::entry::{Entry, Head};
+use ci_yaml_lines::tree::{Text, Tree};
 use std::alloc::{AllocError, Global};
+
+/// The first node, which begins with the file. Errors: the column is another than the first; or memory was refused.
+fn first_node<'a>(alloc: Global, column: u32, members: Open<'a>) -> Result<Vec<Frame<'a>>, Stop>
+    ensures value { (g : Option Value) → GivesNodes (λ v. frames_view v.items) result g (if column == 0 then with_given (frame_view (record { column = column; members = members.entry }) ∷ []) g else Err Y3) }
+    ensures spans { IfOk result (λ v. frames_texts v.items ≡ open_texts members.entry) }
+{
+    if column != 0 {
+        return Err(Stop::Fault(Code::Y3));
+    }
+    let mut frames = Vec::new(alloc);
+    frames.push(Frame { column, members })?;
+    Ok(frames)
+}
+
+/// The open nodes, once a dash has come behind what was read. Errors: the code that holds of it there; or memory was refused.
+fn item_nodes<'a>(
+    alloc: Global,
+    progress: Progress<'a>,
+    column: u32,
+) -> Result<Vec<Frame<'a>>, Stop>
+    ensures value { (g : Option Value) → GivesNodes (λ v. frames_view v.items) result g (member_next (state_view progress.entry) (record { column = column; head = dash; given = g }) sequence []) }
+    ensures spans { IfOk result (λ v. frames_texts v.items ≡ state_texts progress.entry) }
+{
+    match progress {
+        Progress::Start => first_node(alloc, column, Open::Items(Vec::new(alloc))),
+        Progress::Whole(_) => Err(Stop::Fault(Code::Y3)),
+        Progress::Inside(frames, awaiting) => {
+            let mut frames = frames;
+            enter_item(alloc, &mut frames, awaiting, column)?;
+            Ok(frames)
+        }
+    }
+}
 
 fn next_item<'a>(
     alloc: Global,
@@ -26,19 +63,28 @@ fn next_item<'a>(
     ensures value { Gives state_view result (member_next (state_view progress.entry) (record { column = column; head = dash; given = given_view given.entry }) sequence []) }
     ensures spans { IfOk result (λ p. state_texts p ≡ state_texts progress.entry ++ given_texts given.entry) }
 {
+    let frames = item_nodes(alloc, progress, column)?;
+    with_given(frames, given)
+}
+
+/// The open nodes, once a key has come behind what was read. Errors: the code that holds of it there; or memory was refused.
+fn pair_nodes<'a>(
+    alloc: Global,
+    progress: Progress<'a>,
+    column: u32,
+    name: Text<'a>,
+) -> Result<Vec<Frame<'a>>, Stop>
+    ensures value { (g : Option Value) → GivesNodes (λ v. frames_view v.items) result g (member_next (state_view progress.entry) (record { column = column; head = key (bytes_of name.entry); given = g }) mapping (bytes_of name.entry)) }
+    ensures spans { IfOk result (λ v. frames_texts v.items ≡ state_texts progress.entry ++ name.entry ∷ []) }
+{
     match progress {
-        Progress::Start => {
-            if column != 0 {
-                return Err(Stop::Fault(Code::Y3));
-            }
-            let frame = Frame {
-                column,
-                members: Open::Items(Vec::new(alloc)),
-            };
-            begun(Vec::new(alloc), frame, given)
-        }
+        Progress::Start => first_node(alloc, column, Open::Pairs(OpenMap::new(alloc), name)),
         Progress::Whole(_) => Err(Stop::Fault(Code::Y3)),
-        Progress::Inside(frames, awaiting) => enter_item(alloc, frames, awaiting, column, given),
+        Progress::Inside(frames, awaiting) => {
+            let mut frames = frames;
+            enter_pair(alloc, &mut frames, awaiting, column, name)?;
+            Ok(frames)
+        }
     }
 }
 
@@ -52,31 +98,17 @@ fn next_pair<'a>(
     ensures value { Gives state_view result (member_next (state_view progress.entry) (record { column = column; head = key (bytes_of name.entry); given = given_view given.entry }) mapping (bytes_of name.entry)) }
     ensures spans { IfOk result (λ p. state_texts p ≡ state_texts progress.entry ++ (name.entry ∷ given_texts given.entry)) }
 {
-    match progress {
-        Progress::Start => {
-            if column != 0 {
-                return Err(Stop::Fault(Code::Y3));
-            }
-            let frame = Frame {
-                column,
-                members: Open::Pairs(OpenMap::new(alloc), name),
-            };
-            begun(Vec::new(alloc), frame, given)
-        }
-        Progress::Whole(_) => Err(Stop::Fault(Code::Y3)),
-        Progress::Inside(frames, awaiting) => {
-            enter_pair(alloc, frames, awaiting, column, name, given)
-        }
-    }
+    let frames = pair_nodes(alloc, progress, column, name)?;
+    with_given(frames, given)
 }
 
 fn next_bare<'a>(
-    progress: Progress<'a>,
+    progress: &Progress,
     column: u32,
     given: Option<Tree<'a>>,
 ) -> Result<Progress<'a>, Stop>
-    ensures value { Gives state_view result (bare_next (state_view progress.entry) (record { column = column; head = bare; given = given_view given.entry })) }
-    ensures spans { IfOk result (λ p. state_texts p ≡ state_texts progress.entry ++ given_texts given.entry) }
+    ensures value { Gives state_view result (bare_next (state_view progress.now) (record { column = column; head = bare; given = given_view given.entry })) }
+    ensures spans { IfOk result (λ p. state_texts p ≡ state_texts progress.now ++ given_texts given.entry) }
 {
     match progress {
         Progress::Start => {
@@ -89,7 +121,7 @@ fn next_bare<'a>(
             }
         }
         Progress::Whole(_) => Err(Stop::Fault(Code::Y3)),
-        Progress::Inside(frames, _) => Err(Stop::Fault(misplaced(&frames, column))),
+        Progress::Inside(frames, _) => Err(Stop::Fault(misplaced(frames, column))),
     }
 }
 
@@ -110,7 +142,7 @@ fn next_entry<'a>(
     match head {
         Head::Dash => next_item(alloc, progress, column, given),
         Head::Key(name) => next_pair(alloc, progress, column, name, given),
-        Head::Bare => next_bare(progress, column, given),
+        Head::Bare => next_bare(&progress, column, given),
     }
 }
 

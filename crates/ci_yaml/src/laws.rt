@@ -2,11 +2,12 @@
 
 ghost use Rattle.std.specs.Prelude.{◌≡◌, ℕ, ◌≤◌, ◌⊎◌, List, [], ◌∷◌, ◌++◌, Some, Ok, Err};
 ghost use Rattle.std.specs.Str.Lines.{lines};
-ghost use Rattle.ci_yaml.specs.declared.fault.Code.{Code};
-ghost use Rattle.ci_yaml.specs.Tree.{Value};
-ghost use Rattle.ci_yaml.specs.Entry.{Entry};
+ghost use Rattle.ci_yaml_lines.specs.declared.code.Code.{Code};
+ghost use Rattle.ci_yaml_lines.specs.Tree.{Value};
+ghost use Rattle.ci_yaml_lines.specs.Entry.{Entry};
 ghost use Rattle.ci_yaml.specs.Node.{IsDocument};
-ghost use Rattle.ci_yaml.specs.Document.{Line, Ending, Says, HasTree, IsGood, IsLeast, IsFault};
+ghost use Rattle.ci_yaml_lines.specs.Line.{Line};
+ghost use Rattle.ci_yaml.specs.Document.{Ending, Parses, HasTree, IsGood, IsLeast, IsFault};
 ghost use Rattle.ci_yaml.specs.Shape.{KeysDiffer, depth};
 ghost use Rattle.ci_yaml.specs.Reading.{finished};
 ghost use Rattle.ci_yaml.specs.ReadLines.{Reader, read_lines, beginning};
@@ -32,8 +33,8 @@ pub fn fits()
 {}
 
 /// Lines say one list of entries at most, and end in one way.
-pub fn say_one_thing()
-    ensures { (ls : List Line) (es fs : List Entry) (d e : Ending) → Says ls es d → Says ls fs e → (es ≡ fs) × (d ≡ e) }
+pub fn parse_one_way()
+    ensures { (ls : List Line) (es fs : List Entry) (d e : Ending) → Parses ls es d → Parses ls fs e → (es ≡ fs) × (d ≡ e) }
 {}
 
 /// A text has one tree at most.
@@ -49,12 +50,12 @@ pub fn begins_well()
 /// Lines that are read to their end, one after the other, have the tree that is read.
 pub fn reads_trees()
     ensures { (ls : List Line) (r : Reader) (v : Value) → read_lines beginning ls ≡ Ok r → finished r.state ≡ Some v
-        → (es : List Entry) × (end : Ending) × Says ls es end × IsDocument v es }
+        → (es : List Entry) × (end : Ending) × Parses ls es end × IsDocument v es }
 {}
 
 /// Lines that have a tree are read to their end, and that tree is read.
 pub fn reads_all_trees()
-    ensures { (ls : List Line) (es : List Entry) (end : Ending) (v : Value) → Says ls es end → IsDocument v es
+    ensures { (ls : List Line) (es : List Entry) (end : Ending) (v : Value) → Parses ls es end → IsDocument v es
         → (r : Reader) × (read_lines beginning ls ≡ Ok r) × (finished r.state ≡ Some v) }
 {}
 

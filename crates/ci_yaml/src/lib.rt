@@ -4,25 +4,18 @@
 #![tactic(auto)]
 
 mod block;
-mod cut;
 mod entries;
 mod fault;
-mod flow;
-mod joins;
 pub mod laws;
-mod line;
+mod members;
 mod nodes;
 mod open_map;
-mod parts;
-mod quoted;
+mod progress;
 mod reader;
-mod scalar;
-mod scan;
 #[cfg(test)]
 mod tests;
-mod tree;
-mod written;
 
-pub use fault::{Code, YamlFault};
+pub use ci_yaml_lines::code::Code;
+pub use ci_yaml_lines::tree::{Place, Span, Text, Tree, Words};
+pub use fault::YamlFault;
 pub use reader::{TEXT_LIMIT, read};
-pub use tree::{Place, Span, Text, Tree, Words};

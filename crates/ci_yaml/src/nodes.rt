@@ -1,27 +1,39 @@
 //! The open nodes.
 
-ghost use Rattle.std.specs.Prelude.{◌≡◌, ◌+◌, ◌*◌, ◌∷◌, ◌++◌, [], IfOk, Ok, Err, length, nat_lt, if◌then◌else◌};
-ghost use Rattle.ci_yaml.specs.Tree.{sequence, mapping, node};
-ghost use Rattle.ci_yaml.specs.View.{bytes_of, value_view, items_view, pairs_view, frame_view, frames_view, given_view, state_view, Gives};
-ghost use Rattle.ci_yaml.specs.Reading.{push, closed, level, settle, top_deeper, misplaced, is_node, with_given};
-ghost use Rattle.ci_yaml.specs.Spans.{texts_in, items_texts, pairs_texts, given_texts, open_texts, frames_texts, state_texts};
-ghost use Rattle.ci_yaml.specs.declared.fault.Code.TheVariants.{Y10};
+ghost use Rattle.std.specs.Prelude.{◌≡◌, ◌+◌, ◌*◌, ◌∷◌, ◌++◌, [], Option, IfOk, Ok, Err, length, nat_lt, if◌then◌else◌};
+ghost use Rattle.ci_yaml_lines.specs.Tree.{Value, sequence, mapping, node, push};
+ghost use Rattle.ci_yaml_lines.specs.View.{bytes_of, value_view, items_view, pairs_view, given_view};
+ghost use Rattle.ci_yaml.specs.View.{frame_view, frames_view, state_view, Gives, GivesNodes};
+ghost use Rattle.ci_yaml.specs.Reading.{closed, level, settle, top_deeper, misplaced, is_node, with_given};
+ghost use Rattle.ci_yaml_lines.specs.Spans.{texts_in, items_texts, pairs_texts, given_texts};
+ghost use Rattle.ci_yaml.specs.Spans.{open_texts, frames_texts, state_texts};
+ghost use Rattle.ci_yaml_lines.specs.declared.code.Code.TheVariants.{Y10};
 
-use crate::fault::{Code, Stop};
+use crate::fault::Stop;
 use crate::open_map::OpenMap;
-use crate::parts::{Frame, Open, Progress};
-use crate::tree::{Text, Tree};
+use crate::progress::{Frame, Open, Progress};
+use ci_yaml_lines::code::Code;
+use ci_yaml_lines::tree::{Text, Tree};
 use std::alloc::AllocError;
 
 /// How many maps and lists may lie within one another.
 const DEPTH_LIMIT: usize = 10;
 
+/// One item more. Errors: memory was refused.
+pub fn more_items<'a>(items: Vec<Tree<'a>>, value: Tree<'a>) -> Result<Vec<Tree<'a>>, AllocError>
+    ensures value { IfOk result (λ v. items_view v.items ≡ push (items_view items.entry.items) [] (value_view value.entry)) }
+    ensures spans { IfOk result (λ v. items_texts v.items ≡ items_texts items.entry.items ++ texts_in value.entry) }
+{
+    let mut items = items;
+    items.push(value)?;
+    Ok(items)
+}
+
 fn with_item<'a>(items: Vec<Tree<'a>>, value: Tree<'a>) -> Result<Tree<'a>, AllocError>
     ensures value { IfOk result (λ t. value_view t ≡ node sequence (push (items_view items.entry.items) [] (value_view value.entry))) }
     ensures spans { IfOk result (λ t. texts_in t ≡ items_texts items.entry.items ++ texts_in value.entry) }
 {
-    let mut items = items;
-    items.push(value)?;
+    let items = more_items(items, value)?;
     Ok(Tree::List(items))
 }
 
@@ -122,20 +134,15 @@ pub fn with_given<'a>(frames: Vec<Frame<'a>>, given: Option<Tree<'a>>) -> Result
     Ok(Progress::Inside(frames, given))
 }
 
-/// Begins a node, if it is not too deep.
-pub fn begun<'a>(
-    frames: Vec<Frame<'a>>,
-    frame: Frame<'a>,
-    given: Option<Tree<'a>>,
-) -> Result<Progress<'a>, Stop>
-    ensures value { Gives state_view result (if nat_lt (length (frames_view frames.entry.items)) 10
-        then with_given (frame_view frame.entry ∷ frames_view frames.entry.items) (given_view given.entry) else Err Y10) }
-    ensures spans { IfOk result (λ p. state_texts p ≡ frames_texts frames.entry.items ++ open_texts frame.entry.members ++ given_texts given.entry) }
+/// Begins a node. Errors: it is too deep; or memory was refused.
+pub fn begin<'a>(frames: &mut Vec<Frame<'a>>, frame: Frame<'a>) -> Result<(), Stop>
+    ensures value { (g : Option Value) → GivesNodes (λ _. frames_view frames.new.items) result g (if nat_lt (length (frames_view frames.old.items)) 10
+        then with_given (frame_view frame.entry ∷ frames_view frames.old.items) g else Err Y10) }
+    ensures spans { IfOk result (λ _. frames_texts frames.new.items ≡ frames_texts frames.old.items ++ open_texts frame.entry.members) }
 {
-    let mut frames = frames;
     if DEPTH_LIMIT <= frames.len() {
         return Err(Stop::Fault(Code::Y10));
     }
     frames.push(frame)?;
-    with_given(frames, given)
+    Ok(())
 }

@@ -1,26 +1,31 @@
 //! Reading a text.
 
 ghost use Rattle.std.specs.Prelude.{◌≡◌, ℕ, suc, ◌+◌, ◌<◌, ◌≤◌, ◌++◌, [], map, option_map, IfOk, IfErr, Ok, Err, length, take, drop};
-ghost use Rattle.ci_yaml.specs.View.{bytes_of, chomp_view, value_view, entry_view, state_view, spoken_view};
-ghost use Rattle.ci_yaml.specs.Line.{line_spoken};
-ghost use Rattle.ci_yaml.specs.ReadLines.{Reader, with_text, stop_or, ending_at, content, read_lines, beginning};
-ghost use Rattle.ci_yaml.specs.Least.{lesser};
-ghost use Rattle.ci_yaml.specs.Document.{literal, last_column, AreBlock, EndsBlock, HasTree, IsFault};
-ghost use Rattle.ci_yaml.specs.Tree.{Value};
+ghost use Rattle.ci_yaml_lines.specs.View.{bytes_of, chomp_view, value_view, entry_view, parsed_view};
+ghost use Rattle.ci_yaml.specs.View.{state_view};
+ghost use Rattle.ci_yaml_lines.specs.Line.{parse_line};
+ghost use Rattle.ci_yaml.specs.ReadLines.{Reader, with_text, ending_at, content, read_lines, beginning};
+ghost use Rattle.ci_yaml_lines.specs.Least.{lesser};
+ghost use Rattle.ci_yaml.specs.Block.{literal, AreBlock, EndsBlock};
+ghost use Rattle.ci_yaml.specs.Document.{last_column, HasTree, IsFault};
+ghost use Rattle.ci_yaml_lines.specs.Tree.{Value};
 ghost use Rattle.ci_yaml.specs.Blocks.{texts_of};
 ghost use Rattle.ci_yaml.specs.Stops.{below_view, passed_view, entered, GivesAt, BlockFails, StopsBy, HasRead, AreShort, Reads, RefusedBy, GivesTree, GivesFault};
 ghost use Rattle.std.specs.Str.Lines.{lines};
-ghost use Rattle.ci_yaml.specs.Spans.{texts_in, state_texts, entries_texts, Follow, Ends, Lines, AreWritten};
-ghost use Rattle.ci_yaml.specs.declared.fault.Code.{Code};
-ghost use Rattle.ci_yaml.specs.declared.fault.Code.TheVariants.{Y1};
+ghost use Rattle.ci_yaml_lines.specs.Spans.{texts_in, entries_texts};
+ghost use Rattle.ci_yaml.specs.Spans.{state_texts, Follow, Ends, Lines, AreWritten};
+ghost use Rattle.ci_yaml_lines.specs.declared.code.Code.{Code};
+ghost use Rattle.ci_yaml_lines.specs.declared.code.Code.TheVariants.{Y1};
 ghost use Rattle.ci_yaml.specs.declared.fault.YamlFault.TheVariants.{Fault};
 
 use crate::block::{BlockFault, block_len, literal};
 use crate::entries::{enter_all, finish};
-use crate::fault::{Code, Stop, YamlFault, lesser};
-use crate::line::line_spoken;
-use crate::parts::{Chomp, Entry, Progress, Spoken};
-use crate::tree::{Place, Span, Text, Tree, Words};
+use crate::fault::{Stop, YamlFault};
+use crate::progress::Progress;
+use ci_yaml_lines::code::{Code, lesser};
+use ci_yaml_lines::entry::{Chomp, Entry, ParsedLine};
+use ci_yaml_lines::line::parse_line;
+use ci_yaml_lines::tree::{Place, Span, Text, Tree, Words};
 use std::alloc::Global;
 
 /// The greatest length of a text, in bytes.
@@ -53,21 +58,6 @@ fn below_of(header: Option<Chomp>, column: u32) -> Option<(Chomp, u32)>
     }
 }
 
-/// What was read, unless a code holds of the line itself. Errors: that code.
-fn unless<'a>(
-    code: Option<Code>,
-    number: usize,
-    passed: Passed<'a>,
-) -> Result<Passed<'a>, YamlFault>
-    ensures value { GivesAt passed_view number result (stop_or code (passed_view passed.entry)) }
-    ensures spans { IfOk result (λ p. state_texts p.progress ≡ state_texts passed.entry.progress) }
-{
-    match code {
-        None => Ok(passed),
-        Some(code) => Err(YamlFault::Fault(code, number)),
-    }
-}
-
 /// The lesser of a code and another, if there is another.
 fn lesser_of(place: Code, code: Option<Code>) -> Code
     ensures { result ≡ lesser place code }
@@ -83,19 +73,22 @@ fn enter<'a>(
     alloc: Global,
     progress: Progress<'a>,
     number: usize,
-    said: Spoken<'a>,
+    parsed: ParsedLine<'a>,
 ) -> Result<Passed<'a>, YamlFault>
-    ensures value { GivesAt passed_view number result (entered (state_view progress.entry) (spoken_view said.entry)) }
-    ensures spans { IfOk result (λ p. state_texts p.progress ≡ state_texts progress.entry ++ entries_texts said.entry.entries.items) }
+    ensures value { GivesAt passed_view number result (entered (state_view progress.entry) (parsed_view parsed.entry)) }
+    ensures spans { IfOk result (λ p. state_texts p.progress ≡ state_texts progress.entry ++ entries_texts parsed.entry.entries.items) }
 {
-    let Spoken {
+    let ParsedLine {
         entries,
         header,
         code,
-    } = said;
+    } = parsed;
     let below = below_of(header, last_column(&entries));
     match enter_all(alloc, progress, entries) {
-        Ok(progress) => unless(code, number, Passed { progress, below }),
+        Ok(progress) => match code {
+            None => Ok(Passed { progress, below }),
+            Some(code) => Err(YamlFault::Fault(code, number)),
+        },
         Err(Stop::Memory) => Err(YamlFault::Memory),
         Err(Stop::Fault(place)) => Err(YamlFault::Fault(lesser_of(place, code), number)),
     }
@@ -109,11 +102,11 @@ fn read_line<'a>(
     line: &'a str,
 ) -> Result<Passed<'a>, YamlFault>
     requires fits { length line.now ≤ 65536 }
-    ensures value { GivesAt passed_view number result (content (state_view progress.entry) (line_spoken line.now)) }
+    ensures value { GivesAt passed_view number result (content (state_view progress.entry) (parse_line line.now)) }
     ensures spans { IfOk result (λ p. Follow number line.now (state_texts progress.entry) (state_texts p.progress)) }
 {
-    let said = line_spoken(alloc, number, line)?;
-    enter(alloc, progress, number, said)
+    let parsed = parse_line(alloc, number, line)?;
+    enter(alloc, progress, number, parsed)
 }
 
 /// With this text for the value of the last entry.

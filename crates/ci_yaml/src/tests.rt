@@ -2,7 +2,7 @@
 
 use crate::fault::YamlFault;
 use crate::reader::read;
-use crate::tree::{Text, Tree, Words};
+use ci_yaml_lines::tree::{Text, Tree, Words};
 use std::alloc::{AllocError, Global};
 use std::process::Abort;
 

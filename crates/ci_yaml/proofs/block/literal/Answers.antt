@@ -1,6 +1,6 @@
 use Rattle.std.proofs.Common.{◌∙◌, ap, sym, string_bytes, take}
-use Rattle.ci_yaml.specs.View.{chomp_view}
-use Rattle.ci_yaml.specs.Document.{literal}
+use Rattle.ci_yaml_lines.specs.View.{chomp_view}
+use Rattle.ci_yaml.specs.Block.{literal}
 use Rattle.ci_yaml.specs.Blocks.{texts_of}
 use Rattle.ci_yaml.proofs.BlockLines.{texts-front}
 use Rattle.ci_yaml.proofs.Literals.{keep-text, clip-text, strip-text}

@@ -10,5 +10,5 @@ pub returns : goal.returns
 returns c =
     λ ls code e. let s = stops beginning ls code e in
     let f = stop-is_first ls code s in
-    let h = read-stands beginning [] s.before s.reader s.read (record { entries = []; says = none; stands = refl }) in
+    let h = read-stands beginning [] s.before s.reader s.read (record { entries = []; parses = none; stands = refl }) in
     (s.before, s.at, s.after, s.parts, f.0, f.1, stop-least s.before s.at s.reader code h s.fault)

@@ -1,5 +1,5 @@
 use Rattle.std.proofs.Common.{◌≡◌, map, Err, refl, ◌∙◌, ap, subst, arith}
-use Rattle.ci_yaml.specs.declared.fault.Code.TheVariants.{Y1}
+use Rattle.ci_yaml_lines.specs.declared.code.Code.TheVariants.{Y1}
 use Rattle.ci_yaml.specs.declared.fault.YamlFault.TheVariants as faults
 use Rattle.ci_yaml.specs.Document.{too_long}
 use Rattle.ci_yaml.proofs.Verdicts.{text-all_faults}

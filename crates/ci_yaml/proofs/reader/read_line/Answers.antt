@@ -1,13 +1,15 @@
 use Rattle.std.proofs.Common.{subst}
-use Rattle.ci_yaml.specs.View.{state_view, spoken_view}
+use Rattle.ci_yaml.specs.View.{state_view}
+use Rattle.ci_yaml_lines.specs.View.{parsed_view}
 use Rattle.ci_yaml.specs.Stops.{passed_view, GivesAt}
-use Rattle.ci_yaml.specs.Spans.{state_texts, entries_texts}
+use Rattle.ci_yaml.specs.Spans.{state_texts}
+use Rattle.ci_yaml_lines.specs.Spans.{entries_texts}
 use Rattle.ci_yaml.proofs.ReadSteps.{content-is}
 use Rattle.ci_yaml.proofs.SpansParts.{line-texts}
 use Rattle.ci_yaml.proofs.reader.read_line.Goals as goal
 
 pub returns-clause-value : goal.returns-clause-value
-returns-clause-value c = subst (GivesAt passed_view c.args.number c.enter.result) (content-is (state_view c.args.progress) c.args.line.now (spoken_view c.in_ok-said.said) c.in_ok-said.ensures.value) c.enter.ensures.value
+returns-clause-value c = subst (GivesAt passed_view c.args.number c.enter.result) (content-is (state_view c.args.progress) c.args.line.now (parsed_view c.in_ok-parsed.parsed) c.in_ok-parsed.ensures.value) c.enter.ensures.value
 
 pub returns-clause-spans : goal.returns-clause-spans
-returns-clause-spans c = line-texts c.args.number c.args.line.now (state_texts c.args.progress) (entries_texts c.in_ok-said.said.entries.items) c.enter.result c.in_ok-said.ensures.spans c.enter.ensures.spans
+returns-clause-spans c = line-texts c.args.number c.args.line.now (state_texts c.args.progress) (entries_texts c.in_ok-parsed.parsed.entries.items) c.enter.result c.in_ok-parsed.ensures.spans c.enter.ensures.spans

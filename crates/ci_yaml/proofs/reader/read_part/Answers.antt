@@ -1,6 +1,7 @@
 use Rattle.std.proofs.Common.{◌+◌, rules}
 use Rattle.std.proofs.lemmas.List.{take_rest}
-use Rattle.ci_yaml.specs.View.{bytes_of, state_view}
+use Rattle.ci_yaml_lines.specs.View.{bytes_of}
+use Rattle.ci_yaml.specs.View.{state_view}
 use Rattle.ci_yaml.specs.Blocks.{texts_of}
 use Rattle.ci_yaml.specs.Stops.{StopsBy}
 use Rattle.ci_yaml.proofs.ReadParts.{short-at, part-more, part-fails, part-block, part-block_fails}

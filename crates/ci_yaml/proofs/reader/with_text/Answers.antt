@@ -1,6 +1,7 @@
 use Rattle.std.proofs.Common.{◌++◌, [], refl, ap}
-use Rattle.ci_yaml.specs.Spans.{given_texts, frames_texts, state_texts, last_text}
-use Rattle.ci_yaml.proofs.SpansTexts.{texts-Text}
+use Rattle.ci_yaml_lines.specs.Spans.{given_texts}
+use Rattle.ci_yaml.specs.Spans.{frames_texts, state_texts, last_text}
+use Rattle.ci_yaml_lines.proofs.SpansTexts.{texts-Text}
 use Rattle.ci_yaml.proofs.reader.with_text.Goals as goal
 
 pub returns-in-Whole-clause-spans : goal.returns-in-Whole-clause-spans

@@ -1,10 +1,10 @@
 use Rattle.std.proofs.Common.{◌∙◌, ap, sym}
 use Rattle.ci_yaml.specs.Reading.{has_name}
-use Rattle.ci_yaml.specs.TreeView.{pairs_view}
+use Rattle.ci_yaml_lines.specs.TreeView.{pairs_view}
 use Rattle.ci_yaml.proofs.Keys.{keys-more}
-use Rattle.ci_yaml.specs.TreeTexts.{pairs_texts}
-use Rattle.ci_yaml.proofs.Views.{pairs-push}
-use Rattle.ci_yaml.proofs.SpansTexts.{pairs_texts-push}
+use Rattle.ci_yaml_lines.specs.TreeTexts.{pairs_texts}
+use Rattle.ci_yaml_lines.proofs.Views.{pairs-push}
+use Rattle.ci_yaml_lines.proofs.SpansTexts.{pairs_texts-push}
 use Rattle.ci_yaml.proofs.open_map.OpenMap.more.Goals as goal
 
 pub invariant_of-result : goal.invariant_of-result

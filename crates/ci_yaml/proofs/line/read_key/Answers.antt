@@ -1,5 +1,0 @@
-use Rattle.ci_yaml.proofs.SpansSpoken.{stand-quoted-key}
-use Rattle.ci_yaml.proofs.line.read_key.Goals as goal
-
-pub returns-in_ok-quoted-clause-spans : goal.returns-in_ok-quoted-clause-spans
-returns-in_ok-quoted-clause-spans c = stand-quoted-key c.args.at c.args.text.now c.in_ok-quoted.quoted c.quoted_key.result c.in_ok-quoted.ensures.spans c.quoted_key.ensures.spans

@@ -1,0 +1,20 @@
+use Rattle.std.proofs.Common.{sym, refl, []}
+use Rattle.ci_yaml_lines.specs.Entry.{dash}
+use Rattle.ci_yaml_lines.specs.View.{value_view}
+use Rattle.ci_yaml.specs.declared.progress.Open.TheVariants.{Items}
+use Rattle.ci_yaml.proofs.Steps.{entry_at, item-joins}
+use Rattle.ci_yaml.proofs.SpansFrames.{item-texts}
+use Rattle.ci_yaml.proofs.members.join_item.Goals as goal
+
+pub returns-in_default-clause-value : goal.returns-in_default-clause-value
+returns-in_default-clause-value c = λ g. c.in_default.ensures.other refl c.args.misplaced (value_view c.args.value) [] (entry_at c.args.column dash g) refl
+
+pub returns-clause-value : goal.returns-clause-value
+returns-clause-value c =
+    λ g. sym (item-joins c.args.misplaced c.args.frames.now.items c.pop_items.new.frames.items c.push.new.self.items (record { column = c.args.column; members = Items c.in-Some.items }) c.in-Some.items c.in_ok-items.items c.args.column (value_view c.args.value) g
+    c.in-Some.ensures.list refl refl c.in_ok-items.ensures.value c.in_ok-push.ensures.items)
+
+pub returns-clause-spans : goal.returns-clause-spans
+returns-clause-spans c =
+    item-texts c.args.frames.now.items c.pop_items.new.frames.items c.push.new.self.items (record { column = c.args.column; members = Items c.in-Some.items }) c.in-Some.items c.in_ok-items.items c.args.column c.args.value
+    c.in-Some.ensures.list refl c.in_ok-push.ensures.items c.in_ok-items.ensures.spans

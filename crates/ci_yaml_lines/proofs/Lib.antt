@@ -1,0 +1,16 @@
+pub mod Bools
+pub mod Lists
+pub mod Leasts
+pub mod Views
+pub mod Cuts
+pub mod Counts
+pub mod Quotes
+pub mod SpansStand
+pub mod SpansTexts
+pub mod SpansQuoted
+pub mod SpansFlow
+pub mod SpansGiven
+pub mod SpansParsed
+pub mod Turns
+pub mod Parsed
+pub mod Forms

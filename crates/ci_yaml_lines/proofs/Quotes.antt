@@ -1,0 +1,209 @@
+-- Quoted scalars, read from mark to mark.
+use Rattle.std.proofs.Common.{◌≡◌, ℕ, zero, suc, ◌+◌, ◌<◌, Bool, true, false, cond, List, [], ◌∷◌, ◌++◌, length, take, drop, get_or, slice_index, ◌⊎◌, inl, inr, Option, Some, None, refl, sym, ◌∙◌, ap, arith, append_assoc}
+use Rattle.std.specs.Prelude.{◌==◌, ◌||◌, nat_lt, IfSome}
+use Rattle.std.specs.List.{position, position_or_len}
+use Rattle.std.proofs.lemmas.List.Sums.{fails_before_first}
+use Rattle.std.proofs.lemmas.List.Quantifiers.{position-Some}
+use Rattle.std.proofs.lemmas.Bool.{eqb-true, ltb-false}
+use Rattle.std.proofs.lemmas.List.{append-nil}
+use Rattle.ci_yaml_lines.specs.Scalar.{Quoted, with_byte, wrongly, closes, with_words, from_place, single, is_escape, escaped, escape_of, double, head_is, tail_of}
+use Rattle.ci_yaml_lines.specs.View.{with_wrong}
+
+pub words-nil : (q : Option Quoted) → with_words [] q ≡ q
+words-nil None = refl
+words-nil (Some q) = refl
+
+pub words-words : (xs ys : List ℕ) (q : Option Quoted) → with_words xs (with_words ys q) ≡ with_words (xs ++ ys) q
+words-words xs ys None = refl
+words-words xs ys (Some q) = ap (λ (t : List ℕ). Some (record { text = t; wrong = q.wrong; rest = q.rest })) (sym (append_assoc xs ys q.text))
+
+byte-words : (b : ℕ) (ws : List ℕ) (q : Option Quoted) → with_byte b (with_words ws q) ≡ with_words (b ∷ ws) q
+byte-words b ws None = refl
+byte-words b ws (Some q) = refl
+
+pub byte-is : (b : ℕ) (q : Option Quoted) → with_byte b q ≡ with_words (b ∷ []) q
+byte-is b None = refl
+byte-is b (Some q) = refl
+
+pub wrong-words : (w : Bool) (ws : List ℕ) (q : Option Quoted) → with_wrong w (with_words ws q) ≡ with_words ws (with_wrong w q)
+wrong-words w ws None = refl
+wrong-words w ws (Some q) = refl
+
+or-assoc : (a b c : Bool) → (a || (b || c)) ≡ ((a || b) || c)
+or-assoc true b c = refl
+or-assoc false b c = refl
+
+pub wrong-wrong : (v w : Bool) (q : Option Quoted) → with_wrong v (with_wrong w q) ≡ with_wrong (v || w) q
+wrong-wrong v w None = refl
+wrong-wrong v w (Some q) = ap (λ t. Some (record { text = q.text; wrong = t; rest = q.rest })) (or-assoc v w q.wrong)
+
+pub wrong-not : (q : Option Quoted) → with_wrong false q ≡ q
+wrong-not None = refl
+wrong-not (Some q) = refl
+
+pub wrong-is : (q : Option Quoted) → wrongly q ≡ with_wrong true q
+wrong-is None = refl
+wrong-is (Some q) = refl
+
+-- ---- up to the first mark
+
+to-mark : (f : List ℕ → Option Quoted) (p : ℕ → Bool) → ((b : ℕ) (bs : List ℕ) → p b ≡ false → f (b ∷ bs) ≡ with_byte b (f bs))
+    → (bs : List ℕ) (i : ℕ) → i < length bs → ((k : ℕ) → k < i → p (get_or bs k 0) ≡ false) → f bs ≡ with_words (take i bs) (f (get_or bs i 0 ∷ drop (suc i) bs))
+to-mark f p other [] i lt fails = absurd (omega arith)
+to-mark f p other (b ∷ bs) zero lt fails = sym (words-nil (f (b ∷ bs)))
+to-mark f p other (b ∷ bs) (suc i) lt fails =
+    other b bs (fails 0 (omega arith)) ∙ ap (with_byte b) (to-mark f p other bs i (omega arith) (λ k l. fails (suc k) (omega arith)))
+    ∙ byte-words b (take i bs) (f (get_or bs i 0 ∷ drop (suc i) bs))
+
+no-mark : (f : List ℕ → Option Quoted) (p : ℕ → Bool) → ((b : ℕ) (bs : List ℕ) → p b ≡ false → f (b ∷ bs) ≡ with_byte b (f bs)) → f [] ≡ None
+    → (bs : List ℕ) → ((k : ℕ) → k < length bs → p (get_or bs k 0) ≡ false) → f bs ≡ None
+no-mark f p other nil [] fails = nil
+no-mark f p other nil (b ∷ bs) fails = other b bs (fails 0 (omega arith)) ∙ ap (with_byte b) (no-mark f p other nil bs (λ k l. fails (suc k) (omega arith)))
+
+pub found_by : (f : List ℕ → Option Quoted) (p : ℕ → Bool) → ((b : ℕ) (bs : List ℕ) → p b ≡ false → f (b ∷ bs) ≡ with_byte b (f bs)) → f [] ≡ None
+    → (bs : List ℕ) (r : Option ℕ) → r ≡ position p bs → f bs ≡ from_place f bs r
+found_by f p other nil bs None e = no-mark f p other nil bs (λ k lt. none (position_or_len p bs) (nat_lt (position_or_len p bs) (length bs)) refl e k lt)
+  where
+    none : (n : ℕ) (t : Bool) → nat_lt (position_or_len p bs) (length bs) ≡ t → None ≡ cond (nat_lt (position_or_len p bs) (length bs)) (Some (position_or_len p bs)) None → (k : ℕ) → k < length bs → p (get_or bs k 0) ≡ false
+    none n true is e k lt = let e2 : None ≡ Some (position_or_len p bs) = e ∙ ap (λ t. cond t (Some (position_or_len p bs)) None) is in absurd cc
+    none n false is e k lt = fails_before_first p bs k 0 (omega (arith, ltb-false (position_or_len p bs) (length bs) is))
+found_by f p other nil bs (Some i) e =
+    let at = position-Some p bs i 0 (sym e) in
+    (let one : suc i ≡ i + 1 = omega arith in to-mark f p other bs i at.0 at.2 ∙ ap (λ (k : ℕ). with_words (take i bs) (f (get_or bs i 0 ∷ drop k bs))) one)
+
+pub place_by : (p : ℕ → Bool) (bs : List ℕ) (r : Option ℕ) → r ≡ position p bs → IfSome r (λ i. (i < length bs) × (p (get_or bs i 0) ≡ true))
+place_by p bs None e = tt
+place_by p bs (Some i) e = let at = position-Some p bs i 0 (sym e) in (at.0, at.1)
+
+-- ---- the two kinds
+
+pub single-other : (b : ℕ) (bs : List ℕ) → (b == 39) ≡ false → single (b ∷ bs) ≡ with_byte b (single bs)
+single-other b [] e = ap (λ t. cond t (closes []) None) e
+single-other b (c ∷ bs) e = ap (λ t. cond t (cond (39 == c) (with_byte 39 (single bs)) (closes (c ∷ bs))) (with_byte b (single (c ∷ bs)))) e
+
+-- after a quote
+pub single-quote : (bs : List ℕ) → single (39 ∷ bs) ≡ cond (head_is 39 bs) (with_words (39 ∷ []) (single (tail_of bs))) (closes bs)
+single-quote [] = refl
+single-quote (c ∷ bs) = ap (λ q. cond (39 == c) q (closes (c ∷ bs))) (byte-is 39 (single bs))
+
+first-or : (a b : Bool) → (a || b) ≡ false → a ≡ false
+first-or true b e = absurd cc
+first-or false b e = refl
+
+second-or : (a b : Bool) → (a || b) ≡ false → b ≡ false
+second-or true b e = absurd cc
+second-or false b e = e
+
+pub double-other : (b : ℕ) (bs : List ℕ) → ((b == 34) || (b == 92)) ≡ false → double (b ∷ bs) ≡ with_byte b (double bs)
+double-other b [] e = ap (λ t. cond t (closes []) None) (first-or (b == 34) (b == 92) e)
+double-other b (c ∷ bs) e =
+    ap (λ t. cond t (closes (c ∷ bs)) (cond (b == 92) (cond (is_escape c) (with_byte (escaped c) (double bs)) (wrongly (double (c ∷ bs)))) (with_byte b (double (c ∷ bs))))) (first-or (b == 34) (b == 92) e)
+    ∙ ap (λ t. cond t (cond (is_escape c) (with_byte (escaped c) (double bs)) (wrongly (double (c ∷ bs)))) (with_byte b (double (c ∷ bs)))) (second-or (b == 34) (b == 92) e)
+
+pub double-quote : (bs : List ℕ) → double (34 ∷ bs) ≡ closes bs
+double-quote [] = refl
+double-quote (c ∷ bs) = refl
+
+-- after a backslash that stands rightly
+pub double-escape : (bs ws : List ℕ) → escape_of bs ≡ Some ws → double (92 ∷ bs) ≡ with_words ws (double (tail_of bs))
+double-escape [] ws e = absurd cc
+double-escape (c ∷ bs) ws e = by (is_escape c) refl
+  where
+    by : (t : Bool) → is_escape c ≡ t → double (92 ∷ c ∷ bs) ≡ with_words ws (double bs)
+    by true is =
+        let same : Some (escaped c ∷ []) ≡ Some ws = sym (ap (λ t. cond t (Some (escaped c ∷ [])) None) is) ∙ e in
+        let ws-is : escaped c ∷ [] ≡ ws = cc in
+        ap (λ t. cond t (with_byte (escaped c) (double bs)) (wrongly (double (c ∷ bs)))) is ∙ byte-is (escaped c) (double bs) ∙ ap (λ (x : List ℕ). with_words x (double bs)) ws-is
+    by false is = let bad : None ≡ Some ws = sym (ap (λ t. cond t (Some (escaped c ∷ [])) None) is) ∙ e in absurd cc
+
+-- after one that doesn't
+pub double-misused : (bs : List ℕ) → escape_of bs ≡ None → double (92 ∷ bs) ≡ with_wrong true (double bs)
+double-misused [] e = refl
+double-misused (c ∷ bs) e = by (is_escape c) refl
+  where
+    by : (t : Bool) → is_escape c ≡ t → double (92 ∷ c ∷ bs) ≡ with_wrong true (double (c ∷ bs))
+    by true is = let bad : Some (escaped c ∷ []) ≡ None = sym (ap (λ t. cond t (Some (escaped c ∷ [])) None) is) ∙ e in absurd cc
+    by false is = ap (λ t. cond t (with_byte (escaped c) (double bs)) (wrongly (double (c ∷ bs)))) is ∙ wrong-is (double (c ∷ bs))
+
+or-both : (a b : Bool) → (a || b) ≡ true → (a ≡ true) ⊎ (b ≡ true)
+or-both true b e = inl refl
+or-both false b e = inr e
+
+pub single-found : (bs : List ℕ) (r : Option ℕ) → r ≡ position (λ b. b == 39) bs → single bs ≡ from_place single bs r
+single-found bs r e = found_by single (λ b. b == 39) single-other refl bs r e
+
+pub double-found : (bs : List ℕ) (r : Option ℕ) → r ≡ position (λ b. (b == 34) || (b == 92)) bs → double bs ≡ from_place double bs r
+double-found bs r e = found_by double (λ b. (b == 34) || (b == 92)) double-other refl bs r e
+
+pub single-place : (bs : List ℕ) (r : Option ℕ) → r ≡ position (λ b. b == 39) bs → IfSome r (λ i. (i < length bs) × (get_or bs i 0 ≡ 39))
+single-place bs None e = tt
+single-place bs (Some i) e = let h = place_by (λ b. b == 39) bs (Some i) e in (h.0, eqb-true (get_or bs i 0) 39 h.1)
+
+quote_or_backslash : (b : ℕ) → ((b == 34) ≡ true) ⊎ ((b == 92) ≡ true) → (b ≡ 34) ⊎ (b ≡ 92)
+quote_or_backslash b (inl e) = inl (eqb-true b 34 e)
+quote_or_backslash b (inr e) = inr (eqb-true b 92 e)
+
+pub double-place : (bs : List ℕ) (r : Option ℕ) → r ≡ position (λ b. (b == 34) || (b == 92)) bs → IfSome r (λ i. (i < length bs) × ((get_or bs i 0 ≡ 34) ⊎ (get_or bs i 0 ≡ 92)))
+double-place bs None e = tt
+double-place bs (Some i) e =
+    let h = place_by (λ b. (b == 34) || (b == 92)) bs (Some i) e in
+    (h.0, quote_or_backslash (get_or bs i 0) (or-both (get_or bs i 0 == 34) (get_or bs i 0 == 92) h.1))
+
+-- ---- what the code does at a backslash
+
+pub unescaped : (w v m rest more : List ℕ) → v ≡ w ++ m → more ≡ tail_of rest → escape_of rest ≡ Some m → with_words v (with_wrong false (double more)) ≡ with_words w (double (92 ∷ rest))
+unescaped w v m rest more v-is more-is e =
+    ap (λ (q : Option Quoted). with_words v q) (wrong-not (double more) ∙ ap double more-is) ∙ ap (λ (x : List ℕ). with_words x (double (tail_of rest))) v-is
+    ∙ sym (words-words w m (double (tail_of rest))) ∙ ap (with_words w) (sym (double-escape rest m e))
+
+pub misused : (w rest : List ℕ) → escape_of rest ≡ None → with_words w (with_wrong true (double rest)) ≡ with_words w (double (92 ∷ rest))
+misused w rest e = ap (with_words w) (sym (double-misused rest e))
+
+pub doubled-turn : (w v1 v2 front more bs rest behind : List ℕ) (i : ℕ) → head_is 39 rest ≡ true → more ≡ tail_of rest → bs ≡ more → single bs ≡ from_place single bs (Some i) → slice_index bs i ≡ 39
+    → front ≡ take i more → behind ≡ drop (i + 1) more → v1 ≡ w ++ 39 ∷ [] → v2 ≡ v1 ++ front → with_words v2 (single (39 ∷ behind)) ≡ with_words w (single (39 ∷ rest))
+doubled-turn w v1 v2 front more bs rest behind i head more-is bs-is value place front-is behind-is v1-is v2-is =
+    let q : Option Quoted = single (39 ∷ behind) in
+    let goes : single more ≡ with_words front q =
+    ap single (sym bs-is) ∙ value ∙ ap (λ (b : ℕ). with_words (take i bs) (single (b ∷ drop (i + 1) bs))) place
+    ∙ ap (λ (x : List ℕ). with_words (take i x) (single (39 ∷ drop (i + 1) x))) bs-is
+    ∙ ap (λ (x : List ℕ). with_words x (single (39 ∷ drop (i + 1) more))) (sym front-is) ∙ ap (λ (x : List ℕ). with_words front (single (39 ∷ x))) (sym behind-is) in
+    let all : single (39 ∷ rest) ≡ with_words (39 ∷ []) (with_words front q) =
+    single-quote rest ∙ ap (λ t. cond t (with_words (39 ∷ []) (single (tail_of rest))) (closes rest)) head ∙ ap (λ (x : List ℕ). with_words (39 ∷ []) (single x)) (sym more-is) ∙ ap (with_words (39 ∷ [])) goes in
+    ap (λ (x : List ℕ). with_words x q) (v2-is ∙ ap (λ (x : List ℕ). x ++ front) v1-is) ∙ sym (words-words (w ++ 39 ∷ []) front q) ∙ sym (words-words w (39 ∷ []) (with_words front q)) ∙ ap (with_words w) (sym all)
+
+-- up to a mark
+pub double-goes : (front more bs behind : List ℕ) (i : ℕ) → bs ≡ more → double bs ≡ from_place double bs (Some i) → front ≡ take i more → behind ≡ drop (i + 1) more → double more ≡ with_words front (double (slice_index bs i ∷ behind))
+double-goes front more bs behind i bs-is value front-is behind-is =
+    ap double (sym bs-is) ∙ value
+    ∙ ap (λ (x : List ℕ). with_words (take i x) (double (slice_index bs i ∷ drop (i + 1) x))) bs-is
+    ∙ ap (λ (x : List ℕ). with_words x (double (slice_index bs i ∷ drop (i + 1) more))) (sym front-is) ∙ ap (λ (x : List ℕ). with_words front (double (slice_index bs i ∷ x))) (sym behind-is)
+
+pub not-92 : (b : ℕ) → (b ≡ 34) ⊎ (b ≡ 92) → (b ≡ 92 → ⊥) → b ≡ 34
+not-92 b (inl e) ne = e
+not-92 b (inr e) ne = absurd (ne e)
+
+pub double-closed : (front more bs behind : List ℕ) (i : ℕ) → bs ≡ more → double bs ≡ from_place double bs (Some i) → front ≡ take i more → behind ≡ drop (i + 1) more
+    → (slice_index bs i ≡ 34) ⊎ (slice_index bs i ≡ 92) → (slice_index bs i ≡ 92 → ⊥) → double more ≡ Some (record { text = front; wrong = false; rest = behind })
+double-closed front more bs behind i bs-is value front-is behind-is place ne =
+    double-goes front more bs behind i bs-is value front-is behind-is
+    ∙ ap (λ (b : ℕ). with_words front (double (b ∷ behind))) (not-92 (slice_index bs i) place ne)
+    ∙ ap (with_words front) (double-quote behind)
+    ∙ ap (λ (x : List ℕ). Some (record { text = x; wrong = false; rest = behind })) (append-nil front)
+
+-- a turn of the reading of escapes: what the backslash stood for has been added
+pub turn-wrong : (w v : List ℕ) (wrong misused : Bool) (x y : Option Quoted) → with_words v (with_wrong misused x) ≡ with_words w y → with_words v (with_wrong (wrong || misused) x) ≡ with_words w (with_wrong wrong y)
+turn-wrong w v wrong misused x y e =
+    ap (with_words v) (sym (wrong-wrong wrong misused x)) ∙ sym (wrong-words wrong v (with_wrong misused x)) ∙ ap (with_wrong wrong) e ∙ wrong-words wrong w y
+
+pub turn-front : (v u front : List ℕ) (wrong : Bool) (x y : Option Quoted) → u ≡ v ++ front → x ≡ with_words front y → with_words u (with_wrong wrong y) ≡ with_words v (with_wrong wrong x)
+turn-front v u front wrong x y u-is x-is =
+    ap (λ (t : List ℕ). with_words t (with_wrong wrong y)) u-is ∙ sym (words-words v front (with_wrong wrong y)) ∙ ap (with_words v) (sym (wrong-words wrong front y)) ∙ ap (λ (q : Option Quoted). with_words v (with_wrong wrong q)) (sym x-is)
+
+pub turn-closed : (u behind : List ℕ) (wrong : Bool) → with_words u (with_wrong wrong (double (34 ∷ behind))) ≡ Some (record { text = u; wrong = wrong; rest = behind })
+turn-closed u behind wrong =
+    ap (λ (q : Option Quoted). with_words u (with_wrong wrong q)) (double-quote behind)
+    ∙ ap (λ (x : List ℕ). Some (record { text = x; wrong = wrong || false; rest = behind })) (append-nil u) ∙ ap (λ t. Some (record { text = u; wrong = t; rest = behind })) (or-end wrong)
+  where
+    or-end : (b : Bool) → (b || false) ≡ b
+    or-end true = refl
+    or-end false = refl

@@ -1,0 +1,26 @@
+-- A tree of the code, level by level, and lists that grow at their end.
+use Rattle.std.proofs.Common.{◌≡◌, ℕ, true, false, cond, ◌∙◌, ◌+◌, ◌-◌, ◌<◌, ◌≤◌, length, take, get_or, arith, List, [], ◌∷◌, ◌++◌, refl, ap, sym, rules}
+use Rattle.std.specs.Global.{Vec}
+use Rattle.std.proofs.lemmas.List.{take_more}
+use Rattle.std.proofs.Math.Seq.{take-length}
+use Rattle.ci_yaml_lines.specs.Tree.{sequence, mapping, text, node, member, push}
+use Rattle.ci_yaml_lines.specs.View.{bytes_of, value_view, items_view, pairs_view}
+use Rattle.ci_yaml_lines.specs.declared.tree.Text.{Text}
+use Rattle.ci_yaml_lines.specs.declared.tree.Tree.{Tree, List as ListTree, Map as MapTree, Text as TextTree, the_lemmas}
+
+pub view-List : (v : Vec Tree) → value_view (ListTree v) ≡ node sequence (items_view v.items)
+view-List v = search (rules, the_lemmas)
+
+pub view-Map : (v : Vec (Text × Tree)) → value_view (MapTree v) ≡ node mapping (pairs_view v.items)
+view-Map v = search (rules, the_lemmas)
+
+pub view-Text : (x : Text) → value_view (TextTree x) ≡ text (bytes_of x)
+view-Text x = search (rules, the_lemmas)
+
+pub items-push : (vs : List Tree) (v : Tree) → items_view (vs ++ v ∷ []) ≡ push (items_view vs) [] (value_view v)
+items-push [] v = refl
+items-push (w ∷ vs) v = ap (member [] (value_view w)) (items-push vs v)
+
+pub pairs-push : (ms : List (Text × Tree)) (k : Text) (v : Tree) → pairs_view (ms ++ (k, v) ∷ []) ≡ push (pairs_view ms) (bytes_of k) (value_view v)
+pairs-push [] k v = refl
+pairs-push (m ∷ ms) k v = ap (member (bytes_of m.0) (value_view m.1)) (pairs-push ms k v)

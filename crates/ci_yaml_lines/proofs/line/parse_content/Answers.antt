@@ -1,0 +1,25 @@
+use Rattle.std.proofs.Common.{◌≡◌, ◌∙◌, ap, sym, false, ℕ, suc, ◌+◌, length, arith}
+use Rattle.ci_yaml_lines.specs.declared.code.Code.TheVariants.{Y9}
+use Rattle.ci_yaml_lines.specs.Scalar.{head_is, when}
+use Rattle.ci_yaml_lines.specs.Least.{least}
+use Rattle.ci_yaml_lines.specs.Line.{parse_entries}
+use Rattle.ci_yaml_lines.specs.View.{parsed_view, least_parsed}
+use Rattle.ci_yaml_lines.proofs.Parsed.{content-parsed}
+use Rattle.ci_yaml_lines.proofs.SpansParsed.{no-entries, same-entries}
+use Rattle.ci_yaml_lines.specs.Spans.{entries_texts}
+use Rattle.ci_yaml_lines.proofs.SpansStand.{stand-all}
+use Rattle.ci_yaml_lines.proofs.line.parse_content.Goals as goal
+
+pub returns-clause-value : goal.returns-clause-value
+returns-clause-value c =
+    let no : head_is 9 c.args.text.now ≡ false = ap (head_is 9) (sym c.as_bytes.ensures.value) ∙ sym c.if-head_is.ensures in
+    let one : length c.args.text.now + 1 ≡ suc (length c.args.text.now) = omega arith in
+    c.with_code.ensures.value ∙ content-parsed c.args.column c.args.text.now c.when-mark.result (parsed_view c.in_ok-parsed.parsed) no (c.when-mark.ensures ∙ ap (λ b. least (when b Y9)) c.has_document_mark.ensures)
+    (c.in_ok-parsed.ensures.value ∙ ap (λ (n : ℕ). least_parsed (parse_entries n c.args.column c.args.text.now)) one)
+
+pub returns-clause-spans : goal.returns-clause-spans
+returns-clause-spans c = same-entries c.args.source c.args.text.now c.with_code.result.entries.items c.in_ok-parsed.parsed.entries.items (ap (λ v. v.items) c.with_code.ensures.entries) c.in_ok-parsed.ensures.spans
+
+pub returns-then-head_is-clause-spans : goal.returns-then-head_is-clause-spans
+returns-then-head_is-clause-spans c =
+    stand-all c.args.source c.args.text.now c.args.text.now (entries_texts c.new.result.items) (no-entries c.args.source c.args.text.now c.new.result.items c.new.ensures.items)

@@ -1,0 +1,64 @@
+use Rattle.std.proofs.Common.{◌≡◌, ◌∙◌, ap, sym, subst, map, length, rules, arith, true, false, List, [], ◌++◌, ◌+◌, ◌≤◌, None}
+use Rattle.std.specs.Prelude.{IfOk}
+use Rattle.ci_yaml_lines.specs.declared.entry.Head.TheVariants.{Dash}
+use Rattle.ci_yaml_lines.specs.Line.{is_dash}
+use Rattle.ci_yaml_lines.specs.View.{entry_view, written_view, item_view, LeastParsed, parsed_view, ColumnsFit}
+use Rattle.ci_yaml_lines.proofs.Parsed.{stop-turn, value-turn, inner-turn, end-turn, entries-push, start-turn, dash-longer, added}
+use Rattle.ci_yaml_lines.specs.declared.tree.Text.{Text}
+use Rattle.ci_yaml_lines.specs.Spans.{Stand, given_texts, entries_texts}
+use Rattle.ci_yaml_lines.specs.SpansParsed.{GoOn, ItemStands}
+use Rattle.ci_yaml_lines.proofs.SpansStand.{stand-all}
+use Rattle.ci_yaml_lines.proofs.SpansGiven.{if-ok}
+use Rattle.ci_yaml_lines.proofs.SpansParsed.{no-entries, dash-item, dash-inner}
+use Rattle.ci_yaml_lines.proofs.line.parse_entries.Goals as goal
+
+pub dashes-init : goal.dashes-init
+dashes-init c = (search rules, c.requires.fits, start-turn c.new-entries.result.items c.args.n c.args.column c.args.text.now c.new-entries.ensures.items, no-entries c.args.source c.args.text.now c.new-entries.result.items c.new-entries.ensures.items)
+
+pub returns-then-not-is_dash-clause-value : goal.returns-then-not-is_dash-clause-value
+returns-then-not-is_dash-clause-value c =
+    let no : is_dash c.dashes.rest.now ≡ false = ap is_dash (sym c.as_bytes.ensures.value) ∙ sym c.if-not-is_dash.ensures in
+    subst (λ (x : LeastParsed). IfOk c.keyed_or_bare.result (λ s. parsed_view s ≡ x))
+    (stop-turn (map entry_view c.dashes.entries.items) c.args.n c.dashes.i c.dashes.column c.dashes.rest.now (omega arith) no ∙ c.dashes.invariant.2) c.keyed_or_bare.ensures.value
+
+pub returns-in-Value-clause-value : goal.returns-in-Value-clause-value
+returns-in-Value-clause-value c =
+    let yes : is_dash c.dashes.rest.now ≡ true = ap is_dash (sym c.as_bytes.ensures.value) ∙ sym c.if-not-is_dash.ensures in
+    subst (λ (x : LeastParsed). IfOk c.entry_of.result (λ s. parsed_view s ≡ x))
+    (value-turn (map entry_view c.dashes.entries.items) c.args.n c.dashes.i c.dashes.column c.dashes.rest.now c.tail.result.now (written_view c.in-Value.value) (omega arith) yes c.tail.ensures
+    (sym (ap item_view c.in-Value.is) ∙ c.in_ok-columns.ensures.value) ∙ c.dashes.invariant.2) c.entry_of.ensures.value
+
+pub dashes-preserved : goal.dashes-preserved
+dashes-preserved c =
+    let yes : is_dash c.dashes.rest.now ≡ true = ap is_dash (sym c.as_bytes.ensures.value) ∙ sym c.if-not-is_dash.ensures in
+    let fits : c.in-Inner.columns + length c.in-Inner.inner.now ≤ 1 + length c.tail.result.now = subst (ColumnsFit (length c.tail.result.now)) (ap item_view c.in-Inner.is) c.in_ok-columns.ensures.fits in
+    let longer : 1 + length c.tail.result.now ≤ length c.dashes.rest.now = dash-longer c.dashes.rest.now c.tail.result.now yes c.tail.ensures in
+    let bound : c.dashes.column + length c.dashes.rest.now ≤ 65536 = c.dashes.invariant.1 in (
+      search rules,
+      added c.dashes.column c.in-Inner.columns (length c.in-Inner.inner.now) (length c.tail.result.now) (length c.dashes.rest.now) fits longer bound,
+      inner-turn (map entry_view c.dashes.entries.items) (map entry_view c.push.new.self.items) c.args.n c.dashes.i c.dashes.column c.in-Inner.columns c.dashes.rest.now c.tail.result.now c.in-Inner.inner.now (omega arith) yes c.tail.ensures
+          (sym (ap item_view c.in-Inner.is) ∙ c.in_ok-columns.ensures.value)
+          (ap (map entry_view) c.in_ok-push-in-Inner.ensures.items ∙ entries-push c.dashes.entries.items (record { column = c.dashes.column; head = Dash; given = None }))
+          ∙ c.dashes.invariant.2,
+      dash-inner c.args.source c.args.text.now c.dashes.rest.now c.tail.result.now c.in-Inner.inner.now c.dashes.entries.items c.push.new.self.items c.dashes.column c.dashes.invariant.3 c.tail.ensures
+          (subst (ItemStands c.args.source c.tail.result.now) c.in-Inner.is c.in_ok-columns.ensures.spans) c.in_ok-push-in-Inner.ensures.items,
+    )
+
+pub returns-clause-value : goal.returns-clause-value
+returns-clause-value c = end-turn (map entry_view c.dashes.entries.items) c.args.n c.dashes.i c.dashes.column c.dashes.rest.now (omega arith) ∙ c.dashes.invariant.2
+
+pub returns-then-not-is_dash-clause-spans : goal.returns-then-not-is_dash-clause-spans
+returns-then-not-is_dash-clause-spans c =
+    if-ok c.keyed_or_bare.result (λ s. GoOn c.args.source (entries_texts c.dashes.entries.items) c.dashes.rest.now (entries_texts s.entries.items)) (λ s. Stand c.args.source c.args.text.now (entries_texts s.entries.items) [])
+    (λ s goes. goes c.args.text.now c.dashes.invariant.3) c.keyed_or_bare.ensures.spans
+
+pub returns-in-Value-clause-spans : goal.returns-in-Value-clause-spans
+returns-in-Value-clause-spans c =
+    let ts : List Text = entries_texts c.dashes.entries.items ++ ([] ++ given_texts c.in-Value.value.given) in
+    let stand : Stand c.args.source c.args.text.now ts [] =
+    dash-item c.args.source c.args.text.now c.dashes.rest.now c.tail.result.now (entries_texts c.dashes.entries.items) c.in-Value.value c.in_ok-columns.field-0 c.dashes.invariant.3 c.tail.ensures c.in_ok-columns.ensures.spans c.in-Value.is in
+    if-ok c.entry_of.result (λ s. entries_texts s.entries.items ≡ ts) (λ s. Stand c.args.source c.args.text.now (entries_texts s.entries.items) [])
+    (λ s e. subst (λ (us : List Text). Stand c.args.source c.args.text.now us []) (sym e) stand) c.entry_of.ensures.spans
+
+pub returns-clause-spans : goal.returns-clause-spans
+returns-clause-spans c = stand-all c.args.source c.args.text.now c.dashes.rest.now (entries_texts c.dashes.entries.items) c.dashes.invariant.3

@@ -1,0 +1,46 @@
+use Rattle.std.proofs.Common.{◌≡◌, ◌∙◌, ◌+◌, ap, sym, arith, length, false, drop, ℕ, List}
+use Rattle.std.proofs.lemmas.List.Sums.{prefix_len-le-length}
+use Rattle.ci_yaml_lines.specs.declared.code.Code.TheVariants.{Y9}
+use Rattle.ci_yaml_lines.specs.Scalar.{trim_end, when}
+use Rattle.ci_yaml_lines.specs.Least.{least}
+use Rattle.ci_yaml_lines.specs.Line.{spaces, is_space, is_skipped, parse_content}
+use Rattle.ci_yaml_lines.specs.View.{parsed_view, least_parsed}
+use Rattle.ci_yaml_lines.proofs.Parsed.{line-fits, line-parsed}
+use Rattle.ci_yaml_lines.specs.Spans.{entries_texts}
+use Rattle.ci_yaml_lines.proofs.SpansParsed.{no-entries, same-entries, line-stands}
+use Rattle.ci_yaml_lines.specs.declared.cut.SourceLine.{SourceLine}
+use Rattle.ci_yaml_lines.proofs.SpansStand.{stand-all}
+use Rattle.ci_yaml_lines.proofs.line.parse_line.Goals as goal
+
+pub overflow_cast-column : goal.overflow_cast-column
+overflow_cast-column c =
+    let e : c.spaces-column.result ≡ spaces c.args.line.now = c.spaces-column.ensures ∙ ap spaces c.as_bytes.ensures.value in
+    omega (arith, prefix_len-le-length is_space c.args.line.now)
+
+pub parse_content-requires : goal.parse_content-requires
+parse_content-requires c =
+    let e : c.spaces-column.result ≡ spaces c.args.line.now = c.spaces-column.ensures ∙ ap spaces c.as_bytes.ensures.value in
+    let t : c.trim_end-text.result.now ≡ trim_end (drop (spaces c.args.line.now) c.args.line.now) = c.trim_end-text.ensures ∙ ap trim_end c.drop_spaces.ensures in
+    let l : length c.trim_end-text.result.now ≡ length (trim_end (drop (spaces c.args.line.now) c.args.line.now)) = ap length t in
+    record { fits = omega (arith, line-fits c.args.line.now c.requires.fits) }
+
+pub returns-clause-value : goal.returns-clause-value
+returns-clause-value c =
+    let away : is_skipped c.args.line.now ≡ false = sym c.if-is_skipped.ensures in
+    let column : c.spaces-column.result ≡ spaces c.args.line.now = c.spaces-column.ensures ∙ ap spaces c.as_bytes.ensures.value in
+    let t : c.trim_end-text.result.now ≡ trim_end (drop (spaces c.args.line.now) c.args.line.now) = c.trim_end-text.ensures ∙ ap trim_end c.drop_spaces.ensures in
+    c.with_code.ensures.value ∙ line-parsed c.args.line.now c.when-form.result (parsed_view c.in_ok-parsed.parsed) away (c.when-form.ensures ∙ ap (λ b. least (when b Y9)) c.has_excluded.ensures)
+    (c.in_ok-parsed.ensures.value ∙ ap (λ (n : ℕ). least_parsed (parse_content n c.trim_end-text.result.now)) column ∙ ap (λ (x : List ℕ). least_parsed (parse_content (spaces c.args.line.now) x)) t)
+
+pub returns-clause-spans : goal.returns-clause-spans
+returns-clause-spans c =
+    let column : c.spaces-column.result ≡ spaces c.args.line.now = c.spaces-column.ensures ∙ ap spaces c.as_bytes.ensures.value in
+    let t : c.trim_end-text.result.now ≡ trim_end (drop (spaces c.args.line.now) c.args.line.now) = c.trim_end-text.ensures ∙ ap trim_end c.drop_spaces.ensures in
+    line-stands c.args.number c.spaces-column.result c.args.line.now c.trim_end-text.result.now (entries_texts c.with_code.result.entries.items) column t
+    (same-entries (record { line = c.args.number; end = c.spaces-column.result + length c.trim_end-text.result.now }) c.trim_end-text.result.now c.with_code.result.entries.items c.in_ok-parsed.parsed.entries.items
+    (ap (λ v. v.items) c.with_code.ensures.entries) c.in_ok-parsed.ensures.spans)
+
+pub returns-then-is_skipped-clause-spans : goal.returns-then-is_skipped-clause-spans
+returns-then-is_skipped-clause-spans c =
+    let at : SourceLine = record { line = c.args.number; end = length c.args.line.now } in
+    stand-all at c.args.line.now c.args.line.now (entries_texts c.new.result.items) (no-entries at c.args.line.now c.new.result.items c.new.ensures.items)

@@ -1,0 +1,10 @@
+use Rattle.std.proofs.Common.{◌≡◌, ◌≤◌, drop}
+use Rattle.ci_yaml_lines.specs.Scalar.{count_of}
+use Rattle.ci_yaml_lines.proofs.Counts.{count_rest, limit}
+use Rattle.ci_yaml_lines.proofs.scalar.count.Given as goal
+
+abbrev pub invariant-loop-digit : goal.invariant-loop-digit
+invariant-loop-digit l = record {
+  number : l.number ≤ limit;
+  rest : count_rest l.number (drop l.digit-index l.digits) ≡ count_of l.fn.digits;
+}

@@ -1,0 +1,27 @@
+use Rattle.std.proofs.Common.{◌≡◌, ◌∙◌, ap, sym, true, false, []}
+use Rattle.ci_yaml_lines.specs.Scalar.{is_quote, head_is}
+use Rattle.ci_yaml_lines.specs.Line.{listed}
+use Rattle.ci_yaml_lines.specs.View.{written_of_list, least_written}
+use Rattle.ci_yaml_lines.proofs.Parsed.{list-written, at-list}
+use Rattle.ci_yaml_lines.specs.Spans.{given_texts, items_texts}
+use Rattle.ci_yaml_lines.specs.SpansFlow.{behind_list}
+use Rattle.ci_yaml_lines.proofs.SpansGiven.{stand-tail, stand-quoted, stand-same}
+use Rattle.ci_yaml_lines.proofs.written.read_value.Goals as goal
+
+pub returns-in_ok-list-clause-value : goal.returns-in_ok-list-clause-value
+returns-in_ok-list-clause-value c =
+    let w = c.args.text.now in
+    let away : is_quote w ≡ false = ap is_quote (sym c.as_bytes.ensures.value) ∙ sym c.if-is_quote.ensures in
+    let here : head_is 91 w ≡ true = ap (head_is 91) (sym c.as_bytes-else-is_quote.ensures.value) ∙ sym c.if-head_is.ensures in
+    c.written_list.ensures.value ∙ ap written_of_list c.in_ok-list.ensures.value ∙ list-written (listed w) ∙ ap least_written (at-list w away here)
+
+pub returns-in-Some-clause-spans : goal.returns-in-Some-clause-spans
+returns-in-Some-clause-spans c =
+    stand-quoted c.args.source c.args.text.now c.in_ok-quoted.field-0 c.in-Some.quoted (given_texts c.closed.result.given) c.in-Some.is c.in_ok-quoted.ensures.spans c.closed.ensures.spans
+
+pub returns-in_ok-list-clause-spans : goal.returns-in_ok-list-clause-spans
+returns-in_ok-list-clause-spans c =
+    stand-same c.args.source c.args.text.now (behind_list c.in_ok-list.list.rest) (given_texts c.written_list.result.given) (items_texts c.in_ok-list.list.items.items) c.written_list.ensures.spans c.in_ok-list.ensures.spans
+
+pub returns-then-head_is-2-clause-spans : goal.returns-then-head_is-2-clause-spans
+returns-then-head_is-2-clause-spans c = stand-tail c.args.source c.args.text.now c.tail.result.now [] (given_texts c.header_of.result.given) c.tail.ensures c.header_of.ensures.spans

@@ -1,0 +1,6 @@
+use Rattle.ci_yaml_lines.specs.Spans.{texts_in}
+use Rattle.ci_yaml_lines.proofs.SpansStand.{stand-all}
+use Rattle.ci_yaml_lines.proofs.written.unclosed.Goals as goal
+
+pub returns-clause-spans : goal.returns-clause-spans
+returns-clause-spans c = stand-all c.args.source c.args.text.now c.args.text.now (texts_in c.no_text.result) c.no_text.ensures.spans

@@ -1,0 +1,12 @@
+pub mod Least
+pub mod Tree
+pub mod Entry
+pub mod Scalar
+pub mod Line
+pub mod TreeView
+pub mod TreeTexts
+pub mod Spans
+pub mod SpansScalar
+pub mod SpansFlow
+pub mod SpansParsed
+pub mod View

@@ -1,0 +1,223 @@
+//! Quoted scalars.
+
+ghost use Rattle.std.specs.Prelude.{◌≡◌, ◌==◌, ◌||◌, [], ◌∷◌, ◌<◌, ◌≤◌, ◌⊎◌, IfOk, IfSome, option_map, slice_index, string_bytes, length};
+ghost use Rattle.std.specs.List.{position};
+ghost use Rattle.ci_yaml_lines.specs.Scalar.{single, double, quoted, is_quote, with_words, from_place, escape_of};
+ghost use Rattle.ci_yaml_lines.specs.View.{quoted_view, quoted_words_view, with_wrong};
+ghost use Rattle.ci_yaml_lines.specs.Spans.{Stand};
+
+use crate::cut::{SourceLine, split_around, tail};
+use crate::scan::head_is;
+use crate::tree::{Text, Words};
+use std::alloc::{AllocError, Global};
+
+/// A quoted scalar: its text, whether a backslash stands wrongly in it, and what follows it.
+#[derive(Drop)]
+pub struct Quoted<'a> {
+    pub text: Text<'a>,
+    pub wrong: bool,
+    pub rest: &'a str,
+}
+
+/// The same after the opening quote: its words, whether a backslash stands wrongly in it, and what follows it.
+#[derive(Drop)]
+struct QuotedWords<'a> {
+    words: Words<'a>,
+    wrong: bool,
+    rest: &'a str,
+}
+
+fn first_quote(bytes: &[u8]) -> Option<usize>
+    ensures { result ≡ position (λ b. b == 39) bytes.now }
+{
+    bytes.iter().position(|byte| *byte == b'\'')
+}
+
+/// Where the first single quote stands.
+fn quote_at(bytes: &[u8]) -> Option<usize>
+    ensures place { IfSome result (λ i. (i < length bytes.now) × (slice_index bytes.now i ≡ 39)) }
+    ensures value { single bytes.now ≡ from_place single bytes.now result }
+{
+    first_quote(bytes)
+}
+
+/// A scalar in single quotes, after the first quote. Errors: memory was refused.
+fn single<'a>(alloc: Global, text: &'a str) -> Result<Option<QuotedWords<'a>>, AllocError>
+    ensures { IfOk result (λ q. option_map quoted_words_view q ≡ single text.now) }
+{
+    let Some(i) = quote_at(text.as_bytes()) else {
+        return Ok(None);
+    };
+    let (front, rest) = split_around(text, i);
+    if head_is(b'\'', rest.as_bytes()) {
+        return doubled(alloc, front, rest);
+    }
+    Ok(Some(QuotedWords {
+        words: Words::Lent(front),
+        wrong: false,
+        rest,
+    }))
+}
+
+/// The same, where after this front and a quote the rest begins with a second quote.
+fn doubled<'a>(
+    alloc: Global,
+    front: &str,
+    rest: &'a str,
+) -> Result<Option<QuotedWords<'a>>, AllocError>
+    ensures { IfOk result (λ q. option_map quoted_words_view q ≡ with_words front.now (single (39 ∷ rest.now))) }
+{
+    let mut words = String::from_str(alloc, front)?;
+    let mut rest = rest;
+    'pairs: while head_is(b'\'', rest.as_bytes()) {
+        let more = tail(rest);
+        let Some(i) = quote_at(more.as_bytes()) else {
+            return Ok(None);
+        };
+        let (front, behind) = split_around(more, i);
+        words.push_str("'")?;
+        words.push_str(front)?;
+        rest = behind;
+    }
+    Ok(Some(QuotedWords {
+        words: Words::Owned(words),
+        wrong: false,
+        rest,
+    }))
+}
+
+fn first_quote_or_backslash(bytes: &[u8]) -> Option<usize>
+    ensures { result ≡ position (λ b. (b == 34) || (b == 92)) bytes.now }
+{
+    bytes
+        .iter()
+        .position(|byte| *byte == b'"' || *byte == b'\\')
+}
+
+/// Where the first double quote or backslash stands.
+fn quote_or_backslash_at(bytes: &[u8]) -> Option<usize>
+    ensures place { IfSome result (λ i. (i < length bytes.now) × ((slice_index bytes.now i ≡ 34) ⊎ (slice_index bytes.now i ≡ 92))) }
+    ensures value { double bytes.now ≡ from_place double bytes.now result }
+{
+    first_quote_or_backslash(bytes)
+}
+
+/// What the byte behind a backslash stands for.
+fn escape(bytes: &[u8]) -> Option<&'static str>
+    ensures { option_map (λ s. s.now) result ≡ escape_of bytes.now }
+{
+    match bytes {
+        [b'\\', ..] => Some("\\"),
+        [b'"', ..] => Some("\""),
+        [b'n', ..] => Some("\n"),
+        [b't', ..] => Some("\t"),
+        _ => None,
+    }
+}
+
+/// A scalar in double quotes, after the first quote. Errors: memory was refused.
+fn double<'a>(alloc: Global, text: &'a str) -> Result<Option<QuotedWords<'a>>, AllocError>
+    ensures { IfOk result (λ q. option_map quoted_words_view q ≡ double text.now) }
+{
+    let bytes = text.as_bytes();
+    let Some(i) = quote_or_backslash_at(bytes) else {
+        return Ok(None);
+    };
+    let (front, rest) = split_around(text, i);
+    if bytes[i] == b'\\' {
+        return with_escapes(alloc, front, rest);
+    }
+    Ok(Some(QuotedWords {
+        words: Words::Lent(front),
+        wrong: false,
+        rest,
+    }))
+}
+
+/// Adds what a backslash and the byte behind it stand for, and answers what follows, and whether the backslash
+/// stands rightly. Errors: memory was refused.
+fn unescape<'a>(words: &mut String, rest: &'a str) -> Result<(bool, &'a str), AllocError>
+    ensures shorter { IfOk result (λ r. length r.1.now ≤ length rest.now) }
+    ensures value { IfOk result (λ r. with_words (string_bytes words.new) (with_wrong r.0 (double r.1.now)) ≡ with_words (string_bytes words.old) (double (92 ∷ rest.now))) }
+{
+    match escape(rest.as_bytes()) {
+        Some(meant) => {
+            words.push_str(meant)?;
+            Ok((false, tail(rest)))
+        }
+        None => Ok((true, rest)),
+    }
+}
+
+/// The same, where this front and a backslash come before the rest.
+fn with_escapes<'a>(
+    alloc: Global,
+    front: &str,
+    rest: &'a str,
+) -> Result<Option<QuotedWords<'a>>, AllocError>
+    ensures { IfOk result (λ q. option_map quoted_words_view q ≡ with_words front.now (double (92 ∷ rest.now))) }
+{
+    let mut words = String::from_str(alloc, front)?;
+    let mut wrong = false;
+    let mut rest = rest;
+    'escapes: loop {
+        let (misused, more) = unescape(&mut words, rest)?;
+        wrong = wrong | misused;
+        let bytes = more.as_bytes();
+        let Some(i) = quote_or_backslash_at(bytes) else {
+            return Ok(None);
+        };
+        let (front, behind) = split_around(more, i);
+        words.push_str(front)?;
+        rest = behind;
+        if bytes[i] != b'\\' {
+            return Ok(Some(QuotedWords {
+                words: Words::Owned(words),
+                wrong,
+                rest,
+            }));
+        }
+    }
+}
+
+/// Whether a quoted scalar begins there.
+pub fn is_quote(bytes: &[u8]) -> bool
+    ensures { result ≡ is_quote bytes.now }
+{
+    head_is(b'\'', bytes) || head_is(b'"', bytes)
+}
+
+/// What stands inside the quotes at the front, if they are closed. Errors: memory was refused.
+fn read_words<'a>(alloc: Global, text: &'a str) -> Result<Option<QuotedWords<'a>>, AllocError>
+    ensures { IfOk result (λ q. option_map quoted_words_view q ≡ quoted text.now) }
+{
+    if head_is(b'\'', text.as_bytes()) {
+        single(alloc, tail(text))
+    } else if head_is(b'"', text.as_bytes()) {
+        double(alloc, tail(text))
+    } else {
+        Ok(None)
+    }
+}
+
+/// The quoted scalar at the front, if it is closed. Errors: memory was refused.
+pub fn read_quoted<'a>(
+    alloc: Global,
+    source: SourceLine,
+    text: &'a str,
+) -> Result<Option<Quoted<'a>>, AllocError>
+    ensures value { IfOk result (λ q. option_map quoted_view q ≡ quoted text.now) }
+    ensures spans { IfOk result (λ o. IfSome o (λ q. Stand source text.now (q.text ∷ []) q.rest.now)) }
+{
+    match read_words(alloc, text)? {
+        Some(QuotedWords { words, wrong, rest }) => Ok(Some(Quoted {
+            text: Text {
+                words,
+                span: source.before(text, rest),
+            },
+            wrong,
+            rest,
+        })),
+        None => Ok(None),
+    }
+}
