@@ -5,6 +5,7 @@ use crate::disks::{closed, connected, discard, empty, fused, stopped};
 use crate::records::project;
 use ci_machine::change::{Counter, Delta, RowChange};
 use ci_store::fault::StoreFault;
+use ci_store::store::Store;
 use ci_store::tables::{OpenFault, Tables};
 use ci_store::{Alter, Connection};
 use sqlite::{FileStore, Files};

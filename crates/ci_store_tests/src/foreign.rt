@@ -5,6 +5,7 @@ use crate::records::text;
 use ci_machine::change::Counter;
 use ci_store::Connection;
 use ci_store::fault::StoreFault;
+use ci_store::store::Store;
 use ci_store::tables::{OpenFault, Tables};
 use sqlite::MemStore;
 use std::alloc::Global;

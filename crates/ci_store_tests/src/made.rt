@@ -1,6 +1,7 @@
 //! Tables that the tests begin with.
 
 use crate::records::one_of_each;
+use ci_store::store::Store;
 use ci_store::tables::{OpenFault, Tables};
 use ci_store::{Alter, Connection};
 use std::alloc::Global;

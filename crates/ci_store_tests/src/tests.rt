@@ -6,6 +6,7 @@ use ci_machine::change::{Counter, Key};
 use ci_machine::records::{AttemptState, Cause};
 use ci_machine::text::Text;
 use ci_store::fault::StoreFault;
+use ci_store::store::Store;
 use ci_store::tables::Tables;
 use ci_store::{Alter, Connection};
 use std::alloc::Global;

@@ -5,6 +5,7 @@ use crate::records::{attempt, piece, removal};
 use ci_machine::change::{Delta, Key, RowChange};
 use ci_machine::records::{AttemptState, Piece};
 use ci_store::fault::StoreFault;
+use ci_store::store::Store;
 use ci_store::tables::Tables;
 use ci_store::{Alter, Connection};
 use std::alloc::Global;
