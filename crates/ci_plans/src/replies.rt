@@ -74,16 +74,16 @@ pub(crate) fn two(alloc: Global, first: RowChange, second: RowChange) -> Result<
 /// A new record with this number, and the number that comes next.
 pub(crate) fn numbered(
     alloc: Global,
-    record: Record,
+    new: Record,
     counter: Counter,
     id: u64,
 ) -> Result<Delta, AllocError>
     requires { id ≤ MAX_NUMBER }
-    ensures { IfOk result (λ changes. changes ≡ plans.numbered record counter id) }
+    ensures { IfOk result (λ changes. changes ≡ plans.numbered new counter id) }
 {
     two(
         alloc,
-        RowChange::Add(record),
+        RowChange::Add(new),
         RowChange::SetNext(counter, id + 1),
     )
 }
