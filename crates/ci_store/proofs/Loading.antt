@@ -1,5 +1,5 @@
 -- How loads meet one after the other.
-use Rattle.std.specs.Prelude.{Result, Ok, Err, IfOk}
+use Rattle.std.proofs.Common.{◌≡◌, Result, Ok, Err, IfOk, subst}
 use Rattle.ci_machine.specs.State.{State}
 use Rattle.ci_tables.specs.declared.fault.StoreFault.{StoreFault}
 use Rattle.ci_tables.specs.declared.fault.StoreFault.TheVariants.{Memory, Broken}
@@ -27,6 +27,10 @@ module _ {T : Type 0} {honest : T → Type 0} {holds : T → State → Type 0} {
     left = load.left;
     answered = λ clean s at. if_ok r (so s at) (load.answered clean s at);
   }
+
+  -- a load from the same store under another name
+  pub begun : {A : Type 0} {old before new : T} {r : Result A StoreFault} {P : State → A → Type 0} → old ≡ before → LoadsBy honest holds leaves old new r P → LoadsBy honest holds leaves before new r P
+  begun {new = new} {r = r} {P = P} same load = subst (λ t. LoadsBy honest holds leaves t new r P) same load
 
   -- what is made of the answer of a load, without the store
   pub after_ok : {A B : Type 0} {old new : T} {x : A} {P : State → A → Type 0} {Q : State → B → Type 0} (r : Result B StoreFault) → LoadsBy honest holds leaves old new (Ok x) P → ((s : State) → holds old s → P s x → IfOk r (Q s))

@@ -34,7 +34,7 @@ IsAlike f g table = AllByRecursion (λ u. u.tree ≢ table.tree → g u.tree ≡
 
 -- where the lists of rows differ in that of one tree alone
 pub alike_but : (before after : List (ℕ × List Row)) (table : Table) (rows others : List Row) → IsAlike (λ u. rows_at u (before ++ (table.tree, rows) ∷ after)) (λ u. rows_at u (before ++ (table.tree, others) ∷ after)) table
-alike_but before after table rows others = all_from _ the_schema.tables (λ u _ apart. elsewhere before after table.tree rows others u.tree apart)
+alike_but before after table rows others = all_from (λ u. u.tree ≢ table.tree → rows_at u.tree (before ++ (table.tree, others) ∷ after) ≡ rows_at u.tree (before ++ (table.tree, rows) ∷ after)) the_schema.tables (λ u _ apart. elsewhere before after table.tree rows others u.tree apart)
 
 -- ---- what is regular still
 

@@ -1,7 +1,7 @@
 use Rattle.std.proofs.Common.{◌∙◌, [], ◌∷◌}
 use Rattle.sqlite.specs.Values.{bound_value}
 use Rattle.ci_store.specs.Rows.{number}
-use Rattle.ci_store.proofs.Loading.{answered_so}
+use Rattle.ci_store.proofs.Loading.{answered_so, begun}
 use Rattle.ci_store.proofs.Looking.{by_params}
 use Rattle.ci_store.proofs.Attempts.{plain_select_in, live_found}
 use Rattle.ci_store.proofs.tables.TablesStore.live_attempts.Goals as goal
@@ -11,5 +11,4 @@ list-requires-clause-plain g c = plain_select_in
 
 pub returns : goal.returns
 returns g c =
-    answered_so c.list.ensures.loads
-    (λ s at found h. live_found g.S.Store c.args.self.now c.list.new.conn s at found.items (by_params ((λ i. bound_value (c.to_sql.ensures i) ∷ []) ∙ (λ i. number ((c.state_numbers-live.ensures i).0) ∷ [])) h))
+    begun c.self.view_is (answered_so c.list.ensures.loads (λ s at found h. live_found g.S.Store c.self.inside.conn c.list.new.conn s at found.items (by_params ((λ i. bound_value (c.to_sql.ensures i) ∷ []) ∙ (λ i. number ((c.state_numbers-live.ensures i).0) ∷ [])) h)))
