@@ -2,4 +2,3 @@ pub mod Queues
 pub mod Handling
 pub mod Runs
 pub mod Lives
-mod Tabled

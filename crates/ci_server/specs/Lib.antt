@@ -1,5 +1,4 @@
 pub mod Serving
-pub mod Stores
 pub mod Handling
 pub mod Runs
 pub mod Served

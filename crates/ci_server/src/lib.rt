@@ -8,8 +8,6 @@ mod loads;
 mod queries;
 pub mod serve;
 pub mod server;
-pub mod store;
-mod tables;
 #[cfg(test)]
 mod tests;
 

@@ -1,5 +1,5 @@
 -- The statements that write `attempt`.
-use Rattle.std.proofs.Common.{◌∙◌, ℕ, pos, List, [], ◌∷◌, is_eq, refl, ap}
+use Rattle.std.proofs.Common.{◌∙◌, ℕ, pos, List, [], ◌∷◌, is_eq, refl, ap, ◌≡◌, ◌==◌, ◌&&◌, true, Option, sym}
 use Rattle.std.specs.Ordering.{nat_cmp}
 use Rattle.sqlite.specs.declared.types.Value.TheVariants.{Null, Text}
 use Rattle.sqlite.specs.Order.{column}
@@ -19,12 +19,24 @@ use Rattle.ci_tables.proofs.Writes.{IsWholeStep}
 use Rattle.ci_tables.proofs.Puts.{MeansPut, MeansRemove, GivesRecord}
 use Rattle.ci_tables.proofs.Absent.{absent_rowid}
 use Rattle.ci_tables.proofs.Scalars.{cast_int}
-use Rattle.ci_store.specs.declared.texts.TheConstants.{UPDATE_ATTEMPT, INSERT_ATTEMPT, DELETE_ATTEMPT}
+use Rattle.ci_store.specs.declared.texts.TheConstants.{UPDATE_ATTEMPT, INSERT_ATTEMPT, DELETE_ATTEMPT, SELECT_ATTEMPT, SELECT_ATTEMPTS_OF, SELECT_ATTEMPTS_IN}
 use Rattle.ci_store.specs.Schema.{the_schema, attempt}
 use Rattle.ci_store.specs.Rows.{number, attempt_row, state_number, cause_in, exit_in}
-use Rattle.ci_store.specs.Stands.{IsRegular, Stands}
+use Rattle.ci_store.specs.Stands.{IsRegular, Stands, IsAt}
 use Rattle.ci_store.proofs.Lists.{put_rises, by_number}
-use Rattle.ci_store.proofs.Records.{is, put_stands, remove_stands, same_number, numbered, cast_option}
+use Rattle.ci_store.proofs.Records.{is, put_stands, remove_stands, same_number, finds_number, numbered, cast_option}
+use Rattle.sqlite.specs.Collation.TheVariants.{Binary}
+use Rattle.sqlite_schema.specs.Rules.{equal}
+use Rattle.sqlite.proofs.Callers.{IsPlain}
+use Rattle.ci_tables.proofs.Selects.{MeansSelect}
+use Rattle.ci_store.specs.Calls.{ShowsRecords, listed}
+use Rattle.ci_values.specs.Attempts.{is_live_state}
+use Rattle.ci_machine.specs.Leases.{is_live}
+use Rattle.ci_machine.specs.Step.{attempt_at, attempts_of, live_attempts}
+use Rattle.ci_values.specs.declared.attempts.AttemptState.{AttemptState}
+use Rattle.ci_values.specs.declared.attempts.AttemptState.TheVariants.{Live, Succeeded, Failed, Cancelled}
+use Rattle.ci_store.proofs.Shows.{columns_of, names_of, by, shows_passing, shows_sorted, found_one, found_all, rising_numbers}
+use Rattle.ci_store.proofs.Same.{same_attempt}
 
 abbrev sets : List Term
 sets = col 0 0 ∷ lit Null ∷ col 0 1 ∷ col 0 2 ∷ col 0 3 ∷ col 0 4 ∷ col 0 5 ∷ col 0 6 ∷ col 0 7 ∷ col 0 8 ∷ col 0 9 ∷ col 0 10 ∷ []
@@ -84,3 +96,54 @@ pub attempt_removes : {S : Type 0} (ghosts : Ghosts S) (before after : Held S) (
 attempt_removes ghosts before after id count s stands whole h =
     remove_stands attempt_row s.attempts s (without_record (key.Attempt id) s) attempt refl ((λ _. refl), ((λ _. refl), ((λ _. refl), ((λ _. refl), ((λ _. refl), ((λ _. refl), ((λ ne. absurd (ne refl)), ((λ _. refl), tt)))))))) (regular_removed id s stands.inside.regular)
     6 DELETE_ATTEMPT.now (is 0 0 ∷ []) means_remove (number id ∷ []) (λ r. refl) (λ q. is_eq (nat_cmp q.id id)) (λ q. same_number q.id id) refl ghosts before after count stands whole h
+
+-- ---- the queries that load
+
+means_select : MeansSelect the_schema attempt SELECT_ATTEMPT.now (is 0 0 ∷ []) (columns_of attempt) [] (names_of attempt)
+unfolding understood everything
+means_select = record { is = refl; unlisted = refl; plain = (refl, refl) }
+
+pub plain_select : IsPlain (understood the_schema SELECT_ATTEMPT.now)
+plain_select = means_select.plain
+
+pub attempt_found : {S : Type 0} (g : Ghosts S) (old new : Held S) (s : State) → IsAt g s old → (id : ℕ) (found : Option Attempt) → ShowsRecords (λ row x. row ≡ attempt_row x) g SELECT_ATTEMPT.now (number id ∷ []) old new (listed found) → found ≡ attempt_at s id
+attempt_found g old new s at id found h =
+    found_one (λ row x. row ≡ attempt_row x) attempt_row (λ x. x.id == id) s.attempts (λ x y _ same. sym (same_attempt y x same)) h.rows
+    (shows_passing attempt_row 6 attempt refl SELECT_ATTEMPT.now (is 0 0 ∷ []) (number id ∷ []) (λ im. equal Binary (column im 0) (number id) && true) (λ r. refl) (λ x. x.id == id) (λ x. finds_number x.id id) s s.attempts refl h.rows
+    (λ r. refl) means_select (state g old) (state g new) at.now h.shown)
+    found h.read
+
+pub means_select_of : MeansSelect the_schema attempt SELECT_ATTEMPTS_OF.now (is 2 0 ∷ []) (columns_of attempt) (by 0) (names_of attempt)
+unfolding understood everything
+means_select_of = record { is = refl; unlisted = refl; plain = (refl, refl) }
+
+pub plain_select_of : IsPlain (understood the_schema SELECT_ATTEMPTS_OF.now)
+plain_select_of = means_select_of.plain
+
+pub attempts_found : {S : Type 0} (g : Ghosts S) (old new : Held S) (s : State) → IsAt g s old → (job : ℕ) (found : List Attempt) → ShowsRecords (λ row x. row ≡ attempt_row x) g SELECT_ATTEMPTS_OF.now (number job ∷ []) old new found
+    → found ≡ attempts_of s job
+attempts_found g old new s at job found h =
+    found_all (λ row x. row ≡ attempt_row x) attempt_row (λ x. x.job == job) s.attempts (λ x y _ same. sym (same_attempt y x same)) h.rows
+    (shows_sorted attempt_row 6 attempt refl SELECT_ATTEMPTS_OF.now (is 2 0 ∷ []) (number job ∷ []) (λ im. equal Binary (column im 1) (number job) && true) (λ r. refl) (λ x. x.job == job) (λ x. finds_number x.job job) s s.attempts refl h.rows
+    0 0 (λ r. refl) means_select_of (rising_numbers (λ (x : Attempt). x.id) (λ x. x.job == job) s.attempts at.now.inside.regular.attempts) (state g old) (state g new) at.now h.shown)
+    found h.read
+
+means_select_in : MeansSelect the_schema attempt SELECT_ATTEMPTS_IN.now (is 7 0 ∷ []) (columns_of attempt) (by 0) (names_of attempt)
+unfolding understood everything
+means_select_in = record { is = refl; unlisted = refl; plain = (refl, refl) }
+
+pub plain_select_in : IsPlain (understood the_schema SELECT_ATTEMPTS_IN.now)
+plain_select_in = means_select_in.plain
+
+live_is : (s : AttemptState) → (state_number s == 0) ≡ is_live_state s
+live_is Live = refl
+live_is (Succeeded exit) = refl
+live_is (Failed cause exit) = refl
+live_is Cancelled = refl
+
+pub live_found : {S : Type 0} (g : Ghosts S) (old new : Held S) (s : State) → IsAt g s old → (found : List Attempt) → ShowsRecords (λ row x. row ≡ attempt_row x) g SELECT_ATTEMPTS_IN.now (number 0 ∷ []) old new found → found ≡ live_attempts s
+live_found g old new s at found h =
+    found_all (λ row x. row ≡ attempt_row x) attempt_row is_live s.attempts (λ x y _ same. sym (same_attempt y x same)) h.rows
+    (shows_sorted attempt_row 6 attempt refl SELECT_ATTEMPTS_IN.now (is 7 0 ∷ []) (number 0 ∷ []) (λ im. equal Binary (column im 6) (number 0) && true) (λ r. refl) is_live (λ x. finds_number (state_number x.state) 0 ∙ live_is x.state) s s.attempts refl h.rows
+    0 0 (λ r. refl) means_select_in (rising_numbers (λ (x : Attempt). x.id) is_live s.attempts at.now.inside.regular.attempts) (state g old) (state g new) at.now h.shown)
+    found h.read

@@ -29,12 +29,19 @@ use Rattle.ci_tables.proofs.Writes.{IsWholeStep, whole_if_alone}
 use Rattle.ci_tables.proofs.Puts.{MeansPut, MeansRemove, GivesRecord}
 use Rattle.ci_tables.proofs.Absent.{absent_unique}
 use Rattle.ci_tables.proofs.Scalars.{cast_int, equal_int, equal_text}
-use Rattle.ci_store.specs.declared.texts.TheConstants.{UPDATE_JOB_VARIABLE, INSERT_JOB_VARIABLE, DELETE_JOB_VARIABLE}
+use Rattle.ci_store.specs.declared.texts.TheConstants.{UPDATE_JOB_VARIABLE, INSERT_JOB_VARIABLE, DELETE_JOB_VARIABLE, SELECT_JOB_VARIABLES}
 use Rattle.ci_store.specs.Schema.{the_schema, jobvar, jobvar_index_1}
 use Rattle.ci_store.specs.Rows.{number, job_variable_row}
-use Rattle.ci_store.specs.Stands.{IsRegular, Stands}
+use Rattle.ci_store.specs.Stands.{IsRegular, Stands, IsAt}
 use Rattle.ci_store.proofs.Lists.{put_rises, by_both}
-use Rattle.ci_store.proofs.Records.{is, put_stands, remove_stands, both_equal}
+use Rattle.ci_store.proofs.Records.{is, put_stands, remove_stands, both_equal, same_number, is_number}
+use Rattle.sqlite.proofs.Callers.{IsPlain}
+use Rattle.ci_tables.proofs.Selects.{MeansSelect}
+use Rattle.ci_store.specs.Calls.{ShowsRecords}
+use Rattle.sqlite_keyed.proofs.ListLemmas.{filter_same}
+use Rattle.ci_store.proofs.Shows.{columns_of, names_of, by, shows_sorted, found_all, rise_within, rising_number, rising_text}
+use Rattle.ci_machine.specs.Step.{variables_of}
+use Rattle.ci_store.proofs.Same.{same_job_variable}
 
 abbrev tests : List Term
 tests = is 1 0 ∷ is 2 1 ∷ []
@@ -122,3 +129,20 @@ job_variable_removes ghosts before after id name count s stands whole h =
 pub job_variable_whole : (params : Row) (db : Trees) → IsWholeStep the_schema jobvar tests params db
 unfolding everything
 job_variable_whole params db = whole_if_alone the_schema jobvar tests params db (λ olds. refl)
+
+-- ---- the queries that load
+
+pub means_select_of : MeansSelect the_schema jobvar SELECT_JOB_VARIABLES.now (is 1 0 ∷ []) (columns_of jobvar) (by 2) (names_of jobvar)
+unfolding understood everything
+means_select_of = record { is = refl; unlisted = refl; plain = (refl, refl) }
+
+pub plain_select_of : IsPlain (understood the_schema SELECT_JOB_VARIABLES.now)
+plain_select_of = means_select_of.plain
+
+pub job_variables_found : {S : Type 0} (g : Ghosts S) (old new : Held S) (s : State) → IsAt g s old → (owner : ℕ) (found : List JobVariable) → ShowsRecords (λ row x. row ≡ job_variable_row x) g SELECT_JOB_VARIABLES.now (number owner ∷ []) old new found → found ≡ variables_of s owner
+job_variables_found g old new s at owner found h =
+    found_all (λ row x. row ≡ job_variable_row x) job_variable_row (λ x. is_eq (nat_cmp x.job owner)) s.job_variables (λ x y _ same. sym (same_job_variable y x same)) h.rows
+    (shows_sorted job_variable_row 5 jobvar refl SELECT_JOB_VARIABLES.now (is 1 0 ∷ []) (number owner ∷ []) (λ im. equal Binary (column im 0) (number owner) && true) (λ r. refl) (λ x. is_eq (nat_cmp x.job owner)) (λ x. same_number x.job owner) s s.job_variables refl h.rows
+    2 1 (λ r. refl) means_select_of (rise_within (λ x. x.job) (λ x y. slice_cmp nat_cmp x.key y.key) _ (λ x y low. rising_text x.key y.key low) owner s.job_variables at.now.inside.regular.job_variables) (state g old) (state g new) at.now h.shown)
+    found h.read
+    ∙ filter_same _ _ (λ x. is_number x.job owner) s.job_variables

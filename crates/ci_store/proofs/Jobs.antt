@@ -1,5 +1,5 @@
 -- The statements that write `job`.
-use Rattle.std.proofs.Common.{◌≡◌, ◌∙◌, ℕ, pos, List, [], ◌∷◌, if◌then◌else◌, Some, is_eq, refl, ap}
+use Rattle.std.proofs.Common.{◌≡◌, ◌∙◌, ℕ, pos, List, [], ◌∷◌, if◌then◌else◌, Some, is_eq, refl, ap, ◌==◌, ◌&&◌, true, Option, sym, filter}
 use Rattle.std.specs.Ordering.{nat_cmp}
 use Rattle.sqlite.specs.declared.types.Value.TheVariants.{Null, Text}
 use Rattle.sqlite.specs.Order.{column}
@@ -19,14 +19,24 @@ use Rattle.ci_tables.proofs.Writes.{IsWholeStep}
 use Rattle.ci_tables.proofs.Puts.{MeansPut, MeansRemove, GivesRecord}
 use Rattle.ci_tables.proofs.Absent.{absent_rowid}
 use Rattle.ci_tables.proofs.Scalars.{cast_int}
-use Rattle.ci_store.specs.declared.texts.TheConstants.{UPDATE_JOB, INSERT_JOB, DELETE_JOB}
+use Rattle.ci_store.specs.declared.texts.TheConstants.{UPDATE_JOB, INSERT_JOB, DELETE_JOB, SELECT_JOB, SELECT_JOBS}
 use Rattle.ci_store.specs.Schema.{the_schema, job}
 use Rattle.ci_store.specs.JsonText.{spec_text, spec_data}
 use Rattle.serde_json.specs.Read.{read}
 use Rattle.ci_store.specs.Rows.{number, job_row}
-use Rattle.ci_store.specs.Stands.{IsRegular, Stands}
+use Rattle.ci_store.specs.Stands.{IsRegular, Stands, IsAt}
 use Rattle.ci_store.proofs.Lists.{put_rises, by_number, all_put}
-use Rattle.ci_store.proofs.Records.{is, put_stands, remove_stands, same_number, numbered}
+use Rattle.ci_store.proofs.Records.{is, put_stands, remove_stands, same_number, finds_number, numbered}
+use Rattle.sqlite.specs.Collation.TheVariants.{Binary}
+use Rattle.sqlite_schema.specs.Rules.{equal}
+use Rattle.sqlite.proofs.Callers.{IsPlain}
+use Rattle.ci_tables.proofs.Selects.{MeansSelect}
+use Rattle.ci_store.specs.Calls.{ShowsRecords, listed}
+use Rattle.sqlite_rules.proofs.ListLemmas.{all_has}
+use Rattle.ci_machine.specs.Step.{job_at}
+use Rattle.ci_store.specs.Load.{IsJobRow}
+use Rattle.ci_store.proofs.Shows.{columns_of, names_of, by, shows_passing, shows_sorted, found_one, found_all, rising_numbers}
+use Rattle.ci_store.proofs.Same.{same_job}
 
 abbrev sets : List Term
 sets = col 0 0 ∷ lit Null ∷ col 0 1 ∷ col 0 2 ∷ col 0 3 ∷ col 0 4 ∷ col 0 5 ∷ col 0 6 ∷ col 0 7 ∷ col 0 8 ∷ []
@@ -86,3 +96,38 @@ pub job_removes : {S : Type 0} (ghosts : Ghosts S) (before after : Held S) (id c
 job_removes ghosts before after id count s stands whole h =
     remove_stands job_row s.jobs s (without_record (key.Job id) s) job refl ((λ _. refl), ((λ _. refl), ((λ _. refl), ((λ _. refl), ((λ ne. absurd (ne refl)), ((λ _. refl), ((λ _. refl), ((λ _. refl), tt)))))))) (regular_removed id s stands.inside.regular)
     4 DELETE_JOB.now (is 0 0 ∷ []) means_remove (number id ∷ []) (λ r. refl) (λ q. is_eq (nat_cmp q.id id)) (λ q. same_number q.id id) refl ghosts before after count stands whole h
+
+-- ---- the queries that load
+
+means_select : MeansSelect the_schema job SELECT_JOB.now (is 0 0 ∷ []) (columns_of job) [] (names_of job)
+unfolding understood everything
+means_select = record { is = refl; unlisted = refl; plain = (refl, refl) }
+
+pub plain_select : IsPlain (understood the_schema SELECT_JOB.now)
+plain_select = means_select.plain
+
+pub job_found : {S : Type 0} (g : Ghosts S) (old new : Held S) (s : State) → IsAt g s old → (id : ℕ) (found : Option Job) → ShowsRecords IsJobRow g SELECT_JOB.now (number id ∷ []) old new (listed found) → found ≡ job_at s id
+job_found g old new s at id found h =
+    found_one IsJobRow job_row (λ x. x.id == id) s.jobs (λ x y there same. same_job x y same.0 same.2 (all_has _ s.jobs y at.now.inside.regular.specs there) (sym same.1)) h.rows
+    (shows_passing job_row 4 job refl SELECT_JOB.now (is 0 0 ∷ []) (number id ∷ []) (λ im. equal Binary (column im 0) (number id) && true) (λ r. refl) (λ x. x.id == id) (λ x. finds_number x.id id) s s.jobs refl h.rows
+    (λ r. refl) means_select (state g old) (state g new) at.now h.shown)
+    found h.read
+
+means_select_all : MeansSelect the_schema job SELECT_JOBS.now [] (columns_of job) (by 0) (names_of job)
+unfolding understood everything
+means_select_all = record { is = refl; unlisted = refl; plain = (refl, refl) }
+
+pub plain_select_all : IsPlain (understood the_schema SELECT_JOBS.now)
+plain_select_all = means_select_all.plain
+
+all_true : {A : Type 0} (xs : List A) → filter (λ x. true) xs ≡ xs
+all_true [] = refl
+all_true (x ∷ xs) = ap (λ l. x ∷ l) (all_true xs)
+
+pub jobs_found : {S : Type 0} (g : Ghosts S) (old new : Held S) (s : State) → IsAt g s old → (found : List Job) → ShowsRecords IsJobRow g SELECT_JOBS.now [] old new found → found ≡ s.jobs
+jobs_found g old new s at found h =
+    found_all IsJobRow job_row (λ x. true) s.jobs (λ x y there same. same_job x y same.0 same.2 (all_has _ s.jobs y at.now.inside.regular.specs there) (sym same.1)) h.rows
+    (shows_sorted job_row 4 job refl SELECT_JOBS.now [] [] (λ im. true) (λ r. refl) (λ x. true) (λ x. refl) s s.jobs refl h.rows 0 0 (λ r. refl) means_select_all
+    (rising_numbers (λ (x : Job). x.id) (λ x. true) s.jobs at.now.inside.regular.jobs) (state g old) (state g new) at.now h.shown)
+    found h.read
+    ∙ all_true s.jobs

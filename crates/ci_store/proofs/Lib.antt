@@ -8,15 +8,16 @@ mod Attempts
 mod JobVariables
 mod Pieces
 mod Meta
+mod OneList
 mod Creates
 mod Fills
 mod JsonTexts
 mod Applied
 mod Removals
 mod Reading
-mod Loads
+mod Shows
+pub mod Loading
 mod Looking
-mod Sorted
 mod Same
 mod NextLoads
 pub mod Whole

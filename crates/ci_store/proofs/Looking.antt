@@ -1,6 +1,7 @@
--- A look-up that the store failed.
-use Rattle.std.specs.Prelude.{◌≤◌, ℕ, List, Err}
-use Rattle.std.proofs.Common.{sym, subst, ⊎_elim, arith}
+-- A look-up on tables.
+use Rattle.std.proofs.Common.{◌≡◌, ◌<◌, ◌≤◌, ℕ, List, [], ◌∷◌, length, get_or, Result, Ok, Err, OnOk, refl, sym, subst, ⊎_elim, arith, inl}
+use Rattle.std.specs.List.{AllZip}
+use Rattle.sqlite.specs.Order.{Row}
 use Rattle.sqlite.specs.Schema.{Schema}
 use Rattle.sqlite.specs.Given.{IsPlain}
 use Rattle.sqlite.specs.Listing.{understood}
@@ -9,23 +10,65 @@ use Rattle.sqlite.specs.Store.{Ghosts}
 use Rattle.sqlite.specs.Held.{Held, state}
 use Rattle.sqlite_trees.specs.View.{doubt}
 use Rattle.ci_machine.specs.State.{State}
+use Rattle.ci_tables.specs.declared.fault.StoreFault.{StoreFault}
+use Rattle.ci_tables.specs.declared.fault.StoreFault.TheVariants.{Memory, Broken}
 use Rattle.ci_store.specs.Schema.{the_schema}
-use Rattle.ci_store.specs.Stands.{IsAt, LeavesOnly}
-use Rattle.ci_store.specs.Calls.{Looks}
+use Rattle.ci_store.specs.Stands.{IsAt, LeavesOnly, LeavesEither}
+use Rattle.ci_store.specs.Calls.{Loads, ShowsRecords}
+use Rattle.ci_store.specs.Store.{Ends}
+use Rattle.ci_store.proofs.Loading.{unless_broken, without_load}
+
+-- a call that didn't get to the tables
+pub no_look : {S A : Type 0} (g : Ghosts S) (h : Held S) (fault : StoreFault) (Q : State → A → Type 0) → Loads g h h (Err fault) Q
+no_look g h fault Q = without_load h fault (λ s at db may. inl (at.left db may))
 
 module _ {S : Type 0} (g : Ghosts S) (old mid : Held S) (sql : List ℕ) (plain : IsPlain (understood the_schema sql))
     (survives : HasCleanDisk (state g mid) → IsPlain (understood (state g old).now.schema sql) → Survives (state g old) (state g mid) (λ _. ⊥)) where
   -- a query leaves what a stop may leave
-  pub still_left : HasCleanDisk (state g mid) → (s : State) → IsAt g s old → LeavesOnly g s mid
+  still_left : HasCleanDisk (state g mid) → (s : State) → IsAt g s old → LeavesOnly g s mid
   still_left clean s at db may =
       let here = subst (λ (schema : Schema). IsPlain (understood schema sql)) (sym at.now.listed) plain in
       ⊎_elim (at.left db) (λ x. absurd x) ((survives clean here).crash clean db may)
 
-  -- after it nothing is changed either
-  pub looks_in_vain : {A E : Type 0} (new : Held S) (fault : E) → doubt (state g old).is_clean ≤ doubt (state g mid).is_clean → doubt (state g mid).is_clean ≤ doubt (state g new).is_clean
-      → (HasCleanDisk (state g new) → (s : State) → LeavesOnly g s mid → LeavesOnly g s new) → Looks {A = A} g old new (Err fault)
-  looks_in_vain new fault first second left = record {
-    clean = omega (arith, first, second);
-    same = λ clean s at. tt;
-    left = λ clean s at. left clean s (still_left (omega (arith, clean, second)) s at);
+  -- where the store failed, the tables hold what they held if the connection is open still
+  pub looks_in_vain : {A : Type 0} (new : Held S) (fault : StoreFault) (Q : State → A → Type 0) → doubt (state g old).is_clean ≤ doubt (state g mid).is_clean → doubt (state g mid).is_clean ≤ doubt (state g new).is_clean
+      → (HasCleanDisk (state g new) → (s : State) → LeavesOnly g s mid → LeavesOnly g s new) → (HasCleanDisk (state g new) → (s : State) → LeavesOnly g s mid → IsAt g s new) → Loads g old new (Err fault) Q
+  looks_in_vain {A = A} new fault Q first second left intact = record {
+    was_honest = λ clean. omega (arith, first, second, clean);
+    kept = λ clean s at. unless_broken {A = A} (Err fault) (intact clean s (still_left (omega (arith, clean, second)) s at));
+    left = λ clean s at db may. inl (left clean s (still_left (omega (arith, clean, second)) s at) db may);
+    answered = λ clean s at. tt;
   }
+
+  pub fails : {A : Type 0} (new : Held S) (Q : State → A → Type 0) → doubt (state g old).is_clean ≤ doubt (state g mid).is_clean → doubt (state g mid).is_clean ≤ doubt (state g new).is_clean
+      → (HasCleanDisk (state g new) → (s : State) → LeavesOnly g s mid → LeavesOnly g s new) → Loads g old new (Err Broken) Q
+  fails new Q first second left = record {
+    was_honest = λ clean. omega (arith, first, second, clean);
+    kept = λ clean s at. tt;
+    left = λ clean s at db may. inl (left clean s (still_left (omega (arith, clean, second)) s at) db may);
+    answered = λ clean s at. tt;
+  }
+
+-- ---- the rows that are read
+
+pub none_read : {R : Type 0} (is_row : Row → R → Type 0) (rows : List Row) → length rows < 1 → AllZip is_row rows []
+none_read is_row [] low = tt
+none_read is_row (r ∷ rows) low = absurd (omega arith)
+
+pub one_read : {R : Type 0} (is_row : Row → R → Type 0) (rows : List Row) (row : Row) (x : R) → 1 ≤ length rows → length rows < 2 → get_or rows 0 row ≡ row → is_row row x → AllZip is_row rows (x ∷ [])
+one_read is_row [] row x high low first read = absurd (omega arith)
+one_read is_row (r ∷ []) row x high low first read = (subst (λ r. is_row r x) (sym first) read, tt)
+one_read is_row (r ∷ t ∷ rows) row x high low first read = absurd (omega arith)
+
+-- the same query by parameters that are the same
+pub by_params : {S R : Type 0} {is_row : Row → R → Type 0} {g : Ghosts S} {sql : List ℕ} {params others : Row} {old new : Held S} {found : List R} → params ≡ others → ShowsRecords is_row g sql params old new found
+    → ShowsRecords is_row g sql others old new found
+by_params {is_row = is_row} {g = g} {sql = sql} {old = old} {new = new} {found = found} same h = subst (λ row. ShowsRecords is_row g sql row old new found) same h
+
+-- ---- a commit
+
+pub ends : {S A : Type 0} (g : Ghosts S) (old new : Held S) (result : Result A StoreFault) (after : State → State) (s : State) → IsAt g s old → OnOk result ((s : State) → IsAt g s old → IsAt g (after s) new)
+    → (result ≡ Err Memory → IsAt g s new) → LeavesEither g s (after s) new → Ends result (IsAt g (after s) new) (IsAt g s new) (LeavesEither g s (after s) new)
+ends g old new (Ok x) after s at done kept left = done s at
+ends g old new (Err Memory) after s at done kept left = kept refl
+ends g old new (Err Broken) after s at done kept left = left

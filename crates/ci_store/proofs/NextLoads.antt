@@ -5,19 +5,28 @@ use Rattle.sqlite_sql.specs.Ops.{binary}
 use Rattle.sqlite_value.specs.Order.{value_cmp}
 use Rattle.sqlite.specs.Order.{Row, column}
 use Rattle.sqlite.specs.State.{State as Seen, Shown}
-use Rattle.sqlite.proofs.Callers.{one_permutation}
+use Rattle.sqlite.specs.Listing.{understood}
+use Rattle.sqlite_tied.specs.Compute.{everything}
+use Rattle.sqlite.proofs.Callers.{IsPlain, one_permutation}
 use Rattle.ci_machine.specs.State.{State}
 use Rattle.ci_machine.specs.declared.records.Numbers.{Numbers}
 use Rattle.ci_machine.specs.declared.change.Counter.{Counter}
 use Rattle.ci_machine.specs.declared.change.Counter.TheVariants as counter
 use Rattle.ci_tables.specs.Stands.{has_key}
-use Rattle.ci_tables.proofs.Selects.{selects}
+use Rattle.ci_tables.proofs.Selects.{MeansSelect, selects}
 use Rattle.ci_store.specs.declared.texts.TheConstants.{SELECT_META}
 use Rattle.ci_store.specs.Schema.{the_schema, meta}
 use Rattle.ci_store.specs.Stands.{Stands, counter_key, meta_row, meta_rows, rows_of}
 use Rattle.ci_machine.specs.Step.{next_of}
 use Rattle.ci_store.proofs.Records.{is}
-use Rattle.ci_store.proofs.Loads.{means_meta, held}
+use Rattle.ci_store.proofs.Shows.{columns_of, names_of, held}
+
+means_meta : MeansSelect the_schema meta SELECT_META.now (is 1 0 ∷ []) (columns_of meta) [] (names_of meta)
+unfolding understood everything
+means_meta = record { is = refl; unlisted = refl; plain = (refl, refl) }
+
+pub plain_meta : IsPlain (understood the_schema SELECT_META.now)
+plain_meta = means_meta.plain
 
 one_row : (c : Counter) (next : Numbers) → filter (has_key (Text (counter_key c) ∷ [])) (meta_rows next) ≡ meta_row (counter_key c) (next_of c next) ∷ []
 unfolding binary value_cmp lib.Ieee.is_nan lib.Ieee.lt

@@ -28,12 +28,19 @@ use Rattle.ci_tables.proofs.Writes.{IsWholeStep, whole_if_alone}
 use Rattle.ci_tables.proofs.Puts.{MeansPut, MeansRemove, GivesRecord}
 use Rattle.ci_tables.proofs.Absent.{absent_unique}
 use Rattle.ci_tables.proofs.Scalars.{cast_int, equal_int}
-use Rattle.ci_store.specs.declared.texts.TheConstants.{UPDATE_PIECE, INSERT_PIECE, DELETE_PIECE}
+use Rattle.ci_store.specs.declared.texts.TheConstants.{UPDATE_PIECE, INSERT_PIECE, DELETE_PIECE, SELECT_PIECES}
 use Rattle.ci_store.specs.Schema.{the_schema, piece, piece_index_1}
 use Rattle.ci_store.specs.Rows.{number, piece_row}
-use Rattle.ci_store.specs.Stands.{IsRegular, Stands}
+use Rattle.ci_store.specs.Stands.{IsRegular, Stands, IsAt}
 use Rattle.ci_store.proofs.Lists.{put_rises, by_two}
-use Rattle.ci_store.proofs.Records.{is, put_stands, remove_stands, both_equal}
+use Rattle.ci_store.proofs.Records.{is, put_stands, remove_stands, both_equal, same_number, is_number}
+use Rattle.sqlite.proofs.Callers.{IsPlain}
+use Rattle.ci_tables.proofs.Selects.{MeansSelect}
+use Rattle.ci_store.specs.Calls.{ShowsRecords}
+use Rattle.sqlite_keyed.proofs.ListLemmas.{filter_same}
+use Rattle.ci_store.proofs.Shows.{columns_of, names_of, by, shows_sorted, found_all, rise_within, rising_number, rising_text}
+use Rattle.ci_machine.specs.Step.{pieces_of}
+use Rattle.ci_store.proofs.Same.{same_piece}
 
 abbrev tests : List Term
 tests = is 1 0 ∷ is 2 1 ∷ []
@@ -121,3 +128,20 @@ piece_removes ghosts before after attempt seq count s stands whole h =
 pub piece_whole : (params : Row) (db : Trees) → IsWholeStep the_schema piece tests params db
 unfolding everything
 piece_whole params db = whole_if_alone the_schema piece tests params db (λ olds. refl)
+
+-- ---- the queries that load
+
+pub means_select_of : MeansSelect the_schema piece SELECT_PIECES.now (is 1 0 ∷ []) (columns_of piece) (by 2) (names_of piece)
+unfolding understood everything
+means_select_of = record { is = refl; unlisted = refl; plain = (refl, refl) }
+
+pub plain_select_of : IsPlain (understood the_schema SELECT_PIECES.now)
+plain_select_of = means_select_of.plain
+
+pub pieces_found : {S : Type 0} (g : Ghosts S) (old new : Held S) (s : State) → IsAt g s old → (owner : ℕ) (found : List Piece) → ShowsRecords (λ row x. row ≡ piece_row x) g SELECT_PIECES.now (number owner ∷ []) old new found → found ≡ pieces_of s owner
+pieces_found g old new s at owner found h =
+    found_all (λ row x. row ≡ piece_row x) piece_row (λ x. is_eq (nat_cmp x.attempt owner)) s.pieces (λ x y _ same. sym (same_piece y x same)) h.rows
+    (shows_sorted piece_row 7 piece refl SELECT_PIECES.now (is 1 0 ∷ []) (number owner ∷ []) (λ im. equal Binary (column im 0) (number owner) && true) (λ r. refl) (λ x. is_eq (nat_cmp x.attempt owner)) (λ x. same_number x.attempt owner) s s.pieces refl h.rows
+    2 1 (λ r. refl) means_select_of (rise_within (λ x. x.attempt) (λ x y. nat_cmp x.seq y.seq) _ (λ x y low. rising_number x.seq y.seq low) owner s.pieces at.now.inside.regular.pieces) (state g old) (state g new) at.now h.shown)
+    found h.read
+    ∙ filter_same _ _ (λ x. is_number x.attempt owner) s.pieces

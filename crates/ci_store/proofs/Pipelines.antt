@@ -1,5 +1,5 @@
 -- The statements that write `pipeline`.
-use Rattle.std.proofs.Common.{◌∙◌, ℕ, pos, List, [], ◌∷◌, is_eq, refl, ap}
+use Rattle.std.proofs.Common.{◌∙◌, ℕ, pos, List, [], ◌∷◌, is_eq, refl, ap, ◌≡◌, ◌==◌, ◌&&◌, true, Option, sym}
 use Rattle.std.specs.Ordering.{nat_cmp}
 use Rattle.sqlite.specs.declared.types.Value.TheVariants.{Null, Text}
 use Rattle.sqlite.specs.Order.{column}
@@ -19,12 +19,20 @@ use Rattle.ci_tables.proofs.Writes.{IsWholeStep}
 use Rattle.ci_tables.proofs.Puts.{MeansPut, MeansRemove, GivesRecord}
 use Rattle.ci_tables.proofs.Absent.{absent_rowid}
 use Rattle.ci_tables.proofs.Scalars.{cast_int}
-use Rattle.ci_store.specs.declared.texts.TheConstants.{UPDATE_PIPELINE, INSERT_PIPELINE, DELETE_PIPELINE}
+use Rattle.ci_store.specs.declared.texts.TheConstants.{UPDATE_PIPELINE, INSERT_PIPELINE, DELETE_PIPELINE, SELECT_PIPELINE}
 use Rattle.ci_store.specs.Schema.{the_schema, pipeline}
 use Rattle.ci_store.specs.Rows.{number, pipeline_row, kind_number, source_number}
-use Rattle.ci_store.specs.Stands.{IsRegular, Stands}
+use Rattle.ci_store.specs.Stands.{IsRegular, Stands, IsAt}
 use Rattle.ci_store.proofs.Lists.{put_rises, by_number}
-use Rattle.ci_store.proofs.Records.{is, put_stands, remove_stands, same_number, numbered}
+use Rattle.ci_store.proofs.Records.{is, put_stands, remove_stands, same_number, finds_number, numbered}
+use Rattle.sqlite.specs.Collation.TheVariants.{Binary}
+use Rattle.sqlite_schema.specs.Rules.{equal}
+use Rattle.sqlite.proofs.Callers.{IsPlain}
+use Rattle.ci_tables.proofs.Selects.{MeansSelect}
+use Rattle.ci_store.specs.Calls.{ShowsRecords, listed}
+use Rattle.ci_machine.specs.Step.{pipeline_at}
+use Rattle.ci_store.proofs.Shows.{columns_of, names_of, shows_passing, found_one}
+use Rattle.ci_store.proofs.Same.{same_pipeline}
 
 abbrev sets : List Term
 sets = col 0 0 ∷ lit Null ∷ col 0 1 ∷ col 0 2 ∷ col 0 3 ∷ col 0 4 ∷ col 0 5 ∷ []
@@ -84,3 +92,19 @@ pub pipeline_removes : {S : Type 0} (ghosts : Ghosts S) (before after : Held S) 
 pipeline_removes ghosts before after id count s stands whole h =
     remove_stands pipeline_row s.pipelines s (without_record (key.Pipeline id) s) pipeline refl ((λ _. refl), ((λ _. refl), ((λ _. refl), ((λ ne. absurd (ne refl)), ((λ _. refl), ((λ _. refl), ((λ _. refl), ((λ _. refl), tt)))))))) (regular_removed id s stands.inside.regular)
     3 DELETE_PIPELINE.now (is 0 0 ∷ []) means_remove (number id ∷ []) (λ r. refl) (λ q. is_eq (nat_cmp q.id id)) (λ q. same_number q.id id) refl ghosts before after count stands whole h
+
+-- ---- the queries that load
+
+means_select : MeansSelect the_schema pipeline SELECT_PIPELINE.now (is 0 0 ∷ []) (columns_of pipeline) [] (names_of pipeline)
+unfolding understood everything
+means_select = record { is = refl; unlisted = refl; plain = (refl, refl) }
+
+pub plain_select : IsPlain (understood the_schema SELECT_PIPELINE.now)
+plain_select = means_select.plain
+
+pub pipeline_found : {S : Type 0} (g : Ghosts S) (old new : Held S) (s : State) → IsAt g s old → (id : ℕ) (found : Option Pipeline) → ShowsRecords (λ row x. row ≡ pipeline_row x) g SELECT_PIPELINE.now (number id ∷ []) old new (listed found) → found ≡ pipeline_at s id
+pipeline_found g old new s at id found h =
+    found_one (λ row x. row ≡ pipeline_row x) pipeline_row (λ x. x.id == id) s.pipelines (λ x y _ same. sym (same_pipeline y x same)) h.rows
+    (shows_passing pipeline_row 3 pipeline refl SELECT_PIPELINE.now (is 0 0 ∷ []) (number id ∷ []) (λ im. equal Binary (column im 0) (number id) && true) (λ r. refl) (λ x. x.id == id) (λ x. finds_number x.id id) s s.pipelines refl h.rows
+    (λ r. refl) means_select (state g old) (state g new) at.now h.shown)
+    found h.read

@@ -1,5 +1,5 @@
 -- The statements that write `project`.
-use Rattle.std.proofs.Common.{◌∙◌, ℕ, pos, List, [], ◌∷◌, is_eq, refl, ap}
+use Rattle.std.proofs.Common.{◌∙◌, ℕ, pos, List, [], ◌∷◌, is_eq, refl, ap, ◌≡◌, ◌==◌, ◌&&◌, true, Option, sym}
 use Rattle.std.specs.Ordering.{nat_cmp}
 use Rattle.sqlite.specs.declared.types.Value.TheVariants.{Null, Text}
 use Rattle.sqlite.specs.Order.{Row, column}
@@ -20,12 +20,21 @@ use Rattle.ci_tables.proofs.Writes.{IsWholeStep, whole_if_alone}
 use Rattle.ci_tables.proofs.Puts.{MeansPut, MeansRemove, GivesRecord}
 use Rattle.ci_tables.proofs.Absent.{absent_rowid}
 use Rattle.ci_tables.proofs.Scalars.{cast_int, cast_text}
-use Rattle.ci_store.specs.declared.texts.TheConstants.{UPDATE_PROJECT, INSERT_PROJECT, DELETE_PROJECT}
+use Rattle.ci_store.specs.declared.texts.TheConstants.{UPDATE_PROJECT, INSERT_PROJECT, DELETE_PROJECT, SELECT_PROJECT, SELECT_PROJECT_WITH}
 use Rattle.ci_store.specs.Schema.{the_schema, project}
 use Rattle.ci_store.specs.Rows.{number, project_row}
-use Rattle.ci_store.specs.Stands.{IsRegular, Stands}
+use Rattle.ci_store.specs.Stands.{IsRegular, Stands, IsAt}
 use Rattle.ci_store.proofs.Lists.{put_rises, by_number}
-use Rattle.ci_store.proofs.Records.{is, put_stands, remove_stands, same_number, numbered}
+use Rattle.ci_store.proofs.Records.{is, put_stands, remove_stands, same_number, finds_number, finds_text, numbered}
+use Rattle.sqlite.specs.Collation.TheVariants.{Binary}
+use Rattle.sqlite_schema.specs.Rules.{equal}
+use Rattle.sqlite.proofs.Callers.{IsPlain}
+use Rattle.ci_tables.proofs.Selects.{MeansSelect}
+use Rattle.ci_store.specs.Calls.{ShowsRecords, listed}
+use Rattle.std.specs.Str.{bytes_eq}
+use Rattle.ci_machine.specs.Step.{project_at, project_with}
+use Rattle.ci_store.proofs.Shows.{columns_of, names_of, shows_passing, found_one}
+use Rattle.ci_store.proofs.Same.{same_project}
 
 abbrev sets : List Term
 sets = col 0 0 ∷ lit Null ∷ col 0 1 ∷ col 0 2 ∷ col 0 3 ∷ []
@@ -89,3 +98,33 @@ project_removes ghosts before after id count s stands whole h =
 pub project_whole : (params : Row) (db : Trees) → IsWholeStep the_schema project (is 0 0 ∷ []) params db
 unfolding everything
 project_whole params db = whole_if_alone the_schema project (is 0 0 ∷ []) params db (λ olds. refl)
+
+-- ---- the queries that load
+
+means_select : MeansSelect the_schema project SELECT_PROJECT.now (is 0 0 ∷ []) (columns_of project) [] (names_of project)
+unfolding understood everything
+means_select = record { is = refl; unlisted = refl; plain = (refl, refl) }
+
+pub plain_select : IsPlain (understood the_schema SELECT_PROJECT.now)
+plain_select = means_select.plain
+
+pub project_found : {S : Type 0} (g : Ghosts S) (old new : Held S) (s : State) → IsAt g s old → (id : ℕ) (found : Option Project) → ShowsRecords (λ row x. row ≡ project_row x) g SELECT_PROJECT.now (number id ∷ []) old new (listed found) → found ≡ project_at s id
+project_found g old new s at id found h =
+    found_one (λ row x. row ≡ project_row x) project_row (λ x. x.id == id) s.projects (λ x y _ same. sym (same_project y x same)) h.rows
+    (shows_passing project_row 1 project refl SELECT_PROJECT.now (is 0 0 ∷ []) (number id ∷ []) (λ im. equal Binary (column im 0) (number id) && true) (λ r. refl) (λ x. x.id == id) (λ x. finds_number x.id id) s s.projects refl h.rows
+    (λ r. refl) means_select (state g old) (state g new) at.now h.shown)
+    found h.read
+
+means_select_with : MeansSelect the_schema project SELECT_PROJECT_WITH.now (is 3 0 ∷ []) (columns_of project) [] (names_of project)
+unfolding understood everything
+means_select_with = record { is = refl; unlisted = refl; plain = (refl, refl) }
+
+pub plain_select_with : IsPlain (understood the_schema SELECT_PROJECT_WITH.now)
+plain_select_with = means_select_with.plain
+
+pub project_with_found : {S : Type 0} (g : Ghosts S) (old new : Held S) (s : State) → IsAt g s old → (token : List ℕ) (found : Option Project) → ShowsRecords (λ row x. row ≡ project_row x) g SELECT_PROJECT_WITH.now (Text token ∷ []) old new (listed found) → found ≡ project_with s token
+project_with_found g old new s at token found h =
+    found_one (λ row x. row ≡ project_row x) project_row (λ x. bytes_eq x.token token) s.projects (λ x y _ same. sym (same_project y x same)) h.rows
+    (shows_passing project_row 1 project refl SELECT_PROJECT_WITH.now (is 3 0 ∷ []) (Text token ∷ []) (λ im. equal Binary (column im 2) (Text token) && true) (λ r. refl) (λ x. bytes_eq x.token token) (λ x. finds_text x.token token) s s.projects refl h.rows
+    (λ r. refl) means_select_with (state g old) (state g new) at.now h.shown)
+    found h.read

@@ -3,6 +3,8 @@ use Rattle.std.proofs.Common.{◌≡◌, ◌≢◌, ◌<◌, ◌==◌, ℕ, ℤ,
 use Rattle.std.specs.List.{AllByRecursion}
 use Rattle.std.specs.Ordering.{nat_cmp, ordering_then}
 use Rattle.std.proofs.lemmas.Bool.{cond_both}
+use Rattle.std.proofs.lemmas.Map.Text.{is_eq-slice_cmp}
+use Rattle.std.specs.Str.{bytes_eq}
 use Rattle.sqlite.specs.declared.types.Value.TheVariants.{Int, Text}
 use Rattle.sqlite_value.specs.declared.keys.Collation.TheVariants.{Binary}
 use Rattle.sqlite_sql.specs.declared.ops.BinaryOp.TheVariants.{Compare}
@@ -24,7 +26,7 @@ use Rattle.ci_tables.specs.Ran.{Changes, HasPut}
 use Rattle.ci_tables.proofs.Queries.{picks}
 use Rattle.ci_tables.proofs.Writes.{IsWholeStep}
 use Rattle.ci_tables.proofs.Puts.{MeansPut, MeansRemove, GivesRecord, puts, removes}
-use Rattle.ci_tables.proofs.Scalars.{cast_int, cast_null, equal_int}
+use Rattle.ci_tables.proofs.Scalars.{cast_int, cast_null, equal_int, equal_text}
 use Rattle.ci_store.specs.Schema.{the_schema}
 use Rattle.ci_store.specs.Rows.{number}
 use Rattle.ci_store.specs.Stands.{rows_of, IsRegular, Stands}
@@ -78,6 +80,10 @@ is_number m n =
 
 pub finds_number : (m n : ℕ) → (equal Binary (number m) (number n) && true) ≡ (m == n)
 finds_number m n = same_number m n ∙ is_number m n
+
+-- texts that compare as equal are the same
+pub finds_text : (a b : List ℕ) → (equal Binary (Text a) (Text b) && true) ≡ bytes_eq a b
+finds_text a b = and_true _ ∙ equal_text a b ∙ is_eq-slice_cmp a b
 
 -- the two parts of a key are compared in turn
 pub both_equal : (a b : Ordering) → (is_eq a && (is_eq b && true)) ≡ is_eq (ordering_then a b)

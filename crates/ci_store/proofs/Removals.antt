@@ -30,25 +30,15 @@ use Rattle.ci_store.specs.Stands.{Stands, rows_of}
 use Rattle.ci_tables.specs.Stands.{Holds}
 use Rattle.sqlite.specs.Effect.{Database}
 use Rattle.ci_store.proofs.Records.{is}
+use Rattle.ci_store.proofs.JobVariables.{means_select_of as means_variables}
+use Rattle.ci_store.proofs.Attempts.{means_select_of as means_attempts}
+use Rattle.ci_store.proofs.Pieces.{means_select_of as means_pieces}
 
 -- ---- what the queries of children mean
 
 means_jobs : MeansSelect the_schema job SELECT_JOBS_OF.now (is 2 0 ∷ []) (col 1 0 ∷ []) [] (codes "id" ∷ [])
 unfolding understood everything
 means_jobs = record { is = refl; unlisted = refl; plain = (refl, refl) }
-
-pub means_variables : MeansSelect the_schema jobvar SELECT_JOB_VARIABLES.now (is 1 0 ∷ []) (col 1 1 ∷ col 1 2 ∷ col 1 3 ∷ []) ((col 1 2, ascending Binary) ∷ []) (codes "job" ∷ codes "key" ∷ codes "value" ∷ [])
-unfolding understood everything
-means_variables = record { is = refl; unlisted = refl; plain = (refl, refl) }
-
-pub means_attempts : MeansSelect the_schema attempt SELECT_ATTEMPTS_OF.now (is 2 0 ∷ []) (col 1 0 ∷ col 1 2 ∷ col 1 3 ∷ col 1 4 ∷ col 1 5 ∷ col 1 6 ∷ col 1 7 ∷ col 1 8 ∷ col 1 9 ∷ col 1 10 ∷ col 1 11 ∷ []) ((col 1 0, ascending Binary) ∷ [])
-    (codes "id" ∷ codes "job" ∷ codes "runner" ∷ codes "token" ∷ codes "granted" ∷ codes "seen" ∷ codes "state" ∷ codes "cause" ∷ codes "exit" ∷ codes "pieces" ∷ codes "size" ∷ [])
-unfolding understood everything
-means_attempts = record { is = refl; unlisted = refl; plain = (refl, refl) }
-
-pub means_pieces : MeansSelect the_schema piece SELECT_PIECES.now (is 1 0 ∷ []) (col 1 1 ∷ col 1 2 ∷ col 1 3 ∷ []) ((col 1 2, ascending Binary) ∷ []) (codes "attempt" ∷ codes "seq" ∷ codes "bytes" ∷ [])
-unfolding understood everything
-means_pieces = record { is = refl; unlisted = refl; plain = (refl, refl) }
 
 -- ---- what a removal sets off
 

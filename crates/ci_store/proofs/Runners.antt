@@ -1,5 +1,5 @@
 -- The statements that write `runner`.
-use Rattle.std.proofs.Common.{◌≡◌, ◌∙◌, ℕ, pos, List, [], ◌∷◌, if◌then◌else◌, Some, is_eq, refl, ap}
+use Rattle.std.proofs.Common.{◌≡◌, ◌∙◌, ℕ, pos, List, [], ◌∷◌, if◌then◌else◌, Some, is_eq, refl, ap, ◌&&◌, true, Option, sym}
 use Rattle.std.specs.Ordering.{nat_cmp}
 use Rattle.sqlite.specs.declared.types.Value.TheVariants.{Null, Text}
 use Rattle.sqlite.specs.Order.{Row, column}
@@ -20,14 +20,25 @@ use Rattle.ci_tables.proofs.Writes.{IsWholeStep, whole_if_alone}
 use Rattle.ci_tables.proofs.Puts.{MeansPut, MeansRemove, GivesRecord}
 use Rattle.ci_tables.proofs.Absent.{absent_rowid}
 use Rattle.ci_tables.proofs.Scalars.{cast_int}
-use Rattle.ci_store.specs.declared.texts.TheConstants.{UPDATE_RUNNER, INSERT_RUNNER, DELETE_RUNNER}
+use Rattle.ci_store.specs.declared.texts.TheConstants.{UPDATE_RUNNER, INSERT_RUNNER, DELETE_RUNNER, SELECT_RUNNER_WITH}
 use Rattle.ci_store.specs.Schema.{the_schema, runner}
 use Rattle.ci_store.specs.JsonText.{tags_text, tags_data}
 use Rattle.serde_json.specs.Read.{read}
 use Rattle.ci_store.specs.Rows.{number, runner_row}
-use Rattle.ci_store.specs.Stands.{IsRegular, Stands}
+use Rattle.ci_store.specs.Stands.{IsRegular, Stands, IsAt}
 use Rattle.ci_store.proofs.Lists.{put_rises, by_number, all_put}
-use Rattle.ci_store.proofs.Records.{is, put_stands, remove_stands, same_number, numbered, cast_option}
+use Rattle.ci_store.proofs.Records.{is, put_stands, remove_stands, same_number, finds_text, numbered, cast_option}
+use Rattle.sqlite.specs.Collation.TheVariants.{Binary}
+use Rattle.sqlite_schema.specs.Rules.{equal}
+use Rattle.sqlite.proofs.Callers.{IsPlain}
+use Rattle.ci_tables.proofs.Selects.{MeansSelect}
+use Rattle.ci_store.specs.Calls.{ShowsRecords, listed}
+use Rattle.std.specs.Str.{bytes_eq}
+use Rattle.sqlite_rules.proofs.ListLemmas.{all_has}
+use Rattle.ci_machine.specs.Step.{runner_with}
+use Rattle.ci_store.specs.Load.{IsRunnerRow}
+use Rattle.ci_store.proofs.Shows.{columns_of, names_of, shows_passing, found_one}
+use Rattle.ci_store.proofs.Same.{same_runner}
 
 abbrev sets : List Term
 sets = col 0 0 ∷ lit Null ∷ col 0 1 ∷ col 0 2 ∷ col 0 3 ∷ col 0 4 ∷ col 0 5 ∷ col 0 6 ∷ []
@@ -91,3 +102,19 @@ runner_removes ghosts before after id count s stands whole h =
 pub runner_whole : (params : Row) (db : Trees) → IsWholeStep the_schema runner (is 0 0 ∷ []) params db
 unfolding everything
 runner_whole params db = whole_if_alone the_schema runner (is 0 0 ∷ []) params db (λ olds. refl)
+
+-- ---- the queries that load
+
+means_select_with : MeansSelect the_schema runner SELECT_RUNNER_WITH.now (is 3 0 ∷ []) (columns_of runner) [] (names_of runner)
+unfolding understood everything
+means_select_with = record { is = refl; unlisted = refl; plain = (refl, refl) }
+
+pub plain_select_with : IsPlain (understood the_schema SELECT_RUNNER_WITH.now)
+plain_select_with = means_select_with.plain
+
+pub runner_with_found : {S : Type 0} (g : Ghosts S) (old new : Held S) (s : State) → IsAt g s old → (token : List ℕ) (found : Option Runner) → ShowsRecords IsRunnerRow g SELECT_RUNNER_WITH.now (Text token ∷ []) old new (listed found) → found ≡ runner_with s token
+runner_with_found g old new s at token found h =
+    found_one IsRunnerRow runner_row (λ x. bytes_eq x.token token) s.runners (λ x y there same. same_runner x y same.0 same.2 (all_has _ s.runners y at.now.inside.regular.tags there) (sym same.1)) h.rows
+    (shows_passing runner_row 2 runner refl SELECT_RUNNER_WITH.now (is 3 0 ∷ []) (Text token ∷ []) (λ im. equal Binary (column im 2) (Text token) && true) (λ r. refl) (λ x. bytes_eq x.token token) (λ x. finds_text x.token token) s s.runners refl h.rows
+    (λ r. refl) means_select_with (state g old) (state g new) at.now h.shown)
+    found h.read

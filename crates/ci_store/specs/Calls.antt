@@ -1,24 +1,26 @@
--- What a call leaves of the tables, under an honest disk: one that has given back, up to the call's end, what was written to it.
-use Rattle.std.specs.Prelude.{◌≡◌, ◌≤◌, Result, Err, OnOk, IfOk}
-use Rattle.sqlite.specs.State.{HasCleanDisk}
+-- What a load makes of the tables, and what it reads.
+use Rattle.std.specs.Prelude.{List, [], ◌∷◌, ℕ, Option, None, Some, Result}
+use Rattle.std.specs.List.{AllZip}
+use Rattle.sqlite.specs.Order.{Row}
+use Rattle.sqlite.specs.State.{HasCleanDisk, Shown}
 use Rattle.sqlite.specs.Store.{Ghosts}
 use Rattle.sqlite.specs.Held.{Held, state}
-use Rattle.sqlite_trees.specs.View.{doubt}
 use Rattle.ci_machine.specs.State.{State}
 use Rattle.ci_tables.specs.declared.fault.StoreFault.{StoreFault}
-use Rattle.ci_tables.specs.declared.fault.StoreFault.TheVariants.{Memory}
-use Rattle.ci_store.specs.Stands.{IsAt, LeavesOnly}
+use Rattle.ci_store.specs.Stands.{IsAt, LeavesEither}
+use Rattle.ci_store.specs.Store.{LoadsBy}
 
--- A call that only looks: where it ends well the tables hold the state that they held, and however it ends a stop leaves that state alone.
-pub record Looks {S A E : Type 0} (g : Ghosts S) (old new : Held S) (result : Result A E) : Type 0 where
-  pub clean : doubt (state g old).is_clean ≤ doubt (state g new).is_clean
-  pub same : HasCleanDisk (state g new) → (s : State) → IsAt g s old → OnOk result (IsAt g s new)
-  pub left : HasCleanDisk (state g new) → (s : State) → IsAt g s old → LeavesOnly g s new
+-- a call on tables only loads, and its answer is so of the state that they hold
+abbrev pub Loads : {S A : Type 0} → Ghosts S → Held S → Held S → Result A StoreFault → (State → A → Type 0) → Type 0
+Loads g old new result IsSo = LoadsBy (λ t. HasCleanDisk (state g t)) (λ t s. IsAt g s t) (λ t s u. LeavesEither g s u t) old new result IsSo
 
--- where memory was refused, the tables hold the state that they held
-abbrev pub KeepsForMemory : {S A : Type 0} → Ghosts S → Held S → Held S → Result A StoreFault → Type 0
-KeepsForMemory g old new result = HasCleanDisk (state g new) → result ≡ Err Memory → (s : State) → IsAt g s old → IsAt g s new
+-- the rows that the query shows are those of these records
+pub record ShowsRecords {S R : Type 0} (is_row : Row → R → Type 0) (g : Ghosts S) (sql : List ℕ) (params : Row) (old new : Held S) (found : List R) : Type 0 where
+  pub rows : List Row
+  pub shown : Shown sql params (state g old) (state g new) rows
+  pub read : AllZip is_row rows found
 
--- what the call answers is so of the state that the tables hold
-abbrev pub Finds : {S A E : Type 0} → Ghosts S → Held S → Held S → Result A E → (State → A → Type 0) → Type 0
-Finds g old new result IsSo = HasCleanDisk (state g new) → (s : State) → IsAt g s old → IfOk result (IsSo s)
+-- the one record, if there is one
+abbrev pub listed : {R : Type 0} → Option R → List R
+listed None = []
+listed (Some x) = x ∷ []

@@ -39,7 +39,7 @@ pub record IsBack {S : Type 0} (g : Ghosts S) (old new : Held S) : Type 0 where
 pub record IsDone {S : Type 0} (g : Ghosts S) (changes : List RowChange) (old new : Held S) : Type 0 where
   pub is_open : IsTrue (state g new).is_open
   pub stands : (s : State) → Stands s (state g old).now → Stands (applied changes s) (state g new).now
-  pub settled : (state g new).committed ≡ (state g new).now
+  pub committed : (state g new).committed ≡ (state g new).now
 
 -- nothing differs, and the store is open
 pub record IsSame {S : Type 0} (g : Ghosts S) (old new : Held S) : Type 0 where

@@ -6,4 +6,5 @@ pub mod Calls
 pub mod Commit
 pub mod Create
 pub mod Load
+pub mod Store
 pub mod Open

@@ -38,17 +38,27 @@ meta_rows next =
     meta_row (codes "format") 1128878163 ∷ meta_row (codes "version") 1 ∷ meta_row (codes "next_project") next.project ∷ meta_row (codes "next_runner") next.runner
     ∷ meta_row (codes "next_pipeline") next.pipeline ∷ meta_row (codes "next_job") next.job ∷ meta_row (codes "next_attempt") next.attempt ∷ []
 
+-- the rows of each table, with its tree
+abbrev pub rows_by_tree : State → List (ℕ × List Row)
+rows_by_tree s =
+    (table.meta.tree, meta_rows s.next)
+    ∷ (table.project.tree, map project_row s.projects)
+    ∷ (table.runner.tree, map runner_row s.runners)
+    ∷ (table.pipeline.tree, map pipeline_row s.pipelines)
+    ∷ (table.job.tree, map job_row s.jobs)
+    ∷ (table.jobvar.tree, map job_variable_row s.job_variables)
+    ∷ (table.attempt.tree, map attempt_row s.attempts)
+    ∷ (table.piece.tree, map piece_row s.pieces)
+    ∷ []
+
+-- the rows of this tree, and none where it is no table's
+abbrev pub rows_at : ℕ → List (ℕ × List Row) → List Row
+rows_at tree [] = []
+rows_at tree (t ∷ more) = if tree == t.0 then t.1 else rows_at tree more
+
 -- the rows of the table that has this tree
 abbrev pub rows_of : State → ℕ → List Row
-rows_of s tree =
-    if tree == table.meta.tree then meta_rows s.next
-    else (if tree == table.project.tree then map project_row s.projects
-    else (if tree == table.runner.tree then map runner_row s.runners
-    else (if tree == table.pipeline.tree then map pipeline_row s.pipelines
-    else (if tree == table.job.tree then map job_row s.jobs
-    else (if tree == table.jobvar.tree then map job_variable_row s.job_variables
-    else (if tree == table.attempt.tree then map attempt_row s.attempts
-    else (if tree == table.piece.tree then map piece_row s.pieces else [])))))))
+rows_of s tree = rows_at tree (rows_by_tree s)
 
 -- each record is strictly below those after it
 abbrev pub Rises : {A : Type 0} → (A → A → Ordering) → List A → Type 0

@@ -1,18 +1,17 @@
 //! Many changes in one transaction.
 
-ghost use Rattle.std.specs.Prelude.{◌≡◌, ◌≤◌, ◌⊎◌, true, false, OnOk};
+ghost use Rattle.std.specs.Prelude.{◌≡◌, ◌≤◌, true, false, Err, OnOk};
 ghost use Rattle.sqlite.specs.State.{HasCleanDisk, Survives};
-ghost use Rattle.sqlite.specs.Tree.{Trees};
 ghost use Rattle.sqlite_trees.specs.View.{doubt};
 ghost use Rattle.sqlite.specs.Held.{state};
 ghost use Rattle.ci_machine.specs.State.{State, applied};
-ghost use Rattle.ci_store.specs.Stands.{StandsIn, IsAt};
-ghost use Rattle.ci_store.specs.Calls.{KeepsForMemory};
+ghost use Rattle.ci_store.specs.Stands.{IsAt, LeavesEither};
+ghost use Rattle.ci_tables.specs.declared.fault.StoreFault.TheVariants.{Memory};
 ghost use Rattle.ci_tables.specs.Ran.{KeepsInside, CommitsNothing};
 ghost use Rattle.ci_store.specs.Commit.{MakesInside, CommitsAll, is_done, is_undone, IsBack, IsDone};
 
 use crate::make::make;
-use crate::settle::is_open;
+use crate::probe::is_open;
 use ci_machine::change::RowChange;
 use ci_tables::fault::StoreFault;
 use sqlite::{Alter, Connection, Transaction};
@@ -73,11 +72,11 @@ pub(crate) fn commit<S: Alter>(
     ensures idle { conn.new.in_transaction ≡ false }
     ensures clean { doubt (state S.Store conn.old).is_clean ≤ doubt (state S.Store conn.new).is_clean }
     ensures done { HasCleanDisk (state S.Store conn.new) → OnOk result ((s : State) → IsAt S.Store s conn.old → IsAt S.Store (applied changes.now s) conn.new) }
-    ensures memory { KeepsForMemory S.Store conn.old conn.new result }
-    ensures fault { HasCleanDisk (state S.Store conn.new) → (s : State) → IsAt S.Store s conn.old → (db : Trees) → (state S.Store conn.new).may_leave db → StandsIn s db ⊎ StandsIn (applied changes.now s) db }
+    ensures memory { HasCleanDisk (state S.Store conn.new) → result ≡ Err Memory → (s : State) → IsAt S.Store s conn.old → IsAt S.Store s conn.new }
+    ensures left { HasCleanDisk (state S.Store conn.new) → (s : State) → IsAt S.Store s conn.old → LeavesEither S.Store s (applied changes.now s) conn.new }
 {
     // With no transaction open, what is seen is what is committed.
-    let _is_settled = conn.is_autocommit();
+    let _is_idle = conn.is_autocommit();
     match attempt(conn, alloc, changes) {
         Ended::Done => Ok(()),
         Ended::Undone(fault) | Ended::Unknown(fault) => {

@@ -6,8 +6,9 @@ pub mod commit;
 pub mod json_text;
 pub mod load;
 pub mod make;
+mod probe;
 pub mod read;
-mod settle;
+pub mod store;
 pub mod tables;
 pub mod texts;
 

@@ -1,13 +1,12 @@
 //! The records of rows.
 
-ghost use Rattle.std.specs.Prelude.{◌≡◌, map, ℕ, List, Some, length, IfOk, IfSome, OnOk};
+ghost use Rattle.std.specs.Prelude.{◌≡◌, length, IfOk, IfSome, OnOk};
 ghost use Rattle.std.specs.List.{AllZip};
-ghost use Rattle.sqlite.specs.Order.{column};
+ghost use Rattle.sqlite.specs.Order.{Row, column};
 ghost use Rattle.sqlite.specs.Values.{or_null};
 ghost use Rattle.sqlite.specs.declared.types.Value.TheVariants.{Text as Words, Blob};
-ghost use Rattle.serde_json.specs.Read.{read};
-ghost use Rattle.ci_store.specs.Rows.{number, flag, kind_number, source_number, cause_number, state_number, cause_in, exit_in, project_row, runner_row, pipeline_row, job_row, job_variable_row, attempt_row, piece_row};
-ghost use Rattle.ci_store.specs.Load.{HasState, IsRunnerRow, IsJobRow};
+ghost use Rattle.ci_store.specs.Rows.{number, flag, kind_number, source_number, cause_number};
+ghost use Rattle.ci_store.specs.Load.{HasState};
 
 use crate::json_text::{read_spec, read_tags};
 use ci_machine::moment::Moment;
@@ -121,153 +120,156 @@ fn read_state(state: u32, cause: Option<u32>, exit: Option<u32>) -> Option<Attem
     }
 }
 
-/// The project of a row.
-pub fn read_project(row: &Row) -> Result<Project, StoreFault>
-    ensures { IfOk result (λ p. row.now ≡ project_row p) }
-{
-    has_columns(row, 4)?;
-    Ok(Project {
-        id: row.get(0)?,
-        name: text_at(row, 1)?,
-        token: text_at(row, 2)?,
-        file: optional_text_at(row, 3)?,
-    })
+/// A record that a table stores, one in each row.
+pub trait Stored: Drop {
+    /// The row has the values of the record.
+    ghost is_row: { Row → Self → Type 0 };
+
+    /// The record of a row. Errors: memory was refused, or the row is of no such record.
+    fn read(alloc: Global, row: &Row) -> Result<Self, StoreFault>
+        ensures { IfOk result (is_row row.now) };
 }
 
-/// The runner of a row.
-pub fn read_runner(alloc: Global, row: &Row) -> Result<Runner, StoreFault>
-    ensures { IfOk result (IsRunnerRow row.now) }
-{
-    has_columns(row, 7)?;
-    let tags: String = row.get(4)?;
-    Ok(Runner {
-        id: row.get(0)?,
-        name: text_at(row, 1)?,
-        token: text_at(row, 2)?,
-        project: row.get(3)?,
-        tags: read_tags(alloc, tags.as_str())?,
-        untagged: flag_at(row, 5)?,
-        paused: flag_at(row, 6)?,
-    })
-}
-
-/// The pipeline of a row.
-pub fn read_pipeline(row: &Row) -> Result<Pipeline, StoreFault>
-    ensures { IfOk result (λ p. row.now ≡ pipeline_row p) }
-{
-    has_columns(row, 6)?;
-    Ok(Pipeline {
-        id: row.get(0)?,
-        project: row.get(1)?,
-        git_ref: text_at(row, 2)?,
-        kind: read_kind(row.get(3)?).ok_or(StoreFault::Broken)?,
-        source: read_source(row.get(4)?).ok_or(StoreFault::Broken)?,
-        created: moment_at(row, 5)?,
-    })
-}
-
-/// The job of a row.
-pub fn read_job(alloc: Global, row: &Row) -> Result<Job, StoreFault>
-    ensures { IfOk result (IsJobRow row.now) }
-{
-    has_columns(row, 9)?;
-    let spec: String = row.get(5)?;
-    Ok(Job {
-        id: row.get(0)?,
-        pipeline: row.get(1)?,
-        position: row.get(2)?,
-        name: text_at(row, 3)?,
-        stage: text_at(row, 4)?,
-        options: read_spec(alloc, spec.as_str())?,
-        played: flag_at(row, 6)?,
-        cancelled: flag_at(row, 7)?,
-        set_aside: row.get(8)?,
-    })
-}
-
-/// The variable of a row.
-pub fn read_job_variable(row: &Row) -> Result<JobVariable, StoreFault>
-    ensures { IfOk result (λ v. row.now ≡ job_variable_row v) }
-{
-    has_columns(row, 3)?;
-    Ok(JobVariable {
-        job: row.get(0)?,
-        key: text_at(row, 1)?,
-        value: text_at(row, 2)?,
-    })
-}
-
-/// The attempt of a row.
-pub fn read_attempt(row: &Row) -> Result<Attempt, StoreFault>
-    ensures { IfOk result (λ a. row.now ≡ attempt_row a) }
-{
-    has_columns(row, 11)?;
-    let state = read_state(row.get(6)?, row.get(7)?, row.get(8)?);
-    Ok(Attempt {
-        id: row.get(0)?,
-        job: row.get(1)?,
-        runner: row.get(2)?,
-        token: text_at(row, 3)?,
-        granted: moment_at(row, 4)?,
-        seen: moment_at(row, 5)?,
-        state: state.ok_or(StoreFault::Broken)?,
-        pieces: row.get(9)?,
-        size: row.get(10)?,
-    })
-}
-
-/// The piece of a row.
-pub fn read_piece(row: &Row) -> Result<Piece, StoreFault>
-    ensures { IfOk result (λ p. row.now ≡ piece_row p) }
-{
-    has_columns(row, 3)?;
-    Ok(Piece {
-        attempt: row.get(0)?,
-        seq: row.get(1)?,
-        bytes: bytes_at(row, 2)?,
-    })
-}
-
-/// The variables of rows.
-pub fn read_job_variables(alloc: Global, rows: &[Row]) -> Result<Vec<JobVariable>, StoreFault>
-    ensures { IfOk result (λ found. map job_variable_row found.items ≡ rows.now) }
+/// The records of rows. Errors: as `read`.
+pub fn read_all<R: Stored>(alloc: Global, rows: &[Row]) -> Result<Vec<R>, StoreFault>
+    ensures { IfOk result (λ found. AllZip R.is_row rows.now found.items) }
 {
     let mut found = Vec::new(alloc);
     for row in rows {
-        found.push(read_job_variable(row)?)?;
+        found.push(R::read(alloc, row)?)?;
     }
     Ok(found)
 }
 
-/// The attempts of rows.
-pub fn read_attempts(alloc: Global, rows: &[Row]) -> Result<Vec<Attempt>, StoreFault>
-    ensures { IfOk result (λ found. map attempt_row found.items ≡ rows.now) }
-{
-    let mut found = Vec::new(alloc);
-    for row in rows {
-        found.push(read_attempt(row)?)?;
+impl Stored for Project {
+    ghost use Rattle.std.specs.Prelude.{◌≡◌};
+    ghost use Rattle.ci_store.specs.Rows.{project_row};
+
+    ghost is_row = { λ row p. row ≡ project_row p };
+
+    fn read(_: Global, row: &Row) -> Result<Project, StoreFault> {
+        has_columns(row, 4)?;
+        Ok(Project {
+            id: row.get(0)?,
+            name: text_at(row, 1)?,
+            token: text_at(row, 2)?,
+            file: optional_text_at(row, 3)?,
+        })
     }
-    Ok(found)
 }
 
-/// The pieces of rows.
-pub fn read_pieces(alloc: Global, rows: &[Row]) -> Result<Vec<Piece>, StoreFault>
-    ensures { IfOk result (λ found. map piece_row found.items ≡ rows.now) }
-{
-    let mut found = Vec::new(alloc);
-    for row in rows {
-        found.push(read_piece(row)?)?;
+impl Stored for Runner {
+    ghost use Rattle.ci_store.specs.Load.{IsRunnerRow};
+
+    ghost is_row = { IsRunnerRow };
+
+    fn read(alloc: Global, row: &Row) -> Result<Runner, StoreFault> {
+        has_columns(row, 7)?;
+        let tags: String = row.get(4)?;
+        Ok(Runner {
+            id: row.get(0)?,
+            name: text_at(row, 1)?,
+            token: text_at(row, 2)?,
+            project: row.get(3)?,
+            tags: read_tags(alloc, tags.as_str())?,
+            untagged: flag_at(row, 5)?,
+            paused: flag_at(row, 6)?,
+        })
     }
-    Ok(found)
 }
 
-/// The jobs of rows.
-pub fn read_jobs(alloc: Global, rows: &[Row]) -> Result<Vec<Job>, StoreFault>
-    ensures { IfOk result (λ found. AllZip IsJobRow rows.now found.items) }
-{
-    let mut found = Vec::new(alloc);
-    for row in rows {
-        found.push(read_job(alloc, row)?)?;
+impl Stored for Pipeline {
+    ghost use Rattle.std.specs.Prelude.{◌≡◌};
+    ghost use Rattle.ci_store.specs.Rows.{pipeline_row};
+
+    ghost is_row = { λ row p. row ≡ pipeline_row p };
+
+    fn read(_: Global, row: &Row) -> Result<Pipeline, StoreFault> {
+        has_columns(row, 6)?;
+        Ok(Pipeline {
+            id: row.get(0)?,
+            project: row.get(1)?,
+            git_ref: text_at(row, 2)?,
+            kind: read_kind(row.get(3)?).ok_or(StoreFault::Broken)?,
+            source: read_source(row.get(4)?).ok_or(StoreFault::Broken)?,
+            created: moment_at(row, 5)?,
+        })
     }
-    Ok(found)
+}
+
+impl Stored for Job {
+    ghost use Rattle.ci_store.specs.Load.{IsJobRow};
+
+    ghost is_row = { IsJobRow };
+
+    fn read(alloc: Global, row: &Row) -> Result<Job, StoreFault> {
+        has_columns(row, 9)?;
+        let spec: String = row.get(5)?;
+        Ok(Job {
+            id: row.get(0)?,
+            pipeline: row.get(1)?,
+            position: row.get(2)?,
+            name: text_at(row, 3)?,
+            stage: text_at(row, 4)?,
+            options: read_spec(alloc, spec.as_str())?,
+            played: flag_at(row, 6)?,
+            cancelled: flag_at(row, 7)?,
+            set_aside: row.get(8)?,
+        })
+    }
+}
+
+impl Stored for JobVariable {
+    ghost use Rattle.std.specs.Prelude.{◌≡◌};
+    ghost use Rattle.ci_store.specs.Rows.{job_variable_row};
+
+    ghost is_row = { λ row v. row ≡ job_variable_row v };
+
+    fn read(_: Global, row: &Row) -> Result<JobVariable, StoreFault> {
+        has_columns(row, 3)?;
+        Ok(JobVariable {
+            job: row.get(0)?,
+            key: text_at(row, 1)?,
+            value: text_at(row, 2)?,
+        })
+    }
+}
+
+impl Stored for Attempt {
+    ghost use Rattle.std.specs.Prelude.{◌≡◌};
+    ghost use Rattle.ci_store.specs.Rows.{attempt_row};
+
+    ghost is_row = { λ row a. row ≡ attempt_row a };
+
+    fn read(_: Global, row: &Row) -> Result<Attempt, StoreFault> {
+        has_columns(row, 11)?;
+        let state = read_state(row.get(6)?, row.get(7)?, row.get(8)?);
+        Ok(Attempt {
+            id: row.get(0)?,
+            job: row.get(1)?,
+            runner: row.get(2)?,
+            token: text_at(row, 3)?,
+            granted: moment_at(row, 4)?,
+            seen: moment_at(row, 5)?,
+            state: state.ok_or(StoreFault::Broken)?,
+            pieces: row.get(9)?,
+            size: row.get(10)?,
+        })
+    }
+}
+
+impl Stored for Piece {
+    ghost use Rattle.std.specs.Prelude.{◌≡◌};
+    ghost use Rattle.ci_store.specs.Rows.{piece_row};
+
+    ghost is_row = { λ row p. row ≡ piece_row p };
+
+    fn read(_: Global, row: &Row) -> Result<Piece, StoreFault> {
+        has_columns(row, 3)?;
+        Ok(Piece {
+            attempt: row.get(0)?,
+            seq: row.get(1)?,
+            bytes: bytes_at(row, 2)?,
+        })
+    }
 }

@@ -1,23 +1,26 @@
 //! The tables, which are the only writer of their store.
 
-ghost use Rattle.std.specs.Prelude.{◌≡◌, ◌≤◌, ◌⊎◌, ◌==◌, false, find, IsTrue, IfOk, IfErr, OnOk};
+ghost use Rattle.std.specs.Prelude.{◌≡◌, ◌≤◌, ◌⊎◌, false, IsTrue, IfOk, IfErr, OnOk};
 ghost use Rattle.sqlite.specs.State.{HasCleanDisk, Survives};
 ghost use Rattle.sqlite.specs.Held.{state};
 ghost use Rattle.sqlite.specs.Tree.{Trees};
 ghost use Rattle.sqlite_trees.specs.View.{doubt};
-ghost use Rattle.ci_machine.specs.State.{State, applied, empty};
+ghost use Rattle.ci_machine.specs.State.{State, empty};
 ghost use Rattle.ci_tables.specs.Ran.{CommitsNothing};
 ghost use Rattle.ci_store.specs.Schema.{the_schema};
 ghost use Rattle.ci_store.specs.Create.{IsBlank, IsBare};
 ghost use Rattle.ci_store.specs.Stands.{Stands, StandsIn, IsAt, LeavesOnly};
-ghost use Rattle.ci_store.specs.Calls.{Looks, KeepsForMemory, Finds};
-ghost use Rattle.ci_machine.specs.Step.{project_at, project_with, runner_with, pipeline_at, variables_of, attempts_of, live_attempts, pieces_of, next_of};
+ghost use Rattle.ci_store.specs.Calls.{Loads};
 
+use crate::columns::{state_numbers, text};
 use crate::commit::commit;
-use crate::settle::is_settled;
+use crate::probe::is_intact;
+use crate::store::Store;
 use crate::{load, texts};
 use ci_machine::change::{Counter, Delta};
-use ci_machine::records::{Attempt, Job, JobVariable, Piece, Pipeline, Project, Runner};
+use ci_machine::records::{
+    Attempt, AttemptState, Job, JobVariable, Piece, Pipeline, Project, Runner,
+};
 use ci_machine::text::Text;
 use ci_tables::fault::StoreFault;
 use ci_tables::values::number;
@@ -163,7 +166,8 @@ fn understands<S: Alter>(conn: &mut Connection<S>) -> Result<(), OpenFault>
 fn meta_number<S: Alter>(conn: &mut Connection<S>, key: &str) -> Result<Option<u64>, StoreFault>
     requires { conn.old.in_transaction ≡ false }
     ensures idle { conn.new.in_transaction ≡ false }
-    ensures looks { Looks S.Store conn.old conn.new result }
+    ensures clean { doubt (state S.Store conn.old).is_clean ≤ doubt (state S.Store conn.new).is_clean }
+    ensures loads { Loads S.Store conn.old conn.new result (λ _ _. Unit {0}) }
 {
     let rows = load::look_up(conn, texts::SELECT_META, &[key.to_sql()])?;
     match rows.as_slice() {
@@ -217,7 +221,7 @@ impl<S: Alter> Tables<S> {
         if !conn.is_autocommit() {
             return Err((OpenFault::O3, conn));
         }
-        if !is_settled(&mut conn) {
+        if !is_intact(&mut conn) {
             return Err((OpenFault::O3, conn));
         }
         match recognize(&mut conn) {
@@ -234,122 +238,73 @@ impl<S: Alter> Tables<S> {
         let Tables { conn } = self;
         conn
     }
+}
 
-    /// The next number of a kind.
-    pub fn next(&mut self, counter: Counter) -> Result<u64, StoreFault>
-        ensures looks { Looks S.Store self.old self.new result }
-        ensures memory { KeepsForMemory S.Store self.old self.new result }
-        ensures found { Finds S.Store self.old self.new result (λ s found. found ≡ next_of counter s.next) }
-    {
+impl<S: Alter> Store for Tables<S> {
+    ghost use Rattle.std.proofs.Common.{inl};
+    ghost use Rattle.sqlite.specs.State.{HasCleanDisk};
+    ghost use Rattle.sqlite.specs.Held.{state};
+    ghost use Rattle.ci_store.specs.Stands.{IsAt, LeavesEither};
+
+    ghost honest = { λ t. HasCleanDisk (state S.Store t) };
+
+    ghost holds = { λ t s. IsAt S.Store s t };
+
+    ghost leaves = { λ t s u. LeavesEither S.Store s u t };
+
+    ghost held_is_left = { λ t s at db may. inl (at.left db may) };
+
+    fn next(&mut self, counter: Counter) -> Result<u64, StoreFault> {
         load::next(&mut self.conn, counter)
     }
 
-    /// The project with the number.
-    pub fn project(&mut self, id: u64) -> Result<Option<Project>, StoreFault>
-        ensures looks { Looks S.Store self.old self.new result }
-        ensures memory { KeepsForMemory S.Store self.old self.new result }
-        ensures found { Finds S.Store self.old self.new result (λ s found. found ≡ project_at s id) }
-    {
-        load::project(&mut self.conn, id)
+    fn project(&mut self, id: u64) -> Result<Option<Project>, StoreFault> {
+        load::one_at(&mut self.conn, texts::SELECT_PROJECT, id)
     }
 
-    /// The project with the token.
-    pub fn project_with(&mut self, token: &Text) -> Result<Option<Project>, StoreFault>
-        ensures looks { Looks S.Store self.old self.new result }
-        ensures memory { KeepsForMemory S.Store self.old self.new result }
-        ensures found { Finds S.Store self.old self.new result (λ s found. found ≡ project_with s token.now) }
-    {
-        load::project_with(&mut self.conn, token)
+    fn project_with(&mut self, token: &Text) -> Result<Option<Project>, StoreFault> {
+        load::one(&mut self.conn, texts::SELECT_PROJECT_WITH, &[text(token)])
     }
 
-    /// The runner with the token.
-    pub fn runner_with(&mut self, token: &Text) -> Result<Option<Runner>, StoreFault>
-        ensures looks { Looks S.Store self.old self.new result }
-        ensures memory { KeepsForMemory S.Store self.old self.new result }
-        ensures found { Finds S.Store self.old self.new result (λ s found. found ≡ runner_with s token.now) }
-    {
-        load::runner_with(&mut self.conn, token)
+    fn runner_with(&mut self, token: &Text) -> Result<Option<Runner>, StoreFault> {
+        load::one(&mut self.conn, texts::SELECT_RUNNER_WITH, &[text(token)])
     }
 
-    /// The pipeline with the number.
-    pub fn pipeline(&mut self, id: u64) -> Result<Option<Pipeline>, StoreFault>
-        ensures looks { Looks S.Store self.old self.new result }
-        ensures memory { KeepsForMemory S.Store self.old self.new result }
-        ensures found { Finds S.Store self.old self.new result (λ s found. found ≡ pipeline_at s id) }
-    {
-        load::pipeline(&mut self.conn, id)
+    fn pipeline(&mut self, id: u64) -> Result<Option<Pipeline>, StoreFault> {
+        load::one_at(&mut self.conn, texts::SELECT_PIPELINE, id)
     }
 
-    /// The job with the number.
-    pub fn job(&mut self, id: u64) -> Result<Option<Job>, StoreFault>
-        ensures looks { Looks S.Store self.old self.new result }
-        ensures memory { KeepsForMemory S.Store self.old self.new result }
-        ensures found { Finds S.Store self.old self.new result (λ s found. found ≡ find (λ j. j.id == id) s.jobs) }
-    {
-        load::job(&mut self.conn, id)
+    fn job(&mut self, id: u64) -> Result<Option<Job>, StoreFault> {
+        load::one_at(&mut self.conn, texts::SELECT_JOB, id)
     }
 
-    /// The variables of a job, by key.
-    pub fn job_variables(&mut self, job: u64) -> Result<Vec<JobVariable>, StoreFault>
-        ensures looks { Looks S.Store self.old self.new result }
-        ensures memory { KeepsForMemory S.Store self.old self.new result }
-        ensures found { Finds S.Store self.old self.new result (λ s found. found.items ≡ variables_of s job) }
-    {
-        load::job_variables(&mut self.conn, job)
+    fn job_variables(&mut self, job: u64) -> Result<Vec<JobVariable>, StoreFault> {
+        load::list_of(&mut self.conn, texts::SELECT_JOB_VARIABLES, job)
     }
 
-    /// The attempt with the number.
-    pub fn attempt(&mut self, id: u64) -> Result<Option<Attempt>, StoreFault>
-        ensures looks { Looks S.Store self.old self.new result }
-        ensures memory { KeepsForMemory S.Store self.old self.new result }
-        ensures found { Finds S.Store self.old self.new result (λ s found. found ≡ find (λ a. a.id == id) s.attempts) }
-    {
-        load::attempt(&mut self.conn, id)
+    fn attempt(&mut self, id: u64) -> Result<Option<Attempt>, StoreFault> {
+        load::one_at(&mut self.conn, texts::SELECT_ATTEMPT, id)
     }
 
-    /// The attempts of a job, by number.
-    pub fn attempts_of(&mut self, job: u64) -> Result<Vec<Attempt>, StoreFault>
-        ensures looks { Looks S.Store self.old self.new result }
-        ensures memory { KeepsForMemory S.Store self.old self.new result }
-        ensures found { Finds S.Store self.old self.new result (λ s found. found.items ≡ attempts_of s job) }
-    {
-        load::attempts_of(&mut self.conn, job)
+    fn attempts_of(&mut self, job: u64) -> Result<Vec<Attempt>, StoreFault> {
+        load::list_of(&mut self.conn, texts::SELECT_ATTEMPTS_OF, job)
     }
 
-    /// The attempts that have not ended, by number.
-    pub fn live_attempts(&mut self) -> Result<Vec<Attempt>, StoreFault>
-        ensures looks { Looks S.Store self.old self.new result }
-        ensures memory { KeepsForMemory S.Store self.old self.new result }
-        ensures found { Finds S.Store self.old self.new result (λ s found. found.items ≡ live_attempts s) }
-    {
-        load::live_attempts(&mut self.conn)
+    fn live_attempts(&mut self) -> Result<Vec<Attempt>, StoreFault> {
+        let (live, _, _) = state_numbers(AttemptState::Live);
+        load::list(&mut self.conn, texts::SELECT_ATTEMPTS_IN, &[live.to_sql()])
     }
 
-    /// The pieces of the trace of an attempt, in their order.
-    pub fn pieces_of(&mut self, attempt: u64) -> Result<Vec<Piece>, StoreFault>
-        ensures looks { Looks S.Store self.old self.new result }
-        ensures memory { KeepsForMemory S.Store self.old self.new result }
-        ensures found { Finds S.Store self.old self.new result (λ s found. found.items ≡ pieces_of s attempt) }
-    {
-        load::pieces_of(&mut self.conn, attempt)
+    fn pieces_of(&mut self, attempt: u64) -> Result<Vec<Piece>, StoreFault> {
+        load::list_of(&mut self.conn, texts::SELECT_PIECES, attempt)
     }
 
-    /// All jobs, by number. It reads the whole table.
-    pub fn jobs(&mut self) -> Result<Vec<Job>, StoreFault>
-        ensures looks { Looks S.Store self.old self.new result }
-        ensures memory { KeepsForMemory S.Store self.old self.new result }
-        ensures found { Finds S.Store self.old self.new result (λ s found. found.items ≡ s.jobs) }
-    {
-        load::jobs(&mut self.conn)
+    /// It reads the whole table.
+    fn jobs(&mut self) -> Result<Vec<Job>, StoreFault> {
+        load::list(&mut self.conn, texts::SELECT_JOBS, &[])
     }
 
-    /// Makes the changes in one transaction, or none of them.
-    pub fn commit(&mut self, delta: Delta) -> Result<(), StoreFault>
-        ensures clean { doubt (state S.Store self.old).is_clean ≤ doubt (state S.Store self.new).is_clean }
-        ensures done { HasCleanDisk (state S.Store self.new) → OnOk result ((s : State) → IsAt S.Store s self.old → IsAt S.Store (applied delta s) self.new) }
-        ensures memory { KeepsForMemory S.Store self.old self.new result }
-        ensures broken { HasCleanDisk (state S.Store self.new) → (s : State) → IsAt S.Store s self.old → (db : Trees) → (state S.Store self.new).may_leave db → StandsIn s db ⊎ StandsIn (applied delta s) db }
-    {
+    fn commit(&mut self, delta: Delta) -> Result<(), StoreFault> {
         let changes = delta.into_vec();
         let alloc = *changes.allocator();
         commit(&mut self.conn, alloc, changes.as_slice())

@@ -5,6 +5,7 @@ use ci_machine::change::{Counter, Delta, Key};
 use ci_machine::records::{Attempt, Job, JobVariable, Piece, Pipeline, Project, Runner};
 use ci_machine::text::Text;
 use ci_store::fault::StoreFault;
+use ci_store::store::Store;
 use ci_store::tables::{OpenFault, Tables};
 use ci_store::{Alter, Connection};
 use ci_test_disks::discard;

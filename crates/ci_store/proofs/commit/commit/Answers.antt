@@ -12,12 +12,12 @@ returns-in-Done-clause-done g c clean s at =
     record {
       is_open = done.is_open;
       now = stands;
-      left = λ db may. subst (StandsIn (applied c.args.changes.now s)) (sym (g.met.S.Store.settled new.store db done.is_open may ∙ ap (λ (d : Database). d.trees) done.settled)) stands.inside;
+      left = λ db may. subst (StandsIn (applied c.args.changes.now s)) (sym (g.met.S.Store.settled new.store db done.is_open may ∙ ap (λ (d : Database). d.trees) done.committed)) stands.inside;
     }
 
-pub returns-in-Done-clause-fault : goal.returns-in-Done-clause-fault
-returns-in-Done-clause-fault g c clean s at db may =
+pub returns-in-Done-clause-left : goal.returns-in-Done-clause-left
+returns-in-Done-clause-left g c clean s at db may =
     let done = c.in-Done.ensures.done clean refl in
     let new = c.attempt.new.conn in
     let stands = done.stands s at.now in
-    inr (subst (StandsIn (applied c.args.changes.now s)) (sym (g.met.S.Store.settled new.store db done.is_open may ∙ ap (λ (d : Database). d.trees) done.settled)) stands.inside)
+    inr (subst (StandsIn (applied c.args.changes.now s)) (sym (g.met.S.Store.settled new.store db done.is_open may ∙ ap (λ (d : Database). d.trees) done.committed)) stands.inside)

@@ -5,10 +5,10 @@ use Rattle.ci_store.proofs.tables.Tables.open.Goals as goal
 
 pub returns-in-Ok-clause-opened : goal.returns-in-Ok-clause-opened
 returns-in-Ok-clause-opened g c clean s only =
-    let looked : HasCleanDisk (state g.S.Store c.is_settled.new.conn) = omega (arith, clean, c.recognize.ensures.clean) in
-    c.in-Ok.ensures.same clean s (c.is_settled.ensures.settled looked c.if-not-is_settled.false s only)
+    let probed : HasCleanDisk (state g.S.Store c.is_intact.new.conn) = omega (arith, clean, c.recognize.ensures.clean) in
+    c.in-Ok.ensures.same clean s (c.is_intact.ensures.intact probed c.if-not-is_intact.false s only)
 
 pub returns-in-Err-clause-left : goal.returns-in-Err-clause-left
 returns-in-Err-clause-left g c clean s only =
-    let looked : HasCleanDisk (state g.S.Store c.is_settled.new.conn) = omega (arith, clean, c.recognize.ensures.clean) in
-    c.recognize.ensures.left clean s (c.is_settled.ensures.settled looked c.if-not-is_settled.false s only)
+    let probed : HasCleanDisk (state g.S.Store c.is_intact.new.conn) = omega (arith, clean, c.recognize.ensures.clean) in
+    c.recognize.ensures.left clean s (c.is_intact.ensures.intact probed c.if-not-is_intact.false s only)

@@ -1,0 +1,157 @@
+-- What a query over one table shows of a state, and the records that its rows are read as.
+use Rattle.std.proofs.Common.{◌≡◌, ◌∙◌, ℕ, pos, List, [], ◌∷◌, map, filter, find, slice_get, Bool, true, false, ◌&&◌, is_eq, Ordering, Less, Equal, Greater, Option, Some, None, refl, sym, ap, subst, cond, inl, inr, IsPermutation}
+use Rattle.std.specs.List.{AllByRecursion, AllZip}
+use Rattle.std.specs.Ordering.{nat_cmp, ordering_then}
+use Rattle.std.specs.Cmp.{IsTotalOrder}
+use Rattle.std.specs.Cmp.Lexicographic.{slice_cmp}
+use Rattle.std.proofs.lemmas.Cmp.{on_total, then_total, nat_cmp_total, tied_back}
+use Rattle.std.proofs.lemmas.List.Sorted.{IsPermutation-sym}
+use Rattle.sqlite.specs.Collation.TheVariants.{Binary}
+use Rattle.sqlite_value.specs.declared.keys.Key.{Key}
+use Rattle.sqlite_value.specs.Keys.{ascending, by_key}
+use Rattle.sqlite_value.proofs.KeyLemmas.{by_key_total}
+use Rattle.sqlite_value.proofs.OrderLemmas.{value_cmp-Int, value_cmp-Text, then-Equal}
+use Rattle.sqlite.specs.declared.types.Value.TheVariants.{Text}
+use Rattle.sqlite.specs.Order.{Row, column}
+use Rattle.sqlite.specs.Term.{Term, col, eval_all}
+use Rattle.sqlite.specs.Query.{Output, output, output_cmp}
+use Rattle.sqlite.specs.Table.{Table}
+use Rattle.sqlite.specs.Effect.{Database}
+use Rattle.sqlite.specs.State.{State as Seen, Shown}
+use Rattle.sqlite_trees.specs.Tree.{IsAscending}
+use Rattle.sqlite.proofs.Callers.{one_permutation}
+use Rattle.sqlite_keyed.proofs.ListLemmas.{filter-map, filter_same, slice_get-filter, ascending-map, ascending_weaker, ascending-filter}
+use Rattle.sqlite_rules.specs.Lists.{Has}
+use Rattle.sqlite_rules.proofs.ListLemmas.{all_has, has_got, has_filtered}
+use Rattle.ci_machine.specs.State.{State}
+use Rattle.ci_tables.specs.Stands.{Holds, image, places}
+use Rattle.ci_tables.proofs.Writes.{perm_nil, map_nil, map_one}
+use Rattle.ci_tables.proofs.Queries.{query, picks}
+use Rattle.ci_tables.proofs.Selects.{MeansSelect, selects}
+use Rattle.ci_tables.proofs.Ordered.{no_key_total, selects_sorted}
+use Rattle.ci_tables.proofs.Scalars.{int_nat}
+use Rattle.ci_store.specs.Schema.{the_schema}
+use Rattle.ci_store.specs.Rows.{number}
+use Rattle.ci_store.specs.Stands.{Stands, rows_of}
+use Rattle.ci_store.specs.Calls.{listed}
+
+-- the columns of a row, in their order, and their names
+abbrev pub columns_of : Table → List Term
+columns_of table = map (λ at. col 1 at) (places table)
+
+abbrev pub names_of : Table → List (List ℕ)
+names_of table = map (λ c. c.name) table.columns
+
+pub held : (s : State) (db : Database) → Stands s db → (at : ℕ) (t : Table) → slice_get the_schema.tables at ≡ Some t → Holds t (rows_of s t.tree) db.trees
+held s db stands at t there = all_has (λ (t : Table). Holds t (rows_of s t.tree) db.trees) the_schema.tables t stands.inside.tables.holds (has_got the_schema.tables at t there)
+
+-- the order of what is shown, by the column at a place of the row
+abbrev pub pair : ℕ → Row → Output
+pair at im = (column im at ∷ [], im)
+
+abbrev pub by : ℕ → List (Term × Key)
+by place = (col 1 place, ascending Binary) ∷ []
+
+pub by_total : (tests columns : List Term) (tree place : ℕ) → IsTotalOrder (output_cmp (query tree tests columns (by place)))
+by_total tests columns tree place = on_total (λ (o : Output). o.0) (then_total (on_total (λ (r : Row). column r 0) (by_key_total (ascending Binary))) no_key_total)
+
+module _ {A : Type 0} (values : A → Row) (at : ℕ) (t : Table) (there : slice_get the_schema.tables at ≡ Some t) (text : List ℕ) (tests : List Term) (key : Row) (p : Row → Bool)
+    (tested : (r : Row) → picks tests key r ≡ p (image (places t) r)) (passes : A → Bool) (same : (x : A) → p (values x) ≡ passes x)
+    (s : State) (xs : List A) (is : rows_of s t.tree ≡ map values xs) (rows : List Row) where
+  filtered : filter p (map values xs) ≡ map values (filter passes xs)
+  filtered = filter-map p values xs ∙ ap (map values) (filter_same _ _ same xs)
+
+  -- the rows of the records that pass the tests, in some order
+  pub shows_passing : (showed : (r : Row) → eval_all (columns_of t) (key ∷ r ∷ []) ≡ image (places t) r) → MeansSelect the_schema t text tests (columns_of t) [] (names_of t)
+      → (old new : Seen) → Stands s old.now → Shown text key old new rows → IsPermutation (map values (filter passes xs)) rows
+  shows_passing showed means old new stands h =
+      subst (λ l. IsPermutation l rows) (ap (filter p) is ∙ filtered)
+      (selects the_schema t text tests (columns_of t) [] (names_of t) means key p tested showed old new (rows_of s t.tree) rows stands.listed (held s old.now stands at t there) h)
+
+  -- and in the order of a column
+  pub shows_sorted : (place k : ℕ) (paired : (r : Row) → output (query t.tree tests (columns_of t) (by place)) (key ∷ r ∷ []) ≡ pair k (image (places t) r)) → MeansSelect the_schema t text tests (columns_of t) (by place) (names_of t)
+      → IsAscending (λ x y. output_cmp (query t.tree tests (columns_of t) (by place)) (pair k (values x)) (pair k (values y)) ≡ Less) (filter passes xs)
+      → (old new : Seen) → Stands s old.now → Shown text key old new rows → rows ≡ map values (filter passes xs)
+  shows_sorted place k paired means up old new stands h =
+      let Up = λ (a b : Output). output_cmp (query t.tree tests (columns_of t) (by place)) a b ≡ Less in
+      let up' = ascending-map Up (pair k) _ (ascending-map (λ a b. Up (pair k a) (pair k b)) values _ up) in
+      selects_sorted the_schema t text tests (columns_of t) (by place) (names_of t) means key p tested (pair k) paired (λ im. refl) (by_total tests (columns_of t) t.tree place) old new (map values xs) rows stands.listed
+      (subst (λ l. Holds t l old.now.trees) is (held s old.now stands at t there)) h (subst (λ l. IsAscending Up (map (pair k) l)) (sym filtered) up')
+      ∙ filtered
+
+-- ---- the records that the rows are read as
+
+module _ {A : Type 0} (is_row : Row → A → Type 0) (values : A → Row) (passes : A → Bool) (xs : List A) (one : (x y : A) → Has xs y → is_row (values y) x → x ≡ y) where
+  first : find passes xs ≡ slice_get (filter passes xs) 0
+  first = sym (slice_get-filter passes xs)
+
+  pub found_one : (rows : List Row) → IsPermutation (map values (filter passes xs)) rows → (found : Option A) → AllZip is_row rows (listed found) → found ≡ find passes xs
+  found_one [] same None read = sym (first ∙ ap (λ l. slice_get l 0) (map_nil _ _ (perm_nil _ same)))
+  found_one [] same (Some x) read = absurd read
+  found_one (r ∷ rows) same None read = absurd read
+  found_one (r ∷ []) same (Some x) read =
+      let only = map_one values _ r (one_permutation r _ (IsPermutation-sym _ _ same)) in
+      let there : Has (filter passes xs) only.0 = subst (λ l. Has l only.0) (sym only.1) (inl refl) in
+      ap Some (one x only.0 (has_filtered passes xs only.0 there).0 (subst (λ row. is_row row x) only.2 read.0)) ∙ sym (first ∙ ap (λ l. slice_get l 0) only.1)
+  found_one (r ∷ t ∷ rows) same (Some x) read = absurd read.1
+
+  each : (ys : List A) → ((y : A) → Has ys y → Has xs y) → (found : List A) → AllZip is_row (map values ys) found → found ≡ ys
+  each [] sub [] read = refl
+  each [] sub (x ∷ found) read = absurd read
+  each (y ∷ ys) sub [] read = absurd read
+  each (y ∷ ys) sub (x ∷ found) read =
+      let same = one x y (sub y (inl refl)) read.0 in
+      let more = each ys (λ z h. sub z (inr h)) found read.1 in
+      λ i. same i ∷ more i
+
+  pub found_all : (rows : List Row) → rows ≡ map values (filter passes xs) → (found : List A) → AllZip is_row rows found → found ≡ filter passes xs
+  found_all rows is found read = each (filter passes xs) (λ y h. (has_filtered passes xs y h).0) found (subst (λ l. AllZip is_row l found) is read)
+
+-- ---- the records of one owner, which rise by the second part of their key
+
+-- what is equal to a number leaves the order to the second part
+second_is : (a b n : ℕ) (o : Ordering) → is_eq (nat_cmp a n) ≡ true → is_eq (nat_cmp b n) ≡ true → ordering_then (nat_cmp a b) o ≡ Less → o ≡ Less
+second_is a b n o ha hb h = subst (λ first. ordering_then first o ≡ Less) (tied a b n (equal_is _ ha) (equal_is _ hb)) h
+  where
+    equal_is : (o : Ordering) → is_eq o ≡ true → o ≡ Equal
+    equal_is Less h = cc
+    equal_is Equal h = refl
+    equal_is Greater h = cc
+
+    tied : (a b n : ℕ) → nat_cmp a n ≡ Equal → nat_cmp b n ≡ Equal → nat_cmp a b ≡ Equal
+    tied a b n p q = nat_cmp_total.congr a n b p ∙ tied_back nat_cmp_total b n q
+
+module _ {X : Type 0} (owner : X → ℕ) (second : X → X → Ordering) (Up : X → X → Type 0) (lower : (x y : X) → second x y ≡ Less → Up x y) (n : ℕ) where
+  abbrev is_own : X → Bool
+  is_own x = is_eq (nat_cmp (owner x) n)
+
+  abbrev IsBelow : X → X → Type 0
+  IsBelow x y = ordering_then (nat_cmp (owner x) (owner y)) (second x y) ≡ Less
+
+  above : (x : X) (ys : List X) → is_own x ≡ true → AllByRecursion (IsBelow x) ys → AllByRecursion (Up x) (filter is_own ys)
+  above x [] h all = tt
+  above x (y ∷ ys) h all = step (is_own y) refl (above x ys h all.1)
+    where
+      step : (b : Bool) → is_own y ≡ b → AllByRecursion (Up x) (filter is_own ys) → AllByRecursion (Up x) (cond b (y ∷ filter is_own ys) (filter is_own ys))
+      step true is more = (lower x y (second_is (owner x) (owner y) n (second x y) h is all.0), more)
+      step false is more = more
+
+  pub rise_within : (xs : List X) → IsAscending IsBelow xs → IsAscending Up (filter is_own xs)
+  rise_within [] up = tt
+  rise_within (x ∷ xs) up = go (is_own x) refl (rise_within xs up.1)
+    where
+      go : (b : Bool) → is_own x ≡ b → IsAscending Up (filter is_own xs) → IsAscending Up (cond b (x ∷ filter is_own xs) (filter is_own xs))
+      go true is more = (above x xs is up.0, more)
+      go false is more = more
+
+-- ---- rows that rise by a column
+
+pub rising_number : (a b : ℕ) → nat_cmp a b ≡ Less → ordering_then (by_key (ascending Binary) (number a) (number b)) Equal ≡ Less
+rising_number a b h = then-Equal _ ∙ value_cmp-Int (pos a) (pos b) ∙ int_nat a b ∙ h
+
+pub rising_text : (a b : List ℕ) → slice_cmp nat_cmp a b ≡ Less → ordering_then (by_key (ascending Binary) (Text a) (Text b)) Equal ≡ Less
+rising_text a b h = then-Equal _ ∙ value_cmp-Text a b ∙ h
+
+pub rising_numbers : {X : Type 0} (id : X → ℕ) (passes : X → Bool) (xs : List X) → IsAscending (λ x y. nat_cmp (id x) (id y) ≡ Less) xs
+    → IsAscending (λ x y. ordering_then (by_key (ascending Binary) (number (id x)) (number (id y))) Equal ≡ Less) (filter passes xs)
+rising_numbers id passes xs up = ascending_weaker _ _ (λ x y h. rising_number (id x) (id y) h) (filter passes xs) (ascending-filter _ passes xs up)
