@@ -7,7 +7,7 @@ use ci_machine::moment::Moment;
 use ci_machine::records::{
     Attempt, AttemptState, Cause, Job, JobOptions, QueuedJob, Runner, Source,
 };
-use ci_machine::reply::{Body, Code, Detail, HttpStatus, Reply};
+use ci_machine::reply::{Body, Code, Detail, FaultCode, HttpStatus, Reply};
 use ci_machine::text::{Bytes, Text, Texts};
 use std::alloc::{AllocError, Global};
 use std::test::Fail;
@@ -219,7 +219,9 @@ fn texts_and_moments(rt: HostRuntime) -> Result<(), Fail> {
     texts.push(other)?;
     assert!(rt; Texts::new(texts).as_slice().len() == 1);
     assert!(rt; Moment::new(253_402_300_799).is_some() && Moment::new(253_402_300_800).is_none());
-    assert!(rt; Source::Trigger.as_str() == "trigger" && Detail::G4.as_str() == "G4");
+    assert!(rt; Source::Trigger.as_str() == "trigger");
+    let line = Detail::Line(FaultCode::Y(5), 3).text(alloc)?;
+    assert!(rt; line.as_str() == "Y5 line 3");
     Ok(())
 }
 
