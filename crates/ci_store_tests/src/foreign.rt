@@ -1,20 +1,22 @@
 //! Stores that are not ours, and rows that are no records: written through plain SQL.
 
-use crate::made::{fault_of_create, fault_of_open, filled, opened};
+use crate::plain::{
+    attempt, attempts_of, close, create, filled, job, jobs, next, open, parted, pipeline, project,
+    runner_with, wanted,
+};
 use crate::records::text;
 use ci_machine::change::Counter;
 use ci_store::Connection;
 use ci_store::fault::StoreFault;
-use ci_store::store::Store;
 use ci_store::tables::{OpenFault, Tables};
+use ci_test_disks::discard;
 use sqlite::MemStore;
 use std::alloc::Global;
 use std::test::Fail;
 
 /// A store with a record of each kind, in which one statement was run.
 fn altered(alloc: Global, statement: &str) -> Result<Connection<MemStore>, Fail> {
-    let tables = filled(alloc, Connection::open_in_memory(alloc)?)?;
-    let mut conn = tables.close();
+    let mut conn = close(filled(alloc)?);
     let _ = conn.execute(statement, &[])?;
     Ok(conn)
 }
@@ -43,19 +45,18 @@ fn fault_of(
     tables: &mut Tables<MemStore>,
     load: Load,
 ) -> Result<Option<StoreFault>, Fail> {
-    let token = text(alloc, "r1")?;
     Ok(match load {
-        Load::Next => tables.next(Counter::Job).err(),
-        Load::Runner => tables.runner_with(&token).err(),
-        Load::Pipeline => tables.pipeline(1).err(),
-        Load::Job => tables.job(1).err(),
-        Load::Jobs => tables.jobs().err(),
-        Load::Attempt => tables.attempt(1).err(),
-        Load::AttemptsOf => tables.attempts_of(1).err(),
+        Load::Next => next(tables, Counter::Job).err(),
+        Load::Runner => runner_with(tables, &text(alloc, "r1")?).err(),
+        Load::Pipeline => pipeline(tables, 1).err(),
+        Load::Job => job(tables, 1).err(),
+        Load::Jobs => jobs(tables).err(),
+        Load::Attempt => attempt(tables, 1).err(),
+        Load::AttemptsOf => attempts_of(tables, 1).err(),
     })
 }
 
-const BROKEN: [(&str, Load); 12] = [
+const BROKEN: &[(&str, Load)] = &[
     ("UPDATE runner SET tags = 'gpu'", Load::Runner),
     ("UPDATE runner SET tags = '{}'", Load::Runner),
     ("UPDATE runner SET paused = 2", Load::Runner),
@@ -77,15 +78,15 @@ const BROKEN: [(&str, Load); 12] = [
 fn a_row_that_is_no_record_is_a_fault(rt: HostRuntime) -> Result<(), Fail> {
     let alloc = rt.alloc();
     for (statement, load) in BROKEN {
-        let mut tables = opened(altered(alloc, statement)?)?;
-        let fault = fault_of(alloc, &mut tables, load)?;
+        let mut tables = wanted(open(altered(alloc, statement)?))?;
+        let fault = fault_of(alloc, &mut tables, *load)?;
         assert_eq!(rt; fault, Some(StoreFault::Broken), "{statement}");
-        assert!(rt; matches!(tables.project(1), Ok(Some(_))));
+        assert!(rt; matches!(project(&mut tables, 1), Ok(Some(_))));
     }
     Ok(())
 }
 
-const FOREIGN: [(&str, OpenFault); 6] = [
+const FOREIGN: &[(&str, OpenFault)] = &[
     (
         "UPDATE meta SET num = 7 WHERE key = 'format'",
         OpenFault::O1,
@@ -100,31 +101,38 @@ const FOREIGN: [(&str, OpenFault); 6] = [
     ("BEGIN", OpenFault::O3),
 ];
 
+/// The fault of an opening.
+fn not_opened(conn: Connection<MemStore>) -> Option<OpenFault> {
+    let (fault, conn) = parted(open(conn));
+    discard(conn);
+    fault
+}
+
+/// The fault of a creation.
+fn not_created(conn: Connection<MemStore>) -> Option<OpenFault> {
+    let (fault, conn) = parted(create(conn));
+    discard(conn);
+    fault
+}
+
 #[test]
 fn another_store_is_not_opened(rt: HostRuntime) -> Result<(), Fail> {
     let alloc = rt.alloc();
-    for (statement, fault) in FOREIGN {
-        assert_eq!(rt;
-            fault_of_open(altered(alloc, statement)?),
-            Some(fault),
-            "{statement}"
-        );
+    for (statement, wants) in FOREIGN {
+        let fault = not_opened(altered(alloc, statement)?);
+        assert_eq!(rt; fault, Some(*wants), "{statement}");
     }
-    assert_eq!(rt; fault_of_open(noted(alloc)?), Some(OpenFault::O1));
-    assert_eq!(rt;
-        fault_of_open(Connection::open_in_memory(alloc)?),
-        Some(OpenFault::O1)
-    );
+    assert_eq!(rt; not_opened(noted(alloc)?), Some(OpenFault::O1));
+    let blank = Connection::open_in_memory(alloc)?;
+    assert_eq!(rt; not_opened(blank), Some(OpenFault::O1));
     Ok(())
 }
 
 #[test]
 fn tables_are_not_made_among_others(rt: HostRuntime) -> Result<(), Fail> {
     let alloc = rt.alloc();
-    assert_eq!(rt; fault_of_create(noted(alloc)?), Some(OpenFault::O1));
-    assert_eq!(rt;
-        fault_of_create(altered(alloc, "BEGIN")?),
-        Some(OpenFault::O3)
-    );
+    assert_eq!(rt; not_created(noted(alloc)?), Some(OpenFault::O1));
+    let begun = altered(alloc, "BEGIN")?;
+    assert_eq!(rt; not_created(begun), Some(OpenFault::O3));
     Ok(())
 }

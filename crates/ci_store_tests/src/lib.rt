@@ -3,11 +3,10 @@
 
 #[cfg(test)]
 mod crashes;
-pub mod disks;
 #[cfg(test)]
 mod foreign;
 #[cfg(test)]
-mod made;
+mod plain;
 #[cfg(test)]
 mod records;
 #[cfg(test)]

@@ -14,7 +14,7 @@ pub fn text(alloc: Global, text: &str) -> Result<Text, Fail> {
     Ok(Text::copy_of(alloc, text)?)
 }
 
-fn texts(alloc: Global, items: [&str; 2]) -> Result<Texts, Fail> {
+fn texts(alloc: Global, items: &[&str]) -> Result<Texts, Fail> {
     let mut texts = Vec::new(alloc);
     for item in items {
         texts.push(text(alloc, item)?)?;
@@ -41,7 +41,7 @@ pub fn runner(alloc: Global) -> Result<Record, Fail> {
         name: text(alloc, "runner")?,
         token: text(alloc, "r1")?,
         project: Some(1),
-        tags: texts(alloc, ["gpu", "a \"quoted\" tag"])?,
+        tags: texts(alloc, &["gpu", "a \"quoted\" tag"])?,
         untagged: true,
         paused: false,
     }))
@@ -58,6 +58,13 @@ pub fn pipeline(alloc: Global) -> Result<Record, Fail> {
     }))
 }
 
+fn options(alloc: Global) -> Result<JobOptions, Fail> {
+    Ok(JobOptions {
+        script: texts(alloc, &["make", "make check"])?,
+        timeout: 3600,
+    })
+}
+
 pub fn job(alloc: Global, id: u64) -> Result<Record, Fail> {
     Ok(Record::Job(Job {
         id,
@@ -65,10 +72,7 @@ pub fn job(alloc: Global, id: u64) -> Result<Record, Fail> {
         position: 0,
         name: text(alloc, "build")?,
         stage: text(alloc, "test")?,
-        options: JobOptions {
-            script: texts(alloc, ["make", "make check"])?,
-            timeout: 3600,
-        },
+        options: options(alloc)?,
         played: true,
         cancelled: false,
         set_aside: 2,
@@ -105,18 +109,27 @@ pub fn piece(attempt: u64, seq: u64, bytes: Vec<u8>) -> Record {
     })
 }
 
+fn add(changes: &mut Vec<RowChange>, record: Result<Record, Fail>) -> Result<(), Fail> {
+    changes.push(RowChange::Add(record?))?;
+    Ok(())
+}
+
+fn attempt_with_its_job(alloc: Global, changes: &mut Vec<RowChange>) -> Result<(), Fail> {
+    add(changes, pipeline(alloc))?;
+    add(changes, job(alloc, 1))?;
+    add(changes, job(alloc, 2))?;
+    let failed = AttemptState::Failed(Cause::ScriptFailure, Some(2));
+    add(changes, attempt(alloc, 1, failed))
+}
+
 /// A change of each kind of record, with a next number.
 pub fn one_of_each(alloc: Global) -> Result<Delta, Fail> {
     let mut changes = Vec::new(alloc);
-    changes.push(RowChange::Add(project(alloc, 1, "one", "p1")?))?;
-    changes.push(RowChange::Add(runner(alloc)?))?;
-    changes.push(RowChange::Add(pipeline(alloc)?))?;
-    changes.push(RowChange::Add(job(alloc, 1)?))?;
-    changes.push(RowChange::Add(job(alloc, 2)?))?;
-    changes.push(RowChange::Add(variable(alloc, "KEY")?))?;
+    add(&mut changes, project(alloc, 1, "one", "p1"))?;
+    add(&mut changes, runner(alloc))?;
+    attempt_with_its_job(alloc, &mut changes)?;
+    add(&mut changes, variable(alloc, "KEY"))?;
     changes.push(RowChange::Put(variable(alloc, "CI")?))?;
-    let failed = AttemptState::Failed(Cause::ScriptFailure, Some(2));
-    changes.push(RowChange::Add(attempt(alloc, 1, failed)?))?;
     changes.push(RowChange::SetNext(Counter::Job, 3))?;
     Ok(Delta::new(changes))
 }

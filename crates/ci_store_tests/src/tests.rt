@@ -1,27 +1,30 @@
 //! Each kind of record is committed and loaded.
 
-use crate::made::filled;
-use crate::records::{removal, text};
+use crate::plain::{
+    Loaded, attempt, attempts_of, filled, is_removed, job, job_variables, jobs, let_go, next,
+    pipeline, project, runner_with,
+};
+use crate::records::text;
 use ci_machine::change::{Counter, Key};
 use ci_machine::records::{AttemptState, Cause};
 use ci_machine::text::Text;
-use ci_store::fault::StoreFault;
-use ci_store::store::Store;
+use ci_store::Alter;
 use ci_store::tables::Tables;
-use ci_store::{Alter, Connection};
+use sqlite::MemStore;
 use std::alloc::Global;
+use std::process::Abort;
 use std::test::Fail;
 
-fn has_project<S: Alter>(tables: &mut Tables<S>) -> Result<bool, StoreFault> {
-    match tables.project(1)? {
+fn has_project<S: Alter>(tables: &mut Tables<S>) -> Loaded<bool> {
+    match project(tables, 1)? {
         Some(found) => Ok(found.id == 1 && found.token.as_str() == "p1" && found.file.is_none()),
         None => Ok(false),
     }
 }
 
-fn has_runner<S: Alter>(alloc: Global, tables: &mut Tables<S>) -> Result<bool, StoreFault> {
+fn has_runner<S: Alter>(alloc: Global, tables: &mut Tables<S>) -> Loaded<bool> {
     let token = Text::copy_of(alloc, "r1")?;
-    match tables.runner_with(&token)? {
+    match runner_with(tables, &token)? {
         Some(found) => match found.tags.as_slice() {
             [first, second] => Ok(first.as_str() == "gpu" && second.as_str() == "a \"quoted\" tag"),
             _ => Ok(false),
@@ -30,15 +33,15 @@ fn has_runner<S: Alter>(alloc: Global, tables: &mut Tables<S>) -> Result<bool, S
     }
 }
 
-fn has_pipeline<S: Alter>(tables: &mut Tables<S>) -> Result<bool, StoreFault> {
-    match tables.pipeline(1)? {
+fn has_pipeline<S: Alter>(tables: &mut Tables<S>) -> Loaded<bool> {
+    match pipeline(tables, 1)? {
         Some(found) => Ok(found.project == 1 && found.created.seconds() == 60),
         None => Ok(false),
     }
 }
 
-fn has_job<S: Alter>(tables: &mut Tables<S>) -> Result<bool, StoreFault> {
-    match tables.job(2)? {
+fn has_job<S: Alter>(tables: &mut Tables<S>) -> Loaded<bool> {
+    match job(tables, 2)? {
         Some(found) => match found.options.script.as_slice() {
             [_, second] => Ok(second.as_str() == "make check" && found.options.timeout == 3600),
             _ => Ok(false),
@@ -47,15 +50,15 @@ fn has_job<S: Alter>(tables: &mut Tables<S>) -> Result<bool, StoreFault> {
     }
 }
 
-fn has_variables<S: Alter>(tables: &mut Tables<S>) -> Result<bool, StoreFault> {
-    match tables.job_variables(1)?.as_slice() {
+fn has_variables<S: Alter>(tables: &mut Tables<S>) -> Loaded<bool> {
+    match job_variables(tables, 1)?.as_slice() {
         [first, second] => Ok(first.key.as_str() == "CI" && second.key.as_str() == "KEY"),
         _ => Ok(false),
     }
 }
 
-fn has_attempt<S: Alter>(tables: &mut Tables<S>) -> Result<bool, StoreFault> {
-    match tables.attempts_of(1)?.as_slice() {
+fn has_attempt<S: Alter>(tables: &mut Tables<S>) -> Loaded<bool> {
+    match attempts_of(tables, 1)?.as_slice() {
         [found] => match found.state {
             AttemptState::Failed(Cause::ScriptFailure, Some(2)) => Ok(found.seen.seconds() == 130),
             _ => Ok(false),
@@ -64,20 +67,17 @@ fn has_attempt<S: Alter>(tables: &mut Tables<S>) -> Result<bool, StoreFault> {
     }
 }
 
-fn has_counts<S: Alter>(tables: &mut Tables<S>) -> Result<bool, StoreFault> {
-    let jobs = tables.jobs()?.len();
-    Ok(jobs == 2 && tables.next(Counter::Job)? == 3 && tables.attempt(1)?.is_some())
-}
-
-fn is_removed<S: Alter>(alloc: Global, tables: &mut Tables<S>, key: Key) -> Result<bool, Fail> {
-    let delta = removal(alloc, key)?;
-    Ok(tables.commit(delta).is_ok())
+fn has_counts<S: Alter>(tables: &mut Tables<S>) -> Loaded<bool> {
+    let count = jobs(tables)?.len();
+    let next = next(tables, Counter::Job)?;
+    let found = attempt(tables, 1)?;
+    Ok(count == 2 && next == 3 && found.is_some())
 }
 
 #[test]
 fn each_kind_of_record_is_loaded_back(rt: HostRuntime) -> Result<(), Fail> {
     let alloc = rt.alloc();
-    let mut tables = filled(alloc, Connection::open_in_memory(alloc)?)?;
+    let mut tables = filled(alloc)?;
     assert!(rt; has_project(&mut tables) == Ok(true));
     assert!(rt; has_runner(alloc, &mut tables) == Ok(true));
     assert!(rt; has_pipeline(&mut tables) == Ok(true));
@@ -85,17 +85,33 @@ fn each_kind_of_record_is_loaded_back(rt: HostRuntime) -> Result<(), Fail> {
     assert!(rt; has_variables(&mut tables) == Ok(true));
     assert!(rt; has_attempt(&mut tables) == Ok(true));
     assert!(rt; has_counts(&mut tables) == Ok(true));
+    let_go(tables);
+    Ok(())
+}
+
+/// Keys of rows, and whether each is removed: not where others name it.
+fn removals(alloc: Global) -> Result<Vec<(Key, bool)>, Fail> {
+    let mut keys = Vec::new(alloc);
+    keys.push((Key::Project(1), false))?;
+    keys.push((Key::Pipeline(1), false))?;
+    keys.push((Key::Job(1), false))?;
+    keys.push((Key::Job(2), true))?;
+    keys.push((Key::JobVariable(1, text(alloc, "CI")?), true))?;
+    Ok(keys)
+}
+
+fn remove_each(rt: &impl Abort, alloc: Global, tables: &mut Tables<MemStore>) -> Result<(), Fail> {
+    for (key, goes) in removals(alloc)? {
+        assert!(rt; is_removed(alloc, tables, key)? == goes);
+    }
     Ok(())
 }
 
 #[test]
 fn a_row_that_others_name_is_not_removed(rt: HostRuntime) -> Result<(), Fail> {
     let alloc = rt.alloc();
-    let mut tables = filled(alloc, Connection::open_in_memory(alloc)?)?;
-    assert!(rt; !is_removed(alloc, &mut tables, Key::Project(1))?);
-    assert!(rt; !is_removed(alloc, &mut tables, Key::Pipeline(1))?);
-    assert!(rt; !is_removed(alloc, &mut tables, Key::Job(1))?);
-    assert!(rt; is_removed(alloc, &mut tables, Key::Job(2))?);
-    assert!(rt; is_removed(alloc, &mut tables, Key::JobVariable(1, text(alloc, "CI")?))?);
-    Ok(())
+    let mut tables = filled(alloc)?;
+    let removed = remove_each(&rt, alloc, &mut tables);
+    let_go(tables);
+    removed
 }

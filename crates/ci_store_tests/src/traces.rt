@@ -1,14 +1,16 @@
 //! Pieces of traces, and the attempts that are live.
 
-use crate::made::{filled, reopened};
-use crate::records::{attempt, piece, removal};
+use crate::plain::{
+    Loaded, changed, filled, is_removed, let_go, live_attempts, pieces_of, reopened,
+};
+use crate::records::{attempt, piece};
 use ci_machine::change::{Delta, Key, RowChange};
 use ci_machine::records::{AttemptState, Piece};
-use ci_store::fault::StoreFault;
-use ci_store::store::Store;
+use ci_store::Alter;
 use ci_store::tables::Tables;
-use ci_store::{Alter, Connection};
+use sqlite::MemStore;
 use std::alloc::Global;
+use std::process::Abort;
 use std::test::Fail;
 
 /// The length of a long piece, in bytes.
@@ -33,39 +35,47 @@ fn two_pieces(alloc: Global) -> Result<Delta, Fail> {
     Ok(Delta::new(changes))
 }
 
-fn has_both<S: Alter>(tables: &mut Tables<S>) -> Result<bool, StoreFault> {
-    match tables.pieces_of(1)?.as_slice() {
+fn has_both<S: Alter>(tables: &mut Tables<S>) -> Loaded<bool> {
+    match pieces_of(tables, 1)?.as_slice() {
         [first, second] => Ok(is_long(first) && is_short(second)),
         _ => Ok(false),
     }
 }
 
-fn has_short_alone<S: Alter>(tables: &mut Tables<S>) -> Result<bool, StoreFault> {
-    match tables.pieces_of(1)?.as_slice() {
-        [one] => Ok(is_short(one) && tables.pieces_of(2)?.is_empty()),
+fn has_short_alone<S: Alter>(tables: &mut Tables<S>) -> Loaded<bool> {
+    match pieces_of(tables, 1)?.as_slice() {
+        [one] => Ok(is_short(one) && pieces_of(tables, 2)?.is_empty()),
         _ => Ok(false),
     }
 }
 
-fn is_removed<S: Alter>(alloc: Global, tables: &mut Tables<S>, key: Key) -> Result<bool, Fail> {
-    let delta = removal(alloc, key)?;
-    Ok(tables.commit(delta).is_ok())
+/// Is the first piece removed, while the attempt isn't?
+fn first_goes(alloc: Global, tables: &mut Tables<MemStore>) -> Result<bool, Fail> {
+    let keeps_attempt = !is_removed(alloc, tables, Key::Attempt(1))?;
+    Ok(is_removed(alloc, tables, Key::Piece(1, 0))? && keeps_attempt)
+}
+
+/// Is the other piece removed, and then the attempt?
+fn rest_goes(alloc: Global, tables: &mut Tables<MemStore>) -> Result<bool, Fail> {
+    let loses_piece = is_removed(alloc, tables, Key::Piece(1, 1))?;
+    Ok(is_removed(alloc, tables, Key::Attempt(1))? && loses_piece)
+}
+
+fn come_and_go(rt: &impl Abort, alloc: Global, tables: &mut Tables<MemStore>) -> Result<(), Fail> {
+    assert!(rt; has_both(tables) == Ok(true));
+    assert!(rt; first_goes(alloc, tables)?);
+    assert!(rt; has_short_alone(tables) == Ok(true));
+    assert!(rt; rest_goes(alloc, tables)?);
+    Ok(())
 }
 
 #[test]
 fn pieces_are_loaded_in_their_order_and_removed(rt: HostRuntime) -> Result<(), Fail> {
     let alloc = rt.alloc();
-    let mut tables = filled(alloc, Connection::open_in_memory(alloc)?)?;
-    let delta = two_pieces(alloc)?;
-    assert!(rt; tables.commit(delta).is_ok());
-    let mut tables = reopened(tables)?;
-    assert!(rt; has_both(&mut tables) == Ok(true));
-    assert!(rt; !is_removed(alloc, &mut tables, Key::Attempt(1))?);
-    assert!(rt; is_removed(alloc, &mut tables, Key::Piece(1, 0))?);
-    assert!(rt; has_short_alone(&mut tables) == Ok(true));
-    assert!(rt; is_removed(alloc, &mut tables, Key::Piece(1, 1))?);
-    assert!(rt; is_removed(alloc, &mut tables, Key::Attempt(1))?);
-    Ok(())
+    let mut tables = reopened(changed(filled(alloc)?, two_pieces(alloc))?)?;
+    let gone = come_and_go(&rt, alloc, &mut tables);
+    let_go(tables);
+    gone
 }
 
 fn two_live(alloc: Global) -> Result<Delta, Fail> {
@@ -82,35 +92,33 @@ fn ended(alloc: Global, id: u64) -> Result<Delta, Fail> {
 }
 
 /// Are these two the numbers of the live attempts?
-fn are_live<S: Alter>(tables: &mut Tables<S>, one: u64, other: u64) -> Result<bool, StoreFault> {
-    match tables.live_attempts()?.as_slice() {
+fn are_live<S: Alter>(tables: &mut Tables<S>, one: u64, other: u64) -> Loaded<bool> {
+    match live_attempts(tables)?.as_slice() {
         [first, second] => Ok(first.id == one && second.id == other && first.pieces == 2),
         _ => Ok(false),
     }
 }
 
-fn is_alone_live<S: Alter>(tables: &mut Tables<S>, id: u64) -> Result<bool, StoreFault> {
-    match tables.live_attempts()?.as_slice() {
+fn is_alone_live<S: Alter>(tables: &mut Tables<S>, id: u64) -> Loaded<bool> {
+    match live_attempts(tables)?.as_slice() {
         [only] => Ok(only.id == id && only.size == 65_542),
         _ => Ok(false),
     }
 }
 
-fn count_live<S: Alter>(tables: &mut Tables<S>) -> Result<usize, StoreFault> {
-    Ok(tables.live_attempts()?.len())
+fn count_live<S: Alter>(tables: &mut Tables<S>) -> Loaded<usize> {
+    Ok(live_attempts(tables)?.len())
 }
 
 #[test]
 fn an_attempt_that_has_ended_is_not_live(rt: HostRuntime) -> Result<(), Fail> {
     let alloc = rt.alloc();
-    let mut tables = filled(alloc, Connection::open_in_memory(alloc)?)?;
+    let mut tables = filled(alloc)?;
     assert!(rt; count_live(&mut tables) == Ok(0));
-    let delta = two_live(alloc)?;
-    assert!(rt; tables.commit(delta).is_ok());
+    let mut tables = changed(tables, two_live(alloc))?;
     assert!(rt; are_live(&mut tables, 2, 3) == Ok(true));
-    let delta = ended(alloc, 2)?;
-    assert!(rt; tables.commit(delta).is_ok());
-    let mut tables = reopened(tables)?;
+    let mut tables = reopened(changed(tables, ended(alloc, 2))?)?;
     assert!(rt; is_alone_live(&mut tables, 3) == Ok(true));
+    let_go(tables);
     Ok(())
 }

@@ -2,13 +2,13 @@
 
 ghost use Rattle.std.specs.Prelude.{◌≡◌, ◌<◌};
 
-use crate::path::{STEPS, over_memory, send};
 use ci_machine::moment::Moment;
-use ci_machine::request::Seed;
 use ci_server::link::Link;
 use ci_server::serve::{Served, serve_one};
 use ci_server::server::Server;
 use ci_store::Alter;
+use ci_test_servers::acts::{PATH, SEED, at};
+use ci_test_servers::servers::after;
 use std::alloc::Global;
 use std::marker::Brand;
 use std::sync::ledger::{Blank, Ledger};
@@ -32,8 +32,7 @@ fn serve<S: Alter, A: Ledger, B: Ledger>(
 {
     let mut reader = Link::<&[u8], A>::new(bytes, reads);
     let mut writer = Link::<Vec<u8>, B>::new(Vec::new(alloc), writes);
-    let seed = Seed([0xab; 16]);
-    match serve_one(alloc, &mut reader, &mut writer, server, moment, seed) {
+    match serve_one(alloc, &mut reader, &mut writer, server, moment, SEED) {
         Served::Replied => Some(writer.into_inner()),
         _ => None,
     }
@@ -41,14 +40,14 @@ fn serve<S: Alter, A: Ledger, B: Ledger>(
 
 /// What a request is answered at 1000.
 fn answer<S: Alter>(alloc: Global, server: &mut Server<S>, request: &str) -> Result<Vec<u8>, Fail> {
-    let moment = Moment::new(1000).ok_or("moment")?;
+    let moment = at(1000)?;
     let bytes = request.as_bytes();
     let (reads, writes) = (Blank::new(1), Blank::new(1));
     Ok(serve::<S, Brand, Brand>(alloc, server, moment, bytes, reads, writes).ok_or("no reply")?)
 }
 
 /// What the runner sends, and what it gets back.
-const PATH: &[(&str, &str)] = &[
+const EXCHANGES: &[(&str, &str)] = &[
     (
         "POST /api/v4/jobs/request HTTP/1.1\r\nContent-Length: 47\r\n\r\n{\"token\":\"r1-abababababababababababababababab\"}",
         "HTTP/1.1 201 Created\r\nContent-Type: application/json\r\nContent-Length: 499\r\nConnection: close\r\n\r\n{\"id\":1,\"job_info\":{\"name\":\"build\",\"project_id\":1,\"stage\":\"build\"},\"script\":[\"make\"],\"timeout\":3600,\"token\":\"j1-abababababababababababababababab\",\"variables\":[{\"key\":\"CI\",\"value\":\"true\"},{\"key\":\"CI_COMMIT_BRANCH\",\"value\":\"main\"},{\"key\":\"CI_COMMIT_REF_NAME\",\"value\":\"main\"},{\"key\":\"CI_JOB_ID\",\"value\":\"1\"},{\"key\":\"CI_JOB_NAME\",\"value\":\"build\"},{\"key\":\"CI_JOB_STAGE\",\"value\":\"build\"},{\"key\":\"CI_PIPELINE_ID\",\"value\":\"1\"},{\"key\":\"CI_PIPELINE_SOURCE\",\"value\":\"api\"},{\"key\":\"CI_PROJECT_ID\",\"value\":\"1\"}]}",
@@ -98,11 +97,8 @@ const PATH: &[(&str, &str)] = &[
 #[test]
 fn a_runner_is_answered(rt: HostRuntime) -> Result<(), Fail> {
     let alloc = rt.alloc();
-    let mut server = over_memory(alloc)?;
-    for step in STEPS.iter().take(3) {
-        let _ = send(alloc, &mut server, *step)?;
-    }
-    for (request, reply) in PATH {
+    let mut server = after(alloc, &PATH[..3])?;
+    for (request, reply) in EXCHANGES {
         let found = answer(alloc, &mut server, request)?;
         assert!(rt; found.as_slice() == reply.as_bytes(), "{request}");
     }

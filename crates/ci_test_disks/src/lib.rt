@@ -1,11 +1,19 @@
-//! Disks in memory that fail, and can be opened again.
+//! Disks in memory that fail, and can be opened again. No function has a clause, so that the proof of a test that calls them
+//! carries little.
+#![tactic(auto)]
 
-use sqlite::{Connection, FileStore, Files, Options};
+use sqlite::{Alter, Connection, FileStore, Files, Options};
 use sqlite_disk::{Crash, Disk, Fuse, Memory};
 use std::alloc::Global;
 
+/// Files in memory.
+pub type Disks = Files<Memory>;
+
+/// Files in memory that fail.
+pub type FailingDisks = Files<Fuse<Memory>>;
+
 /// No files yet.
-pub fn empty(alloc: Global) -> Files<Memory> {
+pub fn empty(alloc: Global) -> Disks {
     Files {
         log: Memory::new(alloc),
         db: Memory::new(alloc),
@@ -45,13 +53,13 @@ pub fn stopped<D: Crash + Drop>(conn: Connection<FileStore<D>>) -> Files<D> {
     left
 }
 
-/// Drops the files of a connection.
-pub fn discard<D: Disk + Drop>(conn: Connection<FileStore<D>>) {
-    drop(conn.into_store().close());
+/// Lets a connection go, with its store.
+pub fn discard<S: Alter + Drop>(conn: Connection<S>) {
+    drop(conn);
 }
 
 /// Files of which one fails from a call on, counted from the opening. After a stop it fails no more.
-pub fn fused(files: Files<Memory>, of_log: bool, calls: u64) -> Files<Fuse<Memory>> {
+pub fn fused(files: Disks, of_log: bool, calls: u64) -> FailingDisks {
     let (log, db) = if of_log {
         (calls, u64::MAX)
     } else {

@@ -1,0 +1,243 @@
+//! Each public call of the machine on its happy path, with what it answers worked out by hand.
+
+use ci_machine::change::{Counter, Delta, RowChange};
+use ci_machine::choose::choose;
+use ci_machine::lease::{Lease, accept_piece, cause, due, finish, is_over, renew};
+use ci_machine::moment::Moment;
+use ci_machine::records::{
+    Attempt, AttemptState, Cause, Job, JobOptions, QueuedJob, Runner, Source,
+};
+use ci_machine::reply::{Body, Code, Detail, FaultCode, HttpStatus, Reply};
+use ci_machine::text::{Bytes, Text, Texts};
+use std::alloc::{AllocError, Global};
+use std::test::Fail;
+
+fn at(seconds: u64) -> Result<Moment, Fail> {
+    Ok(Moment::new(seconds).ok_or("moment")?)
+}
+
+fn text(alloc: Global, text: &str) -> Result<Text, AllocError> {
+    Text::copy_of(alloc, text)
+}
+
+/// An attempt granted at 1000, last heard of at a moment.
+fn attempt(alloc: Global, id: u64, seen: u64, state: AttemptState) -> Result<Attempt, Fail> {
+    Ok(Attempt {
+        id,
+        job: id,
+        runner: 1,
+        token: text(alloc, "j1")?,
+        granted: at(1000)?,
+        seen: at(seen)?,
+        state,
+        pieces: 0,
+        size: 0,
+    })
+}
+
+/// The time limit of a job in seconds, a moment, and whether the lease of an attempt last heard of at 1050 is over then.
+const OVER: &[(u32, u64, bool)] = &[
+    (3600, 1169, false),
+    (3600, 1170, true),
+    (60, 1059, false),
+    (60, 1060, true),
+];
+
+#[test]
+fn a_lease_is_over_or_renewed(rt: HostRuntime) -> Result<(), Fail> {
+    let live = attempt(rt.alloc(), 1, 1050, AttemptState::Live)?;
+    for (limit, seconds, over) in OVER {
+        let now = at(*seconds)?;
+        assert!(rt; is_over(&live, *limit, now) == *over, "{limit} {seconds}");
+        assert!(rt;
+            renew(&live, *limit, now).is_ok() != *over,
+            "{limit} {seconds}"
+        );
+    }
+    let heard = renew(&live, 3600, at(1005)?).ok().ok_or("over")?;
+    assert!(rt; heard.seconds() == 1050 && heard.later(at(1051)?).seconds() == 1051);
+    Ok(())
+}
+
+/// A trace's size, where a piece begins and how long it is, and the size after it.
+const PIECES: &[(u64, u64, u64, Option<u64>)] = &[
+    (0, 0, 5, Some(5)),
+    (5, 0, 5, None),
+    (4_194_300, 4_194_300, 4, Some(4_194_304)),
+    (4_194_300, 4_194_300, 5, None),
+];
+
+#[test]
+fn a_piece_is_accepted_or_not(rt: HostRuntime) -> Result<(), Fail> {
+    let live = attempt(rt.alloc(), 1, 1050, AttemptState::Live)?;
+    let now = at(1060)?;
+    for (size, from, count, after) in PIECES {
+        let found = accept_piece(&live, 3600, now, *size, *from, *count).ok();
+        assert!(rt; found == *after, "{size} {from} {count}");
+    }
+    Ok(())
+}
+
+/// An exit code, and whether with it a failure is what the ended attempt was told already.
+const EXITS: &[(Option<u32>, bool)] = &[(Some(3), true), (Some(4), false), (None, false)];
+
+#[test]
+fn an_attempt_ends_once(rt: HostRuntime) -> Result<(), Fail> {
+    let state = AttemptState::Failed(Cause::ScriptFailure, Some(3));
+    let ended = attempt(rt.alloc(), 2, 1050, state)?;
+    let now = at(9000)?;
+    for (exit, is_repeat) in EXITS {
+        let last = AttemptState::Failed(Cause::UnknownFailure, *exit);
+        assert!(rt; finish(&ended, 3600, now, last).is_ok() == *is_repeat);
+    }
+    Ok(())
+}
+
+/// Leases of attempts granted at 1000: the attempt's number, when it was last heard of, its time limit, and why it ends. The last
+/// two are at the moment, and one second past it, at which the time limit and the silence end a lease at once.
+const LEASES: &[(u64, u64, u32, Cause)] = &[
+    (4, 1100, 3600, Cause::StuckOrTimeoutFailure),
+    (7, 1050, 3600, Cause::StuckOrTimeoutFailure),
+    (9, 1050, 60, Cause::JobExecutionTimeout),
+    (11, 1150, 270, Cause::JobExecutionTimeout),
+    (12, 1150, 271, Cause::StuckOrTimeoutFailure),
+];
+
+fn leases(alloc: Global) -> Result<Vec<Lease>, Fail> {
+    let mut leases = Vec::new(alloc);
+    for (id, seen, limit, _) in LEASES {
+        let attempt = attempt(alloc, *id, *seen, AttemptState::Live)?;
+        leases.push(Lease {
+            attempt,
+            limit: *limit,
+        })?;
+    }
+    Ok(leases)
+}
+
+/// A moment, and the number of the attempt that is due, or 0.
+const DUE: &[(u64, u64)] = &[(1059, 0), (1060, 9), (1170, 7), (1220, 4)];
+
+#[test]
+fn what_is_due(rt: HostRuntime) -> Result<(), Fail> {
+    let leases = leases(rt.alloc())?;
+    for (seconds, number) in DUE {
+        let found = match due(leases.as_slice(), at(*seconds)?) {
+            Some(lease) => lease.attempt.id,
+            None => 0,
+        };
+        assert!(rt; found == *number, "{seconds}");
+    }
+    Ok(())
+}
+
+#[test]
+fn why_a_lease_ends(rt: HostRuntime) -> Result<(), Fail> {
+    let leases = leases(rt.alloc())?;
+    for (lease, (id, _, _, why)) in leases.iter().zip(LEASES) {
+        assert!(rt; cause(lease) == *why, "{id}");
+    }
+    Ok(())
+}
+
+fn job(id: u64, name: Text, stage: Text, script: Texts) -> Job {
+    Job {
+        id,
+        pipeline: 1,
+        position: 0,
+        name,
+        stage,
+        options: JobOptions {
+            script,
+            timeout: 3600,
+        },
+        played: false,
+        cancelled: false,
+        set_aside: 0,
+    }
+}
+
+fn queued(alloc: Global, id: u64, project: u64) -> Result<QueuedJob, AllocError> {
+    let name = text(alloc, "build")?;
+    let stage = text(alloc, "build")?;
+    let job = job(id, name, stage, Texts::new(Vec::new(alloc)));
+    Ok(QueuedJob { job, project })
+}
+
+fn runner(alloc: Global, project: Option<u64>, paused: bool) -> Result<Runner, AllocError> {
+    Ok(Runner {
+        id: 1,
+        name: text(alloc, "r")?,
+        token: text(alloc, "r1")?,
+        project,
+        tags: Texts::new(Vec::new(alloc)),
+        untagged: true,
+        paused,
+    })
+}
+
+/// The jobs 3 of project 1 and 5 of project 2.
+fn queue(alloc: Global) -> Result<Vec<QueuedJob>, AllocError> {
+    let mut queue = Vec::new(alloc);
+    queue.push(queued(alloc, 3, 1)?)?;
+    queue.push(queued(alloc, 5, 2)?)?;
+    Ok(queue)
+}
+
+/// A runner's project, whether it is paused, and the number of the job that it is given, or 0.
+const CHOICES: &[(Option<u64>, bool, u64)] = &[
+    (None, false, 3),
+    (Some(1), false, 3),
+    (Some(2), false, 5),
+    (Some(3), false, 0),
+    (None, true, 0),
+];
+
+#[test]
+fn choices(rt: HostRuntime) -> Result<(), Fail> {
+    let alloc = rt.alloc();
+    let queue = queue(alloc)?;
+    for (project, paused, number) in CHOICES {
+        let runner = runner(alloc, *project, *paused)?;
+        let found = match choose(queue.as_slice(), &runner) {
+            Some(queued) => queued.job.id,
+            None => 0,
+        };
+        assert!(rt; found == *number);
+    }
+    Ok(())
+}
+
+#[test]
+fn texts_and_moments(rt: HostRuntime) -> Result<(), Fail> {
+    let alloc = rt.alloc();
+    let main = Text::new(String::from_str(alloc, "main")?);
+    let other = main.clone()?;
+    assert!(rt; main.is_same(&other) && main.is_name() && !main.is_before(&other));
+    assert!(rt; text(alloc, "maim")?.is_before(&main) && main.as_str() == "main");
+    let mut texts = Vec::new(alloc);
+    texts.push(other)?;
+    assert!(rt; Texts::new(texts).as_slice().len() == 1);
+    assert!(rt; Moment::new(253_402_300_799).is_some() && Moment::new(253_402_300_800).is_none());
+    assert!(rt; Source::Trigger.as_str() == "trigger");
+    let line = Detail::Line(FaultCode::Y(5), 3).text(alloc)?;
+    assert!(rt; line.as_str() == "Y5 line 3");
+    Ok(())
+}
+
+#[test]
+fn changes_and_replies(rt: HostRuntime) -> Result<(), Fail> {
+    let alloc = rt.alloc();
+    let mut changes = Vec::new(alloc);
+    changes.push(RowChange::SetNext(Counter::Job, 2))?;
+    let delta = Delta::new(changes);
+    assert!(rt; !delta.is_empty() && delta.as_slice().len() == 1);
+    assert!(rt; delta.into_vec().len() == 1);
+    let mut reply = Reply::refusal(Code::M4);
+    assert!(rt;
+        reply.status == HttpStatus::Forbidden && reply.body() == b"{\"code\":\"M4\"}".as_slice()
+    );
+    reply.body = Some(Body::Plain(Bytes::new(Vec::from_slice(alloc, b"hi")?)));
+    assert!(rt; reply.body() == b"hi".as_slice());
+    Ok(())
+}

@@ -1,0 +1,138 @@
+//! What a server is to answer.
+
+use crate::acts::Act;
+use ci_machine::records::Cause;
+use ci_machine::reply::{Answer, Code, HttpStatus, JobStatus, Reply, Swept};
+
+/// What an answer is to be.
+#[derive(Clone, Copy)]
+pub enum Want {
+    /// A reply with this body.
+    Says(&'static str),
+    /// A reply with this body, and no refusal.
+    Done(&'static str),
+    /// The first job is shown, with this status.
+    Job(JobStatus),
+    /// The trace is shown, with this text.
+    Trace(&'static str),
+    /// A report was taken, and the job has this status.
+    Taken(JobStatus),
+    /// A piece was accepted, and the trace has this size.
+    Accepted(u64),
+    /// This refusal, with this `Range`.
+    Refused(Code, Option<u64>),
+    /// A sweep ended the first attempt, for this cause.
+    Ended(Cause),
+    /// A sweep found nothing to end.
+    Nothing,
+}
+
+/// Is it the body?
+pub fn says(reply: &Reply, body: &str) -> bool {
+    reply.body() == body.as_bytes()
+}
+
+/// Has the reply this status, this `Job-Status`, this `Range` and no body?
+fn is_told(reply: &Reply, status: HttpStatus, job: JobStatus, range: Option<u64>) -> bool {
+    reply.status == status
+        && reply.job_status == Some(job)
+        && reply.range == range
+        && reply.code.is_none()
+        && says(reply, "")
+}
+
+fn is_reply(reply: &Reply, want: Want) -> bool {
+    match want {
+        Want::Says(body) => says(reply, body),
+        Want::Done(body) => reply.code.is_none() && says(reply, body),
+        Want::Job(status) => reply.status == HttpStatus::Fine && says(reply, shown(status)),
+        Want::Trace(text) => reply.status == HttpStatus::Fine && says(reply, text),
+        Want::Taken(job) => is_told(reply, HttpStatus::Fine, job, None),
+        Want::Accepted(size) => is_told(
+            reply,
+            HttpStatus::Accepted,
+            JobStatus::Running,
+            Some(size),
+        ),
+        Want::Refused(code, range) => reply.code == Some(code) && reply.range == range,
+        Want::Ended(_) | Want::Nothing => false,
+    }
+}
+
+fn is_swept(swept: &Swept, want: Want) -> bool {
+    match (swept, want) {
+        (Swept::Ended(1, found), Want::Ended(cause)) => *found == cause,
+        (Swept::Nothing, Want::Nothing) => true,
+        (Swept::Refused(found), Want::Refused(code, None)) => *found == code,
+        _ => false,
+    }
+}
+
+/// Is the answer what it is to be?
+pub fn is(answer: &Answer, want: Want) -> bool {
+    match answer {
+        Answer::Reply(reply) => is_reply(reply, want),
+        Answer::Swept(swept) => is_swept(swept, want),
+    }
+}
+
+/// The first job as it is shown with a status.
+fn shown(status: JobStatus) -> &'static str {
+    match status {
+        JobStatus::Running => {
+            "{\"id\":1,\"name\":\"build\",\"stage\":\"build\",\"status\":\"running\"}"
+        }
+        JobStatus::Success => {
+            "{\"id\":1,\"name\":\"build\",\"stage\":\"build\",\"status\":\"success\"}"
+        }
+        JobStatus::Failed => {
+            "{\"id\":1,\"name\":\"build\",\"stage\":\"build\",\"status\":\"failed\"}"
+        }
+        JobStatus::Canceled => {
+            "{\"id\":1,\"name\":\"build\",\"stage\":\"build\",\"status\":\"canceled\"}"
+        }
+    }
+}
+
+/// What the first thing of its kind is answered, where the things of the first path before it have happened.
+pub fn first(act: Act) -> Want {
+    match act {
+        Act::AddProject(_) => {
+            Want::Done("{\"id\":1,\"token\":\"p1-abababababababababababababababab\"}")
+        }
+        Act::AddRunner(_) => {
+            Want::Done("{\"id\":1,\"token\":\"r1-abababababababababababababababab\"}")
+        }
+        Act::EnterPipeline(_, _) => Want::Done(
+            "{\"id\":1,\"jobs\":[{\"id\":1,\"name\":\"build\",\"stage\":\"build\",\"status\":\"pending\"}],\"ref\":\"main\",\"source\":\"api\",\"status\":\"pending\"}",
+        ),
+        Act::AskJob(_) => Want::Done(
+            "{\"id\":1,\"job_info\":{\"name\":\"build\",\"project_id\":1,\"stage\":\"build\"},\"script\":[\"make\"],\"timeout\":3600,\"token\":\"j1-abababababababababababababababab\",\"variables\":[{\"key\":\"CI\",\"value\":\"true\"},{\"key\":\"CI_COMMIT_BRANCH\",\"value\":\"main\"},{\"key\":\"CI_COMMIT_REF_NAME\",\"value\":\"main\"},{\"key\":\"CI_JOB_ID\",\"value\":\"1\"},{\"key\":\"CI_JOB_NAME\",\"value\":\"build\"},{\"key\":\"CI_JOB_STAGE\",\"value\":\"build\"},{\"key\":\"CI_PIPELINE_ID\",\"value\":\"1\"},{\"key\":\"CI_PIPELINE_SOURCE\",\"value\":\"api\"},{\"key\":\"CI_PROJECT_ID\",\"value\":\"1\"}]}",
+        ),
+        Act::Running => Want::Taken(JobStatus::Running),
+        Act::Success => Want::Taken(JobStatus::Success),
+        Act::Append(_, _) => Want::Accepted(5),
+        Act::Show => Want::Job(JobStatus::Running),
+        Act::Trace => Want::Trace(""),
+        Act::Sweep => Want::Ended(Cause::StuckOrTimeoutFailure),
+    }
+}
+
+/// What the same is answered when it comes once more. The job was given, so a runner that asks again gets none.
+pub fn again(act: Act) -> Want {
+    match act {
+        Act::AddProject(_) => {
+            Want::Done("{\"id\":2,\"token\":\"p2-abababababababababababababababab\"}")
+        }
+        Act::AddRunner(_) => {
+            Want::Done("{\"id\":2,\"token\":\"r2-abababababababababababababababab\"}")
+        }
+        Act::EnterPipeline(_, _) => Want::Done(
+            "{\"id\":2,\"jobs\":[{\"id\":2,\"name\":\"build\",\"stage\":\"build\",\"status\":\"pending\"}],\"ref\":\"main\",\"source\":\"api\",\"status\":\"pending\"}",
+        ),
+        Act::AskJob(_) => Want::Done(""),
+        Act::Append(_, _) => Want::Refused(Code::M8, Some(5)),
+        Act::Sweep => Want::Nothing,
+        Act::Running | Act::Success | Act::Show | Act::Trace => first(act),
+    }
+}

@@ -1,0 +1,7 @@
+//! Tests of a server over memory: requests, sweeps and runs of them, each with the answer that was worked out by hand.
+#![tactic(auto)]
+
+#[cfg(test)]
+mod limits;
+#[cfg(test)]
+mod tests;

@@ -1,0 +1,224 @@
+//! Each call of the store fails in turn, in each event, on each of its two files; then the server is opened again.
+
+use ci_machine::reply::{Code, JobStatus};
+use ci_test_disks::{Disks, FailingDisks, empty, fused, stopped};
+use ci_test_servers::acts::{Act, PATH, RUNNER};
+use ci_test_servers::answers::{Want, again, first, is};
+use ci_test_servers::servers::{Failing, is_closed, left, let_go, opened, prepared, tell};
+use std::alloc::Global;
+use std::process::Abort;
+use std::test::Fail;
+
+/// What was seen of an event on a store that fails.
+#[derive(Clone, Copy, PartialEq, Eq)]
+enum Seen {
+    /// The server didn't open.
+    Unopened,
+    /// The event was answered.
+    Answered,
+    /// It met the store's fault.
+    Faulted,
+}
+
+/// When it comes, in seconds. At 1120 the lease of the first attempt is over.
+fn moment_of(act: Act) -> u64 {
+    match act {
+        Act::Sweep => 1120,
+        _ => 1010,
+    }
+}
+
+/// The answer of a server that a fault of the store has closed.
+const CLOSED: Want = Want::Refused(Code::M17, None);
+
+/// Is it one answer, or the other?
+fn either(
+    alloc: Global,
+    server: &mut Failing,
+    (seconds, act): (u64, Act),
+    yes: Want,
+    no: Want,
+) -> Result<bool, Fail> {
+    let answer = tell(alloc, server, seconds, act)?;
+    let is_yes = is(&answer, yes);
+    if is_yes == is(&answer, no) {
+        return Err("a state of neither side")?;
+    }
+    Ok(is_yes)
+}
+
+/// Has the attempt ended well, once its final state is sent again?
+fn ends_well(alloc: Global, server: &mut Failing) -> Result<bool, Fail> {
+    let again = tell(alloc, server, 1119, Act::Success)?;
+    let then = tell(alloc, server, 1119, Act::Show)?;
+    Ok(is(&again, Want::Taken(JobStatus::Success)) && is(&then, Want::Job(JobStatus::Success)))
+}
+
+/// Had the event happened, before a stop? It is sent again, or what follows tells.
+fn had_happened(alloc: Global, server: &mut Failing, act: Act) -> Result<bool, Fail> {
+    match act {
+        Act::Success => {
+            let (yes, no) = (Want::Job(JobStatus::Success), Want::Job(JobStatus::Running));
+            let had_ended = either(alloc, server, (1010, Act::Show), yes, no)?;
+            if !ends_well(alloc, server)? {
+                return Err("not ended")?;
+            }
+            Ok(had_ended)
+        }
+        Act::Running => {
+            let (yes, no) = (again(Act::Sweep), first(Act::Sweep));
+            either(alloc, server, (1125, Act::Sweep), yes, no)
+        }
+        // A question is answered as it was.
+        Act::Show | Act::Trace => either(alloc, server, (1010, act), first(act), Want::Nothing),
+        _ => either(alloc, server, (moment_of(act), act), again(act), first(act)),
+    }
+}
+
+/// Opens the server again after a stop. Had the event happened?
+fn happened(alloc: Global, files: FailingDisks, act: Act) -> Result<bool, Fail> {
+    let Some(mut server) = opened(alloc, files) else {
+        return Err("not opened again")?;
+    };
+    let had_happened = had_happened(alloc, &mut server, act);
+    let_go(server);
+    had_happened
+}
+
+/// Sends the event. Once it met a fault, the server stays closed.
+fn met(alloc: Global, server: &mut Failing, act: Act) -> Result<Seen, Fail> {
+    let answer = tell(alloc, server, moment_of(act), act)?;
+    if !is_closed(server) && is(&answer, first(act)) {
+        return Ok(Seen::Answered);
+    }
+    if !is(&answer, CLOSED) {
+        return Err("another answer")?;
+    }
+    let later = tell(alloc, server, moment_of(act), act)?;
+    if !is_closed(server) || !is(&later, CLOSED) {
+        return Err("open after a fault")?;
+    }
+    Ok(Seen::Faulted)
+}
+
+/// Sends the event on a store that fails from a call on, and opens the server again.
+fn tried(alloc: Global, files: Disks, act: Act, of_log: bool, calls: u64) -> Result<Seen, Fail> {
+    let Some(mut server) = opened(alloc, fused(files, of_log, calls)) else {
+        return Ok(Seen::Unopened);
+    };
+    let seen = met(alloc, &mut server, act);
+    let files = stopped(left(server));
+    let seen = seen?;
+    if !happened(alloc, files, act)? && seen == Seen::Answered {
+        return Err("an answered event is lost")?;
+    }
+    Ok(seen)
+}
+
+/// An event that comes after the first ones, so many of them, on files of which one fails from a call on.
+#[derive(Clone, Copy)]
+struct Trial {
+    before: usize,
+    act: Act,
+    of_log: bool,
+}
+
+fn outcome(alloc: Global, trial: Trial, calls: u64) -> Result<Seen, Fail> {
+    let before = PATH.get(..trial.before).ok_or("too many")?;
+    let files = prepared(alloc, empty(alloc), before)?;
+    tried(alloc, files, trial.act, trial.of_log, calls)
+}
+
+/// The least number of calls with which the server opens.
+fn opens_from(alloc: Global, trial: Trial) -> Result<u64, Fail> {
+    let mut low = 0u64;
+    let mut high = 256u64;
+    for _ in 0..8 {
+        let mid = low.midpoint(high);
+        if outcome(alloc, trial, mid)? == Seen::Unopened {
+            low = mid;
+        } else {
+            high = mid;
+        }
+    }
+    Ok(high)
+}
+
+/// Each number of calls from which the server opens, until the event is answered. How many of them faulted?
+fn sweep(alloc: Global, trial: Trial) -> Result<u64, Fail> {
+    let from = opens_from(alloc, trial)?;
+    let mut faults = 0u64;
+    for calls in from..from.saturating_add(80) {
+        match outcome(alloc, trial, calls)? {
+            Seen::Answered => return Ok(faults),
+            Seen::Faulted => faults = faults.saturating_add(1),
+            Seen::Unopened => {}
+        }
+    }
+    Err("never answered")?
+}
+
+/// Sweeps both files for an event that comes after the first ones. Where it changes anything, its commit writes the log.
+fn both(rt: &impl Abort, alloc: Global, before: usize, act: Act) -> Result<(), Fail> {
+    let mut trial = Trial {
+        before,
+        act,
+        of_log: true,
+    };
+    let faults = sweep(alloc, trial)?;
+    let changes = !matches!(act, Act::Show | Act::Trace);
+    assert!(rt; faults > 0 || !changes);
+    trial.of_log = false;
+    let _ = sweep(alloc, trial)?;
+    Ok(())
+}
+
+#[test]
+fn each_call_fails_as_a_project_is_made(rt: HostRuntime) -> Result<(), Fail> {
+    both(&rt, rt.alloc(), 0, Act::AddProject("p"))
+}
+
+#[test]
+fn each_call_fails_as_a_runner_is_made(rt: HostRuntime) -> Result<(), Fail> {
+    both(&rt, rt.alloc(), 1, Act::AddRunner("r"))
+}
+
+#[test]
+fn each_call_fails_as_a_pipeline_is_made(rt: HostRuntime) -> Result<(), Fail> {
+    both(&rt, rt.alloc(), 2, Act::EnterPipeline(1, &["build"]))
+}
+
+#[test]
+fn each_call_fails_in_a_grant(rt: HostRuntime) -> Result<(), Fail> {
+    both(&rt, rt.alloc(), 3, Act::AskJob(RUNNER))
+}
+
+#[test]
+fn each_call_fails_as_a_runner_is_heard(rt: HostRuntime) -> Result<(), Fail> {
+    both(&rt, rt.alloc(), 4, Act::Running)
+}
+
+#[test]
+fn each_call_fails_as_an_attempt_ends(rt: HostRuntime) -> Result<(), Fail> {
+    both(&rt, rt.alloc(), 4, Act::Success)
+}
+
+#[test]
+fn each_call_fails_as_a_trace_grows(rt: HostRuntime) -> Result<(), Fail> {
+    both(&rt, rt.alloc(), 4, Act::Append(0, "hello"))
+}
+
+#[test]
+fn each_call_fails_in_a_sweep(rt: HostRuntime) -> Result<(), Fail> {
+    both(&rt, rt.alloc(), 4, Act::Sweep)
+}
+
+#[test]
+fn each_call_fails_as_a_job_is_shown(rt: HostRuntime) -> Result<(), Fail> {
+    both(&rt, rt.alloc(), 4, Act::Show)
+}
+
+#[test]
+fn each_call_fails_as_a_trace_is_shown(rt: HostRuntime) -> Result<(), Fail> {
+    both(&rt, rt.alloc(), 4, Act::Trace)
+}
