@@ -113,6 +113,13 @@ impl<L: Ledger> Graph<L> {
         self.successors[j].len()
     }
 
+    /// Counts an edge that is handed out.
+    fn count_edge(&mut self)
+        ensures { self.new ≡ record self.old { meter = self.old.meter + 1 } }
+    {
+        self.book.add(&mut self.share, 1);
+    }
+
     /// The k-th predecessor of a job, from 0. It counts as one edge handed out.
     pub fn pred(&mut self, j: usize, k: usize) -> usize
         requires job { j < length self.old.parts }
@@ -120,7 +127,7 @@ impl<L: Ledger> Graph<L> {
         ensures value { result ≡ slice_index (predecessors_of self.old j) k }
         ensures meter { self.new ≡ record self.old { meter = self.old.meter + 1 } }
     {
-        self.book.add(&mut self.share, 1);
+        self.count_edge();
         self.predecessors[j].at(k)
     }
 
@@ -131,7 +138,7 @@ impl<L: Ledger> Graph<L> {
         ensures value { result ≡ slice_index (successors_of self.old j) k }
         ensures meter { self.new ≡ record self.old { meter = self.old.meter + 1 } }
     {
-        self.book.add(&mut self.share, 1);
+        self.count_edge();
         self.successors[j].at(k)
     }
 
