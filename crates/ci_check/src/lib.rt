@@ -2,8 +2,6 @@
 #![tactic(auto)]
 
 mod file;
-#[cfg(test)]
-mod tests;
 mod verdict;
 
 pub use file::{Report, check, check_path, check_word, first_bytes};

@@ -16,6 +16,3 @@ pub use expr::{Expr, parse};
 pub use fault::{ExprCode, ExprFault};
 pub use formula::Env;
 pub use token::{Kind, Token, tokens};
-
-#[cfg(test)]
-mod tests;

@@ -14,7 +14,5 @@ mod number;
 pub mod path;
 mod range;
 pub mod route;
-#[cfg(test)]
-mod tests;
 pub mod text;
 mod update;

@@ -15,8 +15,6 @@ pub mod serve;
 pub mod server;
 mod shows;
 mod sweeps;
-#[cfg(test)]
-mod tests;
 mod traces;
 
 pub use ci_http::link;

@@ -12,8 +12,6 @@ mod nodes;
 mod open_map;
 mod progress;
 mod reader;
-#[cfg(test)]
-mod tests;
 
 pub use ci_yaml_lines::code::Code;
 pub use ci_yaml_lines::tree::{Place, Span, Text, Tree, Words};

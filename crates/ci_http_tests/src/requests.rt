@@ -1,11 +1,11 @@
 ghost use Rattle.ci_http.specs.Blanks.{OpensWhole};
 
-use crate::call::read_request;
-use crate::fault::HttpFault;
-use crate::fields::Found;
-use crate::link::{Link, Sink};
-use crate::route::request_of;
-use crate::text::reply_bytes;
+use ci_http::call::read_request;
+use ci_http::fault::HttpFault;
+use ci_http::fields::Found;
+use ci_http::link::{Link, Sink};
+use ci_http::route::request_of;
+use ci_http::text::reply_bytes;
 use ci_machine::records::Cause;
 use ci_machine::reply::{Body, Code, HttpStatus, JobStatus, Reply};
 use ci_machine::request::{Report, Request};

@@ -1,7 +1,6 @@
 //! What is printed of texts in memory, from tables: the expected lines were worked out by hand from the profile.
 
-use crate::file::{check, check_word};
-use crate::verdict::exit_status;
+use ci_check::{check, check_word, exit_status};
 use std::alloc::{AllocError, Global};
 use std::io;
 use std::io::{ErrorKind, Read, Write};

@@ -1,8 +1,6 @@
 //! What texts mean, from tables: expected values were worked out by hand from the profile.
 
-use crate::fault::YamlFault;
-use crate::reader::read;
-use ci_yaml_lines::tree::{Text, Tree, Words};
+use ci_yaml::{Text, Tree, Words, YamlFault, read};
 use std::alloc::{AllocError, Global};
 use std::process::Abort;
 

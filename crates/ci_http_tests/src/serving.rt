@@ -2,11 +2,11 @@ ghost use Rattle.std.specs.Prelude.{◌≡◌, ◌<◌};
 ghost use Rattle.ci_machine.specs.declared.reply.Code.TheVariants.{M4};
 ghost use Rattle.ci_machine.specs.Reply.{refusal};
 
-use crate::serve::{Handler, Served, serve_one};
 use ci_http::link::Link;
 use ci_machine::moment::Moment;
 use ci_machine::reply::{Code, Reply};
 use ci_machine::request::{Request, Seed};
+use ci_server::serve::{Handler, Served, serve_one};
 use std::alloc::Global;
 use std::io;
 use std::io::{ErrorKind, Read, Write};

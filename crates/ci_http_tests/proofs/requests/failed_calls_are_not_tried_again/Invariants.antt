@@ -1,4 +1,4 @@
-use Rattle.ci_http.proofs.tests.failed_calls_are_not_tried_again.Given as goal
+use Rattle.ci_http_tests.proofs.requests.failed_calls_are_not_tried_again.Given as goal
 
 abbrev pub ghosts-read_once : goal.ghosts-read_once
 ghosts-read_once g a = record { name = a.blank.name; parts = a.blank.parts }

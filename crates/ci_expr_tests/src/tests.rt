@@ -1,6 +1,6 @@
 //! Expressions worked out by hand.
 
-use crate::{Env, Expr, ExprFault, Kind, parse, tokens};
+use ci_expr::{Env, Expr, ExprFault, Kind, parse, tokens};
 use std::alloc::{AllocError, Global};
 use std::process::Abort;
 use std::test::Fail;
