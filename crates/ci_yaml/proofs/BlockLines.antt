@@ -1,11 +1,10 @@
 -- The lines of a block, one after the other.
-use Rattle.std.proofs.Common.{◌≡◌, ℕ, zero, suc, ◌+◌, ◌-◌, ◌<◌, ◌≤◌, Bool, true, false, cond, List, [], ◌∷◌, ◌++◌, length, take, drop, get_or, Option, Some, None, refl, sym, ◌∙◌, ap, subst, append_assoc, arith, add-one, drop-cons}
+use Rattle.std.proofs.Common.{◌≡◌, ℕ, zero, suc, ◌+◌, ◌-◌, ◌<◌, ◌≤◌, Bool, true, false, cond, List, [], ◌∷◌, ◌++◌, length, take, drop, get_or, Option, Some, None, refl, sym, ◌∙◌, ap, subst, append_assoc, arith}
 use denote.Bor.{Bor}
 use Rattle.std.proofs.lemmas.List.{take_more, append-nil, length-drop, nil_from_length}
-use Rattle.std.proofs.Math.Seq.{take-length}
 use Rattle.ci_yaml_lines.proofs.Lists.{last-parted, drop-at, push-some}
 use Rattle.ci_yaml_lines.specs.Line.{spaces, Line}
-use Rattle.ci_yaml.specs.Block.{is_spaces, is_in_block, first_indent, more_indent, indent_codes, block_codes, kept_len, without_end, AreBlock, EndsBlock}
+use Rattle.ci_yaml.specs.Block.{is_spaces, is_in_block, first_indent, more_indent, indent_codes, block_codes, kept_len, without_end, AreBlock}
 use Rattle.ci_yaml.specs.Blocks.{texts_of, cut_text, cut_lines, cut_strip, StopsBlock}
 use Rattle.ci_yaml_lines.specs.declared.code.Code.{Code}
 use Rattle.ci_yaml_lines.specs.Least.{least}

@@ -1,8 +1,5 @@
 -- The open nodes as the code has them, the last the innermost.
-use Rattle.std.proofs.Common.{◌≡◌, ℕ, true, false, cond, ◌∙◌, ◌+◌, ◌-◌, ◌<◌, ◌≤◌, length, take, get_or, arith, List, [], ◌∷◌, ◌++◌, refl, ap, sym, rules}
-use Rattle.std.specs.Global.{Vec}
-use Rattle.std.proofs.lemmas.List.{take_more}
-use Rattle.std.proofs.Math.Seq.{take-length}
+use Rattle.std.proofs.Common.{◌≡◌, ℕ, true, false, cond, ◌∙◌, ◌-◌, ◌≤◌, length, take, get_or, List, [], ◌∷◌, ◌++◌, refl, ap, sym}
 use Rattle.ci_yaml_lines.proofs.Lists.{last-parted}
 use Rattle.ci_yaml_lines.specs.Tree.{Value}
 use Rattle.ci_yaml.specs.Reading as reading

@@ -1,12 +1,11 @@
 -- Before its block a header's entry holds an empty text.
-use Rattle.std.proofs.Common.{◌≡◌, ℕ, zero, suc, ◌+◌, Bool, true, false, cond, List, [], ◌∷◌, length, drop, Option, Some, None, is_some, refl, sym, ◌∙◌, ap}
-use Rattle.std.specs.Prelude.{⊤, ◌==◌, ◌&&◌, ◌||◌}
+use Rattle.std.proofs.Common.{◌≡◌, ℕ, List, [], ◌∷◌, Option, Some, None, refl, sym, ◌∙◌, ap}
+use Rattle.std.specs.Prelude.{⊤}
 use Rattle.ci_yaml_lines.specs.declared.code.Code.{Code}
-use Rattle.ci_yaml_lines.specs.declared.code.Code.TheVariants.{Y2, Y9}
 use Rattle.ci_yaml_lines.specs.Tree.{Value, text}
 use Rattle.ci_yaml_lines.specs.Entry.{Head, dash, key, bare, Entry}
-use Rattle.ci_yaml_lines.specs.Scalar.{drop_blanks, trim_end, head_is, tail_of, before_comment, only_comment, when, Quoted, quoted, is_quote}
-use Rattle.ci_yaml_lines.specs.Line.{Chomp, clip, strip, keep, Written, header_rest, header_of, written_quoted, written_list, listed, written_plain, written_at, unwritten, written, Keyed, keyed, keyed_or_bare, is_dash, spaces, Item, inner, value, item, ParsedLine, entry_of, header_code, with_dash, dashed, parse_entries, with_codes, parse_content, is_document_mark, is_skipped, parse_line, Line}
+use Rattle.ci_yaml_lines.specs.Scalar.{Quoted}
+use Rattle.ci_yaml_lines.specs.Line.{Chomp, clip, strip, keep, Written, written_quoted, written_at, written, ParsedLine, entry_of, header_code, parse_line, Line}
 use Rattle.ci_yaml.specs.Block.{literal}
 use Rattle.ci_yaml.specs.Document.{filled, entries_with}
 use Rattle.ci_yaml_lines.proofs.Forms.{OfForms, OfLines, written_at-each, written-each, line-each}

@@ -1,12 +1,11 @@
 -- The code that reading stops with at a line is the least of those that hold of it.
-use Rattle.std.proofs.Common.{◌≡◌, ℕ, zero, suc, ◌<◌, ◌≤◌, ◌⊎◌, inl, inr, Bool, true, false, cond, List, [], ◌∷◌, ◌++◌, length, drop, Option, Some, None, Result, Ok, Err, refl, sym, ◌∙◌, ap, subst, arith}
-use Rattle.std.specs.Prelude.{nat_le, slice_index_or, ◌==◌, ◌&&◌, Contains}
+use Rattle.std.proofs.Common.{◌≡◌, ℕ, zero, suc, ◌<◌, ◌≤◌, ◌⊎◌, inl, inr, Bool, true, false, cond, List, [], ◌∷◌, ◌++◌, length, Option, Some, None, Result, Ok, Err, refl, sym, ◌∙◌, ap, subst, arith}
+use Rattle.std.specs.Prelude.{nat_le, slice_index_or, Contains}
 use Rattle.std.proofs.lemmas.Bool.{leb-true, leb-false}
 use Rattle.ci_yaml_lines.specs.declared.code.Code.{Code}
-use Rattle.ci_yaml_lines.specs.declared.code.Code.TheVariants.{Y2, Y9}
 use Rattle.ci_yaml_lines.specs.Entry.{bare, Entry}
-use Rattle.ci_yaml_lines.specs.Scalar.{trim_end, head_is, tail_of, before_comment, when, Quoted, quoted, is_quote}
-use Rattle.ci_yaml_lines.specs.Line.{Chomp, clip, strip, keep, Written, header_rest, header_of, written_quoted, written_list, listed, written_plain, written_at, Keyed, keyed, keyed_or_bare, is_dash, spaces, Item, inner, value, item, ParsedLine, dashed, parse_entries, with_codes, parse_content, is_document_mark, is_skipped, parse_line, Line}
+use Rattle.ci_yaml_lines.specs.Scalar.{Quoted}
+use Rattle.ci_yaml_lines.specs.Line.{Chomp, Written, written_quoted, ParsedLine, parse_line, Line}
 use Rattle.ci_yaml.specs.Reading.{State, run}
 use Rattle.ci_yaml_lines.specs.Least.{number_of, lesser, least, least_of}
 use Rattle.ci_yaml.specs.Block.{is_in_block, block_codes, literal, AreBlock, EndsBlock}

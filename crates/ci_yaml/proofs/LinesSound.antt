@@ -1,15 +1,13 @@
 -- What is read of lines stands over entries that the lines say.
-use Rattle.std.proofs.Common.{◌≡◌, ℕ, suc, Bool, true, false, cond, List, [], ◌∷◌, ◌++◌, length, drop, Option, Some, None, Result, Ok, Err, refl, sym, ◌∙◌, ap, subst, append_assoc}
-use Rattle.std.specs.Prelude.{⊤, ◌==◌, ◌&&◌}
+use Rattle.std.proofs.Common.{◌≡◌, ℕ, Bool, true, false, cond, List, [], ◌∷◌, ◌++◌, Option, Some, None, Result, Ok, Err, refl, sym, ◌∙◌, ap, subst, append_assoc}
+use Rattle.std.specs.Prelude.{⊤}
 use Rattle.std.proofs.lemmas.List.{append-nil}
 use Rattle.ci_yaml_lines.specs.declared.code.Code.{Code}
 use Rattle.ci_yaml_lines.specs.Tree.{Value, text}
 use Rattle.ci_yaml_lines.specs.Entry.{Entry}
-use Rattle.ci_yaml_lines.specs.declared.code.Code.TheVariants.{Y2, Y9}
-use Rattle.ci_yaml_lines.specs.Scalar.{trim_end, head_is, tail_of, when}
-use Rattle.ci_yaml_lines.specs.Line.{Chomp, ParsedLine, parse_line, Keyed, keyed, keyed_or_bare, is_dash, spaces, Item, inner, value, item, dashed, parse_entries, parse_content, with_codes, is_document_mark, is_skipped, Line}
+use Rattle.ci_yaml_lines.specs.Line.{Chomp, ParsedLine, parse_line, Line}
 use Rattle.ci_yaml.specs.Reading.{◌>>=◌, Frame, State, start, whole, inside, run}
-use Rattle.ci_yaml.specs.Block.{is_in_block, block_codes, literal, AreBlock, EndsBlock}
+use Rattle.ci_yaml.specs.Block.{is_in_block, block_codes, literal}
 use Rattle.ci_yaml.specs.Document.{Ending, outside, within, IsOutside, filled, entries_with, last_column, Parses, none, line, block}
 use Rattle.ci_yaml_lines.specs.Least.{least}
 use Rattle.ci_yaml.specs.ReadLines.{Reader, with_text, stop_or, ending_at, content_by, content, line_by, line_next, read_lines}

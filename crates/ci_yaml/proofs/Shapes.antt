@@ -1,14 +1,13 @@
 -- In the maps of a text's tree the keys differ, and it is at most ten deep.
-use Rattle.std.proofs.Common.{◌≡◌, ℕ, zero, suc, pos, ◌+◌, ◌<◌, ◌≤◌, Bool, true, false, cond, List, [], ◌∷◌, ◌++◌, length, drop, Option, Some, None, is_some, refl, sym, subst, arith}
-use Rattle.std.specs.Prelude.{⊤, max, ◌==◌, ◌&&◌, ◌||◌, codes}
+use Rattle.std.proofs.Common.{◌≡◌, ℕ, zero, suc, pos, ◌+◌, ◌<◌, ◌≤◌, true, false, cond, List, [], ◌∷◌, ◌++◌, length, Option, Some, None, refl, sym, subst, arith}
+use Rattle.std.specs.Prelude.{⊤, max, ◌||◌, codes}
 use Rattle.std.specs.Str.{bytes_eq}
 use Rattle.std.specs.Str.Lines.{lines}
-use Rattle.ci_yaml_lines.specs.declared.code.Code.TheVariants.{Y2, Y9}
 use Rattle.ci_yaml_lines.specs.Tree.{Kind, sequence, mapping, Value, null, boolean, number, text, node, Members, no_members, member, HaveNoNames}
 use Rattle.ci_yaml_lines.specs.Entry.{Entry}
 use Rattle.ci_yaml.specs.Node.{IsWithin, HasValue, here, deeper, nothing, IsNode, AreMembers, IsDocument, of_node, of_line}
-use Rattle.ci_yaml_lines.specs.Scalar.{drop_blanks, trim_end, head_is, tail_of, before_comment, only_comment, when, Quoted, quoted, is_quote, count_of, negative_of, number_of, number_or_text, plain_value}
-use Rattle.ci_yaml_lines.specs.Line.{End, comma, bracket, missing, cut_place, Place, plain_place, quoted_place, place, Listed, after_place, places, listed, clip, strip, keep, Written, header_rest, header_of, written_quoted, written_list, written_plain, written_at, unwritten, written, Keyed, keyed, keyed_or_bare, is_dash, spaces, Item, inner, value, item, is_skipped, ParsedLine, dashed, parse_entries, with_codes, parse_content, is_document_mark, parse_line, Line}
+use Rattle.ci_yaml_lines.specs.Scalar.{drop_blanks, trim_end, head_is, tail_of, Quoted, quoted, is_quote, count_of, negative_of, number_of, number_or_text, plain_value}
+use Rattle.ci_yaml_lines.specs.Line.{End, comma, bracket, missing, cut_place, Place, plain_place, quoted_place, place, Listed, after_place, places, listed, Written, written_quoted, ParsedLine, parse_line, Line}
 use Rattle.ci_yaml.specs.Block.{literal}
 use Rattle.ci_yaml.specs.Document.{Ending, filled, Parses, none, line, block, HasTree}
 use Rattle.ci_yaml.specs.Shape.{KeysDiffer, AllKeysDiffer, depth, members_depth}

@@ -1,16 +1,13 @@
 -- The texts of trees and open nodes that grow at their end.
-use Rattle.std.proofs.Common.{◌≡◌, ℕ, true, List, [], ◌∷◌, ◌++◌, Option, Some, None, Result, refl, sym, ◌∙◌, ap, subst, append_assoc, append-nil, rules}
-use Rattle.std.specs.Prelude.{IfOk}
+use Rattle.std.proofs.Common.{◌≡◌, ℕ, true, List, [], ◌∷◌, ◌++◌, Option, Some, None, refl, sym, ◌∙◌, ap, append_assoc, append-nil}
 use Rattle.std.specs.Global.{Vec}
 use Rattle.ci_yaml_lines.specs.declared.tree.Text.{Text}
 use Rattle.ci_yaml_lines.specs.declared.tree.Tree.{Tree}
 use Rattle.ci_yaml.specs.declared.progress.Frame.{Frame}
 use Rattle.ci_yaml.specs.declared.progress.Open.TheVariants.{Items, Pairs}
 use Rattle.ci_yaml.specs.declared.open_map.OpenMap.{OpenMap}
-use Rattle.ci_yaml.specs.declared.progress.Progress.{Progress}
-use Rattle.ci_yaml.specs.declared.fault.Stop.{Stop}
 use Rattle.ci_yaml_lines.specs.Spans.{texts_in, items_texts, pairs_texts, given_texts}
-use Rattle.ci_yaml.specs.Spans.{open_texts, frames_texts, state_texts}
+use Rattle.ci_yaml.specs.Spans.{open_texts, frames_texts}
 use Rattle.ci_yaml_lines.specs.View.{given_view}
 use Rattle.ci_yaml.specs.Reading as reading
 

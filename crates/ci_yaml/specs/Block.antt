@@ -1,10 +1,8 @@
 -- Literal blocks.
-use Rattle.std.specs.Prelude.{◌≡◌, ℕ, suc, ◌+◌, ◌<◌, ◌≤◌, Bool, true, false, List, [], ◌∷◌, ◌++◌, length, take, drop, Option, Some, None, unwrap_or, not, nat_lt, ◌==◌, ◌&&◌, ◌||◌, if◌then◌else◌, Contains, ⊤}
-use Rattle.std.specs.Str.Lines.{lines}
+use Rattle.std.specs.Prelude.{◌≡◌, ℕ, ◌+◌, Bool, true, false, List, [], ◌∷◌, ◌++◌, take, drop, Option, Some, None, unwrap_or, not, nat_lt, ◌==◌, ◌&&◌, ◌||◌, if◌then◌else◌, ⊤}
 use Rattle.ci_yaml_lines.specs.declared.code.Code.{Code}
 use Rattle.ci_yaml_lines.specs.declared.code.Code.TheVariants.{Y3, Y9}
 use Rattle.std.specs.List.{list_all}
-use Rattle.ci_yaml_lines.specs.Tree.{text}
 use Rattle.ci_yaml_lines.specs.Scalar.{when}
 use Rattle.ci_yaml_lines.specs.Line.{Line, is_space, Chomp, clip, strip, keep, spaces, has_byte_order_mark}
 

@@ -1,9 +1,8 @@
 -- Which tree a text has, and which fault.
-use Rattle.std.specs.Prelude.{◌≡◌, ℕ, suc, ◌+◌, ◌<◌, ◌≤◌, Bool, true, false, List, [], ◌∷◌, ◌++◌, length, take, drop, Option, Some, None, unwrap_or, not, nat_lt, ◌==◌, ◌&&◌, ◌||◌, if◌then◌else◌, Contains, ⊤}
+use Rattle.std.specs.Prelude.{◌≡◌, ℕ, suc, ◌<◌, ◌≤◌, true, false, List, [], ◌∷◌, ◌++◌, length, take, Option, Some, None, Contains, ⊤}
 use Rattle.std.specs.Str.Lines.{lines}
 use Rattle.ci_yaml_lines.specs.declared.code.Code.{Code}
 use Rattle.ci_yaml_lines.specs.declared.code.Code.TheVariants.{Y1, Y3, Y4, Y5, Y10, Y12}
-use Rattle.std.specs.List.{list_all}
 use Rattle.ci_yaml_lines.specs.Least.{number_of}
 use Rattle.ci_yaml_lines.specs.Tree.{Value, text}
 use Rattle.ci_yaml_lines.specs.Entry.{Entry}

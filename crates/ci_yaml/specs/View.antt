@@ -1,5 +1,5 @@
 -- What the code holds of lines and open nodes, without where it lies in memory.
-use Rattle.std.specs.Prelude.{◌≡◌, ◌≤◌, ◌||◌, ◌+◌, ℕ, Bool, List, [], ◌∷◌, ◌++◌, length, Option, Some, None, Result, Ok, Err, map, option_map, ⊤}
+use Rattle.std.specs.Prelude.{◌≡◌, ℕ, List, [], ◌∷◌, Option, Result, Ok, Err, ⊤}
 use Rattle.ci_yaml_lines.specs.TreeView.{bytes_of, value_view, items_view, pairs_view}
 use Rattle.ci_yaml.specs.declared.progress.Frame.{Frame}
 use Rattle.ci_yaml.specs.declared.progress.Open.{Open}

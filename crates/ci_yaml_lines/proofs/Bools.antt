@@ -1,8 +1,7 @@
 -- Tests and their values.
-use Rattle.std.proofs.Common.{◌≡◌, ℕ, suc, ◌<◌, ◌≤◌, ◌⊎◌, Bool, true, false, List, [], ◌∷◌, ◌++◌, length, Option, None, refl, sym, ◌∙◌, ap, subst, arith, inl, inr, ◌≢◌, cond, Some, Result, Ok, Err, append_assoc}
-use Rattle.std.specs.Prelude.{⊤, nat_le, ◌==◌, ◌&&◌, ◌||◌, nat_lt}
-use Rattle.std.proofs.lemmas.Bool.{eqb-true, leb-true, le-leb, cases_lt, ltb-true, eqb-false}
-use Rattle.std.proofs.lemmas.List.{append-nil, length-append}
+use Rattle.std.proofs.Common.{◌≡◌, ℕ, ◌<◌, ◌≤◌, ◌⊎◌, Bool, true, false, refl, subst, arith, inl, inr}
+use Rattle.std.specs.Prelude.{nat_le, ◌==◌, ◌&&◌, ◌||◌}
+use Rattle.std.proofs.lemmas.Bool.{eqb-true, leb-true, cases_lt, eqb-false}
 
 false-by : (b c : Bool) → b ≡ c → (b ≡ true → ⊥) → c ≡ false
 false-by b true e refuted = absurd (refuted e)

@@ -6,8 +6,6 @@ use Rattle.std.specs.List.{prefix_len}
 use Rattle.std.proofs.lemmas.Str.{IsCharBoundary-start, IsCharBoundary-after_ascii}
 use Rattle.std.proofs.lemmas.List.Sums.{prefix_len-le-length, prefix_len_passes}
 use Rattle.std.proofs.lemmas.Bool.{eqb-true}
-use Rattle.std.proofs.lemmas.List.{take_more}
-use Rattle.std.proofs.Math.Seq.{take-length}
 use Rattle.ci_yaml_lines.proofs.Bools.{eq-false}
 use Rattle.ci_yaml_lines.proofs.Lists.{last-parted, push-some}
 use Rattle.ci_yaml_lines.specs.Scalar.{is_blank, blanks, trimmed_len, comment_len, space_next, head_is}

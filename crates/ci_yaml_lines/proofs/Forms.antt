@@ -1,5 +1,5 @@
 -- What holds of each line, by the forms that a line and its values may have.
-use Rattle.std.proofs.Common.{◌≡◌, ℕ, zero, suc, ◌+◌, Bool, true, false, cond, List, [], ◌∷◌, length, drop, Option, Some, None, is_some}
+use Rattle.std.proofs.Common.{ℕ, zero, suc, ◌+◌, Bool, true, false, cond, List, [], ◌∷◌, length, drop, Option, Some, None, is_some}
 use Rattle.std.specs.Prelude.{◌==◌, ◌&&◌, ◌||◌}
 use Rattle.ci_yaml_lines.specs.declared.code.Code.{Code}
 use Rattle.ci_yaml_lines.specs.declared.code.Code.TheVariants.{Y2, Y9}

@@ -1,6 +1,5 @@
 -- The texts of trees and open nodes that grow at their end.
-use Rattle.std.proofs.Common.{◌≡◌, ℕ, true, List, [], ◌∷◌, ◌++◌, Option, Some, None, Result, refl, sym, ◌∙◌, ap, subst, append_assoc, append-nil, rules}
-use Rattle.std.specs.Prelude.{IfOk}
+use Rattle.std.proofs.Common.{◌≡◌, List, [], ◌∷◌, ◌++◌, sym, ◌∙◌, ap, append_assoc, append-nil, rules}
 use Rattle.std.specs.Global.{Vec}
 use Rattle.ci_yaml_lines.specs.declared.tree.Text.{Text}
 use Rattle.ci_yaml_lines.specs.declared.tree.Tree.{Tree, List as ListTree, Map as MapTree, Text as TextTree, the_lemmas}

@@ -1,8 +1,6 @@
 -- A tree of the code, level by level, and lists that grow at their end.
-use Rattle.std.proofs.Common.{◌≡◌, ℕ, true, false, cond, ◌∙◌, ◌+◌, ◌-◌, ◌<◌, ◌≤◌, length, take, get_or, arith, List, [], ◌∷◌, ◌++◌, refl, ap, sym, rules}
+use Rattle.std.proofs.Common.{◌≡◌, List, [], ◌∷◌, ◌++◌, refl, ap, rules}
 use Rattle.std.specs.Global.{Vec}
-use Rattle.std.proofs.lemmas.List.{take_more}
-use Rattle.std.proofs.Math.Seq.{take-length}
 use Rattle.ci_yaml_lines.specs.Tree.{sequence, mapping, text, node, member, push}
 use Rattle.ci_yaml_lines.specs.View.{bytes_of, value_view, items_view, pairs_view}
 use Rattle.ci_yaml_lines.specs.declared.tree.Text.{Text}

@@ -1,5 +1,5 @@
 -- Where a source writes the texts of a tree.
-use Rattle.std.specs.Prelude.{◌≡◌, ℕ, suc, ◌+◌, ◌-◌, ◌<◌, ◌≤◌, ◌⊎◌, Bool, List, [], ◌∷◌, ◌++◌, length, Option, Some, None, ⊤}
+use Rattle.std.specs.Prelude.{◌≡◌, ℕ, ◌-◌, Bool, List, [], ◌∷◌, ◌++◌, length, Option, Some, None}
 use Rattle.ci_yaml_lines.specs.declared.cut.SourceLine.{SourceLine}
 use Rattle.ci_yaml_lines.specs.declared.tree.Span.{Span}
 use Rattle.ci_yaml_lines.specs.declared.tree.Text.{Text}

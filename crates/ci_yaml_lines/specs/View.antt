@@ -1,5 +1,5 @@
 -- What the code holds of lines and open nodes, without where it lies in memory.
-use Rattle.std.specs.Prelude.{◌≡◌, ◌≤◌, ◌||◌, ◌+◌, ℕ, Bool, List, [], ◌∷◌, ◌++◌, length, Option, Some, None, Result, Ok, Err, map, option_map, ⊤}
+use Rattle.std.specs.Prelude.{◌≤◌, ◌||◌, ◌+◌, ℕ, Bool, List, [], ◌∷◌, ◌++◌, length, Option, Some, None, map, option_map, ⊤}
 use Rattle.ci_yaml_lines.specs.declared.tree.Tree.{Tree}
 pub use Rattle.ci_yaml_lines.specs.TreeView.{words_of, bytes_of, items_of, pairs_of, joined, view_step, value_view, items_view, pairs_view}
 use Rattle.ci_yaml_lines.specs.Tree.{sequence, Value, node, Members}

@@ -1,4 +1,4 @@
-use Rattle.std.proofs.Common.{◌≡◌, ◌∙◌, ap, sym, refl, []}
+use Rattle.std.proofs.Common.{◌∙◌, ap, sym, refl}
 use Rattle.ci_yaml_lines.specs.Entry.{key}
 use Rattle.ci_yaml_lines.specs.View.{bytes_of, pairs_view, value_view}
 use Rattle.ci_yaml.specs.declared.progress.Open.TheVariants.{Pairs}
