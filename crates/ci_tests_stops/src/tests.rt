@@ -35,7 +35,8 @@ const CLOSED: Want = Want::Refused(Code::M17, None);
 fn either(
     alloc: Global,
     server: &mut Failing,
-    (seconds, act): (u64, Act),
+    seconds: u64,
+    act: Act,
     yes: Want,
     no: Want,
 ) -> Result<bool, Fail> {
@@ -59,7 +60,7 @@ fn had_happened(alloc: Global, server: &mut Failing, act: Act) -> Result<bool, F
     match act {
         Act::Success => {
             let (yes, no) = (Want::Job(JobStatus::Success), Want::Job(JobStatus::Running));
-            let had_ended = either(alloc, server, (1010, Act::Show), yes, no)?;
+            let had_ended = either(alloc, server, 1010, Act::Show, yes, no)?;
             if !ends_well(alloc, server)? {
                 return Err("not ended")?;
             }
@@ -67,11 +68,11 @@ fn had_happened(alloc: Global, server: &mut Failing, act: Act) -> Result<bool, F
         }
         Act::Running => {
             let (yes, no) = (again(Act::Sweep), first(Act::Sweep));
-            either(alloc, server, (1125, Act::Sweep), yes, no)
+            either(alloc, server, 1125, Act::Sweep, yes, no)
         }
         // A question is answered as it was.
-        Act::Show | Act::Trace => either(alloc, server, (1010, act), first(act), Want::Nothing),
-        _ => either(alloc, server, (moment_of(act), act), again(act), first(act)),
+        Act::Show | Act::Trace => either(alloc, server, 1010, act, first(act), Want::Nothing),
+        _ => either(alloc, server, moment_of(act), act, again(act), first(act)),
     }
 }
 
