@@ -1,11 +1,11 @@
 -- The codes with which a request is refused while it is read.
-use Rattle.std.proofs.Common.{◌≡◌, ℕ, Bool, true, false, List, [], ◌∷◌, sym, subst}
+use Rattle.std.proofs.Common.{ℕ, Bool, true, false, List, [], ◌∷◌, sym, subst}
 use Rattle.std.specs.Prelude.{if◌then◌else◌, Option, Some, None, Result, Ok, Err, ok_or, codes, ⊤}
 use Rattle.std.specs.Str.Parse.{digits_value}
 use Rattle.ci_machine.specs.declared.reply.Code.{Code}
-use Rattle.ci_machine.specs.declared.reply.Code.TheVariants.{H1, H3, H4, H8}
+use Rattle.ci_machine.specs.declared.reply.Code.TheVariants.{H1, H3, H4}
 use Rattle.ci_http.specs.declared.limits.TheConstants.{MAX_BODY_BYTES}
-use Rattle.ci_http.specs.BodyLength.{wants_length, length_after, body_length}
+use Rattle.ci_http.specs.BodyLength.{wants_length, length_after}
 use Rattle.ci_http.specs.Fields.{values_of}
 use Rattle.ci_http.specs.Head.{Head}
 use Rattle.ci_http.specs.Numbers.{is_number, within}
