@@ -1,74 +1,34 @@
 -- What the whole pass gives.
-use Rattle.std.proofs.Common.{◌≡◌, ◌⊎◌, ℕ, zero, suc, ◌+◌, ◌<◌, ◌==◌, true, List, [], ◌∷◌, length, refl, sym, ap, ◌∙◌, arith, eqb-true, slice_set, ⊎_elim, inr}
+use Rattle.std.proofs.Common.{◌≡◌, ◌⊎◌, ℕ, zero, suc, ◌+◌, ◌<◌, ◌==◌, Bool, true, false, List, [], ◌∷◌, length, refl, sym, ap, ◌∙◌, arith, eqb-true, slice_set, ⊎_elim, inr}
 use Rattle.std.proofs.Math.ListN.{set, length-set}
-use Rattle.std.proofs.lemmas.Bool.{cond_both, eqb-false}
+use Rattle.std.proofs.lemmas.Bool.{cond_both, eqb-false, and_parts}
 use Rattle.std.proofs.lemmas.List.{get_or-set_same, get_or-set_other, ext_get_or}
 use Rattle.ci_board.specs.declared.facts.Facts.{Facts}
 use Rattle.ci_board.specs.declared.facts.Row.{Row}
 use Rattle.ci_board.specs.Effects.{is_open, is_fail, is_bar, status_of_row}
 use Rattle.ci_board.specs.declared.facts.Effect.{Effect}
-use Rattle.ci_board.specs.declared.facts.Effect.TheVariants.{Good, Fails, Bars, Open}
 use Rattle.ci_graph.specs.Lists.{times}
 use Rattle.ci_graph.specs.JobGraph.{JobGraph, IsJobGraph, part_at, predecessors_of, successors_of}
 use Rattle.ci_board.specs.Rows.{AreCounted, AreRows, facts_at, row_at, no_row, no_facts}
 use Rattle.ci_board.proofs.Orders.{ComeInOrder, HasCome, in_order, all_come}
-use Rattle.ci_board.specs.Pass.{PassState, corrected, differs, same_effect, was, is, put, stepped, passed, next_status}
+use Rattle.ci_board.specs.Pass.{PassState, corrected, differs, same_test, same_effect, was, is, put, stepped, passed, next_status}
 use Rattle.ci_board.proofs.Corrects.{corrected_status, corrected_other}
 use Rattle.ci_board.proofs.Steps.{stepped_number, stepped_rows_long, stepped_facts}
 
+same_test_is : (x y : Bool) → same_test x y ≡ true → x ≡ y
+same_test_is true true e = refl
+same_test_is false false e = refl
+same_test_is true false e = absurd (cc)
+same_test_is false true e = absurd (cc)
+
 same_open : (a b : Effect) → same_effect a b ≡ true → is_open a ≡ is_open b
-same_open Good Good e = refl
-same_open Good Fails e = refl
-same_open Good Bars e = refl
-same_open Good Open e = absurd (cc)
-same_open Fails Good e = refl
-same_open Fails Fails e = refl
-same_open Fails Bars e = refl
-same_open Fails Open e = absurd (cc)
-same_open Bars Good e = refl
-same_open Bars Fails e = refl
-same_open Bars Bars e = refl
-same_open Bars Open e = absurd (cc)
-same_open Open Good e = absurd (cc)
-same_open Open Fails e = absurd (cc)
-same_open Open Bars e = absurd (cc)
-same_open Open Open e = refl
+same_open a b e = same_test_is (is_open a) (is_open b) (and_parts _ _ (and_parts _ _ e).0).0
 
 same_fail : (a b : Effect) → same_effect a b ≡ true → is_fail a ≡ is_fail b
-same_fail Good Good e = refl
-same_fail Good Fails e = absurd (cc)
-same_fail Good Bars e = refl
-same_fail Good Open e = refl
-same_fail Fails Good e = absurd (cc)
-same_fail Fails Fails e = refl
-same_fail Fails Bars e = absurd (cc)
-same_fail Fails Open e = absurd (cc)
-same_fail Bars Good e = refl
-same_fail Bars Fails e = absurd (cc)
-same_fail Bars Bars e = refl
-same_fail Bars Open e = refl
-same_fail Open Good e = refl
-same_fail Open Fails e = absurd (cc)
-same_fail Open Bars e = refl
-same_fail Open Open e = refl
+same_fail a b e = same_test_is (is_fail a) (is_fail b) (and_parts _ _ (and_parts _ _ e).0).1
 
 same_bar : (a b : Effect) → same_effect a b ≡ true → is_bar a ≡ is_bar b
-same_bar Good Good e = refl
-same_bar Good Fails e = refl
-same_bar Good Bars e = absurd (cc)
-same_bar Good Open e = refl
-same_bar Fails Good e = refl
-same_bar Fails Fails e = refl
-same_bar Fails Bars e = absurd (cc)
-same_bar Fails Open e = refl
-same_bar Bars Good e = absurd (cc)
-same_bar Bars Fails e = absurd (cc)
-same_bar Bars Bars e = refl
-same_bar Bars Open e = absurd (cc)
-same_bar Open Good e = refl
-same_bar Open Fails e = refl
-same_bar Open Bars e = absurd (cc)
-same_bar Open Open e = refl
+same_bar a b e = same_test_is (is_bar a) (is_bar b) (and_parts _ _ e).1
 
 step_counted : (g : JobGraph) → IsJobGraph g → (fresh : List Facts) (j : ℕ) → j < length g.parts → (h : PassState) → length h.rows ≡ length g.parts → length h.facts ≡ length g.parts
     → AreCounted g h.facts h.rows → AreCounted g (stepped g fresh j h).facts (stepped g fresh j h).rows
