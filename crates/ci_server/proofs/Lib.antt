@@ -1,4 +1,4 @@
-pub mod Queues
+pub mod Lists
 pub mod Handling
 pub mod Runs
-pub mod Lives
+pub mod LifetimeLemmas

@@ -16,8 +16,9 @@ use Rattle.ci_server.specs.Handling.{Call, refused, Handled, answered, no_memory
 use Rattle.sqlite.specs.Store.{Ghosts}
 use Rattle.sqlite.specs.Held.{Held}
 use Rattle.ci_store.specs.Stands.{IsAt, LeavesEither}
-use Rattle.ci_server.specs.Served.{Served, IsHonest, HandlesBy, HandlesEachBy, Handles, HandlesEach}
-use Rattle.ci_server.specs.Runs.{line, by_outcome, GoesOn, NoneFailed, IsUnanswered, IsRun, Runs}
+use Rattle.ci_server.specs.declared.fail_stop.FailStop.{FailStop}
+use Rattle.ci_server.specs.Server.{IsHonest, HandlesBy, HandlesEachBy, Handles, HandlesEach}
+use Rattle.ci_server.specs.Runs.{line, by_outcome, GoesOn, NoneFailed, IsUnanswered, OneMore, IsRun, Runs}
 
 -- the laws of each reached state, and that the machine answers with a step
 abbrev pub AllLaws : Type 0
@@ -26,14 +27,14 @@ AllLaws = (h : List Past) (s : State) → Leads h s → Laws h s
 abbrev pub AllStep : Type 0
 AllStep = (s t : State) (e : Event) (now : ℕ) (seed : Seed) (a : Answer) → Step s e now seed a t → outcome_of a ≡ Stepped
 
--- what the answers that refuse an event tell
-pub lacks_memory : (e : Event) → outcome_of (refused e M16) ≡ LackedMemory
-lacks_memory (event.Request request) = refl
-lacks_memory event.Sweep = refl
+-- the outcomes of the answers that refuse an event
+pub outcome-M16 : (e : Event) → outcome_of (refused e M16) ≡ LackedMemory
+outcome-M16 (event.Request request) = refl
+outcome-M16 event.Sweep = refl
 
-pub has_failed : (e : Event) → outcome_of (refused e M17) ≡ StoreFailed
-has_failed (event.Request request) = refl
-has_failed event.Sweep = refl
+pub outcome-M17 : (e : Event) → outcome_of (refused e M17) ≡ StoreFailed
+outcome-M17 (event.Request request) = refl
+outcome-M17 event.Sweep = refl
 
 -- ---- one call more, in each of the relations
 
@@ -121,6 +122,21 @@ module _ {T : Type 0} (holds : T → State → Type 0) (leaves : T → State →
     is_closed = λ k. absurd (false≢true (sym is_open ∙ k));
   }
 
+  -- a call that was no step leaves the history as it is
+  unstepped : (h : List Past) (cs : List Call) (rs : List Answer) (mid new : T) (was closed : Bool) (c : Call) (a : Answer) → (r : IsRun holds leaves h cs rs mid was) → IsNoStep (outcome_of a)
+      → (closed ≡ false → NoneFailed (rs ++ a ∷ []) × holds new r.state)
+      → (closed ≡ true → leaves new r.state r.state ⊎ OneMore leaves r.history r.state (cs ++ c ∷ []) (rs ++ a ∷ []) new)
+      → IsRun holds leaves h (cs ++ c ∷ []) (rs ++ a ∷ []) new closed
+  unstepped h cs rs mid new was closed c a r o is_open is_closed = record {
+    history = r.history;
+    state = r.state;
+    goes_on = more_unstepped h r.history cs rs c a o r.goes_on;
+    leads = r.leads;
+    laws = r.laws;
+    is_open = is_open;
+    is_closed = is_closed;
+  }
+
   opened : (h : List Past) (cs : List Call) (rs : List Answer) (mid new : T) (was closed : Bool) (c : Call) (a : Answer) → (r : IsRun holds leaves h cs rs mid was) → NoneFailed rs
       → Handled holds leaves c r.state new closed a → IsRun holds leaves h (cs ++ c ∷ []) (rs ++ a ∷ []) new closed
   opened h cs rs mid new was closed c a r none (answered t step held is_open) =
@@ -136,70 +152,38 @@ module _ {T : Type 0} (holds : T → State → Type 0) (leaves : T → State →
         is_closed = λ k. absurd (false≢true (sym is_open ∙ k));
       }
   opened h cs rs mid new was closed c a r none (no_memory is held is_open) =
-      let o : outcome_of a ≡ LackedMemory = ap outcome_of is ∙ lacks_memory c.0 in
-      record {
-        history = r.history;
-        state = r.state;
-        goes_on = more_unstepped h r.history cs rs c a (inl o) r.goes_on;
-        leads = r.leads;
-        laws = r.laws;
-        is_open = λ _. (none_more rs a (inr o) none, held);
-        is_closed = λ k. absurd (false≢true (sym is_open ∙ k));
-      }
+      let o : outcome_of a ≡ LackedMemory = ap outcome_of is ∙ outcome-M16 c.0 in
+      unstepped h cs rs mid new was closed c a r (inl o) (λ _. (none_more rs a (inr o) none, held)) (λ k. absurd (false≢true (sym is_open ∙ k)))
   opened h cs rs mid new was closed c a r none (look_failed is left is_closed) =
-      let o : outcome_of a ≡ StoreFailed = ap outcome_of is ∙ has_failed c.0 in
-      record {
-        history = r.history;
-        state = r.state;
-        goes_on = more_unstepped h r.history cs rs c a (inr o) r.goes_on;
-        leads = r.leads;
-        laws = r.laws;
-        is_open = λ k. absurd (false≢true (sym k ∙ is_closed));
-        is_closed = λ _. inl left;
-      }
+      unstepped h cs rs mid new was closed c a r (inr (ap outcome_of is ∙ outcome-M17 c.0)) (λ k. absurd (false≢true (sym k ∙ is_closed))) (λ _. inl left)
   opened h cs rs mid new was closed c a r none (commit_failed b t step is left is_closed) =
-      let o : outcome_of a ≡ StoreFailed = ap outcome_of is ∙ has_failed c.0 in
+      let o : outcome_of a ≡ StoreFailed = ap outcome_of is ∙ outcome-M17 c.0 in
       let last = line r.state c b in
       let here : Leads (last ∷ r.history) t = (r.leads, step) in
-      record {
-        history = r.history;
-        state = r.state;
-        goes_on = more_unstepped h r.history cs rs c a (inr o) r.goes_on;
-        leads = r.leads;
-        laws = r.laws;
-        is_open = λ k. absurd (false≢true (sym k ∙ is_closed));
-        is_closed = λ _. inr (record {
-          last = last;
-          unanswered = now_first last cs rs c a (same_length h r.history cs rs r.goes_on) none o (refl, refl, refl);
-          after = t;
-          leads = here;
-          laws = laws _ t here;
-          leaves_either = left;
-        });
-      }
+      unstepped h cs rs mid new was closed c a r (inr o) (λ k. absurd (false≢true (sym k ∙ is_closed))) (λ _. inr (record {
+        last = last;
+        unanswered = now_first last cs rs c a (same_length h r.history cs rs r.goes_on) none o (refl, refl, refl);
+        after = t;
+        leads = here;
+        laws = laws _ t here;
+        leaves_either = left;
+      }))
 
   -- a closed server refuses
   after_fault : (h : List Past) (cs : List Call) (rs : List Answer) (mid new : T) (closed : Bool) (c : Call) (a : Answer) → (r : IsRun holds leaves h cs rs mid true)
       → outcome_of a ≡ StoreFailed → closed ≡ true → new ≡ mid → IsRun holds leaves h (cs ++ c ∷ []) (rs ++ a ∷ []) new closed
-  after_fault h cs rs mid new closed c a r o is same = record {
-    history = r.history;
-    state = r.state;
-    goes_on = more_unstepped h r.history cs rs c a (inr o) r.goes_on;
-    leads = r.leads;
-    laws = r.laws;
-    is_open = λ k. absurd (false≢true (sym k ∙ is));
-    is_closed = λ _. ⊎_elim
-        (λ l. inl (subst (λ n. leaves n r.state r.state) (sym same) l))
-        (λ m. inr (record {
-          last = m.last;
-          unanswered = still_first m.last cs rs c a m.unanswered;
-          after = m.after;
-          leads = m.leads;
-          laws = m.laws;
-          leaves_either = subst (λ n. leaves n r.state m.after) (sym same) m.leaves_either;
-        }))
-        (r.is_closed refl);
-  }
+  after_fault h cs rs mid new closed c a r o is same =
+      unstepped h cs rs mid new true closed c a r (inr o) (λ k. absurd (false≢true (sym k ∙ is))) (λ _. ⊎_elim
+      (λ l. inl (subst (λ n. leaves n r.state r.state) (sym same) l))
+      (λ m. inr (record {
+        last = m.last;
+        unanswered = still_first m.last cs rs c a m.unanswered;
+        after = m.after;
+        leads = m.leads;
+        laws = m.laws;
+        leaves_either = subst (λ n. leaves n r.state m.after) (sym same) m.leaves_either;
+      }))
+      (r.is_closed refl))
 
   pub run_more : (h : List Past) (cs : List Call) (rs : List Answer) (mid new : T) (was closed : Bool) (c : Call) (a : Answer) → IsRun holds leaves h cs rs mid was
       → (was ≡ false → (s : State) → holds mid s → Handled holds leaves c s new closed a)
@@ -213,31 +197,31 @@ module _ {T : Type 0} (holds : T → State → Type 0) (leaves : T → State →
 -- ---- calls one after the other
 
 module _ {T : Type 0} (honest : T → Type 0) (holds : T → State → Type 0) (leaves : T → State → State → Type 0) where
-  pub each_more : (old mid new : Served T) (cs : List Call) (rs : List Answer) (c : Call) (a : Answer) → HandlesEachBy honest holds leaves old cs rs mid
+  pub each_more : (old mid new : FailStop T) (cs : List Call) (rs : List Answer) (c : Call) (a : Answer) → HandlesEachBy honest holds leaves old cs rs mid
       → HandlesBy honest holds leaves mid c new a → HandlesEachBy honest holds leaves old (cs ++ c ∷ []) (rs ++ a ∷ []) new
-  each_more old mid new [] [] c a same one = (new, subst (λ (o : Served T). HandlesBy honest holds leaves o c new a) same one, refl)
+  each_more old mid new [] [] c a same one = (new, subst (λ (o : FailStop T). HandlesBy honest holds leaves o c new a) same one, refl)
   each_more old mid new [] (b ∷ rs) c a each one = absurd each
   each_more old mid new (d ∷ cs) [] c a each one = absurd each
   each_more old mid new (d ∷ cs) (b ∷ rs) c a each one = (each.0, each.1, each_more each.0 mid new cs rs c a each.2 one)
 
-  pub was_honest : (old new : Served T) (cs : List Call) (rs : List Answer) → HandlesEachBy honest holds leaves old cs rs new → honest new.store → honest old.store
-  was_honest old new [] [] same h = subst (λ (o : Served T). honest o.store) same h
+  pub was_honest : (old new : FailStop T) (cs : List Call) (rs : List Answer) → HandlesEachBy honest holds leaves old cs rs new → honest new.store → honest old.store
+  was_honest old new [] [] same h = subst (λ (o : FailStop T). honest o.store) same h
   was_honest old new [] (b ∷ rs) each h = absurd each
   was_honest old new (d ∷ cs) [] each h = absurd each
   was_honest old new (d ∷ cs) (b ∷ rs) each h = each.1.was_honest (was_honest each.0 new cs rs each.2 h)
 
   -- what a call answers on a closed server
-  pub once_closed : (c : Call) (a : Answer) (old new : Served T) → HandlesBy honest holds leaves old c new a → old.closed ≡ true
+  pub once_closed : (c : Call) (a : Answer) (old new : FailStop T) → HandlesBy honest holds leaves old c new a → old.closed ≡ true
       → (outcome_of a ≡ StoreFailed) × (new.closed ≡ true) × (new.store ≡ old.store)
   once_closed c a old new one shut =
-      let w = one.once_closed shut in (ap outcome_of w.0 ∙ has_failed c.0, ap (λ (o : Served T). o.closed) w.1 ∙ shut, ap (λ (o : Served T). o.store) w.1)
+      let w = one.once_closed shut in (ap outcome_of w.0 ∙ outcome-M17 c.0, ap (λ (o : FailStop T). o.closed) w.1 ∙ shut, ap (λ (o : FailStop T). o.store) w.1)
 
-  pub runs : AllLaws → AllStep → (h : List Past) (before : List Call) (earlier : List Answer) (old new : Served T) (cs : List Call) (rs : List Answer)
+  pub runs : AllLaws → AllStep → (h : List Past) (before : List Call) (earlier : List Answer) (old new : FailStop T) (cs : List Call) (rs : List Answer)
       → IsRun holds leaves h before earlier old.store old.closed → HandlesEachBy honest holds leaves old cs rs new → honest new.store
       → IsRun holds leaves h (before ++ cs) (earlier ++ rs) new.store new.closed
   runs laws steps h before earlier old new [] [] r same ok =
       subst₂ (λ (xs : List Call) (ys : List Answer). IsRun holds leaves h xs ys new.store new.closed) (sym (append-nil before)) (sym (append-nil earlier))
-      (subst (λ (o : Served T). IsRun holds leaves h before earlier o.store o.closed) (sym same) r)
+      (subst (λ (o : FailStop T). IsRun holds leaves h before earlier o.store o.closed) (sym same) r)
   runs laws steps h before earlier old new [] (a ∷ rs) r each ok = absurd each
   runs laws steps h before earlier old new (c ∷ cs) [] r each ok = absurd each
   runs laws steps h before earlier old new (c ∷ cs) (a ∷ rs) r each ok =
@@ -248,19 +232,19 @@ module _ {T : Type 0} (honest : T → Type 0) (holds : T → State → Type 0) (
       subst₂ (λ (xs : List Call) (ys : List Answer). IsRun holds leaves h xs ys new.store new.closed) (append_assoc before (c ∷ []) cs) (append_assoc earlier (a ∷ []) rs)
       (runs laws steps h (before ++ c ∷ []) (earlier ++ a ∷ []) mid new cs rs more each.2 ok)
 
-  pub run_from : AllLaws → AllStep → (h : List Past) (s : State) (old new : Served T) (cs : List Call) (rs : List Answer) → old.closed ≡ false → Leads h s → holds old.store s
+  pub run_from : AllLaws → AllStep → (h : List Past) (s : State) (old new : FailStop T) (cs : List Call) (rs : List Answer) → old.closed ≡ false → Leads h s → holds old.store s
       → HandlesEachBy honest holds leaves old cs rs new → honest new.store → IsRun holds leaves h cs rs new.store new.closed
   run_from laws steps h s old new cs rs was_open leads held each ok =
       runs laws steps h [] [] old new cs rs (run_none holds leaves laws steps h s old.store old.closed leads held was_open) each ok
 
 -- ---- over tables
 
-pub run_of_each : {S : Type 0} (g : Ghosts S) → AllLaws → AllStep → (old new : Served (Held S)) (cs : List Call) (rs : List Answer) → old.closed ≡ false → HandlesEach g old cs rs new
+pub run_of_each : {S : Type 0} (g : Ghosts S) → AllLaws → AllStep → (old new : FailStop (Held S)) (cs : List Call) (rs : List Answer) → old.closed ≡ false → HandlesEach g old cs rs new
     → Runs g old cs rs new
 run_of_each {S = S} g laws steps old new cs rs was_open each = λ honest h s leads at.
     run_from (IsHonest g) (λ (t : Held S) u. IsAt g u t) (λ (t : Held S) u v. LeavesEither g u v t) laws steps h s old new cs rs was_open leads at each honest
 
-pub run_of_one : {S : Type 0} (g : Ghosts S) → AllLaws → AllStep → (old new : Served (Held S)) (c : Call) (a : Answer) → old.closed ≡ false → Handles g old c new a
+pub run_of_one : {S : Type 0} (g : Ghosts S) → AllLaws → AllStep → (old new : FailStop (Held S)) (c : Call) (a : Answer) → old.closed ≡ false → Handles g old c new a
     → Runs g old (c ∷ []) (a ∷ []) new
 run_of_one g laws steps old new c a was_open one = run_of_each g laws steps old new (c ∷ []) (a ∷ []) was_open (new, one, refl)
 

@@ -1,6 +1,5 @@
--- What one event does to a server.
-use Rattle.std.specs.Prelude.{◌≡◌, ℕ, Bool, true, false, List, Result, Ok, Err}
-use Rattle.ci_machine.specs.declared.change.RowChange.{RowChange}
+-- What one event does: to the store that it is handled over, and to a server.
+use Rattle.std.specs.Prelude.{◌≡◌, ◌⊎◌, ℕ, Bool, true, false, Result, Ok, Err}
 use Rattle.ci_machine.specs.declared.reply.Answer.{Answer}
 use Rattle.ci_machine.specs.declared.reply.Answer.TheVariants as answer
 use Rattle.ci_machine.specs.declared.reply.Code.{Code}
@@ -10,8 +9,10 @@ use Rattle.ci_machine.specs.declared.request.Event.{Event}
 use Rattle.ci_machine.specs.declared.request.Event.TheVariants as event
 use Rattle.ci_machine.specs.declared.request.Seed.{Seed}
 use Rattle.ci_machine.specs.Reply.{refusal}
-use Rattle.ci_machine.specs.State.{State, applied}
+use Rattle.ci_machine.specs.State.{State}
 use Rattle.ci_machine.specs.Step.{Step}
+use Rattle.ci_tables.specs.declared.fault.StoreFault.{StoreFault}
+use Rattle.ci_tables.specs.declared.fault.StoreFault.TheVariants.{Memory, Broken}
 
 -- an event, with its moment and its seed
 abbrev pub Call : Type 0
@@ -21,6 +22,25 @@ Call = Event × ℕ × Seed
 abbrev pub refused : Event → Code → Answer
 refused (event.Request request) code = answer.Reply (refusal code)
 refused event.Sweep code = answer.Swept (swept.Refused code)
+
+-- the code of the refusal for a fault of the store
+abbrev pub code_of : StoreFault → Code
+code_of Memory = M16
+code_of Broken = M17
+
+-- does a fault of the store close the server?
+abbrev pub closes : StoreFault → Bool
+closes Memory = false
+closes Broken = true
+
+module _ {T : Type 0} (holds : T → State → Type 0) (leaves : T → State → State → Type 0) where
+  -- What an event did to a store that held the state s, by how it ended. It was answered: the store holds the state after the machine's step.
+  -- Memory was refused: it holds s. It failed: in a look-up, and a stop leaves s alone, or in the commit, and a stop leaves s or the state after
+  -- the step.
+  abbrev pub Performs : {A : Type 0} → (A → Answer) → Call → State → T → Result A StoreFault → Type 0
+  Performs as_answer c s new (Ok a) = (t : State) × Step s c.0 c.1 c.2 (as_answer a) t × holds new t
+  Performs as_answer c s new (Err Memory) = holds new s
+  Performs as_answer c s new (Err Broken) = leaves new s s ⊎ ((b : Answer) × (t : State) × Step s c.0 c.1 c.2 b t × leaves new s t)
 
 -- How an event of an open server ended, whose store held this state before: the store now, whether the server is closed, and the answer.
 pub data Handled {T : Type 0} (holds : T → State → Type 0) (leaves : T → State → State → Type 0) (c : Call) (s : State) (new : T) (closed : Bool) (a : Answer) : Type 0 where
@@ -32,9 +52,3 @@ pub data Handled {T : Type 0} (holds : T → State → Type 0) (leaves : T → S
   look_failed : a ≡ refused c.0 M17 → leaves new s s → closed ≡ true → Handled holds leaves c s new closed a
   -- the store failed in the commit: a stop leaves the state before or the one after the machine's step
   commit_failed : (b : Answer) (t : State) → Step s c.0 c.1 c.2 b t → a ≡ refused c.0 M17 → leaves new s t → closed ≡ true → Handled holds leaves c s new closed a
-
--- How the commit of changes ended, by its result: they are made, or there is no step, for a cause.
-pub data Made {T A : Type 0} (holds : T → State → Type 0) (leaves : T → State → State → Type 0) (changes : List RowChange) (s : State) (new : T) (closed : Bool) (r : Result A Code) : Type 0 where
-  made : (done : A) → r ≡ Ok done → holds new (applied changes s) → closed ≡ false → Made holds leaves changes s new closed r
-  lacked_memory : r ≡ Err M16 → holds new s → closed ≡ false → Made holds leaves changes s new closed r
-  failed : r ≡ Err M17 → leaves new s (applied changes s) → closed ≡ true → Made holds leaves changes s new closed r

@@ -1,5 +1,5 @@
 pub mod Serving
 pub mod Handling
+pub mod Server
 pub mod Runs
-pub mod Served
-pub mod Lives
+pub mod Lifetime

@@ -9,7 +9,8 @@ use Rattle.sqlite.specs.Store.{Ghosts}
 use Rattle.sqlite.specs.Held.{Held}
 use Rattle.ci_store.specs.Stands.{IsAt, LeavesEither}
 use Rattle.ci_server.specs.Handling.{Call}
-use Rattle.ci_server.specs.Served.{Served, IsHonest}
+use Rattle.ci_server.specs.declared.fail_stop.FailStop.{FailStop}
+use Rattle.ci_server.specs.Server.{IsHonest}
 
 -- the line of a history that a call adds in a state
 abbrev pub line : State → Call → Answer → Past
@@ -61,7 +62,7 @@ pub record IsRun {T : Type 0} (holds : T → State → Type 0) (leaves : T → S
   pub is_closed : closed ≡ true → leaves new state state ⊎ OneMore leaves history state cs rs new
 
 -- from each state that a history leads to and that the server holds, the calls with these answers are a run
-abbrev pub Runs : {S : Type 0} → Ghosts S → Served (Held S) → List Call → List Answer → Served (Held S) → Type 0
+abbrev pub Runs : {S : Type 0} → Ghosts S → FailStop (Held S) → List Call → List Answer → FailStop (Held S) → Type 0
 Runs {S} g old cs rs new =
     IsHonest g new.store → (h : List Past) (s : State) → Leads h s → IsAt g s old.store
     → IsRun (λ (t : Held S) u. IsAt g u t) (λ (t : Held S) u v. LeavesEither g u v t) h cs rs new.store new.closed

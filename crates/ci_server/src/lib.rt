@@ -1,14 +1,22 @@
 //! The server: requests over the tables, served from bytes to bytes.
 #![tactic(auto)]
 
-mod attempts;
-mod desk;
-pub mod life;
-mod loads;
-mod queries;
+mod copies;
+mod events;
+mod fail_stop;
+mod grants;
+mod leases;
+pub mod lifetime;
+mod pipelines;
+mod projects;
+mod reports;
+mod runners;
 pub mod serve;
 pub mod server;
+mod shows;
+mod sweeps;
 #[cfg(test)]
 mod tests;
+mod traces;
 
 pub use ci_http::link;

@@ -10,10 +10,10 @@ ghost use Rattle.ci_machine.specs.declared.request.Seed.{Seed};
 ghost use Rattle.ci_machine.specs.State.{State, empty};
 ghost use Rattle.ci_store.specs.Create.{IsBlank};
 ghost use Rattle.ci_store.specs.Stands.{StandsIn, LeavesOnly};
-ghost use Rattle.ci_server.specs.Served.{Handles, HandlesEach, Creates, Opens};
+ghost use Rattle.ci_server.specs.Server.{Handles, HandlesEach, Creates, Opens};
 ghost use Rattle.ci_server.specs.Runs.{Runs};
 
-use crate::desk::Desk;
+use crate::fail_stop::FailStop;
 use crate::serve::Handler;
 use ci_machine::laws::{a_step_is_answered, laws_of_each_reached_state};
 use ci_machine::moment::Moment;
@@ -27,18 +27,19 @@ use std::marker::Model;
 /// A server over the tables of a store. From the first fault of the store on it is closed, and answers M17 to all.
 #[derive(Drop)]
 pub struct Server<S: Alter> {
-    desk: Desk<Tables<S>>,
+    inner: FailStop<Tables<S>>,
 }
 
 impl<S: Alter> Model for Server<S> {
     ghost use Rattle.sqlite.specs.Held.{Held, held_code};
-    ghost use Rattle.ci_server.specs.Served.{Served, served_code};
+    ghost use Rattle.ci_server.specs.declared.fail_stop.FailStop.{FailStop};
+    ghost use Rattle.ci_server.specs.Server.{fail_stop_code};
 
-    ghost Value = { Served (Held S) };
+    ghost Value = { FailStop (Held S) };
 
-    ghost coded = { served_code (held_code S.code) };
+    ghost coded = { fail_stop_code (held_code S.code) };
 
-    ghost view = { λ s. record { store = s.desk.store; closed = s.desk.closed } };
+    ghost view = { λ s. s.inner };
 
     ghost invariant = { λ s. Unit {0} };
 }
@@ -51,9 +52,7 @@ impl<S: Alter> Server<S> {
         ensures left { IfErr result (λ e. HasCleanDisk (state S.Store e.1) → IsBlank S.Store conn → (db : Trees) → (state S.Store e.1).may_leave db → (state S.Store conn).may_leave db ⊎ StandsIn empty db) }
     {
         match Tables::create(conn) {
-            Ok(store) => Ok(Server {
-                desk: Desk::over(store),
-            }),
+            Ok(store) => Ok(Server::over(store)),
             Err(fault) => Err(fault),
         }
     }
@@ -65,10 +64,20 @@ impl<S: Alter> Server<S> {
         ensures left { IfErr result (λ e. HasCleanDisk (state S.Store e.1) → (s : State) → LeavesOnly S.Store s conn → LeavesOnly S.Store s e.1) }
     {
         match Tables::open(conn) {
-            Ok(store) => Ok(Server {
-                desk: Desk::over(store),
-            }),
+            Ok(store) => Ok(Server::over(store)),
             Err(fault) => Err(fault),
+        }
+    }
+
+    /// An open server over tables.
+    fn over(store: Tables<S>) -> Server<S>
+        ensures { result ≡ record { store = store; closed = false } }
+    {
+        Server {
+            inner: FailStop {
+                store,
+                closed: false,
+            },
         }
     }
 
@@ -76,7 +85,7 @@ impl<S: Alter> Server<S> {
     pub fn closed(&self) -> bool
         ensures closed { result ≡ self.now.closed }
     {
-        self.desk.closed
+        self.inner.closed
     }
 
     /// Gives the connection back, for a reopening.
@@ -84,8 +93,8 @@ impl<S: Alter> Server<S> {
         ensures same { result ≡ self.store }
         ensures idle { result.in_transaction ≡ false }
     {
-        let Server { desk } = self;
-        let Desk { store, closed: _ } = desk;
+        let Server { inner } = self;
+        let FailStop { store, closed: _ } = inner;
         store.close()
     }
 
@@ -99,7 +108,7 @@ impl<S: Alter> Server<S> {
     {
         laws_of_each_reached_state();
         a_step_is_answered();
-        self.desk.handle(alloc, request, moment, seed)
+        self.inner.handle(alloc, request, moment, seed)
     }
 
     /// Sweeps at a moment: of the leases that are over it ends the one of the attempt of least number.
@@ -112,7 +121,7 @@ impl<S: Alter> Server<S> {
     {
         laws_of_each_reached_state();
         a_step_is_answered();
-        self.desk.sweep(alloc, moment)
+        self.inner.sweep(alloc, moment)
     }
 
     /// Handles events one after the other, each at its moment and with its seed.
@@ -135,14 +144,14 @@ impl<S: Alter> Server<S> {
     {
         laws_of_each_reached_state();
         a_step_is_answered();
-        self.desk.run(alloc, calls)
+        self.inner.run(alloc, calls)
     }
 }
 
 impl<S: Alter> Handler for Server<S> {
     ghost use Rattle.ci_machine.specs.declared.reply.Answer.TheVariants as answer;
     ghost use Rattle.ci_machine.specs.declared.request.Event.TheVariants as event;
-    ghost use Rattle.ci_server.specs.Served.{Handles};
+    ghost use Rattle.ci_server.specs.Server.{Handles};
 
     ghost handles = { λ old request moment seed new reply. Handles S.Store old (event.Request request, moment, seed) new (answer.Reply reply) };
 

@@ -168,86 +168,68 @@ fn a_request_is_handled_once(rt: HostRuntime) -> Result<(), Fail> {
     Ok(())
 }
 
-// Requests that are refused, with the status and the code of the refusal.
-const REFUSED: &[(&[u8], &str, &str)] = &[
-    (b"\r\n\r\n", "400 Bad Request", "H1"),
-    (b"GET / HTTP/2.0\r\n\r\n", "400 Bad Request", "H1"),
-    (b"GET / HTTP/1.1\n\nmore\r\n\r\n", "400 Bad Request", "H1"),
-    (
-        b"PUT / HTTP/1.1\r\nTransfer-Encoding: chunked\r\nContent-Length: x\r\n\r\n",
-        "501 Not Implemented",
-        "H8",
-    ),
-    (
-        b"GET / HTTP/1.1\r\nContent-Length: 0\r\ncontent-length: 0\r\n\r\n",
-        "400 Bad Request",
-        "H1",
-    ),
-    (
-        b"POST / HTTP/1.1\r\nContent-Length: +5\r\n\r\n",
-        "400 Bad Request",
-        "H1",
-    ),
-    (
-        b"POST / HTTP/1.1\r\nContent-Length:\r\n\r\n",
-        "400 Bad Request",
-        "H1",
-    ),
-    (b"POST / HTTP/1.1\r\n\r\n", "411 Length Required", "H3"),
-    (b"PATCH / HTTP/1.1\r\n\r\n", "411 Length Required", "H3"),
-    (
-        b"GET / HTTP/1.1\r\nContent-Length: 65537\r\n\r\n",
-        "413 Payload Too Large",
-        "H4",
-    ),
-    (
-        b"POST / HTTP/1.1\r\nContent-Length: 18446744073709551617\r\n\r\n",
-        "413 Payload Too Large",
-        "H4",
-    ),
-    (
-        b"post /api/v4/jobs/requests HTTP/1.1\r\n\r\n",
-        "404 Not Found",
-        "H5",
-    ),
-    (
-        b"POST /api/v4/jobs/request/ HTTP/1.1\r\nContent-Length: 1\r\n\r\n{",
-        "404 Not Found",
-        "H5",
-    ),
-    (
-        b"POST /api/v4/jobs/request HTTP/1.1\r\nContent-Length: 15\r\n\r\n{\"token\":\"nope\"}",
-        "400 Bad Request",
-        "H7",
-    ),
-    (
-        b"POST /api/v4/jobs/request HTTP/1.1\r\nContent-Length: 0\r\n\r\n",
-        "400 Bad Request",
-        "H7",
-    ),
-    (
-        b"POST /api/v4/jobs/request HTTP/1.1\r\nContent-Length: 8\r\n\r\n[\"nope\"]",
-        "400 Bad Request",
-        "H7",
-    ),
-    (
-        b"POST /api/v4/jobs/request HTTP/1.1\r\nContent-Length: 14\r\n\r\n{\"token\":null}",
-        "400 Bad Request",
-        "H7",
-    ),
-    (
-        b"POST /api/v4/jobs/request HTTP/1.1\r\nContent-Length: 13\r\n\r\n{\"token\":\"\xff\"}",
-        "400 Bad Request",
-        "H7",
-    ),
+// The least code is told, whatever else is wrong.
+const BAD_HEADS: &[&[u8]] = &[
+    b"\r\n\r\n",
+    b"GET / HTTP/2.0\r\n\r\n",
+    b"GET / HTTP/1.1\n\nmore\r\n\r\n",
+    b"GET / HTTP/1.1\r\nContent-Length: 0\r\ncontent-length: 0\r\n\r\n",
+    b"POST / HTTP/1.1\r\nContent-Length: +5\r\n\r\n",
+    b"POST / HTTP/1.1\r\nContent-Length:\r\n\r\n",
 ];
 
-#[test]
-fn refusals_in_their_order(rt: HostRuntime) -> Result<(), Fail> {
-    for (bytes, status, code) in REFUSED {
-        refused(&rt, rt.alloc(), bytes, status, code)?;
+const NO_LENGTHS: &[&[u8]] = &[b"POST / HTTP/1.1\r\n\r\n", b"PATCH / HTTP/1.1\r\n\r\n"];
+
+const LONG_BODIES: &[&[u8]] = &[
+    b"GET / HTTP/1.1\r\nContent-Length: 65537\r\n\r\n",
+    b"POST / HTTP/1.1\r\nContent-Length: 18446744073709551617\r\n\r\n",
+];
+
+const CODED_BODIES: &[&[u8]] = &[
+    b"PUT / HTTP/1.1\r\nTransfer-Encoding: chunked\r\nContent-Length: x\r\n\r\n",
+];
+
+const UNKNOWN_PATHS: &[&[u8]] = &[
+    b"post /api/v4/jobs/requests HTTP/1.1\r\n\r\n",
+    b"POST /api/v4/jobs/request/ HTTP/1.1\r\nContent-Length: 1\r\n\r\n{",
+];
+
+const BAD_BODIES: &[&[u8]] = &[
+    b"POST /api/v4/jobs/request HTTP/1.1\r\nContent-Length: 15\r\n\r\n{\"token\":\"nope\"}",
+    b"POST /api/v4/jobs/request HTTP/1.1\r\nContent-Length: 0\r\n\r\n",
+    b"POST /api/v4/jobs/request HTTP/1.1\r\nContent-Length: 8\r\n\r\n[\"nope\"]",
+    b"POST /api/v4/jobs/request HTTP/1.1\r\nContent-Length: 14\r\n\r\n{\"token\":null}",
+    b"POST /api/v4/jobs/request HTTP/1.1\r\nContent-Length: 13\r\n\r\n{\"token\":\"\xff\"}",
+];
+
+// Each of these requests gets a refusal with this status line and code, without the handler.
+fn all_refused(
+    rt: &impl Abort,
+    alloc: Global,
+    requests: &[&[u8]],
+    status: &str,
+    code: &str,
+) -> Result<(), Fail> {
+    for bytes in requests {
+        refused(rt, alloc, bytes, status, code)?;
     }
     Ok(())
+}
+
+#[test]
+fn heads_that_are_refused(rt: HostRuntime) -> Result<(), Fail> {
+    let alloc = rt.alloc();
+    all_refused(&rt, alloc, BAD_HEADS, "400 Bad Request", "H1")?;
+    all_refused(&rt, alloc, NO_LENGTHS, "411 Length Required", "H3")?;
+    all_refused(&rt, alloc, LONG_BODIES, "413 Payload Too Large", "H4")?;
+    all_refused(&rt, alloc, CODED_BODIES, "501 Not Implemented", "H8")
+}
+
+#[test]
+fn paths_and_bodies_that_are_refused(rt: HostRuntime) -> Result<(), Fail> {
+    let alloc = rt.alloc();
+    all_refused(&rt, alloc, UNKNOWN_PATHS, "404 Not Found", "H5")?;
+    all_refused(&rt, alloc, BAD_BODIES, "400 Bad Request", "H7")
 }
 
 #[test]

@@ -6,9 +6,9 @@ use Rattle.ci_server.proofs.server.Server.open.Goals as goal
 
 pub returns-in-Ok-clause-opened : goal.returns-in-Ok-clause-opened
 returns-in-Ok-clause-opened g c =
-    let store = ap (λ (d : _). d.store) c.over.ensures.over in
+    let store = ap (λ (d : _). d.store) c.over.ensures in
     record {
-      is_open = ap (λ (d : _). d.closed) c.over.ensures.over;
+      is_open = ap (λ (d : _). d.closed) c.over.ensures;
       opened = λ honest s only.
           subst (IsAt g.S.Store s) (sym store) (c.in-Ok.ensures.opened (subst (λ h. HasCleanDisk (state g.S.Store h)) store honest) s only);
     }

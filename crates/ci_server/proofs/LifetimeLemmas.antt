@@ -1,0 +1,116 @@
+-- What stands of each server, by the operations that it came of.
+use Rattle.std.proofs.Common.{◌≡◌, ◌⊎◌, inl, inr, ⊎_elim, Bool, true, false, List, [], ◌∷◌, IsTrue, refl, sym, ap, subst, ◌∙◌}
+use Rattle.std.proofs.lemmas.Bool.{false≢true}
+use Rattle.sqlite.specs.Tree.{Trees}
+use Rattle.sqlite.specs.Store.{Ghosts}
+use Rattle.sqlite.specs.Held.{Held, state}
+use Rattle.ci_machine.specs.declared.reply.Answer.{Answer}
+use Rattle.ci_machine.specs.Reply.{Outcome, LackedMemory, StoreFailed, outcome_of}
+use Rattle.ci_machine.specs.State.{State, empty}
+use Rattle.ci_machine.specs.History.{Past, Leads}
+use Rattle.ci_store.specs.Stands.{StandsIn, IsAt, LeavesOnly, LeavesEither}
+use Rattle.ci_server.specs.declared.fail_stop.FailStop.{FailStop}
+use Rattle.ci_server.specs.Handling.{Call, Handled, answered, no_memory, look_failed, commit_failed}
+use Rattle.ci_server.specs.Server.{IsHonest, Handles, HandlesEach, Opens}
+use Rattle.ci_server.specs.Runs.{line, by_outcome}
+use Rattle.ci_server.specs.Lifetime.{Operation, called, opened, Recovers, ComesOf, called_each, failed_by, has_failed, HasNewest, IsHistoryOf, IsReachedBy, LosesNoStep}
+use Rattle.ci_server.proofs.Runs.{AllLaws, AllStep, outcome-M16, outcome-M17}
+
+-- what a call with this outcome adds
+abbrev IsHistoryBy : Outcome → List Operation → Call → Answer → List Past → Type 0
+IsHistoryBy o ops c a h =
+    by_outcome o (HasNewest (λ g. IsHistoryOf ops g) c a h) (IsHistoryOf ops h)
+    (IsHistoryOf ops h ⊎ ((has_failed ops ≡ false) × (answer : Answer) × HasNewest (λ g. IsHistoryOf ops g) c answer h))
+
+-- ---- the history of the operations and one call more
+
+-- the call lacked memory
+without_memory : (ops : List Operation) (c : Call) (a : Answer) (s : State) → outcome_of a ≡ LackedMemory → IsReachedBy ops s → IsReachedBy (called c a ∷ ops) s
+without_memory ops c a s is k = record { history = k.history; is_history = subst (λ o. IsHistoryBy o ops c a k.history) (sym is) k.is_history; leads = k.leads; laws = k.laws }
+
+-- the store failed, and the call left no line
+without_line : (ops : List Operation) (c : Call) (a : Answer) (s : State) → outcome_of a ≡ StoreFailed → IsReachedBy ops s → IsReachedBy (called c a ∷ ops) s
+without_line ops c a s is k = record { history = k.history; is_history = subst (λ o. IsHistoryBy o ops c a k.history) (sym is) (inl k.is_history); leads = k.leads; laws = k.laws }
+
+newest : (ops : List Operation) (c : Call) (a : Answer) (s : State) → (k : IsReachedBy ops s) → HasNewest (λ g. IsHistoryOf ops g) c a (line s c a ∷ k.history)
+newest ops c a s k = record { before = s; earlier = k.history; newest = refl; rest = k.is_history }
+
+module _ {S : Type 0} (g : Ghosts S) (settled : (s : S) (db : Trees) → IsTrue (g.view s).is_open → g.recovers s db → db ≡ (g.view s).committed) (laws : AllLaws) (steps : AllStep) where
+  -- what stands of a server, and whether it is closed
+  abbrev Stands : List Operation → FailStop (Held S) → Type 0
+  Stands ops server = LosesNoStep g ops server × (server.closed ≡ has_failed ops)
+
+  -- a server whose tables hold a state that the operations reach
+  holding : (ops : List Operation) (server : FailStop (Held S)) (s : State) → IsReachedBy ops s → IsAt g s server.store → server.closed ≡ has_failed ops → Stands ops server
+  holding ops server s reached at closed = (record { held = λ _. (s, reached, at); left = λ db may. (s, reached, at.left db may) }, closed)
+
+  -- a server that is closed after a call in which the store failed, or which it refused
+  failed : (ops : List Operation) (new : FailStop (Held S)) (c : Call) (a : Answer) → outcome_of a ≡ StoreFailed → new.closed ≡ true
+      → ((db : Trees) → (state g new.store).may_leave db → (s : State) × IsReachedBy (called c a ∷ ops) s × StandsIn s db) → Stands (called c a ∷ ops) new
+  failed ops new c a is is_closed left =
+      (record { held = λ o. absurd (false≢true (sym o ∙ is_closed)); left = left }, is_closed ∙ sym (ap (λ w. failed_by w (has_failed ops)) is))
+
+  -- an open server that the call leaves open
+  still_open : (ops : List Operation) (c : Call) (a : Answer) (o : Outcome) (closed : Bool) → outcome_of a ≡ o → failed_by o (has_failed ops) ≡ has_failed ops → has_failed ops ≡ false
+      → closed ≡ false → closed ≡ has_failed (called c a ∷ ops)
+  still_open ops c a o closed is same none is_open = is_open ∙ sym (ap (λ w. failed_by w (has_failed ops)) is ∙ same ∙ none)
+
+  called_open : (ops : List Operation) (new : FailStop (Held S)) (c : Call) (a : Answer) (s : State) → has_failed ops ≡ false → IsReachedBy ops s
+      → Handled (λ (h : Held S) t. IsAt g t h) (λ (h : Held S) t u. LeavesEither g t u h) c s new.store new.closed a → Stands (called c a ∷ ops) new
+  called_open ops new c a s none k (answered t step held is_open) =
+      let is = steps s t c.0 c.1 c.2 a step in
+      let leads : Leads (line s c a ∷ k.history) t = (k.leads, step) in
+      let now : IsReachedBy (called c a ∷ ops) t = record { history = line s c a ∷ k.history; is_history = subst (λ o. IsHistoryBy o ops c a (line s c a ∷ k.history)) (sym is) (newest ops c a s k); leads = leads; laws = laws _ t leads } in
+      holding (called c a ∷ ops) new t now held (still_open ops c a _ new.closed is refl none is_open)
+  called_open ops new c a s none k (no_memory refuses held is_open) =
+      let is : outcome_of a ≡ LackedMemory = ap outcome_of refuses ∙ outcome-M16 c.0 in
+      holding (called c a ∷ ops) new s (without_memory ops c a s is k) held (still_open ops c a LackedMemory new.closed is refl none is_open)
+  called_open ops new c a s none k (look_failed refuses left is_closed) =
+      let is : outcome_of a ≡ StoreFailed = ap outcome_of refuses ∙ outcome-M17 c.0 in
+      let now = without_line ops c a s is k in
+      failed ops new c a is is_closed (λ db may. (s, now, ⊎_elim (λ x. x) (λ x. x) (left db may)))
+  called_open ops new c a s none k (commit_failed b t step refuses left is_closed) =
+      let is : outcome_of a ≡ StoreFailed = ap outcome_of refuses ∙ outcome-M17 c.0 in
+      let leads : Leads (line s c b ∷ k.history) t = (k.leads, step) in
+      let without = without_line ops c a s is k in
+      let with_line : IsReachedBy (called c a ∷ ops) t = record { history = line s c b ∷ k.history; is_history = subst (λ o. IsHistoryBy o ops c a (line s c b ∷ k.history)) (sym is) (inr (none, b, newest ops c b s k)); leads = leads; laws = laws _ t leads } in
+      failed ops new c a is is_closed (λ db may. ⊎_elim (λ x. (s, without, x)) (λ x. (t, with_line, x)) (left db may))
+
+  called_closed : (ops : List Operation) (old new : FailStop (Held S)) (c : Call) (a : Answer) → Stands ops old → old.closed ≡ true → outcome_of a ≡ StoreFailed → new ≡ old
+      → Stands (called c a ∷ ops) new
+  called_closed ops old new c a earlier shut is same = failed ops new c a is (ap (λ (o : FailStop (Held S)). o.closed) same ∙ shut) (λ db may.
+      let was = earlier.0.left db (subst (λ (o : FailStop (Held S)). (state g o.store).may_leave db) same may) in
+      (was.0, without_line ops c a was.0 is was.1, was.2))
+
+  called_once : (ops : List Operation) (old new : FailStop (Held S)) (c : Call) (a : Answer) (closed : Bool) → old.closed ≡ closed → Stands ops old → Handles g old c new a → IsHonest g new.store
+      → Stands (called c a ∷ ops) new
+  called_once ops old new c a true shut earlier one honest =
+      let w = one.once_closed shut in called_closed ops old new c a earlier shut (ap outcome_of w.0 ∙ outcome-M17 c.0) w.1
+  called_once ops old new c a false was_open earlier one honest =
+      let at = earlier.0.held was_open in
+      called_open ops new c a at.0 (sym earlier.1 ∙ was_open) at.1 (one.while_open was_open honest at.0 at.2)
+
+  opened_again : (ops : List Operation) (old new : FailStop (Held S)) (conn : Held S) → Stands ops old → Recovers g old.store conn → Opens g conn new → IsHonest g new.store
+      → Stands (opened ∷ ops) new
+  opened_again ops old new conn earlier recovers opens honest =
+      let was = earlier.0.left (state g conn).committed.trees recovers.left in
+      let only : LeavesOnly g was.0 conn = λ db may. subst (StandsIn was.0) (sym (settled conn.store db recovers.is_open may)) was.2 in
+      let now : IsReachedBy (opened ∷ ops) was.0 = record { history = was.1.history; is_history = was.1.is_history; leads = was.1.leads; laws = was.1.laws } in
+      holding (opened ∷ ops) new was.0 now (opens.opened honest was.0 only) opens.is_open
+
+  pub stands : (ops : List Operation) (server : FailStop (Held S)) → ComesOf g ops server → IsHonest g server.store → Stands ops server
+  stands [] server came honest =
+      let now : IsReachedBy [] empty = record { history = []; is_history = refl; leads = refl; laws = laws [] empty refl } in
+      holding [] server empty now (came.2.made honest came.1) came.2.is_open
+  stands (called c a ∷ before) server came honest =
+      called_once before came.0 server c a came.0.closed refl (stands before came.0 came.1 (came.2.was_honest honest)) came.2 honest
+  stands (opened ∷ before) server came honest =
+      opened_again before came.0 server came.1 (stands before came.0 came.2 came.3) came.4 came.5 honest
+
+  -- calls one after the other are operations one after the other
+  pub comes_of_each : (ops : List Operation) (old new : FailStop (Held S)) (cs : List Call) (rs : List Answer) → ComesOf g ops old → HandlesEach g old cs rs new
+      → ComesOf g (called_each cs rs ops) new
+  comes_of_each ops old new [] [] came same = subst (λ (o : FailStop (Held S)). ComesOf g ops o) (sym same) came
+  comes_of_each ops old new [] (a ∷ rs) came each = absurd each
+  comes_of_each ops old new (c ∷ cs) [] came each = absurd each
+  comes_of_each ops old new (c ∷ cs) (a ∷ rs) came each = comes_of_each (called c a ∷ ops) each.0 new cs rs (old, came, each.1) each.2

@@ -1,0 +1,10 @@
+use Rattle.ci_server.proofs.LifetimeLemmas.{stands, comes_of_each}
+use Rattle.ci_server.proofs.lifetime.no_step_is_lost.Goals as goal
+
+pub returns-clause-kept : goal.returns-clause-kept
+returns-clause-kept g c ops server came honest =
+    (stands g.S.Store g.met.S.Store.settled c.laws_of_each_reached_state.ensures c.a_step_is_answered.ensures ops server came honest).0
+
+pub returns-clause-runs : goal.returns-clause-runs
+returns-clause-runs g c ops old new cs rs came each =
+    comes_of_each g.S.Store g.met.S.Store.settled c.laws_of_each_reached_state.ensures c.a_step_is_answered.ensures ops old new cs rs came each

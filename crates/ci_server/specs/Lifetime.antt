@@ -1,0 +1,81 @@
+-- What is done with a server over its whole life: events, stops and openings; and the history that leads to what it holds.
+use Rattle.std.specs.Prelude.{◌≡◌, ◌⊎◌, Bool, true, false, List, [], ◌∷◌, IsTrue}
+use Rattle.sqlite.specs.Tree.{Trees}
+use Rattle.sqlite.specs.Store.{Ghosts}
+use Rattle.sqlite.specs.Held.{Held, state}
+use Rattle.ci_machine.specs.declared.reply.Answer.{Answer}
+use Rattle.ci_machine.specs.Reply.{Outcome, Stepped, LackedMemory, StoreFailed, outcome_of}
+use Rattle.ci_machine.specs.State.{State}
+use Rattle.ci_machine.specs.History.{Past, Leads}
+use Rattle.ci_machine.specs.Laws.{Laws}
+use Rattle.ci_store.specs.Create.{IsBlank}
+use Rattle.ci_store.specs.Stands.{StandsIn, IsAt}
+use Rattle.ci_server.specs.declared.fail_stop.FailStop.{FailStop}
+use Rattle.ci_server.specs.Handling.{Call}
+use Rattle.ci_server.specs.Server.{IsHonest, Handles, Creates, Opens}
+use Rattle.ci_server.specs.Runs.{line, by_outcome}
+
+-- An operation on a server: an event came and had this answer, or the server was opened again.
+pub data Operation : Type 0 where
+  called : Call → Answer → Operation
+  opened : Operation
+
+-- The connection is open, and has a database that a stop may have left of the store.
+pub record Recovers {S : Type 0} (g : Ghosts S) (old conn : Held S) : Type 0 where
+  pub is_open : IsTrue (state g conn).is_open
+  pub left : (state g old).may_leave (state g conn).committed.trees
+
+-- The server came of these operations, the newest first: it was made in a store that listed nothing, events came, and it was opened again
+-- over what a stop may have left of it, at whatever call it was stopped.
+abbrev pub ComesOf : {S : Type 0} → Ghosts S → List Operation → FailStop (Held S) → Type 0
+ComesOf {S} g [] new = (conn : Held S) × IsBlank g conn × Creates g conn new
+ComesOf {S} g (called c a ∷ before) new = (old : FailStop (Held S)) × ComesOf g before old × Handles g old c new a
+ComesOf {S} g (opened ∷ before) new =
+    (old : FailStop (Held S)) × (conn : Held S) × ComesOf g before old × IsHonest g old.store × Recovers g old.store conn × Opens g conn new
+
+-- and then these calls, the first of them first
+abbrev pub called_each : List Call → List Answer → List Operation → List Operation
+called_each [] rs before = before
+called_each (c ∷ cs) [] before = before
+called_each (c ∷ cs) (a ∷ rs) before = called_each cs rs (called c a ∷ before)
+
+-- the store has failed since the last opening
+abbrev pub failed_by : Outcome → Bool → Bool
+failed_by Stepped earlier = earlier
+failed_by LackedMemory earlier = earlier
+failed_by StoreFailed earlier = true
+
+abbrev pub has_failed : List Operation → Bool
+has_failed [] = false
+has_failed (called c a ∷ before) = failed_by (outcome_of a) (has_failed before)
+has_failed (opened ∷ before) = false
+
+-- the newest line of the history is of this call with this answer, and Earlier is so of the lines before it
+pub record HasNewest (Earlier : List Past → Type 0) (c : Call) (a : Answer) (h : List Past) : Type 0 where
+  pub before : State
+  pub earlier : List Past
+  pub newest : h ≡ line before c a ∷ earlier
+  pub rest : Earlier earlier
+
+-- The history is one of these operations, the newest first in both. Each call that was answered has its line, and one that lacked memory has
+-- none. The call in which the store failed has a line or none, and those after it, up to the next opening, have none.
+abbrev pub IsHistoryOf : List Operation → List Past → Type 0
+IsHistoryOf [] h = h ≡ []
+IsHistoryOf (called c a ∷ before) h =
+    by_outcome (outcome_of a)
+    (HasNewest (λ g. IsHistoryOf before g) c a h)
+    (IsHistoryOf before h)
+    (IsHistoryOf before h ⊎ ((has_failed before ≡ false) × (answer : Answer) × HasNewest (λ g. IsHistoryOf before g) c answer h))
+IsHistoryOf (opened ∷ before) h = IsHistoryOf before h
+
+-- a history of the operations leads to the state, and its laws hold
+pub record IsReachedBy (operations : List Operation) (s : State) : Type 0 where
+  pub history : List Past
+  pub is_history : IsHistoryOf operations history
+  pub leads : Leads history s
+  pub laws : Laws history s
+
+-- No step of the operations is lost: an open server holds a state that they reach, and each file that a stop may leave stands for one.
+pub record LosesNoStep {S : Type 0} (g : Ghosts S) (operations : List Operation) (server : FailStop (Held S)) : Type 0 where
+  pub held : server.closed ≡ false → (s : State) × IsReachedBy operations s × IsAt g s server.store
+  pub left : (db : Trees) → (state g server.store).may_leave db → (s : State) × IsReachedBy operations s × StandsIn s db

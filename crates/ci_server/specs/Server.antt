@@ -1,0 +1,55 @@
+-- What a call does to a server: a store, and whether it is closed, as it is from the first fault of the store on.
+use Rattle.std.specs.Prelude.{◌≡◌, Bool, true, false, List, [], ◌∷◌}
+use Rattle.std.specs.Coded.{Coded, coded×, coded_bool}
+use base.Stored.{coded_via}
+use Rattle.std.proofs.Common.{ap}
+use Rattle.sqlite.specs.State.{HasCleanDisk}
+use Rattle.sqlite.specs.Store.{Ghosts}
+use Rattle.sqlite.specs.Held.{Held, state}
+use Rattle.ci_machine.specs.declared.reply.Answer.{Answer}
+use Rattle.ci_machine.specs.declared.reply.Code.TheVariants.{M17}
+use Rattle.ci_machine.specs.State.{State, empty}
+use Rattle.ci_store.specs.Create.{IsBlank}
+use Rattle.ci_store.specs.Stands.{IsAt, LeavesOnly, LeavesEither}
+use Rattle.ci_server.specs.declared.fail_stop.FailStop.{FailStop}
+use Rattle.ci_server.specs.Handling.{Call, refused, Handled}
+
+abbrev pub fail_stop_code : {T : Type 0} → Coded T → Coded (FailStop T)
+fail_stop_code code = coded_via (coded× code coded_bool) (λ s. (s.store, s.closed)) (λ x y e. ap (λ p. record { store = p.0; closed = p.1 }) e)
+
+module _ {T : Type 0} (honest : T → Type 0) (holds : T → State → Type 0) (leaves : T → State → State → Type 0) where
+  -- What a call does: on an open server that holds a state, what `Handled` says; on a closed one nothing, and the answer is M17.
+  pub record HandlesBy (old : FailStop T) (c : Call) (new : FailStop T) (a : Answer) : Type 0 where
+    pub was_honest : honest new.store → honest old.store
+    pub while_open : old.closed ≡ false → honest new.store → (s : State) → holds old.store s → Handled holds leaves c s new.store new.closed a
+    pub once_closed : old.closed ≡ true → (a ≡ refused c.0 M17) × (new ≡ old)
+
+  -- calls one after the other, each with its answer
+  abbrev pub HandlesEachBy : FailStop T → List Call → List Answer → FailStop T → Type 0
+  HandlesEachBy old [] [] new = new ≡ old
+  HandlesEachBy old (c ∷ cs) (a ∷ rs) new = (mid : FailStop T) × HandlesBy old c mid a × HandlesEachBy mid cs rs new
+  HandlesEachBy old [] (a ∷ rs) new = ⊥
+  HandlesEachBy old (c ∷ cs) [] new = ⊥
+
+-- ---- over tables
+
+-- a disk of the server that has given back what was written to it
+abbrev pub IsHonest : {S : Type 0} → Ghosts S → Held S → Type 0
+IsHonest g h = HasCleanDisk (state g h)
+
+abbrev pub Handles : {S : Type 0} → Ghosts S → FailStop (Held S) → Call → FailStop (Held S) → Answer → Type 0
+Handles g old c new a = HandlesBy (IsHonest g) (λ h s. IsAt g s h) (λ h s t. LeavesEither g s t h) old c new a
+
+abbrev pub HandlesEach : {S : Type 0} → Ghosts S → FailStop (Held S) → List Call → List Answer → FailStop (Held S) → Type 0
+HandlesEach g old cs rs new = HandlesEachBy (IsHonest g) (λ h s. IsAt g s h) (λ h s t. LeavesEither g s t h) old cs rs new
+
+-- the server is new over the tables that it made in this store, which hold the empty state where the store listed nothing
+pub record Creates {S : Type 0} (g : Ghosts S) (conn : Held S) (new : FailStop (Held S)) : Type 0 where
+  pub is_open : new.closed ≡ false
+  pub was_honest : IsHonest g new.store → IsHonest g conn
+  pub made : IsHonest g new.store → IsBlank g conn → IsAt g empty new.store
+
+-- the server is new over the tables that this store has, and holds the state that each file which a stop may leave stands for
+pub record Opens {S : Type 0} (g : Ghosts S) (conn : Held S) (new : FailStop (Held S)) : Type 0 where
+  pub is_open : new.closed ≡ false
+  pub opened : IsHonest g new.store → (s : State) → LeavesOnly g s conn → IsAt g s new.store

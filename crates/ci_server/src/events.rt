@@ -1,0 +1,94 @@
+//! What an event does to a store: what it needs is looked up, its plan is made, and then what the plan changes is committed.
+
+ghost use Rattle.std.specs.Prelude.{◌≡◌, IfOk};
+ghost use Rattle.ci_machine.specs.declared.reply.Answer.TheVariants as answer;
+ghost use Rattle.ci_machine.specs.declared.request.Event.TheVariants as event;
+ghost use Rattle.ci_machine.specs.declared.request.Seed.{Seed};
+ghost use Rattle.ci_machine.specs.State.{State, applied};
+ghost use Rattle.ci_machine.specs.Step.{Does};
+ghost use Rattle.ci_store.specs.Store.{LoadsBy, Ends};
+ghost use Rattle.ci_server.specs.Handling.{Performs};
+
+use crate::grants::ask_job;
+use crate::pipelines::enter_pipeline;
+use crate::projects::add_project;
+use crate::reports::update_job;
+use crate::runners::add_runner;
+use crate::shows::{show_job, show_trace};
+use crate::sweeps;
+use crate::traces::append_trace;
+use ci_machine::change::Delta;
+use ci_machine::moment::Moment;
+use ci_machine::reply::{Reply, Swept};
+use ci_machine::request::{Request, Seed};
+use ci_store::fault::StoreFault;
+use ci_store::store::Store;
+use std::alloc::Global;
+
+/// Handles a request. The reply stands before the commit. Errors: the store's, and there is no step.
+pub(crate) fn handle<T: Store>(
+    alloc: Global,
+    store: &mut T,
+    request: Request,
+    now: Moment,
+    seed: Seed,
+) -> Result<Reply, StoreFault>
+    ensures was_honest { T.honest store.new → T.honest store.old }
+    ensures performed { T.honest store.new → (s : State) → T.holds store.old s
+        → Performs T.holds T.leaves answer.Reply (event.Request request, now, seed) s store.new result }
+{
+    let planned = plan(alloc, store, request, now, seed)?;
+    commit(store, planned)
+}
+
+/// Sweeps: ends one lease that is over, if there is one. Errors: as `handle`.
+pub(crate) fn sweep<T: Store>(
+    alloc: Global,
+    store: &mut T,
+    now: Moment,
+) -> Result<Swept, StoreFault>
+    ensures was_honest { T.honest store.new → T.honest store.old }
+    ensures performed { T.honest store.new → (s : State) → T.holds store.old s
+        → (seed : Seed) → Performs T.holds T.leaves answer.Swept (event.Sweep, now, seed) s store.new result }
+{
+    let planned = sweeps::sweep(alloc, store, now)?;
+    commit(store, planned)
+}
+
+/// What a request does, from what the store holds: its reply and its changes. The store stays as it is.
+fn plan<T: Store>(
+    alloc: Global,
+    store: &mut T,
+    request: Request,
+    now: Moment,
+    seed: Seed,
+) -> Result<(Reply, Delta), StoreFault>
+    ensures { LoadsBy T.honest T.holds T.leaves store.old store.new result (λ s plan. Does s request now seed plan) }
+{
+    match request {
+        Request::AddProject(name) => add_project(alloc, store, name, seed),
+        Request::AddRunner(name) => add_runner(alloc, store, name, seed),
+        Request::EnterPipeline(new) => enter_pipeline(alloc, store, new, now),
+        Request::AskJob(token) => ask_job(alloc, store, token, now, seed),
+        Request::UpdateJob(update) => update_job(alloc, store, &update, now),
+        Request::AppendTrace(part) => append_trace(alloc, store, part, now),
+        Request::ShowJob(query) => show_job(alloc, store, &query),
+        Request::ShowTrace(query) => show_trace(alloc, store, &query),
+    }
+}
+
+/// Makes the changes of a plan, if there are any, and gives its answer. Errors: the store's.
+fn commit<T: Store, A: Drop>(store: &mut T, planned: (A, Delta)) -> Result<A, StoreFault>
+    ensures was_honest { T.honest store.new → T.honest store.old }
+    ensures ends { T.honest store.new → (s : State) → T.holds store.old s
+        → Ends result (T.holds store.new (applied planned.1 s)) (T.holds store.new s) (T.leaves store.new s (applied planned.1 s)) }
+    ensures answer { IfOk result (λ a. a ≡ planned.0) }
+{
+    let (answer, changes) = planned;
+    if changes.is_empty() {
+        let _ = changes.into_vec();
+        return Ok(answer);
+    }
+    store.commit(changes)?;
+    Ok(answer)
+}

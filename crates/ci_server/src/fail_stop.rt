@@ -1,0 +1,139 @@
+//! Events over a store, up to the store's first fault.
+
+ghost use Rattle.std.specs.Prelude.{◌≡◌, ◌<◌, ◌≤◌, ◌+◌, ◌++◌, ◌∷◌, [], false, IfOk, OnErr, vec_len, vec_capacity};
+ghost use Rattle.ci_machine.specs.declared.reply.Answer.TheVariants as answer;
+ghost use Rattle.ci_machine.specs.declared.request.Event.TheVariants as event;
+ghost use Rattle.ci_machine.specs.declared.request.Seed.{Seed};
+ghost use Rattle.ci_server.specs.Handling.{refused, code_of, closes};
+ghost use Rattle.ci_server.specs.Server.{HandlesBy, HandlesEachBy};
+
+use crate::copies::copy_of;
+use crate::events;
+use ci_machine::moment::Moment;
+use ci_machine::reply::{Answer, Code, Reply, Swept};
+use ci_machine::request::{Event, Request, Seed};
+use ci_store::fault::StoreFault;
+use ci_store::store::Store;
+use std::alloc::{AllocError, Global};
+
+/// A store that events are handled over. It stops at the store's first fault: from then on it is closed, refuses each event
+/// with M17, and the store isn't touched.
+#[derive(Drop)]
+pub struct FailStop<T> {
+    pub store: T,
+    pub closed: bool,
+}
+
+impl<T: Store> FailStop<T> {
+    /// Handles a request: looks up what it needs, plans, and commits what the plan changes.
+    pub(crate) fn handle(
+        &mut self,
+        alloc: Global,
+        request: Request,
+        now: Moment,
+        seed: Seed,
+    ) -> Reply
+        ensures { HandlesBy T.honest T.holds T.leaves self.old (event.Request request, now, seed) self.new (answer.Reply result) }
+    {
+        if self.closed {
+            return Reply::refusal(Code::M17);
+        }
+        match events::handle(alloc, &mut self.store, request, now, seed) {
+            Ok(reply) => reply,
+            Err(fault) => Reply::refusal(self.refuse(fault)),
+        }
+    }
+
+    /// Sweeps: ends one lease that is over, if there is one.
+    pub(crate) fn sweep(&mut self, alloc: Global, now: Moment) -> Swept
+        ensures { (seed : Seed) → HandlesBy T.honest T.holds T.leaves self.old (event.Sweep, now, seed) self.new (answer.Swept result) }
+    {
+        if self.closed {
+            return Swept::Refused(Code::M17);
+        }
+        match events::sweep(alloc, &mut self.store, now) {
+            Ok(swept) => swept,
+            Err(fault) => Swept::Refused(self.refuse(fault)),
+        }
+    }
+
+    /// The code of the refusal for a fault of the store, which closes it or not.
+    fn refuse(&mut self, fault: StoreFault) -> Code
+        requires { self.old.closed ≡ false }
+        ensures code { result ≡ code_of fault }
+        ensures closed { self.new ≡ record self.old { closed = closes fault } }
+    {
+        match fault {
+            StoreFault::Memory => Code::M16,
+            StoreFault::Broken => {
+                self.closed = true;
+                Code::M17
+            }
+        }
+    }
+}
+
+impl<T: Store> FailStop<T> {
+    /// Handles events one after the other. Errors: there is no memory for the answers, and nothing was handled.
+    pub(crate) fn run(
+        &mut self,
+        alloc: Global,
+        calls: &[(Event, Moment, Seed)],
+    ) -> Result<Vec<Answer>, AllocError>
+        ensures was_honest { T.honest self.new.store → T.honest self.old.store }
+        ensures each { IfOk result (λ answers. HandlesEachBy T.honest T.holds T.leaves self.old calls.now answers.items self.new) }
+        ensures memory { OnErr result (self.new ≡ self.old) }
+    {
+        let mut answers = Vec::with_capacity(alloc, calls.len())?;
+        for call in calls {
+            let answer = self.handle_copy(alloc, call);
+            push_within_capacity(&mut answers, answer);
+        }
+        Ok(answers)
+    }
+
+    /// Handles a copy of an event. Where there is no memory for the copy, it is not handled.
+    fn handle_copy(&mut self, alloc: Global, call: &(Event, Moment, Seed)) -> Answer
+        ensures { HandlesBy T.honest T.holds T.leaves self.old call.now self.new result }
+    {
+        let (event, moment, seed) = call;
+        if self.closed {
+            return refused(event, Code::M17);
+        }
+        match copy_of(event) {
+            Ok(event) => self.handle_event(alloc, event, *moment, *seed),
+            Err(_) => refused(event, Code::M16),
+        }
+    }
+
+    fn handle_event(&mut self, alloc: Global, event: Event, moment: Moment, seed: Seed) -> Answer
+        ensures { HandlesBy T.honest T.holds T.leaves self.old (event, moment, seed) self.new result }
+    {
+        match event {
+            Event::Request(request) => Answer::Reply(self.handle(alloc, request, moment, seed)),
+            Event::Sweep => Answer::Swept(self.sweep(alloc, moment)),
+        }
+    }
+}
+
+/// The answer that refuses an event.
+fn refused(event: &Event, code: Code) -> Answer
+    ensures { result ≡ refused event.now code }
+{
+    match event {
+        Event::Request(_) => Answer::Reply(Reply::refusal(code)),
+        Event::Sweep => Answer::Swept(Swept::Refused(code)),
+    }
+}
+
+fn push_within_capacity<T: Drop>(items: &mut Vec<T>, item: T)
+    requires { vec_len items.old < vec_capacity items.old }
+    ensures items { items.new.items ≡ items.old.items ++ item ∷ [] }
+    ensures len { vec_len items.new ≡ vec_len items.old + 1 }
+    ensures capacity { vec_capacity items.old ≤ vec_capacity items.new }
+{
+    match items.push(item) {
+        Ok(()) => {}
+        Err(_) => unreachable!(),
+    }
+}

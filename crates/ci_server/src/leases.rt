@@ -1,0 +1,33 @@
+//! Attempts with the time limits of their jobs, from what the store holds.
+
+ghost use Rattle.std.specs.Prelude.{◌≡◌};
+ghost use Rattle.ci_machine.specs.Step as step;
+ghost use Rattle.ci_store.specs.Store.{LoadsBy};
+
+use ci_machine::lease::Lease;
+use ci_machine::records::Attempt;
+use ci_store::fault::StoreFault;
+use ci_store::store::Store;
+
+/// The attempt with the time limit of its job.
+pub(crate) fn lease_of<T: Store>(store: &mut T, attempt: Attempt) -> Result<Lease, StoreFault>
+    ensures { LoadsBy T.honest T.holds T.leaves store.old store.new result (λ s l. l ≡ step.lease_of s attempt) }
+{
+    match store.job(attempt.job)? {
+        Some(job) => Ok(Lease {
+            attempt,
+            limit: job.options.timeout,
+        }),
+        None => Err(StoreFault::Broken),
+    }
+}
+
+/// The attempt with a number, with the time limit of its job.
+pub(crate) fn lease_at<T: Store>(store: &mut T, attempt: u64) -> Result<Option<Lease>, StoreFault>
+    ensures { LoadsBy T.honest T.holds T.leaves store.old store.new result (λ s l. l ≡ step.lease_at s attempt) }
+{
+    match store.attempt(attempt)? {
+        Some(attempt) => Ok(Some(lease_of(store, attempt)?)),
+        None => Ok(None),
+    }
+}
