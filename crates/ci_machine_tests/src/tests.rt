@@ -103,7 +103,7 @@ const LEASES: &[(u64, u64, u32, Cause)] = &[
     (12, 1150, 271, Cause::StuckOrTimeoutFailure),
 ];
 
-fn leases(alloc: Global) -> Result<Vec<Lease>, Fail> {
+fn live_leases(alloc: Global) -> Result<Vec<Lease>, Fail> {
     let mut leases = Vec::new(alloc);
     for (id, seen, limit, _) in LEASES {
         let attempt = attempt(alloc, *id, *seen, AttemptState::Live)?;
@@ -116,12 +116,12 @@ fn leases(alloc: Global) -> Result<Vec<Lease>, Fail> {
 }
 
 /// A moment, and the number of the attempt that is due, or 0.
-const DUE: &[(u64, u64)] = &[(1059, 0), (1060, 9), (1170, 7), (1220, 4)];
+const MOMENTS: &[(u64, u64)] = &[(1059, 0), (1060, 9), (1170, 7), (1220, 4)];
 
 #[test]
 fn what_is_due(rt: HostRuntime) -> Result<(), Fail> {
-    let leases = leases(rt.alloc())?;
-    for (seconds, number) in DUE {
+    let leases = live_leases(rt.alloc())?;
+    for (seconds, number) in MOMENTS {
         let found = match due(leases.as_slice(), at(*seconds)?) {
             Some(lease) => lease.attempt.id,
             None => 0,
@@ -133,7 +133,7 @@ fn what_is_due(rt: HostRuntime) -> Result<(), Fail> {
 
 #[test]
 fn why_a_lease_ends(rt: HostRuntime) -> Result<(), Fail> {
-    let leases = leases(rt.alloc())?;
+    let leases = live_leases(rt.alloc())?;
     for (lease, (id, _, _, why)) in leases.iter().zip(LEASES) {
         assert!(rt; cause(lease) == *why, "{id}");
     }
@@ -185,7 +185,7 @@ fn queue(alloc: Global) -> Result<Vec<QueuedJob>, AllocError> {
 }
 
 /// A runner's project, whether it is paused, and the number of the job that it is given, or 0.
-const CHOICES: &[(Option<u64>, bool, u64)] = &[
+const RUNNERS: &[(Option<u64>, bool, u64)] = &[
     (None, false, 3),
     (Some(1), false, 3),
     (Some(2), false, 5),
@@ -197,7 +197,7 @@ const CHOICES: &[(Option<u64>, bool, u64)] = &[
 fn choices(rt: HostRuntime) -> Result<(), Fail> {
     let alloc = rt.alloc();
     let queue = queue(alloc)?;
-    for (project, paused, number) in CHOICES {
+    for (project, paused, number) in RUNNERS {
         let runner = runner(alloc, *project, *paused)?;
         let found = match choose(queue.as_slice(), &runner) {
             Some(queued) => queued.job.id,

@@ -101,7 +101,7 @@ fn holds_nothing(
 }
 
 /// What a connection finds.
-fn remains(conn: FailingConnection) -> (Remains, FailingConnection) {
+fn what_remains(conn: FailingConnection) -> (Remains, FailingConnection) {
     let (found, conn) = holds_nothing(open(conn));
     match found {
         Some(true) => return (Remains::Tables, conn),
@@ -119,7 +119,7 @@ fn after_stop(alloc: Global, files: FailingDisks) -> Remains {
     let Some(conn) = connected(alloc, files) else {
         return Remains::Neither;
     };
-    let (remains, conn) = remains(conn);
+    let (remains, conn) = what_remains(conn);
     discard(conn);
     remains
 }
