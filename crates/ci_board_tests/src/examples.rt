@@ -4,6 +4,9 @@ ghost use Rattle.std.specs.Prelude.{◌≡◌, ◌<◌};
 
 use crate::within::{are_positions, are_within};
 use ci_board::board::Board;
+use ci_board::facts::Status::{
+    Canceled, Created, Failed, Manual, Pending, Running, Skipped, Success,
+};
 use ci_board::facts::{Facts, FactsChange, Status};
 use ci_graph::graph::Graph;
 use ci_graph::part::{GraphFault, Part};
@@ -88,7 +91,8 @@ fn to(position: usize, facts: Facts) -> FactsChange {
     FactsChange { position, facts }
 }
 
-// One or two changes at once, the positions that they must answer, and the statuses that stand then: of each job, and of the pipeline.
+// One or two changes at once, the positions that they must answer, and the statuses that stand then: of each job, and
+// of the pipeline.
 #[derive(Drop)]
 struct Step<'a> {
     first: Option<FactsChange>,
@@ -96,6 +100,49 @@ struct Step<'a> {
     answer: &'a [usize],
     statuses: &'a [Status],
     pipeline: Status,
+}
+
+// No change: nothing is answered.
+fn no_change<'a>(statuses: &'a [Status], pipeline: Status) -> Step<'a> {
+    Step {
+        first: None,
+        second: None,
+        answer: [].as_slice(),
+        statuses,
+        pipeline,
+    }
+}
+
+// Two changes at once.
+fn after_both<'a>(
+    first: FactsChange,
+    second: FactsChange,
+    answer: &'a [usize],
+    statuses: &'a [Status],
+    pipeline: Status,
+) -> Step<'a> {
+    Step {
+        first: Some(first),
+        second: Some(second),
+        answer,
+        statuses,
+        pipeline,
+    }
+}
+
+fn after<'a>(
+    change: FactsChange,
+    answer: &'a [usize],
+    statuses: &'a [Status],
+    pipeline: Status,
+) -> Step<'a> {
+    Step {
+        first: Some(change),
+        second: None,
+        answer,
+        statuses,
+        pipeline,
+    }
 }
 
 fn holds<L: Ledger>(
@@ -172,20 +219,13 @@ fn no_needs_before_earlier_stages(rt: HostRuntime) -> Result<(), Fail> {
         part(When::OnSuccess, true),
     ]?;
     let steps = [
-        Step {
-            first: None,
-            second: None,
-            answer: [].as_slice(),
-            statuses: [Status::Pending, Status::Created, Status::Pending].as_slice(),
-            pipeline: Status::Pending,
-        },
-        Step {
-            first: Some(to(2, live())),
-            second: None,
-            answer: [2].as_slice(),
-            statuses: [Status::Pending, Status::Created, Status::Running].as_slice(),
-            pipeline: Status::Running,
-        },
+        no_change([Pending, Created, Pending].as_slice(), Pending),
+        after(
+            to(2, live()),
+            [2].as_slice(),
+            [Pending, Created, Running].as_slice(),
+            Running,
+        ),
     ];
     play::<Brand>(
         &rt,
@@ -207,19 +247,12 @@ fn manual_and_on_failure(rt: HostRuntime) -> Result<(), Fail> {
         part(When::OnFailure, false),
         part(When::OnSuccess, false),
     ]?;
-    let steps = [Step {
-        first: Some(to(0, live())),
-        second: None,
-        answer: [0].as_slice(),
-        statuses: [
-            Status::Running,
-            Status::Manual,
-            Status::Skipped,
-            Status::Created,
-        ]
-        .as_slice(),
-        pipeline: Status::Running,
-    }];
+    let steps = [after(
+        to(0, live()),
+        [0].as_slice(),
+        [Running, Manual, Skipped, Created].as_slice(),
+        Running,
+    )];
     play::<Brand>(
         &rt,
         alloc,
@@ -243,91 +276,35 @@ fn failure_and_retry(rt: HostRuntime) -> Result<(), Fail> {
     ]?;
     let pairs = [(1, 0), (4, 1), (4, 2), (4, 3), (4, 2), (1, 0)];
     let steps = [
-        Step {
-            first: Some(to(4, live())),
-            second: None,
-            answer: [4].as_slice(),
-            statuses: [
-                Status::Created,
-                Status::Created,
-                Status::Created,
-                Status::Created,
-                Status::Running,
-            ]
-            .as_slice(),
-            pipeline: Status::Running,
-        },
-        Step {
-            first: Some(to(4, failed(Cause::ScriptFailure, None, 1))),
-            second: None,
-            answer: [0, 1, 2, 3, 4].as_slice(),
-            statuses: [
-                Status::Skipped,
-                Status::Skipped,
-                Status::Pending,
-                Status::Pending,
-                Status::Failed,
-            ]
-            .as_slice(),
-            pipeline: Status::Running,
-        },
-        Step {
-            first: Some(to(2, live())),
-            second: None,
-            answer: [2].as_slice(),
-            statuses: [
-                Status::Skipped,
-                Status::Skipped,
-                Status::Running,
-                Status::Pending,
-                Status::Failed,
-            ]
-            .as_slice(),
-            pipeline: Status::Running,
-        },
-        Step {
-            first: Some(to(2, succeeded())),
-            second: None,
-            answer: [2].as_slice(),
-            statuses: [
-                Status::Skipped,
-                Status::Skipped,
-                Status::Success,
-                Status::Pending,
-                Status::Failed,
-            ]
-            .as_slice(),
-            pipeline: Status::Running,
-        },
+        after(
+            to(4, live()),
+            [4].as_slice(),
+            [Created, Created, Created, Created, Running].as_slice(),
+            Running,
+        ),
+        after(
+            to(4, failed(Cause::ScriptFailure, None, 1)),
+            [0, 1, 2, 3, 4].as_slice(),
+            [Skipped, Skipped, Pending, Pending, Failed].as_slice(),
+            Running,
+        ),
+        after(
+            to(2, succeeded()),
+            [2].as_slice(),
+            [Skipped, Skipped, Success, Pending, Failed].as_slice(),
+            Running,
+        ),
         // a user retries a: its attempt is set aside
-        Step {
-            first: Some(to(4, failed(Cause::ScriptFailure, None, 0))),
-            second: None,
-            answer: [0, 1, 2, 3, 4].as_slice(),
-            statuses: [
-                Status::Created,
-                Status::Created,
-                Status::Success,
-                Status::Created,
-                Status::Pending,
-            ]
-            .as_slice(),
-            pipeline: Status::Running,
-        },
-        Step {
-            first: None,
-            second: None,
-            answer: [].as_slice(),
-            statuses: [
-                Status::Created,
-                Status::Created,
-                Status::Success,
-                Status::Created,
-                Status::Pending,
-            ]
-            .as_slice(),
-            pipeline: Status::Running,
-        },
+        after(
+            to(4, failed(Cause::ScriptFailure, None, 0)),
+            [0, 1, 2, 3, 4].as_slice(),
+            [Created, Created, Success, Created, Pending].as_slice(),
+            Running,
+        ),
+        no_change(
+            [Created, Created, Success, Created, Pending].as_slice(),
+            Running,
+        ),
     ];
     play::<Brand>(
         &rt,
@@ -349,27 +326,19 @@ fn play_of_a_manual_job(rt: HostRuntime) -> Result<(), Fail> {
     // hand; ship, of the stage behind
     let parts = vec![in alloc; manual(AllowFailure::Yes), part(When::OnSuccess, false)]?;
     let steps = [
-        Step {
-            first: None,
-            second: None,
-            answer: [].as_slice(),
-            statuses: [Status::Manual, Status::Pending].as_slice(),
-            pipeline: Status::Pending,
-        },
-        Step {
-            first: Some(to(0, played)),
-            second: None,
-            answer: [0, 1].as_slice(),
-            statuses: [Status::Pending, Status::Created].as_slice(),
-            pipeline: Status::Pending,
-        },
-        Step {
-            first: Some(to(0, done)),
-            second: None,
-            answer: [0, 1].as_slice(),
-            statuses: [Status::Success, Status::Pending].as_slice(),
-            pipeline: Status::Running,
-        },
+        no_change([Manual, Pending].as_slice(), Pending),
+        after(
+            to(0, played),
+            [0, 1].as_slice(),
+            [Pending, Created].as_slice(),
+            Pending,
+        ),
+        after(
+            to(0, done),
+            [0, 1].as_slice(),
+            [Success, Pending].as_slice(),
+            Running,
+        ),
     ];
     play::<Brand>(
         &rt,
@@ -381,13 +350,7 @@ fn play_of_a_manual_job(rt: HostRuntime) -> Result<(), Fail> {
     )?;
     // the pipeline waits for a manual job that isn't allowed to be left out
     let parts = vec![in alloc; manual(AllowFailure::No), part(When::OnSuccess, false)]?;
-    let steps = [Step {
-        first: None,
-        second: None,
-        answer: [].as_slice(),
-        statuses: [Status::Manual, Status::Created].as_slice(),
-        pipeline: Status::Manual,
-    }];
+    let steps = [no_change([Manual, Created].as_slice(), Manual)];
     play::<Brand>(
         &rt,
         alloc,
@@ -405,34 +368,30 @@ fn tries_by_itself(rt: HostRuntime) -> Result<(), Fail> {
     twice.retry = TWICE_FOR_SYSTEM;
     let parts = vec![in alloc; twice]?;
     let steps = [
-        Step {
-            first: Some(to(0, failed(Cause::ScriptFailure, None, 1))),
-            second: None,
-            answer: [0].as_slice(),
-            statuses: [Status::Failed].as_slice(),
-            pipeline: Status::Failed,
-        },
-        Step {
-            first: Some(to(0, failed(Cause::RunnerSystemFailure, None, 1))),
-            second: None,
-            answer: [0].as_slice(),
-            statuses: [Status::Pending].as_slice(),
-            pipeline: Status::Running,
-        },
-        Step {
-            first: Some(to(0, failed(Cause::RunnerSystemFailure, None, 2))),
-            second: None,
-            answer: [].as_slice(),
-            statuses: [Status::Pending].as_slice(),
-            pipeline: Status::Running,
-        },
-        Step {
-            first: Some(to(0, failed(Cause::RunnerSystemFailure, None, 3))),
-            second: None,
-            answer: [0].as_slice(),
-            statuses: [Status::Failed].as_slice(),
-            pipeline: Status::Failed,
-        },
+        after(
+            to(0, failed(Cause::ScriptFailure, None, 1)),
+            [0].as_slice(),
+            [Failed].as_slice(),
+            Failed,
+        ),
+        after(
+            to(0, failed(Cause::RunnerSystemFailure, None, 1)),
+            [0].as_slice(),
+            [Pending].as_slice(),
+            Running,
+        ),
+        after(
+            to(0, failed(Cause::RunnerSystemFailure, None, 2)),
+            [].as_slice(),
+            [Pending].as_slice(),
+            Running,
+        ),
+        after(
+            to(0, failed(Cause::RunnerSystemFailure, None, 3)),
+            [0].as_slice(),
+            [Failed].as_slice(),
+            Failed,
+        ),
     ];
     play::<Brand>(
         &rt,
@@ -455,28 +414,27 @@ fn allowed_exit_codes(rt: HostRuntime) -> Result<(), Fail> {
     let mut cancelled = idle();
     cancelled.cancelled = true;
     let steps = [
-        Step {
-            first: Some(to(0, failed(Cause::ScriptFailure, Some(3), 1))),
-            second: Some(to(1, succeeded())),
-            answer: [0, 1].as_slice(),
-            statuses: [Status::Failed, Status::Success].as_slice(),
-            pipeline: Status::Success,
-        },
-        Step {
-            first: Some(to(0, failed(Cause::ScriptFailure, Some(4), 1))),
-            second: None,
-            answer: [1].as_slice(),
-            statuses: [Status::Failed, Status::Success].as_slice(),
-            pipeline: Status::Failed,
-        },
+        after_both(
+            to(0, failed(Cause::ScriptFailure, Some(3), 1)),
+            to(1, succeeded()),
+            [0, 1].as_slice(),
+            [Failed, Success].as_slice(),
+            Success,
+        ),
+        after(
+            to(0, failed(Cause::ScriptFailure, Some(4), 1)),
+            [1].as_slice(),
+            [Failed, Success].as_slice(),
+            Failed,
+        ),
         // a cancelled job that isn't allowed bars those behind it
-        Step {
-            first: Some(to(0, cancelled)),
-            second: Some(to(1, idle())),
-            answer: [0, 1].as_slice(),
-            statuses: [Status::Canceled, Status::Skipped].as_slice(),
-            pipeline: Status::Canceled,
-        },
+        after_both(
+            to(0, cancelled),
+            to(1, idle()),
+            [0, 1].as_slice(),
+            [Canceled, Skipped].as_slice(),
+            Canceled,
+        ),
     ];
     play::<Brand>(
         &rt,

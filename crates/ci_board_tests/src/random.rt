@@ -18,7 +18,7 @@ use std::test::Fail;
 
 const JOBS: usize = 200;
 
-const CHANGES: usize = 500;
+const CHANGES: usize = 2000;
 
 // Numbers that look like chance, the same in each run.
 #[derive(Drop)]
