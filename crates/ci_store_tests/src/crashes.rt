@@ -1,46 +1,56 @@
-//! Each call of the store fails in turn, on each of its two files; then the files are opened again.
+//! Each call of the store fails in turn, on each of its two files; then the files are opened again. The helpers have no
+//! clause, so that a test's proof carries little.
 
-use crate::plain::{
-    Loaded, changed, close, create, is_committed, jobs, let_go, next, open, parted, project, wanted,
-};
-use crate::records::project as project_record;
+use crate::records::project;
 use ci_machine::change::{Counter, Delta, RowChange};
+use ci_machine::text::Text;
+use ci_store::fault::StoreFault;
+use ci_store::store::Store;
 use ci_store::tables::{OpenFault, Tables};
 use ci_store::{Alter, Connection};
-use ci_test_disks::{FailingDisks, closed, connected, discard, empty, fused, stopped};
-use sqlite::FileStore;
+use ci_test_disks::{closed, connected, discard, empty, fused, stopped};
+use sqlite::{FileStore, Files};
 use sqlite_disk::{Fuse, Memory};
 use std::alloc::Global;
 use std::process::Abort;
 use std::test::Fail;
 
-/// Tables of files that fail.
-type Failing = Tables<FileStore<Fuse<Memory>>>;
-
-/// Their connection.
-type FailingConnection = Connection<FileStore<Fuse<Memory>>>;
-
 fn first(alloc: Global) -> Result<Delta, Fail> {
     let mut changes = Vec::new(alloc);
-    changes.push(RowChange::Add(project_record(alloc, 1, "one", "p1")?))?;
+    changes.push(RowChange::Add(project(alloc, 1, "one", "p1")?))?;
     Ok(Delta::new(changes))
 }
 
 fn renamed(alloc: Global) -> Result<Delta, Fail> {
     let mut changes = Vec::new(alloc);
-    changes.push(RowChange::Put(project_record(alloc, 1, "uno", "p1")?))?;
-    changes.push(RowChange::Add(project_record(alloc, 2, "two", "p2")?))?;
+    changes.push(RowChange::Put(project(alloc, 1, "uno", "p1")?))?;
+    changes.push(RowChange::Add(project(alloc, 2, "two", "p2")?))?;
     Ok(Delta::new(changes))
 }
 
-/// Tables of new files.
-fn created(alloc: Global) -> Result<Tables<FileStore<Memory>>, Fail> {
-    wanted(create(connected(alloc, empty(alloc)).ok_or("not connected")?))
+fn created(alloc: Global, files: Files<Memory>) -> Option<Tables<FileStore<Memory>>> {
+    let conn = connected(alloc, files)?;
+    match Tables::create(conn) {
+        Ok(tables) => Some(tables),
+        Err((_, conn)) => {
+            discard(conn);
+            None
+        }
+    }
 }
 
 /// Tables with project 1.
 fn made(alloc: Global) -> Result<Tables<FileStore<Memory>>, Fail> {
-    changed(created(alloc)?, first(alloc))
+    let delta = first(alloc)?;
+    let Some(mut tables) = created(alloc, empty(alloc)) else {
+        let _ = delta.into_vec();
+        return Err("not created")?;
+    };
+    if tables.commit(delta).is_ok() {
+        return Ok(tables);
+    }
+    discard(tables.close());
+    Err("not committed")?
 }
 
 /// How a call ended on a store that fails.
@@ -52,7 +62,7 @@ enum Ended {
     Done,
 }
 
-const COUNTERS: &[Counter] = &[
+const COUNTERS: [Counter; 5] = [
     Counter::Project,
     Counter::Runner,
     Counter::Pipeline,
@@ -60,21 +70,14 @@ const COUNTERS: &[Counter] = &[
     Counter::Attempt,
 ];
 
-/// Is each next number 1?
-fn is_unnumbered<S: Alter>(tables: &mut Tables<S>) -> Loaded<bool> {
+/// Do the tables hold the empty state, as far as loads by key show it?
+fn is_empty<S: Alter>(tables: &mut Tables<S>) -> Result<bool, StoreFault> {
     for counter in COUNTERS {
-        if next(tables, *counter)? != 1 {
+        if tables.next(counter)? != 1 {
             return Ok(false);
         }
     }
-    Ok(true)
-}
-
-/// Do the tables hold the empty state, as far as loads show it?
-fn is_empty<S: Alter>(tables: &mut Tables<S>) -> Loaded<bool> {
-    let has_project = project(tables, 1)?.is_some();
-    let has_job = !jobs(tables)?.is_empty();
-    Ok(!has_project && !has_job && is_unnumbered(tables)?)
+    Ok(tables.project(1)?.is_none() && tables.jobs()?.is_empty())
 }
 
 /// What a store is after a stop.
@@ -87,51 +90,51 @@ enum Remains {
     Neither,
 }
 
-/// Are there tables, and do they hold the empty state? The connection comes back.
-fn holds_nothing(
-    found: Result<Failing, (OpenFault, FailingConnection)>,
-) -> (Option<bool>, FailingConnection) {
-    match found {
-        Ok(mut tables) => {
-            let found = is_empty(&mut tables);
-            (Some(found == Ok(true)), close(tables))
+fn holds_nothing(mut tables: Tables<FileStore<Fuse<Memory>>>) -> bool {
+    let found = is_empty(&mut tables);
+    discard(tables.close());
+    found == Ok(true)
+}
+
+fn is_blank(conn: Connection<FileStore<Fuse<Memory>>>) -> bool {
+    match Tables::create(conn) {
+        Ok(tables) => holds_nothing(tables),
+        Err((_, conn)) => {
+            discard(conn);
+            false
         }
-        Err((_, conn)) => (None, conn),
     }
 }
 
-/// What a connection finds.
-fn what_remains(conn: FailingConnection) -> (Remains, FailingConnection) {
-    let (found, conn) = holds_nothing(open(conn));
-    match found {
-        Some(true) => return (Remains::Tables, conn),
-        Some(false) => return (Remains::Neither, conn),
-        None => {}
-    }
-    let (made, conn) = holds_nothing(create(conn));
-    match made {
-        Some(true) => (Remains::Blank, conn),
-        _ => (Remains::Neither, conn),
-    }
-}
-
-fn after_stop(alloc: Global, files: FailingDisks) -> Remains {
+fn after_stop(alloc: Global, files: Files<Fuse<Memory>>) -> Remains {
     let Some(conn) = connected(alloc, files) else {
         return Remains::Neither;
     };
-    let (remains, conn) = what_remains(conn);
-    discard(conn);
-    remains
+    let (is_sound, remains) = match Tables::open(conn) {
+        Ok(tables) => (holds_nothing(tables), Remains::Tables),
+        Err((_, conn)) => (is_blank(conn), Remains::Blank),
+    };
+    if is_sound { remains } else { Remains::Neither }
+}
+
+/// Makes the tables, and gives the connection back.
+fn is_made(
+    conn: Connection<FileStore<Fuse<Memory>>>,
+) -> (bool, Connection<FileStore<Fuse<Memory>>>) {
+    match Tables::create(conn) {
+        Ok(tables) => (true, tables.close()),
+        Err((_, conn)) => (false, conn),
+    }
 }
 
 fn tried_create(alloc: Global, of_log: bool, calls: u64) -> Result<Ended, Fail> {
     let Some(conn) = connected(alloc, fused(empty(alloc), of_log, calls)) else {
         return Ok(Ended::Unopened);
     };
-    let (fault, conn) = parted(create(conn));
-    match (fault, after_stop(alloc, stopped(conn))) {
-        (None, Remains::Tables) => Ok(Ended::Done),
-        (Some(_), Remains::Tables | Remains::Blank) => Ok(Ended::Faulted),
+    let (is_made, conn) = is_made(conn);
+    match (is_made, after_stop(alloc, stopped(conn))) {
+        (true, Remains::Tables) => Ok(Ended::Done),
+        (false, Remains::Tables | Remains::Blank) => Ok(Ended::Faulted),
         _ => Err("torn or lost")?,
     }
 }
@@ -144,42 +147,68 @@ enum Found {
     Neither,
 }
 
-/// Has the first project this name?
-fn is_named<S: Alter>(tables: &mut Tables<S>, name: &str) -> Loaded<bool> {
-    match project(tables, 1)? {
-        Some(found) => Ok(found.name.as_str() == name),
-        None => Ok(false),
+fn name_of<S: Alter>(tables: &mut Tables<S>, id: u64) -> Result<Option<Text>, StoreFault> {
+    match tables.project(id)? {
+        Some(found) => Ok(Some(found.name)),
+        None => Ok(None),
     }
 }
 
-fn outcome<S: Alter>(tables: &mut Tables<S>) -> Loaded<Found> {
-    let has_second = project(tables, 2)?.is_some();
-    if has_second && is_named(tables, "uno")? {
-        return Ok(Found::After);
+fn judged(first: &str, has_second: bool) -> Found {
+    if first == "one" && !has_second {
+        Found::Before
+    } else if first == "uno" && has_second {
+        Found::After
+    } else {
+        Found::Neither
     }
-    if !has_second && is_named(tables, "one")? {
-        return Ok(Found::Before);
+}
+
+fn outcome<S: Alter>(tables: &mut Tables<S>) -> Found {
+    let Ok(second) = name_of(tables, 2) else {
+        return Found::Neither;
+    };
+    match name_of(tables, 1) {
+        Ok(Some(name)) => judged(name.as_str(), second.is_some()),
+        _ => Found::Neither,
     }
-    Ok(Found::Neither)
 }
 
 /// What is found after a stop.
-fn reopened(alloc: Global, files: FailingDisks) -> Found {
-    let Some(mut tables) = opened(alloc, files) else {
+fn reopened(alloc: Global, files: Files<Fuse<Memory>>) -> Found {
+    let Some(conn) = connected(alloc, files) else {
         return Found::Neither;
     };
-    let found = outcome(&mut tables);
-    let_go(tables);
-    found.unwrap_or(Found::Neither)
+    match Tables::open(conn) {
+        Ok(mut tables) => {
+            let found = outcome(&mut tables);
+            discard(tables.close());
+            found
+        }
+        Err((_, conn)) => {
+            discard(conn);
+            Found::Neither
+        }
+    }
+}
+
+/// Opens the tables, and gives the connection back.
+fn fault_of_open(
+    conn: Connection<FileStore<Fuse<Memory>>>,
+) -> (Option<OpenFault>, Connection<FileStore<Fuse<Memory>>>) {
+    match Tables::open(conn) {
+        Ok(tables) => (None, tables.close()),
+        Err((fault, conn)) => (Some(fault), conn),
+    }
 }
 
 /// The files are those that a stop leaves, so that the log has frames.
 fn tried_open(alloc: Global, of_log: bool, calls: u64) -> Result<Ended, Fail> {
-    let files = stopped(close(made(alloc)?));
+    let files = stopped(made(alloc)?.close());
     let Some(conn) = connected(alloc, fused(files, of_log, calls)) else {
         return Ok(Ended::Unopened);
     };
-    let (fault, conn) = parted(open(conn));
+    let (fault, conn) = fault_of_open(conn);
     match (fault, reopened(alloc, stopped(conn))) {
         (None, Found::Before) => Ok(Ended::Done),
         (Some(OpenFault::O3), Found::Before) => Ok(Ended::Faulted),
@@ -188,9 +217,9 @@ fn tried_open(alloc: Global, of_log: bool, calls: u64) -> Result<Ended, Fail> {
 }
 
 /// The tables of files that fail, if they open.
-fn opened(alloc: Global, files: FailingDisks) -> Option<Failing> {
+fn opened(alloc: Global, files: Files<Fuse<Memory>>) -> Option<Tables<FileStore<Fuse<Memory>>>> {
     let conn = connected(alloc, files)?;
-    match open(conn) {
+    match Tables::open(conn) {
         Ok(tables) => Some(tables),
         Err((_, conn)) => {
             discard(conn);
@@ -200,13 +229,14 @@ fn opened(alloc: Global, files: FailingDisks) -> Option<Failing> {
 }
 
 fn tried_commit(alloc: Global, of_log: bool, calls: u64) -> Result<Ended, Fail> {
-    let files = closed(close(made(alloc)?)).ok_or("not closed")?;
+    let files = closed(made(alloc)?.close()).ok_or("not closed")?;
+    let delta = renamed(alloc)?;
     let Some(mut tables) = opened(alloc, fused(files, of_log, calls)) else {
+        let _ = delta.into_vec();
         return Ok(Ended::Unopened);
     };
-    let delta = renamed(alloc)?;
-    let is_done = is_committed(&mut tables, delta);
-    match (is_done, reopened(alloc, stopped(close(tables)))) {
+    let is_done = tables.commit(delta).is_ok();
+    match (is_done, reopened(alloc, stopped(tables.close()))) {
         (true, Found::After) => Ok(Ended::Done),
         (false, Found::Before | Found::After) => Ok(Ended::Faulted),
         _ => Err("torn or lost")?,
