@@ -1,5 +1,4 @@
-pub mod Floats
-pub mod EachEffect
+pub mod EachPlan
 pub mod Tokens
 pub mod Keyed
 pub mod Pieces

@@ -2,7 +2,7 @@
 use Rattle.std.specs.Prelude.{◌≡◌, ℕ, ◌+◌, ◌<◌, ◌≤◌, Bool, true, false, not, ◌==◌, ◌&&◌, nat_lt, nat_le, List, [], ◌∷◌, ◌++◌, length, map, if◌then◌else◌, Option, Some, None, option_map, Result, Ok, Err, Contains}
 use Rattle.std.specs.List.{flat_map}
 use Rattle.std.specs.Str.{bytes_eq}
-use Rattle.std.proofs.Common.{refl, sym, ap, subst, subst₂, ◌∙◌, inl, inr, ⊎_elim, arith, eqb-true, eq-eqb}
+use Rattle.std.proofs.Common.{refl, sym, ap, subst, ◌∙◌, inl, inr, ⊎_elim, arith, eqb-true, eq-eqb}
 use Rattle.std.proofs.lemmas.Bool.{cond_both}
 use Rattle.ci_machine.specs.declared.records.Project.{Project}
 use Rattle.ci_machine.specs.declared.records.Runner.{Runner}
@@ -34,16 +34,27 @@ use Rattle.ci_machine.specs.declared.request.Request.TheVariants.{AddProject, Ad
 use Rattle.ci_machine.specs.declared.request.Seed.{Seed}
 use Rattle.ci_machine.specs.declared.reply.Code.{Code}
 use Rattle.ci_machine.specs.declared.reply.Code.TheVariants.{M5, M15}
-use Rattle.ci_machine.specs.declared.reply.Detail.TheVariants.{G4, K11, K16}
-use Rattle.ci_machine.specs.declared.reply.Effect.{Effect}
+use Rattle.ci_machine.specs.declared.reply.Detail.TheVariants as detail
+use Rattle.ci_machine.specs.declared.reply.FaultCode.TheVariants.{G, K}
 use Rattle.ci_machine.specs.declared.reply.Answer.{Answer}
+use Rattle.ci_machine.specs.declared.reply.Answer.TheVariants as answer
+use Rattle.ci_machine.specs.declared.reply.Swept.{Swept}
 use Rattle.ci_values.specs.Names.{is_name}
-use Rattle.ci_machine.specs.State.{State, applied, attempt_cmp, put}
+use Rattle.ci_machine.specs.State.{State, applied, attempt_cmp}
 use Rattle.ci_machine.specs.Leases.{is_live, renewed, if_leased, size_after, accepted, cause_of, is_over, first_due}
 use Rattle.ci_machine.specs.Eligible.{may_run, chosen}
 use Rattle.ci_values.specs.declared.limits.TheConstants.{MAX_NUMBER}
 use Rattle.ci_machine.specs.declared.limits.TheConstants.{MAX_JOBS, MAX_TRACE_BYTES}
-use Rattle.ci_machine.specs.Effects.{replies, refuses, faults, made_project, add_project, made_runner, add_runner, has_names, lacks_numbers, new_jobs, new_pipeline, predefined, job_changes, entered, enter_pipeline, grant, ask_job, told, status_of_state, heard, ended, reported, update_job, grown, appended, append_trace, asked_job, shown, traced, sweep}
+use Rattle.ci_machine.specs.Plans.{Plan, refused, faulted}
+use Rattle.ci_machine.specs.Projects.{made_project, add_project}
+use Rattle.ci_machine.specs.Runners.{made_runner, add_runner}
+use Rattle.ci_machine.specs.Pipelines.{has_names, lacks_numbers, new_jobs, new_pipeline, predefined, job_changes, entered, enter_pipeline}
+use Rattle.ci_machine.specs.Grants.{granted, ask_job}
+use Rattle.ci_machine.specs.Reports.{told, heard, ended, reported, update_job}
+use Rattle.ci_machine.specs.Traces.{grown, appended, append_trace}
+use Rattle.ci_machine.specs.Shows.{asked_job, shown, traced}
+use Rattle.ci_machine.specs.Sweeps.{sweep}
+use Rattle.ci_machine.specs.Reply.{status_of_state}
 use Rattle.ci_machine.specs.Step.{Does, Happens, project_at, project_with, runner_with, job_at, attempt_at, pipeline_of, last_attempt, pieces_in, lease_of, leases, live_attempts, attempts_of, is_pending, pending_jobs, queued, queue, offer, offered_variables}
 use Rattle.ci_machine.specs.History.{Past, Leads}
 use Rattle.ci_machine.specs.Laws.{grants, is_grant, accepted_bytes, IsLeastEligible, WasGranted, IsTraced, EndsStay, Laws}
@@ -69,13 +80,17 @@ laws_from h s i = record {
   ends_stay = All-from_has (λ (p : Past). EndsStay p.before s) h (λ p k. All-from_has (λ (a : Attempt). is_live a ≡ false → Contains s.attempts a) p.before.attempts (λ a m l. contains_from_has a s.attempts (i.ends p k a m l)));
 }
 
--- the line of an event with this effect
-abbrev line : State → Event → ℕ → Seed → Effect → Past
-line s e now seed f = record { before = s; event = e; now = now; seed = seed; answer = f.answer }
+-- the line of an event with this answer
+abbrev line : State → Event → ℕ → Seed → Answer → Past
+line s e now seed a = record { before = s; event = e; now = now; seed = seed; answer = a }
 
--- the invariant goes on to the state that the effect leads to
-abbrev After : List Past → State → Event → ℕ → Seed → Effect → Type 0
-After h s e now seed f = Inv (line s e now seed f ∷ h) (applied f.changes s)
+-- the invariant goes on to the state that these changes lead to
+abbrev Changed : List Past → State → Event → ℕ → Seed → Answer → List RowChange → Type 0
+Changed h s e now seed a changes = Inv (line s e now seed a ∷ h) (applied changes s)
+
+-- the invariant goes on to the state that the plan leads to
+abbrev After : List Past → State → Event → ℕ → Seed → Plan → Type 0
+After h s e now seed plan = Changed h s e now seed (answer.Reply plan.0) plan.1
 
 -- the event accepts no bytes with this answer
 abbrev Quiet : Event → Answer → Type 0
@@ -90,29 +105,24 @@ keeps h s t p b i isnt none e f g r = record {
   ends = finals.stays h s t p b i.ends e;
 }
 
--- an effect that changes nothing, of an event that grants nothing and accepts no bytes with its answer
-rests : (h : List Past) (s : State) (e : Event) (now : ℕ) (seed : Seed) (f : Effect) → Inv h s → is_grant e f.answer ≡ false → Quiet e f.answer → f.changes ≡ [] → After h s e now seed f
-rests h s e now seed f i isnt quiet none =
-    keeps h s (applied f.changes s) (line s e now seed f) refl i (λ n. ap (λ b. b && (s.next.attempt == n)) isnt) quiet
-    (ap (λ cs. (applied cs s).attempts) none) (ap (λ cs. (applied cs s).pieces) none) (ap (λ cs. (applied cs s).next.attempt) none)
-    (subst (λ cs. Rising (λ (j : Job). j.id) 0 (applied cs s).jobs) (sym none) i.grants.jobs_rise)
+-- no changes, of an event that grants nothing and accepts no bytes with its answer
+rests : (h : List Past) (s : State) (e : Event) (now : ℕ) (seed : Seed) (a : Answer) → Inv h s → is_grant e a ≡ false → Quiet e a → Changed h s e now seed a []
+rests h s e now seed a i isnt quiet =
+    keeps h s s (line s e now seed a) refl i (λ n. ap (λ b. b && (s.next.attempt == n)) isnt) quiet refl refl refl i.grants.jobs_rise
 
 -- where an attempt is live, none of its number has ended
 only_live : {h : List Past} {s : State} {n : ℕ} → Inv h s → (a : Attempt) → Has a s.attempts → is_live a ≡ true → n ≡ a.id → (b : Attempt) → Has b s.attempts → b.id ≡ n → is_live b ≡ true
 only_live {h} {s} i a has live its b k e = ap is_live (one_at (λ (c : Attempt). c.id) b a 0 s.attempts i.grants.rise k has (e ∙ its)) ∙ live
 
--- an effect that puts x in place of a live attempt of its number, job, runner and trace
-alters : (h : List Past) (s : State) (e : Event) (now : ℕ) (seed : Seed) (f : Effect) (a x : Attempt) → Inv h s → Has a s.attempts
+-- x in place of a live attempt of its number, job, runner and trace
+alters : (h : List Past) (s : State) (e : Event) (now : ℕ) (seed : Seed) (said : Answer) (a x : Attempt) → Inv h s → Has a s.attempts
     → x.id ≡ a.id → x.job ≡ a.job → x.runner ≡ a.runner → x.pieces ≡ a.pieces → x.size ≡ a.size → is_live a ≡ true
-    → is_grant e f.answer ≡ false → Quiet e f.answer → f.changes ≡ Put (row.Attempt x) ∷ [] → After h s e now seed f
-alters h s e now seed f a x i has same_id same_job same_runner same_pieces same_size live isnt quiet puts =
-    let t = applied f.changes s in
-    let attempts : t.attempts ≡ put attempt_cmp x s.attempts = ap (λ cs. (applied cs s).attempts) puts in
+    → is_grant e said ≡ false → Quiet e said → Changed h s e now seed said (Put (row.Attempt x) ∷ [])
+alters h s e now seed said a x i has same_id same_job same_runner same_pieces same_size live isnt quiet =
+    let t = applied (Put (row.Attempt x) ∷ []) s in
     record {
-      grants = leased.alters h s t (line s e now seed f) a x i.grants has same_id same_job same_runner (λ _. live) (λ n. ap (λ b. b && (s.next.attempt == n)) isnt) attempts
-          (ap (λ cs. (applied cs s).next.attempt) puts) (ap (λ cs. (applied cs s).jobs) puts);
-      traces = pieces.stays h s t (line s e now seed f) i.traces quiet (ap (λ cs. (applied cs s).pieces) puts)
-          (let n : t.next.attempt ≡ s.next.attempt = ap (λ cs. (applied cs s).next.attempt) puts in omega arith)
+      grants = leased.alters h s t (line s e now seed said) a x i.grants has same_id same_job same_runner (λ _. live) (λ n. ap (λ b. b && (s.next.attempt == n)) isnt) refl refl refl;
+      traces = pieces.stays h s t (line s e now seed said) i.traces quiet refl (omega arith)
           (λ b k. ⊎_elim
           (λ q. inl (record {
             old = a;
@@ -122,8 +132,8 @@ alters h s e now seed f a x i has same_id same_job same_runner same_pieces same_
             size = sym (ap (λ (c : Attempt). c.size) q ∙ same_size);
           }))
           (λ m. same s b m)
-          (has_put attempt_cmp x b s.attempts (subst (Has b) attempts k)));
-      ends = finals.puts h s t (line s e now seed f) x refl i.ends attempts (only_live i a has live same_id);
+          (has_put attempt_cmp x b s.attempts k));
+      ends = finals.puts h s t (line s e now seed said) x refl i.ends refl (only_live i a has live same_id);
     }
 
 -- ---- a project, a runner
@@ -132,16 +142,16 @@ projects : (h : List Past) (s : State) (name : List ℕ) (now : ℕ) (seed : See
 projects h s name now seed i =
     let e = event.Request (AddProject name) in
     let next = s.next.project in
-    cond_both (not (is_name name)) (faults K16) _ (After h s e now seed) (λ _. rests h s e now seed (faults K16) i refl (λ n. refl) refl) (λ _.
-    cond_both (nat_lt MAX_NUMBER next) (refuses M15) (made_project next name seed) (After h s e now seed) (λ _. rests h s e now seed (refuses M15) i refl (λ n. refl) refl) (λ _.
+    cond_both (not (is_name name)) (faulted (detail.Code (K 16))) _ (After h s e now seed) (λ _. rests h s e now seed _ i refl (λ n. refl)) (λ _.
+    cond_both (nat_lt MAX_NUMBER next) (refused M15) (made_project next name seed) (After h s e now seed) (λ _. rests h s e now seed _ i refl (λ n. refl)) (λ _.
     keeps h s _ _ refl i (λ n. refl) (λ n. refl) refl refl refl i.grants.jobs_rise))
 
 runners : (h : List Past) (s : State) (name : List ℕ) (now : ℕ) (seed : Seed) → Inv h s → After h s (event.Request (AddRunner name)) now seed (add_runner s.next.runner name seed)
 runners h s name now seed i =
     let e = event.Request (AddRunner name) in
     let next = s.next.runner in
-    cond_both (not (is_name name)) (faults K16) _ (After h s e now seed) (λ _. rests h s e now seed (faults K16) i refl (λ n. refl) refl) (λ _.
-    cond_both (nat_lt MAX_NUMBER next) (refuses M15) (made_runner next name seed) (After h s e now seed) (λ _. rests h s e now seed (refuses M15) i refl (λ n. refl) refl) (λ _.
+    cond_both (not (is_name name)) (faulted (detail.Code (K 16))) _ (After h s e now seed) (λ _. rests h s e now seed _ i refl (λ n. refl)) (λ _.
+    cond_both (nat_lt MAX_NUMBER next) (refused M15) (made_runner next name seed) (After h s e now seed) (λ _. rests h s e now seed _ i refl (λ n. refl)) (λ _.
     keeps h s _ _ refl i (λ n. refl) (λ n. refl) refl refl refl i.grants.jobs_rise))
 
 -- ---- a pipeline
@@ -179,16 +189,16 @@ jobs_leave p (j ∷ js) s =
 
 pipelines : (h : List Past) (s : State) (p : NewPipeline) (now : ℕ) (seed : Seed) → Inv h s → (project : Option Project)
     → After h s (event.Request (EnterPipeline p)) now seed (enter_pipeline project s.next.pipeline s.next.job p now)
-pipelines h s p now seed i None = rests h s (event.Request (EnterPipeline p)) now seed _ i refl (λ n. refl) refl
+pipelines h s p now seed i None = rests h s (event.Request (EnterPipeline p)) now seed _ i refl (λ n. refl)
 pipelines h s p now seed i (Some project) =
     let e = event.Request (EnterPipeline p) in
     let f = entered s.next.pipeline s.next.job p now in
-    cond_both (nat_lt (length p.jobs) 1) (faults G4) _ (After h s e now seed) (λ _. rests h s e now seed (faults G4) i refl (λ n. refl) refl) (λ _.
-    cond_both (nat_lt MAX_JOBS (length p.jobs)) (faults K11) _ (After h s e now seed) (λ _. rests h s e now seed (faults K11) i refl (λ n. refl) refl) (λ _.
-    cond_both (not (has_names p)) (faults K16) _ (After h s e now seed) (λ _. rests h s e now seed (faults K16) i refl (λ n. refl) refl) (λ _.
-    cond_both (lacks_numbers s.next.pipeline s.next.job (length p.jobs)) (refuses M15) f (After h s e now seed) (λ _. rests h s e now seed (refuses M15) i refl (λ n. refl) refl) (λ _.
+    cond_both (nat_lt (length p.jobs) 1) (faulted (detail.Code (G 4))) _ (After h s e now seed) (λ _. rests h s e now seed _ i refl (λ n. refl)) (λ _.
+    cond_both (nat_lt MAX_JOBS (length p.jobs)) (faulted (detail.Code (K 11))) _ (After h s e now seed) (λ _. rests h s e now seed _ i refl (λ n. refl)) (λ _.
+    cond_both (not (has_names p)) (faulted (detail.Code (K 16))) _ (After h s e now seed) (λ _. rests h s e now seed _ i refl (λ n. refl)) (λ _.
+    cond_both (lacks_numbers s.next.pipeline s.next.job (length p.jobs)) (refused M15) f (After h s e now seed) (λ _. rests h s e now seed _ i refl (λ n. refl)) (λ _.
     let l = jobs_leave (new_pipeline s.next.pipeline p now) (new_jobs p.stage s.next.pipeline s.next.job 0 p.jobs) _ in
-    keeps h s (applied f.changes s) (line s e now seed f) refl i (λ n. refl) (λ n. refl) l.attempts l.pieces (ap (λ n. n.attempt) l.next) (l.rise i.grants.jobs_rise)))))
+    keeps h s (applied f.1 s) (line s e now seed (answer.Reply f.0)) refl i (λ n. refl) (λ n. refl) l.attempts l.pieces (ap (λ n. n.attempt) l.next) (l.rise i.grants.jobs_rise)))))
 
 -- ---- a job request
 
@@ -203,14 +213,14 @@ pending_free s job p a k e =
 
 -- a grant
 starts : (h : List Past) (s : State) (token : List ℕ) (now : ℕ) (seed : Seed) (runner : Runner) (q : QueuedJob) (vs : List JobVariable) (job : Job) → Inv h s
-    → is_pending s job ≡ true → job.id ≡ q.job.id → IsLeastEligible s runner job → After h s (event.Request (AskJob token)) now seed (grant runner q vs s.next.attempt now seed)
+    → is_pending s job ≡ true → job.id ≡ q.job.id → IsLeastEligible s runner job → After h s (event.Request (AskJob token)) now seed (granted runner q vs s.next.attempt now seed)
 starts h s token now seed runner q vs job i pending its_job eligible = record {
   grants = leased.gives h s _ _ _ i.grants refl (λ a k l m. pending_free s job pending a k (m ∙ sym its_job)) (λ n. refl) runner job refl its_job eligible refl refl refl;
   traces = pieces.stays h s _ _ i.traces (λ n. refl) refl (omega arith) (λ b k. ⊎_elim
       (λ w. inr (record { id = let m : b.id ≡ s.next.attempt = ap (λ (c : Attempt). c.id) w in omega arith; pieces = ap (λ (c : Attempt). c.pieces) w; size = ap (λ (c : Attempt). c.size) w }))
       (λ m. same s b m)
       (has_put attempt_cmp _ b s.attempts k));
-  ends = finals.puts h s (applied (grant runner q vs s.next.attempt now seed).changes s) _ _ refl i.ends refl (λ b k e. let l : b.id < s.next.attempt = i.grants.below b k in let m : b.id ≡ s.next.attempt = e in absurd (omega arith));
+  ends = finals.puts h s (applied (granted runner q vs s.next.attempt now seed).1 s) _ _ refl i.ends refl (λ b k e. let l : b.id < s.next.attempt = i.grants.below b k in let m : b.id ≡ s.next.attempt = e in absurd (omega arith));
 }
 
 grants_least : (h : List Past) (s : State) (token : List ℕ) (now : ℕ) (seed : Seed) → Inv h s → (runner : Runner) → runner_with s token ≡ Some runner
@@ -226,8 +236,8 @@ grants_least h s token now seed i runner found q offered vs =
     let is_job = has_filter (is_pending s) job s.jobs first.0 in
     let same_job : job.id ≡ q.job.id = ap (λ (w : QueuedJob). w.job.id) at.1.0 in
     let Least : Job → Type 0 = λ other. is_pending s other ≡ true → may_run runner (queued s other) ≡ true → job.id ≤ other.id in
-    cond_both (nat_lt MAX_NUMBER s.next.attempt) (refuses M15) (grant runner q vs s.next.attempt now seed) (After h s e now seed)
-    (λ _. rests h s e now seed (refuses M15) i refl (λ n. refl) refl)
+    cond_both (nat_lt MAX_NUMBER s.next.attempt) (refused M15) (granted runner q vs s.next.attempt now seed) (After h s e now seed)
+    (λ _. rests h s e now seed _ i refl (λ n. refl))
     (λ _. starts h s token now seed runner q vs job i is_job.1 same_job (record {
       is_runner = contains_from_has runner s.runners is_runner.0;
       is_job = contains_from_has job s.jobs is_job.0;
@@ -240,12 +250,12 @@ grants_least h s token now seed i runner found q offered vs =
 offers : (h : List Past) (s : State) (token : List ℕ) (now : ℕ) (seed : Seed) → Inv h s → (runner : Runner) → runner_with s token ≡ Some runner
     → (q : Option QueuedJob) → chosen (queue s) runner ≡ q → (vs : List JobVariable)
     → After h s (event.Request (AskJob token)) now seed (ask_job (Some runner) q vs s.next.attempt now seed)
-offers h s token now seed i runner found None offered vs = rests h s (event.Request (AskJob token)) now seed _ i refl (λ n. refl) refl
+offers h s token now seed i runner found None offered vs = rests h s (event.Request (AskJob token)) now seed _ i refl (λ n. refl)
 offers h s token now seed i runner found (Some q) offered vs = grants_least h s token now seed i runner found q offered vs
 
 asks : (h : List Past) (s : State) (token : List ℕ) (now : ℕ) (seed : Seed) → Inv h s → (runner : Option Runner) → runner_with s token ≡ runner
     → After h s (event.Request (AskJob token)) now seed (ask_job runner (offer s runner) (offered_variables s (offer s runner)) s.next.attempt now seed)
-asks h s token now seed i None found = rests h s (event.Request (AskJob token)) now seed _ i refl (λ n. refl) refl
+asks h s token now seed i None found = rests h s (event.Request (AskJob token)) now seed _ i refl (λ n. refl)
 asks h s token now seed i (Some runner) found = offers h s token now seed i runner found (chosen (queue s) runner) refl _
 
 -- ---- what a runner says of an attempt
@@ -253,8 +263,8 @@ asks h s token now seed i (Some runner) found = offers h s token now seed i runn
 hears : (h : List Past) (s : State) (u : JobUpdate) (now : ℕ) (seed : Seed) → Inv h s → (a : Attempt) → Has a s.attempts → (seen : Result ℕ LeaseFault) → ((z : ℕ) → seen ≡ Ok z → is_live a ≡ true)
     → After h s (event.Request (UpdateJob u)) now seed (heard a seen)
 hears h s u now seed i a has (Ok seen) live =
-    alters h s (event.Request (UpdateJob u)) now seed (heard a (Ok seen)) a (record a { seen = seen }) i has refl refl refl refl refl (live seen refl) refl (λ n. refl) refl
-hears h s u now seed i a has (Err fault) live = rests h s (event.Request (UpdateJob u)) now seed (heard a (Err fault)) i refl (λ n. refl) refl
+    alters h s (event.Request (UpdateJob u)) now seed _ a (record a { seen = seen }) i has refl refl refl refl refl (live seen refl) refl (λ n. refl)
+hears h s u now seed i a has (Err fault) live = rests h s (event.Request (UpdateJob u)) now seed _ i refl (λ n. refl)
 
 ends : (h : List Past) (s : State) (u : JobUpdate) (now : ℕ) (seed : Seed) → Inv h s → (a : Attempt) → Has a s.attempts → (state : Result AttemptState LeaseFault)
     → After h s (event.Request (UpdateJob u)) now seed (ended a state)
@@ -262,10 +272,10 @@ ends h s u now seed i a has (Ok state) =
     let e = event.Request (UpdateJob u) in
     let x = record a { state = state } in
     let reply = told (status_of_state state) in
-    cond_both (is_live a) (Put (row.Attempt x) ∷ []) [] (λ cs. After h s e now seed (replies reply cs))
-    (λ live. alters h s e now seed (replies reply (Put (row.Attempt x) ∷ [])) a x i has refl refl refl refl refl live refl (λ n. refl) refl)
-    (λ _. rests h s e now seed (replies reply []) i refl (λ n. refl) refl)
-ends h s u now seed i a has (Err fault) = rests h s (event.Request (UpdateJob u)) now seed (ended a (Err fault)) i refl (λ n. refl) refl
+    cond_both (is_live a) (Put (row.Attempt x) ∷ []) [] (Changed h s e now seed (answer.Reply reply))
+    (λ live. alters h s e now seed (answer.Reply reply) a x i has refl refl refl refl refl live refl (λ n. refl))
+    (λ _. rests h s e now seed _ i refl (λ n. refl))
+ends h s u now seed i a has (Err fault) = rests h s (event.Request (UpdateJob u)) now seed _ i refl (λ n. refl)
 
 reports : (h : List Past) (s : State) (u : JobUpdate) (now : ℕ) (seed : Seed) → Inv h s → (l : Lease) → Has l.attempt s.attempts → (r : Report)
     → After h s (event.Request (UpdateJob u)) now seed (reported l r now)
@@ -275,13 +285,13 @@ reports h s u now seed i l has (report.Failed cause exit) = ends h s u now seed 
 
 updates : (h : List Past) (s : State) (u : JobUpdate) (now : ℕ) (seed : Seed) → Inv h s → (o : Option Attempt) → attempt_at s u.attempt ≡ o
     → After h s (event.Request (UpdateJob u)) now seed (update_job (option_map (lease_of s) o) u now)
-updates h s u now seed i None found = rests h s (event.Request (UpdateJob u)) now seed (refuses M5) i refl (λ n. refl) refl
+updates h s u now seed i None found = rests h s (event.Request (UpdateJob u)) now seed _ i refl (λ n. refl)
 updates h s u now seed i (Some a) found =
     let e = event.Request (UpdateJob u) in
     let has = has_find (λ (b : Attempt). b.id == u.attempt) a s.attempts found in
-    cond_both (bytes_eq a.token u.token) (reported (lease_of s a) u.report now) (refuses M5) (After h s e now seed)
+    cond_both (bytes_eq a.token u.token) (reported (lease_of s a) u.report now) (refused M5) (After h s e now seed)
     (λ _. reports h s u now seed i (lease_of s a) has.0 u.report)
-    (λ _. rests h s e now seed (refuses M5) i refl (λ n. refl) refl)
+    (λ _. rests h s e now seed _ i refl (λ n. refl))
 
 -- ---- a piece of a trace
 
@@ -302,57 +312,57 @@ lengthens h s part now seed i a has its live size longer = record {
   grants = leased.alters h s _ _ a _ i.grants has refl refl refl (λ l. l) (λ n. refl) refl refl refl;
   traces = pieces.grows h s _ _ a _ (record { attempt = a.id; seq = a.pieces; bytes = part.bytes }) i.traces has (i.grants.below a has) refl refl refl refl longer
       (λ n. ap (λ m. if m == n then part.bytes else []) (sym its)) refl refl refl;
-  ends = finals.puts h s (applied (grown a part.bytes now size).changes s) _ _ refl i.ends refl (only_live i a has live refl);
+  ends = finals.puts h s (applied (grown a part.bytes now size).1 s) _ _ refl i.ends refl (only_live i a has live refl);
 }
 
 appends : (h : List Past) (s : State) (part : TracePart) (now : ℕ) (seed : Seed) → Inv h s → (a : Attempt) → Has a s.attempts → a.id ≡ part.attempt
     → (r : Result ℕ PieceFault) → ((z : ℕ) → r ≡ Ok z → z ≡ a.size + length part.bytes) → ((z : ℕ) → r ≡ Ok z → is_live a ≡ true) → After h s (event.Request (AppendTrace part)) now seed (appended a part.bytes now r)
 appends h s part now seed i a has its (Ok size) sum live =
     let e = event.Request (AppendTrace part) in
-    cond_both (nat_lt MAX_NUMBER a.pieces) (refuses M15) (grown a part.bytes now size) (After h s e now seed)
-    (λ _. rests h s e now seed (refuses M15) i refl (λ n. refl) refl)
+    cond_both (nat_lt MAX_NUMBER a.pieces) (refused M15) (grown a part.bytes now size) (After h s e now seed)
+    (λ _. rests h s e now seed _ i refl (λ n. refl))
     (λ _. lengthens h s part now seed i a has its (live size refl) size (sum size refl))
-appends h s part now seed i a has its (Err (Unleased (NotLive state))) sum live = rests h s (event.Request (AppendTrace part)) now seed (appended a part.bytes now (Err (Unleased (NotLive state)))) i refl (λ n. refl) refl
-appends h s part now seed i a has its (Err (Unleased LeaseOver)) sum live = rests h s (event.Request (AppendTrace part)) now seed (appended a part.bytes now (Err (Unleased LeaseOver))) i refl (λ n. refl) refl
-appends h s part now seed i a has its (Err (WrongOffset size)) sum live = rests h s (event.Request (AppendTrace part)) now seed (appended a part.bytes now (Err (WrongOffset size))) i refl (λ n. refl) refl
-appends h s part now seed i a has its (Err TraceFull) sum live = rests h s (event.Request (AppendTrace part)) now seed (appended a part.bytes now (Err TraceFull)) i refl (λ n. refl) refl
+appends h s part now seed i a has its (Err (Unleased (NotLive state))) sum live = rests h s (event.Request (AppendTrace part)) now seed _ i refl (λ n. refl)
+appends h s part now seed i a has its (Err (Unleased LeaseOver)) sum live = rests h s (event.Request (AppendTrace part)) now seed _ i refl (λ n. refl)
+appends h s part now seed i a has its (Err (WrongOffset size)) sum live = rests h s (event.Request (AppendTrace part)) now seed _ i refl (λ n. refl)
+appends h s part now seed i a has its (Err TraceFull) sum live = rests h s (event.Request (AppendTrace part)) now seed _ i refl (λ n. refl)
 
 parts : (h : List Past) (s : State) (part : TracePart) (now : ℕ) (seed : Seed) → Inv h s → (o : Option Attempt) → attempt_at s part.attempt ≡ o
     → After h s (event.Request (AppendTrace part)) now seed (append_trace (option_map (lease_of s) o) part now)
-parts h s part now seed i None found = rests h s (event.Request (AppendTrace part)) now seed (refuses M5) i refl (λ n. refl) refl
+parts h s part now seed i None found = rests h s (event.Request (AppendTrace part)) now seed _ i refl (λ n. refl)
 parts h s part now seed i (Some a) found =
     let e = event.Request (AppendTrace part) in
     let l = lease_of s a in
     let has = has_find (λ (b : Attempt). b.id == part.attempt) a s.attempts found in
     let r = accepted a l.limit now a.size part.from (length part.bytes) in
-    cond_both (bytes_eq a.token part.token) (appended a part.bytes now r) (refuses M5) (After h s e now seed)
+    cond_both (bytes_eq a.token part.token) (appended a part.bytes now r) (refused M5) (After h s e now seed)
     (λ _. appends h s part now seed i a has.0 (eqb-true a.id part.attempt has.1) r (λ z. accepted_size (renewed a l.limit now) a.size part.from (length part.bytes) z)
     (leased_live a l.limit now (renewed a l.limit now) refl (size_after a.size part.from (length part.bytes))))
-    (λ _. rests h s e now seed (refuses M5) i refl (λ n. refl) refl)
+    (λ _. rests h s e now seed _ i refl (λ n. refl))
 
 -- ---- a job is shown, a sweep
 
 looks : (h : List Past) (s : State) (e : Event) (now : ℕ) (seed : Seed) (last : Option Attempt) → Inv h s → ((a : Answer) → is_grant e a ≡ false) → ((a : Answer) → Quiet e a) → (r : Result Job Code) → After h s e now seed (shown r last)
-looks h s e now seed last i isnt quiet (Ok job) = rests h s e now seed (shown (Ok job) last) i (isnt _) (quiet _) refl
-looks h s e now seed last i isnt quiet (Err code) = rests h s e now seed (shown (Err code) last) i (isnt _) (quiet _) refl
+looks h s e now seed last i isnt quiet (Ok job) = rests h s e now seed _ i (isnt _) (quiet _)
+looks h s e now seed last i isnt quiet (Err code) = rests h s e now seed _ i (isnt _) (quiet _)
 
 reads : (h : List Past) (s : State) (e : Event) (now : ℕ) (seed : Seed) (ps : List Piece) → Inv h s → ((a : Answer) → is_grant e a ≡ false) → ((a : Answer) → Quiet e a) → (r : Result Job Code) → After h s e now seed (traced r ps)
-reads h s e now seed ps i isnt quiet (Ok job) = rests h s e now seed (traced (Ok job) ps) i (isnt _) (quiet _) refl
-reads h s e now seed ps i isnt quiet (Err code) = rests h s e now seed (traced (Err code) ps) i (isnt _) (quiet _) refl
+reads h s e now seed ps i isnt quiet (Ok job) = rests h s e now seed _ i (isnt _) (quiet _)
+reads h s e now seed ps i isnt quiet (Err code) = rests h s e now seed _ i (isnt _) (quiet _)
 
-sweeps : (h : List Past) (s : State) (now : ℕ) (seed : Seed) → Inv h s → (o : Option Lease) → first_due (leases s) now ≡ o → After h s event.Sweep now seed (sweep o)
-sweeps h s now seed i None found = rests h s event.Sweep now seed (sweep None) i refl (λ n. refl) refl
+sweeps : (h : List Past) (s : State) (now : ℕ) (seed : Seed) → Inv h s → (o : Option Lease) → first_due (leases s) now ≡ o → Changed h s event.Sweep now seed (answer.Swept (sweep o).0) (sweep o).1
+sweeps h s now seed i None found = rests h s event.Sweep now seed _ i refl (λ n. refl)
 sweeps h s now seed i (Some l) found =
     let at = find-map (lease_of s) (λ (w : Lease). is_over w.attempt w.limit now) l (live_attempts s) found in
     let a = at.0 in
     let is : a ≡ l.attempt = ap (λ (w : Lease). w.attempt) at.1.0 in
     let live = has_find (λ (b : Attempt). is_over b (lease_of s b).limit now) a (live_attempts s) at.1.1 in
     let has = has_filter is_live a s.attempts live.0 in
-    alters h s event.Sweep now seed (sweep (Some l)) l.attempt (record l.attempt { state = Failed (cause_of l) None }) i (subst (λ (b : Attempt). Has b s.attempts) is has.0)
-    refl refl refl refl refl (subst (λ (b : Attempt). is_live b ≡ true) is has.1) refl (λ n. refl) refl
+    alters h s event.Sweep now seed _ l.attempt (record l.attempt { state = Failed (cause_of l) None }) i (subst (λ (b : Attempt). Has b s.attempts) is has.0)
+    refl refl refl refl refl (subst (λ (b : Attempt). is_live b ≡ true) is has.1) refl (λ n. refl)
 
 -- each event keeps the invariant
-does : (h : List Past) (s : State) (r : Request) (now : ℕ) (seed : Seed) (f : Effect) → Inv h s → Does s r now seed f → After h s (event.Request r) now seed f
+does : (h : List Past) (s : State) (r : Request) (now : ℕ) (seed : Seed) (f : Plan) → Inv h s → Does s r now seed f → After h s (event.Request r) now seed f
 does h s (AddProject name) now seed f i is = subst (After h s (event.Request (AddProject name)) now seed) (sym is) (projects h s name now seed i)
 does h s (AddRunner name) now seed f i is = subst (After h s (event.Request (AddRunner name)) now seed) (sym is) (runners h s name now seed i)
 does h s (EnterPipeline p) now seed f i is = subst (After h s (event.Request (EnterPipeline p)) now seed) (sym is) (pipelines h s p now seed i (project_at s p.project))
@@ -368,12 +378,16 @@ does h s (ShowTrace query) now seed f i is =
     subst (After h s (event.Request (ShowTrace query)) now seed) (sym is)
     (reads h s (event.Request (ShowTrace query)) now seed (pieces_in s (last_attempt s query.job)) i (λ a. refl) (λ a n. refl) (asked_job (project_with s query.token) job (pipeline_of s job) query))
 
-goes_on : (h : List Past) (s : State) (e : Event) (now : ℕ) (seed : Seed) (f : Effect) → Inv h s → Happens s e now seed f → After h s e now seed f
-goes_on h s (event.Request r) now seed f i is = does h s r now seed f i is
-goes_on h s event.Sweep now seed f i is = subst (After h s event.Sweep now seed) (sym is) (sweeps h s now seed i (first_due (leases s) now) refl)
+goes_on : (h : List Past) (s : State) (e : Event) (now : ℕ) (seed : Seed) (a : Answer) (changes : List RowChange) → Inv h s → Happens s e now seed a changes → Changed h s e now seed a changes
+goes_on h s (event.Request r) now seed (answer.Reply reply) changes i is = does h s r now seed (reply, changes) i is
+goes_on h s event.Sweep now seed (answer.Swept swept) changes i is =
+    let P : Swept × List RowChange → Type 0 = λ f. Changed h s event.Sweep now seed (answer.Swept f.0) f.1 in
+    subst P (sym is) (sweeps h s now seed i (first_due (leases s) now) refl)
+goes_on h s (event.Request r) now seed (answer.Swept swept) changes i is = absurd is
+goes_on h s event.Sweep now seed (answer.Reply reply) changes i is = absurd is
 
 pub reached : (h : List Past) (s : State) → Leads h s → Inv h s
 reached [] s l = subst (Inv []) (sym l) (record { grants = grants_empty; traces = traces_empty; ends = λ p k. absurd k })
 reached (p ∷ h) s l =
-    let i = goes_on h p.before p.event p.now p.seed l.1.effect (reached h p.before l.0) l.1.happens in
-    subst₂ (λ (a : Answer) (t : State). Inv (record { before = p.before; event = p.event; now = p.now; seed = p.seed; answer = a } ∷ h) t) (sym l.1.answer) (sym l.1.state) i
+    let i = goes_on h p.before p.event p.now p.seed p.answer l.1.changes (reached h p.before l.0) l.1.happens in
+    subst (Inv (p ∷ h)) (sym l.1.state) i

@@ -7,7 +7,7 @@ use Rattle.std.proofs.lemmas.List.{append-nil, length-append, map-append}
 use Rattle.std.proofs.lemmas.Grind.{flat_map-append}
 use Rattle.ci_machine.specs.declared.records.Attempt.{Attempt}
 use Rattle.ci_machine.specs.declared.records.Piece.{Piece}
-use Rattle.ci_machine.specs.Effects.{joined}
+use Rattle.ci_machine.specs.Shows.{joined}
 use Rattle.ci_machine.specs.State.{State, empty, attempt_cmp, piece_cmp, put}
 use Rattle.ci_machine.specs.Step.{pieces_of}
 use Rattle.ci_machine.specs.History.{Past}

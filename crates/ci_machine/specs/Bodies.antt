@@ -1,5 +1,5 @@
 -- The bodies of replies: compact JSON, the members of each object in the order of their bytes.
-use Rattle.std.specs.Prelude.{ℕ, List, map, codes, insert, count_by, if◌then◌else◌, Option, Some, None}
+use Rattle.std.specs.Prelude.{ℕ, List, map, codes, insert, count_by, if◌then◌else◌}
 use Rattle.std.specs.List.{list_any}
 use Rattle.std.specs.Fmt.{decimal}
 use Rattle.std.specs.Ordering.{nat_cmp, is_lt}
@@ -13,10 +13,8 @@ use Rattle.ci_machine.specs.declared.records.Source.TheVariants.{Push, Web, Sche
 use Rattle.ci_machine.specs.declared.records.Job.{Job}
 use Rattle.ci_machine.specs.declared.records.JobVariable.{JobVariable}
 use Rattle.ci_machine.specs.declared.records.QueuedJob.{QueuedJob}
-use Rattle.ci_machine.specs.declared.reply.JobStatus.{JobStatus}
-use Rattle.ci_machine.specs.declared.reply.JobStatus.TheVariants.{Running, Success, Failed, Canceled}
 use Rattle.ci_machine.specs.declared.reply.Detail.{Detail}
-use Rattle.ci_machine.specs.declared.reply.Detail.TheVariants.{G4, K11, K16}
+use Rattle.ci_machine.specs.Reply.{detail_text}
 
 abbrev pub source_text : Source → List ℕ
 source_text Push = codes "push"
@@ -24,22 +22,6 @@ source_text Web = codes "web"
 source_text Schedule = codes "schedule"
 source_text Api = codes "api"
 source_text Trigger = codes "trigger"
-
-abbrev pub status_text : JobStatus → List ℕ
-status_text Running = codes "running"
-status_text Success = codes "success"
-status_text Failed = codes "failed"
-status_text Canceled = codes "canceled"
-
--- the status of a job, by that of its last attempt: it is pending while it has none
-abbrev pub job_status_text : Option JobStatus → List ℕ
-job_status_text None = codes "pending"
-job_status_text (Some status) = status_text status
-
-abbrev pub detail_text : Detail → List ℕ
-detail_text G4 = codes "G4"
-detail_text K11 = codes "K11"
-detail_text K16 = codes "K16"
 
 -- a fault of what was to be made: {"code":"M14","detail":..}
 abbrev pub fault_data : Detail → Data

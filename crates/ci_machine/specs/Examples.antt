@@ -11,12 +11,19 @@ use Rattle.ci_machine.specs.declared.request.NewPipeline.{NewPipeline}
 use Rattle.ci_machine.specs.declared.request.Report.{Report}
 use Rattle.ci_machine.specs.declared.request.JobQuery.{JobQuery}
 use Rattle.ci_machine.specs.declared.request.Seed.{Seed}
-use Rattle.ci_machine.specs.declared.reply.Answer.{Answer}
-use Rattle.ci_machine.specs.declared.reply.Answer.TheVariants as answer
-use Rattle.ci_machine.specs.declared.reply.Effect.{Effect}
+use Rattle.ci_machine.specs.declared.change.RowChange.{RowChange}
+use Rattle.ci_machine.specs.declared.reply.Swept.{Swept}
 use Rattle.ci_machine.specs.Reply.{body_text}
 use Rattle.ci_machine.specs.State.{State, empty, applied}
-use Rattle.ci_machine.specs.Effects.{add_project, add_runner, enter_pipeline, ask_job, update_job, append_trace, show_job, show_trace, sweep}
+use Rattle.ci_machine.specs.Plans.{Plan}
+use Rattle.ci_machine.specs.Projects.{add_project}
+use Rattle.ci_machine.specs.Runners.{add_runner}
+use Rattle.ci_machine.specs.Pipelines.{enter_pipeline}
+use Rattle.ci_machine.specs.Grants.{ask_job}
+use Rattle.ci_machine.specs.Reports.{update_job}
+use Rattle.ci_machine.specs.Traces.{append_trace}
+use Rattle.ci_machine.specs.Shows.{show_job, show_trace}
+use Rattle.ci_machine.specs.Sweeps.{sweep}
 use Rattle.ci_machine.specs.Leases.{first_due}
 use Rattle.ci_machine.specs.Step.{project_at, project_with, runner_with, pipeline_of, job_at, last_attempt, pieces_in, lease_at, leases, offer, offered_variables}
 
@@ -24,22 +31,23 @@ use Rattle.ci_machine.specs.Step.{project_at, project_with, runner_with, pipelin
 abbrev pub seed : Seed
 seed = record { 0 = replicate 16 171 }
 
-abbrev pub answer_text : Answer → List ℕ
-answer_text (answer.Reply reply) = body_text reply
-answer_text (answer.Swept swept) = []
+-- the body of the reply
+abbrev pub reply_text : Plan → List ℕ
+reply_text plan = body_text plan.0
 
-abbrev pub after : Effect → State → State
-after e s = applied e.changes s
+-- the state after the changes
+abbrev pub after : {A : Type 0} → A × List RowChange → State → State
+after plan s = applied plan.1 s
 
 -- a project `p` in the empty state
-abbrev pub project_added : Effect
+abbrev pub project_added : Plan
 project_added = add_project empty.next.project (codes "p") seed
 
 abbrev pub with_project : State
 with_project = after project_added empty
 
 -- then a runner `r`
-abbrev pub runner_added : Effect
+abbrev pub runner_added : Plan
 runner_added = add_runner with_project.next.runner (codes "r") seed
 
 abbrev pub with_runner : State
@@ -49,14 +57,14 @@ with_runner = after runner_added with_project
 abbrev pub pipeline : NewPipeline
 pipeline = record { project = 1; git_ref = codes "main"; stage = codes "build"; jobs = (record { name = codes "build"; script = codes "make" ∷ [] }) ∷ [] }
 
-abbrev pub pipeline_entered : Effect
+abbrev pub pipeline_entered : Plan
 pipeline_entered = enter_pipeline (project_at with_runner pipeline.project) with_runner.next.pipeline with_runner.next.job pipeline 1000
 
 abbrev pub with_pipeline : State
 with_pipeline = after pipeline_entered with_runner
 
 -- then a job request of that token
-abbrev pub asked : State → List ℕ → Effect
+abbrev pub asked : State → List ℕ → Plan
 asked s token =
     let runner = runner_with s token in
     ask_job runner (offer s runner) (offered_variables s (offer s runner)) s.next.attempt 1000 seed
@@ -64,7 +72,7 @@ asked s token =
 abbrev pub token : List ℕ
 token = codes "r1-abababababababababababababababab"
 
-abbrev pub granted : Effect
+abbrev pub granted : Plan
 granted = asked with_pipeline token
 
 abbrev pub with_attempt : State
@@ -91,23 +99,23 @@ leased = record empty {
 }
 
 -- its runner sends these bytes of its trace
-abbrev pub sent : State → ℕ → List ℕ → ℕ → Effect
+abbrev pub sent : State → ℕ → List ℕ → ℕ → Plan
 sent s from bytes now = append_trace (lease_at s 1) (record { attempt = 1; token = []; from = from; bytes = bytes }) now
 
 -- a runner says with this token how it stands
-abbrev pub said : State → List ℕ → Report → ℕ → Effect
+abbrev pub said : State → List ℕ → Report → ℕ → Plan
 said s token report now = update_job (lease_at s 1) (record { attempt = 1; token = token; report = report }) now
 
-abbrev pub swept : State → ℕ → Effect
+abbrev pub swept : State → ℕ → Swept × List RowChange
 swept s now = sweep (first_due (leases s) now)
 
 abbrev pub query : ℕ → ℕ → List ℕ → JobQuery
 query project number token = record { project = project; token = token; job = number }
 
-abbrev pub job_shown : State → JobQuery → Effect
+abbrev pub job_shown : State → JobQuery → Plan
 job_shown s q = show_job (project_with s q.token) (job_at s q.job) (pipeline_of s (job_at s q.job)) (last_attempt s q.job) q
 
-abbrev pub trace_shown : State → JobQuery → Effect
+abbrev pub trace_shown : State → JobQuery → Plan
 trace_shown s q = show_trace (project_with s q.token) (job_at s q.job) (pipeline_of s (job_at s q.job)) (pieces_in s (last_attempt s q.job)) q
 
 abbrev pub hello : State

@@ -15,7 +15,7 @@ use Rattle.ci_machine.specs.declared.reply.Swept.TheVariants as swept
 use Rattle.ci_machine.specs.Leases.{is_live}
 use Rattle.ci_machine.specs.Eligible.{may_run}
 use Rattle.ci_machine.specs.State.{State}
-use Rattle.ci_machine.specs.Effects.{joined}
+use Rattle.ci_machine.specs.Shows.{joined}
 use Rattle.ci_machine.specs.Step.{is_pending, queued, pieces_of}
 use Rattle.ci_machine.specs.History.{Past}
 

@@ -1,9 +1,18 @@
--- Replies: the statuses and the bodies of refusals.
+-- Replies: their statuses, the details of faults, and the bodies of refusals.
 use Rattle.std.specs.Prelude.{ℕ, List, [], ◌++◌, Option, Some, None, codes}
+use Rattle.std.specs.Fmt.{decimal}
+use Rattle.ci_values.specs.declared.attempts.AttemptState.{AttemptState}
+use Rattle.ci_values.specs.declared.attempts.AttemptState.TheVariants.{Live, Succeeded, Failed, Cancelled}
 use Rattle.ci_machine.specs.declared.reply.HttpStatus.{HttpStatus}
 use Rattle.ci_machine.specs.declared.reply.HttpStatus.TheVariants.{BadRequest, Unauthorized, Forbidden, NotFound, MethodNotAllowed, LengthRequired, PayloadTooLarge, RangeNotSatisfiable, HeaderFieldsTooLarge, NotImplemented, ServiceUnavailable}
 use Rattle.ci_machine.specs.declared.reply.Code.{Code}
 use Rattle.ci_machine.specs.declared.reply.Code.TheVariants.{M1, M2, M3, M4, M5, M6, M7, M8, M9, M14, M15, M16, M17, H1, H2, H3, H4, H5, H6, H7, H8}
+use Rattle.ci_machine.specs.declared.reply.FaultCode.{FaultCode}
+use Rattle.ci_machine.specs.declared.reply.FaultCode.TheVariants.{G, K, X, Y}
+use Rattle.ci_machine.specs.declared.reply.Detail.{Detail}
+use Rattle.ci_machine.specs.declared.reply.Detail.TheVariants as detail
+use Rattle.ci_machine.specs.declared.reply.JobStatus.{JobStatus}
+use Rattle.ci_machine.specs.declared.reply.JobStatus.TheVariants as job_status
 use Rattle.ci_machine.specs.declared.reply.Body.{Body}
 use Rattle.ci_machine.specs.declared.reply.Body.TheVariants.{Json, Plain}
 use Rattle.ci_machine.specs.declared.reply.Reply.{Reply}
@@ -59,13 +68,53 @@ code_text H6 = codes "H6"
 code_text H7 = codes "H7"
 code_text H8 = codes "H8"
 
+-- the status of an attempt in this state, as its runner and a user are told it
+abbrev pub status_of_state : AttemptState → JobStatus
+status_of_state Live = job_status.Running
+status_of_state (Succeeded exit) = job_status.Success
+status_of_state (Failed cause exit) = job_status.Failed
+status_of_state Cancelled = job_status.Canceled
+
+abbrev pub status_text : JobStatus → List ℕ
+status_text job_status.Running = codes "running"
+status_text job_status.Success = codes "success"
+status_text job_status.Failed = codes "failed"
+status_text job_status.Canceled = codes "canceled"
+
+-- the code of a fault as it is printed: its letter and its number
+abbrev pub letter_of : FaultCode → List ℕ
+letter_of (G n) = codes "G"
+letter_of (K n) = codes "K"
+letter_of (X n) = codes "X"
+letter_of (Y n) = codes "Y"
+
+abbrev pub number_of : FaultCode → ℕ
+number_of (G n) = n
+number_of (K n) = n
+number_of (X n) = n
+number_of (Y n) = n
+
+abbrev pub fault_text : FaultCode → List ℕ
+fault_text code = letter_of code ++ decimal (number_of code)
+
+-- a fault with what more is said of it: `G3`, `K2 image`, `K13 X2`, `Y5 line 3`
+abbrev pub detail_text : Detail → List ℕ
+detail_text (detail.Code code) = fault_text code
+detail_text (detail.Keyword code keyword) = fault_text code ++ codes " " ++ keyword
+detail_text (detail.Expression code inner) = fault_text code ++ codes " " ++ fault_text inner
+detail_text (detail.Line code line) = fault_text code ++ codes " line " ++ decimal line
+
 -- the body of a refusal that has no detail
 abbrev pub refusal_text : Code → List ℕ
 refusal_text code = codes "{\"code\":\"" ++ code_text code ++ codes "\"}"
 
+-- the reply that has this status and nothing more
+abbrev pub plain : HttpStatus → Reply
+plain status = record { status = status; code = None; job_status = None; range = None; allow = None; body = None }
+
 -- the reply of a refusal that has no detail
 abbrev pub refusal : Code → Reply
-refusal c = record { status = status_of c; code = Some c; job_status = None; range = None; allow = None; body = None }
+refusal c = record (plain (status_of c)) { code = Some c }
 
 abbrev pub text_of : Option Code → Option Body → List ℕ
 text_of code (Some (Json text)) = text

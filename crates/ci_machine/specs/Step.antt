@@ -1,4 +1,4 @@
--- One step of the machine: the effect of an event on what the state holds, and then the changes applied.
+-- One step of the machine: what an event does, by what the state holds, and then its changes applied.
 use Rattle.std.specs.Prelude.{◌≡◌, ℕ, Bool, List, [], filter, length, find, map, ◌==◌, Option, Some, None, option_map, option_and_then}
 use Rattle.std.specs.List.{last_or}
 use Rattle.std.specs.Str.{bytes_eq}
@@ -19,12 +19,21 @@ use Rattle.ci_machine.specs.declared.request.Request.TheVariants.{AddProject, Ad
 use Rattle.ci_machine.specs.declared.request.Event.{Event}
 use Rattle.ci_machine.specs.declared.request.Event.TheVariants as event
 use Rattle.ci_machine.specs.declared.request.Seed.{Seed}
+use Rattle.ci_machine.specs.declared.change.RowChange.{RowChange}
 use Rattle.ci_machine.specs.declared.reply.Answer.{Answer}
-use Rattle.ci_machine.specs.declared.reply.Effect.{Effect}
+use Rattle.ci_machine.specs.declared.reply.Answer.TheVariants as answer
 use Rattle.ci_machine.specs.State.{State, applied}
 use Rattle.ci_machine.specs.Eligible.{chosen}
 use Rattle.ci_machine.specs.Leases.{is_live, first_due}
-use Rattle.ci_machine.specs.Effects.{add_project, add_runner, enter_pipeline, ask_job, update_job, append_trace, show_job, show_trace, sweep}
+use Rattle.ci_machine.specs.Plans.{Plan}
+use Rattle.ci_machine.specs.Projects.{add_project}
+use Rattle.ci_machine.specs.Runners.{add_runner}
+use Rattle.ci_machine.specs.Pipelines.{enter_pipeline}
+use Rattle.ci_machine.specs.Grants.{ask_job}
+use Rattle.ci_machine.specs.Reports.{update_job}
+use Rattle.ci_machine.specs.Traces.{append_trace}
+use Rattle.ci_machine.specs.Shows.{show_job, show_trace}
+use Rattle.ci_machine.specs.Sweeps.{sweep}
 
 -- ---- what is looked up in a state
 
@@ -125,31 +134,32 @@ next_of counter.Attempt next = next.attempt
 
 -- ---- the step
 
--- the effect that a request has in a state
-abbrev pub Does : State → Request → ℕ → Seed → Effect → Type 0
-Does s (AddProject name) now seed e = e ≡ add_project s.next.project name seed
-Does s (AddRunner name) now seed e = e ≡ add_runner s.next.runner name seed
-Does s (EnterPipeline p) now seed e = e ≡ enter_pipeline (project_at s p.project) s.next.pipeline s.next.job p now
-Does s (AskJob token) now seed e =
+-- what a request does in a state
+abbrev pub Does : State → Request → ℕ → Seed → Plan → Type 0
+Does s (AddProject name) now seed plan = plan ≡ add_project s.next.project name seed
+Does s (AddRunner name) now seed plan = plan ≡ add_runner s.next.runner name seed
+Does s (EnterPipeline p) now seed plan = plan ≡ enter_pipeline (project_at s p.project) s.next.pipeline s.next.job p now
+Does s (AskJob token) now seed plan =
     let runner = runner_with s token in
-    e ≡ ask_job runner (offer s runner) (offered_variables s (offer s runner)) s.next.attempt now seed
-Does s (UpdateJob update) now seed e = e ≡ update_job (lease_at s update.attempt) update now
-Does s (AppendTrace part) now seed e = e ≡ append_trace (lease_at s part.attempt) part now
-Does s (ShowJob query) now seed e =
+    plan ≡ ask_job runner (offer s runner) (offered_variables s (offer s runner)) s.next.attempt now seed
+Does s (UpdateJob update) now seed plan = plan ≡ update_job (lease_at s update.attempt) update now
+Does s (AppendTrace part) now seed plan = plan ≡ append_trace (lease_at s part.attempt) part now
+Does s (ShowJob query) now seed plan =
     let job = job_at s query.job in
-    e ≡ show_job (project_with s query.token) job (pipeline_of s job) (last_attempt s query.job) query
-Does s (ShowTrace query) now seed e =
+    plan ≡ show_job (project_with s query.token) job (pipeline_of s job) (last_attempt s query.job) query
+Does s (ShowTrace query) now seed plan =
     let job = job_at s query.job in
-    e ≡ show_trace (project_with s query.token) job (pipeline_of s job) (pieces_in s (last_attempt s query.job)) query
+    plan ≡ show_trace (project_with s query.token) job (pipeline_of s job) (pieces_in s (last_attempt s query.job)) query
 
--- the effect that an event has in a state
-abbrev pub Happens : State → Event → ℕ → Seed → Effect → Type 0
-Happens s (event.Request request) now seed e = Does s request now seed e
-Happens s event.Sweep now seed e = e ≡ sweep (first_due (leases s) now)
+-- what an event does in a state: a request is answered by a reply, and a sweep by what it ended
+abbrev pub Happens : State → Event → ℕ → Seed → Answer → List RowChange → Type 0
+Happens s (event.Request request) now seed (answer.Reply reply) changes = Does s request now seed (reply, changes)
+Happens s event.Sweep now seed (answer.Swept swept) changes = (swept, changes) ≡ sweep (first_due (leases s) now)
+Happens s (event.Request request) now seed (answer.Swept swept) changes = ⊥
+Happens s event.Sweep now seed (answer.Reply reply) changes = ⊥
 
 -- from a state an event, at a moment and with a seed, leads to an answer and the next state
 pub record Step (s : State) (e : Event) (now : ℕ) (seed : Seed) (a : Answer) (t : State) : Type 0 where
-  pub effect : Effect
-  pub happens : Happens s e now seed effect
-  pub answer : a ≡ effect.answer
-  pub state : t ≡ applied effect.changes s
+  pub changes : List RowChange
+  pub happens : Happens s e now seed a changes
+  pub state : t ≡ applied changes s

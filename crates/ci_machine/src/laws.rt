@@ -4,20 +4,25 @@ ghost use Rattle.std.specs.Prelude.{List, [], ◌∷◌, ℕ, ◌<◌, ◌^◌, 
 ghost use Rattle.ci_machine.specs.declared.request.Event.{Event};
 ghost use Rattle.ci_machine.specs.declared.request.Seed.{Seed};
 ghost use Rattle.ci_machine.specs.declared.reply.Answer.{Answer};
-ghost use Rattle.ci_machine.specs.declared.reply.Answer.TheVariants as answer;
 ghost use Rattle.ci_machine.specs.State.{State};
-ghost use Rattle.ci_machine.specs.Effects.{token_of, replies, refuses, no_content, add_project, made_project, add_runner, made_runner, lacks_numbers, told, unleased, accepted_to, not_accepted, sweeps};
+ghost use Rattle.ci_machine.specs.Plans.{token_of, refused};
+ghost use Rattle.ci_machine.specs.Projects.{add_project, made_project};
+ghost use Rattle.ci_machine.specs.Runners.{add_runner, made_runner};
+ghost use Rattle.ci_machine.specs.Pipelines.{lacks_numbers};
+ghost use Rattle.ci_machine.specs.Grants.{nothing_to_run};
+ghost use Rattle.ci_machine.specs.Reports.{told, unleased};
+ghost use Rattle.ci_machine.specs.Traces.{accepted_to, not_accepted};
 ghost use Rattle.ci_values.specs.Names.{is_name};
 ghost use Rattle.ci_machine.specs.Step.{Step};
-ghost use Rattle.ci_machine.specs.Reply.{Stepped, outcome_of};
+ghost use Rattle.ci_machine.specs.Reply.{Stepped, outcome_of, detail_text};
 ghost use Rattle.ci_machine.specs.Laws.{IsRefusal, Laws};
 ghost use Rattle.ci_machine.specs.History.{Past, Leads};
-ghost use Rattle.ci_machine.specs.Examples.{answer_text, project_added, runner_added, pipeline_entered, granted, with_attempt, token, asked, seed, attempt, lease, leased, after, sent, said, swept, query, job_shown, trace_shown, hello, hello_world};
+ghost use Rattle.ci_machine.specs.Examples.{reply_text, project_added, runner_added, pipeline_entered, granted, with_attempt, token, asked, seed, attempt, lease, leased, after, sent, said, swept, query, job_shown, trace_shown, hello, hello_world};
 ghost use Rattle.ci_machine.specs.Leases.{renewed, is_over, deadline, accepted, size_after, finished, cause_of};
 
 use crate::lease::{LeaseFault, PieceFault};
 use crate::records::{AttemptState, Cause};
-use crate::reply::{Code, JobStatus, Swept};
+use crate::reply::{Code, Detail, FaultCode, JobStatus, Swept};
 use crate::request::Report;
 
 /// A step that refuses leaves the state as it was.
@@ -37,13 +42,21 @@ pub fn tokens_hold_their_number()
 
 /// The worked examples come out of the definitions, byte for byte.
 pub fn worked_examples()
-    ensures project { answer_text project_added.answer ≡ codes "{\"id\":1,\"token\":\"p1-abababababababababababababababab\"}" }
-    ensures runner { answer_text runner_added.answer ≡ codes "{\"id\":1,\"token\":\"r1-abababababababababababababababab\"}" }
-    ensures pipeline { answer_text pipeline_entered.answer ≡ codes "{\"id\":1,\"jobs\":[{\"id\":1,\"name\":\"build\",\"stage\":\"build\",\"status\":\"pending\"}],\"ref\":\"main\",\"source\":\"api\",\"status\":\"pending\"}" }
-    ensures granted { answer_text granted.answer ≡ codes "{\"id\":1,\"job_info\":{\"name\":\"build\",\"project_id\":1,\"stage\":\"build\"},\"script\":[\"make\"],\"timeout\":3600,\"token\":\"j1-abababababababababababababababab\",\"variables\":[{\"key\":\"CI\",\"value\":\"true\"},{\"key\":\"CI_COMMIT_BRANCH\",\"value\":\"main\"},{\"key\":\"CI_COMMIT_REF_NAME\",\"value\":\"main\"},{\"key\":\"CI_JOB_ID\",\"value\":\"1\"},{\"key\":\"CI_JOB_NAME\",\"value\":\"build\"},{\"key\":\"CI_JOB_STAGE\",\"value\":\"build\"},{\"key\":\"CI_PIPELINE_ID\",\"value\":\"1\"},{\"key\":\"CI_PIPELINE_SOURCE\",\"value\":\"api\"},{\"key\":\"CI_PROJECT_ID\",\"value\":\"1\"}]}" }
-    ensures asked_again { asked with_attempt token ≡ replies no_content [] }
-    ensures unknown_token { asked with_attempt (codes "nope") ≡ refuses Code.M4 }
-    ensures unknown_body { answer_text (asked with_attempt (codes "nope")).answer ≡ codes "{\"code\":\"M4\"}" }
+    ensures project { reply_text project_added ≡ codes "{\"id\":1,\"token\":\"p1-abababababababababababababababab\"}" }
+    ensures runner { reply_text runner_added ≡ codes "{\"id\":1,\"token\":\"r1-abababababababababababababababab\"}" }
+    ensures pipeline { reply_text pipeline_entered ≡ codes "{\"id\":1,\"jobs\":[{\"id\":1,\"name\":\"build\",\"stage\":\"build\",\"status\":\"pending\"}],\"ref\":\"main\",\"source\":\"api\",\"status\":\"pending\"}" }
+    ensures granted { reply_text granted ≡ codes "{\"id\":1,\"job_info\":{\"name\":\"build\",\"project_id\":1,\"stage\":\"build\"},\"script\":[\"make\"],\"timeout\":3600,\"token\":\"j1-abababababababababababababababab\",\"variables\":[{\"key\":\"CI\",\"value\":\"true\"},{\"key\":\"CI_COMMIT_BRANCH\",\"value\":\"main\"},{\"key\":\"CI_COMMIT_REF_NAME\",\"value\":\"main\"},{\"key\":\"CI_JOB_ID\",\"value\":\"1\"},{\"key\":\"CI_JOB_NAME\",\"value\":\"build\"},{\"key\":\"CI_JOB_STAGE\",\"value\":\"build\"},{\"key\":\"CI_PIPELINE_ID\",\"value\":\"1\"},{\"key\":\"CI_PIPELINE_SOURCE\",\"value\":\"api\"},{\"key\":\"CI_PROJECT_ID\",\"value\":\"1\"}]}" }
+    ensures asked_again { asked with_attempt token ≡ nothing_to_run }
+    ensures unknown_token { asked with_attempt (codes "nope") ≡ refused Code.M4 }
+    ensures unknown_body { reply_text (asked with_attempt (codes "nope")) ≡ codes "{\"code\":\"M4\"}" }
+{}
+
+/// What the details of faults print, worked out by hand.
+pub fn detail_examples()
+    ensures code { detail_text (Detail.Code (FaultCode.G 3)) ≡ codes "G3" }
+    ensures keyword { detail_text (Detail.Keyword (FaultCode.K 2) (codes "image")) ≡ codes "K2 image" }
+    ensures expression { detail_text (Detail.Expression (FaultCode.K 13) (FaultCode.X 2)) ≡ codes "K13 X2" }
+    ensures line { detail_text (Detail.Line (FaultCode.Y 5) 3) ≡ codes "Y5 line 3" }
 {}
 
 /// The limits, at their last value and one past it.
@@ -56,9 +69,9 @@ pub fn limits()
     ensures delete { is_name (97 ∷ 127 ∷ []) ≡ false }
 
     ensures last_project { add_project 9007199254740991 (codes "p") seed ≡ made_project 9007199254740991 (codes "p") seed }
-    ensures past_last_project { add_project 9007199254740992 (codes "p") seed ≡ refuses Code.M15 }
+    ensures past_last_project { add_project 9007199254740992 (codes "p") seed ≡ refused Code.M15 }
     ensures last_runner { add_runner 9007199254740991 (codes "r") seed ≡ made_runner 9007199254740991 (codes "r") seed }
-    ensures past_last_runner { add_runner 9007199254740992 (codes "r") seed ≡ refuses Code.M15 }
+    ensures past_last_runner { add_runner 9007199254740992 (codes "r") seed ≡ refused Code.M15 }
 
     ensures last_pipeline { lacks_numbers 9007199254740991 1 1 ≡ false }
     ensures past_last_pipeline { lacks_numbers 9007199254740992 1 1 ≡ true }
@@ -95,29 +108,29 @@ pub fn lease_examples()
 
 /// Traces, final states and sweeps worked out by hand, of an attempt granted at 1000 with a limit of an hour.
 pub fn trace_examples()
-    ensures first_piece { (sent leased 0 (codes "hello") 1119).answer ≡ answer.Reply (accepted_to 5) }
-    ensures repeated_piece { sent hello 0 (codes "hello") 1119 ≡ replies (not_accepted (PieceFault.WrongOffset 5)) [] }
-    ensures next_piece { (sent hello 5 (codes "world") 1119).answer ≡ answer.Reply (accepted_to 10) }
-    ensures gap { sent hello_world 11 (codes "ab") 1119 ≡ replies (not_accepted (PieceFault.WrongOffset 10)) [] }
-    ensures trace { answer_text (trace_shown hello_world (query 1 1 (codes "p"))).answer ≡ codes "helloworld" }
+    ensures first_piece { (sent leased 0 (codes "hello") 1119).0 ≡ accepted_to 5 }
+    ensures repeated_piece { sent hello 0 (codes "hello") 1119 ≡ (not_accepted (PieceFault.WrongOffset 5), []) }
+    ensures next_piece { (sent hello 5 (codes "world") 1119).0 ≡ accepted_to 10 }
+    ensures gap { sent hello_world 11 (codes "ab") 1119 ≡ (not_accepted (PieceFault.WrongOffset 10), []) }
+    ensures trace { reply_text (trace_shown hello_world (query 1 1 (codes "p"))) ≡ codes "helloworld" }
 
-    ensures too_early { swept hello_world 1238 ≡ sweeps Swept.Nothing [] }
-    ensures late_piece { sent hello_world 10 (codes "!") 1239 ≡ refuses Code.M7 }
-    ensures ended { (swept hello_world 1239).answer ≡ answer.Swept (Swept.Ended 1 Cause.StuckOrTimeoutFailure) }
-    ensures ended_once { swept (after (swept hello_world 1239) hello_world) 1240 ≡ sweeps Swept.Nothing [] }
+    ensures too_early { swept hello_world 1238 ≡ (Swept.Nothing, []) }
+    ensures late_piece { sent hello_world 10 (codes "!") 1239 ≡ refused Code.M7 }
+    ensures ended { (swept hello_world 1239).0 ≡ Swept.Ended 1 Cause.StuckOrTimeoutFailure }
+    ensures ended_once { swept (after (swept hello_world 1239) hello_world) 1240 ≡ (Swept.Nothing, []) }
 
     ensures went_back { (after (said (after (said leased [] Report.Running 1100) leased) [] Report.Running 1050) leased).attempts ≡ attempt 1100 AttemptState.Live ∷ [] }
-    ensures succeeded { (said leased [] (Report.Success None) 1119).answer ≡ answer.Reply (told JobStatus.Success) }
-    ensures repeated { said (after (said leased [] (Report.Success None) 1119) leased) [] (Report.Success None) 9000 ≡ replies (told JobStatus.Success) [] }
-    ensures other_exit { said (after (said leased [] (Report.Success None) 1119) leased) [] (Report.Success (Some 1)) 1119 ≡ replies (unleased (LeaseFault.NotLive (AttemptState.Succeeded None))) [] }
-    ensures late_end { said leased [] (Report.Success None) 1120 ≡ refuses Code.M7 }
-    ensures other_token { said leased (codes "j") Report.Running 1000 ≡ refuses Code.M5 }
+    ensures succeeded { (said leased [] (Report.Success None) 1119).0 ≡ told JobStatus.Success }
+    ensures repeated { said (after (said leased [] (Report.Success None) 1119) leased) [] (Report.Success None) 9000 ≡ (told JobStatus.Success, []) }
+    ensures other_exit { said (after (said leased [] (Report.Success None) 1119) leased) [] (Report.Success (Some 1)) 1119 ≡ (unleased (LeaseFault.NotLive (AttemptState.Succeeded None)), []) }
+    ensures late_end { said leased [] (Report.Success None) 1120 ≡ refused Code.M7 }
+    ensures other_token { said leased (codes "j") Report.Running 1000 ≡ refused Code.M5 }
 
-    ensures unknown_project { job_shown leased (query 1 1 (codes "q")) ≡ refuses Code.M1 }
-    ensures other_project { job_shown leased (query 2 1 (codes "p")) ≡ refuses Code.M2 }
-    ensures unknown_job { job_shown leased (query 1 2 (codes "p")) ≡ refuses Code.M3 }
-    ensures running { answer_text (job_shown leased (query 1 1 (codes "p"))).answer ≡ codes "{\"id\":1,\"name\":\"build\",\"stage\":\"build\",\"status\":\"running\"}" }
-    ensures failed { answer_text (job_shown (after (swept leased 1120) leased) (query 1 1 (codes "p"))).answer ≡ codes "{\"id\":1,\"name\":\"build\",\"stage\":\"build\",\"status\":\"failed\"}" }
+    ensures unknown_project { job_shown leased (query 1 1 (codes "q")) ≡ refused Code.M1 }
+    ensures other_project { job_shown leased (query 2 1 (codes "p")) ≡ refused Code.M2 }
+    ensures unknown_job { job_shown leased (query 1 2 (codes "p")) ≡ refused Code.M3 }
+    ensures running { reply_text (job_shown leased (query 1 1 (codes "p"))) ≡ codes "{\"id\":1,\"name\":\"build\",\"stage\":\"build\",\"status\":\"running\"}" }
+    ensures failed { reply_text (job_shown (after (swept leased 1120) leased) (query 1 1 (codes "p"))) ≡ codes "{\"id\":1,\"name\":\"build\",\"stage\":\"build\",\"status\":\"failed\"}" }
 {}
 
 /// In each state that a history leads to, each job has at most one live attempt; each attempt was granted by just one

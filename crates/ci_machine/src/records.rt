@@ -1,12 +1,12 @@
 //! The records that the machine keeps: a row of a table each.
 
 ghost use Rattle.std.specs.Prelude.{◌≡◌};
+ghost use Rattle.ci_machine.specs.Bodies.{source_text};
 
 use crate::moment::Moment;
 use crate::text::{Bytes, Text, Texts};
 pub use ci_values::attempts::{AttemptState, Cause};
 pub use ci_values::limits::MAX_NUMBER;
-use std::alloc::AllocError;
 
 /// A project, with the token that its users send and its pipeline file.
 #[derive(Clone, Drop)]
@@ -48,6 +48,21 @@ pub enum Source {
     Schedule,
     Api,
     Trigger,
+}
+
+impl Source {
+    /// The source as `CI_PIPELINE_SOURCE` gives it.
+    pub fn as_str(self) -> &'static str
+        ensures { result.now ≡ source_text self }
+    {
+        match self {
+            Source::Push => "push",
+            Source::Web => "web",
+            Source::Schedule => "schedule",
+            Source::Api => "api",
+            Source::Trigger => "trigger",
+        }
+    }
 }
 
 /// A pipeline of a project.
@@ -96,25 +111,11 @@ pub struct QueuedJob {
 }
 
 /// A variable of a job, as it was fixed when its pipeline was made.
-#[derive(Drop)]
+#[derive(Clone, Drop)]
 pub struct JobVariable {
     pub job: u64,
     pub key: Text,
     pub value: Text,
-}
-
-impl Clone for JobVariable {
-    ghost is_clone = { λ old new. new ≡ old };
-
-    fn clone(&self) -> Result<JobVariable, AllocError> {
-        let key = self.key.clone()?;
-        let value = self.value.clone()?;
-        Ok(JobVariable {
-            job: self.job,
-            key,
-            value,
-        })
-    }
 }
 
 /// A run of a job by a runner. While it is live it is the runner's lease on the job.

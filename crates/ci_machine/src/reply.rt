@@ -1,11 +1,12 @@
 //! What the machine answers.
 
 ghost use Rattle.std.specs.Prelude.{◌≡◌};
-ghost use Rattle.ci_machine.specs.Reply.{status_of, body_text, code_text, refusal_text, refusal};
+ghost use Rattle.std.specs.Prelude.{IfOk};
+ghost use Rattle.ci_machine.specs.Reply.{status_of, status_of_state, status_text, letter_of, number_of, detail_text, plain, body_text, refusal_text, refusal};
 
-use crate::change::Delta;
-use crate::records::Cause;
+use crate::records::{AttemptState, Cause};
 use crate::text::{Bytes, Text};
+use std::alloc::{AllocError, Global};
 
 /// How a request ended: the statuses of HTTP (RFC 9110, section 15) that the server sends.
 #[derive(Clone, Copy, PartialEq, Eq, Drop)]
@@ -74,15 +75,30 @@ pub enum Code {
     H8,
 }
 
-/// The fault of what is to be made.
+/// The code of a fault of what is to be made: the letter of its kind and its number, as `K11`.
 #[derive(Clone, Copy, PartialEq, Eq, Drop)]
+pub enum FaultCode {
+    /// Of the graph of a pipeline's jobs.
+    G(u8),
+    /// Of a keyword, or of a text that must be a name.
+    K(u8),
+    /// Of an expression.
+    X(u8),
+    /// Of the profile of YAML.
+    Y(u8),
+}
+
+/// The fault of what is to be made: its code, and what more is said of it.
+#[derive(Drop)]
 pub enum Detail {
-    /// The pipeline has no job.
-    G4,
-    /// There are more jobs than 100.
-    K11,
-    /// A text that must be a name isn't one.
-    K16,
+    /// The code alone, as `G3`.
+    Code(FaultCode),
+    /// With the keyword that it speaks of, as `K2 image`.
+    Keyword(FaultCode, Text),
+    /// With the code of the expression's fault, as `K13 X2`.
+    Expression(FaultCode, FaultCode),
+    /// With the line that it stands in, from 1, as `Y5 line 3`.
+    Line(FaultCode, u64),
 }
 
 /// The state of an attempt, as its runner is told in the field `Job-Status`.
@@ -174,19 +190,108 @@ impl Code {
     }
 }
 
+impl FaultCode {
+    fn letter(self) -> &'static str
+        ensures { result.now ≡ letter_of self }
+    {
+        match self {
+            FaultCode::G(_) => "G",
+            FaultCode::K(_) => "K",
+            FaultCode::X(_) => "X",
+            FaultCode::Y(_) => "Y",
+        }
+    }
+
+    fn number(self) -> u8
+        ensures { result ≡ number_of self }
+    {
+        match self {
+            FaultCode::G(number)
+            | FaultCode::K(number)
+            | FaultCode::X(number)
+            | FaultCode::Y(number) => number,
+        }
+    }
+}
+
+impl Detail {
+    /// The detail as a reply's body names it.
+    pub fn text(&self, alloc: Global) -> Result<Text, AllocError>
+        ensures { IfOk result (λ t. t ≡ detail_text self.now) }
+    {
+        let code = match self {
+            Detail::Code(code)
+            | Detail::Keyword(code, _)
+            | Detail::Expression(code, _)
+            | Detail::Line(code, _) => *code,
+        };
+        let letter = code.letter();
+        let number = code.number();
+        let text = match self {
+            Detail::Code(_) => format!(in alloc; "{letter}{number}")?,
+            Detail::Keyword(_, keyword) => {
+                let keyword = keyword.as_str();
+                format!(in alloc; "{letter}{number} {keyword}")?
+            }
+            Detail::Expression(_, inner) => {
+                let inner_letter = inner.letter();
+                let inner_number = inner.number();
+                format!(in alloc; "{letter}{number} {inner_letter}{inner_number}")?
+            }
+            Detail::Line(_, line) => format!(in alloc; "{letter}{number} line {line}")?,
+        };
+        Ok(Text::new(text))
+    }
+}
+
+impl JobStatus {
+    /// The status of an attempt in this state.
+    pub fn of(state: AttemptState) -> JobStatus
+        ensures { result ≡ status_of_state state }
+    {
+        match state {
+            AttemptState::Live => JobStatus::Running,
+            AttemptState::Succeeded(_) => JobStatus::Success,
+            AttemptState::Failed(_, _) => JobStatus::Failed,
+            AttemptState::Cancelled => JobStatus::Canceled,
+        }
+    }
+
+    /// The status as replies name it.
+    pub fn as_str(self) -> &'static str
+        ensures { result.now ≡ status_text self }
+    {
+        match self {
+            JobStatus::Running => "running",
+            JobStatus::Success => "success",
+            JobStatus::Failed => "failed",
+            JobStatus::Canceled => "canceled",
+        }
+    }
+}
+
 impl Reply {
-    /// The reply of a refusal that has no detail. It takes no memory.
-    pub fn refusal(code: Code) -> Reply
-        ensures { result ≡ refusal code }
+    /// The reply that has this status and nothing more.
+    pub fn plain(status: HttpStatus) -> Reply
+        ensures { result ≡ plain status }
     {
         Reply {
-            status: code.status(),
-            code: Some(code),
+            status,
+            code: None,
             job_status: None,
             range: None,
             allow: None,
             body: None,
         }
+    }
+
+    /// The reply of a refusal that has no detail. It takes no memory.
+    pub fn refusal(code: Code) -> Reply
+        ensures { result ≡ refusal code }
+    {
+        let mut reply = Reply::plain(code.status());
+        reply.code = Some(code);
+        reply
     }
 
     /// The bytes of the body.
@@ -218,10 +323,4 @@ pub enum Swept {
 pub enum Answer {
     Reply(Reply),
     Swept(Swept),
-}
-
-/// What an event does: its answer, and the changes that it makes.
-pub struct Effect {
-    pub answer: Answer,
-    pub changes: Delta,
 }

@@ -1,11 +1,8 @@
 //! What the machine is asked.
 
-ghost use Rattle.std.specs.Prelude.{◌≡◌};
-
 use crate::records::Cause;
 use crate::text::{Bytes, Text, Texts};
-use std::alloc::AllocError;
-use std::marker::Model;
+use ci_values::items::Items;
 
 /// A job of a pipeline to be made.
 #[derive(Clone, Drop)]
@@ -15,52 +12,7 @@ pub struct NewJob {
 }
 
 /// The jobs of a pipeline to be made, in order.
-#[derive(Drop)]
-pub struct NewJobs {
-    jobs: Vec<NewJob>,
-}
-
-impl Model for NewJobs {
-    ghost use Rattle.std.specs.Prelude.{List};
-    ghost use Rattle.ci_machine.specs.declared.request.NewJob.{NewJob};
-
-    ghost Value = { List NewJob };
-
-    ghost view = { λ n. n.jobs.items };
-}
-
-impl NewJobs {
-    /// The jobs of a list.
-    pub fn new(jobs: Vec<NewJob>) -> NewJobs
-        ensures { result ≡ jobs.items }
-    {
-        NewJobs { jobs }
-    }
-
-    /// The jobs, lent.
-    pub fn as_slice(&self) -> &[NewJob]
-        ensures { result.now ≡ self.now }
-    {
-        self.jobs.as_slice()
-    }
-
-    /// The list of the jobs.
-    pub fn into_vec(self) -> Vec<NewJob>
-        ensures { result.items ≡ self }
-    {
-        let NewJobs { jobs } = self;
-        jobs
-    }
-}
-
-impl Clone for NewJobs {
-    ghost is_clone = { λ old new. new ≡ old };
-
-    fn clone(&self) -> Result<NewJobs, AllocError> {
-        let jobs = self.jobs.clone()?;
-        Ok(NewJobs { jobs })
-    }
-}
+pub type NewJobs = Items<NewJob>;
 
 /// A pipeline of a branch to be made, all of whose jobs are of one stage.
 ///
@@ -108,7 +60,7 @@ pub struct JobQuery {
 }
 
 /// What the server is asked to do.
-#[derive(Drop)]
+#[derive(Clone, Drop)]
 pub enum Request {
     /// A project of this name is to be made.
     AddProject(Text),
@@ -128,39 +80,11 @@ pub enum Request {
     ShowTrace(JobQuery),
 }
 
-impl Clone for Request {
-    ghost is_clone = { λ old new. new ≡ old };
-
-    fn clone(&self) -> Result<Request, AllocError> {
-        Ok(match self {
-            Request::AddProject(name) => Request::AddProject(name.clone()?),
-            Request::AddRunner(name) => Request::AddRunner(name.clone()?),
-            Request::EnterPipeline(new) => Request::EnterPipeline(new.clone()?),
-            Request::AskJob(token) => Request::AskJob(token.clone()?),
-            Request::UpdateJob(update) => Request::UpdateJob(update.clone()?),
-            Request::AppendTrace(part) => Request::AppendTrace(part.clone()?),
-            Request::ShowJob(query) => Request::ShowJob(query.clone()?),
-            Request::ShowTrace(query) => Request::ShowTrace(query.clone()?),
-        })
-    }
-}
-
 /// What happens to the machine: a request, or a sweep, which ends one lease that is over.
-#[derive(Drop)]
+#[derive(Clone, Drop)]
 pub enum Event {
     Request(Request),
     Sweep,
-}
-
-impl Clone for Event {
-    ghost is_clone = { λ old new. new ≡ old };
-
-    fn clone(&self) -> Result<Event, AllocError> {
-        Ok(match self {
-            Event::Request(request) => Event::Request(request.clone()?),
-            Event::Sweep => Event::Sweep,
-        })
-    }
 }
 
 /// The sixteen bytes of chance that come with an event, for the token that it may make.

@@ -4,6 +4,7 @@
 use crate::disks::{closed, connected, discard, empty, fused, stopped};
 use crate::records::project;
 use ci_machine::change::{Counter, Delta, RowChange};
+use ci_machine::text::Text;
 use ci_store::fault::StoreFault;
 use ci_store::store::Store;
 use ci_store::tables::{OpenFault, Tables};
@@ -146,9 +147,9 @@ enum Found {
     Neither,
 }
 
-fn name_of<S: Alter>(tables: &mut Tables<S>, id: u64) -> Result<Option<String>, StoreFault> {
+fn name_of<S: Alter>(tables: &mut Tables<S>, id: u64) -> Result<Option<Text>, StoreFault> {
     match tables.project(id)? {
-        Some(found) => Ok(Some(found.name.into_string())),
+        Some(found) => Ok(Some(found.name)),
         None => Ok(None),
     }
 }

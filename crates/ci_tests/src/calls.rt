@@ -7,7 +7,7 @@ use ci_machine::moment::Moment;
 use ci_machine::records::{
     Attempt, AttemptState, Cause, Job, JobOptions, QueuedJob, Runner, Source,
 };
-use ci_machine::reply::{Body, Code, Detail, HttpStatus, Reply};
+use ci_machine::reply::{Body, Code, Detail, FaultCode, HttpStatus, Reply};
 use ci_machine::text::{Bytes, Text, Texts};
 use std::alloc::{AllocError, Global};
 use std::test::Fail;
@@ -164,10 +164,12 @@ fn small_types(rt: HostRuntime) -> Result<(), Fail> {
     let other = main.clone()?;
     assert!(rt; main.is_same(&other) && main.is_name() && !main.is_before(&other));
     assert!(rt; Text::copy_of(alloc, "maim")?.is_before(&main));
-    assert!(rt; main.into_string().as_str() == "main");
+    assert!(rt; main.as_str() == "main");
     assert!(rt; Texts::new(vec![in alloc; other]?).as_slice().len() == 1);
     assert!(rt; Moment::new(253_402_300_799).is_some() && Moment::new(253_402_300_800).is_none());
-    assert!(rt; Source::Trigger.as_str() == "trigger" && Detail::G4.as_str() == "G4");
+    assert!(rt; Source::Trigger.as_str() == "trigger");
+    let line = Detail::Line(FaultCode::Y(5), 3).text(alloc)?;
+    assert!(rt; line.as_str() == "Y5 line 3");
     let delta = Delta::new(vec![in alloc; RowChange::SetNext(Counter::Job, 2)]?);
     assert!(rt; !delta.is_empty() && delta.as_slice().len() == 1);
     assert!(rt; delta.into_vec().len() == 1);

@@ -6,6 +6,7 @@ ghost use Rattle.std.specs.Cmp.Lexicographic.{slice_cmp};
 ghost use Rattle.std.specs.Str.{bytes_eq};
 ghost use Rattle.ci_values.specs.Names.{is_name, has_no_control};
 
+use crate::items::Items;
 use crate::limits::MAX_NAME_BYTES;
 use std::alloc::{AllocError, Global};
 use std::marker::Model;
@@ -94,79 +95,7 @@ impl Clone for Text {
 }
 
 /// Bytes, seen as a list.
-#[derive(Drop)]
-pub struct Bytes {
-    bytes: Vec<u8>,
-}
-
-impl Model for Bytes {
-    ghost use Rattle.std.specs.Prelude.{ℕ, List};
-
-    ghost Value = { List ℕ };
-
-    ghost view = { λ b. b.bytes.items };
-}
-
-impl Bytes {
-    /// The bytes that a `Vec` holds.
-    pub fn new(bytes: Vec<u8>) -> Bytes
-        ensures { result ≡ bytes.items }
-    {
-        Bytes { bytes }
-    }
-
-    /// The bytes, lent.
-    pub fn as_slice(&self) -> &[u8]
-        ensures { result.now ≡ self.now }
-    {
-        self.bytes.as_slice()
-    }
-}
-
-impl Clone for Bytes {
-    ghost is_clone = { λ old new. new ≡ old };
-
-    fn clone(&self) -> Result<Bytes, AllocError> {
-        let bytes = self.bytes.clone()?;
-        Ok(Bytes { bytes })
-    }
-}
+pub type Bytes = Items<u8>;
 
 /// A list of texts.
-#[derive(Drop)]
-pub struct Texts {
-    texts: Vec<Text>,
-}
-
-impl Model for Texts {
-    ghost use Rattle.std.specs.Prelude.{ℕ, List};
-
-    ghost Value = { List (List ℕ) };
-
-    ghost view = { λ t. t.texts.items };
-}
-
-impl Texts {
-    /// The texts that a `Vec` holds.
-    pub fn new(texts: Vec<Text>) -> Texts
-        ensures { result ≡ texts.items }
-    {
-        Texts { texts }
-    }
-
-    /// The texts, lent.
-    pub fn as_slice(&self) -> &[Text]
-        ensures { result.now ≡ self.now }
-    {
-        self.texts.as_slice()
-    }
-}
-
-impl Clone for Texts {
-    ghost is_clone = { λ old new. new ≡ old };
-
-    fn clone(&self) -> Result<Texts, AllocError> {
-        let texts = self.texts.clone()?;
-        Ok(Texts { texts })
-    }
-}
+pub type Texts = Items<Text>;

@@ -1,4 +1,4 @@
-use Rattle.ci_machine.proofs.EachEffect.{unchanged}
+use Rattle.ci_machine.proofs.EachPlan.{unchanged}
 use Rattle.ci_machine.proofs.laws.a_refusal_changes_nothing.Goals as goal
 
 pub returns : goal.returns

@@ -1,4 +1,4 @@
-use Rattle.ci_machine.proofs.EachEffect.{answered}
+use Rattle.ci_machine.proofs.EachPlan.{answered}
 use Rattle.ci_machine.proofs.laws.a_step_is_answered.Goals as goal
 
 pub returns : goal.returns

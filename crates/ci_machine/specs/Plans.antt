@@ -1,0 +1,40 @@
+-- What the plans of several events say: what an event does to the machine is a reply and a list of row changes.
+use Rattle.std.specs.Prelude.{ℕ, ◌+◌, List, [], ◌∷◌, ◌++◌, Some, codes}
+use Rattle.std.specs.Fmt.{decimal}
+use Rattle.hex.specs.Hex.{encode_lower}
+use Rattle.serde_json.specs.Written.{compact_text}
+use Rattle.ci_machine.specs.declared.change.RowChange.{RowChange}
+use Rattle.ci_machine.specs.declared.change.RowChange.TheVariants.{Add, SetNext}
+use Rattle.ci_machine.specs.declared.change.Record.{Record}
+use Rattle.ci_machine.specs.declared.change.Counter.{Counter}
+use Rattle.ci_machine.specs.declared.request.Seed.{Seed}
+use Rattle.ci_machine.specs.declared.reply.Code.{Code}
+use Rattle.ci_machine.specs.declared.reply.Code.TheVariants.{M14}
+use Rattle.ci_machine.specs.declared.reply.Detail.{Detail}
+use Rattle.ci_machine.specs.declared.reply.HttpStatus.TheVariants.{Created}
+use Rattle.ci_machine.specs.declared.reply.Body.TheVariants.{Json}
+use Rattle.ci_machine.specs.declared.reply.Reply.{Reply}
+use Rattle.ci_machine.specs.Reply.{plain, refusal}
+use Rattle.ci_machine.specs.Bodies.{fault_data}
+
+abbrev pub Plan : Type 0
+Plan = Reply × List RowChange
+
+-- a refusal changes nothing
+abbrev pub refused : Code → Plan
+refused code = (refusal code, [])
+
+-- what is to be made has a fault
+abbrev pub faulted : Detail → Plan
+faulted d = (record (refusal M14) { body = Some (Json (compact_text (fault_data d))) }, [])
+
+abbrev pub created : List ℕ → Reply
+created text = record (plain Created) { body = Some (Json text) }
+
+-- a letter, the number, a dash and the seed in hex
+abbrev pub token_of : List ℕ → ℕ → Seed → List ℕ
+token_of letter n seed = letter ++ (decimal n ++ (codes "-" ++ encode_lower seed.0))
+
+-- a new record with this number, and the number that comes next
+abbrev pub numbered : Record → Counter → ℕ → List RowChange
+numbered row counter n = Add row ∷ SetNext counter (n + 1) ∷ []

@@ -1,0 +1,65 @@
+-- A job of a project is asked for, or the trace of its last attempt.
+use Rattle.std.specs.Prelude.{ℕ, List, [], if◌then◌else◌, ◌==◌, Option, Some, None, Result, Ok, Err, codes}
+use Rattle.std.specs.List.{flat_map}
+use Rattle.serde_json.specs.Written.{compact_text}
+use Rattle.ci_machine.specs.declared.records.Project.{Project}
+use Rattle.ci_machine.specs.declared.records.Pipeline.{Pipeline}
+use Rattle.ci_machine.specs.declared.records.Job.{Job}
+use Rattle.ci_machine.specs.declared.records.Attempt.{Attempt}
+use Rattle.ci_machine.specs.declared.records.Piece.{Piece}
+use Rattle.ci_machine.specs.declared.request.JobQuery.{JobQuery}
+use Rattle.ci_machine.specs.declared.reply.Code.{Code}
+use Rattle.ci_machine.specs.declared.reply.Code.TheVariants.{M1, M2, M3}
+use Rattle.ci_machine.specs.declared.reply.HttpStatus.TheVariants.{Fine}
+use Rattle.ci_machine.specs.declared.reply.Body.{Body}
+use Rattle.ci_machine.specs.declared.reply.Body.TheVariants.{Json, Plain}
+use Rattle.ci_machine.specs.declared.reply.Reply.{Reply}
+use Rattle.ci_machine.specs.Reply.{status_of_state, status_text, plain}
+use Rattle.ci_machine.specs.Bodies.{job_data}
+use Rattle.ci_machine.specs.Plans.{Plan, refused}
+
+-- the job, where its pipeline is the project's
+abbrev pub job_within : Option Job → Option Pipeline → ℕ → Result Job Code
+job_within (Some job) (Some pipeline) project = if pipeline.project == project then Ok job else Err M3
+job_within (Some job) None project = Err M3
+job_within None pipeline project = Err M3
+
+-- the job that a query names: the project with the query's token, the job with its number, and that job's pipeline
+abbrev pub asked_job : Option Project → Option Job → Option Pipeline → JobQuery → Result Job Code
+asked_job None job pipeline query = Err M1
+asked_job (Some project) job pipeline query = if project.id == query.project then job_within job pipeline project.id else Err M2
+
+abbrev pub fine : Body → Reply
+fine body = record (plain Fine) { body = Some body }
+
+-- the status of a job as it is shown, by its last attempt: it is pending while it has none
+abbrev pub shown_status : Option Attempt → List ℕ
+shown_status None = codes "pending"
+shown_status (Some last) = status_text (status_of_state last.state)
+
+-- the job with its status
+abbrev pub job_shown : Job → Option Attempt → Plan
+job_shown job last = (fine (Json (compact_text (job_data (shown_status last) job))), [])
+
+abbrev pub shown : Result Job Code → Option Attempt → Plan
+shown (Ok job) last = job_shown job last
+shown (Err code) last = refused code
+
+-- a job of a project, and the last of its attempts
+abbrev pub show_job : Option Project → Option Job → Option Pipeline → Option Attempt → JobQuery → Plan
+show_job project job pipeline last query = shown (asked_job project job pipeline query) last
+
+-- the pieces of a trace, joined in their order
+abbrev pub joined : List Piece → List ℕ
+joined pieces = flat_map (λ p. p.bytes) pieces
+
+abbrev pub trace_shown : List Piece → Plan
+trace_shown pieces = (fine (Plain (joined pieces)), [])
+
+abbrev pub traced : Result Job Code → List Piece → Plan
+traced (Ok job) pieces = trace_shown pieces
+traced (Err code) pieces = refused code
+
+-- a job of a project, and the pieces of the trace of its last attempt
+abbrev pub show_trace : Option Project → Option Job → Option Pipeline → List Piece → JobQuery → Plan
+show_trace project job pipeline pieces query = traced (asked_job project job pipeline query) pieces

@@ -1,0 +1,7 @@
+use Rattle.std.proofs.Common.{◌∙◌, ap}
+use Rattle.serde_json.specs.Written.{has_float}
+use Rattle.ci_plans.proofs.Floats.{grant_has_none}
+use Rattle.ci_plans.proofs.body.grant.Goals as goal
+
+pub text_of-requires : goal.text_of-requires
+text_of-requires c = ap has_float c.in_ok-value.ensures ∙ grant_has_none c.args.attempt c.args.token.now c.args.queued.now c.args.variables.now

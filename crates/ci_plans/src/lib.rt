@@ -1,0 +1,14 @@
+//! What each event does, from just the records that it needs. Nothing is changed here: a plan is an answer, with its
+//! whole body, and the row changes that a commit makes.
+#![tactic(auto)]
+
+pub mod body;
+pub mod grants;
+pub mod pipelines;
+pub mod projects;
+pub mod replies;
+pub mod reports;
+pub mod runners;
+pub mod shows;
+pub mod sweeps;
+pub mod traces;

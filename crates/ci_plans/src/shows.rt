@@ -1,0 +1,98 @@
+//! A job of a project is asked for, or the trace of its last attempt.
+
+ghost use Rattle.std.specs.Prelude.{◌≡◌, IfOk};
+ghost use Rattle.std.specs.Option.{option_copied};
+ghost use Rattle.std.specs.Result.{result_map_both};
+ghost use Rattle.ci_machine.specs.Shows as shows;
+
+use crate::body;
+use crate::replies::unchanged;
+use ci_machine::change::Delta;
+use ci_machine::records::{Attempt, Job, Piece, Pipeline, Project};
+use ci_machine::reply::{Body, Code, HttpStatus, JobStatus, Reply};
+use ci_machine::request::JobQuery;
+use ci_machine::text::Bytes;
+use std::alloc::{AllocError, Global};
+
+fn fine(body: Body) -> Reply
+    ensures { result ≡ shows.fine body }
+{
+    let mut reply = Reply::plain(HttpStatus::Fine);
+    reply.body = Some(body);
+    reply
+}
+
+/// The job, where its pipeline is the project's.
+fn job_within<'a>(
+    job: Option<&'a Job>,
+    pipeline: Option<&Pipeline>,
+    project: u64,
+) -> Result<&'a Job, Code>
+    ensures { result_map_both (λ j. j.now) (λ c. c) result ≡ shows.job_within (option_copied job.entry) (option_copied pipeline.entry) project }
+{
+    match (job, pipeline) {
+        (Some(job), Some(pipeline)) if pipeline.project == project => Ok(job),
+        _ => Err(Code::M3),
+    }
+}
+
+/// The job that a query names, of the project with the query's token, the job with its number, and that job's pipeline.
+///
+/// Refusals, in order: M1 where there is no such project; M2 where it isn't the one that the query names; M3 where there
+/// is no such job, or its pipeline isn't the project's.
+pub fn asked_job<'a>(
+    project: Option<&Project>,
+    job: Option<&'a Job>,
+    pipeline: Option<&Pipeline>,
+    query: &JobQuery,
+) -> Result<&'a Job, Code>
+    ensures { result_map_both (λ j. j.now) (λ c. c) result ≡ shows.asked_job (option_copied project.entry) (option_copied job.entry) (option_copied pipeline.entry) query.now }
+{
+    match project {
+        None => Err(Code::M1),
+        Some(project) if project.id != query.project => Err(Code::M2),
+        Some(project) => job_within(job, pipeline, project.id),
+    }
+}
+
+/// The status of a job as it is shown, by its last attempt.
+fn shown_status(last: Option<&Attempt>) -> &'static str
+    ensures { result.now ≡ shows.shown_status (option_copied last.entry) }
+{
+    match last {
+        None => "pending",
+        Some(attempt) => JobStatus::of(attempt.state).as_str(),
+    }
+}
+
+/// The job that `asked_job` gives is shown with its status, by the last of its attempts (200).
+pub fn job_shown(
+    alloc: Global,
+    job: &Job,
+    last: Option<&Attempt>,
+) -> Result<(Reply, Delta), AllocError>
+    ensures { IfOk result (λ plan. plan ≡ shows.job_shown job.now (option_copied last.entry)) }
+{
+    let text = body::job(alloc, shown_status(last), job)?;
+    Ok(unchanged(alloc, fine(Body::Json(text))))
+}
+
+/// The pieces of a trace, joined in their order.
+fn joined(alloc: Global, pieces: &[Piece]) -> Result<Bytes, AllocError>
+    ensures { IfOk result (λ b. b ≡ shows.joined pieces.now) }
+{
+    let mut bytes = Vec::new(alloc);
+    for piece in pieces {
+        bytes.extend_from_slice(piece.bytes.as_slice())?;
+    }
+    Ok(Bytes::new(bytes))
+}
+
+/// The trace of the last attempt of the job that `asked_job` gives is shown (200), by its pieces: it is empty where there
+/// is no attempt.
+pub fn trace_shown(alloc: Global, pieces: &[Piece]) -> Result<(Reply, Delta), AllocError>
+    ensures { IfOk result (λ plan. plan ≡ shows.trace_shown pieces.now) }
+{
+    let bytes = joined(alloc, pieces)?;
+    Ok(unchanged(alloc, fine(Body::Plain(bytes))))
+}
