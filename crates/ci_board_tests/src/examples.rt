@@ -183,7 +183,17 @@ fn make<L: Ledger>(
 }
 
 // Makes the steps one after the other, from jobs of which none was tried.
-fn play<L: Ledger>(
+fn play(
+    rt: &impl Abort,
+    alloc: Global,
+    parts: Vec<Part>,
+    pairs: &[(usize, usize)],
+    steps: &[Step<'_>],
+) -> Result<(), Fail> {
+    play_on::<Brand>(rt, alloc, Blank::new(1), parts, pairs, steps)
+}
+
+fn play_on<L: Ledger>(
     rt: &impl Abort,
     alloc: Global,
     blank: Blank,
@@ -227,14 +237,7 @@ fn no_needs_before_earlier_stages(rt: HostRuntime) -> Result<(), Fail> {
             Running,
         ),
     ];
-    play::<Brand>(
-        &rt,
-        alloc,
-        Blank::new(1),
-        parts,
-        [(0, 1)].as_slice(),
-        steps.as_slice(),
-    )
+    play(&rt, alloc, parts, [(0, 1)].as_slice(), steps.as_slice())
 }
 
 #[test]
@@ -253,10 +256,9 @@ fn manual_and_on_failure(rt: HostRuntime) -> Result<(), Fail> {
         [Running, Manual, Skipped, Created].as_slice(),
         Running,
     )];
-    play::<Brand>(
+    play(
         &rt,
         alloc,
-        Blank::new(1),
         parts,
         [(0, 3), (1, 3), (2, 3)].as_slice(),
         steps.as_slice(),
@@ -306,14 +308,7 @@ fn failure_and_retry(rt: HostRuntime) -> Result<(), Fail> {
             Running,
         ),
     ];
-    play::<Brand>(
-        &rt,
-        alloc,
-        Blank::new(1),
-        parts,
-        pairs.as_slice(),
-        steps.as_slice(),
-    )
+    play(&rt, alloc, parts, pairs.as_slice(), steps.as_slice())
 }
 
 #[test]
@@ -340,25 +335,11 @@ fn play_of_a_manual_job(rt: HostRuntime) -> Result<(), Fail> {
             Running,
         ),
     ];
-    play::<Brand>(
-        &rt,
-        alloc,
-        Blank::new(1),
-        parts,
-        [(0, 1)].as_slice(),
-        steps.as_slice(),
-    )?;
+    play(&rt, alloc, parts, [(0, 1)].as_slice(), steps.as_slice())?;
     // the pipeline waits for a manual job that isn't allowed to be left out
     let parts = vec![in alloc; manual(AllowFailure::No), part(When::OnSuccess, false)]?;
     let steps = [no_change([Manual, Created].as_slice(), Manual)];
-    play::<Brand>(
-        &rt,
-        alloc,
-        Blank::new(1),
-        parts,
-        [(0, 1)].as_slice(),
-        steps.as_slice(),
-    )
+    play(&rt, alloc, parts, [(0, 1)].as_slice(), steps.as_slice())
 }
 
 #[test]
@@ -393,14 +374,7 @@ fn tries_by_itself(rt: HostRuntime) -> Result<(), Fail> {
             Failed,
         ),
     ];
-    play::<Brand>(
-        &rt,
-        alloc,
-        Blank::new(1),
-        parts,
-        [].as_slice(),
-        steps.as_slice(),
-    )
+    play(&rt, alloc, parts, [].as_slice(), steps.as_slice())
 }
 
 #[test]
@@ -436,14 +410,7 @@ fn allowed_exit_codes(rt: HostRuntime) -> Result<(), Fail> {
             Canceled,
         ),
     ];
-    play::<Brand>(
-        &rt,
-        alloc,
-        Blank::new(1),
-        parts,
-        [(0, 1)].as_slice(),
-        steps.as_slice(),
-    )
+    play(&rt, alloc, parts, [(0, 1)].as_slice(), steps.as_slice())
 }
 
 fn has_cycle<L: Ledger>(

@@ -18,8 +18,9 @@ use Rattle.httparse.specs.Grammar as grammar
 use Rattle.httparse.specs.Spans.{name_and_value}
 use Rattle.httparse.proofs.TrimLemmas.{AllPass-reverse, skip_ows_no, trim_ows_space}
 use Rattle.httparse.proofs.GrammarLemmas.{print_response-append}
-use Rattle.ci_machine.specs.declared.reply.Allow.{Allow}
-use Rattle.ci_machine.specs.declared.reply.Allow.TheVariants.{Get, Patch, Post, Put}
+use Rattle.ci_machine.specs.declared.reply.Method.{Method}
+use Rattle.ci_machine.specs.declared.reply.Method.TheVariants.{Delete, Get, Patch, Post, Put}
+use Rattle.ci_machine.specs.declared.reply.Methods.{Methods}
 use Rattle.ci_machine.specs.declared.reply.Body.{Body}
 use Rattle.ci_machine.specs.declared.reply.Body.TheVariants.{Json, Plain}
 use Rattle.ci_machine.specs.declared.reply.JobStatus.{JobStatus}
@@ -30,7 +31,7 @@ use Rattle.ci_machine.specs.declared.reply.Reply.{Reply}
 use Rattle.ci_machine.specs.Reply.{body_text}
 use Rattle.ci_http.specs.Fields.{values_of}
 use Rattle.ci_http.proofs.Values.{values-append}
-use Rattle.ci_http.specs.ReplyText.{number_of, job_status_text, allow_text, type_text, crlf, status_line, job_status_line, range_line, allow_line, type_line, length_line, reply_text, length_values, IsResponse}
+use Rattle.ci_http.specs.ReplyText.{number_of, job_status_text, method_text, allow_text, type_text, crlf, status_line, job_status_line, range_line, allow_line, type_line, length_line, reply_text, length_values, IsResponse}
 
 abbrev field : List ℕ → List ℕ → Field
 field name value = record { name = name; raw = 32 ∷ value; end = grammar.crlf }
@@ -91,7 +92,7 @@ abbrev range_fields : Option ℕ → List Field
 range_fields None = []
 range_fields (Some n) = field (codes "Range") (codes "0-" ++ decimal n) ∷ []
 
-abbrev allow_fields : Option Allow → List Field
+abbrev allow_fields : Option Methods → List Field
 allow_fields None = []
 allow_fields (Some methods) = field (codes "Allow") (allow_text methods) ∷ []
 
@@ -113,7 +114,7 @@ range_print : (n : Option ℕ) → print (range_fields n) ≡ range_line n
 range_print None = refl
 range_print (Some n) = append-nil (range_line (Some n))
 
-allow_print : (methods : Option Allow) → print (allow_fields methods) ≡ allow_line methods
+allow_print : (methods : Option Methods) → print (allow_fields methods) ≡ allow_line methods
 allow_print None = refl
 allow_print (Some methods) = append-nil (allow_line (Some methods))
 
@@ -142,13 +143,24 @@ unfolding is_token_byte
 range_well None h = none_well
 range_well (Some n) h = one_well _ (is_field (codes "Range") (codes "0-" ++ decimal n) (omega arith) refl (decimal_value n h))
 
-allow_well : (methods : Option Allow) → All IsField (allow_fields methods)
+method_value : (method : Method) → is_value (method_text method) ≡ true
+method_value Delete = refl
+method_value Get = refl
+method_value Patch = refl
+method_value Post = refl
+method_value Put = refl
+
+value_before : (method : Method) (behind : List ℕ) → is_value behind ≡ true → is_value (method_text method ++ behind) ≡ true
+value_before method behind h = list_all-append is_value_byte (method_text method) behind ∙ ap (λ b. b && is_value behind) (method_value method) ∙ h
+
+allow_value : (first : Method) (second : Option Method) → is_value (allow_text (record { first = first; second = second })) ≡ true
+allow_value first None = value_before first [] refl
+allow_value first (Some second) = value_before first _ (value_before second [] refl)
+
+allow_well : (methods : Option Methods) → All IsField (allow_fields methods)
 unfolding is_token_byte
 allow_well None = none_well
-allow_well (Some Get) = one_well _ (is_field (codes "Allow") (codes "GET") (omega arith) refl refl)
-allow_well (Some Patch) = one_well _ (is_field (codes "Allow") (codes "PATCH") (omega arith) refl refl)
-allow_well (Some Post) = one_well _ (is_field (codes "Allow") (codes "POST") (omega arith) refl refl)
-allow_well (Some Put) = one_well _ (is_field (codes "Allow") (codes "PUT") (omega arith) refl refl)
+allow_well (Some methods) = one_well _ (is_field (codes "Allow") (allow_text methods) (omega arith) refl (allow_value methods.first methods.second))
 
 type_value : (body : Option Body) → is_value (type_text body) ≡ true
 type_value None = refl
@@ -284,7 +296,7 @@ range_lengths : (n : Option ℕ) → lengths (range_fields n) ≡ []
 range_lengths None = refl
 range_lengths (Some n) = refl
 
-allow_lengths : (methods : Option Allow) → lengths (allow_fields methods) ≡ []
+allow_lengths : (methods : Option Methods) → lengths (allow_fields methods) ≡ []
 allow_lengths None = refl
 allow_lengths (Some methods) = refl
 

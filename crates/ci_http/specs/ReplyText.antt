@@ -1,5 +1,6 @@
 -- The bytes of a reply.
 use Rattle.std.specs.Prelude.{◌≡◌, ℕ, List, [], ◌∷◌, ◌++◌, length, map, ◌==◌, if◌then◌else◌, Option, Some, None, unwrap_or, codes, decimal}
+use Rattle.std.specs.List.{join_by}
 use Rattle.httparse.specs.Grammar.{ResponseHead, ReadsResponse, status_code}
 use Rattle.httparse.specs.Spans.{name_and_value}
 use Rattle.http.specs.StatusCode.{reason_phrase, code_digits}
@@ -7,8 +8,9 @@ use Rattle.ci_machine.specs.declared.reply.HttpStatus.{HttpStatus}
 use Rattle.ci_machine.specs.declared.reply.HttpStatus.TheVariants.{Fine, Created, Accepted, NoContent, BadRequest, Unauthorized, Forbidden, NotFound, MethodNotAllowed, LengthRequired, PayloadTooLarge, RangeNotSatisfiable, HeaderFieldsTooLarge, NotImplemented, ServiceUnavailable}
 use Rattle.ci_machine.specs.declared.reply.JobStatus.{JobStatus}
 use Rattle.ci_machine.specs.declared.reply.JobStatus.TheVariants.{Running, Success, Failed, Canceled}
-use Rattle.ci_machine.specs.declared.reply.Allow.{Allow}
-use Rattle.ci_machine.specs.declared.reply.Allow.TheVariants.{Get, Patch, Post, Put}
+use Rattle.ci_machine.specs.declared.reply.Method.{Method}
+use Rattle.ci_machine.specs.declared.reply.Method.TheVariants.{Delete, Get, Patch, Post, Put}
+use Rattle.ci_machine.specs.declared.reply.Methods.{Methods}
 use Rattle.ci_machine.specs.declared.reply.Body.{Body}
 use Rattle.ci_machine.specs.declared.reply.Body.TheVariants.{Json, Plain}
 use Rattle.ci_machine.specs.declared.reply.Reply.{Reply}
@@ -39,11 +41,23 @@ job_status_text Success = codes "success"
 job_status_text Failed = codes "failed"
 job_status_text Canceled = codes "canceled"
 
-abbrev pub allow_text : Allow → List ℕ
-allow_text Get = codes "GET"
-allow_text Patch = codes "PATCH"
-allow_text Post = codes "POST"
-allow_text Put = codes "PUT"
+abbrev pub method_text : Method → List ℕ
+method_text Delete = codes "DELETE"
+method_text Get = codes "GET"
+method_text Patch = codes "PATCH"
+method_text Post = codes "POST"
+method_text Put = codes "PUT"
+
+abbrev pub one_or_none : Option Method → List Method
+one_or_none None = []
+one_or_none (Some method) = method ∷ []
+
+-- the methods in their order
+abbrev pub listed : Methods → List Method
+listed methods = methods.first ∷ one_or_none methods.second
+
+abbrev pub allow_text : Methods → List ℕ
+allow_text methods = join_by method_text (codes ", ") (listed methods)
 
 -- the media type of a body; the fixed texts of refusals are JSON
 abbrev pub type_text : Option Body → List ℕ
@@ -66,7 +80,7 @@ abbrev pub range_line : Option ℕ → List ℕ
 range_line None = []
 range_line (Some size) = codes "Range: 0-" ++ decimal size ++ crlf
 
-abbrev pub allow_line : Option Allow → List ℕ
+abbrev pub allow_line : Option Methods → List ℕ
 allow_line None = []
 allow_line (Some methods) = codes "Allow: " ++ allow_text methods ++ crlf
 

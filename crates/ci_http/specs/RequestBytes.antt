@@ -1,8 +1,10 @@
 -- The request that a message asks for, or the reply that refuses it.
-use Rattle.std.specs.Prelude.{◌≡◌, ◌⊎◌, ℕ, List, [], ◌∷◌, if◌then◌else◌, Option, Some, None, option_map, option_and_then, ok_or, Result, Err, codes, length}
+use Rattle.std.specs.Prelude.{◌≡◌, ◌⊎◌, ℕ, Bool, List, [], ◌∷◌, if◌then◌else◌, Option, Some, None, option_map, option_and_then, ok_or, Result, Err, codes, length}
+use Rattle.std.specs.List.{list_any}
 use Rattle.std.specs.Str.{is_utf8}
-use Rattle.ci_machine.specs.declared.reply.Allow.{Allow}
-use Rattle.ci_machine.specs.declared.reply.Allow.TheVariants.{Get, Patch, Post, Put}
+use Rattle.ci_machine.specs.declared.reply.Method.{Method}
+use Rattle.ci_machine.specs.declared.reply.Method.TheVariants.{Get, Patch, Post, Put}
+use Rattle.ci_machine.specs.declared.reply.Methods.{Methods}
 use Rattle.ci_machine.specs.declared.reply.Code.{Code}
 use Rattle.ci_machine.specs.declared.reply.Code.TheVariants.{M16, H5, H6, H7}
 use Rattle.ci_machine.specs.declared.reply.Reply.{Reply}
@@ -18,7 +20,7 @@ use Rattle.ci_http.specs.Json.{object_in, text_in}
 use Rattle.ci_http.specs.Paths.{is_text, path_of, place_of}
 use Rattle.ci_http.specs.Ranges.{start_in}
 use Rattle.ci_http.specs.Reading.{Message}
-use Rattle.ci_http.specs.ReplyText.{allow_text}
+use Rattle.ci_http.specs.ReplyText.{method_text, listed}
 use Rattle.ci_http.specs.Updates.{update_in}
 
 -- the one value of a field; a field that is missing counts as an empty one, and one that stands twice has none
@@ -51,13 +53,21 @@ part_in attempt m =
 abbrev pub query_in : ℕ → ℕ → Message → Option JobQuery
 query_in project job m = option_map (λ token. record { project = project; token = token; job = job }) (field_token (codes "private-token") m)
 
+-- this method alone
+abbrev pub only : Method → Methods
+only method = record { first = method; second = None }
+
 -- the methods of a place
-abbrev pub methods_of : Place → Allow
-methods_of Queue = Post
-methods_of (Attempt n) = Put
-methods_of (AttemptTrace n) = Patch
-methods_of (Job project n) = Get
-methods_of (JobTrace project n) = Get
+abbrev pub methods_of : Place → Methods
+methods_of Queue = only Post
+methods_of (Attempt n) = only Put
+methods_of (AttemptTrace n) = only Patch
+methods_of (Job project n) = only Get
+methods_of (JobTrace project n) = only Get
+
+-- is the text the name of one of the methods?
+abbrev pub has_method : Methods → List ℕ → Bool
+has_method methods text = list_any (λ method. is_text text (method_text method)) (listed methods)
 
 -- what a message with the right method asks for at a place, if its fields and its body are as the place wants them
 abbrev pub wanted : Place → Message → Option Request
@@ -68,13 +78,13 @@ wanted (Job project n) m = option_map ShowJob (query_in project n m)
 wanted (JobTrace project n) m = option_map ShowTrace (query_in project n m)
 
 -- the reply where the path has these methods, and not the request's
-abbrev pub not_allowed : Allow → Reply
+abbrev pub not_allowed : Methods → Reply
 not_allowed methods = record (refusal H6) { allow = Some methods }
 
 abbrev pub request_at : Option Place → Message → Result Request Reply
 request_at None m = Err (refusal H5)
 request_at (Some place) m =
-    if is_text m.method (allow_text (methods_of place)) then ok_or (wanted place m) (refusal H7) else Err (not_allowed (methods_of place))
+    if has_method (methods_of place) m.method then ok_or (wanted place m) (refusal H7) else Err (not_allowed (methods_of place))
 
 -- what a message asks for
 abbrev pub request_in : Message → Result Request Reply

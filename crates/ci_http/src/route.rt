@@ -2,16 +2,16 @@
 
 ghost use Rattle.std.specs.Prelude.{◌≡◌, ◌⊎◌, None, Some, Ok, Err, IfOk, IfErr, MatchOption, option_map};
 ghost use Rattle.ci_machine.specs.Reply.{refusal};
-ghost use Rattle.ci_http.specs.RequestBytes.{field_in, field_token, token_in, part_in, query_in, text_or_empty, methods_of, wanted, not_allowed, request_in, IsWhyNot};
+ghost use Rattle.ci_http.specs.RequestBytes.{field_in, field_token, token_in, part_in, query_in, text_or_empty, only, methods_of, has_method, wanted, not_allowed, request_in, IsWhyNot};
 
 use crate::call::Call;
 use crate::fields::Found;
 use crate::json::{object_in, text_in};
 use crate::path::{Place, is_text, path_of, place_of};
 use crate::range::start_in;
-use crate::text::allow_text;
+use crate::text::method_text;
 use crate::update::update_in;
-use ci_machine::reply::{Allow, Code, Reply};
+use ci_machine::reply::{Code, Method, Methods, Reply};
 use ci_machine::request::{JobQuery, Request, TracePart};
 use ci_machine::text::{Bytes, Text};
 use std::alloc::Global;
@@ -37,26 +37,44 @@ pub fn request_of(alloc: Global, call: &Call) -> Result<Request, Reply>
         return Err(Reply::refusal(Code::H5));
     };
     let methods = methods_of(place);
-    if !is_text(call.method(), allow_text(methods)) {
+    if !has_method(methods, call.method()) {
         return Err(not_allowed(methods));
     }
     wanted(alloc, place, call).map_err(Reply::refusal)
 }
 
 // The methods of a place.
-fn methods_of(place: Place) -> Allow
+fn methods_of(place: Place) -> Methods
     ensures { result ≡ methods_of place }
 {
     match place {
-        Place::Queue => Allow::Post,
-        Place::Attempt(_) => Allow::Put,
-        Place::AttemptTrace(_) => Allow::Patch,
-        Place::Job(_, _) | Place::JobTrace(_, _) => Allow::Get,
+        Place::Queue => only(Method::Post),
+        Place::Attempt(_) => only(Method::Put),
+        Place::AttemptTrace(_) => only(Method::Patch),
+        Place::Job(_, _) | Place::JobTrace(_, _) => only(Method::Get),
     }
 }
 
+// This method alone.
+fn only(method: Method) -> Methods
+    ensures { result ≡ only method }
+{
+    Methods {
+        first: method,
+        second: None,
+    }
+}
+
+// Is the text the name of one of the methods?
+fn has_method(methods: Methods, text: &[u8]) -> bool
+    ensures { result ≡ has_method methods text.now }
+{
+    is_text(text, method_text(methods.first))
+        || methods.second.is_some_and(|method| is_text(text, method_text(method)))
+}
+
 // The reply where the path has these methods, and not the request's.
-fn not_allowed(methods: Allow) -> Reply
+fn not_allowed(methods: Methods) -> Reply
     ensures { result ≡ not_allowed methods }
 {
     let mut reply = Reply::refusal(Code::H6);

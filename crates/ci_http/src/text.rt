@@ -3,11 +3,11 @@
 ghost use Rattle.std.specs.Prelude.{◌≡◌, ◌<◌, ◌≤◌, ◌+◌, ◌^◌, ◌++◌, length, decimal, IfSome};
 ghost use Rattle.arrayvec.specs.ArrayVec.{array_vec_len};
 ghost use Rattle.ci_machine.specs.Reply.{body_text};
-ghost use Rattle.ci_http.specs.ReplyText.{status_line, job_status_text, allow_text, type_text, crlf, job_status_line, range_line, allow_line, type_line, length_line, head_text, reply_text, IsResponse};
+ghost use Rattle.ci_http.specs.ReplyText.{status_line, job_status_text, method_text, type_text, crlf, job_status_line, range_line, allow_line, type_line, length_line, head_text, reply_text, IsResponse};
 
 use crate::limits::MAX_REPLY_HEAD_BYTES;
 use arrayvec::ArrayVec;
-use ci_machine::reply::{Allow, Body, HttpStatus, JobStatus, Reply};
+use ci_machine::reply::{Body, HttpStatus, JobStatus, Method, Methods, Reply};
 use itoa::Buffer;
 
 /// The bytes of a reply: its head, which is kept here, and its body, which is lent.
@@ -100,14 +100,21 @@ fn put_range(head: &mut ArrayVec<u8, MAX_REPLY_HEAD_BYTES>, size: Option<u64>)
     }
 }
 
-fn put_allow(head: &mut ArrayVec<u8, MAX_REPLY_HEAD_BYTES>, allow: Option<Allow>)
+fn put_allow(head: &mut ArrayVec<u8, MAX_REPLY_HEAD_BYTES>, allow: Option<Methods>)
     requires { array_vec_len head.old + 32 ≤ MAX_REPLY_HEAD_BYTES }
     ensures items { head.new.items ≡ head.old.items ++ allow_line allow }
     ensures len { array_vec_len head.new ≤ array_vec_len head.old + 32 }
 {
-    if let Some(methods) = allow {
-        put_field(head, b"Allow: ", allow_text(methods));
+    let Some(methods) = allow else {
+        return;
+    };
+    put(head, b"Allow: ");
+    put(head, method_text(methods.first));
+    if let Some(method) = methods.second {
+        put(head, b", ");
+        put(head, method_text(method));
     }
+    put(head, b"\r\n");
 }
 
 fn put_type(head: &mut ArrayVec<u8, MAX_REPLY_HEAD_BYTES>, kind: &[u8], body: &[u8])
@@ -166,16 +173,17 @@ fn job_status_text(status: JobStatus) -> &'static [u8]
     }
 }
 
-/// The methods of a path, as the field `Allow` lists them.
-pub(crate) fn allow_text(methods: Allow) -> &'static [u8]
-    ensures text { result.now ≡ allow_text methods }
-    ensures len { length result.now ≤ 16 }
+/// The name of a method.
+pub(crate) fn method_text(method: Method) -> &'static [u8]
+    ensures text { result.now ≡ method_text method }
+    ensures len { length result.now ≤ 6 }
 {
-    match methods {
-        Allow::Get => b"GET",
-        Allow::Patch => b"PATCH",
-        Allow::Post => b"POST",
-        Allow::Put => b"PUT",
+    match method {
+        Method::Delete => b"DELETE",
+        Method::Get => b"GET",
+        Method::Patch => b"PATCH",
+        Method::Post => b"POST",
+        Method::Put => b"PUT",
     }
 }
 

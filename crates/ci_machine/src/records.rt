@@ -7,6 +7,7 @@ use crate::moment::Moment;
 use crate::text::{Bytes, Text, Texts};
 pub use ci_values::attempts::{AttemptState, Cause};
 pub use ci_values::limits::MAX_NUMBER;
+use std::alloc::AllocError;
 
 /// A project, with the token that its users send and its pipeline file.
 #[derive(Clone, Drop)]
@@ -111,11 +112,25 @@ pub struct QueuedJob {
 }
 
 /// A variable of a job, as it was fixed when its pipeline was made.
-#[derive(Clone, Drop)]
+#[derive(Drop)]
 pub struct JobVariable {
     pub job: u64,
     pub key: Text,
     pub value: Text,
+}
+
+impl Clone for JobVariable {
+    ghost is_clone = { λ old new. new ≡ old };
+
+    fn clone(&self) -> Result<JobVariable, AllocError> {
+        let key = self.key.clone()?;
+        let value = self.value.clone()?;
+        Ok(JobVariable {
+            job: self.job,
+            key,
+            value,
+        })
+    }
 }
 
 /// A run of a job by a runner. While it is live it is the runner's lease on the job.

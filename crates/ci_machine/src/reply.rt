@@ -110,13 +110,21 @@ pub enum JobStatus {
     Canceled,
 }
 
-/// The methods of a path, as the field `Allow` lists them.
+/// A method that a path may have (RFC 9110, section 9).
 #[derive(Clone, Copy, PartialEq, Eq, Drop)]
-pub enum Allow {
+pub enum Method {
+    Delete,
     Get,
     Patch,
     Post,
     Put,
+}
+
+/// The methods of a path, in the order of their names: one, or two.
+#[derive(Clone, Copy, Drop)]
+pub struct Methods {
+    pub first: Method,
+    pub second: Option<Method>,
 }
 
 /// A body that was made for a reply.
@@ -135,7 +143,8 @@ pub struct Reply {
     pub job_status: Option<JobStatus>,
     /// The size of a trace, in bytes.
     pub range: Option<u64>,
-    pub allow: Option<Allow>,
+    /// The methods of the path, where the request has another.
+    pub allow: Option<Methods>,
     /// The body. A refusal without one has a fixed text that names its code.
     pub body: Option<Body>,
 }

@@ -1,8 +1,11 @@
 //! What the machine is asked.
 
+ghost use Rattle.std.specs.Prelude.{◌≡◌};
+
 use crate::records::Cause;
 use crate::text::{Bytes, Text, Texts};
 use ci_values::items::Items;
+use std::alloc::AllocError;
 
 /// A job of a pipeline to be made.
 #[derive(Clone, Drop)]
@@ -60,7 +63,7 @@ pub struct JobQuery {
 }
 
 /// What the server is asked to do.
-#[derive(Clone, Drop)]
+#[derive(Drop)]
 pub enum Request {
     /// A project of this name is to be made.
     AddProject(Text),
@@ -80,11 +83,39 @@ pub enum Request {
     ShowTrace(JobQuery),
 }
 
+impl Clone for Request {
+    ghost is_clone = { λ old new. new ≡ old };
+
+    fn clone(&self) -> Result<Request, AllocError> {
+        Ok(match self {
+            Request::AddProject(name) => Request::AddProject(name.clone()?),
+            Request::AddRunner(name) => Request::AddRunner(name.clone()?),
+            Request::EnterPipeline(new) => Request::EnterPipeline(new.clone()?),
+            Request::AskJob(token) => Request::AskJob(token.clone()?),
+            Request::UpdateJob(update) => Request::UpdateJob(update.clone()?),
+            Request::AppendTrace(part) => Request::AppendTrace(part.clone()?),
+            Request::ShowJob(query) => Request::ShowJob(query.clone()?),
+            Request::ShowTrace(query) => Request::ShowTrace(query.clone()?),
+        })
+    }
+}
+
 /// What happens to the machine: a request, or a sweep, which ends one lease that is over.
-#[derive(Clone, Drop)]
+#[derive(Drop)]
 pub enum Event {
     Request(Request),
     Sweep,
+}
+
+impl Clone for Event {
+    ghost is_clone = { λ old new. new ≡ old };
+
+    fn clone(&self) -> Result<Event, AllocError> {
+        Ok(match self {
+            Event::Request(request) => Event::Request(request.clone()?),
+            Event::Sweep => Event::Sweep,
+        })
+    }
 }
 
 /// The sixteen bytes of chance that come with an event, for the token that it may make.

@@ -7,7 +7,6 @@ ghost use Rattle.ci_machine.specs.declared.request.Seed.{Seed};
 ghost use Rattle.ci_server.specs.Handling.{refused, code_of, closes};
 ghost use Rattle.ci_server.specs.Server.{HandlesBy, HandlesEachBy};
 
-use crate::copies::copy_of;
 use crate::events;
 use ci_machine::moment::Moment;
 use ci_machine::reply::{Answer, Code, Reply, Swept};
@@ -100,7 +99,7 @@ impl<T: Store> FailStop<T> {
         if self.closed {
             return refused(event, Code::M17);
         }
-        match copy_of(event) {
+        match event.clone() {
             Ok(event) => self.handle_event(alloc, event, *moment, *seed),
             Err(_) => refused(event, Code::M16),
         }

@@ -1,7 +1,6 @@
 //! The server: requests over the tables, served from bytes to bytes.
 #![tactic(auto)]
 
-mod copies;
 mod events;
 mod fail_stop;
 mod grants;
