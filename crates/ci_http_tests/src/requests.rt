@@ -7,7 +7,7 @@ use ci_http::link::{Link, Sink};
 use ci_http::route::request_of;
 use ci_http::text::reply_bytes;
 use ci_machine::records::Cause;
-use ci_machine::reply::{Body, Code, HttpStatus, JobStatus, Reply};
+use ci_machine::reply::{Body, Code, HttpStatus, JobStatus, Method, Methods, Reply};
 use ci_machine::request::{Report, Request};
 use ci_machine::text::{Bytes, Text};
 use std::alloc::Global;
@@ -108,10 +108,19 @@ fn fields_of_replies(rt: HostRuntime) -> Result<(), Fail> {
     misplaced.range = Some(5);
     let mut over = Reply::refusal(Code::M6);
     over.job_status = Some(JobStatus::Canceled);
+    let mut other_method = Reply::refusal(Code::H6);
+    other_method.allow = Some(Methods {
+        first: Method::Delete,
+        second: Some(Method::Put),
+    });
     let rows = [
         (
+            other_method,
+            b"HTTP/1.1 405 Method Not Allowed\r\nAllow: DELETE, PUT\r\nContent-Type: application/json\r\nContent-Length: 13\r\nConnection: close\r\n\r\n{\"code\":\"H6\"}".as_slice(),
+        ),
+        (
             plain,
-            b"HTTP/1.1 200 OK\r\nContent-Type: text/plain\r\nContent-Length: 3\r\nConnection: close\r\n\r\nab\n".as_slice(),
+            b"HTTP/1.1 200 OK\r\nContent-Type: text/plain\r\nContent-Length: 3\r\nConnection: close\r\n\r\nab\n",
         ),
         (
             made,
