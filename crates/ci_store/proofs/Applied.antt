@@ -1,8 +1,11 @@
 -- Changes in turn.
-use Rattle.std.proofs.Common.{◌≡◌, ◌∙◌, ℕ, ◌+◌, ◌<◌, List, [], ◌∷◌, fold, length, take, get_or, refl, sym, ap}
+use Rattle.std.proofs.Common.{◌≡◌, ◌∙◌, ℕ, ◌+◌, ◌<◌, List, [], ◌∷◌, fold, length, take, get_or, Result, OnOk, refl, sym, ap, subst}
 use Rattle.std.proofs.lemmas.List.Sums.{fold_more}
+use Rattle.sqlite.specs.Store.{Ghosts}
+use Rattle.sqlite.specs.Held.{Held}
 use Rattle.ci_machine.specs.State.{State, applied, changed}
 use Rattle.ci_machine.specs.declared.change.RowChange.{RowChange}
+use Rattle.ci_store.specs.Commit.{Makes}
 
 applied_is : (cs : List RowChange) (s : State) → applied cs s ≡ fold (λ s c. changed c s) s cs
 applied_is [] s = refl
@@ -10,3 +13,7 @@ applied_is (c ∷ cs) s = applied_is cs (changed c s)
 
 pub applied_more : (s : State) (cs : List RowChange) (i : ℕ) (d : RowChange) → i < length cs → applied (take (i + 1) cs) s ≡ changed (get_or cs i d) (applied (take i cs) s)
 applied_more s cs i d low = applied_is (take (i + 1) cs) s ∙ fold_more (λ s c. changed c s) s cs i d low ∙ ap (changed (get_or cs i d)) (sym (applied_is (take i cs) s))
+
+-- what a change makes of the tables, whatever it is called
+pub by_item : {S A E X : Type 0} (g : Ghosts S) (old new : Held S) (change : X → State → State) {x y : X} → y ≡ x → (result : Result A E) → OnOk result (Makes g (change x) old new) → OnOk result (Makes g (change y) old new)
+by_item g old new change same result h = subst (λ x. OnOk result (Makes g (change x) old new)) (sym same) h

@@ -1,8 +1,8 @@
 -- The statements that write `attempt`.
-use Rattle.std.proofs.Common.{◌∙◌, ℕ, pos, List, [], ◌∷◌, is_eq, refl, ap, ◌≡◌, ◌==◌, ◌&&◌, true, Option, sym}
+use Rattle.std.proofs.Common.{◌∙◌, ℕ, pos, List, [], ◌∷◌, is_eq, refl, ap, ◌≡◌, ◌==◌, ◌&&◌, true, Option, sym, map, take, drop, codes, if◌then◌else◌, None, Some}
 use Rattle.std.specs.Ordering.{nat_cmp}
 use Rattle.sqlite.specs.declared.types.Value.TheVariants.{Null, Text}
-use Rattle.sqlite.specs.Order.{column}
+use Rattle.sqlite.specs.Order.{Row, column}
 use Rattle.sqlite.specs.Term.{Term, lit, col}
 use Rattle.sqlite_tied.specs.Compute.{everything}
 use Rattle.sqlite.specs.Listing.{understood}
@@ -22,7 +22,8 @@ use Rattle.ci_tables.proofs.Scalars.{cast_int}
 use Rattle.ci_store.specs.declared.texts.TheConstants.{UPDATE_ATTEMPT, INSERT_ATTEMPT, DELETE_ATTEMPT, SELECT_ATTEMPT, SELECT_ATTEMPTS_OF, SELECT_ATTEMPTS_IN}
 use Rattle.ci_store.specs.Schema.{the_schema, attempt}
 use Rattle.ci_store.specs.Rows.{number, attempt_row, state_number, cause_in, exit_in}
-use Rattle.ci_store.specs.Stands.{IsRegular, Stands, IsAt}
+use Rattle.ci_store.specs.Stands.{rows_by_tree, rows_of, Stands, IsAt}
+use Rattle.ci_store.proofs.OneList.{IsAlike, alike_but, regular_with_attempts}
 use Rattle.ci_store.proofs.Lists.{put_rises, by_number}
 use Rattle.ci_store.proofs.Records.{is, put_stands, remove_stands, same_number, finds_number, numbered, cast_option}
 use Rattle.sqlite.specs.Collation.TheVariants.{Binary}
@@ -36,7 +37,18 @@ use Rattle.ci_machine.specs.Step.{attempt_at, attempts_of, live_attempts}
 use Rattle.ci_values.specs.declared.attempts.AttemptState.{AttemptState}
 use Rattle.ci_values.specs.declared.attempts.AttemptState.TheVariants.{Live, Succeeded, Failed, Cancelled}
 use Rattle.ci_store.proofs.Shows.{columns_of, names_of, by, shows_passing, shows_sorted, found_one, found_all, rising_numbers}
-use Rattle.ci_store.proofs.Same.{same_attempt}
+use Rattle.std.specs.List.{list_any}
+use Rattle.sqlite_value.specs.Keys.{plain, joined}
+use Rattle.sqlite_schema.specs.declared.schema.Keys.TheVariants.{Enforced}
+use Rattle.sqlite_rules.specs.Action.{works, pairs, loses}
+use Rattle.ci_store.specs.Commit.{RemovesUnreferred}
+use Rattle.ci_store.proofs.Removals.{Referring, queries, cascades, removed_alone}
+use Rattle.ci_store.proofs.Pieces.{refers_to_attempt}
+use Rattle.sqlite.specs.Values.{or_null}
+use Rattle.ci_values.specs.declared.attempts.Cause.{Cause}
+use Rattle.ci_values.specs.declared.attempts.Cause.TheVariants.{UnknownFailure, ScriptFailure, ApiFailure, StuckOrTimeoutFailure, RunnerSystemFailure, JobExecutionTimeout}
+use Rattle.ci_store.specs.Rows.{cause_number}
+use Rattle.ci_store.proofs.Same.{same_option}
 
 abbrev sets : List Term
 sets = col 0 0 ∷ lit Null ∷ col 0 1 ∷ col 0 2 ∷ col 0 3 ∷ col 0 4 ∷ col 0 5 ∷ col 0 6 ∷ col 0 7 ∷ col 0 8 ∷ col 0 9 ∷ col 0 10 ∷ []
@@ -54,48 +66,77 @@ gives a = record {
   absent = λ rows new_row db shaped is keyed fresh put sound. absent_rowid rows new_row (pos a.id) _ (λ r. refl) shaped (ap (λ image. column image 0) is) fresh;
 }
 
-regular_put : (a : Attempt) (s : State) → IsRegular s → IsRegular (with_record (row.Attempt a) s)
-regular_put a s o = record {
-  projects = o.projects;
-  runners = o.runners;
-  pipelines = o.pipelines;
-  jobs = o.jobs;
-  job_variables = o.job_variables;
-  attempts = put_rises attempt_cmp (by_number (λ (q : Attempt). q.id)) a s.attempts o.attempts;
-  pieces = o.pieces;
-  tags = o.tags;
-  specs = o.specs;
-}
+-- the other tables have the rows that they had
+alike : (s : State) (xs : List Attempt) → IsAlike (rows_of s) (rows_of (record s { attempts = xs })) attempt
+alike s xs = alike_but (take 6 (rows_by_tree s)) (drop 7 (rows_by_tree s)) attempt (map attempt_row s.attempts) (map attempt_row xs)
 
 pub attempt_puts : {S : Type 0} (ghosts : Ghosts S) (before after : Held S) (a : Attempt) (s : State) → Stands s (state ghosts before).now → HasPut ghosts UPDATE_ATTEMPT.now INSERT_ATTEMPT.now (attempt_row a) before after
     → Stands (with_record (row.Attempt a) s) (state ghosts after).now
 attempt_puts ghosts before after a s stands h =
-    put_stands attempt_row s.attempts s (with_record (row.Attempt a) s) attempt refl ((λ _. refl), ((λ _. refl), ((λ _. refl), ((λ _. refl), ((λ _. refl), ((λ _. refl), ((λ ne. absurd (ne refl)), ((λ _. refl), tt)))))))) (regular_put a s stands.inside.regular)
+    put_stands attempt_row s.attempts s (with_record (row.Attempt a) s) attempt refl (alike s _) (regular_with_attempts s _ (put_rises attempt_cmp (by_number (λ (q : Attempt). q.id)) a s.attempts stands.inside.regular.attempts) stands.inside.regular)
     6 UPDATE_ATTEMPT.now INSERT_ATTEMPT.now (is 0 0 ∷ []) sets sets means attempt_cmp (number a.id ∷ []) a (gives a) (λ q. same_number q.id a.id) refl ghosts before after stands h
 
 means_remove : MeansRemove the_schema 6 attempt DELETE_ATTEMPT.now (is 0 0 ∷ [])
 unfolding understood everything
 means_remove = record { there = refl; apart = refl; delete_is = refl; delete_plain = (refl, refl) }
 
-regular_removed : (id : ℕ) (s : State) → IsRegular s → IsRegular (without_record (key.Attempt id) s)
-regular_removed id s o = record {
-  projects = o.projects;
-  runners = o.runners;
-  pipelines = o.pipelines;
-  jobs = o.jobs;
-  job_variables = o.job_variables;
-  attempts = ascending-filter _ _ s.attempts o.attempts;
-  pieces = o.pieces;
-  tags = o.tags;
-  specs = o.specs;
-}
-
 pub attempt_removes : {S : Type 0} (ghosts : Ghosts S) (before after : Held S) (id count : ℕ) (s : State) → Stands s (state ghosts before).now
     → IsWholeStep the_schema attempt (is 0 0 ∷ []) (number id ∷ []) (state ghosts before).now.trees → Changes ghosts DELETE_ATTEMPT.now (number id ∷ []) count before after
     → Stands (without_record (key.Attempt id) s) (state ghosts after).now
 attempt_removes ghosts before after id count s stands whole h =
-    remove_stands attempt_row s.attempts s (without_record (key.Attempt id) s) attempt refl ((λ _. refl), ((λ _. refl), ((λ _. refl), ((λ _. refl), ((λ _. refl), ((λ _. refl), ((λ ne. absurd (ne refl)), ((λ _. refl), tt)))))))) (regular_removed id s stands.inside.regular)
+    remove_stands attempt_row s.attempts s (without_record (key.Attempt id) s) attempt refl (alike s _) (regular_with_attempts s _ (ascending-filter _ _ s.attempts stands.inside.regular.attempts) stands.inside.regular)
     6 DELETE_ATTEMPT.now (is 0 0 ∷ []) means_remove (number id ∷ []) (λ r. refl) (λ q. is_eq (nat_cmp q.id id)) (λ q. same_number q.id id) refl ghosts before after count stands whole h
+
+-- what its removal sets off
+works_are : (olds : List Row) → works the_schema Enforced 0 attempt.tree olds [] ≡ cascades (list_any (loses plain (0 ∷ [])) (pairs olds [])) (refers_to_attempt ∷ []) (codes "attempt") olds
+unfolding everything joined
+works_are olds = refl
+
+pub attempt_removed : {S : Type 0} (g : Ghosts S) (old new : Held S) (id : ℕ) (s : State) → Stands s (state g old).now → RemovesUnreferred g (queries (refers_to_attempt ∷ [])) DELETE_ATTEMPT.now (number id ∷ []) old new → Stands (without_record (key.Attempt id) s) (state g new).now
+attempt_removed g old new id s =
+    removed_alone g old new 6 attempt refl (codes "attempt") (refers_to_attempt ∷ []) works_are (λ e. absurd cc, tt) DELETE_ATTEMPT.now id s (without_record (key.Attempt id) s) (λ mid count. attempt_removes g mid new id count s)
+
+-- ---- two records with the same row
+
+abbrev cause_back : ℕ → Cause
+cause_back n = if n == 0 then UnknownFailure else (if n == 1 then ScriptFailure else (if n == 2 then ApiFailure else (if n == 3 then StuckOrTimeoutFailure else (if n == 4 then RunnerSystemFailure else (JobExecutionTimeout)))))
+
+cause_is : (k : Cause) → cause_back (cause_number k) ≡ k
+cause_is UnknownFailure = refl
+cause_is ScriptFailure = refl
+cause_is ApiFailure = refl
+cause_is StuckOrTimeoutFailure = refl
+cause_is RunnerSystemFailure = refl
+cause_is JobExecutionTimeout = refl
+
+abbrev cause_or : Option ℕ → Cause
+cause_or (Some n) = cause_back n
+cause_or None = UnknownFailure
+
+abbrev state_back : ℕ → Option ℕ → Option ℕ → AttemptState
+state_back n cause exit = if n == 0 then Live else (if n == 1 then Succeeded exit else (if n == 2 then Failed (cause_or cause) exit else (Cancelled)))
+
+state_is : (s : AttemptState) → state_back (state_number s) (cause_in s) (exit_in s) ≡ s
+state_is Live = refl
+state_is (Succeeded exit) = refl
+state_is (Failed cause exit) = ap (λ c. Failed c exit) (cause_is cause)
+state_is Cancelled = refl
+
+same_attempt : (p q : Attempt) → attempt_row p ≡ attempt_row q → p ≡ q
+same_attempt p q h =
+    let a : p.id ≡ q.id = cc in
+    let b : p.job ≡ q.job = cc in
+    let c : p.runner ≡ q.runner = cc in
+    let d : p.token ≡ q.token = cc in
+    let e : p.granted ≡ q.granted = cc in
+    let f : p.seen ≡ q.seen = cc in
+    let n : state_number p.state ≡ state_number q.state = cc in
+    let m : or_null number (cause_in p.state) ≡ or_null number (cause_in q.state) = cc in
+    let x : or_null number (exit_in p.state) ≡ or_null number (exit_in q.state) = cc in
+    let u : p.pieces ≡ q.pieces = cc in
+    let v : p.size ≡ q.size = cc in
+    let state = sym (state_is p.state) ∙ (λ i. state_back (n i) (same_option _ _ m i) (same_option _ _ x i)) ∙ state_is q.state in
+    λ i. record { id = a i; job = b i; runner = c i; token = d i; granted = e i; seen = f i; state = state i; pieces = u i; size = v i }
 
 -- ---- the queries that load
 
@@ -116,6 +157,9 @@ attempt_found g old new s at id found h =
 pub means_select_of : MeansSelect the_schema attempt SELECT_ATTEMPTS_OF.now (is 2 0 ∷ []) (columns_of attempt) (by 0) (names_of attempt)
 unfolding understood everything
 means_select_of = record { is = refl; unlisted = refl; plain = (refl, refl) }
+
+abbrev pub refers_to_job : Referring
+refers_to_job = record { child = attempt; at = 6; there = refl; place = 2; text = SELECT_ATTEMPTS_OF.now; columns = columns_of attempt; order = by 0; names = names_of attempt; means = means_select_of }
 
 pub plain_select_of : IsPlain (understood the_schema SELECT_ATTEMPTS_OF.now)
 plain_select_of = means_select_of.plain

@@ -1,5 +1,5 @@
 -- Each CREATE adds its table or its index to the schema.
-use Rattle.std.proofs.Common.{◌≡◌, ◌⊎◌, inl, inr, ℕ, zero, suc, map, ◌+◌, ◌<◌, List, [], ◌∷◌, ◌++◌, false, Some, None, Ok, Err, Result, refl, sym, ap, subst, ◌∙◌, arith, slice_get, slice_index_or}
+use Rattle.std.proofs.Common.{◌≡◌, ◌⊎◌, inl, inr, ℕ, zero, suc, map, ◌+◌, ◌<◌, List, [], ◌∷◌, ◌++◌, false, Some, None, Ok, Err, Result, refl, sym, ap, subst, ◌∙◌, arith, slice_get, slice_index_or, take}
 use Rattle.std.specs.List.{AllByRecursion}
 use Rattle.sqlite.specs.Table.{Table}
 use Rattle.sqlite.specs.Schema.{Schema}
@@ -17,7 +17,7 @@ use Rattle.sqlite.proofs.Callers.{IsPlain, command_of, statement_of, runs_as}
 use Rattle.ci_store.specs.declared.texts.TheConstants.{SCHEMA}
 use Rattle.ci_store.specs.Schema as table
 use Rattle.ci_store.specs.Schema.{the_schema}
-use Rattle.ci_store.specs.Create.{no_schema, IsBare}
+use Rattle.ci_store.specs.Create.{IsBare}
 
 -- a part that gave a value did not stop on the way
 went : {B E R : Type 0} {b : B} {Stops : E → Type 0} → ((stop : E) × Stops stop × (Ok b ≡ Err stop)) ⊎ R → R
@@ -93,121 +93,76 @@ creates_index before after at table text index means old new count bare h =
       sound = λ _. w.sound;
     }
 
-abbrev schema_1 : Schema
-schema_1 = record { tables = table.meta ∷ []; indexes = table.meta_index_1 ∷ []; views = [] }
-
-abbrev schema_2 : Schema
-schema_2 = record { tables = table.meta ∷ table.project ∷ []; indexes = table.meta_index_1 ∷ table.project_index_1 ∷ []; views = [] }
-
-abbrev schema_3 : Schema
-schema_3 = record { tables = table.meta ∷ table.project ∷ table.runner ∷ []; indexes = table.meta_index_1 ∷ table.project_index_1 ∷ table.runner_index_1 ∷ []; views = [] }
-
-abbrev schema_4 : Schema
-schema_4 = record { tables = table.meta ∷ table.project ∷ table.runner ∷ table.pipeline ∷ []; indexes = table.meta_index_1 ∷ table.project_index_1 ∷ table.runner_index_1 ∷ []; views = [] }
-
-abbrev schema_5 : Schema
-schema_5 =
-    record { tables = table.meta ∷ table.project ∷ table.runner ∷ table.pipeline ∷ table.job ∷ []; indexes = table.meta_index_1 ∷ table.project_index_1 ∷ table.runner_index_1 ∷ []; views = [] }
-
-abbrev schema_6 : Schema
-schema_6 = record {
-  tables = table.meta ∷ table.project ∷ table.runner ∷ table.pipeline ∷ table.job ∷ [];
-  indexes = table.meta_index_1 ∷ table.project_index_1 ∷ table.runner_index_1 ∷ table.job_pipeline ∷ [];
-  views = [];
-}
-
-abbrev schema_7 : Schema
-schema_7 = record {
-  tables = table.meta ∷ table.project ∷ table.runner ∷ table.pipeline ∷ table.job ∷ table.jobvar ∷ [];
-  indexes = table.meta_index_1 ∷ table.project_index_1 ∷ table.runner_index_1 ∷ table.job_pipeline ∷ table.jobvar_index_1 ∷ [];
-  views = [];
-}
-
-abbrev schema_8 : Schema
-schema_8 = record {
-  tables = table.meta ∷ table.project ∷ table.runner ∷ table.pipeline ∷ table.job ∷ table.jobvar ∷ table.attempt ∷ [];
-  indexes = table.meta_index_1 ∷ table.project_index_1 ∷ table.runner_index_1 ∷ table.job_pipeline ∷ table.jobvar_index_1 ∷ [];
-  views = [];
-}
-
-abbrev schema_9 : Schema
-schema_9 = record {
-  tables = table.meta ∷ table.project ∷ table.runner ∷ table.pipeline ∷ table.job ∷ table.jobvar ∷ table.attempt ∷ [];
-  indexes = table.meta_index_1 ∷ table.project_index_1 ∷ table.runner_index_1 ∷ table.job_pipeline ∷ table.jobvar_index_1 ∷ table.attempt_job ∷ [];
-  views = [];
-}
-
-abbrev schema_10 : Schema
-schema_10 = record {
-  tables = table.meta ∷ table.project ∷ table.runner ∷ table.pipeline ∷ table.job ∷ table.jobvar ∷ table.attempt ∷ [];
-  indexes = table.meta_index_1 ∷ table.project_index_1 ∷ table.runner_index_1 ∷ table.job_pipeline ∷ table.jobvar_index_1 ∷ table.attempt_job ∷ table.attempt_state ∷ [];
-  views = [];
-}
+-- how many tables and indexes there are after the first texts
+abbrev counts : List (ℕ × ℕ)
+counts = (0, 0) ∷ (1, 1) ∷ (2, 2) ∷ (3, 3) ∷ (4, 3) ∷ (5, 3) ∷ (5, 4) ∷ (6, 5) ∷ (7, 5) ∷ (7, 6) ∷ (7, 7) ∷ []
 
 -- the schema after the first texts
 abbrev pub schema_after : ℕ → Schema
-schema_after k = slice_index_or (no_schema ∷ schema_1 ∷ schema_2 ∷ schema_3 ∷ schema_4 ∷ schema_5 ∷ schema_6 ∷ schema_7 ∷ schema_8 ∷ schema_9 ∷ schema_10 ∷ []) k the_schema
+schema_after k =
+    let count = slice_index_or counts k (8, 8) in
+    record { tables = take count.0 the_schema.tables; indexes = take count.1 the_schema.indexes; views = [] }
 
 abbrev pub text_at : ℕ → List ℕ
 text_at k = slice_index_or (map (λ t. t.now) SCHEMA) k []
 
-makes_meta : MeansTable no_schema schema_1 (text_at 0) (record table.meta { tree = 0 })
+makes_meta : MeansTable (schema_after 0) (schema_after 1) (text_at 0) (record table.meta { tree = 0 })
 unfolding understood everything
 makes_meta = record { command = refl; plain = (refl, refl); whole = refl; defined = refl; is = refl; uncounted = refl }
 
-makes_project : MeansTable schema_1 schema_2 (text_at 1) (record table.project { tree = 0 })
+makes_project : MeansTable (schema_after 1) (schema_after 2) (text_at 1) (record table.project { tree = 0 })
 unfolding understood everything
 makes_project = record { command = refl; plain = (refl, refl); whole = refl; defined = refl; is = refl; uncounted = refl }
 
-makes_runner : MeansTable schema_2 schema_3 (text_at 2) (record table.runner { tree = 0 })
+makes_runner : MeansTable (schema_after 2) (schema_after 3) (text_at 2) (record table.runner { tree = 0 })
 unfolding understood everything
 makes_runner = record { command = refl; plain = (refl, refl); whole = refl; defined = refl; is = refl; uncounted = refl }
 
-makes_pipeline : MeansTable schema_3 schema_4 (text_at 3) (record table.pipeline { tree = 0 })
+makes_pipeline : MeansTable (schema_after 3) (schema_after 4) (text_at 3) (record table.pipeline { tree = 0 })
 unfolding understood everything
 makes_pipeline = record { command = refl; plain = (refl, refl); whole = refl; defined = refl; is = refl; uncounted = refl }
 
-makes_job : MeansTable schema_4 schema_5 (text_at 4) (record table.job { tree = 0 })
+makes_job : MeansTable (schema_after 4) (schema_after 5) (text_at 4) (record table.job { tree = 0 })
 unfolding understood everything
 makes_job = record { command = refl; plain = (refl, refl); whole = refl; defined = refl; is = refl; uncounted = refl }
 
-makes_job_pipeline : MeansIndex schema_5 schema_6 4 table.job (text_at 5) (record table.job_pipeline { tree = 0 })
+makes_job_pipeline : MeansIndex (schema_after 5) (schema_after 6) 4 table.job (text_at 5) (record table.job_pipeline { tree = 0 })
 unfolding understood everything
 makes_job_pipeline = record { there = refl; command = refl; plain = (refl, refl); whole = refl; defined = refl; is = refl }
 
-makes_jobvar : MeansTable schema_6 schema_7 (text_at 6) (record table.jobvar { tree = 0 })
+makes_jobvar : MeansTable (schema_after 6) (schema_after 7) (text_at 6) (record table.jobvar { tree = 0 })
 unfolding understood everything
 makes_jobvar = record { command = refl; plain = (refl, refl); whole = refl; defined = refl; is = refl; uncounted = refl }
 
-makes_attempt : MeansTable schema_7 schema_8 (text_at 7) (record table.attempt { tree = 0 })
+makes_attempt : MeansTable (schema_after 7) (schema_after 8) (text_at 7) (record table.attempt { tree = 0 })
 unfolding understood everything
 makes_attempt = record { command = refl; plain = (refl, refl); whole = refl; defined = refl; is = refl; uncounted = refl }
 
-makes_attempt_job : MeansIndex schema_8 schema_9 6 table.attempt (text_at 8) (record table.attempt_job { tree = 0 })
+makes_attempt_job : MeansIndex (schema_after 8) (schema_after 9) 6 table.attempt (text_at 8) (record table.attempt_job { tree = 0 })
 unfolding understood everything
 makes_attempt_job = record { there = refl; command = refl; plain = (refl, refl); whole = refl; defined = refl; is = refl }
 
-makes_attempt_state : MeansIndex schema_9 schema_10 6 table.attempt (text_at 9) (record table.attempt_state { tree = 0 })
+makes_attempt_state : MeansIndex (schema_after 9) (schema_after 10) 6 table.attempt (text_at 9) (record table.attempt_state { tree = 0 })
 unfolding understood everything
 makes_attempt_state = record { there = refl; command = refl; plain = (refl, refl); whole = refl; defined = refl; is = refl }
 
-makes_piece : MeansTable schema_10 the_schema (text_at 10) (record table.piece { tree = 0 })
+makes_piece : MeansTable (schema_after 10) (schema_after 11) (text_at 10) (record table.piece { tree = 0 })
 unfolding understood everything
 makes_piece = record { command = refl; plain = (refl, refl); whole = refl; defined = refl; is = refl; uncounted = refl }
 
 -- after each text the schema is that of one text more
 makes_next : (k : ℕ) → k < 11 → (old new : State) (count : ℕ) → IsBare (schema_after k) old.now → Executes (text_at k) [] old new (Ok count) → IsBare (schema_after (k + 1)) new.now
-makes_next zero low = creates_table no_schema schema_1 (text_at 0) _ makes_meta
-makes_next (suc zero) low = creates_table schema_1 schema_2 (text_at 1) _ makes_project
-makes_next (suc (suc zero)) low = creates_table schema_2 schema_3 (text_at 2) _ makes_runner
-makes_next (suc (suc (suc zero))) low = creates_table schema_3 schema_4 (text_at 3) _ makes_pipeline
-makes_next (suc (suc (suc (suc zero)))) low = creates_table schema_4 schema_5 (text_at 4) _ makes_job
-makes_next (suc (suc (suc (suc (suc zero))))) low = creates_index schema_5 schema_6 4 table.job (text_at 5) _ makes_job_pipeline
-makes_next (suc (suc (suc (suc (suc (suc zero)))))) low = creates_table schema_6 schema_7 (text_at 6) _ makes_jobvar
-makes_next (suc (suc (suc (suc (suc (suc (suc zero))))))) low = creates_table schema_7 schema_8 (text_at 7) _ makes_attempt
-makes_next (suc (suc (suc (suc (suc (suc (suc (suc zero)))))))) low = creates_index schema_8 schema_9 6 table.attempt (text_at 8) _ makes_attempt_job
-makes_next (suc (suc (suc (suc (suc (suc (suc (suc (suc zero))))))))) low = creates_index schema_9 schema_10 6 table.attempt (text_at 9) _ makes_attempt_state
-makes_next (suc (suc (suc (suc (suc (suc (suc (suc (suc (suc zero)))))))))) low = creates_table schema_10 the_schema (text_at 10) _ makes_piece
+makes_next zero low = creates_table (schema_after 0) (schema_after 1) (text_at 0) _ makes_meta
+makes_next (suc zero) low = creates_table (schema_after 1) (schema_after 2) (text_at 1) _ makes_project
+makes_next (suc (suc zero)) low = creates_table (schema_after 2) (schema_after 3) (text_at 2) _ makes_runner
+makes_next (suc (suc (suc zero))) low = creates_table (schema_after 3) (schema_after 4) (text_at 3) _ makes_pipeline
+makes_next (suc (suc (suc (suc zero)))) low = creates_table (schema_after 4) (schema_after 5) (text_at 4) _ makes_job
+makes_next (suc (suc (suc (suc (suc zero))))) low = creates_index (schema_after 5) (schema_after 6) 4 table.job (text_at 5) _ makes_job_pipeline
+makes_next (suc (suc (suc (suc (suc (suc zero)))))) low = creates_table (schema_after 6) (schema_after 7) (text_at 6) _ makes_jobvar
+makes_next (suc (suc (suc (suc (suc (suc (suc zero))))))) low = creates_table (schema_after 7) (schema_after 8) (text_at 7) _ makes_attempt
+makes_next (suc (suc (suc (suc (suc (suc (suc (suc zero)))))))) low = creates_index (schema_after 8) (schema_after 9) 6 table.attempt (text_at 8) _ makes_attempt_job
+makes_next (suc (suc (suc (suc (suc (suc (suc (suc (suc zero))))))))) low = creates_index (schema_after 9) (schema_after 10) 6 table.attempt (text_at 9) _ makes_attempt_state
+makes_next (suc (suc (suc (suc (suc (suc (suc (suc (suc (suc zero)))))))))) low = creates_table (schema_after 10) (schema_after 11) (text_at 10) _ makes_piece
 makes_next (suc (suc (suc (suc (suc (suc (suc (suc (suc (suc (suc k))))))))))) low = absurd (omega (arith, low))
 
 pub runs_next : (k : ℕ) → k < 11 → (text : List ℕ) → text ≡ text_at k → (old new : State) (count : ℕ) → IsBare (schema_after k) old.now → Executes text [] old new (Ok count) → IsBare (schema_after (k + 1)) new.now

@@ -20,6 +20,7 @@ use Rattle.ci_store.specs.declared.texts.TheConstants.{UPDATE_META, INSERT_META}
 use Rattle.ci_store.specs.Schema.{the_schema, meta}
 use Rattle.ci_store.specs.Stands.{meta_row, meta_rows, Stands}
 use Rattle.ci_store.specs.Create.{IsBare}
+use Rattle.ci_store.proofs.OneList.{alike_but}
 use Rattle.ci_store.proofs.Records.{is}
 use Rattle.ci_store.proofs.Meta.{sets, terms, means, gives}
 
@@ -75,7 +76,7 @@ pub fills_next : (k : ℕ) → k < 7 → (key : List ℕ) (num : ℕ) → (key �
     → IsOf the_schema (rows_after (k + 1)) new.now
 fills_next k low key num same old new count it h =
     inserts_one the_schema 0 meta UPDATE_META.now INSERT_META.now (is 1 0 ∷ []) sets terms means (Text (key_at k) ∷ []) (meta_row (key_at k) (number_at k)) (gives (key_at k) (number_at k)) (rows_after k) (rows_after (k + 1))
-    ((λ ne. absurd (ne refl)), ((λ _. refl), ((λ _. refl), ((λ _. refl), ((λ _. refl), ((λ _. refl), ((λ _. refl), ((λ _. refl), tt)))))))) (grown k low) old new count it
+    (alike_but [] [] meta (take k first_rows) (take (k + 1) first_rows)) (grown k low) old new count it
     (subst (λ row. Executes INSERT_META.now row old new (Ok count)) (λ i. meta_row (same.0 i) (same.1 i)) h)
 
 -- each place below seven

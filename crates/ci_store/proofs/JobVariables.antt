@@ -1,5 +1,5 @@
 -- The statements that write `jobvar`.
-use Rattle.std.proofs.Common.{◌≡◌, ◌∙◌, ℕ, pos, List, [], ◌∷◌, Bool, true, false, is_eq, refl, sym, inl, inr, ◌&&◌, cond}
+use Rattle.std.proofs.Common.{◌≡◌, ◌∙◌, ℕ, pos, List, [], ◌∷◌, Bool, true, false, is_eq, refl, sym, inl, inr, ◌&&◌, cond, map, take, drop, subst}
 use Rattle.std.specs.Ordering.{nat_cmp, ordering_then}
 use Rattle.std.specs.Cmp.Lexicographic.{slice_cmp}
 use Rattle.sqlite.specs.declared.types.Value.{Value}
@@ -32,16 +32,18 @@ use Rattle.ci_tables.proofs.Scalars.{cast_int, equal_int, equal_text}
 use Rattle.ci_store.specs.declared.texts.TheConstants.{UPDATE_JOB_VARIABLE, INSERT_JOB_VARIABLE, DELETE_JOB_VARIABLE, SELECT_JOB_VARIABLES}
 use Rattle.ci_store.specs.Schema.{the_schema, jobvar, jobvar_index_1}
 use Rattle.ci_store.specs.Rows.{number, job_variable_row}
-use Rattle.ci_store.specs.Stands.{IsRegular, Stands, IsAt}
+use Rattle.ci_store.specs.Stands.{rows_by_tree, rows_of, Stands, IsAt}
+use Rattle.ci_store.proofs.OneList.{IsAlike, alike_but, regular_with_job_variables}
 use Rattle.ci_store.proofs.Lists.{put_rises, by_both}
 use Rattle.ci_store.proofs.Records.{is, put_stands, remove_stands, both_equal, same_number, is_number}
 use Rattle.sqlite.proofs.Callers.{IsPlain}
 use Rattle.ci_tables.proofs.Selects.{MeansSelect}
 use Rattle.ci_store.specs.Calls.{ShowsRecords}
 use Rattle.sqlite_keyed.proofs.ListLemmas.{filter_same}
-use Rattle.ci_store.proofs.Shows.{columns_of, names_of, by, shows_sorted, found_all, rise_within, rising_number, rising_text}
+use Rattle.ci_store.proofs.Shows.{columns_of, names_of, by, shows_sorted, found_all, rise_within, rising_text}
 use Rattle.ci_machine.specs.Step.{variables_of}
-use Rattle.ci_store.proofs.Same.{same_job_variable}
+use Rattle.ci_store.proofs.Removals.{Referring}
+use Rattle.ci_store.specs.Commit.{RemovesUnreferred}
 
 abbrev tests : List Term
 tests = is 1 0 ∷ is 2 1 ∷ []
@@ -83,58 +85,51 @@ gives v = record {
 same_key : (job : ℕ) (name : List ℕ) (q : JobVariable) → (equal Binary (number q.job) (number job) && (equal Binary (Text q.key) (Text name) && true)) ≡ is_eq (ordering_then (nat_cmp q.job job) (slice_cmp nat_cmp q.key name))
 same_key job name q = (λ i. equal_int q.job job i && (equal_text q.key name i && true)) ∙ both_equal (nat_cmp q.job job) (slice_cmp nat_cmp q.key name)
 
-regular_put : (v : JobVariable) (s : State) → IsRegular s → IsRegular (with_record (row.JobVariable v) s)
-regular_put v s o = record {
-  projects = o.projects;
-  runners = o.runners;
-  pipelines = o.pipelines;
-  jobs = o.jobs;
-  job_variables = put_rises job_variable_cmp (by_both (λ (q : JobVariable). q.job) (λ q. q.key)) v s.job_variables o.job_variables;
-  attempts = o.attempts;
-  pieces = o.pieces;
-  tags = o.tags;
-  specs = o.specs;
-}
+-- the other tables have the rows that they had
+alike : (s : State) (xs : List JobVariable) → IsAlike (rows_of s) (rows_of (record s { job_variables = xs })) jobvar
+alike s xs = alike_but (take 5 (rows_by_tree s)) (drop 6 (rows_by_tree s)) jobvar (map job_variable_row s.job_variables) (map job_variable_row xs)
 
 pub job_variable_puts : {S : Type 0} (ghosts : Ghosts S) (before after : Held S) (v : JobVariable) (s : State) → Stands s (state ghosts before).now → HasPut ghosts UPDATE_JOB_VARIABLE.now INSERT_JOB_VARIABLE.now (job_variable_row v) before after
     → Stands (with_record (row.JobVariable v) s) (state ghosts after).now
 job_variable_puts ghosts before after v s stands h =
-    put_stands job_variable_row s.job_variables s (with_record (row.JobVariable v) s) jobvar refl ((λ _. refl), ((λ _. refl), ((λ _. refl), ((λ _. refl), ((λ _. refl), ((λ ne. absurd (ne refl)), ((λ _. refl), ((λ _. refl), tt)))))))) (regular_put v s stands.inside.regular)
+    put_stands job_variable_row s.job_variables s (with_record (row.JobVariable v) s) jobvar refl (alike s _) (regular_with_job_variables s _ (put_rises job_variable_cmp (by_both (λ (q : JobVariable). q.job) (λ q. q.key)) v s.job_variables stands.inside.regular.job_variables) stands.inside.regular)
     5 UPDATE_JOB_VARIABLE.now INSERT_JOB_VARIABLE.now tests sets terms means job_variable_cmp (key_of v.job v.key) v (gives v) (same_key v.job v.key) refl ghosts before after stands h
 
 means_remove : MeansRemove the_schema 5 jobvar DELETE_JOB_VARIABLE.now tests
 unfolding understood everything
 means_remove = record { there = refl; apart = refl; delete_is = refl; delete_plain = (refl, refl) }
 
-regular_removed : (id : ℕ) (name : List ℕ) (s : State) → IsRegular s → IsRegular (without_record (key.JobVariable id name) s)
-regular_removed id name s o = record {
-  projects = o.projects;
-  runners = o.runners;
-  pipelines = o.pipelines;
-  jobs = o.jobs;
-  job_variables = ascending-filter _ _ s.job_variables o.job_variables;
-  attempts = o.attempts;
-  pieces = o.pieces;
-  tags = o.tags;
-  specs = o.specs;
-}
-
 pub job_variable_removes : {S : Type 0} (ghosts : Ghosts S) (before after : Held S) (id : ℕ) (name : List ℕ) (count : ℕ) (s : State) → Stands s (state ghosts before).now
     → IsWholeStep the_schema jobvar tests (key_of id name) (state ghosts before).now.trees → Changes ghosts DELETE_JOB_VARIABLE.now (key_of id name) count before after
     → Stands (without_record (key.JobVariable id name) s) (state ghosts after).now
 job_variable_removes ghosts before after id name count s stands whole h =
-    remove_stands job_variable_row s.job_variables s (without_record (key.JobVariable id name) s) jobvar refl ((λ _. refl), ((λ _. refl), ((λ _. refl), ((λ _. refl), ((λ _. refl), ((λ ne. absurd (ne refl)), ((λ _. refl), ((λ _. refl), tt)))))))) (regular_removed id name s stands.inside.regular)
+    remove_stands job_variable_row s.job_variables s (without_record (key.JobVariable id name) s) jobvar refl (alike s _) (regular_with_job_variables s _ (ascending-filter _ _ s.job_variables stands.inside.regular.job_variables) stands.inside.regular)
     5 DELETE_JOB_VARIABLE.now tests means_remove (key_of id name) (λ r. refl) (λ q. is_eq (ordering_then (nat_cmp q.job id) (slice_cmp nat_cmp q.key name))) (same_key id name) refl ghosts before after count stands whole h
 
-pub job_variable_whole : (params : Row) (db : Trees) → IsWholeStep the_schema jobvar tests params db
+job_variable_whole : (params : Row) (db : Trees) → IsWholeStep the_schema jobvar tests params db
 unfolding everything
 job_variable_whole params db = whole_if_alone the_schema jobvar tests params db (λ olds. refl)
+
+pub job_variable_removed : {S : Type 0} (g : Ghosts S) (old new : Held S) (id : ℕ) (name : List ℕ) (s : State) → Stands s (state g old).now → RemovesUnreferred g [] DELETE_JOB_VARIABLE.now (key_of id name) old new → Stands (without_record (key.JobVariable id name) s) (state g new).now
+job_variable_removed g old new id name s stands h = job_variable_removes g h.0 new id name h.2 s (subst (λ h. Stands s (state g h).now) h.1 stands) (job_variable_whole (key_of id name) (state g h.0).now.trees) h.3
+
+-- ---- two records with the same row
+
+same_job_variable : (p q : JobVariable) → job_variable_row p ≡ job_variable_row q → p ≡ q
+same_job_variable p q h =
+    let a : p.job ≡ q.job = cc in
+    let b : p.key ≡ q.key = cc in
+    let c : p.value ≡ q.value = cc in
+    λ i. record { job = a i; key = b i; value = c i }
 
 -- ---- the queries that load
 
 pub means_select_of : MeansSelect the_schema jobvar SELECT_JOB_VARIABLES.now (is 1 0 ∷ []) (columns_of jobvar) (by 2) (names_of jobvar)
 unfolding understood everything
 means_select_of = record { is = refl; unlisted = refl; plain = (refl, refl) }
+
+abbrev pub refers_to_job : Referring
+refers_to_job = record { child = jobvar; at = 5; there = refl; place = 1; text = SELECT_JOB_VARIABLES.now; columns = columns_of jobvar; order = by 2; names = names_of jobvar; means = means_select_of }
 
 pub plain_select_of : IsPlain (understood the_schema SELECT_JOB_VARIABLES.now)
 plain_select_of = means_select_of.plain

@@ -1,8 +1,8 @@
 -- The statements that write `job`.
-use Rattle.std.proofs.Common.{◌≡◌, ◌∙◌, ℕ, pos, List, [], ◌∷◌, if◌then◌else◌, Some, is_eq, refl, ap, ◌==◌, ◌&&◌, true, Option, sym, filter}
+use Rattle.std.proofs.Common.{◌≡◌, ◌∙◌, ℕ, pos, List, [], ◌∷◌, if◌then◌else◌, Some, is_eq, refl, ap, ◌==◌, ◌&&◌, true, Option, sym, filter, map, take, drop, codes}
 use Rattle.std.specs.Ordering.{nat_cmp}
 use Rattle.sqlite.specs.declared.types.Value.TheVariants.{Null, Text}
-use Rattle.sqlite.specs.Order.{column}
+use Rattle.sqlite.specs.Order.{Row, column}
 use Rattle.sqlite.specs.Term.{Term, lit, col}
 use Rattle.sqlite_tied.specs.Compute.{everything}
 use Rattle.sqlite.specs.Listing.{understood}
@@ -19,12 +19,13 @@ use Rattle.ci_tables.proofs.Writes.{IsWholeStep}
 use Rattle.ci_tables.proofs.Puts.{MeansPut, MeansRemove, GivesRecord}
 use Rattle.ci_tables.proofs.Absent.{absent_rowid}
 use Rattle.ci_tables.proofs.Scalars.{cast_int}
-use Rattle.ci_store.specs.declared.texts.TheConstants.{UPDATE_JOB, INSERT_JOB, DELETE_JOB, SELECT_JOB, SELECT_JOBS}
+use Rattle.ci_store.specs.declared.texts.TheConstants.{UPDATE_JOB, INSERT_JOB, DELETE_JOB, SELECT_JOB, SELECT_JOBS, SELECT_JOBS_OF}
 use Rattle.ci_store.specs.Schema.{the_schema, job}
 use Rattle.ci_store.specs.JsonText.{spec_text, spec_data}
 use Rattle.serde_json.specs.Read.{read}
 use Rattle.ci_store.specs.Rows.{number, job_row}
-use Rattle.ci_store.specs.Stands.{IsRegular, Stands, IsAt}
+use Rattle.ci_store.specs.Stands.{rows_by_tree, rows_of, Stands, IsAt}
+use Rattle.ci_store.proofs.OneList.{IsAlike, alike_but, regular_with_jobs}
 use Rattle.ci_store.proofs.Lists.{put_rises, by_number, all_put}
 use Rattle.ci_store.proofs.Records.{is, put_stands, remove_stands, same_number, finds_number, numbered}
 use Rattle.sqlite.specs.Collation.TheVariants.{Binary}
@@ -36,7 +37,17 @@ use Rattle.sqlite_rules.proofs.ListLemmas.{all_has}
 use Rattle.ci_machine.specs.Step.{job_at}
 use Rattle.ci_store.specs.Load.{IsJobRow}
 use Rattle.ci_store.proofs.Shows.{columns_of, names_of, by, shows_passing, shows_sorted, found_one, found_all, rising_numbers}
-use Rattle.ci_store.proofs.Same.{same_job}
+use Rattle.std.specs.List.{list_any}
+use Rattle.sqlite_value.specs.Keys.{plain, joined}
+use Rattle.sqlite_schema.specs.declared.schema.Keys.TheVariants.{Enforced}
+use Rattle.sqlite_rules.specs.Action.{works, pairs, loses}
+use Rattle.ci_store.specs.Commit.{RemovesUnreferred}
+use Rattle.ci_store.proofs.Removals.{Referring, queries, cascades, removed_alone}
+use Rattle.ci_store.proofs.JobVariables.{refers_to_job as variables_refer}
+use Rattle.ci_store.proofs.Attempts.{refers_to_job as attempts_refer}
+use Rattle.ci_store.specs.Rows.{flag}
+use Rattle.ci_store.specs.Load.{ReadsSpec, job_cells}
+use Rattle.ci_store.proofs.Same.{same_flag}
 
 abbrev sets : List Term
 sets = col 0 0 ∷ lit Null ∷ col 0 1 ∷ col 0 2 ∷ col 0 3 ∷ col 0 4 ∷ col 0 5 ∷ col 0 6 ∷ col 0 7 ∷ col 0 8 ∷ []
@@ -54,48 +65,51 @@ gives j = record {
   absent = λ rows new_row db shaped is keyed fresh put sound. absent_rowid rows new_row (pos j.id) _ (λ r. refl) shaped (ap (λ image. column image 0) is) fresh;
 }
 
-regular_put : (j : Job) (s : State) → read (spec_text j.options) ≡ Some (spec_data j.options) → IsRegular s → IsRegular (with_record (row.Job j) s)
-regular_put j s read_back o = record {
-  projects = o.projects;
-  runners = o.runners;
-  pipelines = o.pipelines;
-  jobs = put_rises job_cmp (by_number (λ (q : Job). q.id)) j s.jobs o.jobs;
-  job_variables = o.job_variables;
-  attempts = o.attempts;
-  pieces = o.pieces;
-  tags = o.tags;
-  specs = all_put job_cmp _ j s.jobs read_back o.specs;
-}
+-- the other tables have the rows that they had
+alike : (s : State) (xs : List Job) → IsAlike (rows_of s) (rows_of (record s { jobs = xs })) job
+alike s xs = alike_but (take 4 (rows_by_tree s)) (drop 5 (rows_by_tree s)) job (map job_row s.jobs) (map job_row xs)
 
 pub job_puts : {S : Type 0} (ghosts : Ghosts S) (before after : Held S) (j : Job) (s : State) → read (spec_text j.options) ≡ Some (spec_data j.options) → Stands s (state ghosts before).now → HasPut ghosts UPDATE_JOB.now INSERT_JOB.now (job_row j) before after
     → Stands (with_record (row.Job j) s) (state ghosts after).now
 job_puts ghosts before after j s read_back stands h =
-    put_stands job_row s.jobs s (with_record (row.Job j) s) job refl ((λ _. refl), ((λ _. refl), ((λ _. refl), ((λ _. refl), ((λ ne. absurd (ne refl)), ((λ _. refl), ((λ _. refl), ((λ _. refl), tt)))))))) (regular_put j s read_back stands.inside.regular)
+    put_stands job_row s.jobs s (with_record (row.Job j) s) job refl (alike s _) (regular_with_jobs s _ (put_rises job_cmp (by_number (λ (q : Job). q.id)) j s.jobs stands.inside.regular.jobs) (all_put job_cmp _ j s.jobs read_back stands.inside.regular.specs) stands.inside.regular)
     4 UPDATE_JOB.now INSERT_JOB.now (is 0 0 ∷ []) sets sets means job_cmp (number j.id ∷ []) j (gives j) (λ q. same_number q.id j.id) refl ghosts before after stands h
 
 means_remove : MeansRemove the_schema 4 job DELETE_JOB.now (is 0 0 ∷ [])
 unfolding understood everything
 means_remove = record { there = refl; apart = refl; delete_is = refl; delete_plain = (refl, refl) }
 
-regular_removed : (id : ℕ) (s : State) → IsRegular s → IsRegular (without_record (key.Job id) s)
-regular_removed id s o = record {
-  projects = o.projects;
-  runners = o.runners;
-  pipelines = o.pipelines;
-  jobs = ascending-filter _ _ s.jobs o.jobs;
-  job_variables = o.job_variables;
-  attempts = o.attempts;
-  pieces = o.pieces;
-  tags = o.tags;
-  specs = all-filter _ _ s.jobs o.specs;
-}
-
 pub job_removes : {S : Type 0} (ghosts : Ghosts S) (before after : Held S) (id count : ℕ) (s : State) → Stands s (state ghosts before).now
     → IsWholeStep the_schema job (is 0 0 ∷ []) (number id ∷ []) (state ghosts before).now.trees → Changes ghosts DELETE_JOB.now (number id ∷ []) count before after
     → Stands (without_record (key.Job id) s) (state ghosts after).now
 job_removes ghosts before after id count s stands whole h =
-    remove_stands job_row s.jobs s (without_record (key.Job id) s) job refl ((λ _. refl), ((λ _. refl), ((λ _. refl), ((λ _. refl), ((λ ne. absurd (ne refl)), ((λ _. refl), ((λ _. refl), ((λ _. refl), tt)))))))) (regular_removed id s stands.inside.regular)
+    remove_stands job_row s.jobs s (without_record (key.Job id) s) job refl (alike s _) (regular_with_jobs s _ (ascending-filter _ _ s.jobs stands.inside.regular.jobs) (all-filter _ _ s.jobs stands.inside.regular.specs) stands.inside.regular)
     4 DELETE_JOB.now (is 0 0 ∷ []) means_remove (number id ∷ []) (λ r. refl) (λ q. is_eq (nat_cmp q.id id)) (λ q. same_number q.id id) refl ghosts before after count stands whole h
+
+-- what its removal sets off
+works_are : (olds : List Row) → works the_schema Enforced 0 job.tree olds [] ≡ cascades (list_any (loses plain (0 ∷ [])) (pairs olds [])) (variables_refer ∷ attempts_refer ∷ []) (codes "job") olds
+unfolding everything joined
+works_are olds = refl
+
+pub job_removed : {S : Type 0} (g : Ghosts S) (old new : Held S) (id : ℕ) (s : State) → Stands s (state g old).now → RemovesUnreferred g (queries (variables_refer ∷ attempts_refer ∷ [])) DELETE_JOB.now (number id ∷ []) old new → Stands (without_record (key.Job id) s) (state g new).now
+job_removed g old new id s =
+    removed_alone g old new 4 job refl (codes "job") (variables_refer ∷ attempts_refer ∷ []) works_are (λ e. absurd cc, (λ e. absurd cc, tt)) DELETE_JOB.now id s (without_record (key.Job id) s) (λ mid count. job_removes g mid new id count s)
+
+-- ---- two records with the same row
+
+same_job : (j q : Job) (text : List ℕ) → ReadsSpec text j.options → read (spec_text q.options) ≡ Some (spec_data q.options) → job_cells j text ≡ job_row q → j ≡ q
+same_job j q text reads back h =
+    let a : j.id ≡ q.id = cc in
+    let b : j.pipeline ≡ q.pipeline = cc in
+    let c : j.position ≡ q.position = cc in
+    let d : j.name ≡ q.name = cc in
+    let e : j.stage ≡ q.stage = cc in
+    let t : text ≡ spec_text q.options = cc in
+    let u : flag j.played ≡ flag q.played = cc in
+    let v : flag j.cancelled ≡ flag q.cancelled = cc in
+    let w : j.set_aside ≡ q.set_aside = cc in
+    let spec = reads q.options (ap read t ∙ back) in
+    λ i. record { id = a i; pipeline = b i; position = c i; name = d i; stage = e i; options = spec i; played = same_flag j.played q.played u i; cancelled = same_flag j.cancelled q.cancelled v i; set_aside = w i }
 
 -- ---- the queries that load
 
@@ -131,3 +145,10 @@ jobs_found g old new s at found h =
     (rising_numbers (λ (x : Job). x.id) (λ x. true) s.jobs at.now.inside.regular.jobs) (state g old) (state g new) at.now h.shown)
     found h.read
     ∙ all_true s.jobs
+
+pub means_select_of : MeansSelect the_schema job SELECT_JOBS_OF.now (is 2 0 ∷ []) (col 1 0 ∷ []) [] (codes "id" ∷ [])
+unfolding understood everything
+means_select_of = record { is = refl; unlisted = refl; plain = (refl, refl) }
+
+abbrev pub refers_to_pipeline : Referring
+refers_to_pipeline = record { child = job; at = 4; there = refl; place = 2; text = SELECT_JOBS_OF.now; columns = col 1 0 ∷ []; order = []; names = codes "id" ∷ []; means = means_select_of }

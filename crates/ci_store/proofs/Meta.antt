@@ -1,5 +1,5 @@
 -- The statements that write `meta`.
-use Rattle.std.proofs.Common.{◌≡◌, ◌∙◌, ℕ, pos, List, [], ◌∷◌, codes, Bool, true, false, ◌&&◌, cond, refl, sym, inl, IsPermutation}
+use Rattle.std.proofs.Common.{◌≡◌, ◌∙◌, ℕ, pos, List, [], ◌∷◌, codes, Bool, true, false, ◌&&◌, cond, refl, sym, inl, IsPermutation, drop}
 use Rattle.std.proofs.lemmas.List.Sorted.{IsPermutation-sym, IsPermutation-middle}
 use Rattle.sqlite.specs.declared.types.Value.{Value}
 use Rattle.sqlite.specs.declared.types.Value.TheVariants.{Null, Text}
@@ -28,7 +28,8 @@ use Rattle.ci_tables.proofs.Absent.{absent_unique}
 use Rattle.ci_tables.proofs.Scalars.{cast_int}
 use Rattle.ci_store.specs.declared.texts.TheConstants.{UPDATE_META, INSERT_META}
 use Rattle.ci_store.specs.Schema.{the_schema, meta, meta_index_1}
-use Rattle.ci_store.specs.Stands.{meta_row, meta_rows, counter_key, rows_of, IsRegular, Stands}
+use Rattle.ci_store.specs.Stands.{meta_row, meta_rows, counter_key, rows_by_tree, rows_of, Stands}
+use Rattle.ci_store.proofs.OneList.{alike_but, regular_with_next}
 use Rattle.ci_store.proofs.Records.{is, before_it, after_it}
 
 abbrev pub sets : List Term
@@ -73,13 +74,10 @@ moved counter.Attempt n next =
     (meta_row (codes "format") 1128878163 ∷ meta_row (codes "version") 1 ∷ meta_row (codes "next_project") next.project ∷ meta_row (codes "next_runner") next.runner ∷ meta_row (codes "next_pipeline") next.pipeline
     ∷ meta_row (codes "next_job") next.job ∷ []) _ _)
 
-same_order : (s : State) (next : Numbers) → IsRegular s → IsRegular (record s { next = next })
-same_order s next o = record { projects = o.projects; runners = o.runners; pipelines = o.pipelines; jobs = o.jobs; job_variables = o.job_variables; attempts = o.attempts; pieces = o.pieces; tags = o.tags; specs = o.specs }
-
 pub next_sets : {S : Type 0} (ghosts : Ghosts S) (before after : Held S) (c : Counter) (n : ℕ) (s : State) → Stands s (state ghosts before).now → Changes ghosts UPDATE_META.now (meta_row (counter_key c) n) 1 before after
     → Stands (record s { next = with_next c n s.next }) (state ghosts after).now
 next_sets ghosts before after c n s stands h =
     let t = record s { next = with_next c n s.next } in
-    after_it ghosts t after (same_order s (with_next c n s.next) stands.inside.regular)
+    after_it ghosts t after (regular_with_next s (with_next c n s.next) stands.inside.regular)
     (updates_one the_schema 0 meta UPDATE_META.now INSERT_META.now (is 1 0 ∷ []) sets terms means (Text (counter_key c) ∷ []) (meta_row (counter_key c) n) (gives (counter_key c) n) (rows_of s) (rows_of t)
-    ((λ ne. absurd (ne refl)), ((λ _. refl), ((λ _. refl), ((λ _. refl), ((λ _. refl), ((λ _. refl), ((λ _. refl), ((λ _. refl), tt)))))))) (moved c n s.next) (state ghosts before) (state ghosts after) (before_it ghosts s before stands) h)
+    (alike_but [] (drop 1 (rows_by_tree s)) meta (meta_rows s.next) (meta_rows (with_next c n s.next))) (moved c n s.next) (state ghosts before) (state ghosts after) (before_it ghosts s before stands) h)

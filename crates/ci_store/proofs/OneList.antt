@@ -1,5 +1,5 @@
 -- One list of a state changes, and the others stay.
-use Rattle.std.proofs.Common.{rules, ◌≡◌, ◌≢◌, ◌==◌, ℕ, ◌+◌, List, [], ◌∷◌, ◌++◌, if◌then◌else◌, Bool, true, false, take, drop, map, Some, refl, sym, ap, subst₂, ◌∙◌, ne_eqb}
+use Rattle.std.proofs.Common.{rules, ◌≡◌, ◌≢◌, ◌==◌, ℕ, List, [], ◌∷◌, ◌++◌, if◌then◌else◌, Bool, true, false, Some, refl, ap, ne_eqb}
 use Rattle.std.specs.List.{AllByRecursion}
 use Rattle.sqlite.specs.Order.{Row}
 use Rattle.sqlite.specs.Table.{Table}
@@ -16,7 +16,7 @@ use Rattle.ci_machine.specs.declared.records.Attempt.{Attempt}
 use Rattle.ci_machine.specs.declared.records.Piece.{Piece}
 use Rattle.ci_store.specs.Schema.{the_schema}
 use Rattle.ci_store.specs.JsonText.{tags_text, tags_data, spec_text, spec_data}
-use Rattle.ci_store.specs.Stands.{rows_at, rows_by_tree, rows_of, Rises, IsRegular}
+use Rattle.ci_store.specs.Stands.{rows_at, Rises, IsRegular}
 
 -- ---- the rows of the other tables
 

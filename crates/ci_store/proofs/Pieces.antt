@@ -1,5 +1,5 @@
 -- The statements that write `piece`.
-use Rattle.std.proofs.Common.{◌≡◌, ◌∙◌, ℕ, pos, List, [], ◌∷◌, Bool, true, false, is_eq, refl, sym, inl, inr, ◌&&◌, cond}
+use Rattle.std.proofs.Common.{◌≡◌, ◌∙◌, ℕ, pos, List, [], ◌∷◌, Bool, true, false, is_eq, refl, sym, inl, inr, ◌&&◌, cond, map, take, drop, subst}
 use Rattle.std.specs.Ordering.{nat_cmp, ordering_then}
 use Rattle.sqlite.specs.declared.types.Value.{Value}
 use Rattle.sqlite_value.specs.declared.keys.Collation.TheVariants.{Binary}
@@ -31,16 +31,18 @@ use Rattle.ci_tables.proofs.Scalars.{cast_int, equal_int}
 use Rattle.ci_store.specs.declared.texts.TheConstants.{UPDATE_PIECE, INSERT_PIECE, DELETE_PIECE, SELECT_PIECES}
 use Rattle.ci_store.specs.Schema.{the_schema, piece, piece_index_1}
 use Rattle.ci_store.specs.Rows.{number, piece_row}
-use Rattle.ci_store.specs.Stands.{IsRegular, Stands, IsAt}
+use Rattle.ci_store.specs.Stands.{rows_by_tree, rows_of, Stands, IsAt}
+use Rattle.ci_store.proofs.OneList.{IsAlike, alike_but, regular_with_pieces}
 use Rattle.ci_store.proofs.Lists.{put_rises, by_two}
 use Rattle.ci_store.proofs.Records.{is, put_stands, remove_stands, both_equal, same_number, is_number}
 use Rattle.sqlite.proofs.Callers.{IsPlain}
 use Rattle.ci_tables.proofs.Selects.{MeansSelect}
 use Rattle.ci_store.specs.Calls.{ShowsRecords}
 use Rattle.sqlite_keyed.proofs.ListLemmas.{filter_same}
-use Rattle.ci_store.proofs.Shows.{columns_of, names_of, by, shows_sorted, found_all, rise_within, rising_number, rising_text}
+use Rattle.ci_store.proofs.Shows.{columns_of, names_of, by, shows_sorted, found_all, rise_within, rising_number}
 use Rattle.ci_machine.specs.Step.{pieces_of}
-use Rattle.ci_store.proofs.Same.{same_piece}
+use Rattle.ci_store.proofs.Removals.{Referring}
+use Rattle.ci_store.specs.Commit.{RemovesUnreferred}
 
 abbrev tests : List Term
 tests = is 1 0 ∷ is 2 1 ∷ []
@@ -82,58 +84,51 @@ gives p = record {
 same_key : (attempt seq : ℕ) (q : Piece) → (equal Binary (number q.attempt) (number attempt) && (equal Binary (number q.seq) (number seq) && true)) ≡ is_eq (ordering_then (nat_cmp q.attempt attempt) (nat_cmp q.seq seq))
 same_key attempt seq q = (λ i. equal_int q.attempt attempt i && (equal_int q.seq seq i && true)) ∙ both_equal (nat_cmp q.attempt attempt) (nat_cmp q.seq seq)
 
-regular_put : (p : Piece) (s : State) → IsRegular s → IsRegular (with_record (row.Piece p) s)
-regular_put p s o = record {
-  projects = o.projects;
-  runners = o.runners;
-  pipelines = o.pipelines;
-  jobs = o.jobs;
-  job_variables = o.job_variables;
-  attempts = o.attempts;
-  pieces = put_rises piece_cmp (by_two (λ (q : Piece). q.attempt) (λ q. q.seq)) p s.pieces o.pieces;
-  tags = o.tags;
-  specs = o.specs;
-}
+-- the other tables have the rows that they had
+alike : (s : State) (xs : List Piece) → IsAlike (rows_of s) (rows_of (record s { pieces = xs })) piece
+alike s xs = alike_but (take 7 (rows_by_tree s)) (drop 8 (rows_by_tree s)) piece (map piece_row s.pieces) (map piece_row xs)
 
 pub piece_puts : {S : Type 0} (ghosts : Ghosts S) (before after : Held S) (p : Piece) (s : State) → Stands s (state ghosts before).now → HasPut ghosts UPDATE_PIECE.now INSERT_PIECE.now (piece_row p) before after
     → Stands (with_record (row.Piece p) s) (state ghosts after).now
 piece_puts ghosts before after p s stands h =
-    put_stands piece_row s.pieces s (with_record (row.Piece p) s) piece refl ((λ _. refl), ((λ _. refl), ((λ _. refl), ((λ _. refl), ((λ _. refl), ((λ _. refl), ((λ _. refl), ((λ ne. absurd (ne refl)), tt)))))))) (regular_put p s stands.inside.regular)
+    put_stands piece_row s.pieces s (with_record (row.Piece p) s) piece refl (alike s _) (regular_with_pieces s _ (put_rises piece_cmp (by_two (λ (q : Piece). q.attempt) (λ q. q.seq)) p s.pieces stands.inside.regular.pieces) stands.inside.regular)
     7 UPDATE_PIECE.now INSERT_PIECE.now tests sets terms means piece_cmp (key_of p.attempt p.seq) p (gives p) (same_key p.attempt p.seq) refl ghosts before after stands h
 
 means_remove : MeansRemove the_schema 7 piece DELETE_PIECE.now tests
 unfolding understood everything
 means_remove = record { there = refl; apart = refl; delete_is = refl; delete_plain = (refl, refl) }
 
-regular_removed : (attempt seq : ℕ) (s : State) → IsRegular s → IsRegular (without_record (key.Piece attempt seq) s)
-regular_removed attempt seq s o = record {
-  projects = o.projects;
-  runners = o.runners;
-  pipelines = o.pipelines;
-  jobs = o.jobs;
-  job_variables = o.job_variables;
-  attempts = o.attempts;
-  pieces = ascending-filter _ _ s.pieces o.pieces;
-  tags = o.tags;
-  specs = o.specs;
-}
-
 pub piece_removes : {S : Type 0} (ghosts : Ghosts S) (before after : Held S) (attempt seq count : ℕ) (s : State) → Stands s (state ghosts before).now
     → IsWholeStep the_schema piece tests (key_of attempt seq) (state ghosts before).now.trees → Changes ghosts DELETE_PIECE.now (key_of attempt seq) count before after
     → Stands (without_record (key.Piece attempt seq) s) (state ghosts after).now
 piece_removes ghosts before after attempt seq count s stands whole h =
-    remove_stands piece_row s.pieces s (without_record (key.Piece attempt seq) s) piece refl ((λ _. refl), ((λ _. refl), ((λ _. refl), ((λ _. refl), ((λ _. refl), ((λ _. refl), ((λ _. refl), ((λ ne. absurd (ne refl)), tt)))))))) (regular_removed attempt seq s stands.inside.regular)
+    remove_stands piece_row s.pieces s (without_record (key.Piece attempt seq) s) piece refl (alike s _) (regular_with_pieces s _ (ascending-filter _ _ s.pieces stands.inside.regular.pieces) stands.inside.regular)
     7 DELETE_PIECE.now tests means_remove (key_of attempt seq) (λ r. refl) (λ q. is_eq (ordering_then (nat_cmp q.attempt attempt) (nat_cmp q.seq seq))) (same_key attempt seq) refl ghosts before after count stands whole h
 
-pub piece_whole : (params : Row) (db : Trees) → IsWholeStep the_schema piece tests params db
+piece_whole : (params : Row) (db : Trees) → IsWholeStep the_schema piece tests params db
 unfolding everything
 piece_whole params db = whole_if_alone the_schema piece tests params db (λ olds. refl)
+
+pub piece_removed : {S : Type 0} (g : Ghosts S) (old new : Held S) (attempt : ℕ) (seq : ℕ) (s : State) → Stands s (state g old).now → RemovesUnreferred g [] DELETE_PIECE.now (key_of attempt seq) old new → Stands (without_record (key.Piece attempt seq) s) (state g new).now
+piece_removed g old new attempt seq s stands h = piece_removes g h.0 new attempt seq h.2 s (subst (λ h. Stands s (state g h).now) h.1 stands) (piece_whole (key_of attempt seq) (state g h.0).now.trees) h.3
+
+-- ---- two records with the same row
+
+same_piece : (p q : Piece) → piece_row p ≡ piece_row q → p ≡ q
+same_piece p q h =
+    let a : p.attempt ≡ q.attempt = cc in
+    let b : p.seq ≡ q.seq = cc in
+    let c : p.bytes ≡ q.bytes = cc in
+    λ i. record { attempt = a i; seq = b i; bytes = c i }
 
 -- ---- the queries that load
 
 pub means_select_of : MeansSelect the_schema piece SELECT_PIECES.now (is 1 0 ∷ []) (columns_of piece) (by 2) (names_of piece)
 unfolding understood everything
 means_select_of = record { is = refl; unlisted = refl; plain = (refl, refl) }
+
+abbrev pub refers_to_attempt : Referring
+refers_to_attempt = record { child = piece; at = 7; there = refl; place = 1; text = SELECT_PIECES.now; columns = columns_of piece; order = by 2; names = names_of piece; means = means_select_of }
 
 pub plain_select_of : IsPlain (understood the_schema SELECT_PIECES.now)
 plain_select_of = means_select_of.plain

@@ -1,8 +1,8 @@
 -- The statements that write `pipeline`.
-use Rattle.std.proofs.Common.{◌∙◌, ℕ, pos, List, [], ◌∷◌, is_eq, refl, ap, ◌≡◌, ◌==◌, ◌&&◌, true, Option, sym}
+use Rattle.std.proofs.Common.{◌∙◌, ℕ, pos, List, [], ◌∷◌, is_eq, refl, ap, ◌≡◌, ◌==◌, ◌&&◌, true, Option, sym, map, take, drop, codes, if◌then◌else◌}
 use Rattle.std.specs.Ordering.{nat_cmp}
 use Rattle.sqlite.specs.declared.types.Value.TheVariants.{Null, Text}
-use Rattle.sqlite.specs.Order.{column}
+use Rattle.sqlite.specs.Order.{Row, column}
 use Rattle.sqlite.specs.Term.{Term, lit, col}
 use Rattle.sqlite_tied.specs.Compute.{everything}
 use Rattle.sqlite.specs.Listing.{understood}
@@ -22,7 +22,8 @@ use Rattle.ci_tables.proofs.Scalars.{cast_int}
 use Rattle.ci_store.specs.declared.texts.TheConstants.{UPDATE_PIPELINE, INSERT_PIPELINE, DELETE_PIPELINE, SELECT_PIPELINE}
 use Rattle.ci_store.specs.Schema.{the_schema, pipeline}
 use Rattle.ci_store.specs.Rows.{number, pipeline_row, kind_number, source_number}
-use Rattle.ci_store.specs.Stands.{IsRegular, Stands, IsAt}
+use Rattle.ci_store.specs.Stands.{rows_by_tree, rows_of, Stands, IsAt}
+use Rattle.ci_store.proofs.OneList.{IsAlike, alike_but, regular_with_pipelines}
 use Rattle.ci_store.proofs.Lists.{put_rises, by_number}
 use Rattle.ci_store.proofs.Records.{is, put_stands, remove_stands, same_number, finds_number, numbered}
 use Rattle.sqlite.specs.Collation.TheVariants.{Binary}
@@ -32,7 +33,17 @@ use Rattle.ci_tables.proofs.Selects.{MeansSelect}
 use Rattle.ci_store.specs.Calls.{ShowsRecords, listed}
 use Rattle.ci_machine.specs.Step.{pipeline_at}
 use Rattle.ci_store.proofs.Shows.{columns_of, names_of, shows_passing, found_one}
-use Rattle.ci_store.proofs.Same.{same_pipeline}
+use Rattle.std.specs.List.{list_any}
+use Rattle.sqlite_value.specs.Keys.{plain, joined}
+use Rattle.sqlite_schema.specs.declared.schema.Keys.TheVariants.{Enforced}
+use Rattle.sqlite_rules.specs.Action.{works, pairs, loses}
+use Rattle.ci_store.specs.Commit.{RemovesUnreferred}
+use Rattle.ci_store.proofs.Removals.{queries, cascades, removed_alone}
+use Rattle.ci_store.proofs.Jobs.{refers_to_pipeline}
+use Rattle.ci_machine.specs.declared.records.RefKind.{RefKind}
+use Rattle.ci_machine.specs.declared.records.RefKind.TheVariants.{Branch, Tag}
+use Rattle.ci_machine.specs.declared.records.Source.{Source}
+use Rattle.ci_machine.specs.declared.records.Source.TheVariants.{Push, Web, Schedule, Api, Trigger}
 
 abbrev sets : List Term
 sets = col 0 0 ∷ lit Null ∷ col 0 1 ∷ col 0 2 ∷ col 0 3 ∷ col 0 4 ∷ col 0 5 ∷ []
@@ -50,48 +61,66 @@ gives p = record {
   absent = λ rows new_row db shaped is keyed fresh put sound. absent_rowid rows new_row (pos p.id) _ (λ r. refl) shaped (ap (λ image. column image 0) is) fresh;
 }
 
-regular_put : (p : Pipeline) (s : State) → IsRegular s → IsRegular (with_record (row.Pipeline p) s)
-regular_put p s o = record {
-  projects = o.projects;
-  runners = o.runners;
-  pipelines = put_rises pipeline_cmp (by_number (λ (q : Pipeline). q.id)) p s.pipelines o.pipelines;
-  jobs = o.jobs;
-  job_variables = o.job_variables;
-  attempts = o.attempts;
-  pieces = o.pieces;
-  tags = o.tags;
-  specs = o.specs;
-}
+-- the other tables have the rows that they had
+alike : (s : State) (xs : List Pipeline) → IsAlike (rows_of s) (rows_of (record s { pipelines = xs })) pipeline
+alike s xs = alike_but (take 3 (rows_by_tree s)) (drop 4 (rows_by_tree s)) pipeline (map pipeline_row s.pipelines) (map pipeline_row xs)
 
 pub pipeline_puts : {S : Type 0} (ghosts : Ghosts S) (before after : Held S) (p : Pipeline) (s : State) → Stands s (state ghosts before).now → HasPut ghosts UPDATE_PIPELINE.now INSERT_PIPELINE.now (pipeline_row p) before after
     → Stands (with_record (row.Pipeline p) s) (state ghosts after).now
 pipeline_puts ghosts before after p s stands h =
-    put_stands pipeline_row s.pipelines s (with_record (row.Pipeline p) s) pipeline refl ((λ _. refl), ((λ _. refl), ((λ _. refl), ((λ ne. absurd (ne refl)), ((λ _. refl), ((λ _. refl), ((λ _. refl), ((λ _. refl), tt)))))))) (regular_put p s stands.inside.regular)
+    put_stands pipeline_row s.pipelines s (with_record (row.Pipeline p) s) pipeline refl (alike s _) (regular_with_pipelines s _ (put_rises pipeline_cmp (by_number (λ (q : Pipeline). q.id)) p s.pipelines stands.inside.regular.pipelines) stands.inside.regular)
     3 UPDATE_PIPELINE.now INSERT_PIPELINE.now (is 0 0 ∷ []) sets sets means pipeline_cmp (number p.id ∷ []) p (gives p) (λ q. same_number q.id p.id) refl ghosts before after stands h
 
 means_remove : MeansRemove the_schema 3 pipeline DELETE_PIPELINE.now (is 0 0 ∷ [])
 unfolding understood everything
 means_remove = record { there = refl; apart = refl; delete_is = refl; delete_plain = (refl, refl) }
 
-regular_removed : (id : ℕ) (s : State) → IsRegular s → IsRegular (without_record (key.Pipeline id) s)
-regular_removed id s o = record {
-  projects = o.projects;
-  runners = o.runners;
-  pipelines = ascending-filter _ _ s.pipelines o.pipelines;
-  jobs = o.jobs;
-  job_variables = o.job_variables;
-  attempts = o.attempts;
-  pieces = o.pieces;
-  tags = o.tags;
-  specs = o.specs;
-}
-
 pub pipeline_removes : {S : Type 0} (ghosts : Ghosts S) (before after : Held S) (id count : ℕ) (s : State) → Stands s (state ghosts before).now
     → IsWholeStep the_schema pipeline (is 0 0 ∷ []) (number id ∷ []) (state ghosts before).now.trees → Changes ghosts DELETE_PIPELINE.now (number id ∷ []) count before after
     → Stands (without_record (key.Pipeline id) s) (state ghosts after).now
 pipeline_removes ghosts before after id count s stands whole h =
-    remove_stands pipeline_row s.pipelines s (without_record (key.Pipeline id) s) pipeline refl ((λ _. refl), ((λ _. refl), ((λ _. refl), ((λ ne. absurd (ne refl)), ((λ _. refl), ((λ _. refl), ((λ _. refl), ((λ _. refl), tt)))))))) (regular_removed id s stands.inside.regular)
+    remove_stands pipeline_row s.pipelines s (without_record (key.Pipeline id) s) pipeline refl (alike s _) (regular_with_pipelines s _ (ascending-filter _ _ s.pipelines stands.inside.regular.pipelines) stands.inside.regular)
     3 DELETE_PIPELINE.now (is 0 0 ∷ []) means_remove (number id ∷ []) (λ r. refl) (λ q. is_eq (nat_cmp q.id id)) (λ q. same_number q.id id) refl ghosts before after count stands whole h
+
+-- what its removal sets off
+works_are : (olds : List Row) → works the_schema Enforced 0 pipeline.tree olds [] ≡ cascades (list_any (loses plain (0 ∷ [])) (pairs olds [])) (refers_to_pipeline ∷ []) (codes "pipeline") olds
+unfolding everything joined
+works_are olds = refl
+
+pub pipeline_removed : {S : Type 0} (g : Ghosts S) (old new : Held S) (id : ℕ) (s : State) → Stands s (state g old).now → RemovesUnreferred g (queries (refers_to_pipeline ∷ [])) DELETE_PIPELINE.now (number id ∷ []) old new → Stands (without_record (key.Pipeline id) s) (state g new).now
+pipeline_removed g old new id s =
+    removed_alone g old new 3 pipeline refl (codes "pipeline") (refers_to_pipeline ∷ []) works_are (λ e. absurd cc, tt) DELETE_PIPELINE.now id s (without_record (key.Pipeline id) s) (λ mid count. pipeline_removes g mid new id count s)
+
+-- ---- two records with the same row
+
+abbrev kind_back : ℕ → RefKind
+kind_back n = if n == 0 then Branch else (Tag)
+
+kind_is : (k : RefKind) → kind_back (kind_number k) ≡ k
+kind_is Branch = refl
+kind_is Tag = refl
+
+abbrev source_back : ℕ → Source
+source_back n = if n == 0 then Push else (if n == 1 then Web else (if n == 2 then Schedule else (if n == 3 then Api else (Trigger))))
+
+source_is : (k : Source) → source_back (source_number k) ≡ k
+source_is Push = refl
+source_is Web = refl
+source_is Schedule = refl
+source_is Api = refl
+source_is Trigger = refl
+
+same_pipeline : (p q : Pipeline) → pipeline_row p ≡ pipeline_row q → p ≡ q
+same_pipeline p q h =
+    let a : p.id ≡ q.id = cc in
+    let b : p.project ≡ q.project = cc in
+    let c : p.git_ref ≡ q.git_ref = cc in
+    let d : kind_number p.kind ≡ kind_number q.kind = cc in
+    let e : source_number p.source ≡ source_number q.source = cc in
+    let f : p.created ≡ q.created = cc in
+    let kind = sym (kind_is p.kind) ∙ ap kind_back d ∙ kind_is q.kind in
+    let source = sym (source_is p.source) ∙ ap source_back e ∙ source_is q.source in
+    λ i. record { id = a i; project = b i; git_ref = c i; kind = kind i; source = source i; created = f i }
 
 -- ---- the queries that load
 

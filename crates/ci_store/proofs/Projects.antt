@@ -1,10 +1,9 @@
 -- The statements that write `project`.
-use Rattle.std.proofs.Common.{◌∙◌, ℕ, pos, List, [], ◌∷◌, is_eq, refl, ap, ◌≡◌, ◌==◌, ◌&&◌, true, Option, sym}
+use Rattle.std.proofs.Common.{◌∙◌, ℕ, pos, List, [], ◌∷◌, is_eq, refl, ap, ◌≡◌, ◌==◌, ◌&&◌, true, Option, sym, map, take, drop, codes}
 use Rattle.std.specs.Ordering.{nat_cmp}
 use Rattle.sqlite.specs.declared.types.Value.TheVariants.{Null, Text}
 use Rattle.sqlite.specs.Order.{Row, column}
 use Rattle.sqlite.specs.Term.{Term, lit, col}
-use Rattle.sqlite.specs.Tree.{Trees}
 use Rattle.sqlite_tied.specs.Compute.{everything}
 use Rattle.sqlite.specs.Listing.{understood}
 use Rattle.sqlite.specs.Store.{Ghosts}
@@ -16,14 +15,15 @@ use Rattle.ci_machine.specs.declared.change.Record.TheVariants as row
 use Rattle.ci_machine.specs.declared.change.Key.TheVariants as key
 use Rattle.ci_tables.specs.Stands.{image, places}
 use Rattle.ci_tables.specs.Ran.{Changes, HasPut}
-use Rattle.ci_tables.proofs.Writes.{IsWholeStep, whole_if_alone}
+use Rattle.ci_tables.proofs.Writes.{IsWholeStep}
 use Rattle.ci_tables.proofs.Puts.{MeansPut, MeansRemove, GivesRecord}
 use Rattle.ci_tables.proofs.Absent.{absent_rowid}
 use Rattle.ci_tables.proofs.Scalars.{cast_int, cast_text}
 use Rattle.ci_store.specs.declared.texts.TheConstants.{UPDATE_PROJECT, INSERT_PROJECT, DELETE_PROJECT, SELECT_PROJECT, SELECT_PROJECT_WITH}
 use Rattle.ci_store.specs.Schema.{the_schema, project}
 use Rattle.ci_store.specs.Rows.{number, project_row}
-use Rattle.ci_store.specs.Stands.{IsRegular, Stands, IsAt}
+use Rattle.ci_store.specs.Stands.{rows_by_tree, rows_of, Stands, IsAt}
+use Rattle.ci_store.proofs.OneList.{IsAlike, alike_but, regular_with_projects}
 use Rattle.ci_store.proofs.Lists.{put_rises, by_number}
 use Rattle.ci_store.proofs.Records.{is, put_stands, remove_stands, same_number, finds_number, finds_text, numbered}
 use Rattle.sqlite.specs.Collation.TheVariants.{Binary}
@@ -34,7 +34,14 @@ use Rattle.ci_store.specs.Calls.{ShowsRecords, listed}
 use Rattle.std.specs.Str.{bytes_eq}
 use Rattle.ci_machine.specs.Step.{project_at, project_with}
 use Rattle.ci_store.proofs.Shows.{columns_of, names_of, shows_passing, found_one}
-use Rattle.ci_store.proofs.Same.{same_project}
+use Rattle.std.specs.List.{list_any}
+use Rattle.sqlite_value.specs.Keys.{plain}
+use Rattle.sqlite_schema.specs.declared.schema.Keys.TheVariants.{Enforced}
+use Rattle.sqlite_rules.specs.Action.{works, pairs, loses}
+use Rattle.ci_store.specs.Commit.{RemovesUnreferred}
+use Rattle.ci_store.proofs.Removals.{cascades, removed_alone}
+use Rattle.sqlite.specs.Values.{or_null}
+use Rattle.ci_store.proofs.Same.{same_words}
 
 abbrev sets : List Term
 sets = col 0 0 ∷ lit Null ∷ col 0 1 ∷ col 0 2 ∷ col 0 3 ∷ []
@@ -52,52 +59,45 @@ gives p = record {
   absent = λ rows new_row db shaped is keyed fresh put sound. absent_rowid rows new_row (pos p.id) _ (λ r. refl) shaped (ap (λ image. column image 0) is) fresh;
 }
 
-regular_put : (p : Project) (s : State) → IsRegular s → IsRegular (with_record (row.Project p) s)
-regular_put p s o = record {
-  projects = put_rises project_cmp (by_number (λ (q : Project). q.id)) p s.projects o.projects;
-  runners = o.runners;
-  pipelines = o.pipelines;
-  jobs = o.jobs;
-  job_variables = o.job_variables;
-  attempts = o.attempts;
-  pieces = o.pieces;
-  tags = o.tags;
-  specs = o.specs;
-}
+-- the other tables have the rows that they had
+alike : (s : State) (xs : List Project) → IsAlike (rows_of s) (rows_of (record s { projects = xs })) project
+alike s xs = alike_but (take 1 (rows_by_tree s)) (drop 2 (rows_by_tree s)) project (map project_row s.projects) (map project_row xs)
 
 pub project_puts : {S : Type 0} (ghosts : Ghosts S) (before after : Held S) (p : Project) (s : State) → Stands s (state ghosts before).now → HasPut ghosts UPDATE_PROJECT.now INSERT_PROJECT.now (project_row p) before after
     → Stands (with_record (row.Project p) s) (state ghosts after).now
 project_puts ghosts before after p s stands h =
-    put_stands project_row s.projects s (with_record (row.Project p) s) project refl ((λ _. refl), ((λ ne. absurd (ne refl)), ((λ _. refl), ((λ _. refl), ((λ _. refl), ((λ _. refl), ((λ _. refl), ((λ _. refl), tt)))))))) (regular_put p s stands.inside.regular)
+    put_stands project_row s.projects s (with_record (row.Project p) s) project refl (alike s _) (regular_with_projects s _ (put_rises project_cmp (by_number (λ (q : Project). q.id)) p s.projects stands.inside.regular.projects) stands.inside.regular)
     1 UPDATE_PROJECT.now INSERT_PROJECT.now (is 0 0 ∷ []) sets sets means project_cmp (number p.id ∷ []) p (gives p) (λ q. same_number q.id p.id) refl ghosts before after stands h
 
 means_remove : MeansRemove the_schema 1 project DELETE_PROJECT.now (is 0 0 ∷ [])
 unfolding understood everything
 means_remove = record { there = refl; apart = refl; delete_is = refl; delete_plain = (refl, refl) }
 
-regular_removed : (id : ℕ) (s : State) → IsRegular s → IsRegular (without_record (key.Project id) s)
-regular_removed id s o = record {
-  projects = ascending-filter _ _ s.projects o.projects;
-  runners = o.runners;
-  pipelines = o.pipelines;
-  jobs = o.jobs;
-  job_variables = o.job_variables;
-  attempts = o.attempts;
-  pieces = o.pieces;
-  tags = o.tags;
-  specs = o.specs;
-}
-
 pub project_removes : {S : Type 0} (ghosts : Ghosts S) (before after : Held S) (id count : ℕ) (s : State) → Stands s (state ghosts before).now
     → IsWholeStep the_schema project (is 0 0 ∷ []) (number id ∷ []) (state ghosts before).now.trees → Changes ghosts DELETE_PROJECT.now (number id ∷ []) count before after
     → Stands (without_record (key.Project id) s) (state ghosts after).now
 project_removes ghosts before after id count s stands whole h =
-    remove_stands project_row s.projects s (without_record (key.Project id) s) project refl ((λ _. refl), ((λ ne. absurd (ne refl)), ((λ _. refl), ((λ _. refl), ((λ _. refl), ((λ _. refl), ((λ _. refl), ((λ _. refl), tt)))))))) (regular_removed id s stands.inside.regular)
+    remove_stands project_row s.projects s (without_record (key.Project id) s) project refl (alike s _) (regular_with_projects s _ (ascending-filter _ _ s.projects stands.inside.regular.projects) stands.inside.regular)
     1 DELETE_PROJECT.now (is 0 0 ∷ []) means_remove (number id ∷ []) (λ r. refl) (λ q. is_eq (nat_cmp q.id id)) (λ q. same_number q.id id) refl ghosts before after count stands whole h
 
-pub project_whole : (params : Row) (db : Trees) → IsWholeStep the_schema project (is 0 0 ∷ []) params db
+-- what its removal sets off
+works_are : (olds : List Row) → works the_schema Enforced 0 project.tree olds [] ≡ cascades (list_any (loses plain (0 ∷ [])) (pairs olds [])) [] (codes "project") olds
 unfolding everything
-project_whole params db = whole_if_alone the_schema project (is 0 0 ∷ []) params db (λ olds. refl)
+works_are olds = refl
+
+pub project_removed : {S : Type 0} (g : Ghosts S) (old new : Held S) (id : ℕ) (s : State) → Stands s (state g old).now → RemovesUnreferred g [] DELETE_PROJECT.now (number id ∷ []) old new → Stands (without_record (key.Project id) s) (state g new).now
+project_removed g old new id s =
+    removed_alone g old new 1 project refl (codes "project") [] works_are tt DELETE_PROJECT.now id s (without_record (key.Project id) s) (λ mid count. project_removes g mid new id count s)
+
+-- ---- two records with the same row
+
+same_project : (p q : Project) → project_row p ≡ project_row q → p ≡ q
+same_project p q h =
+    let a : p.id ≡ q.id = cc in
+    let b : p.name ≡ q.name = cc in
+    let c : p.token ≡ q.token = cc in
+    let d : or_null Text p.file ≡ or_null Text q.file = cc in
+    λ i. record { id = a i; name = b i; token = c i; file = same_words p.file q.file d i }
 
 -- ---- the queries that load
 

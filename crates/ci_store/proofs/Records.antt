@@ -1,6 +1,5 @@
 -- A record that is put, and one that is removed, in a table of its own.
-use Rattle.std.proofs.Common.{◌≡◌, ◌≢◌, ◌<◌, ◌==◌, ℕ, ℤ, pos, nat_lt, cond, arith, ltb-true, ne_eqb, Less, Equal, Greater, List, ◌∷◌, map, filter, Bool, true, false, not, ◌&&◌, Ordering, is_eq, refl, sym, ap, subst, ◌∙◌, Some, None, Option, IsPermutation}
-use Rattle.std.specs.List.{AllByRecursion}
+use Rattle.std.proofs.Common.{◌≡◌, ◌<◌, ◌==◌, ℕ, ℤ, pos, nat_lt, cond, arith, ltb-true, ne_eqb, Less, Equal, Greater, List, ◌∷◌, map, filter, Bool, true, false, not, ◌&&◌, Ordering, is_eq, refl, sym, ap, subst, ◌∙◌, Some, None, Option, IsPermutation}
 use Rattle.std.specs.Ordering.{nat_cmp, ordering_then}
 use Rattle.std.proofs.lemmas.Bool.{cond_both}
 use Rattle.std.proofs.lemmas.Map.Text.{is_eq-slice_cmp}
@@ -31,13 +30,10 @@ use Rattle.ci_store.specs.Schema.{the_schema}
 use Rattle.ci_store.specs.Rows.{number}
 use Rattle.ci_store.specs.Stands.{rows_of, IsRegular, Stands}
 use Rattle.ci_store.proofs.Lists.{put_among, removed_from}
+use Rattle.ci_store.proofs.OneList.{IsAlike}
 
 abbrev pub is : ℕ → ℕ → Term
 is place param = op2 (Compare Eq Binary) (col 1 place) (col 0 param)
-
--- the other tables have the rows that they had
-abbrev pub IsAlike : Table → State → State → Type 0
-IsAlike table s t = AllByRecursion (λ u. u.tree ≢ table.tree → rows_of t u.tree ≡ rows_of s u.tree) the_schema.tables
 
 pub before_it : {S : Type 0} (ghosts : Ghosts S) (s : State) (h : Held S) → Stands s (state ghosts h).now → IsOf the_schema (rows_of s) (state ghosts h).now
 before_it ghosts s h stands = record { listed = stands.listed; inside = stands.inside.tables }
@@ -45,7 +41,7 @@ before_it ghosts s h stands = record { listed = stands.listed; inside = stands.i
 pub after_it : {S : Type 0} (ghosts : Ghosts S) (s : State) (h : Held S) → IsRegular s → IsOf the_schema (rows_of s) (state ghosts h).now → Stands s (state ghosts h).now
 after_it ghosts s h ordered it = record { listed = it.listed; inside = record { tables = it.inside; regular = ordered } }
 
-module _ {A : Type 0} (values : A → Row) (xs : List A) (s t : State) (table : Table) (was : rows_of s table.tree ≡ map values xs) (alike : IsAlike table s t) (ordered : IsRegular t) where
+module _ {A : Type 0} (values : A → Row) (xs : List A) (s t : State) (table : Table) (was : rows_of s table.tree ≡ map values xs) (alike : IsAlike (rows_of s) (rows_of t) table) (ordered : IsRegular t) where
   pub put_stands : (at : ℕ) (update insert : List ℕ) (tests sets terms : List Term) → MeansPut the_schema at table update insert tests sets terms → (cmp : A → A → Ordering) (key : Row) (x : A)
       → GivesRecord the_schema table tests sets terms key (values x) → ((y : A) → has_key key (values y) ≡ is_eq (cmp y x)) → rows_of t table.tree ≡ map values (put cmp x xs)
       → {S : Type 0} (ghosts : Ghosts S) (before after : Held S) → Stands s (state ghosts before).now → HasPut ghosts update insert (values x) before after → Stands t (state ghosts after).now

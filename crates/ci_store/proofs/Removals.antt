@@ -1,17 +1,17 @@
--- The removal of a row that others could refer to.
-use Rattle.std.proofs.Common.{◌≡◌, ◌≢◌, ℕ, pos, List, [], ◌∷◌, ◌++◌, codes, Bool, true, false, ◌&&◌, cond, Some, None, slice_get, refl, sym, subst, inl, inr}
+-- The removal of a row that rows of other tables may refer to.
+use Rattle.std.proofs.Common.{◌≡◌, ◌≢◌, ℕ, pos, List, [], ◌∷◌, ◌++◌, map, Bool, true, false, ◌&&◌, cond, Some, None, Result, OnOk, IsTrue, slice_get, refl, sym, ap, subst, ◌∙◌, inl, inr}
 use Rattle.std.specs.List.{AllByRecursion, list_any, cons_option}
-use Rattle.sqlite.specs.Collation.TheVariants.{Binary}
-use Rattle.sqlite_value.specs.Keys.{plain, joined, ascending}
-use Rattle.sqlite.specs.Order.{Row}
-use Rattle.sqlite.specs.Term.{col}
+use Rattle.sqlite_value.specs.declared.keys.Key.{Key as Order}
+use Rattle.sqlite_value.specs.Keys.{plain}
+use Rattle.sqlite.specs.Order.{Row, column}
+use Rattle.sqlite.specs.Term.{Term}
 use Rattle.sqlite.specs.Table.{Table}
 use Rattle.sqlite.specs.Tree.{Trees}
+use Rattle.sqlite.specs.Effect.{Database}
 use Rattle.sqlite.specs.State.{Shown}
 use Rattle.sqlite.specs.Store.{Ghosts}
 use Rattle.sqlite.specs.Held.{Held, state}
 use Rattle.sqlite.specs.Listing.{understood}
-use Rattle.sqlite_tied.specs.Compute.{everything}
 use Rattle.sqlite.proofs.Callers.{IsPlain}
 use Rattle.sqlite_schema.specs.declared.schema.Keys.TheVariants.{Enforced}
 use Rattle.sqlite_rules.specs.Lists.{Has}
@@ -19,110 +19,118 @@ use Rattle.sqlite_rules.specs.Action.{Work, works, pairs, loses}
 use Rattle.sqlite_rules.proofs.ListLemmas.{all_has, has_got}
 use Rattle.sqlite_trees.specs.View.{IsShaped}
 use Rattle.sqlite_trees.specs.declared.store.Shape.TheVariants as shape
-use Rattle.ci_machine.specs.State.{State}
+use Rattle.ci_machine.specs.State.{State, without_record}
+use Rattle.ci_machine.specs.declared.change.Key.{Key}
+use Rattle.ci_tables.specs.Stands.{Holds}
+use Rattle.ci_tables.specs.Ran.{Changes}
+use Rattle.ci_tables.proofs.Scalars.{on_ok}
 use Rattle.ci_tables.proofs.Writes.{IsWholeStep}
 use Rattle.ci_tables.proofs.Childless.{IsChildless, LacksChild, cascade, lone, whole_if_childless}
 use Rattle.ci_tables.proofs.Selects.{MeansSelect, shows_none, shown_same}
-use Rattle.ci_store.specs.declared.texts.TheConstants.{SELECT_JOBS_OF, SELECT_JOB_VARIABLES, SELECT_ATTEMPTS_OF, SELECT_PIECES}
-use Rattle.ci_store.specs.Schema.{the_schema, pipeline, job, jobvar, attempt, piece}
+use Rattle.ci_store.specs.Schema.{the_schema}
 use Rattle.ci_store.specs.Rows.{number}
 use Rattle.ci_store.specs.Stands.{Stands, rows_of}
-use Rattle.ci_tables.specs.Stands.{Holds}
-use Rattle.sqlite.specs.Effect.{Database}
+use Rattle.ci_store.specs.Commit.{Makes, ShowsNone, RemovesUnreferred}
 use Rattle.ci_store.proofs.Records.{is}
-use Rattle.ci_store.proofs.JobVariables.{means_select_of as means_variables}
-use Rattle.ci_store.proofs.Attempts.{means_select_of as means_attempts}
-use Rattle.ci_store.proofs.Pieces.{means_select_of as means_pieces}
 
--- ---- what the queries of children mean
+-- a table with a column that refers to another's number, and a query of the rows that refer to one
+pub record Referring : Type 0 where
+  pub child : Table
+  pub at : ℕ
+  pub there : slice_get the_schema.tables at ≡ Some child
+  pub place : ℕ
+  pub text : List ℕ
+  pub columns : List Term
+  pub order : List (Term × Order)
+  pub names : List (List ℕ)
+  pub means : MeansSelect the_schema child text (is place 0 ∷ []) columns order names
 
-means_jobs : MeansSelect the_schema job SELECT_JOBS_OF.now (is 2 0 ∷ []) (col 1 0 ∷ []) [] (codes "id" ∷ [])
-unfolding understood everything
-means_jobs = record { is = refl; unlisted = refl; plain = (refl, refl) }
+abbrev pub queries : List Referring → List (List ℕ)
+queries rs = map (λ r. r.text) rs
+
+-- ---- what the queries show
+
+just : (b : Bool) → (b && true) ≡ false → b ≡ false
+just true h = absurd cc
+just false h = refl
+
+-- no row of these tables refers to the number
+abbrev pub LacksEach : List Referring → ℕ → Trees → Type 0
+LacksEach rs n db = AllByRecursion (λ r. LacksChild r.child r.place (pos n) db) rs
+
+module _ {S : Type 0} (g : Ghosts S) (s : State) (n : ℕ) where
+  unchanged_by_one : (r : Referring) (old new : Held S) → Stands s (state g old).now → Shown r.text (number n ∷ []) (state g old) (state g new) [] → (state g old).now ≡ (state g new).now
+  unchanged_by_one r old new stands h = sym (shown_same r.text (number n ∷ []) (state g old) (state g new) [] (subst (λ schema. IsPlain (understood schema r.text)) (sym stands.listed) r.means.plain) h).0.now_is
+
+  -- queries that show no row change nothing
+  pub unchanged_by : (mid : Held S) (rs : List Referring) (old : Held S) → Stands s (state g old).now → ShowsNone g (queries rs) (number n ∷ []) old mid → (state g old).now ≡ (state g mid).now
+  unchanged_by mid [] old stands none = ap (λ h. (state g h).now) none
+  unchanged_by mid (r ∷ rs) old stands none =
+      let still = unchanged_by_one r old none.0 stands none.1 in
+      still ∙ unchanged_by mid rs none.0 (subst (Stands s) still stands) none.2
+
+  pub lacks_each : (mid : Held S) (rs : List Referring) (old : Held S) → Stands s (state g old).now → ShowsNone g (queries rs) (number n ∷ []) old mid → LacksEach rs n (state g mid).now.trees
+  lacks_each mid [] old stands none = tt
+  lacks_each mid (r ∷ rs) old stands none =
+      let still = unchanged_by_one r old none.0 stands none.1 in
+      let lacks : LacksChild r.child r.place (pos n) (state g old).now.trees =
+      λ row there. just _ (shows_none the_schema r.child r.text (is r.place 0 ∷ []) r.columns r.order r.names r.means (number n ∷ []) (state g old) (state g none.0) stands.listed none.1 row there) in
+      (subst (λ (db : Database). LacksChild r.child r.place (pos n) db.trees) (still ∙ unchanged_by mid rs none.0 (subst (Stands s) still stands) none.2) lacks, lacks_each mid rs none.0 (subst (Stands s) still stands) none.2)
 
 -- ---- what a removal sets off
 
-works_of_pipeline : (olds : List Row) → works the_schema Enforced 0 pipeline.tree olds [] ≡ cons_option (cond (list_any (loses plain (0 ∷ [])) (pairs olds [])) (Some (cascade job 2 (codes "pipeline") olds)) None) [] ++ []
-unfolding everything joined
-works_of_pipeline olds = refl
-
-works_of_job : (olds : List Row)
-    → works the_schema Enforced 0 job.tree olds []
-    ≡ cons_option (cond (list_any (loses plain (0 ∷ [])) (pairs olds [])) (Some (cascade jobvar 1 (codes "job") olds)) None) []
-    ++ (cons_option (cond (list_any (loses plain (0 ∷ [])) (pairs olds [])) (Some (cascade attempt 2 (codes "job") olds)) None) [] ++ [])
-unfolding everything joined
-works_of_job olds = refl
-
-works_of_attempt : (olds : List Row) → works the_schema Enforced 0 attempt.tree olds [] ≡ cons_option (cond (list_any (loses plain (0 ∷ [])) (pairs olds [])) (Some (cascade piece 1 (codes "attempt") olds)) None) [] ++ []
-unfolding everything joined
-works_of_attempt olds = refl
-
-module _ (P : Work → Type 0) where
-  one_work : (b : Bool) (v w : Work) → P v → Has (cons_option (cond b (Some v) None) [] ++ []) w → P w
-  one_work true v w h (inl is) = subst P (sym is) h
-  one_work true v w h (inr none) = absurd none
-  one_work false v w h none = absurd none
-
-  two_works : (b : Bool) (u v w : Work) → P u → P v → Has (cons_option (cond b (Some u) None) [] ++ (cons_option (cond b (Some v) None) [] ++ [])) w → P w
-  two_works true u v w hu hv (inl is) = subst P (sym is) hu
-  two_works true u v w hu hv (inr (inl is)) = subst P (sym is) hv
-  two_works true u v w hu hv (inr (inr none)) = absurd none
-  two_works false u v w hu hv none = absurd none
+-- the works that cascade to the tables, where a row is removed
+abbrev pub cascades : Bool → List Referring → List ℕ → List Row → List Work
+cascades b [] parent olds = []
+cascades b (r ∷ rs) parent olds = cons_option (cond b (Some (cascade r.child r.place parent olds)) None) [] ++ cascades b rs parent olds
 
 -- a table that the step leaves
 lacks_still : (table child : Table) (place n : ℕ) (db mid : Trees) → Has the_schema.tables child → child.tree ≢ table.tree → LacksChild child place (pos n) db → AllByRecursion (λ t. t.tree ≢ table.tree → mid t.tree ≡ db t.tree) the_schema.tables
     → LacksChild child place (pos n) mid
 lacks_still table child place n db mid listed other lacks others r there = lacks r (subst (λ l. Has l r) (all_has (λ (t : Table). t.tree ≢ table.tree → mid t.tree ≡ db t.tree) the_schema.tables child others listed other) there)
 
-pub pipeline_whole : (n : ℕ) (db : Trees) → IsShaped shape.Table (db pipeline.tree) → LacksChild job 2 (pos n) db → IsWholeStep the_schema pipeline (is 0 0 ∷ []) (number n ∷ []) db
-pipeline_whole n db shaped lacks =
-    whole_if_childless the_schema pipeline (is 0 0 ∷ []) (number n ∷ []) (pos n) db (λ r. refl) shaped
-    (λ olds mid are others w h.
-    one_work (IsChildless mid) _ (cascade job 2 (codes "pipeline") olds) w (lone job 2 (codes "pipeline") olds (pos n) mid are (lacks_still pipeline job 2 n db mid (has_got the_schema.tables 4 job refl) (λ e. absurd cc) lacks others))
-    (subst (λ l. Has l w) (works_of_pipeline olds) h))
+module _ (table : Table) (parent : List ℕ) (n : ℕ) (db mid : Trees) (olds : List Row) (are : (old : Row) → Has olds old → column old 0 ≡ number n)
+    (others : AllByRecursion (λ t. t.tree ≢ table.tree → mid t.tree ≡ db t.tree) the_schema.tables) where
+  each_childless : (b : Bool) (rs : List Referring) → AllByRecursion (λ r. r.child.tree ≢ table.tree) rs → LacksEach rs n db → (w : Work) → Has (cascades b rs parent olds) w → IsChildless mid w
+  each_childless b [] apart lacks w h = absurd h
+  each_childless true (r ∷ rs) apart lacks w (inl same) =
+      subst (IsChildless mid) (sym same) (lone r.child r.place parent olds (pos n) mid are (lacks_still table r.child r.place n db mid (has_got the_schema.tables r.at r.child r.there) apart.0 lacks.0 others))
+  each_childless true (r ∷ rs) apart lacks w (inr h) = each_childless true rs apart.1 lacks.1 w h
+  each_childless false (r ∷ rs) apart lacks w h = each_childless false rs apart.1 lacks.1 w h
 
-pub job_whole : (n : ℕ) (db : Trees) → IsShaped shape.Table (db job.tree) → LacksChild jobvar 1 (pos n) db → LacksChild attempt 2 (pos n) db → IsWholeStep the_schema job (is 0 0 ∷ []) (number n ∷ []) db
-job_whole n db shaped lacks lacks' =
-    whole_if_childless the_schema job (is 0 0 ∷ []) (number n ∷ []) (pos n) db (λ r. refl) shaped
-    (λ olds mid are others w h.
-    two_works (IsChildless mid) _ (cascade jobvar 1 (codes "job") olds) (cascade attempt 2 (codes "job") olds) w
-    (lone jobvar 1 (codes "job") olds (pos n) mid are (lacks_still job jobvar 1 n db mid (has_got the_schema.tables 5 jobvar refl) (λ e. absurd cc) lacks others))
-    (lone attempt 2 (codes "job") olds (pos n) mid are (lacks_still job attempt 2 n db mid (has_got the_schema.tables 6 attempt refl) (λ e. absurd cc) lacks' others))
-    (subst (λ l. Has l w) (works_of_job olds) h))
-
-pub attempt_whole : (n : ℕ) (db : Trees) → IsShaped shape.Table (db attempt.tree) → LacksChild piece 1 (pos n) db → IsWholeStep the_schema attempt (is 0 0 ∷ []) (number n ∷ []) db
-attempt_whole n db shaped lacks =
-    whole_if_childless the_schema attempt (is 0 0 ∷ []) (number n ∷ []) (pos n) db (λ r. refl) shaped
-    (λ olds mid are others w h.
-    one_work (IsChildless mid) _ (cascade piece 1 (codes "attempt") olds) w (lone piece 1 (codes "attempt") olds (pos n) mid are (lacks_still attempt piece 1 n db mid (has_got the_schema.tables 7 piece refl) (λ e. absurd cc) lacks others))
-    (subst (λ l. Has l w) (works_of_attempt olds) h))
+-- the removal by a number, where no row refers to it, is a step of its own
+pub whole_if_unreferred : (table : Table) (parent : List ℕ) (rs : List Referring) → ((olds : List Row) → works the_schema Enforced 0 table.tree olds [] ≡ cascades (list_any (loses plain (0 ∷ [])) (pairs olds [])) rs parent olds)
+    → AllByRecursion (λ r. r.child.tree ≢ table.tree) rs → (n : ℕ) (db : Trees) → IsShaped shape.Table (db table.tree) → LacksEach rs n db → IsWholeStep the_schema table (is 0 0 ∷ []) (number n ∷ []) db
+whole_if_unreferred table parent rs works_are apart n db shaped lacks =
+    whole_if_childless the_schema table (is 0 0 ∷ []) (number n ∷ []) (pos n) db (λ r. refl) shaped
+    (λ olds mid are others w h. each_childless table parent n db mid olds are others (list_any (loses plain (0 ∷ [])) (pairs olds [])) rs apart lacks w (subst (λ l. Has l w) (works_are olds) h))
 
 pub shaped_in : (s : State) (db : Database) → Stands s db → (at : ℕ) (t : Table) → slice_get the_schema.tables at ≡ Some t → IsShaped shape.Table (db.trees t.tree)
 shaped_in s db stands at t there = (all_has (λ (t : Table). Holds t (rows_of s t.tree) db.trees) the_schema.tables t stands.inside.tables.holds (has_got the_schema.tables at t there)).shaped
 
--- ---- what the queries of children find
+-- ---- from the tables' steps to the state's
 
-just : (b : Bool) → (b && true) ≡ false → b ≡ false
-just true h = absurd cc
-just false h = refl
+module _ {S : Type 0} (g : Ghosts S) (old new : Held S) where
+  -- what the removal of a row by its number does, where it does so as a step of its own
+  pub removed_alone : (at : ℕ) (table : Table) → slice_get the_schema.tables at ≡ Some table → (parent : List ℕ) (rs : List Referring)
+      → ((olds : List Row) → works the_schema Enforced 0 table.tree olds [] ≡ cascades (list_any (loses plain (0 ∷ [])) (pairs olds [])) rs parent olds) → AllByRecursion (λ r. r.child.tree ≢ table.tree) rs
+      → (delete : List ℕ) (id : ℕ) (s t : State)
+      → ((mid : Held S) (count : ℕ) → Stands s (state g mid).now → IsWholeStep the_schema table (is 0 0 ∷ []) (number id ∷ []) (state g mid).now.trees → Changes g delete (number id ∷ []) count mid new → Stands t (state g new).now)
+      → Stands s (state g old).now → RemovesUnreferred g (queries rs) delete (number id ∷ []) old new → Stands t (state g new).now
+  removed_alone at table there parent rs works_are apart delete id s t removes stands h =
+      let stands' = subst (Stands s) (unchanged_by g s id h.0 rs old stands h.1) stands in
+      let lacks = lacks_each g s id h.0 rs old stands h.1 in
+      removes h.0 h.2 stands' (whole_if_unreferred table parent rs works_are apart id (state g h.0).now.trees (shaped_in s (state g h.0).now stands' at table there) lacks) h.3
 
-module _ {S : Type 0} (g : Ghosts S) (old new : Held S) (s : State) (stands : Stands s (state g old).now) (n : ℕ) where
-  still : (text : List ℕ) → IsPlain (understood the_schema text) → Shown text (number n ∷ []) (state g old) (state g new) [] → (state g old).now ≡ (state g new).now
-  still text plain h =
-      let same = shown_same text (number n ∷ []) (state g old) (state g new) [] (subst (λ schema. IsPlain (understood schema text)) (sym stands.listed) plain) h in
-      sym same.0.now_is
+  -- a removal by the values of a key
+  pub removed_by : {A E : Type 0} {k key : Key} → k ≡ key → (result : Result A E) (texts : List (List ℕ)) (delete : List ℕ) {params row : Row} → params ≡ row
+      → ((s : State) → Stands s (state g old).now → RemovesUnreferred g texts delete row old new → Stands (without_record key s) (state g new).now)
+      → OnOk result (IsTrue new.in_transaction × RemovesUnreferred g texts delete params old new) → OnOk result (Makes g (without_record k) old new)
+  removed_by same result texts delete same_key removes h =
+      on_ok result
+      (λ ran. (ran.0, λ s stands. subst (λ k. Stands (without_record k s) (state g new).now) (sym same) (removes s stands (subst (λ row. RemovesUnreferred g texts delete row old new) same_key ran.1)))) h
 
-  pub no_jobs : Shown SELECT_JOBS_OF.now (number n ∷ []) (state g old) (state g new) [] → ((state g old).now ≡ (state g new).now) × LacksChild job 2 (pos n) (state g old).now.trees
-  no_jobs h = (still SELECT_JOBS_OF.now means_jobs.plain h, λ r there. just _ (shows_none the_schema job SELECT_JOBS_OF.now (is 2 0 ∷ []) _ _ _ means_jobs (number n ∷ []) (state g old) (state g new) stands.listed h r there))
-
-  pub no_variables : Shown SELECT_JOB_VARIABLES.now (number n ∷ []) (state g old) (state g new) [] → ((state g old).now ≡ (state g new).now) × LacksChild jobvar 1 (pos n) (state g old).now.trees
-  no_variables h =
-      (still SELECT_JOB_VARIABLES.now means_variables.plain h, λ r there. just _ (shows_none the_schema jobvar SELECT_JOB_VARIABLES.now (is 1 0 ∷ []) _ _ _ means_variables (number n ∷ []) (state g old) (state g new) stands.listed h r there))
-
-  pub no_attempts : Shown SELECT_ATTEMPTS_OF.now (number n ∷ []) (state g old) (state g new) [] → ((state g old).now ≡ (state g new).now) × LacksChild attempt 2 (pos n) (state g old).now.trees
-  no_attempts h =
-      (still SELECT_ATTEMPTS_OF.now means_attempts.plain h, λ r there. just _ (shows_none the_schema attempt SELECT_ATTEMPTS_OF.now (is 2 0 ∷ []) _ _ _ means_attempts (number n ∷ []) (state g old) (state g new) stands.listed h r there))
-
-  pub no_pieces : Shown SELECT_PIECES.now (number n ∷ []) (state g old) (state g new) [] → ((state g old).now ≡ (state g new).now) × LacksChild piece 1 (pos n) (state g old).now.trees
-  no_pieces h =
-      (still SELECT_PIECES.now means_pieces.plain h, λ r there. just _ (shows_none the_schema piece SELECT_PIECES.now (is 1 0 ∷ []) _ _ _ means_pieces (number n ∷ []) (state g old) (state g new) stands.listed h r there))
+-- one query more shows no row
+pub one_more : {S : Type 0} (g : Ghosts S) (mid new : Held S) {X : Type 0} (text : X → List ℕ) (key : Row) (xs : List X) (x : X) (first : Held S) → ShowsNone g (map text xs) key first mid → Shown (text x) key (state g mid) (state g new) [] → ShowsNone g (map text (xs ++ x ∷ [])) key first new
+one_more g mid new text key [] x first same h = (new, subst (λ o. Shown (text x) key (state g o) (state g new) []) (sym same) h, refl)
+one_more g mid new text key (y ∷ xs) x first all h = (all.0, all.1, one_more g mid new text key xs x all.0 all.2 h)

@@ -1,10 +1,9 @@
 -- The statements that write `runner`.
-use Rattle.std.proofs.Common.{◌≡◌, ◌∙◌, ℕ, pos, List, [], ◌∷◌, if◌then◌else◌, Some, is_eq, refl, ap, ◌&&◌, true, Option, sym}
+use Rattle.std.proofs.Common.{◌≡◌, ◌∙◌, ℕ, pos, List, [], ◌∷◌, if◌then◌else◌, Some, is_eq, refl, ap, ◌&&◌, true, Option, sym, map, take, drop, codes}
 use Rattle.std.specs.Ordering.{nat_cmp}
 use Rattle.sqlite.specs.declared.types.Value.TheVariants.{Null, Text}
 use Rattle.sqlite.specs.Order.{Row, column}
 use Rattle.sqlite.specs.Term.{Term, lit, col}
-use Rattle.sqlite.specs.Tree.{Trees}
 use Rattle.sqlite_tied.specs.Compute.{everything}
 use Rattle.sqlite.specs.Listing.{understood}
 use Rattle.sqlite.specs.Store.{Ghosts}
@@ -16,7 +15,7 @@ use Rattle.ci_machine.specs.declared.change.Record.TheVariants as row
 use Rattle.ci_machine.specs.declared.change.Key.TheVariants as key
 use Rattle.ci_tables.specs.Stands.{image, places}
 use Rattle.ci_tables.specs.Ran.{Changes, HasPut}
-use Rattle.ci_tables.proofs.Writes.{IsWholeStep, whole_if_alone}
+use Rattle.ci_tables.proofs.Writes.{IsWholeStep}
 use Rattle.ci_tables.proofs.Puts.{MeansPut, MeansRemove, GivesRecord}
 use Rattle.ci_tables.proofs.Absent.{absent_rowid}
 use Rattle.ci_tables.proofs.Scalars.{cast_int}
@@ -25,7 +24,8 @@ use Rattle.ci_store.specs.Schema.{the_schema, runner}
 use Rattle.ci_store.specs.JsonText.{tags_text, tags_data}
 use Rattle.serde_json.specs.Read.{read}
 use Rattle.ci_store.specs.Rows.{number, runner_row}
-use Rattle.ci_store.specs.Stands.{IsRegular, Stands, IsAt}
+use Rattle.ci_store.specs.Stands.{rows_by_tree, rows_of, Stands, IsAt}
+use Rattle.ci_store.proofs.OneList.{IsAlike, alike_but, regular_with_runners}
 use Rattle.ci_store.proofs.Lists.{put_rises, by_number, all_put}
 use Rattle.ci_store.proofs.Records.{is, put_stands, remove_stands, same_number, finds_text, numbered, cast_option}
 use Rattle.sqlite.specs.Collation.TheVariants.{Binary}
@@ -38,7 +38,16 @@ use Rattle.sqlite_rules.proofs.ListLemmas.{all_has}
 use Rattle.ci_machine.specs.Step.{runner_with}
 use Rattle.ci_store.specs.Load.{IsRunnerRow}
 use Rattle.ci_store.proofs.Shows.{columns_of, names_of, shows_passing, found_one}
-use Rattle.ci_store.proofs.Same.{same_runner}
+use Rattle.std.specs.List.{list_any}
+use Rattle.sqlite_value.specs.Keys.{plain}
+use Rattle.sqlite_schema.specs.declared.schema.Keys.TheVariants.{Enforced}
+use Rattle.sqlite_rules.specs.Action.{works, pairs, loses}
+use Rattle.ci_store.specs.Commit.{RemovesUnreferred}
+use Rattle.ci_store.proofs.Removals.{cascades, removed_alone}
+use Rattle.sqlite.specs.Values.{or_null}
+use Rattle.ci_store.specs.Rows.{flag}
+use Rattle.ci_store.specs.Load.{ReadsTags, runner_cells}
+use Rattle.ci_store.proofs.Same.{same_option, same_flag}
 
 abbrev sets : List Term
 sets = col 0 0 ∷ lit Null ∷ col 0 1 ∷ col 0 2 ∷ col 0 3 ∷ col 0 4 ∷ col 0 5 ∷ col 0 6 ∷ []
@@ -56,52 +65,49 @@ gives r = record {
   absent = λ rows new_row db shaped is keyed fresh put sound. absent_rowid rows new_row (pos r.id) _ (λ r. refl) shaped (ap (λ image. column image 0) is) fresh;
 }
 
-regular_put : (r : Runner) (s : State) → read (tags_text r.tags) ≡ Some (tags_data r.tags) → IsRegular s → IsRegular (with_record (row.Runner r) s)
-regular_put r s read_back o = record {
-  projects = o.projects;
-  runners = put_rises runner_cmp (by_number (λ (q : Runner). q.id)) r s.runners o.runners;
-  pipelines = o.pipelines;
-  jobs = o.jobs;
-  job_variables = o.job_variables;
-  attempts = o.attempts;
-  pieces = o.pieces;
-  tags = all_put runner_cmp _ r s.runners read_back o.tags;
-  specs = o.specs;
-}
+-- the other tables have the rows that they had
+alike : (s : State) (xs : List Runner) → IsAlike (rows_of s) (rows_of (record s { runners = xs })) runner
+alike s xs = alike_but (take 2 (rows_by_tree s)) (drop 3 (rows_by_tree s)) runner (map runner_row s.runners) (map runner_row xs)
 
 pub runner_puts : {S : Type 0} (ghosts : Ghosts S) (before after : Held S) (r : Runner) (s : State) → read (tags_text r.tags) ≡ Some (tags_data r.tags) → Stands s (state ghosts before).now → HasPut ghosts UPDATE_RUNNER.now INSERT_RUNNER.now (runner_row r) before after
     → Stands (with_record (row.Runner r) s) (state ghosts after).now
 runner_puts ghosts before after r s read_back stands h =
-    put_stands runner_row s.runners s (with_record (row.Runner r) s) runner refl ((λ _. refl), ((λ _. refl), ((λ ne. absurd (ne refl)), ((λ _. refl), ((λ _. refl), ((λ _. refl), ((λ _. refl), ((λ _. refl), tt)))))))) (regular_put r s read_back stands.inside.regular)
+    put_stands runner_row s.runners s (with_record (row.Runner r) s) runner refl (alike s _) (regular_with_runners s _ (put_rises runner_cmp (by_number (λ (q : Runner). q.id)) r s.runners stands.inside.regular.runners) (all_put runner_cmp _ r s.runners read_back stands.inside.regular.tags) stands.inside.regular)
     2 UPDATE_RUNNER.now INSERT_RUNNER.now (is 0 0 ∷ []) sets sets means runner_cmp (number r.id ∷ []) r (gives r) (λ q. same_number q.id r.id) refl ghosts before after stands h
 
 means_remove : MeansRemove the_schema 2 runner DELETE_RUNNER.now (is 0 0 ∷ [])
 unfolding understood everything
 means_remove = record { there = refl; apart = refl; delete_is = refl; delete_plain = (refl, refl) }
 
-regular_removed : (id : ℕ) (s : State) → IsRegular s → IsRegular (without_record (key.Runner id) s)
-regular_removed id s o = record {
-  projects = o.projects;
-  runners = ascending-filter _ _ s.runners o.runners;
-  pipelines = o.pipelines;
-  jobs = o.jobs;
-  job_variables = o.job_variables;
-  attempts = o.attempts;
-  pieces = o.pieces;
-  tags = all-filter _ _ s.runners o.tags;
-  specs = o.specs;
-}
-
 pub runner_removes : {S : Type 0} (ghosts : Ghosts S) (before after : Held S) (id count : ℕ) (s : State) → Stands s (state ghosts before).now
     → IsWholeStep the_schema runner (is 0 0 ∷ []) (number id ∷ []) (state ghosts before).now.trees → Changes ghosts DELETE_RUNNER.now (number id ∷ []) count before after
     → Stands (without_record (key.Runner id) s) (state ghosts after).now
 runner_removes ghosts before after id count s stands whole h =
-    remove_stands runner_row s.runners s (without_record (key.Runner id) s) runner refl ((λ _. refl), ((λ _. refl), ((λ ne. absurd (ne refl)), ((λ _. refl), ((λ _. refl), ((λ _. refl), ((λ _. refl), ((λ _. refl), tt)))))))) (regular_removed id s stands.inside.regular)
+    remove_stands runner_row s.runners s (without_record (key.Runner id) s) runner refl (alike s _) (regular_with_runners s _ (ascending-filter _ _ s.runners stands.inside.regular.runners) (all-filter _ _ s.runners stands.inside.regular.tags) stands.inside.regular)
     2 DELETE_RUNNER.now (is 0 0 ∷ []) means_remove (number id ∷ []) (λ r. refl) (λ q. is_eq (nat_cmp q.id id)) (λ q. same_number q.id id) refl ghosts before after count stands whole h
 
-pub runner_whole : (params : Row) (db : Trees) → IsWholeStep the_schema runner (is 0 0 ∷ []) params db
+-- what its removal sets off
+works_are : (olds : List Row) → works the_schema Enforced 0 runner.tree olds [] ≡ cascades (list_any (loses plain (0 ∷ [])) (pairs olds [])) [] (codes "runner") olds
 unfolding everything
-runner_whole params db = whole_if_alone the_schema runner (is 0 0 ∷ []) params db (λ olds. refl)
+works_are olds = refl
+
+pub runner_removed : {S : Type 0} (g : Ghosts S) (old new : Held S) (id : ℕ) (s : State) → Stands s (state g old).now → RemovesUnreferred g [] DELETE_RUNNER.now (number id ∷ []) old new → Stands (without_record (key.Runner id) s) (state g new).now
+runner_removed g old new id s =
+    removed_alone g old new 2 runner refl (codes "runner") [] works_are tt DELETE_RUNNER.now id s (without_record (key.Runner id) s) (λ mid count. runner_removes g mid new id count s)
+
+-- ---- two records with the same row
+
+same_runner : (r q : Runner) (text : List ℕ) → ReadsTags text r.tags → read (tags_text q.tags) ≡ Some (tags_data q.tags) → runner_cells r text ≡ runner_row q → r ≡ q
+same_runner r q text reads back h =
+    let a : r.id ≡ q.id = cc in
+    let b : r.name ≡ q.name = cc in
+    let c : r.token ≡ q.token = cc in
+    let d : or_null number r.project ≡ or_null number q.project = cc in
+    let t : text ≡ tags_text q.tags = cc in
+    let u : flag r.untagged ≡ flag q.untagged = cc in
+    let p : flag r.paused ≡ flag q.paused = cc in
+    let tags = reads q.tags (ap read t ∙ back) in
+    λ i. record { id = a i; name = b i; token = c i; project = same_option r.project q.project d i; tags = tags i; untagged = same_flag r.untagged q.untagged u i; paused = same_flag r.paused q.paused p i }
 
 -- ---- the queries that load
 

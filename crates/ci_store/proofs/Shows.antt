@@ -1,5 +1,5 @@
 -- What a query over one table shows of a state, and the records that its rows are read as.
-use Rattle.std.proofs.Common.{◌≡◌, ◌∙◌, ℕ, pos, List, [], ◌∷◌, map, filter, find, slice_get, Bool, true, false, ◌&&◌, is_eq, Ordering, Less, Equal, Greater, Option, Some, None, refl, sym, ap, subst, cond, inl, inr, IsPermutation}
+use Rattle.std.proofs.Common.{◌≡◌, ◌∙◌, ℕ, pos, List, [], ◌∷◌, map, filter, find, slice_get, Bool, true, false, is_eq, Ordering, Less, Equal, Greater, Option, Some, None, refl, sym, ap, subst, cond, inl, inr, IsPermutation}
 use Rattle.std.specs.List.{AllByRecursion, AllZip}
 use Rattle.std.specs.Ordering.{nat_cmp, ordering_then}
 use Rattle.std.specs.Cmp.{IsTotalOrder}

@@ -1,10 +1,12 @@
 -- What a transaction of changes makes of the tables.
-use Rattle.std.specs.Prelude.{◌≡◌, Bool, true, false, List, Result, IsTrue, OnOk}
-use Rattle.sqlite.specs.State.{HasCleanDisk}
+use Rattle.std.specs.Prelude.{◌≡◌, ℕ, Bool, true, false, List, [], ◌∷◌, Result, IsTrue, OnOk}
+use Rattle.sqlite.specs.Order.{Row}
+use Rattle.sqlite.specs.State.{HasCleanDisk, Shown}
 use Rattle.sqlite.specs.Tree.{Trees}
 use Rattle.sqlite.specs.Store.{Ghosts}
 use Rattle.sqlite.specs.Held.{Held, state}
 use Rattle.ci_machine.specs.State.{State, applied}
+use Rattle.ci_tables.specs.Ran.{Changes}
 use Rattle.ci_machine.specs.declared.change.RowChange.{RowChange}
 use Rattle.ci_store.specs.declared.commit.Ended.{Ended}
 use Rattle.ci_store.specs.declared.commit.Ended.TheVariants.{Done, Undone}
@@ -47,3 +49,12 @@ pub record IsSame {S : Type 0} (g : Ghosts S) (old new : Held S) : Type 0 where
   pub is_open : IsTrue (state g new).is_open
   pub now : (state g new).now ≡ (state g old).now
   pub committed : (state g new).committed ≡ (state g old).committed
+
+-- the queries, each after the one before, show no row
+abbrev pub ShowsNone : {S : Type 0} → Ghosts S → List (List ℕ) → Row → Held S → Held S → Type 0
+ShowsNone g [] key old new = old ≡ new
+ShowsNone {S} g (query ∷ more) key old new = (mid : Held S) × Shown query key (state g old) (state g mid) [] × ShowsNone g more key mid new
+
+-- no query showed a row that refers to the key, and then the statement removed the key's row
+abbrev pub RemovesUnreferred : {S : Type 0} → Ghosts S → List (List ℕ) → List ℕ → Row → Held S → Held S → Type 0
+RemovesUnreferred {S} g queries delete key old new = (mid : Held S) × ShowsNone g queries key old mid × (count : ℕ) × Changes g delete key count mid new

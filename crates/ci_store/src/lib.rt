@@ -1,13 +1,20 @@
 //! The machine's state as tables of a database: loads by key, and the changes of an event in one transaction.
 #![tactic(auto)]
 
+mod attempt;
 pub mod columns;
 pub mod commit;
+mod job;
+mod job_variable;
 pub mod json_text;
 pub mod load;
 pub mod make;
+mod piece;
+mod pipeline;
 mod probe;
+mod project;
 pub mod read;
+mod runner;
 pub mod store;
 pub mod tables;
 pub mod texts;

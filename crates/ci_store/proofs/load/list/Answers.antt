@@ -1,4 +1,4 @@
-use Rattle.std.proofs.Common.{sym, subst}
+use Rattle.std.proofs.Common.{subst}
 use Rattle.std.specs.List.{AllZip}
 use Rattle.ci_store.proofs.Loading.{after_ok, if_ok}
 use Rattle.ci_store.proofs.load.list.Goals as goal

@@ -1,4 +1,3 @@
-use Rattle.ci_store.proofs.Loading.{after_ok, after_err}
 use Rattle.ci_store.proofs.NextLoads.{plain_meta}
 use Rattle.ci_store.proofs.tables.meta_number.Goals as goal
 

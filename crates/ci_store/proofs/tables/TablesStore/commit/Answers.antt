@@ -1,5 +1,4 @@
 use Rattle.std.proofs.Common.{rules, ◌≡◌, sym, subst}
-use Rattle.sqlite.specs.Held.{Held}
 use Rattle.ci_machine.specs.State.{applied}
 use Rattle.ci_store.specs.Store.{Ends}
 use Rattle.ci_store.specs.Stands.{IsAt, LeavesEither}

@@ -1,0 +1,69 @@
+//! Jobs as rows.
+
+use crate::columns::text;
+use crate::json_text::{read_spec, spec_text};
+use crate::read::{Stored, flag_at, has_columns, text_at};
+use crate::texts;
+use ci_machine::records::Job;
+use ci_tables::fault::StoreFault;
+use ci_tables::values::number;
+use ci_tables::write::put;
+use sqlite::types::ToSql;
+use sqlite::{Alter, Row, Transaction};
+use std::alloc::Global;
+
+impl Stored for Job {
+    ghost use Rattle.ci_machine.specs.State.{with_record};
+    ghost use Rattle.ci_machine.specs.declared.change.Record.TheVariants as variant;
+    ghost use Rattle.ci_store.specs.Load.{IsJobRow};
+
+    ghost is_row = { IsJobRow };
+
+    ghost put_in = { λ x. with_record (variant.Job x) };
+
+    fn read(alloc: Global, row: &Row) -> Result<Job, StoreFault> {
+        has_columns(row, 9)?;
+        let spec: String = row.get(5)?;
+        Ok(Job {
+            id: row.get(0)?,
+            pipeline: row.get(1)?,
+            position: row.get(2)?,
+            name: text_at(row, 3)?,
+            stage: text_at(row, 4)?,
+            options: read_spec(alloc, spec.as_str())?,
+            played: flag_at(row, 6)?,
+            cancelled: flag_at(row, 7)?,
+            set_aside: row.get(8)?,
+        })
+    }
+
+    fn put<S: Alter>(
+        &self,
+        tx: &mut Transaction<'_, S>,
+        alloc: Global,
+        is_new: bool,
+    ) -> Result<(), StoreFault> {
+        let spec = spec_text(alloc, &self.options)?;
+        let id = number(self.id)?;
+        let pipeline = number(self.pipeline)?;
+        let position = number(self.position)?;
+        let set_aside = number(self.set_aside)?;
+        put(
+            tx,
+            is_new,
+            texts::UPDATE_JOB,
+            texts::INSERT_JOB,
+            &[
+                id,
+                pipeline,
+                position,
+                text(&self.name),
+                text(&self.stage),
+                (&spec).to_sql(),
+                self.played.to_sql(),
+                self.cancelled.to_sql(),
+                set_aside,
+            ],
+        )
+    }
+}

@@ -1,0 +1,47 @@
+//! Variables of jobs as rows.
+
+use crate::columns::text;
+use crate::read::{Stored, has_columns, text_at};
+use crate::texts;
+use ci_machine::records::JobVariable;
+use ci_tables::fault::StoreFault;
+use ci_tables::values::number;
+use ci_tables::write::put;
+use sqlite::{Alter, Row, Transaction};
+use std::alloc::Global;
+
+impl Stored for JobVariable {
+    ghost use Rattle.ci_machine.specs.State.{with_record};
+    ghost use Rattle.ci_machine.specs.declared.change.Record.TheVariants as variant;
+    ghost use Rattle.std.specs.Prelude.{◌≡◌};
+    ghost use Rattle.ci_store.specs.Rows.{job_variable_row};
+
+    ghost is_row = { λ row v. row ≡ job_variable_row v };
+
+    ghost put_in = { λ x. with_record (variant.JobVariable x) };
+
+    fn read(_: Global, row: &Row) -> Result<JobVariable, StoreFault> {
+        has_columns(row, 3)?;
+        Ok(JobVariable {
+            job: row.get(0)?,
+            key: text_at(row, 1)?,
+            value: text_at(row, 2)?,
+        })
+    }
+
+    fn put<S: Alter>(
+        &self,
+        tx: &mut Transaction<'_, S>,
+        _: Global,
+        is_new: bool,
+    ) -> Result<(), StoreFault> {
+        let job = number(self.job)?;
+        put(
+            tx,
+            is_new,
+            texts::UPDATE_JOB_VARIABLE,
+            texts::INSERT_JOB_VARIABLE,
+            &[job, text(&self.key), text(&self.value)],
+        )
+    }
+}

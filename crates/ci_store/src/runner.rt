@@ -1,0 +1,63 @@
+//! Runners as rows.
+
+use crate::columns::text;
+use crate::json_text::{read_tags, tags_text};
+use crate::read::{Stored, flag_at, has_columns, text_at};
+use crate::texts;
+use ci_machine::records::Runner;
+use ci_tables::fault::StoreFault;
+use ci_tables::values::{number, optional_number};
+use ci_tables::write::put;
+use sqlite::types::ToSql;
+use sqlite::{Alter, Row, Transaction};
+use std::alloc::Global;
+
+impl Stored for Runner {
+    ghost use Rattle.ci_machine.specs.State.{with_record};
+    ghost use Rattle.ci_machine.specs.declared.change.Record.TheVariants as variant;
+    ghost use Rattle.ci_store.specs.Load.{IsRunnerRow};
+
+    ghost is_row = { IsRunnerRow };
+
+    ghost put_in = { λ x. with_record (variant.Runner x) };
+
+    fn read(alloc: Global, row: &Row) -> Result<Runner, StoreFault> {
+        has_columns(row, 7)?;
+        let tags: String = row.get(4)?;
+        Ok(Runner {
+            id: row.get(0)?,
+            name: text_at(row, 1)?,
+            token: text_at(row, 2)?,
+            project: row.get(3)?,
+            tags: read_tags(alloc, tags.as_str())?,
+            untagged: flag_at(row, 5)?,
+            paused: flag_at(row, 6)?,
+        })
+    }
+
+    fn put<S: Alter>(
+        &self,
+        tx: &mut Transaction<'_, S>,
+        alloc: Global,
+        is_new: bool,
+    ) -> Result<(), StoreFault> {
+        let tags = tags_text(alloc, &self.tags)?;
+        let id = number(self.id)?;
+        let project = optional_number(self.project)?;
+        put(
+            tx,
+            is_new,
+            texts::UPDATE_RUNNER,
+            texts::INSERT_RUNNER,
+            &[
+                id,
+                text(&self.name),
+                text(&self.token),
+                project,
+                (&tags).to_sql(),
+                self.untagged.to_sql(),
+                self.paused.to_sql(),
+            ],
+        )
+    }
+}
