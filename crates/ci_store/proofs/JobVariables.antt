@@ -111,7 +111,7 @@ unfolding everything
 job_variable_whole params db = whole_if_alone the_schema jobvar tests params db (λ olds. refl)
 
 pub job_variable_removed : {S : Type 0} (g : Ghosts S) (old new : Held S) (id : ℕ) (name : List ℕ) (s : State) → Stands s (state g old).now → RemovesUnreferred g [] DELETE_JOB_VARIABLE.now (key_of id name) old new → Stands (without_record (key.JobVariable id name) s) (state g new).now
-job_variable_removed g old new id name s stands h = job_variable_removes g h.0 new id name h.2 s (subst (λ h. Stands s (state g h).now) h.1 stands) (job_variable_whole (key_of id name) (state g h.0).now.trees) h.3
+job_variable_removed g old new id name s stands h = job_variable_removes g h.mid new id name h.count s (subst (λ h. Stands s (state g h).now) h.none stands) (job_variable_whole (key_of id name) (state g h.mid).now.trees) h.removed
 
 -- ---- two records with the same row
 

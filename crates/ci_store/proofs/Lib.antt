@@ -13,6 +13,7 @@ mod Creates
 mod Fills
 mod JsonTexts
 mod Applied
+mod Committing
 mod Removals
 mod Reading
 mod Shows

@@ -110,7 +110,7 @@ unfolding everything
 piece_whole params db = whole_if_alone the_schema piece tests params db (λ olds. refl)
 
 pub piece_removed : {S : Type 0} (g : Ghosts S) (old new : Held S) (attempt : ℕ) (seq : ℕ) (s : State) → Stands s (state g old).now → RemovesUnreferred g [] DELETE_PIECE.now (key_of attempt seq) old new → Stands (without_record (key.Piece attempt seq) s) (state g new).now
-piece_removed g old new attempt seq s stands h = piece_removes g h.0 new attempt seq h.2 s (subst (λ h. Stands s (state g h).now) h.1 stands) (piece_whole (key_of attempt seq) (state g h.0).now.trees) h.3
+piece_removed g old new attempt seq s stands h = piece_removes g h.mid new attempt seq h.count s (subst (λ h. Stands s (state g h).now) h.none stands) (piece_whole (key_of attempt seq) (state g h.mid).now.trees) h.removed
 
 -- ---- two records with the same row
 

@@ -118,9 +118,14 @@ module _ {S : Type 0} (g : Ghosts S) (old new : Held S) where
       → ((mid : Held S) (count : ℕ) → Stands s (state g mid).now → IsWholeStep the_schema table (is 0 0 ∷ []) (number id ∷ []) (state g mid).now.trees → Changes g delete (number id ∷ []) count mid new → Stands t (state g new).now)
       → Stands s (state g old).now → RemovesUnreferred g (queries rs) delete (number id ∷ []) old new → Stands t (state g new).now
   removed_alone at table there parent rs works_are apart delete id s t removes stands h =
-      let stands' = subst (Stands s) (unchanged_by g s id h.0 rs old stands h.1) stands in
-      let lacks = lacks_each g s id h.0 rs old stands h.1 in
-      removes h.0 h.2 stands' (whole_if_unreferred table parent rs works_are apart id (state g h.0).now.trees (shaped_in s (state g h.0).now stands' at table there) lacks) h.3
+      let stands' = subst (Stands s) (unchanged_by g s id h.mid rs old stands h.none) stands in
+      let lacks = lacks_each g s id h.mid rs old stands h.none in
+      removes h.mid h.count stands' (whole_if_unreferred table parent rs works_are apart id (state g h.mid).now.trees (shaped_in s (state g h.mid).now stands' at table there) lacks) h.removed
+
+  -- the same removal by values that are the same
+  pub by_key : {A E : Type 0} (result : Result A E) (texts : List (List ℕ)) (delete : List ℕ) {params row : Row} → params ≡ row → OnOk result (IsTrue new.in_transaction × RemovesUnreferred g texts delete params old new)
+      → OnOk result (IsTrue new.in_transaction × RemovesUnreferred g texts delete row old new)
+  by_key result texts delete same h = subst (λ row. OnOk result (IsTrue new.in_transaction × RemovesUnreferred g texts delete row old new)) same h
 
   -- a removal by the values of a key
   pub removed_by : {A E : Type 0} {k key : Key} → k ≡ key → (result : Result A E) (texts : List (List ℕ)) (delete : List ℕ) {params row : Row} → params ≡ row

@@ -56,5 +56,8 @@ ShowsNone g [] key old new = old ≡ new
 ShowsNone {S} g (query ∷ more) key old new = (mid : Held S) × Shown query key (state g old) (state g mid) [] × ShowsNone g more key mid new
 
 -- no query showed a row that refers to the key, and then the statement removed the key's row
-abbrev pub RemovesUnreferred : {S : Type 0} → Ghosts S → List (List ℕ) → List ℕ → Row → Held S → Held S → Type 0
-RemovesUnreferred {S} g queries delete key old new = (mid : Held S) × ShowsNone g queries key old mid × (count : ℕ) × Changes g delete key count mid new
+pub record RemovesUnreferred {S : Type 0} (g : Ghosts S) (queries : List (List ℕ)) (delete : List ℕ) (key : Row) (old new : Held S) : Type 0 where
+  pub mid : Held S
+  pub none : ShowsNone g queries key old mid
+  pub count : ℕ
+  pub removed : Changes g delete key count mid new

@@ -1,5 +1,6 @@
 -- What the rows that are read hold.
 use Rattle.std.specs.Prelude.{◌≡◌, ℕ, List, [], ◌∷◌, Option, Some}
+use Rattle.sqlite.specs.declared.types.Value.{Value}
 use Rattle.sqlite.specs.declared.types.Value.TheVariants.{Text}
 use Rattle.sqlite.specs.Values.{or_null}
 use Rattle.sqlite.specs.Order.{Row}
@@ -21,6 +22,13 @@ ReadsTags text tags = (others : List (List ℕ)) → read text ≡ Some (tags_da
 
 abbrev pub ReadsSpec : List ℕ → JobOptions → Type 0
 ReadsSpec text spec = (others : JobOptions) → read text ≡ Some (spec_data others) → spec ≡ others
+
+-- the value is a text that can be read as these tags alone
+abbrev pub HoldsTags : Value → List (List ℕ) → Type 0
+HoldsTags value tags = (text : List ℕ) × (value ≡ Text text) × ReadsTags text tags
+
+abbrev pub HoldsSpec : Value → JobOptions → Type 0
+HoldsSpec value spec = (text : List ℕ) × (value ≡ Text text) × ReadsSpec text spec
 
 -- the values of a runner's row, with this text of its tags
 abbrev pub runner_cells : Runner → List ℕ → Row

@@ -58,12 +58,12 @@ impl Stored for Attempt {
             id: row.get(0)?,
             job: row.get(1)?,
             runner: row.get(2)?,
-            token: text_at(row, 3)?,
             granted: moment_at(row, 4)?,
             seen: moment_at(row, 5)?,
             state: state.ok_or(StoreFault::Broken)?,
             pieces: row.get(9)?,
             size: row.get(10)?,
+            token: text_at(row, 3)?,
         })
     }
 

@@ -1,16 +1,27 @@
 //! Jobs as rows.
 
+ghost use Rattle.std.specs.Prelude.{IfOk};
+ghost use Rattle.sqlite.specs.Order.{column};
+ghost use Rattle.ci_store.specs.Load.{HoldsSpec};
+
 use crate::columns::text;
 use crate::json_text::{read_spec, spec_text};
 use crate::read::{Stored, flag_at, has_columns, text_at};
 use crate::texts;
-use ci_machine::records::Job;
+use ci_machine::records::{Job, JobOptions};
 use ci_tables::fault::StoreFault;
 use ci_tables::values::number;
 use ci_tables::write::put;
 use sqlite::types::ToSql;
 use sqlite::{Alter, Row, Transaction};
 use std::alloc::Global;
+
+fn options_at(alloc: Global, row: &Row, at: usize) -> Result<JobOptions, StoreFault>
+    ensures { IfOk result (HoldsSpec (column row.now at)) }
+{
+    let text: String = row.get(at)?;
+    read_spec(alloc, text.as_str())
+}
 
 impl Stored for Job {
     ghost use Rattle.ci_machine.specs.State.{with_record};
@@ -23,17 +34,16 @@ impl Stored for Job {
 
     fn read(alloc: Global, row: &Row) -> Result<Job, StoreFault> {
         has_columns(row, 9)?;
-        let spec: String = row.get(5)?;
         Ok(Job {
             id: row.get(0)?,
             pipeline: row.get(1)?,
             position: row.get(2)?,
-            name: text_at(row, 3)?,
-            stage: text_at(row, 4)?,
-            options: read_spec(alloc, spec.as_str())?,
             played: flag_at(row, 6)?,
             cancelled: flag_at(row, 7)?,
             set_aside: row.get(8)?,
+            name: text_at(row, 3)?,
+            stage: text_at(row, 4)?,
+            options: options_at(alloc, row, 5)?,
         })
     }
 

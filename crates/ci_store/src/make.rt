@@ -1,17 +1,20 @@
 //! What each change does to the rows.
 
-ghost use Rattle.std.specs.Prelude.{◌≡◌, [], map, IsTrue, OnOk};
+ghost use Rattle.std.specs.Prelude.{◌≡◌, [], ◌∷◌, map, IsTrue, OnOk};
 ghost use Rattle.sqlite.specs.State.{HasCleanDisk, Shown};
 ghost use Rattle.sqlite.specs.Values.{bound};
 ghost use Rattle.sqlite.specs.Held.{state};
 ghost use Rattle.ci_machine.specs.State.{with_record, without_record, with_next, changed};
 ghost use Rattle.ci_tables.specs.Ran.{KeepsInside, CommitsNothing};
+ghost use Rattle.ci_machine.specs.declared.change.Key.TheVariants as key;
 ghost use Rattle.ci_store.specs.Commit.{MakesInside, RemovesUnreferred};
+ghost use Rattle.ci_store.specs.Rows.{number};
 
 use crate::columns::{counter_key, text};
 use crate::read::Stored;
 use crate::texts;
 use ci_machine::change::{Counter, Key, Record, RowChange};
+use ci_machine::text::Text;
 use ci_tables::fault::StoreFault;
 use ci_tables::read::rows_inside;
 use ci_tables::values::number;
@@ -82,6 +85,52 @@ fn remove<S: Alter>(
     Ok(())
 }
 
+/// Removes the row with the number, as `remove` does.
+fn remove_at<S: Alter>(
+    tx: &mut Transaction<'_, S>,
+    referring: &[&str],
+    delete: &str,
+    id: u64,
+) -> Result<(), StoreFault>
+    ensures same_reference { tx.new.conn.ghost_name ≡ tx.old.conn.ghost_name }
+    ensures removes { HasCleanDisk (state S.Store tx.new.conn.now) → IsTrue tx.old.conn.now.in_transaction
+        → OnOk result (IsTrue tx.new.conn.now.in_transaction × RemovesUnreferred S.Store (map (λ query. query.now) referring.now) delete.now (number id ∷ []) tx.old.conn.now tx.new.conn.now) }
+    ensures kept { KeepsInside S.Store tx.old.conn.now tx.new.conn.now }
+    ensures survives { CommitsNothing S.Store tx.old.conn.now tx.new.conn.now }
+{
+    let id = number(id)?;
+    remove(tx, referring, delete, &[id])
+}
+
+fn remove_job_variable<S: Alter>(
+    tx: &mut Transaction<'_, S>,
+    job: u64,
+    name: &Text,
+) -> Result<(), StoreFault>
+    ensures same_reference { tx.new.conn.ghost_name ≡ tx.old.conn.ghost_name }
+    ensures makes { MakesInside S.Store (without_record (key.JobVariable job name.now)) tx.old.conn.now tx.new.conn.now result }
+    ensures kept { KeepsInside S.Store tx.old.conn.now tx.new.conn.now }
+    ensures survives { CommitsNothing S.Store tx.old.conn.now tx.new.conn.now }
+{
+    let job = number(job)?;
+    remove(tx, &[], texts::DELETE_JOB_VARIABLE, &[job, text(name)])
+}
+
+fn remove_piece<S: Alter>(
+    tx: &mut Transaction<'_, S>,
+    attempt: u64,
+    seq: u64,
+) -> Result<(), StoreFault>
+    ensures same_reference { tx.new.conn.ghost_name ≡ tx.old.conn.ghost_name }
+    ensures makes { MakesInside S.Store (without_record (key.Piece attempt seq)) tx.old.conn.now tx.new.conn.now result }
+    ensures kept { KeepsInside S.Store tx.old.conn.now tx.new.conn.now }
+    ensures survives { CommitsNothing S.Store tx.old.conn.now tx.new.conn.now }
+{
+    let attempt = number(attempt)?;
+    let seq = number(seq)?;
+    remove(tx, &[], texts::DELETE_PIECE, &[attempt, seq])
+}
+
 fn remove_record<S: Alter>(tx: &mut Transaction<'_, S>, key: &Key) -> Result<(), StoreFault>
     ensures same_reference { tx.new.conn.ghost_name ≡ tx.old.conn.ghost_name }
     ensures makes { MakesInside S.Store (without_record key.now) tx.old.conn.now tx.new.conn.now result }
@@ -89,38 +138,18 @@ fn remove_record<S: Alter>(tx: &mut Transaction<'_, S>, key: &Key) -> Result<(),
     ensures survives { CommitsNothing S.Store tx.old.conn.now tx.new.conn.now }
 {
     match key {
-        Key::Project(id) => remove(tx, &[], texts::DELETE_PROJECT, &[number(*id)?]),
-        Key::Runner(id) => remove(tx, &[], texts::DELETE_RUNNER, &[number(*id)?]),
-        Key::Pipeline(id) => remove(
-            tx,
-            &[texts::SELECT_JOBS_OF],
-            texts::DELETE_PIPELINE,
-            &[number(*id)?],
-        ),
-        Key::Job(id) => remove(
+        Key::Project(id) => remove_at(tx, &[], texts::DELETE_PROJECT, *id),
+        Key::Runner(id) => remove_at(tx, &[], texts::DELETE_RUNNER, *id),
+        Key::Pipeline(id) => remove_at(tx, &[texts::SELECT_JOBS_OF], texts::DELETE_PIPELINE, *id),
+        Key::Job(id) => remove_at(
             tx,
             &[texts::SELECT_JOB_VARIABLES, texts::SELECT_ATTEMPTS_OF],
             texts::DELETE_JOB,
-            &[number(*id)?],
+            *id,
         ),
-        Key::JobVariable(job, name) => remove(
-            tx,
-            &[],
-            texts::DELETE_JOB_VARIABLE,
-            &[number(*job)?, text(name)],
-        ),
-        Key::Attempt(id) => remove(
-            tx,
-            &[texts::SELECT_PIECES],
-            texts::DELETE_ATTEMPT,
-            &[number(*id)?],
-        ),
-        Key::Piece(attempt, seq) => remove(
-            tx,
-            &[],
-            texts::DELETE_PIECE,
-            &[number(*attempt)?, number(*seq)?],
-        ),
+        Key::JobVariable(job, name) => remove_job_variable(tx, *job, name),
+        Key::Attempt(id) => remove_at(tx, &[texts::SELECT_PIECES], texts::DELETE_ATTEMPT, *id),
+        Key::Piece(attempt, seq) => remove_piece(tx, *attempt, *seq),
     }
 }
 

@@ -52,10 +52,10 @@ impl Stored for Pipeline {
         Ok(Pipeline {
             id: row.get(0)?,
             project: row.get(1)?,
-            git_ref: text_at(row, 2)?,
             kind: read_kind(row.get(3)?).ok_or(StoreFault::Broken)?,
             source: read_source(row.get(4)?).ok_or(StoreFault::Broken)?,
             created: moment_at(row, 5)?,
+            git_ref: text_at(row, 2)?,
         })
     }
 

@@ -1,16 +1,28 @@
 //! Runners as rows.
 
+ghost use Rattle.std.specs.Prelude.{IfOk};
+ghost use Rattle.sqlite.specs.Order.{column};
+ghost use Rattle.ci_store.specs.Load.{HoldsTags};
+
 use crate::columns::text;
 use crate::json_text::{read_tags, tags_text};
 use crate::read::{Stored, flag_at, has_columns, text_at};
 use crate::texts;
 use ci_machine::records::Runner;
+use ci_machine::text::Texts;
 use ci_tables::fault::StoreFault;
 use ci_tables::values::{number, optional_number};
 use ci_tables::write::put;
 use sqlite::types::ToSql;
 use sqlite::{Alter, Row, Transaction};
 use std::alloc::Global;
+
+fn tags_at(alloc: Global, row: &Row, at: usize) -> Result<Texts, StoreFault>
+    ensures { IfOk result (HoldsTags (column row.now at)) }
+{
+    let text: String = row.get(at)?;
+    read_tags(alloc, text.as_str())
+}
 
 impl Stored for Runner {
     ghost use Rattle.ci_machine.specs.State.{with_record};
@@ -23,15 +35,14 @@ impl Stored for Runner {
 
     fn read(alloc: Global, row: &Row) -> Result<Runner, StoreFault> {
         has_columns(row, 7)?;
-        let tags: String = row.get(4)?;
         Ok(Runner {
             id: row.get(0)?,
-            name: text_at(row, 1)?,
-            token: text_at(row, 2)?,
             project: row.get(3)?,
-            tags: read_tags(alloc, tags.as_str())?,
             untagged: flag_at(row, 5)?,
             paused: flag_at(row, 6)?,
+            name: text_at(row, 1)?,
+            token: text_at(row, 2)?,
+            tags: tags_at(alloc, row, 4)?,
         })
     }
 

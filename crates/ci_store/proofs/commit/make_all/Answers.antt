@@ -31,3 +31,12 @@ loop-change-preserved g c =
       λ clean inside. keeps_then _ _ _ (inv.2 (early clean) inside) (one.kept clean (inv.1 (early clean) inside).0),
       survives_then _ _ _ _ _ _ (λ _ db none. none) (λ _ db none. none) inv.3 one.survives,
     )
+
+pub returns-in_err-make-clause-kept : goal.returns-in_err-make-clause-kept
+returns-in_err-make-clause-kept g c clean inside =
+    let inv = c.loop-change.invariant in
+    let early : HasCleanDisk (state g.S.Store c.loop-change.tx.conn.now) = omega (arith, clean, c.make.ensures.survives.clean) in
+    keeps_then _ _ _ (inv.2 early inside) (c.make.ensures.kept clean (inv.1 early inside).0)
+
+pub returns-in_err-make-clause-survives : goal.returns-in_err-make-clause-survives
+returns-in_err-make-clause-survives g c = survives_then _ _ _ _ _ _ (λ _ db none. none) (λ _ db none. none) c.loop-change.invariant.3 c.make.ensures.survives

@@ -36,4 +36,31 @@ returns-clause-removes g c clean inside =
     let early : HasCleanDisk (state g.S.Store mid) = omega (arith, c.change.ensures.survives.clean) in
     let was = inv.1 early inside in
     let ran = c.in_ok-change.ensures.changed clean was.0 in
-    (ran.0, (mid, subst (λ queries. ShowsNone g.S.Store (map (λ query. query.now) queries) (bound c.args.key.now) c.args.tx.now.conn.now mid) all was.1, c.in_ok-change.field-0, ran.1))
+    (ran.0, record { mid = mid; none = subst (λ queries. ShowsNone g.S.Store (map (λ query. query.now) queries) (bound c.args.key.now) c.args.tx.now.conn.now mid) all was.1; count = c.in_ok-change.field-0; removed = ran.1 })
+
+pub returns-in_err-shows_none-clause-kept : goal.returns-in_err-shows_none-clause-kept
+returns-in_err-shows_none-clause-kept g c clean inside =
+    let inv = c.loop-query.invariant in
+    let early : HasCleanDisk (state g.S.Store c.loop-query.tx.conn.now) = omega (arith, clean, c.shows_none.ensures.survives.clean) in
+    keeps_then _ _ _ (inv.2 early inside) (c.shows_none.ensures.kept clean (inv.1 early inside).0)
+
+pub returns-in_err-shows_none-clause-survives : goal.returns-in_err-shows_none-clause-survives
+returns-in_err-shows_none-clause-survives g c = survives_then _ _ _ _ _ _ (λ _ db none. none) (λ _ db none. none) c.loop-query.invariant.3 c.shows_none.ensures.survives
+
+pub returns-in_err-change-clause-kept : goal.returns-in_err-change-clause-kept
+returns-in_err-change-clause-kept g c clean inside =
+    let inv = c.loop-query.invariant in
+    let early : HasCleanDisk (state g.S.Store c.loop-query.tx.conn.now) = omega (arith, clean, c.change.ensures.survives.clean) in
+    keeps_then _ _ _ (inv.2 early inside) (c.change.ensures.kept clean (inv.1 early inside).0)
+
+pub returns-in_err-change-clause-survives : goal.returns-in_err-change-clause-survives
+returns-in_err-change-clause-survives g c = survives_then _ _ _ _ _ _ (λ _ db none. none) (λ _ db none. none) c.loop-query.invariant.3 c.change.ensures.survives
+
+pub returns-clause-kept : goal.returns-clause-kept
+returns-clause-kept g c clean inside =
+    let inv = c.loop-query.invariant in
+    let early : HasCleanDisk (state g.S.Store c.loop-query.tx.conn.now) = omega (arith, clean, c.change.ensures.survives.clean) in
+    keeps_then _ _ _ (inv.2 early inside) (c.change.ensures.kept clean (inv.1 early inside).0)
+
+pub returns-clause-survives : goal.returns-clause-survives
+returns-clause-survives g c = survives_then _ _ _ _ _ _ (λ _ db none. none) (λ _ db none. none) c.loop-query.invariant.3 c.change.ensures.survives
