@@ -1,76 +1,57 @@
 //! The bodies of replies: compact JSON, the members of each object in the order of their bytes.
 
-ghost use Rattle.std.specs.Prelude.{◌≡◌, ◌≤◌, false, map, codes, length, count_by, IfOk, OnOk, string_bytes};
+ghost use Rattle.std.specs.Prelude.{◌≡◌, ◌≤◌, map, codes, length, count_by, IfOk, OnOk};
 ghost use Rattle.std.specs.List.{list_any};
 ghost use Rattle.std.specs.Ordering.{nat_cmp, is_lt};
 ghost use Rattle.std.specs.Cmp.Lexicographic.{slice_cmp};
 ghost use Rattle.std.specs.Str.{bytes_eq};
 ghost use Rattle.std.specs.Fmt.{decimal};
-ghost use Rattle.serde_json.specs.Data.{array, string};
+ghost use Rattle.serde_json.specs.Data.{array, object, string};
 ghost use Rattle.serde_json.specs.View.{view, items_of};
-ghost use Rattle.serde_json.specs.Written.{compact_text, has_float};
+ghost use Rattle.serde_json.specs.Written.{compact_text};
 ghost use Rattle.ci_machine.specs.Bodies.{fault_data, created_data, job_data, new_pipeline_data, variable_data, with_default, granted_variables, grant_data};
+ghost use Rattle.ci_plans.specs.Objects.{members_of, job_info_data};
 
+use crate::object::Object;
 use ci_machine::records::{Job, JobVariable, Pipeline, QueuedJob};
 use ci_machine::reply::Detail;
 use ci_machine::text::Text;
-use serde_json::{Value, json};
+use serde_json::Value;
 use std::alloc::{AllocError, Global};
-
-/// The compact text of a value that has no float.
-fn text_of(alloc: Global, value: &Value) -> Result<Text, AllocError>
-    requires { has_float (view value.now) ≡ false }
-    ensures { IfOk result (λ t. t ≡ compact_text (view value.now)) }
-{
-    Ok(Text::new(value.to_string(alloc)?))
-}
 
 /// The body of a fault of what was to be made.
 pub fn fault(alloc: Global, detail: &Detail) -> Result<Text, AllocError>
     ensures { IfOk result (λ t. t ≡ compact_text (fault_data detail.now)) }
 {
-    let value = fault_value(alloc, detail)?;
-    text_of(alloc, &value)
-}
-
-fn fault_value(alloc: Global, detail: &Detail) -> Result<Value, AllocError>
-    ensures { IfOk result (λ v. view v ≡ fault_data detail.now) }
-{
-    let text = detail.text(alloc)?;
-    json!(in alloc; {"code": "M14", "detail": text.as_str()})
+    let detail = detail.text(alloc)?;
+    let body = Object::new(alloc).with_text(alloc, "code", "M14")?;
+    let body = body.with_text(alloc, "detail", detail.as_str())?;
+    body.into_text(alloc)
 }
 
 /// The body of a new project or runner.
 pub fn created(alloc: Global, id: u64, token: &Text) -> Result<Text, AllocError>
     ensures { IfOk result (λ t. t ≡ compact_text (created_data id token.now)) }
 {
-    let value = created_value(alloc, id, token)?;
-    text_of(alloc, &value)
-}
-
-fn created_value(alloc: Global, id: u64, token: &Text) -> Result<Value, AllocError>
-    ensures { IfOk result (λ v. view v ≡ created_data id token.now) }
-{
-    json!(in alloc; {"id": id, "token": token.as_str()})
+    let body = Object::new(alloc).with_number(alloc, "id", id)?;
+    let body = body.with_text(alloc, "token", token.as_str())?;
+    body.into_text(alloc)
 }
 
 /// The body that shows a job with its status.
 pub fn job(alloc: Global, status: &str, job: &Job) -> Result<Text, AllocError>
     ensures { IfOk result (λ t. t ≡ compact_text (job_data status.now job.now)) }
 {
-    let value = job_value(alloc, status, job)?;
-    text_of(alloc, &value)
+    job_object(alloc, status, job)?.into_text(alloc)
 }
 
-fn job_value(alloc: Global, status: &str, job: &Job) -> Result<Value, AllocError>
-    ensures { IfOk result (λ v. view v ≡ job_data status.now job.now) }
+fn job_object(alloc: Global, status: &str, job: &Job) -> Result<Object, AllocError>
+    ensures { IfOk result (λ o. object (members_of o) ≡ job_data status.now job.now) }
 {
-    json!(in alloc; {
-        "id": job.id,
-        "name": job.name.as_str(),
-        "stage": job.stage.as_str(),
-        "status": status
-    })
+    let shown = Object::new(alloc).with_number(alloc, "id", job.id)?;
+    let shown = shown.with_text(alloc, "name", job.name.as_str())?;
+    let shown = shown.with_text(alloc, "stage", job.stage.as_str())?;
+    shown.with_text(alloc, "status", status)
 }
 
 fn pending_jobs(alloc: Global, jobs: &[Job]) -> Result<Value, AllocError>
@@ -78,7 +59,7 @@ fn pending_jobs(alloc: Global, jobs: &[Job]) -> Result<Value, AllocError>
 {
     let mut items = Vec::new(alloc);
     for job in jobs {
-        items.push(job_value(alloc, "pending", job)?)?;
+        items.push(job_object(alloc, "pending", job)?.into_value())?;
     }
     Ok(Value::Array(items))
 }
@@ -87,21 +68,22 @@ fn pending_jobs(alloc: Global, jobs: &[Job]) -> Result<Value, AllocError>
 pub fn new_pipeline(alloc: Global, pipeline: &Pipeline, jobs: &[Job]) -> Result<Text, AllocError>
     ensures { IfOk result (λ t. t ≡ compact_text (new_pipeline_data pipeline.now jobs.now)) }
 {
-    let value = new_pipeline_value(alloc, pipeline, jobs)?;
-    text_of(alloc, &value)
+    new_pipeline_object(alloc, pipeline, jobs)?.into_text(alloc)
 }
 
-fn new_pipeline_value(alloc: Global, pipeline: &Pipeline, jobs: &[Job]) -> Result<Value, AllocError>
-    ensures { IfOk result (λ v. view v ≡ new_pipeline_data pipeline.now jobs.now) }
+fn new_pipeline_object(
+    alloc: Global,
+    pipeline: &Pipeline,
+    jobs: &[Job],
+) -> Result<Object, AllocError>
+    ensures { IfOk result (λ o. object (members_of o) ≡ new_pipeline_data pipeline.now jobs.now) }
 {
     let jobs = pending_jobs(alloc, jobs)?;
-    json!(in alloc; {
-        "id": pipeline.id,
-        "jobs": jobs,
-        "ref": pipeline.git_ref.as_str(),
-        "source": pipeline.source.as_str(),
-        "status": "pending"
-    })
+    let shown = Object::new(alloc).with(alloc, "jobs", jobs)?;
+    let shown = shown.with_number(alloc, "id", pipeline.id)?;
+    let shown = shown.with_text(alloc, "ref", pipeline.git_ref.as_str())?;
+    let shown = shown.with_text(alloc, "source", pipeline.source.as_str())?;
+    shown.with_text(alloc, "status", "pending")
 }
 
 fn lines(alloc: Global, texts: &[Text]) -> Result<Value, AllocError>
@@ -109,7 +91,7 @@ fn lines(alloc: Global, texts: &[Text]) -> Result<Value, AllocError>
 {
     let mut items = Vec::new(alloc);
     for text in texts {
-        items.push(Value::String(String::from_str(alloc, text.as_str())?))?;
+        items.push(Value::try_from_str(alloc, text.as_str())?)?;
     }
     Ok(Value::Array(items))
 }
@@ -117,7 +99,9 @@ fn lines(alloc: Global, texts: &[Text]) -> Result<Value, AllocError>
 fn variable(alloc: Global, variable: &JobVariable) -> Result<Value, AllocError>
     ensures { IfOk result (λ v. view v ≡ variable_data variable.now) }
 {
-    json!(in alloc; {"key": variable.key.as_str(), "value": variable.value.as_str()})
+    let shown = Object::new(alloc).with_text(alloc, "key", variable.key.as_str())?;
+    let shown = shown.with_text(alloc, "value", variable.value.as_str())?;
+    Ok(shown.into_value())
 }
 
 fn variables(alloc: Global, variables: &[JobVariable]) -> Result<Value, AllocError>
@@ -199,33 +183,39 @@ pub fn grant(
 ) -> Result<Text, AllocError>
     ensures { IfOk result (λ t. t ≡ compact_text (grant_data attempt token.now queued.now variables.now)) }
 {
-    let value = grant_value(alloc, attempt, token, queued, variables)?;
-    text_of(alloc, &value)
+    grant_object(alloc, attempt, token, queued, variables)?.into_text(alloc)
 }
 
-fn grant_value(
+fn grant_object(
     alloc: Global,
     attempt: u64,
     token: &Text,
     queued: &QueuedJob,
     job_variables: &[JobVariable],
-) -> Result<Value, AllocError>
-    ensures { IfOk result (λ v. view v ≡ grant_data attempt token.now queued.now job_variables.now) }
+) -> Result<Object, AllocError>
+    ensures { IfOk result (λ o. object (members_of o) ≡ grant_data attempt token.now queued.now job_variables.now) }
 {
     let job = &queued.job;
-    let script = lines(alloc, job.options.script.as_slice())?;
     let all = all_variables(alloc, job, attempt, job_variables)?;
     let all = variables(alloc, all.as_slice())?;
-    json!(in alloc; {
-        "id": attempt,
-        "job_info": {
-            "name": job.name.as_str(),
-            "project_id": queued.project,
-            "stage": job.stage.as_str()
-        },
-        "script": script,
-        "timeout": job.options.timeout,
-        "token": token.as_str(),
-        "variables": all
-    })
+    let shown = Object::new(alloc).with(alloc, "variables", all)?;
+    let shown = shown.with(
+        alloc,
+        "script",
+        lines(alloc, job.options.script.as_slice())?,
+    )?;
+    let shown = shown.with(alloc, "job_info", job_info(alloc, queued)?)?;
+    let shown = shown.with_number(alloc, "id", attempt)?;
+    let shown = shown.with_number(alloc, "timeout", job.options.timeout as u64)?;
+    shown.with_text(alloc, "token", token.as_str())
+}
+
+/// What a grant says of the job itself.
+fn job_info(alloc: Global, queued: &QueuedJob) -> Result<Value, AllocError>
+    ensures { IfOk result (λ v. view v ≡ job_info_data queued.now) }
+{
+    let shown = Object::new(alloc).with_text(alloc, "name", queued.job.name.as_str())?;
+    let shown = shown.with_number(alloc, "project_id", queued.project)?;
+    let shown = shown.with_text(alloc, "stage", queued.job.stage.as_str())?;
+    Ok(shown.into_value())
 }

@@ -5,7 +5,7 @@ ghost use Rattle.std.specs.Prelude.{◌≡◌, IfOk};
 ghost use Rattle.ci_machine.specs.Grants as grants;
 
 use crate::body;
-use crate::replies::{created, numbered, refused, token, unchanged};
+use crate::replies::{made, refused, token, unchanged};
 use ci_machine::change::{Counter, Delta, Record};
 use ci_machine::moment::Moment;
 use ci_machine::records::{Attempt, AttemptState, JobVariable, MAX_NUMBER, QueuedJob, Runner};
@@ -58,6 +58,5 @@ pub fn grant(
         pieces: 0,
         size: 0,
     });
-    let changes = numbered(alloc, attempt, Counter::Attempt, next)?;
-    Ok((created(text), changes))
+    made(alloc, text, attempt, Counter::Attempt, next)
 }

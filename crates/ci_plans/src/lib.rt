@@ -4,6 +4,7 @@
 
 pub mod body;
 pub mod grants;
+mod object;
 pub mod pipelines;
 pub mod projects;
 pub mod replies;

@@ -1,22 +1,28 @@
 //! A pipeline is to be made.
 
-ghost use Rattle.std.specs.Prelude.{◌≡◌, ◌+◌, ◌≤◌, ◌<◌, ◌^◌, ◌++◌, IfOk, OnOk, map, vec_len, length};
+ghost use Rattle.std.specs.Prelude.{◌≡◌, ℕ, ◌+◌, ◌≤◌, ◌<◌, ◌^◌, ◌∷◌, ◌++◌, [], None, IfOk, map, codes, vec_len, length};
 ghost use Rattle.std.specs.List.{list_all, flat_map};
 ghost use Rattle.std.specs.Option.{option_copied};
+ghost use Rattle.std.specs.Fmt.{decimal};
+ghost use Rattle.serde_json.specs.Written.{compact_text};
 ghost use Rattle.ci_values.specs.Names.{is_name};
+ghost use Rattle.ci_machine.specs.Bodies.{new_pipeline_data};
 ghost use Rattle.ci_machine.specs.Pipelines as pipelines;
+ghost use Rattle.ci_machine.specs.Plans as plans;
 ghost use Rattle.ci_machine.specs.declared.change.RowChange.TheVariants as change;
 ghost use Rattle.ci_machine.specs.declared.change.Record.TheVariants as row;
+ghost use Rattle.ci_machine.specs.declared.change.Counter.TheVariants as counter;
+ghost use Rattle.ci_plans.specs.Refusals as refusals;
 
 use crate::body;
-use crate::replies::{created, faulted, refused};
+use crate::replies::{Refusal, and, created, unmade};
 use ci_machine::change::{Counter, Delta, Record, RowChange};
 use ci_machine::limits::{DEFAULT_TIMEOUT_SECONDS, MAX_JOBS};
 use ci_machine::moment::Moment;
 use ci_machine::records::{
     Job, JobOptions, JobVariable, MAX_NUMBER, Pipeline, Project, RefKind, Source,
 };
-use ci_machine::reply::{Code, Detail, FaultCode, Reply};
+use ci_machine::reply::{Code, FaultCode, Reply};
 use ci_machine::request::{NewJob, NewPipeline};
 use ci_machine::text::Text;
 use std::alloc::{AllocError, Global};
@@ -67,60 +73,79 @@ fn new_jobs(
     Ok(jobs)
 }
 
-fn variable(alloc: Global, job: u64, key: &str, value: &str) -> Result<RowChange, AllocError>
-    ensures { IfOk result (λ c. c ≡ change.Add (row.JobVariable (pipelines.variable job key.now value.now))) }
+/// These rows, and that of a variable of a job.
+fn with_variable(
+    alloc: Global,
+    rows: Vec<RowChange>,
+    job: u64,
+    key: &str,
+    value: &str,
+) -> Result<Vec<RowChange>, AllocError>
+    ensures { IfOk result (λ all. all.items ≡ rows.items ++ change.Add (row.JobVariable (pipelines.variable job key.now value.now)) ∷ []) }
 {
     let key = Text::copy_of(alloc, key)?;
     let value = Text::copy_of(alloc, value)?;
-    Ok(RowChange::Add(Record::JobVariable(JobVariable { job, key, value })))
+    and(
+        rows,
+        RowChange::Add(Record::JobVariable(JobVariable { job, key, value })),
+    )
 }
 
 /// The rows of a job's predefined variables.
 fn predefined(alloc: Global, pipeline: &Pipeline, job: &Job) -> Result<Vec<RowChange>, AllocError>
     ensures { IfOk result (λ v. v.items ≡ map (λ x. change.Add (row.JobVariable x)) (pipelines.predefined pipeline.now job.now)) }
 {
-    let project = pipeline.project;
-    let project = format!(in alloc; "{project}")?;
     let branch = pipeline.git_ref.as_str();
-    let mut rows = Vec::new(alloc);
-    rows.push(variable(alloc, job.id, "CI", "true")?)?;
-    rows.push(variable(alloc, job.id, "CI_COMMIT_BRANCH", branch)?)?;
-    rows.push(variable(alloc, job.id, "CI_COMMIT_REF_NAME", branch)?)?;
-    rows.push(variable(alloc, job.id, "CI_JOB_NAME", job.name.as_str())?)?;
-    rows.push(variable(alloc, job.id, "CI_JOB_STAGE", job.stage.as_str())?)?;
-    rows.push(variable(alloc, job.id, "CI_PIPELINE_SOURCE", "api")?)?;
-    rows.push(variable(alloc, job.id, "CI_PROJECT_ID", project.as_str())?)?;
+    let rows = with_variable(alloc, Vec::new(alloc), job.id, "CI", "true")?;
+    let rows = with_variable(alloc, rows, job.id, "CI_COMMIT_BRANCH", branch)?;
+    let rows = with_variable(alloc, rows, job.id, "CI_COMMIT_REF_NAME", branch)?;
+    let rows = with_variable(alloc, rows, job.id, "CI_JOB_NAME", job.name.as_str())?;
+    let rows = with_variable(alloc, rows, job.id, "CI_JOB_STAGE", job.stage.as_str())?;
+    let rows = with_variable(alloc, rows, job.id, "CI_PIPELINE_SOURCE", "api")?;
+    with_project(alloc, rows, job.id, pipeline.project)
+}
+
+/// These rows, and that of the variable which names the project.
+fn with_project(
+    alloc: Global,
+    rows: Vec<RowChange>,
+    job: u64,
+    project: u64,
+) -> Result<Vec<RowChange>, AllocError>
+    ensures { IfOk result (λ all. all.items ≡ rows.items ++ change.Add (row.JobVariable (pipelines.variable job (codes "CI_PROJECT_ID") (decimal project))) ∷ []) }
+{
+    let project = format!(in alloc; "{project}")?;
+    with_variable(alloc, rows, job, "CI_PROJECT_ID", project.as_str())
+}
+
+/// These rows, and those of a job and its variables.
+fn with_job(
+    alloc: Global,
+    rows: Vec<RowChange>,
+    pipeline: &Pipeline,
+    job: Job,
+) -> Result<Vec<RowChange>, AllocError>
+    ensures { IfOk result (λ all. all.items ≡ rows.items ++ pipelines.job_changes pipeline.now job) }
+{
+    let mut variables = predefined(alloc, pipeline, &job)?;
+    let mut rows = and(rows, RowChange::Add(Record::Job(job)))?;
+    rows.append(&mut variables)?;
     Ok(rows)
 }
 
-/// Adds the rows of a job and its variables.
-fn add_job(
+/// The rows of the jobs and their variables.
+fn job_rows(
     alloc: Global,
-    changes: &mut Vec<RowChange>,
-    pipeline: &Pipeline,
-    job: Job,
-) -> Result<(), AllocError>
-    ensures { OnOk result (changes.new.items ≡ changes.old.items ++ pipelines.job_changes pipeline.now job) }
-{
-    let mut variables = predefined(alloc, pipeline, &job)?;
-    changes.push(RowChange::Add(Record::Job(job)))?;
-    changes.append(&mut variables)?;
-    Ok(())
-}
-
-/// Adds the rows of the jobs and their variables.
-fn add_jobs(
-    alloc: Global,
-    changes: &mut Vec<RowChange>,
     pipeline: &Pipeline,
     mut jobs: Vec<Job>,
-) -> Result<(), AllocError>
-    ensures { OnOk result (changes.new.items ≡ changes.old.items ++ flat_map (pipelines.job_changes pipeline.now) jobs.items) }
+) -> Result<Vec<RowChange>, AllocError>
+    ensures { IfOk result (λ rows. rows.items ≡ flat_map (pipelines.job_changes pipeline.now) jobs.items) }
 {
+    let mut rows = Vec::new(alloc);
     while !jobs.is_empty() {
-        add_job(alloc, changes, pipeline, jobs.remove(0))?;
+        rows = with_job(alloc, rows, pipeline, jobs.remove(0))?;
     }
-    Ok(())
+    Ok(rows)
 }
 
 /// A pipeline is to be made, of this project and with these next numbers of pipelines and jobs.
@@ -137,23 +162,37 @@ pub fn enter_pipeline(
 ) -> Result<(Reply, Delta), AllocError>
     ensures { IfOk result (λ plan. plan ≡ pipelines.enter_pipeline (option_copied project.entry) next_pipeline next_job new now) }
 {
-    if project.is_none() {
-        return Ok(refused(alloc, Code::M2));
+    match refusal_of(project, next_pipeline, next_job, &new) {
+        Some(refusal) => unmade(alloc, refusal),
+        None => make_pipeline(alloc, next_pipeline, next_job, new, now),
     }
+}
+
+/// Why the pipeline isn't made, if it isn't.
+fn refusal_of(
+    project: Option<&Project>,
+    next_pipeline: u64,
+    next_job: u64,
+    new: &NewPipeline,
+) -> Option<Refusal>
+    ensures plan { (now : ℕ) → refusals.unless result (pipelines.entered next_pipeline next_job new.now now) ≡ pipelines.enter_pipeline (option_copied project.entry) next_pipeline next_job new.now now }
+    ensures pipeline { result ≡ None → next_pipeline ≤ MAX_NUMBER }
+    ensures jobs { result ≡ None → next_job + length new.now.jobs ≤ MAX_NUMBER + 1 }
+{
     let count = new.jobs.as_slice().len();
-    if count < 1 {
-        return faulted(alloc, Detail::Code(FaultCode::G(4)));
+    if project.is_none() {
+        Some(Refusal::Code(Code::M2))
+    } else if count < 1 {
+        Some(Refusal::Fault(FaultCode::G(4)))
+    } else if count > MAX_JOBS {
+        Some(Refusal::Fault(FaultCode::K(11)))
+    } else if !has_names(new) {
+        Some(Refusal::Fault(FaultCode::K(16)))
+    } else if lacks_numbers(next_pipeline, next_job, count as u64) {
+        Some(Refusal::Code(Code::M15))
+    } else {
+        None
     }
-    if count > MAX_JOBS {
-        return faulted(alloc, Detail::Code(FaultCode::K(11)));
-    }
-    if !has_names(&new) {
-        return faulted(alloc, Detail::Code(FaultCode::K(16)));
-    }
-    if lacks_numbers(next_pipeline, next_job, count as u64) {
-        return Ok(refused(alloc, Code::M15));
-    }
-    make_pipeline(alloc, next_pipeline, next_job, new, now)
 }
 
 /// Is the number of the pipeline, or that of the last of so many jobs from the first on, over the limit?
@@ -182,7 +221,6 @@ fn make_pipeline(
         jobs,
     } = new;
     let jobs = jobs.into_vec();
-    let next_pipeline_after = next_pipeline + 1;
     let next_job_after = next_job + jobs.len() as u64;
     let pipeline = Pipeline {
         id: next_pipeline,
@@ -193,11 +231,29 @@ fn make_pipeline(
         created: now,
     };
     let jobs = new_jobs(alloc, &stage, next_pipeline, next_job, jobs)?;
+    entered(alloc, pipeline, jobs, next_job_after)
+}
+
+/// The pipeline is made with its jobs, and the number of the next job after them.
+fn entered(
+    alloc: Global,
+    pipeline: Pipeline,
+    jobs: Vec<Job>,
+    next_job: u64,
+) -> Result<(Reply, Delta), AllocError>
+    requires { pipeline.id ≤ MAX_NUMBER }
+    ensures reply { IfOk result (λ plan. plan.0 ≡ plans.created (compact_text (new_pipeline_data pipeline jobs.items))) }
+    ensures changes { IfOk result (λ plan. plan.1 ≡ change.Add (row.Pipeline pipeline) ∷ change.SetNext counter.Pipeline (pipeline.id + 1) ∷ change.SetNext counter.Job next_job ∷ flat_map (pipelines.job_changes pipeline) jobs.items) }
+{
     let text = body::new_pipeline(alloc, &pipeline, jobs.as_slice())?;
-    let mut changes = Vec::new(alloc);
-    changes.push(RowChange::Add(Record::Pipeline(pipeline.clone()?)))?;
-    changes.push(RowChange::SetNext(Counter::Pipeline, next_pipeline_after))?;
-    changes.push(RowChange::SetNext(Counter::Job, next_job_after))?;
-    add_jobs(alloc, &mut changes, &pipeline, jobs)?;
-    Ok((created(text), Delta::new(changes)))
+    let mut rows = job_rows(alloc, &pipeline, jobs)?;
+    let next_pipeline = pipeline.id + 1;
+    let changes = and(Vec::new(alloc), RowChange::Add(Record::Pipeline(pipeline)))?;
+    let changes = and(
+        changes,
+        RowChange::SetNext(Counter::Pipeline, next_pipeline),
+    )?;
+    let mut changes = and(changes, RowChange::SetNext(Counter::Job, next_job))?;
+    changes.append(&mut rows)?;
+    Ok(created(text, Delta::new(changes)))
 }

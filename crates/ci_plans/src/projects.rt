@@ -3,11 +3,10 @@
 ghost use Rattle.std.specs.Prelude.{◌≡◌, IfOk};
 ghost use Rattle.ci_machine.specs.Projects as projects;
 
-use crate::body;
-use crate::replies::{created, faulted, numbered, refused, token};
+use crate::replies::{identity, made, refusal_of_named, unmade};
 use ci_machine::change::{Counter, Delta, Record};
 use ci_machine::records::{MAX_NUMBER, Project};
-use ci_machine::reply::{Code, Detail, FaultCode, Reply};
+use ci_machine::reply::Reply;
 use ci_machine::request::Seed;
 use ci_machine::text::Text;
 use std::alloc::{AllocError, Global};
@@ -23,20 +22,15 @@ pub fn add_project(
 ) -> Result<(Reply, Delta), AllocError>
     ensures { IfOk result (λ plan. plan ≡ projects.add_project next name seed) }
 {
-    if !name.is_name() {
-        return faulted(alloc, Detail::Code(FaultCode::K(16)));
+    if let Some(refusal) = refusal_of_named(&name, next) {
+        return unmade(alloc, refusal);
     }
-    if next > MAX_NUMBER {
-        return Ok(refused(alloc, Code::M15));
-    }
-    let token = token(alloc, "p", next, seed)?;
-    let text = body::created(alloc, next, &token)?;
+    let (token, text) = identity(alloc, "p", next, seed)?;
     let project = Record::Project(Project {
         id: next,
         name,
         token,
         file: None,
     });
-    let changes = numbered(alloc, project, Counter::Project, next)?;
-    Ok((created(text), changes))
+    made(alloc, text, project, Counter::Project, next)
 }

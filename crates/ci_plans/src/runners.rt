@@ -3,11 +3,10 @@
 ghost use Rattle.std.specs.Prelude.{◌≡◌, IfOk};
 ghost use Rattle.ci_machine.specs.Runners as runners;
 
-use crate::body;
-use crate::replies::{created, faulted, numbered, refused, token};
+use crate::replies::{identity, made, refusal_of_named, unmade};
 use ci_machine::change::{Counter, Delta, Record};
 use ci_machine::records::{MAX_NUMBER, Runner};
-use ci_machine::reply::{Code, Detail, FaultCode, Reply};
+use ci_machine::reply::Reply;
 use ci_machine::request::Seed;
 use ci_machine::text::{Text, Texts};
 use std::alloc::{AllocError, Global};
@@ -23,14 +22,10 @@ pub fn add_runner(
 ) -> Result<(Reply, Delta), AllocError>
     ensures { IfOk result (λ plan. plan ≡ runners.add_runner next name seed) }
 {
-    if !name.is_name() {
-        return faulted(alloc, Detail::Code(FaultCode::K(16)));
+    if let Some(refusal) = refusal_of_named(&name, next) {
+        return unmade(alloc, refusal);
     }
-    if next > MAX_NUMBER {
-        return Ok(refused(alloc, Code::M15));
-    }
-    let token = token(alloc, "r", next, seed)?;
-    let text = body::created(alloc, next, &token)?;
+    let (token, text) = identity(alloc, "r", next, seed)?;
     let runner = Record::Runner(Runner {
         id: next,
         name,
@@ -40,6 +35,5 @@ pub fn add_runner(
         untagged: true,
         paused: false,
     });
-    let changes = numbered(alloc, runner, Counter::Runner, next)?;
-    Ok((created(text), changes))
+    made(alloc, text, runner, Counter::Runner, next)
 }

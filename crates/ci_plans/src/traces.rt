@@ -1,11 +1,11 @@
 //! A runner sends the next bytes of a trace.
 
-ghost use Rattle.std.specs.Prelude.{◌≡◌, IfOk, Ok, length};
+ghost use Rattle.std.specs.Prelude.{◌≡◌, ◌+◌, ◌≤◌, IfOk, Ok, length, max};
 ghost use Rattle.std.specs.Option.{option_copied};
 ghost use Rattle.ci_machine.specs.Leases.{accepted};
 ghost use Rattle.ci_machine.specs.Traces as traces;
 
-use crate::replies::{refused, two, unchanged};
+use crate::replies::{and, refused, unchanged};
 use crate::reports::unleased;
 use ci_machine::change::{Delta, Record, RowChange};
 use ci_machine::lease::{Lease, PieceFault, accept_piece};
@@ -39,6 +39,18 @@ fn not_accepted(fault: PieceFault) -> Reply
     }
 }
 
+/// The attempt with one more piece of its trace, which has this size then.
+fn grown(attempt: &Attempt, now: Moment, size: u64) -> Result<Attempt, AllocError>
+    requires { attempt.now.pieces ≤ MAX_NUMBER }
+    ensures { IfOk result (λ a. a ≡ record attempt.now { seen = max attempt.now.seen now; pieces = attempt.now.pieces + 1; size = size }) }
+{
+    let mut grown = attempt.clone()?;
+    grown.seen = attempt.seen.later(now);
+    grown.pieces = attempt.pieces + 1;
+    grown.size = size;
+    Ok(grown)
+}
+
 /// The bytes are the next piece of the trace, which has this size then.
 fn grow(
     alloc: Global,
@@ -52,21 +64,15 @@ fn grow(
     if attempt.pieces > MAX_NUMBER {
         return Ok(refused(alloc, Code::M15));
     }
-    let mut grown = attempt.clone()?;
-    grown.seen = attempt.seen.later(now);
-    grown.pieces = attempt.pieces + 1;
-    grown.size = size;
-    let piece = Piece {
+    let piece = Record::Piece(Piece {
         attempt: attempt.id,
         seq: attempt.pieces,
         bytes,
-    };
-    let changes = two(
-        alloc,
-        RowChange::Add(Record::Piece(piece)),
-        RowChange::Put(Record::Attempt(grown)),
-    )?;
-    Ok((accepted_to(size), changes))
+    });
+    let changes = and(Vec::new(alloc), RowChange::Add(piece))?;
+    let attempt = Record::Attempt(grown(attempt, now, size)?);
+    let changes = and(changes, RowChange::Put(attempt))?;
+    Ok((accepted_to(size), Delta::new(changes)))
 }
 
 /// The bytes come from an offset of the trace of the attempt, whose time limit is in seconds.
