@@ -4,8 +4,7 @@ use Rattle.std.specs.Prelude.{⊤}
 use Rattle.ci_yaml_lines.specs.declared.code.Code.{Code}
 use Rattle.ci_yaml_lines.specs.Tree.{Value, text}
 use Rattle.ci_yaml_lines.specs.Entry.{Head, dash, key, bare, Entry}
-use Rattle.ci_yaml_lines.specs.Scalar.{Quoted}
-use Rattle.ci_yaml_lines.specs.Line.{Chomp, clip, strip, keep, Written, written_quoted, written_at, written, ParsedLine, entry_of, header_code, parse_line, Line}
+use Rattle.ci_yaml_lines.specs.Line.{Chomp, clip, strip, keep, Written, written_at, written, ParsedLine, entry_of, header_code, parse_line, Line}
 use Rattle.ci_yaml.specs.Block.{literal}
 use Rattle.ci_yaml.specs.Document.{filled, entries_with}
 use Rattle.ci_yaml_lines.proofs.Forms.{OfForms, OfLines, written_at-each, written-each, line-each}
@@ -29,11 +28,7 @@ abbrev ParsedFits : ParsedLine → Type 0
 ParsedFits s = LastHasText s.header s.entries
 
 forms-fit : OfForms WrittenFits
-forms-fit = record { in_quotes = λ q. quoted-fits q; in_list = λ w. tt; in_block = λ how last bs. refl; plain = λ raw. tt }
-  where
-    quoted-fits : (q : Option Quoted) → WrittenFits (written_quoted q)
-    quoted-fits None = tt
-    quoted-fits (Some q) = tt
+forms-fit = record { in_quotes = λ q. tt; unclosed = tt; in_list = λ w. tt; in_block = λ how last bs. refl; plain = λ raw. tt }
 
 entry-by : (h : Option Chomp) (e : Entry) → HasText h e.given → LastHasText h (e ∷ [])
 entry-by None e p = tt

@@ -4,8 +4,7 @@ use Rattle.std.specs.Prelude.{nat_le, slice_index_or, Contains}
 use Rattle.std.proofs.lemmas.Bool.{leb-true, leb-false}
 use Rattle.ci_yaml_lines.specs.declared.code.Code.{Code}
 use Rattle.ci_yaml_lines.specs.Entry.{bare, Entry}
-use Rattle.ci_yaml_lines.specs.Scalar.{Quoted}
-use Rattle.ci_yaml_lines.specs.Line.{Chomp, Written, written_quoted, ParsedLine, parse_line, Line}
+use Rattle.ci_yaml_lines.specs.Line.{Chomp, Written, ParsedLine, parse_line, Line}
 use Rattle.ci_yaml.specs.Reading.{State, run}
 use Rattle.ci_yaml_lines.specs.Least.{number_of, lesser, least, least_of}
 use Rattle.ci_yaml.specs.Block.{is_in_block, block_codes, literal, AreBlock, EndsBlock}
@@ -15,8 +14,8 @@ use Rattle.ci_yaml.proofs.Sound.{StateStands}
 use Rattle.ci_yaml_lines.proofs.Leasts.{no_least, least_append}
 use Rattle.ci_yaml.proofs.LinesSound.{LinesStand}
 use Rattle.ci_yaml.proofs.Headers.{entries-same}
-use Rattle.ci_yaml.proofs.PlaceCodes.{fault_of, HasGiven, AllGiven, run-code}
-use Rattle.ci_yaml_lines.proofs.Forms.{OfForms, OfLines, written_at-each, line-each}
+use Rattle.ci_yaml.proofs.PlaceCodes.{fault_of, HasGiven, run-code}
+use Rattle.ci_yaml_lines.proofs.Forms.{OfForms, OfEntries, written_at-each, entry-each}
 use Rattle.ci_yaml.proofs.Trees.{some_is}
 
 -- ---- what lines say is one thing
@@ -148,25 +147,10 @@ abbrev WrittenGiven : Written → Type 0
 WrittenGiven w = HasGiven bare w.given
 
 forms-given : OfForms WrittenGiven
-forms-given = record { in_quotes = λ q. quoted-given q; in_list = λ w. tt; in_block = λ how last bs. tt; plain = λ raw. tt }
-  where
-    quoted-given : (q : Option Quoted) → WrittenGiven (written_quoted q)
-    quoted-given None = tt
-    quoted-given (Some q) = tt
+forms-given = record { in_quotes = λ q. tt; unclosed = tt; in_list = λ w. tt; in_block = λ how last bs. tt; plain = λ raw. tt }
 
-abbrev ParsedGiven : ParsedLine → Type 0
-ParsedGiven s = AllGiven s.entries
-
-lines-given : OfLines ParsedGiven
-lines-given = record {
-  empty = λ cs. tt;
-  bare_value = λ c w. (written_at-each WrittenGiven forms-given w, tt);
-  key_value = λ c k. (tt, tt);
-  item_value = λ c bs. (tt, tt);
-  no_value = λ c cs. (tt, tt);
-  behind_dash = λ c s p. (tt, p);
-  more_codes = λ cs s p. p;
-}
+entries-given : OfEntries (λ e. HasGiven e.head e.given)
+entries-given = record { bare_value = λ c w. written_at-each WrittenGiven forms-given w; key_value = λ c k. tt; item_value = λ c bs. tt; lone_dash = λ c. tt }
 
 -- ---- one line
 
@@ -183,7 +167,7 @@ content-code st es l h =
     let own : List Entry = (parse_line l).entries in
     ap (λ (x : List Entry). fault_of (content_by (run st x) (parse_line l))) (entries-same l)
     ∙ content-by-code (run st own) (parse_line l)
-    ∙ ap (λ o. least_of o (least (parse_line l).codes)) (run-code st es own h (line-each ParsedGiven lines-given l))
+    ∙ ap (λ o. least_of o (least (parse_line l).codes)) (run-code st es own h (entry-each (λ e. HasGiven e.head e.given) entries-given l))
     ∙ sym (least_append (place_codes es own) (parse_line l).codes)
 
 outside-least : (before : List Line) (l : Line) (st : State) (end : Ending) (code : Code) → LinesStand (record { state = st; end = end }) before → IsOutside end l

@@ -14,6 +14,7 @@ use Rattle.ci_yaml_lines.specs.Least.{least}
 use Rattle.ci_yaml.specs.ReadLines.{Reader, with_text, stop_or, ending_at, content_by, content, line_by, line_next, read_lines}
 use Rattle.ci_yaml.proofs.LinesSound.{parsed_entries, parsed_end, NotEmpty, header-fits}
 use Rattle.ci_yaml.specs.Stops.{StartsOutside}
+use Rattle.ci_yaml.specs.declared.limits.TheConstants.{MAX_DEPTH}
 
 abbrev pub mapped : List ℕ → Result State Code → Result State Code
 mapped u (Ok s) = Ok (with_text u s)
@@ -37,7 +38,7 @@ either u false x y x' y' p q = q
 begun-text : (fs : List Frame) (kind : Kind) (name : List ℕ) (e : Entry) (t u : List ℕ) → begun fs kind name (texted e u) ≡ mapped u (begun fs kind name (texted e t))
 begun-text fs kind name e t u =
     let f : Frame = record { kind = kind; column = e.column; done = no_members; name = name } in
-    under u (nat_lt (length fs) 10) (Ok (inside (f ∷ fs) (Some (text t)))) (Ok (inside (f ∷ fs) (Some (text u)))) Y10 refl
+    under u (nat_lt (length fs) MAX_DEPTH) (Ok (inside (f ∷ fs) (Some (text t)))) (Ok (inside (f ∷ fs) (Some (text u)))) Y10 refl
 
 joined-text : (m : Code) (fs : List Frame) (v : Value) (kind : Kind) (name : List ℕ) (e : Entry) (t u : List ℕ) → joined m fs v kind name (texted e u) ≡ mapped u (joined m fs v kind name (texted e t))
 joined-text m [] v kind name e t u = refl

@@ -18,6 +18,8 @@ use Rattle.ci_yaml_lines.proofs.Bools.{eq-false, eq-true, le-false, or_false, ca
 use Rattle.ci_yaml.proofs.Faults.{misplaced-is, awaited-is, entered-not, stands-ascend}
 use Rattle.ci_yaml.proofs.Keys.{has-push}
 use Rattle.ci_yaml.proofs.Places.{named_at, none-named_below, named-is, levels_above, above-is, no-levels, above-inner, above-all}
+use Rattle.ci_yaml.specs.declared.limits.TheConstants.{MAX_DEPTH}
+use Rattle.ci_yaml_lines.proofs.Forms.{EachEntry}
 
 abbrev pub fault_of : {X : Type 0} → Result X Code → Option Code
 fault_of (Ok x) = None
@@ -52,28 +54,28 @@ misfit false r d = refl
 
 -- a list on the line counts as a node below
 abbrev deep_at : ℕ → Bool → Bool
-deep_at n on_line = nat_le 10 n || (on_line && nat_le 9 n)
+deep_at n on_line = nat_le MAX_DEPTH n || (on_line && nat_le MAX_DEPTH (suc n))
 
-deep-given : (n : ℕ) (b : Bool) (x : State) → n < 10 → fault_of (cond b (cond (nat_lt (suc n) 10) (Ok x) (Err Y10)) (Ok x)) ≡ cond (deep_at n b) (Some Y10) None
-deep-given n true x lt = elim (cases_lt (suc n) 10) [
+deep-given : (n : ℕ) (b : Bool) (x : State) → n < MAX_DEPTH → fault_of (cond b (cond (nat_lt (suc n) MAX_DEPTH) (Ok x) (Err Y10)) (Ok x)) ≡ cond (deep_at n b) (Some Y10) None
+deep-given n true x lt = elim (cases_lt (suc n) MAX_DEPTH) [
   | inl less ↦ ap (λ t. fault_of (cond t (Ok x) (Err Y10))) (lt-ltb _ _ less)
-      ∙ sym (ap (λ t. cond (t || nat_le 9 n) (Some Y10) None) (le-false 10 n lt) ∙ ap (λ t. cond t (Some Y10) None) (le-false 9 n (omega arith)))
+      ∙ sym (ap (λ t. cond (t || nat_le MAX_DEPTH (suc n)) (Some Y10) None) (le-false MAX_DEPTH n lt) ∙ ap (λ t. cond t (Some Y10) None) (le-false MAX_DEPTH (suc n) (omega arith)))
   | inr more ↦ ap (λ t. fault_of (cond t (Ok x) (Err Y10))) (le-ltb _ _ more)
-      ∙ sym (ap (λ t. cond (t || nat_le 9 n) (Some Y10) None) (le-false 10 n lt) ∙ ap (λ t. cond t (Some Y10) None) (le-leb 9 n (omega arith)))
+      ∙ sym (ap (λ t. cond (t || nat_le MAX_DEPTH (suc n)) (Some Y10) None) (le-false MAX_DEPTH n lt) ∙ ap (λ t. cond t (Some Y10) None) (le-leb MAX_DEPTH (suc n) (omega arith)))
 ]
-deep-given n false x lt = sym (ap (λ t. cond (t || false) (Some Y10) None) (le-false 10 n lt))
+deep-given n false x lt = sym (ap (λ t. cond (t || false) (Some Y10) None) (le-false MAX_DEPTH n lt))
 
-with_given-code : (fs : List Frame) (n : ℕ) (given : Option Value) → length fs ≡ suc n → n < 10 → fault_of (with_given fs given) ≡ cond (deep_at n (is_node given)) (Some Y10) None
+with_given-code : (fs : List Frame) (n : ℕ) (given : Option Value) → length fs ≡ suc n → n < MAX_DEPTH → fault_of (with_given fs given) ≡ cond (deep_at n (is_node given)) (Some Y10) None
 with_given-code fs n given e lt =
-    ap (λ m. fault_of (cond (is_node given) (cond (nat_lt m 10) (Ok (inside fs given)) (Err Y10)) (Ok (inside fs given)))) e ∙ deep-given n (is_node given) (inside fs given) lt
+    ap (λ m. fault_of (cond (is_node given) (cond (nat_lt m MAX_DEPTH) (Ok (inside fs given)) (Err Y10)) (Ok (inside fs given)))) e ∙ deep-given n (is_node given) (inside fs given) lt
 
 begun-code : (fs : List Frame) (kind : Kind) (name : List ℕ) (e : Entry) → fault_of (begun fs kind name e) ≡ cond (deep_at (length fs) (is_node e.given)) (Some Y10) None
 begun-code fs kind name e =
     let f : Frame = record { kind = kind; column = e.column; done = no_members; name = name } in
     let n : ℕ = length fs in
-    elim (cases_lt (length fs) 10) [
+    elim (cases_lt (length fs) MAX_DEPTH) [
       | inl lt ↦ ap (λ t. fault_of (cond t (with_given (f ∷ fs) e.given) (Err Y10))) (lt-ltb _ _ lt) ∙ with_given-code (f ∷ fs) n e.given refl lt
-      | inr le ↦ ap (λ t. fault_of (cond t (with_given (f ∷ fs) e.given) (Err Y10))) (le-ltb _ _ le) ∙ sym (ap (λ t. cond (t || (is_node e.given && nat_le 9 n)) (Some Y10) None) (le-leb 10 n le))
+      | inr le ↦ ap (λ t. fault_of (cond t (with_given (f ∷ fs) e.given) (Err Y10))) (le-ltb _ _ le) ∙ sym (ap (λ t. cond (t || (is_node e.given && nat_le MAX_DEPTH (suc n))) (Some Y10) None) (le-leb MAX_DEPTH n le))
     ]
 
 -- what settling leaves, where a node is open at the level
@@ -85,7 +87,7 @@ record Top (l : ℕ) (fs : List Frame) (v : Value) : Type 0 where
   at : level frame ≡ l
   above : levels_above l fs ≡ length outer
   named : (k : List ℕ) → named_at k l fs ≡ (has_name k frame.done || same_text k frame.name)
-  room : length outer < 10
+  room : length outer < MAX_DEPTH
 
 settle-to : (l : ℕ) (fs : List Frame) (v : Value) (given : Option Value) (es : List Entry) → Stands fs given es → has_level l fs ≡ true → Top l fs v
 settle-to l [] v given es h has = absurd cc
@@ -286,8 +288,7 @@ HasGiven dash given = ⊤
 HasGiven (key k) given = ⊤
 
 abbrev pub AllGiven : List Entry → Type 0
-AllGiven [] = ⊤
-AllGiven (e ∷ es) = HasGiven e.head e.given × AllGiven es
+AllGiven es = EachEntry (λ e. HasGiven e.head e.given) es
 
 bare-code : (e : Entry) (es : List Entry) (f : Bool) → e.head ≡ bare → (is_empty es && (e.column == 0)) ≡ f → place_code es e ≡ place_by f (column_open e.column es) false false
 bare-code e es f head is =

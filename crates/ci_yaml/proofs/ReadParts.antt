@@ -1,6 +1,7 @@
 -- The same of lines as the code holds them.
 use Rattle.std.proofs.Common.{◌≡◌, ℕ, zero, suc, ◌+◌, ◌<◌, ◌≤◌, List, [], ◌∷◌, length, take, drop, get_or, Option, Some, None, Result, Ok, refl, sym, ◌∙◌, ap, subst, arith}
 use denote.Bor.{Bor}
+use Rattle.ci_values.specs.declared.limits.TheConstants.{MAX_FILE_BYTES}
 use Rattle.ci_yaml_lines.specs.declared.code.Code.{Code}
 use Rattle.ci_yaml.specs.declared.fault.YamlFault.{YamlFault}
 use Rattle.ci_yaml.specs.declared.fault.YamlFault.TheVariants as faults
@@ -29,7 +30,7 @@ short-drop zero ls h = h
 short-drop (suc n) [] h = h
 short-drop (suc n) (l ∷ ls) h = short-drop n ls h.1
 
-pub short-at : (xs : List (Bor (List ℕ))) (at : ℕ) (d : Bor (List ℕ)) → at < length xs → AreShort (texts_of xs) → length (get_or xs at d).now ≤ 65536
+pub short-at : (xs : List (Bor (List ℕ))) (at : ℕ) (d : Bor (List ℕ)) → at < length xs → AreShort (texts_of xs) → length (get_or xs at d).now ≤ MAX_FILE_BYTES
 short-at xs at d lt h = (subst AreShort (part-at xs at d lt) (short-drop at (texts_of xs) h)).0
 
 pub one : (n : ℕ) → suc n ≡ n + 1

@@ -5,6 +5,7 @@ use Rattle.std.specs.List.{slice_split, onto_first}
 use Rattle.std.specs.Str.Lines.{lines, lines_of_parts}
 use Rattle.std.proofs.lemmas.List.{take-append-drop}
 use denote.Bor.{Bor}
+use Rattle.ci_values.specs.declared.limits.TheConstants.{MAX_FILE_BYTES}
 use Rattle.ci_yaml_lines.specs.declared.code.Code.{Code}
 use Rattle.ci_yaml_lines.specs.declared.code.Code.TheVariants.{Y12}
 use Rattle.ci_yaml.specs.declared.fault.YamlFault.{YamlFault}
@@ -74,11 +75,11 @@ parts-within n [] h = tt
 parts-within n (l ∷ []) h = last-by-length (length l == 0) n l h.0
 parts-within n (l ∷ m ∷ ps) h = (strip-by (slice_index l (length l - 1) == 13) n (length l - 1) l h.0, parts-within n (m ∷ ps) h.1)
 
-short-within : (n : ℕ) (ls : List Line) → n ≤ 65536 → AreWithin n ls → AreShort ls
+short-within : (n : ℕ) (ls : List Line) → n ≤ MAX_FILE_BYTES → AreWithin n ls → AreShort ls
 short-within n [] le h = tt
 short-within n (l ∷ ls) le h = (omega (arith, h.0), short-within n ls le h.1)
 
-lines-short : (bs : List ℕ) → length bs ≤ 65536 → AreShort (lines bs)
+lines-short : (bs : List ℕ) → length bs ≤ MAX_FILE_BYTES → AreShort (lines bs)
 lines-short bs le = short-within (length bs) (lines bs) le (parts-within (length bs) (slice_split (λ b. b == 10) bs) (split-within (λ b. b == 10) bs))
 
 texts-now : (xs : List (Bor (List ℕ))) → texts_of xs ≡ map (λ x. x.now) xs
@@ -88,7 +89,7 @@ texts-now (x ∷ xs) = ap (λ (ls : List Line). x.now ∷ ls) (texts-now xs)
 pub texts-are : (bs : List ℕ) (xs : List (Bor (List ℕ))) → map (λ x. x.now) xs ≡ lines bs → texts_of xs ≡ lines bs
 texts-are bs xs e = texts-now xs ∙ e
 
-pub texts-short : (bs : List ℕ) (xs : List (Bor (List ℕ))) → length bs ≤ 65536 → map (λ x. x.now) xs ≡ lines bs → AreShort (texts_of xs)
+pub texts-short : (bs : List ℕ) (xs : List (Bor (List ℕ))) → length bs ≤ MAX_FILE_BYTES → map (λ x. x.now) xs ≡ lines bs → AreShort (texts_of xs)
 texts-short bs xs le e = subst AreShort (sym (texts-are bs xs e)) (lines-short bs le)
 
 -- ---- what a text has
@@ -96,13 +97,13 @@ texts-short bs xs le e = subst AreShort (sym (texts-are bs xs e)) (lines-short b
 ok-same : (r s : Reader) (x : Result Reader Code) → x ≡ Ok r → x ≡ Ok s → r ≡ s
 ok-same r s x p q = cc
 
-pub text-tree : (bs : List ℕ) (res : Result Tree YamlFault) → length bs ≤ 65536 → Reads (lines bs) res → IfOk res (λ t. HasTree bs (value_view t))
+pub text-tree : (bs : List ℕ) (res : Result Tree YamlFault) → length bs ≤ MAX_FILE_BYTES → Reads (lines bs) res → IfOk res (λ t. HasTree bs (value_view t))
 text-tree bs (Ok t) le h =
     let d = tree-is (lines bs) h.0 (value_view t) h.1 h.2 in
     record { size = le; entries = d.0; end = d.1; parses = d.2; document = d.3 }
 text-tree bs (Err e) le h = tt
 
-pub fault-at : (bs : List ℕ) (at : ℕ) (code : Code) → length bs ≤ 65536 → StopsAt (lines bs) at code → IsFault bs at code
+pub fault-at : (bs : List ℕ) (at : ℕ) (code : Code) → length bs ≤ MAX_FILE_BYTES → StopsAt (lines bs) at code → IsFault bs at code
 fault-at bs at code le s =
     let good : IsGood s.before = read-good s.before s.reader s.read in
     let stand = read-stands beginning [] s.before s.reader s.read (record { entries = []; parses = none; stands = refl }) in
@@ -125,12 +126,12 @@ nothing-by ls r start is e f =
     let empty : h.entries ≡ [] = subst (λ (s : State). StateStands s h.entries) is h.stands in
     subst (λ (es : List Entry). Parses ls es r.end) empty h.parses
 
-refused-by : (bs : List ℕ) (at : ℕ) (code : Code) → length bs ≤ 65536
+refused-by : (bs : List ℕ) (at : ℕ) (code : Code) → length bs ≤ MAX_FILE_BYTES
     → StopsAt (lines bs) at code ⊎ ((r : Reader) × (read_lines beginning (lines bs) ≡ Ok r) × (finished r.state ≡ None) × (at ≡ 1) × (code ≡ Y12)) → IsFault bs at code
 refused-by bs at code le (inl s) = fault-at bs at code le s
 refused-by bs at code le (inr h) = no_content le h.0.end (nothing-by (lines bs) h.0 h.0.state refl h.1 h.2) h.3 h.4
 
-pub text-refused : (bs : List ℕ) (res : Result Tree YamlFault) → length bs ≤ 65536 → Reads (lines bs) res → IfErr res (RefusedBy bs)
+pub text-refused : (bs : List ℕ) (res : Result Tree YamlFault) → length bs ≤ MAX_FILE_BYTES → Reads (lines bs) res → IfErr res (RefusedBy bs)
 text-refused bs (Ok t) le h = tt
 text-refused bs (Err faults.Memory) le h = tt
 text-refused bs (Err (faults.Fault code at)) le h = refused-by bs at code le h

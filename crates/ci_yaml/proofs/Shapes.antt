@@ -7,11 +7,12 @@ use Rattle.ci_yaml_lines.specs.Tree.{Kind, sequence, mapping, Value, null, boole
 use Rattle.ci_yaml_lines.specs.Entry.{Entry}
 use Rattle.ci_yaml.specs.Node.{IsWithin, HasValue, here, deeper, nothing, IsNode, AreMembers, IsDocument, of_node, of_line}
 use Rattle.ci_yaml_lines.specs.Scalar.{drop_blanks, trim_end, head_is, tail_of, Quoted, quoted, is_quote, count_of, negative_of, number_of, number_or_text, plain_value}
-use Rattle.ci_yaml_lines.specs.Line.{End, comma, bracket, missing, cut_place, Place, plain_place, quoted_place, place, Listed, after_place, places, listed, Written, written_quoted, ParsedLine, parse_line, Line}
+use Rattle.ci_yaml_lines.specs.Line.{End, comma, bracket, missing, cut_place, Place, plain_place, quoted_place, place, Listed, after_place, places, listed, Written, parse_line, Line}
 use Rattle.ci_yaml.specs.Block.{literal}
 use Rattle.ci_yaml.specs.Document.{Ending, filled, Parses, none, line, block, HasTree}
 use Rattle.ci_yaml.specs.Shape.{KeysDiffer, AllKeysDiffer, depth, members_depth}
-use Rattle.ci_yaml_lines.proofs.Forms.{either, OfForms, OfLines, written_at-each, written-each, line-each}
+use Rattle.ci_yaml_lines.proofs.Forms.{either, OfForms, EachEntry, OfEntries, written_at-each, written-each, entry-each, entries-join, entries-front, entries-behind}
+use Rattle.ci_yaml.specs.declared.limits.TheConstants.{MAX_DEPTH}
 
 -- ---- a value on a line is a scalar, or a list of scalars
 
@@ -38,9 +39,11 @@ abbrev GivenFlat : Option Value → Type 0
 GivenFlat None = ⊤
 GivenFlat (Some v) = IsFlat v
 
+abbrev EntryFlat : Entry → Type 0
+EntryFlat e = GivenFlat e.given
+
 abbrev AllFlat : List Entry → Type 0
-AllFlat [] = ⊤
-AllFlat (e ∷ es) = GivenFlat e.given × AllFlat es
+AllFlat es = EachEntry EntryFlat es
 
 number-scalar : (m n : Option ℕ) (bs : List ℕ) → IsScalar (number_of m n bs)
 number-scalar (Some k) n bs = tt
@@ -94,69 +97,48 @@ WrittenFlat w = GivenFlat w.given
 
 forms-flat : OfForms WrittenFlat
 forms-flat = record {
-  in_quotes = λ q. quoted-flat q;
+  in_quotes = λ q. tt;
+  unclosed = tt;
   in_list = λ w. listed-scalars w;
   in_block = λ how last bs. tt;
   plain = λ raw. scalar-flat (plain_value (trim_end raw)) (plain-scalar (trim_end raw));
 }
-  where
-    quoted-flat : (q : Option Quoted) → WrittenFlat (written_quoted q)
-    quoted-flat None = tt
-    quoted-flat (Some q) = tt
 
 -- ---- the values of a line's entries
 
-abbrev ParsedFlat : ParsedLine → Type 0
-ParsedFlat s = AllFlat s.entries
-
-lines-flat : OfLines ParsedFlat
-lines-flat = record {
-  empty = λ cs. tt;
-  bare_value = λ c w. (written_at-each WrittenFlat forms-flat w, tt);
-  key_value = λ c k. (written-each WrittenFlat forms-flat tt 58 k.rest, tt);
-  item_value = λ c bs. (written-each WrittenFlat forms-flat tt 45 bs, tt);
-  no_value = λ c cs. (tt, tt);
-  behind_dash = λ c s p. (tt, p);
-  more_codes = λ cs s p. p;
+entries-flat : OfEntries EntryFlat
+entries-flat = record {
+  bare_value = λ c w. written_at-each WrittenFlat forms-flat w;
+  key_value = λ c k. written-each WrittenFlat forms-flat tt 58 k.rest;
+  item_value = λ c bs. written-each WrittenFlat forms-flat tt 45 bs;
+  lone_dash = λ c. tt;
 }
 
 line-flat : (l : Line) → AllFlat (parse_line l).entries
-line-flat l = line-each ParsedFlat lines-flat l
+line-flat l = entry-each EntryFlat entries-flat l
 
 filled-flat : (es : List Entry) (t : List ℕ) → AllFlat es → AllFlat (filled es t)
 filled-flat [] t h = tt
 filled-flat (e ∷ []) t h = (tt, tt)
 filled-flat (e ∷ f ∷ es) t h = (h.0, filled-flat (f ∷ es) t h.1)
 
-flat-append : (a b : List Entry) → AllFlat a → AllFlat b → AllFlat (a ++ b)
-flat-append [] b p q = q
-flat-append (e ∷ a) b p q = (p.0, flat-append a b p.1 q)
-
-flat-front : (a b : List Entry) → AllFlat (a ++ b) → AllFlat a
-flat-front [] b h = tt
-flat-front (e ∷ a) b h = (h.0, flat-front a b h.1)
-
-flat-behind : (a b : List Entry) → AllFlat (a ++ b) → AllFlat b
-flat-behind [] b h = h
-flat-behind (e ∷ a) b h = flat-behind a b h.1
-
 parses-flat : (ls : List Line) (es : List Entry) (end : Ending) → Parses ls es end → AllFlat es
 parses-flat ls es end none = tt
 parses-flat ls es end (line l rest es' all end' clean no_header parses all-is) =
-    subst AllFlat (sym all-is) (flat-append (parse_line l).entries es' (line-flat l) (parses-flat rest es' end' parses))
+    subst AllFlat (sym all-is) (entries-join EntryFlat (parse_line l).entries es' (line-flat l) (parses-flat rest es' end' parses))
 parses-flat ls es end (block l lines rest below how es' all end' last clean header parts are ends parses all-is last-is) =
-    subst AllFlat (sym all-is) (flat-append (filled (parse_line l).entries (literal how lines)) es' (filled-flat (parse_line l).entries (literal how lines) (line-flat l)) (parses-flat rest es' end' parses))
+    subst AllFlat (sym all-is) (entries-join EntryFlat (filled (parse_line l).entries (literal how lines)) es' (filled-flat (parse_line l).entries (literal how lines) (line-flat l)) (parses-flat rest es' end' parses))
 
 -- ---- the tree
 
 -- keys differ in it, and from depth d on it is not too deep
 record Fits (v : Value) (d : ℕ) : Type 0 where
   keys : KeysDiffer v
-  deep : d + depth v ≤ 11
+  deep : d + depth v ≤ suc MAX_DEPTH
 
 record AllFit (ms : Members) (d : ℕ) : Type 0 where
   keys : AllKeysDiffer ms
-  deep : d + members_depth ms ≤ 11
+  deep : d + members_depth ms ≤ suc MAX_DEPTH
 
 scalar-keys : (v : Value) → IsScalar v → KeysDiffer v × (depth v ≡ 0)
 scalar-keys null h = (tt, refl)
@@ -173,7 +155,7 @@ scalars-keys (member name v ms) h =
     let both : max (depth v) (members_depth ms) ≡ 0 = rw (one.1, more.2) refl in
     ((h.0, more.0), (one.0, more.1), both)
 
-flat-fits : (v : Value) (d : ℕ) → IsFlat v → IsWithin d v → d ≤ 11 → Fits v d
+flat-fits : (v : Value) (d : ℕ) → IsFlat v → IsWithin d v → d ≤ suc MAX_DEPTH → Fits v d
 flat-fits null d h w le = record { keys = tt; deep = omega arith }
 flat-fits (boolean b) d h w le = record { keys = tt; deep = omega arith }
 flat-fits (number n) d h w le = record { keys = tt; deep = omega arith }
@@ -182,7 +164,7 @@ flat-fits (node mapping ms) d h w le = absurd h
 flat-fits (node sequence ms) d h w le = let s = scalars-keys ms h in record { keys = (s.0, s.1); deep = omega (arith, s.2) }
 
 value-fits : (IsAt : ℕ → Type 0) (v : Value) (l d : ℕ) (given : Option Value) (below : List Entry) → ((m : ℕ) → IsAt m → Fits v (suc d))
-    → GivenFlat given → d ≤ 10 → HasValue v given below ((m : ℕ) × (l < m) × IsAt m) (IsWithin (suc d) v) → Fits v (suc d)
+    → GivenFlat given → d ≤ MAX_DEPTH → HasValue v given below ((m : ℕ) × (l < m) × IsAt m) (IsWithin (suc d) v) → Fits v (suc d)
 value-fits IsAt v l d given below ih flat le (here g nil fits) = flat-fits v (suc d) (subst GivenFlat g flat) fits (omega arith)
 value-fits IsAt v l d given below ih flat le (deeper g h) = ih h.0 h.2
 value-fits IsAt v l d given below ih flat le (nothing g nil is) = subst (λ (x : Value). Fits x (suc d)) (sym is) (record { keys = tt; deep = omega arith })
@@ -197,16 +179,16 @@ mutual
       let m = members-fit ms kind d l es h.0 h.3 flat in
       record { keys = (h.2, m.keys); deep = omega (arith, m.deep) }
 
-  members-fit : (ms : Members) (kind : Kind) (d l : ℕ) (es : List Entry) → d ≤ 10 → AreMembers ms kind d l es → AllFlat es → AllFit ms (suc d)
+  members-fit : (ms : Members) (kind : Kind) (d l : ℕ) (es : List Entry) → d ≤ MAX_DEPTH → AreMembers ms kind d l es → AllFlat es → AllFit ms (suc d)
   members-fit no_members kind d l es le h flat = record { keys = tt; deep = omega arith }
   members-fit (member name v ms) kind d l es le h flat =
       let all : AllFlat (h.0 ∷ (h.1 ++ h.2)) = subst AllFlat h.3 flat in
-      let below : AllFlat h.1 = flat-front h.1 h.2 all.1 in
+      let below : AllFlat h.1 = entries-front EntryFlat h.1 h.2 all.1 in
       let one = value-fits (λ m. IsNode v (suc d) m h.1) v l d h.0.given h.1 (λ m n. node-fits v (suc d) m h.1 n below) all.0 le h.6 in
-      let more = members-fit ms kind d l h.2 le h.7 (flat-behind h.1 h.2 all.1) in
+      let more = members-fit ms kind d l h.2 le h.7 (entries-behind EntryFlat h.1 h.2 all.1) in
       record { keys = (one.keys, more.keys); deep = omega (arith, one.deep, more.deep) }
 
-document-fits : (v : Value) (es : List Entry) → IsDocument v es → AllFlat es → KeysDiffer v × (depth v ≤ 10)
+document-fits : (v : Value) (es : List Entry) → IsDocument v es → AllFlat es → KeysDiffer v × (depth v ≤ MAX_DEPTH)
 document-fits v es (of_node l le h) flat = let f = node-fits v 1 l es h flat in (f.keys, omega (arith, f.deep))
 document-fits v es (of_line e is head column given) flat =
     let one : AllFlat (e ∷ []) = subst AllFlat is flat in
@@ -223,5 +205,5 @@ document-fits v es (of_line e is head column given) flat =
     flat-within (node mapping ms) h = absurd h
 
 -- The tree of a text has keys that differ, and is at most ten deep.
-pub tree-fits : (bs : List ℕ) (v : Value) → HasTree bs v → KeysDiffer v × (depth v ≤ 10)
+pub tree-fits : (bs : List ℕ) (v : Value) → HasTree bs v → KeysDiffer v × (depth v ≤ MAX_DEPTH)
 tree-fits bs v h = document-fits v h.entries h.document (parses-flat (lines bs) h.entries h.end h.parses)

@@ -1,15 +1,13 @@
 -- The texts of trees and open nodes that grow at their end.
-use Rattle.std.proofs.Common.{◌≡◌, ℕ, true, List, [], ◌∷◌, ◌++◌, Option, Some, None, refl, sym, ◌∙◌, ap, append_assoc, append-nil}
+use Rattle.std.proofs.Common.{◌≡◌, ℕ, List, [], ◌∷◌, ◌++◌, sym, ◌∙◌, ap, append_assoc, append-nil}
 use Rattle.std.specs.Global.{Vec}
 use Rattle.ci_yaml_lines.specs.declared.tree.Text.{Text}
 use Rattle.ci_yaml_lines.specs.declared.tree.Tree.{Tree}
 use Rattle.ci_yaml.specs.declared.progress.Frame.{Frame}
 use Rattle.ci_yaml.specs.declared.progress.Open.TheVariants.{Items, Pairs}
 use Rattle.ci_yaml.specs.declared.open_map.OpenMap.{OpenMap}
-use Rattle.ci_yaml_lines.specs.Spans.{texts_in, items_texts, pairs_texts, given_texts}
+use Rattle.ci_yaml_lines.specs.Spans.{texts_in, items_texts, pairs_texts}
 use Rattle.ci_yaml.specs.Spans.{open_texts, frames_texts}
-use Rattle.ci_yaml_lines.specs.View.{given_view}
-use Rattle.ci_yaml.specs.Reading as reading
 
 pub frames_texts-push : (fs : List Frame) (f : Frame) → frames_texts (fs ++ f ∷ []) ≡ frames_texts fs ++ open_texts f.members
 frames_texts-push [] f = append-nil (open_texts f.members)
@@ -47,9 +45,3 @@ pair-texts old init new f map more last name c v parts members to is =
     ∙ append_assoc (pairs_texts map.pairs.items) (last ∷ texts_in v) (name ∷ [])
     ∙ sym (append_assoc (pairs_texts map.pairs.items) (last ∷ []) (texts_in v ++ name ∷ []))
     ∙ ap (λ o. open_texts o ++ (texts_in v ++ name ∷ [])) (sym members))
-
--- where a value is awaited, nothing of it is written yet
-pub awaited-none : (l : ℕ) (fs : List reading.Frame) (g : Option Tree) → reading.begins l fs (given_view g) ≡ true → given_texts g ≡ []
-awaited-none l fs None e = refl
-awaited-none l [] (Some t) e = absurd cc
-awaited-none l (f ∷ fs) (Some t) e = absurd cc

@@ -1,7 +1,7 @@
 -- Steps of the code on open nodes.
-use Rattle.std.proofs.Common.{◌≡◌, ℕ, ◌+◌, ◌<◌, ◌≤◌, Bool, true, false, cond, List, [], ◌∷◌, ◌++◌, length, take, drop, get_or, Option, Result, Ok, Err, refl, sym, ◌∙◌, ap, subst, arith}
-use Rattle.std.specs.Prelude.{nat_lt, ◌==◌}
-use Rattle.std.proofs.lemmas.Bool.{lt-ltb, le-ltb}
+use Rattle.std.proofs.Common.{◌≡◌, ℕ, ◌+◌, ◌<◌, ◌≤◌, Bool, true, false, cond, List, [], ◌∷◌, ◌++◌, length, take, drop, get_or, Option, Ok, Err, refl, sym, ◌∙◌, ap, arith}
+use Rattle.std.specs.Prelude.{nat_lt, nat_le, ◌==◌}
+use Rattle.std.proofs.lemmas.Bool.{lt-ltb, le-ltb, leb-true, leb-false}
 use Rattle.std.proofs.lemmas.List.{take_more, take-append-drop}
 use Rattle.ci_yaml_lines.specs.declared.code.Code.{Code}
 use Rattle.ci_yaml_lines.specs.declared.code.Code.TheVariants.{Y5, Y10}
@@ -18,11 +18,11 @@ use Rattle.ci_yaml_lines.specs.declared.tree.Text.{Text}
 use Rattle.ci_yaml_lines.specs.declared.tree.Tree.{Tree}
 use Rattle.ci_yaml.proofs.Sound.{same_level}
 use Rattle.ci_yaml_lines.specs.View.{bytes_of, items_view, pairs_view}
-use Rattle.ci_yaml.specs.View.{open_kind, open_done, open_name, frame_view, frames_onto, frames_view, Gives, GivesNodes, NoneJoins}
-use Rattle.ci_yaml.specs.declared.fault.Stop.{Stop}
+use Rattle.ci_yaml.specs.View.{open_kind, open_done, open_name, frame_view, frames_onto, frames_view, NoneJoins}
 use Rattle.ci_yaml_lines.proofs.Lists.{drop-at}
 use Rattle.ci_yaml_lines.proofs.Bools.{eq-true, eq-false}
 use Rattle.ci_yaml.proofs.Frames.{frames-push}
+use Rattle.ci_yaml.specs.declared.limits.TheConstants.{MAX_DEPTH}
 
 onto-length : (fs : List Frame) (gs : List reading.Frame) → length (frames_onto fs gs) ≡ length fs + length gs
 onto-length [] gs = omega arith
@@ -31,14 +31,20 @@ onto-length (f ∷ fs) gs = omega (arith, onto-length fs (frame_view f ∷ gs))
 pub frames-length : (fs : List Frame) → length (frames_view fs) ≡ length fs
 frames-length fs = omega (arith, onto-length fs [])
 
-pub with-deep : (fs : List reading.Frame) (g : Option Value) → is_node g ≡ true → 10 ≤ length fs → with_given fs g ≡ Err Y10
+pub full-deep : (fs xs : List Frame) → xs ≡ fs → true ≡ nat_le MAX_DEPTH (length xs) → MAX_DEPTH ≤ length (frames_view fs)
+full-deep fs xs is full = let le : MAX_DEPTH ≤ length xs = leb-true _ _ (sym full) in omega (arith, ap length is, frames-length fs)
+
+pub full-room : (fs xs : List Frame) → xs ≡ fs → false ≡ nat_le MAX_DEPTH (length xs) → length (frames_view fs) < MAX_DEPTH
+full-room fs xs is room = let lt : length xs < MAX_DEPTH = leb-false _ _ (sym room) in omega (arith, ap length is, frames-length fs)
+
+pub with-deep : (fs : List reading.Frame) (g : Option Value) → is_node g ≡ true → MAX_DEPTH ≤ length fs → with_given fs g ≡ Err Y10
 with-deep fs g e le =
-    ap (λ b. cond b (cond (nat_lt (length fs) 10) (Ok (inside fs g)) (Err Y10)) (Ok (inside fs g))) e
+    ap (λ b. cond b (cond (nat_lt (length fs) MAX_DEPTH) (Ok (inside fs g)) (Err Y10)) (Ok (inside fs g))) e
     ∙ ap (λ b. cond b (Ok (inside fs g)) (Err Y10)) (le-ltb _ _ le)
 
-pub with-room : (fs : List reading.Frame) (g : Option Value) → is_node g ≡ true → length fs < 10 → with_given fs g ≡ Ok (inside fs g)
+pub with-room : (fs : List reading.Frame) (g : Option Value) → is_node g ≡ true → length fs < MAX_DEPTH → with_given fs g ≡ Ok (inside fs g)
 with-room fs g e lt =
-    ap (λ b. cond b (cond (nat_lt (length fs) 10) (Ok (inside fs g)) (Err Y10)) (Ok (inside fs g))) e
+    ap (λ b. cond b (cond (nat_lt (length fs) MAX_DEPTH) (Ok (inside fs g)) (Err Y10)) (Ok (inside fs g))) e
     ∙ ap (λ b. cond b (Ok (inside fs g)) (Err Y10)) (lt-ltb _ _ lt)
 
 -- ---- a node in a column
@@ -67,9 +73,6 @@ open-not fs i c f lt is ne h =
     let parts : take (i + 1) fs ≡ take i fs ++ f ∷ [] = take_more fs i f lt ∙ ap (λ (x : Frame). take i fs ++ x ∷ []) (sym is) in
     ap (λ (x : List Frame). is_open_at c (frames_view x)) parts ∙ ap (is_open_at c) (frames-push (take i fs) f)
     ∙ ap (λ b. cond b true (is_open_at c (frames_view (take i fs)))) (eq-false f.column c ne) ∙ h
-
-pub gives-is : {X Y : Type 0} (view : X → Y) (r : Result X Stop) (x y : Result Y Code) → x ≡ y → Gives view r x → Gives view r y
-gives-is view r x y e h = subst (λ z. Gives view r z) e h
 
 -- ---- the next member of the innermost node
 
@@ -144,33 +147,8 @@ pair-repeats m old init f pairs more last name column v g parts is at pushed the
 
 -- ---- no member joins
 
-pub none-in : (kind : Kind) (column : ℕ) (old : List Frame) → old ≡ [] → NoneJoins kind column (frames_view old)
-none-in kind column old is = λ m v name e at. ap (λ (fs : List Frame). joined m (frames_view fs) v kind name e) is
-
 pub none-at : (kind : Kind) (column : ℕ) (old init : List Frame) (f : Frame) → old ≡ init ++ f ∷ [] → (f.column ≡ column → ⊥) → NoneJoins kind column (frames_view old)
 none-at kind column old init f parts ne = λ m v name e at. step-column m old init f v kind name e parts (λ h. ne (h ∙ at))
 
 pub none-of : (kind : Kind) (column : ℕ) (old init : List Frame) (f : Frame) → old ≡ init ++ f ∷ [] → (open_kind f.members ≡ kind → ⊥) → NoneJoins kind column (frames_view old)
 none-of kind column old init f parts ne = λ m v name e at. step-kind m old init f v kind name e parts ne
-
--- ---- an entry after open nodes
-
-pub nodes-is : {X : Type 0} (nodes : X → List reading.Frame) (r : Result X Stop) (g : Option Value) (x y : Result State Code) → x ≡ y → GivesNodes nodes r g x → GivesNodes nodes r g y
-nodes-is nodes r g x y e h = subst (λ z. GivesNodes nodes r g z) e h
-
--- it begins the value that is awaited
-pub entered-begins : (fs : List reading.Frame) (given : Option Value) (kind : Kind) (name : List ℕ) (e : Entry) → begins (level_of kind e.column) fs given ≡ true → entered fs given kind name e ≡ begun fs kind name e
-entered-begins fs given kind name e is =
-    let u = settle (level_of kind e.column) fs (value_of given) in
-    ap (λ b. cond b (begun fs kind name e) (joined (misplaced e.column fs) u.frames u.value kind name e)) is
-
--- it is the next member of an open node
-pub entered-joins : (fs gs : List reading.Frame) (given : Option Value) (kind : Kind) (name : List ℕ) (e : Entry) (m : Code) (v w : Value) → begins (level_of kind e.column) fs given ≡ false → m ≡ misplaced e.column fs
-    → w ≡ value_of given → settle (level_of kind e.column) fs w ≡ record { frames = gs; value = v } → entered fs given kind name e ≡ joined m gs v kind name e
-entered-joins fs gs given kind name e m v w is m-is w-is settled =
-    let l : ℕ = level_of kind e.column in
-    let u = settle l fs (value_of given) in
-    ap (λ b. cond b (begun fs kind name e) (joined (misplaced e.column fs) u.frames u.value kind name e)) is
-    ∙ ap (λ (x : Value). joined (misplaced e.column fs) (settle l fs x).frames (settle l fs x).value kind name e) (sym w-is)
-    ∙ ap (λ (x : Settled). joined (misplaced e.column fs) x.frames x.value kind name e) settled
-    ∙ ap (λ (c : Code). joined c gs v kind name e) (sym m-is)

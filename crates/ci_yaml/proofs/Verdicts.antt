@@ -3,6 +3,7 @@ use Rattle.std.proofs.Common.{◌≡◌, ℕ, suc, ◌<◌, ◌≤◌, ◌⊎◌
 use Rattle.std.specs.Prelude.{◌==◌, if◌then◌else◌, IfOk, IfErr}
 use Rattle.std.specs.Str.Lines.{lines}
 use Rattle.std.proofs.lemmas.Bool.{cases_lt}
+use Rattle.ci_values.specs.declared.limits.TheConstants.{MAX_FILE_BYTES}
 use Rattle.ci_yaml_lines.specs.declared.code.Code.{Code}
 use Rattle.ci_yaml_lines.specs.declared.code.Code.TheVariants.{Y1, Y2, Y3, Y4, Y5, Y6, Y7, Y8, Y9, Y10, Y11, Y12}
 use Rattle.ci_yaml_lines.specs.Tree.{Value, null, boolean, number, text, node}
@@ -136,7 +137,7 @@ stops-at ls code e =
     let s = stops beginning ls code e in
     (suc (length s.before), record { before = s.before; stop = s.at; after = s.after; reader = s.reader; parts = s.parts; number = refl; read = s.read; fault = s.fault })
 
-verdict-by : (bs : List ℕ) (res : Result Reader Code) → length bs ≤ 65536 → read_lines beginning (lines bs) ≡ res → ((v : Value) × HasTree bs v) ⊎ ((at : ℕ) × (code : Code) × IsFault bs at code)
+verdict-by : (bs : List ℕ) (res : Result Reader Code) → length bs ≤ MAX_FILE_BYTES → read_lines beginning (lines bs) ≡ res → ((v : Value) × HasTree bs v) ⊎ ((at : ℕ) × (code : Code) × IsFault bs at code)
 verdict-by bs (Err code) le e = let s = stops-at (lines bs) code e in inr (s.0, code, fault-at bs s.0 code le s.1)
 verdict-by bs (Ok r) le e = by (finished r.state) refl
   where
@@ -145,7 +146,7 @@ verdict-by bs (Ok r) le e = by (finished r.state) refl
     by None is = inr (1, Y12, no_content le r.end (nothing-by (lines bs) r r.state refl e is) refl refl)
 
 pub tree-or-fault : (bs : List ℕ) → ((v : Value) × HasTree bs v) ⊎ ((at : ℕ) × (code : Code) × IsFault bs at code)
-tree-or-fault bs = elim (cases_lt 65536 (length bs)) [
+tree-or-fault bs = elim (cases_lt MAX_FILE_BYTES (length bs)) [
   | inl lt ↦ inr (1, Y1, too_long lt refl refl)
   | inr le ↦ verdict-by bs (read_lines beginning (lines bs)) le refl
 ]

@@ -1,6 +1,7 @@
 -- Which tree a text has, and which fault.
 use Rattle.std.specs.Prelude.{◌≡◌, ℕ, suc, ◌<◌, ◌≤◌, true, false, List, [], ◌∷◌, ◌++◌, length, take, Option, Some, None, Contains, ⊤}
 use Rattle.std.specs.Str.Lines.{lines}
+use Rattle.ci_values.specs.declared.limits.TheConstants.{MAX_FILE_BYTES}
 use Rattle.ci_yaml_lines.specs.declared.code.Code.{Code}
 use Rattle.ci_yaml_lines.specs.declared.code.Code.TheVariants.{Y1, Y3, Y4, Y5, Y10, Y12}
 use Rattle.ci_yaml_lines.specs.Least.{number_of}
@@ -52,7 +53,7 @@ pub data Parses : List Line → List Entry → Ending → Type 0 where
 -- ---- the tree
 
 pub record HasTree (bs : List ℕ) (v : Value) : Type 0 where
-  pub size : length bs ≤ 65536
+  pub size : length bs ≤ MAX_FILE_BYTES
   pub entries : List Entry
   pub end : Ending
   pub parses : Parses (lines bs) entries end
@@ -96,8 +97,8 @@ pub record IsLeast (ls : List Line) (l : Line) (code : Code) : Type 0 where
 -- Why a text has no tree: it is too long; or this line is the first that makes no good beginning, and of the codes that hold
 -- of it this is the least; or no line has content.
 pub data IsFault (bs : List ℕ) (at : ℕ) (code : Code) : Type 0 where
-  too_long : 65536 < length bs → at ≡ 1 → code ≡ Y1 → IsFault bs at code
-  at_line : length bs ≤ 65536 → (before : List Line) (l : Line) (after : List Line) → lines bs ≡ before ++ l ∷ after → at ≡ suc (length before)
+  too_long : MAX_FILE_BYTES < length bs → at ≡ 1 → code ≡ Y1 → IsFault bs at code
+  at_line : length bs ≤ MAX_FILE_BYTES → (before : List Line) (l : Line) (after : List Line) → lines bs ≡ before ++ l ∷ after → at ≡ suc (length before)
       → ((k : ℕ) → k ≤ length before → IsGood (take k before)) → (IsGood (before ++ l ∷ []) → ⊥)
       → IsLeast before l code → IsFault bs at code
-  no_content : length bs ≤ 65536 → (end : Ending) → Parses (lines bs) [] end → at ≡ 1 → code ≡ Y12 → IsFault bs at code
+  no_content : length bs ≤ MAX_FILE_BYTES → (end : Ending) → Parses (lines bs) [] end → at ≡ 1 → code ≡ Y12 → IsFault bs at code

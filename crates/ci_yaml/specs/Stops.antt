@@ -1,6 +1,7 @@
 -- Where the reading of lines stops, and what the code has when it goes on.
 use Rattle.std.specs.Prelude.{◌≡◌, ℕ, suc, ◌+◌, ◌≤◌, ◌⊎◌, List, [], ◌∷◌, ◌++◌, length, take, drop, Option, Some, None, Result, Ok, Err, ⊤}
 use denote.Bor.{Bor}
+use Rattle.ci_values.specs.declared.limits.TheConstants.{MAX_FILE_BYTES}
 use Rattle.ci_yaml_lines.specs.Tree.{Value}
 use Rattle.ci_yaml_lines.specs.declared.code.Code.TheVariants.{Y12}
 use Rattle.ci_yaml_lines.specs.declared.tree.Tree.{Tree}
@@ -79,7 +80,7 @@ pub record HasRead (ls : List Line) (at : ℕ) (st : State) : Type 0 where
 -- no line is longer than a text may be
 abbrev pub AreShort : List Line → Type 0
 AreShort [] = ⊤
-AreShort (l ∷ ls) = (length l ≤ 65536) × AreShort ls
+AreShort (l ∷ ls) = (length l ≤ MAX_FILE_BYTES) × AreShort ls
 
 -- ---- a text
 

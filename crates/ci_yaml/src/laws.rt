@@ -10,6 +10,7 @@ ghost use Rattle.ci_yaml_lines.specs.Line.{Line};
 ghost use Rattle.ci_yaml.specs.Document.{Ending, Parses, HasTree, IsGood, IsLeast, IsFault};
 ghost use Rattle.ci_yaml.specs.Shape.{KeysDiffer, depth};
 ghost use Rattle.ci_yaml.specs.Reading.{finished};
+ghost use Rattle.ci_yaml.specs.declared.limits.TheConstants.{MAX_DEPTH};
 ghost use Rattle.ci_yaml.specs.ReadLines.{Reader, read_lines, beginning};
 
 /// A text has a tree or a fault.
@@ -27,9 +28,9 @@ pub fn has_one_fault()
     ensures { (bytes : List ℕ) (i j : ℕ) (c d : Code) → IsFault bytes i c → IsFault bytes j d → (i ≡ j) × (c ≡ d) }
 {}
 
-/// In each map of a text's tree the keys differ, and at most ten maps and lists lie within one another.
+/// In each map of a text's tree the keys differ, and at most `MAX_DEPTH` maps and lists lie within one another.
 pub fn fits()
-    ensures { (bytes : List ℕ) (v : Value) → HasTree bytes v → KeysDiffer v × (depth v ≤ 10) }
+    ensures { (bytes : List ℕ) (v : Value) → HasTree bytes v → KeysDiffer v × (depth v ≤ MAX_DEPTH) }
 {}
 
 /// Lines say one list of entries at most, and end in one way.

@@ -1,6 +1,6 @@
 //! The open nodes.
 
-ghost use Rattle.std.specs.Prelude.{◌≡◌, ◌+◌, ◌*◌, ◌∷◌, ◌++◌, [], Option, IfOk, Ok, Err, length, nat_lt, if◌then◌else◌};
+ghost use Rattle.std.specs.Prelude.{◌≡◌, ◌+◌, ◌*◌, ◌∷◌, ◌++◌, [], Option, IfOk, Ok, Err, length, nat_lt, nat_le, if◌then◌else◌};
 ghost use Rattle.ci_yaml_lines.specs.Tree.{Value, sequence, mapping, node, push};
 ghost use Rattle.ci_yaml_lines.specs.View.{bytes_of, value_view, items_view, pairs_view, given_view};
 ghost use Rattle.ci_yaml.specs.View.{frame_view, frames_view, state_view, Gives, GivesNodes};
@@ -10,14 +10,12 @@ ghost use Rattle.ci_yaml.specs.Spans.{open_texts, frames_texts, state_texts};
 ghost use Rattle.ci_yaml_lines.specs.declared.code.Code.TheVariants.{Y10};
 
 use crate::fault::Stop;
+use crate::limits::MAX_DEPTH;
 use crate::open_map::OpenMap;
 use crate::progress::{Frame, Open, Progress};
 use ci_yaml_lines::code::Code;
 use ci_yaml_lines::tree::{Text, Tree};
 use std::alloc::AllocError;
-
-/// How many maps and lists may lie within one another.
-const DEPTH_LIMIT: usize = 10;
 
 /// One item more. Errors: memory was refused.
 pub fn more_items<'a>(items: Vec<Tree<'a>>, value: Tree<'a>) -> Result<Vec<Tree<'a>>, AllocError>
@@ -121,6 +119,13 @@ fn is_node(given: &Option<Tree>) -> bool
     }
 }
 
+/// Whether as many nodes are open as may lie within one another.
+fn is_full(frames: &[Frame]) -> bool
+    ensures { result ≡ nat_le MAX_DEPTH (length frames.now) }
+{
+    MAX_DEPTH <= frames.len()
+}
+
 pub fn with_given<'a>(frames: Vec<Frame<'a>>, given: Option<Tree<'a>>) -> Result<Progress<'a>, Stop>
     ensures value { Gives state_view result (with_given (frames_view frames.entry.items) (given_view given.entry)) }
     ensures spans { IfOk result (λ p. state_texts p ≡ frames_texts frames.entry.items ++ given_texts given.entry) }
@@ -128,7 +133,7 @@ pub fn with_given<'a>(frames: Vec<Frame<'a>>, given: Option<Tree<'a>>) -> Result
     if !is_node(&given) {
         return Ok(Progress::Inside(frames, given));
     }
-    if DEPTH_LIMIT <= frames.len() {
+    if is_full(&frames) {
         return Err(Stop::Fault(Code::Y10));
     }
     Ok(Progress::Inside(frames, given))
@@ -136,11 +141,11 @@ pub fn with_given<'a>(frames: Vec<Frame<'a>>, given: Option<Tree<'a>>) -> Result
 
 /// Begins a node. Errors: it is too deep; or memory was refused.
 pub fn begin<'a>(frames: &mut Vec<Frame<'a>>, frame: Frame<'a>) -> Result<(), Stop>
-    ensures value { (g : Option Value) → GivesNodes (λ _. frames_view frames.new.items) result g (if nat_lt (length (frames_view frames.old.items)) 10
+    ensures value { (g : Option Value) → GivesNodes (λ _. frames_view frames.new.items) result g (if nat_lt (length (frames_view frames.old.items)) MAX_DEPTH
         then with_given (frame_view frame.entry ∷ frames_view frames.old.items) g else Err Y10) }
     ensures spans { IfOk result (λ _. frames_texts frames.new.items ≡ frames_texts frames.old.items ++ open_texts frame.entry.members) }
 {
-    if DEPTH_LIMIT <= frames.len() {
+    if is_full(frames) {
         return Err(Stop::Fault(Code::Y10));
     }
     frames.push(frame)?;

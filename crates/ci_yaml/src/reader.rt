@@ -22,14 +22,12 @@ use crate::block::{BlockFault, block_len, literal};
 use crate::entries::{enter_all, finish};
 use crate::fault::{Stop, YamlFault};
 use crate::progress::Progress;
+use ci_values::limits::MAX_FILE_BYTES;
 use ci_yaml_lines::code::{Code, lesser};
 use ci_yaml_lines::entry::{Chomp, Entry, ParsedLine};
 use ci_yaml_lines::line::parse_line;
 use ci_yaml_lines::tree::{Place, Span, Text, Tree, Words};
 use std::alloc::Global;
-
-/// The greatest length of a text, in bytes.
-pub const TEXT_LIMIT: usize = 65_536;
 
 /// What was read up to a line, and how the literal block below it is read, and below which column.
 #[derive(Drop)]
@@ -101,7 +99,7 @@ fn read_line<'a>(
     number: usize,
     line: &'a str,
 ) -> Result<Passed<'a>, YamlFault>
-    requires fits { length line.now ≤ 65536 }
+    requires fits { length line.now ≤ MAX_FILE_BYTES }
     ensures value { GivesAt passed_view number result (content (state_view progress.entry) (parse_line line.now)) }
     ensures spans { IfOk result (λ p. Follow number line.now (state_texts progress.entry) (state_texts p.progress)) }
 {
@@ -232,9 +230,9 @@ pub fn read(alloc: Global, text: &str) -> Result<Tree<'_>, YamlFault>
     // Each text is what its span holds, read by the scalar rules, and the spans ascend.
     ensures spans { IfOk result (λ t. AreWritten (lines text.now) (texts_in t)) }
     // A text that is too long is refused before all else.
-    ensures too_long { 65536 < length text.now → result ≡ Err (Fault Y1 1) }
+    ensures too_long { MAX_FILE_BYTES < length text.now → result ≡ Err (Fault Y1 1) }
 {
-    if TEXT_LIMIT < text.len() {
+    if MAX_FILE_BYTES < text.len() {
         return Err(YamlFault::Fault(Code::Y1, 1));
     }
     let lines: Vec<&str> = text.lines().collect(alloc)?;

@@ -8,7 +8,7 @@ use Rattle.std.proofs.lemmas.List.Sums.{prefix_len-le-length, prefix_len_passes}
 use Rattle.std.proofs.lemmas.Bool.{eqb-true}
 use Rattle.ci_yaml_lines.proofs.Bools.{eq-false}
 use Rattle.ci_yaml_lines.proofs.Lists.{last-parted, push-some}
-use Rattle.ci_yaml_lines.specs.Scalar.{is_blank, blanks, trimmed_len, comment_len, space_next, head_is}
+use Rattle.ci_yaml_lines.specs.Scalar.{is_blank, blanks, trimmed_len, comment_len, space_next}
 use Rattle.ci_yaml_lines.specs.Line.{place_len, key_len, is_space, spaces}
 
 -- ---- behind blanks
@@ -126,16 +126,6 @@ key-ascii last (b ∷ bs) lt =
 
 pub key-boundary : (last : ℕ) (bs : List ℕ) → IsCharBoundary bs (key_len last bs)
 key-boundary last bs = boundary-before bs (key_len last bs) (key-le last bs) (key-ascii last bs)
-
--- ---- heads
-
-pub head-some : (b : ℕ) (bs : List ℕ) → head_is b bs ≡ true → 0 < length bs
-head-some b [] e = absurd cc
-head-some b (c ∷ bs) e = omega arith
-
-pub head-at : (b : ℕ) (bs : List ℕ) → head_is b bs ≡ true → get_or bs 0 0 ≡ b
-head-at b [] e = absurd cc
-head-at b (c ∷ bs) e = sym (eqb-true b c e)
 
 -- ---- without the blanks at the end
 

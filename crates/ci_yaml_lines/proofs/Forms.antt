@@ -1,9 +1,9 @@
 -- What holds of each line, by the forms that a line and its values may have.
-use Rattle.std.proofs.Common.{ℕ, zero, suc, ◌+◌, Bool, true, false, cond, List, [], ◌∷◌, length, drop, Option, Some, None, is_some}
-use Rattle.std.specs.Prelude.{◌==◌, ◌&&◌, ◌||◌}
+use Rattle.std.proofs.Common.{ℕ, zero, suc, ◌+◌, Bool, true, false, cond, List, [], ◌∷◌, ◌++◌, length, drop, Option, Some, None, is_some}
+use Rattle.std.specs.Prelude.{⊤, ◌==◌, ◌&&◌, ◌||◌}
 use Rattle.ci_yaml_lines.specs.declared.code.Code.{Code}
 use Rattle.ci_yaml_lines.specs.declared.code.Code.TheVariants.{Y2, Y9}
-use Rattle.ci_yaml_lines.specs.Entry.{dash, key, bare}
+use Rattle.ci_yaml_lines.specs.Entry.{dash, key, bare, Entry}
 use Rattle.ci_yaml_lines.specs.Scalar.{drop_blanks, trim_end, head_is, tail_of, before_comment, only_comment, when, Quoted, quoted, is_quote}
 use Rattle.ci_yaml_lines.specs.Line.{Chomp, clip, strip, keep, Written, header_rest, header_of, written_quoted, written_list, listed, written_plain, written_at, unwritten, written, Keyed, keyed, keyed_or_bare, is_dash, spaces, Item, inner, value, item, ParsedLine, entry_of, header_code, with_dash, dashed, parse_entries, with_codes, parse_content, is_document_mark, is_skipped, Line, parse_line}
 
@@ -15,10 +15,15 @@ either P false x y p q = q
 
 -- it holds of a value of each form
 pub record OfForms (P : Written → Type 0) : Type 0 where
-  pub in_quotes : (q : Option Quoted) → P (written_quoted q)
+  pub in_quotes : (q : Quoted) → P (written_quoted (Some q))
+  pub unclosed : P (written_quoted None)
   pub in_list : (w : List ℕ) → P (written_list (listed w))
   pub in_block : (how : Chomp) (last : ℕ) (bs : List ℕ) → P (header_rest how last bs)
   pub plain : (raw : List ℕ) → P (written_plain raw)
+
+quoted-each : (P : Written → Type 0) → OfForms P → (q : Option Quoted) → P (written_quoted q)
+quoted-each P all None = all.unclosed
+quoted-each P all (Some q) = all.in_quotes q
 
 header-each : (P : Written → Type 0) → OfForms P → (bs : List ℕ) → P (header_of bs)
 header-each P all [] = all.in_block clip 124 []
@@ -32,7 +37,7 @@ written_at-each P all w =
     let plain : Written = written_plain (before_comment 0 w) in
     let header : Written = cond (head_is 124 w) (header_of (tail_of w)) plain in
     let list : Written = cond (head_is 91 w) (written_list (listed w)) header in
-    either P (is_quote w) (written_quoted (quoted w)) list (all.in_quotes (quoted w))
+    either P (is_quote w) (written_quoted (quoted w)) list (quoted-each P all (quoted w))
     (either P (head_is 91 w) (written_list (listed w)) header (all.in_list w)
     (either P (head_is 124 w) (header_of (tail_of w)) plain (header-each P all (tail_of w)) (all.plain (before_comment 0 w))))
 
@@ -94,3 +99,43 @@ line-each S all l =
     let w : List ℕ = trim_end (drop (spaces l) l) in
     let rest : ParsedLine = cond (is_skipped l) skip (parse_content (spaces l) w) in
     all.more_codes _ rest (either S (is_skipped l) skip (parse_content (spaces l) w) (all.empty []) (content-each S all (spaces l) w))
+
+-- ---- the entries of a line
+
+abbrev pub EachEntry : (Entry → Type 0) → List Entry → Type 0
+EachEntry P [] = ⊤
+EachEntry P (e ∷ es) = P e × EachEntry P es
+
+-- it holds of an entry of each form
+pub record OfEntries (P : Entry → Type 0) : Type 0 where
+  pub bare_value : (c : ℕ) (w : List ℕ) → P (record { column = c; head = bare; given = (written_at w).given })
+  pub key_value : (c : ℕ) (k : Keyed) → P (record { column = c; head = key k.name; given = (written 58 k.rest).given })
+  pub item_value : (c : ℕ) (bs : List ℕ) → P (record { column = c; head = dash; given = (written 45 bs).given })
+  pub lone_dash : (c : ℕ) → P (record { column = c; head = dash; given = None })
+
+of-entries : (P : Entry → Type 0) → OfEntries P → OfLines (λ s. EachEntry P s.entries)
+of-entries P all = record {
+  empty = λ cs. tt;
+  bare_value = λ c w. (all.bare_value c w, tt);
+  key_value = λ c k. (all.key_value c k, tt);
+  item_value = λ c bs. (all.item_value c bs, tt);
+  no_value = λ c cs. (all.lone_dash c, tt);
+  behind_dash = λ c s p. (all.lone_dash c, p);
+  more_codes = λ cs s p. p;
+}
+
+-- then of each entry of a line
+pub entry-each : (P : Entry → Type 0) → OfEntries P → (l : Line) → EachEntry P (parse_line l).entries
+entry-each P all l = line-each (λ s. EachEntry P s.entries) (of-entries P all) l
+
+pub entries-join : (P : Entry → Type 0) (a b : List Entry) → EachEntry P a → EachEntry P b → EachEntry P (a ++ b)
+entries-join P [] b p q = q
+entries-join P (e ∷ a) b p q = (p.0, entries-join P a b p.1 q)
+
+pub entries-front : (P : Entry → Type 0) (a b : List Entry) → EachEntry P (a ++ b) → EachEntry P a
+entries-front P [] b h = tt
+entries-front P (e ∷ a) b h = (h.0, entries-front P a b h.1)
+
+pub entries-behind : (P : Entry → Type 0) (a b : List Entry) → EachEntry P (a ++ b) → EachEntry P b
+entries-behind P [] b h = h
+entries-behind P (e ∷ a) b h = entries-behind P a b h.1

@@ -1,5 +1,6 @@
 pub mod Bools
 pub mod Lists
+pub mod Scans
 pub mod Leasts
 pub mod Views
 pub mod Cuts

@@ -1,8 +1,9 @@
 -- What a line says, from what its parts say.
-use Rattle.std.proofs.Common.{◌≡◌, ℕ, suc, ◌+◌, ◌-◌, ◌<◌, ◌≤◌, true, false, cond, List, [], ◌∷◌, ◌++◌, length, map, drop, Option, Some, None, refl, sym, ◌∙◌, ap, append_assoc, arith, length-drop, length-take}
+use Rattle.std.proofs.Common.{◌≡◌, ℕ, suc, ◌+◌, ◌-◌, ◌<◌, ◌≤◌, Bool, true, false, cond, List, [], ◌∷◌, ◌++◌, length, map, drop, Option, Some, None, refl, sym, ◌∙◌, ap, append_assoc, arith, length-drop, length-take}
 use Rattle.std.specs.Prelude.{◌==◌, ◌&&◌, ◌||◌, option_map, is_some}
 use Rattle.std.proofs.lemmas.List.{append-nil}
 use Rattle.std.proofs.lemmas.List.Sums.{prefix_len-le-length}
+use Rattle.ci_values.specs.declared.limits.TheConstants.{MAX_FILE_BYTES}
 use Rattle.ci_yaml_lines.specs.declared.code.Code.{Code}
 use Rattle.ci_yaml_lines.specs.declared.code.Code.TheVariants.{Y2, Y8, Y9}
 use Rattle.ci_yaml_lines.specs.declared.line.Keyed.{Keyed}
@@ -12,9 +13,9 @@ use Rattle.ci_yaml_lines.specs.declared.entry.Entry as parts
 use Rattle.ci_yaml_lines.specs.Tree.{push, Value, text, node, sequence, Members}
 use Rattle.ci_yaml_lines.specs.Least.{least, least_of}
 use Rattle.ci_yaml_lines.specs.Entry.{Entry, dash, key, bare}
-use Rattle.ci_yaml_lines.specs.Scalar.{head_is, tail_of, trim_end, trimmed_len, before_comment, is_quote, quoted, when}
+use Rattle.ci_yaml_lines.specs.Scalar.{Quoted, drop_blanks, only_comment, head_is, tail_of, trim_end, trimmed_len, before_comment, is_quote, quoted, when}
 use Rattle.ci_yaml_lines.specs.Line as line
-use Rattle.ci_yaml_lines.specs.Line.{Item, item, parse_entries, keyed_or_bare, keyed, written, written_at, header_code, is_dash, is_document_mark, parse_content, parse_line, is_skipped, has_control, has_byte_order_mark, spaces, is_space, place, places, after_place}
+use Rattle.ci_yaml_lines.specs.Line.{Item, item, parse_entries, keyed_or_bare, keyed, unwritten, written, written_at, header_code, is_dash, is_document_mark, parse_content, parse_line, is_skipped, has_control, has_byte_order_mark, spaces, is_space, place, places, after_place}
 use Rattle.ci_yaml_lines.specs.View.{value_view, items_view, entry_view, place_view, end_view, keyed_view, least_keyed, LeastKeyed, LeastWritten, least_written, written_of_list, inner, value, least_item, LeastParsed, least_parsed, with_entries, least_entry, key_parsed, bare_parsed, with_places, LeastListed, least_listed, LeastPlace, least_place}
 use Rattle.ci_yaml_lines.proofs.Leasts.{least_append, least_of_none}
 use Rattle.ci_yaml_lines.proofs.Views.{items-push}
@@ -26,7 +27,7 @@ some-same None (Some n) e = absurd cc
 some-same (Some k) None e = absurd cc
 some-same (Some k) (Some n) e = refl
 
-abbrev parsed : List Entry → Option line.Chomp → Option Code → LeastParsed
+abbrev pub parsed : List Entry → Option line.Chomp → Option Code → LeastParsed
 parsed es h o = record { entries = es; header = h; code = o }
 
 pub key-parsed : (c : ℕ) (w : List ℕ) (k : LeastKeyed) (n : Option line.Keyed) → Some k ≡ option_map least_keyed n → key_parsed c k ≡ least_parsed (keyed_or_bare c w n)
@@ -101,7 +102,7 @@ content-parsed c w m s e m-is s-is =
     ∙ ap (parsed t.entries t.header) (sym (least_append marks t.codes))
     ∙ ap least_parsed (sym (ap (λ b. cond b (record { entries = []; header = None; codes = Y2 ∷ [] }) (line.with_codes marks t)) e))
 
-pub line-fits : (bs : List ℕ) → length bs ≤ 65536 → spaces bs + length (trim_end (drop (spaces bs) bs)) ≤ 65536
+pub line-fits : (bs : List ℕ) → length bs ≤ MAX_FILE_BYTES → spaces bs + length (trim_end (drop (spaces bs) bs)) ≤ MAX_FILE_BYTES
 line-fits bs le = omega (arith, prefix_len-le-length is_space bs, length-take (trimmed_len (drop (spaces bs) bs)) (drop (spaces bs) bs), length-drop (spaces bs) bs)
 
 -- one place of a list, as the code reads it
@@ -155,10 +156,55 @@ value_place v o e = record { value = v; code = o; end = e }
 pub list-written : (r : line.Listed) → written_of_list (least_listed r) ≡ least_written (line.written_list r)
 list-written r = ap (λ (o : Option Code). texted_with (node sequence r.members) o) (sym (least_append r.codes (line.rest_codes r.rest)))
 
+-- the value at the front, by what it begins with
+at-by : (w : List ℕ) (p q r : Bool) → is_quote w ≡ p → head_is 91 w ≡ q → head_is 124 w ≡ r
+    → written_at w ≡ cond p (line.written_quoted (quoted w)) (cond q (line.written_list (line.listed w)) (cond r (line.header_of (tail_of w)) (line.written_plain (before_comment 0 w))))
+at-by w p q r quote bracket bar =
+    let list : line.Written = line.written_list (line.listed w) in
+    let header : line.Written = line.header_of (tail_of w) in
+    let other : line.Written = line.written_plain (before_comment 0 w) in
+    ap (λ b. cond b (line.written_quoted (quoted w)) (cond (head_is 91 w) list (cond (head_is 124 w) header other))) quote
+    ∙ ap (λ b. cond p (line.written_quoted (quoted w)) (cond b list (cond (head_is 124 w) header other))) bracket
+    ∙ ap (λ b. cond p (line.written_quoted (quoted w)) (cond q list (cond b header other))) bar
+
+pub at-quoted : (w : List ℕ) (o : Option Quoted) → is_quote w ≡ true → o ≡ quoted w → line.written_quoted o ≡ written_at w
+at-quoted w o here is = ap line.written_quoted is ∙ sym (at-by w true _ _ here refl refl)
+
 pub at-list : (w : List ℕ) → is_quote w ≡ false → head_is 91 w ≡ true → line.written_list (line.listed w) ≡ written_at w
-at-list w away here =
-    let other : line.Written = cond (head_is 124 w) (line.header_of (tail_of w)) (line.written_plain (before_comment 0 w)) in
-    sym (ap (λ b. cond b (line.written_quoted (quoted w)) (cond (head_is 91 w) (line.written_list (line.listed w)) other)) away ∙ ap (λ b. cond b (line.written_list (line.listed w)) other) here)
+at-list w away here = sym (at-by w false true _ away here refl)
+
+-- the value without a quote or a bracket in front, by the bytes that the code asked
+pub at-bar : (w first second third : List ℕ) (t : Bool) → first ≡ w → false ≡ is_quote first → second ≡ w → false ≡ head_is 91 second → third ≡ w → t ≡ head_is 124 third
+    → cond t (line.header_of (tail_of w)) (line.written_plain (before_comment 0 w)) ≡ written_at w
+at-bar w first second third t first-is away second-is other third-is bar =
+    sym (at-by w false false t (ap is_quote (sym first-is) ∙ sym away) (ap (head_is 91) (sym second-is) ∙ sym other) (ap (head_is 124) (sym third-is) ∙ sym bar))
+
+-- what stands behind a dash, by its three tests
+pub item-by : (r : List ℕ) (p q s : Bool) → only_comment 45 r ≡ p → head_is 9 (drop (spaces r) r) ≡ q → (is_dash (drop (spaces r) r) || is_some (keyed (drop (spaces r) r))) ≡ s
+    → item r ≡ cond p (line.value (unwritten [])) (cond q (line.value (unwritten (Y2 ∷ []))) (cond s (line.inner (1 + spaces r) (drop (spaces r) r)) (line.value (written 45 r))))
+item-by r p q s nothing tab more =
+    let inner_there : line.Item = line.inner (1 + spaces r) (drop (spaces r) r) in
+    let own : line.Item = line.value (written 45 r) in
+    let last : line.Item = cond (is_dash (drop (spaces r) r) || is_some (keyed (drop (spaces r) r))) inner_there own in
+    ap (λ b. cond b (line.value (unwritten [])) (cond (head_is 9 (drop (spaces r) r)) (line.value (unwritten (Y2 ∷ []))) last)) nothing
+    ∙ ap (λ b. cond p (line.value (unwritten [])) (cond b (line.value (unwritten (Y2 ∷ []))) last)) tab
+    ∙ ap (λ b. cond p (line.value (unwritten [])) (cond q (line.value (unwritten (Y2 ∷ []))) (cond b inner_there own))) more
+
+-- the same where neither is the text empty nor a tab comes first, by the texts that the code asked
+pub item-more : (r first second rest : List ℕ) (t : Bool) → first ≡ r → false ≡ only_comment 45 first → second ≡ rest → false ≡ head_is 9 second → rest ≡ drop (spaces r) r → t ≡ (is_dash rest || is_some (keyed rest))
+    → item r ≡ cond t (line.inner (1 + spaces r) (drop (spaces r) r)) (line.value (written 45 r))
+item-more r first second rest t first-is some second-is no_tab rest-is more =
+    item-by r false false t (ap (only_comment 45) (sym first-is) ∙ sym some) (ap (head_is 9) (sym (second-is ∙ rest-is)) ∙ sym no_tab) (ap (λ (x : List ℕ). is_dash x || is_some (keyed x)) (sym rest-is) ∙ sym more)
+
+-- a place that begins with a quote, and one that doesn't
+pub place-quoted : (bs from : List ℕ) (o : Option Quoted) → from ≡ drop_blanks bs → is_quote from ≡ true → o ≡ quoted from → least_place (line.quoted_place o) ≡ least_place (place bs)
+place-quoted bs from o from-is here is =
+    ap (λ (q : Option Quoted). least_place (line.quoted_place q)) (is ∙ ap quoted from-is)
+    ∙ ap least_place (sym (ap (λ b. cond b (line.quoted_place (quoted (drop_blanks bs))) (line.plain_place bs (line.cut_place 44 bs))) (ap is_quote (sym from-is) ∙ here)))
+
+pub place-plain : (bs from : List ℕ) → from ≡ drop_blanks bs → is_quote from ≡ false → least_place (line.plain_place bs (line.cut_place 44 bs)) ≡ least_place (place bs)
+place-plain bs from from-is away =
+    ap least_place (sym (ap (λ b. cond b (line.quoted_place (quoted (drop_blanks bs))) (line.plain_place bs (line.cut_place 44 bs))) (ap is_quote (sym from-is) ∙ away)))
 
 pub line-parsed : (bs : List ℕ) (m : Option Code) (s : LeastParsed) → is_skipped bs ≡ false → m ≡ least (when (has_control bs || has_byte_order_mark bs) Y9)
     → s ≡ least_parsed (parse_content (spaces bs) (trim_end (drop (spaces bs) bs))) → parsed s.entries s.header (least_of m s.code) ≡ least_parsed (parse_line bs)
@@ -180,7 +226,7 @@ dash-some (b ∷ bs) e = omega arith
 pub dash-longer : (w r : List ℕ) → is_dash w ≡ true → r ≡ tail_of w → 1 + length r ≤ length w
 dash-longer w r e is = let l : length r ≡ length (tail_of w) = ap length is in omega (arith, dash-some w e)
 
-pub added : (c k t r w : ℕ) → k + t ≤ 1 + r → 1 + r ≤ w → c + w ≤ 65536 → (c + k) + t ≤ 65536
+pub added : (c k t r w : ℕ) → k + t ≤ 1 + r → 1 + r ≤ w → c + w ≤ MAX_FILE_BYTES → (c + k) + t ≤ MAX_FILE_BYTES
 added c k t r w a b d = omega arith
 
 pub start-turn : (es : List parts.Entry) (n c : ℕ) (w : List ℕ) → es ≡ [] → with_entries (map entry_view es) (least_parsed (parse_entries (n - 0) c w)) ≡ least_parsed (parse_entries n c w)

@@ -1,5 +1,5 @@
 -- Quoted scalars, read from mark to mark.
-use Rattle.std.proofs.Common.{◌≡◌, ℕ, zero, suc, ◌+◌, ◌<◌, Bool, true, false, cond, List, [], ◌∷◌, ◌++◌, length, take, drop, get_or, slice_index, ◌⊎◌, inl, inr, Option, Some, None, refl, sym, ◌∙◌, ap, arith, append_assoc}
+use Rattle.std.proofs.Common.{◌≡◌, ℕ, zero, suc, ◌+◌, ◌<◌, ◌≤◌, Bool, true, false, cond, List, [], ◌∷◌, ◌++◌, length, take, drop, get_or, slice_index, ◌⊎◌, inl, inr, Option, Some, None, refl, sym, ◌∙◌, ap, arith, append_assoc}
 use Rattle.std.specs.Prelude.{◌==◌, ◌||◌, nat_lt, IfSome}
 use Rattle.std.specs.List.{position, position_or_len}
 use Rattle.std.proofs.lemmas.List.Sums.{fails_before_first}
@@ -159,36 +159,63 @@ unescaped w v m rest more v-is more-is e =
 pub misused : (w rest : List ℕ) → escape_of rest ≡ None → with_words w (with_wrong true (double rest)) ≡ with_words w (double (92 ∷ rest))
 misused w rest e = ap (with_words w) (sym (double-misused rest e))
 
-pub doubled-turn : (w v1 v2 front more bs rest behind : List ℕ) (i : ℕ) → head_is 39 rest ≡ true → more ≡ tail_of rest → bs ≡ more → single bs ≡ from_place single bs (Some i) → slice_index bs i ≡ 39
-    → front ≡ take i more → behind ≡ drop (i + 1) more → v1 ≡ w ++ 39 ∷ [] → v2 ≡ v1 ++ front → with_words v2 (single (39 ∷ behind)) ≡ with_words w (single (39 ∷ rest))
-doubled-turn w v1 v2 front more bs rest behind i head more-is bs-is value place front-is behind-is v1-is v2-is =
-    let q : Option Quoted = single (39 ∷ behind) in
-    let goes : single more ≡ with_words front q =
+-- ---- what the code does at a quote
+
+-- up to the first quote
+pub quote-parts : (text bs front rest : List ℕ) (i : ℕ) → bs ≡ text → single bs ≡ from_place single bs (Some i) → slice_index bs i ≡ 39 → front ≡ take i text → rest ≡ drop (i + 1) text
+    → single text ≡ with_words front (single (39 ∷ rest))
+quote-parts text bs front rest i bs-is value place front-is rest-is =
     ap single (sym bs-is) ∙ value ∙ ap (λ (b : ℕ). with_words (take i bs) (single (b ∷ drop (i + 1) bs))) place
     ∙ ap (λ (x : List ℕ). with_words (take i x) (single (39 ∷ drop (i + 1) x))) bs-is
-    ∙ ap (λ (x : List ℕ). with_words x (single (39 ∷ drop (i + 1) more))) (sym front-is) ∙ ap (λ (x : List ℕ). with_words front (single (39 ∷ x))) (sym behind-is) in
-    let all : single (39 ∷ rest) ≡ with_words (39 ∷ []) (with_words front q) =
-    single-quote rest ∙ ap (λ t. cond t (with_words (39 ∷ []) (single (tail_of rest))) (closes rest)) head ∙ ap (λ (x : List ℕ). with_words (39 ∷ []) (single x)) (sym more-is) ∙ ap (with_words (39 ∷ [])) goes in
-    ap (λ (x : List ℕ). with_words x q) (v2-is ∙ ap (λ (x : List ℕ). x ++ front) v1-is) ∙ sym (words-words (w ++ 39 ∷ []) front q) ∙ sym (words-words w (39 ∷ []) (with_words front q)) ∙ ap (with_words w) (sym all)
+    ∙ ap (λ (x : List ℕ). with_words x (single (39 ∷ drop (i + 1) text))) (sym front-is) ∙ ap (λ (x : List ℕ). with_words front (single (39 ∷ x))) (sym rest-is)
 
--- up to a mark
-pub double-goes : (front more bs behind : List ℕ) (i : ℕ) → bs ≡ more → double bs ≡ from_place double bs (Some i) → front ≡ take i more → behind ≡ drop (i + 1) more → double more ≡ with_words front (double (slice_index bs i ∷ behind))
-double-goes front more bs behind i bs-is value front-is behind-is =
+-- a quote that a second one follows
+after-pair : (rest : List ℕ) → head_is 39 rest ≡ true → single (39 ∷ rest) ≡ with_words (39 ∷ []) (single (tail_of rest))
+after-pair rest head = single-quote rest ∙ ap (λ t. cond t (with_words (39 ∷ []) (single (tail_of rest))) (closes rest)) head
+
+-- a quote that none follows
+pub after-quote : (w rest : List ℕ) → head_is 39 rest ≡ false → with_words w (single (39 ∷ rest)) ≡ Some (record { text = w; wrong = false; rest = rest })
+after-quote w rest head =
+    ap (with_words w) (single-quote rest ∙ ap (λ t. cond t (with_words (39 ∷ []) (single (tail_of rest))) (closes rest)) head)
+    ∙ ap (λ (x : List ℕ). Some (record { text = x; wrong = false; rest = rest })) (append-nil w)
+
+tail-le : (bs : List ℕ) → length (tail_of bs) ≤ length bs
+tail-le [] = omega arith
+tail-le (b ∷ bs) = omega arith
+
+pub shorter-tail : (behind more rest : List ℕ) → more ≡ tail_of rest → length behind < length more → length behind < length rest
+shorter-tail behind more rest is lt = omega (arith, ap length is, tail-le rest)
+
+pub pair-turn : (w v u front more rest behind : List ℕ) → head_is 39 rest ≡ true → more ≡ tail_of rest → single more ≡ with_words front (single (39 ∷ behind)) → v ≡ w ++ 39 ∷ [] → u ≡ v ++ front
+    → with_words u (single (39 ∷ behind)) ≡ with_words w (single (39 ∷ rest))
+pair-turn w v u front more rest behind head more-is goes v-is u-is =
+    let q : Option Quoted = single (39 ∷ behind) in
+    let all : single (39 ∷ rest) ≡ with_words (39 ∷ []) (with_words front q) =
+    after-pair rest head ∙ ap (λ (x : List ℕ). with_words (39 ∷ []) (single x)) (sym more-is) ∙ ap (with_words (39 ∷ [])) goes in
+    ap (λ (x : List ℕ). with_words x q) (u-is ∙ ap (λ (x : List ℕ). x ++ front) v-is) ∙ sym (words-words (w ++ 39 ∷ []) front q) ∙ sym (words-words w (39 ∷ []) (with_words front q)) ∙ ap (with_words w) (sym all)
+
+pub pair-open : (w more rest : List ℕ) → head_is 39 rest ≡ true → more ≡ tail_of rest → single more ≡ None → None ≡ with_words w (single (39 ∷ rest))
+pair-open w more rest head more-is none =
+    sym (ap (with_words w) (after-pair rest head ∙ ap (λ (x : List ℕ). with_words (39 ∷ []) (single x)) (sym more-is) ∙ ap (with_words (39 ∷ [])) none))
+
+-- ---- what the code does at a mark in double quotes
+
+mark-is : (b : ℕ) → (b ≡ 34) ⊎ (b ≡ 92) → b ≡ cond (b == 92) 92 34
+mark-is b (inl e) = e ∙ sym (ap (λ (n : ℕ). cond (n == 92) 92 34) e)
+mark-is b (inr e) = e ∙ sym (ap (λ (n : ℕ). cond (n == 92) 92 34) e)
+
+-- up to the first mark
+pub mark-parts : (text bs front rest : List ℕ) (i : ℕ) → bs ≡ text → double bs ≡ from_place double bs (Some i) → (slice_index bs i ≡ 34) ⊎ (slice_index bs i ≡ 92) → front ≡ take i text → rest ≡ drop (i + 1) text
+    → double text ≡ with_words front (double (cond (slice_index bs i == 92) 92 34 ∷ rest))
+mark-parts text bs front rest i bs-is value place front-is rest-is =
     ap double (sym bs-is) ∙ value
     ∙ ap (λ (x : List ℕ). with_words (take i x) (double (slice_index bs i ∷ drop (i + 1) x))) bs-is
-    ∙ ap (λ (x : List ℕ). with_words x (double (slice_index bs i ∷ drop (i + 1) more))) (sym front-is) ∙ ap (λ (x : List ℕ). with_words front (double (slice_index bs i ∷ x))) (sym behind-is)
+    ∙ ap (λ (x : List ℕ). with_words x (double (slice_index bs i ∷ drop (i + 1) text))) (sym front-is) ∙ ap (λ (x : List ℕ). with_words front (double (slice_index bs i ∷ x))) (sym rest-is)
+    ∙ ap (λ (b : ℕ). with_words front (double (b ∷ rest))) (mark-is (slice_index bs i) place)
 
-pub not-92 : (b : ℕ) → (b ≡ 34) ⊎ (b ≡ 92) → (b ≡ 92 → ⊥) → b ≡ 34
-not-92 b (inl e) ne = e
-not-92 b (inr e) ne = absurd (ne e)
-
-pub double-closed : (front more bs behind : List ℕ) (i : ℕ) → bs ≡ more → double bs ≡ from_place double bs (Some i) → front ≡ take i more → behind ≡ drop (i + 1) more
-    → (slice_index bs i ≡ 34) ⊎ (slice_index bs i ≡ 92) → (slice_index bs i ≡ 92 → ⊥) → double more ≡ Some (record { text = front; wrong = false; rest = behind })
-double-closed front more bs behind i bs-is value front-is behind-is place ne =
-    double-goes front more bs behind i bs-is value front-is behind-is
-    ∙ ap (λ (b : ℕ). with_words front (double (b ∷ behind))) (not-92 (slice_index bs i) place ne)
-    ∙ ap (with_words front) (double-quote behind)
-    ∙ ap (λ (x : List ℕ). Some (record { text = x; wrong = false; rest = behind })) (append-nil front)
+pub double-closed : (front text rest : List ℕ) → double text ≡ with_words front (double (34 ∷ rest)) → double text ≡ Some (record { text = front; wrong = false; rest = rest })
+double-closed front text rest goes =
+    goes ∙ ap (with_words front) (double-quote rest) ∙ ap (λ (x : List ℕ). Some (record { text = x; wrong = false; rest = rest })) (append-nil front)
 
 -- a turn of the reading of escapes: what the backslash stood for has been added
 pub turn-wrong : (w v : List ℕ) (wrong misused : Bool) (x y : Option Quoted) → with_words v (with_wrong misused x) ≡ with_words w y → with_words v (with_wrong (wrong || misused) x) ≡ with_words w (with_wrong wrong y)

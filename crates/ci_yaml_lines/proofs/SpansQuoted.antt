@@ -38,13 +38,14 @@ pair-alone f bs b c d on (Some q) h = record {
   same = on h.raw ∙ ap (with_byte d) h.same;
 }
 
+-- one byte, which may close the quotes
+last-alone : (f : List ℕ → Option Quoted) (b : ℕ) (t : Bool) → f (b ∷ []) ≡ cond t (closes []) None → IfSome (cond t (closes []) None) (ReadsAlone f (b ∷ []))
+last-alone f b true same = record { raw = b ∷ []; parts = refl; same = same }
+last-alone f b false same = tt
+
 pub single-alone : (bs : List ℕ) → IfSome (single bs) (ReadsAlone single bs)
 single-alone [] = tt
-single-alone (b ∷ []) = by (b == 39) refl
-  where
-    by : (t : Bool) → (b == 39) ≡ t → IfSome (cond t (closes []) None) (ReadsAlone single (b ∷ []))
-    by true is = record { raw = b ∷ []; parts = refl; same = ap (λ t. cond t (closes []) None) is }
-    by false is = tt
+single-alone (b ∷ []) = last-alone single b (b == 39) refl
 single-alone (b ∷ c ∷ bs) = by (b == 39) refl (single-alone bs) (single-alone (c ∷ bs))
   where
     twice : (u : Bool) → (b == 39) ≡ true → (39 == c) ≡ u → IfSome (single bs) (ReadsAlone single bs) → IfSome (cond u (with_byte 39 (single bs)) (closes (c ∷ bs))) (ReadsAlone single (b ∷ c ∷ bs))
@@ -84,11 +85,7 @@ or-not a b e f = ap (λ t. t || b) e ∙ f
 
 pub double-alone : (bs : List ℕ) → IfSome (double bs) (ReadsAlone double bs)
 double-alone [] = tt
-double-alone (b ∷ []) = by (b == 34) refl
-  where
-    by : (t : Bool) → (b == 34) ≡ t → IfSome (cond t (closes []) None) (ReadsAlone double (b ∷ []))
-    by true is = record { raw = b ∷ []; parts = refl; same = ap (λ t. cond t (closes []) None) is }
-    by false is = tt
+double-alone (b ∷ []) = last-alone double b (b == 34) refl
 double-alone (b ∷ c ∷ bs) = by (b == 34) refl (double-alone bs) (double-alone (c ∷ bs))
   where
     escape : (t : Bool) → (b == 34) ≡ false → (b == 92) ≡ true → is_escape c ≡ t → IfSome (double bs) (ReadsAlone double bs) → IfSome (double (c ∷ bs)) (ReadsAlone double (c ∷ bs))

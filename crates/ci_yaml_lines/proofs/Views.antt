@@ -1,10 +1,10 @@
 -- A tree of the code, level by level, and lists that grow at their end.
-use Rattle.std.proofs.Common.{◌≡◌, List, [], ◌∷◌, ◌++◌, refl, ap, rules}
+use Rattle.std.proofs.Common.{◌≡◌, ℤ, Bool, List, [], ◌∷◌, ◌++◌, refl, ap, rules}
 use Rattle.std.specs.Global.{Vec}
-use Rattle.ci_yaml_lines.specs.Tree.{sequence, mapping, text, node, member, push}
+use Rattle.ci_yaml_lines.specs.Tree.{sequence, mapping, null, boolean, number, text, node, member, push}
 use Rattle.ci_yaml_lines.specs.View.{bytes_of, value_view, items_view, pairs_view}
 use Rattle.ci_yaml_lines.specs.declared.tree.Text.{Text}
-use Rattle.ci_yaml_lines.specs.declared.tree.Tree.{Tree, List as ListTree, Map as MapTree, Text as TextTree, the_lemmas}
+use Rattle.ci_yaml_lines.specs.declared.tree.Tree.{Tree, Null as NullTree, Bool as BoolTree, Int as IntTree, List as ListTree, Map as MapTree, Text as TextTree, the_lemmas}
 
 pub view-List : (v : Vec Tree) → value_view (ListTree v) ≡ node sequence (items_view v.items)
 view-List v = search (rules, the_lemmas)
@@ -14,6 +14,15 @@ view-Map v = search (rules, the_lemmas)
 
 pub view-Text : (x : Text) → value_view (TextTree x) ≡ text (bytes_of x)
 view-Text x = search (rules, the_lemmas)
+
+pub view-Null : value_view NullTree ≡ null
+view-Null = search (rules, the_lemmas)
+
+pub view-Bool : (b : Bool) → value_view (BoolTree b) ≡ boolean b
+view-Bool b = search (rules, the_lemmas)
+
+pub view-Int : (n : ℤ) → value_view (IntTree n) ≡ number n
+view-Int n = search (rules, the_lemmas)
 
 pub items-push : (vs : List Tree) (v : Tree) → items_view (vs ++ v ∷ []) ≡ push (items_view vs) [] (value_view v)
 items-push [] v = refl

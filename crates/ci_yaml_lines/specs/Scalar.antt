@@ -1,6 +1,7 @@
 -- What stands on one line: plain and quoted scalars, and the codes that hold of them.
 use Rattle.std.specs.Prelude.{ℕ, zero, suc, ℤ, pos, negsuc, ◌+◌, ◌-◌, ◌*◌, Bool, true, false, List, [], ◌∷◌, ◌++◌, take, drop, slice_index, Option, Some, None, nat_lt, nat_le, ◌==◌, ◌&&◌, ◌||◌, if◌then◌else◌, codes}
 use Rattle.std.specs.List.{list_any, prefix_len}
+use Rattle.ci_values.specs.declared.limits.TheConstants.{MAX_NUMBER}
 use Rattle.ci_yaml_lines.specs.declared.code.Code.{Code}
 use Rattle.ci_yaml_lines.specs.declared.code.Code.TheVariants.{Y9, Y11}
 use Rattle.ci_yaml_lines.specs.Tree.{Value, null, boolean, number, text}
@@ -89,7 +90,7 @@ digits_value n (b ∷ bs) = digits_value (10 * n + (b - 48)) bs
 -- digits without a leading zero, up to the limit
 abbrev pub is_count : List ℕ → Bool
 is_count [] = false
-is_count (b ∷ bs) = nat_lt 48 b && (all_digits (b ∷ bs) && nat_le (digits_value 0 (b ∷ bs)) 9007199254740991)
+is_count (b ∷ bs) = nat_lt 48 b && (all_digits (b ∷ bs) && nat_le (digits_value 0 (b ∷ bs)) MAX_NUMBER)
 
 abbrev pub count_of : List ℕ → Option ℕ
 count_of bs = if is_count bs then Some (digits_value 0 bs) else None

@@ -1,5 +1,6 @@
 -- What the code holds of lines and open nodes, without where it lies in memory.
-use Rattle.std.specs.Prelude.{◌≤◌, ◌||◌, ◌+◌, ℕ, Bool, List, [], ◌∷◌, ◌++◌, length, Option, Some, None, map, option_map, ⊤}
+use Rattle.std.specs.Prelude.{◌≤◌, ◌||◌, ◌+◌, ℕ, Bool, List, [], ◌∷◌, ◌++◌, length, Option, Some, None, map, option_map, ⊤, if◌then◌else◌}
+use denote.Bor.{Bor}
 use Rattle.ci_yaml_lines.specs.declared.tree.Tree.{Tree}
 pub use Rattle.ci_yaml_lines.specs.TreeView.{words_of, bytes_of, items_of, pairs_of, joined, view_step, value_view, items_view, pairs_view}
 use Rattle.ci_yaml_lines.specs.Tree.{sequence, Value, node, Members}
@@ -49,6 +50,21 @@ quoted_words_view q = record { text = words_of q.words; wrong = q.wrong; rest = 
 abbrev pub with_wrong : Bool → Option scalar.Quoted → Option scalar.Quoted
 with_wrong w None = None
 with_wrong w (Some q) = Some (record { text = q.text; wrong = w || q.wrong; rest = q.rest })
+
+-- how a scalar in single quotes goes on: with this text, a quote and what follows it, or it isn't closed
+abbrev pub from_quote : Option (Bor (List ℕ) × Bor (List ℕ)) → Option scalar.Quoted
+from_quote None = None
+from_quote (Some p) = scalar.with_words p.0.now (scalar.single (39 ∷ p.1.now))
+
+-- the same in double quotes, with a backslash or a quote
+abbrev pub from_mark : Option (Bor (List ℕ) × Bool × Bor (List ℕ)) → Option scalar.Quoted
+from_mark None = None
+from_mark (Some p) = scalar.with_words p.0.now (scalar.double ((if p.1 then 92 else 34) ∷ p.2.now))
+
+-- a scalar of these words with what was found at its end: whether a backslash stands wrongly in it, and what follows it
+abbrev pub ended : List ℕ → Option (Bool × Bor (List ℕ)) → Option scalar.Quoted
+ended ws None = None
+ended ws (Some e) = Some (record { text = ws; wrong = e.0; rest = e.1.now })
 
 abbrev pub end_view : End → line.End
 end_view (Comma s) = line.comma s.now

@@ -7,7 +7,7 @@ ghost use Rattle.ci_yaml_lines.specs.Scalar.{when};
 /// What holds of a line that cannot follow the lines before it. Of those that hold, the least counts.
 #[derive(Clone, Copy, PartialEq, Eq)]
 pub enum Code {
-    /// The text is over 65,536 bytes.
+    /// The text is over `MAX_FILE_BYTES`.
     Y1,
     /// A tab stands before the first other character of a content line.
     Y2,

@@ -1,6 +1,7 @@
 //! What one line says.
 
 ghost use Rattle.std.specs.Prelude.{◌≡◌, ◌==◌, ◌+◌, ◌≤◌, ◌&&◌, ◌||◌, suc, IfOk, IfSome, option_map, map, length, is_some, [], ◌∷◌, ◌++◌};
+ghost use Rattle.ci_values.specs.declared.limits.TheConstants.{MAX_FILE_BYTES};
 ghost use Rattle.ci_yaml_lines.specs.Least.{least_of};
 ghost use Rattle.ci_yaml_lines.specs.Line.{split_colon, plain_key, quoted_key, keyed, is_dash, item, parse_entries, keyed_or_bare, parse_content, is_document_mark, has_control, has_byte_order_mark, is_skipped, parse_line};
 ghost use Rattle.ci_yaml_lines.specs.View.{quoted_view, keyed_view, least_keyed, written_view, head_view, entry_view, item_view, least_item, ColumnsFit, parsed_view, least_parsed, with_entries, least_entry, key_parsed, bare_parsed};
@@ -111,7 +112,7 @@ fn has_entries(alloc: Global, source: SourceLine, text: &str) -> Result<bool, Al
 
 /// What stands behind a dash. Errors: memory was refused.
 fn read_item<'a>(alloc: Global, source: SourceLine, text: &'a str) -> Result<Item<'a>, AllocError>
-    requires fits { length text.now ≤ 65536 }
+    requires fits { length text.now ≤ MAX_FILE_BYTES }
     ensures value { IfOk result (λ i. item_view i ≡ least_item (item text.now)) }
     ensures fits { IfOk result (λ i. ColumnsFit (length text.now) (item_view i)) }
     ensures spans { IfOk result (λ i. ItemStands source text.now i) }
@@ -229,7 +230,7 @@ fn parse_entries<'a>(
     column: u32,
     text: &'a str,
 ) -> Result<ParsedLine<'a>, AllocError>
-    requires fits { column + length text.now ≤ 65536 }
+    requires fits { column + length text.now ≤ MAX_FILE_BYTES }
     ensures value { IfOk result (λ s. parsed_view s ≡ least_parsed (parse_entries n column text.now)) }
     ensures spans { IfOk result (λ s. Stand source text.now (entries_texts s.entries.items) []) }
 {
@@ -281,7 +282,7 @@ fn parse_content<'a>(
     column: u32,
     text: &'a str,
 ) -> Result<ParsedLine<'a>, AllocError>
-    requires fits { column + length text.now ≤ 65536 }
+    requires fits { column + length text.now ≤ MAX_FILE_BYTES }
     ensures value { IfOk result (λ s. parsed_view s ≡ least_parsed (parse_content column text.now)) }
     ensures spans { IfOk result (λ s. Stand source text.now (entries_texts s.entries.items) []) }
 {
@@ -327,7 +328,7 @@ pub fn parse_line<'a>(
     number: usize,
     line: &'a str,
 ) -> Result<ParsedLine<'a>, AllocError>
-    requires fits { length line.now ≤ 65536 }
+    requires fits { length line.now ≤ MAX_FILE_BYTES }
     ensures value { IfOk result (λ s. parsed_view s ≡ least_parsed (parse_line line.now)) }
     // The texts stand in the line.
     ensures spans { IfOk result (λ s. StandOn number line.now (entries_texts s.entries.items)) }

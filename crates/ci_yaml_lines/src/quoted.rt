@@ -1,9 +1,9 @@
 //! Quoted scalars.
 
-ghost use Rattle.std.specs.Prelude.{◌≡◌, ◌==◌, ◌||◌, [], ◌∷◌, ◌<◌, ◌≤◌, ◌⊎◌, IfOk, IfSome, option_map, slice_index, string_bytes, length};
+ghost use Rattle.std.specs.Prelude.{◌≡◌, Some, false, ◌==◌, ◌||◌, [], ◌∷◌, ◌<◌, ◌≤◌, ◌⊎◌, IfOk, IfSome, option_map, slice_index, string_bytes, length};
 ghost use Rattle.std.specs.List.{position};
 ghost use Rattle.ci_yaml_lines.specs.Scalar.{single, double, quoted, is_quote, with_words, from_place, escape_of};
-ghost use Rattle.ci_yaml_lines.specs.View.{quoted_view, quoted_words_view, with_wrong};
+ghost use Rattle.ci_yaml_lines.specs.View.{quoted_view, quoted_words_view, with_wrong, from_quote, from_mark, ended};
 ghost use Rattle.ci_yaml_lines.specs.Spans.{Stand};
 
 use crate::cut::{SourceLine, split_around, tail};
@@ -41,22 +41,49 @@ fn quote_at(bytes: &[u8]) -> Option<usize>
     first_quote(bytes)
 }
 
+/// The text before the first single quote, and the text behind it.
+fn split_quote(text: &str) -> Option<(&str, &str)>
+    ensures shorter { IfSome result (λ p. length p.1.now < length text.now) }
+    ensures value { single text.now ≡ from_quote result }
+{
+    let i = quote_at(text.as_bytes())?;
+    Some(split_around(text, i))
+}
+
+/// Words that the source writes as they are.
+fn lent<'a>(words: &'a str, rest: &'a str) -> Option<QuotedWords<'a>>
+    ensures { option_map quoted_words_view result ≡ Some (record { text = words.now; wrong = false; rest = rest.now }) }
+{
+    Some(QuotedWords {
+        words: Words::Lent(words),
+        wrong: false,
+        rest,
+    })
+}
+
+/// Words that the source writes in another way, with what was found at their end, if they end.
+fn owned<'a>(words: String, end: Option<(bool, &'a str)>) -> Option<QuotedWords<'a>>
+    ensures { option_map quoted_words_view result ≡ ended (string_bytes words) end.entry }
+{
+    let (wrong, rest) = end?;
+    Some(QuotedWords {
+        words: Words::Owned(words),
+        wrong,
+        rest,
+    })
+}
+
 /// A scalar in single quotes, after the first quote. Errors: memory was refused.
 fn single<'a>(alloc: Global, text: &'a str) -> Result<Option<QuotedWords<'a>>, AllocError>
     ensures { IfOk result (λ q. option_map quoted_words_view q ≡ single text.now) }
 {
-    let Some(i) = quote_at(text.as_bytes()) else {
+    let Some((front, rest)) = split_quote(text) else {
         return Ok(None);
     };
-    let (front, rest) = split_around(text, i);
     if head_is(b'\'', rest.as_bytes()) {
         return doubled(alloc, front, rest);
     }
-    Ok(Some(QuotedWords {
-        words: Words::Lent(front),
-        wrong: false,
-        rest,
-    }))
+    Ok(lent(front, rest))
 }
 
 /// The same, where after this front and a quote the rest begins with a second quote.
@@ -68,22 +95,24 @@ fn doubled<'a>(
     ensures { IfOk result (λ q. option_map quoted_words_view q ≡ with_words front.now (single (39 ∷ rest.now))) }
 {
     let mut words = String::from_str(alloc, front)?;
+    let end = add_pairs(&mut words, rest)?;
+    Ok(owned(words, end))
+}
+
+/// Adds what a quote and this rest say: no backslash stands wrongly, and what follows, if the scalar ends. Errors: memory was refused.
+fn add_pairs<'a>(words: &mut String, rest: &'a str) -> Result<Option<(bool, &'a str)>, AllocError>
+    ensures { IfOk result (λ e. ended (string_bytes words.new) e ≡ with_words (string_bytes words.old) (single (39 ∷ rest.now))) }
+{
     let mut rest = rest;
     'pairs: while head_is(b'\'', rest.as_bytes()) {
-        let more = tail(rest);
-        let Some(i) = quote_at(more.as_bytes()) else {
+        let Some((front, behind)) = split_quote(tail(rest)) else {
             return Ok(None);
         };
-        let (front, behind) = split_around(more, i);
         words.push_str("'")?;
         words.push_str(front)?;
         rest = behind;
     }
-    Ok(Some(QuotedWords {
-        words: Words::Owned(words),
-        wrong: false,
-        rest,
-    }))
+    Ok(Some((false, rest)))
 }
 
 fn first_quote_or_backslash(bytes: &[u8]) -> Option<usize>
@@ -115,23 +144,28 @@ fn escape(bytes: &[u8]) -> Option<&'static str>
     }
 }
 
+/// The text before the first double quote or backslash, whether it is a backslash, and the text behind it.
+fn split_mark(text: &str) -> Option<(&str, bool, &str)>
+    ensures shorter { IfSome result (λ p. length p.2.now < length text.now) }
+    ensures value { double text.now ≡ from_mark result }
+{
+    let bytes = text.as_bytes();
+    let i = quote_or_backslash_at(bytes)?;
+    let (front, rest) = split_around(text, i);
+    Some((front, bytes[i] == b'\\', rest))
+}
+
 /// A scalar in double quotes, after the first quote. Errors: memory was refused.
 fn double<'a>(alloc: Global, text: &'a str) -> Result<Option<QuotedWords<'a>>, AllocError>
     ensures { IfOk result (λ q. option_map quoted_words_view q ≡ double text.now) }
 {
-    let bytes = text.as_bytes();
-    let Some(i) = quote_or_backslash_at(bytes) else {
+    let Some((front, slash, rest)) = split_mark(text) else {
         return Ok(None);
     };
-    let (front, rest) = split_around(text, i);
-    if bytes[i] == b'\\' {
+    if slash {
         return with_escapes(alloc, front, rest);
     }
-    Ok(Some(QuotedWords {
-        words: Words::Lent(front),
-        wrong: false,
-        rest,
-    }))
+    Ok(lent(front, rest))
 }
 
 /// Adds what a backslash and the byte behind it stand for, and answers what follows, and whether the backslash
@@ -149,7 +183,7 @@ fn unescape<'a>(words: &mut String, rest: &'a str) -> Result<(bool, &'a str), Al
     }
 }
 
-/// The same, where this front and a backslash come before the rest.
+/// A scalar in double quotes, where this front and a backslash come before the rest. Errors: memory was refused.
 fn with_escapes<'a>(
     alloc: Global,
     front: &str,
@@ -158,24 +192,27 @@ fn with_escapes<'a>(
     ensures { IfOk result (λ q. option_map quoted_words_view q ≡ with_words front.now (double (92 ∷ rest.now))) }
 {
     let mut words = String::from_str(alloc, front)?;
+    let end = add_escapes(&mut words, rest)?;
+    Ok(owned(words, end))
+}
+
+/// Adds what a backslash and this rest say: whether a backslash stands wrongly, and what follows, if the scalar ends. Errors: memory
+/// was refused.
+fn add_escapes<'a>(words: &mut String, rest: &'a str) -> Result<Option<(bool, &'a str)>, AllocError>
+    ensures { IfOk result (λ e. ended (string_bytes words.new) e ≡ with_words (string_bytes words.old) (double (92 ∷ rest.now))) }
+{
     let mut wrong = false;
     let mut rest = rest;
     'escapes: loop {
-        let (misused, more) = unescape(&mut words, rest)?;
+        let (misused, more) = unescape(words, rest)?;
         wrong = wrong | misused;
-        let bytes = more.as_bytes();
-        let Some(i) = quote_or_backslash_at(bytes) else {
+        let Some((front, slash, behind)) = split_mark(more) else {
             return Ok(None);
         };
-        let (front, behind) = split_around(more, i);
         words.push_str(front)?;
         rest = behind;
-        if bytes[i] != b'\\' {
-            return Ok(Some(QuotedWords {
-                words: Words::Owned(words),
-                wrong,
-                rest,
-            }));
+        if !slash {
+            return Ok(Some((wrong, rest)));
         }
     }
 }

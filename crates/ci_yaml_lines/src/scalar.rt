@@ -1,20 +1,19 @@
 //! Plain scalars.
 
-ghost use Rattle.std.specs.Prelude.{◌≡◌, ◌≤◌, IfSome};
+ghost use Rattle.std.specs.Prelude.{◌≡◌, ◌≤◌, ◌||◌, IfSome, codes};
+ghost use Rattle.std.specs.Str.{bytes_eq};
 ghost use Rattle.ci_yaml_lines.specs.Scalar.{count_of, negative_of, number_or_text, plain_value};
 ghost use Rattle.ci_yaml_lines.specs.View.{value_view};
 ghost use Rattle.ci_yaml_lines.specs.Spans.{texts_in};
 ghost use Rattle.ci_yaml_lines.specs.SpansScalar.{OnlyText};
 
 use crate::tree::{Span, Text, Tree, Words};
+use ci_values::limits::MAX_NUMBER;
 
-/// The greatest number that is read as one: 2^53 - 1.
-const LIMIT: u64 = 9_007_199_254_740_991;
-
-/// The number that these digits write, without a leading zero, up to the limit.
+/// The number that these digits write, without a leading zero, up to `MAX_NUMBER`.
 fn count(digits: &[u8]) -> Option<u64>
     ensures value { result ≡ count_of digits.now }
-    ensures limit { IfSome result (λ n. n ≤ LIMIT) }
+    ensures limit { IfSome result (λ n. n ≤ MAX_NUMBER) }
 {
     match digits {
         [b'1'..=b'9', ..] => {}
@@ -26,11 +25,18 @@ fn count(digits: &[u8]) -> Option<u64>
             return None;
         }
         number = number * 10 + (*digit - b'0') as u64;
-        if number > LIMIT {
+        if number > MAX_NUMBER {
             return None;
         }
     }
     Some(number)
+}
+
+/// Whether a plain scalar stands for null.
+fn is_null(text: &str) -> bool
+    ensures { result ≡ (bytes_eq text.now (codes "null") || bytes_eq text.now (codes "~")) }
+{
+    text == "null" || text == "~"
 }
 
 /// The value of a plain scalar.
@@ -44,7 +50,7 @@ pub fn plain(text: &str, span: Span) -> Tree<'_>
     if text == "false" {
         return Tree::Bool(false);
     }
-    if text == "null" || text == "~" {
+    if is_null(text) {
         return Tree::Null;
     }
     if text == "0" {
@@ -56,7 +62,7 @@ pub fn plain(text: &str, span: Span) -> Tree<'_>
 /// The number behind a minus.
 fn negative(bytes: &[u8]) -> Option<u64>
     ensures value { result ≡ negative_of bytes.now }
-    ensures limit { IfSome result (λ n. n ≤ LIMIT) }
+    ensures limit { IfSome result (λ n. n ≤ MAX_NUMBER) }
 {
     match bytes {
         [b'-', digits @ ..] => count(digits),

@@ -18,10 +18,10 @@ tree_of-requires c =
     let all : map (λ x. x.now) c.deref.result.now ≡ lines c.args.text.now =
     ap (λ xs. map (λ x. x.now) xs) c.deref.ensures.value
     ∙ from-ok c.collect.result c.in_ok-lines.lines (λ w. map (λ x. x.now) (vec_items w) ≡ lines c.args.text.now) c.in_ok-lines.was (map_from_collect c.collect.result c.collect.ensures.ran (YieldsList-from_lines c.args.text.now c.lines.ensures.rest)) in
-    record { short = texts-short c.args.text.now c.deref.result.now c.if-text-gt-TEXT_LIMIT.false all }
+    record { short = texts-short c.args.text.now c.deref.result.now c.if-text-gt-MAX_FILE_BYTES.false all }
 
-pub returns-then-text-gt-TEXT_LIMIT-clause-refused : goal.returns-then-text-gt-TEXT_LIMIT-clause-refused
-returns-then-text-gt-TEXT_LIMIT-clause-refused c = λ at code f. text-all_faults c.args.text.now (Err (faults.Fault Y1 1)) tt (too_long c.if-text-gt-TEXT_LIMIT.true refl refl) at code f
+pub returns-then-text-gt-MAX_FILE_BYTES-clause-refused : goal.returns-then-text-gt-MAX_FILE_BYTES-clause-refused
+returns-then-text-gt-MAX_FILE_BYTES-clause-refused c = λ at code f. text-all_faults c.args.text.now (Err (faults.Fault Y1 1)) tt (too_long c.if-text-gt-MAX_FILE_BYTES.true refl refl) at code f
 
 pub returns : goal.returns
 returns c =
@@ -30,10 +30,10 @@ returns c =
     ∙ from-ok c.collect.result c.in_ok-lines.lines (λ w. map (λ x. x.now) (vec_items w) ≡ lines c.args.text.now) c.in_ok-lines.was (map_from_collect c.collect.result c.collect.ensures.ran (YieldsList-from_lines c.args.text.now c.lines.ensures.rest)) in
     let reads : Reads (lines c.args.text.now) c.tree_of.result = subst (λ ls. Reads ls c.tree_of.result) (texts-are c.args.text.now c.deref.result.now all) c.tree_of.ensures.tree in
     record {
-      tree = text-tree c.args.text.now c.tree_of.result c.if-text-gt-TEXT_LIMIT.false reads;
+      tree = text-tree c.args.text.now c.tree_of.result c.if-text-gt-MAX_FILE_BYTES.false reads;
       all = text-all c.args.text.now c.tree_of.result reads;
-      fault = text-refused c.args.text.now c.tree_of.result c.if-text-gt-TEXT_LIMIT.false reads;
-      refused = text-all_faults c.args.text.now c.tree_of.result (text-tree c.args.text.now c.tree_of.result c.if-text-gt-TEXT_LIMIT.false reads) (text-refused c.args.text.now c.tree_of.result c.if-text-gt-TEXT_LIMIT.false reads);
+      fault = text-refused c.args.text.now c.tree_of.result c.if-text-gt-MAX_FILE_BYTES.false reads;
+      refused = text-all_faults c.args.text.now c.tree_of.result (text-tree c.args.text.now c.tree_of.result c.if-text-gt-MAX_FILE_BYTES.false reads) (text-refused c.args.text.now c.tree_of.result c.if-text-gt-MAX_FILE_BYTES.false reads);
       spans = tree-written (lines c.args.text.now) (texts_of c.deref.result.now) c.tree_of.result (texts-are c.args.text.now c.deref.result.now all) c.tree_of.ensures.spans;
       too_long = λ long. absurd (omega arith);
     }

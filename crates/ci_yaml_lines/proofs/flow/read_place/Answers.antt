@@ -4,6 +4,15 @@ use Rattle.ci_yaml_lines.specs.declared.quoted.Quoted.{Quoted}
 use Rattle.ci_yaml_lines.specs.Spans.{Stand, texts_in}
 use Rattle.ci_yaml_lines.specs.SpansFlow.{behind_end}
 use Rattle.ci_yaml_lines.proofs.SpansFlow.{stand-behind-blanks, stand-null}
+use Rattle.std.proofs.Common.{◌≡◌, ◌∙◌, true, Some, None, sym, ap}
+use Rattle.std.specs.Prelude.{option_map}
+use Rattle.ci_yaml_lines.specs.declared.code.Code.TheVariants.{Y6}
+use Rattle.ci_yaml_lines.specs.Tree.{Value}
+use Rattle.ci_yaml_lines.specs.Scalar.{is_quote}
+use Rattle.ci_yaml_lines.specs.Line.{missing}
+use Rattle.ci_yaml_lines.specs.View.{quoted_view}
+use Rattle.ci_yaml_lines.proofs.Views.{view-Null}
+use Rattle.ci_yaml_lines.proofs.Parsed.{value_place, place-quoted, place-plain}
 use Rattle.ci_yaml_lines.proofs.flow.read_place.Goals as goal
 
 pub returns-in-Some-clause-spans : goal.returns-in-Some-clause-spans
@@ -16,3 +25,22 @@ returns-in-Some-clause-spans c =
 
 pub returns-in-None-clause-spans : goal.returns-in-None-clause-spans
 returns-in-None-clause-spans c = stand-null c.args.source c.args.text.now
+
+pub returns-then-not-is_quote-clause-value : goal.returns-then-not-is_quote-clause-value
+returns-then-not-is_quote-clause-value c =
+    let from = c.drop_blanks-from.result.now in
+    c.plain_place.ensures.value ∙ place-plain c.args.text.now from c.drop_blanks-from.ensures (ap is_quote (sym c.as_bytes.ensures.value) ∙ sym c.if-not-is_quote.ensures)
+
+pub returns-in-Some-clause-value : goal.returns-in-Some-clause-value
+returns-in-Some-clause-value c =
+    let from = c.drop_blanks-from.result.now in
+    let here : is_quote from ≡ true = ap is_quote (sym c.as_bytes.ensures.value) ∙ sym c.if-not-is_quote.ensures in
+    c.behind_quoted.ensures.value
+    ∙ place-quoted c.args.text.now from (Some (quoted_view c.in-Some.quoted)) c.drop_blanks-from.ensures here (ap (option_map quoted_view) (sym c.in-Some.is) ∙ c.in_ok-quoted.ensures.value)
+
+pub returns-in-None-clause-value : goal.returns-in-None-clause-value
+returns-in-None-clause-value c =
+    let from = c.drop_blanks-from.result.now in
+    let here : is_quote from ≡ true = ap is_quote (sym c.as_bytes.ensures.value) ∙ sym c.if-not-is_quote.ensures in
+    ap (λ (v : Value). value_place v (Some Y6) missing) view-Null
+    ∙ place-quoted c.args.text.now from None c.drop_blanks-from.ensures here (ap (option_map quoted_view) (sym c.in-None.is) ∙ c.in_ok-quoted.ensures.value)

@@ -1,5 +1,6 @@
 use Rattle.std.proofs.Common.{◌≡◌, ◌∙◌, ap, sym, subst, map, length, rules, arith, true, false, List, [], ◌++◌, ◌+◌, ◌≤◌, None}
 use Rattle.std.specs.Prelude.{IfOk}
+use Rattle.ci_values.specs.declared.limits.TheConstants.{MAX_FILE_BYTES}
 use Rattle.ci_yaml_lines.specs.declared.entry.Head.TheVariants.{Dash}
 use Rattle.ci_yaml_lines.specs.Line.{is_dash}
 use Rattle.ci_yaml_lines.specs.View.{entry_view, written_view, item_view, LeastParsed, parsed_view, ColumnsFit}
@@ -33,7 +34,7 @@ dashes-preserved c =
     let yes : is_dash c.dashes.rest.now ≡ true = ap is_dash (sym c.as_bytes.ensures.value) ∙ sym c.if-not-is_dash.ensures in
     let fits : c.in-Inner.columns + length c.in-Inner.inner.now ≤ 1 + length c.tail.result.now = subst (ColumnsFit (length c.tail.result.now)) (ap item_view c.in-Inner.is) c.in_ok-columns.ensures.fits in
     let longer : 1 + length c.tail.result.now ≤ length c.dashes.rest.now = dash-longer c.dashes.rest.now c.tail.result.now yes c.tail.ensures in
-    let bound : c.dashes.column + length c.dashes.rest.now ≤ 65536 = c.dashes.invariant.1 in (
+    let bound : c.dashes.column + length c.dashes.rest.now ≤ MAX_FILE_BYTES = c.dashes.invariant.1 in (
       search rules,
       added c.dashes.column c.in-Inner.columns (length c.in-Inner.inner.now) (length c.tail.result.now) (length c.dashes.rest.now) fits longer bound,
       inner-turn (map entry_view c.dashes.entries.items) (map entry_view c.push.new.self.items) c.args.n c.dashes.i c.dashes.column c.in-Inner.columns c.dashes.rest.now c.tail.result.now c.in-Inner.inner.now (omega arith) yes c.tail.ensures

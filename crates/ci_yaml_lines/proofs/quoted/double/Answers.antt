@@ -1,8 +1,10 @@
-use Rattle.std.proofs.Common.{sym}
+use Rattle.std.proofs.Common.{◌∷◌, ◌∙◌, sym, ap, cond}
+use Rattle.ci_yaml_lines.specs.Scalar.{double, with_words}
 use Rattle.ci_yaml_lines.proofs.Quotes.{double-closed}
 use Rattle.ci_yaml_lines.proofs.quoted.double.Goals as goal
 
 pub returns : goal.returns
 returns c =
-    sym (double-closed c.split_around.result.0.now c.args.text.now c.as_bytes-bytes.result.now c.split_around.result.1.now c.in-Some.i
-    c.as_bytes-bytes.ensures.value c.in-Some.ensures.value c.split_around.ensures.front c.split_around.ensures.rest c.in-Some.ensures.place.1 c.if-bytes-i-eq92.false)
+    let front = c.in-Some.front.now in
+    let rest = c.in-Some.rest.now in
+    c.lent.ensures ∙ sym (double-closed front c.args.text.now rest (c.in-Some.ensures.value ∙ ap (λ t. with_words front (double (cond t 92 34 ∷ rest))) c.if-slash.false))

@@ -3,8 +3,8 @@ use Rattle.ci_yaml_lines.proofs.Counts.{count_rest, rest-over, rest-digit}
 use Rattle.ci_yaml_lines.proofs.Lists.{drop-at}
 use Rattle.ci_yaml_lines.proofs.scalar.count.Goals as goal
 
-pub returns-then-number-gt-LIMIT-clause-value : goal.returns-then-number-gt-LIMIT-clause-value
-returns-then-number-gt-LIMIT-clause-value c =
+pub returns-then-number-gt-MAX_NUMBER-clause-value : goal.returns-then-number-gt-MAX_NUMBER-clause-value
+returns-then-number-gt-MAX_NUMBER-clause-value c =
     let bs = c.args.digits.now in
     let i = c.loop-digit.digit-index in
     let d : ℕ = get_or bs i 0 in

@@ -1,11 +1,15 @@
 use Rattle.std.proofs.Common.{◌≡◌, ◌∙◌, ap, sym, true, false, []}
 use Rattle.ci_yaml_lines.specs.Scalar.{is_quote, head_is}
-use Rattle.ci_yaml_lines.specs.Line.{listed}
+use Rattle.ci_yaml_lines.specs.Line.{listed, header_of}
 use Rattle.ci_yaml_lines.specs.View.{written_of_list, least_written}
 use Rattle.ci_yaml_lines.proofs.Parsed.{list-written, at-list}
 use Rattle.ci_yaml_lines.specs.Spans.{given_texts, items_texts}
 use Rattle.ci_yaml_lines.specs.SpansFlow.{behind_list}
 use Rattle.ci_yaml_lines.proofs.SpansGiven.{stand-tail, stand-quoted, stand-same}
+use Rattle.std.proofs.Common.{ℕ, List, Some, None}
+use Rattle.std.specs.Prelude.{option_map}
+use Rattle.ci_yaml_lines.specs.View.{quoted_view}
+use Rattle.ci_yaml_lines.proofs.Parsed.{at-quoted, at-bar}
 use Rattle.ci_yaml_lines.proofs.written.read_value.Goals as goal
 
 pub returns-in_ok-list-clause-value : goal.returns-in_ok-list-clause-value
@@ -25,3 +29,23 @@ returns-in_ok-list-clause-spans c =
 
 pub returns-then-head_is-2-clause-spans : goal.returns-then-head_is-2-clause-spans
 returns-then-head_is-2-clause-spans c = stand-tail c.args.source c.args.text.now c.tail.result.now [] (given_texts c.header_of.result.given) c.tail.ensures c.header_of.ensures.spans
+
+pub returns-in-Some-clause-value : goal.returns-in-Some-clause-value
+returns-in-Some-clause-value c =
+    let here : is_quote c.args.text.now ≡ true = ap is_quote (sym c.as_bytes.ensures.value) ∙ sym c.if-is_quote.ensures in
+    c.closed.ensures.value ∙ ap least_written (at-quoted c.args.text.now (Some (quoted_view c.in-Some.quoted)) here (ap (option_map quoted_view) (sym c.in-Some.is) ∙ c.in_ok-quoted.ensures.value))
+
+pub returns-in-None-clause-value : goal.returns-in-None-clause-value
+returns-in-None-clause-value c =
+    let here : is_quote c.args.text.now ≡ true = ap is_quote (sym c.as_bytes.ensures.value) ∙ sym c.if-is_quote.ensures in
+    c.unclosed.ensures.value ∙ ap least_written (at-quoted c.args.text.now None here (ap (option_map quoted_view) (sym c.in-None.is) ∙ c.in_ok-quoted.ensures.value))
+
+pub returns-then-head_is-2-clause-value : goal.returns-then-head_is-2-clause-value
+returns-then-head_is-2-clause-value c =
+    c.header_of.ensures.value ∙ ap (λ (x : List ℕ). least_written (header_of x)) c.tail.ensures
+    ∙ ap least_written (at-bar c.args.text.now _ _ _ true c.as_bytes.ensures.value c.if-is_quote.ensures c.as_bytes-else-is_quote.ensures.value c.if-head_is.ensures c.as_bytes-else-head_is.ensures.value c.if-head_is-2.ensures)
+
+pub returns-else-head_is-2-clause-value : goal.returns-else-head_is-2-clause-value
+returns-else-head_is-2-clause-value c =
+    c.written_plain.ensures.value
+    ∙ ap least_written (at-bar c.args.text.now _ _ _ false c.as_bytes.ensures.value c.if-is_quote.ensures c.as_bytes-else-is_quote.ensures.value c.if-head_is.ensures c.as_bytes-else-head_is.ensures.value c.if-head_is-2.ensures)

@@ -3,10 +3,10 @@ use denote.Text.{Utf8}
 use denote.Shadow.{shadow}
 use Rattle.ci_yaml_lines.specs.Scalar.{double, with_words}
 use Rattle.ci_yaml_lines.specs.View.{with_wrong}
-use Rattle.ci_yaml_lines.proofs.quoted.with_escapes.Given as goal
+use Rattle.ci_yaml_lines.proofs.quoted.add_escapes.Given as goal
 
 abbrev pub invariant-escapes : goal.invariant-escapes
-invariant-escapes l = shadow (Utf8 l.rest) × (with_words (string_bytes l.words) (with_wrong l.wrong (double (92 ∷ l.rest))) ≡ with_words l.fn.front (double (92 ∷ l.fn.rest)))
+invariant-escapes l = shadow (Utf8 l.rest) × (with_words (string_bytes l.words) (with_wrong l.wrong (double (92 ∷ l.rest))) ≡ with_words (string_bytes l.fn.words) (double (92 ∷ l.fn.rest)))
 
 abbrev pub decreases-escapes : goal.decreases-escapes
 decreases-escapes l = length l.rest
