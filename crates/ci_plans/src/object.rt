@@ -1,4 +1,5 @@
-//! An object of JSON, made member by member. None of its members is lost, or comes out of the order of the keys' bytes.
+//! An object of JSON, made member by member. Its members stand in the order of their keys' bytes, in whatever order they are
+//! put into it.
 
 ghost use Rattle.std.specs.Prelude.{◌≡◌, false, IfOk};
 ghost use Rattle.serde_json.specs.Data.{no_members, number, string, object, unsigned, put as with_member};
@@ -26,7 +27,7 @@ impl Object {
         }
     }
 
-    /// With this value at the key.
+    /// The object with this value at the key.
     pub(crate) fn with(self, alloc: Global, key: &str, value: Value) -> Result<Object, AllocError>
         ensures { IfOk result (λ o. members_of o ≡ with_member key.now (view value) (members_of self)) }
     {
@@ -35,14 +36,14 @@ impl Object {
         Ok(Object { members })
     }
 
-    /// With this number at the key.
+    /// The object with this number at the key.
     pub(crate) fn with_number(self, alloc: Global, key: &str, n: u64) -> Result<Object, AllocError>
         ensures { IfOk result (λ o. members_of o ≡ with_member key.now (number (unsigned n)) (members_of self)) }
     {
         self.with(alloc, key, Value::Number(Number::from(n)))
     }
 
-    /// With this text at the key.
+    /// The object with this text at the key.
     pub(crate) fn with_text(
         self,
         alloc: Global,
@@ -55,7 +56,7 @@ impl Object {
         self.with(alloc, key, value)
     }
 
-    /// The object as a value.
+    /// The object, as a value.
     pub(crate) fn into_value(self) -> Value
         ensures { view result ≡ object (members_of self) }
     {

@@ -5,7 +5,7 @@ ghost use Rattle.ci_machine.specs.Runners as runners;
 
 use crate::replies::{identity, made, refusal_of_named, unmade};
 use ci_machine::change::{Counter, Delta, Record};
-use ci_machine::records::{MAX_NUMBER, Runner};
+use ci_machine::records::Runner;
 use ci_machine::reply::Reply;
 use ci_machine::request::Seed;
 use ci_machine::text::{Text, Texts};

@@ -1,4 +1,4 @@
-use Rattle.std.proofs.Common.{◌≡◌, IfOk}
+use Rattle.std.proofs.Common.{◌≡◌}
 use Rattle.ci_machine.specs.Projects.{made_project, add_project}
 use Rattle.ci_plans.specs.Refusals.{unmade}
 use Rattle.ci_plans.proofs.projects.add_project.Goals as goal

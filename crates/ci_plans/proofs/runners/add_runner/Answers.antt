@@ -1,4 +1,4 @@
-use Rattle.std.proofs.Common.{◌≡◌, IfOk}
+use Rattle.std.proofs.Common.{◌≡◌}
 use Rattle.ci_machine.specs.Runners.{made_runner, add_runner}
 use Rattle.ci_plans.specs.Refusals.{unmade}
 use Rattle.ci_plans.proofs.runners.add_runner.Goals as goal
