@@ -1,6 +1,5 @@
 -- The statements that write `attempt`.
-use Rattle.std.proofs.Common.{◌∙◌, ℕ, pos, List, [], ◌∷◌, is_eq, refl, ap, ◌≡◌, ◌==◌, ◌&&◌, true, Option, sym, map, take, drop, codes, if◌then◌else◌, None, Some}
-use Rattle.std.specs.Ordering.{nat_cmp}
+use Rattle.std.proofs.Common.{◌∙◌, ℕ, pos, List, [], ◌∷◌, refl, ap, ◌≡◌, ◌==◌, ◌&&◌, true, Option, sym, map, take, drop, codes, if◌then◌else◌, None, Some}
 use Rattle.sqlite.specs.declared.types.Value.TheVariants.{Null, Text}
 use Rattle.sqlite.specs.Order.{Row, column}
 use Rattle.sqlite.specs.Term.{Term, lit, col}
@@ -14,8 +13,7 @@ use Rattle.ci_machine.specs.declared.records.Attempt.{Attempt}
 use Rattle.ci_machine.specs.declared.change.Record.TheVariants as row
 use Rattle.ci_machine.specs.declared.change.Key.TheVariants as key
 use Rattle.ci_tables.specs.Stands.{image, places}
-use Rattle.ci_tables.specs.Ran.{Changes, HasPut}
-use Rattle.ci_tables.proofs.Writes.{IsWholeStep}
+use Rattle.ci_tables.specs.Ran.{HasPut}
 use Rattle.ci_tables.proofs.Puts.{MeansPut, MeansRemove, GivesRecord}
 use Rattle.ci_tables.proofs.Absent.{absent_rowid}
 use Rattle.ci_tables.proofs.Scalars.{cast_int}
@@ -25,7 +23,7 @@ use Rattle.ci_store.specs.Rows.{number, attempt_row, state_number, cause_in, exi
 use Rattle.ci_store.specs.Stands.{rows_by_tree, rows_of, Stands, IsAt}
 use Rattle.ci_store.proofs.OneList.{IsAlike, alike_but, regular_with_attempts}
 use Rattle.ci_store.proofs.Lists.{put_rises, by_number}
-use Rattle.ci_store.proofs.Records.{is, put_stands, remove_stands, same_number, finds_number, numbered, cast_option}
+use Rattle.ci_store.proofs.Records.{is, put_stands, same_number, finds_number, numbered, cast_option}
 use Rattle.sqlite.specs.Collation.TheVariants.{Binary}
 use Rattle.sqlite_schema.specs.Rules.{equal}
 use Rattle.sqlite.proofs.Callers.{IsPlain}
@@ -42,7 +40,7 @@ use Rattle.sqlite_value.specs.Keys.{plain, joined}
 use Rattle.sqlite_schema.specs.declared.schema.Keys.TheVariants.{Enforced}
 use Rattle.sqlite_rules.specs.Action.{works, pairs, loses}
 use Rattle.ci_store.specs.Commit.{RemovesUnreferred}
-use Rattle.ci_store.proofs.Removals.{Referring, queries, cascades, removed_alone}
+use Rattle.ci_store.proofs.Removals.{Referring, queries, cascades, removed_numbered}
 use Rattle.ci_store.proofs.Pieces.{refers_to_attempt}
 use Rattle.sqlite.specs.Values.{or_null}
 use Rattle.ci_values.specs.declared.attempts.Cause.{Cause}
@@ -80,13 +78,6 @@ means_remove : MeansRemove the_schema 6 attempt DELETE_ATTEMPT.now (is 0 0 ∷ [
 unfolding understood everything
 means_remove = record { there = refl; apart = refl; delete_is = refl; delete_plain = (refl, refl) }
 
-pub attempt_removes : {S : Type 0} (ghosts : Ghosts S) (before after : Held S) (id count : ℕ) (s : State) → Stands s (state ghosts before).now
-    → IsWholeStep the_schema attempt (is 0 0 ∷ []) (number id ∷ []) (state ghosts before).now.trees → Changes ghosts DELETE_ATTEMPT.now (number id ∷ []) count before after
-    → Stands (without_record (key.Attempt id) s) (state ghosts after).now
-attempt_removes ghosts before after id count s stands whole h =
-    remove_stands attempt_row s.attempts s (without_record (key.Attempt id) s) attempt refl (alike s _) (regular_with_attempts s _ (ascending-filter _ _ s.attempts stands.inside.regular.attempts) stands.inside.regular)
-    6 DELETE_ATTEMPT.now (is 0 0 ∷ []) means_remove (number id ∷ []) (λ r. refl) (λ q. is_eq (nat_cmp q.id id)) (λ q. same_number q.id id) refl ghosts before after count stands whole h
-
 -- what its removal sets off
 works_are : (olds : List Row) → works the_schema Enforced 0 attempt.tree olds [] ≡ cascades (list_any (loses plain (0 ∷ [])) (pairs olds [])) (refers_to_attempt ∷ []) (codes "attempt") olds
 unfolding everything joined
@@ -94,7 +85,8 @@ works_are olds = refl
 
 pub attempt_removed : {S : Type 0} (g : Ghosts S) (old new : Held S) (id : ℕ) (s : State) → Stands s (state g old).now → RemovesUnreferred g (queries (refers_to_attempt ∷ [])) DELETE_ATTEMPT.now (number id ∷ []) old new → Stands (without_record (key.Attempt id) s) (state g new).now
 attempt_removed g old new id s =
-    removed_alone g old new 6 attempt refl (codes "attempt") (refers_to_attempt ∷ []) works_are (λ e. absurd cc, tt) DELETE_ATTEMPT.now id s (without_record (key.Attempt id) s) (λ mid count. attempt_removes g mid new id count s)
+    removed_numbered g old new attempt_row (λ q. q.id) s.attempts id s (without_record (key.Attempt id) s) 6 attempt refl refl refl (alike s _) (λ o. regular_with_attempts s _ (ascending-filter _ _ s.attempts o.attempts) o) (λ q. same_number q.id id) (λ r. refl)
+    DELETE_ATTEMPT.now means_remove (codes "attempt") (refers_to_attempt ∷ []) works_are (λ e. absurd cc, tt)
 
 -- ---- two records with the same row
 

@@ -1,18 +1,14 @@
 -- The statements that write `jobvar`.
-use Rattle.std.proofs.Common.{◌≡◌, ◌∙◌, ℕ, pos, List, [], ◌∷◌, Bool, true, false, is_eq, refl, sym, inl, inr, ◌&&◌, cond, map, take, drop, subst}
+use Rattle.std.proofs.Common.{◌≡◌, ◌∙◌, ℕ, pos, List, [], ◌∷◌, true, is_eq, refl, inl, inr, ◌&&◌, map, take, drop}
 use Rattle.std.specs.Ordering.{nat_cmp, ordering_then}
 use Rattle.std.specs.Cmp.Lexicographic.{slice_cmp}
-use Rattle.sqlite.specs.declared.types.Value.{Value}
 use Rattle.sqlite_value.specs.declared.keys.Collation.TheVariants.{Binary}
-use Rattle.sqlite_value.specs.Keys.{plain}
-use Rattle.sqlite_value.proofs.KeyLemmas.{first_key-plain}
 use Rattle.sqlite_sql.specs.Ops.{is_null}
-use Rattle.sqlite_schema.specs.Rules.{equal, agree}
+use Rattle.sqlite_schema.specs.Rules.{equal}
 use Rattle.sqlite.specs.Cast.{cast}
 use Rattle.sqlite.specs.Kind.TheVariants.{Integer}
 use Rattle.sqlite.specs.declared.types.Value.TheVariants.{Null, Text}
-use Rattle.sqlite.specs.Order.{Row, column}
-use Rattle.sqlite.specs.Term.{Term, lit, col}
+use Rattle.sqlite.specs.Order.{Row}
 use Rattle.sqlite.specs.Tree.{Trees}
 use Rattle.sqlite_tied.specs.Compute.{everything}
 use Rattle.sqlite.specs.Listing.{understood}
@@ -23,8 +19,7 @@ use Rattle.ci_machine.specs.State.{State, with_record, without_record, job_varia
 use Rattle.ci_machine.specs.declared.records.JobVariable.{JobVariable}
 use Rattle.ci_machine.specs.declared.change.Record.TheVariants as row
 use Rattle.ci_machine.specs.declared.change.Key.TheVariants as key
-use Rattle.ci_tables.specs.Stands.{image, places}
-use Rattle.ci_tables.specs.Ran.{Changes, HasPut}
+use Rattle.ci_tables.specs.Ran.{HasPut}
 use Rattle.ci_tables.proofs.Writes.{IsWholeStep, whole_if_alone}
 use Rattle.ci_tables.proofs.Puts.{MeansPut, MeansRemove, GivesRecord}
 use Rattle.ci_tables.proofs.Absent.{absent_unique}
@@ -35,24 +30,15 @@ use Rattle.ci_store.specs.Rows.{number, job_variable_row}
 use Rattle.ci_store.specs.Stands.{rows_by_tree, rows_of, Stands, IsAt}
 use Rattle.ci_store.proofs.OneList.{IsAlike, alike_but, regular_with_job_variables}
 use Rattle.ci_store.proofs.Lists.{put_rises, by_both}
-use Rattle.ci_store.proofs.Records.{is, put_stands, remove_stands, both_equal, same_number, is_number}
+use Rattle.ci_store.proofs.Records.{is, put_stands, both_equal, same_number}
 use Rattle.sqlite.proofs.Callers.{IsPlain}
 use Rattle.ci_tables.proofs.Selects.{MeansSelect}
 use Rattle.ci_store.specs.Calls.{ShowsRecords}
-use Rattle.sqlite_keyed.proofs.ListLemmas.{filter_same}
-use Rattle.ci_store.proofs.Shows.{columns_of, names_of, by, shows_sorted, found_all, rise_within, rising_text}
+use Rattle.ci_store.proofs.Owned.{tests, sets, terms, unnumbered, agrees, removed_owned, owned_found}
+use Rattle.ci_store.proofs.Shows.{columns_of, names_of, by, rising_text}
 use Rattle.ci_machine.specs.Step.{variables_of}
 use Rattle.ci_store.proofs.Removals.{Referring}
 use Rattle.ci_store.specs.Commit.{RemovesUnreferred}
-
-abbrev tests : List Term
-tests = is 1 0 ∷ is 2 1 ∷ []
-
-abbrev sets : List Term
-sets = col 1 0 ∷ col 0 0 ∷ col 0 1 ∷ col 0 2 ∷ []
-
-abbrev terms : List Term
-terms = lit Null ∷ col 0 0 ∷ col 0 1 ∷ col 0 2 ∷ []
 
 means : MeansPut the_schema 5 jobvar UPDATE_JOB_VARIABLE.now INSERT_JOB_VARIABLE.now tests sets terms
 unfolding understood everything
@@ -61,17 +47,6 @@ means = record { there = refl; apart = refl; update_is = refl; update_plain = (r
 abbrev key_of : ℕ → List ℕ → Row
 key_of job name = number job ∷ Text name ∷ []
 
--- a rowid that is chosen changes no column
-unnumbered : (b : Bool) (n v x y z : Value) → image (places jobvar) (cond b (n ∷ x ∷ y ∷ z ∷ []) (v ∷ x ∷ y ∷ z ∷ [])) ≡ x ∷ y ∷ z ∷ []
-unnumbered true n v x y z = refl
-unnumbered false n v x y z = refl
-
--- rows agree on the key where both columns are equal
-agrees : (r new_row : Row) (v : JobVariable) → image (places jobvar) new_row ≡ job_variable_row v
-    → (equal Binary (column r 1) (number v.job) && (equal Binary (column r 2) (Text v.key) && true)) ≡ agree plain (1 ∷ 2 ∷ []) r (1 ∷ 2 ∷ []) new_row
-agrees r new_row v is =
-    sym (λ i. equal (first_key-plain i).collation (column r 1) (column (is i) 0) && (equal (first_key-plain i).collation (column r 2) (column (is i) 1) && true))
-
 gives : (v : JobVariable) → GivesRecord the_schema jobvar tests sets terms (key_of v.job v.key) (job_variable_row v)
 gives v = record {
   tested = λ r. refl;
@@ -79,7 +54,7 @@ gives v = record {
   source = refl;
   inserted = λ rows. unnumbered (is_null (cast Integer Null)) _ _ _ _ _ ∙ (λ i. cast_int (pos v.job) i ∷ Text v.key ∷ Text v.value ∷ []);
   absent = λ rows new_row db shaped is keyed fresh put sound.
-      absent_unique the_schema jobvar jobvar_index_1 (inr (inr (inr (inr (inr (inl refl)))))) (inr (inr (inr (inr (inl refl))))) refl rows new_row db _ (λ r. agrees r new_row v is) shaped keyed fresh put sound;
+      absent_unique the_schema jobvar jobvar_index_1 (inr (inr (inr (inr (inr (inl refl)))))) (inr (inr (inr (inr (inl refl))))) refl rows new_row db _ (λ r. agrees r new_row _ _ _ is) shaped keyed fresh put sound;
 }
 
 same_key : (job : ℕ) (name : List ℕ) (q : JobVariable) → (equal Binary (number q.job) (number job) && (equal Binary (Text q.key) (Text name) && true)) ≡ is_eq (ordering_then (nat_cmp q.job job) (slice_cmp nat_cmp q.key name))
@@ -99,19 +74,14 @@ means_remove : MeansRemove the_schema 5 jobvar DELETE_JOB_VARIABLE.now tests
 unfolding understood everything
 means_remove = record { there = refl; apart = refl; delete_is = refl; delete_plain = (refl, refl) }
 
-pub job_variable_removes : {S : Type 0} (ghosts : Ghosts S) (before after : Held S) (id : ℕ) (name : List ℕ) (count : ℕ) (s : State) → Stands s (state ghosts before).now
-    → IsWholeStep the_schema jobvar tests (key_of id name) (state ghosts before).now.trees → Changes ghosts DELETE_JOB_VARIABLE.now (key_of id name) count before after
-    → Stands (without_record (key.JobVariable id name) s) (state ghosts after).now
-job_variable_removes ghosts before after id name count s stands whole h =
-    remove_stands job_variable_row s.job_variables s (without_record (key.JobVariable id name) s) jobvar refl (alike s _) (regular_with_job_variables s _ (ascending-filter _ _ s.job_variables stands.inside.regular.job_variables) stands.inside.regular)
-    5 DELETE_JOB_VARIABLE.now tests means_remove (key_of id name) (λ r. refl) (λ q. is_eq (ordering_then (nat_cmp q.job id) (slice_cmp nat_cmp q.key name))) (same_key id name) refl ghosts before after count stands whole h
-
-job_variable_whole : (params : Row) (db : Trees) → IsWholeStep the_schema jobvar tests params db
+whole : (params : Row) (db : Trees) → IsWholeStep the_schema jobvar tests params db
 unfolding everything
-job_variable_whole params db = whole_if_alone the_schema jobvar tests params db (λ olds. refl)
+whole params db = whole_if_alone the_schema jobvar tests params db (λ olds. refl)
 
 pub job_variable_removed : {S : Type 0} (g : Ghosts S) (old new : Held S) (id : ℕ) (name : List ℕ) (s : State) → Stands s (state g old).now → RemovesUnreferred g [] DELETE_JOB_VARIABLE.now (key_of id name) old new → Stands (without_record (key.JobVariable id name) s) (state g new).now
-job_variable_removed g old new id name s stands h = job_variable_removes g h.mid new id name h.count s (subst (λ h. Stands s (state g h).now) h.none stands) (job_variable_whole (key_of id name) (state g h.mid).now.trees) h.removed
+job_variable_removed g old new id name s =
+    removed_owned g old new job_variable_row 5 jobvar (λ q. is_eq (ordering_then (nat_cmp q.job id) (slice_cmp nat_cmp q.key name))) s.job_variables (key_of id name) s (without_record (key.JobVariable id name) s) refl refl (alike s _) (λ o. regular_with_job_variables s _ (ascending-filter _ _ s.job_variables o.job_variables) o) (same_key id name) (λ r. refl)
+    DELETE_JOB_VARIABLE.now means_remove whole
 
 -- ---- two records with the same row
 
@@ -135,9 +105,5 @@ pub plain_select_of : IsPlain (understood the_schema SELECT_JOB_VARIABLES.now)
 plain_select_of = means_select_of.plain
 
 pub job_variables_found : {S : Type 0} (g : Ghosts S) (old new : Held S) (s : State) → IsAt g s old → (owner : ℕ) (found : List JobVariable) → ShowsRecords (λ row x. row ≡ job_variable_row x) g SELECT_JOB_VARIABLES.now (number owner ∷ []) old new found → found ≡ variables_of s owner
-job_variables_found g old new s at owner found h =
-    found_all (λ row x. row ≡ job_variable_row x) job_variable_row (λ x. is_eq (nat_cmp x.job owner)) s.job_variables (λ x y _ same. sym (same_job_variable y x same)) h.rows
-    (shows_sorted job_variable_row 5 jobvar refl SELECT_JOB_VARIABLES.now (is 1 0 ∷ []) (number owner ∷ []) (λ im. equal Binary (column im 0) (number owner) && true) (λ r. refl) (λ x. is_eq (nat_cmp x.job owner)) (λ x. same_number x.job owner) s s.job_variables refl h.rows
-    2 1 (λ r. refl) means_select_of (rise_within (λ x. x.job) (λ x y. slice_cmp nat_cmp x.key y.key) _ (λ x y low. rising_text x.key y.key low) owner s.job_variables at.now.inside.regular.job_variables) (state g old) (state g new) at.now h.shown)
-    found h.read
-    ∙ filter_same _ _ (λ x. is_number x.job owner) s.job_variables
+job_variables_found g old new s at =
+    owned_found g old new job_variable_row 5 jobvar (λ x. x.job) (λ x y. slice_cmp nat_cmp x.key y.key) same_job_variable refl SELECT_JOB_VARIABLES.now means_select_of (λ n r. refl) (λ n x. same_number x.job n) (λ n r. refl) (λ x y low. rising_text x.key y.key low) s s.job_variables refl at at.now.inside.regular.job_variables

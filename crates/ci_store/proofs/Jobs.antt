@@ -1,6 +1,5 @@
 -- The statements that write `job`.
-use Rattle.std.proofs.Common.{◌≡◌, ◌∙◌, ℕ, pos, List, [], ◌∷◌, if◌then◌else◌, Some, is_eq, refl, ap, ◌==◌, ◌&&◌, true, Option, sym, filter, map, take, drop, codes}
-use Rattle.std.specs.Ordering.{nat_cmp}
+use Rattle.std.proofs.Common.{◌≡◌, ◌∙◌, ℕ, pos, List, [], ◌∷◌, if◌then◌else◌, Some, refl, ap, ◌==◌, ◌&&◌, true, Option, sym, filter, map, take, drop, codes}
 use Rattle.sqlite.specs.declared.types.Value.TheVariants.{Null, Text}
 use Rattle.sqlite.specs.Order.{Row, column}
 use Rattle.sqlite.specs.Term.{Term, lit, col}
@@ -14,8 +13,7 @@ use Rattle.ci_machine.specs.declared.records.Job.{Job}
 use Rattle.ci_machine.specs.declared.change.Record.TheVariants as row
 use Rattle.ci_machine.specs.declared.change.Key.TheVariants as key
 use Rattle.ci_tables.specs.Stands.{image, places}
-use Rattle.ci_tables.specs.Ran.{Changes, HasPut}
-use Rattle.ci_tables.proofs.Writes.{IsWholeStep}
+use Rattle.ci_tables.specs.Ran.{HasPut}
 use Rattle.ci_tables.proofs.Puts.{MeansPut, MeansRemove, GivesRecord}
 use Rattle.ci_tables.proofs.Absent.{absent_rowid}
 use Rattle.ci_tables.proofs.Scalars.{cast_int}
@@ -27,7 +25,7 @@ use Rattle.ci_store.specs.Rows.{number, job_row}
 use Rattle.ci_store.specs.Stands.{rows_by_tree, rows_of, Stands, IsAt}
 use Rattle.ci_store.proofs.OneList.{IsAlike, alike_but, regular_with_jobs}
 use Rattle.ci_store.proofs.Lists.{put_rises, by_number, all_put}
-use Rattle.ci_store.proofs.Records.{is, put_stands, remove_stands, same_number, finds_number, numbered}
+use Rattle.ci_store.proofs.Records.{is, put_stands, same_number, finds_number, numbered}
 use Rattle.sqlite.specs.Collation.TheVariants.{Binary}
 use Rattle.sqlite_schema.specs.Rules.{equal}
 use Rattle.sqlite.proofs.Callers.{IsPlain}
@@ -42,7 +40,7 @@ use Rattle.sqlite_value.specs.Keys.{plain, joined}
 use Rattle.sqlite_schema.specs.declared.schema.Keys.TheVariants.{Enforced}
 use Rattle.sqlite_rules.specs.Action.{works, pairs, loses}
 use Rattle.ci_store.specs.Commit.{RemovesUnreferred}
-use Rattle.ci_store.proofs.Removals.{Referring, queries, cascades, removed_alone}
+use Rattle.ci_store.proofs.Removals.{Referring, queries, cascades, removed_numbered}
 use Rattle.ci_store.proofs.JobVariables.{refers_to_job as variables_refer}
 use Rattle.ci_store.proofs.Attempts.{refers_to_job as attempts_refer}
 use Rattle.ci_store.specs.Rows.{flag}
@@ -79,13 +77,6 @@ means_remove : MeansRemove the_schema 4 job DELETE_JOB.now (is 0 0 ∷ [])
 unfolding understood everything
 means_remove = record { there = refl; apart = refl; delete_is = refl; delete_plain = (refl, refl) }
 
-pub job_removes : {S : Type 0} (ghosts : Ghosts S) (before after : Held S) (id count : ℕ) (s : State) → Stands s (state ghosts before).now
-    → IsWholeStep the_schema job (is 0 0 ∷ []) (number id ∷ []) (state ghosts before).now.trees → Changes ghosts DELETE_JOB.now (number id ∷ []) count before after
-    → Stands (without_record (key.Job id) s) (state ghosts after).now
-job_removes ghosts before after id count s stands whole h =
-    remove_stands job_row s.jobs s (without_record (key.Job id) s) job refl (alike s _) (regular_with_jobs s _ (ascending-filter _ _ s.jobs stands.inside.regular.jobs) (all-filter _ _ s.jobs stands.inside.regular.specs) stands.inside.regular)
-    4 DELETE_JOB.now (is 0 0 ∷ []) means_remove (number id ∷ []) (λ r. refl) (λ q. is_eq (nat_cmp q.id id)) (λ q. same_number q.id id) refl ghosts before after count stands whole h
-
 -- what its removal sets off
 works_are : (olds : List Row) → works the_schema Enforced 0 job.tree olds [] ≡ cascades (list_any (loses plain (0 ∷ [])) (pairs olds [])) (variables_refer ∷ attempts_refer ∷ []) (codes "job") olds
 unfolding everything joined
@@ -93,7 +84,8 @@ works_are olds = refl
 
 pub job_removed : {S : Type 0} (g : Ghosts S) (old new : Held S) (id : ℕ) (s : State) → Stands s (state g old).now → RemovesUnreferred g (queries (variables_refer ∷ attempts_refer ∷ [])) DELETE_JOB.now (number id ∷ []) old new → Stands (without_record (key.Job id) s) (state g new).now
 job_removed g old new id s =
-    removed_alone g old new 4 job refl (codes "job") (variables_refer ∷ attempts_refer ∷ []) works_are (λ e. absurd cc, (λ e. absurd cc, tt)) DELETE_JOB.now id s (without_record (key.Job id) s) (λ mid count. job_removes g mid new id count s)
+    removed_numbered g old new job_row (λ q. q.id) s.jobs id s (without_record (key.Job id) s) 4 job refl refl refl (alike s _) (λ o. regular_with_jobs s _ (ascending-filter _ _ s.jobs o.jobs) (all-filter _ _ s.jobs o.specs) o) (λ q. same_number q.id id) (λ r. refl)
+    DELETE_JOB.now means_remove (codes "job") (variables_refer ∷ attempts_refer ∷ []) works_are (λ e. absurd cc, (λ e. absurd cc, tt))
 
 -- ---- two records with the same row
 

@@ -17,6 +17,7 @@ mod Committing
 mod Removals
 mod Reading
 mod Shows
+mod Owned
 pub mod Loading
 mod Looking
 mod Same

@@ -1,17 +1,13 @@
 -- The statements that write `piece`.
-use Rattle.std.proofs.Common.{◌≡◌, ◌∙◌, ℕ, pos, List, [], ◌∷◌, Bool, true, false, is_eq, refl, sym, inl, inr, ◌&&◌, cond, map, take, drop, subst}
+use Rattle.std.proofs.Common.{◌≡◌, ◌∙◌, ℕ, pos, List, [], ◌∷◌, true, is_eq, refl, inl, inr, ◌&&◌, map, take, drop}
 use Rattle.std.specs.Ordering.{nat_cmp, ordering_then}
-use Rattle.sqlite.specs.declared.types.Value.{Value}
 use Rattle.sqlite_value.specs.declared.keys.Collation.TheVariants.{Binary}
-use Rattle.sqlite_value.specs.Keys.{plain}
-use Rattle.sqlite_value.proofs.KeyLemmas.{first_key-plain}
 use Rattle.sqlite_sql.specs.Ops.{is_null}
-use Rattle.sqlite_schema.specs.Rules.{equal, agree}
+use Rattle.sqlite_schema.specs.Rules.{equal}
 use Rattle.sqlite.specs.Cast.{cast}
 use Rattle.sqlite.specs.Kind.TheVariants.{Integer}
 use Rattle.sqlite.specs.declared.types.Value.TheVariants.{Null, Blob}
-use Rattle.sqlite.specs.Order.{Row, column}
-use Rattle.sqlite.specs.Term.{Term, lit, col}
+use Rattle.sqlite.specs.Order.{Row}
 use Rattle.sqlite.specs.Tree.{Trees}
 use Rattle.sqlite_tied.specs.Compute.{everything}
 use Rattle.sqlite.specs.Listing.{understood}
@@ -22,8 +18,7 @@ use Rattle.ci_machine.specs.State.{State, with_record, without_record, piece_cmp
 use Rattle.ci_machine.specs.declared.records.Piece.{Piece}
 use Rattle.ci_machine.specs.declared.change.Record.TheVariants as row
 use Rattle.ci_machine.specs.declared.change.Key.TheVariants as key
-use Rattle.ci_tables.specs.Stands.{image, places}
-use Rattle.ci_tables.specs.Ran.{Changes, HasPut}
+use Rattle.ci_tables.specs.Ran.{HasPut}
 use Rattle.ci_tables.proofs.Writes.{IsWholeStep, whole_if_alone}
 use Rattle.ci_tables.proofs.Puts.{MeansPut, MeansRemove, GivesRecord}
 use Rattle.ci_tables.proofs.Absent.{absent_unique}
@@ -34,24 +29,15 @@ use Rattle.ci_store.specs.Rows.{number, piece_row}
 use Rattle.ci_store.specs.Stands.{rows_by_tree, rows_of, Stands, IsAt}
 use Rattle.ci_store.proofs.OneList.{IsAlike, alike_but, regular_with_pieces}
 use Rattle.ci_store.proofs.Lists.{put_rises, by_two}
-use Rattle.ci_store.proofs.Records.{is, put_stands, remove_stands, both_equal, same_number, is_number}
+use Rattle.ci_store.proofs.Records.{is, put_stands, both_equal, same_number}
 use Rattle.sqlite.proofs.Callers.{IsPlain}
 use Rattle.ci_tables.proofs.Selects.{MeansSelect}
 use Rattle.ci_store.specs.Calls.{ShowsRecords}
-use Rattle.sqlite_keyed.proofs.ListLemmas.{filter_same}
-use Rattle.ci_store.proofs.Shows.{columns_of, names_of, by, shows_sorted, found_all, rise_within, rising_number}
+use Rattle.ci_store.proofs.Owned.{tests, sets, terms, unnumbered, agrees, removed_owned, owned_found}
+use Rattle.ci_store.proofs.Shows.{columns_of, names_of, by, rising_number}
 use Rattle.ci_machine.specs.Step.{pieces_of}
 use Rattle.ci_store.proofs.Removals.{Referring}
 use Rattle.ci_store.specs.Commit.{RemovesUnreferred}
-
-abbrev tests : List Term
-tests = is 1 0 ∷ is 2 1 ∷ []
-
-abbrev sets : List Term
-sets = col 1 0 ∷ col 0 0 ∷ col 0 1 ∷ col 0 2 ∷ []
-
-abbrev terms : List Term
-terms = lit Null ∷ col 0 0 ∷ col 0 1 ∷ col 0 2 ∷ []
 
 means : MeansPut the_schema 7 piece UPDATE_PIECE.now INSERT_PIECE.now tests sets terms
 unfolding understood everything
@@ -60,17 +46,6 @@ means = record { there = refl; apart = refl; update_is = refl; update_plain = (r
 abbrev key_of : ℕ → ℕ → Row
 key_of attempt seq = number attempt ∷ number seq ∷ []
 
--- a rowid that is chosen changes no column
-unnumbered : (b : Bool) (n v x y z : Value) → image (places piece) (cond b (n ∷ x ∷ y ∷ z ∷ []) (v ∷ x ∷ y ∷ z ∷ [])) ≡ x ∷ y ∷ z ∷ []
-unnumbered true n v x y z = refl
-unnumbered false n v x y z = refl
-
--- rows agree on the key where both columns are equal
-agrees : (r new_row : Row) (p : Piece) → image (places piece) new_row ≡ piece_row p
-    → (equal Binary (column r 1) (number p.attempt) && (equal Binary (column r 2) (number p.seq) && true)) ≡ agree plain (1 ∷ 2 ∷ []) r (1 ∷ 2 ∷ []) new_row
-agrees r new_row p is =
-    sym (λ i. equal (first_key-plain i).collation (column r 1) (column (is i) 0) && (equal (first_key-plain i).collation (column r 2) (column (is i) 1) && true))
-
 gives : (p : Piece) → GivesRecord the_schema piece tests sets terms (key_of p.attempt p.seq) (piece_row p)
 gives p = record {
   tested = λ r. refl;
@@ -78,7 +53,7 @@ gives p = record {
   source = refl;
   inserted = λ rows. unnumbered (is_null (cast Integer Null)) _ _ _ _ _ ∙ (λ i. cast_int (pos p.attempt) i ∷ cast_int (pos p.seq) i ∷ Blob p.bytes ∷ []);
   absent = λ rows new_row db shaped is keyed fresh put sound.
-      absent_unique the_schema piece piece_index_1 (inr (inr (inr (inr (inr (inr (inr (inl refl)))))))) (inr (inr (inr (inr (inr (inr (inr (inl refl)))))))) refl rows new_row db _ (λ r. agrees r new_row p is) shaped keyed fresh put sound;
+      absent_unique the_schema piece piece_index_1 (inr (inr (inr (inr (inr (inr (inr (inl refl)))))))) (inr (inr (inr (inr (inr (inr (inr (inl refl)))))))) refl rows new_row db _ (λ r. agrees r new_row _ _ _ is) shaped keyed fresh put sound;
 }
 
 same_key : (attempt seq : ℕ) (q : Piece) → (equal Binary (number q.attempt) (number attempt) && (equal Binary (number q.seq) (number seq) && true)) ≡ is_eq (ordering_then (nat_cmp q.attempt attempt) (nat_cmp q.seq seq))
@@ -98,19 +73,14 @@ means_remove : MeansRemove the_schema 7 piece DELETE_PIECE.now tests
 unfolding understood everything
 means_remove = record { there = refl; apart = refl; delete_is = refl; delete_plain = (refl, refl) }
 
-pub piece_removes : {S : Type 0} (ghosts : Ghosts S) (before after : Held S) (attempt seq count : ℕ) (s : State) → Stands s (state ghosts before).now
-    → IsWholeStep the_schema piece tests (key_of attempt seq) (state ghosts before).now.trees → Changes ghosts DELETE_PIECE.now (key_of attempt seq) count before after
-    → Stands (without_record (key.Piece attempt seq) s) (state ghosts after).now
-piece_removes ghosts before after attempt seq count s stands whole h =
-    remove_stands piece_row s.pieces s (without_record (key.Piece attempt seq) s) piece refl (alike s _) (regular_with_pieces s _ (ascending-filter _ _ s.pieces stands.inside.regular.pieces) stands.inside.regular)
-    7 DELETE_PIECE.now tests means_remove (key_of attempt seq) (λ r. refl) (λ q. is_eq (ordering_then (nat_cmp q.attempt attempt) (nat_cmp q.seq seq))) (same_key attempt seq) refl ghosts before after count stands whole h
-
-piece_whole : (params : Row) (db : Trees) → IsWholeStep the_schema piece tests params db
+whole : (params : Row) (db : Trees) → IsWholeStep the_schema piece tests params db
 unfolding everything
-piece_whole params db = whole_if_alone the_schema piece tests params db (λ olds. refl)
+whole params db = whole_if_alone the_schema piece tests params db (λ olds. refl)
 
 pub piece_removed : {S : Type 0} (g : Ghosts S) (old new : Held S) (attempt : ℕ) (seq : ℕ) (s : State) → Stands s (state g old).now → RemovesUnreferred g [] DELETE_PIECE.now (key_of attempt seq) old new → Stands (without_record (key.Piece attempt seq) s) (state g new).now
-piece_removed g old new attempt seq s stands h = piece_removes g h.mid new attempt seq h.count s (subst (λ h. Stands s (state g h).now) h.none stands) (piece_whole (key_of attempt seq) (state g h.mid).now.trees) h.removed
+piece_removed g old new attempt seq s =
+    removed_owned g old new piece_row 7 piece (λ q. is_eq (ordering_then (nat_cmp q.attempt attempt) (nat_cmp q.seq seq))) s.pieces (key_of attempt seq) s (without_record (key.Piece attempt seq) s) refl refl (alike s _) (λ o. regular_with_pieces s _ (ascending-filter _ _ s.pieces o.pieces) o) (same_key attempt seq) (λ r. refl)
+    DELETE_PIECE.now means_remove whole
 
 -- ---- two records with the same row
 
@@ -134,9 +104,5 @@ pub plain_select_of : IsPlain (understood the_schema SELECT_PIECES.now)
 plain_select_of = means_select_of.plain
 
 pub pieces_found : {S : Type 0} (g : Ghosts S) (old new : Held S) (s : State) → IsAt g s old → (owner : ℕ) (found : List Piece) → ShowsRecords (λ row x. row ≡ piece_row x) g SELECT_PIECES.now (number owner ∷ []) old new found → found ≡ pieces_of s owner
-pieces_found g old new s at owner found h =
-    found_all (λ row x. row ≡ piece_row x) piece_row (λ x. is_eq (nat_cmp x.attempt owner)) s.pieces (λ x y _ same. sym (same_piece y x same)) h.rows
-    (shows_sorted piece_row 7 piece refl SELECT_PIECES.now (is 1 0 ∷ []) (number owner ∷ []) (λ im. equal Binary (column im 0) (number owner) && true) (λ r. refl) (λ x. is_eq (nat_cmp x.attempt owner)) (λ x. same_number x.attempt owner) s s.pieces refl h.rows
-    2 1 (λ r. refl) means_select_of (rise_within (λ x. x.attempt) (λ x y. nat_cmp x.seq y.seq) _ (λ x y low. rising_number x.seq y.seq low) owner s.pieces at.now.inside.regular.pieces) (state g old) (state g new) at.now h.shown)
-    found h.read
-    ∙ filter_same _ _ (λ x. is_number x.attempt owner) s.pieces
+pieces_found g old new s at =
+    owned_found g old new piece_row 7 piece (λ x. x.attempt) (λ x y. nat_cmp x.seq y.seq) same_piece refl SELECT_PIECES.now means_select_of (λ n r. refl) (λ n x. same_number x.attempt n) (λ n r. refl) (λ x y low. rising_number x.seq y.seq low) s s.pieces refl at at.now.inside.regular.pieces

@@ -1,6 +1,5 @@
 -- The statements that write `pipeline`.
-use Rattle.std.proofs.Common.{◌∙◌, ℕ, pos, List, [], ◌∷◌, is_eq, refl, ap, ◌≡◌, ◌==◌, ◌&&◌, true, Option, sym, map, take, drop, codes, if◌then◌else◌}
-use Rattle.std.specs.Ordering.{nat_cmp}
+use Rattle.std.proofs.Common.{◌∙◌, ℕ, pos, List, [], ◌∷◌, refl, ap, ◌≡◌, ◌==◌, ◌&&◌, true, Option, sym, map, take, drop, codes, if◌then◌else◌}
 use Rattle.sqlite.specs.declared.types.Value.TheVariants.{Null, Text}
 use Rattle.sqlite.specs.Order.{Row, column}
 use Rattle.sqlite.specs.Term.{Term, lit, col}
@@ -14,8 +13,7 @@ use Rattle.ci_machine.specs.declared.records.Pipeline.{Pipeline}
 use Rattle.ci_machine.specs.declared.change.Record.TheVariants as row
 use Rattle.ci_machine.specs.declared.change.Key.TheVariants as key
 use Rattle.ci_tables.specs.Stands.{image, places}
-use Rattle.ci_tables.specs.Ran.{Changes, HasPut}
-use Rattle.ci_tables.proofs.Writes.{IsWholeStep}
+use Rattle.ci_tables.specs.Ran.{HasPut}
 use Rattle.ci_tables.proofs.Puts.{MeansPut, MeansRemove, GivesRecord}
 use Rattle.ci_tables.proofs.Absent.{absent_rowid}
 use Rattle.ci_tables.proofs.Scalars.{cast_int}
@@ -25,7 +23,7 @@ use Rattle.ci_store.specs.Rows.{number, pipeline_row, kind_number, source_number
 use Rattle.ci_store.specs.Stands.{rows_by_tree, rows_of, Stands, IsAt}
 use Rattle.ci_store.proofs.OneList.{IsAlike, alike_but, regular_with_pipelines}
 use Rattle.ci_store.proofs.Lists.{put_rises, by_number}
-use Rattle.ci_store.proofs.Records.{is, put_stands, remove_stands, same_number, finds_number, numbered}
+use Rattle.ci_store.proofs.Records.{is, put_stands, same_number, finds_number, numbered}
 use Rattle.sqlite.specs.Collation.TheVariants.{Binary}
 use Rattle.sqlite_schema.specs.Rules.{equal}
 use Rattle.sqlite.proofs.Callers.{IsPlain}
@@ -38,7 +36,7 @@ use Rattle.sqlite_value.specs.Keys.{plain, joined}
 use Rattle.sqlite_schema.specs.declared.schema.Keys.TheVariants.{Enforced}
 use Rattle.sqlite_rules.specs.Action.{works, pairs, loses}
 use Rattle.ci_store.specs.Commit.{RemovesUnreferred}
-use Rattle.ci_store.proofs.Removals.{queries, cascades, removed_alone}
+use Rattle.ci_store.proofs.Removals.{queries, cascades, removed_numbered}
 use Rattle.ci_store.proofs.Jobs.{refers_to_pipeline}
 use Rattle.ci_machine.specs.declared.records.RefKind.{RefKind}
 use Rattle.ci_machine.specs.declared.records.RefKind.TheVariants.{Branch, Tag}
@@ -75,13 +73,6 @@ means_remove : MeansRemove the_schema 3 pipeline DELETE_PIPELINE.now (is 0 0 ∷
 unfolding understood everything
 means_remove = record { there = refl; apart = refl; delete_is = refl; delete_plain = (refl, refl) }
 
-pub pipeline_removes : {S : Type 0} (ghosts : Ghosts S) (before after : Held S) (id count : ℕ) (s : State) → Stands s (state ghosts before).now
-    → IsWholeStep the_schema pipeline (is 0 0 ∷ []) (number id ∷ []) (state ghosts before).now.trees → Changes ghosts DELETE_PIPELINE.now (number id ∷ []) count before after
-    → Stands (without_record (key.Pipeline id) s) (state ghosts after).now
-pipeline_removes ghosts before after id count s stands whole h =
-    remove_stands pipeline_row s.pipelines s (without_record (key.Pipeline id) s) pipeline refl (alike s _) (regular_with_pipelines s _ (ascending-filter _ _ s.pipelines stands.inside.regular.pipelines) stands.inside.regular)
-    3 DELETE_PIPELINE.now (is 0 0 ∷ []) means_remove (number id ∷ []) (λ r. refl) (λ q. is_eq (nat_cmp q.id id)) (λ q. same_number q.id id) refl ghosts before after count stands whole h
-
 -- what its removal sets off
 works_are : (olds : List Row) → works the_schema Enforced 0 pipeline.tree olds [] ≡ cascades (list_any (loses plain (0 ∷ [])) (pairs olds [])) (refers_to_pipeline ∷ []) (codes "pipeline") olds
 unfolding everything joined
@@ -89,7 +80,8 @@ works_are olds = refl
 
 pub pipeline_removed : {S : Type 0} (g : Ghosts S) (old new : Held S) (id : ℕ) (s : State) → Stands s (state g old).now → RemovesUnreferred g (queries (refers_to_pipeline ∷ [])) DELETE_PIPELINE.now (number id ∷ []) old new → Stands (without_record (key.Pipeline id) s) (state g new).now
 pipeline_removed g old new id s =
-    removed_alone g old new 3 pipeline refl (codes "pipeline") (refers_to_pipeline ∷ []) works_are (λ e. absurd cc, tt) DELETE_PIPELINE.now id s (without_record (key.Pipeline id) s) (λ mid count. pipeline_removes g mid new id count s)
+    removed_numbered g old new pipeline_row (λ q. q.id) s.pipelines id s (without_record (key.Pipeline id) s) 3 pipeline refl refl refl (alike s _) (λ o. regular_with_pipelines s _ (ascending-filter _ _ s.pipelines o.pipelines) o) (λ q. same_number q.id id) (λ r. refl)
+    DELETE_PIPELINE.now means_remove (codes "pipeline") (refers_to_pipeline ∷ []) works_are (λ e. absurd cc, tt)
 
 -- ---- two records with the same row
 

@@ -1,6 +1,5 @@
 -- The statements that write `project`.
-use Rattle.std.proofs.Common.{◌∙◌, ℕ, pos, List, [], ◌∷◌, is_eq, refl, ap, ◌≡◌, ◌==◌, ◌&&◌, true, Option, sym, map, take, drop, codes}
-use Rattle.std.specs.Ordering.{nat_cmp}
+use Rattle.std.proofs.Common.{◌∙◌, ℕ, pos, List, [], ◌∷◌, refl, ap, ◌≡◌, ◌==◌, ◌&&◌, true, Option, sym, map, take, drop, codes}
 use Rattle.sqlite.specs.declared.types.Value.TheVariants.{Null, Text}
 use Rattle.sqlite.specs.Order.{Row, column}
 use Rattle.sqlite.specs.Term.{Term, lit, col}
@@ -14,8 +13,7 @@ use Rattle.ci_machine.specs.declared.records.Project.{Project}
 use Rattle.ci_machine.specs.declared.change.Record.TheVariants as row
 use Rattle.ci_machine.specs.declared.change.Key.TheVariants as key
 use Rattle.ci_tables.specs.Stands.{image, places}
-use Rattle.ci_tables.specs.Ran.{Changes, HasPut}
-use Rattle.ci_tables.proofs.Writes.{IsWholeStep}
+use Rattle.ci_tables.specs.Ran.{HasPut}
 use Rattle.ci_tables.proofs.Puts.{MeansPut, MeansRemove, GivesRecord}
 use Rattle.ci_tables.proofs.Absent.{absent_rowid}
 use Rattle.ci_tables.proofs.Scalars.{cast_int, cast_text}
@@ -25,7 +23,7 @@ use Rattle.ci_store.specs.Rows.{number, project_row}
 use Rattle.ci_store.specs.Stands.{rows_by_tree, rows_of, Stands, IsAt}
 use Rattle.ci_store.proofs.OneList.{IsAlike, alike_but, regular_with_projects}
 use Rattle.ci_store.proofs.Lists.{put_rises, by_number}
-use Rattle.ci_store.proofs.Records.{is, put_stands, remove_stands, same_number, finds_number, finds_text, numbered}
+use Rattle.ci_store.proofs.Records.{is, put_stands, same_number, finds_number, finds_text, numbered}
 use Rattle.sqlite.specs.Collation.TheVariants.{Binary}
 use Rattle.sqlite_schema.specs.Rules.{equal}
 use Rattle.sqlite.proofs.Callers.{IsPlain}
@@ -39,7 +37,7 @@ use Rattle.sqlite_value.specs.Keys.{plain}
 use Rattle.sqlite_schema.specs.declared.schema.Keys.TheVariants.{Enforced}
 use Rattle.sqlite_rules.specs.Action.{works, pairs, loses}
 use Rattle.ci_store.specs.Commit.{RemovesUnreferred}
-use Rattle.ci_store.proofs.Removals.{cascades, removed_alone}
+use Rattle.ci_store.proofs.Removals.{cascades, removed_numbered}
 use Rattle.sqlite.specs.Values.{or_null}
 use Rattle.ci_store.proofs.Same.{same_words}
 
@@ -73,13 +71,6 @@ means_remove : MeansRemove the_schema 1 project DELETE_PROJECT.now (is 0 0 ∷ [
 unfolding understood everything
 means_remove = record { there = refl; apart = refl; delete_is = refl; delete_plain = (refl, refl) }
 
-pub project_removes : {S : Type 0} (ghosts : Ghosts S) (before after : Held S) (id count : ℕ) (s : State) → Stands s (state ghosts before).now
-    → IsWholeStep the_schema project (is 0 0 ∷ []) (number id ∷ []) (state ghosts before).now.trees → Changes ghosts DELETE_PROJECT.now (number id ∷ []) count before after
-    → Stands (without_record (key.Project id) s) (state ghosts after).now
-project_removes ghosts before after id count s stands whole h =
-    remove_stands project_row s.projects s (without_record (key.Project id) s) project refl (alike s _) (regular_with_projects s _ (ascending-filter _ _ s.projects stands.inside.regular.projects) stands.inside.regular)
-    1 DELETE_PROJECT.now (is 0 0 ∷ []) means_remove (number id ∷ []) (λ r. refl) (λ q. is_eq (nat_cmp q.id id)) (λ q. same_number q.id id) refl ghosts before after count stands whole h
-
 -- what its removal sets off
 works_are : (olds : List Row) → works the_schema Enforced 0 project.tree olds [] ≡ cascades (list_any (loses plain (0 ∷ [])) (pairs olds [])) [] (codes "project") olds
 unfolding everything
@@ -87,7 +78,8 @@ works_are olds = refl
 
 pub project_removed : {S : Type 0} (g : Ghosts S) (old new : Held S) (id : ℕ) (s : State) → Stands s (state g old).now → RemovesUnreferred g [] DELETE_PROJECT.now (number id ∷ []) old new → Stands (without_record (key.Project id) s) (state g new).now
 project_removed g old new id s =
-    removed_alone g old new 1 project refl (codes "project") [] works_are tt DELETE_PROJECT.now id s (without_record (key.Project id) s) (λ mid count. project_removes g mid new id count s)
+    removed_numbered g old new project_row (λ q. q.id) s.projects id s (without_record (key.Project id) s) 1 project refl refl refl (alike s _) (λ o. regular_with_projects s _ (ascending-filter _ _ s.projects o.projects) o) (λ q. same_number q.id id) (λ r. refl)
+    DELETE_PROJECT.now means_remove (codes "project") [] works_are tt
 
 -- ---- two records with the same row
 

@@ -1,6 +1,7 @@
 -- The removal of a row that rows of other tables may refer to.
-use Rattle.std.proofs.Common.{◌≡◌, ◌≢◌, ℕ, pos, List, [], ◌∷◌, ◌++◌, map, Bool, true, false, ◌&&◌, cond, Some, None, Result, OnOk, IsTrue, slice_get, refl, sym, ap, subst, ◌∙◌, inl, inr}
+use Rattle.std.proofs.Common.{◌≡◌, ◌≢◌, ℕ, pos, List, [], ◌∷◌, ◌++◌, map, filter, not, is_eq, Bool, true, false, ◌&&◌, cond, Some, None, Result, OnOk, IsTrue, slice_get, refl, sym, ap, subst, ◌∙◌, inl, inr}
 use Rattle.std.specs.List.{AllByRecursion, list_any, cons_option}
+use Rattle.std.specs.Ordering.{nat_cmp}
 use Rattle.sqlite_value.specs.declared.keys.Key.{Key as Order}
 use Rattle.sqlite_value.specs.Keys.{plain}
 use Rattle.sqlite.specs.Order.{Row, column}
@@ -21,17 +22,20 @@ use Rattle.sqlite_trees.specs.View.{IsShaped}
 use Rattle.sqlite_trees.specs.declared.store.Shape.TheVariants as shape
 use Rattle.ci_machine.specs.State.{State, without_record}
 use Rattle.ci_machine.specs.declared.change.Key.{Key}
-use Rattle.ci_tables.specs.Stands.{Holds}
+use Rattle.ci_tables.specs.Stands.{Holds, has_key, image, places}
 use Rattle.ci_tables.specs.Ran.{Changes}
 use Rattle.ci_tables.proofs.Scalars.{on_ok}
+use Rattle.ci_tables.proofs.Queries.{picks}
 use Rattle.ci_tables.proofs.Writes.{IsWholeStep}
+use Rattle.ci_tables.proofs.Puts.{MeansRemove}
 use Rattle.ci_tables.proofs.Childless.{IsChildless, LacksChild, cascade, lone, whole_if_childless}
 use Rattle.ci_tables.proofs.Selects.{MeansSelect, shows_none, shown_same}
 use Rattle.ci_store.specs.Schema.{the_schema}
 use Rattle.ci_store.specs.Rows.{number}
-use Rattle.ci_store.specs.Stands.{Stands, rows_of}
+use Rattle.ci_store.specs.Stands.{Stands, IsRegular, rows_of}
 use Rattle.ci_store.specs.Commit.{Makes, ShowsNone, RemovesUnreferred}
-use Rattle.ci_store.proofs.Records.{is}
+use Rattle.ci_store.proofs.OneList.{IsAlike}
+use Rattle.ci_store.proofs.Records.{is, remove_stands}
 
 -- a table with a column that refers to another's number, and a query of the rows that refer to one
 pub record Referring : Type 0 where
@@ -121,6 +125,17 @@ module _ {S : Type 0} (g : Ghosts S) (old new : Held S) where
       let stands' = subst (Stands s) (unchanged_by g s id h.mid rs old stands h.none) stands in
       let lacks = lacks_each g s id h.mid rs old stands h.none in
       removes h.mid h.count stands' (whole_if_unreferred table parent rs works_are apart id (state g h.mid).now.trees (shaped_in s (state g h.mid).now stands' at table there) lacks) h.removed
+
+  -- the removal of a record by its number
+  pub removed_numbered : {A : Type 0} (values : A → Row) (id_of : A → ℕ) (xs : List A) (id : ℕ) (s t : State) (at : ℕ) (table : Table) → slice_get the_schema.tables at ≡ Some table → rows_of s table.tree ≡ map values xs
+      → rows_of t table.tree ≡ map values (filter (λ x. not (is_eq (nat_cmp (id_of x) id))) xs) → IsAlike (rows_of s) (rows_of t) table → (IsRegular s → IsRegular t)
+      → ((x : A) → has_key (number id ∷ []) (values x) ≡ is_eq (nat_cmp (id_of x) id)) → ((r : Row) → picks (is 0 0 ∷ []) (number id ∷ []) r ≡ has_key (number id ∷ []) (image (places table) r))
+      → (delete : List ℕ) → MeansRemove the_schema at table delete (is 0 0 ∷ []) → (parent : List ℕ) (rs : List Referring)
+      → ((olds : List Row) → works the_schema Enforced 0 table.tree olds [] ≡ cascades (list_any (loses plain (0 ∷ [])) (pairs olds [])) rs parent olds) → AllByRecursion (λ r. r.child.tree ≢ table.tree) rs
+      → Stands s (state g old).now → RemovesUnreferred g (queries rs) delete (number id ∷ []) old new → Stands t (state g new).now
+  removed_numbered values id_of xs id s t at table there was gone alike regular keyed tested delete means parent rs works_are apart stands =
+      removed_alone at table there parent rs works_are apart delete id s t
+      (λ mid count stands' whole h. remove_stands values xs s t table was alike (regular stands.inside.regular) at delete (is 0 0 ∷ []) means (number id ∷ []) tested (λ x. is_eq (nat_cmp (id_of x) id)) keyed gone g mid new count stands' whole h) stands
 
   -- the same removal by values that are the same
   pub by_key : {A E : Type 0} (result : Result A E) (texts : List (List ℕ)) (delete : List ℕ) {params row : Row} → params ≡ row → OnOk result (IsTrue new.in_transaction × RemovesUnreferred g texts delete params old new)

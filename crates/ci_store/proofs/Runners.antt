@@ -1,6 +1,5 @@
 -- The statements that write `runner`.
-use Rattle.std.proofs.Common.{◌≡◌, ◌∙◌, ℕ, pos, List, [], ◌∷◌, if◌then◌else◌, Some, is_eq, refl, ap, ◌&&◌, true, Option, sym, map, take, drop, codes}
-use Rattle.std.specs.Ordering.{nat_cmp}
+use Rattle.std.proofs.Common.{◌≡◌, ◌∙◌, ℕ, pos, List, [], ◌∷◌, if◌then◌else◌, Some, refl, ap, ◌&&◌, true, Option, sym, map, take, drop, codes}
 use Rattle.sqlite.specs.declared.types.Value.TheVariants.{Null, Text}
 use Rattle.sqlite.specs.Order.{Row, column}
 use Rattle.sqlite.specs.Term.{Term, lit, col}
@@ -14,8 +13,7 @@ use Rattle.ci_machine.specs.declared.records.Runner.{Runner}
 use Rattle.ci_machine.specs.declared.change.Record.TheVariants as row
 use Rattle.ci_machine.specs.declared.change.Key.TheVariants as key
 use Rattle.ci_tables.specs.Stands.{image, places}
-use Rattle.ci_tables.specs.Ran.{Changes, HasPut}
-use Rattle.ci_tables.proofs.Writes.{IsWholeStep}
+use Rattle.ci_tables.specs.Ran.{HasPut}
 use Rattle.ci_tables.proofs.Puts.{MeansPut, MeansRemove, GivesRecord}
 use Rattle.ci_tables.proofs.Absent.{absent_rowid}
 use Rattle.ci_tables.proofs.Scalars.{cast_int}
@@ -27,7 +25,7 @@ use Rattle.ci_store.specs.Rows.{number, runner_row}
 use Rattle.ci_store.specs.Stands.{rows_by_tree, rows_of, Stands, IsAt}
 use Rattle.ci_store.proofs.OneList.{IsAlike, alike_but, regular_with_runners}
 use Rattle.ci_store.proofs.Lists.{put_rises, by_number, all_put}
-use Rattle.ci_store.proofs.Records.{is, put_stands, remove_stands, same_number, finds_text, numbered, cast_option}
+use Rattle.ci_store.proofs.Records.{is, put_stands, same_number, finds_text, numbered, cast_option}
 use Rattle.sqlite.specs.Collation.TheVariants.{Binary}
 use Rattle.sqlite_schema.specs.Rules.{equal}
 use Rattle.sqlite.proofs.Callers.{IsPlain}
@@ -43,7 +41,7 @@ use Rattle.sqlite_value.specs.Keys.{plain}
 use Rattle.sqlite_schema.specs.declared.schema.Keys.TheVariants.{Enforced}
 use Rattle.sqlite_rules.specs.Action.{works, pairs, loses}
 use Rattle.ci_store.specs.Commit.{RemovesUnreferred}
-use Rattle.ci_store.proofs.Removals.{cascades, removed_alone}
+use Rattle.ci_store.proofs.Removals.{cascades, removed_numbered}
 use Rattle.sqlite.specs.Values.{or_null}
 use Rattle.ci_store.specs.Rows.{flag}
 use Rattle.ci_store.specs.Load.{ReadsTags, runner_cells}
@@ -79,13 +77,6 @@ means_remove : MeansRemove the_schema 2 runner DELETE_RUNNER.now (is 0 0 ∷ [])
 unfolding understood everything
 means_remove = record { there = refl; apart = refl; delete_is = refl; delete_plain = (refl, refl) }
 
-pub runner_removes : {S : Type 0} (ghosts : Ghosts S) (before after : Held S) (id count : ℕ) (s : State) → Stands s (state ghosts before).now
-    → IsWholeStep the_schema runner (is 0 0 ∷ []) (number id ∷ []) (state ghosts before).now.trees → Changes ghosts DELETE_RUNNER.now (number id ∷ []) count before after
-    → Stands (without_record (key.Runner id) s) (state ghosts after).now
-runner_removes ghosts before after id count s stands whole h =
-    remove_stands runner_row s.runners s (without_record (key.Runner id) s) runner refl (alike s _) (regular_with_runners s _ (ascending-filter _ _ s.runners stands.inside.regular.runners) (all-filter _ _ s.runners stands.inside.regular.tags) stands.inside.regular)
-    2 DELETE_RUNNER.now (is 0 0 ∷ []) means_remove (number id ∷ []) (λ r. refl) (λ q. is_eq (nat_cmp q.id id)) (λ q. same_number q.id id) refl ghosts before after count stands whole h
-
 -- what its removal sets off
 works_are : (olds : List Row) → works the_schema Enforced 0 runner.tree olds [] ≡ cascades (list_any (loses plain (0 ∷ [])) (pairs olds [])) [] (codes "runner") olds
 unfolding everything
@@ -93,7 +84,8 @@ works_are olds = refl
 
 pub runner_removed : {S : Type 0} (g : Ghosts S) (old new : Held S) (id : ℕ) (s : State) → Stands s (state g old).now → RemovesUnreferred g [] DELETE_RUNNER.now (number id ∷ []) old new → Stands (without_record (key.Runner id) s) (state g new).now
 runner_removed g old new id s =
-    removed_alone g old new 2 runner refl (codes "runner") [] works_are tt DELETE_RUNNER.now id s (without_record (key.Runner id) s) (λ mid count. runner_removes g mid new id count s)
+    removed_numbered g old new runner_row (λ q. q.id) s.runners id s (without_record (key.Runner id) s) 2 runner refl refl refl (alike s _) (λ o. regular_with_runners s _ (ascending-filter _ _ s.runners o.runners) (all-filter _ _ s.runners o.tags) o) (λ q. same_number q.id id) (λ r. refl)
+    DELETE_RUNNER.now means_remove (codes "runner") [] works_are tt
 
 -- ---- two records with the same row
 

@@ -1,183 +1,159 @@
 -- The tables and the indexes, as their texts define them.
-use Rattle.std.specs.Prelude.{true, false, [], ◌∷◌, Some, None, codes}
+use Rattle.std.specs.Prelude.{ℕ, Bool, true, false, List, [], ◌∷◌, map, Some, None, codes}
 use Rattle.sqlite.specs.Collation.TheVariants.{Binary}
 use Rattle.sqlite.specs.declared.types.Value.TheVariants.{Null}
 use Rattle.sqlite.specs.Table.{Table}
 use Rattle.sqlite.specs.Schema.{Schema}
 use Rattle.sqlite_schema.specs.declared.schema.Index.{Index}
+use Rattle.sqlite_schema.specs.declared.schema.Column.{Column}
+use Rattle.sqlite_schema.specs.declared.schema.Reference.{Reference}
+use Rattle.sqlite_schema.specs.declared.schema.Action.{Action}
 use Rattle.sqlite_schema.specs.declared.schema.Action.TheVariants.{NoAction, Cascade}
 use Rattle.sqlite_value.specs.Keys.{plain}
 use Rattle.sqlite_catalog.specs.Listing.{automatic}
+use Rattle.sqlite.specs.Kind.{Kind}
 use Rattle.sqlite.specs.Kind.TheVariants.{Integer, Text, Blob}
 
-abbrev pub meta : Table
-meta = record {
-  name = codes "meta";
-  tree = 0;
-  columns = (record { name = codes "key"; kind = Text; is_strict = true; not_null = true; default = Null; collation = Binary })
-      ∷ (record { name = codes "num"; kind = Integer; is_strict = true; not_null = true; default = Null; collation = Binary })
-      ∷ [];
-  key = None;
-  primary = 1 ∷ [];
-  uniques = (1 ∷ []) ∷ [];
-  orders = plain ∷ [];
+-- a column of a strict table: its name, its type, and whether it is NOT NULL
+abbrev column : List ℕ → Kind → Bool → Column
+column name kind not_null = record { name = name; kind = kind; is_strict = true; not_null = not_null; default = Null; collation = Binary }
+
+-- a column that refers to the number of another table's row
+abbrev refers : ℕ → List ℕ → Action → Reference
+refers place parent on_delete = record { columns = place ∷ []; parent = parent; parent_columns = codes "id" ∷ []; on_delete = on_delete; on_update = NoAction; is_deferred = false }
+
+-- a table whose key is its first column, a number: its name, tree and columns, what else is unique, and what it refers to
+abbrev numbered : List ℕ → ℕ → List Column → List (List ℕ) → List Reference → Table
+numbered name tree columns uniques references = record {
+  name = name;
+  tree = tree;
+  columns = columns;
+  key = Some 0;
+  primary = 0 ∷ [];
+  uniques = uniques;
+  orders = map (λ _. plain) uniques;
   checks = [];
-  references = [];
+  references = references;
   computed = [];
   stamps = record { places = []; terms = []; formats = [] };
   is_counted = false;
 }
+
+-- a table whose key is the columns at these places of its rows, after the rowid
+abbrev keyed : List ℕ → ℕ → List Column → List ℕ → List Reference → Table
+keyed name tree columns primary references = record {
+  name = name;
+  tree = tree;
+  columns = columns;
+  key = None;
+  primary = primary;
+  uniques = primary ∷ [];
+  orders = plain ∷ [];
+  checks = [];
+  references = references;
+  computed = [];
+  stamps = record { places = []; terms = []; formats = [] };
+  is_counted = false;
+}
+
+abbrev pub meta : Table
+meta =
+    keyed (codes "meta") 0
+    (column (codes "key") Text true
+    ∷ column (codes "num") Integer true
+    ∷ [])
+    (1 ∷ []) []
 
 abbrev pub meta_index_1 : Index
 meta_index_1 = automatic meta 0 (1 ∷ []) 1
 
 abbrev pub project : Table
-project = record {
-  name = codes "project";
-  tree = 2;
-  columns = (record { name = codes "id"; kind = Integer; is_strict = true; not_null = false; default = Null; collation = Binary })
-      ∷ (record { name = codes "name"; kind = Text; is_strict = true; not_null = true; default = Null; collation = Binary })
-      ∷ (record { name = codes "token"; kind = Text; is_strict = true; not_null = true; default = Null; collation = Binary })
-      ∷ (record { name = codes "file"; kind = Text; is_strict = true; not_null = false; default = Null; collation = Binary })
-      ∷ [];
-  key = Some 0;
-  primary = 0 ∷ [];
-  uniques = (3 ∷ []) ∷ [];
-  orders = plain ∷ [];
-  checks = [];
-  references = [];
-  computed = [];
-  stamps = record { places = []; terms = []; formats = [] };
-  is_counted = false;
-}
+project =
+    numbered (codes "project") 2
+    (column (codes "id") Integer false
+    ∷ column (codes "name") Text true
+    ∷ column (codes "token") Text true
+    ∷ column (codes "file") Text false
+    ∷ [])
+    ((3 ∷ []) ∷ []) []
 
 abbrev pub project_index_1 : Index
 project_index_1 = automatic project 0 (3 ∷ []) 3
 
 abbrev pub runner : Table
-runner = record {
-  name = codes "runner";
-  tree = 4;
-  columns = (record { name = codes "id"; kind = Integer; is_strict = true; not_null = false; default = Null; collation = Binary })
-      ∷ (record { name = codes "name"; kind = Text; is_strict = true; not_null = true; default = Null; collation = Binary })
-      ∷ (record { name = codes "token"; kind = Text; is_strict = true; not_null = true; default = Null; collation = Binary })
-      ∷ (record { name = codes "project"; kind = Integer; is_strict = true; not_null = false; default = Null; collation = Binary })
-      ∷ (record { name = codes "tags"; kind = Text; is_strict = true; not_null = true; default = Null; collation = Binary })
-      ∷ (record { name = codes "untagged"; kind = Integer; is_strict = true; not_null = true; default = Null; collation = Binary })
-      ∷ (record { name = codes "paused"; kind = Integer; is_strict = true; not_null = true; default = Null; collation = Binary })
-      ∷ [];
-  key = Some 0;
-  primary = 0 ∷ [];
-  uniques = (3 ∷ []) ∷ [];
-  orders = plain ∷ [];
-  checks = [];
-  references = (record { columns = 4 ∷ []; parent = codes "project"; parent_columns = codes "id" ∷ []; on_delete = NoAction; on_update = NoAction; is_deferred = false }) ∷ [];
-  computed = [];
-  stamps = record { places = []; terms = []; formats = [] };
-  is_counted = false;
-}
+runner =
+    numbered (codes "runner") 4
+    (column (codes "id") Integer false
+    ∷ column (codes "name") Text true
+    ∷ column (codes "token") Text true
+    ∷ column (codes "project") Integer false
+    ∷ column (codes "tags") Text true
+    ∷ column (codes "untagged") Integer true
+    ∷ column (codes "paused") Integer true
+    ∷ [])
+    ((3 ∷ []) ∷ []) (refers 4 (codes "project") NoAction ∷ [])
 
 abbrev pub runner_index_1 : Index
 runner_index_1 = automatic runner 0 (3 ∷ []) 5
 
 abbrev pub pipeline : Table
-pipeline = record {
-  name = codes "pipeline";
-  tree = 6;
-  columns = (record { name = codes "id"; kind = Integer; is_strict = true; not_null = false; default = Null; collation = Binary })
-      ∷ (record { name = codes "project"; kind = Integer; is_strict = true; not_null = true; default = Null; collation = Binary })
-      ∷ (record { name = codes "ref"; kind = Text; is_strict = true; not_null = true; default = Null; collation = Binary })
-      ∷ (record { name = codes "kind"; kind = Integer; is_strict = true; not_null = true; default = Null; collation = Binary })
-      ∷ (record { name = codes "source"; kind = Integer; is_strict = true; not_null = true; default = Null; collation = Binary })
-      ∷ (record { name = codes "created"; kind = Integer; is_strict = true; not_null = true; default = Null; collation = Binary })
-      ∷ [];
-  key = Some 0;
-  primary = 0 ∷ [];
-  uniques = [];
-  orders = [];
-  checks = [];
-  references = (record { columns = 2 ∷ []; parent = codes "project"; parent_columns = codes "id" ∷ []; on_delete = NoAction; on_update = NoAction; is_deferred = false }) ∷ [];
-  computed = [];
-  stamps = record { places = []; terms = []; formats = [] };
-  is_counted = false;
-}
+pipeline =
+    numbered (codes "pipeline") 6
+    (column (codes "id") Integer false
+    ∷ column (codes "project") Integer true
+    ∷ column (codes "ref") Text true
+    ∷ column (codes "kind") Integer true
+    ∷ column (codes "source") Integer true
+    ∷ column (codes "created") Integer true
+    ∷ [])
+    [] (refers 2 (codes "project") NoAction ∷ [])
 
 abbrev pub job : Table
-job = record {
-  name = codes "job";
-  tree = 7;
-  columns = (record { name = codes "id"; kind = Integer; is_strict = true; not_null = false; default = Null; collation = Binary })
-      ∷ (record { name = codes "pipeline"; kind = Integer; is_strict = true; not_null = true; default = Null; collation = Binary })
-      ∷ (record { name = codes "pos"; kind = Integer; is_strict = true; not_null = true; default = Null; collation = Binary })
-      ∷ (record { name = codes "name"; kind = Text; is_strict = true; not_null = true; default = Null; collation = Binary })
-      ∷ (record { name = codes "stage"; kind = Text; is_strict = true; not_null = true; default = Null; collation = Binary })
-      ∷ (record { name = codes "spec"; kind = Text; is_strict = true; not_null = true; default = Null; collation = Binary })
-      ∷ (record { name = codes "played"; kind = Integer; is_strict = true; not_null = true; default = Null; collation = Binary })
-      ∷ (record { name = codes "cancelled"; kind = Integer; is_strict = true; not_null = true; default = Null; collation = Binary })
-      ∷ (record { name = codes "aside"; kind = Integer; is_strict = true; not_null = true; default = Null; collation = Binary })
-      ∷ [];
-  key = Some 0;
-  primary = 0 ∷ [];
-  uniques = [];
-  orders = [];
-  checks = [];
-  references = (record { columns = 2 ∷ []; parent = codes "pipeline"; parent_columns = codes "id" ∷ []; on_delete = Cascade; on_update = NoAction; is_deferred = false }) ∷ [];
-  computed = [];
-  stamps = record { places = []; terms = []; formats = [] };
-  is_counted = false;
-}
+job =
+    numbered (codes "job") 7
+    (column (codes "id") Integer false
+    ∷ column (codes "pipeline") Integer true
+    ∷ column (codes "pos") Integer true
+    ∷ column (codes "name") Text true
+    ∷ column (codes "stage") Text true
+    ∷ column (codes "spec") Text true
+    ∷ column (codes "played") Integer true
+    ∷ column (codes "cancelled") Integer true
+    ∷ column (codes "aside") Integer true
+    ∷ [])
+    [] (refers 2 (codes "pipeline") Cascade ∷ [])
 
 abbrev pub job_pipeline : Index
 job_pipeline = record { name = codes "job_pipeline"; tree = 8; table = 7; columns = 2 ∷ []; order = plain; is_unique = false }
 
 abbrev pub jobvar : Table
-jobvar = record {
-  name = codes "jobvar";
-  tree = 9;
-  columns = (record { name = codes "job"; kind = Integer; is_strict = true; not_null = true; default = Null; collation = Binary })
-      ∷ (record { name = codes "key"; kind = Text; is_strict = true; not_null = true; default = Null; collation = Binary })
-      ∷ (record { name = codes "value"; kind = Text; is_strict = true; not_null = true; default = Null; collation = Binary })
-      ∷ [];
-  key = None;
-  primary = 1 ∷ 2 ∷ [];
-  uniques = (1 ∷ 2 ∷ []) ∷ [];
-  orders = plain ∷ [];
-  checks = [];
-  references = (record { columns = 1 ∷ []; parent = codes "job"; parent_columns = codes "id" ∷ []; on_delete = Cascade; on_update = NoAction; is_deferred = false }) ∷ [];
-  computed = [];
-  stamps = record { places = []; terms = []; formats = [] };
-  is_counted = false;
-}
+jobvar =
+    keyed (codes "jobvar") 9
+    (column (codes "job") Integer true
+    ∷ column (codes "key") Text true
+    ∷ column (codes "value") Text true
+    ∷ [])
+    (1 ∷ 2 ∷ []) (refers 1 (codes "job") Cascade ∷ [])
 
 abbrev pub jobvar_index_1 : Index
 jobvar_index_1 = automatic jobvar 0 (1 ∷ 2 ∷ []) 10
 
 abbrev pub attempt : Table
-attempt = record {
-  name = codes "attempt";
-  tree = 11;
-  columns = (record { name = codes "id"; kind = Integer; is_strict = true; not_null = false; default = Null; collation = Binary })
-      ∷ (record { name = codes "job"; kind = Integer; is_strict = true; not_null = true; default = Null; collation = Binary })
-      ∷ (record { name = codes "runner"; kind = Integer; is_strict = true; not_null = true; default = Null; collation = Binary })
-      ∷ (record { name = codes "token"; kind = Text; is_strict = true; not_null = true; default = Null; collation = Binary })
-      ∷ (record { name = codes "granted"; kind = Integer; is_strict = true; not_null = true; default = Null; collation = Binary })
-      ∷ (record { name = codes "seen"; kind = Integer; is_strict = true; not_null = true; default = Null; collation = Binary })
-      ∷ (record { name = codes "state"; kind = Integer; is_strict = true; not_null = true; default = Null; collation = Binary })
-      ∷ (record { name = codes "cause"; kind = Integer; is_strict = true; not_null = false; default = Null; collation = Binary })
-      ∷ (record { name = codes "exit"; kind = Integer; is_strict = true; not_null = false; default = Null; collation = Binary })
-      ∷ (record { name = codes "pieces"; kind = Integer; is_strict = true; not_null = true; default = Null; collation = Binary })
-      ∷ (record { name = codes "size"; kind = Integer; is_strict = true; not_null = true; default = Null; collation = Binary })
-      ∷ [];
-  key = Some 0;
-  primary = 0 ∷ [];
-  uniques = [];
-  orders = [];
-  checks = [];
-  references = (record { columns = 2 ∷ []; parent = codes "job"; parent_columns = codes "id" ∷ []; on_delete = Cascade; on_update = NoAction; is_deferred = false }) ∷ (record { columns = 3 ∷ []; parent = codes "runner"; parent_columns = codes "id" ∷ []; on_delete = NoAction; on_update = NoAction; is_deferred = false }) ∷ [];
-  computed = [];
-  stamps = record { places = []; terms = []; formats = [] };
-  is_counted = false;
-}
+attempt =
+    numbered (codes "attempt") 11
+    (column (codes "id") Integer false
+    ∷ column (codes "job") Integer true
+    ∷ column (codes "runner") Integer true
+    ∷ column (codes "token") Text true
+    ∷ column (codes "granted") Integer true
+    ∷ column (codes "seen") Integer true
+    ∷ column (codes "state") Integer true
+    ∷ column (codes "cause") Integer false
+    ∷ column (codes "exit") Integer false
+    ∷ column (codes "pieces") Integer true
+    ∷ column (codes "size") Integer true
+    ∷ [])
+    [] (refers 2 (codes "job") Cascade ∷ refers 3 (codes "runner") NoAction ∷ [])
 
 abbrev pub attempt_job : Index
 attempt_job = record { name = codes "attempt_job"; tree = 12; table = 11; columns = 2 ∷ []; order = plain; is_unique = false }
@@ -186,23 +162,13 @@ abbrev pub attempt_state : Index
 attempt_state = record { name = codes "attempt_state"; tree = 13; table = 11; columns = 7 ∷ []; order = plain; is_unique = false }
 
 abbrev pub piece : Table
-piece = record {
-  name = codes "piece";
-  tree = 14;
-  columns = (record { name = codes "attempt"; kind = Integer; is_strict = true; not_null = true; default = Null; collation = Binary })
-      ∷ (record { name = codes "seq"; kind = Integer; is_strict = true; not_null = true; default = Null; collation = Binary })
-      ∷ (record { name = codes "bytes"; kind = Blob; is_strict = true; not_null = true; default = Null; collation = Binary })
-      ∷ [];
-  key = None;
-  primary = 1 ∷ 2 ∷ [];
-  uniques = (1 ∷ 2 ∷ []) ∷ [];
-  orders = plain ∷ [];
-  checks = [];
-  references = (record { columns = 1 ∷ []; parent = codes "attempt"; parent_columns = codes "id" ∷ []; on_delete = Cascade; on_update = NoAction; is_deferred = false }) ∷ [];
-  computed = [];
-  stamps = record { places = []; terms = []; formats = [] };
-  is_counted = false;
-}
+piece =
+    keyed (codes "piece") 14
+    (column (codes "attempt") Integer true
+    ∷ column (codes "seq") Integer true
+    ∷ column (codes "bytes") Blob true
+    ∷ [])
+    (1 ∷ 2 ∷ []) (refers 1 (codes "attempt") Cascade ∷ [])
 
 abbrev pub piece_index_1 : Index
 piece_index_1 = automatic piece 0 (1 ∷ 2 ∷ []) 15

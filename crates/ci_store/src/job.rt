@@ -24,13 +24,12 @@ fn options_at(alloc: Global, row: &Row, at: usize) -> Result<JobOptions, StoreFa
 }
 
 impl Stored for Job {
-    ghost use Rattle.ci_machine.specs.State.{with_record};
     ghost use Rattle.ci_machine.specs.declared.change.Record.TheVariants as variant;
     ghost use Rattle.ci_store.specs.Load.{IsJobRow};
 
     ghost is_row = { IsJobRow };
 
-    ghost put_in = { λ x. with_record (variant.Job x) };
+    ghost as_record = { variant.Job };
 
     fn read(alloc: Global, row: &Row) -> Result<Job, StoreFault> {
         has_columns(row, 9)?;

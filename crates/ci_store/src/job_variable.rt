@@ -11,14 +11,13 @@ use sqlite::{Alter, Row, Transaction};
 use std::alloc::Global;
 
 impl Stored for JobVariable {
-    ghost use Rattle.ci_machine.specs.State.{with_record};
     ghost use Rattle.ci_machine.specs.declared.change.Record.TheVariants as variant;
     ghost use Rattle.std.specs.Prelude.{◌≡◌};
     ghost use Rattle.ci_store.specs.Rows.{job_variable_row};
 
     ghost is_row = { λ row v. row ≡ job_variable_row v };
 
-    ghost put_in = { λ x. with_record (variant.JobVariable x) };
+    ghost as_record = { variant.JobVariable };
 
     fn read(_: Global, row: &Row) -> Result<JobVariable, StoreFault> {
         has_columns(row, 3)?;

@@ -5,7 +5,8 @@ ghost use Rattle.std.specs.List.{AllZip};
 ghost use Rattle.sqlite.specs.Order.{Row, column};
 ghost use Rattle.sqlite.specs.Values.{or_null};
 ghost use Rattle.sqlite.specs.declared.types.Value.TheVariants.{Text as Words, Blob};
-ghost use Rattle.ci_machine.specs.State.{State};
+ghost use Rattle.ci_machine.specs.State.{with_record};
+ghost use Rattle.ci_machine.specs.declared.change.Record.{Record};
 ghost use Rattle.ci_tables.specs.Ran.{KeepsInside, CommitsNothing};
 ghost use Rattle.ci_store.specs.Rows.{number, flag};
 ghost use Rattle.ci_store.specs.Commit.{MakesInside};
@@ -73,8 +74,8 @@ pub trait Stored: Drop {
     /// The row has the values of the record.
     ghost is_row: { Row → Self → Type 0 };
 
-    /// The state with the record, in the place of the one with its key.
-    ghost put_in: { Self → State → State };
+    /// The record as a change names it.
+    ghost as_record: { Self → Record };
 
     /// The record of a row. Errors: memory was refused, or the row is of no such record.
     fn read(alloc: Global, row: &Row) -> Result<Self, StoreFault>
@@ -89,7 +90,7 @@ pub trait Stored: Drop {
         is_new: bool,
     ) -> Result<(), StoreFault>
         ensures same_reference { tx.new.conn.ghost_name ≡ tx.old.conn.ghost_name }
-        ensures makes { MakesInside S.Store (put_in self.now) tx.old.conn.now tx.new.conn.now result }
+        ensures makes { MakesInside S.Store (with_record (as_record self.now)) tx.old.conn.now tx.new.conn.now result }
         ensures kept { KeepsInside S.Store tx.old.conn.now tx.new.conn.now }
         ensures survives { CommitsNothing S.Store tx.old.conn.now tx.new.conn.now };
 }

@@ -25,13 +25,12 @@ fn tags_at(alloc: Global, row: &Row, at: usize) -> Result<Texts, StoreFault>
 }
 
 impl Stored for Runner {
-    ghost use Rattle.ci_machine.specs.State.{with_record};
     ghost use Rattle.ci_machine.specs.declared.change.Record.TheVariants as variant;
     ghost use Rattle.ci_store.specs.Load.{IsRunnerRow};
 
     ghost is_row = { IsRunnerRow };
 
-    ghost put_in = { λ x. with_record (variant.Runner x) };
+    ghost as_record = { variant.Runner };
 
     fn read(alloc: Global, row: &Row) -> Result<Runner, StoreFault> {
         has_columns(row, 7)?;
