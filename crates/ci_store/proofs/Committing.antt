@@ -19,6 +19,10 @@ pub not_done : {ended : Ended} {fault : StoreFault} → (ended ≡ Undone fault)
 not_done (inl is) = ap is_done is
 not_done (inr is) = ap is_done is
 
+-- where nothing happens, a stop leaves what it left
+pub survives_same : (s : Seen) (P : Trees → Type 0) → Survives s s P
+survives_same s P = record { clean = omega arith; shield = λ h. h; counts = omega arith; limit = refl; closes = λ _ h. inl h; crash = λ _ db h. inl h }
+
 module _ {S : Type 0} (g : Ghosts S) where
   -- a store that is as the last commit left it, and open, holds what it held
   pub back_at : (s : State) (old mid new : Held S) → IsAt g s old → (state g old).now ≡ (state g old).committed → IsBack g old mid → IsSame g mid new

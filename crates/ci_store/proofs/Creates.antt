@@ -9,7 +9,7 @@ use Rattle.sqlite_tied.specs.Text.{table_defined_by, index_defined_by}
 use Rattle.sqlite_schema.specs.declared.schema.Index.{Index}
 use Rattle.sqlite_catalog.specs.Change.{created, indexed, next_tree, KeepsRows}
 use Rattle.sqlite.specs.Does.{Tally, AtPlace, Defines, MakesIndex, lacks_sequence}
-use Rattle.sqlite.specs.State.{State, mode_of, Writes, Executes, Survives}
+use Rattle.sqlite.specs.State.{State, mode_of, Writes, Executes}
 use Rattle.sqlite.specs.Listing.{understood}
 use Rattle.sqlite_tied.specs.Compute.{everything}
 use Rattle.sqlite.specs.Command.TheVariants.{CreateTable, CreateIndex}
@@ -167,6 +167,3 @@ makes_next (suc (suc (suc (suc (suc (suc (suc (suc (suc (suc (suc k))))))))))) l
 
 pub runs_next : (k : ℕ) → k < 11 → (text : List ℕ) → text ≡ text_at k → (old new : State) (count : ℕ) → IsBare (schema_after k) old.now → Executes text [] old new (Ok count) → IsBare (schema_after (k + 1)) new.now
 runs_next k low text is old new count bare h = makes_next k low old new count bare (subst (λ t. Executes t [] old new (Ok count)) is h)
-
-pub survives_same : (s : State) (P : Trees → Type 0) → Survives s s P
-survives_same s P = record { clean = omega arith; shield = λ h. h; counts = omega arith; limit = refl; closes = λ _ h. inl h; crash = λ _ db h. inl h }

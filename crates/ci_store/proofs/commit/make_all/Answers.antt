@@ -1,10 +1,12 @@
-use Rattle.std.proofs.Common.{rules, ◌≡◌, ◌∙◌, sym, subst, take, arith, get_or, ap}
+use Rattle.std.proofs.Common.{rules, ◌≡◌, ◌∙◌, refl, sym, subst, take, arith, get_or, ap}
 use Rattle.sqlite.specs.State.{HasCleanDisk}
 use Rattle.sqlite.specs.Held.{state}
 use Rattle.sqlite.proofs.StateLemmas.{survives_then}
 use Rattle.sqlite.proofs.InsideLemmas.{keeps_then}
 use Rattle.ci_machine.specs.State.{applied, changed}
 use Rattle.ci_store.specs.Stands.{Stands}
+use Rattle.std.proofs.lemmas.List.{take_all}
+use Rattle.ci_store.proofs.Committing.{survives_same}
 use Rattle.ci_store.proofs.Applied.{applied_more}
 use Rattle.ci_store.proofs.commit.make_all.Goals as goal
 
@@ -40,3 +42,17 @@ returns-in_err-make-clause-kept g c clean inside =
 
 pub returns-in_err-make-clause-survives : goal.returns-in_err-make-clause-survives
 returns-in_err-make-clause-survives g c = survives_then _ _ _ _ _ _ (λ _ db none. none) (λ _ db none. none) c.loop-change.invariant.3 c.make.ensures.survives
+
+pub loop-change-init : goal.loop-change-init
+loop-change-init g c = (refl, (λ clean inside. (inside, λ s stands. stands)), (λ clean inside. record { was_open = λ h. h; committed = λ h. refl }), survives_same _ _)
+
+pub returns-clause-makes : goal.returns-clause-makes
+returns-clause-makes g c clean inside =
+    let was = c.loop-change.invariant.1 clean inside in
+    (was.0, λ s stands. subst (λ cs. Stands (applied cs s) (state g.S.Store c.loop-change.tx.conn.now).now) (take_all _ _ c.loop-change-test.false) (was.1 s stands))
+
+pub returns-clause-kept : goal.returns-clause-kept
+returns-clause-kept g c = c.loop-change.invariant.2
+
+pub returns-clause-survives : goal.returns-clause-survives
+returns-clause-survives g c = c.loop-change.invariant.3

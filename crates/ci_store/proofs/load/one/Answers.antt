@@ -1,4 +1,6 @@
 use Rattle.std.proofs.Common.{rules, ◌≡◌, ◌<◌, ◌≤◌, length, get_or}
+use Rattle.sqlite.specs.Values.{bound}
+use Rattle.ci_store.specs.Calls.{ShowsRecords, listed}
 use Rattle.ci_store.proofs.Loading.{after_ok}
 use Rattle.ci_store.proofs.Looking.{none_read, one_read}
 use Rattle.ci_store.proofs.load.one.Goals as goal
@@ -7,7 +9,7 @@ pub returns-in-empty-clause-loads : goal.returns-in-empty-clause-loads
 returns-in-empty-clause-loads g c =
     let rows = c.in_ok-rows.rows.items in
     let low : length rows < 1 = search rules in
-    after_ok _ c.in_ok-rows.ensures.loads (λ s at shown. record { rows = rows; shown = shown; read = none_read g.R.Stored.is_row rows low })
+    after_ok {Q = λ _ found. ShowsRecords g.R.Stored.is_row g.S.Store c.args.sql.now (bound c.args.params.now) c.args.conn.now c.look_up.new.conn (listed found)} _ c.in_ok-rows.ensures.loads (λ s at shown. record { rows = rows; shown = shown; read = none_read g.R.Stored.is_row rows low })
 
 pub returns-in-len1-clause-loads : goal.returns-in-len1-clause-loads
 returns-in-len1-clause-loads g c =
@@ -16,4 +18,4 @@ returns-in-len1-clause-loads g c =
     let high : 1 ≤ length rows = search rules in
     let item = c.row-item.is in
     let first : get_or rows 0 c.row-item.result ≡ c.row-item.result = search (rules, item) in
-    after_ok _ c.in_ok-rows.ensures.loads (λ s at shown. record { rows = rows; shown = shown; read = one_read g.R.Stored.is_row rows c.row-item.result _ high low first c.in_ok-read-in-len1.ensures })
+    after_ok {Q = λ _ found. ShowsRecords g.R.Stored.is_row g.S.Store c.args.sql.now (bound c.args.params.now) c.args.conn.now c.look_up.new.conn (listed found)} _ c.in_ok-rows.ensures.loads (λ s at shown. record { rows = rows; shown = shown; read = one_read g.R.Stored.is_row rows c.row-item.result _ high low first c.in_ok-read-in-len1.ensures })

@@ -2,7 +2,8 @@ use Rattle.std.proofs.Common.{rules, ◌≡◌, ◌∙◌, refl, subst, arith}
 use Rattle.sqlite.specs.State.{HasCleanDisk}
 use Rattle.sqlite.specs.Held.{state}
 use Rattle.sqlite.proofs.StateLemmas.{survives_then}
-use Rattle.ci_store.proofs.Creates.{runs_next, schema_after, survives_same}
+use Rattle.ci_store.proofs.Creates.{runs_next, schema_after}
+use Rattle.ci_store.proofs.Committing.{survives_same}
 use Rattle.ci_store.specs.Create.{IsBare}
 use Rattle.ci_store.proofs.tables.define.Goals as goal
 

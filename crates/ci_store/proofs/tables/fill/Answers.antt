@@ -7,7 +7,7 @@ use Rattle.ci_tables.specs.Stands.{IsOf}
 use Rattle.ci_tables.specs.Ran.{Changes}
 use Rattle.ci_store.specs.declared.texts.TheConstants.{INSERT_META}
 use Rattle.ci_store.specs.Schema.{the_schema}
-use Rattle.ci_store.proofs.Creates.{survives_same}
+use Rattle.ci_store.proofs.Committing.{survives_same}
 use Rattle.ci_store.proofs.Fills.{rows_after, begins, ends, fills_next, below_seven}
 use Rattle.ci_store.proofs.tables.fill.Goals as goal
 

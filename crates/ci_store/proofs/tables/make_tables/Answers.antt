@@ -4,8 +4,7 @@ use Rattle.sqlite.specs.Held.{state}
 use Rattle.ci_machine.specs.State.{empty}
 use Rattle.ci_store.specs.Create.{IsBlank}
 use Rattle.ci_store.specs.Stands.{StandsIn}
-use Rattle.ci_store.proofs.Creates.{survives_same}
-use Rattle.ci_store.proofs.Committing.{survives_all, is_at_empty, commits_empty}
+use Rattle.ci_store.proofs.Committing.{survives_same, survives_all, is_at_empty, commits_empty}
 use Rattle.ci_store.proofs.tables.make_tables.Goals as goal
 
 pub returns-then-not-is_empty-clause-survives : goal.returns-then-not-is_empty-clause-survives
