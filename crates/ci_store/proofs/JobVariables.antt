@@ -19,7 +19,7 @@ use Rattle.ci_machine.specs.State.{State, with_record, without_record, job_varia
 use Rattle.ci_machine.specs.declared.records.JobVariable.{JobVariable}
 use Rattle.ci_machine.specs.declared.change.Record.TheVariants as row
 use Rattle.ci_machine.specs.declared.change.Key.TheVariants as key
-use Rattle.ci_tables.specs.Ran.{HasPut}
+use Rattle.ci_tables.specs.Statements.{HasPut}
 use Rattle.ci_tables.proofs.Writes.{IsWholeStep, whole_if_alone}
 use Rattle.ci_tables.proofs.Puts.{MeansPut, MeansRemove, GivesRecord}
 use Rattle.ci_tables.proofs.Absent.{absent_unique}

@@ -22,7 +22,7 @@ use Rattle.ci_machine.specs.declared.records.Numbers.{Numbers}
 use Rattle.ci_machine.specs.declared.change.Counter.{Counter}
 use Rattle.ci_machine.specs.declared.change.Counter.TheVariants as counter
 use Rattle.ci_tables.specs.Stands.{image, places, without}
-use Rattle.ci_tables.specs.Ran.{Changes}
+use Rattle.ci_tables.specs.Statements.{Changes}
 use Rattle.ci_tables.proofs.Puts.{MeansPut, GivesRecord, updates_one}
 use Rattle.ci_tables.proofs.Absent.{absent_unique}
 use Rattle.ci_tables.proofs.Scalars.{cast_int}

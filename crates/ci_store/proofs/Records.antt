@@ -21,7 +21,7 @@ use Rattle.sqlite.specs.Held.{Held, state}
 use Rattle.ci_machine.specs.State.{State, put}
 use Rattle.ci_tables.specs.Stands.{has_key, image, places, without, IsOf}
 use Rattle.sqlite_schema.specs.Rules.{equal}
-use Rattle.ci_tables.specs.Ran.{Changes, HasPut}
+use Rattle.ci_tables.specs.Statements.{Changes, HasPut}
 use Rattle.ci_tables.proofs.Queries.{picks}
 use Rattle.ci_tables.proofs.Writes.{IsWholeStep}
 use Rattle.ci_tables.proofs.Puts.{MeansPut, MeansRemove, GivesRecord, puts, removes}

@@ -23,7 +23,7 @@ use Rattle.sqlite_trees.specs.declared.store.Shape.TheVariants as shape
 use Rattle.ci_machine.specs.State.{State, without_record}
 use Rattle.ci_machine.specs.declared.change.Key.{Key}
 use Rattle.ci_tables.specs.Stands.{Holds, has_key, image, places}
-use Rattle.ci_tables.specs.Ran.{Changes}
+use Rattle.ci_tables.specs.Statements.{Changes}
 use Rattle.ci_tables.proofs.Scalars.{on_ok}
 use Rattle.ci_tables.proofs.Queries.{picks}
 use Rattle.ci_tables.proofs.Writes.{IsWholeStep}

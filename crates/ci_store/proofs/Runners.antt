@@ -13,7 +13,7 @@ use Rattle.ci_machine.specs.declared.records.Runner.{Runner}
 use Rattle.ci_machine.specs.declared.change.Record.TheVariants as row
 use Rattle.ci_machine.specs.declared.change.Key.TheVariants as key
 use Rattle.ci_tables.specs.Stands.{image, places}
-use Rattle.ci_tables.specs.Ran.{HasPut}
+use Rattle.ci_tables.specs.Statements.{HasPut}
 use Rattle.ci_tables.proofs.Puts.{MeansPut, MeansRemove, GivesRecord}
 use Rattle.ci_tables.proofs.Absent.{absent_rowid}
 use Rattle.ci_tables.proofs.Scalars.{cast_int}

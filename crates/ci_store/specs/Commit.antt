@@ -6,7 +6,7 @@ use Rattle.sqlite.specs.Tree.{Trees}
 use Rattle.sqlite.specs.Store.{Ghosts}
 use Rattle.sqlite.specs.Held.{Held, state}
 use Rattle.ci_machine.specs.State.{State, applied}
-use Rattle.ci_tables.specs.Ran.{Changes}
+use Rattle.ci_tables.specs.Statements.{Changes}
 use Rattle.ci_machine.specs.declared.change.RowChange.{RowChange}
 use Rattle.ci_store.specs.declared.commit.Ended.{Ended}
 use Rattle.ci_store.specs.declared.commit.Ended.TheVariants.{Done, Undone}

@@ -7,7 +7,7 @@ ghost use Rattle.sqlite.specs.Held.{state};
 ghost use Rattle.ci_machine.specs.State.{State, applied};
 ghost use Rattle.ci_store.specs.Stands.{IsAt, LeavesEither};
 ghost use Rattle.ci_tables.specs.declared.fault.StoreFault.TheVariants.{Memory};
-ghost use Rattle.ci_tables.specs.Ran.{KeepsInside, CommitsNothing};
+ghost use Rattle.ci_tables.specs.Statements.{KeepsInside, CommitsNothing};
 ghost use Rattle.ci_store.specs.Commit.{MakesInside, CommitsAll, is_done, is_undone, IsBack, IsDone};
 
 use crate::make::make;

@@ -5,7 +5,7 @@ ghost use Rattle.sqlite.specs.State.{HasCleanDisk, Shown};
 ghost use Rattle.sqlite.specs.Values.{bound};
 ghost use Rattle.sqlite.specs.Held.{state};
 ghost use Rattle.ci_machine.specs.State.{with_record, without_record, with_next, changed};
-ghost use Rattle.ci_tables.specs.Ran.{KeepsInside, CommitsNothing};
+ghost use Rattle.ci_tables.specs.Statements.{KeepsInside, CommitsNothing};
 ghost use Rattle.ci_machine.specs.declared.change.Key.TheVariants as key;
 ghost use Rattle.ci_store.specs.Commit.{MakesInside, RemovesUnreferred};
 ghost use Rattle.ci_store.specs.Rows.{number};

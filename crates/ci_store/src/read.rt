@@ -7,7 +7,7 @@ ghost use Rattle.sqlite.specs.Values.{or_null};
 ghost use Rattle.sqlite.specs.declared.types.Value.TheVariants.{Text as Words, Blob};
 ghost use Rattle.ci_machine.specs.State.{with_record};
 ghost use Rattle.ci_machine.specs.declared.change.Record.{Record};
-ghost use Rattle.ci_tables.specs.Ran.{KeepsInside, CommitsNothing};
+ghost use Rattle.ci_tables.specs.Statements.{KeepsInside, CommitsNothing};
 ghost use Rattle.ci_store.specs.Rows.{number, flag};
 ghost use Rattle.ci_store.specs.Commit.{MakesInside};
 

@@ -6,7 +6,7 @@ ghost use Rattle.sqlite.specs.Held.{state};
 ghost use Rattle.sqlite.specs.Tree.{Trees};
 ghost use Rattle.sqlite_trees.specs.View.{doubt};
 ghost use Rattle.ci_machine.specs.State.{State, empty};
-ghost use Rattle.ci_tables.specs.Ran.{CommitsNothing};
+ghost use Rattle.ci_tables.specs.Statements.{CommitsNothing};
 ghost use Rattle.ci_store.specs.Schema.{the_schema};
 ghost use Rattle.ci_store.specs.Create.{IsBlank, IsBare};
 ghost use Rattle.ci_store.specs.Stands.{Stands, StandsIn, IsAt, LeavesOnly};

@@ -28,7 +28,7 @@ use Rattle.sqlite_trees.specs.declared.store.Shape.TheVariants as shape
 use Rattle.sqlite_trees.proofs.TreeLemmas.{IsShaped-filter}
 use Rattle.sqlite.proofs.Callers.{IsPlain, command_of, statement_of, runs_as}
 use Rattle.ci_tables.specs.Stands.{places, image, has_key, without, Holds, HoldsAll, HoldsRows, IsOf, are_apart}
-use Rattle.ci_tables.specs.Ran.{Changes, HasPut}
+use Rattle.ci_tables.specs.Statements.{Changes, HasPut}
 use Rattle.ci_tables.proofs.Queries.{picks}
 use Rattle.ci_tables.proofs.Writes.{Sets, program, IsActedOnByNone, IsWholeStep, deletes, updates, inserts, Updated, Inserted}
 use Rattle.ci_tables.proofs.Stands.{images_without, removed, added, follows}

@@ -1,3 +1,3 @@
 pub mod Fault
 pub mod Stands
-pub mod Ran
+pub mod Statements

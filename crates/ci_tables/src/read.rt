@@ -7,7 +7,7 @@ ghost use Rattle.sqlite.specs.Given.{IsPlain};
 ghost use Rattle.sqlite.specs.Listing.{understood};
 ghost use Rattle.sqlite.specs.Held.{state};
 ghost use Rattle.sqlite_trees.specs.View.{doubt};
-ghost use Rattle.ci_tables.specs.Ran.{KeepsInside, CommitsNothing};
+ghost use Rattle.ci_tables.specs.Statements.{KeepsInside, CommitsNothing};
 
 use crate::fault::StoreFault;
 use sqlite::types::ValueRef;

@@ -4,7 +4,7 @@ ghost use Rattle.std.specs.Prelude.{◌≡◌, IsTrue, IfOk, OnOk};
 ghost use Rattle.sqlite.specs.Values.{bound};
 ghost use Rattle.sqlite.specs.State.{HasCleanDisk};
 ghost use Rattle.sqlite.specs.Held.{state};
-ghost use Rattle.ci_tables.specs.Ran.{KeepsInside, CommitsNothing, Changes, HasPut};
+ghost use Rattle.ci_tables.specs.Statements.{KeepsInside, CommitsNothing, Changes, HasPut};
 
 use crate::fault::StoreFault;
 use sqlite::types::ValueRef;

@@ -4,7 +4,7 @@ use Rattle.sqlite.specs.Values.{bound_value}
 use Rattle.sqlite.specs.Held.{state}
 use Rattle.sqlite.proofs.StateLemmas.{survives_then}
 use Rattle.ci_tables.specs.Stands.{IsOf}
-use Rattle.ci_tables.specs.Ran.{Changes}
+use Rattle.ci_tables.specs.Statements.{Changes}
 use Rattle.ci_store.specs.declared.texts.TheConstants.{INSERT_META}
 use Rattle.ci_store.specs.Schema.{the_schema}
 use Rattle.ci_store.proofs.Committing.{survives_same}

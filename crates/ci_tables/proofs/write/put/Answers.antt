@@ -1,6 +1,6 @@
 use Rattle.std.proofs.Common.{rules, ◌≡◌, refl, inl, inr, arith, subst}
 use Rattle.sqlite.specs.Values.{bound}
-use Rattle.ci_tables.specs.Ran.{Changes}
+use Rattle.ci_tables.specs.Statements.{Changes}
 use Rattle.ci_tables.proofs.write.put.Goals as goal
 
 pub returns-then-is_new-clause-put : goal.returns-then-is_new-clause-put

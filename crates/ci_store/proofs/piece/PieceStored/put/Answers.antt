@@ -1,6 +1,6 @@
 use Rattle.std.proofs.Common.{[], ◌∷◌, subst}
 use Rattle.sqlite.specs.Values.{bound_value}
-use Rattle.ci_tables.specs.Ran.{HasPut}
+use Rattle.ci_tables.specs.Statements.{HasPut}
 use Rattle.ci_tables.proofs.Scalars.{on_ok}
 use Rattle.ci_store.specs.declared.texts.TheConstants.{UPDATE_PIECE, INSERT_PIECE}
 use Rattle.ci_store.proofs.Pieces.{piece_puts}

@@ -1,7 +1,7 @@
 use Rattle.std.proofs.Common.{[], ◌∷◌, subst, ◌∙◌}
 use Rattle.sqlite.specs.declared.types.Value.TheVariants.{Text}
 use Rattle.sqlite.specs.Values.{bound_value}
-use Rattle.ci_tables.specs.Ran.{HasPut}
+use Rattle.ci_tables.specs.Statements.{HasPut}
 use Rattle.ci_tables.proofs.Scalars.{on_ok}
 use Rattle.ci_store.specs.declared.texts.TheConstants.{UPDATE_PIPELINE, INSERT_PIPELINE}
 use Rattle.ci_store.specs.Rows.{number}
