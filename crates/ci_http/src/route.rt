@@ -70,7 +70,9 @@ fn has_method(methods: Methods, text: &[u8]) -> bool
     ensures { result ≡ has_method methods text.now }
 {
     is_text(text, method_text(methods.first))
-        || methods.second.is_some_and(|method| is_text(text, method_text(method)))
+        || methods
+            .second
+            .is_some_and(|method| is_text(text, method_text(method)))
 }
 
 // The reply where the path has these methods, and not the request's.
