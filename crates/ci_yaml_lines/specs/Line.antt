@@ -104,15 +104,16 @@ pub record Written : Type 0 where
   pub header : Option Chomp
   pub codes : List Code
 
-abbrev pub not_comment : ℕ → List ℕ → List Code
-not_comment last bs = if only_comment last bs then [] else Y11 ∷ when (has_tab_after (before_comment last bs)) Y9
+-- what follows a value, whose last byte this is: a comment, and no `-` or `:` directly before a tab
+abbrev pub behind_value : ℕ → List ℕ → List Code
+behind_value last bs = when (has_tab_after (last ∷ before_comment last bs)) Y9 ++ when (not (only_comment last bs)) Y11
 
 abbrev pub digit_next : List ℕ → Bool
 digit_next [] = false
 digit_next (b ∷ bs) = is_digit b
 
 abbrev pub header_rest : Chomp → ℕ → List ℕ → Written
-header_rest how last bs = record { given = Some (text []); header = Some how; codes = when (digit_next bs) Y9 ++ not_comment last bs }
+header_rest how last bs = record { given = Some (text []); header = Some how; codes = when (digit_next bs) Y9 ++ behind_value last bs }
 
 -- after the bar
 abbrev pub header_of : List ℕ → Written
@@ -121,11 +122,11 @@ header_of (b ∷ bs) = if b == 45 then header_rest strip 45 bs else (if b == 43 
 
 abbrev pub written_quoted : Option Quoted → Written
 written_quoted None = record { given = Some (text []); header = None; codes = Y6 ∷ [] }
-written_quoted (Some q) = record { given = Some (text q.text); header = None; codes = when q.wrong Y7 ++ not_comment 39 q.rest }
+written_quoted (Some q) = record { given = Some (text q.text); header = None; codes = when q.wrong Y7 ++ behind_value 39 q.rest }
 
 abbrev pub rest_codes : Option (List ℕ) → List Code
 rest_codes None = []
-rest_codes (Some bs) = not_comment 93 bs
+rest_codes (Some bs) = behind_value 93 bs
 
 abbrev pub written_list : Listed → Written
 written_list r = record { given = Some (node sequence r.members); header = None; codes = r.codes ++ rest_codes r.rest }

@@ -1,6 +1,6 @@
 //! Questions about the bytes of one line.
 
-ghost use Rattle.std.specs.Prelude.{◌≡◌, ◌≤◌, ◌<◌, ◌==◌, ◌&&◌, ◌||◌, IfSome, length, take, drop, slice_index};
+ghost use Rattle.std.specs.Prelude.{◌≡◌, ◌≤◌, ◌<◌, ◌==◌, ◌&&◌, ◌||◌, ◌∷◌, IfSome, length, take, drop, slice_index};
 ghost use Rattle.ci_yaml_lines.specs.Scalar.{is_blank, blanks, trimmed_len, space_next, head_is, tail_of, comment_len, only_comment, has_tab_after, is_indicator, is_forbidden, has_colon};
 ghost use Rattle.ci_yaml_lines.specs.Line.{place_len, key_len, has_inner, is_colon, is_dash, spaces, digit_next, has_control, has_byte_order_mark, is_document_mark};
 
@@ -159,6 +159,13 @@ pub fn has_tab_after(bytes: &[u8]) -> bool
         rest = more;
     }
     false
+}
+
+/// Whether `-` or `:` stands directly before a tab in this byte with those behind it.
+pub fn has_tab_from(byte: u8, more: &[u8]) -> bool
+    ensures { result ≡ has_tab_after (byte ∷ more.now) }
+{
+    is_tab_after(byte, more) || has_tab_after(more)
 }
 
 fn ends_key(byte: u8, more: &[u8]) -> bool

@@ -3,7 +3,7 @@
 ghost use Rattle.std.specs.Prelude.{◌≡◌, IfOk, Some, None, [], ◌∷◌};
 ghost use Rattle.ci_yaml_lines.specs.Least.{least};
 ghost use Rattle.ci_yaml_lines.specs.Tree.{text as text_value};
-ghost use Rattle.ci_yaml_lines.specs.Line.{not_comment, header_rest, header_of, written_quoted, written_plain, written_at, written};
+ghost use Rattle.ci_yaml_lines.specs.Line.{behind_value, header_rest, header_of, written_quoted, written_plain, written_at, written};
 ghost use Rattle.ci_yaml_lines.specs.Scalar.{before_comment};
 ghost use Rattle.ci_yaml_lines.specs.View.{value_view, quoted_view, chomp_view, listed_view, written_of_list, written_view, least_written};
 ghost use Rattle.ci_yaml_lines.specs.Spans.{texts_in, items_texts, given_texts, Stand};
@@ -14,7 +14,7 @@ use crate::entry::Chomp;
 use crate::flow::{Listed, plain_code, read_list};
 use crate::quoted::{Quoted, is_quote, read_quoted};
 use crate::scalar::plain;
-use crate::scan::{has_tab_after, head_is, is_digit_next, is_only_comment};
+use crate::scan::{has_tab_from, head_is, is_digit_next, is_only_comment};
 use crate::tree::{Text, Tree, Words};
 use std::alloc::{AllocError, Global};
 
@@ -26,15 +26,14 @@ pub struct Written<'a> {
     pub code: Option<Code>,
 }
 
-/// The least code of text that follows a value and is no comment.
-fn not_comment(last: u8, text: &str) -> Option<Code>
-    ensures { result ≡ least (not_comment last text.now) }
+/// The least code of what follows a value, whose last byte this is: it is a comment, and `-` or `:` doesn't stand directly before a tab.
+fn behind_value(last: u8, text: &str) -> Option<Code>
+    ensures { result ≡ least (behind_value last text.now) }
 {
-    if is_only_comment(last, text.as_bytes()) {
-        return None;
-    }
-    let tab = has_tab_after(before_comment(last, text).as_bytes());
-    least_of(Some(Code::Y11), when(tab, Code::Y9))
+    let front = before_comment(last, text);
+    let tab = has_tab_from(last, front.as_bytes());
+    let other = !is_only_comment(last, text.as_bytes());
+    least_of(when(tab, Code::Y9), when(other, Code::Y11))
 }
 
 /// The empty text before a text that reaches to the line's end.
@@ -56,7 +55,7 @@ fn header_rest<'a>(source: SourceLine, how: Chomp, last: u8, text: &'a str) -> W
     Written {
         given: Some(no_text(source, text)),
         header: Some(how),
-        code: least_of(digit, not_comment(last, text)),
+        code: least_of(digit, behind_value(last, text)),
     }
 }
 
@@ -80,7 +79,7 @@ fn closed(quoted: Quoted<'_>) -> Written<'_>
 {
     let Quoted { text, wrong, rest } = quoted;
     let escape = when(wrong, Code::Y7);
-    let other = not_comment(b'\'', rest);
+    let other = behind_value(b'\'', rest);
     Written {
         given: Some(Tree::Text(text)),
         header: None,
@@ -106,7 +105,7 @@ fn written_list(list: Listed<'_>) -> Written<'_>
 {
     let Listed { items, code, rest } = list;
     let behind = match rest {
-        Some(text) => not_comment(b']', text),
+        Some(text) => behind_value(b']', text),
         None => None,
     };
     Written {

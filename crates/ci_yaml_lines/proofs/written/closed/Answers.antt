@@ -1,7 +1,7 @@
 use Rattle.std.proofs.Common.{◌∙◌, ap}
 use Rattle.ci_yaml_lines.specs.declared.code.Code.TheVariants.{Y7}
 use Rattle.ci_yaml_lines.specs.Scalar.{when}
-use Rattle.ci_yaml_lines.specs.Line.{not_comment}
+use Rattle.ci_yaml_lines.specs.Line.{behind_value}
 use Rattle.ci_yaml_lines.specs.Tree.{Value}
 use Rattle.ci_yaml_lines.proofs.Views.{view-Text}
 use Rattle.ci_yaml_lines.specs.View.{bytes_of}
@@ -13,4 +13,4 @@ pub returns-clause-value : goal.returns-clause-value
 returns-clause-value c =
     ap (λ (v : Value). texted_with v c.least_of.result) (view-Text c.args.quoted.text)
     ∙ ap (texted (bytes_of c.args.quoted.text))
-    (least_two c.least_of.result c.when-escape.result c.not_comment-other.result (when c.args.quoted.wrong Y7) (not_comment 39 c.args.quoted.rest.now) c.least_of.ensures c.when-escape.ensures c.not_comment-other.ensures)
+    (least_two c.least_of.result c.when-escape.result c.behind_value-other.result (when c.args.quoted.wrong Y7) (behind_value 39 c.args.quoted.rest.now) c.least_of.ensures c.when-escape.ensures c.behind_value-other.ensures)

@@ -3,7 +3,7 @@ use Rattle.ci_yaml_lines.specs.declared.code.Code.TheVariants.{Y9}
 use Rattle.ci_yaml_lines.specs.Tree.{Value}
 use Rattle.ci_yaml_lines.specs.Scalar.{when}
 use Rattle.ci_yaml_lines.specs.Least.{least}
-use Rattle.ci_yaml_lines.specs.Line.{digit_next, not_comment}
+use Rattle.ci_yaml_lines.specs.Line.{digit_next, behind_value}
 use Rattle.ci_yaml_lines.specs.View.{chomp_view}
 use Rattle.ci_yaml_lines.proofs.Leasts.{least_two}
 use Rattle.ci_yaml_lines.proofs.Parsed.{headed, headed_with}
@@ -15,8 +15,8 @@ pub returns-clause-value : goal.returns-clause-value
 returns-clause-value c =
     ap (λ (v : Value). headed_with v (chomp_view c.args.how) c.least_of.result) c.no_text.ensures.value
     ∙ ap (headed (chomp_view c.args.how))
-    (least_two c.least_of.result c.when-digit.result c.not_comment.result (when (digit_next c.args.text.now) Y9) (not_comment c.args.last c.args.text.now) c.least_of.ensures
-    (c.when-digit.ensures ∙ ap (λ b. least (when b Y9)) (c.is_digit_next.ensures ∙ ap digit_next c.as_bytes.ensures.value)) c.not_comment.ensures)
+    (least_two c.least_of.result c.when-digit.result c.behind_value.result (when (digit_next c.args.text.now) Y9) (behind_value c.args.last c.args.text.now) c.least_of.ensures
+    (c.when-digit.ensures ∙ ap (λ b. least (when b Y9)) (c.is_digit_next.ensures ∙ ap digit_next c.as_bytes.ensures.value)) c.behind_value.ensures)
 
 pub returns-clause-spans : goal.returns-clause-spans
 returns-clause-spans c = stand-all c.args.source c.args.text.now c.args.text.now (texts_in c.no_text.result) c.no_text.ensures.spans
