@@ -1,0 +1,17 @@
+pub mod Fault
+pub mod Reading
+pub mod Tables
+pub mod Values
+pub mod Config
+pub mod Whens
+pub mod Retries
+pub mod AllowFailures
+pub mod Needs
+pub mod Expressions
+pub mod Rules
+pub mod Jobs
+pub mod Files
+pub mod Meaning
+pub mod FaultView
+pub mod View
+pub mod Answer
