@@ -48,6 +48,7 @@ condition-found text e h = (ap (condition_by built) is, either (refused-or (form
   where
     is : expression_of text ≡ Ok (formula_of e)
     is = found-by text e (expression_of text) refl (expression-read text).own h
+
     either : (demand (not (has_pattern (formula_of e))) (K13 X8) (Ok (formula_of e)) ≡ Ok (formula_of e)) ⊎ (demand (not (has_pattern (formula_of e))) (K13 X8) (Ok (formula_of e)) ≡ Err (K13 X8))
         → (condition_of text refused ≡ Ok (formula_of e)) ⊎ (condition_of text refused ≡ Err (K13 X8))
     either (inl g) = inl (ap (condition_by refused) is ∙ g)

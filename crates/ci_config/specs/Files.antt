@@ -51,9 +51,12 @@ abbrev pub other_value : Option Text → Text → Value → FileSaid → Pattern
 other_value (Some name) key v f p = Err (K2 name)
 other_value None key v f p = if is_hidden key then Ok f else job_value key v f p
 
+abbrev pub keyword_value : FileKeyword → Value → FileSaid → Result FileSaid Fault
+keyword_value of_file.Stages v f = stages_of v >>= λ ts. Ok (record f { stages = Some ts })
+keyword_value of_file.Variables v f = variables_of v >>= λ vs. Ok (record f { variables = vs })
+
 abbrev pub file_value : Option FileKeyword → Text → Value → FileSaid → Patterns → Result FileSaid Fault
-file_value (Some of_file.Stages) key v f p = stages_of v >>= λ ts. Ok (record f { stages = Some ts })
-file_value (Some of_file.Variables) key v f p = variables_of v >>= λ vs. Ok (record f { variables = vs })
+file_value (Some k) key v f p = keyword_value k v f
 file_value None key v f p = other_value (word_in file_left_out key) key v f p
 
 abbrev pub file_entry : Patterns → Text × Value → FileSaid → Result FileSaid Fault

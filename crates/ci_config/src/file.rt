@@ -1,13 +1,14 @@
 //! The top level of a file.
 
-ghost use Rattle.std.specs.Prelude.{◌≡◌, ℕ, List, Some, None, Result, Ok, map, option_map, unwrap_or};
-ghost use Rattle.ci_words.specs.Table.{words_view};
+ghost use Rattle.std.specs.Prelude.{◌≡◌, Result, Ok, map, option_map, unwrap_or};
+ghost use Rattle.ci_words.specs.Table.{words_view, word_in};
 ghost use Rattle.ci_yaml_lines.specs.TreeView.{value_view};
 ghost use Rattle.ci_config.specs.Answer.{Tells, fault_or};
 ghost use Rattle.ci_config.specs.Config.{Config as Meant};
 ghost use Rattle.ci_config.specs.Fault.{Fault as Found};
 ghost use Rattle.ci_config.specs.FaultView.{code_view, Gives};
-ghost use Rattle.ci_config.specs.Files.{is_among, stage_in, stages_of, is_hidden, job_of, job_value, other_value, file_value, file_entry, file_from};
+ghost use Rattle.ci_config.specs.Files.{is_among, stage_in, stages_of, is_hidden, job_of, job_value, other_value, keyword_value, file_entry, file_from};
+ghost use Rattle.ci_config.specs.Tables.{file_left_out};
 ghost use Rattle.ci_config.specs.Meaning.{is_inner, all_stages, default_stages, job_judged, jobs_judged, judged, config_of, file_config};
 ghost use Rattle.ci_config.specs.View.{pairs_view, texts_view, job_view, file_parts_view, config_view};
 ghost use Rattle.ci_words.specs.Layers.{text_view};
@@ -130,13 +131,8 @@ impl<'t> FileParts<'t> {
     }
 
     /// Sets what an entry says whose key is no keyword.
-    fn set_other(
-        &mut self,
-        alloc: Global,
-        key: &'t str,
-        tree: &'t Tree,
-    ) -> Result<(), ConfigFault>
-        ensures { Tells (λ _. file_parts_view self.new) result (file_value None key.now (value_view tree.now) (file_parts_view self.old)) }
+    fn set_other(&mut self, alloc: Global, key: &'t str, tree: &'t Tree) -> Result<(), ConfigFault>
+        ensures { Tells (λ _. file_parts_view self.new) result (other_value (word_in file_left_out key.now) key.now (value_view tree.now) (file_parts_view self.old)) }
     {
         if let Some(name) = word_in(&FILE_LEFT_OUT, key) {
             return Err(ConfigFault::Fault(ConfigCode::K2(name)));
@@ -153,24 +149,13 @@ impl<'t> FileParts<'t> {
         keyword: FileKeyword,
         tree: &'t Tree,
     ) -> Result<(), ConfigFault>
-        ensures { (key : List ℕ) → Tells (λ _. file_parts_view self.new) result (file_value (Some keyword) key (value_view tree.now) (file_parts_view self.old)) }
+        ensures { Gives (λ _. file_parts_view self.new) result (keyword_value keyword (value_view tree.now) (file_parts_view self.old)) }
     {
         match keyword {
-            FileKeyword::Stages => match stages_of(alloc, tree) {
-                Ok(stages) => {
-                    self.stages = Some(stages);
-                    Ok(())
-                }
-                Err(fault) => Err(fault),
-            },
-            FileKeyword::Variables => match variables_of(alloc, tree) {
-                Ok(variables) => {
-                    self.variables = variables;
-                    Ok(())
-                }
-                Err(fault) => Err(fault),
-            },
+            FileKeyword::Stages => self.stages = Some(stages_of(alloc, tree)?),
+            FileKeyword::Variables => self.variables = variables_of(alloc, tree)?,
         }
+        Ok(())
     }
 
     /// Sets what an entry says.
@@ -237,10 +222,7 @@ fn default_stages<'t>(alloc: Global) -> Result<Vec<&'t str>, ConfigFault>
 }
 
 /// The stages of a file that lists these, or none.
-fn stages_from<'t>(
-    alloc: Global,
-    listed: Option<Vec<&'t str>>,
-) -> Result<Vec<&'t str>, ConfigFault>
+fn stages_from<'t>(alloc: Global, listed: Option<Vec<&'t str>>) -> Result<Vec<&'t str>, ConfigFault>
     ensures { Gives texts_view result (Ok (all_stages (unwrap_or (option_map texts_view listed.entry) default_stages))) }
 {
     match listed {

@@ -124,12 +124,7 @@ impl<'t> JobSpec<'t> {
         }
     }
 
-    fn set(
-        &mut self,
-        alloc: Global,
-        keyword: JobKeyword,
-        tree: &'t Tree,
-    ) -> Result<(), ConfigFault>
+    fn set(&mut self, alloc: Global, keyword: JobKeyword, tree: &'t Tree) -> Result<(), ConfigFault>
         ensures { Tells (λ _. job_view self.new) result (job_value keyword (value_view tree.now) (job_view self.old)) }
     {
         match keyword {

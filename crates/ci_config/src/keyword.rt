@@ -107,13 +107,24 @@ pub const CAUSES: [(&str, CauseWord); 7] = [
     ("unknown_failure", CauseWord::One(Cause::UnknownFailure)),
     ("script_failure", CauseWord::One(Cause::ScriptFailure)),
     ("api_failure", CauseWord::One(Cause::ApiFailure)),
-    ("stuck_or_timeout_failure", CauseWord::One(Cause::StuckOrTimeoutFailure)),
-    ("runner_system_failure", CauseWord::One(Cause::RunnerSystemFailure)),
-    ("job_execution_timeout", CauseWord::One(Cause::JobExecutionTimeout)),
+    (
+        "stuck_or_timeout_failure",
+        CauseWord::One(Cause::StuckOrTimeoutFailure),
+    ),
+    (
+        "runner_system_failure",
+        CauseWord::One(Cause::RunnerSystemFailure),
+    ),
+    (
+        "job_execution_timeout",
+        CauseWord::One(Cause::JobExecutionTimeout),
+    ),
 ];
 
-pub const FILE_KEYWORDS: [(&str, FileKeyword); 2] =
-    [("stages", FileKeyword::Stages), ("variables", FileKeyword::Variables)];
+pub const FILE_KEYWORDS: [(&str, FileKeyword); 2] = [
+    ("stages", FileKeyword::Stages),
+    ("variables", FileKeyword::Variables),
+];
 
 pub const FILE_LEFT_OUT: [&str; 9] = [
     "include",
@@ -133,12 +144,21 @@ pub const JOB_KEYWORDS: [(&str, JobKeyword); 12] = [
     ("needs", JobKeyword::Plain(PlainJobKeyword::Needs)),
     ("rules", JobKeyword::Rules),
     ("when", JobKeyword::Plain(PlainJobKeyword::When)),
-    ("allow_failure", JobKeyword::Plain(PlainJobKeyword::AllowFailure)),
+    (
+        "allow_failure",
+        JobKeyword::Plain(PlainJobKeyword::AllowFailure),
+    ),
     ("retry", JobKeyword::Plain(PlainJobKeyword::Retry)),
     ("tags", JobKeyword::Plain(PlainJobKeyword::Tags)),
     ("timeout", JobKeyword::Plain(PlainJobKeyword::Timeout)),
-    ("resource_group", JobKeyword::Plain(PlainJobKeyword::ResourceGroup)),
-    ("interruptible", JobKeyword::Plain(PlainJobKeyword::Interruptible)),
+    (
+        "resource_group",
+        JobKeyword::Plain(PlainJobKeyword::ResourceGroup),
+    ),
+    (
+        "interruptible",
+        JobKeyword::Plain(PlainJobKeyword::Interruptible),
+    ),
     ("variables", JobKeyword::Plain(PlainJobKeyword::Variables)),
 ];
 
@@ -170,23 +190,32 @@ pub const JOB_LEFT_OUT: [&str; 22] = [
 pub const RULE_KEYWORDS: [(&str, RuleKeyword); 4] = [
     ("if", RuleKeyword::If),
     ("when", RuleKeyword::Plain(PlainRuleKeyword::When)),
-    ("allow_failure", RuleKeyword::Plain(PlainRuleKeyword::AllowFailure)),
+    (
+        "allow_failure",
+        RuleKeyword::Plain(PlainRuleKeyword::AllowFailure),
+    ),
     ("variables", RuleKeyword::Plain(PlainRuleKeyword::Variables)),
 ];
 
 pub const RULE_LEFT_OUT: [&str; 5] = ["changes", "exists", "needs", "interruptible", "start_in"];
 
-pub const NEED_KEYWORDS: [(&str, NeedKeyword); 2] =
-    [("job", NeedKeyword::Job), ("optional", NeedKeyword::Optional)];
+pub const NEED_KEYWORDS: [(&str, NeedKeyword); 2] = [
+    ("job", NeedKeyword::Job),
+    ("optional", NeedKeyword::Optional),
+];
 
 pub const NEED_LEFT_OUT: [&str; 5] = ["project", "ref", "pipeline", "artifacts", "parallel"];
 
-pub const RETRY_KEYWORDS: [(&str, RetryKeyword); 2] =
-    [("max", RetryKeyword::Max), ("when", RetryKeyword::When)];
+pub const RETRY_KEYWORDS: [(&str, RetryKeyword); 2] = [
+    ("max", RetryKeyword::Max),
+    ("when", RetryKeyword::When),
+];
 
 pub const RETRY_LEFT_OUT: [&str; 1] = ["exit_codes"];
 
-pub const ALLOW_FAILURE_KEYWORDS: [(&str, AllowFailureKeyword); 1] =
-    [("exit_codes", AllowFailureKeyword::ExitCodes)];
+pub const ALLOW_FAILURE_KEYWORDS: [(&str, AllowFailureKeyword); 1] = [(
+    "exit_codes",
+    AllowFailureKeyword::ExitCodes,
+)];
 
 pub const ALLOW_FAILURE_LEFT_OUT: [&str; 0] = [];

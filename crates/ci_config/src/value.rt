@@ -51,13 +51,7 @@ fn up_to(limit: u32, number: i64) -> Option<u32>
     ensures { result ≡ up_to limit number }
 {
     match u32::try_from(number) {
-        Ok(number) => {
-            if number <= limit {
-                Some(number)
-            } else {
-                None
-            }
-        }
+        Ok(number) => { if number <= limit { Some(number) } else { None } }
         Err(_) => None,
     }
 }
@@ -176,10 +170,7 @@ fn variable_in<'t>(
 }
 
 /// The variables of a map.
-pub fn variables_of<'t>(
-    alloc: Global,
-    tree: &'t Tree,
-) -> Result<Vec<Variable<'t>>, ConfigFault>
+pub fn variables_of<'t>(alloc: Global, tree: &'t Tree) -> Result<Vec<Variable<'t>>, ConfigFault>
     ensures { Gives variables_view result (variables_of (value_view tree.now)) }
 {
     let pairs = map_of(tree)?;

@@ -22,7 +22,7 @@ pair-read f r s p ends =
     let cut : f ++ r ≡ p.digits ++ (p.gap ++ (p.unit ++ r)) = ap (λ xs. xs ++ r) p.parts ∙ append_assoc p.digits (p.gap ++ p.unit) r ∙ ap (λ xs. p.digits ++ xs) (append_assoc p.gap p.unit r) in
     let digits : front Digit (f ++ r) ≡ p.digits = ap (front Digit) cut ∙ cut-front Digit p.digits (p.gap ++ (p.unit ++ r)) p.are_digits (unit-ends-digits p.gap (p.unit ++ r) p.are_spaces still) in
     let behind_digits : behind Digit (f ++ r) ≡ p.gap ++ (p.unit ++ r) =
-        ap (behind Digit) cut ∙ cut-behind Digit p.digits (p.gap ++ (p.unit ++ r)) p.are_digits (unit-ends-digits p.gap (p.unit ++ r) p.are_spaces still) in
+    ap (behind Digit) cut ∙ cut-behind Digit p.digits (p.gap ++ (p.unit ++ r)) p.are_digits (unit-ends-digits p.gap (p.unit ++ r) p.are_spaces still) in
     let behind_gap : behind Space (behind Digit (f ++ r)) ≡ p.unit ++ r = ap (behind Space) behind_digits ∙ cut-behind Space p.gap (p.unit ++ r) p.are_spaces (unit-ends-gap (p.unit ++ r) still) in
     let unit : front Letter (behind Space (behind Digit (f ++ r))) ≡ p.unit = ap (front Letter) behind_gap ∙ cut-front Letter p.unit r (unit-letters p.unit p.worth p.is_unit) ends in
     let after : after_pair (f ++ r) ≡ r = ap (behind Letter) behind_gap ∙ cut-behind Letter p.unit r (unit-letters p.unit p.worth p.is_unit) ends in
@@ -58,6 +58,7 @@ lasts-seconds bs n (Lasts.more first gap rest _ s m _ p h l e f) =
   where
     just : ℕ → Option ℕ
     just k = Some k
+
     tail : (gap rest : List ℕ) → begins Digit rest ≡ true → tail_by seconds_of (gap ++ rest) ≡ seconds_of (behind Space (gap ++ rest))
     tail [] [] e = absurd cc
     tail [] (b ∷ rest) e = refl
@@ -107,6 +108,7 @@ sum-lasts (suc k) bs n e = by-pair (first_pair bs) refl (sum-lasts k)
     by-tail more s m first is (b ∷ r) after tail =
         Lasts.more (first_of bs) (front Space (b ∷ r)) (behind Space (b ∷ r)) bs s m n (first-pair bs s first) (front-all Space (b ∷ r)) (more (behind Space (b ∷ r)) m tail)
         (first-cut bs ∙ ap (λ xs. first_of bs ++ xs) (after ∙ parts Space (b ∷ r))) is
+
     by-pair : (o : Option ℕ) → first_pair bs ≡ o → ((bs : List ℕ) (n : ℕ) → sum_from k bs ≡ Some n → Lasts bs n) → Lasts bs n
     by-pair None none more = absurd (let f : None ≡ Some n = sym (ap (λ o. plus o (tail_by (sum_from k) (after_pair bs))) none) ∙ e in cc)
     by-pair (Some s) first more =

@@ -80,6 +80,7 @@ pair-parts digits unit s e = by-test (has_few digits) refl
         let bounds = few-is digits few in
         let product : number_of digits * w ≡ s = cc in
         record { some = bounds.0; few = bounds.1; worth = w; is_unit = is; product = sym product }
+
     by-test : (t : Bool) → has_few digits ≡ t → PairParts digits unit s
     by-test true few = by-worth few (meaning_of units unit) refl (sym (ap (λ t. cond t (times digits (meaning_of units unit)) None) few) ∙ e)
     by-test false many = absurd (let f : None ≡ Some s = sym (ap (λ t. cond t (times digits (meaning_of units unit)) None) many) ∙ e in cc)
