@@ -23,7 +23,7 @@ fn files(rt: HostRuntime) -> Result<(), AllocError> {
             ("a: []", "K4"),
             (".x: 1", "K15"),
             ("stages: [a]", "K15"),
-            ("variables:\n  A: x", "K4"),
+            ("variables:\n  A: x", "K15"),
             ("include: x\na: 1", "K2 include"),
             ("default: x", "K2 default"),
             ("workflow: x", "K2 workflow"),

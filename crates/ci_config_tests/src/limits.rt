@@ -1,18 +1,18 @@
 //! Each limit, at its last value and one past it.
 
 use crate::answer::{answer, repeated};
-use std::alloc::AllocError;
+use std::alloc::{AllocError, Global};
 use std::process::Abort;
 
 /// Does the text that holds a line so many times end as wanted, and with another end behind it too?
 fn counted(
     rt: &impl Abort,
+    alloc: Global,
     before: &str,
     start: &str,
     end: &str,
     rows: &[(u32, &str, &str)],
 ) -> Result<(), AllocError> {
-    let alloc = rt.alloc();
     for (n, last, want) in rows {
         let mut text = repeated(alloc, before, start, end, *n)?;
         text.push_str(last)?;
@@ -26,6 +26,7 @@ fn counted(
 fn jobs(rt: HostRuntime) -> Result<(), AllocError> {
     counted(
         &rt,
+        rt.alloc(),
         "",
         "j",
         ":\n  script: x\n",
@@ -45,6 +46,7 @@ fn jobs(rt: HostRuntime) -> Result<(), AllocError> {
 fn stages(rt: HostRuntime) -> Result<(), AllocError> {
     counted(
         &rt,
+        rt.alloc(),
         "a:\n  script: x\n  stage: s0\nstages:\n",
         "- s",
         "\n",
@@ -64,6 +66,7 @@ fn stages(rt: HostRuntime) -> Result<(), AllocError> {
 fn variables(rt: HostRuntime) -> Result<(), AllocError> {
     counted(
         &rt,
+        rt.alloc(),
         "a:\n  script: x\nvariables:\n",
         "  A",
         ": x\n",
@@ -76,6 +79,7 @@ fn variables(rt: HostRuntime) -> Result<(), AllocError> {
     )?;
     counted(
         &rt,
+        rt.alloc(),
         "a:\n  script: x\n  variables:\n",
         "    A",
         ": 1\n",
@@ -83,6 +87,7 @@ fn variables(rt: HostRuntime) -> Result<(), AllocError> {
     )?;
     counted(
         &rt,
+        rt.alloc(),
         "a:\n  script: x\n  rules:\n  - variables:\n",
         "      A",
         ": 1\n",
@@ -94,6 +99,7 @@ fn variables(rt: HostRuntime) -> Result<(), AllocError> {
 fn rules(rt: HostRuntime) -> Result<(), AllocError> {
     counted(
         &rt,
+        rt.alloc(),
         "a:\n  script: x\n  rules:\n",
         "  - if: $A",
         "\n",
@@ -110,6 +116,7 @@ fn rules(rt: HostRuntime) -> Result<(), AllocError> {
 fn script_items(rt: HostRuntime) -> Result<(), AllocError> {
     counted(
         &rt,
+        rt.alloc(),
         "a:\n  script:\n",
         "  - make ",
         "\n",
@@ -121,6 +128,7 @@ fn script_items(rt: HostRuntime) -> Result<(), AllocError> {
 fn tags(rt: HostRuntime) -> Result<(), AllocError> {
     counted(
         &rt,
+        rt.alloc(),
         "a:\n  script: x\n  tags:\n",
         "  - t",
         "\n",
@@ -138,6 +146,7 @@ fn tags(rt: HostRuntime) -> Result<(), AllocError> {
 fn exit_codes(rt: HostRuntime) -> Result<(), AllocError> {
     counted(
         &rt,
+        rt.alloc(),
         "a:\n  script: x\n  allow_failure:\n    exit_codes:\n",
         "    - ",
         "\n",
@@ -150,6 +159,7 @@ fn exit_codes(rt: HostRuntime) -> Result<(), AllocError> {
 fn needs(rt: HostRuntime) -> Result<(), AllocError> {
     counted(
         &rt,
+        rt.alloc(),
         "a:\n  script: x\n  needs:\n",
         "  - n",
         "\n",

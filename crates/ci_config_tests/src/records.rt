@@ -107,7 +107,7 @@ fn first_job(rt: &impl Abort, alloc: Global, job: &JobSpec) -> Result<(), Fail> 
     );
     assert_eq!(rt; job.needs.is_none(), true);
     assert_eq!(rt; job.rules.is_none(), true);
-    assert_eq!(rt; job.when, None);
+    assert_eq!(rt; job.when.is_none(), true);
     assert_eq!(rt; job.allow_failure.is_none(), true);
     assert_eq!(rt; job.resource_group, None);
     Ok(())
@@ -116,7 +116,7 @@ fn first_job(rt: &impl Abort, alloc: Global, job: &JobSpec) -> Result<(), Fail> 
 fn second_job(rt: &impl Abort, alloc: Global, job: &JobSpec) -> Result<(), Fail> {
     assert_eq!(rt; job.name, "check");
     assert_eq!(rt; joined(alloc, job.script.as_slice())?.as_str(), "./check|");
-    assert_eq!(rt; job.when, Some(When::Manual));
+    assert_eq!(rt; matches!(job.when, Some(When::Manual)), true);
     assert_eq!(rt; job.resource_group, Some("machine"));
     assert_eq!(rt; job.timeout, None);
     assert_eq!(rt; job.interruptible, false);
