@@ -6,10 +6,11 @@ use Rattle.ci_expr.specs.declared.fault.ExprCode.TheVariants.{X8}
 use Rattle.ci_expr.specs.declared.fault.ExprFault.TheVariants as errors
 use Rattle.ci_expr.specs.Built.{formula_of}
 use Rattle.ci_expr.specs.Formula.{Formula, has_pattern}
-use Rattle.ci_expr.specs.Meaning.{Tokenizes, Means, Allows, IsOwn, parse_of}
+use Rattle.ci_expr.specs.Meaning.{Tokenizes, Means, Allows, IsOwn, IsMeaning, parse_of}
 use Rattle.ci_expr.specs.Reading.{◌>>=◌, tokens_of}
 use Rattle.ci_expr.specs.Token.{Token}
 use Rattle.ci_expr.proofs.TokenLemmas.{tokens_of-sound, tokens-own}
+use Rattle.ci_expr.proofs.OneMeaning.{one-meaning}
 use Rattle.ci_expr.proofs.ParseLemmas.{parse_of-sound, parse_of-own, mean-tokens}
 use Rattle.ci_config.specs.Answer.{Finds, Stops}
 use Rattle.ci_config.specs.Expressions.{Patterns, built, refused, expression_of, condition_by, condition_of}
@@ -66,3 +67,10 @@ stops-by text x (Err y) is h = inl (ap (condition_by built) is ∙ ap (λ z. fai
 
 pub condition-stops : (text : List ℕ) (x : ExprCode) → Allows formula_of (Err (errors.Fault x)) (expression_of text) → Stops (condition_of text) (K13 x)
 condition-stops text x h = stops-by text x (expression_of text) refl h
+
+-- ---- and nothing else is
+pub expression-is : (text : List ℕ) → IsMeaning text (expression_of text)
+expression-is text =
+    let one = one-meaning text in
+    let read = expression-read text in
+    (read.own, read.means, λ s own means. one.1.2 s own means ∙ sym (one.1.2 (expression_of text) read.own read.means))

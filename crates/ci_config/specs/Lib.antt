@@ -15,3 +15,4 @@ pub mod Meaning
 pub mod FaultView
 pub mod View
 pub mod Answer
+pub mod Laws

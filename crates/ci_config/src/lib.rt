@@ -8,6 +8,7 @@ mod fault;
 mod file;
 mod job;
 mod keyword;
+pub mod laws;
 mod limits;
 mod need;
 mod read;
