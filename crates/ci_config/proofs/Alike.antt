@@ -41,6 +41,7 @@ alike-then {A = A} {P = P} m k (inl e) h = by-value (m built) refl
     either : (x : A) → m built ≡ Ok x → Alike P (k x) → Alike P (λ p. m p >>= λ x. k x p)
     either x is (inl g) = inl (ap (λ r. r >>= λ x. k x refused) (e ∙ is) ∙ g ∙ sym (ap (λ r. r >>= λ x. k x built) is))
     either x is (inr (some, g)) = inr (some, ap (λ r. r >>= λ x. k x refused) (e ∙ is) ∙ g)
+
     by-value : (r : Result A Fault) → m built ≡ r → Alike P (λ p. m p >>= λ x. k x p)
     by-value (Err f) is = inl (ap (λ r. r >>= λ x. k x refused) (e ∙ is) ∙ sym (ap (λ r. r >>= λ x. k x built) is))
     by-value (Ok x) is = either x is (h x)
@@ -110,6 +111,7 @@ alike-condition bs = by-value (expression_of bs) refl
         → (demand (not b) (K13 X8) (Ok f) ≡ Ok f) ⊎ ((HasNoPattern bs → ⊥) × (demand (not b) (K13 X8) (Ok f) ≡ Err (K13 X8)))
     by-test f true is has = inr (λ none. let no : has_pattern f ≡ false = none f is in absurd cc, refl)
     by-test f false is has = inl refl
+
     by-value : (r : Result Formula ExprCode) → expression_of bs ≡ r → Alike (HasNoPattern bs) (λ p. condition_by p r)
     by-value (Err x) is = inl refl
     by-value (Ok f) is = by-test f (has_pattern f) is refl

@@ -2,3 +2,4 @@ pub mod Trees
 pub mod Telling
 pub mod Conditions
 pub mod Alike
+pub mod Wholes

@@ -7,7 +7,7 @@ ghost use Rattle.ci_expr.specs.Meaning.{IsMeaning};
 ghost use Rattle.ci_config.specs.Config.{Config};
 ghost use Rattle.ci_config.specs.Expressions.{built, refused, expression_of};
 ghost use Rattle.ci_config.specs.Fault.{Fault, K13};
-ghost use Rattle.ci_config.specs.Laws.{LacksPatterns};
+ghost use Rattle.ci_config.specs.Laws.{LacksPatterns, IsWhole};
 ghost use Rattle.ci_config.specs.Meaning.{meaning, Means};
 
 /// A tree has one answer, and at most one more, X8.
@@ -28,4 +28,9 @@ pub fn answers_once_without_patterns()
 /// What is read of an expression is what its grammar says, and nothing else is.
 pub fn reads_expressions()
     ensures { (text : List ℕ) → IsMeaning text (expression_of text) }
+{}
+
+/// In a configuration there are 1 to 100 jobs, each with a script and a stage that is one of the stages, and names are names.
+pub fn configures_whole_jobs()
+    ensures { (v : Value) (c : Config) → meaning built v ≡ Ok c → IsWhole c }
 {}
