@@ -1,0 +1,5 @@
+pub mod Trees
+pub mod Telling
+pub mod Conditions
+pub mod Alike
+pub mod Wholes

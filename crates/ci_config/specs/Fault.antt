@@ -1,0 +1,41 @@
+-- What is wrong with a tree.
+use Rattle.std.specs.Prelude.{ℕ, List, ◌++◌, codes}
+use Rattle.ci_expr.specs.declared.fault.ExprCode.{ExprCode}
+use Rattle.ci_expr.specs.Code.{code_of}
+
+pub data Fault : Type 0 where
+  K1 : Fault
+  K2 : List ℕ → Fault
+  K3 : Fault
+  K4 : Fault
+  K5 : Fault
+  K6 : Fault
+  K7 : Fault
+  K8 : Fault
+  K9 : Fault
+  K10 : Fault
+  K11 : Fault
+  K12 : Fault
+  K13 : ExprCode → Fault
+  K14 : Fault
+  K15 : Fault
+  K16 : Fault
+
+-- the code, and what it names: `K6`, `K2 image`, `K13 X4`
+abbrev pub said : Fault → List ℕ
+said K1 = codes "K1"
+said (K2 name) = codes "K2 " ++ name
+said K3 = codes "K3"
+said K4 = codes "K4"
+said K5 = codes "K5"
+said K6 = codes "K6"
+said K7 = codes "K7"
+said K8 = codes "K8"
+said K9 = codes "K9"
+said K10 = codes "K10"
+said K11 = codes "K11"
+said K12 = codes "K12"
+said (K13 x) = codes "K13 " ++ code_of x
+said K14 = codes "K14"
+said K15 = codes "K15"
+said K16 = codes "K16"

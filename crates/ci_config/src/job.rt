@@ -1,0 +1,163 @@
+//! A job.
+
+ghost use Rattle.std.specs.Prelude.{◌≡◌, Ok};
+ghost use Rattle.ci_yaml_lines.specs.TreeView.{value_view};
+ghost use Rattle.ci_config.specs.Answer.{Tells};
+ghost use Rattle.ci_config.specs.FaultView.{Gives};
+ghost use Rattle.ci_config.specs.Jobs.{lines_of, script_of, plain_job_value, rules_value, job_value, job_entry, blank_job, job_from};
+ghost use Rattle.ci_config.specs.View.{pairs_view, texts_view, job_view};
+
+use crate::allow_failure::allow_failure_of;
+use crate::fault::{ConfigFault, keyword_of};
+use crate::keyword::{JOB_KEYWORDS, JOB_LEFT_OUT, JobKeyword, PlainJobKeyword};
+use crate::limits::{MAX_SCRIPT_ITEMS, MAX_TAGS};
+use crate::need::{Need, needs_of};
+use crate::retry::retry_of;
+use crate::rule::{Rule, rules_of};
+use crate::tree::{bool_of, is_text, text_of};
+use crate::value::{Variable, name_of, names_of, texts_of, timeout_of, variables_of};
+use crate::when::when_of;
+use ci_values::when::{AllowFailure, Retry, When};
+use ci_yaml_lines::tree::{Text, Tree};
+use std::alloc::Global;
+
+/// A job. What isn't written is `None`, an empty list, `false`, or the stage `test`.
+#[derive(Drop)]
+pub struct JobSpec<'t> {
+    pub name: &'t str,
+    pub stage: &'t str,
+    pub script: Vec<&'t str>,
+    pub needs: Option<Vec<Need<'t>>>,
+    pub rules: Option<Vec<Rule<'t>>>,
+    pub when: Option<When>,
+    pub allow_failure: Option<AllowFailure>,
+    pub retry: Option<Retry>,
+    pub tags: Vec<&'t str>,
+    /// In seconds.
+    pub timeout: Option<u32>,
+    pub resource_group: Option<&'t str>,
+    pub interruptible: bool,
+    pub variables: Vec<Variable<'t>>,
+}
+
+/// A script of one line, or of none where the text is empty.
+fn lines_of<'t>(alloc: Global, text: &'t str) -> Result<Vec<&'t str>, ConfigFault>
+    ensures { Gives texts_view result (Ok (lines_of text.now)) }
+{
+    let mut lines = Vec::new(alloc);
+    if text.is_empty() {
+        return Ok(lines);
+    }
+    lines.push(text)?;
+    Ok(lines)
+}
+
+/// A script: a text, or a list of texts.
+fn script_of<'t>(alloc: Global, tree: &'t Tree) -> Result<Vec<&'t str>, ConfigFault>
+    ensures { Gives texts_view result (script_of (value_view tree.now)) }
+{
+    if is_text(tree) {
+        let text = text_of(tree)?;
+        return lines_of(alloc, text);
+    }
+    texts_of(alloc, MAX_SCRIPT_ITEMS, tree)
+}
+
+/// The job of a name that nothing is written of.
+fn blank_job<'t>(alloc: Global, name: &'t str) -> JobSpec<'t>
+    ensures { job_view result ≡ blank_job name.now }
+{
+    JobSpec {
+        name,
+        stage: "test",
+        script: Vec::new(alloc),
+        needs: None,
+        rules: None,
+        when: None,
+        allow_failure: None,
+        retry: None,
+        tags: Vec::new(alloc),
+        timeout: None,
+        resource_group: None,
+        interruptible: false,
+        variables: Vec::new(alloc),
+    }
+}
+
+impl<'t> JobSpec<'t> {
+    /// Sets what holds no expression.
+    fn set_plain(
+        &mut self,
+        alloc: Global,
+        keyword: PlainJobKeyword,
+        tree: &'t Tree,
+    ) -> Result<(), ConfigFault>
+        ensures { Gives (λ _. job_view self.new) result (plain_job_value keyword (value_view tree.now) (job_view self.old)) }
+    {
+        match keyword {
+            PlainJobKeyword::Script => self.script = script_of(alloc, tree)?,
+            PlainJobKeyword::Stage => self.stage = name_of(tree)?,
+            PlainJobKeyword::Needs => self.needs = Some(needs_of(alloc, tree)?),
+            PlainJobKeyword::When => self.when = Some(when_of(tree)?),
+            PlainJobKeyword::AllowFailure => {
+                self.allow_failure = Some(allow_failure_of(alloc, tree)?);
+            }
+            PlainJobKeyword::Retry => self.retry = Some(retry_of(tree)?),
+            PlainJobKeyword::Tags => self.tags = names_of(alloc, MAX_TAGS, tree)?,
+            PlainJobKeyword::Timeout => self.timeout = Some(timeout_of(tree)?),
+            PlainJobKeyword::ResourceGroup => self.resource_group = Some(name_of(tree)?),
+            PlainJobKeyword::Interruptible => self.interruptible = bool_of(tree)?,
+            PlainJobKeyword::Variables => self.variables = variables_of(alloc, tree)?,
+        }
+        Ok(())
+    }
+
+    fn set_rules(&mut self, alloc: Global, tree: &'t Tree) -> Result<(), ConfigFault>
+        ensures { Tells (λ _. job_view self.new) result (rules_value (value_view tree.now) (job_view self.old)) }
+    {
+        match rules_of(alloc, tree) {
+            Ok(rules) => {
+                self.rules = Some(rules);
+                Ok(())
+            }
+            Err(fault) => Err(fault),
+        }
+    }
+
+    fn set(&mut self, alloc: Global, keyword: JobKeyword, tree: &'t Tree) -> Result<(), ConfigFault>
+        ensures { Tells (λ _. job_view self.new) result (job_value keyword (value_view tree.now) (job_view self.old)) }
+    {
+        match keyword {
+            JobKeyword::Rules => self.set_rules(alloc, tree),
+            JobKeyword::Plain(keyword) => self.set_plain(alloc, keyword, tree),
+        }
+    }
+
+    /// Sets what an entry says.
+    fn enter(&mut self, alloc: Global, key: &str, tree: &'t Tree) -> Result<(), ConfigFault>
+        ensures { Tells (λ _. job_view self.new) result (λ p. job_entry p (key.now, value_view tree.now) (job_view self.old)) }
+    {
+        match keyword_of(&JOB_KEYWORDS, &JOB_LEFT_OUT, key) {
+            Ok(keyword) => self.set(alloc, keyword, tree),
+            Err(fault) => Err(fault),
+        }
+    }
+}
+
+/// The job of a name that a map describes.
+pub fn job_from<'t>(
+    alloc: Global,
+    name: &'t str,
+    pairs: &'t [(Text, Tree)],
+) -> Result<JobSpec<'t>, ConfigFault>
+    ensures { Tells job_view result (λ p. job_from p name.now (pairs_view pairs.now)) }
+{
+    let mut job = blank_job(alloc, name);
+    for pair in pairs {
+        match job.enter(alloc, pair.0.as_str(), &pair.1) {
+            Ok(()) => {}
+            Err(fault) => return Err(fault),
+        }
+    }
+    Ok(job)
+}

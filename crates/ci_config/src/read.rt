@@ -1,0 +1,34 @@
+//! Reading a tree.
+
+ghost use Rattle.ci_yaml_lines.specs.TreeView.{value_view};
+ghost use Rattle.ci_config.specs.Answer.{Tells, Answers};
+ghost use Rattle.ci_config.specs.Meaning.{meaning};
+ghost use Rattle.ci_config.specs.View.{config_view};
+
+use crate::fault::{ConfigCode, ConfigFault};
+use crate::file::{Config, file_config};
+use crate::tree::{is_map, map_of};
+use ci_yaml_lines::tree::Tree;
+use std::alloc::Global;
+
+fn meaning<'t>(alloc: Global, tree: &'t Tree) -> Result<Config<'t>, ConfigFault>
+    ensures { Tells config_view result (λ p. meaning p (value_view tree.now)) }
+{
+    if !is_map(tree) {
+        return Err(ConfigFault::Fault(ConfigCode::K1));
+    }
+    match map_of(tree) {
+        Ok(pairs) => file_config(alloc, pairs),
+        Err(fault) => Err(fault),
+    }
+}
+
+/// What a tree configures.
+///
+/// Errors: memory was refused; or the first fault of the tree, in the order of the definition: the document's own kind; the
+/// entries in their order, each one's inside before the next; then the jobs, their scripts and stages; then that there is one.
+pub fn config<'t>(alloc: Global, tree: &'t Tree) -> Result<Config<'t>, ConfigFault>
+    ensures { Answers result (value_view tree.now) }
+{
+    meaning(alloc, tree)
+}

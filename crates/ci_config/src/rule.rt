@@ -1,0 +1,156 @@
+//! The rules of a job.
+
+ghost use Rattle.std.specs.Prelude.{◌≡◌, ℕ, List, length};
+ghost use Rattle.ci_yaml_lines.specs.TreeView.{value_view};
+ghost use Rattle.ci_expr.specs.Built.{formula_of};
+ghost use Rattle.ci_config.specs.Answer.{Tells};
+ghost use Rattle.ci_config.specs.Config.{Rule as Meant};
+ghost use Rattle.ci_config.specs.Expressions.{condition_of};
+ghost use Rattle.ci_config.specs.FaultView.{Gives};
+ghost use Rattle.ci_config.specs.Rules.{plain_rule_value, condition_value, rule_value, rule_entry, rule_from, rule_of, rules_from, rules_of};
+ghost use Rattle.ci_config.specs.View.{values_view, pairs_view, rule_view, rules_view};
+
+use crate::fault::{ConfigCode, ConfigFault, keyword_of};
+use crate::keyword::{PlainRuleKeyword, RULE_KEYWORDS, RULE_LEFT_OUT, RuleKeyword, RuleWhen};
+use crate::limits::MAX_RULES;
+use crate::tree::{bool_of, list_of, map_of, text_of};
+use crate::value::{Variable, variables_of};
+use crate::when::rule_when_of;
+use ci_expr::{Expr, ExprFault, parse};
+use ci_yaml_lines::tree::{Text, Tree};
+use std::alloc::Global;
+
+/// A rule.
+#[derive(Drop)]
+pub struct Rule<'t> {
+    pub condition: Option<Expr>,
+    pub when: Option<RuleWhen>,
+    pub allow_failure: Option<bool>,
+    pub variables: Vec<Variable<'t>>,
+}
+
+/// The condition that a text is.
+fn condition_of(alloc: Global, text: &str) -> Result<Expr, ConfigFault>
+    ensures { Tells formula_of result (condition_of text.now) }
+{
+    match parse(alloc, text) {
+        Ok(expr) => Ok(expr),
+        Err(ExprFault::Memory) => Err(ConfigFault::Memory),
+        Err(ExprFault::Fault(code)) => Err(ConfigFault::Fault(ConfigCode::K13(code))),
+    }
+}
+
+impl<'t> Rule<'t> {
+    /// Sets the condition.
+    fn set_condition(&mut self, alloc: Global, tree: &Tree) -> Result<(), ConfigFault>
+        ensures { Tells (λ _. rule_view self.new) result (condition_value (value_view tree.now) (rule_view self.old)) }
+    {
+        match text_of(tree) {
+            Ok(text) => match condition_of(alloc, text) {
+                Ok(condition) => {
+                    self.condition = Some(condition);
+                    Ok(())
+                }
+                Err(fault) => Err(fault),
+            },
+            Err(fault) => Err(fault),
+        }
+    }
+
+    /// Sets what holds no expression.
+    fn set_plain(
+        &mut self,
+        alloc: Global,
+        keyword: PlainRuleKeyword,
+        tree: &'t Tree,
+    ) -> Result<(), ConfigFault>
+        ensures { Gives (λ _. rule_view self.new) result (plain_rule_value keyword (value_view tree.now) (rule_view self.old)) }
+    {
+        match keyword {
+            PlainRuleKeyword::When => self.when = Some(rule_when_of(tree)?),
+            PlainRuleKeyword::AllowFailure => self.allow_failure = Some(bool_of(tree)?),
+            PlainRuleKeyword::Variables => self.variables = variables_of(alloc, tree)?,
+        }
+        Ok(())
+    }
+
+    fn set(
+        &mut self,
+        alloc: Global,
+        keyword: RuleKeyword,
+        tree: &'t Tree,
+    ) -> Result<(), ConfigFault>
+        ensures { Tells (λ _. rule_view self.new) result (rule_value keyword (value_view tree.now) (rule_view self.old)) }
+    {
+        match keyword {
+            RuleKeyword::If => self.set_condition(alloc, tree),
+            RuleKeyword::Plain(keyword) => self.set_plain(alloc, keyword, tree),
+        }
+    }
+
+    /// Sets what an entry says.
+    fn enter(&mut self, alloc: Global, key: &str, tree: &'t Tree) -> Result<(), ConfigFault>
+        ensures { Tells (λ _. rule_view self.new) result (λ p. rule_entry p (key.now, value_view tree.now) (rule_view self.old)) }
+    {
+        match keyword_of(&RULE_KEYWORDS, &RULE_LEFT_OUT, key) {
+            Ok(keyword) => self.set(alloc, keyword, tree),
+            Err(fault) => Err(fault),
+        }
+    }
+}
+
+fn rule_from<'t>(alloc: Global, pairs: &'t [(Text, Tree)]) -> Result<Rule<'t>, ConfigFault>
+    ensures { Tells rule_view result (λ p. rule_from p (pairs_view pairs.now)) }
+{
+    let mut rule = Rule {
+        condition: None,
+        when: None,
+        allow_failure: None,
+        variables: Vec::new(alloc),
+    };
+    for pair in pairs {
+        match rule.enter(alloc, pair.0.as_str(), &pair.1) {
+            Ok(()) => {}
+            Err(fault) => return Err(fault),
+        }
+    }
+    Ok(rule)
+}
+
+/// A rule, behind so many.
+fn rule_of<'t>(alloc: Global, before: usize, tree: &'t Tree) -> Result<Rule<'t>, ConfigFault>
+    ensures { (rs : List Meant) → length rs ≡ before → Tells rule_view result (λ p. rule_of p rs (value_view tree.now)) }
+{
+    match map_of(tree) {
+        Ok(pairs) => {
+            if MAX_RULES <= before {
+                return Err(ConfigFault::Fault(ConfigCode::K11));
+            }
+            rule_from(alloc, pairs)
+        }
+        Err(fault) => Err(fault),
+    }
+}
+
+fn rules_from<'t>(alloc: Global, values: &'t [Tree]) -> Result<Vec<Rule<'t>>, ConfigFault>
+    ensures { Tells rules_view result (λ p. rules_from p (values_view values.now)) }
+{
+    let mut rules = Vec::new(alloc);
+    for value in values {
+        match rule_of(alloc, rules.len(), value) {
+            Ok(rule) => rules.push(rule)?,
+            Err(fault) => return Err(fault),
+        }
+    }
+    Ok(rules)
+}
+
+/// The rules of a job.
+pub fn rules_of<'t>(alloc: Global, tree: &'t Tree) -> Result<Vec<Rule<'t>>, ConfigFault>
+    ensures { Tells rules_view result (rules_of (value_view tree.now)) }
+{
+    match list_of(tree) {
+        Ok(values) => rules_from(alloc, values),
+        Err(fault) => Err(fault),
+    }
+}

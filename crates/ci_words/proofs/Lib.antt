@@ -1,0 +1,4 @@
+pub mod Runs
+pub mod Units
+pub mod Sums
+pub mod Lasting

@@ -1,0 +1,12 @@
+use Rattle.std.proofs.Common.{◌≡◌, ◌≤◌, Some, length}
+use Rattle.ci_words.specs.Duration.{plus, seconds_of}
+use Rattle.ci_words.proofs.seconds.sum_of.Given as goal
+
+abbrev pub invariant-pairs : goal.invariant-pairs
+invariant-pairs l = record {
+  small : l.sum ≤ 2592000;
+  rest : seconds_of l.bytes ≡ plus (Some l.sum) (seconds_of l.rest);
+}
+
+abbrev pub decreases-pairs : goal.decreases-pairs
+decreases-pairs l = length l.rest
