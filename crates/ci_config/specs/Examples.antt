@@ -1,7 +1,10 @@
 -- Trees of small files, for worked examples.
-use Rattle.std.specs.Prelude.{ℕ, zero, suc, List, [], ◌∷◌, codes}
+use Rattle.std.specs.Prelude.{ℕ, zero, suc, List, [], ◌∷◌, map, Result, Err, codes}
 use Rattle.ci_yaml_lines.specs.Tree.{sequence, mapping, Value, text, node, Members, no_members, member}
-use Rattle.ci_config.specs.Config.{Text}
+use Rattle.ci_config.specs.Config.{Text, Config}
+use Rattle.ci_config.specs.Expressions.{built}
+use Rattle.ci_config.specs.Fault.{Fault, K2}
+use Rattle.ci_config.specs.Meaning.{meaning}
 
 abbrev pub entries_of : List (Text × Value) → Members
 entries_of [] = no_members
@@ -29,3 +32,44 @@ with_entry key v = a_map ((codes "a", a_map ((codes "script", text (codes "x")) 
 abbrev pub jobs : ℕ → List (Text × Value)
 jobs zero = []
 jobs (suc n) = (codes "a", plain_job) ∷ jobs n
+
+-- ---- names that are left out
+
+abbrev pub left_out_of_files : List Text
+left_out_of_files =
+    codes "include" ∷ codes "default" ∷ codes "workflow" ∷ codes "image" ∷ codes "services" ∷ codes "cache" ∷ codes "before_script" ∷ codes "after_script" ∷ codes "pages" ∷ []
+
+abbrev pub left_out_of_jobs : List Text
+left_out_of_jobs =
+    codes "extends" ∷ codes "parallel" ∷ codes "trigger" ∷ codes "environment" ∷ codes "artifacts" ∷ codes "cache" ∷ codes "services" ∷ codes "image" ∷ codes "release" ∷ codes "pages"
+    ∷ codes "only" ∷ codes "except" ∷ codes "inherit" ∷ codes "id_tokens" ∷ codes "secrets" ∷ codes "dast_configuration" ∷ codes "before_script" ∷ codes "after_script" ∷ codes "start_in"
+    ∷ codes "coverage" ∷ codes "dependencies" ∷ codes "hooks" ∷ []
+
+abbrev pub left_out_of_rules : List Text
+left_out_of_rules = codes "changes" ∷ codes "exists" ∷ codes "needs" ∷ codes "interruptible" ∷ codes "start_in" ∷ []
+
+abbrev pub left_out_of_needs : List Text
+left_out_of_needs = codes "project" ∷ codes "ref" ∷ codes "pipeline" ∷ codes "artifacts" ∷ codes "parallel" ∷ []
+
+-- a file with this entry, a job with it, a job with a rule and a need with it, and a job with a retry with it
+abbrev pub file_with : Text → Value
+file_with key = a_map ((key, text []) ∷ [])
+
+abbrev pub job_with : Text → Value
+job_with key = with_entry key (text [])
+
+abbrev pub rule_with : Text → Value
+rule_with key = with_entry (codes "rules") (a_list (a_map ((key, text []) ∷ []) ∷ []))
+
+abbrev pub need_with : Text → Value
+need_with key = with_entry (codes "needs") (a_list (a_map ((key, text []) ∷ []) ∷ []))
+
+abbrev pub retry_with : Text → Value
+retry_with key = with_entry (codes "retry") (a_map ((key, text []) ∷ []))
+
+-- what the trees with these keys mean, and that each is left out by its name
+abbrev pub meanings : (Text → Value) → List Text → List (Result Config Fault)
+meanings tree keys = map (λ key. meaning built (tree key)) keys
+
+abbrev pub all_left_out : List Text → List (Result Config Fault)
+all_left_out keys = map (λ key. Err (K2 key)) keys

@@ -3,7 +3,12 @@
 ghost use Rattle.std.specs.Prelude.{◌≡◌, pos, negsuc, true, [], ◌∷◌, length, Result, Ok, Err, codes};
 ghost use Rattle.ci_expr.specs.declared.fault.ExprCode.TheVariants.{X2};
 ghost use Rattle.ci_yaml_lines.specs.Tree.{boolean, number, text};
-ghost use Rattle.ci_config.specs.Examples.{a_map, a_list, plain_job, with_entry, jobs};
+ghost use Rattle.ci_values.specs.declared.attempts.Cause.TheVariants as cause;
+ghost use Rattle.ci_values.specs.declared.when.When.TheVariants as when;
+ghost use Rattle.ci_config.specs.Examples.{a_map, a_list, with_entry, jobs, left_out_of_files, left_out_of_jobs, left_out_of_rules, left_out_of_needs, file_with, job_with, rule_with, need_with, retry_with, meanings, all_left_out};
+ghost use Rattle.ci_config.specs.Retries.{cause_of};
+ghost use Rattle.ci_config.specs.Whens.{when_of};
+ghost use Rattle.ci_config.specs.declared.keyword.CauseWord.TheVariants.{Always, One};
 ghost use Rattle.ci_config.specs.Expressions.{built};
 ghost use Rattle.ci_config.specs.Fault.{K1, K2, K3, K4, K5, K6, K7, K8, K9, K10, K11, K12, K13, K14, K15, K16};
 ghost use Rattle.ci_config.specs.Meaning.{meaning};
@@ -56,4 +61,28 @@ pub fn refuses_these_entries()
     ensures exit_codes { meaning built (with_entry (codes "allow_failure") (a_map [])) ≡ Err K4 }
     ensures max { meaning built (with_entry (codes "retry") (a_map ((codes "when", text (codes "always")) ∷ []))) ≡ Err K9 }
     ensures rule { meaning built (with_entry (codes "rules") (a_list (a_map ((codes "if", text (codes "$A = 1")) ∷ []) ∷ []))) ≡ Err (K13 X2) }
+{}
+
+/// The keys that are left out by name.
+pub fn leaves_out_these_keys()
+    ensures files { meanings file_with left_out_of_files ≡ all_left_out left_out_of_files }
+    ensures jobs { meanings job_with left_out_of_jobs ≡ all_left_out left_out_of_jobs }
+    ensures rules { meanings rule_with left_out_of_rules ≡ all_left_out left_out_of_rules }
+    ensures needs { meanings need_with left_out_of_needs ≡ all_left_out left_out_of_needs }
+    ensures retries { meaning built (retry_with (codes "exit_codes")) ≡ Err (K2 (codes "exit_codes")) }
+{}
+
+/// The words of `when`, and those of a retry's `when`.
+pub fn reads_these_words()
+    ensures on_success { when_of (text (codes "on_success")) ≡ Ok when.OnSuccess }
+    ensures on_failure { when_of (text (codes "on_failure")) ≡ Ok when.OnFailure }
+    ensures always { when_of (text (codes "always")) ≡ Ok when.Always }
+    ensures manual { when_of (text (codes "manual")) ≡ Ok when.Manual }
+    ensures each_cause { cause_of (text (codes "always")) ≡ Ok Always }
+    ensures unknown_failure { cause_of (text (codes "unknown_failure")) ≡ Ok (One cause.UnknownFailure) }
+    ensures script_failure { cause_of (text (codes "script_failure")) ≡ Ok (One cause.ScriptFailure) }
+    ensures api_failure { cause_of (text (codes "api_failure")) ≡ Ok (One cause.ApiFailure) }
+    ensures stuck_or_timeout_failure { cause_of (text (codes "stuck_or_timeout_failure")) ≡ Ok (One cause.StuckOrTimeoutFailure) }
+    ensures runner_system_failure { cause_of (text (codes "runner_system_failure")) ≡ Ok (One cause.RunnerSystemFailure) }
+    ensures job_execution_timeout { cause_of (text (codes "job_execution_timeout")) ≡ Ok (One cause.JobExecutionTimeout) }
 {}
