@@ -5,7 +5,7 @@ ghost use Rattle.ci_expr.specs.declared.fault.ExprCode.TheVariants.{X2};
 ghost use Rattle.ci_yaml_lines.specs.Tree.{boolean, number, text};
 ghost use Rattle.ci_values.specs.declared.attempts.Cause.TheVariants as cause;
 ghost use Rattle.ci_values.specs.declared.when.When.TheVariants as when;
-ghost use Rattle.ci_config.specs.Examples.{a_map, a_list, with_entry, jobs, left_out_of_files, left_out_of_jobs, left_out_of_rules, left_out_of_needs, file_with, job_with, rule_with, need_with, retry_with, meanings, all_left_out};
+ghost use Rattle.ci_config.specs.Examples.{a_map, a_list, with_entry, jobs, left_out_of_files, left_out_of_jobs, left_out_of_rules, left_out_of_needs, file_with, job_with, rule_with, need_with, retry_with, meanings, all_left_out, whole_file, whole_config};
 ghost use Rattle.ci_config.specs.Retries.{cause_of};
 ghost use Rattle.ci_config.specs.Whens.{when_of};
 ghost use Rattle.ci_config.specs.declared.keyword.CauseWord.TheVariants.{Always, One};
@@ -85,4 +85,9 @@ pub fn reads_these_words()
     ensures stuck_or_timeout_failure { cause_of (text (codes "stuck_or_timeout_failure")) ≡ Ok (One cause.StuckOrTimeoutFailure) }
     ensures runner_system_failure { cause_of (text (codes "runner_system_failure")) ≡ Ok (One cause.RunnerSystemFailure) }
     ensures job_execution_timeout { cause_of (text (codes "job_execution_timeout")) ≡ Ok (One cause.JobExecutionTimeout) }
+{}
+
+/// A file with each keyword.
+pub fn reads_each_keyword()
+    ensures { meaning built whole_file ≡ Ok whole_config }
 {}
