@@ -16,3 +16,4 @@ pub mod FaultView
 pub mod View
 pub mod Answer
 pub mod Laws
+pub mod Examples

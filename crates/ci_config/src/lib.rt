@@ -4,6 +4,7 @@
 #![tactic(auto)]
 
 mod allow_failure;
+pub mod examples;
 mod fault;
 mod file;
 mod job;

@@ -1,6 +1,7 @@
 //! What single words of a CI file mean: the words of a table, names, durations, and the values of variables.
 #![tactic(auto)]
 
+pub mod examples;
 mod layers;
 mod name;
 mod run;
