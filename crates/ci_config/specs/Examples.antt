@@ -83,26 +83,32 @@ all_left_out keys = map (λ key. Err (K2 key)) keys
 
 abbrev pub whole_file : Value
 whole_file = a_map (
-  (codes "stages", a_list (text (codes "check") ∷ []))
-  ∷ (codes "variables", a_map ((codes "LEVEL", number (pos 1)) ∷ []))
-  ∷ (codes ".hidden", null)
-  ∷ (codes "a", a_map (
-    (codes "stage", text (codes "check"))
-    ∷ (codes "script", a_list (text (codes "x") ∷ text (codes "y") ∷ []))
-    ∷ (codes "needs", a_list (text (codes "b") ∷ a_map ((codes "job", text (codes "c")) ∷ (codes "optional", boolean true) ∷ []) ∷ []))
-    ∷ (codes "rules", a_list (
-      a_map ((codes "when", text (codes "never")) ∷ (codes "allow_failure", boolean true) ∷ (codes "variables", a_map ((codes "B", text (codes "z")) ∷ [])) ∷ [])
-      ∷ a_map ((codes "if", text (codes "$A")) ∷ []) ∷ []))
-    ∷ (codes "when", text (codes "manual"))
-    ∷ (codes "allow_failure", a_map ((codes "exit_codes", a_list (number (pos 1) ∷ number (pos 137) ∷ [])) ∷ []))
-    ∷ (codes "retry", a_map ((codes "max", number (pos 2)) ∷ (codes "when", a_list (text (codes "script_failure") ∷ text (codes "api_failure") ∷ [])) ∷ []))
-    ∷ (codes "tags", a_list (text (codes "linux") ∷ []))
-    ∷ (codes "timeout", text (codes "1h 30m"))
-    ∷ (codes "resource_group", text (codes "g"))
-    ∷ (codes "interruptible", boolean true)
-    ∷ (codes "variables", a_map ((codes "N", number (negsuc 4)) ∷ []))
-    ∷ []))
-  ∷ [])
+    (codes "stages", a_list (text (codes "check") ∷ []))
+    ∷ (codes "variables", a_map ((codes "LEVEL", number (pos 1)) ∷ []))
+    ∷ (codes ".hidden", null)
+    ∷ (
+      codes "a",
+      a_map (
+          (codes "stage", text (codes "check"))
+          ∷ (codes "script", a_list (text (codes "x") ∷ text (codes "y") ∷ []))
+          ∷ (codes "needs", a_list (text (codes "b") ∷ a_map ((codes "job", text (codes "c")) ∷ (codes "optional", boolean true) ∷ []) ∷ []))
+          ∷ (
+            codes "rules",
+            a_list (
+                a_map ((codes "when", text (codes "never")) ∷ (codes "allow_failure", boolean true) ∷ (codes "variables", a_map ((codes "B", text (codes "z")) ∷ [])) ∷ [])
+                ∷ a_map ((codes "if", text (codes "$A")) ∷ []) ∷ []),
+          )
+          ∷ (codes "when", text (codes "manual"))
+          ∷ (codes "allow_failure", a_map ((codes "exit_codes", a_list (number (pos 1) ∷ number (pos 137) ∷ [])) ∷ []))
+          ∷ (codes "retry", a_map ((codes "max", number (pos 2)) ∷ (codes "when", a_list (text (codes "script_failure") ∷ text (codes "api_failure") ∷ [])) ∷ []))
+          ∷ (codes "tags", a_list (text (codes "linux") ∷ []))
+          ∷ (codes "timeout", text (codes "1h 30m"))
+          ∷ (codes "resource_group", text (codes "g"))
+          ∷ (codes "interruptible", boolean true)
+          ∷ (codes "variables", a_map ((codes "N", number (negsuc 4)) ∷ []))
+          ∷ []),
+    )
+    ∷ [])
 
 abbrev pub whole_config : Config
 whole_config = record {
@@ -114,8 +120,8 @@ whole_config = record {
     script = codes "x" ∷ codes "y" ∷ [];
     needs = Some ((record { job = codes "b"; optional = false }) ∷ (record { job = codes "c"; optional = true }) ∷ []);
     rules = Some (
-      (record { condition = None; when = Some Never; allow_failure = Some true; variables = (codes "B", codes "z") ∷ [] })
-      ∷ (record { condition = Some (present (codes "A")); when = None; allow_failure = None; variables = [] }) ∷ []);
+        (record { condition = None; when = Some Never; allow_failure = Some true; variables = (codes "B", codes "z") ∷ [] })
+        ∷ (record { condition = Some (present (codes "A")); when = None; allow_failure = None; variables = [] }) ∷ []);
     when = Some Manual;
     allow_failure = Some (ExitCodes (1 ∷ 137 ∷ []));
     retry = Some (record {
