@@ -51,35 +51,32 @@ fn durations(rt: HostRuntime) {
     }
 }
 
-/// The highest layer that has a name, as each is taken away in turn.
+const NONE: &[(&str, &str)] = &[];
+
+const LAYERS: Layers<'static> = Layers {
+    pipeline: &[("CI_JOB_STAGE", "1")],
+    project: &[("CI_JOB_STAGE", "2")],
+    job: &[("CI_JOB_STAGE", "3"), ("CI_JOB_STAGE", "4")],
+    file: &[("CI_JOB_STAGE", "5")],
+    predefined: &[("CI", "true"), ("CI_JOB_STAGE", "test")],
+};
+
+/// The highest layer that has a name, as each is taken away in turn: a rule's variables stand first in the job's layer.
 #[test]
 fn the_stage_of_a_job(rt: HostRuntime) {
-    let none: &[(&str, &str)] = &[];
-    let pipeline = [("CI_JOB_STAGE", "1")];
-    let project = [("CI_JOB_STAGE", "2")];
-    let rule_and_job = [("CI_JOB_STAGE", "3"), ("CI_JOB_STAGE", "4")];
-    let job = [("CI_JOB_STAGE", "4")];
-    let file = [("CI_JOB_STAGE", "5")];
-    let predefined = [("CI", "true"), ("CI_JOB_STAGE", "test")];
-    let mut layers = Layers {
-        pipeline: &pipeline,
-        project: &project,
-        job: &rule_and_job,
-        file: &file,
-        predefined: &predefined,
-    };
+    let mut layers = LAYERS;
     assert_eq!(rt; lookup(&layers, "CI_JOB_STAGE"), Some("1"));
-    layers.pipeline = none;
+    layers.pipeline = NONE;
     assert_eq!(rt; lookup(&layers, "CI_JOB_STAGE"), Some("2"));
-    layers.project = none;
+    layers.project = NONE;
     assert_eq!(rt; lookup(&layers, "CI_JOB_STAGE"), Some("3"));
-    layers.job = &job;
+    layers.job = &[("CI_JOB_STAGE", "4")];
     assert_eq!(rt; lookup(&layers, "CI_JOB_STAGE"), Some("4"));
-    layers.job = none;
+    layers.job = NONE;
     assert_eq!(rt; lookup(&layers, "CI_JOB_STAGE"), Some("5"));
-    layers.file = none;
+    layers.file = NONE;
     assert_eq!(rt; lookup(&layers, "CI_JOB_STAGE"), Some("test"));
     assert_eq!(rt; lookup(&layers, "CI"), Some("true"));
-    layers.predefined = none;
+    layers.predefined = NONE;
     assert_eq!(rt; lookup(&layers, "CI_JOB_STAGE"), None);
 }
