@@ -9,14 +9,14 @@ use Rattle.ci_expr.specs.declared.fault.ExprCode.TheVariants.{X8}
 use Rattle.ci_expr.specs.Formula.{Formula, has_pattern}
 use Rattle.ci_config.specs.Config.{Text, Rule, Job, Config}
 use Rattle.ci_config.specs.Expressions.{Patterns, built, refused, expression_of, condition_by, condition_of}
-use Rattle.ci_config.specs.Fault.{Fault, K1, K2, K11, K13, K16}
-use Rattle.ci_config.specs.Files.{FileSaid, job_of, with_job, job_value, is_hidden, other_value, keyword_value, file_value, file_entry, blank_file, file_from}
+use Rattle.ci_config.specs.Fault.{Fault, K1, K11, K13, K16}
+use Rattle.ci_config.specs.Files.{FileSaid, job_of, with_job, job_value, is_hidden, other_value, file_value, file_entry, blank_file, file_from}
 use Rattle.ci_config.specs.Jobs as job
-use Rattle.ci_config.specs.Jobs.{plain_job_value, rules_value, job_entry, blank_job, job_from}
+use Rattle.ci_config.specs.Jobs.{rules_value, job_entry, blank_job, job_from}
 use Rattle.ci_config.specs.Laws.{HasNoPattern, LacksPatterns, AllLackPatterns, Each}
 use Rattle.ci_config.specs.Meaning.{Means, meant, no_pattern, judged, config_of, file_config, meaning}
 use Rattle.ci_config.specs.Reading.{◌>>=◌, demand, each, entries, keyword_of}
-use Rattle.ci_config.specs.Rules.{plain_rule_value, condition_value, rule_value, rule_entry, blank_rule, rule_from, rule_of, rules_from, rules_of}
+use Rattle.ci_config.specs.Rules.{condition_value, rule_value, rule_entry, blank_rule, rule_from, rule_of, rules_from, rules_of}
 use Rattle.ci_config.specs.Tables.{rule_keywords, rule_left_out, job_keywords, job_left_out, file_keywords, file_left_out}
 use Rattle.ci_config.specs.Values.{items_in, pairs_in, text_of, map_of, list_of, is_map}
 use Rattle.ci_config.specs.declared.keyword.FileKeyword.{FileKeyword}

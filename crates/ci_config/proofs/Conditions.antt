@@ -1,5 +1,5 @@
 -- The condition of a rule: what `ci_expr` answers is what is read.
-use Rattle.std.proofs.Common.{◌≡◌, ◌⊎◌, inl, inr, ℕ, Bool, true, false, cond, not, List, Result, Ok, Err, refl, sym, ◌∙◌, ap, subst}
+use Rattle.std.proofs.Common.{◌≡◌, ◌⊎◌, inl, inr, ℕ, Bool, true, false, not, List, Result, Ok, Err, refl, sym, ◌∙◌, ap, subst}
 use Rattle.ci_expr.specs.declared.expr.Expr.{Expr}
 use Rattle.ci_expr.specs.declared.fault.ExprCode.{ExprCode}
 use Rattle.ci_expr.specs.declared.fault.ExprCode.TheVariants.{X8}
@@ -13,7 +13,7 @@ use Rattle.ci_expr.proofs.TokenLemmas.{tokens_of-sound, tokens-own}
 use Rattle.ci_expr.proofs.OneMeaning.{one-meaning}
 use Rattle.ci_expr.proofs.ParseLemmas.{parse_of-sound, parse_of-own, mean-tokens}
 use Rattle.ci_config.specs.Answer.{Finds, Stops}
-use Rattle.ci_config.specs.Expressions.{Patterns, built, refused, expression_of, condition_by, condition_of}
+use Rattle.ci_config.specs.Expressions.{built, refused, expression_of, condition_by, condition_of}
 use Rattle.ci_config.specs.Fault.{Fault, K13}
 use Rattle.ci_config.specs.Reading.{demand}
 

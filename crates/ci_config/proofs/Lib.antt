@@ -3,3 +3,4 @@ pub mod Telling
 pub mod Conditions
 pub mod Alike
 pub mod Wholes
+pub mod Owns

@@ -11,7 +11,7 @@ use Rattle.ci_config.specs.Config as config
 use Rattle.ci_config.specs.Fault.{Fault}
 use Rattle.ci_config.specs.Meaning.{job_judged, jobs_judged}
 use Rattle.ci_config.specs.Values.{items_in, pairs_in, list_of, map_of}
-use Rattle.ci_config.specs.View.{values_view, pair_view, pairs_view, job_view}
+use Rattle.ci_config.specs.View.{values_view, pairs_view, job_view}
 use Rattle.ci_config.specs.declared.job.JobSpec.{JobSpec}
 
 -- ---- a list and a map of the code

@@ -1,5 +1,5 @@
 -- What a configuration has: jobs that can run, and names that are names.
-use Rattle.std.proofs.Common.{◌≡◌, ℕ, suc, ◌+◌, ◌<◌, ◌≤◌, Bool, true, false, cond, not, List, [], ◌∷◌, ◌++◌, Option, Some, None, Result, Ok, Err, IfSome, length, refl, sym, ◌∙◌, ap, subst, arith, length-append}
+use Rattle.std.proofs.Common.{◌≡◌, ℕ, ◌+◌, ◌<◌, ◌≤◌, Bool, true, false, cond, not, List, [], ◌∷◌, ◌++◌, Option, Some, None, Result, Ok, Err, IfSome, length, refl, ap, subst, arith, length-append}
 use Rattle.std.specs.Prelude.{nat_lt, filter, unwrap_or}
 use Rattle.std.proofs.lemmas.Bool.Decides.{nat_tests}
 use Rattle.ci_values.specs.Names.{is_name}
@@ -8,14 +8,14 @@ use Rattle.ci_words.specs.Name.{is_variable_name}
 use Rattle.ci_words.specs.Table.{meaning_of, word_in}
 use Rattle.ci_yaml_lines.specs.Tree.{Value}
 use Rattle.ci_config.specs.AllowFailures.{allow_failure_of}
-use Rattle.ci_config.specs.Config.{Text, Need, Rule, Job, Config}
+use Rattle.ci_config.specs.Config.{Text, Need, Job, Config}
 use Rattle.ci_config.specs.Expressions.{Patterns}
-use Rattle.ci_config.specs.Fault.{Fault, K1, K2, K4, K5, K6, K7, K11, K12, K15, K16}
+use Rattle.ci_config.specs.Fault.{Fault, K1, K4, K5, K6, K7, K11, K12, K15, K16}
 use Rattle.ci_config.specs.Files.{FileSaid, is_among, stage_in, stages_of, is_hidden, job_of, with_job, job_value, other_value, keyword_value, file_value, file_entry, blank_file, file_from}
 use Rattle.ci_config.specs.Jobs as job
 use Rattle.ci_config.specs.Jobs.{script_of, plain_job_value, job_entry, blank_job, job_from}
 use Rattle.ci_config.specs.Laws.{Each, IsName, AreNamed, CanRun, HasNames, IsWhole}
-use Rattle.ci_config.specs.Meaning.{pre, post, is_inner, default_stages, all_stages, config_of, is_nil, job_judged, jobs_judged, judged, file_config, meaning}
+use Rattle.ci_config.specs.Meaning.{post, is_inner, default_stages, all_stages, config_of, is_nil, jobs_judged, judged, file_config, meaning}
 use Rattle.ci_config.specs.Needs.{NeedSaid, need_value, need_entry, need_said, blank_need, need_from, need_of, needs_of}
 use Rattle.ci_config.specs.Reading.{◌>>=◌, demand, or_fault, each, entries, keyword_of}
 use Rattle.ci_config.specs.Retries.{retry_of}

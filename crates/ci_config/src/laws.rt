@@ -1,6 +1,6 @@
 //! Laws of the definitions. These functions do nothing: what they ensure is what the checker proves.
 
-ghost use Rattle.std.specs.Prelude.{◌≡◌, ◌⊎◌, ℕ, List, Result, Ok, Err};
+ghost use Rattle.std.specs.Prelude.{◌≡◌, ◌≢◌, ◌⊎◌, ℕ, List, Result, Ok, Err};
 ghost use Rattle.ci_yaml_lines.specs.Tree.{Value};
 ghost use Rattle.ci_expr.specs.declared.fault.ExprCode.TheVariants.{X8};
 ghost use Rattle.ci_expr.specs.Meaning.{IsMeaning};
@@ -13,6 +13,11 @@ ghost use Rattle.ci_config.specs.Meaning.{meaning, Means};
 /// A tree has one answer, and at most one more, X8.
 pub fn has_one_answer()
     ensures { (v : Value) (r s : Result Config Fault) → Means v r → Means v s → (r ≡ s) ⊎ ((r ≡ Err (K13 X8)) ⊎ (s ≡ Err (K13 X8))) }
+{}
+
+/// The meaning of a tree is never X8: that is the fault of a pattern that was refused.
+pub fn means_no_x8()
+    ensures { (v : Value) → meaning built v ≢ Err (K13 X8) }
 {}
 
 /// Where every pattern is refused a tree has the same meaning; or X8, and then it has a pattern.

@@ -1,7 +1,7 @@
 //! What a text answers.
 
 use ci_config::{ConfigFault, config};
-use ci_yaml::read;
+use ci_yaml::{YamlFault, read};
 use std::alloc::{AllocError, Global};
 use std::process::Abort;
 
@@ -9,7 +9,8 @@ use std::process::Abort;
 pub fn answer(alloc: Global, text: &str) -> Result<String, AllocError> {
     let tree = match read(alloc, text) {
         Ok(tree) => tree,
-        Err(_) => return String::from_str(alloc, "no tree"),
+        Err(YamlFault::Memory) => return Err(AllocError),
+        Err(YamlFault::Fault(..)) => return String::from_str(alloc, "no tree"),
     };
     match config(alloc, &tree) {
         Ok(config) => {

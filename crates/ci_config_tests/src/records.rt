@@ -1,6 +1,6 @@
 //! What the records of a file hold.
 
-use ci_config::{Config, JobSpec, RuleWhen, Variable, config};
+use ci_config::{Config, ConfigFault, JobSpec, RuleWhen, Variable, config};
 use ci_values::attempts::Cause;
 use ci_values::when::{AllowFailure, When};
 use ci_yaml::{Words, read};
@@ -213,16 +213,15 @@ fn whole(rt: &impl Abort, alloc: Global, file: &Config) -> Result<(), Fail> {
 #[test]
 fn of_a_file(rt: HostRuntime) -> Result<(), Fail> {
     let alloc = rt.alloc();
-    match read(alloc, FILE) {
-        Ok(tree) => match config(alloc, &tree) {
-            Ok(file) => whole(&rt, alloc, &file),
-            Err(_) => {
-                assert_eq!(rt; "refused", "a configuration");
-                Ok(())
-            }
-        },
-        Err(_) => {
-            assert_eq!(rt; "no tree", "a tree");
+    let Ok(tree) = read(alloc, FILE) else {
+        return Err(Fail::from(AllocError));
+    };
+    match config(alloc, &tree) {
+        Ok(file) => whole(&rt, alloc, &file),
+        Err(ConfigFault::Memory) => Err(Fail::from(AllocError)),
+        Err(ConfigFault::Fault(code)) => {
+            let code = format!(in alloc; "{code}")?;
+            assert_eq!(rt; code.as_str(), "a configuration");
             Ok(())
         }
     }
@@ -232,15 +231,13 @@ fn of_a_file(rt: HostRuntime) -> Result<(), Fail> {
 #[test]
 fn of_the_stages(rt: HostRuntime) -> Result<(), Fail> {
     let alloc = rt.alloc();
-    match read(alloc, "a:\n  script: x") {
-        Ok(tree) => match config(alloc, &tree) {
-            Ok(file) => {
-                let stages = joined(alloc, file.stages.as_slice())?;
-                assert_eq!(rt; stages.as_str(), ".pre|build|test|deploy|.post|");
-            }
-            Err(_) => assert_eq!(rt; "refused", "a configuration"),
-        },
-        Err(_) => assert_eq!(rt; "no tree", "a tree"),
-    }
+    let Ok(tree) = read(alloc, "a:\n  script: x") else {
+        return Err(Fail::from(AllocError));
+    };
+    let Ok(file) = config(alloc, &tree) else {
+        return Err(Fail::from(AllocError));
+    };
+    let stages = joined(alloc, file.stages.as_slice())?;
+    assert_eq!(rt; stages.as_str(), ".pre|build|test|deploy|.post|");
     Ok(())
 }
