@@ -1,7 +1,7 @@
 //! Durations, and the values of variables.
 
 use ci_config::duration;
-use ci_words::{Layers, lookup};
+use ci_words::{Layer, Layers, lookup};
 
 #[test]
 fn durations(rt: HostRuntime) {
@@ -53,30 +53,62 @@ fn durations(rt: HostRuntime) {
 
 const NONE: &[(&str, &str)] = &[];
 
-const LAYERS: Layers<'static> = Layers {
-    pipeline: &[("CI_JOB_STAGE", "1")],
-    project: &[("CI_JOB_STAGE", "2")],
-    job: &[("CI_JOB_STAGE", "3"), ("CI_JOB_STAGE", "4")],
-    file: &[("CI_JOB_STAGE", "5")],
-    predefined: &[("CI", "true"), ("CI_JOB_STAGE", "test")],
-};
+const PIPELINE: &[(&str, &str)] = &[("CI_JOB_STAGE", "1")];
+
+const PROJECT: &[(&str, &str)] = &[("CI_JOB_STAGE", "2")];
+
+const RULE_AND_JOB: &[(&str, &str)] = &[("CI_JOB_STAGE", "3"), ("CI_JOB_STAGE", "4")];
+
+const JOB: &[(&str, &str)] = &[("CI_JOB_STAGE", "4")];
+
+const FILE: &[(&str, &str)] = &[("CI_JOB_STAGE", "5")];
+
+const PREDEFINED: &[(&str, &str)] = &[("CI", "true"), ("CI_JOB_STAGE", "test")];
+
+/// The value of a name in these layers, above those of the file and the predefined ones.
+fn below<'a>(
+    pipeline: Layer<'a>,
+    project: Layer<'a>,
+    job: Layer<'a>,
+    name: &str,
+) -> Option<&'a str> {
+    lookup(
+        &Layers {
+            pipeline,
+            project,
+            job,
+            file: FILE,
+            predefined: PREDEFINED,
+        },
+        name,
+    )
+}
+
+/// The value of a name in the two lowest layers.
+fn at_last<'a>(file: Layer<'a>, predefined: Layer<'a>, name: &str) -> Option<&'a str> {
+    lookup(
+        &Layers {
+            pipeline: NONE,
+            project: NONE,
+            job: NONE,
+            file,
+            predefined,
+        },
+        name,
+    )
+}
 
 /// The highest layer that has a name, as each is taken away in turn: a rule's variables stand first in the job's layer.
 #[test]
 fn the_stage_of_a_job(rt: HostRuntime) {
-    let mut layers = LAYERS;
-    assert_eq!(rt; lookup(&layers, "CI_JOB_STAGE"), Some("1"));
-    layers.pipeline = NONE;
-    assert_eq!(rt; lookup(&layers, "CI_JOB_STAGE"), Some("2"));
-    layers.project = NONE;
-    assert_eq!(rt; lookup(&layers, "CI_JOB_STAGE"), Some("3"));
-    layers.job = &[("CI_JOB_STAGE", "4")];
-    assert_eq!(rt; lookup(&layers, "CI_JOB_STAGE"), Some("4"));
-    layers.job = NONE;
-    assert_eq!(rt; lookup(&layers, "CI_JOB_STAGE"), Some("5"));
-    layers.file = NONE;
-    assert_eq!(rt; lookup(&layers, "CI_JOB_STAGE"), Some("test"));
-    assert_eq!(rt; lookup(&layers, "CI"), Some("true"));
-    layers.predefined = NONE;
-    assert_eq!(rt; lookup(&layers, "CI_JOB_STAGE"), None);
+    let stage = "CI_JOB_STAGE";
+    assert_eq!(rt; below(PIPELINE, PROJECT, RULE_AND_JOB, stage), Some("1"));
+    assert_eq!(rt; below(NONE, PROJECT, RULE_AND_JOB, stage), Some("2"));
+    assert_eq!(rt; below(NONE, NONE, RULE_AND_JOB, stage), Some("3"));
+    assert_eq!(rt; below(NONE, NONE, JOB, stage), Some("4"));
+    assert_eq!(rt; below(NONE, NONE, NONE, stage), Some("5"));
+    assert_eq!(rt; at_last(FILE, PREDEFINED, stage), Some("5"));
+    assert_eq!(rt; at_last(NONE, PREDEFINED, stage), Some("test"));
+    assert_eq!(rt; at_last(NONE, PREDEFINED, "CI"), Some("true"));
+    assert_eq!(rt; at_last(NONE, NONE, stage), None);
 }
