@@ -19,7 +19,8 @@ use crate::keyword::{FILE_KEYWORDS, FILE_LEFT_OUT, FileKeyword};
 use crate::limits::{MAX_JOBS, MAX_STAGES};
 use crate::tree::{list_of, map_of, text_of};
 use crate::value::{Variable, variables_of};
-use ci_words::{is_name, meaning_of, word_in};
+use ci_values::text::is_name;
+use ci_words::{meaning_of, word_in};
 use ci_yaml_lines::tree::{Text, Tree};
 use std::alloc::Global;
 

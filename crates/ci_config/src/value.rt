@@ -12,7 +12,8 @@ ghost use Rattle.ci_config.specs.declared.fault.ConfigFault.TheVariants as fault
 use crate::fault::{ConfigCode, ConfigFault};
 use crate::limits::MAX_VARIABLES;
 use crate::tree::{list_of, map_of, number_of, text_of};
-use ci_words::{is_name, is_variable_name};
+use ci_values::text::is_name;
+use ci_words::is_variable_name;
 use ci_yaml_lines::tree::{Tree, Words};
 use std::alloc::Global;
 

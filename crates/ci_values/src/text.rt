@@ -66,9 +66,16 @@ impl Text {
     pub fn is_name(&self) -> bool
         ensures { result ≡ is_name self.now }
     {
-        let bytes = self.text.as_bytes();
-        !bytes.is_empty() && bytes.len() <= MAX_NAME_BYTES && has_no_control(bytes)
+        is_name(self.text.as_str())
     }
+}
+
+/// Is the text a name: 1 to 255 bytes of UTF-8 with no control character (U+0000 to U+001F and U+007F)?
+pub fn is_name(text: &str) -> bool
+    ensures { result ≡ is_name text.now }
+{
+    let bytes = text.as_bytes();
+    !bytes.is_empty() && bytes.len() <= MAX_NAME_BYTES && has_no_control(bytes)
 }
 
 fn has_no_control(bytes: &[u8]) -> bool

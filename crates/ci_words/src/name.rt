@@ -1,25 +1,10 @@
-//! Names, and names of variables.
+//! Names of variables.
 
 ghost use Rattle.std.specs.Prelude.{◌≡◌};
 ghost use Rattle.std.specs.List.{list_all};
-ghost use Rattle.ci_values.specs.Names.{is_name, has_no_control};
 ghost use Rattle.ci_words.specs.Name.{begins_word, goes_on_word, is_variable_name};
 
 use ci_values::limits::MAX_NAME_BYTES;
-
-fn has_no_control(bytes: &[u8]) -> bool
-    ensures { result ≡ has_no_control bytes.now }
-{
-    bytes.iter().all(|b| *b >= 32 && *b != 127)
-}
-
-/// Is the text a name: 1 to 255 bytes of UTF-8 with no control character?
-pub fn is_name(text: &str) -> bool
-    ensures { result ≡ is_name text.now }
-{
-    let bytes = text.as_bytes();
-    !bytes.is_empty() && bytes.len() <= MAX_NAME_BYTES && has_no_control(bytes)
-}
 
 /// An ASCII letter or `_`.
 fn begins_word(byte: u8) -> bool
