@@ -8,6 +8,7 @@ mod entries;
 mod fault;
 pub mod laws;
 pub mod limits;
+pub mod line_laws;
 mod members;
 mod nodes;
 mod open_map;

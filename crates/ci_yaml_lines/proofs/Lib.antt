@@ -6,6 +6,8 @@ pub mod Views
 pub mod Cuts
 pub mod Counts
 pub mod Quotes
+pub mod Quoting
+pub mod Comment
 pub mod SpansStand
 pub mod SpansTexts
 pub mod SpansQuoted

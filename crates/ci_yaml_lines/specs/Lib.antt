@@ -2,6 +2,8 @@ pub mod Least
 pub mod Tree
 pub mod Entry
 pub mod Scalar
+pub mod Quoting
+pub mod Comment
 pub mod Line
 pub mod TreeView
 pub mod TreeTexts
