@@ -1,10 +1,13 @@
 //! Laws of what one line says. These functions do nothing: what they ensure is what the checker proves.
 
-ghost use Rattle.std.specs.Prelude.{◌≡◌, ℕ, List, Some, drop};
+ghost use Rattle.std.specs.Prelude.{◌≡◌, ℕ, List, [], Some, true, drop};
 ghost use Rattle.std.specs.List.{list_all};
-ghost use Rattle.ci_yaml_lines.specs.Scalar.{Quoted, quoted, is_blank, comment_len, before_comment, only_comment};
+ghost use Rattle.ci_yaml_lines.specs.Tree.{Members};
+ghost use Rattle.ci_yaml_lines.specs.Scalar.{Quoted, quoted, is_blank, head_is, comment_len, before_comment, only_comment};
+ghost use Rattle.ci_yaml_lines.specs.Line.{listed};
 ghost use Rattle.ci_yaml_lines.specs.Quoting.{IsQuoted};
 ghost use Rattle.ci_yaml_lines.specs.Comment.{IsCut};
+ghost use Rattle.ci_yaml_lines.specs.FlowList.{IsList};
 
 /// A quoted scalar is read from a text exactly where it is written in front.
 pub fn reads_quoted()
@@ -17,4 +20,10 @@ pub fn cuts_comments()
     ensures is_cut { (before : ℕ) (bytes : List ℕ) → IsCut before bytes (before_comment before bytes) (drop (comment_len before bytes) bytes) }
     ensures one_cut { (before : ℕ) (bytes front behind : List ℕ) → IsCut before bytes front behind → front ≡ before_comment before bytes }
     ensures only_blanks { (before : ℕ) (bytes : List ℕ) → only_comment before bytes ≡ list_all is_blank (before_comment before bytes) }
+{}
+
+/// A list is read from a bracket on without a code, and closed, exactly where it is written there.
+pub fn reads_lists()
+    ensures is_written { (bytes rest : List ℕ) → head_is 91 bytes ≡ true → (listed bytes).codes ≡ [] → (listed bytes).rest ≡ Some rest → IsList bytes (listed bytes).members rest }
+    ensures is_read { (bytes rest : List ℕ) (values : Members) → IsList bytes values rest → listed bytes ≡ record { members = values; rest = Some rest; codes = [] } }
 {}

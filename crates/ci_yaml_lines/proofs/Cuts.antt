@@ -133,7 +133,7 @@ pub trimmed-more : (bs : List ℕ) (b : ℕ) → is_blank b ≡ true → trimmed
 trimmed-more [] b e = ap (λ t. cond t 0 1) e
 trimmed-more (c ∷ bs) b e = ap (λ n. cond ((n == 0) && is_blank c) 0 (1 + n)) (trimmed-more bs b e)
 
-full : (n c : ℕ) → 0 < n → cond ((n == 0) && is_blank c) 0 (1 + n) ≡ suc n
+pub full : (n c : ℕ) → 0 < n → cond ((n == 0) && is_blank c) 0 (1 + n) ≡ suc n
 full n c lt = let some : n ≢ 0 = omega arith in ap (λ t. cond (t && is_blank c) 0 (1 + n)) (eq-false n 0 some) ∙ add n
   where
     add : (m : ℕ) → 1 + m ≡ suc m

@@ -8,6 +8,7 @@ pub mod Counts
 pub mod Quotes
 pub mod Quoting
 pub mod Comment
+pub mod FlowLists
 pub mod SpansStand
 pub mod SpansTexts
 pub mod SpansQuoted

@@ -4,6 +4,7 @@ pub mod Entry
 pub mod Scalar
 pub mod Quoting
 pub mod Comment
+pub mod FlowList
 pub mod Line
 pub mod TreeView
 pub mod TreeTexts
