@@ -1,13 +1,14 @@
 //! Laws of what one line says. These functions do nothing: what they ensure is what the checker proves.
 
-ghost use Rattle.std.specs.Prelude.{◌≡◌, ℕ, List, [], Some, true, drop};
+ghost use Rattle.std.specs.Prelude.{◌≡◌, ℕ, List, [], Some, true, false, drop};
 ghost use Rattle.std.specs.List.{list_all};
 ghost use Rattle.ci_yaml_lines.specs.Tree.{Members};
-ghost use Rattle.ci_yaml_lines.specs.Scalar.{Quoted, quoted, is_blank, head_is, comment_len, before_comment, only_comment};
-ghost use Rattle.ci_yaml_lines.specs.Line.{listed};
+ghost use Rattle.ci_yaml_lines.specs.Scalar.{Quoted, quoted, is_blank, head_is, trim_end, comment_len, before_comment, only_comment};
+ghost use Rattle.ci_yaml_lines.specs.Line.{Line, listed, is_skipped, spaces, parse_line};
 ghost use Rattle.ci_yaml_lines.specs.Quoting.{IsQuoted};
 ghost use Rattle.ci_yaml_lines.specs.Comment.{IsCut};
 ghost use Rattle.ci_yaml_lines.specs.FlowList.{IsList};
+ghost use Rattle.ci_yaml_lines.specs.Tabs.{IsClear};
 
 /// A quoted scalar is read from a text exactly where it is written in front.
 pub fn reads_quoted()
@@ -26,4 +27,10 @@ pub fn cuts_comments()
 pub fn reads_lists()
     ensures is_written { (bytes rest : List ℕ) → head_is 91 bytes ≡ true → (listed bytes).codes ≡ [] → (listed bytes).rest ≡ Some rest → IsList bytes (listed bytes).members rest }
     ensures is_read { (bytes rest : List ℕ) (values : Members) → IsList bytes values rest → listed bytes ≡ record { members = values; rest = Some rest; codes = [] } }
+{}
+
+/// In a content line without codes, without its indent and the blanks at its end, no `-` or `:` stands directly before a tab but in
+/// quoted scalars and in a comment. (A space comes before the text.)
+pub fn clears_tabs()
+    ensures { (line : Line) → is_skipped line ≡ false → (parse_line line).codes ≡ [] → IsClear 32 (trim_end (drop (spaces line) line)) }
 {}

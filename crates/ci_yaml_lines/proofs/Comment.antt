@@ -1,8 +1,8 @@
 -- A text is cut where its comment begins.
-use Rattle.std.proofs.Common.{◌≡◌, ◌≢◌, ℕ, suc, ◌+◌, Bool, true, false, cond, List, [], ◌∷◌, ◌++◌, take, drop, refl, sym, ◌∙◌, ap, subst, arith}
+use Rattle.std.proofs.Common.{◌≡◌, ℕ, suc, ◌+◌, Bool, true, false, cond, List, [], ◌∷◌, ◌++◌, take, drop, refl, sym, ◌∙◌, ap, subst, arith}
 use Rattle.std.specs.Prelude.{◌==◌, ◌&&◌}
 use Rattle.std.specs.List.{list_all}
-use Rattle.std.proofs.lemmas.Bool.{eqb-true, eqb-false}
+use Rattle.std.proofs.lemmas.Bool.{eqb-true}
 use Rattle.ci_yaml_lines.specs.Scalar.{is_blank, comment_len, before_comment, only_comment}
 use Rattle.ci_yaml_lines.specs.Comment.{last_of, HasNoComment, IsComment, nothing, comment, IsCut}
 use Rattle.ci_yaml_lines.proofs.Bools.{eq-true}

@@ -5,10 +5,10 @@ use Rattle.std.specs.List.{list_all}
 use Rattle.std.proofs.lemmas.Bool.{eqb-true, eqb-false}
 use Rattle.std.proofs.lemmas.List.{append-nil, take-append-drop}
 use Rattle.ci_yaml_lines.specs.declared.code.Code.{Code}
-use Rattle.ci_yaml_lines.specs.declared.code.Code.TheVariants.{Y6, Y7, Y8, Y9, Y11}
+use Rattle.ci_yaml_lines.specs.declared.code.Code.TheVariants.{Y7, Y8, Y9, Y11}
 use Rattle.ci_yaml_lines.specs.Tree.{Value, text, Members, no_members, member}
 use Rattle.ci_yaml_lines.specs.Scalar.{is_blank, blanks, drop_blanks, is_nil, trimmed_len, trim_end, space_next, head_is, tail_of, has_tab_after, is_indicator, is_forbidden, has_colon, plain_value, plain_codes, when, Quoted, is_quote, quoted}
-use Rattle.ci_yaml_lines.specs.Line.{End, comma, bracket, missing, Cut, place_len, end_of, cut_place, has_inner, Place, place_codes, plain_place, behind_quoted, quoted_place, place, Listed, with_place, after_place, places, listed_inside, listed}
+use Rattle.ci_yaml_lines.specs.Line.{End, comma, bracket, missing, place_len, end_of, cut_place, has_inner, Place, place_codes, plain_place, behind_quoted, quoted_place, place, Listed, with_place, after_place, places, listed}
 use Rattle.ci_yaml_lines.specs.Comment.{last_of, HasNoComment}
 use Rattle.ci_yaml_lines.specs.Quoting.{doubled, Between, IsQuoted, in_single, in_double}
 use Rattle.ci_yaml_lines.specs.FlowList.{AreBlanks, Lacks, LacksPair, HasNoMarkBeforeTab, IsTrimmed, IsPlain, IsQuotedPlace, IsPlace, plain, in_quotes, ArePlaces, last, more, IsList, empty}
@@ -18,7 +18,7 @@ use Rattle.ci_yaml_lines.proofs.Bools.{eq-true}
 use Rattle.ci_yaml_lines.proofs.Cuts.{full}
 use Rattle.ci_yaml_lines.proofs.Quoting.{quoted-is, is-quoted}
 
-one-more : (n : ℕ) → 1 + n ≡ suc n
+pub one-more : (n : ℕ) → 1 + n ≡ suc n
 one-more n = omega arith
 
 -- ---- tests that hold, and codes that don't
@@ -31,11 +31,11 @@ or-behind : (a b : Bool) → b ≡ true → (a || b) ≡ true
 or-behind true b e = refl
 or-behind false b e = e
 
-and-both : (a b : Bool) → (a && b) ≡ true → (a ≡ true) × (b ≡ true)
+pub and-both : (a b : Bool) → (a && b) ≡ true → (a ≡ true) × (b ≡ true)
 and-both true b e = (refl, e)
 and-both false b e = absurd cc
 
-not-true : (b : Bool) → b ≡ false → b ≡ true → ⊥
+pub not-true : (b : Bool) → b ≡ false → b ≡ true → ⊥
 not-true b e f = let bad : false ≡ true = sym e ∙ f in absurd cc
 
 -- a code that doesn't hold, and those behind it
@@ -78,7 +78,7 @@ no-tabs bs clean = record {
 
 -- ---- blanks
 
-blanks-are : (bs : List ℕ) → list_all is_blank (take (blanks bs) bs) ≡ true
+pub blanks-are : (bs : List ℕ) → list_all is_blank (take (blanks bs) bs) ≡ true
 blanks-are [] = refl
 blanks-are (b ∷ bs) = by (is_blank b) refl (blanks-are bs)
   where
@@ -194,7 +194,7 @@ cut-is before (b ∷ bs) = by (((b == 44) || (b == 93)) || ((b == 35) && (before
         subst (CutIs before (b ∷ bs)) (sym (one-more (place_len b bs))) all
 
 -- how a place ends, and what follows: a comma or a bracket
-abbrev Ends : End → List ℕ → Type 0
+abbrev pub Ends : End → List ℕ → Type 0
 Ends (comma rest) bs = bs ≡ 44 ∷ rest
 Ends (bracket rest) bs = bs ≡ 93 ∷ rest
 Ends missing bs = ⊥
@@ -303,7 +303,7 @@ shorter bs rest tail q (in_double between parts means) w is head = record {
 }
 
 -- nothing but blanks
-nil-blanks : (bs : List ℕ) → is_nil (drop_blanks bs) ≡ true → AreBlanks bs
+pub nil-blanks : (bs : List ℕ) → is_nil (drop_blanks bs) ≡ true → AreBlanks bs
 nil-blanks bs e = ap (list_all is_blank) (blanks-parted bs) ∙ by (drop_blanks bs) refl e
   where
     by : (d : List ℕ) → drop_blanks bs ≡ d → is_nil d ≡ true → list_all is_blank (take (blanks bs) bs ++ drop_blanks bs) ≡ true
@@ -317,12 +317,12 @@ not-false false e = absurd cc
 -- ---- a place
 
 -- what comes before the comma or bracket of a place
-record PlaceIs (bs : List ℕ) (v : Value) (e : End) : Type 0 where
-  raw : List ℕ
-  behind : List ℕ
-  parts : bs ≡ raw ++ behind
-  is : IsPlace raw v
-  ends : Ends e behind
+pub record PlaceIs (bs : List ℕ) (v : Value) (e : End) : Type 0 where
+  pub raw : List ℕ
+  pub behind : List ℕ
+  pub parts : bs ≡ raw ++ behind
+  pub is : IsPlace raw v
+  pub ends : Ends e behind
 
 quoted-place_is : (bs : List ℕ) (q : Quoted) → IsQuoted (drop_blanks bs) q → (behind_quoted q (cut_place 39 q.rest)).codes ≡ [] → (behind_quoted q (cut_place 39 q.rest)).end ≢ missing
     → PlaceIs bs (text q.text) (behind_quoted q (cut_place 39 q.rest)).end
@@ -345,7 +345,7 @@ quoted-place_is bs q is codes some =
 abbrev read_by : List ℕ → Bool → Option Quoted → Place
 read_by bs t o = cond t (quoted_place o) (plain_place bs (cut_place 44 bs))
 
-place-is : (bs : List ℕ) → (place bs).codes ≡ [] → (place bs).end ≢ missing → PlaceIs bs (place bs).value (place bs).end
+pub place-is : (bs : List ℕ) → (place bs).codes ≡ [] → (place bs).end ≢ missing → PlaceIs bs (place bs).value (place bs).end
 place-is bs codes some = by (is_quote (drop_blanks bs)) (quoted (drop_blanks bs)) refl codes some
   where
     by : (t : Bool) (o : Option Quoted) → quoted (drop_blanks bs) ≡ o → (read_by bs t o).codes ≡ [] → (read_by bs t o).end ≢ missing → PlaceIs bs (read_by bs t o).value (read_by bs t o).end
@@ -414,10 +414,10 @@ list-is (b ∷ bs) rest opens codes is = by (head_is 93 (drop_blanks bs)) refl c
 
 -- ======== what is written is read
 
-or-none : (a b : Bool) → a ≡ false → b ≡ false → (a || b) ≡ false
+pub or-none : (a b : Bool) → a ≡ false → b ≡ false → (a || b) ≡ false
 or-none a b e f = ap (λ t. t || b) e ∙ f
 
-false-by : (t : Bool) → (t ≡ true → ⊥) → t ≡ false
+pub false-by : (t : Bool) → (t ≡ true → ⊥) → t ≡ false
 false-by true none = absurd (none refl)
 false-by false none = refl
 
@@ -445,7 +445,7 @@ either : (a b : Bool) (P : Type 0) → (a ≡ true → P) → (b ≡ true → P)
 either true b P f g e = f refl
 either false b P f g e = g e
 
-tabs-none : (bs : List ℕ) → LacksPair 45 9 bs → LacksPair 58 9 bs → has_tab_after bs ≡ false
+pub tabs-none : (bs : List ℕ) → LacksPair 45 9 bs → LacksPair 58 9 bs → has_tab_after bs ≡ false
 tabs-none [] dash colon = refl
 tabs-none (b ∷ bs) dash colon =
     or-none (((b == 45) || (b == 58)) && head_is 9 bs) (has_tab_after bs)
@@ -474,13 +474,13 @@ inner-none (x ∷ bs) opening brace closing key =
 
 -- ---- blanks
 
-blanks-lack : (bs : List ℕ) (b : ℕ) → AreBlanks bs → is_blank b ≡ false → Lacks b bs
+pub blanks-lack : (bs : List ℕ) (b : ℕ) → AreBlanks bs → is_blank b ≡ false → Lacks b bs
 blanks-lack [] b are other = lacks-none b
 blanks-lack (c ∷ bs) b are other =
     let at = and-both (is_blank c) (list_all is_blank bs) are in
     lacks-more b c bs (false-by (c == b) (λ e. not-true (is_blank b) other (sym (ap is_blank (eqb-true c b e)) ∙ at.0))) (blanks-lack bs b at.1 other)
 
-lacks-pair : (b c : ℕ) (bs : List ℕ) → Lacks b bs → LacksPair b c bs
+pub lacks-pair : (b c : ℕ) (bs : List ℕ) → Lacks b bs → LacksPair b c bs
 lacks-pair b c bs lacks xs ys e = lacks xs (c ∷ ys) e
 
 lacks-comment : (before : ℕ) (bs : List ℕ) → Lacks 35 bs → HasNoComment before bs
@@ -601,7 +601,7 @@ reads-plain raw (w ∷ ws) tail e ends h =
     }
 
 -- it is read from more, too
-longer : (bs tail : List ℕ) (q : Quoted) → IsQuoted bs q → head_is 39 (q.rest ++ tail) ≡ false → IsQuoted (bs ++ tail) (record { text = q.text; wrong = q.wrong; rest = q.rest ++ tail })
+pub longer : (bs tail : List ℕ) (q : Quoted) → IsQuoted bs q → head_is 39 (q.rest ++ tail) ≡ false → IsQuoted (bs ++ tail) (record { text = q.text; wrong = q.wrong; rest = q.rest ++ tail })
 longer bs tail q (in_single parts rightly ends) head =
     in_single (ap (λ (x : List ℕ). x ++ tail) parts ∙ ap (λ (x : List ℕ). 39 ∷ x) (append_assoc (doubled q.text) (39 ∷ q.rest) tail)) rightly head
 longer bs tail q (in_double between parts means) head =

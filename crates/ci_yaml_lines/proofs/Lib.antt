@@ -9,6 +9,7 @@ pub mod Quotes
 pub mod Quoting
 pub mod Comment
 pub mod FlowLists
+pub mod Tabs
 pub mod SpansStand
 pub mod SpansTexts
 pub mod SpansQuoted

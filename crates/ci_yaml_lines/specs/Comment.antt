@@ -1,5 +1,5 @@
 -- Where a comment begins.
-use Rattle.std.specs.Prelude.{◌≡◌, ◌≢◌, ℕ, List, [], ◌∷◌, ◌++◌, ◌⊎◌}
+use Rattle.std.specs.Prelude.{◌≡◌, ◌≢◌, ℕ, List, [], ◌∷◌, ◌++◌}
 
 -- the last byte of a text, or the one before it where it has none
 abbrev pub last_of : ℕ → List ℕ → ℕ

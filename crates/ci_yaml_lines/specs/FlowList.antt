@@ -2,7 +2,7 @@
 use Rattle.std.specs.Prelude.{◌≡◌, ◌≢◌, ℕ, true, false, List, [], ◌∷◌, ◌++◌}
 use Rattle.std.specs.List.{list_all}
 use Rattle.ci_yaml_lines.specs.Tree.{Value, text, Members, no_members, member}
-use Rattle.ci_yaml_lines.specs.Scalar.{is_blank, is_forbidden, plain_value, Quoted}
+use Rattle.ci_yaml_lines.specs.Scalar.{is_blank, is_forbidden, plain_value}
 use Rattle.ci_yaml_lines.specs.Comment.{HasNoComment}
 use Rattle.ci_yaml_lines.specs.Quoting.{IsQuoted}
 

@@ -5,6 +5,7 @@ pub mod Scalar
 pub mod Quoting
 pub mod Comment
 pub mod FlowList
+pub mod Tabs
 pub mod Line
 pub mod TreeView
 pub mod TreeTexts
