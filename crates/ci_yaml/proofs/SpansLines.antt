@@ -1,13 +1,14 @@
 -- Lines whose texts stand one behind the other, as more lines are read.
-use Rattle.std.proofs.Common.{◌≡◌, ℕ, zero, suc, ◌+◌, ◌≤◌, ◌⊎◌, inl, inr, List, [], ◌∷◌, ◌++◌, length, take, drop, refl, sym, ◌∙◌, ap, subst, append_assoc, length-append, arith}
+use Rattle.std.proofs.Common.{◌≡◌, ℕ, zero, suc, ◌+◌, ◌≤◌, false, ◌⊎◌, inl, inr, List, [], ◌∷◌, ◌++◌, length, take, drop, refl, sym, ◌∙◌, ap, subst, append_assoc, length-append, arith}
 use Rattle.std.proofs.lemmas.List.{append-nil}
 use Rattle.std.proofs.Math.Seq.{take-add}
 use Rattle.ci_yaml_lines.specs.declared.tree.Text.{Text}
 use Rattle.ci_yaml_lines.specs.TreeView.{bytes_of}
 use Rattle.ci_yaml_lines.specs.Line.{Chomp, Line}
+use Rattle.ci_yaml_lines.specs.Lent.{is_lent}
 use Rattle.ci_yaml.specs.Block.{literal}
 use Rattle.ci_yaml_lines.specs.Spans.{Stand, StandOn}
-use Rattle.ci_yaml.specs.Spans.{Lines, line, block, Follow, Ends, no_text, last_text, none}
+use Rattle.ci_yaml.specs.Spans.{IsBlockAt, Lines, line, block, Follow, Ends, no_text, last_text, none}
 use Rattle.ci_yaml_lines.proofs.SpansStand.{stand-front}
 
 nothing-on : (n : ℕ) (l : Line) → StandOn n l []
@@ -28,46 +29,46 @@ parted [] b ts us e = inr (ts, refl, e)
 parted (t ∷ a) b [] us e = inl (t ∷ a, refl)
 parted (t ∷ a) b (u ∷ ts) us e = parted-more t u a b ts us (cc) (parted a b ts us (cc))
 
-front-line : (n : ℕ) (l : Line) (ls : List Line) (a b ts us : List Text) → StandOn (suc n) l a → Parted a b ts us → ((ws : List Text) → b ≡ ws ++ us → Lines (suc n) ls ws) → Lines n (l ∷ ls) ts
-front-line n l ls a b ts us stand (inl (ws, p)) rest =
+front-line : (doc : List Line) (n : ℕ) (l : Line) (ls : List Line) (a b ts us : List Text) → StandOn (suc n) l a → Parted a b ts us → ((ws : List Text) → b ≡ ws ++ us → Lines doc (suc n) ls ws) → Lines doc n (l ∷ ls) ts
+front-line doc n l ls a b ts us stand (inl (ws, p)) rest =
     line n l ls ts [] ts (stand-front (record { line = suc n; end = length l }) l [] ts ws (subst (StandOn (suc n) l) p stand)) (none (suc n) ls) (sym (append-nil ts))
-front-line n l ls a b ts us stand (inr (ws, p, q)) rest = line n l ls a ws ts stand (rest ws q) p
+front-line doc n l ls a b ts us stand (inr (ws, p, q)) rest = line n l ls a ws ts stand (rest ws q) p
 
-front-by : (n : ℕ) (ls : List Line) (all ts us : List Text) → Lines n ls all → all ≡ ts ++ us → Lines n ls ts
-front-by n ls all [] us h e = none n ls
-front-by n ls all (u ∷ ts) us (none n' ls') e = absurd cc
-front-by n ls all (u ∷ ts) us (line n' l ls' a b all' stand rest is) e =
-    front-line n l ls' a b (u ∷ ts) us stand (parted a b (u ∷ ts) us (sym is ∙ e)) (λ ws q. front-by (suc n) ls' b ws us rest q)
-front-by n ls all (u ∷ ts) us (block n' ls' lines behind how t all' parts bytes span rest) e =
+front-by : (doc : List Line) (n : ℕ) (ls : List Line) (all ts us : List Text) → Lines doc n ls all → all ≡ ts ++ us → Lines doc n ls ts
+front-by doc n ls all [] us h e = none n ls
+front-by doc n ls all (u ∷ ts) us (none n' ls') e = absurd cc
+front-by doc n ls all (u ∷ ts) us (line n' l ls' a b all' stand rest is) e =
+    front-line doc n l ls' a b (u ∷ ts) us stand (parted a b (u ∷ ts) us (sym is ∙ e)) (λ ws q. front-by doc (suc n) ls' b ws us rest q)
+front-by doc n ls all (u ∷ ts) us (block n' ls' lines behind how t all' parts at own bytes span rest) e =
     let same : t ≡ u = cc in
     let others : all' ≡ ts ++ us = cc in
-    block n ls lines behind how u ts parts (ap bytes_of (sym same) ∙ bytes) (ap (λ (x : Text). x.span) (sym same) ∙ span) (front-by (n + length lines) behind all' ts us rest others)
+    block n ls lines behind how u ts parts at (ap (λ (x : Text). is_lent x.words) (sym same) ∙ own) (ap bytes_of (sym same) ∙ bytes) (ap (λ (x : Text). x.span) (sym same) ∙ span) (front-by doc (n + length lines) behind all' ts us rest others)
 
-pub lines-front : (n : ℕ) (ls : List Line) (ts us : List Text) → Lines n ls (ts ++ us) → Lines n ls ts
-lines-front n ls ts us h = front-by n ls (ts ++ us) ts us h refl
+pub lines-front : (doc : List Line) (n : ℕ) (ls : List Line) (ts us : List Text) → Lines doc n ls (ts ++ us) → Lines doc n ls ts
+lines-front doc n ls ts us h = front-by doc n ls (ts ++ us) ts us h refl
 
 -- ---- more lines
 
-later : (n : ℕ) (xs bs : List Line) (us : List Text) → Lines (n + length xs) bs us → Lines n (xs ++ bs) us
-later n [] bs us h = let e : n + 0 ≡ n = omega arith in subst (λ (m : ℕ). Lines m bs us) e h
-later n (a ∷ xs) bs us h =
+later : (doc : List Line) (n : ℕ) (xs bs : List Line) (us : List Text) → Lines doc (n + length xs) bs us → Lines doc n (xs ++ bs) us
+later doc n [] bs us h = let e : n + 0 ≡ n = omega arith in subst (λ (m : ℕ). Lines doc m bs us) e h
+later doc n (a ∷ xs) bs us h =
     let e : n + suc (length xs) ≡ suc n + length xs = omega arith in
-    line n a (xs ++ bs) [] us us (nothing-on (suc n) a) (later (suc n) xs bs us (subst (λ (m : ℕ). Lines m bs us) e h)) refl
+    line n a (xs ++ bs) [] us us (nothing-on (suc n) a) (later doc (suc n) xs bs us (subst (λ (m : ℕ). Lines doc m bs us) e h)) refl
 
-pub lines-append : (n : ℕ) (xs bs : List Line) (ts us : List Text) → Lines n xs ts → Lines (n + length xs) bs us → Lines n (xs ++ bs) (ts ++ us)
-lines-append n xs bs ts us (none n' xs') h = later n xs bs us h
-lines-append n xs bs ts us (line n' l xs' a b ts' stand rest is) h =
+pub lines-append : (doc : List Line) (n : ℕ) (xs bs : List Line) (ts us : List Text) → Lines doc n xs ts → Lines doc (n + length xs) bs us → Lines doc n (xs ++ bs) (ts ++ us)
+lines-append doc n xs bs ts us (none n' xs') h = later doc n xs bs us h
+lines-append doc n xs bs ts us (line n' l xs' a b ts' stand rest is) h =
     let e : n + suc (length xs') ≡ suc n + length xs' = omega arith in
-    line n l (xs' ++ bs) a (b ++ us) (ts ++ us) stand (lines-append (suc n) xs' bs b us rest (subst (λ (m : ℕ). Lines m bs us) e h)) (ap (λ (x : List Text). x ++ us) is ∙ append_assoc a b us)
-lines-append n xs bs ts us (block n' xs' lines behind how t ts' parts bytes span rest) h =
+    line n l (xs' ++ bs) a (b ++ us) (ts ++ us) stand (lines-append doc (suc n) xs' bs b us rest (subst (λ (m : ℕ). Lines doc m bs us) e h)) (ap (λ (x : List Text). x ++ us) is ∙ append_assoc a b us)
+lines-append doc n xs bs ts us (block n' xs' lines behind how t ts' parts at own bytes span rest) h =
     let whole : length xs ≡ length lines + length behind = ap length parts ∙ length-append lines behind in
     let e : n + length xs ≡ n + length lines + length behind = omega arith in
-    block n (xs ++ bs) lines (behind ++ bs) how t (ts' ++ us) (ap (λ (x : List Line). x ++ bs) parts ∙ append_assoc lines behind bs) bytes span
-    (lines-append (n + length lines) behind bs ts' us rest (subst (λ (m : ℕ). Lines m bs us) e h))
+    block n (xs ++ bs) lines (behind ++ bs) how t (ts' ++ us) (ap (λ (x : List Line). x ++ bs) parts ∙ append_assoc lines behind bs) at own bytes span
+    (lines-append doc (n + length lines) behind bs ts' us rest (subst (λ (m : ℕ). Lines doc m bs us) e h))
 
 -- ---- the first lines of a list, so many
 
-take-length : (n : ℕ) (ls : List Line) → n ≤ length ls → length (take n ls) ≡ n
+pub take-length : (n : ℕ) (ls : List Line) → n ≤ length ls → length (take n ls) ≡ n
 take-length zero ls le = refl
 take-length (suc n) [] le = absurd (omega arith)
 take-length (suc n) (l ∷ ls) le = let less : n ≤ length ls = omega arith in ap suc (take-length n ls less)
@@ -79,28 +80,28 @@ take-one (suc n) l [] rest e = absurd cc
 take-one (suc n) l (m ∷ ls) rest e = let h = take-one n l ls rest e in (ap (λ (x : List Line). m ∷ x) h.0, omega (arith, h.1))
 
 -- one line more
-pub line-follows : (n : ℕ) (l : Line) (ls rest : List Line) (ts all : List Text) → drop n ls ≡ l ∷ rest → Lines 0 (take n ls) ts → Follow (suc n) l ts all → Lines 0 (take (suc n) ls) all
-line-follows n l ls rest ts all e h f =
+pub line-follows : (doc : List Line) (n : ℕ) (l : Line) (ls rest : List Line) (ts all : List Text) → drop n ls ≡ l ∷ rest → Lines doc 0 (take n ls) ts → Follow (suc n) l ts all → Lines doc 0 (take (suc n) ls) all
+line-follows doc n l ls rest ts all e h f =
     let h1 = take-one n l ls rest e in
     let e1 : n ≡ 0 + length (take n ls) = omega (arith, take-length n ls h1.1) in
-    let one : Lines n (l ∷ []) f.texts = line n l [] f.texts [] f.texts f.stand (none (suc n) []) (sym (append-nil f.texts)) in
-    subst (λ (x : List Line). Lines 0 x all) (sym h1.0)
-    (subst (Lines 0 (take n ls ++ l ∷ [])) (sym f.parts)
-    (lines-append 0 (take n ls) (l ∷ []) ts f.texts h (subst (λ (m : ℕ). Lines m (l ∷ []) f.texts) e1 one)))
+    let one : Lines doc n (l ∷ []) f.texts = line n l [] f.texts [] f.texts f.stand (none (suc n) []) (sym (append-nil f.texts)) in
+    subst (λ (x : List Line). Lines doc 0 x all) (sym h1.0)
+    (subst (Lines doc 0 (take n ls ++ l ∷ [])) (sym f.parts)
+    (lines-append doc 0 (take n ls) (l ∷ []) ts f.texts h (subst (λ (m : ℕ). Lines doc m (l ∷ []) f.texts) e1 one)))
 
 -- a literal block more, whose text takes the place of the last one
-pub block-follows : (n : ℕ) (lines ls : List Line) (how : Chomp) (t : Text) (all ending : List Text) → n ≤ length ls → lines ≡ drop n ls → (k : ℕ) → k ≤ length lines
-    → bytes_of t ≡ literal how (take k lines)
+pub block-follows : (doc : List Line) (n : ℕ) (lines ls : List Line) (how : Chomp) (t : Text) (all ending : List Text) → n ≤ length ls → lines ≡ drop n ls → (k : ℕ) → k ≤ length lines
+    → IsBlockAt doc n how (take k lines) → is_lent t.words ≡ false → bytes_of t ≡ literal how (take k lines)
     → t.span ≡ record { start = record { line = suc n; column = 0 }; end = record { line = suc (n + k); column = 0 } }
-    → Lines 0 (take n ls) all → Ends t all ending → Lines 0 (take (n + k) ls) ending
-block-follows n lines ls how t all ending le e k less bytes span h (no_text is) = subst (Lines 0 (take (n + k) ls)) (sym is) (none 0 (take (n + k) ls))
-block-follows n lines ls how t all ending le e k less bytes span h (last_text before behind parts is) =
+    → Lines doc 0 (take n ls) all → Ends t all ending → Lines doc 0 (take (n + k) ls) ending
+block-follows doc n lines ls how t all ending le e k less at own bytes span h (no_text is) = subst (Lines doc 0 (take (n + k) ls)) (sym is) (none 0 (take (n + k) ls))
+block-follows doc n lines ls how t all ending le e k less at own bytes span h (last_text before behind parts is) =
     let e1 : n ≡ 0 + length (take n ls) = omega (arith, take-length n ls le) in
     let size : length (take k lines) ≡ k = take-length k lines less in
-    let one : Lines n (take k lines) (t ∷ []) =
-    block n (take k lines) (take k lines) [] how t [] (sym (append-nil (take k lines))) bytes
+    let one : Lines doc n (take k lines) (t ∷ []) =
+    block n (take k lines) (take k lines) [] how t [] (sym (append-nil (take k lines))) at own bytes
     (span ∙ ap (λ (m : ℕ). record { start = record { line = suc n; column = 0 }; end = record { line = suc (n + m); column = 0 } }) (sym size)) (none (n + length (take k lines)) []) in
-    let both : Lines 0 (take n ls ++ take k lines) (before ++ t ∷ []) =
-    lines-append 0 (take n ls) (take k lines) before (t ∷ []) (lines-front 0 (take n ls) before behind (subst (Lines 0 (take n ls)) parts h)) (subst (λ (m : ℕ). Lines m (take k lines) (t ∷ [])) e1 one) in
-    subst (Lines 0 (take (n + k) ls)) (sym is)
-    (subst (λ (x : List Line). Lines 0 x (before ++ t ∷ [])) (ap (λ (x : List Line). take n ls ++ take k x) e ∙ sym (take-add n k ls)) both)
+    let both : Lines doc 0 (take n ls ++ take k lines) (before ++ t ∷ []) =
+    lines-append doc 0 (take n ls) (take k lines) before (t ∷ []) (lines-front doc 0 (take n ls) before behind (subst (Lines doc 0 (take n ls)) parts h)) (subst (λ (m : ℕ). Lines doc m (take k lines) (t ∷ [])) e1 one) in
+    subst (Lines doc 0 (take (n + k) ls)) (sym is)
+    (subst (λ (x : List Line). Lines doc 0 x (before ++ t ∷ [])) (ap (λ (x : List Line). take n ls ++ take k x) e ∙ sym (take-add n k ls)) both)

@@ -6,7 +6,7 @@ use Rattle.ci_yaml_lines.specs.declared.tree.Place.{Place}
 use Rattle.ci_yaml_lines.specs.declared.tree.Text.{Text}
 use Rattle.ci_yaml_lines.specs.Line.{Line}
 use Rattle.ci_yaml_lines.specs.Spans.{Stand, none, more, StandOn}
-use Rattle.ci_yaml.specs.Spans.{on_line, in_block, AllAt, Precedes, Ascend, AreWritten, Lines, line, block}
+use Rattle.ci_yaml.specs.Spans.{IsBlockAt, on_line, in_block, AllAt, Precedes, Ascend, AreWritten, Lines, line, block}
 
 -- ---- each text is what its span holds
 
@@ -36,19 +36,19 @@ stand-held before after l passed bs rest all e (more bs' front raw behind rest' 
       stand-held before after l (passed ++ front ++ raw) behind rest ts parts stand,
     )
 
-lines-held : (before : List Line) (n : ℕ) (ls : List Line) (ts : List Text) → n ≡ length before → Lines n ls ts → AllAt (before ++ ls) ts
-lines-held before n ls ts e (Lines.none n' ls') = tt
-lines-held before n ls all e (line n' l ls' us ts all' stand rest is) =
+lines-held : (doc before : List Line) (n : ℕ) (ls : List Line) (ts : List Text) → doc ≡ before ++ ls → n ≡ length before → Lines doc n ls ts → AllAt (before ++ ls) ts
+lines-held doc before n ls ts whole e (Lines.none n' ls') = tt
+lines-held doc before n ls ts whole e (line n' l ls' us vs all' stand rest is) =
     let here : AllAt (before ++ l ∷ ls') us = stand-held before ls' l [] l [] us refl (subst (λ (m : ℕ). StandOn (suc m) l us) e stand) in
     let next : suc n ≡ length (before ++ l ∷ []) = omega (arith, length-append before (l ∷ [])) in
-    let there : AllAt (before ++ l ∷ ls') ts = subst (λ (x : List Line). AllAt x ts) (append_assoc before (l ∷ []) ls') (lines-held (before ++ l ∷ []) (suc n) ls' ts next rest) in
-    subst (AllAt (before ++ l ∷ ls')) (sym is) (held-append (before ++ l ∷ ls') us ts here there)
-lines-held before n ls all e (block n' ls' lines behind how t ts parts bytes span rest) =
+    let there : AllAt (before ++ l ∷ ls') vs =
+    subst (λ (x : List Line). AllAt x vs) (append_assoc before (l ∷ []) ls') (lines-held doc (before ++ l ∷ []) (suc n) ls' vs (whole ∙ sym (append_assoc before (l ∷ []) ls')) next rest) in
+    subst (AllAt (before ++ l ∷ ls')) (sym is) (held-append (before ++ l ∷ ls') us vs here there)
+lines-held doc before n ls ts whole e (block n' ls' lines behind how t vs parts at own bytes span rest) =
     let next : n + length lines ≡ length (before ++ lines) = omega (arith, length-append before lines) in
-    let whole : before ++ ls ≡ before ++ lines ++ behind = ap (λ (x : List Line). before ++ x) parts ∙ sym (append_assoc before lines behind) in (
-      in_block before lines behind how whole bytes
-          (span ∙ ap (λ (m : ℕ). record { start = record { line = suc m; column = 0 }; end = record { line = suc (m + length lines); column = 0 } }) e),
-      subst (λ (x : List Line). AllAt x ts) (sym whole) (lines-held (before ++ lines) (n + length lines) behind ts next rest),
+    let all : before ++ ls ≡ before ++ lines ++ behind = ap (λ (x : List Line). before ++ x) parts ∙ sym (append_assoc before lines behind) in (
+      in_block n how lines (subst (λ (x : List Line). IsBlockAt x n how lines) whole at) own bytes span,
+      subst (λ (x : List Line). AllAt x vs) (sym all) (lines-held doc (before ++ lines) (n + length lines) behind vs (whole ∙ all) next rest),
     )
 
 -- ---- the spans ascend
@@ -88,23 +88,23 @@ stand-ascend at bs rest all ts (more bs' front raw behind rest' t us is written 
       ascend-more t (us ++ ts) (subst (λ (p : Place). From p (us ++ ts)) (sym (ap (λ s. s.end) span)) h.0) h.1,
     )
 
-lines-ascend : (n : ℕ) (ls : List Line) (ts : List Text) → Lines n ls ts → From (record { line = suc n; column = 0 }) ts × Ascend ts
-lines-ascend n ls ts (Lines.none n' ls') = (tt, tt)
-lines-ascend n ls all (line n' l ls' us ts all' stand rest is) =
+lines-ascend : (doc : List Line) (n : ℕ) (ls : List Line) (ts : List Text) → Lines doc n ls ts → From (record { line = suc n; column = 0 }) ts × Ascend ts
+lines-ascend doc n ls ts (Lines.none n' ls') = (tt, tt)
+lines-ascend doc n ls all (line n' l ls' us ts all' stand rest is) =
     let at : SourceLine = record { line = suc n; end = length l } in
-    let later = lines-ascend (suc n) ls' ts rest in
+    let later = lines-ascend doc (suc n) ls' ts rest in
     let less : suc n < suc (suc n) = omega arith in
     let here = stand-ascend at l [] us ts stand (from-later (spot at 0) (record { line = suc (suc n); column = 0 }) ts (inl less) later.0) later.1 in
     let low : 0 ≤ length l - length l = omega arith in (
       subst (From (record { line = suc n; column = 0 })) (sym is) (from-later (record { line = suc n; column = 0 }) (spot at (length l)) (us ++ ts) (inr (refl, low)) here.0),
       subst Ascend (sym is) here.1,
     )
-lines-ascend n ls all (block n' ls' lines behind how t ts parts bytes span rest) =
-    let later = lines-ascend (n + length lines) behind ts rest in
+lines-ascend doc n ls all (block n' ls' lines behind how t ts parts at own bytes span rest) =
+    let later = lines-ascend doc (n + length lines) behind ts rest in
     let low : 0 ≤ 0 = omega arith in (
       subst (Precedes (record { line = suc n; column = 0 })) (sym (ap (λ s. s.start) span)) (inr (refl, low)),
       ascend-more t ts (subst (λ (p : Place). From p ts) (sym (ap (λ s. s.end) span)) later.0) later.1,
     )
 
-pub lines-written : (ls : List Line) (ts : List Text) → Lines 0 ls ts → AreWritten ls ts
-lines-written ls ts h = record { held = lines-held [] 0 ls ts refl h; ascend = (lines-ascend 0 ls ts h).1 }
+pub lines-written : (ls : List Line) (ts : List Text) → Lines ls 0 ls ts → AreWritten ls ts
+lines-written ls ts h = record { held = lines-held ls [] 0 ls ts refl refl h; ascend = (lines-ascend ls 0 ls ts h).1 }

@@ -1,5 +1,5 @@
 -- Where a source writes the texts of a tree.
-use Rattle.std.specs.Prelude.{◌≡◌, ℕ, suc, ◌+◌, ◌<◌, ◌≤◌, ◌⊎◌, List, [], ◌∷◌, ◌++◌, length, ⊤}
+use Rattle.std.specs.Prelude.{◌≡◌, ℕ, suc, ◌+◌, ◌<◌, ◌≤◌, ◌⊎◌, List, [], ◌∷◌, ◌++◌, length, Some, false, ⊤}
 use Rattle.ci_yaml_lines.specs.declared.tree.Place.{Place}
 use Rattle.ci_yaml_lines.specs.declared.tree.Text.{Text}
 use Rattle.ci_yaml.specs.declared.progress.Frame.{Frame}
@@ -7,8 +7,10 @@ use Rattle.ci_yaml.specs.declared.progress.Open.{Open}
 use Rattle.ci_yaml.specs.declared.progress.Open.TheVariants.{Items, Pairs}
 use Rattle.ci_yaml.specs.declared.progress.Progress.{Progress}
 use Rattle.ci_yaml.specs.declared.progress.Progress.TheVariants.{Start, Whole, Inside}
-use Rattle.ci_yaml_lines.specs.Line.{Chomp, Line}
-use Rattle.ci_yaml.specs.Block.{literal}
+use Rattle.ci_yaml_lines.specs.Line.{Chomp, Line, parse_line}
+use Rattle.ci_yaml_lines.specs.Lent.{is_lent}
+use Rattle.ci_yaml.specs.Block.{literal, AreBlock, EndsBlock}
+use Rattle.ci_yaml.specs.Document.{last_column}
 use Rattle.ci_yaml_lines.specs.TreeView.{bytes_of}
 use Rattle.ci_yaml_lines.specs.TreeTexts.{texts_in, items_texts, pairs_texts}
 use Rattle.ci_yaml_lines.specs.Spans.{given_texts, Writes, StandOn}
@@ -29,19 +31,30 @@ state_texts (Inside fs given) = frames_texts fs.items ++ given_texts given
 
 -- ---- a text
 
--- The text is what its span holds: a part of a line, or the lines of a literal block.
+-- So many lines of a text come before these, which are the literal block of the line before them, the whole of it.
+pub record IsBlockAt (ls : List Line) (n : ℕ) (how : Chomp) (block : List Line) : Type 0 where
+  pub before : List Line
+  pub header : Line
+  pub after : List Line
+  pub parts : ls ≡ before ++ header ∷ (block ++ after)
+  pub number : n ≡ suc (length before)
+  pub header_is : (parse_line header).header ≡ Some how
+  pub are : AreBlock (last_column (parse_line header).entries) [] block
+  pub ends : EndsBlock (last_column (parse_line header).entries) after
+
+-- The text is what its span holds: a part of a line, with the quotes of a quoted text; or the lines of a literal block, and its
+-- words are their own.
 pub data IsAt (ls : List Line) (t : Text) : Type 0 where
   on_line : (before : List Line) (l : Line) (after : List Line) (front raw behind : List ℕ)
-      → ls ≡ before ++ l ∷ after → l ≡ front ++ raw ++ behind → Writes raw (bytes_of t)
+      → ls ≡ before ++ l ∷ after → l ≡ front ++ raw ++ behind → Writes raw t.words
       → t.span ≡ record {
         start = record { line = suc (length before); column = length front };
         end = record { line = suc (length before); column = length front + length raw };
       } → IsAt ls t
-  in_block : (before block after : List Line) (how : Chomp)
-      → ls ≡ before ++ block ++ after → bytes_of t ≡ literal how block
+  in_block : (n : ℕ) (how : Chomp) (block : List Line) → IsBlockAt ls n how block → is_lent t.words ≡ false → bytes_of t ≡ literal how block
       → t.span ≡ record {
-        start = record { line = suc (length before); column = 0 };
-        end = record { line = suc (length before + length block); column = 0 };
+        start = record { line = suc n; column = 0 };
+        end = record { line = suc (n + length block); column = 0 };
       } → IsAt ls t
 
 abbrev pub AllAt : List Line → List Text → Type 0
@@ -62,17 +75,17 @@ pub record AreWritten (ls : List Line) (ts : List Text) : Type 0 where
   pub held : AllAt ls ts
   pub ascend : Ascend ts
 
--- The same, line by line: so many lines come before these, and the texts stand on them one behind the other.
-pub data Lines : ℕ → List Line → List Text → Type 0 where
-  none : (n : ℕ) (ls : List Line) → Lines n ls []
-  line : (n : ℕ) (l : Line) (ls : List Line) (us ts all : List Text) → StandOn (suc n) l us → Lines (suc n) ls ts
-      → all ≡ us ++ ts → Lines n (l ∷ ls) all
+-- The same, line by line: so many lines of a text come before these, and the texts stand on them one behind the other.
+pub data Lines (all : List Line) : ℕ → List Line → List Text → Type 0 where
+  none : (n : ℕ) (ls : List Line) → Lines all n ls []
+  line : (n : ℕ) (l : Line) (ls : List Line) (us ts both : List Text) → StandOn (suc n) l us → Lines all (suc n) ls ts
+      → both ≡ us ++ ts → Lines all n (l ∷ ls) both
   block : (n : ℕ) (ls block rest : List Line) (how : Chomp) (t : Text) (ts : List Text) → ls ≡ block ++ rest
-      → bytes_of t ≡ literal how block
+      → IsBlockAt all n how block → is_lent t.words ≡ false → bytes_of t ≡ literal how block
       → t.span ≡ record {
         start = record { line = suc n; column = 0 };
         end = record { line = suc (n + length block); column = 0 };
-      } → Lines (n + length block) rest ts → Lines n ls (t ∷ ts)
+      } → Lines all (n + length block) rest ts → Lines all n ls (t ∷ ts)
 
 -- After some texts come those of this line, which is counted from 1.
 pub record Follow (n : ℕ) (l : Line) (before all : List Text) : Type 0 where

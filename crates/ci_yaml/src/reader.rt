@@ -1,6 +1,6 @@
 //! Reading a text.
 
-ghost use Rattle.std.specs.Prelude.{◌≡◌, ℕ, suc, ◌+◌, ◌<◌, ◌≤◌, ◌++◌, [], map, option_map, IfOk, IfErr, Ok, Err, length, take, drop};
+ghost use Rattle.std.specs.Prelude.{◌≡◌, ℕ, suc, ◌+◌, ◌<◌, ◌≤◌, ◌++◌, [], map, option_map, IfOk, IfErr, Ok, Err, false, length, take, drop};
 ghost use Rattle.ci_yaml_lines.specs.View.{bytes_of, chomp_view, value_view, entry_view, parsed_view};
 ghost use Rattle.ci_yaml.specs.View.{state_view};
 ghost use Rattle.ci_yaml_lines.specs.Line.{parse_line};
@@ -12,6 +12,7 @@ ghost use Rattle.ci_yaml_lines.specs.Tree.{Value};
 ghost use Rattle.ci_yaml.specs.Blocks.{texts_of};
 ghost use Rattle.ci_yaml.specs.Stops.{below_view, passed_view, entered, GivesAt, BlockFails, StopsBy, HasRead, AreShort, Reads, RefusedBy, GivesTree, GivesFault};
 ghost use Rattle.std.specs.Str.Lines.{lines};
+ghost use Rattle.ci_yaml_lines.specs.Lent.{is_lent};
 ghost use Rattle.ci_yaml_lines.specs.Spans.{texts_in, entries_texts};
 ghost use Rattle.ci_yaml.specs.Spans.{state_texts, Follow, Ends, Lines, AreWritten};
 ghost use Rattle.ci_yaml_lines.specs.declared.code.Code.{Code};
@@ -131,6 +132,7 @@ fn read_block<'a>(
     ensures within { IfOk result (λ r. r.0 ≤ length lines.now) }
     ensures block { IfOk result (λ r. AreBlock column [] (texts_of (take r.0 lines.now)) × EndsBlock column (texts_of (drop r.0 lines.now))) }
     ensures span { IfOk result (λ r. r.1.span ≡ (record { start = record { line = suc at; column = 0 }; end = record { line = suc (at + r.0); column = 0 } })) }
+    ensures own { IfOk result (λ r. is_lent r.1.words ≡ false) }
     ensures text { IfOk result (λ r. bytes_of r.1 ≡ literal (chomp_view how) (texts_of (take r.0 lines.now))) }
     ensures fault { IfErr result (BlockFails column at lines.now) }
 {
@@ -167,10 +169,10 @@ fn read_part<'a>(
     requires inside { at < length lines.now }
     requires short { AreShort (texts_of lines.now) }
     requires before { HasRead (texts_of lines.now) at (state_view progress) }
-    requires texts { Lines 0 (take at (texts_of lines.now)) (state_texts progress) }
+    requires texts { Lines (texts_of lines.now) 0 (take at (texts_of lines.now)) (state_texts progress) }
     ensures more { IfOk result (λ r. (at < r.0) × (r.0 ≤ length lines.now)) }
     ensures read { IfOk result (λ r. HasRead (texts_of lines.now) r.0 (state_view r.1)) }
-    ensures spans { IfOk result (λ r. Lines 0 (take r.0 (texts_of lines.now)) (state_texts r.1)) }
+    ensures spans { IfOk result (λ r. Lines (texts_of lines.now) 0 (take r.0 (texts_of lines.now)) (state_texts r.1)) }
     ensures fault { IfErr result (StopsBy (texts_of lines.now)) }
 {
     let Passed { progress, below } = read_line(alloc, progress, at + 1, lines[at])?;
@@ -188,7 +190,7 @@ fn read_part<'a>(
 fn read_lines<'a>(alloc: Global, lines: &[&'a str]) -> Result<Progress<'a>, YamlFault>
     requires short { AreShort (texts_of lines.now) }
     ensures read { IfOk result (λ p. (r : Reader) × (read_lines beginning (texts_of lines.now) ≡ Ok r) × (r.state ≡ state_view p)) }
-    ensures spans { IfOk result (λ p. Lines 0 (texts_of lines.now) (state_texts p)) }
+    ensures spans { IfOk result (λ p. Lines (texts_of lines.now) 0 (texts_of lines.now) (state_texts p)) }
     ensures fault { IfErr result (StopsBy (texts_of lines.now)) }
 {
     let mut progress = Progress::Start;
@@ -205,7 +207,7 @@ fn read_lines<'a>(alloc: Global, lines: &[&'a str]) -> Result<Progress<'a>, Yaml
 fn tree_of<'a>(alloc: Global, lines: &[&'a str]) -> Result<Tree<'a>, YamlFault>
     requires short { AreShort (texts_of lines.now) }
     ensures tree { Reads (texts_of lines.now) result }
-    ensures spans { IfOk result (λ t. Lines 0 (texts_of lines.now) (texts_in t)) }
+    ensures spans { IfOk result (λ t. Lines (texts_of lines.now) 0 (texts_of lines.now) (texts_in t)) }
 {
     let progress = read_lines(alloc, lines)?;
     match finish(progress)? {
@@ -227,7 +229,8 @@ pub fn read(alloc: Global, text: &str) -> Result<Tree<'_>, YamlFault>
     ensures fault { IfErr result (RefusedBy text.now) }
     // A text that has a fault is refused with it, unless memory is refused.
     ensures refused { (at : ℕ) (code : Code) → IsFault text.now at code → GivesFault at code result }
-    // Each text is what its span holds, read by the scalar rules, and the spans ascend.
+    // Each text is what its span holds, read by the scalar rules: with its quotes, or as a header's whole block; the spans ascend. It
+    // is lent where the source writes it as it is.
     ensures spans { IfOk result (λ t. AreWritten (lines text.now) (texts_in t)) }
     // A text that is too long is refused before all else.
     ensures too_long { MAX_FILE_BYTES < length text.now → result ≡ Err (Fault Y1 1) }

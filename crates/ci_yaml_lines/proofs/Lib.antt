@@ -7,6 +7,7 @@ pub mod Cuts
 pub mod Counts
 pub mod Quotes
 pub mod Quoting
+pub mod Lent
 pub mod Comment
 pub mod FlowLists
 pub mod Tabs

@@ -170,7 +170,7 @@ quote-parts text bs front rest i bs-is value place front-is rest-is =
     ∙ ap (λ (x : List ℕ). with_words x (single (39 ∷ drop (i + 1) text))) (sym front-is) ∙ ap (λ (x : List ℕ). with_words front (single (39 ∷ x))) (sym rest-is)
 
 -- a quote that a second one follows
-after-pair : (rest : List ℕ) → head_is 39 rest ≡ true → single (39 ∷ rest) ≡ with_words (39 ∷ []) (single (tail_of rest))
+pub after-pair : (rest : List ℕ) → head_is 39 rest ≡ true → single (39 ∷ rest) ≡ with_words (39 ∷ []) (single (tail_of rest))
 after-pair rest head = single-quote rest ∙ ap (λ t. cond t (with_words (39 ∷ []) (single (tail_of rest))) (closes rest)) head
 
 -- a quote that none follows

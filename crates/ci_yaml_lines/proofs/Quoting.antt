@@ -9,10 +9,10 @@ use Rattle.ci_yaml_lines.proofs.Bools.{eq-false}
 
 -- ---- single quotes
 
-record SingleIs (bs : List ℕ) (q : Quoted) : Type 0 where
-  parts : bs ≡ doubled q.text ++ 39 ∷ q.rest
-  rightly : q.wrong ≡ false
-  ends : head_is 39 q.rest ≡ false
+pub record SingleIs (bs : List ℕ) (q : Quoted) : Type 0 where
+  pub parts : bs ≡ doubled q.text ++ 39 ∷ q.rest
+  pub rightly : q.wrong ≡ false
+  pub ends : head_is 39 q.rest ≡ false
 
 single-last : (b : ℕ) (t : Bool) → (b == 39) ≡ t → IfSome (cond t (closes []) None) (SingleIs (b ∷ []))
 single-last b true is = record { parts = ap (λ (n : ℕ). n ∷ []) (eqb-true b 39 is); rightly = refl; ends = refl }
@@ -86,10 +86,10 @@ not-escape : (b : ℕ) (t : Bool) → is_escape b ≡ t → ((m : ℕ) → Escap
 not-escape b true is none = absurd (none (escaped b) (escape-is b is))
 not-escape b false is none = is
 
-record DoubleIs (bs : List ℕ) (q : Quoted) : Type 0 where
-  between : List ℕ
-  parts : bs ≡ between ++ 34 ∷ q.rest
-  means : Between between q.text q.wrong
+pub record DoubleIs (bs : List ℕ) (q : Quoted) : Type 0 where
+  pub between : List ℕ
+  pub parts : bs ≡ between ++ 34 ∷ q.rest
+  pub means : Between between q.text q.wrong
 
 double-closes : (b : ℕ) (bs : List ℕ) → (b == 34) ≡ true → DoubleIs (b ∷ bs) (record { text = []; wrong = false; rest = bs })
 double-closes b bs is = record { between = []; parts = ap (λ (n : ℕ). n ∷ bs) (eqb-true b 34 is); means = nothing }
@@ -170,6 +170,12 @@ double-of raw text wrong rest (misused all b more words w is none h) =
     ap (λ (x : List ℕ). double (x ++ 34 ∷ rest)) is
     ∙ ap (λ t. cond t (with_byte (escaped b) (double (more ++ 34 ∷ rest))) (wrongly (double (b ∷ more ++ 34 ∷ rest)))) (not-escape b (is_escape b) refl none)
     ∙ ap wrongly (double-of (b ∷ more) words w rest h)
+
+pub single-read : (bs : List ℕ) (q : Quoted) → single bs ≡ Some q → SingleIs bs q
+single-read bs q e = subst (λ (o : Option Quoted). IfSome o (SingleIs bs)) e (single-is bs)
+
+pub double-read : (bs : List ℕ) (q : Quoted) → double bs ≡ Some q → DoubleIs bs q
+double-read bs q e = subst (λ (o : Option Quoted). IfSome o (DoubleIs bs)) e (double-is bs)
 
 -- ---- both
 

@@ -137,7 +137,7 @@ stand-only at bs scalar rest cs span [] from to is only =
     stand-end at bs cs (ends-then bs (scalar ++ rest) cs from (ends-more scalar rest cs to))
 stand-only at bs scalar rest cs span (t ∷ []) from to is only =
     stand-within at bs (scalar ++ rest) cs (t ∷ []) from
-    (stand-then at (scalar ++ rest) rest cs (t ∷ []) [] (stand-one at (scalar ++ rest) [] scalar rest t refl (plain (sym only.0)) (only.1 ∙ is)) (stand-end at rest cs to))
+    (stand-then at (scalar ++ rest) rest cs (t ∷ []) [] (stand-one at (scalar ++ rest) [] scalar rest t refl (plain only.0) (only.1 ∙ is)) (stand-end at rest cs to))
 stand-only at bs scalar rest cs span (t ∷ u ∷ ts) from to is only = absurd only
 
 -- a plain scalar in front, blanks at both ends left out

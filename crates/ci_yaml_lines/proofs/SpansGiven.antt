@@ -8,7 +8,7 @@ use Rattle.ci_yaml_lines.specs.declared.quoted.Quoted.{Quoted}
 use Rattle.ci_yaml_lines.specs.declared.tree.Span.{Span}
 use Rattle.ci_yaml_lines.specs.declared.tree.Text.{Text}
 use Rattle.ci_yaml_lines.specs.declared.tree.Tree.{Text as TextTree}
-use Rattle.ci_yaml_lines.specs.TreeView.{bytes_of}
+use Rattle.ci_yaml_lines.specs.Lent.{IsLent}
 use Rattle.ci_yaml_lines.specs.Scalar.{tail_of, trim_end, trimmed_len, before_comment, comment_len}
 use Rattle.ci_yaml_lines.specs.Spans.{plain, span_before, Stand, texts_in}
 use Rattle.ci_yaml_lines.specs.SpansScalar.{OnlyText}
@@ -31,8 +31,8 @@ pub stand-nothing : (at : SourceLine) (bs : List ℕ) → Stand at bs [] []
 stand-nothing at bs = stand-all at bs bs [] (stand-none at bs)
 
 -- an empty text
-pub stand-empty : (at : SourceLine) (bs : List ℕ) (t : Text) → bytes_of t ≡ [] → t.span ≡ span_before at bs bs → Stand at bs (texts_in (TextTree t)) bs
-stand-empty at bs t e is = subst (λ (ts : List Text). Stand at bs ts bs) (sym (texts-Text t)) (stand-one at bs [] [] bs t refl (plain (sym e)) is)
+pub stand-empty : (at : SourceLine) (bs : List ℕ) (t : Text) → IsLent [] t.words → t.span ≡ span_before at bs bs → Stand at bs (texts_in (TextTree t)) bs
+stand-empty at bs t e is = subst (λ (ts : List Text). Stand at bs ts bs) (sym (texts-Text t)) (stand-one at bs [] [] bs t refl (plain e) is)
 
 -- without the blanks at its end
 pub trimmed-parts : (raw text : List ℕ) → text ≡ trim_end raw → raw ≡ text ++ drop (trimmed_len raw) raw

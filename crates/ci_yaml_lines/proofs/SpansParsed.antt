@@ -12,7 +12,7 @@ use Rattle.ci_yaml_lines.specs.declared.line.Item.TheVariants.{Value}
 use Rattle.ci_yaml_lines.specs.declared.entry.Entry.{Entry}
 use Rattle.ci_yaml_lines.specs.declared.entry.Head.TheVariants.{Dash}
 use Rattle.ci_yaml_lines.specs.declared.written.Written.{Written}
-use Rattle.ci_yaml_lines.specs.TreeView.{bytes_of}
+use Rattle.ci_yaml_lines.specs.Lent.{IsLent}
 use Rattle.ci_yaml_lines.specs.Scalar.{tail_of, drop_blanks, blanks, head_is, trim_end, trimmed_len}
 use Rattle.ci_yaml_lines.specs.Line.{Split, split_colon, key_len, spaces, is_space}
 use Rattle.ci_yaml_lines.specs.Spans.{span_before, Stand, StandOn, given_texts, entry_texts, entries_texts}
@@ -33,7 +33,7 @@ split-parts bs raw rest e =
     let same = split-is (head_is 58 (drop (key_len 0 bs) bs)) (record { raw = take (key_len 0 bs) bs; rest = tail_of (drop (key_len 0 bs) bs) }) (record { raw = raw; rest = rest }) e in
     (ap (λ (s : Split). s.raw) same, ap (λ (s : Split). s.rest) same)
 
-pub stand-key : (at : SourceLine) (bs raw rest name : List ℕ) (t : Text) → split_colon bs ≡ Some (record { raw = raw; rest = rest }) → name ≡ trim_end raw → bytes_of t ≡ name
+pub stand-key : (at : SourceLine) (bs raw rest name : List ℕ) (t : Text) → split_colon bs ≡ Some (record { raw = raw; rest = rest }) → name ≡ trim_end raw → IsLent name t.words
     → t.span ≡ span_before at bs (drop (length name) bs) → Stand at bs (t ∷ []) rest
 stand-key at bs raw rest name t e name-is words-are span-is =
     let from : List ℕ = drop (key_len 0 bs) bs in

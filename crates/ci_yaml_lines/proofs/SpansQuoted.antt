@@ -1,11 +1,13 @@
 -- How far a quoted scalar reaches: it is read alone as it is before a rest.
-use Rattle.std.proofs.Common.{◌≡◌, ℕ, Bool, true, false, cond, List, [], ◌∷◌, ◌++◌, Option, Some, None, refl, ◌∙◌, ap, subst}
+use Rattle.std.proofs.Common.{◌≡◌, ℕ, Bool, true, false, cond, List, [], ◌∷◌, ◌++◌, Option, Some, None, refl, ◌∙◌, ap, subst, append_assoc}
 use Rattle.std.specs.Prelude.{◌==◌, ◌||◌, IfSome}
 use Rattle.ci_yaml_lines.specs.Scalar.{Quoted, with_byte, wrongly, closes, single, is_escape, escaped, double, quoted}
 use Rattle.ci_yaml_lines.specs.declared.cut.SourceLine.{SourceLine}
 use Rattle.ci_yaml_lines.specs.declared.quoted.Quoted as code
 use Rattle.ci_yaml_lines.specs.View.{quoted_view}
 use Rattle.ci_yaml_lines.specs.Spans.{Stand, in_quotes, span_before}
+use Rattle.ci_yaml_lines.specs.Lent.{LentBetween}
+use Rattle.ci_yaml_lines.proofs.Quoting.{quoted-is}
 use Rattle.ci_yaml_lines.proofs.Quotes.{single-other, double-other}
 use Rattle.ci_yaml_lines.proofs.SpansStand.{stand-one}
 
@@ -131,10 +133,14 @@ quoted-alone (b ∷ bs) = by (b == 39) refl
     by false is = second (b == 34) is refl
 
 -- The quoted scalar that was read stands before what follows it.
-pub stand-quoted : (at : SourceLine) (bs : List ℕ) (q : code.Quoted) → Some (quoted_view q) ≡ quoted bs → q.text.span ≡ span_before at bs q.rest.now → Stand at bs (q.text ∷ []) q.rest.now
-stand-quoted at bs q is span =
+pub stand-quoted : (at : SourceLine) (bs : List ℕ) (q : code.Quoted) → Some (quoted_view q) ≡ quoted bs → q.text.span ≡ span_before at bs q.rest.now → LentBetween bs q.text.words q.rest.now
+    → Stand at bs (q.text ∷ []) q.rest.now
+stand-quoted at bs q is span lent =
     let h : ReadsAlone quoted bs (quoted_view q) = by (quoted bs) is (quoted-alone bs) in
-    stand-one at bs [] h.raw q.rest.now q.text h.parts (in_quotes q.wrong h.same) (span ∙ ap (λ (x : List ℕ). span_before at x q.rest.now) h.parts)
+    stand-one at bs [] h.raw q.rest.now q.text h.parts
+    (in_quotes q.wrong (quoted-is h.raw (alone (quoted_view q)) h.same)
+    (λ mark between e. lent mark between (h.parts ∙ ap (λ (x : List ℕ). x ++ q.rest.now) e ∙ ap (λ (x : List ℕ). mark ∷ x) (append_assoc between (mark ∷ []) q.rest.now))))
+    (span ∙ ap (λ (x : List ℕ). span_before at x q.rest.now) h.parts)
   where
     by : (o : Option Quoted) → Some (quoted_view q) ≡ o → IfSome o (ReadsAlone quoted bs) → ReadsAlone quoted bs (quoted_view q)
     by None e h = absurd cc

@@ -3,7 +3,6 @@ use Rattle.std.proofs.Common.{◌≡◌, ℕ, ◌+◌, ◌-◌, List, [], ◌∷
 use Rattle.std.proofs.lemmas.List.{append-nil, length-append}
 use Rattle.ci_yaml_lines.specs.declared.cut.SourceLine.{SourceLine}
 use Rattle.ci_yaml_lines.specs.declared.tree.Text.{Text}
-use Rattle.ci_yaml_lines.specs.TreeView.{bytes_of}
 use Rattle.ci_yaml_lines.specs.Spans.{Writes, span_before, Stand, none, more}
 
 -- from further in front
@@ -38,7 +37,7 @@ stand-front at a b (t ∷ ts) us (more bs front raw behind rest u all is written
     more a front raw behind [] t ts is written span (stand-front at behind b ts us stand)
 
 -- one text, with what comes before and behind it
-pub stand-one : (at : SourceLine) (a front raw behind : List ℕ) (t : Text) → a ≡ front ++ raw ++ behind → Writes raw (bytes_of t) → t.span ≡ span_before at (raw ++ behind) behind → Stand at a (t ∷ []) behind
+pub stand-one : (at : SourceLine) (a front raw behind : List ℕ) (t : Text) → a ≡ front ++ raw ++ behind → Writes raw t.words → t.span ≡ span_before at (raw ++ behind) behind → Stand at a (t ∷ []) behind
 stand-one at a front raw behind t is written span = more a front raw behind behind t [] is written span (stand-none at behind)
 
 -- ---- a longer line

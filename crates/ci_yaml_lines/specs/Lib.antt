@@ -9,6 +9,7 @@ pub mod Tabs
 pub mod Line
 pub mod TreeView
 pub mod TreeTexts
+pub mod Lent
 pub mod Spans
 pub mod SpansScalar
 pub mod SpansFlow

@@ -7,9 +7,11 @@ use Rattle.ci_yaml_lines.specs.declared.tree.Tree.{Tree}
 use Rattle.ci_yaml_lines.specs.declared.entry.Head.{Head}
 use Rattle.ci_yaml_lines.specs.declared.entry.Head.TheVariants.{Dash, Key, Bare}
 use Rattle.ci_yaml_lines.specs.declared.entry.Entry.{Entry}
-use Rattle.ci_yaml_lines.specs.Scalar.{quoted}
+use Rattle.ci_yaml_lines.specs.declared.tree.Words.{Words}
+use Rattle.ci_yaml_lines.specs.Quoting.{IsQuoted}
+use Rattle.ci_yaml_lines.specs.Lent.{IsLent, LentBetween}
 use Rattle.ci_yaml_lines.specs.Line.{Line}
-use Rattle.ci_yaml_lines.specs.TreeView.{bytes_of}
+use Rattle.ci_yaml_lines.specs.TreeView.{words_of}
 pub use Rattle.ci_yaml_lines.specs.TreeTexts.{lists, pairs, texts_step, texts_in, items_texts, pairs_texts}
 
 -- ---- the texts of what was read so far, and of a line's entries
@@ -32,10 +34,11 @@ entries_texts (e ∷ es) = entry_texts e ++ entries_texts es
 
 -- ---- one line
 
--- What is written is read as these bytes: as it stands, or as a quoted scalar.
-pub data Writes (raw : List ℕ) (bytes : List ℕ) : Type 0 where
-  plain : raw ≡ bytes → Writes raw bytes
-  in_quotes : (wrong : Bool) → quoted raw ≡ Some (record { text = bytes; wrong = wrong; rest = [] }) → Writes raw bytes
+-- What is written is read as these words: as it stands, and they are lent; or as a scalar with its quotes, and they are lent
+-- exactly where they stand between the quotes as they are.
+pub data Writes (raw : List ℕ) (words : Words) : Type 0 where
+  plain : IsLent raw words → Writes raw words
+  in_quotes : (wrong : Bool) → IsQuoted raw (record { text = words_of words; wrong = wrong; rest = [] }) → LentBetween raw words [] → Writes raw words
 
 -- where the bytes stand that come before a rest, in a text that reaches to the line's end as the rest does
 abbrev pub span_before : SourceLine → List ℕ → List ℕ → Span
@@ -48,7 +51,7 @@ span_before at text rest = record {
 pub data Stand (at : SourceLine) : List ℕ → List Text → List ℕ → Type 0 where
   none : (bs front rest : List ℕ) → bs ≡ front ++ rest → Stand at bs [] rest
   more : (bs front raw behind rest : List ℕ) (t : Text) (ts : List Text) → bs ≡ front ++ raw ++ behind
-      → Writes raw (bytes_of t) → t.span ≡ span_before at (raw ++ behind) behind
+      → Writes raw t.words → t.span ≡ span_before at (raw ++ behind) behind
       → Stand at behind ts rest → Stand at bs (t ∷ ts) rest
 
 -- the texts stand in a line, which is counted from 1

@@ -2,10 +2,10 @@
 use Rattle.std.specs.Prelude.{◌≡◌, ℕ, List, [], ◌∷◌, ⊤}
 use Rattle.ci_yaml_lines.specs.declared.tree.Span.{Span}
 use Rattle.ci_yaml_lines.specs.declared.tree.Text.{Text}
-use Rattle.ci_yaml_lines.specs.TreeView.{bytes_of}
+use Rattle.ci_yaml_lines.specs.Lent.{IsLent}
 
--- no text, or one that has these bytes and this span
+-- no text, or one that is lent, has these bytes and this span
 abbrev pub OnlyText : List ℕ → Span → List Text → Type 0
 OnlyText bs span [] = ⊤
-OnlyText bs span (t ∷ []) = (bytes_of t ≡ bs) × (t.span ≡ span)
+OnlyText bs span (t ∷ []) = IsLent bs t.words × (t.span ≡ span)
 OnlyText bs span (t ∷ u ∷ ts) = ⊥

@@ -1,10 +1,11 @@
 //! Quoted scalars.
 
-ghost use Rattle.std.specs.Prelude.{◌≡◌, Some, false, ◌==◌, ◌||◌, [], ◌∷◌, ◌<◌, ◌≤◌, ◌⊎◌, IfOk, IfSome, option_map, slice_index, string_bytes, length};
+ghost use Rattle.std.specs.Prelude.{◌≡◌, Some, false, ◌==◌, ◌||◌, if◌then◌else◌, [], ◌∷◌, ◌++◌, ◌<◌, ◌≤◌, ◌⊎◌, IfOk, IfSome, option_map, slice_index, string_bytes, length};
 ghost use Rattle.std.specs.List.{position};
 ghost use Rattle.ci_yaml_lines.specs.Scalar.{single, double, quoted, is_quote, with_words, from_place, escape_of};
 ghost use Rattle.ci_yaml_lines.specs.View.{quoted_view, quoted_words_view, with_wrong, from_quote, from_mark, ended};
-ghost use Rattle.ci_yaml_lines.specs.Spans.{Stand};
+ghost use Rattle.ci_yaml_lines.specs.Lent.{is_lent, IsLent, LentUpTo, LentBetween};
+ghost use Rattle.ci_yaml_lines.specs.Spans.{span_before, Stand};
 
 use crate::cut::{SourceLine, split_around, tail};
 use crate::scan::head_is;
@@ -44,6 +45,7 @@ fn quote_at(bytes: &[u8]) -> Option<usize>
 /// The text before the first single quote, and the text behind it.
 fn split_quote(text: &str) -> Option<(&str, &str)>
     ensures shorter { IfSome result (λ p. length p.1.now < length text.now) }
+    ensures parts { IfSome result (λ p. text.now ≡ p.0.now ++ 39 ∷ p.1.now) }
     ensures value { single text.now ≡ from_quote result }
 {
     let i = quote_at(text.as_bytes())?;
@@ -52,7 +54,8 @@ fn split_quote(text: &str) -> Option<(&str, &str)>
 
 /// Words that the source writes as they are.
 fn lent<'a>(words: &'a str, rest: &'a str) -> Option<QuotedWords<'a>>
-    ensures { option_map quoted_words_view result ≡ Some (record { text = words.now; wrong = false; rest = rest.now }) }
+    ensures value { option_map quoted_words_view result ≡ Some (record { text = words.now; wrong = false; rest = rest.now }) }
+    ensures lent { IfSome result (λ q. IsLent words.now q.words) }
 {
     Some(QuotedWords {
         words: Words::Lent(words),
@@ -63,7 +66,8 @@ fn lent<'a>(words: &'a str, rest: &'a str) -> Option<QuotedWords<'a>>
 
 /// Words that the source writes in another way, with what was found at their end, if they end.
 fn owned<'a>(words: String, end: Option<(bool, &'a str)>) -> Option<QuotedWords<'a>>
-    ensures { option_map quoted_words_view result ≡ ended (string_bytes words) end.entry }
+    ensures value { option_map quoted_words_view result ≡ ended (string_bytes words) end.entry }
+    ensures own { IfSome result (λ q. is_lent q.words ≡ false) }
 {
     let (wrong, rest) = end?;
     Some(QuotedWords {
@@ -75,7 +79,8 @@ fn owned<'a>(words: String, end: Option<(bool, &'a str)>) -> Option<QuotedWords<
 
 /// A scalar in single quotes, after the first quote. Errors: memory was refused.
 fn single<'a>(alloc: Global, text: &'a str) -> Result<Option<QuotedWords<'a>>, AllocError>
-    ensures { IfOk result (λ q. option_map quoted_words_view q ≡ single text.now) }
+    ensures value { IfOk result (λ q. option_map quoted_words_view q ≡ single text.now) }
+    ensures lent { IfOk result (λ o. IfSome o (λ q. LentUpTo 39 text.now q)) }
 {
     let Some((front, rest)) = split_quote(text) else {
         return Ok(None);
@@ -92,7 +97,8 @@ fn doubled<'a>(
     front: &str,
     rest: &'a str,
 ) -> Result<Option<QuotedWords<'a>>, AllocError>
-    ensures { IfOk result (λ q. option_map quoted_words_view q ≡ with_words front.now (single (39 ∷ rest.now))) }
+    ensures value { IfOk result (λ q. option_map quoted_words_view q ≡ with_words front.now (single (39 ∷ rest.now))) }
+    ensures own { IfOk result (λ o. IfSome o (λ q. is_lent q.words ≡ false)) }
 {
     let mut words = String::from_str(alloc, front)?;
     let end = add_pairs(&mut words, rest)?;
@@ -147,6 +153,7 @@ fn escape(bytes: &[u8]) -> Option<&'static str>
 /// The text before the first double quote or backslash, whether it is a backslash, and the text behind it.
 fn split_mark(text: &str) -> Option<(&str, bool, &str)>
     ensures shorter { IfSome result (λ p. length p.2.now < length text.now) }
+    ensures parts { IfSome result (λ p. text.now ≡ p.0.now ++ (if p.1 then 92 else 34) ∷ p.2.now) }
     ensures value { double text.now ≡ from_mark result }
 {
     let bytes = text.as_bytes();
@@ -157,7 +164,8 @@ fn split_mark(text: &str) -> Option<(&str, bool, &str)>
 
 /// A scalar in double quotes, after the first quote. Errors: memory was refused.
 fn double<'a>(alloc: Global, text: &'a str) -> Result<Option<QuotedWords<'a>>, AllocError>
-    ensures { IfOk result (λ q. option_map quoted_words_view q ≡ double text.now) }
+    ensures value { IfOk result (λ q. option_map quoted_words_view q ≡ double text.now) }
+    ensures lent { IfOk result (λ o. IfSome o (λ q. LentUpTo 34 text.now q)) }
 {
     let Some((front, slash, rest)) = split_mark(text) else {
         return Ok(None);
@@ -189,7 +197,8 @@ fn with_escapes<'a>(
     front: &str,
     rest: &'a str,
 ) -> Result<Option<QuotedWords<'a>>, AllocError>
-    ensures { IfOk result (λ q. option_map quoted_words_view q ≡ with_words front.now (double (92 ∷ rest.now))) }
+    ensures value { IfOk result (λ q. option_map quoted_words_view q ≡ with_words front.now (double (92 ∷ rest.now))) }
+    ensures own { IfOk result (λ o. IfSome o (λ q. is_lent q.words ≡ false)) }
 {
     let mut words = String::from_str(alloc, front)?;
     let end = add_escapes(&mut words, rest)?;
@@ -226,7 +235,8 @@ pub fn is_quote(bytes: &[u8]) -> bool
 
 /// What stands inside the quotes at the front, if they are closed. Errors: memory was refused.
 fn read_words<'a>(alloc: Global, text: &'a str) -> Result<Option<QuotedWords<'a>>, AllocError>
-    ensures { IfOk result (λ q. option_map quoted_words_view q ≡ quoted text.now) }
+    ensures value { IfOk result (λ q. option_map quoted_words_view q ≡ quoted text.now) }
+    ensures lent { IfOk result (λ o. IfSome o (λ q. LentBetween text.now q.words q.rest.now)) }
 {
     if head_is(b'\'', text.as_bytes()) {
         single(alloc, tail(text))
@@ -244,6 +254,8 @@ pub fn read_quoted<'a>(
     text: &'a str,
 ) -> Result<Option<Quoted<'a>>, AllocError>
     ensures value { IfOk result (λ q. option_map quoted_view q ≡ quoted text.now) }
+    // From the opening quote to behind the closing one.
+    ensures span { IfOk result (λ o. IfSome o (λ q. q.text.span ≡ span_before source text.now q.rest.now)) }
     ensures spans { IfOk result (λ o. IfSome o (λ q. Stand source text.now (q.text ∷ []) q.rest.now)) }
 {
     match read_words(alloc, text)? {

@@ -10,7 +10,7 @@ invariant-lines l = record {
   within : l.at ≤ length l.lines;
   short : AreShort (texts_of l.lines);
   read : HasRead (texts_of l.lines) l.at (state_view l.progress);
-  texts : Lines 0 (take l.at (texts_of l.lines)) (state_texts l.progress);
+  texts : Lines (texts_of l.lines) 0 (take l.at (texts_of l.lines)) (state_texts l.progress);
 }
 
 abbrev pub decreases-lines : goal.decreases-lines

@@ -41,4 +41,7 @@ returns-in-None-clause-spans c =
 pub returns-in_ok-len-in-Some-clause-spans : goal.returns-in_ok-len-in-Some-clause-spans
 returns-in_ok-len-in-Some-clause-spans c =
     part-block_texts c.args.lines.now _ c.args.at c.in_ok-len-in-Some.len _ c.in-Some.how c.in_ok-len-in-Some.text (state_texts c.args.progress) (state_texts c.in_ok-progress.field-0.progress) (state_texts c.with_text.result)
-    c.requires.inside c.requires.texts c.in_ok-progress.ensures.spans (take_rest c.args.lines.now (c.args.at + 1)) c.in_ok-len-in-Some.ensures.within c.in_ok-len-in-Some.ensures.text c.in_ok-len-in-Some.ensures.span c.with_text.ensures.spans
+    (state_view c.args.progress) (state_view c.in_ok-progress.field-0.progress) c.in_ok-progress.field-0.below c.in-Some.column
+    c.requires.inside c.requires.texts c.in_ok-progress.ensures.spans (take_rest c.args.lines.now (c.args.at + 1)) c.in_ok-len-in-Some.ensures.within
+    c.in_ok-progress.ensures.value c.in-Some.is c.in_ok-len-in-Some.ensures.block.0 c.in_ok-len-in-Some.ensures.block.1
+    c.in_ok-len-in-Some.ensures.own c.in_ok-len-in-Some.ensures.text c.in_ok-len-in-Some.ensures.span c.with_text.ensures.spans

@@ -1,10 +1,24 @@
-use Rattle.std.proofs.Common.{◌∷◌, ◌∙◌, sym, ap, cond}
+use Rattle.std.proofs.Common.{ℕ, List, ◌∷◌, ◌++◌, ◌∙◌, sym, ap, cond}
 use Rattle.ci_yaml_lines.specs.Scalar.{double, with_words}
 use Rattle.ci_yaml_lines.proofs.Quotes.{double-closed}
+use Rattle.ci_yaml_lines.proofs.Lent.{lent-some, escaped-ok}
 use Rattle.ci_yaml_lines.proofs.quoted.double.Goals as goal
 
-pub returns : goal.returns
-returns c =
+pub returns-then-slash-clause-lent : goal.returns-then-slash-clause-lent
+returns-then-slash-clause-lent c =
+    let front : List ℕ = c.in-Some.front.now in
+    let rest : List ℕ = c.in-Some.rest.now in
+    escaped-ok c.args.text.now front rest c.with_escapes.result (c.in-Some.ensures.parts ∙ ap (λ t. front ++ cond t 92 34 ∷ rest) c.if-slash.true)
+    c.with_escapes.ensures.value c.with_escapes.ensures.own
+
+pub returns-clause-lent : goal.returns-clause-lent
+returns-clause-lent c =
+    let front : List ℕ = c.in-Some.front.now in
+    let rest : List ℕ = c.in-Some.rest.now in
+    lent-some 34 c.args.text.now front rest c.lent.result (c.in-Some.ensures.parts ∙ ap (λ t. front ++ cond t 92 34 ∷ rest) c.if-slash.false) c.lent.ensures.value c.lent.ensures.lent
+
+pub returns-clause-value : goal.returns-clause-value
+returns-clause-value c =
     let front = c.in-Some.front.now in
     let rest = c.in-Some.rest.now in
-    c.lent.ensures ∙ sym (double-closed front c.args.text.now rest (c.in-Some.ensures.value ∙ ap (λ t. with_words front (double (cond t 92 34 ∷ rest))) c.if-slash.false))
+    c.lent.ensures.value ∙ sym (double-closed front c.args.text.now rest (c.in-Some.ensures.value ∙ ap (λ t. with_words front (double (cond t 92 34 ∷ rest))) c.if-slash.false))

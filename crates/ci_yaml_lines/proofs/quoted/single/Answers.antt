@@ -1,10 +1,19 @@
 use Rattle.std.proofs.Common.{◌∙◌, sym, ap}
 use Rattle.ci_yaml_lines.specs.Scalar.{head_is}
 use Rattle.ci_yaml_lines.proofs.Quotes.{after-quote}
+use Rattle.ci_yaml_lines.proofs.Lent.{lent-some, doubled-ok}
 use Rattle.ci_yaml_lines.proofs.quoted.single.Goals as goal
 
-pub returns : goal.returns
-returns c =
+pub returns-then-head_is-clause-lent : goal.returns-then-head_is-clause-lent
+returns-then-head_is-clause-lent c =
+    doubled-ok c.args.text.now c.in-Some.front.now c.in-Some.rest.now c.doubled.result c.in-Some.ensures.parts (ap (head_is 39) (sym c.as_bytes.ensures.value) ∙ sym c.if-head_is.ensures)
+    c.doubled.ensures.value c.doubled.ensures.own
+
+pub returns-clause-lent : goal.returns-clause-lent
+returns-clause-lent c = lent-some 39 c.args.text.now c.in-Some.front.now c.in-Some.rest.now c.lent.result c.in-Some.ensures.parts c.lent.ensures.value c.lent.ensures.lent
+
+pub returns-clause-value : goal.returns-clause-value
+returns-clause-value c =
     let front = c.in-Some.front.now in
     let rest = c.in-Some.rest.now in
-    c.lent.ensures ∙ sym (c.in-Some.ensures.value ∙ after-quote front rest (ap (head_is 39) (sym c.as_bytes.ensures.value) ∙ sym c.if-head_is.ensures))
+    c.lent.ensures.value ∙ sym (c.in-Some.ensures.value ∙ after-quote front rest (ap (head_is 39) (sym c.as_bytes.ensures.value) ∙ sym c.if-head_is.ensures))
