@@ -25,7 +25,7 @@ use Rattle.ci_config.specs.Reading.{◌>>=◌, demand, or_fault, each, entries, 
 use Rattle.ci_config.specs.Retries.{no_causes, all_causes, with_cause, cause_of, cause_in, causes_of, RetrySaid, max_of, retry_value, retry_entry, retry_said, blank_retry, retry_from, retry_of}
 use Rattle.ci_config.specs.Rules.{rule_value, rule_entry, blank_rule, rule_from, rule_of, rules_from, rules_of}
 use Rattle.ci_config.specs.Tables.{whens, causes, file_keywords, file_left_out, job_keywords, job_left_out, rule_keywords, rule_left_out, need_keywords, need_left_out, retry_keywords, retry_left_out, allow_failure_keywords, allow_failure_left_out}
-use Rattle.ci_config.specs.Values.{is_text, is_bool, is_number, is_map, text_of, bool_of, number_of, list_of, map_of, plain_of, name_of, up_to, number_up_to, timeout_of, text_in, texts_of, name_in, names_of, variable_in, variables_of}
+use Rattle.ci_config.specs.Values.{is_text, is_bool, is_number, is_map, text_of, bool_of, number_of, list_of, map_of, plain_of, name_of, up_to, number_up_to, lasting, timeout_of, text_in, texts_of, name_in, names_of, variable_in, variables_of}
 use Rattle.ci_config.specs.Whens.{when_word, in_job, when_of, in_rule, rule_when_of}
 use Rattle.ci_config.specs.declared.keyword.AllowFailureKeyword.{AllowFailureKeyword}
 use Rattle.ci_config.specs.declared.keyword.AllowFailureKeyword.TheVariants as of_allow
@@ -138,7 +138,7 @@ own-up_to : (limit : ℕ) (f : Fault) (v : Value) → is_x8 f ≡ false → Own 
 own-up_to limit f v e = own-then (number_of v) (λ n. or_fault (up_to limit n) f) (own-number v) (λ n. own-or (up_to limit n) f e)
 
 own-timeout : (v : Value) → Own (timeout_of v)
-own-timeout v = own-then (text_of v) (λ bs. or_fault (duration_of bs) K10) (own-text v) (λ bs. own-or (duration_of bs) K10 refl)
+own-timeout v = own-then (text_of v) lasting (own-text v) (λ bs. own-or (duration_of bs) K10 refl)
 
 own-text_in : (limit : ℕ) (done : List Text) (v : Value) → Own (text_in limit done v)
 own-text_in limit done v = own-then (text_of v) (λ bs. demand (nat_lt (length done) limit) K11 (Ok bs)) (own-text v) (λ bs. own-demand (nat_lt (length done) limit) K11 (Ok bs) refl tt)

@@ -1,5 +1,5 @@
 -- What a configuration has: jobs that can run, and names that are names.
-use Rattle.std.proofs.Common.{◌≡◌, ℕ, ◌+◌, ◌<◌, ◌≤◌, Bool, true, false, cond, not, List, [], ◌∷◌, ◌++◌, Option, Some, None, Result, Ok, Err, IfSome, length, refl, ap, subst, arith, length-append}
+use Rattle.std.proofs.Common.{◌≡◌, ℕ, ◌<◌, ◌≤◌, Bool, true, false, cond, not, List, [], ◌∷◌, ◌++◌, Option, Some, None, Result, Ok, Err, IfSome, length, refl, ap, subst, arith, length-append}
 use Rattle.std.specs.Prelude.{nat_lt, filter, unwrap_or}
 use Rattle.std.proofs.lemmas.Bool.Decides.{nat_tests}
 use Rattle.ci_values.specs.Names.{is_name}
@@ -8,8 +8,8 @@ use Rattle.ci_words.specs.Name.{is_variable_name}
 use Rattle.ci_words.specs.Table.{meaning_of, word_in}
 use Rattle.ci_yaml_lines.specs.Tree.{Value}
 use Rattle.ci_config.specs.AllowFailures.{allow_failure_of}
-use Rattle.ci_config.specs.Config.{Text, Need, Job, Config}
-use Rattle.ci_config.specs.Expressions.{Patterns}
+use Rattle.ci_config.specs.Config.{Text, Need, Rule, Job, Config}
+use Rattle.ci_config.specs.Expressions.{Patterns, condition_of}
 use Rattle.ci_config.specs.Fault.{Fault, K1, K4, K5, K6, K7, K11, K12, K15, K16}
 use Rattle.ci_config.specs.Files.{FileSaid, is_among, stage_in, stages_of, is_hidden, job_of, with_job, job_value, other_value, keyword_value, file_value, file_entry, blank_file, file_from}
 use Rattle.ci_config.specs.Jobs as job
@@ -19,10 +19,10 @@ use Rattle.ci_config.specs.Meaning.{post, is_inner, default_stages, all_stages, 
 use Rattle.ci_config.specs.Needs.{NeedSaid, need_value, need_entry, need_said, blank_need, need_from, need_of, needs_of}
 use Rattle.ci_config.specs.Reading.{◌>>=◌, demand, or_fault, each, entries, keyword_of}
 use Rattle.ci_config.specs.Retries.{retry_of}
-use Rattle.ci_config.specs.Rules.{rules_of}
-use Rattle.ci_config.specs.Tables.{need_keywords, need_left_out, job_keywords, job_left_out, file_keywords, file_left_out}
+use Rattle.ci_config.specs.Rules.{plain_rule_value, rule_value, rule_entry, blank_rule, rule_from, rule_of, rules_from, rules_of}
+use Rattle.ci_config.specs.Tables.{rule_keywords, rule_left_out, need_keywords, need_left_out, job_keywords, job_left_out, file_keywords, file_left_out}
 use Rattle.ci_config.specs.Values.{is_text, is_map, text_of, bool_of, list_of, map_of, plain_of, name_of, timeout_of, name_in, names_of, variable_in, variables_of}
-use Rattle.ci_config.specs.Whens.{when_of}
+use Rattle.ci_config.specs.Whens.{when_of, rule_when_of}
 use Rattle.ci_config.specs.declared.keyword.FileKeyword.{FileKeyword}
 use Rattle.ci_config.specs.declared.keyword.FileKeyword.TheVariants as of_file
 use Rattle.ci_config.specs.declared.keyword.JobKeyword.{JobKeyword}
@@ -31,7 +31,11 @@ use Rattle.ci_config.specs.declared.keyword.NeedKeyword.{NeedKeyword}
 use Rattle.ci_config.specs.declared.keyword.NeedKeyword.TheVariants as of_need
 use Rattle.ci_config.specs.declared.keyword.PlainJobKeyword.{PlainJobKeyword}
 use Rattle.ci_config.specs.declared.keyword.PlainJobKeyword.TheVariants as of_job
-use Rattle.ci_config.specs.declared.limits.TheConstants.{MAX_STAGES, MAX_JOBS, MAX_VARIABLES, MAX_TAGS}
+use Rattle.ci_config.specs.declared.keyword.PlainRuleKeyword.{PlainRuleKeyword}
+use Rattle.ci_config.specs.declared.keyword.PlainRuleKeyword.TheVariants as of_rule
+use Rattle.ci_config.specs.declared.keyword.RuleKeyword.{RuleKeyword}
+use Rattle.ci_config.specs.declared.keyword.RuleKeyword.TheVariants as of_rules
+use Rattle.ci_config.specs.declared.limits.TheConstants.{MAX_STAGES, MAX_JOBS, MAX_VARIABLES, MAX_TAGS, MAX_RULES}
 
 -- ---- what was read without a fault
 pub record Bound {A B : Type 0} (m : Result A Fault) (k : A → Result B Fault) (y : B) : Type 0 where
@@ -159,52 +163,91 @@ needs-read v ns e =
     let b = bound (list_of v) (λ vs. each need_of [] vs) ns e in
     each-read (λ n. IsName n.job) need_of need-read [] b.value ns tt b.next
 
+-- ---- rules
+abbrev RuleNamed : Rule → Type 0
+RuleNamed r = AreNamed r.variables
+
+plain-rule-read : (k : PlainRuleKeyword) (v : Value) (r s : Rule) → RuleNamed r → plain_rule_value k v r ≡ Ok s → RuleNamed s
+plain-rule-read of_rule.When v r s h e =
+    let b = bound (rule_when_of v) (λ w. Ok (record r { when = Some w })) s e in
+    subst RuleNamed (same-ok (record r { when = Some b.value }) s b.next) h
+plain-rule-read of_rule.AllowFailure v r s h e =
+    let b = bound (bool_of v) (λ o. Ok (record r { allow_failure = Some o })) s e in
+    subst RuleNamed (same-ok (record r { allow_failure = Some b.value }) s b.next) h
+plain-rule-read of_rule.Variables v r s h e =
+    let b = bound (variables_of v) (λ vs. Ok (record r { variables = vs })) s e in
+    subst RuleNamed (same-ok (record r { variables = b.value }) s b.next) (variables-read v b.value b.first)
+
+rule-value-read : (p : Patterns) (k : RuleKeyword) (v : Value) (r s : Rule) → RuleNamed r → rule_value k v r p ≡ Ok s → RuleNamed s
+rule-value-read p of_rules.If v r s h e =
+    let a = bound (text_of v) (λ bs. condition_of bs p >>= λ f. Ok (record r { condition = Some f })) s e in
+    let b = bound (condition_of a.value p) (λ f. Ok (record r { condition = Some f })) s a.next in
+    subst RuleNamed (same-ok (record r { condition = Some b.value }) s b.next) h
+rule-value-read p (of_rules.Plain k) v r s h e = plain-rule-read k v r s h e
+
+rule-entry-read : (p : Patterns) (m : Text × Value) (r s : Rule) → RuleNamed r → rule_entry p m r ≡ Ok s → RuleNamed s
+rule-entry-read p m r s h e =
+    let b = bound (keyword_of rule_keywords rule_left_out m.0) (λ k. rule_value k m.1 r p) s e in
+    rule-value-read p b.value m.1 r s h b.next
+
+rule-read : (p : Patterns) (done : List Rule) (v : Value) (r : Rule) → rule_of p done v ≡ Ok r → RuleNamed r
+rule-read p done v r e =
+    let a = bound (map_of v) (λ ms. demand (nat_lt (length done) MAX_RULES) K11 (rule_from p ms)) r e in
+    let b = demanded (nat_lt (length done) MAX_RULES) K11 (rule_from p a.value) r a.next in
+    entries-read RuleNamed (rule_entry p) (rule-entry-read p) blank_rule a.value r tt b.1
+
+rules-read : (p : Patterns) (v : Value) (rs : List Rule) → rules_of v p ≡ Ok rs → Each RuleNamed rs
+rules-read p v rs e =
+    let b = bound (list_of v) (rules_from p) rs e in
+    each-read RuleNamed (rule_of p) (rule-read p) [] b.value rs tt b.next
+
 -- ---- jobs
 plain-value-read : (k : PlainJobKeyword) (v : Value) (j i : Job) → HasNames j → plain_job_value k v j ≡ Ok i → HasNames i
 plain-value-read of_job.Script v j i h e =
     let b = bound (script_of v) (λ x. Ok (record j { script = x })) i e in
-    subst HasNames (same-ok (record j { script = b.value }) i b.next) (record { name = h.name; stage = h.stage; tags = h.tags; resource_group = h.resource_group; needs = h.needs; variables = h.variables })
+    subst HasNames (same-ok (record j { script = b.value }) i b.next) (record { name = h.name; stage = h.stage; tags = h.tags; resource_group = h.resource_group; needs = h.needs; rules = h.rules; variables = h.variables })
 plain-value-read of_job.Stage v j i h e =
     let b = bound (name_of v) (λ x. Ok (record j { stage = x })) i e in
     subst HasNames (same-ok (record j { stage = b.value }) i b.next)
-    (record { name = h.name; stage = name-read v b.value b.first; tags = h.tags; resource_group = h.resource_group; needs = h.needs; variables = h.variables })
+    (record { name = h.name; stage = name-read v b.value b.first; tags = h.tags; resource_group = h.resource_group; needs = h.needs; rules = h.rules; variables = h.variables })
 plain-value-read of_job.Needs v j i h e =
     let b = bound (needs_of v) (λ x. Ok (record j { needs = Some x })) i e in
     subst HasNames (same-ok (record j { needs = Some b.value }) i b.next)
-    (record { name = h.name; stage = h.stage; tags = h.tags; resource_group = h.resource_group; needs = needs-read v b.value b.first; variables = h.variables })
+    (record { name = h.name; stage = h.stage; tags = h.tags; resource_group = h.resource_group; needs = needs-read v b.value b.first; rules = h.rules; variables = h.variables })
 plain-value-read of_job.When v j i h e =
     let b = bound (when_of v) (λ x. Ok (record j { when = Some x })) i e in
-    subst HasNames (same-ok (record j { when = Some b.value }) i b.next) (record { name = h.name; stage = h.stage; tags = h.tags; resource_group = h.resource_group; needs = h.needs; variables = h.variables })
+    subst HasNames (same-ok (record j { when = Some b.value }) i b.next) (record { name = h.name; stage = h.stage; tags = h.tags; resource_group = h.resource_group; needs = h.needs; rules = h.rules; variables = h.variables })
 plain-value-read of_job.AllowFailure v j i h e =
     let b = bound (allow_failure_of v) (λ x. Ok (record j { allow_failure = Some x })) i e in
     subst HasNames (same-ok (record j { allow_failure = Some b.value }) i b.next)
-    (record { name = h.name; stage = h.stage; tags = h.tags; resource_group = h.resource_group; needs = h.needs; variables = h.variables })
+    (record { name = h.name; stage = h.stage; tags = h.tags; resource_group = h.resource_group; needs = h.needs; rules = h.rules; variables = h.variables })
 plain-value-read of_job.Retry v j i h e =
     let b = bound (retry_of v) (λ x. Ok (record j { retry = Some x })) i e in
-    subst HasNames (same-ok (record j { retry = Some b.value }) i b.next) (record { name = h.name; stage = h.stage; tags = h.tags; resource_group = h.resource_group; needs = h.needs; variables = h.variables })
+    subst HasNames (same-ok (record j { retry = Some b.value }) i b.next) (record { name = h.name; stage = h.stage; tags = h.tags; resource_group = h.resource_group; needs = h.needs; rules = h.rules; variables = h.variables })
 plain-value-read of_job.Tags v j i h e =
     let b = bound (names_of MAX_TAGS v) (λ x. Ok (record j { tags = x })) i e in
     subst HasNames (same-ok (record j { tags = b.value }) i b.next)
-    (record { name = h.name; stage = h.stage; tags = names-read MAX_TAGS v b.value b.first; resource_group = h.resource_group; needs = h.needs; variables = h.variables })
+    (record { name = h.name; stage = h.stage; tags = names-read MAX_TAGS v b.value b.first; resource_group = h.resource_group; needs = h.needs; rules = h.rules; variables = h.variables })
 plain-value-read of_job.Timeout v j i h e =
     let b = bound (timeout_of v) (λ x. Ok (record j { timeout = Some x })) i e in
-    subst HasNames (same-ok (record j { timeout = Some b.value }) i b.next) (record { name = h.name; stage = h.stage; tags = h.tags; resource_group = h.resource_group; needs = h.needs; variables = h.variables })
+    subst HasNames (same-ok (record j { timeout = Some b.value }) i b.next) (record { name = h.name; stage = h.stage; tags = h.tags; resource_group = h.resource_group; needs = h.needs; rules = h.rules; variables = h.variables })
 plain-value-read of_job.ResourceGroup v j i h e =
     let b = bound (name_of v) (λ x. Ok (record j { resource_group = Some x })) i e in
     subst HasNames (same-ok (record j { resource_group = Some b.value }) i b.next)
-    (record { name = h.name; stage = h.stage; tags = h.tags; resource_group = name-read v b.value b.first; needs = h.needs; variables = h.variables })
+    (record { name = h.name; stage = h.stage; tags = h.tags; resource_group = name-read v b.value b.first; needs = h.needs; rules = h.rules; variables = h.variables })
 plain-value-read of_job.Interruptible v j i h e =
     let b = bound (bool_of v) (λ x. Ok (record j { interruptible = x })) i e in
-    subst HasNames (same-ok (record j { interruptible = b.value }) i b.next) (record { name = h.name; stage = h.stage; tags = h.tags; resource_group = h.resource_group; needs = h.needs; variables = h.variables })
+    subst HasNames (same-ok (record j { interruptible = b.value }) i b.next) (record { name = h.name; stage = h.stage; tags = h.tags; resource_group = h.resource_group; needs = h.needs; rules = h.rules; variables = h.variables })
 plain-value-read of_job.Variables v j i h e =
     let b = bound (variables_of v) (λ x. Ok (record j { variables = x })) i e in
     subst HasNames (same-ok (record j { variables = b.value }) i b.next)
-    (record { name = h.name; stage = h.stage; tags = h.tags; resource_group = h.resource_group; needs = h.needs; variables = variables-read v b.value b.first })
+    (record { name = h.name; stage = h.stage; tags = h.tags; resource_group = h.resource_group; needs = h.needs; rules = h.rules; variables = variables-read v b.value b.first })
 
 job-value-read : (p : Patterns) (k : JobKeyword) (v : Value) (j i : Job) → HasNames j → job.job_value k v j p ≡ Ok i → HasNames i
 job-value-read p of_key.Rules v j i h e =
     let b = bound (rules_of v p) (λ x. Ok (record j { rules = Some x })) i e in
-    subst HasNames (same-ok (record j { rules = Some b.value }) i b.next) (record { name = h.name; stage = h.stage; tags = h.tags; resource_group = h.resource_group; needs = h.needs; variables = h.variables })
+    subst HasNames (same-ok (record j { rules = Some b.value }) i b.next)
+    (record { name = h.name; stage = h.stage; tags = h.tags; resource_group = h.resource_group; needs = h.needs; rules = rules-read p v b.value b.first; variables = h.variables })
 job-value-read p (of_key.Plain k) v j i h e = plain-value-read k v j i h e
 
 job-entry-read : (p : Patterns) (m : Text × Value) (j i : Job) → HasNames j → job_entry p m j ≡ Ok i → HasNames i
@@ -214,7 +257,7 @@ job-entry-read p m j i h e =
 
 job-read : (p : Patterns) (name : Text) (ms : List (Text × Value)) (j : Job) → IsName name → job_from p name ms ≡ Ok j → HasNames j
 job-read p name ms j named e =
-    entries-read HasNames (job_entry p) (job-entry-read p) (blank_job name) ms j (record { name = named; stage = refl; tags = tt; resource_group = tt; needs = tt; variables = tt }) e
+    entries-read HasNames (job_entry p) (job-entry-read p) (blank_job name) ms j (record { name = named; stage = refl; tags = tt; resource_group = tt; needs = tt; rules = tt; variables = tt }) e
 
 -- ---- files
 pub record FileNamed (f : FileSaid) : Type 0 where

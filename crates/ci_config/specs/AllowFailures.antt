@@ -1,5 +1,5 @@
 -- Whether a pipeline goes on where a job failed.
-use Rattle.std.specs.Prelude.{ℕ, Bool, true, false, List, [], ◌∷◌, length, Option, Some, None, Result, Ok, Err, nat_lt, if◌then◌else◌}
+use Rattle.std.specs.Prelude.{ℕ, Bool, true, false, List, [], ◌∷◌, length, Option, Some, None, Result, Ok, nat_lt, if◌then◌else◌}
 use Rattle.ci_values.specs.declared.when.AllowFailure.{AllowFailure}
 use Rattle.ci_values.specs.declared.when.AllowFailure.TheVariants.{No, Yes, ExitCodes}
 use Rattle.ci_yaml_lines.specs.Tree.{Value}

@@ -1,5 +1,5 @@
 -- A job.
-use Rattle.std.specs.Prelude.{false, List, [], ◌∷◌, Option, Some, None, Result, Ok, Err, codes, if◌then◌else◌}
+use Rattle.std.specs.Prelude.{false, List, [], ◌∷◌, Some, None, Result, Ok, codes, if◌then◌else◌}
 use Rattle.ci_yaml_lines.specs.Tree.{Value}
 use Rattle.ci_config.specs.Fault.{Fault}
 use Rattle.ci_config.specs.Reading.{◌>>=◌, entries, keyword_of}

@@ -1,5 +1,5 @@
 -- What holds of each tree, and of each configuration.
-use Rattle.std.specs.Prelude.{◌≡◌, ◌≤◌, Bool, true, false, List, [], ◌∷◌, length, Result, Ok, IfSome, ⊤}
+use Rattle.std.specs.Prelude.{◌≡◌, ◌≤◌, true, false, List, [], ◌∷◌, length, Ok, IfSome, ⊤}
 use Rattle.ci_values.specs.Names.{is_name}
 use Rattle.ci_words.specs.Layers.{Variables}
 use Rattle.ci_words.specs.Name.{is_variable_name}
@@ -48,13 +48,14 @@ pub record CanRun (stages : List Text) (j : Job) : Type 0 where
   pub script : is_nil j.script ≡ false
   pub stage : is_among stages j.stage ≡ true
 
--- its names are names
+-- its names are names, and so are those of its variables
 pub record HasNames (j : Job) : Type 0 where
   pub name : IsName j.name
   pub stage : IsName j.stage
   pub tags : Each IsName j.tags
   pub resource_group : IfSome j.resource_group IsName
   pub needs : IfSome j.needs (Each (λ n. IsName n.job))
+  pub rules : IfSome j.rules (Each (λ r. AreNamed r.variables))
   pub variables : AreNamed j.variables
 
 pub record IsWhole (c : Config) : Type 0 where

@@ -1,5 +1,5 @@
 -- What a job needs.
-use Rattle.std.specs.Prelude.{Bool, false, List, [], Option, Some, None, Result, Ok, Err, unwrap_or, if◌then◌else◌}
+use Rattle.std.specs.Prelude.{Bool, false, List, [], Option, Some, None, Result, Ok, if◌then◌else◌}
 use Rattle.ci_yaml_lines.specs.Tree.{Value}
 use Rattle.ci_config.specs.Fault.{Fault, K4}
 use Rattle.ci_config.specs.Reading.{◌>>=◌, or_fault, each, entries, keyword_of}

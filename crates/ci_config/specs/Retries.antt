@@ -1,5 +1,5 @@
 -- How often a job is tried again.
-use Rattle.std.specs.Prelude.{ℕ, Bool, true, false, List, [], ◌∷◌, Option, Some, None, Result, Ok, Err, unwrap_or, if◌then◌else◌}
+use Rattle.std.specs.Prelude.{ℕ, true, false, List, Option, Some, None, Result, Ok, if◌then◌else◌}
 use Rattle.ci_values.specs.declared.attempts.Cause.TheVariants.{UnknownFailure, ScriptFailure, ApiFailure, StuckOrTimeoutFailure, RunnerSystemFailure, JobExecutionTimeout}
 use Rattle.ci_values.specs.declared.when.Causes.{Causes}
 use Rattle.ci_values.specs.declared.when.Retry.{Retry}

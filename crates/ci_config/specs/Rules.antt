@@ -1,5 +1,5 @@
 -- The rules of a job.
-use Rattle.std.specs.Prelude.{List, [], length, Option, Some, None, Result, Ok, Err, nat_lt}
+use Rattle.std.specs.Prelude.{List, [], length, Some, None, Result, Ok, nat_lt}
 use Rattle.ci_yaml_lines.specs.Tree.{Value}
 use Rattle.ci_config.specs.Fault.{Fault, K11}
 use Rattle.ci_config.specs.Reading.{◌>>=◌, demand, each, entries, keyword_of}

@@ -1,5 +1,5 @@
 -- The tables of keywords, as the code has them.
-use Rattle.std.specs.Prelude.{ℕ, List, [], map}
+use Rattle.std.specs.Prelude.{ℕ, List, map}
 use Rattle.ci_config.specs.declared.keyword.WhenWord.{WhenWord}
 use Rattle.ci_config.specs.declared.keyword.CauseWord.{CauseWord}
 use Rattle.ci_config.specs.declared.keyword.FileKeyword.{FileKeyword}

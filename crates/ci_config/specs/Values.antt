@@ -73,8 +73,12 @@ up_to limit (negsuc n) = None
 abbrev pub number_up_to : ℕ → Fault → Value → Result ℕ Fault
 number_up_to limit fault v = number_of v >>= λ n. or_fault (up_to limit n) fault
 
+-- how many seconds a text lasts
+abbrev pub lasting : List ℕ → Result ℕ Fault
+lasting bs = or_fault (duration_of bs) K10
+
 abbrev pub timeout_of : Value → Result ℕ Fault
-timeout_of v = text_of v >>= λ bs. or_fault (duration_of bs) K10
+timeout_of v = text_of v >>= lasting
 
 -- ---- lists of texts, and variables: at one item the least code counts
 

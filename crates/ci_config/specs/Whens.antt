@@ -1,5 +1,5 @@
 -- When a job runs.
-use Rattle.std.specs.Prelude.{ℕ, List, Result, Ok, Err, codes}
+use Rattle.std.specs.Prelude.{Result, Ok, Err, codes}
 use Rattle.ci_values.specs.declared.when.When.{When}
 use Rattle.ci_words.specs.Table.{meaning_of}
 use Rattle.ci_yaml_lines.specs.Tree.{Value}

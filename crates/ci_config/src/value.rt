@@ -4,7 +4,7 @@ ghost use Rattle.std.specs.Prelude.{◌≡◌, ℕ, List, length, Ok, IfOk, IfEr
 ghost use Rattle.ci_words.specs.Duration.{IsDuration};
 ghost use Rattle.ci_yaml_lines.specs.TreeView.{value_view, words_of};
 ghost use Rattle.ci_config.specs.FaultView.{code_view, Gives};
-ghost use Rattle.ci_config.specs.Values.{plain_of, name_of, up_to, number_up_to, timeout_of, text_in, name_in, variable_in, texts_of, names_of, variables_of};
+ghost use Rattle.ci_config.specs.Values.{plain_of, name_of, up_to, number_up_to, lasting, timeout_of, text_in, name_in, variable_in, texts_of, names_of, variables_of};
 ghost use Rattle.ci_config.specs.View.{texts_view, variable_view, variables_view};
 ghost use Rattle.ci_config.specs.declared.fault.ConfigCode.TheVariants.{K10};
 ghost use Rattle.ci_config.specs.declared.fault.ConfigFault.TheVariants as faults;
@@ -72,9 +72,14 @@ pub fn number_up_to(limit: u32, code: ConfigCode, tree: &Tree) -> Result<u32, Co
 ///
 /// Errors: the text is no duration, or one of less than a minute or more than 30 days (K10). It takes no memory.
 pub fn duration(text: &str) -> Result<u32, ConfigFault>
+    // What is answered is the sum of the pairs that the text is.
     ensures sum { IfOk result (IsDuration text.now) }
+    // A text that is pairs with such a sum is answered so.
     ensures all { (n : ℕ) → IsDuration text.now n → result ≡ Ok n }
+    // Nothing else goes wrong.
     ensures fault { IfErr result (λ e. e ≡ faults.Fault K10) }
+    // The same, computed.
+    ensures value { Gives (λ n. n) result (lasting text.now) }
 {
     match ci_words::duration(text) {
         Some(seconds) => Ok(seconds),
@@ -87,10 +92,7 @@ pub fn timeout_of(tree: &Tree) -> Result<u32, ConfigFault>
     ensures { Gives (λ n. n) result (timeout_of (value_view tree.now)) }
 {
     let text = text_of(tree)?;
-    match ci_words::duration(text) {
-        Some(seconds) => Ok(seconds),
-        None => Err(ConfigFault::Fault(ConfigCode::K10)),
-    }
+    duration(text)
 }
 
 /// A text of a list that may have so many, behind those before it.

@@ -1,14 +1,15 @@
 -- The pairs of a text by the relation, and as they are computed.
-use Rattle.std.proofs.Common.{◌≡◌, ℕ, zero, suc, ◌+◌, ◌*◌, ◌<◌, ◌≤◌, Bool, true, false, cond, ◌&&◌, List, [], ◌∷◌, ◌++◌, length, refl, sym, ◌∙◌, ap, subst, arith, Option, Some, None, option_map, IfSome, append_assoc}
-use Rattle.std.specs.Prelude.{nat_le, nat_lt}
+use Rattle.std.proofs.Common.{◌≡◌, ℕ, zero, suc, ◌+◌, ◌≤◌, Bool, true, false, cond, ◌&&◌, List, [], ◌∷◌, ◌++◌, length, refl, sym, ◌∙◌, ap, subst, arith, Option, Some, None, IfSome, append_assoc}
+use Rattle.std.specs.Prelude.{nat_le}
 use Rattle.std.proofs.lemmas.List.{append-nil}
 use Rattle.std.proofs.lemmas.Bool.Decides.{nat_tests}
 use Rattle.ci_words.specs.Run.{front, behind}
-use Rattle.ci_words.specs.Duration.{number_of, pair_of, IsPair, Lasts, IsDuration, first_pair, after_pair, plus, tail_by, sum_from, seconds_of, in_range, duration_of}
+use Rattle.ci_words.specs.Duration.{pair_of, IsPair, Lasts, IsDuration, first_pair, after_pair, plus, tail_by, sum_from, seconds_of, in_range, duration_of}
 use Rattle.ci_words.specs.declared.run.Class.TheVariants.{Digit, Space, Letter}
-use Rattle.ci_words.proofs.Runs.{left_of, right_of, are_all, begins, cut-front, cut-behind, parts, front-all, begins-still, begins-some, unit-ends-digits, unit-ends-gap, digits-end-unit, digits-end-gap}
+use Rattle.ci_words.specs.declared.seconds.TheConstants.{MIN_SECONDS, MAX_SECONDS}
+use Rattle.ci_words.proofs.Runs.{left_of, right_of, begins, cut-front, cut-behind, parts, front-all, begins-still, begins-some, unit-ends-digits, unit-ends-gap, digits-end-unit, digits-end-gap}
 use Rattle.ci_words.proofs.Units.{unit-begins, unit-letters, pair-parts, parts-pair}
-use Rattle.ci_words.proofs.Sums.{seconds-none, seconds-some}
+use Rattle.ci_words.proofs.Sums.{seconds-some}
 
 -- ---- a pair that comes first is read
 pub record Read (bs : List ℕ) (s : ℕ) (rest : List ℕ) : Type 0 where
@@ -119,18 +120,18 @@ pub seconds-lasts : (bs : List ℕ) (n : ℕ) → seconds_of bs ≡ Some n → L
 seconds-lasts bs n e = sum-lasts (length bs) bs n e
 
 -- ---- a duration
-range-is : (m : ℕ) (o : Option ℕ) → in_range o ≡ Some m → (o ≡ Some m) × (60 ≤ m) × (m ≤ 2592000)
+range-is : (m : ℕ) (o : Option ℕ) → in_range o ≡ Some m → (o ≡ Some m) × (MIN_SECONDS ≤ m) × (m ≤ MAX_SECONDS)
 range-is m None e = absurd cc
-range-is m (Some n) e = by-test (nat_le 60 n && nat_le n 2592000) refl
+range-is m (Some n) e = by-test (nat_le MIN_SECONDS n && nat_le n MAX_SECONDS) refl
   where
-    by-test : (t : Bool) → (nat_le 60 n && nat_le n 2592000) ≡ t → (Some n ≡ Some m) × (60 ≤ m) × (m ≤ 2592000)
+    by-test : (t : Bool) → (nat_le MIN_SECONDS n && nat_le n MAX_SECONDS) ≡ t → (Some n ≡ Some m) × (MIN_SECONDS ≤ m) × (m ≤ MAX_SECONDS)
     by-test true is =
         let same : Some n ≡ Some m = sym (ap (λ t. cond t (Some n) None) is) ∙ e in
         let n_is : n ≡ m = cc in
-        let a : nat_le 60 n ≡ true = left_of (nat_le 60 n) (nat_le n 2592000) is in
-        let b : nat_le n 2592000 ≡ true = right_of (nat_le 60 n) (nat_le n 2592000) is in
-        let least : 60 ≤ n = grind (arith, nat_tests) in
-        let most : n ≤ 2592000 = grind (arith, nat_tests) in
+        let a : nat_le MIN_SECONDS n ≡ true = left_of (nat_le MIN_SECONDS n) (nat_le n MAX_SECONDS) is in
+        let b : nat_le n MAX_SECONDS ≡ true = right_of (nat_le MIN_SECONDS n) (nat_le n MAX_SECONDS) is in
+        let least : MIN_SECONDS ≤ n = grind (arith, nat_tests) in
+        let most : n ≤ MAX_SECONDS = grind (arith, nat_tests) in
         (same, omega (arith, least, n_is), omega (arith, most, n_is))
     by-test false isnt = absurd (let f : None ≡ Some m = sym (ap (λ t. cond t (Some n) None) isnt) ∙ e in cc)
 
@@ -140,7 +141,7 @@ duration-lasts bs (Some n) e = let h = range-is n (seconds_of bs) (sym e) in (se
 
 pub lasts-duration : (bs : List ℕ) (r : Option ℕ) → r ≡ duration_of bs → (n : ℕ) → IsDuration bs n → r ≡ Some n
 lasts-duration bs r e n h =
-    let least : 60 ≤ n = h.1 in
-    let most : n ≤ 2592000 = h.2 in
-    let within : (nat_le 60 n && nat_le n 2592000) ≡ true = grind (arith, nat_tests) in
+    let least : MIN_SECONDS ≤ n = h.1 in
+    let most : n ≤ MAX_SECONDS = h.2 in
+    let within : (nat_le MIN_SECONDS n && nat_le n MAX_SECONDS) ≡ true = grind (arith, nat_tests) in
     e ∙ ap in_range (lasts-seconds bs n h.0) ∙ ap (λ t. cond t (Some n) None) within

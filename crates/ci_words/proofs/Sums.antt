@@ -1,10 +1,11 @@
 -- The sum of the pairs, step by step.
-use Rattle.std.proofs.Common.{◌≡◌, ℕ, zero, suc, ◌+◌, ◌<◌, ◌≤◌, Bool, true, false, cond, ◌&&◌, List, [], ◌∷◌, length, refl, sym, ◌∙◌, ap, subst, arith, Option, Some, None, option_map}
+use Rattle.std.proofs.Common.{◌≡◌, ℕ, zero, suc, ◌+◌, ◌<◌, ◌≤◌, true, false, cond, ◌&&◌, List, [], ◌∷◌, length, refl, sym, ◌∙◌, ap, arith, Option, Some, None}
 use Rattle.std.specs.Prelude.{nat_le, ◌≢◌, ◌==◌}
 use Rattle.std.proofs.lemmas.Bool.Decides.{nat_tests}
 use Rattle.ci_words.specs.Run.{front, behind}
 use Rattle.ci_words.specs.Duration.{first_pair, after_pair, plus, tail_by, sum_from, seconds_of, in_range, duration_of}
 use Rattle.ci_words.specs.declared.run.Class.TheVariants.{Digit, Space, Letter}
+use Rattle.ci_words.specs.declared.seconds.TheConstants.{MIN_SECONDS, MAX_SECONDS}
 use Rattle.ci_words.proofs.Runs.{parts-length}
 use Rattle.ci_words.proofs.Units.{pair-parts}
 
@@ -100,14 +101,14 @@ rest-more text rest sum s h e more = rest-some text rest sum s h e ∙ ap (plus 
     tail [] some = absurd (some refl)
     tail (b ∷ r) some = refl
 
-pub over : (text : List ℕ) (sum : ℕ) (o : Option ℕ) → seconds_of text ≡ plus (Some sum) o → 2592000 < sum → duration_of text ≡ None
+pub over : (text : List ℕ) (sum : ℕ) (o : Option ℕ) → seconds_of text ≡ plus (Some sum) o → MAX_SECONDS < sum → duration_of text ≡ None
 over text sum o h lt = ap in_range h ∙ by-rest o
   where
     by-rest : (o : Option ℕ) → in_range (plus (Some sum) o) ≡ None
     by-rest None = refl
     by-rest (Some n) =
-        let many : nat_le (sum + n) 2592000 ≡ false = grind (arith, nat_tests) in
-        let none : (nat_le 60 (sum + n) && nat_le (sum + n) 2592000) ≡ false = grind (arith, nat_tests) in
+        let many : nat_le (sum + n) MAX_SECONDS ≡ false = grind (arith, nat_tests) in
+        let none : (nat_le MIN_SECONDS (sum + n) && nat_le (sum + n) MAX_SECONDS) ≡ false = grind (arith, nat_tests) in
         ap (λ t. cond t (Some (sum + n)) None) none
 
 pub some-left : (bs : List ℕ) → (length bs == 0) ≡ false → bs ≢ []

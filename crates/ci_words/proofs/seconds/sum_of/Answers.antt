@@ -1,4 +1,4 @@
-use Rattle.std.proofs.Common.{◌≡◌, ◌+◌, ◌<◌, List, ℕ, Some, [], length, arith, sym, ◌∙◌, ap, subst}
+use Rattle.std.proofs.Common.{◌≡◌, ◌+◌, ◌<◌, List, ℕ, Some, length, arith, sym, ◌∙◌, ap, subst}
 use Rattle.ci_words.specs.Run.{behind}
 use Rattle.ci_words.specs.Duration.{after_pair, plus, tail_by, seconds_of}
 use Rattle.ci_words.specs.declared.run.Class.TheVariants.{Space}

@@ -1,10 +1,11 @@
 use Rattle.std.proofs.Common.{◌≡◌, ◌≤◌, Some, length}
 use Rattle.ci_words.specs.Duration.{plus, seconds_of}
+use Rattle.ci_words.specs.declared.seconds.TheConstants.{MAX_SECONDS}
 use Rattle.ci_words.proofs.seconds.sum_of.Given as goal
 
 abbrev pub invariant-pairs : goal.invariant-pairs
 invariant-pairs l = record {
-  small : l.sum ≤ 2592000;
+  small : l.sum ≤ MAX_SECONDS;
   rest : seconds_of l.bytes ≡ plus (Some l.sum) (seconds_of l.rest);
 }
 
