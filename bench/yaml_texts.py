@@ -1,5 +1,8 @@
 #!/usr/bin/env python3
-"""Writes the texts that bench/yaml.sh times into a folder, each of about so many bytes: yaml_texts.py FOLDER BYTES."""
+"""Writes the texts that bench/yaml.sh times into a folder, each of about so many bytes: yaml_texts.py FOLDER BYTES.
+
+The first key of each is a keyword that is left out.
+"""
 import sys
 
 JOB = """job %d:
@@ -45,4 +48,4 @@ def texts(size):
 folder, size = sys.argv[1], int(sys.argv[2])
 for name, text in texts(size):
     with open(f"{folder}/{name}.yml", "w", encoding="utf-8") as file:
-        file.write(text)
+        file.write("image: x\n" + text)

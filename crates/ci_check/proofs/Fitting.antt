@@ -1,27 +1,32 @@
 -- Which verdicts fit which bytes.
-use Rattle.std.proofs.Common.{◌≡◌, ◌+◌, ℕ, inl, inr, List, [], ◌++◌, length, take, None, Some, Option, Result, Ok, Err, refl, sym, ◌∙◌, ap, subst, arith}
-use Rattle.std.specs.Prelude.{IfOk, IfErr, IfSome, option_map}
+use Rattle.std.proofs.Common.{◌≡◌, ◌+◌, ℕ, inl, inr, List, [], ◌++◌, length, take, None, Some, Option, Err, refl, sym, ◌∙◌, ap, subst, arith}
+use Rattle.std.specs.Prelude.{IfSome, option_map}
 use Rattle.std.specs.Str.{IsUtf8}
 use Rattle.std.proofs.lemmas.List.{take_all, length-take-le}
 use Rattle.std.proofs.lemmas.Bool.{cases_lt}
 use Rattle.ci_values.specs.declared.limits.TheConstants.{MAX_FILE_BYTES}
 use Rattle.ci_yaml_lines.specs.Tree.{Value}
-use Rattle.ci_yaml_lines.specs.View.{value_view}
-use Rattle.ci_yaml_lines.specs.declared.tree.Tree.{Tree}
 use Rattle.ci_yaml_lines.specs.declared.code.Code.TheVariants.{Y1}
 use Rattle.ci_yaml.specs.Document.{HasTree}
 use Rattle.ci_yaml.specs.Stops.{RefusedBy, GivesTree}
 use Rattle.ci_yaml.specs.declared.fault.YamlFault.{YamlFault}
 use Rattle.ci_yaml.specs.declared.fault.YamlFault.TheVariants.{Fault, Memory}
-use Rattle.ci_check.specs.Verdicts.{Fits, IsTooLong, verdict_by}
+use Rattle.ci_check.specs.Verdicts.{Fits, FitsText, IsTooLong}
 use Rattle.ci_check.specs.declared.verdict.Verdict.{Verdict}
-use Rattle.ci_check.specs.declared.verdict.Verdict.TheVariants.{Refused}
+use Rattle.ci_check.specs.declared.verdict.Verdict.TheVariants.{Configures, Refused, Misconfigured, NotText, Unread}
 
-pub reading-fits : (bs : List ℕ) (r : Result Tree YamlFault) → IsUtf8 bs → IfOk r (λ t. HasTree bs (value_view t))
-    → ((v : Value) → HasTree bs v → GivesTree v r) → IfErr r (RefusedBy bs) → Fits bs (verdict_by r)
-reading-fits bs (Ok tree) utf8 has all refused = (utf8, (value_view tree, has))
-reading-fits bs (Err (Fault code line)) utf8 has all refused = inr (utf8, (refused, λ h. all h.0 h.1))
-reading-fits bs (Err Memory) utf8 has all refused = tt
+-- a text whose reading answers this fault
+pub fault-fits : (bs : List ℕ) (fault : YamlFault) → RefusedBy bs fault → ((v : Value) → HasTree bs v → GivesTree v (Err fault)) → FitsText bs (Refused fault)
+fault-fits bs (Fault code line) refused all = (refused, λ h. all h.0 h.1)
+fault-fits bs Memory refused all = tt
+
+pub text-fits : (bs : List ℕ) (d : Verdict) → IsUtf8 bs → FitsText bs d → Fits bs d
+text-fits bs (Configures n) utf8 fits = (utf8, fits)
+text-fits bs (Misconfigured fault) utf8 fits = (utf8, fits)
+text-fits bs (Refused (Fault code line)) utf8 fits = inr (utf8, fits)
+text-fits bs (Refused Memory) utf8 fits = tt
+text-fits bs NotText utf8 fits = absurd fits.2
+text-fits bs Unread utf8 fits = tt
 
 -- the first bytes, where a reader tells its bytes
 pub first-taken : (told : Option (List ℕ)) (got old : List ℕ) (n : ℕ) → n ≡ MAX_FILE_BYTES + 1 → old ≡ []

@@ -8,6 +8,7 @@ ghost use Rattle.ci_check.specs.Verdicts.{Fits, report_line};
 ghost use Rattle.ci_check.specs.declared.verdict.Verdict.TheVariants.{Unread, Refused};
 
 use crate::verdict::{Verdict, verdict_of};
+use ci_config::ConfigFault;
 use ci_values::limits::MAX_FILE_BYTES;
 use ci_yaml::YamlFault;
 use std::alloc::Global;
@@ -44,9 +45,11 @@ impl<'a> fmt::Display for Report<'a> {
 
     fn fmt<W: fmt::Write>(&self, f: &mut fmt::Formatter<W>) -> fmt::Result {
         match self.verdict {
-            Verdict::Read => writeln!(f, "read"),
+            Verdict::Configures(jobs) => writeln!(f, "jobs: {jobs}"),
             Verdict::Refused(YamlFault::Memory) => writeln!(f, "refused: M16"),
             Verdict::Refused(fault) => writeln!(f, "refused: {fault}"),
+            Verdict::Misconfigured(ConfigFault::Memory) => writeln!(f, "refused: M16"),
+            Verdict::Misconfigured(ConfigFault::Fault(code)) => writeln!(f, "refused: {code}"),
             Verdict::NotText | Verdict::Unread => {
                 let word = self.word;
                 writeln!(f, "cannot read {word}")

@@ -2,6 +2,7 @@
 #![tactic(auto)]
 
 mod file;
+pub mod laws;
 mod verdict;
 
 pub use file::{Report, check, check_path, check_word, first_bytes};

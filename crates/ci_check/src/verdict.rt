@@ -2,10 +2,12 @@
 
 ghost use Rattle.std.specs.Prelude.{◌≡◌, ◌≢◌, ◌<◌, length, IfOk, OnErr};
 ghost use Rattle.ci_yaml_lines.specs.declared.code.Code.TheVariants.{Y1};
+ghost use Rattle.ci_yaml_lines.specs.TreeView.{value_view};
 ghost use Rattle.ci_yaml.specs.declared.fault.YamlFault.TheVariants.{Fault};
-ghost use Rattle.ci_check.specs.Verdicts.{Fits, IsTooLong, status, verdict_by};
+ghost use Rattle.ci_check.specs.Verdicts.{Fits, FitsText, FitsTree, IsTooLong, status};
 ghost use Rattle.ci_check.specs.declared.verdict.Verdict.TheVariants.{Refused, Unread};
 
+use ci_config::{ConfigFault, config};
 use ci_values::limits::MAX_FILE_BYTES;
 use ci_yaml::{Code, Tree, YamlFault, read};
 use std::alloc::Global;
@@ -14,10 +16,12 @@ use std::io;
 /// What is said of a file.
 #[derive(Drop)]
 pub enum Verdict {
-    /// Its text has a tree.
-    Read,
-    /// Its text has none, for this reason; or memory was refused.
+    /// It configures so many jobs; hidden ones don't count.
+    Configures(usize),
+    /// Its text has no tree, for this reason; or memory was refused.
     Refused(YamlFault),
+    /// Its tree configures nothing, for this reason; or memory was refused.
+    Misconfigured(ConfigFault),
     /// Its bytes are not UTF-8.
     NotText,
     /// It could not be opened, or not be read to its end.
@@ -30,8 +34,8 @@ impl Verdict {
         ensures { result ≡ status self.now }
     {
         match self {
-            Verdict::Read => 0,
-            Verdict::Refused(_) => 1,
+            Verdict::Configures(_) => 0,
+            Verdict::Refused(_) | Verdict::Misconfigured(_) => 1,
             Verdict::NotText | Verdict::Unread => 3,
         }
     }
@@ -60,15 +64,25 @@ pub fn verdict_of(alloc: Global, bytes: &[u8]) -> Verdict
     let Ok(text) = str::from_utf8(bytes) else {
         return Verdict::NotText;
     };
-    verdict_by(read(alloc, text))
+    judge_text(alloc, text)
 }
 
-/// What is said of a text, by what reading it gives.
-fn verdict_by(reading: Result<Tree<'_>, YamlFault>) -> Verdict
-    ensures { result ≡ verdict_by reading.entry }
+/// What is said of a text.
+fn judge_text(alloc: Global, text: &str) -> Verdict
+    ensures { FitsText text.now result }
 {
-    match reading {
-        Ok(_) => Verdict::Read,
+    match read(alloc, text) {
+        Ok(tree) => judge_tree(alloc, &tree),
         Err(fault) => Verdict::Refused(fault),
+    }
+}
+
+/// What is said of a tree: how many jobs it configures, or the first fault of its keywords.
+fn judge_tree(alloc: Global, tree: &Tree) -> Verdict
+    ensures { FitsTree (value_view tree.now) result }
+{
+    match config(alloc, tree) {
+        Ok(config) => Verdict::Configures(config.jobs.len()),
+        Err(fault) => Verdict::Misconfigured(fault),
     }
 }

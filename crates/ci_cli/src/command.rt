@@ -1,11 +1,13 @@
 //! The command line: what it asks for, and what is done.
 
-ghost use Rattle.std.specs.Prelude.{◌≡◌, ◌↔◌, Some, codes};
+ghost use Rattle.std.specs.Prelude.{◌≡◌, ◌↔◌, ◌⊎◌, Some, codes};
+ghost use Rattle.ci_server.specs.declared.serve.Served.TheVariants.{Replied, ReadFailed, WriteFailed};
 ghost use Rattle.clap.specs.Matches.{subcommand_name_of};
 ghost use Rattle.ci_cli.specs.declared.command.Task.TheVariants.{Demo};
 
 use crate::demo::serve_demo;
 use ci_check::{check_word, exit_status};
+use ci_server::serve::Served;
 use clap::error::ErrorKind;
 use clap::{Arg, ArgMatches, Command, Error};
 use std::alloc::{AllocError, Global};
@@ -20,8 +22,8 @@ const REFUSED: u8 = 1;
 /// The exit status of a command line that isn't understood.
 const USAGE: u8 = 2;
 
-/// The exit status where what is to be said can't be written.
-const UNWRITTEN: u8 = 3;
+/// The exit status where the input can't be read, or what is to be said can't be written.
+const BROKEN_OFF: u8 = 3;
 
 const VERSION: &str = "0.1.0";
 
@@ -69,7 +71,7 @@ fn command_line<'a>(alloc: Global) -> Result<Command<'a>, AllocError> {
         .required(true)
         .help("The path of the CI file, or - for standard input");
     let check = Command::new(alloc, CHECK)
-        .about("Says whether a CI file is in the profile of YAML")
+        .about("Says how many jobs a CI file configures, or why it is refused")
         .after_help(RULES)
         .arg(file)?;
     Command::new(alloc, "ciserver")
@@ -107,17 +109,23 @@ fn task_named<'a>(matches: &ArgMatches<'a>) -> Option<Task<'a>>
 
 fn perform(rt: &HostRuntime, task: Task<'_>) -> u8 {
     match task {
-        Task::Demo => {
-            if serve_demo(rt.alloc(), rt.stdin(), rt.stdout()) {
-                DONE
-            } else {
-                REFUSED
-            }
-        }
+        Task::Demo => demo_status(serve_demo(rt.alloc(), rt.stdin(), rt.stdout())),
         Task::Check(file) => {
             let printed = check_word(rt, rt.alloc(), file, rt.stdin(), &mut rt.stdout());
             exit_status(&printed)
         }
+    }
+}
+
+/// The exit status of the demo, by what became of its request, if its server could be made.
+fn demo_status(served: Option<Served>) -> u8
+    ensures done { (result ≡ 0) ↔ (served ≡ Some Replied) }
+    ensures broken_off { (result ≡ 3) ↔ ((served ≡ Some ReadFailed) ⊎ (served ≡ Some WriteFailed)) }
+{
+    match served {
+        Some(Served::Replied) => DONE,
+        Some(Served::ReadFailed | Served::WriteFailed) => BROKEN_OFF,
+        Some(Served::Ended) | None => REFUSED,
     }
 }
 
@@ -127,13 +135,13 @@ fn print_words(rt: &HostRuntime, error: &Error) -> u8 {
     match (error.use_stderr(), is_printed) {
         (true, _) => USAGE,
         (false, true) => DONE,
-        (false, false) => UNWRITTEN,
+        (false, false) => BROKEN_OFF,
     }
 }
 
 fn refuse_memory(rt: &HostRuntime) -> u8 {
     match println!(rt; "refused: M16") {
         Ok(()) => REFUSED,
-        Err(_) => UNWRITTEN,
+        Err(_) => BROKEN_OFF,
     }
 }

@@ -23,8 +23,12 @@ const MOMENT: u64 = 1000;
 const SEED: Seed = Seed([0xab; 16]);
 
 /// Makes, over memory, the project `p`, the runner `r` and a pipeline of `main` with the job `build`; serves the
-/// bytes of the input once, and writes the reply to the output. Was a reply written?
-pub fn serve_demo<R: Read + Drop, W: Write + Drop>(alloc: Global, input: R, output: W) -> bool {
+/// bytes of the input once, and writes the reply to the output. What became of the request, if these could be made?
+pub fn serve_demo<R: Read + Drop, W: Write + Drop>(
+    alloc: Global,
+    input: R,
+    output: W,
+) -> Option<Served> {
     serve_links::<R, W, Brand, Brand>(alloc, input, output, Blank::new(1), Blank::new(1))
 }
 
@@ -34,7 +38,7 @@ fn serve_links<R: Read + Drop, W: Write + Drop, A: Ledger, B: Ledger>(
     output: W,
     reads: Blank,
     writes: Blank,
-) -> bool
+) -> Option<Served>
     requires reads_name { reads.name ≡ A.name }
     requires reads_parts { reads.parts ≡ A.parts }
     requires reads_one { 0 < reads.parts }
@@ -42,22 +46,20 @@ fn serve_links<R: Read + Drop, W: Write + Drop, A: Ledger, B: Ledger>(
     requires writes_parts { writes.parts ≡ B.parts }
     requires writes_one { 0 < writes.parts }
 {
-    let Some(moment) = Moment::new(MOMENT) else {
-        return false;
-    };
+    let moment = Moment::new(MOMENT)?;
     let Ok(conn) = Connection::open_in_memory(alloc) else {
-        return false;
+        return None;
     };
     let Ok(mut server) = Server::create(conn) else {
-        return false;
+        return None;
     };
     if !is_ready(alloc, &mut server, moment) {
-        return false;
+        return None;
     }
     let mut reader = Link::<R, A>::new(input, reads);
     let mut writer = Link::<W, B>::new(output, writes);
     let served = serve_one(alloc, &mut reader, &mut writer, &mut server, moment, SEED);
-    matches!(served, Served::Replied)
+    Some(served)
 }
 
 /// Makes the project, the runner and the pipeline. Did each of them get made?
