@@ -1,16 +1,26 @@
--- A built pattern finds what its source says, and why one was not built.
-use Rattle.std.proofs.Common.{◌≡◌, ℕ, ◌<◌, ◌≤◌, Bool, true, List, length, get_or, Option, None, Some, IsSomeAnd, is_some, ap, subst, ◌∙◌, ◌⊎◌, inl, inr}
-use Rattle.std.specs.Prelude.{◌≢◌, IfSome, chars}
-use Rattle.regex_syntax.specs.Grammar.{Names, group_count, read}
+-- An automaton finds what its pattern's characters say, and why one was not built.
+use Rattle.std.proofs.Common.{◌≡◌, ℕ, ◌<◌, ◌≤◌, Bool, List, All, length, Option, None, Some, IsSomeAnd, is_some, Result, Ok, Err, refl, ap, subst, sym, ◌∙◌, inl, inr}
+use Rattle.std.specs.Prelude.{◌≢◌, IfSome, IfOk, IfErr, chars}
+use Rattle.regex_hir.specs.Re.{Re}
+use Rattle.regex_hir.specs.Find.{find}
+use Rattle.regex_hir.specs.Meaning.{meaning}
+use Rattle.regex_hir.specs.declared.hir.Hir.{Hir}
+use Rattle.regex_hir.proofs.FindLemmas.{first_between_cong}
 use Rattle.regex_syntax.specs.Brackets.{Nested}
+use Rattle.regex_syntax.specs.Captures.{SameCaptures}
+use Rattle.regex_syntax.specs.Grammar.{Names, group_count}
+use Rattle.regex_syntax.specs.Verdict.{Reads, Refuses}
+use Rattle.regex_syntax.specs.declared.Config.{Config}
 use Rattle.regex_syntax.specs.declared.error.ErrorKind.{ErrorKind}
-use Rattle.regex_syntax.specs.declared.error.ErrorKind.TheVariants.{OutOfMemory, NestLimitExceeded}
-use Rattle.regex.specs.Patterns.{Re, Config, find_str, SameCaptures, Reads, Refuses}
-use Rattle.regex.specs.Failures as failures
-use Rattle.regex.specs.Strings.{IsReadFromSource, regex_source, regex_config}
-use Rattle.regex.specs.declared.string.regex.Regex.{Regex}
-use Rattle.regex.proofs.ForCallers.{is_match_alike}
-use Rattle.ci_expr.specs.Found.{config_of, found_by, is_found_in, Means, IsPattern, IsNoPattern}
+use Rattle.regex_syntax.specs.declared.error.ErrorKind.TheVariants.{OutOfMemory}
+use Rattle.regex_syntax.proofs.CapturesLemmas.{spans, find_alike}
+use Rattle.regex_syntax.proofs.Written.{is_some-option_map}
+use Rattle.regex_nfa.specs.declared.nfa.Nfa.{Nfa}
+use Rattle.regex_compile.specs.Implements.{Implements}
+use Rattle.regex_vm.specs.Found.{first_match}
+use Rattle.ci_expr.specs.declared.pattern.Refusal.{Refusal}
+use Rattle.ci_expr.specs.declared.pattern.Refusal.TheVariants as refusals
+use Rattle.ci_expr.specs.Found.{config_of, found_by, Finds, IsPattern, IsNoPattern, IsRefused}
 
 abbrev Grammar : Type 0
 Grammar = Option (Nested Re × Names)
@@ -18,48 +28,65 @@ Grammar = Option (Nested Re × Names)
 abbrev IsReadAs : Grammar → ℕ → Re → Names → Type 0
 IsReadAs o most a names = IsSomeAnd o (λ (re, found). (re.depth ≤ most) × SameCaptures a re.value × (names ≡ found) × (group_count a ≤ length names))
 
-found-by : (o : Grammar) (most : ℕ) (a : Re) (names : Names) → IsReadAs o most a names →
-    (text : List ℕ) → ((k : ℕ) → get_or text k 0 < 256) → is_some (find_str a text 0) ≡ found_by o text
+-- a search by the tree finds what the grammar says
+found-by : (o : Grammar) (most : ℕ) (a : Re) (names : Names) → IsReadAs o most a names → (text : List ℕ) → All (λ b. b < 256) text →
+    is_some (find a text 0) ≡ found_by o text
 found-by None most a names h text bytes = absurd h
-found-by (Some x) most a names h text bytes = is_match_alike h.1 text bytes true 0
+found-by (Some x) most a names h text bytes =
+    sym (is_some-option_map spans (find a text 0)) ∙ ap is_some (find_alike a x.0.value h.1 text bytes 0) ∙ is_some-option_map spans (find x.0.value text 0)
 
-pub means : (r : Regex) (insensitive : Bool) → IsReadFromSource r → regex_config r ≡ config_of insensitive → Means r insensitive
+-- a search by the automaton finds what the tree says
+implemented : (nfa : Nfa) (a : Re) → Implements nfa a → (text : List ℕ) → first_match nfa text (length text) 0 (length text) ≡ find a text 0
+unfolding find
+implemented nfa a h text = first_between_cong _ _ 0 (length text) (λ i _ _. h text i)
+
+pub finds : (nfa : Nfa) (insensitive : Bool) (text : List ℕ) (hir : Hir) (names : Names) → Reads (config_of insensitive) text hir names → Implements nfa (meaning hir)
+    → Finds nfa insensitive (chars text)
 unfolding Reads
-means r insensitive h e text bytes = found-by _ _ _ _ h text bytes ∙ ap (λ (c : Config). is_found_in c (chars (regex_source r)) text) e
+finds nfa insensitive source hir names h compiled text bytes =
+    ap is_some (implemented nfa (meaning hir) compiled text) ∙ found-by _ _ _ _ h text bytes
 
 shallow-by : (o : Grammar) (most : ℕ) (a : Re) (names : Names) → IsReadAs o most a names → IsSomeAnd o (λ (re, found). re.depth ≤ most)
 shallow-by None most a names h = absurd h
 shallow-by (Some x) most a names h = h.0
 
-abbrev IsShallow : List ℕ → Config → Type 0
-IsShallow source c = IsSomeAnd (read c source) (λ (re, found). re.depth ≤ c.nest_limit)
-
-pub built-pattern : (r : Regex) (insensitive : Bool) → IsReadFromSource r → regex_config r ≡ config_of insensitive → IsPattern insensitive (chars (regex_source r))
+pub read-pattern : (insensitive : Bool) (text : List ℕ) (hir : Hir) (names : Names) → Reads (config_of insensitive) text hir names → IsPattern insensitive (chars text)
 unfolding Reads
-built-pattern r insensitive h e = subst (IsShallow (chars (regex_source r))) e (shallow-by _ _ _ _ h)
+read-pattern insensitive text hir names h = shallow-by _ _ _ _ h
 
--- a pattern that is too big is one
-pub big-pattern : (config : Config) (insensitive : Bool) (text source : List ℕ) → failures.IsPattern config text → text ≡ source → config ≡ config_of insensitive
-    → IsPattern insensitive (chars source)
-unfolding Reads
-big-pattern config insensitive text source (hir, names, h) same e =
-    subst (λ s. IsPattern insensitive (chars s)) same (subst (IsShallow (chars text)) e (shallow-by _ _ _ _ h))
+abbrev Built : Type 0
+Built = Result Nfa Refusal
 
-abbrev IsDeep : List ℕ → Config → Type 0
-IsDeep source c = IfSome (read c source) (λ (re, found). c.nest_limit < re.depth)
+module _ (config : Config) (insensitive : Bool) (text : List ℕ) (hir : Hir) (names : Names) (e : config ≡ config_of insensitive) (h : Reads config text hir names) where
+  as-read : Reads (config_of insensitive) text hir names
+  as-read = subst (λ c. Reads c text hir names) e h
+
+  pub built-finds : (r : Built) → IfOk r (λ nfa. Implements nfa (meaning hir)) → IfOk r (λ nfa. Finds nfa insensitive (chars text))
+  built-finds (Ok nfa) compiled = finds nfa insensitive text hir names as-read compiled
+  built-finds (Err x) compiled = tt
+
+  pub built-pattern : (r : Built) → IfOk r (λ nfa. IsPattern insensitive (chars text))
+  built-pattern (Ok nfa) = read-pattern insensitive text hir names as-read
+  built-pattern (Err x) = tt
+
+  pub built-refused : (r : Built) → IfErr r (λ x. x ≢ refusals.Syntax) → IfErr r (IsRefused insensitive (chars text))
+  built-refused (Ok nfa) other = tt
+  built-refused (Err refusals.Memory) other = tt
+  built-refused (Err refusals.Syntax) other = absurd (other refl)
+  built-refused (Err refusals.Size) other = read-pattern insensitive text hir names as-read
 
 unread : (o : Grammar) (most : ℕ) → o ≡ None → IfSome o (λ (re, found). most < re.depth)
 unread None most e = tt
 unread (Some x) most e = absurd cc
 
-deep-by : (config : Config) (text : List ℕ) (kind : ErrorKind) → Refuses config text kind → kind ≢ OutOfMemory → IsDeep (chars text) config
-unfolding Refuses
-deep-by config text kind (inl e) other = absurd (other e)
-deep-by config text kind (inr (inl e)) other = unread _ _ e
-deep-by config text kind (inr (inr (e, h))) other = h
-
 -- what is refused for its syntax is none
-pub no-pattern : (config : Config) (insensitive : Bool) (text source : List ℕ) (kind : ErrorKind) → Refuses config text kind → kind ≢ OutOfMemory → text ≡ source
-    → config ≡ config_of insensitive → IsNoPattern insensitive (chars source)
-no-pattern config insensitive text source kind refused other same e =
-    subst (λ s. IsNoPattern insensitive (chars s)) same (subst (IsDeep (chars text)) e (deep-by config text kind refused other))
+refused-by : (insensitive : Bool) (text : List ℕ) (kind : ErrorKind) → Refuses (config_of insensitive) text kind → kind ≢ OutOfMemory
+    → IsNoPattern insensitive (chars text)
+unfolding Refuses
+refused-by insensitive text kind (inl e) other = absurd (other e)
+refused-by insensitive text kind (inr (inl e)) other = unread _ _ e
+refused-by insensitive text kind (inr (inr (e, h))) other = h
+
+pub no-pattern : (config : Config) (insensitive : Bool) (text : List ℕ) (kind : ErrorKind) → config ≡ config_of insensitive → Refuses config text kind → kind ≢ OutOfMemory
+    → IsNoPattern insensitive (chars text)
+no-pattern config insensitive text kind e refused other = refused-by insensitive text kind (subst (λ c. Refuses c text kind) e refused) other

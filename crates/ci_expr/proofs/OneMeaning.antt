@@ -1,13 +1,12 @@
 -- Each text means one formula or has one fault, a refused pattern aside.
-use Rattle.std.proofs.Common.{◌≡◌, ℕ, ◌≤◌, List, length, Result, Ok, Err, refl, sym, ◌∙◌, ap, subst, inl}
+use Rattle.std.proofs.Common.{◌≡◌, ℕ, List, Result, Ok, Err, refl, sym, ◌∙◌, ap, subst, inl}
 use Rattle.ci_expr.specs.declared.fault.ExprCode.{ExprCode}
-use Rattle.ci_expr.specs.declared.fault.ExprCode.TheVariants.{X8}
 use Rattle.ci_expr.specs.declared.fault.ExprFault.{ExprFault}
 use Rattle.ci_expr.specs.declared.fault.ExprFault.TheVariants as errors
 use Rattle.ci_expr.specs.Token.{Token}
 use Rattle.ci_expr.specs.Formula.{Formula}
 use Rattle.ci_expr.specs.Reading.{tokens_of}
-use Rattle.ci_expr.specs.Meaning.{Tokenizes, Means, Allows, IsOwn, IsMeaning, MeansOneThing, parse_of, IsBuilt}
+use Rattle.ci_expr.specs.Meaning.{Tokenizes, Allows, IsOwn, IsMeaning, MeansOneThing, parse_of, IsBuilt}
 use Rattle.ci_expr.proofs.TokenLemmas.{tokens_of-sound, tokens_of-only, tokens-own}
 use Rattle.ci_expr.proofs.ParseLemmas.{parse_of-sound, parse_of-own, mean-tokens, parse-only, untokenized-only}
 

@@ -1,11 +1,11 @@
 -- The characters of a pattern, read from its body one after the other.
-use Rattle.std.proofs.Common.{◌≡◌, ℕ, Bool, true, false, cond, List, [], ◌∷◌, ◌++◌, length, refl, sym, ◌∙◌, ap, subst, append_assoc, arith, IsUtf8}
+use Rattle.std.proofs.Common.{◌≡◌, ℕ, Bool, true, false, cond, List, [], ◌∷◌, ◌++◌, length, Option, None, Some, refl, sym, ◌∙◌, ap, subst, append_assoc, arith, IsUtf8}
 use Rattle.std.specs.Prelude.{◌==◌, ◌&&◌, chars, encode_utf8}
 use Rattle.std.specs.Char.{IsScalar}
 use Rattle.std.proofs.Math.Utf8.{scalar, scalars}
 use Rattle.std.proofs.lemmas.Str.{cons_from_encodes, chars-append, chars-nil, chars_past_char, IsUtf8-encode, IsUtf8-past_char}
 use Rattle.std.proofs.lemmas.Bool.Decides.{nat_tests}
-use Rattle.ci_expr.specs.Formula.{unescaped}
+use Rattle.ci_expr.specs.Formula.{stands_for, pair_by, unescaped}
 
 and-first : (a b : Bool) → (a && b) ≡ true → a ≡ true
 and-first true b h = refl
@@ -28,10 +28,10 @@ push-char s c utf8 scalar =
 
 plain : (c : ℕ) (cs : List ℕ) → (c == 92) ≡ false → unescaped (c ∷ cs) ≡ c ∷ unescaped cs
 plain c [] e = refl
-plain c (d ∷ cs) e = ap (λ t. cond t (cond (d == 47) (47 ∷ unescaped cs) (92 ∷ d ∷ unescaped cs)) (c ∷ unescaped (d ∷ cs))) e
+plain c (d ∷ cs) e = ap (λ t. cond t (pair_by d (stands_for d) ++ unescaped cs) (c ∷ unescaped (d ∷ cs))) e
 
-other : (d : ℕ) (cs : List ℕ) → (d == 47) ≡ false → unescaped (92 ∷ d ∷ cs) ≡ 92 ∷ d ∷ unescaped cs
-other d cs e = ap (λ t. cond t (47 ∷ unescaped cs) (92 ∷ d ∷ unescaped cs)) e
+paired : (d : ℕ) (cs : List ℕ) (o : Option (List ℕ)) → stands_for d ≡ o → unescaped (92 ∷ d ∷ cs) ≡ pair_by d o ++ unescaped cs
+paired d cs o e = ap (λ p. pair_by d p ++ unescaped cs) e
 
 pub step-plain : (s rest behind : List ℕ) (c : ℕ) (all : List ℕ) → IsUtf8 s → IsUtf8 rest → rest ≡ encode_utf8 c ++ behind → (c == 92) ≡ false
     → chars s ++ unescaped (chars rest) ≡ all → chars (s ++ encode_utf8 c) ++ unescaped (chars behind) ≡ all
@@ -43,32 +43,34 @@ step-plain s rest behind c all utf8 whole e ne h =
     ∙ ap (λ ys. chars s ++ unescaped ys) (sym (chars_past_char rest behind c whole e))
     ∙ h
 
-pub step-slash : (s rest behind more : List ℕ) (c d : ℕ) (all : List ℕ) → IsUtf8 s → IsUtf8 rest → rest ≡ encode_utf8 c ++ behind → behind ≡ encode_utf8 d ++ more
-    → c ≡ 92 → d ≡ 47 → chars s ++ unescaped (chars rest) ≡ all → chars (s ++ encode_utf8 d) ++ unescaped (chars more) ≡ all
-step-slash s rest behind more c d all utf8 whole e f back slash h =
-    let scalar = first-scalar behind more d (IsUtf8-past_char rest behind c whole e) f in
-    ap (λ ys. ys ++ unescaped (chars more)) (push-char s d utf8 scalar)
-    ∙ append_assoc (chars s) (d ∷ []) (unescaped (chars more))
-    ∙ ap (λ x. chars s ++ x ∷ unescaped (chars more)) slash
-    ∙ ap (λ ys. chars s ++ unescaped ys) (sym (chars_past_char rest behind c whole e
+-- the characters behind a backslash and one more
+cut-pair : (rest behind more : List ℕ) (c d : ℕ) → IsUtf8 rest → rest ≡ encode_utf8 c ++ behind → behind ≡ encode_utf8 d ++ more → c ≡ 92 → chars rest ≡ 92 ∷ d ∷ chars more
+cut-pair rest behind more c d whole e f back =
+    chars_past_char rest behind c whole e
     ∙ ap (λ ys. c ∷ ys) (chars_past_char behind more d (IsUtf8-past_char rest behind c whole e) f)
-    ∙ ap (λ x. x ∷ d ∷ chars more) back ∙ ap (λ x. 92 ∷ x ∷ chars more) slash))
+    ∙ ap (λ x. x ∷ d ∷ chars more) back
+
+pub step-stands : (s text rest behind more : List ℕ) (c d : ℕ) (all : List ℕ) → IsUtf8 s → IsUtf8 rest → rest ≡ encode_utf8 c ++ behind → behind ≡ encode_utf8 d ++ more
+    → c ≡ 92 → stands_for d ≡ Some text → chars s ++ unescaped (chars rest) ≡ all → chars (s ++ text) ++ unescaped (chars more) ≡ all
+step-stands s text rest behind more c d all utf8 whole e f back stands h =
+    ap (λ ys. ys ++ unescaped (chars more)) (chars-append s text utf8)
+    ∙ append_assoc (chars s) (chars text) (unescaped (chars more))
+    ∙ ap (λ ys. chars s ++ ys) (sym (paired d (chars more) (Some text) stands))
+    ∙ ap (λ ys. chars s ++ unescaped ys) (sym (cut-pair rest behind more c d whole e f back))
     ∙ h
 
 pub step-pair : (s rest behind more : List ℕ) (c d : ℕ) (all : List ℕ) → IsUtf8 s → IsUtf8 (s ++ encode_utf8 c) → IsUtf8 rest → rest ≡ encode_utf8 c ++ behind
-    → behind ≡ encode_utf8 d ++ more → c ≡ 92 → (d == 47) ≡ false → chars s ++ unescaped (chars rest) ≡ all
+    → behind ≡ encode_utf8 d ++ more → c ≡ 92 → stands_for d ≡ None → chars s ++ unescaped (chars rest) ≡ all
     → chars ((s ++ encode_utf8 c) ++ encode_utf8 d) ++ unescaped (chars more) ≡ all
-step-pair s rest behind more c d all utf8 utf8' whole e f back ne h =
+step-pair s rest behind more c d all utf8 utf8' whole e f back none h =
     let scalar = first-scalar rest behind c whole e in
     let scalar' = first-scalar behind more d (IsUtf8-past_char rest behind c whole e) f in
     ap (λ ys. ys ++ unescaped (chars more)) (push-char (s ++ encode_utf8 c) d utf8' scalar' ∙ ap (λ ys. ys ++ d ∷ []) (push-char s c utf8 scalar))
     ∙ append_assoc (chars s ++ c ∷ []) (d ∷ []) (unescaped (chars more))
     ∙ append_assoc (chars s) (c ∷ []) (d ∷ unescaped (chars more))
     ∙ ap (λ x. chars s ++ x ∷ d ∷ unescaped (chars more)) back
-    ∙ ap (λ ys. chars s ++ ys) (sym (other d (chars more) ne))
-    ∙ ap (λ ys. chars s ++ unescaped ys) (sym (chars_past_char rest behind c whole e
-    ∙ ap (λ ys. c ∷ ys) (chars_past_char behind more d (IsUtf8-past_char rest behind c whole e) f)
-    ∙ ap (λ x. x ∷ d ∷ chars more) back))
+    ∙ ap (λ ys. chars s ++ ys) (sym (paired d (chars more) None none))
+    ∙ ap (λ ys. chars s ++ unescaped ys) (sym (cut-pair rest behind more c d whole e f back))
     ∙ h
 
 pub step-last : (s rest behind : List ℕ) (c : ℕ) (all : List ℕ) → IsUtf8 s → IsUtf8 rest → rest ≡ encode_utf8 c ++ behind → behind ≡ []

@@ -9,7 +9,7 @@ use Rattle.ci_expr.specs.declared.tree.Join.{Join}
 use Rattle.ci_expr.specs.declared.tree.Join.TheVariants as join
 use Rattle.ci_expr.specs.Token.{Token}
 use Rattle.ci_expr.specs.Reading.{◌>>=◌}
-use Rattle.ci_expr.specs.Formula.{Operand, null, text, variable, Formula, joined, Level, chain, or, test, part, sign, IsOperand, Derives, single, several, in_group, alone, compared, matched, comparing, matching}
+use Rattle.ci_expr.specs.Formula.{Operand, null, text, variable, Formula, Level, chain, or, test, part, sign, IsOperand, Derives, single, several, in_group, alone, compared, matched, comparing, matching}
 use Rattle.ci_expr.specs.Order.{open_after, closes_none, balances, is_pattern, has_stray}
 use Rattle.ci_expr.specs.Faults.{takes_pattern}
 use Rattle.ci_expr.specs.Descent.{Read, is_kind, behind, behind_byte, operand_by, pattern_of, compared_by, compared_from, matched_by, matched_from, sign_by, named_from, variable_by, closed, test_by, joined_by, descend, reach, formula_from, whole_by}

@@ -1,10 +1,13 @@
 -- When a pattern is found in a text.
-use Rattle.std.specs.Prelude.{◌≡◌, ℕ, ◌<◌, ◌≤◌, Bool, false, List, Option, Some, None, IsSomeAnd, IfSome, is_some, get_or, chars, ⊤}
-use Rattle.regex_syntax.specs.Grammar.{Names, read}
+use Rattle.std.specs.Prelude.{◌≡◌, ℕ, ◌<◌, ◌≤◌, Bool, false, List, All, length, Option, Some, None, IsSomeAnd, IfSome, is_some, ⊤}
+use Rattle.regex_hir.specs.Re.{Re}
+use Rattle.regex_hir.specs.Find.{find}
 use Rattle.regex_syntax.specs.Brackets.{Nested}
-use Rattle.regex.specs.Patterns.{Re, find_str, default_config, Config}
-use Rattle.regex.specs.Strings.{regex_pattern, regex_source}
-use Rattle.regex.specs.declared.string.regex.Regex.{Regex}
+use Rattle.regex_syntax.specs.Grammar.{Names, read}
+use Rattle.regex_syntax.specs.Verdict.{default_config}
+use Rattle.regex_syntax.specs.declared.Config.{Config}
+use Rattle.regex_nfa.specs.declared.nfa.Nfa.{Nfa}
+use Rattle.regex_vm.specs.Found.{first_match}
 use Rattle.ci_expr.specs.declared.pattern.Refusal.{Refusal}
 use Rattle.ci_expr.specs.declared.pattern.Refusal.TheVariants as refusals
 
@@ -14,9 +17,9 @@ config_of insensitive = record default_config { flags = record default_config.fl
 
 abbrev pub found_by : Option (Nested Re × Names) → List ℕ → Bool
 found_by None text = false
-found_by (Some x) text = is_some (find_str x.0.value text 0)
+found_by (Some x) text = is_some (find x.0.value text 0)
 
--- what the grammar of `regex` reads in the pattern's characters has a find somewhere in the text
+-- what the grammar of `regex` reads in the pattern's characters has a find somewhere in the text's bytes
 abbrev pub is_found_in : Config → List ℕ → List ℕ → Bool
 is_found_in config source text = found_by (read config source) text
 
@@ -34,7 +37,7 @@ IsRefused insensitive source refusals.Memory = ⊤
 IsRefused insensitive source refusals.Syntax = IsNoPattern insensitive source
 IsRefused insensitive source refusals.Size = IsPattern insensitive source
 
--- a built pattern finds what its source says
-abbrev pub Means : Regex → Bool → Type 0
-Means r insensitive =
-    (text : List ℕ) → ((k : ℕ) → get_or text k 0 < 256) → is_some (find_str (regex_pattern r) text 0) ≡ is_found_in (config_of insensitive) (chars (regex_source r)) text
+-- an automaton finds in each text what the pattern's characters say
+abbrev pub Finds : Nfa → Bool → List ℕ → Type 0
+Finds nfa insensitive source =
+    (text : List ℕ) → All (λ b. b < 256) text → is_some (first_match nfa text (length text) 0 (length text)) ≡ is_found_in (config_of insensitive) source text

@@ -1,7 +1,7 @@
 //! Formulas with texts of their own, and their truth.
 
 ghost use Rattle.std.specs.Prelude.{◌≡◌, List, chars, string_bytes, IfOk, IfErr, option_map};
-ghost use Rattle.ci_expr.specs.Formula.{unescaped};
+ghost use Rattle.ci_expr.specs.Formula.{stands_for, unescaped};
 ghost use Rattle.ci_expr.specs.Truth.{same_value, negated_by, value_of, operand_value, truth};
 ghost use Rattle.ci_expr.specs.View.{tree_view, operand_view, IsOfPattern, RefusesPattern};
 ghost use Rattle.ci_expr.specs.Found.{IsPattern};
@@ -47,7 +47,29 @@ pub enum Formula {
     Found(bool, String, Box<Pattern>),
 }
 
-/// The source of a pattern with this body: the pair `\/` stands for `/`, other pairs stay.
+/// What a backslash and this character stand for in a pattern, where they don't stand for themselves. A class begins so that
+/// it is no pattern where its bracket would be the end of a range, as in `[+-\d]`.
+fn stands_for(second: char) -> Option<&'static str>
+    ensures { option_map (λ s. s.now) result ≡ stands_for second }
+{
+    match second {
+        '/' => Some("/"),
+        'd' => Some("[]{0-9&&0-9]"),
+        'D' => Some("[^]{0-9&&0-9]"),
+        's' => Some("[]{\\t\\n\\f\\r\\x20&&\\t\\n\\f\\r\\x20]"),
+        'S' => Some("[^]{\\t\\n\\f\\r\\x20&&\\t\\n\\f\\r\\x20]"),
+        'w' => Some("[]{0-9A-Za-z_&&0-9A-Za-z_]"),
+        'W' => Some("[^]{0-9A-Za-z_&&0-9A-Za-z_]"),
+        '<' => Some("<"),
+        '>' => Some(">"),
+        'b' => Some("(?-u:\\b)"),
+        'B' => Some("(?-u:\\B)"),
+        'p' | 'P' => Some("\\y"),
+        _ => None,
+    }
+}
+
+/// The source of a pattern with this body.
 fn unescaped(alloc: Global, body: &str) -> Result<String, AllocError>
     ensures { IfOk result (λ s. chars (string_bytes s) ≡ unescaped (chars body.now)) }
 {
@@ -59,11 +81,13 @@ fn unescaped(alloc: Global, body: &str) -> Result<String, AllocError>
             continue;
         }
         match rest.next() {
-            Some('/') => source.push('/')?,
-            Some(second) => {
-                source.push(first)?;
-                source.push(second)?;
-            }
+            Some(second) => match stands_for(second) {
+                Some(text) => source.push_str(text)?,
+                None => {
+                    source.push(first)?;
+                    source.push(second)?;
+                }
+            },
             None => source.push(first)?,
         }
     }

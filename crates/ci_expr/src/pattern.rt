@@ -1,16 +1,22 @@
 //! Patterns, kept as their texts and built when they are asked.
 
-ghost use Rattle.std.specs.Prelude.{◌≡◌, ◌≤◌, ◌+◌, chars, string_bytes, IfOk, IfErr};
-ghost use Rattle.regex.specs.Strings.{regex_source, regex_size};
-ghost use Rattle.ci_expr.specs.Found.{config_of, is_found_in, Means, IsPattern, IsRefused};
+ghost use Rattle.std.specs.Prelude.{◌≡◌, ◌≢◌, ◌≤◌, ◌+◌, chars, string_bytes, IfOk, IfErr};
+ghost use Rattle.regex_hir.specs.Meaning.{meaning};
+ghost use Rattle.regex_nfa.specs.Sizes.{table_bytes};
+ghost use Rattle.regex_compile.specs.Implements.{Implements};
+ghost use Rattle.ci_expr.specs.Found.{config_of, is_found_in, Finds, IsPattern, IsRefused};
 
-use regex::{Regex, RegexBuilder};
+use regex_compile::{Error, compile};
+use regex_nfa::Nfa;
+use regex_syntax::{Config, ErrorKind, Parsed, parse};
+use regex_vm::PikeVm;
 use std::alloc::{AllocError, Global};
 
-/// The most bytes that the tables of a built pattern may take.
-pub const MAX_PATTERN_BYTES: usize = 32_768;
+/// The most bytes that the states of a built pattern may take. A search follows each of them at each byte of a text at
+/// most, so this bounds its time too.
+pub const MAX_PATTERN_BYTES: usize = 6_144;
 
-/// A pattern that `regex` has built once.
+/// A pattern that was built once.
 #[derive(Drop)]
 pub struct Pattern {
     /// Its text, in the syntax of `regex`.
@@ -30,29 +36,47 @@ pub enum Refusal {
     Size,
 }
 
-/// Builds a pattern, where `insensitive` says that letters match in either case.
-fn build_pattern(alloc: Global, source: &str, insensitive: bool) -> Result<Regex, Refusal>
-    ensures source { IfOk result (λ r. regex_source r ≡ source.now) }
-    ensures means { IfOk result (λ r. Means r insensitive) }
-    ensures pattern { IfOk result (λ r. IsPattern insensitive (chars source.now)) }
-    ensures small { IfOk result (λ r. regex_size r ≤ 32768 + 24) }
-    ensures refused { IfErr result (IsRefused insensitive (chars source.now)) }
+/// The options under which a pattern is read, where `insensitive` says that letters match in either case.
+fn options(insensitive: bool) -> Config
+    ensures { result ≡ config_of insensitive }
 {
-    match RegexBuilder::new(source)
-        .case_insensitive(insensitive)
-        .size_limit(MAX_PATTERN_BYTES)
-        .build(alloc)
-    {
-        Ok(regex) => Ok(regex),
-        Err(regex::Error::OutOfMemory) => Err(Refusal::Memory),
-        Err(regex::Error::Syntax(_)) => Err(Refusal::Syntax),
-        Err(regex::Error::CompiledTooBig) => Err(Refusal::Size),
-        // `regex` never answers this where the limit is below 16 GiB.
-        Err(regex::Error::Internal) => Err(Refusal::Size),
+    let mut options = Config::default();
+    options.flags.case_insensitive = insensitive;
+    options
+}
+
+/// The automaton of what was read.
+fn automaton(alloc: Global, parsed: &Parsed) -> Result<Nfa, Refusal>
+    ensures implements { IfOk result (λ nfa. Implements nfa (meaning parsed.now.hir)) }
+    ensures small { IfOk result (λ nfa. table_bytes nfa ≤ 6144 + 24) }
+    ensures refused { IfErr result (λ e. e ≢ Refusal.Syntax) }
+{
+    let Ok(groups) = u32::try_from(parsed.names.len()) else {
+        return Err(Refusal::Size);
+    };
+    match compile(alloc, &parsed.hir, groups, MAX_PATTERN_BYTES) {
+        Ok(nfa) => Ok(nfa),
+        Err(Error::OutOfMemory) => Err(Refusal::Memory),
+        // `Malformed` is never answered for what `parse` has read.
+        Err(Error::TooBig | Error::Malformed) => Err(Refusal::Size),
     }
 }
 
-/// The pattern of a text that `regex` builds. It is built here to see that it can be, and not kept.
+/// Builds the automaton of a pattern, where `insensitive` says that letters match in either case.
+fn build_pattern(alloc: Global, source: &str, insensitive: bool) -> Result<Nfa, Refusal>
+    ensures finds { IfOk result (λ nfa. Finds nfa insensitive (chars source.now)) }
+    ensures pattern { IfOk result (λ nfa. IsPattern insensitive (chars source.now)) }
+    ensures small { IfOk result (λ nfa. table_bytes nfa ≤ 6144 + 24) }
+    ensures refused { IfErr result (IsRefused insensitive (chars source.now)) }
+{
+    match parse(alloc, source, &options(insensitive)) {
+        Ok(parsed) => automaton(alloc, &parsed),
+        Err(error) if error.kind == ErrorKind::OutOfMemory => Err(Refusal::Memory),
+        Err(_) => Err(Refusal::Syntax),
+    }
+}
+
+/// The pattern of a text that can be built. It is built here to see that it can be, and not kept.
 pub fn checked(alloc: Global, source: String, insensitive: bool) -> Result<Pattern, Refusal>
     ensures source { IfOk result (λ p. p.source ≡ source) }
     ensures flag { IfOk result (λ p. p.insensitive ≡ insensitive) }
@@ -69,16 +93,17 @@ pub fn checked(alloc: Global, source: String, insensitive: bool) -> Result<Patte
 }
 
 /// Whether the pattern is found somewhere in a text. It is built for this one call.
+///
+/// A search takes time by the automaton's states and the text's bytes, and memory by the states alone.
 pub fn is_found(pattern: &Pattern, alloc: Global, text: &str) -> Result<bool, AllocError>
     ensures { IfOk result (λ found. found ≡
         is_found_in (config_of pattern.now.insensitive) (chars (string_bytes pattern.now.source)) text.now) }
 {
-    match build_pattern(alloc, pattern.source.as_str(), pattern.insensitive) {
-        Ok(regex) => {
-            let mut matcher = regex.matcher(alloc)?;
-            Ok(matcher.is_match(text))
-        }
+    let Ok(nfa) = build_pattern(alloc, pattern.source.as_str(), pattern.insensitive) else {
         // The same text was built before, within the same bytes: what is refused now is memory.
-        Err(_) => Err(AllocError),
-    }
+        return Err(AllocError);
+    };
+    let mut search = PikeVm::new(alloc, &nfa)?;
+    let end = text.len();
+    Ok(search.is_match(&nfa, text.as_bytes(), 0, end, end))
 }

@@ -73,10 +73,44 @@ fn reads_or_refuses(rt: HostRuntime) -> Result<(), Fail> {
         ("$A =~ /x{1000000}/", "X8"),
         ("$A =~ /(x{200}){200}z/", "X8"),
         ("$A =~ /\\w{500}/i", "X8"),
-        ("$A =~ /\\w{3}/", "X8"),
+        ("$A =~ /\\pL/", "X8"),
+        ("$A =~ /[\\p{Lu}x]/", "X8"),
+        ("$A =~ /\\y/", "X8"),
+        ("$A =~ /[+-\\d]/", "X8"),
+        ("$A =~ /([A-\\W])/", "X8"),
+        ("$A =~ /[+-\\w]{2}/i", "X8"),
+        ("$A =~ /[!-\\b]/", "X8"),
+        ("$A =~ /\\\\pL/", "accepted"),
         ("$A", "accepted"),
         ("$A =~ //", "accepted"),
         ("$A == \"\n\" || ($B)", "accepted"),
+    ] {
+        assert_eq!(rt; reading(alloc, text)?.as_str(), want, "at {text}");
+    }
+    Ok(())
+}
+
+// The tables of a pattern hold 12 bytes for a place that reads one range of bytes, and 8 more for each range where it reads
+// several. 24 are for the loop in front of it. A place of a repeat costs 1 byte more, of which one for each.
+#[test]
+fn patterns_at_the_limit(rt: HostRuntime) -> Result<(), Fail> {
+    let alloc = rt.alloc();
+    for (text, want) in [
+        // 24 + 470 * 13 = 6,134 of 6,144
+        ("$A =~ /x{470}/", "accepted"),
+        ("$A =~ /x{471}/", "X8"),
+        ("$A =~ /\\d{470}/", "accepted"),
+        ("$A =~ /\\d{471}/", "X8"),
+        // 24 + 135 * (12 + 4 * 8 + 1) = 6,099
+        ("$A =~ /\\w{135}/", "accepted"),
+        ("$A =~ /\\w{136}/", "X8"),
+        // 24 + 165 * (12 + 3 * 8 + 1) = 6,129
+        ("$A =~ /\\s{165}/", "accepted"),
+        ("$A =~ /\\s{166}/", "X8"),
+        ("$A =~ /.{30}/", "accepted"),
+        ("$A =~ /.{31}/", "X8"),
+        ("$A =~ /\\w{58}/i", "accepted"),
+        ("$A =~ /\\w{59}/i", "X8"),
     ] {
         assert_eq!(rt; reading(alloc, text)?.as_str(), want, "at {text}");
     }
@@ -158,6 +192,67 @@ fn values(rt: HostRuntime) {
     ] {
         assert_eq!(rt; worth(alloc, text, pairs), want, "at {text}");
     }
+}
+
+// As in GitLab, whose engine reads these words as ASCII.
+#[test]
+fn words_of_perl_are_ascii(rt: HostRuntime) {
+    let alloc = rt.alloc();
+    for (text, value, want) in [
+        ("$A =~ /^\\w+$/", "azAZ09_", "true"),
+        ("$A =~ /\\w/", "\u{e9}-", "false"),
+        ("$A =~ /^\\W$/", "\u{e9}", "true"),
+        ("$A =~ /\\W/", "azAZ09_", "false"),
+        ("$A =~ /^[\\w.-]+$/", "v1.2-rc_3", "true"),
+        ("$A =~ /^[\\w.-]+$/", "v1,2", "false"),
+        ("$A =~ /^[\\d-]+$/", "1-2", "true"),
+        ("$A =~ /^[-\\d]+$/", "1-2", "true"),
+        ("$A =~ /-\\d]$/", "x-1]", "true"),
+        ("$A =~ /^[^\\W_]+$/", "a1", "true"),
+        ("$A =~ /^[^\\W_]+$/", "a_", "false"),
+        ("$A =~ /^\\d\\d$/", "09", "true"),
+        ("$A =~ /\\d/", "\u{663}", "false"),
+        ("$A =~ /^\\D$/", "\u{663}", "true"),
+        ("$A =~ /\\D/", "7", "false"),
+        ("$A =~ /^\\s+$/", " \t\n\r\u{c}", "true"),
+        ("$A =~ /\\s/", "\u{a0}\u{b}", "false"),
+        ("$A =~ /^\\S+$/", "\u{a0}x", "true"),
+        ("$A =~ /\\S/", " \t", "false"),
+        ("$A =~ /a\\b/", "a\u{e9}", "true"),
+        ("$A =~ /a\\b/", "ab", "false"),
+        ("$A =~ /a\\B/", "ab", "true"),
+        ("$A =~ /a\\B/", "a\u{e9}", "false"),
+        ("$A =~ /^\\<\\>$/", "<>", "true"),
+        ("$A =~ /^\\\\w$/", "\\w", "true"),
+        ("$A =~ /^.$/", "\u{e9}", "true"),
+        ("$A =~ /^\u{c9}$/i", "\u{e9}", "true"),
+    ] {
+        let pairs = [("A", value)];
+        assert_eq!(rt; worth(alloc, text, pairs.as_slice()), want, "at {text}");
+    }
+}
+
+/// The greatest value of a variable, of these two letters in turn and with this one at its end.
+fn long_value(alloc: Global, last: char) -> Result<String, AllocError> {
+    let mut value = String::new(alloc);
+    for _ in 0..21_845 {
+        value.push_str("aab")?;
+    }
+    value.push(last)?;
+    Ok(value)
+}
+
+#[test]
+fn a_pattern_in_the_longest_value(rt: HostRuntime) -> Result<(), Fail> {
+    let alloc = rt.alloc();
+    let text = "$A =~ /[ab]*a[ab]{20}c/";
+    for (last, want) in [('b', "false"), ('c', "true")] {
+        let value = long_value(alloc, last)?;
+        assert_eq!(rt; value.len(), 65_536);
+        let pairs = [("A", value.as_str())];
+        assert_eq!(rt; worth(alloc, text, pairs.as_slice()), want);
+    }
+    Ok(())
 }
 
 #[test]

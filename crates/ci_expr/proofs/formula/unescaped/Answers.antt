@@ -1,7 +1,7 @@
-use Rattle.std.proofs.Common.{◌++◌, chars, string_bytes, refl, sym, ◌∙◌, ap, subst, IsUtf8}
+use Rattle.std.proofs.Common.{◌++◌, chars, string_bytes, sym, ◌∙◌, ap, subst, IsUtf8}
 use Rattle.std.proofs.lemmas.Str.{chars-nil, IsUtf8-past_char, IsUtf8-string_bytes}
 use Rattle.ci_expr.specs.Formula.{unescaped}
-use Rattle.ci_expr.proofs.Unescaping.{step-plain, step-slash, step-pair, step-last, ne-test, empty-is}
+use Rattle.ci_expr.proofs.Unescaping.{step-plain, step-stands, step-pair, step-last, ne-test, empty-is}
 use Rattle.ci_expr.proofs.formula.unescaped.Goals as goal
 
 pub loop-first-init : goal.loop-first-init
@@ -22,11 +22,11 @@ pub loop-first-preserved-in-Continue-branch-2 : goal.loop-first-preserved-in-Con
 loop-first-preserved-in-Continue-branch-2 c =
     let whole = IsUtf8-past_char c.loop-first.rest.rest.now c.next.new.self.rest.now c.in-Some.first c.loop-first.invariant.whole c.in-Some.ensures.steps.0 in
     record {
-      whole = IsUtf8-past_char c.next.new.self.rest.now c.next-in-Some.new.self.rest.now c.in-Some-eq47.field-0 whole c.in-Some-eq47.ensures.steps.0;
-      same = rw c.in_ok-push-in-Some-eq47.ensures.bytes
-          (step-slash (string_bytes c.loop-first.source) c.loop-first.rest.rest.now c.next.new.self.rest.now c.next-in-Some.new.self.rest.now c.in-Some.first 47 _
-          (IsUtf8-string_bytes c.loop-first.source) c.loop-first.invariant.whole c.in-Some.ensures.steps.0
-          (rw c.in-Some-eq47.field-0-test at c.in-Some-eq47.ensures.steps.0) c.if-first-ne92.false refl c.loop-first.invariant.same);
+      whole = IsUtf8-past_char c.next.new.self.rest.now c.next-in-Some.new.self.rest.now c.in-Some-next.second whole c.in-Some-next.ensures.steps.0;
+      same = rw c.in_ok-push_str-in-Some-stands_for.ensures.bytes
+          (step-stands (string_bytes c.loop-first.source) c.in-Some-stands_for.text.now c.loop-first.rest.rest.now c.next.new.self.rest.now c.next-in-Some.new.self.rest.now c.in-Some.first
+          c.in-Some-next.second _ (IsUtf8-string_bytes c.loop-first.source) c.loop-first.invariant.whole c.in-Some.ensures.steps.0
+          c.in-Some-next.ensures.steps.0 c.if-first-ne92.false (sym c.in-Some-stands_for.ensures) c.loop-first.invariant.same);
     }
 
 pub loop-first-preserved-in-Continue-branch-4 : goal.loop-first-preserved-in-Continue-branch-4
@@ -34,11 +34,11 @@ loop-first-preserved-in-Continue-branch-4 c =
     let whole = IsUtf8-past_char c.loop-first.rest.rest.now c.next.new.self.rest.now c.in-Some.first c.loop-first.invariant.whole c.in-Some.ensures.steps.0 in
     record {
       whole = IsUtf8-past_char c.next.new.self.rest.now c.next-in-Some.new.self.rest.now c.in-Some-next.second whole c.in-Some-next.ensures.steps.0;
-      same = rw (c.in_ok-push-in-Some-next-2.ensures.bytes, c.in_ok-push-in-Some-next.ensures.bytes)
+      same = rw (c.in_ok-push-in-None-stands_for-2.ensures.bytes, c.in_ok-push-in-None-stands_for.ensures.bytes)
           (step-pair (string_bytes c.loop-first.source) c.loop-first.rest.rest.now c.next.new.self.rest.now c.next-in-Some.new.self.rest.now c.in-Some.first c.in-Some-next.second _
-          (IsUtf8-string_bytes c.loop-first.source) (subst IsUtf8 c.in_ok-push-in-Some-next.ensures.bytes (IsUtf8-string_bytes c.push-in-Some-next.new.self))
+          (IsUtf8-string_bytes c.loop-first.source) (subst IsUtf8 c.in_ok-push-in-None-stands_for.ensures.bytes (IsUtf8-string_bytes c.push-in-None-stands_for.new.self))
           c.loop-first.invariant.whole c.in-Some.ensures.steps.0
-          c.in-Some-next.ensures.steps.0 c.if-first-ne92.false (ne-test c.in-Some-next.second 47 c.in-Some-next.second-test.1) c.loop-first.invariant.same);
+          c.in-Some-next.ensures.steps.0 c.if-first-ne92.false (sym c.in-None-stands_for.ensures) c.loop-first.invariant.same);
     }
 
 pub loop-first-preserved : goal.loop-first-preserved

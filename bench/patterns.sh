@@ -1,0 +1,32 @@
+#!/usr/bin/env bash
+# Times what the patterns of a CI file cost, and the most memory that each takes: the greatest files of patterns, read whole and
+# then evaluated rule by rule on a short value, and single evaluations on a value of 65,536 bytes. Wants python3. Takes a few
+# minutes: the program is proved before it is built.
+set -eu
+. "$(dirname "$0")/tables.sh"
+need rt python3
+crate=$work/crates/bench_patterns
+mkdir -p "$crate/src" "$crate/specs"
+for low in $(for top in ci_config ci_yaml ci_expr; do below "$top"; done | sort -u); do
+  [ -d "$root/crates/$low" ] || continue
+  cp -r "$root/crates/$low" "$work/crates/"
+  grep "^$low:" "$root/crates.txt" >> "$work/crates.txt"
+done
+echo "bench_patterns: ci_config ci_expr ci_yaml anyhow" >> "$work/crates.txt"
+cp "$root/bench/patterns.rt.txt" "$crate/src/main.rt"
+: > "$crate/specs/Lib.antt"
+cd "$crate"
+rt run > run.log 2>&1 || { tail -20 run.log >&2; stop "bench/patterns.rt.txt was not built"; }
+
+# a run of one kind: what it prints, its processor time and the most memory that it had
+row() {
+  printf '%-10s ' "$1"
+  python3 -c 'import resource, subprocess, sys
+said = subprocess.run(sys.argv[1:], capture_output=True, text=True)
+used = resource.getrusage(resource.RUSAGE_CHILDREN)
+print((said.stdout + said.stderr).strip(), f"- {used.ru_utime + used.ru_stime:.2f} s, {used.ru_maxrss // 1024} MiB")' out/bench_patterns "$1"
+}
+echo "files of 65,536 bytes"
+for kind in many large words nested unicode; do row "$kind"; done
+echo "one evaluation on 65,536 bytes"
+for kind in repeat classes mixed empty optional looks groups; do row "$kind"; done
