@@ -10,10 +10,10 @@ use Rattle.ci_machine.specs.State.{State, empty}
 use Rattle.ci_machine.specs.History.{Past, Leads}
 use Rattle.ci_store.specs.Stands.{StandsIn, IsAt, LeavesOnly, LeavesEither}
 use Rattle.ci_server.specs.declared.fail_stop.FailStop.{FailStop}
-use Rattle.ci_server.specs.Handling.{Call, Handled, answered, no_memory, look_failed, commit_failed}
+use Rattle.ci_server.specs.Handling.{Call, Handled, closed_by, answered, no_memory, look_failed, commit_failed}
 use Rattle.ci_server.specs.Server.{IsHonest, Handles, HandlesEach, Opens}
 use Rattle.ci_server.specs.Runs.{line, by_outcome}
-use Rattle.ci_server.specs.Lifetime.{Operation, called, opened, Recovers, ComesOf, called_each, failed_by, has_failed, HasNewest, IsHistoryOf, IsReachedBy, LosesNoStep}
+use Rattle.ci_server.specs.Lifetime.{Operation, called, opened, Recovers, ComesOf, called_each, has_failed, HasNewest, IsHistoryOf, IsReachedBy, LosesNoStep}
 use Rattle.ci_server.proofs.Runs.{AllLaws, AllStep, outcome-M16, outcome-M17}
 
 -- what a call with this outcome adds
@@ -48,12 +48,12 @@ module _ {S : Type 0} (g : Ghosts S) (settled : (s : S) (db : Trees) → IsTrue 
   failed : (ops : List Operation) (new : FailStop (Held S)) (c : Call) (a : Answer) → outcome_of a ≡ StoreFailed → new.closed ≡ true
       → ((db : Trees) → (state g new.store).may_leave db → (s : State) × IsReachedBy (called c a ∷ ops) s × StandsIn s db) → Stands (called c a ∷ ops) new
   failed ops new c a is is_closed left =
-      (record { held = λ o. absurd (false≢true (sym o ∙ is_closed)); left = left }, is_closed ∙ sym (ap (λ w. failed_by w (has_failed ops)) is))
+      (record { held = λ o. absurd (false≢true (sym o ∙ is_closed)); left = left }, is_closed ∙ sym (ap (λ w. closed_by w (has_failed ops)) is))
 
   -- an open server that the call leaves open
-  still_open : (ops : List Operation) (c : Call) (a : Answer) (o : Outcome) (closed : Bool) → outcome_of a ≡ o → failed_by o (has_failed ops) ≡ has_failed ops → has_failed ops ≡ false
+  still_open : (ops : List Operation) (c : Call) (a : Answer) (o : Outcome) (closed : Bool) → outcome_of a ≡ o → closed_by o (has_failed ops) ≡ has_failed ops → has_failed ops ≡ false
       → closed ≡ false → closed ≡ has_failed (called c a ∷ ops)
-  still_open ops c a o closed is same none is_open = is_open ∙ sym (ap (λ w. failed_by w (has_failed ops)) is ∙ same ∙ none)
+  still_open ops c a o closed is same none is_open = is_open ∙ sym (ap (λ w. closed_by w (has_failed ops)) is ∙ same ∙ none)
 
   called_open : (ops : List Operation) (new : FailStop (Held S)) (c : Call) (a : Answer) (s : State) → has_failed ops ≡ false → IsReachedBy ops s
       → Handled (λ (h : Held S) t. IsAt g t h) (λ (h : Held S) t u. LeavesEither g t u h) c s new.store new.closed a → Stands (called c a ∷ ops) new

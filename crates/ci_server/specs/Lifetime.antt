@@ -4,14 +4,14 @@ use Rattle.sqlite.specs.Tree.{Trees}
 use Rattle.sqlite.specs.Store.{Ghosts}
 use Rattle.sqlite.specs.Held.{Held, state}
 use Rattle.ci_machine.specs.declared.reply.Answer.{Answer}
-use Rattle.ci_machine.specs.Reply.{Outcome, Stepped, LackedMemory, StoreFailed, outcome_of}
+use Rattle.ci_machine.specs.Reply.{outcome_of}
 use Rattle.ci_machine.specs.State.{State}
 use Rattle.ci_machine.specs.History.{Past, Leads}
 use Rattle.ci_machine.specs.Laws.{Laws}
 use Rattle.ci_store.specs.Create.{IsBlank}
 use Rattle.ci_store.specs.Stands.{StandsIn, IsAt}
 use Rattle.ci_server.specs.declared.fail_stop.FailStop.{FailStop}
-use Rattle.ci_server.specs.Handling.{Call}
+use Rattle.ci_server.specs.Handling.{Call, closed_by}
 use Rattle.ci_server.specs.Server.{IsHonest, Handles, Creates, Opens}
 use Rattle.ci_server.specs.Runs.{line, by_outcome}
 
@@ -40,14 +40,9 @@ called_each (c ∷ cs) [] before = before
 called_each (c ∷ cs) (a ∷ rs) before = called_each cs rs (called c a ∷ before)
 
 -- the store has failed since the last opening
-abbrev pub failed_by : Outcome → Bool → Bool
-failed_by Stepped earlier = earlier
-failed_by LackedMemory earlier = earlier
-failed_by StoreFailed earlier = true
-
 abbrev pub has_failed : List Operation → Bool
 has_failed [] = false
-has_failed (called c a ∷ before) = failed_by (outcome_of a) (has_failed before)
+has_failed (called c a ∷ before) = closed_by (outcome_of a) (has_failed before)
 has_failed (opened ∷ before) = false
 
 -- the newest line of the history is of this call with this answer, and Earlier is so of the lines before it
