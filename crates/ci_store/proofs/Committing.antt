@@ -2,7 +2,7 @@
 use Rattle.std.proofs.Common.{◌≡◌, ◌⊎◌, ◌∙◌, List, inl, inr, ⊎_elim, IsTrue, true, false, refl, sym, ap, subst, arith}
 use Rattle.sqlite.specs.Tree.{Trees}
 use Rattle.sqlite.specs.Effect.{Database}
-use Rattle.sqlite.specs.State.{State as Seen, HasCleanDisk, Survives, Shows, KeepsCommit, IsRolledBack}
+use Rattle.sqlite.specs.State.{State as Seen, HasCleanDisk, Survives, IsUnchanged, Shows, KeepsCommit, IsRolledBack}
 use Rattle.sqlite.specs.Store.{Ghosts}
 use Rattle.sqlite.specs.Held.{Held, state}
 use Rattle.sqlite.proofs.StateLemmas.{survives_then}
@@ -11,7 +11,7 @@ use Rattle.ci_machine.specs.declared.change.RowChange.{RowChange}
 use Rattle.ci_tables.specs.declared.fault.StoreFault.{StoreFault}
 use Rattle.ci_store.specs.declared.commit.Ended.{Ended}
 use Rattle.ci_store.specs.declared.commit.Ended.TheVariants.{Undone, Unknown}
-use Rattle.ci_store.specs.Commit.{is_done, Makes, CommitsAll, IsBack, IsDone, IsSame}
+use Rattle.ci_store.specs.Commit.{is_done, Makes, CommitsAll, IsBack, IsDone}
 use Rattle.ci_store.specs.Create.{IsBlank}
 use Rattle.ci_store.specs.Stands.{Stands, StandsIn, IsAt, LeavesEither}
 
@@ -25,16 +25,16 @@ survives_same s P = record { clean = omega arith; shield = λ h. h; counts = ome
 
 module _ {S : Type 0} (g : Ghosts S) where
   -- a store that is as the last commit left it, and open, holds what it held
-  pub back_at : (s : State) (old mid new : Held S) → IsAt g s old → (state g old).now ≡ (state g old).committed → IsBack g old mid → IsSame g mid new
+  pub back_at : (s : State) (old mid new : Held S) → IsAt g s old → (state g old).now ≡ (state g old).committed → IsBack g old mid → IsUnchanged (state g mid) (state g new)
       → ((db : Trees) → IsTrue (state g new).is_open → (state g new).may_leave db → db ≡ (state g new).committed.trees) → IsAt g s new
   back_at s old mid new at settled back same only =
-      let was = back.back same.was_open in
-      let now : (state g new).now ≡ (state g old).now = same.now ∙ was.0 ∙ sym settled in
-      let committed : (state g new).committed ≡ (state g old).now = same.committed ∙ was.1 ∙ sym settled in
+      let was = back.back same.0.was_open in
+      let now : (state g new).now ≡ (state g old).now = same.0.now_is ∙ was.0 ∙ sym settled in
+      let committed : (state g new).committed ≡ (state g old).now = same.0.committed_is ∙ was.1 ∙ sym settled in
       record {
-        is_open = same.is_open;
+        is_open = same.0.is_open;
         now = subst (Stands s) (sym now) at.now;
-        left = λ db may. subst (StandsIn s) (sym (only db same.is_open may ∙ ap (λ (d : Database). d.trees) committed)) at.now.inside;
+        left = λ db may. subst (StandsIn s) (sym (only db same.0.is_open may ∙ ap (λ (d : Database). d.trees) committed)) at.now.inside;
       }
 
   -- a stop after it leaves the state before the changes or the one after them

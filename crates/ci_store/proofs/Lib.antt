@@ -22,4 +22,5 @@ pub mod Loading
 mod Looking
 mod Same
 mod NextLoads
+mod Openings
 pub mod Whole

@@ -49,6 +49,15 @@ module _ {S : Type 0} (g : Ghosts S) (old mid : Held S) (sql : List ℕ) (plain 
     answered = λ clean s at. tt;
   }
 
+-- what is said of a call that ended well, by what else is said of it
+pub on_ok : {A E P Q : Type 0} (r : Result A E) → (P → Q) → OnOk r P → OnOk r Q
+on_ok (Ok x) so h = so h
+on_ok (Err e) so h = tt
+
+pub on_any : {A E P : Type 0} (r : Result A E) → P → OnOk r P
+on_any (Ok x) p = p
+on_any (Err e) p = tt
+
 -- ---- the rows that are read
 
 pub none_read : {R : Type 0} (is_row : Row → R → Type 0) (rows : List Row) → length rows < 1 → AllZip is_row rows []

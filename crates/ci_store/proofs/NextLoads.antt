@@ -21,7 +21,7 @@ use Rattle.ci_machine.specs.Step.{next_of}
 use Rattle.ci_store.proofs.Records.{is}
 use Rattle.ci_store.proofs.Shows.{columns_of, names_of, held}
 
-means_meta : MeansSelect the_schema meta SELECT_META.now (is 1 0 ∷ []) (columns_of meta) [] (names_of meta)
+pub means_meta : MeansSelect the_schema meta SELECT_META.now (is 1 0 ∷ []) (columns_of meta) [] (names_of meta)
 unfolding understood everything
 means_meta = record { is = refl; unlisted = refl; plain = (refl, refl) }
 

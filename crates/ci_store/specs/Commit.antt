@@ -43,13 +43,6 @@ pub record IsDone {S : Type 0} (g : Ghosts S) (changes : List RowChange) (old ne
   pub stands : (s : State) → Stands s (state g old).now → Stands (applied changes s) (state g new).now
   pub committed : (state g new).committed ≡ (state g new).now
 
--- nothing differs, and the store is open
-pub record IsSame {S : Type 0} (g : Ghosts S) (old new : Held S) : Type 0 where
-  pub was_open : IsTrue (state g old).is_open
-  pub is_open : IsTrue (state g new).is_open
-  pub now : (state g new).now ≡ (state g old).now
-  pub committed : (state g new).committed ≡ (state g old).committed
-
 -- the queries, each after the one before, show no row
 abbrev pub ShowsNone : {S : Type 0} → Ghosts S → List (List ℕ) → Row → Held S → Held S → Type 0
 ShowsNone g [] key old new = old ≡ new

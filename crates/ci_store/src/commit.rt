@@ -11,7 +11,7 @@ ghost use Rattle.ci_tables.specs.Statements.{KeepsInside, CommitsNothing};
 ghost use Rattle.ci_store.specs.Commit.{MakesInside, CommitsAll, is_done, is_undone, IsBack, IsDone};
 
 use crate::make::make;
-use crate::probe::is_open;
+use crate::probe::probe;
 use ci_machine::change::RowChange;
 use ci_tables::fault::StoreFault;
 use sqlite::{Alter, Connection, Transaction};
@@ -79,12 +79,9 @@ pub(crate) fn commit<S: Alter>(
     let _is_idle = conn.is_autocommit();
     match attempt(conn, alloc, changes) {
         Ended::Done => Ok(()),
-        Ended::Undone(fault) | Ended::Unknown(fault) => {
-            if is_open(conn) {
-                Err(fault)
-            } else {
-                Err(StoreFault::Broken)
-            }
-        }
+        Ended::Undone(fault) | Ended::Unknown(fault) => match probe(conn) {
+            Ok(()) => Err(fault),
+            Err(_) => Err(StoreFault::Broken),
+        },
     }
 }

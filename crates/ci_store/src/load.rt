@@ -13,7 +13,7 @@ ghost use Rattle.ci_store.specs.Calls.{Loads, ShowsRecords, listed};
 ghost use Rattle.ci_store.specs.Rows.{number};
 
 use crate::columns::counter_key;
-use crate::probe::is_intact;
+use crate::probe::probe_intact;
 use crate::read::{Stored, read_all};
 use crate::texts;
 use ci_machine::change::Counter;
@@ -37,13 +37,10 @@ pub(crate) fn look_up<S: Alter>(
 {
     match rows(conn, sql, params) {
         Ok(rows) => Ok(rows),
-        Err(fault) => {
-            if is_intact(conn) {
-                Err(fault)
-            } else {
-                Err(StoreFault::Broken)
-            }
-        }
+        Err(fault) => match probe_intact(conn) {
+            Ok(()) => Err(fault),
+            Err(_) => Err(StoreFault::Broken),
+        },
     }
 }
 

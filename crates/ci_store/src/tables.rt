@@ -1,7 +1,8 @@
 //! The tables, which are the only writer of their store.
 
-ghost use Rattle.std.specs.Prelude.{◌≡◌, ◌≤◌, ◌⊎◌, false, IsTrue, IfOk, IfErr, OnOk};
-ghost use Rattle.sqlite.specs.State.{HasCleanDisk, Survives};
+ghost use Rattle.std.specs.Prelude.{◌≡◌, ◌≢◌, ◌≤◌, ◌⊎◌, false, IsTrue, IfOk, IfErr, OnOk, MatchBool};
+ghost use Rattle.sqlite.specs.Order.{column};
+ghost use Rattle.sqlite.specs.State.{HasCleanDisk, Survives, IsUnchanged};
 ghost use Rattle.sqlite.specs.Held.{state};
 ghost use Rattle.sqlite.specs.Tree.{Trees};
 ghost use Rattle.sqlite_trees.specs.View.{doubt};
@@ -10,11 +11,12 @@ ghost use Rattle.ci_tables.specs.Statements.{CommitsNothing};
 ghost use Rattle.ci_store.specs.Schema.{the_schema};
 ghost use Rattle.ci_store.specs.Create.{IsBlank, IsBare};
 ghost use Rattle.ci_store.specs.Stands.{Stands, StandsIn, IsAt, LeavesOnly};
-ghost use Rattle.ci_store.specs.Calls.{Loads};
+ghost use Rattle.ci_store.specs.Open.{HasNumber, LacksNumber, IsOurs, Blames, IsFailure, LeavesNoMore};
+ghost use Rattle.ci_store.specs.Rows.{number};
 
 use crate::columns::{state_numbers, text};
 use crate::commit::commit;
-use crate::probe::is_intact;
+use crate::probe::probe_intact;
 use crate::store::Store;
 use crate::{load, texts};
 use ci_machine::change::{Counter, Delta};
@@ -23,10 +25,11 @@ use ci_machine::records::{
 };
 use ci_machine::text::Text;
 use ci_tables::fault::StoreFault;
+use ci_tables::read::rows;
 use ci_tables::values::number;
 use ci_tables::write::change;
 use sqlite::types::{ToSql, ValueRef};
-use sqlite::{Alter, Connection, Error, ErrorCode, Transaction};
+use sqlite::{Alter, Connection, Error, ErrorCode, Row, Transaction};
 use std::marker::Model;
 
 /// The number of the format, under the key `format`: the four bytes `CIPS`.
@@ -128,32 +131,32 @@ fn define_and_fill<S: Alter>(tx: &mut Transaction<'_, S>) -> Result<(), StoreFau
     fill(tx)
 }
 
-fn make_tables<S: Alter>(conn: &mut Connection<S>) -> Result<(), OpenFault>
+/// Has the store no table, no index and no view?
+fn is_blank<S: Alter>(conn: &Connection<S>) -> bool
+    ensures { MatchBool result (IsBlank S.Store conn.now) (¬ IsBlank S.Store conn.now) }
+{
+    let schema = conn.schema();
+    schema.tables.is_empty() && schema.indexes.is_empty() && schema.views.is_empty()
+}
+
+fn make_tables<S: Alter>(conn: &mut Connection<S>) -> Result<(), StoreFault>
     requires { conn.old.in_transaction ≡ false }
     ensures idle { conn.new.in_transaction ≡ false }
     ensures made { HasCleanDisk (state S.Store conn.new) → OnOk result (IsBlank S.Store conn.old → IsAt S.Store empty conn.new) }
     ensures survives { Survives (state S.Store conn.old) (state S.Store conn.new) (λ db. IsBlank S.Store conn.old → StandsIn empty db) }
 {
-    if !conn.schema().tables.is_empty() {
-        return Err(OpenFault::O1);
-    }
     let mut tx = conn.transaction();
-    if let Err(fault) = define_and_fill(&mut tx) {
-        return Err(OpenFault::from(fault));
-    }
-    match tx.commit() {
-        Ok(()) => Ok(()),
-        Err(error) => Err(OpenFault::from(StoreFault::from(error))),
-    }
+    define_and_fill(&mut tx)?;
+    Ok(tx.commit()?)
 }
 
-/// Whether the store has a table as `meta` is, by a statement that is not run.
+/// Tells that the store has a table as `meta` is, by a statement that is not run. Errors: O1, it has none.
 fn understands<S: Alter>(conn: &mut Connection<S>) -> Result<(), OpenFault>
     requires { conn.old.in_transaction ≡ false }
     ensures idle { conn.new.in_transaction ≡ false }
-    ensures clean { doubt (state S.Store conn.old).is_clean ≤ doubt (state S.Store conn.new).is_clean }
-    ensures same { HasCleanDisk (state S.Store conn.new) → OnOk result ((s : State) → IsAt S.Store s conn.old → IsAt S.Store s conn.new) }
-    ensures left { HasCleanDisk (state S.Store conn.new) → (s : State) → IsAt S.Store s conn.old → (db : Trees) → (state S.Store conn.new).may_leave db → StandsIn s db }
+    ensures same { HasCleanDisk (state S.Store conn.new) → OnOk result (IsUnchanged (state S.Store conn.old) (state S.Store conn.new)) }
+    ensures blamed { HasCleanDisk (state S.Store conn.new) → IfErr result (λ fault. Blames fault (state S.Store conn.old).now) }
+    ensures survives { Survives (state S.Store conn.old) (state S.Store conn.new) (λ _. ⊥) }
 {
     match conn.prepare(texts::SELECT_META) {
         Ok(_) => Ok(()),
@@ -162,67 +165,96 @@ fn understands<S: Alter>(conn: &mut Connection<S>) -> Result<(), OpenFault>
     }
 }
 
-/// The number under a key of `meta`, if there is one.
-fn meta_number<S: Alter>(conn: &mut Connection<S>, key: &str) -> Result<Option<u64>, StoreFault>
-    requires { conn.old.in_transaction ≡ false }
-    ensures idle { conn.new.in_transaction ≡ false }
-    ensures clean { doubt (state S.Store conn.old).is_clean ≤ doubt (state S.Store conn.new).is_clean }
-    ensures loads { Loads S.Store conn.old conn.new result (λ _ _. Unit {0}) }
+/// Has a row of `meta` this number?
+fn is_number(row: &Row, num: u64) -> Result<bool, StoreFault>
+    ensures { IfOk result (λ found. MatchBool found (column row.now 1 ≡ number num) (column row.now 1 ≢ number num)) }
 {
-    let rows = load::look_up(conn, texts::SELECT_META, &[key.to_sql()])?;
-    match rows.as_slice() {
-        [row] => Ok(row.get(1).ok()),
-        _ => Ok(None),
+    let found: Result<u64, Error> = row.get(1);
+    match found {
+        Ok(found) => Ok(found == num),
+        Err(Error::SqliteFailure(ErrorCode::OutOfMemory)) => Err(StoreFault::Memory),
+        Err(_) => Ok(false),
     }
 }
 
-/// Whether the store is of this format and version.
+/// Has `meta` this number alone under the key?
+fn has_number<S: Alter>(conn: &mut Connection<S>, key: &str, num: u64) -> Result<bool, StoreFault>
+    requires { conn.old.in_transaction ≡ false }
+    ensures idle { conn.new.in_transaction ≡ false }
+    ensures same { HasCleanDisk (state S.Store conn.new) → OnOk result (IsUnchanged (state S.Store conn.old) (state S.Store conn.new)) }
+    ensures found { HasCleanDisk (state S.Store conn.new) → IfOk result (λ found. MatchBool found (HasNumber key.now num (state S.Store conn.old).now) (LacksNumber key.now num (state S.Store conn.old).now)) }
+    ensures survives { Survives (state S.Store conn.old) (state S.Store conn.new) (λ _. ⊥) }
+{
+    let rows = rows(conn, texts::SELECT_META, &[key.to_sql()])?;
+    match rows.as_slice() {
+        [] => Ok(false),
+        [row] => is_number(row, num),
+        _ => Ok(false),
+    }
+}
+
+/// Tells that the store is of this format and version. Errors: O1, it is of another format; O2, of another version.
 fn recognize<S: Alter>(conn: &mut Connection<S>) -> Result<(), OpenFault>
     requires { conn.old.in_transaction ≡ false }
     ensures idle { conn.new.in_transaction ≡ false }
-    ensures clean { doubt (state S.Store conn.old).is_clean ≤ doubt (state S.Store conn.new).is_clean }
-    ensures same { HasCleanDisk (state S.Store conn.new) → OnOk result ((s : State) → IsAt S.Store s conn.old → IsAt S.Store s conn.new) }
-    ensures left { HasCleanDisk (state S.Store conn.new) → (s : State) → IsAt S.Store s conn.old → (db : Trees) → (state S.Store conn.new).may_leave db → StandsIn s db }
+    ensures same { HasCleanDisk (state S.Store conn.new) → OnOk result (IsUnchanged (state S.Store conn.old) (state S.Store conn.new)) }
+    ensures ours { HasCleanDisk (state S.Store conn.new) → OnOk result (IsOurs (state S.Store conn.old).now) }
+    ensures blamed { HasCleanDisk (state S.Store conn.new) → IfErr result (λ fault. Blames fault (state S.Store conn.old).now) }
+    ensures survives { Survives (state S.Store conn.old) (state S.Store conn.new) (λ _. ⊥) }
 {
     understands(conn)?;
-    if meta_number(conn, "format")? != Some(FORMAT) {
+    if !has_number(conn, "format", FORMAT)? {
         return Err(OpenFault::O1);
     }
-    if meta_number(conn, "version")? != Some(VERSION) {
+    if !has_number(conn, "version", VERSION)? {
         return Err(OpenFault::O2);
     }
     Ok(())
 }
 
 impl<S: Alter> Tables<S> {
-    /// Makes the tables of an empty store, in one transaction. Errors: O1, the store has tables already; O3, it failed, or a
-    /// transaction is open.
+    /// Makes the tables of an empty store, in one transaction. Errors: O1, the store has a table, an index or a view already; O3,
+    /// it failed, or a transaction is open; Memory, memory was refused.
     pub fn create(mut conn: Connection<S>) -> Result<Tables<S>, (OpenFault, Connection<S>)>
         ensures clean { IfOk result (λ t. doubt (state S.Store conn).is_clean ≤ doubt (state S.Store t).is_clean) }
         ensures clean_fault { IfErr result (λ e. doubt (state S.Store conn).is_clean ≤ doubt (state S.Store e.1).is_clean) }
         ensures made { IfOk result (λ t. HasCleanDisk (state S.Store t) → IsBlank S.Store conn → IsAt S.Store empty t) }
         ensures left { IfErr result (λ e. HasCleanDisk (state S.Store e.1) → IsBlank S.Store conn → (db : Trees) → (state S.Store e.1).may_leave db → (state S.Store conn).may_leave db ⊎ StandsIn empty db) }
+        ensures blank { OnOk result (IsBlank S.Store conn) }
+        ensures added { IfErr result (λ e. HasCleanDisk (state S.Store e.1) → (db : Trees) → (state S.Store e.1).may_leave db → (state S.Store conn).may_leave db ⊎ (IsBlank S.Store conn × StandsIn empty db)) }
+        ensures listed { IfErr result (λ e. e.0 ≡ OpenFault.O1 → ¬ IsBlank S.Store conn) }
+        ensures unversioned { IfErr result (λ e. e.0 ≢ OpenFault.O2) }
     {
         if !conn.is_autocommit() {
             return Err((OpenFault::O3, conn));
         }
+        if !is_blank(&conn) {
+            return Err((OpenFault::O1, conn));
+        }
         match make_tables(&mut conn) {
             Ok(()) => Ok(Tables { conn }),
-            Err(fault) => Err((fault, conn)),
+            Err(fault) => Err((OpenFault::from(fault), conn)),
         }
     }
 
     /// Opens the tables of a store. Errors: O1, it is not of this format; O2, it is of another version; O3, it failed, or a
-    /// transaction is open.
+    /// transaction is open; Memory, memory was refused.
     pub fn open(mut conn: Connection<S>) -> Result<Tables<S>, (OpenFault, Connection<S>)>
+        ensures clean { IfOk result (λ t. doubt (state S.Store conn).is_clean ≤ doubt (state S.Store t).is_clean) }
+        ensures clean_fault { IfErr result (λ e. doubt (state S.Store conn).is_clean ≤ doubt (state S.Store e.1).is_clean) }
         ensures opened { IfOk result (λ t. HasCleanDisk (state S.Store t) → (s : State) → LeavesOnly S.Store s conn → IsAt S.Store s t) }
+        ensures ours { IfOk result (λ t. HasCleanDisk (state S.Store t) → IsOurs (state S.Store t).now) }
         ensures left { IfErr result (λ e. HasCleanDisk (state S.Store e.1) → (s : State) → LeavesOnly S.Store s conn → LeavesOnly S.Store s e.1) }
+        ensures less { IfOk result (λ t. LeavesNoMore S.Store conn t) }
+        ensures less_fault { IfErr result (λ e. LeavesNoMore S.Store conn e.1) }
+        ensures blamed { IfErr result (λ e. HasCleanDisk (state S.Store e.1) → Blames e.0 (state S.Store conn).now) }
+        ensures own { IfErr result (λ e. HasCleanDisk (state S.Store e.1) → (s : State) → LeavesOnly S.Store s conn → IsFailure e.0) }
     {
         if !conn.is_autocommit() {
             return Err((OpenFault::O3, conn));
         }
-        if !is_intact(&mut conn) {
-            return Err((OpenFault::O3, conn));
+        if let Err(fault) = probe_intact(&mut conn) {
+            return Err((OpenFault::from(fault), conn));
         }
         match recognize(&mut conn) {
             Ok(()) => Ok(Tables { conn }),

@@ -10,3 +10,4 @@ pub mod Childless
 pub mod OneSchema
 pub mod Absent
 pub mod Inside
+pub mod Plain

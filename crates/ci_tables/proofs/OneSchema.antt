@@ -1,7 +1,7 @@
 -- The trees of a database list one schema.
-use Rattle.std.proofs.Common.{◌≡◌, ◌⊎◌, inl, inr, ℕ, zero, suc, ◌+◌, ◌<◌, ◌≤◌, pos, List, [], ◌∷◌, filter, length, slice_get, Bool, true, false, Some, None, Ok, Err, refl, sym, ap, ap₂, subst, ◌∙◌, arith, map, nat_le, leb-true}
-use Rattle.std.specs.List.{AllByRecursion, AllZip, list_all}
-use Rattle.std.specs.Ordering.{nat_cmp, is_eq}
+use Rattle.std.proofs.Common.{◌≡◌, inl, inr, ℕ, zero, suc, ◌+◌, ◌<◌, ◌≤◌, pos, List, [], ◌∷◌, filter, length, slice_get, true, false, Some, refl, sym, ap, subst, ◌∙◌, arith, map}
+use Rattle.std.specs.List.{AllZip}
+use Rattle.std.specs.Ordering.{is_eq}
 use Rattle.std.specs.Char.{to_ascii_lowercase}
 use Rattle.std.proofs.lemmas.Cmp.{tied_itself, nat_list_cmp_total}
 use Rattle.sqlite.specs.declared.types.Value.{Value}
@@ -12,12 +12,12 @@ use Rattle.sqlite.specs.Schema.{Schema}
 use Rattle.sqlite.specs.Tree.{Trees, rowid}
 use Rattle.sqlite_schema.specs.declared.schema.Index.{Index}
 use Rattle.sqlite_schema.specs.Names.{same_name}
-use Rattle.sqlite.specs.Compile.{table_defined_by, index_defined_by}
+use Rattle.sqlite.specs.Compile.{table_defined_by}
 use Rattle.sqlite_trees.specs.Tree.{IsAscending}
 use Rattle.sqlite_trees.specs.Objects.{catalog_tree}
-use Rattle.sqlite_catalog.specs.Listing.{IsTableRow, IsIndexRow, IsViewRow, IsDefined, automatic, IsSound, is_table_row, is_index_row, is_view_row}
+use Rattle.sqlite_catalog.specs.Listing.{IsTableRow, IsIndexRow, IsViewRow, IsDefined, automatic, IsSound, is_index_row}
 use Rattle.sqlite_rules.specs.Lists.{Has}
-use Rattle.sqlite_rules.proofs.ListLemmas.{all_has, test_has}
+use Rattle.sqlite_rules.proofs.ListLemmas.{all_has}
 
 same_tree : (v : Value) (a b : ℕ) → v ≡ Int (pos (a + 1)) → v ≡ Int (pos (b + 1)) → a ≡ b
 same_tree v a b ha hb = let e : a + 1 ≡ b + 1 = cc in omega (arith, e)

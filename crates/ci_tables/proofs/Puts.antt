@@ -1,7 +1,7 @@
 -- A row that is put, and one that is removed, in any table.
-use Rattle.std.proofs.Common.{◌≡◌, ◌≢◌, ◌⊎◌, inl, inr, ℕ, ◌/◌, List, [], ◌∷◌, ◌++◌, map, filter, length, Bool, true, false, not, cond, Some, None, Ok, slice_get, refl, sym, ap, subst, ◌∙◌, IsPermutation}
+use Rattle.std.proofs.Common.{◌≡◌, ◌≢◌, inl, inr, ℕ, ◌/◌, List, [], ◌∷◌, map, filter, length, Bool, true, false, not, cond, Some, Ok, slice_get, refl, sym, ap, subst, IsPermutation}
 use Rattle.std.specs.List.{AllByRecursion}
-use Rattle.std.proofs.lemmas.List.Sorted.{IsPermutation-map, IsPermutation-refl, IsPermutation-sym, IsPermutation-cons, IsPermutation-trans}
+use Rattle.std.proofs.lemmas.List.Sorted.{IsPermutation-trans}
 use Rattle.sqlite.specs.Order.{Row}
 use Rattle.sqlite.specs.Term.{Term, col, eval_all}
 use Rattle.sqlite.specs.Table.{Table}
@@ -12,7 +12,7 @@ use Rattle.sqlite.specs.Rowids.TheVariants.{Chosen}
 use Rattle.sqlite.specs.Tree.{Trees, put_row}
 use Rattle.sqlite.specs.Edit.{with_rowid}
 use Rattle.sqlite.specs.Cast.{cast_row}
-use Rattle.sqlite.specs.Effect.{Database, value_rows, IsDatabase}
+use Rattle.sqlite.specs.Effect.{value_rows, IsDatabase}
 use Rattle.sqlite_catalog.specs.Listing.{IsSound}
 use Rattle.sqlite.specs.State.{State, Executes}
 use Rattle.sqlite.specs.Store.{Ghosts}
@@ -27,10 +27,10 @@ use Rattle.sqlite_trees.specs.View.{IsShaped}
 use Rattle.sqlite_trees.specs.declared.store.Shape.TheVariants as shape
 use Rattle.sqlite_trees.proofs.TreeLemmas.{IsShaped-filter}
 use Rattle.sqlite.proofs.Callers.{IsPlain, command_of, statement_of, runs_as}
-use Rattle.ci_tables.specs.Stands.{places, image, has_key, without, Holds, HoldsAll, HoldsRows, IsOf, are_apart}
-use Rattle.ci_tables.specs.Statements.{Changes, HasPut}
+use Rattle.ci_tables.specs.Stands.{places, image, has_key, without, Holds, IsOf, are_apart}
+use Rattle.ci_tables.specs.Statements.{HasPut}
 use Rattle.ci_tables.proofs.Queries.{picks}
-use Rattle.ci_tables.proofs.Writes.{Sets, program, IsActedOnByNone, IsWholeStep, deletes, updates, inserts, Updated, Inserted}
+use Rattle.ci_tables.proofs.Writes.{Sets, program, IsWholeStep, deletes, updates, inserts}
 use Rattle.ci_tables.proofs.Stands.{images_without, removed, added, follows}
 
 pub other_order : (table : Table) (xs ys : List Row) (db : Trees) → IsPermutation xs ys → Holds table xs db → Holds table ys db

@@ -1,10 +1,9 @@
 -- What DELETE, UPDATE and INSERT make of one table.
-use Rattle.std.proofs.Common.{◌≡◌, ◌≢◌, ◌⊎◌, inl, inr, ℕ, ℤ, pos, List, [], ◌∷◌, map, drop, filter, length, ◌/◌, ◌-◌, ◌++◌, append-nil, MatchBool, arith, Bool, true, false, not, cond, Option, Some, None, Ok, Err, Result, slice_get, unwrap_or, refl, sym, ap, subst, ◌∙◌, IsPermutation}
+use Rattle.std.proofs.Common.{◌≡◌, ◌≢◌, ◌⊎◌, inl, inr, ℕ, ℤ, List, [], ◌∷◌, map, drop, filter, length, ◌/◌, ◌-◌, ◌++◌, append-nil, MatchBool, arith, Bool, true, false, not, cond, Option, Some, None, Ok, Err, Result, slice_get, unwrap_or, refl, sym, ap, subst, ◌∙◌, IsPermutation}
 use Rattle.std.specs.List.{AllByRecursion}
-use Rattle.std.proofs.lemmas.List.Sorted.{IsPermutation-map, IsPermutation-refl, IsPermutation-sym, length_permutation, IsPermutation-cons, IsPermutation-trans}
-use Rattle.sqlite.specs.declared.types.Value.TheVariants.{Null, Int}
+use Rattle.std.proofs.lemmas.List.Sorted.{IsPermutation-map, IsPermutation-sym, length_permutation}
 use Rattle.sqlite.specs.Order.{Row}
-use Rattle.sqlite.specs.Term.{Term, lit, col, eval_all}
+use Rattle.sqlite.specs.Term.{Term, col, eval_all}
 use Rattle.sqlite.specs.Table.{Table}
 use Rattle.sqlite.specs.Schema.{Schema}
 use Rattle.sqlite.specs.Source.TheVariants.{Values}
@@ -16,11 +15,11 @@ use Rattle.sqlite.specs.Effect.{Database, value_rows}
 use Rattle.sqlite.specs.Does.{Tally, Does, AtPlace, OnRows}
 use Rattle.sqlite.specs.Rows.{Part, Written, Task, stamped}
 use Rattle.sqlite.specs.State.{State, mode_of, Writes}
-use Rattle.sqlite.specs.Edit.{Edit, edit_of, edited, without_all, taken_by, left_by, id_in, with_rowid}
+use Rattle.sqlite.specs.Edit.{Edit, edit_of, edited, taken_by, left_by, id_in, with_rowid}
 use Rattle.sqlite_schema.specs.declared.program.Program.{Program}
 use Rattle.sqlite.specs.declared.error.Error.{Error}
 use Rattle.sqlite.specs.Cast.{cast_row}
-use Rattle.sqlite_rules.specs.Edit.{Applies, numbered, put_all, are_fresh, have_rowids}
+use Rattle.sqlite_rules.specs.Edit.{Applies, are_fresh, have_rowids}
 use Rattle.sqlite_rules.specs.Action.{works, Writes as Makes}
 use Rattle.sqlite_rules.specs.Calls.{ids_of}
 use Rattle.sqlite_schema.specs.declared.schema.Keys.TheVariants.{Enforced}
@@ -28,7 +27,7 @@ use Rattle.sqlite_trees.specs.View.{IsShaped}
 use Rattle.sqlite_trees.specs.declared.store.Shape.TheVariants as shape
 use Rattle.sqlite.proofs.Callers.{one_step, one_permutation}
 use Rattle.ci_tables.proofs.Queries.{query, picks, Answered, answered, shows, map_map}
-use Rattle.ci_tables.proofs.Rows.{ids, left, put_one}
+use Rattle.ci_tables.proofs.Rows.{ids, left}
 
 -- a part that gave a value did not stop on the way
 went : {B E R : Type 0} {b : B} {Stops : E → Type 0} → ((stop : E) × Stops stop × (Ok b ≡ Err stop)) ⊎ R → R

@@ -2,7 +2,7 @@
 
 ghost use Rattle.std.specs.Prelude.{◌≡◌, ◌≤◌, false, IsTrue, IfOk, OnOk};
 ghost use Rattle.sqlite.specs.Values.{bound};
-ghost use Rattle.sqlite.specs.State.{HasCleanDisk, Survives, Shown, IsUnchanged};
+ghost use Rattle.sqlite.specs.State.{HasCleanDisk, Survives, CommitsShowing, Shown, IsUnchanged};
 ghost use Rattle.sqlite.specs.Given.{IsPlain};
 ghost use Rattle.sqlite.specs.Listing.{understood};
 ghost use Rattle.sqlite.specs.Held.{state};
@@ -24,6 +24,7 @@ pub fn rows<S: Alter>(
     ensures clean { doubt (state S.Store conn.old).is_clean ≤ doubt (state S.Store conn.new).is_clean }
     ensures shown { HasCleanDisk (state S.Store conn.new) → IfOk result (λ rows. Shown sql.now (bound params.now) (state S.Store conn.old) (state S.Store conn.new) rows.items) }
     ensures same { HasCleanDisk (state S.Store conn.new) → IsPlain (understood (state S.Store conn.old).now.schema sql.now) → OnOk result (IsUnchanged (state S.Store conn.old) (state S.Store conn.new)) }
+    ensures commits { Survives (state S.Store conn.old) (state S.Store conn.new) (CommitsShowing sql.now (bound params.now) (state S.Store conn.old)) }
     ensures survives { HasCleanDisk (state S.Store conn.new) → IsPlain (understood (state S.Store conn.old).now.schema sql.now) → Survives (state S.Store conn.old) (state S.Store conn.new) (λ _. ⊥) }
 {
     Ok(conn.query_all(sql, params)?)

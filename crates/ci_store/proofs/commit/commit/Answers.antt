@@ -25,20 +25,20 @@ returns-in-Done-clause-left g c clean s at db may =
     let stands = done.stands s at.now in
     inr (subst (StandsIn (applied c.args.changes.now s)) (sym (g.met.S.Store.settled new.store db done.is_open may ∙ ap (λ (d : Database). d.trees) done.committed)) stands.inside)
 
-pub returns-then-is_open-clause-memory : goal.returns-then-is_open-clause-memory
-returns-then-is_open-clause-memory g c clean is s at =
+pub returns-in-Ok-clause-memory : goal.returns-in-Ok-clause-memory
+returns-in-Ok-clause-memory g c clean is s at =
     let old = c.args.conn.now in
     let mid = c.attempt.new.conn in
-    let new = c.is_open.new.conn in
-    let early : HasCleanDisk (state g.S.Store mid) = omega (arith, clean, c.is_open.ensures.survives.clean) in
+    let new = c.probe.new.conn in
+    let early : HasCleanDisk (state g.S.Store mid) = omega (arith, clean, c.probe.ensures.survives.clean) in
     let settled : (state g.S.Store old).now ≡ (state g.S.Store old).committed = c.is_autocommit-is_idle.ensures.settled (c.is_autocommit-is_idle.ensures.value ∙ ap not c.requires) at.is_open in
-    back_at g.S.Store s old mid new at settled (c.attempt.ensures.back early (not_done c.in-Undone.is)) (c.is_open.ensures.same clean c.if-is_open.true) (λ db is_open may. g.met.S.Store.settled new.store db is_open may)
+    back_at g.S.Store s old mid new at settled (c.attempt.ensures.back early (not_done c.in-Undone.is)) (c.in-Ok.ensures.same clean) (λ db is_open may. g.met.S.Store.settled new.store db is_open may)
 
-pub returns-then-is_open-clause-left : goal.returns-then-is_open-clause-left
-returns-then-is_open-clause-left g c clean s at = left_either g.S.Store c.args.changes.now s c.args.conn.now c.attempt.new.conn c.is_open.new.conn at clean c.attempt.ensures.survives c.is_open.ensures.survives
+pub returns-in-Ok-clause-left : goal.returns-in-Ok-clause-left
+returns-in-Ok-clause-left g c clean s at = left_either g.S.Store c.args.changes.now s c.args.conn.now c.attempt.new.conn c.probe.new.conn at clean c.attempt.ensures.survives c.probe.ensures.survives
 
-pub returns-else-is_open-clause-memory : goal.returns-else-is_open-clause-memory
-returns-else-is_open-clause-memory g c clean is s at = absurd (let e = is in cc)
+pub returns-in-Err-clause-memory : goal.returns-in-Err-clause-memory
+returns-in-Err-clause-memory g c clean is s at = absurd (let e = is in cc)
 
-pub returns-else-is_open-clause-left : goal.returns-else-is_open-clause-left
-returns-else-is_open-clause-left g c clean s at = left_either g.S.Store c.args.changes.now s c.args.conn.now c.attempt.new.conn c.is_open.new.conn at clean c.attempt.ensures.survives c.is_open.ensures.survives
+pub returns-in-Err-clause-left : goal.returns-in-Err-clause-left
+returns-in-Err-clause-left g c clean s at = left_either g.S.Store c.args.changes.now s c.args.conn.now c.attempt.new.conn c.probe.new.conn at clean c.attempt.ensures.survives c.probe.ensures.survives

@@ -1,5 +1,18 @@
-use Rattle.std.proofs.Common.{inl, inr}
+use Rattle.std.proofs.Common.{[], sym, subst}
+use Rattle.sqlite.specs.State.{IsNotRun}
+use Rattle.sqlite.specs.Held.{state}
+use Rattle.ci_store.specs.declared.texts.TheConstants.{SELECT_META}
+use Rattle.ci_store.specs.Open.{Blames}
+use Rattle.ci_store.proofs.Openings.{not_understood, blames_none}
 use Rattle.ci_store.proofs.tables.understands.Goals as goal
+use Rattle.ci_store.proofs.tables.understands.Goals.{in-Ok, in-Err-SqlInputError, in-Err}
 
-pub returns-clause-left : goal.returns-clause-left
-returns-clause-left g c clean s at db may = elim (c.prepare.ensures.survives.crash clean db may) [ inl was ↦ at.left db was | inr none ↦ absurd none ]
+pub returns-clause-blamed : goal.returns-clause-blamed
+returns-clause-blamed g c clean =
+    let old = state g.S.Store c.args.conn.now in
+    let new = state g.S.Store c.prepare.new.self in
+    elim c.match-prepare.branch [
+      | in-Ok w ↦ rw w.result-is tt
+      | in-Err-SqlInputError w ↦ rw w.result-is (not_understood [] old new w.in-Err-SqlInputError.field-0-0 (subst (IsNotRun old new SELECT_META.now []) w.in-Err-SqlInputError.field-0-is (w.in-Err-SqlInputError.ensures.err clean [])))
+      | in-Err w ↦ rw w.result-is (subst (λ fault. Blames fault old.now) (sym w.from-in-Err.ensures) (blames_none w.from.result old.now))
+    ]
