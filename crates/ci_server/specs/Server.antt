@@ -55,10 +55,11 @@ Handles g old c new a = HandlesBy (IsHonest g) (λ h s. IsAt g s h) (λ h s t. L
 abbrev pub HandlesEach : {S : Type 0} → Ghosts S → FailStop (Held S) → List Call → List Answer → FailStop (Held S) → Type 0
 HandlesEach g old cs rs new = HandlesEachBy (IsHonest g) (λ h s. IsAt g s h) (λ h s t. LeavesEither g s t h) old cs rs new
 
--- the server is new over the tables that it made in this store, which hold the empty state where the store listed nothing
+-- the store listed nothing, and the server is new over the tables that it made in it, which hold the empty state
 pub record Creates {S : Type 0} (g : Ghosts S) (conn : Held S) (new : FailStop (Held S)) : Type 0 where
   pub is_open : new.closed ≡ false
   pub was_honest : IsHonest g new.store → IsHonest g conn
+  pub was_blank : IsBlank g conn
   pub made : IsHonest g new.store → IsBlank g conn → IsAt g empty new.store
 
 -- the server is new over the tables that this store has, and holds the state that each file which a stop may leave stands for
