@@ -8,12 +8,13 @@ use Rattle.ci_machine.specs.declared.reply.Answer.{Answer}
 use Rattle.ci_machine.specs.Reply.{Outcome, LackedMemory, StoreFailed, outcome_of}
 use Rattle.ci_machine.specs.State.{State, empty}
 use Rattle.ci_machine.specs.History.{Past, Leads}
+use Rattle.ci_store.specs.Open.{LeavesNoMore}
 use Rattle.ci_store.specs.Stands.{StandsIn, IsAt, LeavesOnly, LeavesEither}
 use Rattle.ci_server.specs.declared.fail_stop.FailStop.{FailStop}
-use Rattle.ci_server.specs.Handling.{Call, Handled, answered, no_memory, look_failed, commit_failed}
+use Rattle.ci_server.specs.Handling.{Call, Handled, closed_by, answered, no_memory, look_failed, commit_failed}
 use Rattle.ci_server.specs.Server.{IsHonest, Handles, HandlesEach, Opens}
 use Rattle.ci_server.specs.Runs.{line, by_outcome}
-use Rattle.ci_server.specs.Lifetime.{Operation, called, opened, Recovers, ComesOf, called_each, failed_by, has_failed, HasNewest, IsHistoryOf, IsReachedBy, LosesNoStep}
+use Rattle.ci_server.specs.Lifetime.{Operation, called, opened, unopened, Recovers, ComesOf, called_each, has_failed, HasNewest, IsHistoryOf, IsReachedBy, LosesNoStep}
 use Rattle.ci_server.proofs.Runs.{AllLaws, AllStep, outcome-M16, outcome-M17}
 
 -- what a call with this outcome adds
@@ -48,12 +49,12 @@ module _ {S : Type 0} (g : Ghosts S) (settled : (s : S) (db : Trees) → IsTrue 
   failed : (ops : List Operation) (new : FailStop (Held S)) (c : Call) (a : Answer) → outcome_of a ≡ StoreFailed → new.closed ≡ true
       → ((db : Trees) → (state g new.store).may_leave db → (s : State) × IsReachedBy (called c a ∷ ops) s × StandsIn s db) → Stands (called c a ∷ ops) new
   failed ops new c a is is_closed left =
-      (record { held = λ o. absurd (false≢true (sym o ∙ is_closed)); left = left }, is_closed ∙ sym (ap (λ w. failed_by w (has_failed ops)) is))
+      (record { held = λ o. absurd (false≢true (sym o ∙ is_closed)); left = left }, is_closed ∙ sym (ap (λ w. closed_by w (has_failed ops)) is))
 
   -- an open server that the call leaves open
-  still_open : (ops : List Operation) (c : Call) (a : Answer) (o : Outcome) (closed : Bool) → outcome_of a ≡ o → failed_by o (has_failed ops) ≡ has_failed ops → has_failed ops ≡ false
+  still_open : (ops : List Operation) (c : Call) (a : Answer) (o : Outcome) (closed : Bool) → outcome_of a ≡ o → closed_by o (has_failed ops) ≡ has_failed ops → has_failed ops ≡ false
       → closed ≡ false → closed ≡ has_failed (called c a ∷ ops)
-  still_open ops c a o closed is same none is_open = is_open ∙ sym (ap (λ w. failed_by w (has_failed ops)) is ∙ same ∙ none)
+  still_open ops c a o closed is same none is_open = is_open ∙ sym (ap (λ w. closed_by w (has_failed ops)) is ∙ same ∙ none)
 
   called_open : (ops : List Operation) (new : FailStop (Held S)) (c : Call) (a : Answer) (s : State) → has_failed ops ≡ false → IsReachedBy ops s
       → Handled (λ (h : Held S) t. IsAt g t h) (λ (h : Held S) t u. LeavesEither g t u h) c s new.store new.closed a → Stands (called c a ∷ ops) new
@@ -98,14 +99,32 @@ module _ {S : Type 0} (g : Ghosts S) (settled : (s : S) (db : Trees) → IsTrue 
       let now : IsReachedBy (opened ∷ ops) was.0 = record { history = was.1.history; is_history = was.1.is_history; leads = was.1.leads; laws = was.1.laws } in
       holding (opened ∷ ops) new was.0 now (opens.opened honest was.0 only) opens.is_open
 
+  -- what an opening leaves that failed
+  not_opened : (ops : List Operation) (old new : FailStop (Held S)) (conn : Held S) → Stands ops old → Recovers g old.store conn → LeavesNoMore g conn new.store → new.closed ≡ true
+      → IsHonest g new.store → Stands (unopened ∷ ops) new
+  not_opened ops old new conn earlier recovers less shut honest =
+      let was = earlier.0.left (state g conn).committed.trees recovers.left in
+      let now : IsReachedBy (unopened ∷ ops) was.0 = record { history = was.1.history; is_history = was.1.is_history; leads = was.1.leads; laws = was.1.laws } in (
+        record {
+          held = λ o. absurd (false≢true (sym o ∙ shut));
+          left = λ db may. (was.0, now, subst (StandsIn was.0) (sym (settled conn.store db recovers.is_open (less honest db may))) was.2);
+        },
+        shut,
+      )
+
   pub stands : (ops : List Operation) (server : FailStop (Held S)) → ComesOf g ops server → IsHonest g server.store → Stands ops server
   stands [] server came honest =
       let now : IsReachedBy [] empty = record { history = []; is_history = refl; leads = refl; laws = laws [] empty refl } in
-      holding [] server empty now (came.2.made honest came.1) came.2.is_open
+      ⊎_elim
+      (λ made. holding [] server empty now (made.made honest made.was_blank) made.is_open)
+      (λ found. holding [] server empty now (found.1.opened honest empty found.0) found.1.is_open)
+      came.1
   stands (called c a ∷ before) server came honest =
       called_once before came.0 server c a came.0.closed refl (stands before came.0 came.1 (came.2.was_honest honest)) came.2 honest
   stands (opened ∷ before) server came honest =
       opened_again before came.0 server came.1 (stands before came.0 came.2 came.3) came.4 came.5 honest
+  stands (unopened ∷ before) server came honest =
+      not_opened before came.0 server came.1 (stands before came.0 came.2 came.3) came.4 came.5 came.6 honest
 
   -- calls one after the other are operations one after the other
   pub comes_of_each : (ops : List Operation) (old new : FailStop (Held S)) (cs : List Call) (rs : List Answer) → ComesOf g ops old → HandlesEach g old cs rs new

@@ -17,7 +17,7 @@ use Rattle.sqlite.specs.Store.{Ghosts}
 use Rattle.sqlite.specs.Held.{Held}
 use Rattle.ci_store.specs.Stands.{IsAt, LeavesEither}
 use Rattle.ci_server.specs.declared.fail_stop.FailStop.{FailStop}
-use Rattle.ci_server.specs.Server.{IsHonest, HandlesBy, HandlesEachBy, Handles, HandlesEach}
+use Rattle.ci_server.specs.Server.{IsHonest, HandlesBy, HandlesEachBy, Handles, HandlesEach, closed_by_each, each_refused}
 use Rattle.ci_server.specs.Runs.{line, by_outcome, GoesOn, NoneFailed, IsUnanswered, OneMore, IsRun, Runs}
 
 -- the laws of each reached state, and that the machine answers with a step
@@ -111,15 +111,15 @@ now_first p (d ∷ cs) (b ∷ rs) c a l n o same =
 -- ---- the run
 
 module _ {T : Type 0} (holds : T → State → Type 0) (leaves : T → State → State → Type 0) (laws : AllLaws) (steps : AllStep) where
-  pub run_none : (h : List Past) (s : State) (new : T) (closed : Bool) → Leads h s → holds new s → closed ≡ false → IsRun holds leaves h [] [] new closed
-  run_none h s new closed l held is_open = record {
+  pub run_none : (h : List Past) (s : State) (new : T) (closed : Bool) → Leads h s → holds new s → leaves new s s → IsRun holds leaves h [] [] new closed
+  run_none h s new closed l held left = record {
     history = h;
     state = s;
     goes_on = refl;
     leads = l;
     laws = laws h s l;
     is_open = λ _. (tt, held);
-    is_closed = λ k. absurd (false≢true (sym is_open ∙ k));
+    is_closed = λ _. inl left;
   }
 
   -- a call that was no step leaves the history as it is
@@ -232,21 +232,39 @@ module _ {T : Type 0} (honest : T → Type 0) (holds : T → State → Type 0) (
       subst₂ (λ (xs : List Call) (ys : List Answer). IsRun holds leaves h xs ys new.store new.closed) (append_assoc before (c ∷ []) cs) (append_assoc earlier (a ∷ []) rs)
       (runs laws steps h (before ++ c ∷ []) (earlier ++ a ∷ []) mid new cs rs more each.2 ok)
 
-  pub run_from : AllLaws → AllStep → (h : List Past) (s : State) (old new : FailStop T) (cs : List Call) (rs : List Answer) → old.closed ≡ false → Leads h s → holds old.store s
+  pub run_from : AllLaws → AllStep → (h : List Past) (s : State) (old new : FailStop T) (cs : List Call) (rs : List Answer) → leaves old.store s s → Leads h s → holds old.store s
       → HandlesEachBy honest holds leaves old cs rs new → honest new.store → IsRun holds leaves h cs rs new.store new.closed
-  run_from laws steps h s old new cs rs was_open leads held each ok =
-      runs laws steps h [] [] old new cs rs (run_none holds leaves laws steps h s old.store old.closed leads held was_open) each ok
+  run_from laws steps h s old new cs rs left leads held each ok =
+      runs laws steps h [] [] old new cs rs (run_none holds leaves laws steps h s old.store old.closed leads held left) each ok
+
+  -- ---- whether the server is closed
+
+  pub closes_each : (old new : FailStop T) (cs : List Call) (rs : List Answer) → HandlesEachBy honest holds leaves old cs rs new → new.closed ≡ closed_by_each rs old.closed
+  closes_each old new [] [] same = ap (λ (o : FailStop T). o.closed) same
+  closes_each old new [] (a ∷ rs) each = absurd each
+  closes_each old new (c ∷ cs) [] each = absurd each
+  closes_each old new (c ∷ cs) (a ∷ rs) each = closes_each each.0 new cs rs each.2 ∙ ap (closed_by_each rs) each.1.closes
+
+  pub refuses_each : (old new : FailStop T) (cs : List Call) (rs : List Answer) → HandlesEachBy honest holds leaves old cs rs new → old.closed ≡ true
+      → (rs ≡ each_refused cs) × (new ≡ old)
+  refuses_each old new [] [] same shut = (refl, same)
+  refuses_each old new [] (a ∷ rs) each shut = absurd each
+  refuses_each old new (c ∷ cs) [] each shut = absurd each
+  refuses_each old new (c ∷ cs) (a ∷ rs) each shut =
+      let one = each.1.once_closed shut in
+      let more = refuses_each each.0 new cs rs each.2 (ap (λ (o : FailStop T). o.closed) one.1 ∙ shut) in
+      (ap (λ (w : Answer). w ∷ rs) one.0 ∙ ap (λ (ws : List Answer). refused c.0 M17 ∷ ws) more.0, more.1 ∙ one.1)
 
 -- ---- over tables
 
-pub run_of_each : {S : Type 0} (g : Ghosts S) → AllLaws → AllStep → (old new : FailStop (Held S)) (cs : List Call) (rs : List Answer) → old.closed ≡ false → HandlesEach g old cs rs new
+pub run_of_each : {S : Type 0} (g : Ghosts S) → AllLaws → AllStep → (old new : FailStop (Held S)) (cs : List Call) (rs : List Answer) → HandlesEach g old cs rs new
     → Runs g old cs rs new
-run_of_each {S = S} g laws steps old new cs rs was_open each = λ honest h s leads at.
-    run_from (IsHonest g) (λ (t : Held S) u. IsAt g u t) (λ (t : Held S) u v. LeavesEither g u v t) laws steps h s old new cs rs was_open leads at each honest
+run_of_each {S = S} g laws steps old new cs rs each = λ honest h s leads at.
+    run_from (IsHonest g) (λ (t : Held S) u. IsAt g u t) (λ (t : Held S) u v. LeavesEither g u v t) laws steps h s old new cs rs (λ db may. inl (at.left db may)) leads at each honest
 
-pub run_of_one : {S : Type 0} (g : Ghosts S) → AllLaws → AllStep → (old new : FailStop (Held S)) (c : Call) (a : Answer) → old.closed ≡ false → Handles g old c new a
+pub run_of_one : {S : Type 0} (g : Ghosts S) → AllLaws → AllStep → (old new : FailStop (Held S)) (c : Call) (a : Answer) → Handles g old c new a
     → Runs g old (c ∷ []) (a ∷ []) new
-run_of_one g laws steps old new c a was_open one = run_of_each g laws steps old new (c ∷ []) (a ∷ []) was_open (new, one, refl)
+run_of_one g laws steps old new c a one = run_of_each g laws steps old new (c ∷ []) (a ∷ []) (new, one, refl)
 
 -- a fact of what is in an Ok, by another
 pub ok_then : {A E : Type 0} {P Q : A → Type 0} (r : Result A E) → ((x : A) → P x → Q x) → IfOk r P → IfOk r Q

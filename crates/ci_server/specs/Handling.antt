@@ -8,7 +8,7 @@ use Rattle.ci_machine.specs.declared.reply.Swept.TheVariants as swept
 use Rattle.ci_machine.specs.declared.request.Event.{Event}
 use Rattle.ci_machine.specs.declared.request.Event.TheVariants as event
 use Rattle.ci_machine.specs.declared.request.Seed.{Seed}
-use Rattle.ci_machine.specs.Reply.{refusal}
+use Rattle.ci_machine.specs.Reply.{refusal, Outcome, Stepped, LackedMemory, StoreFailed}
 use Rattle.ci_machine.specs.State.{State}
 use Rattle.ci_machine.specs.Step.{Step}
 use Rattle.ci_tables.specs.declared.fault.StoreFault.{StoreFault}
@@ -28,10 +28,16 @@ abbrev pub code_of : StoreFault → Code
 code_of Memory = M16
 code_of Broken = M17
 
--- does a fault of the store close the server?
-abbrev pub closes : StoreFault → Bool
-closes Memory = false
-closes Broken = true
+-- the answer to an event, by how it ended
+abbrev pub answer_by : {A : Type 0} → (A → Answer) → Event → Result A StoreFault → Answer
+answer_by as_answer e (Ok a) = as_answer a
+answer_by as_answer e (Err fault) = refused e (code_of fault)
+
+-- whether a server is closed after a call with this outcome, which was so before
+abbrev pub closed_by : Outcome → Bool → Bool
+closed_by Stepped before = before
+closed_by LackedMemory before = before
+closed_by StoreFailed before = true
 
 module _ {T : Type 0} (holds : T → State → Type 0) (leaves : T → State → State → Type 0) where
   -- What an event did to a store that held the state s, by how it ended. It was answered: the store holds the state after the machine's step.

@@ -4,34 +4,41 @@ use Rattle.sqlite.specs.Tree.{Trees}
 use Rattle.sqlite.specs.Store.{Ghosts}
 use Rattle.sqlite.specs.Held.{Held, state}
 use Rattle.ci_machine.specs.declared.reply.Answer.{Answer}
-use Rattle.ci_machine.specs.Reply.{Outcome, Stepped, LackedMemory, StoreFailed, outcome_of}
-use Rattle.ci_machine.specs.State.{State}
+use Rattle.ci_machine.specs.Reply.{outcome_of}
+use Rattle.ci_machine.specs.State.{State, empty}
 use Rattle.ci_machine.specs.History.{Past, Leads}
 use Rattle.ci_machine.specs.Laws.{Laws}
-use Rattle.ci_store.specs.Create.{IsBlank}
-use Rattle.ci_store.specs.Stands.{StandsIn, IsAt}
+use Rattle.ci_store.specs.Open.{LeavesNoMore}
+use Rattle.ci_store.specs.Stands.{StandsIn, IsAt, LeavesOnly}
 use Rattle.ci_server.specs.declared.fail_stop.FailStop.{FailStop}
-use Rattle.ci_server.specs.Handling.{Call}
+use Rattle.ci_server.specs.Handling.{Call, closed_by}
 use Rattle.ci_server.specs.Server.{IsHonest, Handles, Creates, Opens}
 use Rattle.ci_server.specs.Runs.{line, by_outcome}
 
--- An operation on a server: an event came and had this answer, or the server was opened again.
+-- An operation on a server: an event came and had this answer; the server was opened again; or an opening failed.
 pub data Operation : Type 0 where
   called : Call → Answer → Operation
   opened : Operation
+  unopened : Operation
 
 -- The connection is open, and has a database that a stop may have left of the store.
 pub record Recovers {S : Type 0} (g : Ghosts S) (old conn : Held S) : Type 0 where
   pub is_open : IsTrue (state g conn).is_open
   pub left : (state g old).may_leave (state g conn).committed.trees
 
--- The server came of these operations, the newest first: it was made in a store that listed nothing, events came, and it was opened again
--- over what a stop may have left of it, at whatever call it was stopped.
+-- The server is new: it was made in a store that listed nothing, or opened over the empty state, which a creation that fails may leave.
+abbrev pub Begins : {S : Type 0} → Ghosts S → FailStop (Held S) → Type 0
+Begins {S} g new = (conn : Held S) × (Creates g conn new ⊎ (LeavesOnly g empty conn × Opens g conn new))
+
+-- The server came of these operations, the newest first: it is new, events came, and it was opened again over what a stop may have left of it,
+-- at whatever call it was stopped. Where the opening failed, what comes back is a server that is closed.
 abbrev pub ComesOf : {S : Type 0} → Ghosts S → List Operation → FailStop (Held S) → Type 0
-ComesOf {S} g [] new = (conn : Held S) × IsBlank g conn × Creates g conn new
+ComesOf {S} g [] new = Begins g new
 ComesOf {S} g (called c a ∷ before) new = (old : FailStop (Held S)) × ComesOf g before old × Handles g old c new a
 ComesOf {S} g (opened ∷ before) new =
     (old : FailStop (Held S)) × (conn : Held S) × ComesOf g before old × IsHonest g old.store × Recovers g old.store conn × Opens g conn new
+ComesOf {S} g (unopened ∷ before) new =
+    (old : FailStop (Held S)) × (conn : Held S) × ComesOf g before old × IsHonest g old.store × Recovers g old.store conn × LeavesNoMore g conn new.store × (new.closed ≡ true)
 
 -- and then these calls, the first of them first
 abbrev pub called_each : List Call → List Answer → List Operation → List Operation
@@ -39,16 +46,12 @@ called_each [] rs before = before
 called_each (c ∷ cs) [] before = before
 called_each (c ∷ cs) (a ∷ rs) before = called_each cs rs (called c a ∷ before)
 
--- the store has failed since the last opening
-abbrev pub failed_by : Outcome → Bool → Bool
-failed_by Stepped earlier = earlier
-failed_by LackedMemory earlier = earlier
-failed_by StoreFailed earlier = true
-
+-- the store has failed since the last opening, or in it
 abbrev pub has_failed : List Operation → Bool
 has_failed [] = false
-has_failed (called c a ∷ before) = failed_by (outcome_of a) (has_failed before)
+has_failed (called c a ∷ before) = closed_by (outcome_of a) (has_failed before)
 has_failed (opened ∷ before) = false
+has_failed (unopened ∷ before) = true
 
 -- the newest line of the history is of this call with this answer, and Earlier is so of the lines before it
 pub record HasNewest (Earlier : List Past → Type 0) (c : Call) (a : Answer) (h : List Past) : Type 0 where
@@ -67,6 +70,7 @@ IsHistoryOf (called c a ∷ before) h =
     (IsHistoryOf before h)
     (IsHistoryOf before h ⊎ ((has_failed before ≡ false) × (answer : Answer) × HasNewest (λ g. IsHistoryOf before g) c answer h))
 IsHistoryOf (opened ∷ before) h = IsHistoryOf before h
+IsHistoryOf (unopened ∷ before) h = IsHistoryOf before h
 
 -- a history of the operations leads to the state, and its laws hold
 pub record IsReachedBy (operations : List Operation) (s : State) : Type 0 where

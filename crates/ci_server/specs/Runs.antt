@@ -61,7 +61,8 @@ pub record IsRun {T : Type 0} (holds : T → State → Type 0) (leaves : T → S
   -- from the first fault of the store on a stop leaves that state alone, or besides it the one after the one unanswered call
   pub is_closed : closed ≡ true → leaves new state state ⊎ OneMore leaves history state cs rs new
 
--- from each state that a history leads to and that the server holds, the calls with these answers are a run
+-- From each state that a history leads to and that the server's store holds, the calls with these answers are a run. Where the server was closed
+-- it is that of calls which were all refused.
 abbrev pub Runs : {S : Type 0} → Ghosts S → FailStop (Held S) → List Call → List Answer → FailStop (Held S) → Type 0
 Runs {S} g old cs rs new =
     IsHonest g new.store → (h : List Past) (s : State) → Leads h s → IsAt g s old.store

@@ -1,5 +1,5 @@
 -- What a call does to a server: a store, and whether it is closed, as it is from the first fault of the store on.
-use Rattle.std.specs.Prelude.{◌≡◌, Bool, true, false, List, [], ◌∷◌}
+use Rattle.std.specs.Prelude.{◌≡◌, Bool, true, false, List, [], ◌∷◌, map}
 use Rattle.std.specs.Coded.{Coded, coded×, coded_bool}
 use base.Stored.{coded_via}
 use Rattle.std.proofs.Common.{ap}
@@ -12,17 +12,20 @@ use Rattle.ci_machine.specs.State.{State, empty}
 use Rattle.ci_store.specs.Create.{IsBlank}
 use Rattle.ci_store.specs.Stands.{IsAt, LeavesOnly, LeavesEither}
 use Rattle.ci_server.specs.declared.fail_stop.FailStop.{FailStop}
-use Rattle.ci_server.specs.Handling.{Call, refused, Handled}
+use Rattle.ci_machine.specs.Reply.{outcome_of}
+use Rattle.ci_server.specs.Handling.{Call, refused, Handled, closed_by}
 
 abbrev pub fail_stop_code : {T : Type 0} → Coded T → Coded (FailStop T)
 fail_stop_code code = coded_via (coded× code coded_bool) (λ s. (s.store, s.closed)) (λ x y e. ap (λ p. record { store = p.0; closed = p.1 }) e)
 
 module _ {T : Type 0} (honest : T → Type 0) (holds : T → State → Type 0) (leaves : T → State → State → Type 0) where
-  -- What a call does: on an open server that holds a state, what `Handled` says; on a closed one nothing, and the answer is M17.
+  -- What a call does: on an open server that holds a state, what `Handled` says; on a closed one nothing, and the answer is M17. Over any disk it
+  -- closes the server exactly where its answer is M17.
   pub record HandlesBy (old : FailStop T) (c : Call) (new : FailStop T) (a : Answer) : Type 0 where
     pub was_honest : honest new.store → honest old.store
     pub while_open : old.closed ≡ false → honest new.store → (s : State) → holds old.store s → Handled holds leaves c s new.store new.closed a
     pub once_closed : old.closed ≡ true → (a ≡ refused c.0 M17) × (new ≡ old)
+    pub closes : new.closed ≡ closed_by (outcome_of a) old.closed
 
   -- calls one after the other, each with its answer
   abbrev pub HandlesEachBy : FailStop T → List Call → List Answer → FailStop T → Type 0
@@ -30,6 +33,15 @@ module _ {T : Type 0} (honest : T → Type 0) (holds : T → State → Type 0) (
   HandlesEachBy old (c ∷ cs) (a ∷ rs) new = (mid : FailStop T) × HandlesBy old c mid a × HandlesEachBy mid cs rs new
   HandlesEachBy old [] (a ∷ rs) new = ⊥
   HandlesEachBy old (c ∷ cs) [] new = ⊥
+
+-- whether a server is closed after calls with these answers, which was so before
+abbrev pub closed_by_each : List Answer → Bool → Bool
+closed_by_each [] before = before
+closed_by_each (a ∷ rs) before = closed_by_each rs (closed_by (outcome_of a) before)
+
+-- each call is refused with M17
+abbrev pub each_refused : List Call → List Answer
+each_refused cs = map (λ c. refused c.0 M17) cs
 
 -- ---- over tables
 
@@ -43,10 +55,11 @@ Handles g old c new a = HandlesBy (IsHonest g) (λ h s. IsAt g s h) (λ h s t. L
 abbrev pub HandlesEach : {S : Type 0} → Ghosts S → FailStop (Held S) → List Call → List Answer → FailStop (Held S) → Type 0
 HandlesEach g old cs rs new = HandlesEachBy (IsHonest g) (λ h s. IsAt g s h) (λ h s t. LeavesEither g s t h) old cs rs new
 
--- the server is new over the tables that it made in this store, which hold the empty state where the store listed nothing
+-- the store listed nothing, and the server is new over the tables that it made in it, which hold the empty state
 pub record Creates {S : Type 0} (g : Ghosts S) (conn : Held S) (new : FailStop (Held S)) : Type 0 where
   pub is_open : new.closed ≡ false
   pub was_honest : IsHonest g new.store → IsHonest g conn
+  pub was_blank : IsBlank g conn
   pub made : IsHonest g new.store → IsBlank g conn → IsAt g empty new.store
 
 -- the server is new over the tables that this store has, and holds the state that each file which a stop may leave stands for

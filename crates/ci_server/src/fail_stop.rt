@@ -4,10 +4,13 @@ ghost use Rattle.std.specs.Prelude.{◌≡◌, ◌<◌, ◌≤◌, ◌+◌, ◌+
 ghost use Rattle.ci_machine.specs.declared.reply.Answer.TheVariants as answer;
 ghost use Rattle.ci_machine.specs.declared.request.Event.TheVariants as event;
 ghost use Rattle.ci_machine.specs.declared.request.Seed.{Seed};
-ghost use Rattle.ci_server.specs.Handling.{refused, code_of, closes};
+ghost use Rattle.ci_machine.specs.declared.request.Request.{Request};
+ghost use Rattle.ci_machine.specs.Reply.{outcome_by, outcome_of};
+ghost use Rattle.ci_server.specs.Handling.{refused, code_of, answer_by, closed_by};
 ghost use Rattle.ci_server.specs.Server.{HandlesBy, HandlesEachBy};
 
 use crate::events;
+use ci_machine::laws::a_step_is_answered;
 use ci_machine::moment::Moment;
 use ci_machine::reply::{Answer, Code, Reply, Swept};
 use ci_machine::request::{Event, Request, Seed};
@@ -34,45 +37,28 @@ impl<T: Store> FailStop<T> {
     ) -> Reply
         ensures { HandlesBy T.honest T.holds T.leaves self.old (event.Request request, now, seed) self.new (answer.Reply result) }
     {
+        a_step_is_answered();
         if self.closed {
             return Reply::refusal(Code::M17);
         }
-        match events::handle(alloc, &mut self.store, request, now, seed) {
-            Ok(reply) => reply,
-            Err(fault) => Reply::refusal(self.refuse(fault)),
-        }
+        let reply = reply_by(events::handle(alloc, &mut self.store, request, now, seed));
+        self.closed = is_store_fault(reply.code);
+        reply
     }
 
     /// Sweeps: ends one lease that is over, if there is one.
     pub(crate) fn sweep(&mut self, alloc: Global, now: Moment) -> Swept
         ensures { (seed : Seed) → HandlesBy T.honest T.holds T.leaves self.old (event.Sweep, now, seed) self.new (answer.Swept result) }
     {
+        a_step_is_answered();
         if self.closed {
             return Swept::Refused(Code::M17);
         }
-        match events::sweep(alloc, &mut self.store, now) {
-            Ok(swept) => swept,
-            Err(fault) => Swept::Refused(self.refuse(fault)),
-        }
+        let swept = swept_by(events::sweep(alloc, &mut self.store, now));
+        self.closed = is_swept_fault(&swept);
+        swept
     }
 
-    /// The code of the refusal for a fault of the store, which closes it or not.
-    fn refuse(&mut self, fault: StoreFault) -> Code
-        requires { self.old.closed ≡ false }
-        ensures code { result ≡ code_of fault }
-        ensures closed { self.new ≡ record self.old { closed = closes fault } }
-    {
-        match fault {
-            StoreFault::Memory => Code::M16,
-            StoreFault::Broken => {
-                self.closed = true;
-                Code::M17
-            }
-        }
-    }
-}
-
-impl<T: Store> FailStop<T> {
     /// Handles events one after the other. Errors: there is no memory for the answers, and nothing was handled.
     pub(crate) fn run(
         &mut self,
@@ -112,6 +98,53 @@ impl<T: Store> FailStop<T> {
             Event::Request(request) => Answer::Reply(self.handle(alloc, request, moment, seed)),
             Event::Sweep => Answer::Swept(self.sweep(alloc, moment)),
         }
+    }
+}
+
+/// The code of the refusal for a fault of the store.
+fn code_of(fault: StoreFault) -> Code
+    ensures { result ≡ code_of fault }
+{
+    match fault {
+        StoreFault::Memory => Code::M16,
+        StoreFault::Broken => Code::M17,
+    }
+}
+
+/// The reply to a request, by what it did to the store.
+fn reply_by(done: Result<Reply, StoreFault>) -> Reply
+    ensures { (request : Request) → answer.Reply result ≡ answer_by answer.Reply (event.Request request) done }
+{
+    match done {
+        Ok(reply) => reply,
+        Err(fault) => Reply::refusal(code_of(fault)),
+    }
+}
+
+/// The answer to a sweep, by what it did to the store.
+fn swept_by(done: Result<Swept, StoreFault>) -> Swept
+    ensures { answer.Swept result ≡ answer_by answer.Swept event.Sweep done }
+{
+    match done {
+        Ok(swept) => swept,
+        Err(fault) => Swept::Refused(code_of(fault)),
+    }
+}
+
+/// Does the code of a refusal say that the store failed?
+fn is_store_fault(code: Option<Code>) -> bool
+    ensures { result ≡ closed_by (outcome_by code) false }
+{
+    code == Some(Code::M17)
+}
+
+/// Did the sweep fail at the store?
+fn is_swept_fault(swept: &Swept) -> bool
+    ensures { result ≡ closed_by (outcome_of (answer.Swept swept.now)) false }
+{
+    match swept {
+        Swept::Refused(code) => is_store_fault(Some(*code)),
+        Swept::Ended(_, _) | Swept::Nothing => false,
     }
 }
 

@@ -11,12 +11,13 @@ ghost use Rattle.ci_server.specs.Lifetime.{Operation, ComesOf, called_each, Lose
 use ci_machine::laws::{a_step_is_answered, laws_of_each_reached_state};
 use ci_store::Alter;
 
-/// No step is lost. A server was made in a store that listed nothing (`Server::create`); then came requests and sweeps
-/// (`Server::handle`, `Server::sweep`, `Server::run`) in any order, with whatever moments and seeds; and as often as one
-/// likes it was stopped, within a call or after it, and opened (`Server::open`) over what the stop left. While the disk
-/// returns what was written: the history has each step that was answered, and no other but, for each opening, that of the
-/// one call in which the store had failed. An open server holds the state that the history leads to, each file that a stop
-/// may leave stands for such a state, and its laws hold.
+/// No step is lost. A server was made in a store that listed nothing (`Server::create`), or opened over the empty state that
+/// a failed creation left; then came requests and sweeps (`Server::handle`, `Server::sweep`, `Server::run`) in any order,
+/// with whatever moments and seeds; and as often as one likes it was stopped, within a call or after it, and opened
+/// (`Server::open`) over what the stop left, where an opening may also fail. While the disk returns what was written: the
+/// history has each step that was answered, and no other but, for each opening, that of the one call in which the store
+/// had failed. An open server holds the state that the history leads to, each file that a stop may leave stands for such a
+/// state, and its laws hold.
 pub fn no_step_is_lost<S: Alter>()
     ensures kept { (operations : List Operation) (server : FailStop (Held S)) → ComesOf S.Store operations server → IsHonest S.Store server.store → LosesNoStep S.Store operations server }
     ensures runs { (operations : List Operation) (old new : FailStop (Held S)) (cs : List Call) (rs : List Answer) → ComesOf S.Store operations old → HandlesEach S.Store old cs rs new → ComesOf S.Store (called_each cs rs operations) new }

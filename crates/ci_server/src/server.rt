@@ -1,6 +1,6 @@
 //! The server: requests and sweeps over the tables.
 
-ghost use Rattle.std.specs.Prelude.{◌≡◌, ◌⊎◌, ◌∷◌, [], false, IfOk, IfErr, OnErr};
+ghost use Rattle.std.specs.Prelude.{◌≡◌, ◌≢◌, ◌⊎◌, ◌∷◌, [], false, true, IfOk, IfErr, OnErr};
 ghost use Rattle.sqlite.specs.State.{HasCleanDisk};
 ghost use Rattle.sqlite.specs.Held.{state};
 ghost use Rattle.sqlite.specs.Tree.{Trees};
@@ -9,8 +9,9 @@ ghost use Rattle.ci_machine.specs.declared.request.Event.TheVariants as event;
 ghost use Rattle.ci_machine.specs.declared.request.Seed.{Seed};
 ghost use Rattle.ci_machine.specs.State.{State, empty};
 ghost use Rattle.ci_store.specs.Create.{IsBlank};
+ghost use Rattle.ci_store.specs.Open.{Blames, IsFailure, LeavesNoMore};
 ghost use Rattle.ci_store.specs.Stands.{StandsIn, LeavesOnly};
-ghost use Rattle.ci_server.specs.Server.{Handles, HandlesEach, Creates, Opens};
+ghost use Rattle.ci_server.specs.Server.{Handles, HandlesEach, Creates, Opens, closed_by_each, each_refused};
 ghost use Rattle.ci_server.specs.Runs.{Runs};
 
 use crate::fail_stop::FailStop;
@@ -46,10 +47,14 @@ impl<S: Alter> Model for Server<S> {
 
 impl<S: Alter> Server<S> {
     /// A server over an empty store, whose tables it makes: they hold the empty state, in which each next number is 1.
-    /// Errors: as `Tables::create`; the connection comes back.
+    /// Errors: O1, the store lists something; O3, it failed; Memory, memory was refused. The connection comes back: a stop
+    /// leaves of it no more than before, or, of a store that listed nothing, the empty state.
     pub fn create(conn: Connection<S>) -> Result<Server<S>, (OpenFault, Connection<S>)>
         ensures made { IfOk result (Creates S.Store conn) }
         ensures left { IfErr result (λ e. HasCleanDisk (state S.Store e.1) → IsBlank S.Store conn → (db : Trees) → (state S.Store e.1).may_leave db → (state S.Store conn).may_leave db ⊎ StandsIn empty db) }
+        ensures added { IfErr result (λ e. HasCleanDisk (state S.Store e.1) → (db : Trees) → (state S.Store e.1).may_leave db → (state S.Store conn).may_leave db ⊎ (IsBlank S.Store conn × StandsIn empty db)) }
+        ensures listed { IfErr result (λ e. e.0 ≡ OpenFault.O1 → ¬ IsBlank S.Store conn) }
+        ensures unversioned { IfErr result (λ e. e.0 ≢ OpenFault.O2) }
     {
         match Tables::create(conn) {
             Ok(store) => Ok(Server::over(store)),
@@ -58,10 +63,14 @@ impl<S: Alter> Server<S> {
     }
 
     /// A server over the tables that a store has. It holds the state that each file which a stop may leave stands for.
-    /// Errors: as `Tables::open`; the connection comes back.
+    /// Errors: O1, the store is not of this format; O2, it is of another version; O3, it failed; Memory, memory was refused.
+    /// The connection comes back, and a stop leaves of it no more than before.
     pub fn open(conn: Connection<S>) -> Result<Server<S>, (OpenFault, Connection<S>)>
         ensures opened { IfOk result (Opens S.Store conn) }
         ensures left { IfErr result (λ e. HasCleanDisk (state S.Store e.1) → (s : State) → LeavesOnly S.Store s conn → LeavesOnly S.Store s e.1) }
+        ensures less { IfErr result (λ e. LeavesNoMore S.Store conn e.1) }
+        ensures blamed { IfErr result (λ e. HasCleanDisk (state S.Store e.1) → Blames e.0 (state S.Store conn).now) }
+        ensures own { IfErr result (λ e. HasCleanDisk (state S.Store e.1) → (s : State) → LeavesOnly S.Store s conn → IsFailure e.0) }
     {
         match Tables::open(conn) {
             Ok(store) => Ok(Server::over(store)),
@@ -101,10 +110,11 @@ impl<S: Alter> Server<S> {
     /// Handles a request, at a moment and with a seed.
     ///
     /// Besides the machine's own replies: M16 where memory was refused, and nothing happened; M17 where the store
-    /// failed in this call or an earlier one. The call is a run of one, whose laws hold.
+    /// failed in this call or an earlier one, and the server is closed exactly from the first M17 on. The call is a run of
+    /// one, whose laws hold.
     pub fn handle(&mut self, alloc: Global, request: Request, moment: Moment, seed: Seed) -> Reply
         ensures handled { Handles S.Store self.old (event.Request request, moment, seed) self.new (answer.Reply result) }
-        ensures run { self.old.closed ≡ false → Runs S.Store self.old ((event.Request request, moment, seed) ∷ []) (answer.Reply result ∷ []) self.new }
+        ensures run { Runs S.Store self.old ((event.Request request, moment, seed) ∷ []) (answer.Reply result ∷ []) self.new }
     {
         laws_of_each_reached_state();
         a_step_is_answered();
@@ -114,10 +124,11 @@ impl<S: Alter> Server<S> {
     /// Sweeps at a moment: of the leases that are over it ends the one of the attempt of least number.
     ///
     /// Besides what it ended, or nothing: M16 where memory was refused, and nothing happened; M17 where the store failed in
-    /// this call or an earlier one. The call is a run of one, whose laws hold.
+    /// this call or an earlier one, and the server is closed exactly from the first M17 on. The call is a run of one, whose
+    /// laws hold.
     pub fn sweep(&mut self, alloc: Global, moment: Moment) -> Swept
         ensures swept { (seed : Seed) → Handles S.Store self.old (event.Sweep, moment, seed) self.new (answer.Swept result) }
-        ensures run { self.old.closed ≡ false → (seed : Seed) → Runs S.Store self.old ((event.Sweep, moment, seed) ∷ []) (answer.Swept result ∷ []) self.new }
+        ensures run { (seed : Seed) → Runs S.Store self.old ((event.Sweep, moment, seed) ∷ []) (answer.Swept result ∷ []) self.new }
     {
         laws_of_each_reached_state();
         a_step_is_answered();
@@ -130,16 +141,20 @@ impl<S: Alter> Server<S> {
     /// store holds the state that it leads to, and a stop leaves that state alone. From the first fault of the store on
     /// a stop leaves that state, or the one after the one call that was not answered, and no other.
     ///
+    /// It closes the server exactly where an answer is M17. On a closed one each answer is M17, and nothing changes.
+    ///
     /// Errors: there is no memory for the answers, and nothing was handled.
     pub fn run(
         &mut self,
         alloc: Global,
         calls: &[(Event, Moment, Seed)],
     ) -> Result<Vec<Answer>, AllocError>
-        requires { self.old.closed ≡ false }
         ensures was_honest { HasCleanDisk (state S.Store self.new.store) → HasCleanDisk (state S.Store self.old.store) }
         ensures each { IfOk result (λ answers. HandlesEach S.Store self.old calls.now answers.items self.new) }
         ensures run { IfOk result (λ answers. Runs S.Store self.old calls.now answers.items self.new) }
+        ensures closes { IfOk result (λ answers. self.new.closed ≡ closed_by_each answers.items self.old.closed) }
+        ensures refused { self.old.closed ≡ true → IfOk result (λ answers. answers.items ≡ each_refused calls.now) }
+        ensures untouched { self.old.closed ≡ true → IfOk result (λ _. self.new ≡ self.old) }
         ensures memory { OnErr result (self.new ≡ self.old) }
     {
         laws_of_each_reached_state();

@@ -131,16 +131,12 @@ pub fn happen<S: Alter>(alloc: Global, server: &mut Server<S>, acts: &[Act]) -> 
     Ok(())
 }
 
-/// Has a run of things happen, each at its moment in seconds. Errors: the server is closed, or there is no memory for the
-/// answers.
+/// Has a run of things happen, each at its moment in seconds. Errors: there is no memory for the answers.
 pub fn run<S: Alter>(
     alloc: Global,
     server: &mut Server<S>,
     acts: &[(u64, Act)],
 ) -> Result<Vec<Answer>, Fail> {
     let calls = calls(alloc, acts)?;
-    if server.closed() {
-        return Err("closed")?;
-    }
     Ok(server.run(alloc, calls.as_slice())?)
 }

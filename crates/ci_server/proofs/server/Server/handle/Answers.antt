@@ -14,5 +14,5 @@ returns g c =
     subst (λ v. Handles g.S.Store v call now (answer.Reply c.handle.result)) c.self.view_is c.handle.ensures in
     record {
       handled = one;
-      run = λ was_open. run_of_one g.S.Store c.laws_of_each_reached_state.ensures c.a_step_is_answered.ensures c.args.self.now now call (answer.Reply c.handle.result) was_open one;
+      run = run_of_one g.S.Store c.laws_of_each_reached_state.ensures c.a_step_is_answered.ensures c.args.self.now now call (answer.Reply c.handle.result) one;
     }

@@ -13,5 +13,5 @@ returns g c =
     λ seed. subst (λ v. Handles g.S.Store v (event.Sweep, c.args.moment, seed) now (answer.Swept c.sweep.result)) c.self.view_is (c.sweep.ensures seed) in
     record {
       swept = one;
-      run = λ was_open seed. run_of_one g.S.Store c.laws_of_each_reached_state.ensures c.a_step_is_answered.ensures c.args.self.now now (event.Sweep, c.args.moment, seed) (answer.Swept c.sweep.result) was_open (one seed);
+      run = λ seed. run_of_one g.S.Store c.laws_of_each_reached_state.ensures c.a_step_is_answered.ensures c.args.self.now now (event.Sweep, c.args.moment, seed) (answer.Swept c.sweep.result) (one seed);
     }
