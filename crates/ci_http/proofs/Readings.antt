@@ -9,7 +9,7 @@ use Rattle.ci_machine.specs.declared.reply.Code.TheVariants.{H2}
 use Rattle.ci_http.specs.Opening.{short, too_large, opened, opening_of}
 use Rattle.ci_http.specs.BodyLength.{body_length}
 use Rattle.ci_http.specs.Head.{Head, IsHeadOf}
-use Rattle.ci_http.specs.Reading.{message, ended, refused, request, reading_by, reading_after, IsReadingAt, IsReading, Refuses}
+use Rattle.ci_http.specs.Reading.{message, ended, refused, request, reading_by, reading_after, IsReadingAt, IsReading, Refuses, AwaitsBody}
 use Rattle.ci_http.specs.Sources.{Tells}
 
 pub tells_map : (P Q : List ℕ → List ℕ → Type 0) (old new : Option (List ℕ)) → ((b r : List ℕ) → P b r → Q b r) → Tells old new P → Tells old new Q
@@ -50,6 +50,10 @@ by_few h after n few = ap (λ t. if t then (ended, []) else (request (message h 
 pub by_enough : (h : Head) (after : List ℕ) (n : ℕ) → nat_lt (length after) n ≡ false
     → reading_by h after (Ok n) ≡ (request (message h (take n after)), drop n after)
 by_enough h after n enough = ap (λ t. if t then (ended, []) else (request (message h (take n after)), drop n after)) enough
+
+pub awaits : (front : List ℕ) (head : Head) (n : ℕ) → IsHeadOf front (Some head) → body_length head ≡ Ok n → 0 < n
+    → (b r : List ℕ) → opening_of b ≡ (opened front, r) → AwaitsBody b r
+awaits front head n is len some b r e = (front, head, n, e, is, len, some)
 
 pub reading_ended : (front : List ℕ) (head : Head) (n : ℕ) → IsHeadOf front (Some head) → body_length head ≡ Ok n
     → (b a r : List ℕ) → opening_of b ≡ (opened front, a) → (length a < n) × (r ≡ []) → IsReading b ended r

@@ -1,9 +1,13 @@
 -- The JSON object that a body is.
-use Rattle.std.specs.Prelude.{ℕ, List, [], if◌then◌else◌, Option, Some, None, option_and_then, is_some}
+use Rattle.std.specs.Prelude.{◌≡◌, ℕ, true, List, [], if◌then◌else◌, Option, Some, None, option_and_then, is_some}
 use Rattle.std.specs.Str.{is_utf8}
 use Rattle.serde_json.specs.Data.{Data}
 use Rattle.serde_json.specs.Read.{read}
 use Rattle.serde_json.specs.Find.{get, as_object, as_str}
+
+-- the bytes are UTF-8, so that they are read as JSON
+abbrev pub MayBeJson : List ℕ → Type 0
+MayBeJson body = is_utf8 body ≡ true
 
 -- the JSON value that the bytes write in UTF-8, if they write one
 abbrev pub json_of : List ℕ → Option Data

@@ -1,5 +1,5 @@
 -- The request that a text begins with, or why it begins with none.
-use Rattle.std.specs.Prelude.{◌≡◌, ℕ, List, [], length, take, drop, nat_lt, if◌then◌else◌, Option, Some, None, Result, Ok, Err, ⊤}
+use Rattle.std.specs.Prelude.{◌≡◌, ◌<◌, ℕ, List, [], length, take, drop, nat_lt, if◌then◌else◌, Option, Some, None, Result, Ok, Err, ⊤}
 use Rattle.ci_machine.specs.declared.reply.Code.{Code}
 use Rattle.ci_machine.specs.declared.reply.Code.TheVariants.{H1, H2, H3, H4, H8}
 use Rattle.ci_http.specs.Opening.{Opening, short, too_large, opened, opening_of}
@@ -39,6 +39,11 @@ IsReadingAt (opened front, after) r = (head : Option Head) × IsHeadOf front hea
 -- what the text is, and the bytes that are not needed to say so
 abbrev pub IsReading : List ℕ → Reading → List ℕ → Type 0
 IsReading bytes reading rest = IsReadingAt (opening_of bytes) (reading, rest)
+
+-- the text has a whole head which says that a body follows, and this is what follows it
+abbrev pub AwaitsBody : List ℕ → List ℕ → Type 0
+AwaitsBody bytes rest =
+    (front : List ℕ) × (head : Head) × (len : ℕ) × (opening_of bytes ≡ (opened front, rest)) × IsHeadOf front (Some head) × (body_length head ≡ Ok len) × (0 < len)
 
 -- a code with which a request is refused while it is read
 abbrev pub IsReadingCode : Code → Type 0

@@ -1,5 +1,5 @@
 -- The request that a message asks for, or the reply that refuses it.
-use Rattle.std.specs.Prelude.{◌≡◌, ◌⊎◌, ℕ, Bool, List, [], ◌∷◌, if◌then◌else◌, Option, Some, None, option_map, option_and_then, ok_or, Result, Err, codes, length}
+use Rattle.std.specs.Prelude.{◌≡◌, ◌⊎◌, ℕ, Bool, true, List, [], ◌∷◌, if◌then◌else◌, Option, Some, None, IsSome, option_map, option_and_then, ok_or, Result, Err, codes, length}
 use Rattle.std.specs.List.{list_any}
 use Rattle.std.specs.Str.{is_utf8}
 use Rattle.ci_machine.specs.declared.reply.Method.{Method}
@@ -16,7 +16,7 @@ use Rattle.ci_machine.specs.Reply.{refusal}
 use Rattle.ci_http.specs.declared.path.Place.{Place}
 use Rattle.ci_http.specs.declared.path.Place.TheVariants.{Queue, Attempt, AttemptTrace, Job, JobTrace}
 use Rattle.ci_http.specs.Fields.{values_of}
-use Rattle.ci_http.specs.Json.{object_in, text_in}
+use Rattle.ci_http.specs.Json.{MayBeJson, object_in, text_in}
 use Rattle.ci_http.specs.Paths.{is_text, path_of, place_of}
 use Rattle.ci_http.specs.Ranges.{start_in}
 use Rattle.ci_http.specs.Reading.{Message}
@@ -90,6 +90,19 @@ request_at (Some place) m =
 abbrev pub request_in : Message → Result Request Reply
 request_in m = request_at (place_of (path_of m.target)) m
 
--- why a part of a request wasn't read: memory was refused, or there is no such part
-abbrev pub IsWhyNot : {A : Type 0} → Code → Option A → Type 0
-IsWhyNot why found = (why ≡ M16) ⊎ ((why ≡ H7) × (found ≡ None))
+-- why a part of a request wasn't read: memory was refused, which is asked for only so; or there is no such part
+abbrev pub IsWhyNot : {A : Type 0} → Type 0 → Code → Option A → Type 0
+IsWhyNot Asks why found = ((why ≡ M16) × Asks) ⊎ ((why ≡ H7) × (found ≡ None))
+
+-- what memory is asked for at a place: to read the JSON that a body may be, or to copy what the place wants
+abbrev pub AsksMemoryAt : Place → Message → Type 0
+AsksMemoryAt Queue m = MayBeJson m.body
+AsksMemoryAt (Attempt n) m = MayBeJson m.body
+AsksMemoryAt (AttemptTrace n) m = IsSome (part_in n m)
+AsksMemoryAt (Job project n) m = IsSome (query_in project n m)
+AsksMemoryAt (JobTrace project n) m = IsSome (query_in project n m)
+
+-- memory is asked for to tell what a message asks for: its route is found, and wants it
+abbrev pub AsksMemory : Message → Type 0
+AsksMemory m =
+    (place : Place) × (place_of (path_of m.target) ≡ Some place) × (has_method (methods_of place) m.method ≡ true) × AsksMemoryAt place m

@@ -59,16 +59,21 @@ fn number_of(text: &[u8]) -> Result<usize, Code>
 
 /// Reads a body of this length, and not a byte more.
 ///
-/// Errors: the bytes end first; a call of the reader failed; memory was refused.
+/// Errors: the bytes end first; a call of the reader failed; memory was refused, before any byte was
+/// read. A body of no bytes takes no memory.
 pub fn read_body<R: Source>(alloc: Global, reader: &mut R, len: usize) -> Result<Vec<u8>, HttpFault>
     ensures body { IfOk result (λ body. Consumes (R.left reader.old) (R.left reader.new) body.items) }
     ensures len { IfOk result (λ body. length body.items ≡ len) }
     ensures ended { result ≡ Err HttpFault.Ended → Tells (R.left reader.old) (R.left reader.new)
         (λ bytes rest. (length bytes < len) × (rest ≡ [])) }
     ensures not_refused { (why : Code) → result ≡ Err (HttpFault.Refused why) → ⊥ }
+    ensures memory { result ≡ Err HttpFault.Memory → (reader.new ≡ reader.old) × (0 < len) }
     ensures took { TakesFront (R.left reader.old) (R.left reader.new) }
     ensures failed { Fails result (Err HttpFault.ReadFailed) (R.failures reader.old) (R.failures reader.new) }
 {
+    if len == 0 {
+        return Ok(Vec::new(alloc));
+    }
     let mut body = vec![in alloc; 0; len]?;
     fill(reader, &mut body)?;
     Ok(body)
@@ -80,6 +85,7 @@ fn fill<R: Source>(reader: &mut R, buf: &mut [u8]) -> Result<(), HttpFault>
     ensures ended { result ≡ Err HttpFault.Ended → Tells (R.left reader.old) (R.left reader.new)
         (λ bytes rest. (length bytes < length buf.old) × (rest ≡ [])) }
     ensures not_refused { (why : Code) → result ≡ Err (HttpFault.Refused why) → ⊥ }
+    ensures no_memory { result ≡ Err HttpFault.Memory → ⊥ }
     ensures took { TakesFront (R.left reader.old) (R.left reader.new) }
     ensures failed { Fails result (Err HttpFault.ReadFailed) (R.failures reader.old) (R.failures reader.new) }
 {

@@ -7,13 +7,13 @@ ghost use Rattle.ci_http.specs.BodyLength.{body_length};
 ghost use Rattle.ci_http.specs.Fields.{values_of, Shows};
 ghost use Rattle.ci_http.specs.Head.{Head, IsHeadOf, head_at};
 ghost use Rattle.ci_http.specs.Opening.{is_line_feed};
-ghost use Rattle.ci_http.specs.Reading.{message, ended, refused, request, IsReading, IsReadingCode, Refuses};
+ghost use Rattle.ci_http.specs.Reading.{message, ended, refused, request, IsReading, IsReadingCode, Refuses, AwaitsBody};
 ghost use Rattle.ci_http.specs.Sources.{Tells, TakesFront, Fails};
 
 use crate::body::{body_length, read_body};
 use crate::fault::HttpFault;
 use crate::fields::{Found, find_field};
-use crate::head::{read_head, whole_head};
+use crate::head::{HeadBytes, read_head, whole_head};
 use crate::limits::{MAX_HEAD_FIELDS, MAX_HEAD_LINES};
 use crate::link::Source;
 use ci_machine::reply::Code;
@@ -24,7 +24,7 @@ use std::marker::Model;
 /// A request as it was sent: its method, its target, its fields and its body.
 #[derive(Drop)]
 pub struct Call {
-    head: Vec<u8>,
+    head: HeadBytes,
     headers: [HeaderSpan; MAX_HEAD_FIELDS],
     spans: RequestSpans,
     body: Vec<u8>,
@@ -49,21 +49,25 @@ impl Call {
     pub fn method(&self) -> &[u8]
         ensures { result.now ≡ self.now.method }
     {
-        self.spans.method.of(&self.head)
+        self.spans.method.of(self.head.as_slice())
     }
 
     /// The target: the path, and the query if there is one.
     pub fn target(&self) -> &[u8]
         ensures { result.now ≡ self.now.target }
     {
-        self.spans.path.of(&self.head)
+        self.spans.path.of(self.head.as_slice())
     }
 
     /// The values of the fields of this name, whatever the case of its letters.
     pub fn field(&self, name: &[u8]) -> Found<'_>
         ensures { Shows result (values_of name.now self.now.fields) }
     {
-        find_field(&self.head, &self.headers[..self.spans.headers], name)
+        find_field(
+            self.head.as_slice(),
+            &self.headers[..self.spans.headers],
+            name,
+        )
     }
 
     /// The body.
@@ -77,7 +81,8 @@ impl Call {
 /// Reads a request: its head and its body, or up to the fault, and not a byte more.
 ///
 /// Errors: the bytes end first; they are no request, or one over a limit (H1, H2, H3, H4, H8); a
-/// call of the reader failed, which isn't tried again; memory was refused.
+/// call of the reader failed, which isn't tried again; memory was refused, which is asked for only
+/// once a whole head says that a body follows.
 pub fn read_request<R: Source>(alloc: Global, reader: &mut R) -> Result<Call, HttpFault>
     ensures call { IfOk result (λ call. Tells (R.left reader.old) (R.left reader.new)
         (λ bytes rest. IsReading bytes (request call) rest)) }
@@ -87,12 +92,13 @@ pub fn read_request<R: Source>(alloc: Global, reader: &mut R) -> Result<Call, Ht
     ensures codes { (why : Code) → result ≡ Err (HttpFault.Refused why) → IsReadingCode why }
     ensures ended { result ≡ Err HttpFault.Ended → Tells (R.left reader.old) (R.left reader.new)
         (λ bytes rest. IsReading bytes ended rest) }
+    ensures memory { result ≡ Err HttpFault.Memory → Tells (R.left reader.old) (R.left reader.new) AwaitsBody }
     ensures took { TakesFront (R.left reader.old) (R.left reader.new) }
     ensures failed { Fails result (Err HttpFault.ReadFailed) (R.failures reader.old) (R.failures reader.new) }
 {
-    let head = read_head(alloc, reader)?;
+    let head = read_head(reader)?;
     let mut headers = [EMPTY_HEADER_SPAN; MAX_HEAD_FIELDS];
-    let (spans, len) = match frame(&head, &mut headers) {
+    let (spans, len) = match frame(head.as_slice(), &mut headers) {
         Ok(parts) => parts,
         Err(why) => return Err(HttpFault::Refused(why)),
     };
@@ -123,7 +129,7 @@ fn frame(bytes: &[u8], headers: &mut [HeaderSpan]) -> Result<(RequestSpans, usiz
 
 // A request of its parts.
 fn assemble(
-    head: Vec<u8>,
+    head: HeadBytes,
     headers: [HeaderSpan; MAX_HEAD_FIELDS],
     spans: RequestSpans,
     body: Vec<u8>,

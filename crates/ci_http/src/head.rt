@@ -10,16 +10,19 @@ ghost use Rattle.ci_http.specs.Sources.{Tells, TakesFront, Fails};
 use crate::fault::HttpFault;
 use crate::limits::{MAX_HEAD_BYTES, MAX_HEAD_FIELDS, MAX_HEAD_LINES};
 use crate::link::Source;
+use arrayvec::ArrayVec;
 use ci_machine::reply::Code;
 use httparse::Status;
 use httparse::spans::{HeaderSpan, RequestSpans, parse_request};
-use std::alloc::Global;
 
-/// Reads a head, up to and with its first CR LF CR LF, and not a byte more.
+/// The bytes of a head, and room for the longest.
+pub(crate) type HeadBytes = ArrayVec<u8, MAX_HEAD_BYTES>;
+
+/// Reads a head, up to and with its first CR LF CR LF, and not a byte more. It takes no memory.
 ///
 /// Errors: the bytes end first; there is no CR LF CR LF within 8,192 bytes, or there are more than
-/// 34 line feeds up to it (H2); a call of the reader failed; memory was refused.
-pub fn read_head<R: Source>(alloc: Global, reader: &mut R) -> Result<Vec<u8>, HttpFault>
+/// 34 line feeds up to it (H2); a call of the reader failed.
+pub fn read_head<R: Source>(reader: &mut R) -> Result<HeadBytes, HttpFault>
     ensures head { IfOk result (λ head. Tells (R.left reader.old) (R.left reader.new)
         (λ bytes rest. opening_of bytes ≡ (opened head.items, rest))) }
     ensures lines { IfOk result (λ head. count_by is_line_feed head.items ≤ MAX_HEAD_LINES) }
@@ -28,18 +31,19 @@ pub fn read_head<R: Source>(alloc: Global, reader: &mut R) -> Result<Vec<u8>, Ht
     ensures refused { (why : Code) → result ≡ Err (HttpFault.Refused why) → why ≡ Code.H2 }
     ensures too_large { result ≡ Err (HttpFault.Refused Code.H2) → Tells (R.left reader.old) (R.left reader.new)
         (λ bytes rest. opening_of bytes ≡ (too_large, rest)) }
+    ensures no_memory { result ≡ Err HttpFault.Memory → ⊥ }
     ensures took { TakesFront (R.left reader.old) (R.left reader.new) }
     ensures failed { Fails result (Err HttpFault.ReadFailed) (R.failures reader.old) (R.failures reader.new) }
 {
-    let mut head = Vec::new(alloc);
+    let mut head = HeadBytes::new();
     for _ in 0..MAX_HEAD_BYTES {
         let mut byte = [0];
         if reader.get(&mut byte)? == 0 {
             return Err(HttpFault::Ended);
         }
-        head.push(byte[0])?;
-        if head.ends_with(b"\r\n\r\n") {
-            if lines_of(&head) > MAX_HEAD_LINES {
+        head.push(byte[0]);
+        if head.as_slice().ends_with(b"\r\n\r\n") {
+            if lines_of(head.as_slice()) > MAX_HEAD_LINES {
                 return Err(HttpFault::Refused(Code::H2));
             }
             return Ok(head);

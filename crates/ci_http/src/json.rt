@@ -1,8 +1,8 @@
 //! The JSON object that a body is.
 
-ghost use Rattle.std.specs.Prelude.{◌≡◌, ◌⊎◌, None, Some, IfOk, IfErr, MatchOption};
+ghost use Rattle.std.specs.Prelude.{◌≡◌, ◌⊎◌, None, Some, IfOk, IfErr, OnOk, MatchOption};
 ghost use Rattle.serde_json.specs.View.{view};
-ghost use Rattle.ci_http.specs.Json.{object_in, text_in};
+ghost use Rattle.ci_http.specs.Json.{MayBeJson, object_in, text_in};
 ghost use Rattle.ci_http.specs.RequestBytes.{IsWhyNot};
 
 use ci_machine::reply::Code;
@@ -14,7 +14,8 @@ use std::str;
 /// (M16).
 pub(crate) fn object_in(alloc: Global, body: &[u8]) -> Result<Value, Code>
     ensures ok { IfOk result (λ value. object_in body.now ≡ Some (view value)) }
-    ensures err { IfErr result (λ why. IsWhyNot why (object_in body.now)) }
+    ensures text { OnOk result (MayBeJson body.now) }
+    ensures err { IfErr result (λ why. IsWhyNot (MayBeJson body.now) why (object_in body.now)) }
 {
     let Ok(text) = str::from_utf8(body) else {
         return Err(Code::H7);

@@ -5,6 +5,56 @@ ghost use Rattle.ci_http.specs.declared.path.Place.{Place};
 ghost use Rattle.ci_http.specs.Paths.{place_of, path_text, IsPlace};
 ghost use Rattle.ci_http.specs.Reading.{Message, Reading, ended, request, IsReading};
 
+use crate::fault::HttpFault;
+use crate::head::{read_head, whole_head};
+use crate::limits::MAX_HEAD_FIELDS;
+use crate::link::{Failed, Source};
+use httparse::spans::EMPTY_HEADER_SPAN;
+
+// Bytes as a reader whose calls never fail.
+#[derive(Drop)]
+struct Lent<'b> {
+    rest: &'b [u8],
+}
+
+impl<'b> Source for Lent<'b> {
+    ghost use Rattle.std.specs.Prelude.{Some};
+
+    ghost left = { λ l. Some l.rest.now };
+
+    ghost failures = { λ l. 0 };
+
+    fn get(&mut self, buf: &mut [u8]) -> Result<usize, Failed> {
+        if self.rest.is_empty() || buf.is_empty() {
+            return Ok(0);
+        }
+        buf[0] = self.rest[0];
+        self.rest = &self.rest[1..];
+        Ok(1)
+    }
+}
+
+/// Each text is one of these things: it ends early, is refused, or begins with a request. The body decides it by reading the
+/// head.
+pub fn each_text_has_a_reading(bytes: &[u8])
+    ensures { (reading : Reading) × (rest : List ℕ) × IsReading bytes.now reading rest }
+{
+    let mut reader = Lent { rest: bytes };
+    match read_head(&mut reader) {
+        Ok(head) => {
+            let mut headers = [EMPTY_HEADER_SPAN; MAX_HEAD_FIELDS];
+            match whole_head(head.as_slice(), &mut headers) {
+                Some(_) => (),
+                None => (),
+            }
+        }
+        Err(HttpFault::Ended) => (),
+        Err(HttpFault::Refused(_)) => (),
+        Err(HttpFault::ReadFailed) => (),
+        Err(HttpFault::Memory) => (),
+    }
+}
+
 /// What a text is, and how much of it isn't needed to say so, are determined: it ends early, is
 /// refused for one reason, or begins with one request, and never two of these.
 pub fn one_reading()

@@ -1,8 +1,9 @@
 //! What a call asks for.
 
-ghost use Rattle.std.specs.Prelude.{◌≡◌, ◌⊎◌, None, Some, Ok, Err, IfOk, IfErr, MatchOption, option_map};
+ghost use Rattle.std.specs.Prelude.{◌≡◌, ◌⊎◌, None, Some, Ok, Err, IfOk, IfErr, IsSome, MatchOption, option_map};
 ghost use Rattle.ci_machine.specs.Reply.{refusal};
-ghost use Rattle.ci_http.specs.RequestBytes.{field_in, field_token, token_in, part_in, query_in, text_or_empty, only, methods_of, has_method, wanted, not_allowed, request_in, IsWhyNot};
+ghost use Rattle.ci_http.specs.RequestBytes.{field_in, field_token, token_in, part_in, query_in, text_or_empty, only, methods_of, has_method, wanted, not_allowed, request_in, IsWhyNot, AsksMemoryAt, AsksMemory};
+ghost use Rattle.ci_http.specs.Json.{MayBeJson};
 
 use crate::call::Call;
 use crate::fields::Found;
@@ -27,11 +28,12 @@ use std::str;
 ///   `PRIVATE-TOKEN`.
 ///
 /// Errors, the first that holds: another path (H5); another method (H6, with the methods that the
-/// path has); a field or a body that isn't what the route wants (H7). Memory may be refused (M16).
+/// path has); a field or a body that isn't what the route wants (H7). Memory may be refused (M16)
+/// where the route is found, and its body may be JSON or all that it wants is there.
 /// A missing token counts as an empty one, which nothing has.
 pub fn request_of(alloc: Global, call: &Call) -> Result<Request, Reply>
     ensures ok { IfOk result (λ request. request_in call.now ≡ Ok request) }
-    ensures err { IfErr result (λ reply. (reply ≡ refusal Code.M16) ⊎ (request_in call.now ≡ Err reply)) }
+    ensures err { IfErr result (λ reply. ((reply ≡ refusal Code.M16) × AsksMemory call.now) ⊎ (request_in call.now ≡ Err reply)) }
 {
     let Some(place) = place_of(path_of(call.target())) else {
         return Err(Reply::refusal(Code::H5));
@@ -88,7 +90,7 @@ fn not_allowed(methods: Methods) -> Reply
 // the place wants them (H7); memory was refused (M16).
 fn wanted(alloc: Global, place: Place, call: &Call) -> Result<Request, Code>
     ensures ok { IfOk result (λ request. wanted place call.now ≡ Some request) }
-    ensures err { IfErr result (λ why. IsWhyNot why (wanted place call.now)) }
+    ensures err { IfErr result (λ why. IsWhyNot (AsksMemoryAt place call.now) why (wanted place call.now)) }
 {
     match place {
         Place::Queue => token_in(alloc, call.body()).map(Request::AskJob),
@@ -102,7 +104,7 @@ fn wanted(alloc: Global, place: Place, call: &Call) -> Result<Request, Code>
 // The token in a body.
 fn token_in(alloc: Global, body: &[u8]) -> Result<Text, Code>
     ensures ok { IfOk result (λ token. token_in body.now ≡ Some token) }
-    ensures err { IfErr result (λ why. IsWhyNot why (token_in body.now)) }
+    ensures err { IfErr result (λ why. IsWhyNot (MayBeJson body.now) why (token_in body.now)) }
 {
     let object = object_in(alloc, body)?;
     let Some(token) = text_in("token", &object) else {
@@ -114,15 +116,18 @@ fn token_in(alloc: Global, body: &[u8]) -> Result<Text, Code>
 // The piece of an attempt's trace: the body, at the place that its range says.
 fn part_in(alloc: Global, attempt: u64, call: &Call) -> Result<TracePart, Code>
     ensures ok { IfOk result (λ part. part_in attempt call.now ≡ Some part) }
-    ensures err { IfErr result (λ why. IsWhyNot why (part_in attempt call.now)) }
+    ensures err { IfErr result (λ why. IsWhyNot (IsSome (part_in attempt call.now)) why (part_in attempt call.now)) }
 {
-    let token = field_token(alloc, b"job-token", call)?;
+    let Some(value) = field_in(b"job-token", call) else {
+        return Err(Code::H7);
+    };
     let Some(range) = field_in(b"content-range", call) else {
         return Err(Code::H7);
     };
     let Some(from) = start_in(call.body().len() as u64, range) else {
         return Err(Code::H7);
     };
+    let token = copy_of(alloc, text_or_empty(value))?;
     match call.body().to_vec(alloc) {
         Ok(bytes) => Ok(TracePart {
             attempt,
@@ -137,7 +142,7 @@ fn part_in(alloc: Global, attempt: u64, call: &Call) -> Result<TracePart, Code>
 // The job of a project that is asked for.
 fn query_in(alloc: Global, project: u64, job: u64, call: &Call) -> Result<JobQuery, Code>
     ensures ok { IfOk result (λ query. query_in project job call.now ≡ Some query) }
-    ensures err { IfErr result (λ why. IsWhyNot why (query_in project job call.now)) }
+    ensures err { IfErr result (λ why. IsWhyNot (IsSome (query_in project job call.now)) why (query_in project job call.now)) }
 {
     let token = field_token(alloc, b"private-token", call)?;
     Ok(JobQuery {
@@ -150,7 +155,7 @@ fn query_in(alloc: Global, project: u64, job: u64, call: &Call) -> Result<JobQue
 // The token in the field of this name. What isn't UTF-8 is no token, as the empty text is none.
 fn field_token(alloc: Global, name: &[u8], call: &Call) -> Result<Text, Code>
     ensures ok { IfOk result (λ token. field_token name.now call.now ≡ Some token) }
-    ensures err { IfErr result (λ why. IsWhyNot why (field_token name.now call.now)) }
+    ensures err { IfErr result (λ why. IsWhyNot (IsSome (field_token name.now call.now)) why (field_token name.now call.now)) }
 {
     let Some(value) = field_in(name, call) else {
         return Err(Code::H7);

@@ -2,6 +2,7 @@
 
 ghost use Rattle.std.specs.Prelude.{◌≡◌, Some, IfOk, IfErr};
 ghost use Rattle.serde_json.specs.View.{view};
+ghost use Rattle.ci_http.specs.Json.{MayBeJson};
 ghost use Rattle.ci_http.specs.RequestBytes.{IsWhyNot};
 ghost use Rattle.ci_http.specs.Updates.{cause_named, exit_in, report_by, report_in, update_in};
 
@@ -21,7 +22,7 @@ use std::alloc::Global;
 /// Errors: the body is something else (H7); memory was refused (M16).
 pub(crate) fn update_in(alloc: Global, attempt: u64, body: &[u8]) -> Result<JobUpdate, Code>
     ensures ok { IfOk result (λ update. update_in attempt body.now ≡ Some update) }
-    ensures err { IfErr result (λ why. IsWhyNot why (update_in attempt body.now)) }
+    ensures err { IfErr result (λ why. IsWhyNot (MayBeJson body.now) why (update_in attempt body.now)) }
 {
     let object = object_in(alloc, body)?;
     let Some(token) = text_in("token", &object) else {

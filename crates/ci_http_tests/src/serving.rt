@@ -58,6 +58,28 @@ impl<'a> Read for Trickle<'a> {
     }
 }
 
+// A writer that asks for no memory. It takes one byte a call, and fails once it is full.
+#[derive(Drop)]
+struct Slate {
+    bytes: [u8; 512],
+    len: usize,
+}
+
+impl Write for Slate {
+    fn write(&mut self, bytes: &[u8]) -> io::Result<usize> {
+        if bytes.is_empty() || self.len >= self.bytes.len() {
+            return Ok(0);
+        }
+        self.bytes[self.len] = bytes[0];
+        self.len += 1;
+        Ok(1)
+    }
+
+    fn flush(&mut self) -> io::Result<()> {
+        Ok(())
+    }
+}
+
 // A writer that takes one byte a call, and fails once it is full.
 #[derive(Drop)]
 struct Cup {
@@ -79,13 +101,13 @@ impl Write for Cup {
     }
 }
 
-fn serve_links<T: Read + Drop, A: Ledger, B: Ledger>(
+fn serve_links<T: Read + Drop, W: Write + Drop, A: Ledger, B: Ledger>(
     alloc: Global,
     reader: T,
-    writer: Cup,
+    writer: W,
     reads: Blank,
     writes: Blank,
-) -> (Served, usize, Vec<u8>)
+) -> (Served, usize, W)
     requires reads_name { reads.name ≡ A.name }
     requires reads_parts { reads.parts ≡ A.parts }
     requires reads_one { 0 < reads.parts }
@@ -94,7 +116,7 @@ fn serve_links<T: Read + Drop, A: Ledger, B: Ledger>(
     requires writes_one { 0 < writes.parts }
 {
     let mut reader = Link::<T, A>::new(reader, reads);
-    let mut writer = Link::<Cup, B>::new(writer, writes);
+    let mut writer = Link::<W, B>::new(writer, writes);
     let mut handler = Nobody { asked: 0 };
     let served = match Moment::new(1000) {
         Some(moment) => serve_one(
@@ -107,7 +129,16 @@ fn serve_links<T: Read + Drop, A: Ledger, B: Ledger>(
         ),
         None => Served::Ended,
     };
-    (served, handler.asked, writer.into_inner().taken)
+    (served, handler.asked, writer.into_inner())
+}
+
+// What became of a request, how often the handler was asked, and the writer.
+fn serve_to<T: Read + Drop, W: Write + Drop>(
+    alloc: Global,
+    reader: T,
+    writer: W,
+) -> (Served, usize, W) {
+    serve_links::<T, W, Brand, Brand>(alloc, reader, writer, Blank::new(1), Blank::new(1))
 }
 
 // What became of a request, how often the handler was asked, and what was written.
@@ -116,7 +147,8 @@ fn serve<T: Read + Drop>(alloc: Global, reader: T, room: usize) -> (Served, usiz
         taken: Vec::new(alloc),
         room,
     };
-    serve_links::<T, Brand, Brand>(alloc, reader, writer, Blank::new(1), Blank::new(1))
+    let (served, asked, cup) = serve_to(alloc, reader, writer);
+    (served, asked, cup.taken)
 }
 
 // The bytes get a refusal with this status line and code, without the handler.
@@ -299,6 +331,91 @@ fn each_beginning_of_a_reply_may_be_all(rt: HostRuntime) -> Result<(), Fail> {
         assert!(&rt; served == wanted, "at {room}");
         assert!(&rt; asked == 1, "at {room}");
         assert!(&rt; written.as_slice() == &UNKNOWN[..room], "at {room}");
+    }
+    Ok(())
+}
+
+const LACKS_MEMORY: &[u8] =
+    b"HTTP/1.1 503 Service Unavailable\r\nContent-Type: application/json\r\nContent-Length: 14\r\nConnection: close\r\n\r\n{\"code\":\"M16\"}";
+
+// Requests, the code of the reply, and whether memory is asked for before it.
+const ROWS: &[(&[u8], &str, bool)] = &[
+    (ASKS, "M4", true),
+    (
+        b"PATCH /api/v4/jobs/7/trace HTTP/1.1\r\nJOB-TOKEN: j\r\nContent-Range: 0-1\r\nContent-Length: 2\r\n\r\nab",
+        "M4",
+        true,
+    ),
+    (
+        b"GET /api/v4/projects/1/jobs/2 HTTP/1.1\r\nPRIVATE-TOKEN: p1-ab\r\n\r\n",
+        "M4",
+        true,
+    ),
+    (
+        b"POST /api/v4/jobs/request HTTP/1.1\r\nContent-Length: 8\r\n\r\n[\"nope\"]",
+        "H7",
+        true,
+    ),
+    (
+        b"POST /api/v4/jobs/request HTTP/1.1\r\nContent-Length: 0\r\n\r\n",
+        "H7",
+        false,
+    ),
+    (
+        b"GET /api/v4/projects/1/jobs/2 HTTP/1.1\r\nPRIVATE-TOKEN: p\r\nPRIVATE-TOKEN: p\r\n\r\n",
+        "H7",
+        false,
+    ),
+    (b"GET /api/v4/jobs/0 HTTP/1.1\r\n\r\n", "H5", false),
+    (b"GET /api/v4/jobs/request HTTP/1.1\r\n\r\n", "H6", false),
+    (b"GET / HTTP/2.0\r\n\r\n", "H1", false),
+    (b"POST / HTTP/1.1\r\n\r\n", "H3", false),
+    (
+        b"GET / HTTP/1.1\r\nContent-Length: 65537\r\n\r\n",
+        "H4",
+        false,
+    ),
+    (
+        b"PUT / HTTP/1.1\r\nTransfer-Encoding: chunked\r\n\r\n",
+        "H8",
+        false,
+    ),
+];
+
+// Serves a row once. It gets its own code, or M16, where it asks for memory, and then nothing was
+// handled; says whether it was M16.
+fn lacks_memory(rt: &impl Abort, alloc: Global, row: &(&[u8], &str, bool)) -> bool {
+    let (bytes, code, asks) = *row;
+    let writer = Slate {
+        bytes: [0; 512],
+        len: 0,
+    };
+    let (served, asked, slate) = serve_to(alloc, bytes, writer);
+    let reply = slate.bytes.get(..slate.len).unwrap_or(b"");
+    assert!(rt; served == Served::Replied, "{code}");
+    if asks && reply == LACKS_MEMORY {
+        assert!(rt; asked == 0, "{code}");
+        return true;
+    }
+    assert!(rt; reply.ends_with(b"\"}"), "{code}");
+    let rest = reply.strip_suffix(b"\"}").unwrap_or(b"");
+    assert!(rt; rest.ends_with(code.as_bytes()), "{code}");
+    assert!(rt; asked == usize::from(code == "M4"), "{code}");
+    false
+}
+
+// Nothing but `serve_one` asks for memory here. Where one allocation is refused, whichever it is
+// (`rt try --test --fail-alloc 1..`), one reply at most is M16, and all that follow are as ever.
+#[test]
+fn want_of_memory_is_told_once(rt: HostRuntime) -> Result<(), Fail> {
+    let mut lacked = false;
+    for row in ROWS {
+        for _ in 0..2 {
+            if lacks_memory(&rt, rt.alloc(), row) {
+                assert!(&rt; !lacked);
+                lacked = true;
+            }
+        }
     }
     Ok(())
 }

@@ -1,5 +1,5 @@
 -- What holds of each plan: a refusal changes nothing, and the machine answers neither M16 nor M17.
-use Rattle.std.proofs.Common.{◌≡◌, ℕ, ◌==◌, List, [], length, not, nat_lt, Option, None, Some, Result, Ok, Err, refl, sym, ap, subst, ◌∙◌}
+use Rattle.std.proofs.Common.{◌≡◌, ℕ, ◌==◌, List, [], length, not, nat_lt, Option, None, Some, option_map, Result, Ok, Err, refl, sym, ap, subst, ◌∙◌}
 use Rattle.std.specs.Str.{bytes_eq}
 use Rattle.std.proofs.lemmas.Bool.{cond_both, false≢true}
 use Rattle.ci_machine.specs.declared.records.Project.{Project}
@@ -50,12 +50,14 @@ use Rattle.ci_machine.specs.Traces.{not_accepted, grown, appended, append_trace}
 use Rattle.ci_machine.specs.Shows.{job_shown, trace_shown, job_within, asked_job, shown, traced}
 use Rattle.ci_machine.specs.Sweeps.{sweep}
 use Rattle.ci_machine.specs.Leases.{accepted, first_due}
-use Rattle.ci_machine.specs.Step.{Does, Happens, Step, project_at, project_with, runner_with, pipeline_of, job_at, last_attempt, pieces_in, lease_at, leases, offer, offered_variables}
+use Rattle.ci_machine.specs.Eligible.{may_run, chosen}
+use Rattle.ci_machine.specs.Step.{Does, Happens, Step, project_at, project_with, runner_with, attempt_at, pipeline_of, job_at, last_attempt, pieces_in, lease_of, leases, is_pending, pending_jobs, queued, queue, offer, offered_variables}
 use Rattle.ci_machine.specs.Laws.{IsRefusal}
 use Rattle.ci_machine.specs.Reply.{Stepped, outcome_of}
+use Rattle.ci_machine.proofs.Keyed.{Has, has_filter, has_find, find-map}
 
 -- the codes with which the machine refuses
-abbrev IsMachineCode : Code → Type 0
+abbrev pub IsMachineCode : Code → Type 0
 IsMachineCode M1 = Unit {0}
 IsMachineCode M2 = Unit {0}
 IsMachineCode M3 = Unit {0}
@@ -65,74 +67,88 @@ IsMachineCode M14 = Unit {0}
 IsMachineCode M15 = Unit {0}
 IsMachineCode _ = ⊥
 
--- a fact of each plan that a request may have
-record Each (P : Plan → Type 0) : Type 0 where
-  refused : (c : Code) → IsMachineCode c → P (refused c)
-  faulted : (d : Detail) → P (faulted d)
-  project : (id : ℕ) (name : List ℕ) (seed : Seed) → P (made_project id name seed)
-  runner : (id : ℕ) (name : List ℕ) (seed : Seed) → P (made_runner id name seed)
-  pipeline : (pipeline job : ℕ) (p : NewPipeline) (now : ℕ) → P (entered pipeline job p now)
-  nothing : P nothing_to_run
-  granted : (runner : Runner) (q : QueuedJob) (variables : List JobVariable) (next now : ℕ) (seed : Seed) → P (granted runner q variables next now seed)
-  turned_away : (fault : LeaseFault) → P (unleased fault, [])
-  heard : (a : Attempt) (seen : ℕ) → P (heard a (Ok seen))
-  ended : (a : Attempt) (state : AttemptState) → P (ended a (Ok state))
-  misplaced : (fault : PieceFault) → P (not_accepted fault, [])
-  grown : (a : Attempt) (bytes : List ℕ) (now size : ℕ) → P (grown a bytes now size)
-  shown : (job : Job) (last : Option Attempt) → P (job_shown job last)
-  traced : (pieces : List Piece) → P (trace_shown pieces)
+-- a fact of each plan that a request may have in a state
+pub record Each (s : State) (P : Plan → Type 0) : Type 0 where
+  pub refused : (c : Code) → IsMachineCode c → P (refused c)
+  pub faulted : (d : Detail) → P (faulted d)
+  pub project : (name : List ℕ) (seed : Seed) → P (made_project s.next.project name seed)
+  pub runner : (name : List ℕ) (seed : Seed) → P (made_runner s.next.runner name seed)
+  pub pipeline : (project : Project) (p : NewPipeline) (now : ℕ) → project_at s p.project ≡ Some project → P (entered s.next.pipeline s.next.job p now)
+  pub nothing : P nothing_to_run
+  pub granted : (runner : Runner) (job : Job) (q : QueuedJob) (variables : List JobVariable) (now : ℕ) (seed : Seed)
+      → Has runner s.runners → Has job s.jobs → job.id ≡ q.job.id → P (granted runner q variables s.next.attempt now seed)
+  pub turned_away : (fault : LeaseFault) → P (unleased fault, [])
+  pub heard : (a : Attempt) (seen : ℕ) → Has a s.attempts → P (heard a (Ok seen))
+  pub ended : (a : Attempt) (state : AttemptState) → Has a s.attempts → P (ended a (Ok state))
+  pub misplaced : (fault : PieceFault) → P (not_accepted fault, [])
+  pub grown : (a : Attempt) (bytes : List ℕ) (now size : ℕ) → Has a s.attempts → P (grown a bytes now size)
+  pub shown : (job : Job) (last : Option Attempt) → P (job_shown job last)
+  pub traced : (pieces : List Piece) → P (trace_shown pieces)
 
-projects : (P : Plan → Type 0) → Each P → (next : ℕ) (name : List ℕ) (seed : Seed) → P (add_project next name seed)
-projects P each next name seed =
-    cond_both (not (is_name name)) (faulted (detail.Code (K 16))) _ P (λ _. each.faulted (detail.Code (K 16))) (λ _.
-    cond_both (nat_lt MAX_NUMBER next) (refused M15) (made_project next name seed) P (λ _. each.refused M15 tt) (λ _. each.project next name seed))
+module _ (s : State) (P : Plan → Type 0) (each : Each s P) where
+  projects : (name : List ℕ) (seed : Seed) → P (add_project s.next.project name seed)
+  projects name seed =
+      cond_both (not (is_name name)) (faulted (detail.Code (K 16))) _ P (λ _. each.faulted (detail.Code (K 16))) (λ _.
+      cond_both (nat_lt MAX_NUMBER s.next.project) (refused M15) (made_project s.next.project name seed) P (λ _. each.refused M15 tt) (λ _. each.project name seed))
 
-runners : (P : Plan → Type 0) → Each P → (next : ℕ) (name : List ℕ) (seed : Seed) → P (add_runner next name seed)
-runners P each next name seed =
-    cond_both (not (is_name name)) (faulted (detail.Code (K 16))) _ P (λ _. each.faulted (detail.Code (K 16))) (λ _.
-    cond_both (nat_lt MAX_NUMBER next) (refused M15) (made_runner next name seed) P (λ _. each.refused M15 tt) (λ _. each.runner next name seed))
+  runners : (name : List ℕ) (seed : Seed) → P (add_runner s.next.runner name seed)
+  runners name seed =
+      cond_both (not (is_name name)) (faulted (detail.Code (K 16))) _ P (λ _. each.faulted (detail.Code (K 16))) (λ _.
+      cond_both (nat_lt MAX_NUMBER s.next.runner) (refused M15) (made_runner s.next.runner name seed) P (λ _. each.refused M15 tt) (λ _. each.runner name seed))
 
-pipelines : (P : Plan → Type 0) → Each P → (project : Option Project) (next_pipeline next_job : ℕ) (p : NewPipeline) (now : ℕ) → P (enter_pipeline project next_pipeline next_job p now)
-pipelines P each None next_pipeline next_job p now = each.refused M2 tt
-pipelines P each (Some project) next_pipeline next_job p now =
-    cond_both (nat_lt (length p.jobs) 1) (faulted (detail.Code (G 4))) _ P (λ _. each.faulted (detail.Code (G 4))) (λ _.
-    cond_both (nat_lt MAX_JOBS (length p.jobs)) (faulted (detail.Code (K 11))) _ P (λ _. each.faulted (detail.Code (K 11))) (λ _.
-    cond_both (not (has_names p)) (faulted (detail.Code (K 16))) _ P (λ _. each.faulted (detail.Code (K 16))) (λ _.
-    cond_both (lacks_numbers next_pipeline next_job (length p.jobs)) (refused M15) (entered next_pipeline next_job p now) P (λ _. each.refused M15 tt)
-    (λ _. each.pipeline next_pipeline next_job p now))))
+  pipelines : (p : NewPipeline) (now : ℕ) (project : Option Project) → project_at s p.project ≡ project → P (enter_pipeline project s.next.pipeline s.next.job p now)
+  pipelines p now None found = each.refused M2 tt
+  pipelines p now (Some project) found =
+      cond_both (nat_lt (length p.jobs) 1) (faulted (detail.Code (G 4))) _ P (λ _. each.faulted (detail.Code (G 4))) (λ _.
+      cond_both (nat_lt MAX_JOBS (length p.jobs)) (faulted (detail.Code (K 11))) _ P (λ _. each.faulted (detail.Code (K 11))) (λ _.
+      cond_both (not (has_names p)) (faulted (detail.Code (K 16))) _ P (λ _. each.faulted (detail.Code (K 16))) (λ _.
+      cond_both (lacks_numbers s.next.pipeline s.next.job (length p.jobs)) (refused M15) (entered s.next.pipeline s.next.job p now) P (λ _. each.refused M15 tt)
+      (λ _. each.pipeline project p now found))))
 
-grants : (P : Plan → Type 0) → Each P → (runner : Option Runner) (q : Option QueuedJob) (variables : List JobVariable) (next now : ℕ) (seed : Seed) → P (ask_job runner q variables next now seed)
-grants P each None q variables next now seed = each.refused M4 tt
-grants P each (Some runner) None variables next now seed = each.nothing
-grants P each (Some runner) (Some q) variables next now seed =
-    cond_both (nat_lt MAX_NUMBER next) (refused M15) (granted runner q variables next now seed) P (λ _. each.refused M15 tt) (λ _. each.granted runner q variables next now seed)
+  offers : (now : ℕ) (seed : Seed) (runner : Runner) → Has runner s.runners → (q : Option QueuedJob) → chosen (queue s) runner ≡ q → (variables : List JobVariable)
+      → P (ask_job (Some runner) q variables s.next.attempt now seed)
+  offers now seed runner has None offered variables = each.nothing
+  offers now seed runner has (Some q) offered variables =
+      let at = find-map (queued s) (may_run runner) q (pending_jobs s) offered in
+      let first = has_find (λ (j : Job). may_run runner (queued s j)) at.0 (pending_jobs s) at.1.1 in
+      cond_both (nat_lt MAX_NUMBER s.next.attempt) (refused M15) (granted runner q variables s.next.attempt now seed) P (λ _. each.refused M15 tt)
+      (λ _. each.granted runner at.0 q variables now seed has (has_filter (is_pending s) at.0 s.jobs first.0).0 (ap (λ (w : QueuedJob). w.job.id) at.1.0))
 
-hears : (P : Plan → Type 0) → Each P → (a : Attempt) (seen : Result ℕ LeaseFault) → P (heard a seen)
-hears P each a (Ok seen) = each.heard a seen
-hears P each a (Err fault) = each.turned_away fault
+  asks : (token : List ℕ) (now : ℕ) (seed : Seed) (runner : Option Runner) → runner_with s token ≡ runner
+      → P (ask_job runner (offer s runner) (offered_variables s (offer s runner)) s.next.attempt now seed)
+  asks token now seed None found = each.refused M4 tt
+  asks token now seed (Some runner) found =
+      offers now seed runner (has_find (λ (r : Runner). bytes_eq r.token token) runner s.runners found).0 (chosen (queue s) runner) refl _
 
-ends : (P : Plan → Type 0) → Each P → (a : Attempt) (state : Result AttemptState LeaseFault) → P (ended a state)
-ends P each a (Ok state) = each.ended a state
-ends P each a (Err fault) = each.turned_away fault
+  hears : (a : Attempt) → Has a s.attempts → (seen : Result ℕ LeaseFault) → P (heard a seen)
+  hears a has (Ok seen) = each.heard a seen has
+  hears a has (Err fault) = each.turned_away fault
 
-reports : (P : Plan → Type 0) → Each P → (l : Lease) (r : Report) (now : ℕ) → P (reported l r now)
-reports P each l report.Running now = hears P each l.attempt _
-reports P each l (report.Success exit) now = ends P each l.attempt _
-reports P each l (report.Failed cause exit) now = ends P each l.attempt _
+  ends : (a : Attempt) → Has a s.attempts → (state : Result AttemptState LeaseFault) → P (ended a state)
+  ends a has (Ok state) = each.ended a state has
+  ends a has (Err fault) = each.turned_away fault
 
-updates : (P : Plan → Type 0) → Each P → (l : Option Lease) (update : JobUpdate) (now : ℕ) → P (update_job l update now)
-updates P each None update now = each.refused M5 tt
-updates P each (Some l) update now =
-    cond_both (bytes_eq l.attempt.token update.token) (reported l update.report now) (refused M5) P (λ _. reports P each l update.report now) (λ _. each.refused M5 tt)
+  reports : (l : Lease) → Has l.attempt s.attempts → (r : Report) (now : ℕ) → P (reported l r now)
+  reports l has report.Running now = hears l.attempt has _
+  reports l has (report.Success exit) now = ends l.attempt has _
+  reports l has (report.Failed cause exit) now = ends l.attempt has _
 
-grows : (P : Plan → Type 0) → Each P → (a : Attempt) (bytes : List ℕ) (now : ℕ) (size : Result ℕ PieceFault) → P (appended a bytes now size)
-grows P each a bytes now (Ok size) = cond_both (nat_lt MAX_NUMBER a.pieces) (refused M15) (grown a bytes now size) P (λ _. each.refused M15 tt) (λ _. each.grown a bytes now size)
-grows P each a bytes now (Err fault) = each.misplaced fault
+  updates : (update : JobUpdate) (now : ℕ) (a : Option Attempt) → attempt_at s update.attempt ≡ a → P (update_job (option_map (lease_of s) a) update now)
+  updates update now None found = each.refused M5 tt
+  updates update now (Some a) found =
+      let has = has_find (λ (b : Attempt). b.id == update.attempt) a s.attempts found in
+      cond_both (bytes_eq a.token update.token) (reported (lease_of s a) update.report now) (refused M5) P (λ _. reports (lease_of s a) has.0 update.report now) (λ _. each.refused M5 tt)
 
-appends : (P : Plan → Type 0) → Each P → (l : Option Lease) (part : TracePart) (now : ℕ) → P (append_trace l part now)
-appends P each None part now = each.refused M5 tt
-appends P each (Some l) part now =
-    cond_both (bytes_eq l.attempt.token part.token) _ (refused M5) P (λ _. grows P each l.attempt part.bytes now (accepted l.attempt l.limit now l.attempt.size part.from (length part.bytes))) (λ _. each.refused M5 tt)
+  grows : (a : Attempt) → Has a s.attempts → (bytes : List ℕ) (now : ℕ) (size : Result ℕ PieceFault) → P (appended a bytes now size)
+  grows a has bytes now (Ok size) = cond_both (nat_lt MAX_NUMBER a.pieces) (refused M15) (grown a bytes now size) P (λ _. each.refused M15 tt) (λ _. each.grown a bytes now size has)
+  grows a has bytes now (Err fault) = each.misplaced fault
+
+  appends : (part : TracePart) (now : ℕ) (a : Option Attempt) → attempt_at s part.attempt ≡ a → P (append_trace (option_map (lease_of s) a) part now)
+  appends part now None found = each.refused M5 tt
+  appends part now (Some a) found =
+      let l = lease_of s a in
+      let has = has_find (λ (b : Attempt). b.id == part.attempt) a s.attempts found in
+      cond_both (bytes_eq a.token part.token) _ (refused M5) P (λ _. grows a has.0 part.bytes now (accepted a l.limit now a.size part.from (length part.bytes))) (λ _. each.refused M5 tt)
 
 -- a query names a job, or is refused
 within : (Q : Result Job Code → Type 0) → ((j : Job) → Q (Ok j)) → ((c : Code) → IsMachineCode c → Q (Err c)) → (job : Option Job) (pipeline : Option Pipeline) (project : ℕ) → Q (job_within job pipeline project)
@@ -146,20 +162,18 @@ asked Q fine refused None job pipeline query = refused M1 tt
 asked Q fine refused (Some project) job pipeline query =
     cond_both (project.id == query.project) (job_within job pipeline project.id) (Err M2) Q (λ _. within Q fine refused job pipeline project.id) (λ _. refused M2 tt)
 
-does : (P : Plan → Type 0) → Each P → (s : State) (request : Request) (now : ℕ) (seed : Seed) (plan : Plan) → Does s request now seed plan → P plan
-does P each s (AddProject name) now seed plan is = subst P (sym is) (projects P each s.next.project name seed)
-does P each s (AddRunner name) now seed plan is = subst P (sym is) (runners P each s.next.runner name seed)
-does P each s (EnterPipeline p) now seed plan is = subst P (sym is) (pipelines P each (project_at s p.project) s.next.pipeline s.next.job p now)
-does P each s (AskJob token) now seed plan is =
-    let runner = runner_with s token in
-    subst P (sym is) (grants P each runner (offer s runner) (offered_variables s (offer s runner)) s.next.attempt now seed)
-does P each s (UpdateJob update) now seed plan is = subst P (sym is) (updates P each (lease_at s update.attempt) update now)
-does P each s (AppendTrace part) now seed plan is = subst P (sym is) (appends P each (lease_at s part.attempt) part now)
-does P each s (ShowJob query) now seed plan is =
+pub does : (s : State) (P : Plan → Type 0) → Each s P → (request : Request) (now : ℕ) (seed : Seed) (plan : Plan) → Does s request now seed plan → P plan
+does s P each (AddProject name) now seed plan is = subst P (sym is) (projects s P each name seed)
+does s P each (AddRunner name) now seed plan is = subst P (sym is) (runners s P each name seed)
+does s P each (EnterPipeline p) now seed plan is = subst P (sym is) (pipelines s P each p now (project_at s p.project) refl)
+does s P each (AskJob token) now seed plan is = subst P (sym is) (asks s P each token now seed (runner_with s token) refl)
+does s P each (UpdateJob update) now seed plan is = subst P (sym is) (updates s P each update now (attempt_at s update.attempt) refl)
+does s P each (AppendTrace part) now seed plan is = subst P (sym is) (appends s P each part now (attempt_at s part.attempt) refl)
+does s P each (ShowJob query) now seed plan is =
     let job = job_at s query.job in
     let last = last_attempt s query.job in
     subst P (sym is) (asked (λ r. P (shown r last)) (λ j. each.shown j last) (λ c m. each.refused c m) (project_with s query.token) job (pipeline_of s job) query)
-does P each s (ShowTrace query) now seed plan is =
+does s P each (ShowTrace query) now seed plan is =
     let job = job_at s query.job in
     let pieces = pieces_in s (last_attempt s query.job) in
     subst P (sym is) (asked (λ r. P (traced r pieces)) (λ j. each.traced pieces) (λ c m. each.refused c m) (project_with s query.token) job (pipeline_of s job) query)
@@ -168,20 +182,20 @@ does P each s (ShowTrace query) now seed plan is =
 abbrev Keeps : Plan → Type 0
 Keeps plan = IsRefusal (answer.Reply plan.0) → plan.1 ≡ []
 
-keeps : Each Keeps
-keeps = record {
+keeps : (s : State) → Each s Keeps
+keeps s = record {
   refused = λ c _ _. refl;
   faulted = λ d _. refl;
-  project = λ id name seed refused. absurd (false≢true refused);
-  runner = λ id name seed refused. absurd (false≢true refused);
-  pipeline = λ pipeline job p now refused. absurd (false≢true refused);
+  project = λ name seed refused. absurd (false≢true refused);
+  runner = λ name seed refused. absurd (false≢true refused);
+  pipeline = λ project p now found refused. absurd (false≢true refused);
   nothing = λ _. refl;
-  granted = λ runner q variables next now seed refused. absurd (false≢true refused);
+  granted = λ runner job q variables now seed h k e refused. absurd (false≢true refused);
   turned_away = λ fault _. refl;
-  heard = λ a seen refused. absurd (false≢true refused);
-  ended = λ a state refused. absurd (false≢true refused);
+  heard = λ a seen has refused. absurd (false≢true refused);
+  ended = λ a state has refused. absurd (false≢true refused);
   misplaced = λ fault _. refl;
-  grown = λ a bytes now size refused. absurd (false≢true refused);
+  grown = λ a bytes now size has refused. absurd (false≢true refused);
   shown = λ job last refused. absurd (false≢true refused);
   traced = λ pieces refused. absurd (false≢true refused);
 }
@@ -192,7 +206,7 @@ swept_keeps None refused = refl
 swept_keeps (Some l) refused = absurd refused
 
 refused_keeps : (s : State) (e : Event) (now : ℕ) (seed : Seed) (a : Answer) (changes : List RowChange) → Happens s e now seed a changes → IsRefusal a → changes ≡ []
-refused_keeps s (event.Request request) now seed (answer.Reply reply) changes is refused = does Keeps keeps s request now seed (reply, changes) is refused
+refused_keeps s (event.Request request) now seed (answer.Reply reply) changes is refused = does s Keeps (keeps s) request now seed (reply, changes) is refused
 refused_keeps s event.Sweep now seed (answer.Swept swept) changes is refused =
     let P : Swept × List RowChange → Type 0 = λ plan. IsRefusal (answer.Swept plan.0) → plan.1 ≡ [] in
     subst P (sym is) (swept_keeps (first_due (leases s) now)) refused
@@ -206,20 +220,20 @@ unchanged s t e now seed a step refused = step.state ∙ ap (λ cs. applied cs s
 abbrev IsStep : Plan → Type 0
 IsStep plan = outcome_of (answer.Reply plan.0) ≡ Stepped
 
-steps : Each IsStep
-steps = record {
+steps : (s : State) → Each s IsStep
+steps s = record {
   refused = stepped;
   faulted = λ d. refl;
-  project = λ id name seed. refl;
-  runner = λ id name seed. refl;
-  pipeline = λ pipeline job p now. refl;
+  project = λ name seed. refl;
+  runner = λ name seed. refl;
+  pipeline = λ project p now found. refl;
   nothing = refl;
-  granted = λ runner q variables next now seed. refl;
+  granted = λ runner job q variables now seed h k e. refl;
   turned_away = away;
-  heard = λ a seen. refl;
-  ended = λ a state. refl;
+  heard = λ a seen has. refl;
+  ended = λ a state has. refl;
   misplaced = misplaces;
-  grown = λ a bytes now size. refl;
+  grown = λ a bytes now size has. refl;
   shown = λ job last. refl;
   traced = λ pieces. refl;
 } where
@@ -260,7 +274,7 @@ swept_steps None = refl
 swept_steps (Some l) = refl
 
 all_step : (s : State) (e : Event) (now : ℕ) (seed : Seed) (a : Answer) (changes : List RowChange) → Happens s e now seed a changes → outcome_of a ≡ Stepped
-all_step s (event.Request request) now seed (answer.Reply reply) changes is = does IsStep steps s request now seed (reply, changes) is
+all_step s (event.Request request) now seed (answer.Reply reply) changes is = does s IsStep (steps s) request now seed (reply, changes) is
 all_step s event.Sweep now seed (answer.Swept swept) changes is = ap (λ plan. outcome_of (answer.Swept plan.0)) is ∙ swept_steps (first_due (leases s) now)
 all_step s (event.Request request) now seed (answer.Swept swept) changes is = absurd is
 all_step s event.Sweep now seed (answer.Reply reply) changes is = absurd is

@@ -5,6 +5,8 @@ use Rattle.std.proofs.lemmas.Bool.{cond-true, cond-false, and_parts, ne_eqb}
 use Rattle.ci_machine.specs.declared.records.Runner.{Runner}
 use Rattle.ci_machine.specs.declared.records.Job.{Job}
 use Rattle.ci_machine.specs.declared.records.Attempt.{Attempt}
+use Rattle.ci_machine.specs.declared.request.Event.TheVariants as event
+use Rattle.ci_machine.specs.declared.request.Request.TheVariants.{AskJob}
 use Rattle.ci_machine.specs.State.{State, empty, attempt_cmp, put}
 use Rattle.ci_machine.specs.Leases.{is_live}
 use Rattle.ci_machine.specs.History.{Past}
@@ -52,6 +54,7 @@ longer p h a isnt w = record {
   its_runner = w.its_runner;
   its_job = w.its_job;
   eligible = w.eligible;
+  asked = w.asked;
 }
 
 -- a step that leaves the attempts
@@ -96,6 +99,7 @@ alters h s t p a x i has same_id same_job same_runner live isnt e f r =
             its_runner = w.its_runner ∙ sym same_runner;
             its_job = w.its_job ∙ sym same_job;
             eligible = w.eligible;
+            asked = w.asked;
           }))
           (λ m. i.granted b m) (cases b k));
       fresh = λ n l. cond-false (grants n p) (p ∷ filter (grants n) h) (filter (grants n) h) (isnt n) ∙ i.fresh n (subst (λ m. m ≤ n) f l);
@@ -106,8 +110,8 @@ pub gives : (h : List Past) (s t : State) (p : Past) (x : Attempt) → Grants h 
     → ((a : Attempt) → Has a s.attempts → is_live a ≡ true → a.job ≡ x.job → ⊥)
     → ((n : ℕ) → grants n p ≡ (x.id == n))
     → (runner : Runner) (job : Job) → runner.id ≡ x.runner → job.id ≡ x.job → IsLeastEligible p.before runner job
-    → t.attempts ≡ put attempt_cmp x s.attempts → t.next.attempt ≡ s.next.attempt + 1 → t.jobs ≡ s.jobs → Grants (p ∷ h) t
-gives h s t p x i at_next free grant_of runner job its_runner its_job eligible e f r =
+    → p.event ≡ event.Request (AskJob runner.token) → t.attempts ≡ put attempt_cmp x s.attempts → t.next.attempt ≡ s.next.attempt + 1 → t.jobs ≡ s.jobs → Grants (p ∷ h) t
+gives h s t p x i at_next free grant_of runner job its_runner its_job eligible asked e f r =
     let cases : (b : Attempt) → Has b t.attempts → (b ≡ x) ⊎ Has b s.attempts = λ b k. has_put attempt_cmp x b s.attempts (subst (Has b) e k) in
     record {
       jobs_rise = subst (λ l. Rising (λ (j : Job). j.id) 0 l) (sym r) i.jobs_rise;
@@ -131,6 +135,7 @@ gives h s t p x i at_next free grant_of runner job its_runner its_job eligible e
             its_runner = its_runner;
             its_job = its_job;
             eligible = eligible;
+            asked = asked;
           }))
           (λ m. longer p h b (grant_of b.id ∙ ne_eqb x.id b.id (λ u. let z : b.id < s.next.attempt = i.below b m in absurd (omega arith))) (i.granted b m))
           (cases b k);

@@ -22,7 +22,7 @@ Rising id low [] = Unit {0}
 Rising id low (x ∷ xs) = (low ≤ id x) × Rising id (id x + 1) xs
 
 -- what a list with a record at its place has
-has_placed : {A : Type 0} (cmp : A → A → Ordering) (x y : A) (xs : List A) → Has y (placed cmp x xs) → (y ≡ x) ⊎ Has y xs
+pub has_placed : {A : Type 0} (cmp : A → A → Ordering) (x y : A) (xs : List A) → Has y (placed cmp x xs) → (y ≡ x) ⊎ Has y xs
 has_placed cmp x y [] h = h
 has_placed cmp x y (z ∷ zs) h =
     cond_both (is_lt (cmp z x)) (z ∷ placed cmp x zs) (x ∷ z ∷ zs) (λ l. Has y l → (y ≡ x) ⊎ Has y (z ∷ zs))

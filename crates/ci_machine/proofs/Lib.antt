@@ -6,3 +6,5 @@ pub mod Grants
 pub mod Traces
 pub mod Ends
 pub mod Reached
+pub mod Variables
+pub mod Held

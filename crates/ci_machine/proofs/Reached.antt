@@ -1,9 +1,10 @@
 -- What holds of every state that a history leads to.
-use Rattle.std.specs.Prelude.{◌≡◌, ℕ, ◌+◌, ◌<◌, ◌≤◌, Bool, true, false, not, ◌==◌, ◌&&◌, nat_lt, nat_le, List, [], ◌∷◌, ◌++◌, length, map, if◌then◌else◌, Option, Some, None, option_map, Result, Ok, Err, Contains}
+use Rattle.std.specs.Prelude.{◌≡◌, ℕ, ◌+◌, ◌<◌, ◌≤◌, Bool, true, false, not, ◌==◌, ◌&&◌, nat_lt, nat_le, List, [], ◌∷◌, ◌++◌, length, map, if◌then◌else◌, Option, Some, None, option_map, Result, Ok, Err}
 use Rattle.std.specs.List.{flat_map}
 use Rattle.std.specs.Str.{bytes_eq}
 use Rattle.std.proofs.Common.{refl, sym, ap, subst, ◌∙◌, inl, inr, ⊎_elim, arith, eqb-true, eq-eqb}
 use Rattle.std.proofs.lemmas.Bool.{cond_both}
+use Rattle.std.proofs.lemmas.Slice.Eq.{bytes_eq-Decides}
 use Rattle.ci_machine.specs.declared.records.Project.{Project}
 use Rattle.ci_machine.specs.declared.records.Runner.{Runner}
 use Rattle.ci_machine.specs.declared.records.Pipeline.{Pipeline}
@@ -57,10 +58,10 @@ use Rattle.ci_machine.specs.Sweeps.{sweep}
 use Rattle.ci_machine.specs.Reply.{status_of_state}
 use Rattle.ci_machine.specs.Step.{Does, Happens, project_at, project_with, runner_with, job_at, attempt_at, pipeline_of, last_attempt, pieces_in, lease_of, leases, live_attempts, attempts_of, is_pending, pending_jobs, queued, queue, offer, offered_variables}
 use Rattle.ci_machine.specs.History.{Past, Leads}
-use Rattle.ci_machine.specs.Laws.{grants, is_grant, accepted_bytes, IsLeastEligible, WasGranted, IsTraced, EndsStay, Laws}
+use Rattle.ci_machine.specs.Laws.{grants, is_grant, accepted_bytes, IsLeastEligible}
 use Rattle.ci_machine.proofs.Keyed.{Has, Rising, has_put, rising_put, rising_filter, has_filter, filter_has, has_find, least_find, find-map, one_at, All-from_has, contains_from_has}
 use Rattle.ci_machine.proofs.Grants as leased
-use Rattle.ci_machine.proofs.Grants.{Grants, one_lease, grants_empty}
+use Rattle.ci_machine.proofs.Grants.{Grants, grants_empty}
 use Rattle.ci_machine.proofs.Traces as pieces
 use Rattle.ci_machine.proofs.Ends as finals
 use Rattle.ci_machine.proofs.Ends.{Ends, renewed_live, leased_live}
@@ -70,15 +71,6 @@ pub record Inv (h : List Past) (s : State) : Type 0 where
   pub grants : Grants h s
   pub traces : Traces h s
   pub ends : Ends h s
-
--- the invariant gives the laws
-pub laws_from : (h : List Past) (s : State) → Inv h s → Laws h s
-laws_from h s i = record {
-  one_lease = one_lease h s i.grants;
-  was_granted = All-from_has (WasGranted h) s.attempts i.grants.granted;
-  traced = All-from_has (IsTraced h s) s.attempts i.traces.traced;
-  ends_stay = All-from_has (λ (p : Past). EndsStay p.before s) h (λ p k. All-from_has (λ (a : Attempt). is_live a ≡ false → Contains s.attempts a) p.before.attempts (λ a m l. contains_from_has a s.attempts (i.ends p k a m l)));
-}
 
 -- the line of an event with this answer
 abbrev line : State → Event → ℕ → Seed → Answer → Past
@@ -213,9 +205,9 @@ pending_free s job p a k e =
 
 -- a grant
 starts : (h : List Past) (s : State) (token : List ℕ) (now : ℕ) (seed : Seed) (runner : Runner) (q : QueuedJob) (vs : List JobVariable) (job : Job) → Inv h s
-    → is_pending s job ≡ true → job.id ≡ q.job.id → IsLeastEligible s runner job → After h s (event.Request (AskJob token)) now seed (granted runner q vs s.next.attempt now seed)
-starts h s token now seed runner q vs job i pending its_job eligible = record {
-  grants = leased.gives h s _ _ _ i.grants refl (λ a k l m. pending_free s job pending a k (m ∙ sym its_job)) (λ n. refl) runner job refl its_job eligible refl refl refl;
+    → is_pending s job ≡ true → job.id ≡ q.job.id → IsLeastEligible s runner job → runner.token ≡ token → After h s (event.Request (AskJob token)) now seed (granted runner q vs s.next.attempt now seed)
+starts h s token now seed runner q vs job i pending its_job eligible asked = record {
+  grants = leased.gives h s _ _ _ i.grants refl (λ a k l m. pending_free s job pending a k (m ∙ sym its_job)) (λ n. refl) runner job refl its_job eligible (ap (λ t. event.Request (AskJob t)) (sym asked)) refl refl refl;
   traces = pieces.stays h s _ _ i.traces (λ n. refl) refl (omega arith) (λ b k. ⊎_elim
       (λ w. inr (record { id = let m : b.id ≡ s.next.attempt = ap (λ (c : Attempt). c.id) w in omega arith; pieces = ap (λ (c : Attempt). c.pieces) w; size = ap (λ (c : Attempt). c.size) w }))
       (λ m. same s b m)
@@ -245,7 +237,7 @@ grants_least h s token now seed i runner found q offered vs =
       allowed = first.1;
       least = All-from_has Least s.jobs (λ other k p m.
           least_find (λ (w : Job). w.id) test job other 0 (pending_jobs s) (rising_filter (λ (w : Job). w.id) (is_pending s) 0 s.jobs i.grants.jobs_rise) at.1.1 (filter_has (is_pending s) other s.jobs k p) m);
-    }))
+    }) ((bytes_eq-Decides runner.token token).0 is_runner.1))
 
 offers : (h : List Past) (s : State) (token : List ℕ) (now : ℕ) (seed : Seed) → Inv h s → (runner : Runner) → runner_with s token ≡ Some runner
     → (q : Option QueuedJob) → chosen (queue s) runner ≡ q → (vs : List JobVariable)

@@ -1,8 +1,15 @@
 -- What holds of every step and every reached state.
-use Rattle.std.specs.Prelude.{◌≡◌, ◌≤◌, ℕ, Bool, true, false, ◌&&◌, List, [], ◌∷◌, ◌++◌, length, map, filter, count_by, All, Contains, IsSome, ◌==◌, if◌then◌else◌}
+use Rattle.std.specs.Prelude.{⊤, ◌≡◌, ◌≤◌, ℕ, Bool, true, false, ◌&&◌, List, [], ◌∷◌, ◌++◌, length, map, filter, count_by, All, Contains, None, IsSome, ◌==◌, if◌then◌else◌}
 use Rattle.std.specs.List.{range_with_len}
+use Rattle.std.specs.Ordering.{nat_cmp}
+use Rattle.std.specs.Cmp.Lexicographic.{slice_cmp}
+use Rattle.std.specs.List.Sorted.{IsStrictlySortedBy}
+use Rattle.serde_json.specs.Written.{compact_text}
+use Rattle.ci_machine.specs.declared.records.Project.{Project}
 use Rattle.ci_machine.specs.declared.records.Runner.{Runner}
 use Rattle.ci_machine.specs.declared.records.Job.{Job}
+use Rattle.ci_machine.specs.declared.records.JobVariable.{JobVariable}
+use Rattle.ci_machine.specs.declared.records.QueuedJob.{QueuedJob}
 use Rattle.ci_machine.specs.declared.records.Attempt.{Attempt}
 use Rattle.ci_machine.specs.declared.request.Event.{Event}
 use Rattle.ci_machine.specs.declared.request.Event.TheVariants as event
@@ -11,12 +18,17 @@ use Rattle.ci_machine.specs.declared.reply.Answer.{Answer}
 use Rattle.ci_machine.specs.declared.reply.Answer.TheVariants as answer
 use Rattle.ci_machine.specs.declared.reply.HttpStatus.{HttpStatus}
 use Rattle.ci_machine.specs.declared.reply.HttpStatus.TheVariants.{Created, Accepted}
+use Rattle.ci_machine.specs.declared.reply.Swept.{Swept}
 use Rattle.ci_machine.specs.declared.reply.Swept.TheVariants as swept
-use Rattle.ci_machine.specs.Leases.{is_live}
+use Rattle.ci_values.specs.declared.attempts.AttemptState.TheVariants.{Live}
+use Rattle.ci_values.specs.declared.attempts.Cause.{Cause}
+use Rattle.ci_machine.specs.Leases.{is_live, is_over, cause_of}
 use Rattle.ci_machine.specs.Eligible.{may_run}
 use Rattle.ci_machine.specs.State.{State}
+use Rattle.ci_machine.specs.Bodies.{grant_data, granted_variables}
+use Rattle.ci_machine.specs.Plans.{created}
 use Rattle.ci_machine.specs.Shows.{joined}
-use Rattle.ci_machine.specs.Step.{is_pending, queued, pieces_of}
+use Rattle.ci_machine.specs.Step.{is_pending, queued, pieces_of, lease_of, variables_of}
 use Rattle.ci_machine.specs.History.{Past}
 
 -- the answer is a refusal
@@ -50,7 +62,8 @@ pub record IsLeastEligible (s : State) (runner : Runner) (job : Job) : Type 0 wh
   pub allowed : may_run runner (queued s job) ≡ true
   pub least : All (λ other. is_pending s other ≡ true → may_run runner (queued s other) ≡ true → job.id ≤ other.id) s.jobs
 
--- just one line of the history granted the attempt, and in the state before it its job was the least eligible for its runner
+-- just one line of the history granted the attempt; it asked with the token of the attempt's runner, and in the state before it
+-- the attempt's job was the least eligible for that runner
 pub record WasGranted (h : List Past) (a : Attempt) : Type 0 where
   pub line : Past
   pub once : filter (grants a.id) h ≡ line ∷ []
@@ -59,6 +72,7 @@ pub record WasGranted (h : List Past) (a : Attempt) : Type 0 where
   pub its_runner : runner.id ≡ a.runner
   pub its_job : job.id ≡ a.job
   pub eligible : IsLeastEligible line.before runner job
+  pub asked : line.event ≡ event.Request (AskJob runner.token)
 
 abbrev pub is_accepted : HttpStatus → Bool
 is_accepted Accepted = true
@@ -85,9 +99,81 @@ pub record IsTraced (h : List Past) (s : State) (a : Attempt) : Type 0 where
 abbrev pub EndsStay : State → State → Type 0
 EndsStay s t = All (λ a. is_live a ≡ false → Contains t.attempts a) s.attempts
 
+-- what a record has for good, apart from what an event may change of it
+abbrev pub project_for_good : Project → Project
+project_for_good p = record p { file = None }
+
+abbrev pub runner_for_good : Runner → Runner
+runner_for_good r = record r { paused = false }
+
+abbrev pub job_for_good : Job → Job
+job_for_good j = record j { played = false; cancelled = false; set_aside = 0 }
+
+-- the number, the job, the runner, the token and the moment of the grant
+abbrev pub attempt_for_good : Attempt → Attempt
+attempt_for_good a = record a { seen = 0; state = Live; pieces = 0; size = 0 }
+
+-- each record of the one list is in the other, with what it has for good
+abbrev pub Stay : {A : Type 0} → (A → A) → List A → List A → Type 0
+Stay for_good xs ys = All (λ x. Contains (map for_good ys) (for_good x)) xs
+
+-- what was there in the one state is there in the other
+pub record Stays (s t : State) : Type 0 where
+  pub projects : Stay project_for_good s.projects t.projects
+  pub runners : Stay runner_for_good s.runners t.runners
+  pub pipelines : Stay (λ p. p) s.pipelines t.pipelines
+  pub jobs : Stay job_for_good s.jobs t.jobs
+  pub attempts : Stay attempt_for_good s.attempts t.attempts
+
+-- the records that others name are there
+pub record IsLinked (s : State) : Type 0 where
+  pub attempt_job : All (λ a. Contains (map (λ j. j.id) s.jobs) a.job) s.attempts
+  pub attempt_runner : All (λ a. Contains (map (λ r. r.id) s.runners) a.runner) s.attempts
+  pub job_pipeline : All (λ j. Contains (map (λ p. p.id) s.pipelines) j.pipeline) s.jobs
+  pub pipeline_project : All (λ p. Contains (map (λ q. q.id) s.projects) p.project) s.pipelines
+
+-- the lease of the attempt is over at this moment
+abbrev pub is_due : State → ℕ → Attempt → Bool
+is_due s now a = is_live a && is_over a (lease_of s a).limit now
+
+-- the attempt n is the due one of least number, and this is why its lease ends
+pub record IsLeastDue (s : State) (now n : ℕ) (cause : Cause) : Type 0 where
+  pub attempt : Attempt
+  pub is_attempt : Contains s.attempts attempt
+  pub number : attempt.id ≡ n
+  pub due : is_due s now attempt ≡ true
+  pub least : All (λ other. is_due s now other ≡ true → n ≤ other.id) s.attempts
+  pub why : cause ≡ cause_of (lease_of s attempt)
+
+-- a sweep ended the due attempt of least number, or there was none
+abbrev pub SweepsLeast : State → ℕ → Swept → Type 0
+SweepsLeast s now (swept.Ended n cause) = IsLeastDue s now n cause
+SweepsLeast s now swept.Nothing = All (λ a. is_due s now a ≡ false) s.attempts
+SweepsLeast s now (swept.Refused code) = ⊥
+
+abbrev pub IsSweptBy : State → ℕ → Event → Answer → Type 0
+IsSweptBy s now event.Sweep (answer.Swept ended) = SweepsLeast s now ended
+IsSweptBy s now event.Sweep (answer.Reply reply) = ⊥
+IsSweptBy s now (event.Request request) a = ⊤
+
+-- the keys of the variables ascend by their bytes, and differ
+abbrev pub Ascend : List JobVariable → Type 0
+Ascend vs = IsStrictlySortedBy (slice_cmp nat_cmp) (map (λ v. v.key) vs)
+
+-- the answer is a grant's reply, and gives the variables of its job in the order of their keys
+abbrev pub GivesInOrder : State → Answer → Type 0
+GivesInOrder s a =
+    (q : QueuedJob) × (token : List ℕ)
+    × (a ≡ answer.Reply (created (compact_text (grant_data s.next.attempt token q (variables_of s q.job.id)))))
+    × Ascend (granted_variables q.job s.next.attempt (variables_of s q.job.id))
+
 -- what holds of each state that a history leads to
 pub record Laws (h : List Past) (s : State) : Type 0 where
   pub one_lease : OneLease s
   pub was_granted : All (WasGranted h) s.attempts
   pub traced : All (IsTraced h s) s.attempts
   pub ends_stay : All (λ p. EndsStay p.before s) h
+  pub stays : All (λ p. Stays p.before s) h
+  pub linked : IsLinked s
+  pub swept : All (λ p. IsSweptBy p.before p.now p.event p.answer) h
+  pub in_order : All (λ p. is_grant p.event p.answer ≡ true → GivesInOrder p.before p.answer) h

@@ -134,9 +134,11 @@ pub fn trace_examples()
 {}
 
 /// In each state that a history leads to, each job has at most one live attempt; each attempt was granted by just one
-/// request, in a state in which its job was pending and, of those that its runner may run, the one of least number; each
-/// trace is the bytes that were accepted of its attempt, joined in the order of the history; and an attempt that had
-/// ended in an earlier state stands as it ended.
+/// request, with its runner's token, in a state in which its job was pending and, of those that its runner may run, the
+/// one of least number; each trace is the bytes that were accepted of its attempt, joined in the order of the history; an
+/// attempt that had ended in an earlier state stands as it ended; no record of an earlier state is gone; and the records
+/// that others name are there. Each sweep of the history ended the due attempt of least number, or there was none; and
+/// each grant gave the variables of its job in the order of their keys.
 pub fn laws_of_each_reached_state()
     ensures { (h : List Past) (s : State) → Leads h s → Laws h s }
 {}

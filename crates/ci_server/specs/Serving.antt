@@ -6,9 +6,14 @@ use Rattle.ci_machine.specs.declared.reply.Reply.{Reply}
 use Rattle.ci_machine.specs.declared.request.Request.{Request}
 use Rattle.ci_machine.specs.declared.request.Seed.{Seed}
 use Rattle.ci_machine.specs.Reply.{refusal}
-use Rattle.ci_http.specs.Reading.{Reading, ended, refused, request, IsReading}
-use Rattle.ci_http.specs.RequestBytes.{request_in}
+use Rattle.ci_http.specs.Reading.{Message, Reading, ended, refused, request, IsReading, AwaitsBody}
+use Rattle.ci_http.specs.RequestBytes.{request_in, AsksMemory}
 use Rattle.ci_http.specs.Sources.{Tells}
+
+-- memory is asked for while such bytes are read: their head is whole and says that a body follows, which is what is left; or they
+-- begin with a request, and its meaning takes memory
+abbrev pub ReadsByMemory : List ℕ → List ℕ → Type 0
+ReadsByMemory bytes rest = AwaitsBody bytes rest ⊎ ((m : Message) × IsReading bytes (request m) rest × AsksMemory m)
 
 module _ {S : Type 0} (Handles : S → Request → ℕ → Seed → S → Reply → Type 0) (moment : ℕ) (seed : Seed) (old new : S) (reply : Reply) where
   -- a request is handled once; where there is none, nothing is handled, and the reply is the one that refuses it
@@ -26,9 +31,12 @@ module _ {S : Type 0} (Handles : S → Request → ℕ → Seed → S → Reply 
   abbrev pub LacksMemory : Type 0
   LacksMemory = (new ≡ old) × (reply ≡ refusal M16)
 
-  -- the reply is that to some reading, which is the one of the bytes where the reader tells them: one step at most
+  -- the reply is that to some reading, which is the one of the bytes where the reader tells them: one step at most; or memory was
+  -- refused, and then the bytes, where the reader tells them, are of those that ask for it
   abbrev pub Serves : Option (List ℕ) → Option (List ℕ) → Type 0
-  Serves had left = LacksMemory ⊎ ((reading : Reading) × Answers reading × Tells had left (λ bytes rest. IsReading bytes reading rest))
+  Serves had left =
+      (LacksMemory × Tells had left ReadsByMemory)
+      ⊎ ((reading : Reading) × Answers reading × Tells had left (λ bytes rest. IsReading bytes reading rest))
 
 -- a beginning of the text was written, and nothing else
 abbrev pub WritesFront : Option (List ℕ) → Option (List ℕ) → List ℕ → Type 0

@@ -5,7 +5,7 @@ ghost use Rattle.std.specs.Io.KnownBytes.{Appends};
 ghost use Rattle.ci_machine.specs.declared.reply.Reply.{Reply};
 ghost use Rattle.ci_http.specs.Reading.{ended, IsReading};
 ghost use Rattle.ci_http.specs.ReplyText.{reply_text};
-ghost use Rattle.ci_http.specs.RequestBytes.{request_in};
+ghost use Rattle.ci_http.specs.RequestBytes.{request_in, AsksMemory};
 ghost use Rattle.ci_server.specs.Serving.{AnswersAsked, LacksMemory, Serves, WritesFront};
 ghost use Rattle.ci_http.specs.Sources.{Tells, TakesFront, Fails};
 
@@ -127,7 +127,7 @@ fn answer<H: Handler>(
     moment: Moment,
     seed: Seed,
 ) -> Reply
-    ensures { LacksMemory H.handles moment seed handler.old handler.new result
+    ensures { (LacksMemory H.handles moment seed handler.old handler.new result × AsksMemory call.now)
         ⊎ AnswersAsked H.handles moment seed handler.old handler.new result (request_in call.now) }
 {
     match request_of(alloc, call) {

@@ -1,4 +1,4 @@
-use Rattle.std.proofs.Common.{◌≡◌, ◌∙◌, refl, ap, sym, true, false, inr}
+use Rattle.std.proofs.Common.{◌≡◌, ◌∙◌, refl, ap, sym, true, false, inl, inr}
 use Rattle.std.specs.Prelude.{Some, None, option_and_then, is_some, if◌then◌else◌}
 use Rattle.std.specs.Str.{is_utf8}
 use Rattle.std.proofs.lemmas.Str.{IsUtf8-from_is_utf8, is_utf8-from_IsUtf8}
@@ -27,3 +27,9 @@ returns-in-Ok-from_str-clause-ok c =
     let same : json_of body ≡ Some value = ap (λ b. if b then read body else None) encoded ∙ reads in
     let is_one : is_some (as_object value) ≡ true = sym c.is_object.ensures ∙ c.if-is_object.true in
     ap (option_and_then only_object) same ∙ ap (λ b. if b then Some value else None) is_one
+
+pub returns-in-Ok-from_str-clause-text : goal.returns-in-Ok-from_str-clause-text
+returns-in-Ok-from_str-clause-text c = is_utf8-from_IsUtf8 c.args.body.now c.in-Ok.ensures.cases.1
+
+pub returns-in-Err-clause-err : goal.returns-in-Err-clause-err
+returns-in-Err-clause-err c = inl (refl, is_utf8-from_IsUtf8 c.args.body.now c.in-Ok.ensures.cases.1)

@@ -1,0 +1,511 @@
+-- What stays, which records others name, and what sweeps end, in every state that a history leads to; and all its laws.
+use Rattle.std.specs.Prelude.{◌≡◌, ◌⊎◌, ℕ, ◌+◌, ◌<◌, ◌≤◌, Bool, true, false, ◌==◌, ◌&&◌, not, max, List, [], ◌∷◌, ◌++◌, length, map, find, Option, Some, None, Contains}
+use Rattle.std.specs.List.{flat_map}
+use Rattle.std.specs.Ordering.{nat_cmp, is_eq, is_lt}
+use Rattle.std.specs.declared.cmp.Ordering.{Ordering}
+use Rattle.std.proofs.Common.{refl, sym, ap, subst, ◌∙◌, inl, inr, ⊎_elim, arith, eqb-true}
+use Rattle.std.proofs.lemmas.Bool.{and_parts, cases_Bool, cond_both}
+use Rattle.ci_machine.specs.declared.records.Project.{Project}
+use Rattle.ci_machine.specs.declared.records.Runner.{Runner}
+use Rattle.ci_machine.specs.declared.records.Pipeline.{Pipeline}
+use Rattle.ci_machine.specs.declared.records.Job.{Job}
+use Rattle.ci_machine.specs.declared.records.JobVariable.{JobVariable}
+use Rattle.ci_machine.specs.declared.records.Attempt.{Attempt}
+use Rattle.ci_machine.specs.declared.lease.Lease.{Lease}
+use Rattle.ci_machine.specs.declared.change.RowChange.{RowChange}
+use Rattle.ci_machine.specs.declared.change.RowChange.TheVariants.{Add, Put}
+use Rattle.ci_machine.specs.declared.change.Record.TheVariants as row
+use Rattle.ci_machine.specs.declared.request.NewJob.{NewJob}
+use Rattle.ci_machine.specs.declared.request.NewPipeline.{NewPipeline}
+use Rattle.ci_machine.specs.declared.request.Event.{Event}
+use Rattle.ci_machine.specs.declared.request.Event.TheVariants as event
+use Rattle.ci_machine.specs.declared.request.Seed.{Seed}
+use Rattle.ci_machine.specs.declared.reply.Answer.{Answer}
+use Rattle.ci_machine.specs.declared.reply.Answer.TheVariants as answer
+use Rattle.ci_machine.specs.declared.reply.Swept.{Swept}
+use Rattle.ci_machine.specs.State.{State, empty, applied, placed, put, others, pipeline_cmp, job_cmp, job_variable_cmp, attempt_cmp}
+use Rattle.ci_machine.specs.Leases.{is_live, cause_of, is_over, first_due}
+use Rattle.ci_machine.specs.Plans.{Plan}
+use Rattle.ci_machine.specs.Pipelines.{new_job, new_jobs, new_pipeline, predefined, job_changes, entered}
+use Rattle.ci_machine.specs.Sweeps.{sweep}
+use Rattle.ci_machine.specs.Traces.{grown as traces_grown}
+use Rattle.ci_machine.specs.Step.{Happens, project_at, lease_of, leases, live_attempts}
+use Rattle.ci_machine.specs.History.{Past, Leads}
+use Rattle.ci_machine.specs.Laws.{WasGranted, IsTraced, EndsStay, Stay, project_for_good, runner_for_good, job_for_good, attempt_for_good, Stays, IsLinked, is_due, SweepsLeast, IsSweptBy, is_grant, GivesInOrder, Laws}
+use Rattle.ci_machine.proofs.Keyed.{Has, Rising, has_put, put_has, same, rising_filter, filter_has, has_filter, has_find, least_find, find-map, one_at, All-from_has, contains_from_has}
+use Rattle.ci_machine.proofs.EachPlan.{Each, does}
+use Rattle.ci_machine.proofs.Grants.{one_lease}
+use Rattle.ci_machine.proofs.Reached.{reached}
+use Rattle.ci_machine.proofs.Variables.{Ordered, changes_ordered, gives_in_order}
+
+-- ---- lists
+
+has_map : {A B : Type 0} (f : A → B) (x : A) (xs : List A) → Has x xs → Has (f x) (map f xs)
+has_map f x [] k = absurd k
+has_map f x (z ∷ zs) k = ⊎_elim (λ e. inl (ap f e)) (λ m. inr (has_map f x zs m)) k
+
+find_none : {A : Type 0} (p : A → Bool) (x : A) (xs : List A) → find p xs ≡ None → Has x xs → p x ≡ false
+find_none p x [] e k = absurd k
+find_none p x (z ∷ zs) e k =
+    cond_both (p z) (Some z) (find p zs) (λ o. o ≡ None → p x ≡ false)
+    (λ _ f. absurd (cc))
+    (λ n f. ⊎_elim (λ q. ap p q ∙ n) (λ m. find_none p x zs f m) k)
+    e
+
+has_self : {A : Type 0} (cmp : A → A → Ordering) (x : A) (xs : List A) → Has x (placed cmp x xs)
+has_self cmp x [] = inl refl
+has_self cmp x (z ∷ zs) = cond_both (is_lt (cmp z x)) (z ∷ placed cmp x zs) (x ∷ z ∷ zs) (λ l. Has x l) (λ _. inr (has_self cmp x zs)) (λ _. inl refl)
+
+-- each record of the one list is in the other, with what it has for good
+abbrev Kept : {A : Type 0} → (A → A) → List A → List A → Type 0
+Kept {A} f xs ys = (x : A) → Has x xs → (y : A) × (Has y ys × (f y ≡ f x))
+
+kept : {A : Type 0} (f : A → A) (xs ys : List A) → ys ≡ xs → Kept f xs ys
+kept f xs ys e x k = (x, (subst (Has x) (sym e) k, refl))
+
+kept_through : {A : Type 0} (f : A → A) (xs ys zs : List A) → Kept f xs ys → Kept f ys zs → Kept f xs zs
+kept_through f xs ys zs a b x k =
+    let y = a x k in
+    let z = b y.0 y.1.0 in
+    (z.0, (z.1.0, z.1.1 ∙ y.1.1))
+
+-- all numbers are less than n
+abbrev Below : {A : Type 0} → (A → ℕ) → ℕ → List A → Type 0
+Below {A} id n xs = (x : A) → Has x xs → id x < n
+
+below_put : {A : Type 0} (id : A → ℕ) (x : A) (n m : ℕ) (xs : List A) → Below id n xs → n ≤ m → id x < m → Below id m (put (λ a b. nat_cmp (id a) (id b)) x xs)
+below_put id x n m xs b l lt y k =
+    ⊎_elim (λ e. subst (λ (w : _). id w < m) (sym e) lt) (λ h. let z : id y < n = b y h in omega arith) (has_put (λ a b. nat_cmp (id a) (id b)) x y xs k)
+
+-- a record whose number is new
+kept_new : {A : Type 0} (id : A → ℕ) (f : A → A) (x : A) (n : ℕ) (xs : List A) → Below id n xs → n ≤ id x → Kept f xs (put (λ a b. nat_cmp (id a) (id b)) x xs)
+kept_new id f x n xs b l y k =
+    let cmp = λ (v w : _). nat_cmp (id v) (id w) in
+    ⊎_elim
+    (λ e. absurd (let q : id y ≡ id x = same (id y) (id x) e in let z : id y < n = b y k in omega arith))
+    (λ e. (y, (put_has cmp x y xs k (ap not e), refl)))
+    (cases_Bool (is_eq (nat_cmp (id y) (id x))))
+
+-- a record in place of one of its number
+kept_put : {A : Type 0} (id : A → ℕ) (f : A → A) (x a : A) (xs : List A) → Rising id 0 xs → Has a xs → id x ≡ id a → f x ≡ f a
+    → Kept f xs (put (λ v w. nat_cmp (id v) (id w)) x xs)
+kept_put id f x a xs r has same_id good y k =
+    let cmp = λ (v w : _). nat_cmp (id v) (id w) in
+    ⊎_elim
+    (λ e. let q : y ≡ a = one_at id y a 0 xs r k has (same (id y) (id x) e ∙ same_id) in (x, (has_self cmp x (others cmp x xs), good ∙ ap f (sym q))))
+    (λ e. (y, (put_has cmp x y xs k (ap not e), refl)))
+    (cases_Bool (is_eq (nat_cmp (id y) (id x))))
+
+-- a record of the list has this number
+abbrev Named : {A : Type 0} → (A → ℕ) → ℕ → List A → Type 0
+Named {A} id n xs = (x : A) × (Has x xs × (id x ≡ n))
+
+named_kept : {A : Type 0} (id : A → ℕ) (f : A → A) (n : ℕ) (xs ys : List A) → ((x y : A) → f y ≡ f x → id y ≡ id x) → Kept f xs ys → Named id n xs → Named id n ys
+named_kept id f n xs ys g k w =
+    let y = k w.0 w.1.0 in
+    (y.0, (y.1.0, g w.0 y.0 y.1.1 ∙ w.1.1))
+
+contains_named : {A : Type 0} (id : A → ℕ) (n : ℕ) (xs : List A) → Named id n xs → Contains (map id xs) n
+contains_named id n xs w = contains_from_has n (map id xs) (subst (λ m. Has m (map id xs)) w.1.1 (has_map id w.0 xs w.1.0))
+
+-- ---- what a step leaves
+
+-- what was there is there
+record Later (s t : State) : Type 0 where
+  projects : Kept project_for_good s.projects t.projects
+  runners : Kept runner_for_good s.runners t.runners
+  pipelines : Kept (λ p. p) s.pipelines t.pipelines
+  jobs : Kept job_for_good s.jobs t.jobs
+  attempts : Kept attempt_for_good s.attempts t.attempts
+
+later_through : (s m t : State) → Later s m → Later m t → Later s t
+later_through s m t a b = record {
+  projects = kept_through project_for_good s.projects m.projects t.projects a.projects b.projects;
+  runners = kept_through runner_for_good s.runners m.runners t.runners a.runners b.runners;
+  pipelines = kept_through (λ p. p) s.pipelines m.pipelines t.pipelines a.pipelines b.pipelines;
+  jobs = kept_through job_for_good s.jobs m.jobs t.jobs a.jobs b.jobs;
+  attempts = kept_through attempt_for_good s.attempts m.attempts t.attempts a.attempts b.attempts;
+}
+
+later_self : (s : State) → Later s s
+later_self s = record {
+  projects = kept project_for_good s.projects s.projects refl;
+  runners = kept runner_for_good s.runners s.runners refl;
+  pipelines = kept (λ p. p) s.pipelines s.pipelines refl;
+  jobs = kept job_for_good s.jobs s.jobs refl;
+  attempts = kept attempt_for_good s.attempts s.attempts refl;
+}
+
+-- numbers that are still to come are new, and the records that others name are there
+record Linked (s : State) : Type 0 where
+  project_below : Below (λ (p : Project). p.id) s.next.project s.projects
+  runner_below : Below (λ (r : Runner). r.id) s.next.runner s.runners
+  pipeline_below : Below (λ (p : Pipeline). p.id) s.next.pipeline s.pipelines
+  job_below : Below (λ (j : Job). j.id) s.next.job s.jobs
+  attempt_job : (a : Attempt) → Has a s.attempts → Named (λ (j : Job). j.id) a.job s.jobs
+  attempt_runner : (a : Attempt) → Has a s.attempts → Named (λ (r : Runner). r.id) a.runner s.runners
+  job_pipeline : (j : Job) → Has j s.jobs → Named (λ (p : Pipeline). p.id) j.pipeline s.pipelines
+  pipeline_project : (p : Pipeline) → Has p s.pipelines → Named (λ (q : Project). q.id) p.project s.projects
+
+-- the next state: what was there is there, and its new records are linked
+record Next (s t : State) : Type 0 where
+  later : Later s t
+  project_below : Below (λ (p : Project). p.id) t.next.project t.projects
+  runner_below : Below (λ (r : Runner). r.id) t.next.runner t.runners
+  pipeline_below : Below (λ (p : Pipeline). p.id) t.next.pipeline t.pipelines
+  job_below : Below (λ (j : Job). j.id) t.next.job t.jobs
+  attempts : (a : Attempt) → Has a t.attempts → Has a s.attempts ⊎ (Named (λ (j : Job). j.id) a.job t.jobs × Named (λ (r : Runner). r.id) a.runner t.runners)
+  jobs : (j : Job) → Has j t.jobs → Has j s.jobs ⊎ Named (λ (p : Pipeline). p.id) j.pipeline t.pipelines
+  pipelines : (p : Pipeline) → Has p t.pipelines → Has p s.pipelines ⊎ Named (λ (q : Project). q.id) p.project t.projects
+
+linked_on : (s t : State) → Linked s → Next s t → Linked t
+linked_on s t i n = record {
+  project_below = n.project_below;
+  runner_below = n.runner_below;
+  pipeline_below = n.pipeline_below;
+  job_below = n.job_below;
+  attempt_job = λ a k. ⊎_elim (λ m. named_kept (λ (j : Job). j.id) job_for_good a.job s.jobs t.jobs (λ x y e. ap (λ (j : Job). j.id) e) n.later.jobs (i.attempt_job a m)) (λ w. w.0) (n.attempts a k);
+  attempt_runner = λ a k. ⊎_elim (λ m. named_kept (λ (r : Runner). r.id) runner_for_good a.runner s.runners t.runners (λ x y e. ap (λ (r : Runner). r.id) e) n.later.runners (i.attempt_runner a m)) (λ w. w.1) (n.attempts a k);
+  job_pipeline = λ j k. ⊎_elim (λ m. named_kept (λ (p : Pipeline). p.id) (λ p. p) j.pipeline s.pipelines t.pipelines (λ x y e. ap (λ (p : Pipeline). p.id) e) n.later.pipelines (i.job_pipeline j m)) (λ w. w) (n.jobs j k);
+  pipeline_project = λ p k. ⊎_elim (λ m. named_kept (λ (q : Project). q.id) project_for_good p.project s.projects t.projects (λ x y e. ap (λ (q : Project). q.id) e) n.later.projects (i.pipeline_project p m)) (λ w. w) (n.pipelines p k);
+}
+
+-- nothing changes
+rests : (s : State) → Linked s → Next s s
+rests s i = record {
+  later = later_self s;
+  project_below = i.project_below;
+  runner_below = i.runner_below;
+  pipeline_below = i.pipeline_below;
+  job_below = i.job_below;
+  attempts = λ a k. inl k;
+  jobs = λ j k. inl k;
+  pipelines = λ p k. inl k;
+}
+
+-- an attempt in place of one of its number, job, runner, token and grant
+alters : (s : State) (x a : Attempt) → Linked s → Rising (λ (b : Attempt). b.id) 0 s.attempts → Has a s.attempts → attempt_for_good x ≡ attempt_for_good a
+    → Next s (applied (Put (row.Attempt x) ∷ []) s)
+alters s x a i r has good = record {
+  later = record {
+    projects = kept project_for_good s.projects s.projects refl;
+    runners = kept runner_for_good s.runners s.runners refl;
+    pipelines = kept (λ p. p) s.pipelines s.pipelines refl;
+    jobs = kept job_for_good s.jobs s.jobs refl;
+    attempts = kept_put (λ (b : Attempt). b.id) attempt_for_good x a s.attempts r has (ap (λ (b : Attempt). b.id) good) good;
+  };
+  project_below = i.project_below;
+  runner_below = i.runner_below;
+  pipeline_below = i.pipeline_below;
+  job_below = i.job_below;
+  attempts = λ b k. ⊎_elim
+      (λ e. let same_job : a.job ≡ b.job = sym (ap (λ (c : Attempt). c.job) e ∙ ap (λ (c : Attempt). c.job) good) in
+      let same_runner : a.runner ≡ b.runner = sym (ap (λ (c : Attempt). c.runner) e ∙ ap (λ (c : Attempt). c.runner) good) in
+      inr (subst (λ n. Named (λ (j : Job). j.id) n s.jobs) same_job (i.attempt_job a has), subst (λ n. Named (λ (q : Runner). q.id) n s.runners) same_runner (i.attempt_runner a has)))
+      (λ m. inl m) (has_put attempt_cmp x b s.attempts k);
+  jobs = λ j k. inl k;
+  pipelines = λ p k. inl k;
+}
+
+-- ---- the jobs of a new pipeline
+
+-- the state but for variables and pieces
+abbrev main : State → State
+main s = record s { job_variables = []; pieces = [] }
+
+variables_leave : (vs : List JobVariable) (s : State) → main (applied (map (λ v. Add (row.JobVariable v)) vs) s) ≡ main s
+variables_leave [] s = refl
+variables_leave (v ∷ vs) s = variables_leave vs (applied (Add (row.JobVariable v) ∷ []) s)
+
+applied-append : (xs ys : List RowChange) (s : State) → applied (xs ++ ys) s ≡ applied ys (applied xs s)
+applied-append [] ys s = refl
+applied-append (x ∷ xs) ys s = applied-append xs ys _
+
+-- what rows of jobs and of their variables leave
+record Adds (s t : State) (pipeline n : ℕ) : Type 0 where
+  others : record (main t) { jobs = [] } ≡ record (main s) { jobs = [] }
+  kept : Kept job_for_good s.jobs t.jobs
+  new : (j : Job) → Has j t.jobs → Has j s.jobs ⊎ (j.pipeline ≡ pipeline)
+  below : Below (λ (j : Job). j.id) n t.jobs
+
+adds : (p : Pipeline) (stage : List ℕ) (id first position : ℕ) (js : List NewJob) (s : State) → Below (λ (j : Job). j.id) (first + position) s.jobs
+    → Adds s (applied (flat_map (job_changes p) (new_jobs stage id first position js)) s) id (first + (position + length js))
+adds p stage id first position [] s b = record {
+  others = refl;
+  kept = kept job_for_good s.jobs s.jobs refl;
+  new = λ j k. inl k;
+  below = λ j k. let z : j.id < first + position = b j k in omega arith;
+}
+adds p stage id first position (x ∷ xs) s b =
+    let j = new_job stage id first position x in
+    let rest = flat_map (job_changes p) (new_jobs stage id first (position + 1) xs) in
+    let one = applied (Add (row.Job j) ∷ []) s in
+    let m = applied (job_changes p j) s in
+    let left : main m ≡ main one = variables_leave (predefined p j) one in
+    let jobs : m.jobs ≡ put job_cmp j s.jobs = ap (λ (w : State). w.jobs) left in
+    let ids = λ (w : Job). w.id in
+    let lower : Below ids (first + (position + 1)) m.jobs
+    = subst (Below ids (first + (position + 1))) (sym jobs) (below_put ids j (first + position) (first + (position + 1)) s.jobs b (omega arith) (omega arith)) in
+    let a = adds p stage id first (position + 1) xs m lower in
+    let here : Kept job_for_good s.jobs m.jobs = subst (Kept job_for_good s.jobs) (sym jobs) (kept_new ids job_for_good j (first + position) s.jobs b (omega arith)) in
+    let t = applied rest m in
+    let made : Adds s t id (first + (position + length (x ∷ xs))) = record {
+      others = a.others ∙ ap (λ (w : State). record w { jobs = [] }) left;
+      kept = kept_through job_for_good s.jobs m.jobs t.jobs here a.kept;
+      new = λ w k. ⊎_elim (λ l. ⊎_elim (λ e. inr (ap (λ (v : Job). v.pipeline) e)) (λ h. inl h) (has_put job_cmp j w s.jobs (subst (Has w) jobs l))) (λ e. inr e) (a.new w k);
+      below = λ w k. let z : w.id < first + ((position + 1) + length xs) = a.below w k in omega arith;
+    } in
+    subst (λ w. Adds s w id (first + (position + length (x ∷ xs)))) (sym (applied-append (job_changes p j) rest s)) made
+
+enters : (s : State) (project : Project) (p : NewPipeline) (now : ℕ) → Linked s → project_at s p.project ≡ Some project
+    → Next s (applied (entered s.next.pipeline s.next.job p now).1 s)
+enters s project p now i found =
+    let pipeline = new_pipeline s.next.pipeline p now in
+    let pids = λ (w : Pipeline). w.id in
+    let m = applied (Add (row.Pipeline pipeline) ∷ []) s in
+    let start = record m { next = record s.next { pipeline = s.next.pipeline + 1; job = s.next.job + length p.jobs } } in
+    let t = applied (flat_map (job_changes pipeline) (new_jobs p.stage s.next.pipeline s.next.job 0 p.jobs)) start in
+    let a = adds pipeline p.stage s.next.pipeline s.next.job 0 p.jobs start (λ j k. let z : j.id < s.next.job = i.job_below j k in omega arith) in
+    let projects : t.projects ≡ s.projects = ap (λ (w : State). w.projects) a.others in
+    let runners : t.runners ≡ s.runners = ap (λ (w : State). w.runners) a.others in
+    let attempts : t.attempts ≡ s.attempts = ap (λ (w : State). w.attempts) a.others in
+    let pipelines : t.pipelines ≡ m.pipelines = ap (λ (w : State). w.pipelines) a.others in
+    let next : t.next ≡ start.next = ap (λ (w : State). w.next) a.others in
+    let its = has_find (λ (w : Project). w.id == p.project) project s.projects found in
+    let is_project : Named (λ (w : Project). w.id) p.project t.projects = (project, (subst (Has project) (sym projects) its.0, eqb-true project.id p.project its.1)) in
+    let is_pipeline : Named pids s.next.pipeline t.pipelines = (pipeline, (subst (Has pipeline) (sym pipelines) (has_self pipeline_cmp pipeline (others pipeline_cmp pipeline s.pipelines)), refl)) in
+    record {
+      later = record {
+        projects = kept project_for_good s.projects t.projects projects;
+        runners = kept runner_for_good s.runners t.runners runners;
+        pipelines = subst (Kept (λ (w : Pipeline). w) s.pipelines) (sym pipelines) (kept_new pids (λ w. w) pipeline s.next.pipeline s.pipelines i.pipeline_below (omega arith));
+        jobs = a.kept;
+        attempts = kept attempt_for_good s.attempts t.attempts attempts;
+      };
+      project_below = λ w k. subst (λ n. w.id < n.project) (sym next) (i.project_below w (subst (Has w) projects k));
+      runner_below = λ w k. subst (λ n. w.id < n.runner) (sym next) (i.runner_below w (subst (Has w) runners k));
+      pipeline_below = λ w k. subst (λ n. w.id < n.pipeline) (sym next) (below_put pids pipeline s.next.pipeline (s.next.pipeline + 1) s.pipelines i.pipeline_below (omega arith) (omega arith) w (subst (Has w) pipelines k));
+      job_below = λ w k. subst (λ n. w.id < n.job) (sym next) (let z : w.id < s.next.job + (0 + length p.jobs) = a.below w k in omega arith);
+      attempts = λ w k. inl (subst (Has w) attempts k);
+      jobs = λ w k. ⊎_elim (λ l. inl l) (λ e. inr (subst (λ n. Named pids n t.pipelines) (sym e) is_pipeline)) (a.new w k);
+      pipelines = λ w k. ⊎_elim
+          (λ e. inr (subst (λ n. Named (λ (v : Project). v.id) n t.projects) (sym (ap (λ (v : Pipeline). v.project) e)) is_project))
+          (λ l. inl l) (has_put pipeline_cmp pipeline w s.pipelines (subst (Has w) pipelines k));
+    }
+
+-- ---- each step
+
+abbrev Goes : State → Plan → Type 0
+Goes s plan = Next s (applied plan.1 s)
+
+goes : (s : State) → Linked s → Rising (λ (a : Attempt). a.id) 0 s.attempts → Below (λ (a : Attempt). a.id) s.next.attempt s.attempts → Each s (Goes s)
+goes s i r b = record {
+  refused = λ c m. rests s i;
+  faulted = λ d. rests s i;
+  project = λ name seed. record {
+    later = record {
+      projects = kept_new (λ (w : Project). w.id) project_for_good _ s.next.project s.projects i.project_below (omega arith);
+      runners = kept runner_for_good s.runners s.runners refl;
+      pipelines = kept (λ p. p) s.pipelines s.pipelines refl;
+      jobs = kept job_for_good s.jobs s.jobs refl;
+      attempts = kept attempt_for_good s.attempts s.attempts refl;
+    };
+    project_below = below_put (λ (w : Project). w.id) _ s.next.project (s.next.project + 1) s.projects i.project_below (omega arith) (omega arith);
+    runner_below = i.runner_below;
+    pipeline_below = i.pipeline_below;
+    job_below = i.job_below;
+    attempts = λ a k. inl k;
+    jobs = λ j k. inl k;
+    pipelines = λ p k. inl k;
+  };
+  runner = λ name seed. record {
+    later = record {
+      projects = kept project_for_good s.projects s.projects refl;
+      runners = kept_new (λ (w : Runner). w.id) runner_for_good _ s.next.runner s.runners i.runner_below (omega arith);
+      pipelines = kept (λ p. p) s.pipelines s.pipelines refl;
+      jobs = kept job_for_good s.jobs s.jobs refl;
+      attempts = kept attempt_for_good s.attempts s.attempts refl;
+    };
+    project_below = i.project_below;
+    runner_below = below_put (λ (w : Runner). w.id) _ s.next.runner (s.next.runner + 1) s.runners i.runner_below (omega arith) (omega arith);
+    pipeline_below = i.pipeline_below;
+    job_below = i.job_below;
+    attempts = λ a k. inl k;
+    jobs = λ j k. inl k;
+    pipelines = λ p k. inl k;
+  };
+  pipeline = λ project p now found. enters s project p now i found;
+  nothing = rests s i;
+  granted = λ runner job q variables now seed has_runner has_job its_job. record {
+    later = record {
+      projects = kept project_for_good s.projects s.projects refl;
+      runners = kept runner_for_good s.runners s.runners refl;
+      pipelines = kept (λ p. p) s.pipelines s.pipelines refl;
+      jobs = kept job_for_good s.jobs s.jobs refl;
+      attempts = kept_new (λ (w : Attempt). w.id) attempt_for_good _ s.next.attempt s.attempts b (omega arith);
+    };
+    project_below = i.project_below;
+    runner_below = i.runner_below;
+    pipeline_below = i.pipeline_below;
+    job_below = i.job_below;
+    attempts = λ a k. ⊎_elim
+        (λ e. inr ((job, (has_job, its_job ∙ sym (ap (λ (w : Attempt). w.job) e))), (runner, (has_runner, sym (ap (λ (w : Attempt). w.runner) e)))))
+        (λ m. inl m) (has_put attempt_cmp _ a s.attempts k);
+    jobs = λ j k. inl k;
+    pipelines = λ p k. inl k;
+  };
+  turned_away = λ fault. rests s i;
+  heard = λ a seen has. alters s (record a { seen = seen }) a i r has refl;
+  ended = λ a state has.
+      let x = record a { state = state } in
+      cond_both (is_live a) (Put (row.Attempt x) ∷ []) [] (λ cs. Next s (applied cs s)) (λ _. alters s x a i r has refl) (λ _. rests s i);
+  misplaced = λ fault. rests s i;
+  grown = λ a bytes now size has. grows a bytes now size has;
+  shown = λ job last. rests s i;
+  traced = λ pieces. rests s i;
+} where
+  grows : (a : Attempt) (bytes : List ℕ) (now size : ℕ) → Has a s.attempts → Goes s (traces_grown a bytes now size)
+  grows a bytes now size has =
+      let n = alters s (record a { seen = max a.seen now; pieces = a.pieces + 1; size = size }) a i r has refl in
+      record {
+        later = record { projects = n.later.projects; runners = n.later.runners; pipelines = n.later.pipelines; jobs = n.later.jobs; attempts = n.later.attempts };
+        project_below = n.project_below;
+        runner_below = n.runner_below;
+        pipeline_below = n.pipeline_below;
+        job_below = n.job_below;
+        attempts = n.attempts;
+        jobs = n.jobs;
+        pipelines = n.pipelines;
+      }
+
+-- ---- sweeps
+
+swept_next : (s : State) (now : ℕ) → Linked s → Rising (λ (a : Attempt). a.id) 0 s.attempts → (o : Option Lease) → first_due (leases s) now ≡ o → Next s (applied (sweep o).1 s)
+swept_next s now i r None found = rests s i
+swept_next s now i r (Some l) found =
+    let at = find-map (lease_of s) (λ (w : Lease). is_over w.attempt w.limit now) l (live_attempts s) found in
+    let is : at.0 ≡ l.attempt = ap (λ (w : Lease). w.attempt) at.1.0 in
+    let live = has_find (λ (b : Attempt). is_over b (lease_of s b).limit now) at.0 (live_attempts s) at.1.1 in
+    let has = has_filter is_live at.0 s.attempts live.0 in
+    alters s _ l.attempt i r (subst (λ (b : Attempt). Has b s.attempts) is has.0) refl
+
+swept_least : (s : State) (now : ℕ) → Rising (λ (a : Attempt). a.id) 0 s.attempts → (o : Option Lease) → first_due (leases s) now ≡ o → SweepsLeast s now (sweep o).0
+swept_least s now r None found =
+    let over = λ (w : Lease). is_over w.attempt w.limit now in
+    All-from_has (λ (a : Attempt). is_due s now a ≡ false) s.attempts (λ a k.
+    let rest = (lease_of s a).limit in
+    ⊎_elim
+    (λ e. ap (λ t. t && is_over a rest now) e ∙ find_none over (lease_of s a) (leases s) found (has_map (lease_of s) a (live_attempts s) (filter_has is_live a s.attempts k e)))
+    (λ e. ap (λ t. t && is_over a rest now) e)
+    (cases_Bool (is_live a)))
+swept_least s now r (Some l) found =
+    let test : Attempt → Bool = λ b. is_over b (lease_of s b).limit now in
+    let at = find-map (lease_of s) (λ (w : Lease). is_over w.attempt w.limit now) l (live_attempts s) found in
+    let a = at.0 in
+    let number : a.id ≡ l.attempt.id = ap (λ (w : Lease). w.attempt.id) at.1.0 in
+    let live = has_find test a (live_attempts s) at.1.1 in
+    let has = has_filter is_live a s.attempts live.0 in
+    record {
+      attempt = a;
+      is_attempt = contains_from_has a s.attempts has.0;
+      number = number;
+      due = ap (λ t. t && test a) has.1 ∙ live.1;
+      least = All-from_has (λ (b : Attempt). is_due s now b ≡ true → l.attempt.id ≤ b.id) s.attempts (λ b k d.
+          let parts = and_parts (is_live b) (test b) d in
+          subst (λ n. n ≤ b.id) number
+          (least_find (λ (c : Attempt). c.id) test a b 0 (live_attempts s) (rising_filter (λ (c : Attempt). c.id) is_live 0 s.attempts r) at.1.1 (filter_has is_live b s.attempts k parts.0) parts.1));
+      why = ap cause_of (sym at.1.0);
+    }
+
+-- ---- every state that a history leads to
+
+next : (s : State) (e : Event) (now : ℕ) (seed : Seed) (a : Answer) (changes : List RowChange) → Linked s → Rising (λ (w : Attempt). w.id) 0 s.attempts → Below (λ (w : Attempt). w.id) s.next.attempt s.attempts
+    → Happens s e now seed a changes → Next s (applied changes s)
+next s (event.Request request) now seed (answer.Reply reply) changes i r b is = does s (Goes s) (goes s i r b) request now seed (reply, changes) is
+next s event.Sweep now seed (answer.Swept swept) changes i r b is =
+    let P : Swept × List RowChange → Type 0 = λ f. Next s (applied f.1 s) in
+    subst P (sym is) (swept_next s now i r (first_due (leases s) now) refl)
+next s (event.Request request) now seed (answer.Swept swept) changes i r b is = absurd is
+next s event.Sweep now seed (answer.Reply reply) changes i r b is = absurd is
+
+swept_by : (s : State) (e : Event) (now : ℕ) (seed : Seed) (a : Answer) (changes : List RowChange) → Rising (λ (w : Attempt). w.id) 0 s.attempts → Happens s e now seed a changes → IsSweptBy s now e a
+swept_by s (event.Request request) now seed a changes r is = tt
+swept_by s event.Sweep now seed (answer.Swept swept) changes r is =
+    let P : Swept × List RowChange → Type 0 = λ f. SweepsLeast s now f.0 in
+    subst P (sym is) (swept_least s now r (first_due (leases s) now) refl)
+swept_by s event.Sweep now seed (answer.Reply reply) changes r is = absurd is
+
+record Held (h : List Past) (s : State) : Type 0 where
+  linked : Linked s
+  stays : (p : Past) → Has p h → Later p.before s
+  swept : (p : Past) → Has p h → IsSweptBy p.before p.now p.event p.answer
+  variables : Ordered job_variable_cmp s.job_variables
+  in_order : (p : Past) → Has p h → is_grant p.event p.answer ≡ true → GivesInOrder p.before p.answer
+
+linked_empty : Linked empty
+linked_empty = record {
+  project_below = λ w k. absurd k;
+  runner_below = λ w k. absurd k;
+  pipeline_below = λ w k. absurd k;
+  job_below = λ w k. absurd k;
+  attempt_job = λ w k. absurd k;
+  attempt_runner = λ w k. absurd k;
+  job_pipeline = λ w k. absurd k;
+  pipeline_project = λ w k. absurd k;
+}
+
+held : (h : List Past) (s : State) → Leads h s → Held h s
+held [] s l = subst (Held []) (sym l) (record { linked = linked_empty; stays = λ p k. absurd k; swept = λ p k. absurd k; variables = tt; in_order = λ p k. absurd k })
+held (p ∷ h) s l =
+    let i = held h p.before l.0 in
+    let g = (reached h p.before l.0).grants in
+    let n = next p.before p.event p.now p.seed p.answer l.1.changes i.linked g.rise g.below l.1.happens in
+    let t = applied l.1.changes p.before in
+    subst (Held (p ∷ h)) (sym l.1.state) (record {
+      linked = linked_on p.before t i.linked n;
+      stays = λ q k. ⊎_elim (λ e. subst (λ (w : Past). Later w.before t) (sym e) n.later) (λ m. later_through q.before p.before t (i.stays q m) n.later) k;
+      swept = λ q k. ⊎_elim
+          (λ e. subst (λ (w : Past). IsSweptBy w.before w.now w.event w.answer) (sym e) (swept_by p.before p.event p.now p.seed p.answer l.1.changes g.rise l.1.happens))
+          (λ m. i.swept q m) k;
+      variables = changes_ordered l.1.changes p.before i.variables;
+      in_order = λ q k. ⊎_elim
+          (λ e. subst (λ (w : Past). is_grant w.event w.answer ≡ true → GivesInOrder w.before w.answer) (sym e) (gives_in_order p.before p.event p.now p.seed p.answer l.1.changes i.variables l.1.happens))
+          (λ m. i.in_order q m) k;
+    })
+
+stay : {A : Type 0} (f : A → A) (xs ys : List A) → Kept f xs ys → Stay f xs ys
+stay f xs ys k =
+    All-from_has _ xs (λ x m. let y = k x m in contains_from_has (f x) (map f ys) (subst (λ w. Has w (map f ys)) y.1.1 (has_map f y.0 ys y.1.0)))
+
+stays_from : (s t : State) → Later s t → Stays s t
+stays_from s t l = record {
+  projects = stay project_for_good s.projects t.projects l.projects;
+  runners = stay runner_for_good s.runners t.runners l.runners;
+  pipelines = stay (λ p. p) s.pipelines t.pipelines l.pipelines;
+  jobs = stay job_for_good s.jobs t.jobs l.jobs;
+  attempts = stay attempt_for_good s.attempts t.attempts l.attempts;
+}
+
+is_linked : (s : State) → Linked s → IsLinked s
+is_linked s i = record {
+  attempt_job = All-from_has _ s.attempts (λ a k. contains_named (λ (j : Job). j.id) a.job s.jobs (i.attempt_job a k));
+  attempt_runner = All-from_has _ s.attempts (λ a k. contains_named (λ (r : Runner). r.id) a.runner s.runners (i.attempt_runner a k));
+  job_pipeline = All-from_has _ s.jobs (λ j k. contains_named (λ (p : Pipeline). p.id) j.pipeline s.pipelines (i.job_pipeline j k));
+  pipeline_project = All-from_has _ s.pipelines (λ p k. contains_named (λ (q : Project). q.id) p.project s.projects (i.pipeline_project p k));
+}
+
+-- all the laws
+pub laws : (h : List Past) (s : State) → Leads h s → Laws h s
+laws h s leads =
+    let i = reached h s leads in
+    let held = held h s leads in
+    record {
+      one_lease = one_lease h s i.grants;
+      was_granted = All-from_has (WasGranted h) s.attempts i.grants.granted;
+      traced = All-from_has (IsTraced h s) s.attempts i.traces.traced;
+      ends_stay = All-from_has (λ (p : Past). EndsStay p.before s) h (λ p k. All-from_has (λ (a : Attempt). is_live a ≡ false → Contains s.attempts a) p.before.attempts (λ a m l. contains_from_has a s.attempts (i.ends p k a m l)));
+      stays = All-from_has (λ (p : Past). Stays p.before s) h (λ p k. stays_from p.before s (held.stays p k));
+      linked = is_linked s held.linked;
+      swept = All-from_has (λ (p : Past). IsSweptBy p.before p.now p.event p.answer) h held.swept;
+      in_order = All-from_has (λ (p : Past). is_grant p.event p.answer ≡ true → GivesInOrder p.before p.answer) h held.in_order;
+    }
