@@ -8,7 +8,8 @@ use Rattle.ci_expr.specs.declared.fault.ExprCode.{ExprCode}
 use Rattle.ci_expr.specs.declared.fault.ExprCode.TheVariants.{X8}
 use Rattle.ci_expr.specs.Formula.{Formula, has_pattern}
 use Rattle.ci_config.specs.Config.{Text, Rule, Job, Config}
-use Rattle.ci_config.specs.Expressions.{Patterns, built, refused, expression_of, condition_by, condition_of}
+use Rattle.ci_expr.specs.Computed.{expression_of}
+use Rattle.ci_config.specs.Expressions.{Patterns, built, refused, condition_by, condition_of}
 use Rattle.ci_config.specs.Fault.{Fault, K1, K11, K13, K16}
 use Rattle.ci_config.specs.Files.{FileSaid, job_of, with_job, job_value, is_hidden, other_value, file_value, file_entry, blank_file, file_from}
 use Rattle.ci_config.specs.Jobs as job

@@ -1,36 +1,24 @@
 -- The condition of a rule: what `ci_expr` answers is what is read.
-use Rattle.std.proofs.Common.{◌≡◌, ◌⊎◌, inl, inr, ℕ, Bool, true, false, not, List, Result, Ok, Err, refl, sym, ◌∙◌, ap, subst}
+use Rattle.std.proofs.Common.{◌≡◌, ◌⊎◌, inl, inr, ℕ, Bool, true, false, not, List, Result, Ok, Err, refl, ◌∙◌, ap}
 use Rattle.ci_expr.specs.declared.expr.Expr.{Expr}
 use Rattle.ci_expr.specs.declared.fault.ExprCode.{ExprCode}
 use Rattle.ci_expr.specs.declared.fault.ExprCode.TheVariants.{X8}
 use Rattle.ci_expr.specs.declared.fault.ExprFault.TheVariants as errors
 use Rattle.ci_expr.specs.Built.{formula_of}
 use Rattle.ci_expr.specs.Formula.{Formula, has_pattern}
-use Rattle.ci_expr.specs.Meaning.{Tokenizes, Means, Allows, IsOwn, IsMeaning, parse_of}
-use Rattle.ci_expr.specs.Reading.{◌>>=◌, tokens_of}
-use Rattle.ci_expr.specs.Token.{Token}
-use Rattle.ci_expr.proofs.TokenLemmas.{tokens_of-sound, tokens-own}
-use Rattle.ci_expr.proofs.OneMeaning.{one-meaning}
-use Rattle.ci_expr.proofs.ParseLemmas.{parse_of-sound, parse_of-own, mean-tokens}
+use Rattle.ci_expr.specs.Meaning.{Allows, IsOwn, IsMeaning}
 use Rattle.ci_config.specs.Answer.{Finds, Stops}
-use Rattle.ci_config.specs.Expressions.{built, refused, expression_of, condition_by, condition_of}
+use Rattle.ci_expr.specs.Computed.{expression_of}
+use Rattle.ci_config.specs.Expressions.{built, refused, condition_by, condition_of}
 use Rattle.ci_config.specs.Fault.{Fault, K13}
 use Rattle.ci_config.specs.Reading.{demand}
 
 abbrev Read : Type 0
 Read = Result Formula ExprCode
 
--- what is computed is the text's own meaning
-pub record IsRead (text : List ℕ) (r : Read) : Type 0 where
-  pub own : IsOwn r
-  pub means : Means text r
-
-read-by : (text : List ℕ) (r : Result (List Token) ExprCode) → tokens_of text ≡ r → IsRead text (r >>= parse_of)
-read-by text (Ok ts) e = record { own = parse_of-own ts; means = mean-tokens text ts (subst (Tokenizes text) e (tokens_of-sound text)) (parse_of ts) (parse_of-sound ts) }
-read-by text (Err x) e = let t : Tokenizes text (Err x) = subst (Tokenizes text) e (tokens_of-sound text) in record { own = tokens-own text x t; means = inl t }
-
-pub expression-read : (text : List ℕ) → IsRead text (expression_of text)
-expression-read text = read-by text (tokens_of text) refl
+-- what is computed is the text's one meaning, as `ci_expr` says
+abbrev pub ReadsMeaning : Type 0
+ReadsMeaning = (text : List ℕ) → IsMeaning text (expression_of text)
 
 -- ---- what is answered
 abbrev okay : Formula → Read
@@ -44,11 +32,11 @@ refused-or : (f : Formula) (b : Bool) → (demand (not b) (K13 X8) (Ok f) ≡ Ok
 refused-or f true = inr refl
 refused-or f false = inl refl
 
-pub condition-found : (text : List ℕ) (e : Expr) → Allows formula_of (Ok e) (expression_of text) → Finds (condition_of text) (formula_of e)
-condition-found text e h = (ap (condition_by built) is, either (refused-or (formula_of e) (has_pattern (formula_of e))))
+pub condition-found : ReadsMeaning → (text : List ℕ) (e : Expr) → Allows formula_of (Ok e) (expression_of text) → Finds (condition_of text) (formula_of e)
+condition-found law text e h = (ap (condition_by built) is, either (refused-or (formula_of e) (has_pattern (formula_of e))))
   where
     is : expression_of text ≡ Ok (formula_of e)
-    is = found-by text e (expression_of text) refl (expression-read text).own h
+    is = found-by text e (expression_of text) refl (law text).0 h
 
     either : (demand (not (has_pattern (formula_of e))) (K13 X8) (Ok (formula_of e)) ≡ Ok (formula_of e)) ⊎ (demand (not (has_pattern (formula_of e))) (K13 X8) (Ok (formula_of e)) ≡ Err (K13 X8))
         → (condition_of text refused ≡ Ok (formula_of e)) ⊎ (condition_of text refused ≡ Err (K13 X8))
@@ -67,10 +55,3 @@ stops-by text x (Err y) is h = inl (ap (condition_by built) is ∙ ap (λ z. fai
 
 pub condition-stops : (text : List ℕ) (x : ExprCode) → Allows formula_of (Err (errors.Fault x)) (expression_of text) → Stops (condition_of text) (K13 x)
 condition-stops text x h = stops-by text x (expression_of text) refl h
-
--- ---- and nothing else is
-pub expression-is : (text : List ℕ) → IsMeaning text (expression_of text)
-expression-is text =
-    let one = one-meaning text in
-    let read = expression-read text in
-    (read.own, read.means, λ s own means. one.1.2 s own means ∙ sym (one.1.2 (expression_of text) read.own read.means))

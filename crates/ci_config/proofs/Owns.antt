@@ -14,7 +14,8 @@ use Rattle.ci_expr.specs.Formula.{Formula}
 use Rattle.ci_expr.specs.Meaning.{IsOwn}
 use Rattle.ci_config.specs.AllowFailures.{exit_code_of, exit_code_in, exit_codes_of, allow_failure_value, allow_failure_entry, allow_failure_said, allow_failure_from, yes_or_no, allow_failure_of}
 use Rattle.ci_config.specs.Config.{Text, Need, Rule, Job, Config}
-use Rattle.ci_config.specs.Expressions.{built, expression_of, condition_by, condition_of}
+use Rattle.ci_expr.specs.Computed.{expression_of}
+use Rattle.ci_config.specs.Expressions.{built, condition_by, condition_of}
 use Rattle.ci_config.specs.Fault.{Fault, K1, K4, K5, K6, K7, K8, K9, K10, K11, K12, K13, K15, K16}
 use Rattle.ci_config.specs.Files.{FileSaid, is_among, stage_in, stages_of, is_hidden, job_of, with_job, job_value, other_value, file_value, file_entry, blank_file, file_from}
 use Rattle.ci_config.specs.Jobs as job
@@ -45,7 +46,10 @@ use Rattle.ci_config.specs.declared.keyword.RuleKeyword.TheVariants as of_rules
 use Rattle.ci_config.specs.declared.keyword.WhenWord.{WhenWord}
 use Rattle.ci_config.specs.declared.keyword.WhenWord.TheVariants.{Runs, Never, Delayed}
 use Rattle.ci_config.specs.declared.limits.TheConstants.{MAX_STAGES, MAX_JOBS, MAX_VARIABLES, MAX_TAGS, MAX_RULES, MAX_SCRIPT_ITEMS, MAX_EXIT_CODE, MAX_EXIT_CODES, MAX_RETRIES}
-use Rattle.ci_config.proofs.Conditions.{expression-read}
+
+-- no expression has X8 as a fault of its own
+abbrev ExpressionsOwn : Type 0
+ExpressionsOwn = (text : Text) → IsOwn (expression_of text)
 
 abbrev is_x8 : Fault → Bool
 is_x8 (K13 X8) = true
@@ -276,31 +280,31 @@ own-code X6 h = refl
 own-code X7 h = refl
 own-code X8 h = absurd (h refl)
 
-own-condition : (bs : Text) → Own (condition_of bs built)
-own-condition bs = by-value (expression_of bs) (expression-read bs).own
+own-condition : ExpressionsOwn → (bs : Text) → Own (condition_of bs built)
+own-condition law bs = by-value (expression_of bs) (law bs)
   where
     by-value : (r : Result Formula ExprCode) → IsOwn r → Own (condition_by built r)
     by-value (Ok f) h = tt
     by-value (Err x) h = own-code x h
 
-own-rule_value : (k : RuleKeyword) (v : Value) (r : Rule) → Own (rule_value k v r built)
-own-rule_value of_rules.If v r =
+own-rule_value : ExpressionsOwn → (k : RuleKeyword) (v : Value) (r : Rule) → Own (rule_value k v r built)
+own-rule_value law of_rules.If v r =
     own-then (text_of v) (λ bs. condition_of bs built >>= λ f. Ok (record r { condition = Some f })) (own-text v)
-    (λ bs. own-then (condition_of bs built) (λ f. Ok (record r { condition = Some f })) (own-condition bs) (λ f. tt))
-own-rule_value (of_rules.Plain of_rule.When) v r = own-then (rule_when_of v) (λ w. Ok (record r { when = Some w })) (own-rule_when v) (λ w. tt)
-own-rule_value (of_rules.Plain of_rule.AllowFailure) v r = own-then (bool_of v) (λ b. Ok (record r { allow_failure = Some b })) (own-bool v) (λ b. tt)
-own-rule_value (of_rules.Plain of_rule.Variables) v r = own-then (variables_of v) (λ vs. Ok (record r { variables = vs })) (own-variables v) (λ vs. tt)
+    (λ bs. own-then (condition_of bs built) (λ f. Ok (record r { condition = Some f })) (own-condition law bs) (λ f. tt))
+own-rule_value law (of_rules.Plain of_rule.When) v r = own-then (rule_when_of v) (λ w. Ok (record r { when = Some w })) (own-rule_when v) (λ w. tt)
+own-rule_value law (of_rules.Plain of_rule.AllowFailure) v r = own-then (bool_of v) (λ b. Ok (record r { allow_failure = Some b })) (own-bool v) (λ b. tt)
+own-rule_value law (of_rules.Plain of_rule.Variables) v r = own-then (variables_of v) (λ vs. Ok (record r { variables = vs })) (own-variables v) (λ vs. tt)
 
-own-rule_entry : (m : Text × Value) (r : Rule) → Own (rule_entry built m r)
-own-rule_entry m r = own-then (keyword_of rule_keywords rule_left_out m.0) (λ k. rule_value k m.1 r built) (own-keyword rule_keywords rule_left_out m.0) (λ k. own-rule_value k m.1 r)
+own-rule_entry : ExpressionsOwn → (m : Text × Value) (r : Rule) → Own (rule_entry built m r)
+own-rule_entry law m r = own-then (keyword_of rule_keywords rule_left_out m.0) (λ k. rule_value k m.1 r built) (own-keyword rule_keywords rule_left_out m.0) (λ k. own-rule_value law k m.1 r)
 
-own-rule : (done : List Rule) (v : Value) → Own (rule_of built done v)
-own-rule done v =
+own-rule : ExpressionsOwn → (done : List Rule) (v : Value) → Own (rule_of built done v)
+own-rule law done v =
     own-then (map_of v) (λ ms. demand (nat_lt (length done) MAX_RULES) K11 (rule_from built ms)) (own-map v)
-    (λ ms. own-demand (nat_lt (length done) MAX_RULES) K11 (rule_from built ms) refl (own-entries (rule_entry built) own-rule_entry blank_rule ms))
+    (λ ms. own-demand (nat_lt (length done) MAX_RULES) K11 (rule_from built ms) refl (own-entries (rule_entry built) (own-rule_entry law) blank_rule ms))
 
-own-rules : (v : Value) → Own (rules_of v built)
-own-rules v = own-then (list_of v) (rules_from built) (own-list v) (λ vs. own-each (rule_of built) own-rule [] vs)
+own-rules : ExpressionsOwn → (v : Value) → Own (rules_of v built)
+own-rules law v = own-then (list_of v) (rules_from built) (own-list v) (λ vs. own-each (rule_of built) (own-rule law) [] vs)
 
 -- ---- jobs
 own-script : (v : Value) → Own (script_of v)
@@ -320,12 +324,12 @@ own-plain_job of_job.ResourceGroup v j = own-then (name_of v) (λ x. Ok (record 
 own-plain_job of_job.Interruptible v j = own-then (bool_of v) (λ x. Ok (record j { interruptible = x })) (own-bool v) (λ x. tt)
 own-plain_job of_job.Variables v j = own-then (variables_of v) (λ x. Ok (record j { variables = x })) (own-variables v) (λ x. tt)
 
-own-job_value : (k : JobKeyword) (v : Value) (j : Job) → Own (job.job_value k v j built)
-own-job_value of_key.Rules v j = own-then (rules_of v built) (λ x. Ok (record j { rules = Some x })) (own-rules v) (λ x. tt)
-own-job_value (of_key.Plain k) v j = own-plain_job k v j
+own-job_value : ExpressionsOwn → (k : JobKeyword) (v : Value) (j : Job) → Own (job.job_value k v j built)
+own-job_value law of_key.Rules v j = own-then (rules_of v built) (λ x. Ok (record j { rules = Some x })) (own-rules law v) (λ x. tt)
+own-job_value law (of_key.Plain k) v j = own-plain_job k v j
 
-own-job_entry : (m : Text × Value) (j : Job) → Own (job_entry built m j)
-own-job_entry m j = own-then (keyword_of job_keywords job_left_out m.0) (λ k. job.job_value k m.1 j built) (own-keyword job_keywords job_left_out m.0) (λ k. own-job_value k m.1 j)
+own-job_entry : ExpressionsOwn → (m : Text × Value) (j : Job) → Own (job_entry built m j)
+own-job_entry law m j = own-then (keyword_of job_keywords job_left_out m.0) (λ k. job.job_value k m.1 j built) (own-keyword job_keywords job_left_out m.0) (λ k. own-job_value law k m.1 j)
 
 -- ---- files
 own-stage : (done : List Text) (v : Value) → Own (stage_in done v)
@@ -337,26 +341,26 @@ own-stage done v =
 own-stages : (v : Value) → Own (stages_of v)
 own-stages v = own-then (list_of v) (λ vs. each stage_in [] vs) (own-list v) (λ vs. own-each stage_in own-stage [] vs)
 
-own-job : (before : ℕ) (name : Text) (v : Value) → Own (job_of before name v built)
-own-job before name v =
+own-job : ExpressionsOwn → (before : ℕ) (name : Text) (v : Value) → Own (job_of before name v built)
+own-job law before name v =
     own-then (map_of v) (λ ms. demand (nat_lt before MAX_JOBS) K11 (demand (is_name name) K16 (job_from built name ms))) (own-map v)
     (λ ms. own-demand (nat_lt before MAX_JOBS) K11 (demand (is_name name) K16 (job_from built name ms)) refl
-    (own-demand (is_name name) K16 (job_from built name ms) refl (own-entries (job_entry built) own-job_entry (blank_job name) ms)))
+    (own-demand (is_name name) K16 (job_from built name ms) refl (own-entries (job_entry built) (own-job_entry law) (blank_job name) ms)))
 
-own-file_job : (name : Text) (v : Value) (f : FileSaid) → Own (job_value name v f built)
-own-file_job name v f = own-then (job_of (length f.jobs) name v built) (λ j. Ok (with_job f j)) (own-job (length f.jobs) name v) (λ j. tt)
+own-file_job : ExpressionsOwn → (name : Text) (v : Value) (f : FileSaid) → Own (job_value name v f built)
+own-file_job law name v f = own-then (job_of (length f.jobs) name v built) (λ j. Ok (with_job f j)) (own-job law (length f.jobs) name v) (λ j. tt)
 
-own-other_value : (o : Option Text) (key : Text) (v : Value) (f : FileSaid) → Own (other_value o key v f built)
-own-other_value (Some name) key v f = refl
-own-other_value None key v f = own-if (is_hidden key) (Ok f) (job_value key v f built) tt (own-file_job key v f)
+own-other_value : ExpressionsOwn → (o : Option Text) (key : Text) (v : Value) (f : FileSaid) → Own (other_value o key v f built)
+own-other_value law (Some name) key v f = refl
+own-other_value law None key v f = own-if (is_hidden key) (Ok f) (job_value key v f built) tt (own-file_job law key v f)
 
-own-file_value : (o : Option FileKeyword) (key : Text) (v : Value) (f : FileSaid) → Own (file_value o key v f built)
-own-file_value (Some of_file.Stages) key v f = own-then (stages_of v) (λ x. Ok (record f { stages = Some x })) (own-stages v) (λ x. tt)
-own-file_value (Some of_file.Variables) key v f = own-then (variables_of v) (λ x. Ok (record f { variables = x })) (own-variables v) (λ x. tt)
-own-file_value None key v f = own-other_value (word_in file_left_out key) key v f
+own-file_value : ExpressionsOwn → (o : Option FileKeyword) (key : Text) (v : Value) (f : FileSaid) → Own (file_value o key v f built)
+own-file_value law (Some of_file.Stages) key v f = own-then (stages_of v) (λ x. Ok (record f { stages = Some x })) (own-stages v) (λ x. tt)
+own-file_value law (Some of_file.Variables) key v f = own-then (variables_of v) (λ x. Ok (record f { variables = x })) (own-variables v) (λ x. tt)
+own-file_value law None key v f = own-other_value law (word_in file_left_out key) key v f
 
-own-file_entry : (m : Text × Value) (f : FileSaid) → Own (file_entry built m f)
-own-file_entry m f = own-file_value (meaning_of file_keywords m.0) m.0 m.1 f
+own-file_entry : ExpressionsOwn → (m : Text × Value) (f : FileSaid) → Own (file_entry built m f)
+own-file_entry law m f = own-file_value law (meaning_of file_keywords m.0) m.0 m.1 f
 
 own-jobs : (stages : List Text) (js : List Job) (next : Result Config Fault) → Own next → Own (jobs_judged stages js next)
 own-jobs stages [] next h = h
@@ -367,15 +371,15 @@ own-jobs stages (j ∷ js) next h =
 own-judged : (c : Config) → Own (judged c)
 own-judged c = own-jobs c.stages c.jobs (demand (not (is_nil c.jobs)) K15 (Ok c)) (own-demand (not (is_nil c.jobs)) K15 (Ok c) refl tt)
 
-own-config : (ms : List (Text × Value)) → Own (file_config ms built)
-own-config ms = own-then (file_from ms built) (λ f. judged (config_of f)) (own-entries (file_entry built) own-file_entry blank_file ms) (λ f. own-judged (config_of f))
+own-config : ExpressionsOwn → (ms : List (Text × Value)) → Own (file_config ms built)
+own-config law ms = own-then (file_from ms built) (λ f. judged (config_of f)) (own-entries (file_entry built) (own-file_entry law) blank_file ms) (λ f. own-judged (config_of f))
 
-own-meaning : (v : Value) → Own (meaning built v)
-own-meaning v =
-    own-demand (is_map v) K1 (map_of v >>= λ ms. file_config ms built) refl (own-then (map_of v) (λ ms. file_config ms built) (own-map v) own-config)
+own-meaning : ExpressionsOwn → (v : Value) → Own (meaning built v)
+own-meaning law v =
+    own-demand (is_map v) K1 (map_of v >>= λ ms. file_config ms built) refl (own-then (map_of v) (λ ms. file_config ms built) (own-map v) (own-config law))
 
-pub no-x8 : (v : Value) → meaning built v ≢ Err (K13 X8)
-no-x8 v e = absurd (by-value (meaning built v) (own-meaning v) e)
+pub no-x8 : ExpressionsOwn → (v : Value) → meaning built v ≢ Err (K13 X8)
+no-x8 law v e = absurd (by-value (meaning built v) (own-meaning law v) e)
   where
     by-value : (r : Result Config Fault) → Own r → r ≡ Err (K13 X8) → ⊥
     by-value (Ok c) h e = absurd cc

@@ -3,15 +3,10 @@ use Rattle.std.specs.Prelude.{not, Result, Ok, Err}
 use Rattle.ci_expr.specs.declared.fault.ExprCode.{ExprCode}
 use Rattle.ci_expr.specs.declared.fault.ExprCode.TheVariants.{X8}
 use Rattle.ci_expr.specs.Formula.{Formula, has_pattern}
-use Rattle.ci_expr.specs.Reading.{◌>>=◌, tokens_of}
-use Rattle.ci_expr.specs.Meaning.{parse_of}
+use Rattle.ci_expr.specs.Computed.{expression_of}
 use Rattle.ci_config.specs.Fault.{Fault, K13}
 use Rattle.ci_config.specs.Reading.{demand}
 use Rattle.ci_config.specs.Config.{Text}
-
--- the formula of a text, or its first fault but for X8
-abbrev pub expression_of : Text → Result Formula ExprCode
-expression_of text = tokens_of text >>= parse_of
 
 -- Which patterns `regex` refuses isn't said. So a file is read twice: where every pattern is built, and where every pattern
 -- is refused.

@@ -6,7 +6,7 @@ use Rattle.ci_words.specs.Name.{is_variable_name}
 use Rattle.ci_yaml_lines.specs.Tree.{Value, null, boolean, number, text, node, Members, no_members, member}
 use Rattle.ci_expr.specs.Formula.{Formula, has_pattern}
 use Rattle.ci_config.specs.Config.{Text, Job, Config}
-use Rattle.ci_config.specs.Expressions.{expression_of}
+use Rattle.ci_expr.specs.Computed.{expression_of}
 use Rattle.ci_config.specs.Files.{is_among}
 use Rattle.ci_config.specs.Meaning.{is_nil}
 use Rattle.ci_config.specs.declared.limits.TheConstants.{MAX_JOBS}

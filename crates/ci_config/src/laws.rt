@@ -5,10 +5,13 @@ ghost use Rattle.ci_yaml_lines.specs.Tree.{Value};
 ghost use Rattle.ci_expr.specs.declared.fault.ExprCode.TheVariants.{X8};
 ghost use Rattle.ci_expr.specs.Meaning.{IsMeaning};
 ghost use Rattle.ci_config.specs.Config.{Config};
-ghost use Rattle.ci_config.specs.Expressions.{built, refused, expression_of};
+ghost use Rattle.ci_expr.specs.Computed.{expression_of};
+ghost use Rattle.ci_config.specs.Expressions.{built, refused};
 ghost use Rattle.ci_config.specs.Fault.{Fault, K13};
 ghost use Rattle.ci_config.specs.Laws.{LacksPatterns, IsWhole};
 ghost use Rattle.ci_config.specs.Meaning.{meaning, Means};
+
+use ci_expr::laws::computes_the_meaning;
 
 /// A tree has one answer, and at most one more, X8.
 pub fn has_one_answer()
@@ -18,7 +21,9 @@ pub fn has_one_answer()
 /// The meaning of a tree is never X8: that is the fault of a pattern that was refused.
 pub fn means_no_x8()
     ensures { (v : Value) → meaning built v ≢ Err (K13 X8) }
-{}
+{
+    computes_the_meaning();
+}
 
 /// Where every pattern is refused a tree has the same meaning; or X8, and then it has a pattern.
 pub fn reads_alike()
@@ -33,7 +38,9 @@ pub fn answers_once_without_patterns()
 /// What is read of an expression is what its grammar says, and nothing else is.
 pub fn reads_expressions()
     ensures { (text : List ℕ) → IsMeaning text (expression_of text) }
-{}
+{
+    computes_the_meaning();
+}
 
 /// In a configuration there are 1 to 100 jobs, each with a script and a stage that is one of the stages, and names are names.
 pub fn configures_whole_jobs()

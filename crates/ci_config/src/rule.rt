@@ -16,6 +16,7 @@ use crate::limits::MAX_RULES;
 use crate::tree::{bool_of, list_of, map_of, text_of};
 use crate::value::{Variable, variables_of};
 use crate::when::rule_when_of;
+use ci_expr::laws::computes_the_meaning;
 use ci_expr::{Expr, ExprFault, parse};
 use ci_yaml_lines::tree::{Text, Tree};
 use std::alloc::Global;
@@ -33,6 +34,7 @@ pub struct Rule<'t> {
 fn condition_of(alloc: Global, text: &str) -> Result<Expr, ConfigFault>
     ensures { Tells formula_of result (condition_of text.now) }
 {
+    computes_the_meaning();
     match parse(alloc, text) {
         Ok(expr) => Ok(expr),
         Err(ExprFault::Memory) => Err(ConfigFault::Memory),

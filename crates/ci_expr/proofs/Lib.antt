@@ -14,3 +14,4 @@ pub mod FrontLemmas
 pub mod TokenLemmas
 pub mod OrderLemmas
 pub mod OneMeaning
+pub mod Computing

@@ -12,3 +12,4 @@ pub mod Order
 pub mod Descent
 pub mod Meaning
 pub mod Built
+pub mod Computed

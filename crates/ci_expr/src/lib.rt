@@ -5,6 +5,7 @@ mod descent;
 mod expr;
 mod fault;
 mod formula;
+pub mod laws;
 mod lexeme;
 mod order;
 mod part;

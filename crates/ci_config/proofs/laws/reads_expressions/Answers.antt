@@ -1,5 +1,4 @@
-use Rattle.ci_config.proofs.Conditions.{expression-is}
 use Rattle.ci_config.proofs.laws.reads_expressions.Goals as goal
 
 pub returns : goal.returns
-returns c = expression-is
+returns c = c.computes_the_meaning.ensures
