@@ -30,7 +30,7 @@ fn needs_many(job: &IncludedJob) -> bool
     }
 }
 
-impl<'a> Lineup<'a> {
+impl<'a, 't> Lineup<'a, 't> {
     /// Is some job in neither `.pre` nor `.post`?
     fn has_work(&self) -> bool
         ensures { result ≡ any is_work (jobs_of self.now) }

@@ -36,7 +36,7 @@ fn put_pairs<'a>(pairs: &mut Variables<'a>, more: &[(&'a str, &'a str)]) -> Resu
 }
 
 /// The pair of a variable.
-pub fn pair_of<'a>(variable: &'a Variable<'a>) -> (&'a str, &'a str)
+pub fn pair_of<'a, 't>(variable: &'a Variable<'t>) -> (&'a str, &'a str)
     ensures { (result.0.now, result.1.now) ≡ variable_view variable.now }
 {
     match &variable.value {
@@ -46,9 +46,9 @@ pub fn pair_of<'a>(variable: &'a Variable<'a>) -> (&'a str, &'a str)
 }
 
 /// Puts variables behind the pairs that are there.
-pub fn put_variables<'a>(
+pub fn put_variables<'a, 't>(
     pairs: &mut Variables<'a>,
-    more: &'a [Variable<'a>],
+    more: &'a [Variable<'t>],
 ) -> Result<(), AllocError>
     ensures { OnOk result (layer_view pairs.new.items ≡ layer_view pairs.old.items ++ map variable_view more.now) }
 {
@@ -59,7 +59,7 @@ pub fn put_variables<'a>(
 }
 
 /// Puts a job's name and stage behind the pairs that are there.
-fn put_own_names<'a>(pairs: &mut Variables<'a>, job: &JobSpec<'a>) -> Result<(), AllocError>
+fn put_own_names<'a, 't>(pairs: &mut Variables<'a>, job: &'a JobSpec<'t>) -> Result<(), AllocError>
     ensures { OnOk result (layer_view pairs.new.items ≡ layer_view pairs.old.items ++ own_names (job_view job.now)) }
 {
     pairs.push(("CI_JOB_NAME", job.name))?;
@@ -68,11 +68,11 @@ fn put_own_names<'a>(pairs: &mut Variables<'a>, job: &JobSpec<'a>) -> Result<(),
 }
 
 /// What the rules of a job see, the highest layer first.
-pub fn seen<'a>(
+pub fn seen<'a, 't>(
     alloc: Global,
     given: &Given<'a>,
-    config: &'a Config<'a>,
-    job: &'a JobSpec<'a>,
+    config: &'a Config<'t>,
+    job: &'a JobSpec<'t>,
 ) -> Result<Variables<'a>, AllocError>
     ensures { IfOk result (λ pairs. layer_view pairs.items ≡ seen (given_view given.now) (config_view config.now) (job_view job.now)) }
 {

@@ -15,9 +15,9 @@ use std::alloc::{AllocError, Global};
 
 /// A job of a pipeline.
 #[derive(Drop)]
-pub struct IncludedJob<'a> {
+pub struct IncludedJob<'a, 't> {
     /// What the file says of it.
-    pub job: &'a JobSpec<'a>,
+    pub job: &'a JobSpec<'t>,
     pub when: When,
     pub allow_failure: AllowFailure,
     /// Those of the rule that included it, and then its own that the rule doesn't give.
@@ -35,11 +35,11 @@ fn holds(condition: &Option<Expr>, alloc: Global, env: &Env) -> Result<bool, All
 }
 
 /// The first rule that matches.
-fn deciding<'a>(
+fn deciding<'a, 't>(
     alloc: Global,
     env: &Env,
-    rules: &'a [Rule<'a>],
-) -> Result<Option<&'a Rule<'a>>, AllocError>
+    rules: &'a [Rule<'t>],
+) -> Result<Option<&'a Rule<'t>>, AllocError>
     ensures { IfOk result (λ found. option_map (λ r. rule_view r.now) found ≡ deciding (values_of env.now) (map rule_view rules.now)) }
 {
     for rule in rules {
@@ -63,10 +63,10 @@ fn names(pairs: &[(&str, &str)], name: &str) -> bool
 }
 
 /// Puts those variables behind a rule's that the rule doesn't give.
-fn put_others<'a>(
+fn put_others<'a, 't>(
     pairs: &mut Variables<'a>,
     given: &[(&str, &str)],
-    own: &'a [Variable<'a>],
+    own: &'a [Variable<'t>],
 ) -> Result<(), AllocError>
     ensures { OnOk result (layer_view pairs.new.items ≡ layer_view pairs.old.items ++ filter (λ v. not (names (layer_view given.now) v.0)) (map variable_view own.now)) }
 {
@@ -79,10 +79,10 @@ fn put_others<'a>(
 }
 
 /// A rule's variables, and those of the job that it doesn't give.
-fn joined<'a>(
+fn joined<'a, 't>(
     alloc: Global,
-    given: &'a [Variable<'a>],
-    own: &'a [Variable<'a>],
+    given: &'a [Variable<'t>],
+    own: &'a [Variable<'t>],
 ) -> Result<Variables<'a>, AllocError>
     ensures { IfOk result (λ pairs. layer_view pairs.items ≡ joined (map variable_view given.now) (map variable_view own.now)) }
 {
@@ -124,7 +124,10 @@ fn own_or(own: &Option<AllowFailure>, other: AllowFailure) -> Result<AllowFailur
 }
 
 /// A job without rules.
-fn without_rules<'a>(alloc: Global, job: &'a JobSpec<'a>) -> Result<IncludedJob<'a>, AllocError>
+fn without_rules<'a, 't>(
+    alloc: Global,
+    job: &'a JobSpec<'t>,
+) -> Result<IncludedJob<'a, 't>, AllocError>
     ensures { IfOk result (λ i. included_view i ≡ without_rules (job_view job.now)) }
 {
     let when = job.when.unwrap_or(When::OnSuccess);
@@ -140,12 +143,12 @@ fn without_rules<'a>(alloc: Global, job: &'a JobSpec<'a>) -> Result<IncludedJob<
 }
 
 /// A job as the rule that includes it says.
-fn by_rule<'a>(
+fn by_rule<'a, 't>(
     alloc: Global,
-    job: &'a JobSpec<'a>,
-    rule: &'a Rule<'a>,
+    job: &'a JobSpec<'t>,
+    rule: &'a Rule<'t>,
     when: When,
-) -> Result<IncludedJob<'a>, AllocError>
+) -> Result<IncludedJob<'a, 't>, AllocError>
     ensures { IfOk result (λ i. included_view i ≡ by_rule (job_view job.now) (rule_view rule.now) when) }
 {
     let allow_failure = match rule.allow_failure {
@@ -162,11 +165,11 @@ fn by_rule<'a>(
 }
 
 /// What the rule that decides says of a job: `never` leaves it out, and a rule without `when` leaves the job's own.
-fn ruled<'a>(
+fn ruled<'a, 't>(
     alloc: Global,
-    job: &'a JobSpec<'a>,
-    rule: &'a Rule<'a>,
-) -> Result<Option<IncludedJob<'a>>, AllocError>
+    job: &'a JobSpec<'t>,
+    rule: &'a Rule<'t>,
+) -> Result<Option<IncludedJob<'a, 't>>, AllocError>
     ensures { IfOk result (λ i. option_map included_view i ≡ ruled (job_view job.now) (rule_view rule.now)) }
 {
     match rule.when {
@@ -181,12 +184,12 @@ fn ruled<'a>(
 
 /// The job, where the pipeline has it. A job without rules is included; one with rules is where one of them matches, as the
 /// first that does says.
-pub fn included<'a>(
+pub fn included<'a, 't>(
     alloc: Global,
     given: &Given<'a>,
-    config: &'a Config<'a>,
-    job: &'a JobSpec<'a>,
-) -> Result<Option<IncludedJob<'a>>, AllocError>
+    config: &'a Config<'t>,
+    job: &'a JobSpec<'t>,
+) -> Result<Option<IncludedJob<'a, 't>>, AllocError>
     ensures { IfOk result (λ i. option_map included_view i ≡ included (given_view given.now) (config_view config.now) (job_view job.now)) }
 {
     match &job.rules {

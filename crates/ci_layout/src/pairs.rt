@@ -26,7 +26,7 @@ fn put_below(pairs: &mut Pairs, ranks: &[usize], own: usize, job: usize) -> Resu
     Ok(())
 }
 
-impl<'a> Lineup<'a> {
+impl<'a, 't> Lineup<'a, 't> {
     /// Puts a pair behind those that are there for each need that is included.
     fn put_needed(&self, pairs: &mut Pairs, needs: &[Need], job: usize) -> Result<(), AllocError>
         requires { IsPlaced self.now }

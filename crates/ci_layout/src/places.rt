@@ -14,9 +14,9 @@ use std::collections::HashMap;
 
 /// The included jobs in their order, and where each stands.
 #[derive(Drop)]
-pub struct Lineup<'a> {
+pub struct Lineup<'a, 't> {
     pub stages: &'a [&'a str],
-    pub jobs: Vec<IncludedJob<'a>>,
+    pub jobs: Vec<IncludedJob<'a, 't>>,
     /// The position of the first job of each name.
     pub places: HashMap<&'a str, usize>,
     /// The place of each job's stage among the stages.
@@ -24,9 +24,9 @@ pub struct Lineup<'a> {
 }
 
 /// Where the jobs stand, by their names.
-fn places<'a>(
+fn places<'a, 't>(
     alloc: Global,
-    jobs: &[IncludedJob<'a>],
+    jobs: &[IncludedJob<'a, 't>],
 ) -> Result<HashMap<&'a str, usize>, AllocError>
     ensures { IfOk result (λ found. (q : List ℕ) → hash.get_by (λ k. bytes_eq q k.now) found ≡ place_of (map included_view jobs.now) q) }
 {
@@ -60,13 +60,13 @@ fn ranks(alloc: Global, stages: &[&str], jobs: &[IncludedJob]) -> Result<Vec<usi
     Ok(found)
 }
 
-impl<'a> Lineup<'a> {
+impl<'a, 't> Lineup<'a, 't> {
     /// The jobs, with the stages of their file.
     pub fn new(
         alloc: Global,
         stages: &'a [&'a str],
-        jobs: Vec<IncludedJob<'a>>,
-    ) -> Result<Lineup<'a>, AllocError>
+        jobs: Vec<IncludedJob<'a, 't>>,
+    ) -> Result<Lineup<'a, 't>, AllocError>
         ensures placed { IfOk result IsPlaced }
         ensures stages { IfOk result (λ l. l.stages ≡ stages.entry) }
         ensures jobs { IfOk result (λ l. l.jobs ≡ jobs.entry) }

@@ -17,8 +17,8 @@ use std::alloc::Global;
 /// A pipeline's jobs, stage by stage and in each stage by the file, and the pairs of a predecessor's position and that of the
 /// job that waits for it.
 #[derive(Drop)]
-pub struct PipelinePlan<'a> {
-    pub jobs: Vec<IncludedJob<'a>>,
+pub struct PipelinePlan<'a, 't> {
+    pub jobs: Vec<IncludedJob<'a, 't>>,
     pub pairs: Pairs,
 }
 
@@ -27,11 +27,11 @@ pub struct PipelinePlan<'a> {
 /// Errors: memory was refused; or the first fault: no job is included, or all are in `.pre` and `.post` (G4); one gives more than
 /// 50 needs (G5); a need that isn't optional names no included job (G1); a need names one of a later stage (G2); jobs wait for
 /// one another in a circle (G3).
-pub fn plan<'a>(
+pub fn plan<'a, 't>(
     alloc: Global,
     given: &Given<'a>,
-    config: &'a Config<'a>,
-) -> Result<PipelinePlan<'a>, GraphFault>
+    config: &'a Config<'t>,
+) -> Result<PipelinePlan<'a, 't>, GraphFault>
     ensures { Gives (given_view given.now) (config_view config.now) result }
 {
     let jobs = lineup(alloc, given, config)?;
