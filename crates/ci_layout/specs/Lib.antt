@@ -1,0 +1,7 @@
+pub mod Inclusion
+pub mod Layout
+pub mod Fault
+pub mod View
+pub mod Places
+pub mod Plans
+pub mod Examples

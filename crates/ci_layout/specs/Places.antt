@@ -1,0 +1,21 @@
+-- How the code keeps where the included jobs stand.
+use Rattle.std.specs.Prelude.{◌≡◌, ℕ, List}
+use Rattle.std.specs.HashMap as hash
+use Rattle.std.specs.Str.{bytes_eq}
+use Rattle.ci_words.specs.Table.{words_view}
+use Rattle.ci_config.specs.Config.{Text}
+use Rattle.ci_layout.specs.Inclusion.{IncludedJob}
+use Rattle.ci_layout.specs.Layout.{ranks, place_of}
+use Rattle.ci_layout.specs.View.{lineup_view}
+use Rattle.ci_layout.specs.declared.places.Lineup.{Lineup}
+
+abbrev pub stages_of : Lineup → List Text
+stages_of l = words_view l.stages.now
+
+abbrev pub jobs_of : Lineup → List IncludedJob
+jobs_of l = lineup_view l.jobs
+
+-- each name has the place of the first job that has it, and each job the place of its stage
+pub record IsPlaced (l : Lineup) : Type 0 where
+  pub places : (q : Text) → hash.get_by (λ k. bytes_eq q k.now) l.places ≡ place_of (jobs_of l) q
+  pub ranks : l.ranks.items ≡ ranks (stages_of l) (jobs_of l)

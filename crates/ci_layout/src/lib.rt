@@ -1,0 +1,20 @@
+//! Which jobs of a CI file a pipeline has, in which order they stand, and which of them waits for which.
+#![tactic(auto)]
+
+pub mod examples;
+mod fault;
+mod faults;
+mod given;
+mod inclusion;
+mod limits;
+mod lineup;
+mod pairs;
+mod places;
+mod planning;
+
+pub use fault::{GraphCode, GraphFault};
+pub use given::{Given, Variables};
+pub use inclusion::IncludedJob;
+pub use limits::MAX_NEEDS;
+pub use pairs::Pairs;
+pub use planning::{PipelinePlan, plan};
