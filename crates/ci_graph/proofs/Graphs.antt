@@ -1,5 +1,5 @@
 -- Graphs made of pairs.
-use Rattle.std.proofs.Common.{◌≡◌, ℕ, ◌<◌, ◌≤◌, ◌^◌, Bool, List, [], length, replicate, sym, ap, ◌∙◌, arith, Option, Some, None, IfSome, IfNone}
+use Rattle.std.proofs.Common.{◌≡◌, ℕ, ◌<◌, ◌≤◌, ◌^◌, List, length, sym, ap, ◌∙◌, arith, Option, Some, None, IfSome, IfNone}
 use Rattle.ci_graph.specs.Lists.{times, number_at, distinct, IsOrder}
 use Rattle.ci_graph.specs.JobGraph.{JobGraph, IsJobGraph, HasPairs, predecessors_of, successors_of}
 use Rattle.ci_graph.specs.Pairs.{AreWithin, HasCycle, IsAcyclic, has_pair, firsts_of}

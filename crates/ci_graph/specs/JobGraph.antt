@@ -1,5 +1,5 @@
 -- The graph of a pipeline's jobs, as contracts see it.
-use Rattle.std.specs.Prelude.{◌≡◌, ℕ, ◌<◌, ◌≤◌, ◌^◌, false, List, [], length, slice_index_or, Contains}
+use Rattle.std.specs.Prelude.{◌≡◌, ℕ, ◌<◌, ◌≤◌, ◌^◌, false, List, length, slice_index_or, Contains}
 use Rattle.ci_graph.specs.Lists.{list_at, number_at, times, distinct, IsOrder}
 use Rattle.ci_graph.specs.Pairs.{HasCycle, firsts_of}
 use Rattle.ci_graph.specs.declared.part.Part.{Part}

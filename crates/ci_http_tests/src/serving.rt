@@ -405,7 +405,7 @@ fn lacks_memory(rt: &impl Abort, alloc: Global, row: &(&[u8], &str, bool)) -> bo
 }
 
 // Nothing but `serve_one` asks for memory here. Where one allocation is refused, whichever it is
-// (`rt try --test --fail-alloc 1..`), one reply at most is M16, and all that follow are as ever.
+// (`rt try --test --fail-alloc N`), one reply at most is M16, and all that follow are as ever.
 #[test]
 fn want_of_memory_is_told_once(rt: HostRuntime) -> Result<(), Fail> {
     let mut lacked = false;

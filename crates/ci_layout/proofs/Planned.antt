@@ -1,5 +1,5 @@
 -- What the code found of a lineup, said of the file.
-use Rattle.std.proofs.Common.{◌≡◌, ◌≢◌, ℕ, ◌<◌, Bool, List, Option, Some, None, Ok, Err, length, ap, refl, sym, ◌∙◌, subst}
+use Rattle.std.proofs.Common.{◌≡◌, ◌≢◌, ℕ, List, Option, Some, None, Ok, Err, length, ap, refl, sym, ◌∙◌, subst}
 use Rattle.ci_config.specs.Config.{Text, Config}
 use Rattle.ci_graph.specs.Pairs.{AreWithin, HasCycle, IsAcyclic}
 use Rattle.ci_layout.specs.Inclusion.{Given, IncludedJob}

@@ -1,12 +1,10 @@
 -- Files and pipelines for worked examples.
-use Rattle.std.specs.Prelude.{ℕ, Bool, true, false, List, [], ◌∷◌, map, Option, Some, None, codes, replicate}
-use Rattle.ci_values.specs.declared.when.When.{When}
-use Rattle.ci_values.specs.declared.when.When.TheVariants.{Manual}
+use Rattle.std.specs.Prelude.{ℕ, true, false, List, [], ◌∷◌, map, Option, Some, None, codes}
 use Rattle.ci_expr.specs.Formula.{present}
 use Rattle.ci_config.specs.Config.{Text, Need, Rule, Job, Config}
 use Rattle.ci_config.specs.Meaning.{all_stages, default_stages}
 use Rattle.ci_config.specs.declared.keyword.RuleWhen.TheVariants as rule
-use Rattle.ci_layout.specs.Inclusion.{Given, IncludedJob}
+use Rattle.ci_layout.specs.Inclusion.{Given}
 use Rattle.ci_layout.specs.Layout.{lineup, pairs}
 use Rattle.ci_layout.specs.Fault.{first_fault}
 use Rattle.ci_layout.specs.declared.fault.GraphCode.{GraphCode}

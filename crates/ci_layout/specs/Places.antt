@@ -1,5 +1,5 @@
 -- How the code keeps where the included jobs stand.
-use Rattle.std.specs.Prelude.{◌≡◌, ℕ, List}
+use Rattle.std.specs.Prelude.{◌≡◌, List}
 use Rattle.std.specs.HashMap as hash
 use Rattle.std.specs.Str.{bytes_eq}
 use Rattle.ci_words.specs.Table.{words_view}

@@ -4,7 +4,6 @@ use Rattle.std.specs.Global.{Vec}
 use Rattle.ci_words.specs.Layers.{layer_view}
 use Rattle.ci_config.specs.View.{job_view}
 use Rattle.ci_layout.specs.Inclusion as inclusion
-use Rattle.ci_layout.specs.Fault as layout
 use Rattle.ci_layout.specs.declared.given.Given.{Given}
 use Rattle.ci_layout.specs.declared.inclusion.IncludedJob.{IncludedJob}
 

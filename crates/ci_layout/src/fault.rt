@@ -19,19 +19,19 @@ pub enum GraphCode {
 
 /// Why there is no plan.
 #[derive(Clone, Copy, Debug, PartialEq, Eq)]
-pub enum GraphFault {
+pub enum PlanFault {
     Fault(GraphCode),
     /// Memory was refused.
     Memory,
 }
 
-impl From<AllocError> for GraphFault {
+impl From<AllocError> for PlanFault {
     ghost use Rattle.std.specs.Prelude.{◌≡◌};
-    ghost use Rattle.ci_layout.specs.declared.fault.GraphFault.TheVariants.{Memory};
+    ghost use Rattle.ci_layout.specs.declared.fault.PlanFault.TheVariants.{Memory};
 
     ghost from_gives = { λ _ fault. fault ≡ Memory };
 
-    fn from(_: AllocError) -> GraphFault {
-        GraphFault::Memory
+    fn from(_: AllocError) -> PlanFault {
+        PlanFault::Memory
     }
 }

@@ -12,7 +12,7 @@ mod pairs;
 mod places;
 mod planning;
 
-pub use fault::{GraphCode, GraphFault};
+pub use fault::{GraphCode, PlanFault};
 pub use given::{Given, Variables};
 pub use inclusion::IncludedJob;
 pub use limits::MAX_NEEDS;

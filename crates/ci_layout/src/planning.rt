@@ -4,7 +4,7 @@ ghost use Rattle.ci_config.specs.View.{config_view};
 ghost use Rattle.ci_layout.specs.Plans.{Gives};
 ghost use Rattle.ci_layout.specs.View.{given_view};
 
-use crate::fault::{GraphCode, GraphFault};
+use crate::fault::{GraphCode, PlanFault};
 use crate::given::Given;
 use crate::inclusion::IncludedJob;
 use crate::lineup::lineup;
@@ -31,17 +31,17 @@ pub fn plan<'a, 't>(
     alloc: Global,
     given: &Given<'a>,
     config: &'a Config<'t>,
-) -> Result<PipelinePlan<'a, 't>, GraphFault>
+) -> Result<PipelinePlan<'a, 't>, PlanFault>
     ensures { Gives (given_view given.now) (config_view config.now) result }
 {
     let jobs = lineup(alloc, given, config)?;
     let lineup = Lineup::new(alloc, &config.stages, jobs)?;
     if let Some(code) = lineup.first_fault() {
-        return Err(GraphFault::Fault(code));
+        return Err(PlanFault::Fault(code));
     }
     let pairs = lineup.pairs(alloc)?;
     if !are_acyclic(alloc, lineup.jobs.len(), &pairs)? {
-        return Err(GraphFault::Fault(GraphCode::G3));
+        return Err(PlanFault::Fault(GraphCode::G3));
     }
     let Lineup { jobs, .. } = lineup;
     Ok(PipelinePlan { jobs, pairs })

@@ -1,7 +1,7 @@
 //! What a text plans.
 
 use ci_config::{ConfigFault, config};
-use ci_layout::{Given, GraphCode, GraphFault, IncludedJob, PipelinePlan, plan};
+use ci_layout::{Given, GraphCode, IncludedJob, PipelinePlan, PlanFault, plan};
 use ci_values::when::{AllowFailure, When};
 use ci_words::Layer;
 use ci_yaml::{YamlFault, read};
@@ -82,8 +82,8 @@ fn laid_out(alloc: Global, text: &str, pipeline: Layer) -> Result<String, AllocE
     };
     match plan(alloc, &given, &config) {
         Ok(plan) => plan_text(alloc, &plan),
-        Err(GraphFault::Memory) => Err(AllocError),
-        Err(GraphFault::Fault(code)) => String::from_str(alloc, code_text(code)),
+        Err(PlanFault::Memory) => Err(AllocError),
+        Err(PlanFault::Fault(code)) => String::from_str(alloc, code_text(code)),
     }
 }
 
