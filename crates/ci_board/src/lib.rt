@@ -4,6 +4,7 @@
 pub mod board;
 mod changes;
 mod effect;
+pub mod examples;
 pub mod facts;
 pub mod laws;
 mod pass;

@@ -220,6 +220,35 @@ fn play_on<L: Ledger>(
 }
 
 #[test]
+fn stage_after_stage(rt: HostRuntime) -> Result<(), Fail> {
+    let alloc = rt.alloc();
+    // build; unit, of the stage behind
+    let parts = vec![in alloc; part(When::OnSuccess, false), part(When::OnSuccess, false)]?;
+    let steps = [
+        no_change([Pending, Created].as_slice(), Pending),
+        after(
+            to(0, live()),
+            [0].as_slice(),
+            [Running, Created].as_slice(),
+            Running,
+        ),
+        after(
+            to(0, succeeded()),
+            [0, 1].as_slice(),
+            [Success, Pending].as_slice(),
+            Running,
+        ),
+        after(
+            to(1, succeeded()),
+            [1].as_slice(),
+            [Success, Success].as_slice(),
+            Success,
+        ),
+    ];
+    play(&rt, alloc, parts, [(0, 1)].as_slice(), steps.as_slice())
+}
+
+#[test]
 fn no_needs_before_earlier_stages(rt: HostRuntime) -> Result<(), Fail> {
     let alloc = rt.alloc();
     // slow; pack, of the stage behind; lint, which needs nothing
@@ -288,6 +317,12 @@ fn failure_and_retry(rt: HostRuntime) -> Result<(), Fail> {
             to(4, failed(Cause::ScriptFailure, None, 1)),
             [0, 1, 2, 3, 4].as_slice(),
             [Skipped, Skipped, Pending, Pending, Failed].as_slice(),
+            Running,
+        ),
+        after(
+            to(2, live()),
+            [2].as_slice(),
+            [Skipped, Skipped, Running, Pending, Failed].as_slice(),
             Running,
         ),
         after(
