@@ -3,5 +3,6 @@ pub mod Layout
 pub mod Fault
 pub mod View
 pub mod Places
+pub mod Parts
 pub mod Plans
 pub mod Examples

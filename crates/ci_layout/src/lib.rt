@@ -9,6 +9,7 @@ mod inclusion;
 mod limits;
 mod lineup;
 mod pairs;
+mod parts;
 mod places;
 mod planning;
 

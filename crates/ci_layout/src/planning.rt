@@ -1,7 +1,9 @@
 //! A pipeline's jobs, and which of them waits for which.
 
+ghost use Rattle.std.specs.Prelude.{IfOk};
 ghost use Rattle.ci_config.specs.View.{config_view};
-ghost use Rattle.ci_layout.specs.Plans.{Gives};
+ghost use Rattle.ci_layout.specs.Parts.{CanBeGraph};
+ghost use Rattle.ci_layout.specs.Plans.{Gives, plan_view};
 ghost use Rattle.ci_layout.specs.View.{given_view};
 
 use crate::fault::{GraphCode, PlanFault};
@@ -32,7 +34,8 @@ pub fn plan<'a, 't>(
     given: &Given<'a>,
     config: &'a Config<'t>,
 ) -> Result<PipelinePlan<'a, 't>, PlanFault>
-    ensures { Gives (given_view given.now) (config_view config.now) result }
+    ensures plan { Gives (given_view given.now) (config_view config.now) result }
+    ensures graph { IfOk result (λ p. CanBeGraph (plan_view p)) }
 {
     let jobs = lineup(alloc, given, config)?;
     let lineup = Lineup::new(alloc, &config.stages, jobs)?;
