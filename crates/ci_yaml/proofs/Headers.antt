@@ -10,7 +10,7 @@ use Rattle.ci_yaml.specs.Document.{filled, entries_with}
 use Rattle.ci_yaml_lines.proofs.Forms.{OfForms, OfLines, written_at-each, written-each, line-each}
 
 -- the value beside a header is an empty text
-abbrev HasText : Option Chomp → Option Value → Type 0
+abbrev pub HasText : Option Chomp → Option Value → Type 0
 HasText None given = ⊤
 HasText (Some how) given = given ≡ Some (text [])
 
@@ -21,13 +21,13 @@ LastHasText (Some how) [] = ⊥
 LastHasText (Some how) (e ∷ []) = e.given ≡ Some (text [])
 LastHasText (Some how) (e ∷ f ∷ es) = LastHasText (Some how) (f ∷ es)
 
-abbrev WrittenFits : Written → Type 0
+abbrev pub WrittenFits : Written → Type 0
 WrittenFits w = HasText w.header w.given
 
 abbrev ParsedFits : ParsedLine → Type 0
 ParsedFits s = LastHasText s.header s.entries
 
-forms-fit : OfForms WrittenFits
+pub forms-fit : OfForms WrittenFits
 forms-fit = record { in_quotes = λ q. tt; unclosed = tt; in_list = λ w. tt; in_block = λ how last bs. refl; plain = λ raw. tt }
 
 entry-by : (h : Option Chomp) (e : Entry) → HasText h e.given → LastHasText h (e ∷ [])

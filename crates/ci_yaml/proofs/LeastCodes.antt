@@ -20,7 +20,7 @@ use Rattle.ci_yaml.proofs.Trees.{some_is}
 
 -- ---- what lines say is one thing
 
-front-same : (c : ℕ) (before a b rest more : List Line) → AreBlock c before a → AreBlock c before b → EndsBlock c rest → EndsBlock c more → a ++ rest ≡ b ++ more → (a ≡ b) × (rest ≡ more)
+pub front-same : (c : ℕ) (before a b rest more : List Line) → AreBlock c before a → AreBlock c before b → EndsBlock c rest → EndsBlock c more → a ++ rest ≡ b ++ more → (a ≡ b) × (rest ≡ more)
 front-same c before [] [] rest more p q e f is = (refl, is)
 front-same c before [] (l ∷ b) rest more p q e f is = let no : is_in_block c l ≡ false = subst (EndsBlock c) is e in let yes : is_in_block c l ≡ true = q.0 in absurd cc
 front-same c before (l ∷ a) [] rest more p q e f is = let no : is_in_block c l ≡ false = subst (EndsBlock c) (sym is) f in let yes : is_in_block c l ≡ true = p.0 in absurd cc

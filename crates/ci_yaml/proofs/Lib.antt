@@ -23,3 +23,4 @@ pub mod Frames
 pub mod SpansFrames
 pub mod BlockLines
 pub mod Literals
+pub mod TextSpans

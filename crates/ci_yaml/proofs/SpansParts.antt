@@ -43,13 +43,13 @@ rest-length xs n le = omega (arith, length-texts xs)
 
 -- ---- a block and its header
 
-abbrev the-ok : Reader → Result Reader Code
+abbrev pub the-ok : Reader → Result Reader Code
 the-ok r = Ok r
 
-ok-same : (x y : Reader) → the-ok x ≡ the-ok y → x ≡ y
+pub ok-same : (x y : Reader) → the-ok x ≡ the-ok y → x ≡ y
 ok-same x y e = cc
 
-ends-differ : (how : Chomp) (c : ℕ) → outside ≡ within how c [] → ⊥
+pub ends-differ : (how : Chomp) (c : ℕ) → outside ≡ within how c [] → ⊥
 ends-differ how c e = absurd cc
 
 header-at : (s t : State) (how : Chomp) (c : ℕ) (sp : ParsedLine) (o : Option Code) (h : Option Chomp) → sp.header ≡ h → stop_or o (record { state = t; end = ending_at h (last_column sp.entries) }) ≡ Ok (record { state = s; end = within how c [] })
@@ -64,7 +64,7 @@ header-at s t how c sp None (Some g) is e =
     let column : c ≡ last_column sp.entries = cc in
     (is ∙ ap (λ x. Some x) how-is, column)
 
-header-by : (s : State) (how : Chomp) (c : ℕ) (sp : ParsedLine) (r : Result State Code) → content_by r sp ≡ Ok (record { state = s; end = within how c [] }) → (sp.header ≡ Some how) × (c ≡ last_column sp.entries)
+pub header-by : (s : State) (how : Chomp) (c : ℕ) (sp : ParsedLine) (r : Result State Code) → content_by r sp ≡ Ok (record { state = s; end = within how c [] }) → (sp.header ≡ Some how) × (c ≡ last_column sp.entries)
 header-by s how c sp (Ok t) e = header-at s t how c sp (least sp.codes) sp.header refl e
 header-by s how c sp (Err x) e = absurd cc
 

@@ -5,6 +5,7 @@ pub mod Codes
 pub mod Document
 pub mod ReadLines
 pub mod Spans
+pub mod TextSpans
 pub mod View
 pub mod Stops
 pub mod FaultText

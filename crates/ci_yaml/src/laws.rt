@@ -9,6 +9,8 @@ ghost use Rattle.ci_yaml.specs.Node.{IsDocument};
 ghost use Rattle.ci_yaml_lines.specs.Line.{Line};
 ghost use Rattle.ci_yaml.specs.Document.{Ending, Parses, HasTree, IsGood, IsLeast, IsFault};
 ghost use Rattle.ci_yaml.specs.Shape.{KeysDiffer, depth};
+ghost use Rattle.ci_yaml.specs.TextSpans.{HaveSpans};
+ghost use Rattle.ci_yaml_lines.specs.declared.tree.Span.{Span};
 ghost use Rattle.ci_yaml.specs.Reading.{finished};
 ghost use Rattle.ci_yaml.specs.declared.limits.TheConstants.{MAX_DEPTH};
 ghost use Rattle.ci_yaml.specs.ReadLines.{Reader, read_lines, beginning};
@@ -41,6 +43,11 @@ pub fn parse_one_way()
 /// A text has one tree at most.
 pub fn has_one_tree()
     ensures { (bytes : List ℕ) (v w : Value) → HasTree bytes v → HasTree bytes w → v ≡ w }
+{}
+
+/// A text's lines have one list of spans at most.
+pub fn has_one_list_of_spans()
+    ensures { (ls : List Line) (a b : List Span) → HaveSpans 0 ls a → HaveSpans 0 ls b → a ≡ b }
 {}
 
 /// Each beginning of a good beginning is good.

@@ -1,6 +1,6 @@
 //! Reading a text.
 
-ghost use Rattle.std.specs.Prelude.{◌≡◌, ℕ, suc, ◌+◌, ◌<◌, ◌≤◌, ◌++◌, [], map, option_map, IfOk, IfErr, Ok, Err, false, length, take, drop};
+ghost use Rattle.std.specs.Prelude.{◌≡◌, ℕ, suc, ◌+◌, ◌<◌, ◌≤◌, ◌++◌, List, [], map, option_map, IfOk, IfErr, Ok, Err, false, length, take, drop};
 ghost use Rattle.ci_yaml_lines.specs.View.{bytes_of, chomp_view, value_view, entry_view, parsed_view};
 ghost use Rattle.ci_yaml.specs.View.{state_view};
 ghost use Rattle.ci_yaml_lines.specs.Line.{parse_line};
@@ -15,6 +15,8 @@ ghost use Rattle.std.specs.Str.Lines.{lines};
 ghost use Rattle.ci_yaml_lines.specs.Lent.{is_lent};
 ghost use Rattle.ci_yaml_lines.specs.Spans.{texts_in, entries_texts};
 ghost use Rattle.ci_yaml.specs.Spans.{state_texts, Follow, Ends, Lines, AreWritten};
+ghost use Rattle.ci_yaml_lines.specs.SpansOf.{spans_of, line_spans};
+ghost use Rattle.ci_yaml.specs.TextSpans.{with_last, HaveSpans, GoOn};
 ghost use Rattle.ci_yaml_lines.specs.declared.code.Code.{Code};
 ghost use Rattle.ci_yaml_lines.specs.declared.code.Code.TheVariants.{Y1};
 ghost use Rattle.ci_yaml.specs.declared.fault.YamlFault.TheVariants.{Fault};
@@ -103,6 +105,7 @@ fn read_line<'a>(
     requires fits { length line.now ≤ MAX_FILE_BYTES }
     ensures value { GivesAt passed_view number result (content (state_view progress.entry) (parse_line line.now)) }
     ensures spans { IfOk result (λ p. Follow number line.now (state_texts progress.entry) (state_texts p.progress)) }
+    ensures exact { IfOk result (λ p. spans_of (state_texts p.progress) ≡ spans_of (state_texts progress.entry) ++ line_spans number line.now) }
 {
     let parsed = parse_line(alloc, number, line)?;
     enter(alloc, progress, number, parsed)
@@ -112,6 +115,7 @@ fn read_line<'a>(
 fn with_text<'a>(progress: Progress<'a>, text: Text<'a>) -> Progress<'a>
     ensures value { state_view result ≡ with_text (bytes_of text.entry) (state_view progress.entry) }
     ensures spans { Ends text.entry (state_texts progress.entry) (state_texts result) }
+    ensures exact { (words : List ℕ) → state_view progress.entry ≡ with_text words (state_view progress.entry) → spans_of (state_texts result) ≡ with_last text.entry.span (spans_of (state_texts progress.entry)) }
 {
     match progress {
         Progress::Start => Progress::Start,
@@ -170,9 +174,11 @@ fn read_part<'a>(
     requires short { AreShort (texts_of lines.now) }
     requires before { HasRead (texts_of lines.now) at (state_view progress) }
     requires texts { Lines (texts_of lines.now) 0 (take at (texts_of lines.now)) (state_texts progress) }
+    requires exact { GoOn (texts_of lines.now) at (spans_of (state_texts progress)) }
     ensures more { IfOk result (λ r. (at < r.0) × (r.0 ≤ length lines.now)) }
     ensures read { IfOk result (λ r. HasRead (texts_of lines.now) r.0 (state_view r.1)) }
     ensures spans { IfOk result (λ r. Lines (texts_of lines.now) 0 (take r.0 (texts_of lines.now)) (state_texts r.1)) }
+    ensures exact { IfOk result (λ r. GoOn (texts_of lines.now) r.0 (spans_of (state_texts r.1))) }
     ensures fault { IfErr result (StopsBy (texts_of lines.now)) }
 {
     let Passed { progress, below } = read_line(alloc, progress, at + 1, lines[at])?;
@@ -191,6 +197,7 @@ fn read_lines<'a>(alloc: Global, lines: &[&'a str]) -> Result<Progress<'a>, Yaml
     requires short { AreShort (texts_of lines.now) }
     ensures read { IfOk result (λ p. (r : Reader) × (read_lines beginning (texts_of lines.now) ≡ Ok r) × (r.state ≡ state_view p)) }
     ensures spans { IfOk result (λ p. Lines (texts_of lines.now) 0 (texts_of lines.now) (state_texts p)) }
+    ensures exact { IfOk result (λ p. HaveSpans 0 (texts_of lines.now) (spans_of (state_texts p))) }
     ensures fault { IfErr result (StopsBy (texts_of lines.now)) }
 {
     let mut progress = Progress::Start;
@@ -208,6 +215,7 @@ fn tree_of<'a>(alloc: Global, lines: &[&'a str]) -> Result<Tree<'a>, YamlFault>
     requires short { AreShort (texts_of lines.now) }
     ensures tree { Reads (texts_of lines.now) result }
     ensures spans { IfOk result (λ t. Lines (texts_of lines.now) 0 (texts_of lines.now) (texts_in t)) }
+    ensures exact { IfOk result (λ t. HaveSpans 0 (texts_of lines.now) (spans_of (texts_in t))) }
 {
     let progress = read_lines(alloc, lines)?;
     match finish(progress)? {
@@ -232,6 +240,8 @@ pub fn read(alloc: Global, text: &str) -> Result<Tree<'_>, YamlFault>
     // Each text is what its span holds, read by the scalar rules: with its quotes, or as a header's whole block; the spans ascend. It
     // is lent where the source writes it as it is.
     ensures spans { IfOk result (λ t. AreWritten (lines text.now) (texts_in t)) }
+    // Each span is where the definition of the text's lines finds the text: a text has one list of spans.
+    ensures exact { IfOk result (λ t. HaveSpans 0 (lines text.now) (spans_of (texts_in t))) }
     // A text that is too long is refused before all else.
     ensures too_long { MAX_FILE_BYTES < length text.now → result ≡ Err (Fault Y1 1) }
 {

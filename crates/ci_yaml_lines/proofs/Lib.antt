@@ -20,3 +20,4 @@ pub mod SpansParsed
 pub mod Turns
 pub mod Parsed
 pub mod Forms
+pub mod SpansOf

@@ -13,5 +13,6 @@ pub mod Lent
 pub mod Spans
 pub mod SpansScalar
 pub mod SpansFlow
+pub mod SpansOf
 pub mod SpansParsed
 pub mod View

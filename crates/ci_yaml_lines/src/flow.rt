@@ -1,13 +1,14 @@
 //! Lists on one line.
 
-ghost use Rattle.std.specs.Prelude.{◌≡◌, ℕ, ◌||◌, List, [], ◌∷◌, IfOk, true};
+ghost use Rattle.std.specs.Prelude.{◌≡◌, ℕ, ◌||◌, List, [], ◌∷◌, IfOk, None, true};
 ghost use Rattle.ci_yaml_lines.specs.declared.cut.SourceLine.{SourceLine};
 ghost use Rattle.ci_yaml_lines.specs.Least.{least};
-ghost use Rattle.ci_yaml_lines.specs.Scalar.{is_nil, head_is, is_forbidden, has_tab_after, plain_codes};
+ghost use Rattle.ci_yaml_lines.specs.Scalar.{is_nil, head_is, drop_blanks, is_forbidden, has_tab_after, plain_codes, quoted};
 ghost use Rattle.ci_yaml_lines.specs.Line.{end_of, cut_place, place_codes, plain_place, behind_quoted, place, places, listed};
 ghost use Rattle.ci_yaml_lines.specs.Spans.{texts_in, items_texts, Stand};
 ghost use Rattle.ci_yaml_lines.specs.SpansFlow.{behind_end, behind_list};
-ghost use Rattle.ci_yaml_lines.specs.View.{quoted_view, end_view, cut_view, place_view, listed_view, least_place, least_listed};
+ghost use Rattle.ci_yaml_lines.specs.SpansOf.{spans_of, scalar_spans, places_spans, list_spans};
+ghost use Rattle.ci_yaml_lines.specs.View.{value_view, quoted_view, end_view, cut_view, place_view, listed_view, least_place, least_listed};
 
 use crate::code::{Code, least_of, when};
 use crate::cut::{SourceLine, drop_blanks, front, is_all_blank, skip, tail, trim_end};
@@ -110,6 +111,7 @@ fn place_code(front: &str, raw: &str, text: &str) -> Option<Code>
 fn plain_place<'a>(source: SourceLine, text: &'a str) -> Place<'a>
     ensures value { place_view result ≡ least_place (plain_place text.now (cut_place 44 text.now)) }
     ensures spans { Stand source text.now (texts_in result.value) (behind_end result.end) }
+    ensures exact { spans_of (texts_in result.value) ≡ scalar_spans source None (value_view result.value) (drop_blanks text.now) }
 {
     let Cut { raw, end } = cut_place(b',', text);
     let trimmed = trim_end(raw);
@@ -125,6 +127,7 @@ fn plain_place<'a>(source: SourceLine, text: &'a str) -> Place<'a>
 fn behind_quoted<'a>(quoted: Quoted<'a>) -> Place<'a>
     ensures value { place_view result ≡ least_place (behind_quoted (quoted_view quoted.entry) (cut_place 39 (quoted_view quoted.entry).rest)) }
     ensures spans { (source : SourceLine) (bs : List ℕ) → Stand source bs (quoted.entry.text ∷ []) quoted.entry.rest.now → Stand source bs (texts_in result.value) (behind_end result.end) }
+    ensures exact { texts_in result.value ≡ quoted.entry.text ∷ [] }
 {
     let Quoted { text, wrong, rest } = quoted;
     let Cut { raw, end } = cut_place(b'\'', rest);
@@ -143,6 +146,7 @@ fn behind_quoted<'a>(quoted: Quoted<'a>) -> Place<'a>
 fn read_place<'a>(alloc: Global, source: SourceLine, text: &'a str) -> Result<Place<'a>, AllocError>
     ensures value { IfOk result (λ p. place_view p ≡ least_place (place text.now)) }
     ensures spans { IfOk result (λ p. Stand source text.now (texts_in p.value) (behind_end p.end)) }
+    ensures exact { IfOk result (λ p. spans_of (texts_in p.value) ≡ scalar_spans source (quoted (drop_blanks text.now)) (value_view p.value) (drop_blanks text.now)) }
 {
     let from = drop_blanks(text);
     if !is_quote(from.as_bytes()) {
@@ -167,6 +171,7 @@ fn read_places<'a>(
 ) -> Result<Listed<'a>, AllocError>
     ensures value { IfOk result (λ l. listed_view l ≡ least_listed (places n text.now)) }
     ensures spans { IfOk result (λ l. Stand source text.now (items_texts l.items.items) (behind_list l.rest)) }
+    ensures exact { IfOk result (λ l. spans_of (items_texts l.items.items) ≡ places_spans source n text.now) }
 {
     let mut items = Vec::new(alloc);
     let mut code = None;
@@ -213,6 +218,7 @@ pub fn read_list<'a>(
     requires { head_is 91 text.now ≡ true }
     ensures value { IfOk result (λ l. listed_view l ≡ least_listed (listed text.now)) }
     ensures spans { IfOk result (λ l. Stand source text.now (items_texts l.items.items) (behind_list l.rest)) }
+    ensures exact { IfOk result (λ l. spans_of (items_texts l.items.items) ≡ list_spans source text.now) }
 {
     let inner = tail(text);
     let from = drop_blanks(inner);

@@ -1,12 +1,14 @@
 //! What one line says.
 
-ghost use Rattle.std.specs.Prelude.{◌≡◌, ◌==◌, ◌+◌, ◌≤◌, ◌&&◌, ◌||◌, suc, IfOk, IfSome, option_map, map, length, is_some, [], ◌∷◌, ◌++◌};
+ghost use Rattle.std.specs.Prelude.{◌≡◌, ◌==◌, ◌+◌, ◌≤◌, ◌&&◌, ◌||◌, suc, None, IfOk, IfSome, option_map, map, length, is_some, [], ◌∷◌, ◌++◌};
 ghost use Rattle.ci_values.specs.declared.limits.TheConstants.{MAX_FILE_BYTES};
 ghost use Rattle.ci_yaml_lines.specs.Least.{least_of};
-ghost use Rattle.ci_yaml_lines.specs.Line.{split_colon, plain_key, quoted_key, keyed, is_dash, item, parse_entries, keyed_or_bare, parse_content, is_document_mark, has_control, has_byte_order_mark, is_skipped, parse_line};
-ghost use Rattle.ci_yaml_lines.specs.View.{quoted_view, keyed_view, least_keyed, written_view, head_view, entry_view, item_view, least_item, ColumnsFit, parsed_view, least_parsed, with_entries, least_entry, key_parsed, bare_parsed};
+ghost use Rattle.ci_yaml_lines.specs.Scalar.{drop_blanks, quoted};
+ghost use Rattle.ci_yaml_lines.specs.Line.{written, split_colon, plain_key, quoted_key, keyed, is_dash, item, parse_entries, keyed_or_bare, parse_content, is_document_mark, has_control, has_byte_order_mark, is_skipped, parse_line};
+ghost use Rattle.ci_yaml_lines.specs.View.{bytes_of, quoted_view, keyed_view, least_keyed, written_view, head_view, entry_view, item_view, least_item, ColumnsFit, parsed_view, least_parsed, with_entries, least_entry, key_parsed, bare_parsed};
 ghost use Rattle.ci_yaml_lines.specs.Spans.{head_texts, given_texts, entries_texts, Stand, StandOn};
-ghost use Rattle.ci_yaml_lines.specs.SpansParsed.{GoOn, KeyOf, ItemStands};
+ghost use Rattle.ci_yaml_lines.specs.SpansParsed.{GoOn, KeyOf, ItemStands, ItemHasSpans};
+ghost use Rattle.ci_yaml_lines.specs.SpansOf.{spans_of, scalar_span, given_spans, keyed_spans, entries_spans, content_spans, line_spans};
 
 use crate::code::{Code, least_of, when};
 use crate::cut::{SourceLine, drop_blanks, drop_spaces, front, skip, tail, trim_end};
@@ -44,6 +46,7 @@ fn split_colon(text: &str) -> Option<(&str, &str)>
 fn plain_key<'a>(source: SourceLine, text: &'a str) -> Option<Keyed<'a>>
     ensures value { option_map keyed_view result ≡ option_map least_keyed (plain_key (split_colon text.now)) }
     ensures spans { IfSome result (λ k. Stand source text.now (k.name ∷ []) k.rest.now) }
+    ensures exact { IfSome result (λ k. k.name.span ≡ scalar_span source None (bytes_of k.name) text.now) }
 {
     let (raw, rest) = split_colon(text)?;
     let name = trim_end(raw);
@@ -81,6 +84,7 @@ fn read_key<'a>(
 ) -> Result<Option<Keyed<'a>>, AllocError>
     ensures value { IfOk result (λ k. option_map keyed_view k ≡ option_map least_keyed (keyed text.now)) }
     ensures spans { IfOk result (λ o. IfSome o (λ k. Stand source text.now (k.name ∷ []) k.rest.now)) }
+    ensures exact { IfOk result (λ o. IfSome o (λ k. k.name.span ≡ scalar_span source (quoted text.now) (bytes_of k.name) text.now)) }
 {
     if is_quote(text.as_bytes()) {
         let quoted = read_quoted(alloc, source, text)?;
@@ -116,6 +120,7 @@ fn read_item<'a>(alloc: Global, source: SourceLine, text: &'a str) -> Result<Ite
     ensures value { IfOk result (λ i. item_view i ≡ least_item (item text.now)) }
     ensures fits { IfOk result (λ i. ColumnsFit (length text.now) (item_view i)) }
     ensures spans { IfOk result (λ i. ItemStands source text.now i) }
+    ensures exact { IfOk result (λ i. ItemHasSpans source text.now i) }
 {
     let n = spaces(text.as_bytes());
     let inner = drop_spaces(text);
@@ -180,6 +185,8 @@ fn with_key<'a>(
 ) -> Result<ParsedLine<'a>, AllocError>
     ensures value { IfOk result (λ s. parsed_view s ≡ with_entries (map entry_view entries.entry.items) (key_parsed column (keyed_view key.entry))) }
     ensures spans { IfOk result (λ s. GoOn source (entries_texts entries.entry.items ++ key.entry.name ∷ []) key.entry.rest.now (entries_texts s.entries.items)) }
+    ensures exact { IfOk result (λ s. spans_of (entries_texts s.entries.items) ≡ spans_of (entries_texts entries.entry.items)
+        ++ (key.entry.name.span ∷ given_spans source (written 58 key.entry.rest.now).given (drop_blanks key.entry.rest.now))) }
 {
     let Keyed { name, rest, code } = key;
     let value = read_written(alloc, source, b':', rest)?;
@@ -212,6 +219,7 @@ fn keyed_or_bare<'a>(
 ) -> Result<ParsedLine<'a>, AllocError>
     ensures value { IfOk result (λ s. parsed_view s ≡ with_entries (map entry_view entries.entry.items) (least_parsed (keyed_or_bare column text.now (keyed text.now)))) }
     ensures spans { IfOk result (λ s. GoOn source (entries_texts entries.entry.items) text.now (entries_texts s.entries.items)) }
+    ensures exact { IfOk result (λ s. spans_of (entries_texts s.entries.items) ≡ spans_of (entries_texts entries.entry.items) ++ keyed_spans source (keyed text.now) text.now) }
 {
     match read_key(alloc, source, text)? {
         Some(key) => with_key(alloc, source, entries, column, key),
@@ -233,6 +241,7 @@ fn parse_entries<'a>(
     requires fits { column + length text.now ≤ MAX_FILE_BYTES }
     ensures value { IfOk result (λ s. parsed_view s ≡ least_parsed (parse_entries n column text.now)) }
     ensures spans { IfOk result (λ s. Stand source text.now (entries_texts s.entries.items) []) }
+    ensures exact { IfOk result (λ s. spans_of (entries_texts s.entries.items) ≡ entries_spans source n text.now) }
 {
     let mut entries = Vec::new(alloc);
     let mut column = column;
@@ -285,6 +294,7 @@ fn parse_content<'a>(
     requires fits { column + length text.now ≤ MAX_FILE_BYTES }
     ensures value { IfOk result (λ s. parsed_view s ≡ least_parsed (parse_content column text.now)) }
     ensures spans { IfOk result (λ s. Stand source text.now (entries_texts s.entries.items) []) }
+    ensures exact { IfOk result (λ s. spans_of (entries_texts s.entries.items) ≡ content_spans source text.now) }
 {
     if head_is(b'\t', text.as_bytes()) {
         return Ok(ParsedLine {
@@ -332,6 +342,8 @@ pub fn parse_line<'a>(
     ensures value { IfOk result (λ s. parsed_view s ≡ least_parsed (parse_line line.now)) }
     // The texts stand in the line.
     ensures spans { IfOk result (λ s. StandOn number line.now (entries_texts s.entries.items)) }
+    // Each stands where the line's definition finds it.
+    ensures exact { IfOk result (λ s. spans_of (entries_texts s.entries.items) ≡ line_spans number line.now) }
 {
     let form = when(has_excluded(line), Code::Y9);
     if is_skipped(line) {

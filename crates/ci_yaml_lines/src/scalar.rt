@@ -5,7 +5,8 @@ ghost use Rattle.std.specs.Str.{bytes_eq};
 ghost use Rattle.ci_yaml_lines.specs.Scalar.{count_of, negative_of, number_or_text, plain_value};
 ghost use Rattle.ci_yaml_lines.specs.View.{value_view};
 ghost use Rattle.ci_yaml_lines.specs.Spans.{texts_in};
-ghost use Rattle.ci_yaml_lines.specs.SpansScalar.{OnlyText};
+ghost use Rattle.ci_yaml_lines.specs.SpansScalar.{OnlyText, text_spans};
+ghost use Rattle.ci_yaml_lines.specs.SpansOf.{spans_of};
 
 use crate::tree::{Span, Text, Tree, Words};
 use ci_values::limits::MAX_NUMBER;
@@ -43,6 +44,7 @@ fn is_null(text: &str) -> bool
 pub fn plain(text: &str, span: Span) -> Tree<'_>
     ensures value { value_view result ≡ plain_value text.now }
     ensures spans { OnlyText text.now span (texts_in result) }
+    ensures exact { spans_of (texts_in result) ≡ text_spans span (value_view result) }
 {
     if text == "true" {
         return Tree::Bool(true);
@@ -74,6 +76,7 @@ fn negative(bytes: &[u8]) -> Option<u64>
 fn number_or_text(text: &str, span: Span) -> Tree<'_>
     ensures value { value_view result ≡ number_or_text text.now }
     ensures spans { OnlyText text.now span (texts_in result) }
+    ensures exact { spans_of (texts_in result) ≡ text_spans span (value_view result) }
 {
     match count(text.as_bytes()) {
         Some(number) => Tree::Int(number as i64),

@@ -4,9 +4,10 @@ ghost use Rattle.std.specs.Prelude.{◌≡◌, IfOk, Some, None, [], ◌∷◌};
 ghost use Rattle.ci_yaml_lines.specs.Least.{least};
 ghost use Rattle.ci_yaml_lines.specs.Tree.{text as text_value};
 ghost use Rattle.ci_yaml_lines.specs.Line.{behind_value, header_rest, header_of, written_quoted, written_plain, written_at, written};
-ghost use Rattle.ci_yaml_lines.specs.Scalar.{before_comment};
-ghost use Rattle.ci_yaml_lines.specs.View.{value_view, quoted_view, chomp_view, listed_view, written_of_list, written_view, least_written};
-ghost use Rattle.ci_yaml_lines.specs.Spans.{texts_in, items_texts, given_texts, Stand};
+ghost use Rattle.ci_yaml_lines.specs.Scalar.{before_comment, drop_blanks, quoted};
+ghost use Rattle.ci_yaml_lines.specs.View.{value_view, given_view, quoted_view, chomp_view, listed_view, written_of_list, written_view, least_written};
+ghost use Rattle.ci_yaml_lines.specs.Spans.{texts_in, items_texts, given_texts, span_before, Stand};
+ghost use Rattle.ci_yaml_lines.specs.SpansOf.{spans_of, given_spans};
 
 use crate::code::{Code, least_of, when};
 use crate::cut::{SourceLine, before_comment, drop_blanks, tail, trim_end};
@@ -40,6 +41,7 @@ fn behind_value(last: u8, text: &str) -> Option<Code>
 fn no_text<'a>(source: SourceLine, text: &'a str) -> Tree<'a>
     ensures value { value_view result ≡ text_value [] }
     ensures spans { Stand source text.now (texts_in result) text.now }
+    ensures exact { spans_of (texts_in result) ≡ span_before source text.now text.now ∷ [] }
 {
     Tree::Text(Text {
         words: Words::Lent(""),
@@ -47,29 +49,38 @@ fn no_text<'a>(source: SourceLine, text: &'a str) -> Tree<'a>
     })
 }
 
-fn header_rest<'a>(source: SourceLine, how: Chomp, last: u8, text: &'a str) -> Written<'a>
-    ensures value { written_view result ≡ least_written (header_rest (chomp_view how) last text.now) }
+/// A literal block's header: the text that begins with its bar, and what follows the bar.
+fn header_of<'a>(source: SourceLine, text: &'a str, rest: &str) -> Written<'a>
+    ensures value { written_view result ≡ least_written (header_of rest.now) }
     ensures spans { Stand source text.now (given_texts result.given) [] }
+    ensures exact { spans_of (given_texts result.given) ≡ span_before source text.now text.now ∷ [] }
 {
-    let digit = when(is_digit_next(text.as_bytes()), Code::Y9);
-    Written {
-        given: Some(no_text(source, text)),
-        header: Some(how),
-        code: least_of(digit, behind_value(last, text)),
+    if head_is(b'-', rest.as_bytes()) {
+        header_rest(source, text, Chomp::Strip, b'-', tail(rest))
+    } else if head_is(b'+', rest.as_bytes()) {
+        header_rest(source, text, Chomp::Keep, b'+', tail(rest))
+    } else {
+        header_rest(source, text, Chomp::Clip, b'|', rest)
     }
 }
 
-/// A literal block's header, after its bar.
-fn header_of<'a>(source: SourceLine, text: &'a str) -> Written<'a>
-    ensures value { written_view result ≡ least_written (header_of text.now) }
+/// The same, where the rest follows the sign, or the bar, if there is no sign; this is the byte before the rest.
+fn header_rest<'a>(
+    source: SourceLine,
+    text: &'a str,
+    how: Chomp,
+    last: u8,
+    rest: &str,
+) -> Written<'a>
+    ensures value { written_view result ≡ least_written (header_rest (chomp_view how) last rest.now) }
     ensures spans { Stand source text.now (given_texts result.given) [] }
+    ensures exact { spans_of (given_texts result.given) ≡ span_before source text.now text.now ∷ [] }
 {
-    if head_is(b'-', text.as_bytes()) {
-        header_rest(source, Chomp::Strip, b'-', tail(text))
-    } else if head_is(b'+', text.as_bytes()) {
-        header_rest(source, Chomp::Keep, b'+', tail(text))
-    } else {
-        header_rest(source, Chomp::Clip, b'|', text)
+    let digit = when(is_digit_next(rest.as_bytes()), Code::Y9);
+    Written {
+        given: Some(no_text(source, text)),
+        header: Some(how),
+        code: least_of(digit, behind_value(last, rest)),
     }
 }
 
@@ -91,6 +102,7 @@ fn closed(quoted: Quoted<'_>) -> Written<'_>
 fn unclosed<'a>(source: SourceLine, text: &'a str) -> Written<'a>
     ensures value { written_view result ≡ least_written (written_quoted None) }
     ensures spans { Stand source text.now (given_texts result.given) [] }
+    ensures exact { spans_of (given_texts result.given) ≡ span_before source text.now text.now ∷ [] }
 {
     Written {
         given: Some(no_text(source, text)),
@@ -118,6 +130,7 @@ fn written_list(list: Listed<'_>) -> Written<'_>
 fn written_plain<'a>(source: SourceLine, text: &'a str) -> Written<'a>
     ensures value { written_view result ≡ least_written (written_plain (before_comment 0 text.now)) }
     ensures spans { Stand source text.now (given_texts result.given) [] }
+    ensures exact { quoted text.now ≡ None → spans_of (given_texts result.given) ≡ given_spans source (given_view result.given) text.now }
 {
     let raw = before_comment(0, text);
     let scalar = trim_end(raw);
@@ -136,6 +149,7 @@ pub fn read_value<'a>(
 ) -> Result<Written<'a>, AllocError>
     ensures value { IfOk result (λ w. written_view w ≡ least_written (written_at text.now)) }
     ensures spans { IfOk result (λ w. Stand source text.now (given_texts w.given) []) }
+    ensures exact { IfOk result (λ w. spans_of (given_texts w.given) ≡ given_spans source (written_at text.now).given text.now) }
 {
     if is_quote(text.as_bytes()) {
         match read_quoted(alloc, source, text)? {
@@ -146,7 +160,7 @@ pub fn read_value<'a>(
         let list = read_list(alloc, source, text)?;
         Ok(written_list(list))
     } else if head_is(b'|', text.as_bytes()) {
-        Ok(header_of(source, tail(text)))
+        Ok(header_of(source, text, tail(text)))
     } else {
         Ok(written_plain(source, text))
     }
@@ -161,6 +175,7 @@ pub fn read_written<'a>(
 ) -> Result<Written<'a>, AllocError>
     ensures value { IfOk result (λ w. written_view w ≡ least_written (written last text.now)) }
     ensures spans { IfOk result (λ w. Stand source text.now (given_texts w.given) []) }
+    ensures exact { IfOk result (λ w. spans_of (given_texts w.given) ≡ given_spans source (written last text.now).given (drop_blanks text.now)) }
 {
     if is_only_comment(last, text.as_bytes()) {
         return Ok(Written {

@@ -11,6 +11,7 @@ use Rattle.ci_yaml.specs.Stops.{Reads}
 use Rattle.ci_yaml.proofs.ReadTexts.{texts-are, texts-short, text-tree, text-all, text-refused, from-ok}
 use Rattle.ci_yaml.specs.Blocks.{texts_of}
 use Rattle.ci_yaml.proofs.SpansParts.{tree-written}
+use Rattle.ci_yaml.proofs.TextSpans.{tree-spans}
 use Rattle.ci_yaml.proofs.reader.read.Goals as goal
 
 pub tree_of-requires : goal.tree_of-requires
@@ -35,5 +36,6 @@ returns c =
       fault = text-refused c.args.text.now c.tree_of.result c.if-text-gt-MAX_FILE_BYTES.false reads;
       refused = text-all_faults c.args.text.now c.tree_of.result (text-tree c.args.text.now c.tree_of.result c.if-text-gt-MAX_FILE_BYTES.false reads) (text-refused c.args.text.now c.tree_of.result c.if-text-gt-MAX_FILE_BYTES.false reads);
       spans = tree-written (lines c.args.text.now) (texts_of c.deref.result.now) c.tree_of.result (texts-are c.args.text.now c.deref.result.now all) c.tree_of.ensures.spans;
+      exact = tree-spans (lines c.args.text.now) (texts_of c.deref.result.now) c.tree_of.result (texts-are c.args.text.now c.deref.result.now all) c.tree_of.ensures.exact;
       too_long = λ long. absurd (omega arith);
     }

@@ -6,6 +6,7 @@ use Rattle.ci_yaml.specs.Spans.{state_texts}
 use Rattle.ci_yaml_lines.specs.Spans.{entries_texts}
 use Rattle.ci_yaml.proofs.ReadSteps.{content-is}
 use Rattle.ci_yaml.proofs.SpansParts.{line-texts}
+use Rattle.ci_yaml.proofs.TextSpans.{read-spans}
 use Rattle.ci_yaml.proofs.reader.read_line.Goals as goal
 
 pub returns-clause-value : goal.returns-clause-value
@@ -13,3 +14,6 @@ returns-clause-value c = subst (GivesAt passed_view c.args.number c.enter.result
 
 pub returns-clause-spans : goal.returns-clause-spans
 returns-clause-spans c = line-texts c.args.number c.args.line.now (state_texts c.args.progress) (entries_texts c.in_ok-parsed.parsed.entries.items) c.enter.result c.in_ok-parsed.ensures.spans c.enter.ensures.spans
+
+pub returns-clause-exact : goal.returns-clause-exact
+returns-clause-exact c = read-spans c.args.number c.args.line.now (state_texts c.args.progress) (entries_texts c.in_ok-parsed.parsed.entries.items) c.enter.result c.in_ok-parsed.ensures.exact c.enter.ensures.spans

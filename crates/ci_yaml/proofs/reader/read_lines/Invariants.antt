@@ -3,6 +3,8 @@ use Rattle.ci_yaml.specs.View.{state_view}
 use Rattle.ci_yaml.specs.Blocks.{texts_of}
 use Rattle.ci_yaml.specs.Stops.{HasRead, AreShort}
 use Rattle.ci_yaml.specs.Spans.{state_texts, Lines}
+use Rattle.ci_yaml_lines.specs.SpansOf.{spans_of}
+use Rattle.ci_yaml.specs.TextSpans.{GoOn}
 use Rattle.ci_yaml.proofs.reader.read_lines.Given as goal
 
 abbrev pub invariant-lines : goal.invariant-lines
@@ -11,6 +13,7 @@ invariant-lines l = record {
   short : AreShort (texts_of l.lines);
   read : HasRead (texts_of l.lines) l.at (state_view l.progress);
   texts : Lines (texts_of l.lines) 0 (take l.at (texts_of l.lines)) (state_texts l.progress);
+  exact : GoOn (texts_of l.lines) l.at (spans_of (state_texts l.progress));
 }
 
 abbrev pub decreases-lines : goal.decreases-lines

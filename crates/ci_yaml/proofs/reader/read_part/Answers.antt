@@ -7,6 +7,8 @@ use Rattle.ci_yaml.specs.Stops.{StopsBy}
 use Rattle.ci_yaml.proofs.ReadParts.{short-at, part-more, part-fails, part-block, part-block_fails}
 use Rattle.ci_yaml.specs.Spans.{state_texts}
 use Rattle.ci_yaml.proofs.SpansParts.{part-texts, part-block_texts}
+use Rattle.ci_yaml.proofs.TextSpans.{line-goes, block-goes}
+use Rattle.ci_yaml_lines.specs.SpansOf.{spans_of}
 use Rattle.ci_yaml.proofs.reader.read_part.Goals as goal
 
 pub read_line-requires : goal.read_line-requires
@@ -45,3 +47,19 @@ returns-in_ok-len-in-Some-clause-spans c =
     c.requires.inside c.requires.texts c.in_ok-progress.ensures.spans (take_rest c.args.lines.now (c.args.at + 1)) c.in_ok-len-in-Some.ensures.within
     c.in_ok-progress.ensures.value c.in-Some.is c.in_ok-len-in-Some.ensures.block.0 c.in_ok-len-in-Some.ensures.block.1
     c.in_ok-len-in-Some.ensures.own c.in_ok-len-in-Some.ensures.text c.in_ok-len-in-Some.ensures.span c.with_text.ensures.spans
+
+pub returns-in-None-clause-exact : goal.returns-in-None-clause-exact
+returns-in-None-clause-exact c =
+    line-goes c.args.lines.now c.args.at _ (spans_of (state_texts c.args.progress)) (spans_of (state_texts c.in_ok-progress.field-0.progress)) (state_view c.args.progress) (state_view c.in_ok-progress.field-0.progress) c.in_ok-progress.field-0.below
+    c.requires.inside c.requires.exact c.in_ok-progress.ensures.exact c.in_ok-progress.ensures.value c.in-None.is
+
+pub returns-in_ok-len-in-Some-clause-exact : goal.returns-in_ok-len-in-Some-clause-exact
+returns-in_ok-len-in-Some-clause-exact c =
+    let st = state_view c.args.progress in
+    let s = state_view c.in_ok-progress.field-0.progress in
+    let line = c.in_ok-progress.ensures.value in
+    block-goes c.args.lines.now _ c.args.at c.in_ok-len-in-Some.len _ c.in-Some.how c.in-Some.column c.in_ok-len-in-Some.text.span
+    (spans_of (state_texts c.args.progress)) (spans_of (state_texts c.in_ok-progress.field-0.progress)) (spans_of (state_texts c.with_text.result)) st s c.in_ok-progress.field-0.below
+    c.requires.inside c.requires.exact c.in_ok-progress.ensures.exact line c.in-Some.is (take_rest c.args.lines.now (c.args.at + 1)) c.in_ok-len-in-Some.ensures.within
+    c.in_ok-len-in-Some.ensures.block.0 c.in_ok-len-in-Some.ensures.block.1 c.in_ok-len-in-Some.ensures.span
+    c.with_text.ensures.exact

@@ -11,6 +11,7 @@ use Rattle.ci_yaml_lines.proofs.Leasts.{least_two}
 use Rattle.ci_yaml_lines.proofs.Parsed.{text_place, value_place}
 use Rattle.ci_yaml_lines.specs.declared.tree.Tree.{Text as TextTree}
 use Rattle.ci_yaml_lines.proofs.SpansFlow.{stand-behind-quoted}
+use Rattle.ci_yaml_lines.proofs.SpansTexts.{texts-Text}
 use Rattle.ci_yaml_lines.proofs.flow.behind_quoted.Goals as goal
 
 pub returns-clause-value : goal.returns-clause-value
@@ -27,3 +28,6 @@ returns-clause-value c =
 
 pub returns-clause-spans : goal.returns-clause-spans
 returns-clause-spans c = stand-behind-quoted c.args.quoted.text c.args.quoted.rest.now (TextTree c.args.quoted.text) c.cut_place.result refl c.cut_place.ensures
+
+pub returns-clause-exact : goal.returns-clause-exact
+returns-clause-exact c = texts-Text c.args.quoted.text

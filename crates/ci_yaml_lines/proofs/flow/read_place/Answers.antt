@@ -1,18 +1,21 @@
-use Rattle.std.proofs.Common.{◌∷◌, [], Option, subst}
+use Rattle.std.proofs.Common.{◌∷◌, [], Option, subst, false}
 use Rattle.std.specs.Prelude.{IfSome}
 use Rattle.ci_yaml_lines.specs.declared.quoted.Quoted.{Quoted}
-use Rattle.ci_yaml_lines.specs.Spans.{Stand, texts_in}
+use Rattle.ci_yaml_lines.specs.Spans.{Stand, texts_in, span_before}
 use Rattle.ci_yaml_lines.specs.SpansFlow.{behind_end}
 use Rattle.ci_yaml_lines.proofs.SpansFlow.{stand-behind-blanks, stand-null}
 use Rattle.std.proofs.Common.{◌≡◌, ◌∙◌, true, Some, None, sym, ap}
 use Rattle.std.specs.Prelude.{option_map}
 use Rattle.ci_yaml_lines.specs.declared.code.Code.TheVariants.{Y6}
 use Rattle.ci_yaml_lines.specs.Tree.{Value}
-use Rattle.ci_yaml_lines.specs.Scalar.{is_quote}
+use Rattle.ci_yaml_lines.specs.Scalar.{is_quote, quoted, drop_blanks}
 use Rattle.ci_yaml_lines.specs.Line.{missing}
-use Rattle.ci_yaml_lines.specs.View.{quoted_view}
+use Rattle.ci_yaml_lines.specs.View.{quoted_view, LeastPlace}
 use Rattle.ci_yaml_lines.proofs.Views.{view-Null}
 use Rattle.ci_yaml_lines.proofs.Parsed.{value_place, place-quoted, place-plain}
+use Rattle.ci_yaml_lines.proofs.SpansOf.{exact-quoted-place, exact-no-place, unquoted}
+use Rattle.ci_yaml_lines.specs.SpansOf.{scalar_spans}
+use Rattle.ci_yaml_lines.specs.TreeView.{value_view}
 use Rattle.ci_yaml_lines.proofs.flow.read_place.Goals as goal
 
 pub returns-in-Some-clause-spans : goal.returns-in-Some-clause-spans
@@ -44,3 +47,21 @@ returns-in-None-clause-value c =
     let here : is_quote from ≡ true = ap is_quote (sym c.as_bytes.ensures.value) ∙ sym c.if-not-is_quote.ensures in
     ap (λ (v : Value). value_place v (Some Y6) missing) view-Null
     ∙ place-quoted c.args.text.now from None c.drop_blanks-from.ensures here (ap (option_map quoted_view) (sym c.in-None.is) ∙ c.in_ok-quoted.ensures.value)
+
+pub returns-then-not-is_quote-clause-exact : goal.returns-then-not-is_quote-clause-exact
+returns-then-not-is_quote-clause-exact c =
+    let from = c.drop_blanks-from.result.now in
+    let away : is_quote from ≡ false = ap is_quote (sym c.as_bytes.ensures.value) ∙ sym c.if-not-is_quote.ensures in
+    c.plain_place.ensures.exact
+    ∙ ap (λ o. scalar_spans c.args.source o (value_view c.plain_place.result.value) (drop_blanks c.args.text.now)) (sym (ap quoted (sym c.drop_blanks-from.ensures) ∙ unquoted from away))
+
+pub returns-in-Some-clause-exact : goal.returns-in-Some-clause-exact
+returns-in-Some-clause-exact c =
+    let q = c.in-Some.quoted in
+    let from = c.drop_blanks-from.result.now in
+    exact-quoted-place c.args.source c.args.text.now from q c.behind_quoted.result.value c.drop_blanks-from.ensures c.behind_quoted.ensures.exact
+    (ap (λ (p : LeastPlace). p.value) c.behind_quoted.ensures.value) (ap (option_map quoted_view) (sym c.in-Some.is) ∙ c.in_ok-quoted.ensures.value)
+    (subst (λ (o : Option Quoted). IfSome o (λ p. p.text.span ≡ span_before c.args.source from p.rest.now)) c.in-Some.is c.in_ok-quoted.ensures.span)
+
+pub returns-in-None-clause-exact : goal.returns-in-None-clause-exact
+returns-in-None-clause-exact c = exact-no-place c.args.source (quoted (drop_blanks c.args.text.now)) (drop_blanks c.args.text.now)

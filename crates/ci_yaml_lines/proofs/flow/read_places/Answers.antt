@@ -1,4 +1,7 @@
-use Rattle.std.proofs.Common.{◌∙◌, ap, rules, [], ◌-◌, ◌+◌, arith}
+use Rattle.std.proofs.Common.{◌∙◌, ap, rules, [], ◌-◌, ◌+◌, arith, refl}
+use Rattle.ci_yaml_lines.specs.Spans.{items_texts}
+use Rattle.ci_yaml_lines.specs.SpansOf.{spans_of, places_spans}
+use Rattle.ci_yaml_lines.proofs.SpansOf.{exact-start, exact-turn, exact-end, exact-fuel}
 use Rattle.ci_yaml_lines.specs.Line as line
 use Rattle.ci_yaml_lines.specs.View.{items_view, end_view}
 use Rattle.ci_yaml_lines.specs.SpansFlow.{behind_end}
@@ -7,7 +10,12 @@ use Rattle.ci_yaml_lines.proofs.SpansFlow.{stand-more, stand-nothing, stand-all-
 use Rattle.ci_yaml_lines.proofs.flow.read_places.Goals as goal
 
 pub places-init : goal.places-init
-places-init c = (search rules, search rules, stand-nothing c.args.source c.args.text.now c.new-items.result.items c.new-items.ensures.items)
+places-init c = (
+  search rules,
+  search rules,
+  stand-nothing c.args.source c.args.text.now c.new-items.result.items c.new-items.ensures.items,
+  exact-start c.args.source c.args.n c.args.text.now c.new-items.result.items c.new-items.ensures.items,
+)
 
 pub returns-in-Bracket : goal.returns-in-Bracket
 returns-in-Bracket c = record {
@@ -17,6 +25,9 @@ returns-in-Bracket c = record {
       ∙ c.places.invariant.1;
   spans = stand-more c.args.source c.args.text.now c.places.rest.now c.in-Bracket.behind.now c.places.items.items c.push.new.self.items c.in_ok-value.field-0.value c.in_ok-value.field-0.end
       c.places.invariant.2 c.in_ok-push.ensures.items c.in_ok-value.ensures.spans (ap behind_end c.in-Bracket.is);
+  exact = exact-end c.args.source (c.args.n - (c.places.i + 1)) (spans_of (items_texts c.push.new.self.items)) (places_spans c.args.source c.args.n c.args.text.now) (line.bracket c.in-Bracket.behind.now) refl
+      (exact-turn c.args.source c.args.n c.places.i c.places.rest.now c.places.items.items c.push.new.self.items c.in_ok-value.field-0 (line.bracket c.in-Bracket.behind.now)
+      (omega arith) c.in_ok-push.ensures.items c.in_ok-value.ensures.value (ap end_view c.in-Bracket.is) c.in_ok-value.ensures.exact ∙ c.places.invariant.3);
 }
 
 pub returns-in-Missing : goal.returns-in-Missing
@@ -28,6 +39,9 @@ returns-in-Missing c = record {
       ∙ c.places.invariant.1;
   spans = stand-more c.args.source c.args.text.now c.places.rest.now [] c.places.items.items c.push.new.self.items c.in_ok-value.field-0.value c.in_ok-value.field-0.end
       c.places.invariant.2 c.in_ok-push.ensures.items c.in_ok-value.ensures.spans (ap behind_end c.in-Missing.is);
+  exact = exact-end c.args.source (c.args.n - (c.places.i + 1)) (spans_of (items_texts c.push.new.self.items)) (places_spans c.args.source c.args.n c.args.text.now) line.missing refl
+      (exact-turn c.args.source c.args.n c.places.i c.places.rest.now c.places.items.items c.push.new.self.items c.in_ok-value.field-0 (line.missing)
+      (omega arith) c.in_ok-push.ensures.items c.in_ok-value.ensures.value (ap end_view c.in-Missing.is) c.in_ok-value.ensures.exact ∙ c.places.invariant.3);
 }
 
 pub places-preserved : goal.places-preserved
@@ -38,10 +52,13 @@ places-preserved c = (
       ∙ c.places.invariant.1,
   stand-more c.args.source c.args.text.now c.places.rest.now c.in-Comma.more.now c.places.items.items c.push.new.self.items c.in_ok-value.field-0.value c.in_ok-value.field-0.end
       c.places.invariant.2 c.in_ok-push.ensures.items c.in_ok-value.ensures.spans (ap behind_end c.in-Comma.is),
+  exact-turn c.args.source c.args.n c.places.i c.places.rest.now c.places.items.items c.push.new.self.items c.in_ok-value.field-0 (line.comma c.in-Comma.more.now)
+      (omega arith) c.in_ok-push.ensures.items c.in_ok-value.ensures.value (ap end_view c.in-Comma.is) c.in_ok-value.ensures.exact ∙ c.places.invariant.3,
 )
 
 pub returns : goal.returns
 returns c = record {
   value = fuel-end (items_view c.places.items.items) c.places.code c.places.rest.now c.args.n c.places.i (omega arith) ∙ c.places.invariant.1;
   spans = stand-all-of c.args.source c.args.text.now c.places.rest.now c.places.items.items c.places.invariant.2;
+  exact = exact-fuel c.args.source c.args.n c.places.i c.places.rest.now (spans_of (items_texts c.places.items.items)) (places_spans c.args.source c.args.n c.args.text.now) (omega arith) c.places.invariant.3;
 }

@@ -8,6 +8,7 @@ use Rattle.ci_yaml_lines.proofs.Parsed.{content-parsed}
 use Rattle.ci_yaml_lines.proofs.SpansParsed.{no-entries, same-entries}
 use Rattle.ci_yaml_lines.specs.Spans.{entries_texts}
 use Rattle.ci_yaml_lines.proofs.SpansStand.{stand-all}
+use Rattle.ci_yaml_lines.proofs.SpansOf.{exact-tab, exact-content}
 use Rattle.ci_yaml_lines.proofs.line.parse_content.Goals as goal
 
 pub returns-clause-value : goal.returns-clause-value
@@ -23,3 +24,9 @@ returns-clause-spans c = same-entries c.args.source c.args.text.now c.with_code.
 pub returns-then-head_is-clause-spans : goal.returns-then-head_is-clause-spans
 returns-then-head_is-clause-spans c =
     stand-all c.args.source c.args.text.now c.args.text.now (entries_texts c.new.result.items) (no-entries c.args.source c.args.text.now c.new.result.items c.new.ensures.items)
+
+pub returns-clause-exact : goal.returns-clause-exact
+returns-clause-exact c = exact-content c.args.source c.args.text.now c.as_bytes.result.now c.with_code.result.entries.items c.in_ok-parsed.parsed.entries.items (ap (λ v. v.items) c.with_code.ensures.entries) c.as_bytes.ensures.value c.if-head_is.ensures c.in_ok-parsed.ensures.exact
+
+pub returns-then-head_is-clause-exact : goal.returns-then-head_is-clause-exact
+returns-then-head_is-clause-exact c = exact-tab c.args.source c.args.text.now c.as_bytes.result.now c.new.result.items c.new.ensures.items c.as_bytes.ensures.value c.if-head_is.ensures

@@ -1,20 +1,23 @@
-use Rattle.std.proofs.Common.{◌≡◌, ◌∙◌, ap, sym, subst, map, length, rules, arith, true, false, List, [], ◌++◌, ◌+◌, ◌≤◌, None}
+use Rattle.std.proofs.Common.{◌≡◌, ◌∙◌, ap, sym, subst, map, length, rules, arith, true, false, List, [], ◌++◌, ◌+◌, ◌≤◌, None, ◌-◌}
 use Rattle.std.specs.Prelude.{IfOk}
 use Rattle.ci_values.specs.declared.limits.TheConstants.{MAX_FILE_BYTES}
 use Rattle.ci_yaml_lines.specs.declared.entry.Head.TheVariants.{Dash}
-use Rattle.ci_yaml_lines.specs.Line.{is_dash}
-use Rattle.ci_yaml_lines.specs.View.{entry_view, written_view, item_view, LeastParsed, parsed_view, ColumnsFit}
+use Rattle.ci_yaml_lines.specs.Line.{is_dash, keyed}
+use Rattle.ci_yaml_lines.specs.View.{entry_view, written_view, item_view, LeastParsed, parsed_view, ColumnsFit, given_view}
 use Rattle.ci_yaml_lines.proofs.Parsed.{stop-turn, value-turn, inner-turn, end-turn, entries-push, start-turn, dash-longer, added}
 use Rattle.ci_yaml_lines.specs.declared.tree.Text.{Text}
 use Rattle.ci_yaml_lines.specs.Spans.{Stand, given_texts, entries_texts}
-use Rattle.ci_yaml_lines.specs.SpansParsed.{GoOn, ItemStands}
+use Rattle.ci_yaml_lines.specs.SpansParsed.{GoOn, ItemStands, ItemHasSpans}
 use Rattle.ci_yaml_lines.proofs.SpansStand.{stand-all}
 use Rattle.ci_yaml_lines.proofs.SpansGiven.{if-ok}
 use Rattle.ci_yaml_lines.proofs.SpansParsed.{no-entries, dash-item, dash-inner}
+use Rattle.ci_yaml_lines.proofs.SpansOf.{exact-first, exact-stop, exact-value, exact-inner, exact-dash, exact-last, exact-more}
+use Rattle.ci_yaml_lines.specs.SpansOf.{spans_of, given_spans, keyed_spans, entries_spans}
+use Rattle.ci_yaml_lines.specs.Scalar.{drop_blanks}
 use Rattle.ci_yaml_lines.proofs.line.parse_entries.Goals as goal
 
 pub dashes-init : goal.dashes-init
-dashes-init c = (search rules, c.requires.fits, start-turn c.new-entries.result.items c.args.n c.args.column c.args.text.now c.new-entries.ensures.items, no-entries c.args.source c.args.text.now c.new-entries.result.items c.new-entries.ensures.items)
+dashes-init c = (search rules, c.requires.fits, start-turn c.new-entries.result.items c.args.n c.args.column c.args.text.now c.new-entries.ensures.items, no-entries c.args.source c.args.text.now c.new-entries.result.items c.new-entries.ensures.items, exact-first c.args.source c.args.n c.args.text.now c.new-entries.result.items c.new-entries.ensures.items)
 
 pub returns-then-not-is_dash-clause-value : goal.returns-then-not-is_dash-clause-value
 returns-then-not-is_dash-clause-value c =
@@ -43,6 +46,10 @@ dashes-preserved c =
           ∙ c.dashes.invariant.2,
       dash-inner c.args.source c.args.text.now c.dashes.rest.now c.tail.result.now c.in-Inner.inner.now c.dashes.entries.items c.push.new.self.items c.dashes.column c.dashes.invariant.3 c.tail.ensures
           (subst (ItemStands c.args.source c.tail.result.now) c.in-Inner.is c.in_ok-columns.ensures.spans) c.in_ok-push-in-Inner.ensures.items,
+      exact-dash c.dashes.entries.items c.push.new.self.items c.dashes.column (entries_spans c.args.source (c.args.n - (c.dashes.i + 1)) c.in-Inner.inner.now) c.in_ok-push-in-Inner.ensures.items
+          ∙ ap (λ x. spans_of (entries_texts c.dashes.entries.items) ++ x)
+          (exact-inner c.args.source c.args.n c.dashes.i c.in-Inner.columns c.dashes.rest.now c.tail.result.now c.in-Inner.inner.now (omega arith) yes c.tail.ensures (sym (ap item_view c.in-Inner.is) ∙ c.in_ok-columns.ensures.value))
+          ∙ c.dashes.invariant.4,
     )
 
 pub returns-clause-value : goal.returns-clause-value
@@ -63,3 +70,27 @@ returns-in-Value-clause-spans c =
 
 pub returns-clause-spans : goal.returns-clause-spans
 returns-clause-spans c = stand-all c.args.source c.args.text.now c.dashes.rest.now (entries_texts c.dashes.entries.items) c.dashes.invariant.3
+
+pub returns-then-not-is_dash-clause-exact : goal.returns-then-not-is_dash-clause-exact
+returns-then-not-is_dash-clause-exact c =
+    let ts = spans_of (entries_texts c.dashes.entries.items) in
+    let rest = c.dashes.rest.now in
+    let no : is_dash rest ≡ false = ap is_dash (sym c.as_bytes.ensures.value) ∙ sym c.if-not-is_dash.ensures in
+    if-ok c.keyed_or_bare.result (λ s. spans_of (entries_texts s.entries.items) ≡ ts ++ keyed_spans c.args.source (keyed rest) rest) (λ s. spans_of (entries_texts s.entries.items) ≡ entries_spans c.args.source c.args.n c.args.text.now)
+    (λ s e. e ∙ ap (λ x. ts ++ x) (exact-stop c.args.source c.args.n c.dashes.i rest (omega arith) no) ∙ c.dashes.invariant.4) c.keyed_or_bare.ensures.exact
+
+pub returns-in-Value-clause-exact : goal.returns-in-Value-clause-exact
+returns-in-Value-clause-exact c =
+    let ts : List Text = entries_texts c.dashes.entries.items in
+    let us : List Text = given_texts c.in-Value.value.given in
+    let tail = c.tail.result.now in
+    let own = entries_spans c.args.source (c.args.n - c.dashes.i) c.dashes.rest.now in
+    let yes : is_dash c.dashes.rest.now ≡ true = ap is_dash (sym c.as_bytes.ensures.value) ∙ sym c.if-not-is_dash.ensures in
+    let given : spans_of us ≡ given_spans c.args.source (given_view c.in-Value.value.given) (drop_blanks tail) = subst (ItemHasSpans c.args.source tail) c.in-Value.is c.in_ok-columns.ensures.exact in
+    let there : spans_of us ≡ own =
+    given ∙ exact-value c.args.source c.args.n c.dashes.i c.dashes.rest.now tail (written_view c.in-Value.value) (omega arith) yes c.tail.ensures (sym (ap item_view c.in-Value.is) ∙ c.in_ok-columns.ensures.value) in
+    if-ok c.entry_of.result (λ s. entries_texts s.entries.items ≡ ts ++ us) (λ s. spans_of (entries_texts s.entries.items) ≡ entries_spans c.args.source c.args.n c.args.text.now)
+    (λ s e. exact-more ts us (entries_texts s.entries.items) own there e ∙ c.dashes.invariant.4) c.entry_of.ensures.spans
+
+pub returns-clause-exact : goal.returns-clause-exact
+returns-clause-exact c = exact-last c.args.source c.args.n c.dashes.i c.dashes.rest.now (spans_of (entries_texts c.dashes.entries.items)) (entries_spans c.args.source c.args.n c.args.text.now) (omega arith) c.dashes.invariant.4

@@ -10,6 +10,7 @@ use Rattle.ci_yaml_lines.specs.Spans.{entries_texts}
 use Rattle.ci_yaml_lines.proofs.SpansParsed.{no-entries, same-entries, line-stands}
 use Rattle.ci_yaml_lines.specs.declared.cut.SourceLine.{SourceLine}
 use Rattle.ci_yaml_lines.proofs.SpansStand.{stand-all}
+use Rattle.ci_yaml_lines.proofs.SpansOf.{exact-skipped, exact-line}
 use Rattle.ci_yaml_lines.proofs.line.parse_line.Goals as goal
 
 pub overflow_cast-column : goal.overflow_cast-column
@@ -44,3 +45,12 @@ pub returns-then-is_skipped-clause-spans : goal.returns-then-is_skipped-clause-s
 returns-then-is_skipped-clause-spans c =
     let at : SourceLine = record { line = c.args.number; end = length c.args.line.now } in
     stand-all at c.args.line.now c.args.line.now (entries_texts c.new.result.items) (no-entries at c.args.line.now c.new.result.items c.new.ensures.items)
+
+pub returns-clause-exact : goal.returns-clause-exact
+returns-clause-exact c =
+    let column : c.spaces-column.result ≡ spaces c.args.line.now = c.spaces-column.ensures ∙ ap spaces c.as_bytes.ensures.value in
+    let t : c.trim_end-text.result.now ≡ trim_end (drop (spaces c.args.line.now) c.args.line.now) = c.trim_end-text.ensures ∙ ap trim_end c.drop_spaces.ensures in
+    exact-line c.args.number c.spaces-column.result c.args.line.now c.trim_end-text.result.now c.with_code.result.entries.items c.in_ok-parsed.parsed.entries.items (ap (λ v. v.items) c.with_code.ensures.entries) column t c.if-is_skipped.ensures c.in_ok-parsed.ensures.exact
+
+pub returns-then-is_skipped-clause-exact : goal.returns-then-is_skipped-clause-exact
+returns-then-is_skipped-clause-exact c = exact-skipped c.args.number c.args.line.now c.new.result.items c.new.ensures.items c.if-is_skipped.ensures

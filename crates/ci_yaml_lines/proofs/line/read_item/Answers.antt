@@ -6,6 +6,7 @@ use Rattle.std.proofs.Common.{◌≡◌, ◌∙◌, ℕ, ◌+◌, true, false, d
 use Rattle.ci_yaml_lines.specs.Scalar.{only_comment, head_is}
 use Rattle.ci_yaml_lines.specs.View.{inner, value, least_item}
 use Rattle.ci_yaml_lines.proofs.Parsed.{item-by, item-more}
+use Rattle.ci_yaml_lines.proofs.SpansOf.{exact-item}
 use Rattle.ci_yaml_lines.proofs.line.read_item.Goals as goal
 
 pub returns-then-is_only_comment-clause-spans : goal.returns-then-is_only_comment-clause-spans
@@ -43,3 +44,6 @@ returns-in_ok-value-clause-value c =
     ap value c.in_ok-value.ensures.value
     ∙ ap least_item (sym (item-more c.args.text.now _ _ c.drop_spaces-inner.result.now false c.as_bytes-2.ensures.value c.if-is_only_comment.ensures c.as_bytes-3.ensures.value c.if-head_is.ensures c.drop_spaces-inner.ensures
     (sym c.if-branch.false ∙ c.in_ok-has_entries.ensures)))
+
+pub returns-in_ok-value-clause-exact : goal.returns-in_ok-value-clause-exact
+returns-in_ok-value-clause-exact c = exact-item c.args.source c.args.text.now c.in_ok-value.value c.in_ok-value.ensures.value c.in_ok-value.ensures.exact

@@ -15,7 +15,7 @@ pub returns-clause-value : goal.returns-clause-value
 returns-clause-value c =
     ap (λ (v : Value). headed_with v (chomp_view c.args.how) c.least_of.result) c.no_text.ensures.value
     ∙ ap (headed (chomp_view c.args.how))
-    (least_two c.least_of.result c.when-digit.result c.behind_value.result (when (digit_next c.args.text.now) Y9) (behind_value c.args.last c.args.text.now) c.least_of.ensures
+    (least_two c.least_of.result c.when-digit.result c.behind_value.result (when (digit_next c.args.rest.now) Y9) (behind_value c.args.last c.args.rest.now) c.least_of.ensures
     (c.when-digit.ensures ∙ ap (λ b. least (when b Y9)) (c.is_digit_next.ensures ∙ ap digit_next c.as_bytes.ensures.value)) c.behind_value.ensures)
 
 pub returns-clause-spans : goal.returns-clause-spans

@@ -1,15 +1,19 @@
-use Rattle.std.proofs.Common.{◌≡◌, ◌∙◌, ap, sym, true, false, []}
-use Rattle.ci_yaml_lines.specs.Scalar.{is_quote, head_is}
+use Rattle.std.proofs.Common.{◌≡◌, ◌∙◌, ap, sym, refl, true, false, subst, Option}
+use Rattle.ci_yaml_lines.specs.Scalar.{is_quote, head_is, quoted}
 use Rattle.ci_yaml_lines.specs.Line.{listed, header_of}
-use Rattle.ci_yaml_lines.specs.View.{written_of_list, least_written}
+use Rattle.ci_yaml_lines.specs.View.{written_of_list, least_written, written_view, LeastWritten, given_view, listed_view}
 use Rattle.ci_yaml_lines.proofs.Parsed.{list-written, at-list}
-use Rattle.ci_yaml_lines.specs.Spans.{given_texts, items_texts}
+use Rattle.ci_yaml_lines.specs.Spans.{given_texts, items_texts, span_before}
 use Rattle.ci_yaml_lines.specs.SpansFlow.{behind_list}
-use Rattle.ci_yaml_lines.proofs.SpansGiven.{stand-tail, stand-quoted, stand-same}
+use Rattle.ci_yaml_lines.proofs.SpansGiven.{stand-quoted, stand-same}
 use Rattle.std.proofs.Common.{ℕ, List, Some, None}
-use Rattle.std.specs.Prelude.{option_map}
+use Rattle.std.specs.Prelude.{option_map, IfSome}
 use Rattle.ci_yaml_lines.specs.View.{quoted_view}
 use Rattle.ci_yaml_lines.proofs.Parsed.{at-quoted, at-bar}
+use Rattle.ci_yaml_lines.proofs.SpansOf.{unquoted, header-given, exact-quoted, exact-nothing, exact-given}
+use Rattle.ci_yaml_lines.specs.declared.quoted.Quoted.{Quoted}
+use Rattle.ci_yaml_lines.specs.SpansOf.{spans_of}
+use Rattle.ci_yaml_lines.specs.Tree.{node, sequence}
 use Rattle.ci_yaml_lines.proofs.written.read_value.Goals as goal
 
 pub returns-in_ok-list-clause-value : goal.returns-in_ok-list-clause-value
@@ -28,7 +32,7 @@ returns-in_ok-list-clause-spans c =
     stand-same c.args.source c.args.text.now (behind_list c.in_ok-list.list.rest) (given_texts c.written_list.result.given) (items_texts c.in_ok-list.list.items.items) c.written_list.ensures.spans c.in_ok-list.ensures.spans
 
 pub returns-then-head_is-2-clause-spans : goal.returns-then-head_is-2-clause-spans
-returns-then-head_is-2-clause-spans c = stand-tail c.args.source c.args.text.now c.tail.result.now [] (given_texts c.header_of.result.given) c.tail.ensures c.header_of.ensures.spans
+returns-then-head_is-2-clause-spans c = c.header_of.ensures.spans
 
 pub returns-in-Some-clause-value : goal.returns-in-Some-clause-value
 returns-in-Some-clause-value c =
@@ -49,3 +53,48 @@ pub returns-else-head_is-2-clause-value : goal.returns-else-head_is-2-clause-val
 returns-else-head_is-2-clause-value c =
     c.written_plain.ensures.value
     ∙ ap least_written (at-bar c.args.text.now _ _ _ false c.as_bytes.ensures.value c.if-is_quote.ensures c.as_bytes-else-is_quote.ensures.value c.if-head_is.ensures c.as_bytes-else-head_is.ensures.value c.if-head_is-2.ensures)
+
+pub returns-in-Some-clause-exact : goal.returns-in-Some-clause-exact
+returns-in-Some-clause-exact c =
+    let w = c.args.text.now in
+    let q = c.in-Some.quoted in
+    let here : is_quote w ≡ true = ap is_quote (sym c.as_bytes.ensures.value) ∙ sym c.if-is_quote.ensures in
+    let is : Some (quoted_view q) ≡ quoted w = ap (option_map quoted_view) (sym c.in-Some.is) ∙ c.in_ok-quoted.ensures.value in
+    exact-quoted c.args.source w q (given_texts c.closed.result.given) c.closed.ensures.spans is
+    (subst (λ (o : Option Quoted). IfSome o (λ p. p.text.span ≡ span_before c.args.source w p.rest.now)) c.in-Some.is c.in_ok-quoted.ensures.span)
+    (ap least_written (at-quoted w (Some (quoted_view q)) here is))
+
+pub returns-in-None-clause-exact : goal.returns-in-None-clause-exact
+returns-in-None-clause-exact c =
+    let w = c.args.text.now in
+    let here : is_quote w ≡ true = ap is_quote (sym c.as_bytes.ensures.value) ∙ sym c.if-is_quote.ensures in
+    let none : None ≡ quoted w = ap (option_map quoted_view) (sym c.in-None.is) ∙ c.in_ok-quoted.ensures.value in
+    exact-nothing c.args.source w (spans_of (given_texts c.unclosed.result.given)) (written_view c.unclosed.result) (sym none) (ap (λ (x : LeastWritten). x.given) c.unclosed.ensures.value)
+    (c.unclosed.ensures.value ∙ ap least_written (at-quoted w None here none)) c.unclosed.ensures.exact
+
+pub returns-in_ok-list-clause-exact : goal.returns-in_ok-list-clause-exact
+returns-in_ok-list-clause-exact c =
+    let w = c.args.text.now in
+    let away : is_quote w ≡ false = ap is_quote (sym c.as_bytes.ensures.value) ∙ sym c.if-is_quote.ensures in
+    let here : head_is 91 w ≡ true = ap (head_is 91) (sym c.as_bytes-else-is_quote.ensures.value) ∙ sym c.if-head_is.ensures in
+    exact-given c.args.source w (spans_of (given_texts c.written_list.result.given)) (written_view c.written_list.result) (Some (node sequence (listed_view c.in_ok-list.list).members)) (ap (λ (x : LeastWritten). x.given) c.written_list.ensures.value)
+    (c.written_list.ensures.value ∙ ap written_of_list c.in_ok-list.ensures.value ∙ list-written (listed w) ∙ ap least_written (at-list w away here))
+    (ap spans_of c.written_list.ensures.spans ∙ c.in_ok-list.ensures.exact)
+
+pub returns-then-head_is-2-clause-exact : goal.returns-then-head_is-2-clause-exact
+returns-then-head_is-2-clause-exact c =
+    let w = c.args.text.now in
+    let away : is_quote w ≡ false = ap is_quote (sym c.as_bytes.ensures.value) ∙ sym c.if-is_quote.ensures in
+    exact-nothing c.args.source w (spans_of (given_texts c.header_of.result.given)) (written_view c.header_of.result) (unquoted w away) (header-given c.tail.result.now c.header_of.result c.header_of.ensures.value)
+    (c.header_of.ensures.value ∙ ap (λ (x : List ℕ). least_written (header_of x)) c.tail.ensures
+    ∙ ap least_written (at-bar w _ _ _ true c.as_bytes.ensures.value c.if-is_quote.ensures c.as_bytes-else-is_quote.ensures.value c.if-head_is.ensures c.as_bytes-else-head_is.ensures.value c.if-head_is-2.ensures))
+    c.header_of.ensures.exact
+
+pub returns-else-head_is-2-clause-exact : goal.returns-else-head_is-2-clause-exact
+returns-else-head_is-2-clause-exact c =
+    let w = c.args.text.now in
+    let away : is_quote w ≡ false = ap is_quote (sym c.as_bytes.ensures.value) ∙ sym c.if-is_quote.ensures in
+    exact-given c.args.source w (spans_of (given_texts c.written_plain.result.given)) (written_view c.written_plain.result) (given_view c.written_plain.result.given) refl
+    (c.written_plain.ensures.value
+    ∙ ap least_written (at-bar w _ _ _ false c.as_bytes.ensures.value c.if-is_quote.ensures c.as_bytes-else-is_quote.ensures.value c.if-head_is.ensures c.as_bytes-else-head_is.ensures.value c.if-head_is-2.ensures))
+    (c.written_plain.ensures.exact (unquoted w away))
