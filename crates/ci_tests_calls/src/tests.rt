@@ -119,6 +119,51 @@ fn last_seen_does_not_go_back(rt: HostRuntime) -> Result<(), Fail> {
     follow(&rt, rt.alloc(), &PATH, HEARD)
 }
 
+/// When the first attempt is heard of last, the first moment at which its lease is over, and why. It was granted at 1000 with 3600
+/// seconds, and silence ends it after 120: in the second row both end it at 4600, in the others one of them comes first.
+const LAST_HEARD: &[(u64, u64, Cause)] = &[
+    (4479, 4599, Cause::StuckOrTimeoutFailure),
+    (4480, 4600, Cause::JobExecutionTimeout),
+    (4481, 4600, Cause::JobExecutionTimeout),
+];
+
+/// The runner says that it runs, every 100 seconds up to 4400 and then once more.
+fn heard_until(alloc: Global, server: &mut InMemory, last: u64) -> Result<bool, Fail> {
+    for hundreds in 11..45u64 {
+        let answer = tell(alloc, server, hundreds * 100, Act::Running)?;
+        if !is(&answer, Want::Taken(JobStatus::Running)) {
+            return Ok(false);
+        }
+    }
+    let answer = tell(alloc, server, last, Act::Running)?;
+    Ok(is(&answer, Want::Taken(JobStatus::Running)))
+}
+
+/// Is the lease over at its moment and not a second before, for this cause?
+fn ends_at(
+    alloc: Global,
+    server: &mut InMemory,
+    (last, over, cause): (u64, u64, Cause),
+) -> Result<bool, Fail> {
+    let is_heard = heard_until(alloc, server, last)?;
+    let early = tell(alloc, server, over.saturating_sub(1), Act::Sweep)?;
+    let ended = tell(alloc, server, over, Act::Sweep)?;
+    Ok(is_heard && is(&early, Want::Nothing) && is(&ended, Want::Ended(cause)))
+}
+
+#[test]
+fn a_job_that_runs_too_long_is_ended(rt: HostRuntime) -> Result<(), Fail> {
+    let alloc = rt.alloc();
+    for row in LAST_HEARD {
+        let mut server = after(alloc, &PATH)?;
+        let ends = ends_at(alloc, &mut server, *row);
+        let_go(server);
+        let (last, _, _) = *row;
+        assert!(rt; ends?, "heard until {last}");
+    }
+    Ok(())
+}
+
 const PIECES: &[Row] = &[
     (1000, Act::Trace, Want::Trace("")),
     (1000, Act::Append(0, "hello"), Want::Accepted(5)),
