@@ -4,3 +4,4 @@ pub mod Rows
 pub mod Statuses
 pub mod PipelineStatus
 pub mod Pass
+pub mod Texts

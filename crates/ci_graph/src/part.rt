@@ -3,7 +3,7 @@
 use ci_values::when::{AllowFailure, Retry, When};
 
 /// What the file fixes of a job that its status depends on.
-#[derive(Drop)]
+#[derive(Clone, Drop)]
 pub struct Part {
     pub when: When,
     /// Whether the pipeline goes on though the job failed, was cancelled or wasn't played.

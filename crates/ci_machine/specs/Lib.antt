@@ -1,4 +1,6 @@
 pub mod State
+pub mod Kept
+pub mod Statuses
 pub mod Reply
 pub mod Bodies
 pub mod Eligible

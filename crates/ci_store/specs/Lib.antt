@@ -8,3 +8,4 @@ pub mod Create
 pub mod Load
 pub mod Store
 pub mod Open
+pub mod Ranges
