@@ -2,3 +2,5 @@ pub mod Lists
 pub mod Handling
 pub mod Runs
 pub mod LifetimeLemmas
+pub mod Settles
+pub mod Search

@@ -1,0 +1,40 @@
+-- What is planned of an event over what a store keeps: changes of records, and the rows of statuses that are put behind them.
+use Rattle.std.specs.Prelude.{◌≡◌, ◌⊎◌, List, [], ◌∷◌}
+use Rattle.std.specs.List.{flat_map}
+use Rattle.ci_machine.specs.declared.records.BoardRow.{BoardRow}
+use Rattle.ci_machine.specs.declared.records.Attempt.{Attempt}
+use Rattle.ci_machine.specs.declared.records.Job.{Job}
+use Rattle.ci_machine.specs.declared.change.Record.TheVariants as row
+use Rattle.ci_machine.specs.declared.change.RowChange.{RowChange}
+use Rattle.ci_machine.specs.declared.change.RowChange.TheVariants.{Add, Put}
+use Rattle.ci_machine.specs.State.{State, applied}
+use Rattle.ci_machine.specs.Kept.{Kept, put_rows}
+use Rattle.ci_machine.specs.Statuses.{AreBoard}
+use Rattle.ci_machine.specs.Sound.{IsSound}
+use Rattle.ci_statuses.specs.Changes.{HasLive}
+
+-- what is kept is a state that the machine may come to, with its rows
+pub record IsKept (k : Kept) : Type 0 where
+  pub sound : IsSound k.state
+  pub are_board : AreBoard k.state k.board
+
+-- the rows that are put make the rows of the state after the changes
+abbrev pub Settles : Kept → List RowChange → List BoardRow → Type 0
+Settles k changes rows = AreBoard (applied changes k.state) (put_rows rows k.board)
+
+-- The plan is one that the machine makes, and its rows settle its changes, where what is kept is a state with its rows.
+pub record PlansFor (k : Kept) (Makes : Type 0) (changes : List RowChange) (rows : List BoardRow) : Type 0 where
+  pub made : Makes
+  pub settled : Settles k changes rows
+
+-- the changes are none, or they put a live attempt of the state as it stands then
+abbrev pub MovesOne : State → List RowChange → Type 0
+MovesOne s changes = (changes ≡ []) ⊎ ((after : Attempt) × HasLive s after × (changes ≡ Put (row.Attempt after) ∷ []))
+
+-- the job that a change adds
+abbrev pub job_added : RowChange → List Job
+job_added (Add (row.Job j)) = j ∷ []
+job_added _ = []
+
+abbrev pub jobs_added : List RowChange → List Job
+jobs_added changes = flat_map job_added changes
