@@ -135,6 +135,8 @@ pub record IsLinked (s : State) : Type 0 where
   pub attempt_runner : All (λ a. Contains (map (λ r. r.id) s.runners) a.runner) s.attempts
   pub job_pipeline : All (λ j. Contains (map (λ p. p.id) s.pipelines) j.pipeline) s.jobs
   pub pipeline_project : All (λ p. Contains (map (λ q. q.id) s.projects) p.project) s.pipelines
+  pub need_job : All (λ w. Contains (map (λ j. j.id) s.jobs) w.job) s.needs
+  pub need_pred : All (λ w. Contains (map (λ j. j.id) s.jobs) w.pred) s.needs
 
 -- the lease of the attempt is over at this moment
 abbrev pub is_due : State → ℕ → Attempt → Bool
