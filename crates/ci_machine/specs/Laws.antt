@@ -181,5 +181,6 @@ pub record Laws (h : List Past) (s : State) : Type 0 where
   pub ends_stay : All (λ p. EndsStay p.before s) h
   pub stays : All (λ p. Stays p.before s) h
   pub linked : IsLinked s
+  pub settled : (board : List BoardRow) × AreBoard s board
   pub swept : All (λ p. IsSweptBy p.before p.now p.event p.answer) h
   pub in_order : All (λ p. is_grant p.event p.answer ≡ true → GivesInOrder p.before p.answer) h

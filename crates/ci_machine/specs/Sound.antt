@@ -8,13 +8,14 @@ use Rattle.ci_machine.specs.Leases.{is_live}
 use Rattle.ci_machine.specs.Step.{last_attempt}
 use Rattle.ci_machine.specs.Laws.{IsLinked}
 
--- Records stand in the order of their numbers, which are below those that come next; what a record names is there; and the live
--- attempt of a job, if it has one, is its last.
+-- Records stand in the order of their numbers, which are 1 or more and below those that come next; what a record names is there;
+-- and the live attempt of a job, if it has one, is its last.
 pub record IsSound (s : State) : Type 0 where
   pub jobs_ascend : IsStrictlySortedBy nat_cmp (map (λ j. j.id) s.jobs)
   pub attempts_ascend : IsStrictlySortedBy nat_cmp (map (λ a. a.id) s.attempts)
   pub needs_ascend : IsStrictlySortedBy need_cmp s.needs
   pub pipelines_below : All (λ p. p.id < s.next.pipeline) s.pipelines
+  pub jobs_positive : All (λ j. 0 < j.id) s.jobs
   pub jobs_below : All (λ j. j.id < s.next.job) s.jobs
   pub attempts_below : All (λ a. a.id < s.next.attempt) s.attempts
   pub linked : IsLinked s
