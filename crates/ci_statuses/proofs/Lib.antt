@@ -3,3 +3,5 @@ pub mod RowPuts
 pub mod Facts
 pub mod Joint
 pub mod Stays
+pub mod Grants
+pub mod Pages
