@@ -1,10 +1,11 @@
 //! What a runner's request for a job does, from what the store holds: the least pending job that the runner may run is granted.
 
-ghost use Rattle.std.specs.Prelude.{◌≡◌, ◌∷◌, [], Some, IfOk, if◌then◌else◌};
+ghost use Rattle.std.specs.Prelude.{◌≡◌, ◌∷◌, [], Some, IfOk, IfErr, if◌then◌else◌};
 ghost use Rattle.ci_machine.specs.Grants as machine;
 ghost use Rattle.ci_machine.specs.Step as step;
 ghost use Rattle.ci_machine.specs.declared.request.Request.TheVariants as asked;
 ghost use Rattle.ci_store.specs.Store.{LoadsBy};
+ghost use Rattle.ci_board.specs.declared.facts.Status.TheVariants as status;
 ghost use Rattle.ci_server.specs.Planning.{IsKept, PlansFor};
 ghost use Rattle.ci_server.specs.Search.{IsOffered};
 
@@ -20,7 +21,7 @@ use ci_plans::grants;
 use ci_statuses::pending::started;
 use ci_store::fault::StoreFault;
 use ci_store::store::Store;
-use std::alloc::{AllocError, Global};
+use std::alloc::Global;
 
 /// The runner with this token asks for a job.
 pub(crate) fn ask_job<T: Store>(
@@ -72,23 +73,27 @@ fn grant<T: Store>(
 {
     let variables = store.job_variables(offer.queued.job.id)?;
     let next = store.next(Counter::Attempt)?;
-    let (answer, changes) = grants::grant(alloc, runner, &offer.queued, variables.as_slice(), next, now, seed)?;
-    let rows = if changes.is_empty() {
-        Vec::new(alloc)
-    } else {
-        one(alloc, started(offer.row))?
-    };
-    Ok(Planned {
-        answer,
-        changes,
-        rows,
-    })
+    let plan = grants::grant(
+        alloc,
+        runner,
+        &offer.queued,
+        variables.as_slice(),
+        next,
+        now,
+        seed,
+    )?;
+    let rows = started_rows(alloc, plan.1.is_empty(), offer.row);
+    Planned::with_rows(plan, rows)
 }
 
-fn one(alloc: Global, row: BoardRow) -> Result<Vec<BoardRow>, AllocError>
-    ensures { IfOk result (λ rows. rows.items ≡ row ∷ []) }
+/// The row of a job that is started, or none where it isn't.
+fn started_rows(alloc: Global, refused: bool, row: BoardRow) -> Result<Vec<BoardRow>, StoreFault>
+    ensures { IfOk result (λ rows. rows.items ≡ (if refused then [] else record row { row = record row.row { status = status.Running } } ∷ [])) }
+    ensures fault { IfErr result (λ fault. fault ≡ StoreFault.Memory) }
 {
     let mut rows = Vec::new(alloc);
-    rows.push(row)?;
+    if !refused {
+        rows.push(started(row))?;
+    }
     Ok(rows)
 }

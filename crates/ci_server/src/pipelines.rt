@@ -1,6 +1,12 @@
 //! What a request for a new pipeline does, from what the store holds.
 
-ghost use Rattle.std.specs.Prelude.{◌≡◌, ◌++◌, IfOk};
+ghost use Rattle.std.specs.Prelude.{◌≡◌, ◌++◌, [], ℕ, List, IfOk};
+ghost use Rattle.ci_machine.specs.declared.records.BoardRow.{BoardRow};
+ghost use Rattle.ci_machine.specs.State.{State};
+ghost use Rattle.ci_machine.specs.Kept.{put_rows};
+ghost use Rattle.ci_machine.specs.Statuses.{AreBoard};
+ghost use Rattle.ci_machine.specs.Sound.{IsSound};
+ghost use Rattle.ci_statuses.specs.Changes.{IsMade};
 ghost use Rattle.ci_machine.specs.Pipelines as machine;
 ghost use Rattle.ci_machine.specs.Step.{project_at};
 ghost use Rattle.ci_store.specs.Store.{LoadsBy};
@@ -10,7 +16,7 @@ use crate::ends::or_store_fault;
 use crate::planned::Planned;
 use ci_machine::change::{Counter, Delta, Record, RowChange};
 use ci_machine::moment::Moment;
-use ci_machine::records::Job;
+use ci_machine::records::{BoardRow, Job};
 use ci_machine::reply::Reply;
 use ci_machine::request::NewPipeline;
 use ci_plans::pipelines;
@@ -34,14 +40,24 @@ pub(crate) fn enter_pipeline<T: Store>(
     let project = store.project(new.project)?;
     let next_pipeline = store.next(Counter::Pipeline)?;
     let next_job = store.next(Counter::Job)?;
-    let (answer, changes) = pipelines::enter_pipeline(alloc, project.as_ref(), next_pipeline, next_job, new, now)?;
-    let jobs = jobs_added(alloc, &changes)?;
-    let rows = or_store_fault(rows_of_creation(alloc, jobs.as_slice(), &[]))?;
-    Ok(Planned {
-        answer,
-        changes,
-        rows,
-    })
+    let plan = pipelines::enter_pipeline(
+        alloc,
+        project.as_ref(),
+        next_pipeline,
+        next_job,
+        new,
+        now,
+    )?;
+    let rows = rows_made(alloc, &plan.1);
+    Planned::with_rows(plan, rows)
+}
+
+/// The rows of the jobs that changes add, none of which waits for another.
+fn rows_made(alloc: Global, changes: &Delta) -> Result<Vec<BoardRow>, StoreFault>
+    ensures { IfOk result (λ rows. (s t : State) (board : List BoardRow) (pipeline : ℕ) → IsSound s → AreBoard s board → IsMade s t pipeline (jobs_added changes.now) [] → AreBoard t (put_rows rows.items board)) }
+{
+    let jobs = jobs_added(alloc, changes)?;
+    or_store_fault(rows_of_creation(alloc, jobs.as_slice(), &[]))
 }
 
 /// The jobs that changes add.

@@ -33,13 +33,9 @@ pub(crate) fn update_job<T: Store>(
             Ok(Planned::without_rows(alloc, plan))
         }
         Some(leased) => {
-            let (answer, changes) = reports::update_job(alloc, Some(&leased.lease), update, now)?;
-            let rows = rows_behind(alloc, store, leased.pipeline, &changes)?;
-            Ok(Planned {
-                answer,
-                changes,
-                rows,
-            })
+            let plan = reports::update_job(alloc, Some(&leased.lease), update, now)?;
+            let rows = rows_behind(alloc, store, leased.pipeline, &plan.1);
+            Planned::with_rows(plan, rows)
         }
     }
 }

@@ -47,16 +47,12 @@ fn end<T: Store>(
     ensures { LoadsBy T.honest T.holds T.leaves store.old store.new result
         (λ k p. IsKept k → HasLive k.state lease.now.attempt → PlansFor k ((p.answer, p.changes) ≡ machine.sweep (Some lease.now)) p.changes p.rows.items) }
 {
-    let (answer, changes) = sweeps::sweep(alloc, Some(lease))?;
     let Some(job) = store.job(lease.attempt.job)? else {
         return Err(StoreFault::Broken);
     };
-    let rows = rows_behind(alloc, store, job.pipeline, &changes)?;
-    Ok(Planned {
-        answer,
-        changes,
-        rows,
-    })
+    let plan = sweeps::sweep(alloc, Some(lease))?;
+    let rows = rows_behind(alloc, store, job.pipeline, &plan.1);
+    Planned::with_rows(plan, rows)
 }
 
 /// The attempts, each with the time limit of its job.
