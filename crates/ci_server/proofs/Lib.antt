@@ -3,4 +3,4 @@ pub mod Handling
 pub mod Runs
 pub mod LifetimeLemmas
 pub mod Settles
-pub mod Search
+pub mod Pages

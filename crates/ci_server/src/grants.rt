@@ -88,7 +88,7 @@ fn grant<T: Store>(
 
 /// The row of a job that is started, or none where it isn't.
 fn started_rows(alloc: Global, refused: bool, row: BoardRow) -> Result<Vec<BoardRow>, StoreFault>
-    ensures { IfOk result (λ rows. rows.items ≡ (if refused then [] else record row { row = record row.row { status = status.Running } } ∷ [])) }
+    ensures rows { IfOk result (λ rows. rows.items ≡ (if refused then [] else record row { row = record row.row { status = status.Running } } ∷ [])) }
     ensures fault { IfErr result (λ fault. fault ≡ StoreFault.Memory) }
 {
     let mut rows = Vec::new(alloc);

@@ -47,13 +47,13 @@ pub(crate) fn leased_at<T: Store>(
     ensures { LoadsBy T.honest T.holds T.leaves store.old store.new result (λ k l. option_map (λ x. x.lease) l ≡ step.lease_at k.state attempt) }
 {
     match store.attempt(attempt)? {
-        Some(attempt) => Ok(Some(leased(store, attempt)?)),
+        Some(attempt) => Ok(Some(with_pipeline(store, attempt)?)),
         None => Ok(None),
     }
 }
 
 /// The attempt with the time limit and the pipeline of its job.
-fn leased<T: Store>(store: &mut T, attempt: Attempt) -> Result<Leased, StoreFault>
+fn with_pipeline<T: Store>(store: &mut T, attempt: Attempt) -> Result<Leased, StoreFault>
     ensures { LoadsBy T.honest T.holds T.leaves store.old store.new result (λ k l. l.lease ≡ step.lease_of k.state attempt) }
 {
     match store.job(attempt.job)? {
