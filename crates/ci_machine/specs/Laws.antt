@@ -135,6 +135,8 @@ pub record IsLinked (s : State) : Type 0 where
   pub attempt_runner : All (λ a. Contains (map (λ r. r.id) s.runners) a.runner) s.attempts
   pub job_pipeline : All (λ j. Contains (map (λ p. p.id) s.pipelines) j.pipeline) s.jobs
   pub pipeline_project : All (λ p. Contains (map (λ q. q.id) s.projects) p.project) s.pipelines
+  pub need_job : All (λ w. Contains (map (λ j. j.id) s.jobs) w.job) s.needs
+  pub need_pred : All (λ w. Contains (map (λ j. j.id) s.jobs) w.pred) s.needs
 
 -- the lease of the attempt is over at this moment
 abbrev pub is_due : State → ℕ → Attempt → Bool
@@ -179,5 +181,6 @@ pub record Laws (h : List Past) (s : State) : Type 0 where
   pub ends_stay : All (λ p. EndsStay p.before s) h
   pub stays : All (λ p. Stays p.before s) h
   pub linked : IsLinked s
+  pub settled : (board : List BoardRow) × AreBoard s board
   pub swept : All (λ p. IsSweptBy p.before p.now p.event p.answer) h
   pub in_order : All (λ p. is_grant p.event p.answer ≡ true → GivesInOrder p.before p.answer) h

@@ -17,4 +17,5 @@ pub mod Sweeps
 pub mod Step
 pub mod History
 pub mod Laws
+pub mod Sound
 pub mod Examples

@@ -1,5 +1,5 @@
 -- A job of a project is asked for, or the trace of its last attempt.
-use Rattle.std.specs.Prelude.{ℕ, List, [], if◌then◌else◌, ◌==◌, Option, Some, None, Result, Ok, Err, codes}
+use Rattle.std.specs.Prelude.{ℕ, List, [], if◌then◌else◌, ◌==◌, Option, Some, None, Result, Ok, Err}
 use Rattle.std.specs.List.{flat_map}
 use Rattle.serde_json.specs.Written.{compact_text}
 use Rattle.ci_machine.specs.declared.records.Project.{Project}

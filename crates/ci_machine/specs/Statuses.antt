@@ -2,8 +2,6 @@
 -- which, and from their attempts.
 use Rattle.std.specs.Prelude.{◌≡◌, ℕ, ◌-◌, List, [], length, map, filter, find, count_by, nat_lt, ◌==◌, Option, Some, None, option_map}
 use Rattle.std.specs.List.{last_or, range_with_len}
-use Rattle.ci_values.specs.declared.attempts.AttemptState.{AttemptState}
-use Rattle.ci_graph.specs.declared.part.Part.{Part}
 use Rattle.ci_graph.specs.Lists.{is_among, distinct}
 use Rattle.ci_graph.specs.Pairs.{firsts_of}
 use Rattle.ci_graph.specs.JobGraph.{JobGraph}

@@ -2,14 +2,16 @@
 
 ghost use Rattle.std.specs.Prelude.{◌≡◌};
 ghost use Rattle.ci_machine.specs.Bodies.{source_text};
+ghost use Rattle.ci_machine.specs.Pipelines.{plain_options};
 
+use crate::limits::DEFAULT_TIMEOUT_SECONDS;
 use crate::moment::Moment;
 use crate::text::{Bytes, Text, Texts};
 use ci_board::facts::Row;
 use ci_graph::part::Part;
 pub use ci_values::attempts::{AttemptState, Cause};
 pub use ci_values::limits::MAX_NUMBER;
-use std::alloc::AllocError;
+use std::alloc::{AllocError, Global};
 
 /// A project, with the token that its users send and its pipeline file.
 #[derive(Clone, Drop)]
@@ -94,6 +96,22 @@ pub struct JobOptions {
     pub interruptible: bool,
     /// What its status depends on.
     pub part: Part,
+}
+
+impl JobOptions {
+    /// What is fixed of a job that sets nothing but its script.
+    pub fn plain(alloc: Global, script: Texts) -> JobOptions
+        ensures { result ≡ plain_options script }
+    {
+        JobOptions {
+            script,
+            timeout: DEFAULT_TIMEOUT_SECONDS,
+            tags: Texts::new(Vec::new(alloc)),
+            resource_group: None,
+            interruptible: false,
+            part: Part::plain(),
+        }
+    }
 }
 
 /// A job of a pipeline.
