@@ -15,6 +15,7 @@ pub mod Traces
 pub mod Shows
 pub mod Sweeps
 pub mod Step
+pub mod Ranges
 pub mod History
 pub mod Laws
 pub mod Sound
