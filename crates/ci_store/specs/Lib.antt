@@ -1,5 +1,4 @@
 pub mod Schema
-pub mod JsonText
 pub mod Rows
 pub mod Stands
 pub mod Calls
@@ -8,4 +7,3 @@ pub mod Create
 pub mod Load
 pub mod Store
 pub mod Open
-pub mod Ranges

@@ -4,11 +4,13 @@ ghost use Rattle.std.specs.Prelude.{◌≡◌};
 ghost use Rattle.ci_machine.specs.Kept.{Kept, written};
 ghost use Rattle.ci_machine.specs.Statuses.{attempts_of, jobs_of};
 ghost use Rattle.ci_machine.specs.Step.{project_at, project_with, runner_with, pipeline_at, job_at, variables_of, attempt_at, live_attempts, pieces_of, next_of};
-ghost use Rattle.ci_store.specs.Ranges.{needs_within, attempts_within, rows_within, row_at, pending_after};
+ghost use Rattle.ci_machine.specs.Ranges.{needs_within, attempts_within, rows_within, row_at, pending_after};
 ghost use Rattle.ci_store.specs.Store.{LoadsBy, Ends};
 
 use ci_machine::change::{Counter, Delta};
-use ci_machine::records::{Attempt, BoardRow, Job, JobVariable, Need, Piece, Pipeline, Project, Runner};
+use ci_machine::records::{
+    Attempt, BoardRow, Job, JobVariable, Need, Piece, Pipeline, Project, Runner,
+};
 use ci_machine::text::Text;
 use ci_tables::fault::StoreFault;
 
