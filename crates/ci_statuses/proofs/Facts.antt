@@ -16,25 +16,25 @@ use Rattle.ci_machine.proofs.Keyed.{Has, Rising, rising_from, rising_filter, has
 use Rattle.ci_machine.proofs.Sound.{Sound}
 use Rattle.ci_statuses.proofs.Puts.{cons_same, map_same, map_id, swap, put_replace, put_last}
 
--- ---- the facts of one job of a list are others, and those of the rest stay
+-- ---- of one record of a list the value is another, and those of the rest stay
 
-pub one_other : (low : ℕ) (js : List Job) (f g : Job → Facts) (change : Facts → Facts) (n pos : ℕ) → Rising (λ j. j.id) low js → pos < length js
-    → slice_index_or (map (λ j. j.id) js) pos 0 ≡ n
-    → ((j : Job) → Has j js → (j.id ≡ n → ⊥) → f j ≡ g j) → ((j : Job) → Has j js → j.id ≡ n → f j ≡ change (g j))
-    → map f js ≡ slice_set (map g js) pos (change (facts_at (map g js) pos))
-one_other low [] f g change n pos r l at same other = absurd (omega arith)
-one_other low (j ∷ js) f g change n zero r l at same other =
-    cons_same (other j (inl refl) at)
-    (map_same f g js (λ k h. same k (inr h) (λ e. let m : j.id + 1 ≤ k.id = rising_from (λ (i : Job). i.id) k (j.id + 1) js r.1 h in absurd (omega arith))))
-one_other low (j ∷ js) f g change n (suc pos) r l at same other =
+pub one_other : {A B : Type 0} (id : A → ℕ) (d : B) (low : ℕ) (xs : List A) (f g : A → B) (change : B → B) (n pos : ℕ) → Rising id low xs → pos < length xs
+    → slice_index_or (map id xs) pos 0 ≡ n
+    → ((x : A) → Has x xs → (id x ≡ n → ⊥) → f x ≡ g x) → ((x : A) → Has x xs → id x ≡ n → f x ≡ change (g x))
+    → map f xs ≡ slice_set (map g xs) pos (change (slice_index_or (map g xs) pos d))
+one_other id d low [] f g change n pos r l at same other = absurd (omega arith)
+one_other id d low (x ∷ xs) f g change n zero r l at same other =
+    cons_same (other x (inl refl) at)
+    (map_same f g xs (λ y h. same y (inr h) (λ e. let m : id x + 1 ≤ id y = rising_from id y (id x + 1) xs r.1 h in absurd (omega arith))))
+one_other {A} id d low (x ∷ xs) f g change n (suc pos) r l at same other =
     cons_same
-    (same j (inl refl) (λ e. let w = found js pos (omega arith) in let m : j.id + 1 ≤ w.0.id = rising_from (λ (i : Job). i.id) w.0 (j.id + 1) js r.1 w.1.0 in let z : w.0.id ≡ n = w.1.1 ∙ at in absurd (omega arith)))
-    (one_other (j.id + 1) js f g change n pos r.1 (omega arith) at (λ k h. same k (inr h)) (λ k h. other k (inr h)))
+    (same x (inl refl) (λ e. let w = found xs pos (omega arith) in let m : id x + 1 ≤ id w.0 = rising_from id w.0 (id x + 1) xs r.1 w.1.0 in let z : id w.0 ≡ n = w.1.1 ∙ at in absurd (omega arith)))
+    (one_other id d (id x + 1) xs f g change n pos r.1 (omega arith) at (λ y h. same y (inr h)) (λ y h. other y (inr h)))
   where
-    found : (xs : List Job) (i : ℕ) → i < length xs → (x : Job) × (Has x xs × (x.id ≡ slice_index_or (map (λ (y : Job). y.id) xs) i 0))
+    found : (ys : List A) (i : ℕ) → i < length ys → (y : A) × (Has y ys × (id y ≡ slice_index_or (map id ys) i 0))
     found [] i h = absurd (omega arith)
-    found (x ∷ xs) zero h = (x, (inl refl, refl))
-    found (x ∷ xs) (suc i) h = let w = found xs i (omega arith) in (w.0, (inr w.1.0, w.1.1))
+    found (y ∷ ys) zero h = (y, (inl refl, refl))
+    found (y ∷ ys) (suc i) h = let w = found ys i (omega arith) in (w.0, (inr w.1.0, w.1.1))
 
 -- jobs of one number are one
 same_job : (s : State) → Sound s → (i j : Job) → Has i s.jobs → Has j s.jobs → i.id ≡ j.id → i ≡ j
@@ -53,7 +53,7 @@ facts_with its j = record { last = option_map (λ a. a.state) (last_or None its)
 
 -- ---- a new attempt
 
-last-append : {A : Type 0} (o : Option A) (xs : List A) (x : A) → last_or o (xs ++ x ∷ []) ≡ Some x
+pub last-append : {A : Type 0} (o : Option A) (xs : List A) (x : A) → last_or o (xs ++ x ∷ []) ≡ Some x
 last-append o [] x = refl
 last-append o (y ∷ ys) x = last-append (Some y) ys x
 

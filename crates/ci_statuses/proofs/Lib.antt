@@ -1,6 +1,8 @@
+pub mod Positions
 pub mod Puts
 pub mod RowPuts
 pub mod Facts
+pub mod Tallies
 pub mod Joint
 pub mod Stays
 pub mod Grants
