@@ -7,7 +7,6 @@ use Rattle.std.proofs.lemmas.List.{length-append, length-map, append-nil}
 use Rattle.std.proofs.lemmas.List.Elements.{filter-append}
 use Rattle.ci_values.specs.declared.attempts.AttemptState.{AttemptState}
 use Rattle.ci_board.specs.declared.facts.Facts.{Facts}
-use Rattle.ci_board.specs.Rows.{facts_at}
 use Rattle.ci_machine.specs.declared.records.Attempt.{Attempt}
 use Rattle.ci_machine.specs.declared.records.Job.{Job}
 use Rattle.ci_machine.specs.State.{State, attempt_cmp, put}
@@ -107,6 +106,7 @@ last-map {A} f x (y ∷ ys) e = along (Some y) (Some (f y)) ys (λ z q. ap (λ (
   where
     just : (z : A) → Some y ≡ Some z → y ≡ z
     just z q = cc
+
     along : (u v : Option A) (zs : List A) → ((z : A) → u ≡ Some z → v ≡ Some (f z)) → last_or u zs ≡ Some x → last_or v (map f zs) ≡ Some (f x)
     along u v [] h q = h x q
     along u v (z ∷ zs) h q = along (Some z) (Some (f z)) zs (λ w k. ap (λ (c : A). Some (f c)) (let same : z ≡ w = cc in same)) q
@@ -136,8 +136,8 @@ module _ (s t : State) (rise : Rising (λ b. b.id) 0 s.attempts) (a x : Attempt)
       ap (λ (l : List Attempt). facts_with l j)
       (attempts_swapped j.id ∙ (map_same (swap (λ (b : Attempt). b.id) x) (λ b. b) (attempts_of s j.id)
       (λ b h. let w = has_filter (λ (c : Attempt). c.job == j.id) b s.attempts h in
-        cond-false (b.id == x.id) x b (ne_eqb b.id x.id (λ e. d (sym (eqb-true b.job j.id w.1)
-          ∙ ap (λ (c : Attempt). c.job) (one_at (λ (c : Attempt). c.id) b a 0 s.attempts rise w.0 has (e ∙ its_id))))))
+      cond-false (b.id == x.id) x b (ne_eqb b.id x.id (λ e. d (sym (eqb-true b.job j.id w.1)
+      ∙ ap (λ (c : Attempt). c.job) (one_at (λ (c : Attempt). c.id) b a 0 s.attempts rise w.0 has (e ∙ its_id))))))
       ∙ map_id (attempts_of s j.id)))
 
   counted : (j : Job) → length (attempts_of t j.id) ≡ length (attempts_of s j.id)
@@ -149,11 +149,11 @@ module _ (s t : State) (rise : Rising (λ b. b.id) 0 s.attempts) (a x : Attempt)
       let its : Has a (attempts_of s j.id) = filter_has (λ (b : Attempt). b.job == j.id) a s.attempts has (eq-eqb a.job j.id (sym e)) in
       let is_last : last_or None (attempts_of s j.id) ≡ Some a
       = last_greatest (λ (b : Attempt). b.id) a None 0 (attempts_of s j.id) (rising_filter (λ (b : Attempt). b.id) (λ (b : Attempt). b.job == j.id) 0 s.attempts rise) its
-        (λ b h. let w = has_filter (λ (c : Attempt). c.job == j.id) b s.attempts h in last b w.0 (sym e ∙ sym (eqb-true b.job j.id w.1))) in
+      (λ b h. let w = has_filter (λ (c : Attempt). c.job == j.id) b s.attempts h in last b w.0 (sym e ∙ sym (eqb-true b.job j.id w.1))) in
       let now_last : last_or None (attempts_of t j.id) ≡ Some x
       = ap (last_or None) (attempts_swapped j.id)
-        ∙ (last-map (swap (λ (b : Attempt). b.id) x) a (attempts_of s j.id) is_last
-        ∙ ap (λ (b : Attempt). Some b) (cond-true (a.id == x.id) x a (eq-eqb a.id x.id (sym its_id)))) in
+      ∙ (last-map (swap (λ (b : Attempt). b.id) x) a (attempts_of s j.id) is_last
+      ∙ ap (λ (b : Attempt). Some b) (cond-true (a.id == x.id) x a (eq-eqb a.id x.id (sym its_id)))) in
       let ends : option_map (λ (b : Attempt). b.state) (last_or None (attempts_of t j.id)) ≡ Some x.state = ap (option_map (λ (b : Attempt). b.state)) now_last in
       λ i. record { last = ends i; attempts = counted j i - j.set_aside; cancelled = j.cancelled; played = j.played }
 
@@ -162,8 +162,8 @@ module _ (s t : State) (rise : Rising (λ b. b.id) 0 s.attempts) (a x : Attempt)
   same_state j e =
       let states : (b : Attempt) → Has b (attempts_of s j.id) → (swap (λ (c : Attempt). c.id) x b).state ≡ b.state
       = λ b h. cond_both (b.id == x.id) x b (λ (c : Attempt). c.state ≡ b.state)
-        (λ q. e ∙ ap (λ (c : Attempt). c.state) (one_at (λ (c : Attempt). c.id) a b 0 s.attempts rise has (has_filter (λ (c : Attempt). c.job == j.id) b s.attempts h).0 (sym its_id ∙ sym (eqb-true b.id x.id q))))
-        (λ q. refl) in
+      (λ q. e ∙ ap (λ (c : Attempt). c.state) (one_at (λ (c : Attempt). c.id) a b 0 s.attempts rise has (has_filter (λ (c : Attempt). c.job == j.id) b s.attempts h).0 (sym its_id ∙ sym (eqb-true b.id x.id q))))
+      (λ q. refl) in
       let ends : option_map (λ (b : Attempt). b.state) (last_or None (attempts_of t j.id)) ≡ option_map (λ (b : Attempt). b.state) (last_or None (attempts_of s j.id))
       = ap (λ l. option_map (λ (b : Attempt). b.state) (last_or None l)) (attempts_swapped j.id) ∙ along None None (attempts_of s j.id) states refl in
       λ i. record { last = ends i; attempts = counted j i - j.set_aside; cancelled = j.cancelled; played = j.played }

@@ -1,6 +1,6 @@
 -- A grant: the job's own row becomes running, and no other row moves.
-use Rattle.std.specs.Prelude.{◌≡◌, ℕ, zero, suc, ◌+◌, ◌<◌, ◌≤◌, true, ◌==◌, List, [], ◌∷◌, length, map, Contains, slice_index_or, slice_set, Some}
-use Rattle.std.proofs.Common.{refl, sym, ap, subst, ◌∙◌, inl, inr, ⊎_elim, arith, eqb-true, eq-eqb}
+use Rattle.std.specs.Prelude.{◌≡◌, ℕ, zero, suc, ◌+◌, ◌<◌, ◌≤◌, true, ◌==◌, List, [], ◌∷◌, length, map, slice_index_or, slice_set}
+use Rattle.std.proofs.Common.{refl, sym, ap, subst, ◌∙◌, arith, eqb-true, eq-eqb}
 use Rattle.std.proofs.lemmas.Bool.{cond_both, eqb-false, false≢true}
 use Rattle.std.proofs.lemmas.List.{get_or-map, length-map}
 use Rattle.ci_values.specs.declared.attempts.AttemptState.TheVariants.{Live}
@@ -27,7 +27,7 @@ use Rattle.ci_machine.proofs.Sound.{Sound}
 use Rattle.ci_statuses.specs.Changes.{started_row}
 use Rattle.ci_statuses.proofs.Puts.{cons_same, map_same, row_put, row_other}
 use Rattle.ci_statuses.proofs.RowPuts.{put_keys}
-use Rattle.ci_statuses.proofs.Positions.{place_of_has, there}
+use Rattle.ci_statuses.proofs.Positions.{place_of_has, is_there}
 use Rattle.ci_statuses.proofs.Facts.{one_other, in_pipeline, other_pipeline, started, started_other, started_its}
 use Rattle.ci_statuses.proofs.Joint.{numbers_rise, apart, board_rises}
 
@@ -53,7 +53,7 @@ row_replaced low (n ∷ ns) board r zero rise l at =
     (map_same (row_for (put row_cmp r board)) (row_for board) ns
     (λ m h. row_other r m board (λ e. let z : n + 1 ≤ m = rising_from (λ x. x) m (n + 1) ns rise.1 h in absurd (omega arith))))
 row_replaced low (n ∷ ns) board r (suc pos) rise l at =
-    cons_same (row_other r n board (λ e. let w = there ns pos (omega arith) in let z : n + 1 ≤ slice_index_or ns pos 0 = rising_from (λ x. x) (slice_index_or ns pos 0) (n + 1) ns rise.1 w in absurd (omega arith)))
+    cons_same (row_other r n board (λ e. let w = is_there ns pos (omega arith) in let z : n + 1 ≤ slice_index_or ns pos 0 = rising_from (λ x. x) (slice_index_or ns pos 0) (n + 1) ns rise.1 w in absurd (omega arith)))
     (row_replaced (n + 1) ns board r pos rise.1 (omega arith) at)
 
 module _ (s : State) (board : List BoardRow) (j : Job) (x : Attempt) (sound : Sound s) (are : AreBoard s board) (has : Has j s.jobs) (pending : is_pending board j ≡ true)
@@ -74,7 +74,7 @@ module _ (s : State) (board : List BoardRow) (j : Job) (x : Attempt) (sound : So
   facts_there q d =
       map_same (facts_in t) (facts_in s) (jobs_of s q)
       (λ i h. let w = in_pipeline s q i h in
-        started_other s t sound x at_next refl i (λ e. other_pipeline s sound j i has w.0 (λ z. d (z ∙ w.1)) (sym (e ∙ its_job))))
+      started_other s t sound x at_next refl i (λ e. other_pipeline s sound j i has w.0 (λ z. d (z ∙ w.1)) (sym (e ∙ its_job))))
 
   module _ (pos : ℕ) (l : pos < length (numbers_of s j.pipeline)) (at : slice_index_or (numbers_of s j.pipeline) pos 0 ≡ j.id) where
     abbrev fresh : Facts
@@ -116,6 +116,6 @@ module _ (s : State) (board : List BoardRow) (j : Job) (x : Attempt) (sound : So
     keys = put_keys its_row board (board_rises s board sound are) (subst (Has j.id) (sym are.keys) (has_map number j s.jobs has)) ∙ are.keys;
     each = λ q. cond_both (j.pipeline == q) 0 0 (λ (_ : ℕ). AreRows (graph_of t q) (facts_of t q) (rows_of t after q))
         (λ e. let w = place_of_has j.id (numbers_of s j.pipeline) numbered_here in
-          subst (λ x. AreRows (graph_of t x) (facts_of t x) (rows_of t after x)) (eqb-true j.pipeline q e) (here w.0 w.1.0 w.1.1))
+        subst (λ x. AreRows (graph_of t x) (facts_of t x) (rows_of t after x)) (eqb-true j.pipeline q e) (here w.0 w.1.0 w.1.1))
         (λ e. there q (eqb-false j.pipeline q e));
   }

@@ -1,5 +1,5 @@
 -- The places of ascending numbers.
-use Rattle.std.specs.Prelude.{◌≡◌, ◌⊎◌, ℕ, zero, suc, ◌+◌, ◌<◌, ◌≤◌, Bool, true, false, cond, ◌==◌, ◌||◌, nat_lt, List, [], ◌∷◌, length, map, count_by, Option, Some, None, Result, Ok, Err, slice_index_or, if◌then◌else◌}
+use Rattle.std.specs.Prelude.{◌≡◌, ◌⊎◌, ℕ, zero, suc, ◌+◌, ◌<◌, ◌≤◌, Bool, true, false, cond, ◌==◌, ◌||◌, nat_lt, List, [], ◌∷◌, length, Some, None, Result, Ok, Err, slice_index_or}
 use Rattle.std.specs.Ordering.{nat_cmp}
 use Rattle.std.specs.Result.{result_ok}
 use Rattle.std.specs.List.Sorted.{IsStrictlySortedBy, IsBinarySearchResult}
@@ -17,10 +17,10 @@ use Rattle.ci_statuses.specs.Lookups.{place_of}
 pub numbers_ascend : (xs : List ℕ) → IsStrictlySortedBy nat_cmp xs → Rising (λ n. n) 0 xs
 numbers_ascend xs a = rising_from_ascend (λ n. n) xs (subst (IsStrictlySortedBy nat_cmp) (sym (map-id xs)) a)
 
-pub there : (xs : List ℕ) (i : ℕ) → i < length xs → Has (slice_index_or xs i 0) xs
-there [] i l = absurd (omega arith)
-there (x ∷ xs) zero l = inl refl
-there (x ∷ xs) (suc i) l = inr (there xs i (omega arith))
+pub is_there : (xs : List ℕ) (i : ℕ) → i < length xs → Has (slice_index_or xs i 0) xs
+is_there [] i l = absurd (omega arith)
+is_there (x ∷ xs) zero l = inl refl
+is_there (x ∷ xs) (suc i) l = inr (is_there xs i (omega arith))
 
 -- how many of the list are below n
 place_cons : (x : ℕ) (xs : List ℕ) (n : ℕ) → place_in (x ∷ xs) n ≡ cond {A = ℕ} (nat_lt x n) 1 0 + place_in xs n
@@ -43,7 +43,7 @@ place_at low (x ∷ xs) zero r l =
     let rest : place_in xs x ≡ 0 = none_below x (x + 1) xs (omega arith) r.1 in
     omega arith
 place_at low (x ∷ xs) (suc i) r l =
-    let k : x + 1 ≤ slice_index_or xs i 0 = rising_from (λ m. m) (slice_index_or xs i 0) (x + 1) xs r.1 (there xs i (omega arith)) in
+    let k : x + 1 ≤ slice_index_or xs i 0 = rising_from (λ m. m) (slice_index_or xs i 0) (x + 1) xs r.1 (is_there xs i (omega arith)) in
     let first : cond {A = ℕ} (nat_lt x (slice_index_or xs i 0)) 1 0 ≡ 1 = cond-true (nat_lt x (slice_index_or xs i 0)) 1 0 (lt-ltb x (slice_index_or xs i 0) (omega arith)) in
     let all : place_in (x ∷ xs) (slice_index_or xs i 0) ≡ cond {A = ℕ} (nat_lt x (slice_index_or xs i 0)) 1 0 + place_in xs (slice_index_or xs i 0) = place_cons x xs (slice_index_or xs i 0) in
     let rest : place_in xs (slice_index_or xs i 0) ≡ i = place_at (x + 1) xs i r.1 (omega arith) in
@@ -69,13 +69,13 @@ not_among n (x ∷ xs) d = ap (λ b. b || is_among xs n) (ne_eqb x n (d 0 (omega
 
 pub place_there : (xs : List ℕ) (n i : ℕ) → Rising (λ m. m) 0 xs → i < length xs → slice_index_or xs i 0 ≡ n → place_of xs n ≡ Some i
 place_there xs n i r l e =
-    cond-true (is_among xs n) (Some (place_in xs n)) None (among_has n xs (subst (λ m. Has m xs) e (there xs i l)))
+    cond-true (is_among xs n) (Some (place_in xs n)) None (among_has n xs (subst (λ m. Has m xs) e (is_there xs i l)))
     ∙ ap (λ (p : ℕ). Some p) (sym (ap (place_in xs) e) ∙ place_at 0 xs i r l)
 
-ascending : (low : ℕ) (xs : List ℕ) → Rising (λ m. m) low xs → (i j : ℕ) → i ≤ j → j < length xs → slice_index_or xs i 0 ≤ slice_index_or xs j 0
+pub ascending : (low : ℕ) (xs : List ℕ) → Rising (λ m. m) low xs → (i j : ℕ) → i ≤ j → j < length xs → slice_index_or xs i 0 ≤ slice_index_or xs j 0
 ascending low [] r i j l m = absurd (omega arith)
 ascending low (x ∷ xs) r zero zero l m = omega arith
-ascending low (x ∷ xs) r zero (suc j) l m = let k : x + 1 ≤ slice_index_or xs j 0 = rising_from (λ n. n) (slice_index_or xs j 0) (x + 1) xs r.1 (there xs j (omega arith)) in omega arith
+ascending low (x ∷ xs) r zero (suc j) l m = let k : x + 1 ≤ slice_index_or xs j 0 = rising_from (λ n. n) (slice_index_or xs j 0) (x + 1) xs r.1 (is_there xs j (omega arith)) in omega arith
 ascending low (x ∷ xs) r (suc i) zero l m = absurd (omega arith)
 ascending low (x ∷ xs) r (suc i) (suc j) l m = ascending (x + 1) xs r.1 i j (omega arith) (omega arith)
 
@@ -89,14 +89,14 @@ place_found xs n (Err i) b a =
     let up = numbers_ascend xs a in
     let found = searched xs n (Err i) b (ascending 0 xs up) in
     sym (cond-false (is_among xs n) (Some (place_in xs n)) None (not_among n xs (λ k l e.
-      ⊎_elim (λ m. let less : slice_index_or xs k 0 < n = found.1 k m in omega arith) (λ m. let more : n < slice_index_or xs k 0 = found.2 k m l in omega arith) (either k i))))
+    ⊎_elim (λ m. let less : slice_index_or xs k 0 < n = found.1 k m in omega arith) (λ m. let more : n < slice_index_or xs k 0 = found.2 k m l in omega arith) (either k i))))
   where
     either : (j m : ℕ) → (j < m) ⊎ (m ≤ j)
     either j m = ⊎_elim (λ e. inl (ltb-true j m e)) (λ e. inr (ltb-false j m e)) (cases_Bool (nat_lt j m))
 
 -- ---- what a place says
 
-has_among : (n : ℕ) (xs : List ℕ) → is_among xs n ≡ true → Has n xs
+pub has_among : (n : ℕ) (xs : List ℕ) → is_among xs n ≡ true → Has n xs
 has_among n [] e = absurd (false≢true e)
 has_among n (x ∷ xs) e =
     ⊎_elim (λ q. inl (sym (eqb-true x n q))) (λ q. inr (has_among n xs (sym (ap (λ b. b || is_among xs n) q) ∙ e))) (cases_Bool (x == n))
@@ -105,10 +105,10 @@ pub place_some : (xs : List ℕ) (n p : ℕ) → Rising (λ m. m) 0 xs → place
 place_some xs n p r e =
     cond_both (is_among xs n) (Some (place_in xs n)) None (λ o. o ≡ Some p → (p < length xs) × (slice_index_or xs p 0 ≡ n))
     (λ a q. let w = place_of_has n xs (has_among n xs a) in
-      let same : place_in xs n ≡ p = cc in
-      let at : place_in xs n ≡ w.0 = ap (place_in xs) (sym w.1.1) ∙ place_at 0 xs w.0 r w.1.0 in
-      let pos : w.0 ≡ p = sym at ∙ same in
-      subst (λ k. (k < length xs) × (slice_index_or xs k 0 ≡ n)) pos (w.1.0, w.1.1))
+    let same : place_in xs n ≡ p = cc in
+    let at : place_in xs n ≡ w.0 = ap (place_in xs) (sym w.1.1) ∙ place_at 0 xs w.0 r w.1.0 in
+    let pos : w.0 ≡ p = sym at ∙ same in
+    subst (λ k. (k < length xs) × (slice_index_or xs k 0 ≡ n)) pos (w.1.0, w.1.1))
     (λ a q. absurd (cc)) e
 
 pub place_none : (xs : List ℕ) (n : ℕ) → place_of xs n ≡ None → (m : ℕ) → Has m xs → m ≡ n → ⊥

@@ -1,15 +1,16 @@
 -- One attempt more.
-use Rattle.std.specs.Prelude.{◌≡◌, ℕ, ◌+◌, ◌<◌, true, false, ◌==◌, List, [], ◌∷◌, ◌++◌, length, map, filter, Option, Some, None, option_map, replicate, slice_index_or, slice_set, take}
+use Rattle.std.specs.Prelude.{◌≡◌, ℕ, ◌+◌, ◌<◌, ◌==◌, List, [], ◌∷◌, ◌++◌, length, map, filter, Some, None, option_map, replicate, slice_index_or, slice_set, take}
 use Rattle.std.specs.List.{last_or}
 use Rattle.std.specs.Ordering.{nat_cmp}
 use Rattle.std.specs.List.Sorted.{IsStrictlySortedBy}
-use Rattle.std.proofs.Common.{refl, sym, ap, subst, ◌∙◌, arith, eq-eqb, ne_eqb}
+use Rattle.std.proofs.Common.{refl, sym, ap, ◌∙◌, eq-eqb, ne_eqb}
 use Rattle.std.proofs.lemmas.Bool.{cond-true, cond-false}
 use Rattle.std.proofs.lemmas.List.{append-nil, length-append, map-id, take_more}
 use Rattle.std.proofs.lemmas.List.Elements.{filter-append}
 use Rattle.ci_values.specs.declared.attempts.AttemptState.{AttemptState}
+use Rattle.ci_machine.specs.declared.records.Job.{Job}
 use Rattle.ci_machine.specs.declared.records.Attempt.{Attempt}
-use Rattle.ci_machine.proofs.Keyed.{Has, Rising}
+use Rattle.ci_machine.proofs.Keyed.{Rising}
 use Rattle.ci_statuses.specs.declared.tally.Tally.{Tally}
 use Rattle.ci_statuses.specs.Lookups.{tally_of, tally_at, no_tally, place_of}
 use Rattle.ci_statuses.proofs.Puts.{cons_same, map_same}
@@ -19,7 +20,7 @@ use Rattle.ci_statuses.proofs.Positions.{numbers_ascend, place_some, place_none}
 abbrev with_one : AttemptState → Tally → Tally
 with_one state t = record { count = t.count + 1; last = Some state }
 
-abbrev tally_from : List Attempt → Tally
+abbrev pub tally_from : List Attempt → Tally
 tally_from its = record { count = length its; last = option_map (λ a. a.state) (last_or None its) }
 
 its_attempts : (xs : List Attempt) (a : Attempt) (n : ℕ) → a.job ≡ n → filter (λ b. b.job == n) (xs ++ a ∷ []) ≡ filter (λ b. b.job == n) xs ++ a ∷ []
@@ -72,3 +73,7 @@ skip_step numbers xs i a ts l at found before =
     before
     ∙ (sym (none_counted numbers (take i xs) a found)
     ∙ ap (λ (l : List Attempt). map (tally_of l) numbers) (sym (take_more xs i a l ∙ ap (λ (b : Attempt). take i xs ++ b ∷ []) (sym at))))
+
+pub mapped_numbers : (tally : ℕ → Tally) (jobs : List Job) → map tally (map (λ j. j.id) jobs) ≡ map (λ j. tally j.id) jobs
+mapped_numbers tally [] = refl
+mapped_numbers tally (j ∷ js) = cons_same refl (mapped_numbers tally js)

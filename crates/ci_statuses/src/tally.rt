@@ -102,7 +102,8 @@ pub fn tallies(
 /// The facts of jobs with these tallies. Errors: memory was refused, or more attempts of a job are set aside than it has.
 pub fn facts(alloc: Global, jobs: &[Job], tallies: &[Tally]) -> Result<Vec<Facts>, StatusFault>
     requires { length tallies.now ≡ length jobs.now }
-    ensures { (tally : ℕ → Tally) → tallies.now ≡ map (λ j. tally j.id) jobs.now → IfOk result (λ v. v.items ≡ map (λ j. facts_by (tally j.id) j) jobs.now) }
+    ensures long { IfOk result (λ v. length v.items ≡ length jobs.now) }
+    ensures facts { IfOk result (λ v. (tally : ℕ → Tally) → tallies.now ≡ map (λ j. tally j.id) jobs.now → v.items ≡ map (λ j. facts_by (tally j.id) j) jobs.now) }
 {
     let mut facts = Vec::with_capacity(alloc, jobs.len())?;
     for j in 0..jobs.len() {
