@@ -1,5 +1,5 @@
 -- What stays, which records others name, and what sweeps end, in every state that a history leads to; and all its laws.
-use Rattle.std.specs.Prelude.{◌≡◌, ◌⊎◌, ℕ, ◌+◌, ◌<◌, ◌≤◌, Bool, true, false, ◌==◌, ◌&&◌, not, max, List, [], ◌∷◌, ◌++◌, length, map, find, Option, Some, None, Contains}
+use Rattle.std.specs.Prelude.{◌≡◌, ◌⊎◌, ℕ, ◌+◌, ◌<◌, ◌≤◌, Bool, true, false, ◌==◌, ◌&&◌, not, max, List, [], ◌∷◌, ◌++◌, length, map, filter, find, Option, Some, None, Contains}
 use Rattle.std.specs.List.{flat_map}
 use Rattle.std.specs.Ordering.{nat_cmp, is_eq, is_lt}
 use Rattle.std.specs.declared.cmp.Ordering.{Ordering}
@@ -26,7 +26,7 @@ use Rattle.ci_machine.specs.declared.reply.Answer.{Answer}
 use Rattle.ci_machine.specs.declared.reply.Answer.TheVariants as answer
 use Rattle.ci_machine.specs.declared.reply.Swept.{Swept}
 use Rattle.ci_machine.specs.State.{State, empty, applied, placed, put, others, pipeline_cmp, job_cmp, job_variable_cmp, attempt_cmp}
-use Rattle.ci_machine.specs.Statuses.{AreBoard}
+use Rattle.ci_machine.specs.Statuses.{attempts_of, AreBoard}
 use Rattle.ci_machine.specs.Leases.{is_live, cause_of, is_over, first_due}
 use Rattle.ci_machine.specs.Plans.{Plan}
 use Rattle.ci_machine.specs.Pipelines.{new_job, new_jobs, new_pipeline, predefined, job_changes, entered}
@@ -36,6 +36,7 @@ use Rattle.ci_machine.specs.Step.{Happens, project_at, lease_of, leases, live_at
 use Rattle.ci_machine.specs.History.{Past, Leads}
 use Rattle.ci_machine.specs.Laws.{WasGranted, IsTraced, EndsStay, Stay, project_for_good, runner_for_good, job_for_good, attempt_for_good, Stays, IsLinked, is_due, SweepsLeast, IsSweptBy, is_grant, GivesInOrder, Laws}
 use Rattle.ci_machine.proofs.Keyed.{Has, Rising, has_put, put_has, same, rising_filter, filter_has, has_filter, has_find, least_find, find-map, one_at, All-from_has, contains_from_has, Below, Named, has_map, contains_named}
+use Rattle.ci_machine.proofs.Counts.{passing_new, passing_put}
 use Rattle.ci_machine.proofs.EachPlan.{Each, does}
 use Rattle.ci_machine.proofs.Grants.{one_lease}
 use Rattle.ci_machine.proofs.Reached.{reached}
@@ -138,8 +139,8 @@ pub record Linked (s : State) : Type 0 where
   pub need_pred : (w : Need) → Has w s.needs → Named (λ (j : Job). j.id) w.pred s.jobs
   pub first_job : 1 ≤ s.next.job
   pub positive : (j : Job) → Has j s.jobs → 1 ≤ j.id
-  -- no attempt is set aside
-  pub aside : (j : Job) → Has j s.jobs → j.set_aside ≡ 0
+  -- no more of a job's attempts are set aside than it has
+  pub aside : (j : Job) → Has j s.jobs → j.set_aside ≤ length (attempts_of s j.id)
 
 -- the next state: what was there is there, and its new records are linked
 record Next (s t : State) : Type 0 where
@@ -150,7 +151,9 @@ record Next (s t : State) : Type 0 where
   job_below : Below (λ (j : Job). j.id) t.next.job t.jobs
   next_job : s.next.job ≤ t.next.job
   attempts : (a : Attempt) → Has a t.attempts → Has a s.attempts ⊎ (Named (λ (j : Job). j.id) a.job t.jobs × Named (λ (r : Runner). r.id) a.runner t.runners)
-  jobs : (j : Job) → Has j t.jobs → Has j s.jobs ⊎ (Named (λ (p : Pipeline). p.id) j.pipeline t.pipelines × ((s.next.job ≤ j.id) × (j.set_aside ≡ 0)))
+  jobs : (j : Job) → Has j t.jobs → Has j s.jobs ⊎ (Named (λ (p : Pipeline). p.id) j.pipeline t.pipelines × ((s.next.job ≤ j.id) × (j.set_aside ≤ length (attempts_of t j.id))))
+  -- no job has fewer attempts
+  counts : (job : ℕ) → length (attempts_of s job) ≤ length (attempts_of t job)
   pipelines : (p : Pipeline) → Has p t.pipelines → Has p s.pipelines ⊎ Named (λ (q : Project). q.id) p.project t.projects
   needs : (w : Need) → Has w t.needs → Has w s.needs ⊎ (Named (λ (j : Job). j.id) w.job t.jobs × Named (λ (j : Job). j.id) w.pred t.jobs)
 
@@ -168,7 +171,7 @@ linked_on s t i n = record {
   need_pred = λ w k. ⊎_elim (λ m. named_kept (λ (j : Job). j.id) job_for_good w.pred s.jobs t.jobs (λ x y e. ap (λ (j : Job). j.id) e) n.later.jobs (i.need_pred w m)) (λ v. v.1) (n.needs w k);
   first_job = let a = i.first_job in let b = n.next_job in omega arith;
   positive = λ j k. ⊎_elim (λ m. i.positive j m) (λ w. let a = i.first_job in let b : s.next.job ≤ j.id = w.1.0 in omega arith) (n.jobs j k);
-  aside = λ j k. ⊎_elim (λ m. i.aside j m) (λ w. w.1.1) (n.jobs j k);
+  aside = λ j k. ⊎_elim (λ m. let a = i.aside j m in let b = n.counts j.id in omega arith) (λ w. w.1.1) (n.jobs j k);
 }
 
 -- nothing changes
@@ -180,6 +183,7 @@ rests s i = record {
   pipeline_below = i.pipeline_below;
   job_below = i.job_below;
   next_job = omega arith;
+  counts = λ n. omega arith;
   attempts = λ a k. inl k;
   jobs = λ j k. inl k;
   pipelines = λ p k. inl k;
@@ -202,6 +206,7 @@ alters s x a i r has good = record {
   pipeline_below = i.pipeline_below;
   job_below = i.job_below;
   next_job = omega arith;
+  counts = λ n. passing_put (λ (b : Attempt). b.id) (λ (b : Attempt). b.job == n) x a s.attempts r has (ap (λ (b : Attempt). b.id) good) (ap (λ (b : Attempt). b.job == n) good);
   attempts = λ b k. ⊎_elim
       (λ e. let same_job : a.job ≡ b.job = sym (ap (λ (c : Attempt). c.job) e ∙ ap (λ (c : Attempt). c.job) good) in
       let same_runner : a.runner ≡ b.runner = sym (ap (λ (c : Attempt). c.runner) e ∙ ap (λ (c : Attempt). c.runner) good) in
@@ -292,8 +297,9 @@ enters s project p now i found =
       pipeline_below = λ w k. subst (λ n. w.id < n.pipeline) (sym next) (below_put pids pipeline s.next.pipeline (s.next.pipeline + 1) s.pipelines i.pipeline_below (omega arith) (omega arith) w (subst (Has w) pipelines k));
       job_below = λ w k. subst (λ n. w.id < n.job) (sym next) (let z : w.id < s.next.job + (0 + length p.jobs) = a.below w k in omega arith);
       next_job = subst (λ n. s.next.job ≤ n.job) (sym next) (omega arith);
+      counts = λ n. subst (λ l. length (attempts_of s n) ≤ length (filter (λ (w : Attempt). w.job == n) l)) (sym attempts) (omega arith);
       attempts = λ w k. inl (subst (Has w) attempts k);
-      jobs = λ w k. ⊎_elim (λ l. inl l) (λ e. inr (subst (λ n. Named pids n t.pipelines) (sym e.0) is_pipeline, e.1)) (a.new w k);
+      jobs = λ w k. ⊎_elim (λ l. inl l) (λ e. inr (subst (λ n. Named pids n t.pipelines) (sym e.0) is_pipeline, (e.1.0, let none = e.1.1 in omega arith))) (a.new w k);
       pipelines = λ w k. ⊎_elim
           (λ e. inr (subst (λ n. Named (λ (v : Project). v.id) n t.projects) (sym (ap (λ (v : Pipeline). v.project) e)) is_project))
           (λ l. inl l) (has_put pipeline_cmp pipeline w s.pipelines (subst (Has w) pipelines k));
@@ -322,6 +328,7 @@ goes s board i r b = record {
     pipeline_below = i.pipeline_below;
     job_below = i.job_below;
     next_job = omega arith;
+    counts = λ n. omega arith;
     attempts = λ a k. inl k;
     jobs = λ j k. inl k;
     pipelines = λ p k. inl k;
@@ -340,6 +347,7 @@ goes s board i r b = record {
     pipeline_below = i.pipeline_below;
     job_below = i.job_below;
     next_job = omega arith;
+    counts = λ n. omega arith;
     attempts = λ a k. inl k;
     jobs = λ j k. inl k;
     pipelines = λ p k. inl k;
@@ -360,6 +368,7 @@ goes s board i r b = record {
     pipeline_below = i.pipeline_below;
     job_below = i.job_below;
     next_job = omega arith;
+    counts = λ n. passing_new (λ (w : Attempt). w.id) (λ (w : Attempt). w.job == n) _ s.next.attempt s.attempts b (omega arith);
     attempts = λ a k. ⊎_elim
         (λ e. inr ((job, (has_job, its_job ∙ sym (ap (λ (w : Attempt). w.job) e))), (runner, (has_runner, sym (ap (λ (w : Attempt). w.runner) e)))))
         (λ m. inl m) (has_put attempt_cmp _ a s.attempts k);
@@ -387,6 +396,7 @@ goes s board i r b = record {
         pipeline_below = n.pipeline_below;
         job_below = n.job_below;
         next_job = n.next_job;
+        counts = n.counts;
         attempts = n.attempts;
         jobs = n.jobs;
         pipelines = n.pipelines;

@@ -94,6 +94,6 @@ sound_reached s is =
       jobs_below = All-from_has (λ (j : Job). j.id < s.next.job) s.jobs linked.job_below;
       attempts_below = All-from_has (λ (a : Attempt). a.id < s.next.attempt) s.attempts grants.below;
       linked = is_linked s linked;
-      set_aside = All-from_has (λ (j : Job). j.set_aside ≤ length (attempts_of s j.id)) s.jobs (λ j k. let none = linked.aside j k in omega arith);
+      set_aside = All-from_has (λ (j : Job). j.set_aside ≤ length (attempts_of s j.id)) s.jobs linked.aside;
       live_is_last = All-from_has (λ (a : Attempt). is_live a ≡ true → last_attempt s a.job ≡ Some a) s.attempts (live_last h s grants);
     }

@@ -17,7 +17,7 @@ ghost use Rattle.ci_plans.specs.Refusals as refusals;
 use crate::body;
 use crate::replies::{Refusal, and, created, unmade};
 use ci_machine::change::{Counter, Delta, Record, RowChange};
-use ci_machine::limits::{DEFAULT_TIMEOUT_SECONDS, MAX_JOBS};
+use ci_machine::limits::MAX_JOBS;
 use ci_machine::moment::Moment;
 use ci_machine::records::{
     Job, JobOptions, JobVariable, MAX_NUMBER, Pipeline, Project, RefKind, Source,
@@ -60,10 +60,7 @@ fn new_jobs(
             position,
             name,
             stage: stage.clone()?,
-            options: JobOptions {
-                script,
-                timeout: DEFAULT_TIMEOUT_SECONDS,
-            },
+            options: JobOptions::plain(alloc, script),
             played: false,
             cancelled: false,
             set_aside: 0,
