@@ -7,7 +7,6 @@ use Rattle.std.proofs.lemmas.List.{length-append, length-map, append-nil}
 use Rattle.std.proofs.lemmas.List.Elements.{filter-append}
 use Rattle.ci_values.specs.declared.attempts.AttemptState.{AttemptState}
 use Rattle.ci_board.specs.declared.facts.Facts.{Facts}
-use Rattle.ci_board.specs.Rows.{facts_at}
 use Rattle.ci_machine.specs.declared.records.Attempt.{Attempt}
 use Rattle.ci_machine.specs.declared.records.Job.{Job}
 use Rattle.ci_machine.specs.State.{State, attempt_cmp, put}
@@ -16,25 +15,25 @@ use Rattle.ci_machine.proofs.Keyed.{Has, Rising, rising_from, rising_filter, has
 use Rattle.ci_machine.proofs.Sound.{Sound}
 use Rattle.ci_statuses.proofs.Puts.{cons_same, map_same, map_id, swap, put_replace, put_last}
 
--- ---- the facts of one job of a list are others, and those of the rest stay
+-- ---- of one record of a list the value is another, and those of the rest stay
 
-pub one_other : (low : ℕ) (js : List Job) (f g : Job → Facts) (change : Facts → Facts) (n pos : ℕ) → Rising (λ j. j.id) low js → pos < length js
-    → slice_index_or (map (λ j. j.id) js) pos 0 ≡ n
-    → ((j : Job) → Has j js → (j.id ≡ n → ⊥) → f j ≡ g j) → ((j : Job) → Has j js → j.id ≡ n → f j ≡ change (g j))
-    → map f js ≡ slice_set (map g js) pos (change (facts_at (map g js) pos))
-one_other low [] f g change n pos r l at same other = absurd (omega arith)
-one_other low (j ∷ js) f g change n zero r l at same other =
-    cons_same (other j (inl refl) at)
-    (map_same f g js (λ k h. same k (inr h) (λ e. let m : j.id + 1 ≤ k.id = rising_from (λ (i : Job). i.id) k (j.id + 1) js r.1 h in absurd (omega arith))))
-one_other low (j ∷ js) f g change n (suc pos) r l at same other =
+pub one_other : {A B : Type 0} (id : A → ℕ) (d : B) (low : ℕ) (xs : List A) (f g : A → B) (change : B → B) (n pos : ℕ) → Rising id low xs → pos < length xs
+    → slice_index_or (map id xs) pos 0 ≡ n
+    → ((x : A) → Has x xs → (id x ≡ n → ⊥) → f x ≡ g x) → ((x : A) → Has x xs → id x ≡ n → f x ≡ change (g x))
+    → map f xs ≡ slice_set (map g xs) pos (change (slice_index_or (map g xs) pos d))
+one_other id d low [] f g change n pos r l at same other = absurd (omega arith)
+one_other id d low (x ∷ xs) f g change n zero r l at same other =
+    cons_same (other x (inl refl) at)
+    (map_same f g xs (λ y h. same y (inr h) (λ e. let m : id x + 1 ≤ id y = rising_from id y (id x + 1) xs r.1 h in absurd (omega arith))))
+one_other {A} id d low (x ∷ xs) f g change n (suc pos) r l at same other =
     cons_same
-    (same j (inl refl) (λ e. let w = found js pos (omega arith) in let m : j.id + 1 ≤ w.0.id = rising_from (λ (i : Job). i.id) w.0 (j.id + 1) js r.1 w.1.0 in let z : w.0.id ≡ n = w.1.1 ∙ at in absurd (omega arith)))
-    (one_other (j.id + 1) js f g change n pos r.1 (omega arith) at (λ k h. same k (inr h)) (λ k h. other k (inr h)))
+    (same x (inl refl) (λ e. let w = found xs pos (omega arith) in let m : id x + 1 ≤ id w.0 = rising_from id w.0 (id x + 1) xs r.1 w.1.0 in let z : id w.0 ≡ n = w.1.1 ∙ at in absurd (omega arith)))
+    (one_other id d (id x + 1) xs f g change n pos r.1 (omega arith) at (λ y h. same y (inr h)) (λ y h. other y (inr h)))
   where
-    found : (xs : List Job) (i : ℕ) → i < length xs → (x : Job) × (Has x xs × (x.id ≡ slice_index_or (map (λ (y : Job). y.id) xs) i 0))
+    found : (ys : List A) (i : ℕ) → i < length ys → (y : A) × (Has y ys × (id y ≡ slice_index_or (map id ys) i 0))
     found [] i h = absurd (omega arith)
-    found (x ∷ xs) zero h = (x, (inl refl, refl))
-    found (x ∷ xs) (suc i) h = let w = found xs i (omega arith) in (w.0, (inr w.1.0, w.1.1))
+    found (y ∷ ys) zero h = (y, (inl refl, refl))
+    found (y ∷ ys) (suc i) h = let w = found ys i (omega arith) in (w.0, (inr w.1.0, w.1.1))
 
 -- jobs of one number are one
 same_job : (s : State) → Sound s → (i j : Job) → Has i s.jobs → Has j s.jobs → i.id ≡ j.id → i ≡ j
@@ -53,7 +52,7 @@ facts_with its j = record { last = option_map (λ a. a.state) (last_or None its)
 
 -- ---- a new attempt
 
-last-append : {A : Type 0} (o : Option A) (xs : List A) (x : A) → last_or o (xs ++ x ∷ []) ≡ Some x
+pub last-append : {A : Type 0} (o : Option A) (xs : List A) (x : A) → last_or o (xs ++ x ∷ []) ≡ Some x
 last-append o [] x = refl
 last-append o (y ∷ ys) x = last-append (Some y) ys x
 
@@ -107,6 +106,7 @@ last-map {A} f x (y ∷ ys) e = along (Some y) (Some (f y)) ys (λ z q. ap (λ (
   where
     just : (z : A) → Some y ≡ Some z → y ≡ z
     just z q = cc
+
     along : (u v : Option A) (zs : List A) → ((z : A) → u ≡ Some z → v ≡ Some (f z)) → last_or u zs ≡ Some x → last_or v (map f zs) ≡ Some (f x)
     along u v [] h q = h x q
     along u v (z ∷ zs) h q = along (Some z) (Some (f z)) zs (λ w k. ap (λ (c : A). Some (f c)) (let same : z ≡ w = cc in same)) q
@@ -136,8 +136,8 @@ module _ (s t : State) (rise : Rising (λ b. b.id) 0 s.attempts) (a x : Attempt)
       ap (λ (l : List Attempt). facts_with l j)
       (attempts_swapped j.id ∙ (map_same (swap (λ (b : Attempt). b.id) x) (λ b. b) (attempts_of s j.id)
       (λ b h. let w = has_filter (λ (c : Attempt). c.job == j.id) b s.attempts h in
-        cond-false (b.id == x.id) x b (ne_eqb b.id x.id (λ e. d (sym (eqb-true b.job j.id w.1)
-          ∙ ap (λ (c : Attempt). c.job) (one_at (λ (c : Attempt). c.id) b a 0 s.attempts rise w.0 has (e ∙ its_id))))))
+      cond-false (b.id == x.id) x b (ne_eqb b.id x.id (λ e. d (sym (eqb-true b.job j.id w.1)
+      ∙ ap (λ (c : Attempt). c.job) (one_at (λ (c : Attempt). c.id) b a 0 s.attempts rise w.0 has (e ∙ its_id))))))
       ∙ map_id (attempts_of s j.id)))
 
   counted : (j : Job) → length (attempts_of t j.id) ≡ length (attempts_of s j.id)
@@ -149,11 +149,11 @@ module _ (s t : State) (rise : Rising (λ b. b.id) 0 s.attempts) (a x : Attempt)
       let its : Has a (attempts_of s j.id) = filter_has (λ (b : Attempt). b.job == j.id) a s.attempts has (eq-eqb a.job j.id (sym e)) in
       let is_last : last_or None (attempts_of s j.id) ≡ Some a
       = last_greatest (λ (b : Attempt). b.id) a None 0 (attempts_of s j.id) (rising_filter (λ (b : Attempt). b.id) (λ (b : Attempt). b.job == j.id) 0 s.attempts rise) its
-        (λ b h. let w = has_filter (λ (c : Attempt). c.job == j.id) b s.attempts h in last b w.0 (sym e ∙ sym (eqb-true b.job j.id w.1))) in
+      (λ b h. let w = has_filter (λ (c : Attempt). c.job == j.id) b s.attempts h in last b w.0 (sym e ∙ sym (eqb-true b.job j.id w.1))) in
       let now_last : last_or None (attempts_of t j.id) ≡ Some x
       = ap (last_or None) (attempts_swapped j.id)
-        ∙ (last-map (swap (λ (b : Attempt). b.id) x) a (attempts_of s j.id) is_last
-        ∙ ap (λ (b : Attempt). Some b) (cond-true (a.id == x.id) x a (eq-eqb a.id x.id (sym its_id)))) in
+      ∙ (last-map (swap (λ (b : Attempt). b.id) x) a (attempts_of s j.id) is_last
+      ∙ ap (λ (b : Attempt). Some b) (cond-true (a.id == x.id) x a (eq-eqb a.id x.id (sym its_id)))) in
       let ends : option_map (λ (b : Attempt). b.state) (last_or None (attempts_of t j.id)) ≡ Some x.state = ap (option_map (λ (b : Attempt). b.state)) now_last in
       λ i. record { last = ends i; attempts = counted j i - j.set_aside; cancelled = j.cancelled; played = j.played }
 
@@ -162,8 +162,8 @@ module _ (s t : State) (rise : Rising (λ b. b.id) 0 s.attempts) (a x : Attempt)
   same_state j e =
       let states : (b : Attempt) → Has b (attempts_of s j.id) → (swap (λ (c : Attempt). c.id) x b).state ≡ b.state
       = λ b h. cond_both (b.id == x.id) x b (λ (c : Attempt). c.state ≡ b.state)
-        (λ q. e ∙ ap (λ (c : Attempt). c.state) (one_at (λ (c : Attempt). c.id) a b 0 s.attempts rise has (has_filter (λ (c : Attempt). c.job == j.id) b s.attempts h).0 (sym its_id ∙ sym (eqb-true b.id x.id q))))
-        (λ q. refl) in
+      (λ q. e ∙ ap (λ (c : Attempt). c.state) (one_at (λ (c : Attempt). c.id) a b 0 s.attempts rise has (has_filter (λ (c : Attempt). c.job == j.id) b s.attempts h).0 (sym its_id ∙ sym (eqb-true b.id x.id q))))
+      (λ q. refl) in
       let ends : option_map (λ (b : Attempt). b.state) (last_or None (attempts_of t j.id)) ≡ option_map (λ (b : Attempt). b.state) (last_or None (attempts_of s j.id))
       = ap (λ l. option_map (λ (b : Attempt). b.state) (last_or None l)) (attempts_swapped j.id) ∙ along None None (attempts_of s j.id) states refl in
       λ i. record { last = ends i; attempts = counted j i - j.set_aside; cancelled = j.cancelled; played = j.played }

@@ -1,6 +1,6 @@
 -- A grant: the job's own row becomes running, and no other row moves.
-use Rattle.std.specs.Prelude.{◌≡◌, ℕ, zero, suc, ◌+◌, ◌<◌, ◌≤◌, true, ◌==◌, List, [], ◌∷◌, length, map, Contains, slice_index_or, slice_set, Some}
-use Rattle.std.proofs.Common.{refl, sym, ap, subst, ◌∙◌, inl, inr, ⊎_elim, arith, eqb-true, eq-eqb}
+use Rattle.std.specs.Prelude.{◌≡◌, ℕ, zero, suc, ◌+◌, ◌<◌, ◌≤◌, true, ◌==◌, List, [], ◌∷◌, length, map, slice_index_or, slice_set}
+use Rattle.std.proofs.Common.{refl, sym, ap, subst, ◌∙◌, arith, eqb-true, eq-eqb}
 use Rattle.std.proofs.lemmas.Bool.{cond_both, eqb-false, false≢true}
 use Rattle.std.proofs.lemmas.List.{get_or-map, length-map}
 use Rattle.ci_values.specs.declared.attempts.AttemptState.TheVariants.{Live}
@@ -10,7 +10,7 @@ use Rattle.ci_board.specs.declared.facts.Row.{Row}
 use Rattle.ci_board.specs.declared.facts.Status.{Status}
 use Rattle.ci_board.specs.declared.facts.Status.TheVariants as status
 use Rattle.ci_board.specs.Effects.{is_status}
-use Rattle.ci_board.specs.Rows.{AreRows, facts_at, row_at, no_row}
+use Rattle.ci_board.specs.Rows.{AreRows, facts_at, row_at, no_facts, no_row}
 use Rattle.ci_board.proofs.Started.{started_rows}
 use Rattle.ci_machine.specs.declared.records.Attempt.{Attempt}
 use Rattle.ci_machine.specs.declared.records.Job.{Job}
@@ -27,6 +27,7 @@ use Rattle.ci_machine.proofs.Sound.{Sound}
 use Rattle.ci_statuses.specs.Changes.{started_row}
 use Rattle.ci_statuses.proofs.Puts.{cons_same, map_same, row_put, row_other}
 use Rattle.ci_statuses.proofs.RowPuts.{put_keys}
+use Rattle.ci_statuses.proofs.Positions.{place_of_has, is_there}
 use Rattle.ci_statuses.proofs.Facts.{one_other, in_pipeline, other_pipeline, started, started_other, started_its}
 use Rattle.ci_statuses.proofs.Joint.{numbers_rise, apart, board_rises}
 
@@ -43,11 +44,6 @@ pending_is status.Canceled e = absurd (false≢true e)
 pending_is status.Skipped e = absurd (false≢true e)
 pending_is status.Manual e = absurd (false≢true e)
 
--- where a number of the list stands
-pub place_of_has : (n : ℕ) (ns : List ℕ) → Has n ns → (pos : ℕ) × ((pos < length ns) × (slice_index_or ns pos 0 ≡ n))
-place_of_has n [] h = absurd h
-place_of_has n (m ∷ ns) h = ⊎_elim (λ e. (zero, (omega arith, sym e))) (λ k. let w = place_of_has n ns k in (suc w.0, (let z : w.0 < length ns = w.1.0 in omega arith, w.1.1))) h
-
 -- a put row is that of its job among the rows of ascending numbers
 row_replaced : (low : ℕ) (ns : List ℕ) (board : List BoardRow) (r : BoardRow) (pos : ℕ) → Rising (λ n. n) low ns → pos < length ns → slice_index_or ns pos 0 ≡ r.job
     → map (row_for (put row_cmp r board)) ns ≡ slice_set (map (row_for board) ns) pos r.row
@@ -57,13 +53,8 @@ row_replaced low (n ∷ ns) board r zero rise l at =
     (map_same (row_for (put row_cmp r board)) (row_for board) ns
     (λ m h. row_other r m board (λ e. let z : n + 1 ≤ m = rising_from (λ x. x) m (n + 1) ns rise.1 h in absurd (omega arith))))
 row_replaced low (n ∷ ns) board r (suc pos) rise l at =
-    cons_same (row_other r n board (λ e. let w = there ns pos (omega arith) in let z : n + 1 ≤ slice_index_or ns pos 0 = rising_from (λ x. x) (slice_index_or ns pos 0) (n + 1) ns rise.1 w in absurd (omega arith)))
+    cons_same (row_other r n board (λ e. let w = is_there ns pos (omega arith) in let z : n + 1 ≤ slice_index_or ns pos 0 = rising_from (λ x. x) (slice_index_or ns pos 0) (n + 1) ns rise.1 w in absurd (omega arith)))
     (row_replaced (n + 1) ns board r pos rise.1 (omega arith) at)
-  where
-    there : (xs : List ℕ) (i : ℕ) → i < length xs → Has (slice_index_or xs i 0) xs
-    there [] i h = absurd (omega arith)
-    there (x ∷ xs) zero h = inl refl
-    there (x ∷ xs) (suc i) h = inr (there xs i (omega arith))
 
 module _ (s : State) (board : List BoardRow) (j : Job) (x : Attempt) (sound : Sound s) (are : AreBoard s board) (has : Has j s.jobs) (pending : is_pending board j ≡ true)
     (at_next : x.id ≡ s.next.attempt) (its_job : x.job ≡ j.id) (live : x.state ≡ Live) where
@@ -83,7 +74,7 @@ module _ (s : State) (board : List BoardRow) (j : Job) (x : Attempt) (sound : So
   facts_there q d =
       map_same (facts_in t) (facts_in s) (jobs_of s q)
       (λ i h. let w = in_pipeline s q i h in
-        started_other s t sound x at_next refl i (λ e. other_pipeline s sound j i has w.0 (λ z. d (z ∙ w.1)) (sym (e ∙ its_job))))
+      started_other s t sound x at_next refl i (λ e. other_pipeline s sound j i has w.0 (λ z. d (z ∙ w.1)) (sym (e ∙ its_job))))
 
   module _ (pos : ℕ) (l : pos < length (numbers_of s j.pipeline)) (at : slice_index_or (numbers_of s j.pipeline) pos 0 ≡ j.id) where
     abbrev fresh : Facts
@@ -91,7 +82,7 @@ module _ (s : State) (board : List BoardRow) (j : Job) (x : Attempt) (sound : So
 
     facts_here : facts_of t j.pipeline ≡ slice_set (facts_of s j.pipeline) pos fresh
     facts_here =
-        one_other 0 (jobs_of s j.pipeline) (facts_in t) (facts_in s) (λ f. started f x.state) j.id pos
+        one_other number no_facts 0 (jobs_of s j.pipeline) (facts_in t) (facts_in s) (λ f. started f x.state) j.id pos
         (rising_filter number (λ (i : Job). i.pipeline == j.pipeline) 0 s.jobs sound.jobs)
         (subst (λ n. pos < n) (length-map (jobs_of s j.pipeline) number) l) at
         (λ i h d. started_other s t sound x at_next refl i (λ e. d (e ∙ its_job)))
@@ -125,6 +116,6 @@ module _ (s : State) (board : List BoardRow) (j : Job) (x : Attempt) (sound : So
     keys = put_keys its_row board (board_rises s board sound are) (subst (Has j.id) (sym are.keys) (has_map number j s.jobs has)) ∙ are.keys;
     each = λ q. cond_both (j.pipeline == q) 0 0 (λ (_ : ℕ). AreRows (graph_of t q) (facts_of t q) (rows_of t after q))
         (λ e. let w = place_of_has j.id (numbers_of s j.pipeline) numbered_here in
-          subst (λ x. AreRows (graph_of t x) (facts_of t x) (rows_of t after x)) (eqb-true j.pipeline q e) (here w.0 w.1.0 w.1.1))
+        subst (λ x. AreRows (graph_of t x) (facts_of t x) (rows_of t after x)) (eqb-true j.pipeline q e) (here w.0 w.1.0 w.1.1))
         (λ e. there q (eqb-false j.pipeline q e));
   }

@@ -1,10 +1,8 @@
 -- Where one pipeline's facts change and the rows that differ are put, the rows are those of the state again.
-use Rattle.std.specs.Prelude.{◌≡◌, ℕ, true, false, ◌==◌, List, length, map}
-use Rattle.std.proofs.Common.{refl, sym, ap, subst, ◌∙◌, eqb-true, eq-eqb}
+use Rattle.std.specs.Prelude.{◌≡◌, ℕ, ◌==◌, List, length, map}
+use Rattle.std.proofs.Common.{refl, sym, ap, subst, ◌∙◌, eqb-true}
 use Rattle.std.proofs.lemmas.Bool.{cond_both, eqb-false}
 use Rattle.std.proofs.lemmas.List.{length-map}
-use Rattle.ci_graph.specs.JobGraph.{JobGraph}
-use Rattle.ci_board.specs.declared.facts.Facts.{Facts}
 use Rattle.ci_board.specs.declared.facts.Row.{Row}
 use Rattle.ci_board.specs.Rows.{AreRows}
 use Rattle.ci_machine.specs.declared.records.Job.{Job}
@@ -12,7 +10,6 @@ use Rattle.ci_machine.specs.declared.records.BoardRow.{BoardRow}
 use Rattle.ci_machine.specs.State.{State}
 use Rattle.ci_machine.specs.Kept.{put_rows}
 use Rattle.ci_machine.specs.Statuses.{jobs_of, numbers_of, graph_of, facts_of, rows_of, row_for, AreBoard}
-use Rattle.ci_machine.specs.Sound.{IsSound}
 use Rattle.ci_machine.proofs.Keyed.{Has, Rising, rising_filter, has_map, map_has}
 use Rattle.ci_machine.proofs.Sound.{Sound, sound}
 use Rattle.ci_statuses.specs.Boards.{changed_rows}

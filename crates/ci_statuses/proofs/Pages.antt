@@ -1,9 +1,8 @@
 -- The pending jobs, page by page of their rows.
 use Rattle.std.specs.Prelude.{◌≡◌, ◌⊎◌, ℕ, zero, suc, ◌+◌, ◌<◌, ◌≤◌, Bool, true, false, cond, ◌&&◌, nat_lt, ◌==◌, List, [], ◌∷◌, ◌++◌, length, map, filter, find, take, min, Option, Some, None, option_map}
 use Rattle.std.proofs.Common.{refl, sym, ap, subst, ◌∙◌, inl, inr, ⊎_elim, arith, eq-eqb, lt-ltb, ltb-true}
-use Rattle.std.proofs.lemmas.Bool.{cond_both, cond-true, cond-false, false≢true, and_parts, and_from, cases_Bool}
+use Rattle.std.proofs.lemmas.Bool.{cond_both, cond-false, false≢true, and_parts, and_from, cases_Bool}
 use Rattle.std.proofs.lemmas.List.{map-append, length-append, length-take, nil_from_length, take_all}
-use Rattle.ci_board.specs.declared.facts.Row.{Row}
 use Rattle.ci_board.specs.declared.facts.Status.TheVariants as status
 use Rattle.ci_board.specs.Effects.{is_status}
 use Rattle.ci_machine.specs.declared.records.Job.{Job}
@@ -75,6 +74,7 @@ module _ (s : State) (board : List BoardRow) (n : ℕ) where
       head_or : List ℕ → ℕ
       head_or [] = 0
       head_or (x ∷ xs) = x
+
       tail_or : List ℕ → List ℕ
       tail_or [] = []
       tail_or (x ∷ xs) = xs
@@ -100,14 +100,14 @@ end_behind n k b =
     ⊎_elim
     (λ e. omega (arith, e))
     (λ w. let h = has_filter (is_pending_after n) w.0 b (has_take w.0 k (filter (is_pending_after n) b) w.1) in
-      let l : n < w.0.job = ltb-true n w.0.job (and_parts (is_status w.0.row.status status.Pending) (nat_lt n w.0.job) h.1).1 in omega (arith, w.2))
+    let l : n < w.0.job = ltb-true n w.0.job (and_parts (is_status w.0.row.status status.Pending) (nat_lt n w.0.job) h.1).1 in omega (arith, w.2))
     (end_cases n (take k (filter (is_pending_after n) b)))
 
 not_after : (n m : ℕ) (r : BoardRow) → n ≤ m → is_pending_after n r ≡ false → is_pending_after m r ≡ false
 not_after n m r l e =
     ⊎_elim (λ q. let p = and_parts (is_status r.row.status status.Pending) (nat_lt m r.job) q in
-      let less : m < r.job = ltb-true m r.job p.1 in
-      absurd (false≢true (sym e ∙ and_from (is_status r.row.status status.Pending) (nat_lt n r.job) p.0 (lt-ltb n r.job (omega arith)))))
+    let less : m < r.job = ltb-true m r.job p.1 in
+    absurd (false≢true (sym e ∙ and_from (is_status r.row.status status.Pending) (nat_lt n r.job) p.0 (lt-ltb n r.job (omega arith)))))
     (λ q. q) (cases_Bool (is_pending_after m r))
 
 not_after_itself : (m : ℕ) (r : BoardRow) → r.job ≤ m → is_pending_after m r ≡ false
@@ -120,7 +120,7 @@ behind_both : (n m low : ℕ) (b : List BoardRow) → n < low → m < low → Ri
 behind_both n m low b l k rise =
     filter_same (is_pending_after n) (is_pending_after m) b
     (λ r h. let g : low ≤ r.job = rising_from job_of r low b rise h in
-      λ i. is_status r.row.status status.Pending && (lt-ltb n r.job (omega arith) ∙ sym (lt-ltb m r.job (omega arith))) i)
+    λ i. is_status r.row.status status.Pending && (lt-ltb n r.job (omega arith) ∙ sym (lt-ltb m r.job (omega arith))) i)
 
 pub page_rest : (low : ℕ) (b : List BoardRow) → Rising (λ r. r.job) low b → (k n : ℕ)
     → filter (is_pending_after n) b ≡ take k (filter (is_pending_after n) b) ++ filter (is_pending_after (end_of_page n (take k (filter (is_pending_after n) b)))) b
@@ -131,17 +131,17 @@ page_rest low (r ∷ b) rise (suc k) n =
     cond_both (is_pending_after n r) (r ∷ filter (is_pending_after n) b) (filter (is_pending_after n) b)
     (λ l. l ≡ take (suc k) l ++ filter (is_pending_after (end_of_page n (take (suc k) l))) (r ∷ b))
     (λ e. let less : n < r.job = ltb-true n r.job (and_parts (is_status r.row.status status.Pending) (nat_lt n r.job) e).1 in
-      let same : filter (is_pending_after n) b ≡ filter (is_pending_after r.job) b = behind_both n r.job (r.job + 1) b (omega arith) (omega arith) rise.1 in
-      subst (λ l. r ∷ l ≡ take (suc k) (r ∷ l) ++ filter (is_pending_after (end_of_page n (take (suc k) (r ∷ l)))) (r ∷ b)) (sym same)
-      (cons_same refl
-        (page_rest (r.job + 1) b rise.1 k r.job
-        ∙ ap (λ l. take k (filter (is_pending_after r.job) b) ++ l)
-          (sym (cond-false (is_pending_after (end_of_page r.job (take k (filter (is_pending_after r.job) b))) r) _ _
-            (not_after_itself (end_of_page r.job (take k (filter (is_pending_after r.job) b))) r (end_behind r.job k b)))))))
+    let same : filter (is_pending_after n) b ≡ filter (is_pending_after r.job) b = behind_both n r.job (r.job + 1) b (omega arith) (omega arith) rise.1 in
+    subst (λ l. r ∷ l ≡ take (suc k) (r ∷ l) ++ filter (is_pending_after (end_of_page n (take (suc k) (r ∷ l)))) (r ∷ b)) (sym same)
+    (cons_same refl
+    (page_rest (r.job + 1) b rise.1 k r.job
+    ∙ ap (λ l. take k (filter (is_pending_after r.job) b) ++ l)
+    (sym (cond-false (is_pending_after (end_of_page r.job (take k (filter (is_pending_after r.job) b))) r) _ _
+    (not_after_itself (end_of_page r.job (take k (filter (is_pending_after r.job) b))) r (end_behind r.job k b)))))))
     (λ e. page_rest (r.job + 1) b rise.1 (suc k) n
-      ∙ ap (λ l. take (suc k) (filter (is_pending_after n) b) ++ l)
-        (sym (cond-false (is_pending_after (end_of_page n (take (suc k) (filter (is_pending_after n) b))) r) _ _
-          (not_after n (end_of_page n (take (suc k) (filter (is_pending_after n) b))) r (end_behind n (suc k) b) e))))
+    ∙ ap (λ l. take (suc k) (filter (is_pending_after n) b) ++ l)
+    (sym (cond-false (is_pending_after (end_of_page n (take (suc k) (filter (is_pending_after n) b))) r) _ _
+    (not_after n (end_of_page n (take (suc k) (filter (is_pending_after n) b))) r (end_behind n (suc k) b) e))))
 
 -- behind a page that isn't full there is nothing
 rest_none : {A : Type 0} (k : ℕ) (xs ys : List A) → xs ≡ take k xs ++ ys → length (take k xs) < k → ys ≡ []

@@ -1,18 +1,18 @@
 -- The rows of one pipeline put where others stood.
-use Rattle.std.specs.Prelude.{◌≡◌, ◌⊎◌, ℕ, suc, ◌+◌, ◌<◌, ◌≤◌, Bool, true, false, cond, ◌==◌, List, [], ◌∷◌, ◌++◌, length, map, if◌then◌else◌}
-use Rattle.std.proofs.Common.{refl, sym, ap, subst, ◌∙◌, inl, inr, ⊎_elim, arith, eqb-true, eq-eqb, ne_eqb}
-use Rattle.std.proofs.lemmas.Bool.{cond_both, cond-true, cond-false}
+use Rattle.std.specs.Prelude.{◌≡◌, ◌⊎◌, ℕ, suc, ◌+◌, ◌<◌, ◌≤◌, Bool, true, false, cond, ◌==◌, List, [], ◌∷◌, ◌++◌, length, map, All, if◌then◌else◌}
+use Rattle.std.proofs.Common.{refl, sym, ap, subst, ◌∙◌, inl, inr, ⊎_elim, arith, eqb-true}
+use Rattle.std.proofs.lemmas.Bool.{cond_both}
+use Rattle.std.specs.List.{AllByRecursion}
 use Rattle.std.proofs.lemmas.List.{append_assoc}
-use Rattle.ci_graph.specs.Lists.{number_at}
+use Rattle.std.proofs.lemmas.List.Elements.{All-from_recursion}
 use Rattle.ci_board.specs.declared.facts.Row.{Row}
-use Rattle.ci_board.specs.Rows.{same_row, differing, row_at, no_row}
+use Rattle.ci_board.specs.Rows.{same_row, differing, no_row}
 use Rattle.ci_board.proofs.Exact.{row_equal}
-use Rattle.ci_machine.specs.declared.records.Job.{Job}
 use Rattle.ci_machine.specs.declared.records.BoardRow.{BoardRow}
 use Rattle.ci_machine.specs.State.{put}
 use Rattle.ci_machine.specs.Kept.{row_cmp, put_rows}
 use Rattle.ci_machine.specs.Statuses.{row_for, row_or_none}
-use Rattle.ci_machine.proofs.Keyed.{Has, Rising, rising_from, find_has, has_map, map_has}
+use Rattle.ci_machine.proofs.Keyed.{Has, Rising, rising_from, find_has, map_has}
 use Rattle.ci_statuses.specs.Boards.{board_row, changed_rows}
 use Rattle.ci_statuses.proofs.Puts.{cons_same, map_same, swap, put_replace, put_last, row_put, row_other}
 
@@ -81,7 +81,7 @@ puts_rows low (n ∷ ns) (a ∷ olds) (b ∷ rows) board r l w e =
     (λ q. cons_same (puts_other ns olds rows board n fresh ∙ (ap head_row e ∙ (row_equal a b).0 q))
     (puts_rows (n + 1) ns olds rows board r.1 (omega arith) (omega arith) (ap tail_rows e)))
     (λ q. let before : map (row_for (put row_cmp new board)) ns ≡ olds = map_same (row_for (put row_cmp new board)) (row_for board) ns
-        (λ m h. row_other new m board (λ z. fresh (subst (λ x. Has x ns) z h))) ∙ ap tail_rows e in
+    (λ m h. row_other new m board (λ z. fresh (subst (λ x. Has x ns) z h))) ∙ ap tail_rows e in
     cons_same (puts_other ns olds rows (put row_cmp new board) n fresh ∙ row_put new board)
     (puts_rows (n + 1) ns olds rows (put row_cmp new board) r.1 (omega arith) (omega arith) before))
 
@@ -142,3 +142,16 @@ puts_behind low (x ∷ rows) board r below =
     ends : (y : BoardRow) (l : List BoardRow) → Has y (l ++ x ∷ []) → Has y l ⊎ (y ≡ x)
     ends y [] h = ⊎_elim (λ e. inr e) (λ m. absurd m) h
     ends y (z ∷ l) h = ⊎_elim (λ e. inl (inl e)) (λ m. ⊎_elim (λ q. inl (inr q)) (λ q. inr q) (ends y l m)) h
+
+-- ---- the positions that differ
+
+differing_within : (n k : ℕ) (olds rows : List Row) → k + length rows ≤ n → AllByRecursion (λ j. j < n) (differing k olds rows)
+differing_within n k [] rows l = tt
+differing_within n k (a ∷ olds) [] l = tt
+differing_within n k (a ∷ olds) (b ∷ rows) l =
+    cond_both (same_row a b) (differing (k + 1) olds rows) (k ∷ differing (k + 1) olds rows) (AllByRecursion (λ j. j < n))
+    (λ e. differing_within n (k + 1) olds rows (omega arith))
+    (λ e. (omega arith, differing_within n (k + 1) olds rows (omega arith)))
+
+pub all_within : (n : ℕ) (olds rows : List Row) (positions : List ℕ) → length rows ≡ n → positions ≡ differing 0 olds rows → All (λ i. i < n) positions
+all_within n olds rows positions l e = subst (All (λ i. i < n)) (sym e) (All-from_recursion (λ i. i < n) (differing 0 olds rows) (differing_within n 0 olds rows (omega arith)))

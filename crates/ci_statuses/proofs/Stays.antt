@@ -50,7 +50,7 @@ module _ (s : State) (ascend : Rising (λ a. a.id) 0 s.attempts) where
             let w = k.attempts a h in
             cond_both (w.0.id == x.id) 0 0 (λ (_ : ℕ). Like a (put attempt_cmp x t.attempts))
             (λ e. let same : b ≡ a = one_at (λ (c : Attempt). c.id) b a 0 s.attempts ascend has h (its_id ∙ (sym (eqb-true w.0.id x.id e) ∙ w.2)) in
-              (x, placed_there x (others attempt_cmp x t.attempts), sym its_id ∙ ap (λ (c : Attempt). c.id) same, sym its_job ∙ ap (λ (c : Attempt). c.job) same, sym its_state ∙ ap (λ (c : Attempt). c.state) same))
+            (x, placed_there x (others attempt_cmp x t.attempts), sym its_id ∙ ap (λ (c : Attempt). c.id) same, sym its_job ∙ ap (λ (c : Attempt). c.job) same, sym its_state ∙ ap (λ (c : Attempt). c.state) same))
             (λ e. (w.0, put_has attempt_cmp x w.0 t.attempts w.1 (unequal w.0.id x.id (eqb-false w.0.id x.id e)), w.2, w.3, w.4));
         facts = λ j.
             same_state t (record t { attempts = put attempt_cmp x t.attempts }) k.rise there.0 x there.1 (sym its_id ∙ sym there.2) (sym its_job ∙ sym there.3) refl j (sym its_state ∙ sym there.4)

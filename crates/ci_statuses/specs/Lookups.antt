@@ -1,5 +1,5 @@
 -- What is looked up of a pipeline's jobs, and what a board takes of it.
-use Rattle.std.specs.Prelude.{◌≡◌, ℕ, ◌-◌, true, List, length, map, filter, All, Option, Some, None, option_map, if◌then◌else◌, slice_index_or}
+use Rattle.std.specs.Prelude.{◌≡◌, ℕ, ◌-◌, true, List, length, map, filter, All, Option, Some, None, option_map, if◌then◌else◌, ◌==◌, slice_index_or}
 use Rattle.std.specs.List.{last_or, range_with_len}
 use Rattle.ci_graph.specs.Lists.{is_among, distinct}
 use Rattle.ci_graph.specs.Pairs.{firsts_of}

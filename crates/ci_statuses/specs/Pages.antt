@@ -4,7 +4,6 @@ use Rattle.ci_machine.specs.declared.records.QueuedJob.{QueuedJob}
 use Rattle.ci_machine.specs.declared.records.BoardRow.{BoardRow}
 use Rattle.ci_machine.specs.State.{State}
 use Rattle.ci_machine.specs.Step.{is_pending, queued, job_at}
-use Rattle.ci_machine.specs.Ranges.{is_pending_after}
 
 -- the pending jobs behind a number, with their projects
 abbrev pub queue_behind : State → List BoardRow → ℕ → List QueuedJob

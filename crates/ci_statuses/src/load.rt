@@ -1,13 +1,13 @@
 //! The board of a pipeline, made of what was looked up.
 
-ghost use Rattle.std.specs.Prelude.{◌≡◌, ◌<◌, ℕ, List, map, length, IfOk};
+ghost use Rattle.std.specs.Prelude.{◌≡◌, ◌<◌, ℕ, true, List, map, length, All, IfOk, IfSome};
 ghost use Rattle.std.specs.Ordering.{nat_cmp};
 ghost use Rattle.std.specs.List.Sorted.{IsStrictlySortedBy};
-ghost use Rattle.ci_graph.specs.JobGraph.{IsJobGraph};
 ghost use Rattle.ci_machine.specs.declared.records.BoardRow.{BoardRow};
 ghost use Rattle.ci_machine.specs.State.{State};
-ghost use Rattle.ci_machine.specs.Statuses.{row_for, AreBoard};
+ghost use Rattle.ci_machine.specs.Statuses.{jobs_of, row_for, AreBoard};
 ghost use Rattle.ci_machine.specs.Sound.{IsSound};
+ghost use Rattle.ci_machine.specs.Ranges.{is_within};
 ghost use Rattle.ci_statuses.specs.Lookups.{pairs_among, predecessors_by, tally_of, facts_by, AreRecords};
 ghost use Rattle.ci_statuses.specs.Boards.{IsBoardOf};
 
@@ -21,6 +21,17 @@ use ci_graph::part::Part;
 use ci_machine::records::{Attempt, BoardRow, Job, Need};
 use std::alloc::{AllocError, Global};
 use std::sync::ledger::{Blank, Ledger};
+
+/// The numbers of the first job and of the last one, between which a pipeline's records are looked up; none where there are
+/// no jobs.
+pub fn range_of(jobs: &[Job]) -> Option<(u64, u64)>
+    ensures { IfSome result (λ r. (s : State) (pipeline : ℕ) → IsSound s → jobs.now ≡ jobs_of s pipeline → All (λ j. is_within r.0 r.1 j.id ≡ true) jobs.now) }
+{
+    if jobs.is_empty() {
+        return None;
+    }
+    Some((jobs[0].id, jobs[jobs.len() - 1].id))
+}
 
 /// The parts of jobs.
 fn parts_of(alloc: Global, jobs: &[Job]) -> Result<Vec<Part>, AllocError>

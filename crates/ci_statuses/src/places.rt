@@ -4,6 +4,7 @@ ghost use Rattle.std.specs.Prelude.{◌≡◌, ◌<◌, map, length, IfOk, IfSom
 ghost use Rattle.std.specs.Ordering.{nat_cmp};
 ghost use Rattle.std.specs.List.Sorted.{IsStrictlySortedBy};
 ghost use Rattle.ci_graph.specs.Pairs.{AreWithin};
+ghost use Rattle.ci_machine.specs.Statuses.{place_in};
 ghost use Rattle.ci_statuses.specs.Lookups.{place_of, pairs_among};
 
 use crate::fault::StatusFault;
@@ -25,11 +26,7 @@ pub fn numbers_of(alloc: Global, jobs: &[Job]) -> Result<Vec<u64>, AllocError>
 pub fn jobs_of_rows(alloc: Global, rows: &[BoardRow]) -> Result<Vec<u64>, AllocError>
     ensures { IfOk result (λ v. v.items ≡ map (λ r. r.job) rows.now) }
 {
-    let mut numbers = Vec::with_capacity(alloc, rows.len())?;
-    for row in rows {
-        numbers.push(row.job)?;
-    }
-    Ok(numbers)
+    rows.iter().map(|row| row.job).collect(alloc)
 }
 
 /// Where a number stands among ascending ones, if it is one of them.

@@ -1,6 +1,6 @@
 //! The facts of jobs, by their attempts.
 
-ghost use Rattle.std.specs.Prelude.{◌≡◌, ◌+◌, ◌<◌, ℕ, map, length, slice_set, IfOk, OnOk};
+ghost use Rattle.std.specs.Prelude.{◌≡◌, ◌+◌, ◌<◌, ℕ, [], map, length, slice_set, IfOk, OnOk};
 ghost use Rattle.std.specs.Ordering.{nat_cmp};
 ghost use Rattle.std.specs.List.Sorted.{IsStrictlySortedBy};
 ghost use Rattle.ci_statuses.specs.declared.tally.Tally.{Tally};
@@ -68,6 +68,23 @@ fn count(tallies: &mut [Tally], place: usize, state: AttemptState) -> Result<(),
     Ok(())
 }
 
+/// Counts attempts, each of the job that has it among the jobs with these numbers.
+fn count_all(
+    tallies: &mut [Tally],
+    numbers: &[u64],
+    attempts: &[Attempt],
+) -> Result<(), StatusFault>
+    requires { length tallies.old ≡ length numbers.now }
+    ensures { OnOk result (IsStrictlySortedBy nat_cmp numbers.now → tallies.old ≡ map (tally_of []) numbers.now → tallies.new ≡ map (tally_of attempts.now) numbers.now) }
+{
+    for attempt in attempts {
+        if let Some(place) = place_of(numbers, attempt.job) {
+            count(tallies, place, attempt.state)?;
+        }
+    }
+    Ok(())
+}
+
 /// The tallies of the jobs with these numbers. Errors: memory was refused, or there are too many attempts.
 pub fn tallies(
     alloc: Global,
@@ -78,18 +95,15 @@ pub fn tallies(
     ensures tallies { IfOk result (λ v. IsStrictlySortedBy nat_cmp numbers.now → v.items ≡ map (tally_of attempts.now) numbers.now) }
 {
     let mut tallies = vec![in alloc; Tally::new(); numbers.len()]?;
-    for attempt in attempts {
-        if let Some(place) = place_of(numbers, attempt.job) {
-            count(tallies.as_mut_slice(), place, attempt.state)?;
-        }
-    }
+    count_all(tallies.as_mut_slice(), numbers, attempts)?;
     Ok(tallies)
 }
 
 /// The facts of jobs with these tallies. Errors: memory was refused, or more attempts of a job are set aside than it has.
 pub fn facts(alloc: Global, jobs: &[Job], tallies: &[Tally]) -> Result<Vec<Facts>, StatusFault>
     requires { length tallies.now ≡ length jobs.now }
-    ensures { (tally : ℕ → Tally) → tallies.now ≡ map (λ j. tally j.id) jobs.now → IfOk result (λ v. v.items ≡ map (λ j. facts_by (tally j.id) j) jobs.now) }
+    ensures long { IfOk result (λ v. length v.items ≡ length jobs.now) }
+    ensures facts { IfOk result (λ v. (tally : ℕ → Tally) → tallies.now ≡ map (λ j. tally j.id) jobs.now → v.items ≡ map (λ j. facts_by (tally j.id) j) jobs.now) }
 {
     let mut facts = Vec::with_capacity(alloc, jobs.len())?;
     for j in 0..jobs.len() {
