@@ -39,8 +39,8 @@ fn are_named(jobs: &[NewJob]) -> bool
     jobs.iter().all(|job| job.name.is_name())
 }
 
-/// The jobs of a new pipeline, the first of which has the number `first`.
-fn new_jobs(
+/// The jobs of a new pipeline, the first of which has the number `first`, by what is asked for of each. Errors: memory was refused.
+pub fn new_jobs(
     alloc: Global,
     stage: &Text,
     pipeline: u64,

@@ -42,7 +42,7 @@ module _ {T : Type 0} (keeps : T → Kept → Type 0) (leaves : T → Kept → K
   )
 
   -- the store failed or lacked memory before anything changed
-  pub unplanned : {B : Type 0} (fault : StoreFault) (new : T) → UnlessBroken (Err {A = B} fault) (keeps new (with_rows s board)) → leaves new (with_rows s board) (with_rows s board)
+  pub unplanned : {B : Type 0} (fault : StoreFault) (new : T) → UnlessBroken {A = B} (Err fault) (keeps new (with_rows s board)) → leaves new (with_rows s board) (with_rows s board)
       → Performs (Holds keeps) (Leaves leaves) as_answer c s new (Err fault)
   unplanned Memory new held left = record { board = board; are_board = are; kept = held }
   unplanned Broken new held left = inl (record { before = board; after = board; are_before = are; are_after = are; left = left })

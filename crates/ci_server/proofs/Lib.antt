@@ -4,3 +4,4 @@ pub mod Runs
 pub mod LifetimeLemmas
 pub mod Settles
 pub mod Pages
+pub mod Loading

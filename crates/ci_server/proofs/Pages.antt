@@ -1,5 +1,5 @@
 -- The search for a pending job, page by page.
-use Rattle.std.specs.Prelude.{◌≡◌, ℕ, ◌+◌, ◌<◌, ◌≤◌, Bool, true, false, cond, List, [], ◌∷◌, ◌++◌, length, map, find, Option, Some, None, option_and_then, Contains}
+use Rattle.std.specs.Prelude.{◌≡◌, ℕ, ◌+◌, ◌<◌, ◌≤◌, Bool, true, false, cond, List, [], ◌∷◌, ◌++◌, length, map, find, Option, Some, None, option_and_then, Contains, slice_index_or, ◌-◌}
 use Rattle.std.specs.Option.{option_or}
 use Rattle.std.proofs.Common.{refl, sym, ap, subst, ◌∙◌, arith}
 use Rattle.std.proofs.lemmas.List.Folds.{find-append}
@@ -8,7 +8,7 @@ use Rattle.ci_machine.specs.declared.records.QueuedJob.{QueuedJob}
 use Rattle.ci_machine.specs.declared.records.BoardRow.{BoardRow}
 use Rattle.ci_machine.specs.Eligible.{may_run, chosen}
 use Rattle.ci_machine.specs.State.{State}
-use Rattle.ci_statuses.specs.Pages.{queued_at}
+use Rattle.ci_statuses.specs.Pages.{queued_at, end_of_page}
 use Rattle.ci_server.specs.Search.{may_run_found, first_row}
 
 -- where each row of a page has a job, the first row whose job the runner may run is that of the first such job
@@ -33,3 +33,8 @@ first_of_page s runner (r ∷ rows) (q ∷ qs) same =
 pub first_of_both : (runner : Runner) (jobs more : List QueuedJob) → chosen (jobs ++ more) runner ≡ option_or (chosen jobs runner) (chosen more runner)
 first_of_both runner jobs more = find-append (may_run runner) jobs more
 
+-- a page ends at its last row
+pub end_is_last : (n : ℕ) (rows : List BoardRow) (d : BoardRow) → 0 < length rows → end_of_page n rows ≡ (slice_index_or rows (length rows - 1) d).job
+end_is_last n [] d h = absurd (omega arith)
+end_is_last n (r ∷ []) d h = refl
+end_is_last n (r ∷ q ∷ rows) d h = end_is_last r.job (q ∷ rows) d (omega arith)

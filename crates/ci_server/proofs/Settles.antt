@@ -1,6 +1,6 @@
 -- Which rows the plans of events leave as they are, and which attempts they end.
-use Rattle.std.specs.Prelude.{◌≡◌, ◌⊎◌, ℕ, ◌+◌, ◌<◌, Bool, true, false, not, nat_lt, ◌==◌, List, [], ◌∷◌, ◌++◌, length, map, filter, find, Option, Some, None, Result, Ok, Err, Contains, All, option_map}
-use Rattle.std.specs.List.{AllByRecursion, flat_map}
+use Rattle.std.specs.Prelude.{◌≡◌, ◌↔◌, if◌then◌else◌, ◌⊎◌, ℕ, ◌+◌, ◌<◌, Bool, true, false, not, nat_lt, max, ◌==◌, List, [], ◌∷◌, ◌++◌, length, map, filter, find, Option, Some, None, Result, Ok, Err, Contains, All, option_map}
+use Rattle.std.specs.List.{AllByRecursion}
 use Rattle.std.specs.Str.{bytes_eq}
 use Rattle.std.proofs.Common.{refl, sym, ap, subst, ◌∙◌, inl, inr, ⊎_elim, arith}
 use Rattle.std.proofs.lemmas.Bool.{cond_both, both_ways, false≢true}
@@ -9,9 +9,10 @@ use Rattle.ci_values.specs.Names.{is_name}
 use Rattle.ci_values.specs.declared.limits.TheConstants.{MAX_NUMBER}
 use Rattle.ci_values.specs.declared.attempts.AttemptState.{AttemptState}
 use Rattle.ci_values.specs.declared.attempts.AttemptState.TheVariants.{Live, Succeeded, Failed, Cancelled}
+use Rattle.ci_values.specs.Attempts.{is_live_state}
 use Rattle.ci_machine.specs.declared.records.Attempt.{Attempt}
 use Rattle.ci_machine.specs.declared.records.Job.{Job}
-use Rattle.ci_machine.specs.declared.records.Pipeline.{Pipeline}
+use Rattle.ci_machine.specs.declared.records.Project.{Project}
 use Rattle.ci_machine.specs.declared.lease.Lease.{Lease}
 use Rattle.ci_machine.specs.declared.lease.LeaseFault.{LeaseFault}
 use Rattle.ci_machine.specs.declared.lease.PieceFault.{PieceFault}
@@ -24,20 +25,36 @@ use Rattle.ci_machine.specs.declared.request.Report.TheVariants as report
 use Rattle.ci_machine.specs.declared.request.JobUpdate.{JobUpdate}
 use Rattle.ci_machine.specs.declared.request.TracePart.{TracePart}
 use Rattle.ci_machine.specs.declared.request.NewPipeline.{NewPipeline}
-use Rattle.ci_machine.specs.declared.reply.Code.TheVariants.{M5, M15}
-use Rattle.ci_machine.specs.declared.reply.FaultCode.TheVariants.{K}
+use Rattle.ci_machine.specs.declared.reply.Code.TheVariants.{M2, M5, M15}
+use Rattle.ci_machine.specs.declared.reply.FaultCode.TheVariants.{G, K}
 use Rattle.ci_machine.specs.declared.reply.Detail.TheVariants as detail
-use Rattle.ci_machine.specs.Plans.{Plan, refused, faulted}
+use Rattle.ci_machine.specs.declared.limits.TheConstants.{MAX_JOBS}
+use Rattle.ci_machine.specs.declared.reply.Reply.{Reply}
+use Rattle.ci_machine.specs.Plans.{Plan, refused, faulted, numbered}
 use Rattle.ci_machine.specs.Projects.{add_project, made_project}
 use Rattle.ci_machine.specs.Runners.{add_runner, made_runner}
 use Rattle.ci_machine.specs.Traces.{append_trace, appended, grown, not_accepted}
-use Rattle.ci_machine.specs.Reports.{update_job, reported, heard, ended, ending}
+use Rattle.ci_machine.specs.Reports.{update_job, reported, heard, ending}
+use Rattle.ci_machine.specs.Reports.{ended}
 use Rattle.ci_machine.specs.Leases.{is_live, is_over, while_leased, renewed, accepted, finished, is_same_end, first_due}
-use Rattle.ci_machine.specs.Pipelines.{new_jobs, new_job, job_changes, new_pipeline, predefined}
-use Rattle.ci_machine.specs.State.{State}
-use Rattle.ci_machine.specs.Step.{attempt_at, lease_at, lease_of, leases, live_attempts}
-use Rattle.ci_statuses.specs.Changes.{HasLike, HasLive, LeavesStatuses}
-use Rattle.ci_server.specs.Planning.{MovesOne, job_added, jobs_added}
+use Rattle.ci_machine.specs.Pipelines.{new_jobs, entered, enter_pipeline, has_names, lacks_numbers}
+use Rattle.ci_board.specs.declared.facts.Status.TheVariants as status
+use Rattle.ci_machine.specs.declared.records.BoardRow.{BoardRow}
+use Rattle.ci_machine.specs.declared.records.JobVariable.{JobVariable}
+use Rattle.ci_machine.specs.declared.records.QueuedJob.{QueuedJob}
+use Rattle.ci_machine.specs.declared.records.Runner.{Runner}
+use Rattle.ci_machine.specs.declared.change.Counter.TheVariants as counter
+use Rattle.ci_machine.specs.Eligible.{may_run}
+use Rattle.ci_machine.specs.Grants.{grant, granted}
+use Rattle.ci_machine.specs.Kept.{Kept, put_rows}
+use Rattle.ci_machine.specs.Sound.{IsSound}
+use Rattle.ci_machine.specs.State.{State, applied}
+use Rattle.ci_machine.specs.Statuses.{AreBoard}
+use Rattle.ci_machine.specs.Step.{attempt_at, lease_at, lease_of, leases, live_attempts, offer, queued, is_pending, pending_jobs}
+use Rattle.ci_statuses.specs.Changes.{HasLike, HasLive, LeavesStatuses, IsMade, started_row}
+use Rattle.ci_server.specs.declared.search.Offer.{Offer}
+use Rattle.ci_server.specs.Search.{IsOffered}
+use Rattle.ci_server.specs.Planning.{IsKept, Settles, MovesOne, RowsMade, attempt_ended}
 
 -- ---- what is found is in the list
 
@@ -100,8 +117,8 @@ live_state Cancelled over x y e = absurd (cc)
 heard_moves : (s : State) (a : Attempt) (limit now : ℕ) (r : Result ℕ LeaseFault) → Contains s.attempts a → renewed a limit now ≡ r → MovesOne s (heard a r).1
 heard_moves s a limit now (Err fault) there e = inl refl
 heard_moves s a limit now (Ok seen) there e =
-    let live : a.state ≡ Live = live_state a.state (is_over a limit now) _ seen e in
-    inr (record a { seen = seen }, (a, there, refl, refl, ap _ live), refl)
+    let live : a.state ≡ Live = live_state a.state (is_over a limit now) (max a.seen now) seen e in
+    inr (record a { seen = seen }, (a, there, refl, refl, ap is_live_state live), refl)
 
 ended_moves : (s : State) (a : Attempt) (r : Result AttemptState LeaseFault) → Contains s.attempts a → MovesOne s (ended a r).1
 ended_moves s a (Err fault) there = inl refl
@@ -139,8 +156,133 @@ due_is_live s now l e =
     let live : is_live found.0 ≡ true = All-contains (λ (a : Attempt). is_live a ≡ true) (live_attempts s) found.0 (filter_passes is_live s.attempts) found.1 in
     (found.0, there, ap (λ (a : Attempt). a.id) its, ap (λ (a : Attempt). a.job) its, live)
 
--- ---- the jobs that a new pipeline's changes add
+-- ---- a new pipeline
 
-pub changes_add_jobs : (p : Pipeline) (jobs : List Job) → jobs_added (flat_map (job_changes p) jobs) ≡ jobs
-changes_add_jobs p [] = refl
-changes_add_jobs p (j ∷ js) = ap (λ (w : List Job). j ∷ w) (changes_add_jobs p js)
+abbrev EnteredIsMade : Type 0
+EnteredIsMade = (s : State) (p : NewPipeline) (now : ℕ) → IsSound s
+    → IsMade s (applied (entered s.next.pipeline s.next.job p now).1 s) s.next.pipeline (new_jobs p.stage s.next.pipeline s.next.job 0 p.jobs) []
+
+-- the plan of a new pipeline, with the rows of its jobs or without any where it is refused, leaves right rows
+pub creation_settled : EnteredIsMade → (k : Kept) → IsKept k → (project : Option Project) (p : NewPipeline) (now : ℕ) (refusing : Bool) (rows : List BoardRow)
+    → (refusing ≡ true) ↔ ((enter_pipeline project k.state.next.pipeline k.state.next.job p now).1 ≡ []) → (refusing ≡ true → rows ≡ [])
+    → (refusing ≡ false → RowsMade k.state.next.pipeline (new_jobs p.stage k.state.next.pipeline k.state.next.job 0 p.jobs) rows)
+    → Settles k (enter_pipeline project k.state.next.pipeline k.state.next.job p now).1 rows
+creation_settled law k is project p now refusing rows says none made = by_project project says
+  where
+    first : ℕ
+    first = k.state.next.job
+
+    Right : Plan → Type 0
+    Right plan = ((refusing ≡ true) ↔ (plan.1 ≡ [])) → Settles k plan.1 rows
+
+    unmade : (plan : Plan) → plan.1 ≡ [] → Right plan
+    unmade plan e w = subst (λ (cs : List RowChange). Settles k cs rows) (sym e) (subst (λ rs. Settles k [] rs) (sym (none (w.1 e))) is.are_board)
+
+    whole : Plan
+    whole = entered k.state.next.pipeline first p now
+
+    by_refusal : (b : Bool) → refusing ≡ b → Right whole
+    by_refusal true e w = absurd (cc (w.0 e))
+    by_refusal false e w = made e k.state (applied whole.1 k.state) k.board is.sound is.are_board (law k.state p now is.sound)
+
+    numbered_plan : Plan
+    numbered_plan = if lacks_numbers k.state.next.pipeline first (length p.jobs) then refused M15 else whole
+
+    named_plan : Plan
+    named_plan = if not (has_names p) then faulted (detail.Code (K 16)) else numbered_plan
+
+    few_plan : Plan
+    few_plan = if nat_lt MAX_JOBS (length p.jobs) then faulted (detail.Code (K 11)) else named_plan
+
+    by_project : (o : Option Project) → Right (enter_pipeline o k.state.next.pipeline k.state.next.job p now)
+    by_project None = unmade (refused M2) refl
+    by_project (Some q) =
+        cond_both (nat_lt (length p.jobs) 1) (faulted (detail.Code (G 4))) few_plan Right (λ _. unmade (faulted (detail.Code (G 4))) refl)
+        (λ _. cond_both (nat_lt MAX_JOBS (length p.jobs)) (faulted (detail.Code (K 11))) named_plan Right (λ _. unmade (faulted (detail.Code (K 11))) refl)
+          (λ _. cond_both (not (has_names p)) (faulted (detail.Code (K 16))) numbered_plan Right (λ _. unmade (faulted (detail.Code (K 16))) refl)
+            (λ _. cond_both (lacks_numbers k.state.next.pipeline first (length p.jobs)) (refused M15) whole Right (λ _. unmade (refused M15) refl)
+              (λ _. by_refusal refusing refl))))
+
+-- a pair by its parts
+pub pair_is : {A B : Type 0} (a : A) (b : B) (p q : A × B) → a ≡ p.0 → b ≡ p.1 → p ≡ q → (a, b) ≡ q
+pair_is {A} {B} a b p q first second same = (ap (λ (x : A). (x, b)) first ∙ ap (λ (y : B). (p.0, y)) second) ∙ same
+
+-- ---- the end of an attempt
+
+-- where the changes move one attempt and end none, nothing changes that a status depends on
+pub still_moves : (s : State) (changes : List RowChange) → MovesOne s changes → attempt_ended changes ≡ None → AllByRecursion (LeavesStatuses s) changes
+still_moves s changes moves none =
+    ⊎_elim
+    (λ e. subst (AllByRecursion (LeavesStatuses s)) (sym e) tt)
+    (λ m. subst (AllByRecursion (LeavesStatuses s)) (sym m.2)
+      (cond_both (is_live m.0) None (Some m.0) (λ o. o ≡ None → AllByRecursion (LeavesStatuses s) (Put (row.Attempt m.0) ∷ []))
+        (λ live _. ((m.1.0, m.1.1, m.1.2, m.1.3, both_live m.1.0.state m.0.state m.1.4 live), tt))
+        (λ _ e. absurd (cc))
+        (subst (λ (cs : List RowChange). attempt_ended cs ≡ None) m.2 none)))
+    moves
+  where
+    both_live : (a b : AttemptState) → is_live_state a ≡ true → is_live_state b ≡ true → a ≡ b
+    both_live Live Live e f = refl
+    both_live Live (Succeeded x) e f = absurd (cc)
+    both_live Live (Failed c x) e f = absurd (cc)
+    both_live Live Cancelled e f = absurd (cc)
+    both_live (Succeeded x) b e f = absurd (cc)
+    both_live (Failed c x) b e f = absurd (cc)
+    both_live Cancelled b e f = absurd (cc)
+
+-- where they end one, they put it alone
+pub end_moves : (s : State) (changes : List RowChange) (after : Attempt) → MovesOne s changes → attempt_ended changes ≡ Some after → HasLive s after × (changes ≡ Put (row.Attempt after) ∷ [])
+end_moves s changes after moves some =
+    ⊎_elim
+    (λ e. absurd (let bad : attempt_ended [] ≡ Some after = subst (λ (cs : List RowChange). attempt_ended cs ≡ Some after) e some in cc))
+    (λ m.
+      let same : m.0 ≡ after = cond_both (is_live m.0) None (Some m.0) (λ o. o ≡ Some after → m.0 ≡ after) (λ _ e. absurd (cc)) (λ _ e. cc) (subst (λ (cs : List RowChange). attempt_ended cs ≡ Some after) m.2 some) in
+      (subst (HasLive s) same m.1, m.2 ∙ ap (λ (a : Attempt). Put (row.Attempt a) ∷ []) same))
+    moves
+
+-- ---- a grant
+
+-- the job that a runner is offered is one of the state's, and pending
+pub offered_is_pending : (s : State) (board : List BoardRow) (runner : Runner) (q : QueuedJob) → offer s board (Some runner) ≡ Some q → Contains s.jobs q.job × (is_pending board q.job ≡ true)
+offered_is_pending s board runner q e =
+    let found = found_in_map (queued s) (may_run runner) (pending_jobs s board) q e in
+    let its : found.0 ≡ q.job = ap (λ (w : QueuedJob). w.job) found.2 in
+    let there : Contains s.jobs found.0 = All-contains (Contains s.jobs) (pending_jobs s board) found.0 (All-filter (is_pending board) (Contains s.jobs) s.jobs (All-contains_itself s.jobs)) found.1 in
+    let pending : is_pending board found.0 ≡ true = All-contains (λ (j : Job). is_pending board j ≡ true) (pending_jobs s board) found.0 (filter_passes (is_pending board) s.jobs) found.1 in
+    (subst (Contains s.jobs) its there, subst (λ (j : Job). is_pending board j ≡ true) its pending)
+
+abbrev GrantSettles : Type 0
+GrantSettles =
+    (s : State) (board : List BoardRow) (job : Job) (attempt : Attempt) → IsSound s → AreBoard s board → Contains s.jobs job → is_pending board job ≡ true
+    → attempt.id ≡ s.next.attempt → attempt.job ≡ job.id → attempt.state ≡ Live
+    → AreBoard (applied (numbered (row.Attempt attempt) counter.Attempt s.next.attempt) s) (put_rows (started_row board job.id ∷ []) board)
+
+-- the plan of a grant, with its row or without one where it is refused, leaves right rows
+pub grant_settled : GrantSettles → (k : Kept) → IsKept k → (runner : Runner) (found : Offer) → IsOffered k runner (Some found) → (variables : List JobVariable) (now : ℕ) (seed : Seed)
+    (refusing : Bool) → (refusing ≡ true) ↔ ((grant runner found.queued variables k.state.next.attempt now seed).1 ≡ [])
+    → Settles k (grant runner found.queued variables k.state.next.attempt now seed).1
+        (if refusing then [] else record found.row { row = record found.row.row { status = status.Running } } ∷ [])
+grant_settled law k is runner found offered variables now seed refusing says =
+    cond_both (nat_lt MAX_NUMBER k.state.next.attempt) (refused M15) (granted runner found.queued variables k.state.next.attempt now seed)
+    (λ (p : Plan). ((refusing ≡ true) ↔ (p.1 ≡ [])) → Settles k p.1 (if refusing then [] else its_row ∷ []))
+    (λ _ w. subst (λ b. Settles k [] (if b then [] else its_row ∷ [])) (sym (w.1 refl)) is.are_board)
+    (λ _ w. none_refused refusing w)
+    says
+  where
+    its_row : BoardRow
+    its_row = record found.row { row = record found.row.row { status = status.Running } }
+
+    same : started_row k.board found.queued.job.id ≡ its_row
+    same = cc (offered.1, offered.2)
+
+    changes : List RowChange
+    changes = (granted runner found.queued variables k.state.next.attempt now seed).1
+
+    settles : Settles k changes (its_row ∷ [])
+    settles =
+        let pending = offered_is_pending k.state k.board runner found.queued offered.0 in
+        subst (λ r. Settles k changes (r ∷ [])) same (law k.state k.board found.queued.job _ is.sound is.are_board pending.0 pending.1 refl refl refl)
+
+    none_refused : (b : Bool) → (b ≡ true) ↔ (changes ≡ []) → Settles k changes (if b then [] else its_row ∷ [])
+    none_refused true w = absurd (cc (w.0 refl))
+    none_refused false w = settles

@@ -1,17 +1,17 @@
 -- What is planned of an event over what a store keeps: changes of records, and the rows of statuses that are put behind them.
-use Rattle.std.specs.Prelude.{◌≡◌, ◌⊎◌, List, [], ◌∷◌}
-use Rattle.std.specs.List.{flat_map}
+use Rattle.std.specs.Prelude.{◌≡◌, ◌⊎◌, ℕ, List, [], ◌∷◌, if◌then◌else◌, Option, Some, None}
 use Rattle.ci_machine.specs.declared.records.BoardRow.{BoardRow}
 use Rattle.ci_machine.specs.declared.records.Attempt.{Attempt}
 use Rattle.ci_machine.specs.declared.records.Job.{Job}
 use Rattle.ci_machine.specs.declared.change.Record.TheVariants as row
 use Rattle.ci_machine.specs.declared.change.RowChange.{RowChange}
-use Rattle.ci_machine.specs.declared.change.RowChange.TheVariants.{Add, Put}
+use Rattle.ci_machine.specs.declared.change.RowChange.TheVariants.{Put}
+use Rattle.ci_machine.specs.Leases.{is_live}
 use Rattle.ci_machine.specs.State.{State, applied}
 use Rattle.ci_machine.specs.Kept.{Kept, put_rows}
 use Rattle.ci_machine.specs.Statuses.{AreBoard}
 use Rattle.ci_machine.specs.Sound.{IsSound}
-use Rattle.ci_statuses.specs.Changes.{HasLive}
+use Rattle.ci_statuses.specs.Changes.{HasLive, IsMade}
 
 -- what is kept is a state that the machine may come to, with its rows
 pub record IsKept (k : Kept) : Type 0 where
@@ -31,10 +31,11 @@ pub record PlansFor (k : Kept) (Makes : Type 0) (changes : List RowChange) (rows
 abbrev pub MovesOne : State → List RowChange → Type 0
 MovesOne s changes = (changes ≡ []) ⊎ ((after : Attempt) × HasLive s after × (changes ≡ Put (row.Attempt after) ∷ []))
 
--- the job that a change adds
-abbrev pub job_added : RowChange → List Job
-job_added (Add (row.Job j)) = j ∷ []
-job_added _ = []
+-- the rows make those of any state after the pipeline was made with these jobs, none of which waits for another
+abbrev pub RowsMade : ℕ → List Job → List BoardRow → Type 0
+RowsMade pipeline jobs rows = (s t : State) (board : List BoardRow) → IsSound s → AreBoard s board → IsMade s t pipeline jobs [] → AreBoard t (put_rows rows board)
 
-abbrev pub jobs_added : List RowChange → List Job
-jobs_added changes = flat_map job_added changes
+-- the attempt that the changes end, where they put it alone
+abbrev pub attempt_ended : List RowChange → Option Attempt
+attempt_ended (Put (row.Attempt after) ∷ []) = if is_live after then None else Some after
+attempt_ended _ = None

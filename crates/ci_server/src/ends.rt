@@ -1,18 +1,19 @@
 //! The rows that differ where an attempt ends.
 
-ghost use Rattle.std.specs.Prelude.{◌≡◌, ◌∷◌, [], true, All, IfOk};
+ghost use Rattle.std.specs.Prelude.{◌≡◌, ◌∷◌, [], Ok, IfOk};
 ghost use Rattle.ci_machine.specs.declared.change.Record.TheVariants as row;
 ghost use Rattle.ci_machine.specs.declared.change.RowChange.TheVariants.{Put};
-ghost use Rattle.ci_machine.specs.Ranges.{is_within};
 ghost use Rattle.ci_statuses.specs.Changes.{HasLive};
 ghost use Rattle.ci_store.specs.Store.{LoadsBy};
-ghost use Rattle.ci_server.specs.Planning.{IsKept, Settles, MovesOne};
+ghost use Rattle.std.specs.Option.{option_copied};
+ghost use Rattle.ci_server.specs.Planning.{IsKept, Settles, MovesOne, attempt_ended};
 
 use ci_machine::change::{Delta, Record, RowChange};
-use ci_machine::records::{Attempt, BoardRow, Job};
+use ci_machine::records::{Attempt, BoardRow};
 use ci_statuses::end::rows_of_end;
 use ci_statuses::fault::StatusFault;
 use ci_statuses::laws::rows_stay;
+use ci_statuses::load::range_of;
 use ci_store::fault::StoreFault;
 use ci_store::store::Store;
 use std::alloc::Global;
@@ -29,11 +30,19 @@ pub(crate) fn rows_behind<T: Store>(
         (λ k rows. IsKept k → MovesOne k.state changes.now → Settles k changes.now rows.items) }
 {
     rows_stay();
+    match attempt_ended(changes) {
+        Some(after) => rows_behind_end(alloc, store, pipeline, after),
+        None => Ok(Vec::new(alloc)),
+    }
+}
+
+/// The attempt that changes end, where they put it alone.
+fn attempt_ended(changes: &Delta) -> Option<&Attempt>
+    ensures { option_copied result ≡ attempt_ended changes.now }
+{
     match changes.as_slice() {
-        [RowChange::Put(Record::Attempt(after))] if !after.state.is_live() => {
-            rows_behind_end(alloc, store, pipeline, after)
-        }
-        _ => Ok(Vec::new(alloc)),
+        [RowChange::Put(Record::Attempt(after))] if !after.state.is_live() => Some(after),
+        _ => None,
     }
 }
 
@@ -48,7 +57,9 @@ fn rows_behind_end<T: Store>(
         (λ k rows. IsKept k → HasLive k.state after.now → Settles k (Put (row.Attempt after.now) ∷ []) rows.items) }
 {
     let jobs = store.jobs_of(pipeline)?;
-    let (first, last) = number_range(jobs.as_slice());
+    let Some((first, last)) = range_of(jobs.as_slice()) else {
+        return Err(StoreFault::Broken);
+    };
     let needs = store.needs_within(first, last)?;
     let attempts = store.attempts_within(first, last)?;
     let rows = store.rows_within(first, last)?;
@@ -60,19 +71,6 @@ fn rows_behind_end<T: Store>(
         rows.as_slice(),
         after,
     ))
-}
-
-/// The least and the greatest of the jobs' numbers.
-fn number_range(jobs: &[Job]) -> (u64, u64)
-    ensures { All (λ j. is_within result.0 result.1 j.id ≡ true) jobs.now }
-{
-    let mut first = u64::MAX;
-    let mut last = 0;
-    for job in jobs {
-        first = first.min(job.id);
-        last = last.max(job.id);
-    }
-    (first, last)
 }
 
 /// Records that don't fit together are a fault of the store.

@@ -18,6 +18,7 @@ use ci_machine::reply::Reply;
 use ci_machine::request::Seed;
 use ci_machine::text::Text;
 use ci_plans::grants;
+use ci_statuses::laws::grant_settles;
 use ci_statuses::pending::started;
 use ci_store::fault::StoreFault;
 use ci_store::store::Store;
@@ -71,6 +72,7 @@ fn grant<T: Store>(
         (λ k p. IsKept k → IsOffered k runner.now (Some offer.now) →
         PlansFor k ((p.answer, p.changes) ≡ machine.grant runner.now offer.now.queued (step.variables_of k.state offer.now.queued.job.id) k.state.next.attempt now seed) p.changes p.rows.items) }
 {
+    grant_settles();
     let variables = store.job_variables(offer.queued.job.id)?;
     let next = store.next(Counter::Attempt)?;
     let plan = grants::grant(

@@ -1,22 +1,16 @@
 //! What a request for a new pipeline does, from what the store holds.
 
-ghost use Rattle.std.specs.Prelude.{◌≡◌, ◌++◌, [], ℕ, List, IfOk};
-ghost use Rattle.ci_machine.specs.declared.records.BoardRow.{BoardRow};
-ghost use Rattle.ci_machine.specs.State.{State};
-ghost use Rattle.ci_machine.specs.Kept.{put_rows};
-ghost use Rattle.ci_machine.specs.Statuses.{AreBoard};
-ghost use Rattle.ci_machine.specs.Sound.{IsSound};
-ghost use Rattle.ci_statuses.specs.Changes.{IsMade};
+ghost use Rattle.std.specs.Prelude.{◌≡◌, [], true, false, IfOk};
 ghost use Rattle.ci_machine.specs.Pipelines as machine;
 ghost use Rattle.ci_machine.specs.Step.{project_at};
 ghost use Rattle.ci_store.specs.Store.{LoadsBy};
-ghost use Rattle.ci_server.specs.Planning.{IsKept, PlansFor, jobs_added, job_added};
+ghost use Rattle.ci_server.specs.Planning.{IsKept, PlansFor, RowsMade};
 
 use crate::ends::or_store_fault;
 use crate::planned::Planned;
-use ci_machine::change::{Counter, Delta, Record, RowChange};
+use ci_machine::change::Counter;
 use ci_machine::moment::Moment;
-use ci_machine::records::{BoardRow, Job};
+use ci_machine::records::{BoardRow, MAX_NUMBER};
 use ci_machine::reply::Reply;
 use ci_machine::request::NewPipeline;
 use ci_plans::pipelines;
@@ -40,6 +34,7 @@ pub(crate) fn enter_pipeline<T: Store>(
     let project = store.project(new.project)?;
     let next_pipeline = store.next(Counter::Pipeline)?;
     let next_job = store.next(Counter::Job)?;
+    let copy = copy_of(&new)?;
     let plan = pipelines::enter_pipeline(
         alloc,
         project.as_ref(),
@@ -48,36 +43,39 @@ pub(crate) fn enter_pipeline<T: Store>(
         new,
         now,
     )?;
-    let rows = rows_made(alloc, &plan.1);
+    let rows = rows_made(alloc, plan.1.is_empty(), next_pipeline, next_job, copy);
     Planned::with_rows(plan, rows)
 }
 
-/// The rows of the jobs that changes add, none of which waits for another.
-fn rows_made(alloc: Global, changes: &Delta) -> Result<Vec<BoardRow>, StoreFault>
-    ensures { IfOk result (λ rows. (s t : State) (board : List BoardRow) (pipeline : ℕ) → IsSound s → AreBoard s board → IsMade s t pipeline (jobs_added changes.now) [] → AreBoard t (put_rows rows.items board)) }
+fn copy_of(new: &NewPipeline) -> Result<NewPipeline, AllocError>
+    ensures { IfOk result (λ copy. copy ≡ new.now) }
 {
-    let jobs = jobs_added(alloc, changes)?;
+    new.clone()
+}
+
+/// The rows of the jobs of a new pipeline, none of which waits for another; none where it isn't made.
+fn rows_made(
+    alloc: Global,
+    refused: bool,
+    pipeline: u64,
+    first: u64,
+    new: NewPipeline,
+) -> Result<Vec<BoardRow>, StoreFault>
+    ensures none { IfOk result (λ rows. refused ≡ true → rows.items ≡ []) }
+    ensures made { IfOk result (λ rows. refused ≡ false → RowsMade pipeline (machine.new_jobs new.stage pipeline first 0 new.jobs) rows.items) }
+{
+    if refused {
+        return Ok(Vec::new(alloc));
+    }
+    if first > MAX_NUMBER {
+        return Err(StoreFault::Broken);
+    }
+    let NewPipeline {
+        project: _,
+        git_ref: _,
+        stage,
+        jobs,
+    } = new;
+    let jobs = pipelines::new_jobs(alloc, &stage, pipeline, first, jobs.into_vec())?;
     or_store_fault(rows_of_creation(alloc, jobs.as_slice(), &[]))
-}
-
-/// The jobs that changes add.
-fn jobs_added(alloc: Global, changes: &Delta) -> Result<Vec<Job>, AllocError>
-    ensures { IfOk result (λ jobs. jobs.items ≡ jobs_added changes.now) }
-{
-    let mut jobs = Vec::new(alloc);
-    for change in changes.as_slice() {
-        push_added(&mut jobs, change)?;
-    }
-    Ok(jobs)
-}
-
-/// Adds the job that a change adds, if it adds one.
-fn push_added(jobs: &mut Vec<Job>, change: &RowChange) -> Result<(), AllocError>
-    ensures { IfOk result (λ _. jobs.new.items ≡ jobs.old.items ++ job_added change.now) }
-{
-    if let RowChange::Add(Record::Job(job)) = change {
-        let job = job.clone()?;
-        jobs.push(job)?;
-    }
-    Ok(())
 }
