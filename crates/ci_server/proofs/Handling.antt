@@ -42,10 +42,10 @@ module _ {T : Type 0} (keeps : T → Kept → Type 0) (leaves : T → Kept → K
   )
 
   -- the store failed or lacked memory before anything changed
-  pub unplanned : {B : Type 0} (fault : StoreFault) (new : T) → UnlessBroken {A = B} (Err fault) (keeps new (with_rows s board)) → leaves new (with_rows s board) (with_rows s board)
+  pub unplanned : (B : Type 0) (fault : StoreFault) (new : T) → UnlessBroken {A = B} (Err fault) (keeps new (with_rows s board)) → leaves new (with_rows s board) (with_rows s board)
       → Performs (Holds keeps) (Leaves leaves) as_answer c s new (Err fault)
-  unplanned Memory new held left = record { board = board; are_board = are; kept = held }
-  unplanned Broken new held left = inl (record { before = board; after = board; are_before = are; are_after = are; left = left })
+  unplanned B Memory new held left = record { board = board; are_board = are; kept = held }
+  unplanned B Broken new held left = inl (record { before = board; after = board; are_before = are; are_after = are; left = left })
 
 module _ {T : Type 0} (honest : T → Type 0) (holds : T → State → Type 0) (leaves : T → State → State → Type 0) {A : Type 0} (as_answer : A → Answer) (c : Call) where
   ended : AllStep → (s : State) (new : T) (closed : Bool) (r : Result A StoreFault) (a : Answer) → a ≡ answer_by as_answer c.0 r → closed ≡ closed_by (outcome_of a) false

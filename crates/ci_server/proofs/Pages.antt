@@ -1,5 +1,5 @@
 -- The search for a pending job, page by page.
-use Rattle.std.specs.Prelude.{◌≡◌, ℕ, ◌+◌, ◌<◌, ◌≤◌, Bool, true, false, cond, List, [], ◌∷◌, ◌++◌, length, map, find, Option, Some, None, option_and_then, Contains, slice_index_or, ◌-◌}
+use Rattle.std.specs.Prelude.{◌≡◌, ℕ, zero, suc, ◌+◌, ◌<◌, ◌≤◌, Bool, true, false, cond, List, [], ◌∷◌, ◌++◌, length, map, find, Option, Some, None, option_and_then, Contains, slice_index_or, ◌-◌}
 use Rattle.std.specs.Option.{option_or}
 use Rattle.std.proofs.Common.{refl, sym, ap, subst, ◌∙◌, arith}
 use Rattle.std.proofs.lemmas.List.Folds.{find-append}
@@ -34,7 +34,9 @@ pub first_of_both : (runner : Runner) (jobs more : List QueuedJob) → chosen (j
 first_of_both runner jobs more = find-append (may_run runner) jobs more
 
 -- a page ends at its last row
-pub end_is_last : (n : ℕ) (rows : List BoardRow) (d : BoardRow) → 0 < length rows → end_of_page n rows ≡ (slice_index_or rows (length rows - 1) d).job
-end_is_last n [] d h = absurd (omega arith)
-end_is_last n (r ∷ []) d h = refl
-end_is_last n (r ∷ q ∷ rows) d h = end_is_last r.job (q ∷ rows) d (omega arith)
+pub end_is_last : (n : ℕ) (rows : List BoardRow) (d : BoardRow) (i : ℕ) → i + 1 ≡ length rows → end_of_page n rows ≡ (slice_index_or rows i d).job
+end_is_last n [] d i h = absurd (omega arith)
+end_is_last n (r ∷ []) d zero h = refl
+end_is_last n (r ∷ []) d (suc i) h = absurd (omega arith)
+end_is_last n (r ∷ q ∷ rows) d zero h = absurd (omega arith)
+end_is_last n (r ∷ q ∷ rows) d (suc i) h = end_is_last r.job (q ∷ rows) d i (omega arith)

@@ -37,6 +37,8 @@ use Rattle.ci_machine.specs.Traces.{append_trace, appended, grown, not_accepted}
 use Rattle.ci_machine.specs.Reports.{update_job, reported, heard, ending}
 use Rattle.ci_machine.specs.Reports.{ended}
 use Rattle.ci_machine.specs.Leases.{is_live, is_over, while_leased, renewed, accepted, finished, is_same_end, first_due}
+use Rattle.ci_machine.specs.Sweeps.{sweep}
+use Rattle.ci_machine.specs.Leases.{cause_of}
 use Rattle.ci_machine.specs.Pipelines.{new_jobs, entered, enter_pipeline, has_names, lacks_numbers}
 use Rattle.ci_board.specs.declared.facts.Status.TheVariants as status
 use Rattle.ci_machine.specs.declared.records.BoardRow.{BoardRow}
@@ -54,7 +56,11 @@ use Rattle.ci_machine.specs.Step.{attempt_at, lease_at, lease_of, leases, live_a
 use Rattle.ci_statuses.specs.Changes.{HasLike, HasLive, LeavesStatuses, IsMade, started_row}
 use Rattle.ci_server.specs.declared.search.Offer.{Offer}
 use Rattle.ci_server.specs.Search.{IsOffered}
-use Rattle.ci_server.specs.Planning.{IsKept, Settles, MovesOne, RowsMade, attempt_ended}
+use Rattle.ci_board.specs.declared.facts.Status.{Status}
+use Rattle.ci_machine.specs.declared.records.Piece.{Piece}
+use Rattle.ci_machine.specs.declared.reply.Code.{Code}
+use Rattle.ci_machine.specs.Shows.{shown, traced}
+use Rattle.ci_server.specs.Planning.{PlansFor, IsKept, Settles, MovesOne, RowsMade, attempt_ended}
 
 -- ---- what is found is in the list
 
@@ -67,7 +73,7 @@ found_is_there p x (y ∷ ys) e =
     e
 
 -- the attempt that a number names, with the limit of its job
-leased : (s : State) (n : ℕ) (l : Lease) → lease_at s n ≡ Some l → Contains s.attempts l.attempt
+pub leased : (s : State) (n : ℕ) (l : Lease) → lease_at s n ≡ Some l → Contains s.attempts l.attempt
 leased s n l e = of (attempt_at s n) refl e
   where
     of : (o : Option Attempt) → attempt_at s n ≡ o → option_map (lease_of s) o ≡ Some l → Contains s.attempts l.attempt
@@ -286,3 +292,28 @@ grant_settled law k is runner found offered variables now seed refusing says =
     none_refused : (b : Bool) → (b ≡ true) ↔ (changes ≡ []) → Settles k changes (if b then [] else its_row ∷ [])
     none_refused true w = absurd (cc (w.0 refl))
     none_refused false w = settles
+
+-- a sweep moves the attempt whose lease is over
+pub sweep_moves : (s : State) (l : Lease) → HasLive s l.attempt → MovesOne s (sweep (Some l)).1
+sweep_moves s l live = inr (record l.attempt { state = Failed (cause_of l) None }, live, refl)
+
+-- ---- questions, and plans that leave all rows
+
+pub shown_leaves : (s : State) (r : Result Job Code) (shown_as : Status) → AllByRecursion (LeavesStatuses s) (shown r shown_as).1
+shown_leaves s (Ok job) shown_as = tt
+shown_leaves s (Err code) shown_as = tt
+
+pub traced_leaves : (s : State) (r : Result Job Code) (pieces : List Piece) → AllByRecursion (LeavesStatuses s) (traced r pieces).1
+traced_leaves s (Ok job) pieces = tt
+traced_leaves s (Err code) pieces = tt
+
+abbrev RowsStay : Type 0
+RowsStay = (s : State) (board : List BoardRow) (changes : List RowChange) → IsSound s → AreBoard s board → AllByRecursion (LeavesStatuses s) changes → AreBoard (applied changes s) board
+
+pub without_rows : RowsStay → (k : Kept) → IsKept k → (Makes : Plan → Type 0) (plan : Plan) (answer : Reply) (changes : List RowChange) (rows : List BoardRow)
+    → answer ≡ plan.0 → changes ≡ plan.1 → rows ≡ [] → Makes plan → AllByRecursion (LeavesStatuses k.state) plan.1 → PlansFor k (Makes (answer, changes)) changes rows
+without_rows law k is Makes plan answer changes rows same_answer same_changes none makes leaves = record {
+  made = subst Makes (sym (pair_is answer changes plan plan same_answer same_changes refl)) makes;
+  settled = subst (λ (cs : List RowChange). Settles k cs rows) (sym same_changes)
+      (subst (λ (rs : List BoardRow). Settles k plan.1 rs) (sym none) (law k.state k.board plan.1 is.sound is.are_board leaves));
+}

@@ -35,7 +35,7 @@ returns g c =
       record {
         made = pair_is y.answer y.changes plan _ w.0 w.1 same;
         settled = subst (λ (cs : List RowChange). Settles k cs y.rows.items) (sym (w.1 ∙ ap (λ (p : Plan). p.1) same))
-            (subst (λ (rs : List BoardRow). Settles k _ rs) (sym rows)
+            (subst (λ (rs : List BoardRow). Settles k (machine.grant runner q (variables_of k.state q.job.id) k.state.next.attempt c.args.now c.args.seed).1 rs) (sym rows)
               (grant_settled c.grant_settles.ensures k kept runner c.args.offer.now offered (variables_of k.state q.job.id) c.args.now c.args.seed c.is_empty.result
                 (subst (λ (p : Plan). (c.is_empty.result ≡ true) ↔ (p.1 ≡ [])) same c.is_empty.ensures)));
       })
