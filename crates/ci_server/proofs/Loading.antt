@@ -24,6 +24,10 @@ pub third : {A : Type 0} (P Q R : A → Type 0) (r : Result A StoreFault) → If
 third P Q R (Ok y) w = w.2
 third P Q R (Err e) w = tt
 
+both_ok : {A : Type 0} (P Q : A → Type 0) (r : Result A StoreFault) → IfOk r P → IfOk r Q → IfOk r (λ y. P y × Q y)
+both_ok P Q (Ok y) p q = (p, q)
+both_ok P Q (Err e) p q = tt
+
 module _ {T : Type 0} (honest : T → Type 0) (holds : T → Kept → Type 0) (leaves : T → Kept → Kept → Type 0) where
   -- after a load that went well, whatever comes of it without the store
   pub ends : {A B : Type 0} {P : Kept → A → Type 0} (a b : T) (first : Result A StoreFault) (x : A) (r : Result B StoreFault) → first ≡ Ok x → LoadsBy honest holds leaves a b first P
@@ -88,4 +92,26 @@ module _ {T : Type 0} (honest : T → Type 0) (holds : T → Kept → Type 0) (l
     kept = λ h k held. subst (λ f. UnlessBroken f (holds b k)) is (load.kept h k held);
     left = load.left;
     answered = λ h k held. then k (subst (λ f. IfOk f (P k)) is (load.answered h k held));
+  }
+
+  -- two loads that went well, one after the other, and what comes of both
+  pub so : {A B C : Type 0} {P : Kept → A → Type 0} {Q : Kept → B → Type 0} (R : Kept → C → Type 0) (a b c : T) (first : Result A StoreFault) (x : A) (second : Result B StoreFault) (y : B) (z : C)
+      → first ≡ Ok x → second ≡ Ok y → LoadsBy honest holds leaves a b first P → LoadsBy honest holds leaves b c second Q → ((k : Kept) → P k x → Q k y → R k z) → LoadsBy honest holds leaves a c (Ok z) R
+  so {P = P} {Q = Q} R a b c first x second y z is was load more then = record {
+    was_honest = λ h. load.was_honest (more.was_honest h);
+    kept = λ h k held. subst (λ f. UnlessBroken f (holds c k)) was (more.kept h k (mid h k held));
+    left = λ h k held. more.left h k (mid h k held);
+    answered = λ h k held. then k (subst (λ f. IfOk f (P k)) is (load.answered (more.was_honest h) k held)) (subst (λ f. IfOk f (Q k)) was (more.answered h k (mid h k held)));
+  }
+    where
+      mid : honest c → (k : Kept) → holds a k → holds b k
+      mid h k held = subst (λ f. UnlessBroken f (holds b k)) is (load.kept (more.was_honest h) k held)
+
+  -- what two clauses say of one load
+  pub both : {A : Type 0} {P Q : Kept → A → Type 0} (a b : T) (r : Result A StoreFault) → LoadsBy honest holds leaves a b r P → LoadsBy honest holds leaves a b r Q → LoadsBy honest holds leaves a b r (λ k y. P k y × Q k y)
+  both {P = P} {Q = Q} a b r load more = record {
+    was_honest = load.was_honest;
+    kept = load.kept;
+    left = load.left;
+    answered = λ h k held. both_ok (P k) (Q k) r (load.answered h k held) (more.answered h k held);
   }
