@@ -1,5 +1,5 @@
 -- The search for a pending job, page by page.
-use Rattle.std.specs.Prelude.{◌≡◌, ℕ, zero, suc, ◌+◌, ◌<◌, Bool, true, false, cond, List, [], ◌∷◌, ◌++◌, length, map, filter, find, take, Option, Some, None, IfSome, is_some, option_and_then, option_map, Contains, slice_index_or, ◌==◌}
+use Rattle.std.specs.Prelude.{◌≡◌, ℕ, zero, suc, ◌+◌, ◌<◌, Bool, true, false, cond, List, [], ◌∷◌, ◌++◌, length, map, filter, take, Option, Some, None, IfSome, is_some, option_and_then, option_map, Contains, slice_index_or, ◌==◌}
 use Rattle.std.specs.Option.{option_or}
 use Rattle.std.proofs.Common.{refl, sym, ap, subst, ◌∙◌, inl, inr, ⊎_elim, drop, arith, eqb-true}
 use Rattle.std.proofs.lemmas.List.{drop_more, take-map}
@@ -70,6 +70,7 @@ has_take : (x : BoardRow) (n : ℕ) (rows : List BoardRow) → Has x (take n row
 has_take x zero rows h = absurd h
 has_take x (suc n) [] h = absurd h
 has_take x (suc n) (r ∷ rows) h = ⊎_elim (λ e. inl e) (λ m. inr (has_take x n rows m)) h
+
 -- ---- row by row
 
 module _ (s : State) (runner : Runner) (rows : List BoardRow) (i : ℕ) (d : BoardRow) (q : QueuedJob) (within : i < length rows) (its : queued_at s (slice_index_or rows i d) ≡ Some q) where
@@ -160,8 +161,8 @@ module _ (law : ByPages) (k : Kept) (runner : Runner) (n : ℕ) (rows : List Boa
   found_is_offered its_row found searched kept =
       let number : found.row.job ≡ found.queued.job.id = its_number k.state found.row found.queued searched.its in
       let there : Contains k.board found.row = contains_from_has found.row k.board
-          (has_filter (is_pending_after n) found.row k.board (has_take found.row PAGE_ROWS (filter (is_pending_after n) k.board)
-            (has_find (λ r. may_run_found runner (queued_at k.state r)) found.row (pending_after PAGE_ROWS n k.board) (sym (searched.first ∙ ap (first_row k.state runner) searched.page))).0)).0 in
+      (has_filter (is_pending_after n) found.row k.board (has_take found.row PAGE_ROWS (filter (is_pending_after n) k.board)
+      (has_find (λ r. may_run_found runner (queued_at k.state r)) found.row (pending_after PAGE_ROWS n k.board) (sym (searched.first ∙ ap (first_row k.state runner) searched.page))).0)).0 in
       (both (Some found) searched kept, number, sym (its_row k.state k.board found.row kept.sound kept.are_board there) ∙ ap (row_for k.board) number)
 
   pub some_is_offered : ((s : State) (board : List BoardRow) (r : BoardRow) → IsSound s → AreBoard s board → Contains board r → row_for board r.job ≡ r.row)

@@ -8,8 +8,8 @@ ghost use Rattle.ci_server.specs.Planning.{IsKept};
 ghost use Rattle.ci_server.specs.Search.{first_row, IsOffered, LeadsOn};
 
 use ci_machine::choose::may_run;
-use ci_statuses::laws::{each_job_has_its_row, the_queue_is_its_pages};
 use ci_machine::records::{BoardRow, Job, QueuedJob, Runner};
+use ci_statuses::laws::{each_job_has_its_row, the_queue_is_its_pages};
 use ci_store::fault::StoreFault;
 use ci_store::store::{PAGE_ROWS, Store};
 

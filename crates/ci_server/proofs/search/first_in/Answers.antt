@@ -1,4 +1,4 @@
-use Rattle.std.specs.Prelude.{Ok, Option, Some, true, false}
+use Rattle.std.specs.Prelude.{Ok, Some}
 use Rattle.std.proofs.Common.{refl, sym, ap, ◌∙◌}
 use Rattle.ci_machine.specs.declared.records.BoardRow.{BoardRow}
 use Rattle.ci_server.proofs.Loading.{so}
@@ -10,7 +10,7 @@ pub returns-then-may_run-clause-row : goal.returns-then-may_run-clause-row
 returns-then-may_run-clause-row g c =
     so g.T.Store.honest g.T.Store.holds g.T.Store.leaves _ _ _ _ (Ok tt) tt c.offer_of.result c.in_ok-offer.offer _ refl c.in_ok-offer.was c.loop-row.invariant c.offer_of.ensures
     (λ k before its. ap (λ (r : BoardRow). Some r) its.0
-      ∙ (sym (is_first k.state c.args.runner.now c.args.page.now c.loop-row.row-index _ c.in_ok-offer.offer.queued c.loop-row-test.true its.1 (sym c.may_run.ensures ∙ c.if-may_run.true)) ∙ before))
+    ∙ (sym (is_first k.state c.args.runner.now c.args.page.now c.loop-row.row-index _ c.in_ok-offer.offer.queued c.loop-row-test.true its.1 (sym c.may_run.ensures ∙ c.if-may_run.true)) ∙ before))
 
 -- the row at hand is left out
 pub loop-row-preserved : goal.loop-row-preserved
