@@ -23,7 +23,7 @@ returns-in_ok-plan-in-AddProject g c =
 pub returns-in_ok-plan-in-AddRunner : goal.returns-in_ok-plan-in-AddRunner
 returns-in_ok-plan-in-AddRunner g c =
     let plan = c.in_ok-plan-in-AddRunner.plan in
-    let made = c.without_rows in
+    let made = c.without_rows-in-AddRunner in
     gives g.T.Store.honest g.T.Store.holds g.T.Store.leaves _ _ _ c.add_runner.result plan made.result c.in_ok-plan-in-AddRunner.was c.add_runner.ensures
     (λ k planned kept.
       without_rows c.rows_stay.ensures k kept (λ p. Does k.state k.board c.args.request c.args.now c.args.seed p) plan made.result.answer made.result.changes made.result.rows.items
@@ -34,7 +34,7 @@ returns-in_ok-plan-in-AddRunner g c =
 pub returns-in_ok-plan-in-AppendTrace : goal.returns-in_ok-plan-in-AppendTrace
 returns-in_ok-plan-in-AppendTrace g c =
     let plan = c.in_ok-plan-in-AppendTrace.plan in
-    let made = c.without_rows in
+    let made = c.without_rows-in-AppendTrace in
     gives g.T.Store.honest g.T.Store.holds g.T.Store.leaves _ _ _ c.append_trace.result plan made.result c.in_ok-plan-in-AppendTrace.was c.append_trace.ensures
     (λ k planned kept.
       without_rows c.rows_stay.ensures k kept (λ p. Does k.state k.board c.args.request c.args.now c.args.seed p) plan made.result.answer made.result.changes made.result.rows.items
@@ -45,7 +45,7 @@ returns-in_ok-plan-in-AppendTrace g c =
 pub returns-in_ok-plan-in-ShowJob : goal.returns-in_ok-plan-in-ShowJob
 returns-in_ok-plan-in-ShowJob g c =
     let plan = c.in_ok-plan-in-ShowJob.plan in
-    let made = c.without_rows in
+    let made = c.without_rows-in-ShowJob in
     gives g.T.Store.honest g.T.Store.holds g.T.Store.leaves _ _ _ c.show_job.result plan made.result c.in_ok-plan-in-ShowJob.was c.show_job.ensures
     (λ k planned kept.
       without_rows c.rows_stay.ensures k kept (λ p. Does k.state k.board c.args.request c.args.now c.args.seed p) plan made.result.answer made.result.changes made.result.rows.items
@@ -56,7 +56,7 @@ returns-in_ok-plan-in-ShowJob g c =
 pub returns-in_ok-plan-in-ShowTrace : goal.returns-in_ok-plan-in-ShowTrace
 returns-in_ok-plan-in-ShowTrace g c =
     let plan = c.in_ok-plan-in-ShowTrace.plan in
-    let made = c.without_rows in
+    let made = c.without_rows-in-ShowTrace in
     gives g.T.Store.honest g.T.Store.holds g.T.Store.leaves _ _ _ c.show_trace.result plan made.result c.in_ok-plan-in-ShowTrace.was c.show_trace.ensures
     (λ k planned kept.
       without_rows c.rows_stay.ensures k kept (λ p. Does k.state k.board c.args.request c.args.now c.args.seed p) plan made.result.answer made.result.changes made.result.rows.items
