@@ -20,7 +20,7 @@ use std::marker::Brand;
 use std::sync::ledger::{Blank, Ledger};
 
 /// The rows to put where a live attempt comes to stand as `after` says: of the jobs of its pipeline, and of at least their
-/// needs, attempts and rows. Errors: memory was refused, or these don't fit together, as no records of a sound state do.
+/// needs, attempts and rows. Errors: memory was refused, or these don't fit together.
 pub fn rows_of_end(
     alloc: Global,
     jobs: &[Job],

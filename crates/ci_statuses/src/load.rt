@@ -99,7 +99,7 @@ fn rows_of(alloc: Global, numbers: &[u64], rows: &[BoardRow]) -> Result<Vec<Row>
 }
 
 /// The board of a pipeline: of its jobs, and of at least their needs, attempts and rows. Errors: memory was refused, or
-/// these don't fit together, as no records of a sound state do.
+/// these don't fit together.
 pub fn load_board<L: Ledger>(
     alloc: Global,
     blank: Blank,
