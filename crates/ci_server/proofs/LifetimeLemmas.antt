@@ -77,10 +77,14 @@ module _ {S : Type 0} (g : Ghosts S) (settled : (s : S) (db : Trees) → IsTrue 
   called_open ops new c a s none k (look_failed refuses left is_closed) =
       let is : outcome_of a ≡ StoreFailed = ap outcome_of refuses ∙ outcome-M17 c.0 in
       let now = without_line ops c a s is k in
-      failed ops new c a is is_closed (λ db may. (s, now, ⊎_elim
-      (λ x. record { board = left.before; are_board = left.are_before; stands = x })
-      (λ x. record { board = left.after; are_board = left.are_after; stands = x })
-      (left.left db may)))
+      failed ops new c a is is_closed (λ db may. (
+        s,
+        now,
+        ⊎_elim
+            (λ x. record { board = left.before; are_board = left.are_before; stands = x })
+            (λ x. record { board = left.after; are_board = left.are_after; stands = x })
+            (left.left db may),
+      ))
   called_open ops new c a s none k (commit_failed b t step refuses left is_closed) =
       let is : outcome_of a ≡ StoreFailed = ap outcome_of refuses ∙ outcome-M17 c.0 in
       let leads : Leads (line s c b ∷ k.history) t = (k.leads, step) in

@@ -205,9 +205,9 @@ creation_settled law k is project p now refusing rows says none made = by_projec
     by_project (Some q) =
         cond_both (nat_lt (length p.jobs) 1) (faulted (detail.Code (G 4))) few_plan Right (λ _. unmade (faulted (detail.Code (G 4))) refl)
         (λ _. cond_both (nat_lt MAX_JOBS (length p.jobs)) (faulted (detail.Code (K 11))) named_plan Right (λ _. unmade (faulted (detail.Code (K 11))) refl)
-          (λ _. cond_both (not (has_names p)) (faulted (detail.Code (K 16))) numbered_plan Right (λ _. unmade (faulted (detail.Code (K 16))) refl)
-            (λ _. cond_both (lacks_numbers k.state.next.pipeline first (length p.jobs)) (refused M15) whole Right (λ _. unmade (refused M15) refl)
-              (λ _. by_refusal refusing refl))))
+        (λ _. cond_both (not (has_names p)) (faulted (detail.Code (K 16))) numbered_plan Right (λ _. unmade (faulted (detail.Code (K 16))) refl)
+        (λ _. cond_both (lacks_numbers k.state.next.pipeline first (length p.jobs)) (refused M15) whole Right (λ _. unmade (refused M15) refl)
+        (λ _. by_refusal refusing refl))))
 
 -- a pair by its parts
 pub pair_is : {A B : Type 0} (a : A) (b : B) (p q : A × B) → a ≡ p.0 → b ≡ p.1 → p ≡ q → (a, b) ≡ q
@@ -221,10 +221,10 @@ still_moves s changes moves none =
     ⊎_elim
     (λ e. subst (AllByRecursion (LeavesStatuses s)) (sym e) tt)
     (λ m. subst (AllByRecursion (LeavesStatuses s)) (sym m.2)
-      (cond_both (is_live m.0) None (Some m.0) (λ o. o ≡ None → AllByRecursion (LeavesStatuses s) (Put (row.Attempt m.0) ∷ []))
-        (λ live _. ((m.1.0, m.1.1, m.1.2, m.1.3, both_live m.1.0.state m.0.state m.1.4 live), tt))
-        (λ _ e. absurd (cc))
-        (subst (λ (cs : List RowChange). attempt_ended cs ≡ None) m.2 none)))
+    (cond_both (is_live m.0) None (Some m.0) (λ o. o ≡ None → AllByRecursion (LeavesStatuses s) (Put (row.Attempt m.0) ∷ []))
+    (λ live _. ((m.1.0, m.1.1, m.1.2, m.1.3, both_live m.1.0.state m.0.state m.1.4 live), tt))
+    (λ _ e. absurd (cc))
+    (subst (λ (cs : List RowChange). attempt_ended cs ≡ None) m.2 none)))
     moves
   where
     both_live : (a b : AttemptState) → is_live_state a ≡ true → is_live_state b ≡ true → a ≡ b
@@ -242,8 +242,8 @@ end_moves s changes after moves some =
     ⊎_elim
     (λ e. absurd (let bad : attempt_ended [] ≡ Some after = subst (λ (cs : List RowChange). attempt_ended cs ≡ Some after) e some in cc))
     (λ m.
-      let same : m.0 ≡ after = cond_both (is_live m.0) None (Some m.0) (λ o. o ≡ Some after → m.0 ≡ after) (λ _ e. absurd (cc)) (λ _ e. cc) (subst (λ (cs : List RowChange). attempt_ended cs ≡ Some after) m.2 some) in
-      (subst (HasLive s) same m.1, m.2 ∙ ap (λ (a : Attempt). Put (row.Attempt a) ∷ []) same))
+    let same : m.0 ≡ after = cond_both (is_live m.0) None (Some m.0) (λ o. o ≡ Some after → m.0 ≡ after) (λ _ e. absurd (cc)) (λ _ e. cc) (subst (λ (cs : List RowChange). attempt_ended cs ≡ Some after) m.2 some) in
+    (subst (HasLive s) same m.1, m.2 ∙ ap (λ (a : Attempt). Put (row.Attempt a) ∷ []) same))
     moves
 
 -- ---- a grant
@@ -267,7 +267,7 @@ GrantSettles =
 pub grant_settled : GrantSettles → (k : Kept) → IsKept k → (runner : Runner) (found : Offer) → IsOffered k runner (Some found) → (variables : List JobVariable) (now : ℕ) (seed : Seed)
     (refusing : Bool) → (refusing ≡ true) ↔ ((grant runner found.queued variables k.state.next.attempt now seed).1 ≡ [])
     → Settles k (grant runner found.queued variables k.state.next.attempt now seed).1
-        (if refusing then [] else record found.row { row = record found.row.row { status = status.Running } } ∷ [])
+    (if refusing then [] else record found.row { row = record found.row.row { status = status.Running } } ∷ [])
 grant_settled law k is runner found offered variables now seed refusing says =
     cond_both (nat_lt MAX_NUMBER k.state.next.attempt) (refused M15) (granted runner found.queued variables k.state.next.attempt now seed)
     (λ (p : Plan). ((refusing ≡ true) ↔ (p.1 ≡ [])) → Settles k p.1 (if refusing then [] else its_row ∷ []))

@@ -40,10 +40,7 @@ pub struct Leased {
 }
 
 /// The attempt with a number, with the time limit and the pipeline of its job.
-pub(crate) fn leased_at<T: Store>(
-    store: &mut T,
-    attempt: u64,
-) -> Result<Option<Leased>, StoreFault>
+pub(crate) fn leased_at<T: Store>(store: &mut T, attempt: u64) -> Result<Option<Leased>, StoreFault>
     ensures { LoadsBy T.honest T.holds T.leaves store.old store.new result (λ k l. option_map (λ x. x.lease) l ≡ step.lease_at k.state attempt) }
 {
     match store.attempt(attempt)? {

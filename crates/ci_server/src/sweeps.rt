@@ -39,11 +39,7 @@ pub(crate) fn sweep<T: Store>(
 }
 
 /// The lease ends.
-fn end<T: Store>(
-    alloc: Global,
-    store: &mut T,
-    lease: &Lease,
-) -> Result<Planned<Swept>, StoreFault>
+fn end<T: Store>(alloc: Global, store: &mut T, lease: &Lease) -> Result<Planned<Swept>, StoreFault>
     ensures { LoadsBy T.honest T.holds T.leaves store.old store.new result
         (λ k p. IsKept k → HasLive k.state lease.now.attempt → PlansFor k ((p.answer, p.changes) ≡ machine.sweep (Some lease.now)) p.changes p.rows.items) }
 {

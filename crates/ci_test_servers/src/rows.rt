@@ -122,16 +122,18 @@ fn has_right_rows<S: Alter>(alloc: Global, tables: &mut Tables<S>) -> Result<boo
     }
     let needs = tables.needs_within(0, MAX_NUMBER)?;
     let attempts = tables.attempts_within(0, MAX_NUMBER)?;
-    let wanted = worked_out(alloc, jobs.as_slice(), needs.as_slice(), attempts.as_slice())?;
+    let wanted = worked_out(
+        alloc,
+        jobs.as_slice(),
+        needs.as_slice(),
+        attempts.as_slice(),
+    )?;
     let found = all_rows(tables)?;
     Ok(are_same(found.as_slice(), wanted.as_slice()))
 }
 
 /// The connection, where the rows of its store are those that its records give.
-pub fn rightly<S: Alter + Drop>(
-    alloc: Global,
-    conn: Connection<S>,
-) -> Result<Connection<S>, Fail> {
+pub fn rightly<S: Alter + Drop>(alloc: Global, conn: Connection<S>) -> Result<Connection<S>, Fail> {
     let Ok(mut tables) = Tables::open(conn) else {
         return Err("no tables")?;
     };

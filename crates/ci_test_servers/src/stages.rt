@@ -81,11 +81,7 @@ fn add_needs(changes: &mut Vec<RowChange>, needs: &[Need]) -> Result<(), AllocEr
     Ok(())
 }
 
-fn enter<S: Alter>(
-    alloc: Global,
-    tables: &mut Tables<S>,
-    stages: usize,
-) -> Result<(), Fail> {
+fn enter<S: Alter>(alloc: Global, tables: &mut Tables<S>, stages: usize) -> Result<(), Fail> {
     let jobs = jobs(alloc, stages)?;
     // the first two stages have the first pair alone
     let needs = if stages < 3 { &NEEDS[..1] } else { &NEEDS[..] };

@@ -48,7 +48,10 @@ fn leaves(
         return Err(fail);
     }
     let rows = rows_left(left(server))?;
-    assert!(rt; are_same(rows.as_slice(), wanted), "other rows at {seconds}");
+    assert!(rt;
+        are_same(rows.as_slice(), wanted),
+        "other rows at {seconds}"
+    );
     Ok(())
 }
 

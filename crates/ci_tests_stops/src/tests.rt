@@ -214,7 +214,12 @@ fn each_call_fails_as_a_runner_is_made(rt: HostRuntime) -> Result<(), Fail> {
 
 #[test]
 fn each_call_fails_as_a_pipeline_is_made(rt: HostRuntime) -> Result<(), Fail> {
-    both(&rt, rt.alloc(), Before::Path(2), Act::EnterPipeline(1, &["build"]))
+    both(
+        &rt,
+        rt.alloc(),
+        Before::Path(2),
+        Act::EnterPipeline(1, &["build"]),
+    )
 }
 
 #[test]

@@ -13,8 +13,8 @@ pub returns-in-Some : goal.returns-in-Some
 returns-in-Some g c =
     says g.T.Store.honest g.T.Store.holds g.T.Store.leaves _ _ _ c.rows_behind_end.result c.rows_behind_end.ensures
     (λ k rows is settles kept moves.
-      let one = end_moves k.state c.args.changes.now c.in-Some.after.now moves (sym c.attempt_ended.ensures ∙ ap option_copied c.in-Some.is) in
-      subst (λ (cs : List RowChange). Settles k cs rows.items) (sym one.1) (settles kept one.0))
+    let one = end_moves k.state c.args.changes.now c.in-Some.after.now moves (sym c.attempt_ended.ensures ∙ ap option_copied c.in-Some.is) in
+    subst (λ (cs : List RowChange). Settles k cs rows.items) (sym one.1) (settles kept one.0))
 
 -- none ends, and no row differs
 pub returns-in-None : goal.returns-in-None
@@ -25,5 +25,5 @@ returns-in-None g c = record {
   answered = λ h k held kept moves.
       subst (λ (rs : List BoardRow). Settles k c.args.changes.now rs) (sym c.new.ensures.items)
       (c.rows_stay.ensures k.state k.board c.args.changes.now kept.sound kept.are_board
-        (still_moves k.state c.args.changes.now moves (sym c.attempt_ended.ensures ∙ ap option_copied c.in-None.is)));
+      (still_moves k.state c.args.changes.now moves (sym c.attempt_ended.ensures ∙ ap option_copied c.in-None.is)));
 }

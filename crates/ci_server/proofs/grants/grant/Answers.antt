@@ -25,17 +25,17 @@ returns g c =
     goes_on honest holds leaves _ _ _ _ c.job_variables.result c.in_ok-variables.variables r c.in_ok-variables.was c.job_variables.ensures
     (ends honest holds leaves _ _ c.next.result c.in_ok-next.next r c.in_ok-next.was c.next.ensures)
     (λ k y is variables next kept offered.
-      let w = subst (λ z. IfOk z (λ p. (p.answer ≡ plan.0) × (p.changes ≡ plan.1) × (c.started_rows-rows.result ≡ Ok p.rows))) is c.with_rows.ensures.planned in
-      let vars : c.as_slice.result.now ≡ variables_of k.state q.job.id = c.as_slice.ensures.value ∙ variables in
-      let made = subst (λ z. IfOk z (λ p. p ≡ machine.grant runner q c.as_slice.result.now c.in_ok-next.next c.args.now c.args.seed)) c.in_ok-plan.was c.grant.ensures in
-      let same : plan ≡ machine.grant runner q (variables_of k.state q.job.id) k.state.next.attempt c.args.now c.args.seed =
-      made ∙ (ap (λ (v : List JobVariable). machine.grant runner q v c.in_ok-next.next c.args.now c.args.seed) vars
-        ∙ ap (λ n. machine.grant runner q (variables_of k.state q.job.id) n c.args.now c.args.seed) next) in
-      let rows = subst (λ z. IfOk z (λ rs. rs.items ≡ (if c.is_empty.result then [] else record c.args.offer.now.row { row = record c.args.offer.now.row.row { status = status.Running } } ∷ []))) w.2 c.started_rows-rows.ensures.rows in
-      record {
-        made = pair_is y.answer y.changes plan _ w.0 w.1 same;
-        settled = subst (λ (cs : List RowChange). Settles k cs y.rows.items) (sym (w.1 ∙ ap (λ (p : Plan). p.1) same))
-            (subst (λ (rs : List BoardRow). Settles k (machine.grant runner q (variables_of k.state q.job.id) k.state.next.attempt c.args.now c.args.seed).1 rs) (sym rows)
-              (grant_settled c.grant_settles.ensures k kept runner c.args.offer.now offered (variables_of k.state q.job.id) c.args.now c.args.seed c.is_empty.result
-                (subst (λ (p : Plan). (c.is_empty.result ≡ true) ↔ (p.1 ≡ [])) same c.is_empty.ensures)));
-      })
+    let w = subst (λ z. IfOk z (λ p. (p.answer ≡ plan.0) × (p.changes ≡ plan.1) × (c.started_rows-rows.result ≡ Ok p.rows))) is c.with_rows.ensures.planned in
+    let vars : c.as_slice.result.now ≡ variables_of k.state q.job.id = c.as_slice.ensures.value ∙ variables in
+    let made = subst (λ z. IfOk z (λ p. p ≡ machine.grant runner q c.as_slice.result.now c.in_ok-next.next c.args.now c.args.seed)) c.in_ok-plan.was c.grant.ensures in
+    let same : plan ≡ machine.grant runner q (variables_of k.state q.job.id) k.state.next.attempt c.args.now c.args.seed =
+    made ∙ (ap (λ (v : List JobVariable). machine.grant runner q v c.in_ok-next.next c.args.now c.args.seed) vars
+    ∙ ap (λ n. machine.grant runner q (variables_of k.state q.job.id) n c.args.now c.args.seed) next) in
+    let rows = subst (λ z. IfOk z (λ rs. rs.items ≡ (if c.is_empty.result then [] else record c.args.offer.now.row { row = record c.args.offer.now.row.row { status = status.Running } } ∷ []))) w.2 c.started_rows-rows.ensures.rows in
+    record {
+      made = pair_is y.answer y.changes plan _ w.0 w.1 same;
+      settled = subst (λ (cs : List RowChange). Settles k cs y.rows.items) (sym (w.1 ∙ ap (λ (p : Plan). p.1) same))
+          (subst (λ (rs : List BoardRow). Settles k (machine.grant runner q (variables_of k.state q.job.id) k.state.next.attempt c.args.now c.args.seed).1 rs) (sym rows)
+          (grant_settled c.grant_settles.ensures k kept runner c.args.offer.now offered (variables_of k.state q.job.id) c.args.now c.args.seed c.is_empty.result
+          (subst (λ (p : Plan). (c.is_empty.result ≡ true) ↔ (p.1 ≡ [])) same c.is_empty.ensures)));
+    })

@@ -23,13 +23,13 @@ returns-in_ok-plan-in-Some g c =
     goes_on honest holds leaves _ _ _ _ c.leased_at.result c.in_ok-leased_at.field-0 r c.in_ok-leased_at.was c.leased_at.ensures
     (carries honest holds leaves (λ p. p.rows) _ _ rows r c.rows_behind-rows.ensures (third _ _ _ r c.with_rows.ensures.planned) c.with_rows.ensures.fault)
     (λ k y is found settles kept.
-      let w = subst (λ z. IfOk z (λ p. (p.answer ≡ plan.0) × (p.changes ≡ plan.1) × (rows ≡ Ok p.rows))) is c.with_rows.ensures.planned in
-      let its : lease_at k.state c.args.update.now.attempt ≡ Some lease = sym found ∙ ap (option_map (λ x. x.lease)) c.in-Some.is in
-      let made = subst (λ z. IfOk z (λ p. p ≡ machine.update_job (Some lease) c.args.update.now c.args.now)) c.in_ok-plan-in-Some.was c.update_job-in-Some.ensures in
-      let same : plan ≡ machine.update_job (lease_at k.state c.args.update.now.attempt) c.args.update.now c.args.now =
-      made ∙ ap (λ (o : Option Lease). machine.update_job o c.args.update.now c.args.now) (sym its) in
-      let moves : MovesOne k.state plan.1 = subst (λ (p : Plan). MovesOne k.state p.1) (sym made) (report_moves k.state lease c.args.update.now c.args.now (leased k.state c.args.update.now.attempt lease its)) in
-      record {
-        made = pair_is y.answer y.changes plan _ w.0 w.1 same;
-        settled = subst (λ (cs : List RowChange). Settles k cs y.rows.items) (sym w.1) (settles kept moves);
-      })
+    let w = subst (λ z. IfOk z (λ p. (p.answer ≡ plan.0) × (p.changes ≡ plan.1) × (rows ≡ Ok p.rows))) is c.with_rows.ensures.planned in
+    let its : lease_at k.state c.args.update.now.attempt ≡ Some lease = sym found ∙ ap (option_map (λ x. x.lease)) c.in-Some.is in
+    let made = subst (λ z. IfOk z (λ p. p ≡ machine.update_job (Some lease) c.args.update.now c.args.now)) c.in_ok-plan-in-Some.was c.update_job-in-Some.ensures in
+    let same : plan ≡ machine.update_job (lease_at k.state c.args.update.now.attempt) c.args.update.now c.args.now =
+    made ∙ ap (λ (o : Option Lease). machine.update_job o c.args.update.now c.args.now) (sym its) in
+    let moves : MovesOne k.state plan.1 = subst (λ (p : Plan). MovesOne k.state p.1) (sym made) (report_moves k.state lease c.args.update.now c.args.now (leased k.state c.args.update.now.attempt lease its)) in
+    record {
+      made = pair_is y.answer y.changes plan _ w.0 w.1 same;
+      settled = subst (λ (cs : List RowChange). Settles k cs y.rows.items) (sym w.1) (settles kept moves);
+    })

@@ -20,10 +20,10 @@ returns g c =
     goes_on honest holds leaves _ _ _ _ c.job.result c.in_ok-job.field-0 r c.in_ok-job.was c.job.ensures
     (carries honest holds leaves (λ p. p.rows) _ _ rows r c.rows_behind-rows.ensures (third _ _ _ r c.with_rows.ensures.planned) c.with_rows.ensures.fault)
     (λ k y is found settles kept live.
-      let w = subst (λ z. IfOk z (λ p. (p.answer ≡ plan.0) × (p.changes ≡ plan.1) × (rows ≡ Ok p.rows))) is c.with_rows.ensures.planned in
-      let made = subst (λ z. IfOk z (λ p. p ≡ machine.sweep (Some c.args.lease.now))) c.in_ok-plan.was c.sweep.ensures in
-      let moves : MovesOne k.state plan.1 = subst (λ (p : Swept × List RowChange). MovesOne k.state p.1) (sym made) (sweep_moves k.state c.args.lease.now live) in
-      record {
-        made = pair_is y.answer y.changes plan _ w.0 w.1 made;
-        settled = subst (λ (cs : List RowChange). Settles k cs y.rows.items) (sym w.1) (settles kept moves);
-      })
+    let w = subst (λ z. IfOk z (λ p. (p.answer ≡ plan.0) × (p.changes ≡ plan.1) × (rows ≡ Ok p.rows))) is c.with_rows.ensures.planned in
+    let made = subst (λ z. IfOk z (λ p. p ≡ machine.sweep (Some c.args.lease.now))) c.in_ok-plan.was c.sweep.ensures in
+    let moves : MovesOne k.state plan.1 = subst (λ (p : Swept × List RowChange). MovesOne k.state p.1) (sym made) (sweep_moves k.state c.args.lease.now live) in
+    record {
+      made = pair_is y.answer y.changes plan _ w.0 w.1 made;
+      settled = subst (λ (cs : List RowChange). Settles k cs y.rows.items) (sym w.1) (settles kept moves);
+    })
