@@ -1,4 +1,5 @@
-/* The same commits through the C library: an attempt is added and the next number set, in one transaction each. */
+/* The same commits through the C library: an attempt is added, the next number set and the row of the job put, in one
+   transaction each. */
 #include <sqlite3.h>
 #include <stdio.h>
 #include <stdlib.h>
@@ -29,11 +30,12 @@ int main(int count, char **words) {
     if (count != 2) return 2;
     ok(sqlite3_open(words[1], &db), 0);
     ok(sqlite3_exec(db, "PRAGMA journal_mode = WAL; PRAGMA synchronous = FULL; PRAGMA foreign_keys = ON;"
-                        "DELETE FROM attempt; UPDATE meta SET num = 1 WHERE key = 'next_attempt'", 0, 0, 0), db);
+                        "DELETE FROM attempt; UPDATE meta SET num = 1 WHERE key = 'next_attempt'; UPDATE board SET status = 1", 0, 0, 0), db);
     sqlite3_stmt *begin = prepared(db, "BEGIN IMMEDIATE");
     sqlite3_stmt *commit = prepared(db, "COMMIT");
     sqlite3_stmt *add = prepared(db, "INSERT INTO attempt (id, job, runner, token, granted, seen, state, cause, exit, pieces, size) VALUES (?1, ?2, ?3, ?4, ?5, ?6, ?7, ?8, ?9, 0, 0)");
     sqlite3_stmt *next = prepared(db, "UPDATE meta SET key = ?1, num = ?2 WHERE key = ?1");
+    sqlite3_stmt *row = prepared(db, "UPDATE board SET job = ?1, status = ?2, open = ?3, failed = ?4, barred = ?5 WHERE job = ?1");
     struct timespec from, to;
     clock_gettime(CLOCK_MONOTONIC, &from);
     for (int id = 1; id <= GRANTS; id++) {
@@ -51,6 +53,12 @@ int main(int count, char **words) {
         sqlite3_bind_text(next, 1, "next_attempt", -1, SQLITE_STATIC);
         sqlite3_bind_int64(next, 2, id + 1);
         run(db, next);
+        sqlite3_bind_int64(row, 1, id);
+        sqlite3_bind_int64(row, 2, 2);
+        sqlite3_bind_int64(row, 3, 0);
+        sqlite3_bind_int64(row, 4, 0);
+        sqlite3_bind_int64(row, 5, 0);
+        run(db, row);
         run(db, commit);
     }
     clock_gettime(CLOCK_MONOTONIC, &to);

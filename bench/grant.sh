@@ -10,7 +10,10 @@ set -eu
 need gcc
 gcc -O2 -o "$work/grant_c" "$root/bench/grant.c" -lsqlite3 || stop "bench/grant.c was not built: libsqlite3-dev is wanted"
 build grant "${1:-/dev/shm}"
-granted() { expect 'SELECT count(*), min(id), max(id) FROM attempt' '2000|1|2000'; }
+granted() {
+  expect 'SELECT count(*), min(id), max(id) FROM attempt' '2000|1|2000'
+  expect 'SELECT count(*), min(status), max(status) FROM board' '2000|2|2'
+}
 for turn in 1 2 3 4 5; do
   rm -f bench.db*
   "$program"

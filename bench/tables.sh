@@ -36,7 +36,7 @@ build() {
     cp -r "$root/crates/$low" "$work/crates/"
     grep "^$low:" "$root/crates.txt" >> "$work/crates.txt"
   done
-  echo "bench_$1: ci_machine ci_store sqlite anyhow" >> "$work/crates.txt"
+  echo "bench_$1: ci_board ci_machine ci_store sqlite anyhow" >> "$work/crates.txt"
   cp "$root/bench/$1.rt.txt" "$crate/src/main.rt"
   cp "$root/bench/made.rt.txt" "$crate/src/made.rt"
   : > "$crate/specs/Lib.antt"

@@ -5,3 +5,4 @@ pub mod Statuses
 pub mod PipelineStatus
 pub mod Pass
 pub mod Examples
+pub mod Texts

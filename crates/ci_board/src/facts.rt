@@ -1,5 +1,8 @@
 //! What a job's status is made of: its facts, its row, and what it means to others.
 
+ghost use Rattle.std.specs.Prelude.{◌≡◌};
+ghost use Rattle.ci_board.specs.Texts.{status_text};
+
 use ci_values::attempts::AttemptState;
 
 /// The status of a job, and of a pipeline.
@@ -13,6 +16,24 @@ pub enum Status {
     Canceled,
     Skipped,
     Manual,
+}
+
+impl Status {
+    /// The status in GitLab's words, as users are told it.
+    pub fn as_str(self) -> &'static str
+        ensures { result.now ≡ status_text self }
+    {
+        match self {
+            Status::Created => "created",
+            Status::Pending => "pending",
+            Status::Running => "running",
+            Status::Success => "success",
+            Status::Failed => "failed",
+            Status::Canceled => "canceled",
+            Status::Skipped => "skipped",
+            Status::Manual => "manual",
+        }
+    }
 }
 
 /// What events change of a job.

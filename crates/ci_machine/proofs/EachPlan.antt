@@ -1,7 +1,9 @@
 -- What holds of each plan: a refusal changes nothing, and the machine answers neither M16 nor M17.
-use Rattle.std.proofs.Common.{◌≡◌, ℕ, ◌==◌, List, [], length, not, nat_lt, Option, None, Some, option_map, Result, Ok, Err, refl, sym, ap, subst, ◌∙◌}
+use Rattle.std.proofs.Common.{◌≡◌, ℕ, ◌==◌, List, [], length, not, nat_lt, true, Option, None, Some, option_map, Result, Ok, Err, refl, sym, ap, subst, ◌∙◌}
 use Rattle.std.specs.Str.{bytes_eq}
 use Rattle.std.proofs.lemmas.Bool.{cond_both, false≢true}
+use Rattle.ci_board.specs.declared.facts.Status.{Status}
+use Rattle.ci_machine.specs.declared.records.BoardRow.{BoardRow}
 use Rattle.ci_machine.specs.declared.records.Project.{Project}
 use Rattle.ci_machine.specs.declared.records.Pipeline.{Pipeline}
 use Rattle.ci_machine.specs.declared.records.Job.{Job}
@@ -38,6 +40,7 @@ use Rattle.ci_machine.specs.declared.reply.Swept.{Swept}
 use Rattle.ci_machine.specs.declared.change.RowChange.{RowChange}
 use Rattle.ci_values.specs.Names.{is_name}
 use Rattle.ci_machine.specs.State.{State, applied}
+use Rattle.ci_machine.specs.Statuses.{status_for}
 use Rattle.ci_values.specs.declared.limits.TheConstants.{MAX_NUMBER}
 use Rattle.ci_machine.specs.declared.limits.TheConstants.{MAX_JOBS}
 use Rattle.ci_machine.specs.Plans.{Plan, refused, faulted}
@@ -67,8 +70,8 @@ IsMachineCode M14 = Unit {0}
 IsMachineCode M15 = Unit {0}
 IsMachineCode _ = ⊥
 
--- a fact of each plan that a request may have in a state
-pub record Each (s : State) (P : Plan → Type 0) : Type 0 where
+-- a fact of each plan that a request may have in a state whose jobs have these rows
+pub record Each (s : State) (board : List BoardRow) (P : Plan → Type 0) : Type 0 where
   pub refused : (c : Code) → IsMachineCode c → P (refused c)
   pub faulted : (d : Detail) → P (faulted d)
   pub project : (name : List ℕ) (seed : Seed) → P (made_project s.next.project name seed)
@@ -76,16 +79,16 @@ pub record Each (s : State) (P : Plan → Type 0) : Type 0 where
   pub pipeline : (project : Project) (p : NewPipeline) (now : ℕ) → project_at s p.project ≡ Some project → P (entered s.next.pipeline s.next.job p now)
   pub nothing : P nothing_to_run
   pub granted : (runner : Runner) (job : Job) (q : QueuedJob) (variables : List JobVariable) (now : ℕ) (seed : Seed)
-      → Has runner s.runners → Has job s.jobs → job.id ≡ q.job.id → P (granted runner q variables s.next.attempt now seed)
+      → Has runner s.runners → Has job s.jobs → is_pending board job ≡ true → job.id ≡ q.job.id → P (granted runner q variables s.next.attempt now seed)
   pub turned_away : (fault : LeaseFault) → P (unleased fault, [])
   pub heard : (a : Attempt) (seen : ℕ) → Has a s.attempts → P (heard a (Ok seen))
   pub ended : (a : Attempt) (state : AttemptState) → Has a s.attempts → P (ended a (Ok state))
   pub misplaced : (fault : PieceFault) → P (not_accepted fault, [])
   pub grown : (a : Attempt) (bytes : List ℕ) (now size : ℕ) → Has a s.attempts → P (grown a bytes now size)
-  pub shown : (job : Job) (last : Option Attempt) → P (job_shown job last)
+  pub shown : (job : Job) (status : Status) → P (job_shown job status)
   pub traced : (pieces : List Piece) → P (trace_shown pieces)
 
-module _ (s : State) (P : Plan → Type 0) (each : Each s P) where
+module _ (s : State) (board : List BoardRow) (P : Plan → Type 0) (each : Each s board P) where
   projects : (name : List ℕ) (seed : Seed) → P (add_project s.next.project name seed)
   projects name seed =
       cond_both (not (is_name name)) (faulted (detail.Code (K 16))) _ P (λ _. each.faulted (detail.Code (K 16))) (λ _.
@@ -105,20 +108,21 @@ module _ (s : State) (P : Plan → Type 0) (each : Each s P) where
       cond_both (lacks_numbers s.next.pipeline s.next.job (length p.jobs)) (refused M15) (entered s.next.pipeline s.next.job p now) P (λ _. each.refused M15 tt)
       (λ _. each.pipeline project p now found))))
 
-  offers : (now : ℕ) (seed : Seed) (runner : Runner) → Has runner s.runners → (q : Option QueuedJob) → chosen (queue s) runner ≡ q → (variables : List JobVariable)
+  offers : (now : ℕ) (seed : Seed) (runner : Runner) → Has runner s.runners → (q : Option QueuedJob) → chosen (queue s board) runner ≡ q → (variables : List JobVariable)
       → P (ask_job (Some runner) q variables s.next.attempt now seed)
   offers now seed runner has None offered variables = each.nothing
   offers now seed runner has (Some q) offered variables =
-      let at = find-map (queued s) (may_run runner) q (pending_jobs s) offered in
-      let first = has_find (λ (j : Job). may_run runner (queued s j)) at.0 (pending_jobs s) at.1.1 in
+      let at = find-map (queued s) (may_run runner) q (pending_jobs s board) offered in
+      let first = has_find (λ (j : Job). may_run runner (queued s j)) at.0 (pending_jobs s board) at.1.1 in
+      let is_job = has_filter (is_pending board) at.0 s.jobs first.0 in
       cond_both (nat_lt MAX_NUMBER s.next.attempt) (refused M15) (granted runner q variables s.next.attempt now seed) P (λ _. each.refused M15 tt)
-      (λ _. each.granted runner at.0 q variables now seed has (has_filter (is_pending s) at.0 s.jobs first.0).0 (ap (λ (w : QueuedJob). w.job.id) at.1.0))
+      (λ _. each.granted runner at.0 q variables now seed has is_job.0 is_job.1 (ap (λ (w : QueuedJob). w.job.id) at.1.0))
 
   asks : (token : List ℕ) (now : ℕ) (seed : Seed) (runner : Option Runner) → runner_with s token ≡ runner
-      → P (ask_job runner (offer s runner) (offered_variables s (offer s runner)) s.next.attempt now seed)
+      → P (ask_job runner (offer s board runner) (offered_variables s (offer s board runner)) s.next.attempt now seed)
   asks token now seed None found = each.refused M4 tt
   asks token now seed (Some runner) found =
-      offers now seed runner (has_find (λ (r : Runner). bytes_eq r.token token) runner s.runners found).0 (chosen (queue s) runner) refl _
+      offers now seed runner (has_find (λ (r : Runner). bytes_eq r.token token) runner s.runners found).0 (chosen (queue s board) runner) refl _
 
   hears : (a : Attempt) → Has a s.attempts → (seen : Result ℕ LeaseFault) → P (heard a seen)
   hears a has (Ok seen) = each.heard a seen has
@@ -162,18 +166,18 @@ asked Q fine refused None job pipeline query = refused M1 tt
 asked Q fine refused (Some project) job pipeline query =
     cond_both (project.id == query.project) (job_within job pipeline project.id) (Err M2) Q (λ _. within Q fine refused job pipeline project.id) (λ _. refused M2 tt)
 
-pub does : (s : State) (P : Plan → Type 0) → Each s P → (request : Request) (now : ℕ) (seed : Seed) (plan : Plan) → Does s request now seed plan → P plan
-does s P each (AddProject name) now seed plan is = subst P (sym is) (projects s P each name seed)
-does s P each (AddRunner name) now seed plan is = subst P (sym is) (runners s P each name seed)
-does s P each (EnterPipeline p) now seed plan is = subst P (sym is) (pipelines s P each p now (project_at s p.project) refl)
-does s P each (AskJob token) now seed plan is = subst P (sym is) (asks s P each token now seed (runner_with s token) refl)
-does s P each (UpdateJob update) now seed plan is = subst P (sym is) (updates s P each update now (attempt_at s update.attempt) refl)
-does s P each (AppendTrace part) now seed plan is = subst P (sym is) (appends s P each part now (attempt_at s part.attempt) refl)
-does s P each (ShowJob query) now seed plan is =
+pub does : (s : State) (board : List BoardRow) (P : Plan → Type 0) → Each s board P → (request : Request) (now : ℕ) (seed : Seed) (plan : Plan) → Does s board request now seed plan → P plan
+does s board P each (AddProject name) now seed plan is = subst P (sym is) (projects s board P each name seed)
+does s board P each (AddRunner name) now seed plan is = subst P (sym is) (runners s board P each name seed)
+does s board P each (EnterPipeline p) now seed plan is = subst P (sym is) (pipelines s board P each p now (project_at s p.project) refl)
+does s board P each (AskJob token) now seed plan is = subst P (sym is) (asks s board P each token now seed (runner_with s token) refl)
+does s board P each (UpdateJob update) now seed plan is = subst P (sym is) (updates s board P each update now (attempt_at s update.attempt) refl)
+does s board P each (AppendTrace part) now seed plan is = subst P (sym is) (appends s board P each part now (attempt_at s part.attempt) refl)
+does s board P each (ShowJob query) now seed plan is =
     let job = job_at s query.job in
-    let last = last_attempt s query.job in
-    subst P (sym is) (asked (λ r. P (shown r last)) (λ j. each.shown j last) (λ c m. each.refused c m) (project_with s query.token) job (pipeline_of s job) query)
-does s P each (ShowTrace query) now seed plan is =
+    let status = status_for board query.job in
+    subst P (sym is) (asked (λ r. P (shown r status)) (λ j. each.shown j status) (λ c m. each.refused c m) (project_with s query.token) job (pipeline_of s job) query)
+does s board P each (ShowTrace query) now seed plan is =
     let job = job_at s query.job in
     let pieces = pieces_in s (last_attempt s query.job) in
     subst P (sym is) (asked (λ r. P (traced r pieces)) (λ j. each.traced pieces) (λ c m. each.refused c m) (project_with s query.token) job (pipeline_of s job) query)
@@ -182,21 +186,21 @@ does s P each (ShowTrace query) now seed plan is =
 abbrev Keeps : Plan → Type 0
 Keeps plan = IsRefusal (answer.Reply plan.0) → plan.1 ≡ []
 
-keeps : (s : State) → Each s Keeps
-keeps s = record {
+keeps : (s : State) (board : List BoardRow) → Each s board Keeps
+keeps s board = record {
   refused = λ c _ _. refl;
   faulted = λ d _. refl;
   project = λ name seed refused. absurd (false≢true refused);
   runner = λ name seed refused. absurd (false≢true refused);
   pipeline = λ project p now found refused. absurd (false≢true refused);
   nothing = λ _. refl;
-  granted = λ runner job q variables now seed h k e refused. absurd (false≢true refused);
+  granted = λ runner job q variables now seed h k m e refused. absurd (false≢true refused);
   turned_away = λ fault _. refl;
   heard = λ a seen has refused. absurd (false≢true refused);
   ended = λ a state has refused. absurd (false≢true refused);
   misplaced = λ fault _. refl;
   grown = λ a bytes now size has refused. absurd (false≢true refused);
-  shown = λ job last refused. absurd (false≢true refused);
+  shown = λ job status refused. absurd (false≢true refused);
   traced = λ pieces refused. absurd (false≢true refused);
 }
 
@@ -205,36 +209,36 @@ swept_keeps : (due : Option Lease) → IsRefusal (answer.Swept (sweep due).0) �
 swept_keeps None refused = refl
 swept_keeps (Some l) refused = absurd refused
 
-refused_keeps : (s : State) (e : Event) (now : ℕ) (seed : Seed) (a : Answer) (changes : List RowChange) → Happens s e now seed a changes → IsRefusal a → changes ≡ []
-refused_keeps s (event.Request request) now seed (answer.Reply reply) changes is refused = does s Keeps (keeps s) request now seed (reply, changes) is refused
-refused_keeps s event.Sweep now seed (answer.Swept swept) changes is refused =
+refused_keeps : (s : State) (board : List BoardRow) (e : Event) (now : ℕ) (seed : Seed) (a : Answer) (changes : List RowChange) → Happens s board e now seed a changes → IsRefusal a → changes ≡ []
+refused_keeps s board (event.Request request) now seed (answer.Reply reply) changes is refused = does s board Keeps (keeps s board) request now seed (reply, changes) is refused
+refused_keeps s board event.Sweep now seed (answer.Swept swept) changes is refused =
     let P : Swept × List RowChange → Type 0 = λ plan. IsRefusal (answer.Swept plan.0) → plan.1 ≡ [] in
     subst P (sym is) (swept_keeps (first_due (leases s) now)) refused
-refused_keeps s (event.Request request) now seed (answer.Swept swept) changes is refused = absurd is
-refused_keeps s event.Sweep now seed (answer.Reply reply) changes is refused = absurd is
+refused_keeps s board (event.Request request) now seed (answer.Swept swept) changes is refused = absurd is
+refused_keeps s board event.Sweep now seed (answer.Reply reply) changes is refused = absurd is
 
 pub unchanged : (s t : State) (e : Event) (now : ℕ) (seed : Seed) (a : Answer) → Step s e now seed a t → IsRefusal a → t ≡ s
-unchanged s t e now seed a step refused = step.state ∙ ap (λ cs. applied cs s) (refused_keeps s e now seed a step.changes step.happens refused)
+unchanged s t e now seed a step refused = step.state ∙ ap (λ cs. applied cs s) (refused_keeps s step.before e now seed a step.changes step.happens refused)
 
 -- the machine answers neither M16 nor M17
 abbrev IsStep : Plan → Type 0
 IsStep plan = outcome_of (answer.Reply plan.0) ≡ Stepped
 
-steps : (s : State) → Each s IsStep
-steps s = record {
+steps : (s : State) (board : List BoardRow) → Each s board IsStep
+steps s board = record {
   refused = stepped;
   faulted = λ d. refl;
   project = λ name seed. refl;
   runner = λ name seed. refl;
   pipeline = λ project p now found. refl;
   nothing = refl;
-  granted = λ runner job q variables now seed h k e. refl;
+  granted = λ runner job q variables now seed h k m e. refl;
   turned_away = away;
   heard = λ a seen has. refl;
   ended = λ a state has. refl;
   misplaced = misplaces;
   grown = λ a bytes now size has. refl;
-  shown = λ job last. refl;
+  shown = λ job status. refl;
   traced = λ pieces. refl;
 } where
   away : (fault : LeaseFault) → IsStep (unleased fault, [])
@@ -273,11 +277,11 @@ swept_steps : (due : Option Lease) → outcome_of (answer.Swept (sweep due).0) �
 swept_steps None = refl
 swept_steps (Some l) = refl
 
-all_step : (s : State) (e : Event) (now : ℕ) (seed : Seed) (a : Answer) (changes : List RowChange) → Happens s e now seed a changes → outcome_of a ≡ Stepped
-all_step s (event.Request request) now seed (answer.Reply reply) changes is = does s IsStep (steps s) request now seed (reply, changes) is
-all_step s event.Sweep now seed (answer.Swept swept) changes is = ap (λ plan. outcome_of (answer.Swept plan.0)) is ∙ swept_steps (first_due (leases s) now)
-all_step s (event.Request request) now seed (answer.Swept swept) changes is = absurd is
-all_step s event.Sweep now seed (answer.Reply reply) changes is = absurd is
+all_step : (s : State) (board : List BoardRow) (e : Event) (now : ℕ) (seed : Seed) (a : Answer) (changes : List RowChange) → Happens s board e now seed a changes → outcome_of a ≡ Stepped
+all_step s board (event.Request request) now seed (answer.Reply reply) changes is = does s board IsStep (steps s board) request now seed (reply, changes) is
+all_step s board event.Sweep now seed (answer.Swept swept) changes is = ap (λ plan. outcome_of (answer.Swept plan.0)) is ∙ swept_steps (first_due (leases s) now)
+all_step s board (event.Request request) now seed (answer.Swept swept) changes is = absurd is
+all_step s board event.Sweep now seed (answer.Reply reply) changes is = absurd is
 
 pub answered : (s t : State) (e : Event) (now : ℕ) (seed : Seed) (a : Answer) → Step s e now seed a t → outcome_of a ≡ Stepped
-answered s t e now seed a step = all_step s e now seed a step.changes step.happens
+answered s t e now seed a step = all_step s step.before e now seed a step.changes step.happens

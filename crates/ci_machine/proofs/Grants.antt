@@ -1,5 +1,5 @@
 -- Attempts in every state that a history leads to: which are live, and how each was granted.
-use Rattle.std.specs.Prelude.{◌≡◌, ◌⊎◌, ℕ, ◌+◌, ◌<◌, ◌≤◌, true, false, ◌==◌, ◌&&◌, List, [], ◌∷◌, filter}
+use Rattle.std.specs.Prelude.{◌≡◌, ◌⊎◌, ℕ, ◌+◌, ◌<◌, ◌≤◌, true, false, ◌==◌, ◌&&◌, List, [], ◌∷◌, filter, Some, None}
 use Rattle.std.proofs.Common.{refl, sym, ap, subst, ◌∙◌, ⊎_elim, arith, eqb-true, eq-eqb}
 use Rattle.std.proofs.lemmas.Bool.{cond-true, cond-false, and_parts, ne_eqb}
 use Rattle.ci_machine.specs.declared.records.Runner.{Runner}
@@ -8,10 +8,12 @@ use Rattle.ci_machine.specs.declared.records.Attempt.{Attempt}
 use Rattle.ci_machine.specs.declared.request.Event.TheVariants as event
 use Rattle.ci_machine.specs.declared.request.Request.TheVariants.{AskJob}
 use Rattle.ci_machine.specs.State.{State, empty, attempt_cmp, put}
+use Rattle.ci_machine.specs.Statuses.{attempts_of}
 use Rattle.ci_machine.specs.Leases.{is_live}
+use Rattle.ci_machine.specs.Step.{last_attempt}
 use Rattle.ci_machine.specs.History.{Past}
 use Rattle.ci_machine.specs.Laws.{grants, IsLeastEligible, WasGranted, OneLease}
-use Rattle.ci_machine.proofs.Keyed.{Has, Rising, has_put, rising_put, count_one}
+use Rattle.ci_machine.proofs.Keyed.{Has, Rising, has_put, rising_put, rising_filter, has_filter, filter_has, last_greatest, count_one}
 
 -- what the attempts are, besides their traces
 pub record Grants (h : List Past) (s : State) : Type 0 where
@@ -33,6 +35,13 @@ one_lease h s i job = count_one (λ a. a.id) (λ a. is_live a && (a.job == job))
     let ba : b.id ≤ a.id = i.is_last a b k l x.0 same in
     let ab : a.id ≤ b.id = i.is_last b a l k y.0 (sym same) in
     omega arith)
+
+-- and a live attempt stands last among those of its job
+pub live_last : (h : List Past) (s : State) → Grants h s → (a : Attempt) → Has a s.attempts → is_live a ≡ true → last_attempt s a.job ≡ Some a
+live_last h s i a k live =
+    let its = λ (b : Attempt). b.job == a.job in
+    last_greatest (λ (b : Attempt). b.id) a None 0 (attempts_of s a.job) (rising_filter (λ (b : Attempt). b.id) its 0 s.attempts i.rise) (filter_has its a s.attempts k (eq-eqb a.job a.job refl))
+    (λ b m. let w = has_filter its b s.attempts m in i.is_last a b k w.0 live (sym (eqb-true b.job a.job w.1)))
 
 pub grants_empty : Grants [] empty
 grants_empty = record {

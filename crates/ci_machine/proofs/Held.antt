@@ -1,10 +1,12 @@
 -- What stays, which records others name, and what sweeps end, in every state that a history leads to; and all its laws.
-use Rattle.std.specs.Prelude.{◌≡◌, ◌⊎◌, ℕ, ◌+◌, ◌<◌, ◌≤◌, Bool, true, false, ◌==◌, ◌&&◌, not, max, List, [], ◌∷◌, ◌++◌, length, map, find, Option, Some, None, Contains}
+use Rattle.std.specs.Prelude.{◌≡◌, ◌⊎◌, ℕ, ◌+◌, ◌<◌, ◌≤◌, Bool, true, false, ◌==◌, ◌&&◌, not, max, List, [], ◌∷◌, ◌++◌, length, map, filter, find, Option, Some, None, Contains}
 use Rattle.std.specs.List.{flat_map}
 use Rattle.std.specs.Ordering.{nat_cmp, is_eq, is_lt}
 use Rattle.std.specs.declared.cmp.Ordering.{Ordering}
 use Rattle.std.proofs.Common.{refl, sym, ap, subst, ◌∙◌, inl, inr, ⊎_elim, arith, eqb-true}
 use Rattle.std.proofs.lemmas.Bool.{and_parts, cases_Bool, cond_both}
+use Rattle.ci_machine.specs.declared.records.BoardRow.{BoardRow}
+use Rattle.ci_machine.specs.declared.records.Need.{Need}
 use Rattle.ci_machine.specs.declared.records.Project.{Project}
 use Rattle.ci_machine.specs.declared.records.Runner.{Runner}
 use Rattle.ci_machine.specs.declared.records.Pipeline.{Pipeline}
@@ -24,6 +26,7 @@ use Rattle.ci_machine.specs.declared.reply.Answer.{Answer}
 use Rattle.ci_machine.specs.declared.reply.Answer.TheVariants as answer
 use Rattle.ci_machine.specs.declared.reply.Swept.{Swept}
 use Rattle.ci_machine.specs.State.{State, empty, applied, placed, put, others, pipeline_cmp, job_cmp, job_variable_cmp, attempt_cmp}
+use Rattle.ci_machine.specs.Statuses.{attempts_of, AreBoard}
 use Rattle.ci_machine.specs.Leases.{is_live, cause_of, is_over, first_due}
 use Rattle.ci_machine.specs.Plans.{Plan}
 use Rattle.ci_machine.specs.Pipelines.{new_job, new_jobs, new_pipeline, predefined, job_changes, entered}
@@ -32,17 +35,14 @@ use Rattle.ci_machine.specs.Traces.{grown as traces_grown}
 use Rattle.ci_machine.specs.Step.{Happens, project_at, lease_of, leases, live_attempts}
 use Rattle.ci_machine.specs.History.{Past, Leads}
 use Rattle.ci_machine.specs.Laws.{WasGranted, IsTraced, EndsStay, Stay, project_for_good, runner_for_good, job_for_good, attempt_for_good, Stays, IsLinked, is_due, SweepsLeast, IsSweptBy, is_grant, GivesInOrder, Laws}
-use Rattle.ci_machine.proofs.Keyed.{Has, Rising, has_put, put_has, same, rising_filter, filter_has, has_filter, has_find, least_find, find-map, one_at, All-from_has, contains_from_has}
+use Rattle.ci_machine.proofs.Keyed.{Has, Rising, has_put, put_has, same, rising_filter, filter_has, has_filter, has_find, least_find, find-map, one_at, All-from_has, contains_from_has, Below, Named, has_map, contains_named}
+use Rattle.ci_machine.proofs.Counts.{passing_new, passing_put}
 use Rattle.ci_machine.proofs.EachPlan.{Each, does}
 use Rattle.ci_machine.proofs.Grants.{one_lease}
 use Rattle.ci_machine.proofs.Reached.{reached}
 use Rattle.ci_machine.proofs.Variables.{Ordered, changes_ordered, gives_in_order}
 
 -- ---- lists
-
-has_map : {A B : Type 0} (f : A → B) (x : A) (xs : List A) → Has x xs → Has (f x) (map f xs)
-has_map f x [] k = absurd k
-has_map f x (z ∷ zs) k = ⊎_elim (λ e. inl (ap f e)) (λ m. inr (has_map f x zs m)) k
 
 find_none : {A : Type 0} (p : A → Bool) (x : A) (xs : List A) → find p xs ≡ None → Has x xs → p x ≡ false
 find_none p x [] e k = absurd k
@@ -57,7 +57,7 @@ has_self cmp x [] = inl refl
 has_self cmp x (z ∷ zs) = cond_both (is_lt (cmp z x)) (z ∷ placed cmp x zs) (x ∷ z ∷ zs) (λ l. Has x l) (λ _. inr (has_self cmp x zs)) (λ _. inl refl)
 
 -- each record of the one list is in the other, with what it has for good
-abbrev Kept : {A : Type 0} → (A → A) → List A → List A → Type 0
+abbrev pub Kept : {A : Type 0} → (A → A) → List A → List A → Type 0
 Kept {A} f xs ys = (x : A) → Has x xs → (y : A) × (Has y ys × (f y ≡ f x))
 
 kept : {A : Type 0} (f : A → A) (xs ys : List A) → ys ≡ xs → Kept f xs ys
@@ -68,10 +68,6 @@ kept_through f xs ys zs a b x k =
     let y = a x k in
     let z = b y.0 y.1.0 in
     (z.0, (z.1.0, z.1.1 ∙ y.1.1))
-
--- all numbers are less than n
-abbrev Below : {A : Type 0} → (A → ℕ) → ℕ → List A → Type 0
-Below {A} id n xs = (x : A) → Has x xs → id x < n
 
 below_put : {A : Type 0} (id : A → ℕ) (x : A) (n m : ℕ) (xs : List A) → Below id n xs → n ≤ m → id x < m → Below id m (put (λ a b. nat_cmp (id a) (id b)) x xs)
 below_put id x n m xs b l lt y k =
@@ -96,22 +92,15 @@ kept_put id f x a xs r has same_id good y k =
     (λ e. (y, (put_has cmp x y xs k (ap not e), refl)))
     (cases_Bool (is_eq (nat_cmp (id y) (id x))))
 
--- a record of the list has this number
-abbrev Named : {A : Type 0} → (A → ℕ) → ℕ → List A → Type 0
-Named {A} id n xs = (x : A) × (Has x xs × (id x ≡ n))
-
 named_kept : {A : Type 0} (id : A → ℕ) (f : A → A) (n : ℕ) (xs ys : List A) → ((x y : A) → f y ≡ f x → id y ≡ id x) → Kept f xs ys → Named id n xs → Named id n ys
 named_kept id f n xs ys g k w =
     let y = k w.0 w.1.0 in
     (y.0, (y.1.0, g w.0 y.0 y.1.1 ∙ w.1.1))
 
-contains_named : {A : Type 0} (id : A → ℕ) (n : ℕ) (xs : List A) → Named id n xs → Contains (map id xs) n
-contains_named id n xs w = contains_from_has n (map id xs) (subst (λ m. Has m (map id xs)) w.1.1 (has_map id w.0 xs w.1.0))
-
 -- ---- what a step leaves
 
 -- what was there is there
-record Later (s t : State) : Type 0 where
+pub record Later (s t : State) : Type 0 where
   projects : Kept project_for_good s.projects t.projects
   runners : Kept runner_for_good s.runners t.runners
   pipelines : Kept (λ p. p) s.pipelines t.pipelines
@@ -137,15 +126,21 @@ later_self s = record {
 }
 
 -- numbers that are still to come are new, and the records that others name are there
-record Linked (s : State) : Type 0 where
-  project_below : Below (λ (p : Project). p.id) s.next.project s.projects
-  runner_below : Below (λ (r : Runner). r.id) s.next.runner s.runners
-  pipeline_below : Below (λ (p : Pipeline). p.id) s.next.pipeline s.pipelines
-  job_below : Below (λ (j : Job). j.id) s.next.job s.jobs
-  attempt_job : (a : Attempt) → Has a s.attempts → Named (λ (j : Job). j.id) a.job s.jobs
-  attempt_runner : (a : Attempt) → Has a s.attempts → Named (λ (r : Runner). r.id) a.runner s.runners
-  job_pipeline : (j : Job) → Has j s.jobs → Named (λ (p : Pipeline). p.id) j.pipeline s.pipelines
-  pipeline_project : (p : Pipeline) → Has p s.pipelines → Named (λ (q : Project). q.id) p.project s.projects
+pub record Linked (s : State) : Type 0 where
+  pub project_below : Below (λ (p : Project). p.id) s.next.project s.projects
+  pub runner_below : Below (λ (r : Runner). r.id) s.next.runner s.runners
+  pub pipeline_below : Below (λ (p : Pipeline). p.id) s.next.pipeline s.pipelines
+  pub job_below : Below (λ (j : Job). j.id) s.next.job s.jobs
+  pub attempt_job : (a : Attempt) → Has a s.attempts → Named (λ (j : Job). j.id) a.job s.jobs
+  pub attempt_runner : (a : Attempt) → Has a s.attempts → Named (λ (r : Runner). r.id) a.runner s.runners
+  pub job_pipeline : (j : Job) → Has j s.jobs → Named (λ (p : Pipeline). p.id) j.pipeline s.pipelines
+  pub pipeline_project : (p : Pipeline) → Has p s.pipelines → Named (λ (q : Project). q.id) p.project s.projects
+  pub need_job : (w : Need) → Has w s.needs → Named (λ (j : Job). j.id) w.job s.jobs
+  pub need_pred : (w : Need) → Has w s.needs → Named (λ (j : Job). j.id) w.pred s.jobs
+  pub first_job : 1 ≤ s.next.job
+  pub positive : (j : Job) → Has j s.jobs → 1 ≤ j.id
+  -- no more of a job's attempts are set aside than it has
+  pub aside : (j : Job) → Has j s.jobs → j.set_aside ≤ length (attempts_of s j.id)
 
 -- the next state: what was there is there, and its new records are linked
 record Next (s t : State) : Type 0 where
@@ -154,9 +149,13 @@ record Next (s t : State) : Type 0 where
   runner_below : Below (λ (r : Runner). r.id) t.next.runner t.runners
   pipeline_below : Below (λ (p : Pipeline). p.id) t.next.pipeline t.pipelines
   job_below : Below (λ (j : Job). j.id) t.next.job t.jobs
+  next_job : s.next.job ≤ t.next.job
   attempts : (a : Attempt) → Has a t.attempts → Has a s.attempts ⊎ (Named (λ (j : Job). j.id) a.job t.jobs × Named (λ (r : Runner). r.id) a.runner t.runners)
-  jobs : (j : Job) → Has j t.jobs → Has j s.jobs ⊎ Named (λ (p : Pipeline). p.id) j.pipeline t.pipelines
+  jobs : (j : Job) → Has j t.jobs → Has j s.jobs ⊎ (Named (λ (p : Pipeline). p.id) j.pipeline t.pipelines × ((s.next.job ≤ j.id) × (j.set_aside ≤ length (attempts_of t j.id))))
+  -- no job has fewer attempts
+  counts : (job : ℕ) → length (attempts_of s job) ≤ length (attempts_of t job)
   pipelines : (p : Pipeline) → Has p t.pipelines → Has p s.pipelines ⊎ Named (λ (q : Project). q.id) p.project t.projects
+  needs : (w : Need) → Has w t.needs → Has w s.needs ⊎ (Named (λ (j : Job). j.id) w.job t.jobs × Named (λ (j : Job). j.id) w.pred t.jobs)
 
 linked_on : (s t : State) → Linked s → Next s t → Linked t
 linked_on s t i n = record {
@@ -166,8 +165,13 @@ linked_on s t i n = record {
   job_below = n.job_below;
   attempt_job = λ a k. ⊎_elim (λ m. named_kept (λ (j : Job). j.id) job_for_good a.job s.jobs t.jobs (λ x y e. ap (λ (j : Job). j.id) e) n.later.jobs (i.attempt_job a m)) (λ w. w.0) (n.attempts a k);
   attempt_runner = λ a k. ⊎_elim (λ m. named_kept (λ (r : Runner). r.id) runner_for_good a.runner s.runners t.runners (λ x y e. ap (λ (r : Runner). r.id) e) n.later.runners (i.attempt_runner a m)) (λ w. w.1) (n.attempts a k);
-  job_pipeline = λ j k. ⊎_elim (λ m. named_kept (λ (p : Pipeline). p.id) (λ p. p) j.pipeline s.pipelines t.pipelines (λ x y e. ap (λ (p : Pipeline). p.id) e) n.later.pipelines (i.job_pipeline j m)) (λ w. w) (n.jobs j k);
+  job_pipeline = λ j k. ⊎_elim (λ m. named_kept (λ (p : Pipeline). p.id) (λ p. p) j.pipeline s.pipelines t.pipelines (λ x y e. ap (λ (p : Pipeline). p.id) e) n.later.pipelines (i.job_pipeline j m)) (λ w. w.0) (n.jobs j k);
   pipeline_project = λ p k. ⊎_elim (λ m. named_kept (λ (q : Project). q.id) project_for_good p.project s.projects t.projects (λ x y e. ap (λ (q : Project). q.id) e) n.later.projects (i.pipeline_project p m)) (λ w. w) (n.pipelines p k);
+  need_job = λ w k. ⊎_elim (λ m. named_kept (λ (j : Job). j.id) job_for_good w.job s.jobs t.jobs (λ x y e. ap (λ (j : Job). j.id) e) n.later.jobs (i.need_job w m)) (λ v. v.0) (n.needs w k);
+  need_pred = λ w k. ⊎_elim (λ m. named_kept (λ (j : Job). j.id) job_for_good w.pred s.jobs t.jobs (λ x y e. ap (λ (j : Job). j.id) e) n.later.jobs (i.need_pred w m)) (λ v. v.1) (n.needs w k);
+  first_job = let a = i.first_job in let b = n.next_job in omega arith;
+  positive = λ j k. ⊎_elim (λ m. i.positive j m) (λ w. let a = i.first_job in let b : s.next.job ≤ j.id = w.1.0 in omega arith) (n.jobs j k);
+  aside = λ j k. ⊎_elim (λ m. let a = i.aside j m in let b = n.counts j.id in omega arith) (λ w. w.1.1) (n.jobs j k);
 }
 
 -- nothing changes
@@ -178,9 +182,12 @@ rests s i = record {
   runner_below = i.runner_below;
   pipeline_below = i.pipeline_below;
   job_below = i.job_below;
+  next_job = omega arith;
+  counts = λ n. omega arith;
   attempts = λ a k. inl k;
   jobs = λ j k. inl k;
   pipelines = λ p k. inl k;
+  needs = λ w k. inl k;
 }
 
 -- an attempt in place of one of its number, job, runner, token and grant
@@ -198,6 +205,8 @@ alters s x a i r has good = record {
   runner_below = i.runner_below;
   pipeline_below = i.pipeline_below;
   job_below = i.job_below;
+  next_job = omega arith;
+  counts = λ n. passing_put (λ (b : Attempt). b.id) (λ (b : Attempt). b.job == n) x a s.attempts r has (ap (λ (b : Attempt). b.id) good) (ap (λ (b : Attempt). b.job == n) good);
   attempts = λ b k. ⊎_elim
       (λ e. let same_job : a.job ≡ b.job = sym (ap (λ (c : Attempt). c.job) e ∙ ap (λ (c : Attempt). c.job) good) in
       let same_runner : a.runner ≡ b.runner = sym (ap (λ (c : Attempt). c.runner) e ∙ ap (λ (c : Attempt). c.runner) good) in
@@ -205,6 +214,7 @@ alters s x a i r has good = record {
       (λ m. inl m) (has_put attempt_cmp x b s.attempts k);
   jobs = λ j k. inl k;
   pipelines = λ p k. inl k;
+  needs = λ w k. inl k;
 }
 
 -- ---- the jobs of a new pipeline
@@ -222,14 +232,14 @@ applied-append [] ys s = refl
 applied-append (x ∷ xs) ys s = applied-append xs ys _
 
 -- what rows of jobs and of their variables leave
-record Adds (s t : State) (pipeline n : ℕ) : Type 0 where
+record Adds (s t : State) (pipeline first n : ℕ) : Type 0 where
   others : record (main t) { jobs = [] } ≡ record (main s) { jobs = [] }
   kept : Kept job_for_good s.jobs t.jobs
-  new : (j : Job) → Has j t.jobs → Has j s.jobs ⊎ (j.pipeline ≡ pipeline)
+  new : (j : Job) → Has j t.jobs → Has j s.jobs ⊎ ((j.pipeline ≡ pipeline) × ((first ≤ j.id) × (j.set_aside ≡ 0)))
   below : Below (λ (j : Job). j.id) n t.jobs
 
 adds : (p : Pipeline) (stage : List ℕ) (id first position : ℕ) (js : List NewJob) (s : State) → Below (λ (j : Job). j.id) (first + position) s.jobs
-    → Adds s (applied (flat_map (job_changes p) (new_jobs stage id first position js)) s) id (first + (position + length js))
+    → Adds s (applied (flat_map (job_changes p) (new_jobs stage id first position js)) s) id first (first + (position + length js))
 adds p stage id first position [] s b = record {
   others = refl;
   kept = kept job_for_good s.jobs s.jobs refl;
@@ -249,13 +259,13 @@ adds p stage id first position (x ∷ xs) s b =
     let a = adds p stage id first (position + 1) xs m lower in
     let here : Kept job_for_good s.jobs m.jobs = subst (Kept job_for_good s.jobs) (sym jobs) (kept_new ids job_for_good j (first + position) s.jobs b (omega arith)) in
     let t = applied rest m in
-    let made : Adds s t id (first + (position + length (x ∷ xs))) = record {
+    let made : Adds s t id first (first + (position + length (x ∷ xs))) = record {
       others = a.others ∙ ap (λ (w : State). record w { jobs = [] }) left;
       kept = kept_through job_for_good s.jobs m.jobs t.jobs here a.kept;
-      new = λ w k. ⊎_elim (λ l. ⊎_elim (λ e. inr (ap (λ (v : Job). v.pipeline) e)) (λ h. inl h) (has_put job_cmp j w s.jobs (subst (Has w) jobs l))) (λ e. inr e) (a.new w k);
+      new = λ w k. ⊎_elim (λ l. ⊎_elim (λ e. inr (ap (λ (v : Job). v.pipeline) e, (let z : w.id ≡ first + position = ap ids e in omega arith, ap (λ (v : Job). v.set_aside) e))) (λ h. inl h) (has_put job_cmp j w s.jobs (subst (Has w) jobs l))) (λ e. inr e) (a.new w k);
       below = λ w k. let z : w.id < first + ((position + 1) + length xs) = a.below w k in omega arith;
     } in
-    subst (λ w. Adds s w id (first + (position + length (x ∷ xs)))) (sym (applied-append (job_changes p j) rest s)) made
+    subst (λ w. Adds s w id first (first + (position + length (x ∷ xs)))) (sym (applied-append (job_changes p j) rest s)) made
 
 enters : (s : State) (project : Project) (p : NewPipeline) (now : ℕ) → Linked s → project_at s p.project ≡ Some project
     → Next s (applied (entered s.next.pipeline s.next.job p now).1 s)
@@ -286,11 +296,14 @@ enters s project p now i found =
       runner_below = λ w k. subst (λ n. w.id < n.runner) (sym next) (i.runner_below w (subst (Has w) runners k));
       pipeline_below = λ w k. subst (λ n. w.id < n.pipeline) (sym next) (below_put pids pipeline s.next.pipeline (s.next.pipeline + 1) s.pipelines i.pipeline_below (omega arith) (omega arith) w (subst (Has w) pipelines k));
       job_below = λ w k. subst (λ n. w.id < n.job) (sym next) (let z : w.id < s.next.job + (0 + length p.jobs) = a.below w k in omega arith);
+      next_job = subst (λ n. s.next.job ≤ n.job) (sym next) (omega arith);
+      counts = λ n. subst (λ l. length (attempts_of s n) ≤ length (filter (λ (w : Attempt). w.job == n) l)) (sym attempts) (omega arith);
       attempts = λ w k. inl (subst (Has w) attempts k);
-      jobs = λ w k. ⊎_elim (λ l. inl l) (λ e. inr (subst (λ n. Named pids n t.pipelines) (sym e) is_pipeline)) (a.new w k);
+      jobs = λ w k. ⊎_elim (λ l. inl l) (λ e. inr (subst (λ n. Named pids n t.pipelines) (sym e.0) is_pipeline, (e.1.0, let none = e.1.1 in omega arith))) (a.new w k);
       pipelines = λ w k. ⊎_elim
           (λ e. inr (subst (λ n. Named (λ (v : Project). v.id) n t.projects) (sym (ap (λ (v : Pipeline). v.project) e)) is_project))
           (λ l. inl l) (has_put pipeline_cmp pipeline w s.pipelines (subst (Has w) pipelines k));
+      needs = λ w k. inl (subst (Has w) (ap (λ (v : State). v.needs) a.others) k);
     }
 
 -- ---- each step
@@ -298,8 +311,8 @@ enters s project p now i found =
 abbrev Goes : State → Plan → Type 0
 Goes s plan = Next s (applied plan.1 s)
 
-goes : (s : State) → Linked s → Rising (λ (a : Attempt). a.id) 0 s.attempts → Below (λ (a : Attempt). a.id) s.next.attempt s.attempts → Each s (Goes s)
-goes s i r b = record {
+goes : (s : State) (board : List BoardRow) → Linked s → Rising (λ (a : Attempt). a.id) 0 s.attempts → Below (λ (a : Attempt). a.id) s.next.attempt s.attempts → Each s board (Goes s)
+goes s board i r b = record {
   refused = λ c m. rests s i;
   faulted = λ d. rests s i;
   project = λ name seed. record {
@@ -314,9 +327,12 @@ goes s i r b = record {
     runner_below = i.runner_below;
     pipeline_below = i.pipeline_below;
     job_below = i.job_below;
+    next_job = omega arith;
+    counts = λ n. omega arith;
     attempts = λ a k. inl k;
     jobs = λ j k. inl k;
     pipelines = λ p k. inl k;
+    needs = λ w k. inl k;
   };
   runner = λ name seed. record {
     later = record {
@@ -330,13 +346,16 @@ goes s i r b = record {
     runner_below = below_put (λ (w : Runner). w.id) _ s.next.runner (s.next.runner + 1) s.runners i.runner_below (omega arith) (omega arith);
     pipeline_below = i.pipeline_below;
     job_below = i.job_below;
+    next_job = omega arith;
+    counts = λ n. omega arith;
     attempts = λ a k. inl k;
     jobs = λ j k. inl k;
     pipelines = λ p k. inl k;
+    needs = λ w k. inl k;
   };
   pipeline = λ project p now found. enters s project p now i found;
   nothing = rests s i;
-  granted = λ runner job q variables now seed has_runner has_job its_job. record {
+  granted = λ runner job q variables now seed has_runner has_job pending its_job. record {
     later = record {
       projects = kept project_for_good s.projects s.projects refl;
       runners = kept runner_for_good s.runners s.runners refl;
@@ -348,11 +367,14 @@ goes s i r b = record {
     runner_below = i.runner_below;
     pipeline_below = i.pipeline_below;
     job_below = i.job_below;
+    next_job = omega arith;
+    counts = λ n. passing_new (λ (w : Attempt). w.id) (λ (w : Attempt). w.job == n) _ s.next.attempt s.attempts b (omega arith);
     attempts = λ a k. ⊎_elim
         (λ e. inr ((job, (has_job, its_job ∙ sym (ap (λ (w : Attempt). w.job) e))), (runner, (has_runner, sym (ap (λ (w : Attempt). w.runner) e)))))
         (λ m. inl m) (has_put attempt_cmp _ a s.attempts k);
     jobs = λ j k. inl k;
     pipelines = λ p k. inl k;
+    needs = λ w k. inl k;
   };
   turned_away = λ fault. rests s i;
   heard = λ a seen has. alters s (record a { seen = seen }) a i r has refl;
@@ -361,7 +383,7 @@ goes s i r b = record {
       cond_both (is_live a) (Put (row.Attempt x) ∷ []) [] (λ cs. Next s (applied cs s)) (λ _. alters s x a i r has refl) (λ _. rests s i);
   misplaced = λ fault. rests s i;
   grown = λ a bytes now size has. grows a bytes now size has;
-  shown = λ job last. rests s i;
+  shown = λ job status. rests s i;
   traced = λ pieces. rests s i;
 } where
   grows : (a : Attempt) (bytes : List ℕ) (now size : ℕ) → Has a s.attempts → Goes s (traces_grown a bytes now size)
@@ -373,9 +395,12 @@ goes s i r b = record {
         runner_below = n.runner_below;
         pipeline_below = n.pipeline_below;
         job_below = n.job_below;
+        next_job = n.next_job;
+        counts = n.counts;
         attempts = n.attempts;
         jobs = n.jobs;
         pipelines = n.pipelines;
+        needs = n.needs;
       }
 
 -- ---- sweeps
@@ -419,28 +444,28 @@ swept_least s now r (Some l) found =
 
 -- ---- every state that a history leads to
 
-next : (s : State) (e : Event) (now : ℕ) (seed : Seed) (a : Answer) (changes : List RowChange) → Linked s → Rising (λ (w : Attempt). w.id) 0 s.attempts → Below (λ (w : Attempt). w.id) s.next.attempt s.attempts
-    → Happens s e now seed a changes → Next s (applied changes s)
-next s (event.Request request) now seed (answer.Reply reply) changes i r b is = does s (Goes s) (goes s i r b) request now seed (reply, changes) is
-next s event.Sweep now seed (answer.Swept swept) changes i r b is =
+next : (s : State) (board : List BoardRow) (e : Event) (now : ℕ) (seed : Seed) (a : Answer) (changes : List RowChange) → Linked s → Rising (λ (w : Attempt). w.id) 0 s.attempts → Below (λ (w : Attempt). w.id) s.next.attempt s.attempts
+    → Happens s board e now seed a changes → Next s (applied changes s)
+next s board (event.Request request) now seed (answer.Reply reply) changes i r b is = does s board (Goes s) (goes s board i r b) request now seed (reply, changes) is
+next s board event.Sweep now seed (answer.Swept swept) changes i r b is =
     let P : Swept × List RowChange → Type 0 = λ f. Next s (applied f.1 s) in
     subst P (sym is) (swept_next s now i r (first_due (leases s) now) refl)
-next s (event.Request request) now seed (answer.Swept swept) changes i r b is = absurd is
-next s event.Sweep now seed (answer.Reply reply) changes i r b is = absurd is
+next s board (event.Request request) now seed (answer.Swept swept) changes i r b is = absurd is
+next s board event.Sweep now seed (answer.Reply reply) changes i r b is = absurd is
 
-swept_by : (s : State) (e : Event) (now : ℕ) (seed : Seed) (a : Answer) (changes : List RowChange) → Rising (λ (w : Attempt). w.id) 0 s.attempts → Happens s e now seed a changes → IsSweptBy s now e a
-swept_by s (event.Request request) now seed a changes r is = tt
-swept_by s event.Sweep now seed (answer.Swept swept) changes r is =
+swept_by : (s : State) (board : List BoardRow) (e : Event) (now : ℕ) (seed : Seed) (a : Answer) (changes : List RowChange) → Rising (λ (w : Attempt). w.id) 0 s.attempts → Happens s board e now seed a changes → IsSweptBy s now e a
+swept_by s board (event.Request request) now seed a changes r is = tt
+swept_by s board event.Sweep now seed (answer.Swept swept) changes r is =
     let P : Swept × List RowChange → Type 0 = λ f. SweepsLeast s now f.0 in
     subst P (sym is) (swept_least s now r (first_due (leases s) now) refl)
-swept_by s event.Sweep now seed (answer.Reply reply) changes r is = absurd is
+swept_by s board event.Sweep now seed (answer.Reply reply) changes r is = absurd is
 
-record Held (h : List Past) (s : State) : Type 0 where
-  linked : Linked s
-  stays : (p : Past) → Has p h → Later p.before s
-  swept : (p : Past) → Has p h → IsSweptBy p.before p.now p.event p.answer
-  variables : Ordered job_variable_cmp s.job_variables
-  in_order : (p : Past) → Has p h → is_grant p.event p.answer ≡ true → GivesInOrder p.before p.answer
+pub record Held (h : List Past) (s : State) : Type 0 where
+  pub linked : Linked s
+  pub stays : (p : Past) → Has p h → Later p.before s
+  pub swept : (p : Past) → Has p h → IsSweptBy p.before p.now p.event p.answer
+  pub variables : Ordered job_variable_cmp s.job_variables
+  pub in_order : (p : Past) → Has p h → is_grant p.event p.answer ≡ true → GivesInOrder p.before p.answer
 
 linked_empty : Linked empty
 linked_empty = record {
@@ -452,24 +477,29 @@ linked_empty = record {
   attempt_runner = λ w k. absurd k;
   job_pipeline = λ w k. absurd k;
   pipeline_project = λ w k. absurd k;
+  need_job = λ w k. absurd k;
+  need_pred = λ w k. absurd k;
+  first_job = omega arith;
+  positive = λ w k. absurd k;
+  aside = λ w k. absurd k;
 }
 
-held : (h : List Past) (s : State) → Leads h s → Held h s
+pub held : (h : List Past) (s : State) → Leads h s → Held h s
 held [] s l = subst (Held []) (sym l) (record { linked = linked_empty; stays = λ p k. absurd k; swept = λ p k. absurd k; variables = tt; in_order = λ p k. absurd k })
 held (p ∷ h) s l =
     let i = held h p.before l.0 in
     let g = (reached h p.before l.0).grants in
-    let n = next p.before p.event p.now p.seed p.answer l.1.changes i.linked g.rise g.below l.1.happens in
+    let n = next p.before l.1.before p.event p.now p.seed p.answer l.1.changes i.linked g.rise g.below l.1.happens in
     let t = applied l.1.changes p.before in
     subst (Held (p ∷ h)) (sym l.1.state) (record {
       linked = linked_on p.before t i.linked n;
       stays = λ q k. ⊎_elim (λ e. subst (λ (w : Past). Later w.before t) (sym e) n.later) (λ m. later_through q.before p.before t (i.stays q m) n.later) k;
       swept = λ q k. ⊎_elim
-          (λ e. subst (λ (w : Past). IsSweptBy w.before w.now w.event w.answer) (sym e) (swept_by p.before p.event p.now p.seed p.answer l.1.changes g.rise l.1.happens))
+          (λ e. subst (λ (w : Past). IsSweptBy w.before w.now w.event w.answer) (sym e) (swept_by p.before l.1.before p.event p.now p.seed p.answer l.1.changes g.rise l.1.happens))
           (λ m. i.swept q m) k;
       variables = changes_ordered l.1.changes p.before i.variables;
       in_order = λ q k. ⊎_elim
-          (λ e. subst (λ (w : Past). is_grant w.event w.answer ≡ true → GivesInOrder w.before w.answer) (sym e) (gives_in_order p.before p.event p.now p.seed p.answer l.1.changes i.variables l.1.happens))
+          (λ e. subst (λ (w : Past). is_grant w.event w.answer ≡ true → GivesInOrder w.before w.answer) (sym e) (gives_in_order p.before l.1.before p.event p.now p.seed p.answer l.1.changes i.variables l.1.happens))
           (λ m. i.in_order q m) k;
     })
 
@@ -486,13 +516,26 @@ stays_from s t l = record {
   attempts = stay attempt_for_good s.attempts t.attempts l.attempts;
 }
 
-is_linked : (s : State) → Linked s → IsLinked s
+pub is_linked : (s : State) → Linked s → IsLinked s
 is_linked s i = record {
   attempt_job = All-from_has _ s.attempts (λ a k. contains_named (λ (j : Job). j.id) a.job s.jobs (i.attempt_job a k));
   attempt_runner = All-from_has _ s.attempts (λ a k. contains_named (λ (r : Runner). r.id) a.runner s.runners (i.attempt_runner a k));
   job_pipeline = All-from_has _ s.jobs (λ j k. contains_named (λ (p : Pipeline). p.id) j.pipeline s.pipelines (i.job_pipeline j k));
   pipeline_project = All-from_has _ s.pipelines (λ p k. contains_named (λ (q : Project). q.id) p.project s.projects (i.pipeline_project p k));
+  need_job = All-from_has _ s.needs (λ w k. contains_named (λ (j : Job). j.id) w.job s.jobs (i.need_job w k));
+  need_pred = All-from_has _ s.needs (λ w k. contains_named (λ (j : Job). j.id) w.pred s.jobs (i.need_pred w k));
 }
+
+-- the rows of nothing
+no_rows : AreBoard empty []
+no_rows = record {
+  keys = refl;
+  each = λ pipeline. record { counted = λ i l. absurd (omega arith); settled = λ i l. absurd (omega arith) };
+}
+
+settled : (h : List Past) (s : State) → Leads h s → (board : List BoardRow) × AreBoard s board
+settled [] s l = subst (λ (w : State). (board : List BoardRow) × AreBoard w board) (sym l) ([], no_rows)
+settled (p ∷ h) s l = (l.1.after, l.1.are_after)
 
 -- all the laws
 pub laws : (h : List Past) (s : State) → Leads h s → Laws h s
@@ -506,6 +549,7 @@ laws h s leads =
       ends_stay = All-from_has (λ (p : Past). EndsStay p.before s) h (λ p k. All-from_has (λ (a : Attempt). is_live a ≡ false → Contains s.attempts a) p.before.attempts (λ a m l. contains_from_has a s.attempts (i.ends p k a m l)));
       stays = All-from_has (λ (p : Past). Stays p.before s) h (λ p k. stays_from p.before s (held.stays p k));
       linked = is_linked s held.linked;
+      settled = settled h s leads;
       swept = All-from_has (λ (p : Past). IsSweptBy p.before p.now p.event p.answer) h held.swept;
       in_order = All-from_has (λ (p : Past). is_grant p.event p.answer ≡ true → GivesInOrder p.before p.answer) h held.in_order;
     }

@@ -1,5 +1,5 @@
 -- Lists of records in the order of their numbers.
-use Rattle.std.specs.Prelude.{◌≡◌, ◌≢◌, ◌⊎◌, ℕ, ◌+◌, ◌<◌, ◌≤◌, Bool, true, false, cond, nat_lt, ◌==◌, not, List, [], ◌∷◌, count_by, filter, find, map, length, All, Contains, Option, Some}
+use Rattle.std.specs.Prelude.{◌≡◌, ◌≢◌, ◌⊎◌, ℕ, zero, suc, ◌+◌, ◌<◌, ◌≤◌, Bool, true, false, cond, nat_lt, ◌==◌, not, List, [], ◌∷◌, count_by, filter, find, map, length, All, Contains, Option, Some, slice_index_or}
 use Rattle.std.specs.List.{last_or, AllByRecursion}
 use Rattle.std.proofs.Common.{refl, sym, ap, subst, ◌∙◌, inl, inr, ⊎_elim, arith, ltb-true, eqb-true, eq-eqb, ne_eqb}
 use Rattle.std.proofs.lemmas.Bool.{cond_both, both_ways, cond-true, cond-false, cases_Bool, false≢true}
@@ -217,3 +217,37 @@ find-map f p y (z ∷ zs) h =
     (λ e k. (z, ((let same : f z ≡ y = cc in same), cond-true (p (f z)) (Some z) (find (λ w. p (f w)) zs) e)))
     (λ e k. let w = find-map f p y zs k in (w.0, (w.1.0, cond-false (p (f z)) (Some z) (find (λ v. p (f v)) zs) e ∙ w.1.1)))
     h
+
+-- the other way
+pub has_from_contains : {A : Type 0} (x : A) (xs : List A) → Contains xs x → Has x xs
+has_from_contains x xs c = at c.0 xs c.1 c.2
+  where
+    at : (k : ℕ) (ys : List _) → k < length ys → slice_index_or ys k x ≡ x → Has x ys
+    at k [] l e = absurd (omega arith)
+    at zero (y ∷ ys) l e = inl (sym e)
+    at (suc k) (y ∷ ys) l e = inr (at k ys (omega arith) e)
+
+pub has_from_all : {A : Type 0} (P : A → Type 0) (x : A) (xs : List A) → All P xs → Has x xs → P x
+has_from_all P x xs all k = let c = contains_from_has x xs k in subst P c.2 (all c.0 x c.1)
+
+-- all numbers are less than n
+abbrev pub Below : {A : Type 0} → (A → ℕ) → ℕ → List A → Type 0
+Below {A} id n xs = (x : A) → Has x xs → id x < n
+
+-- a record of the list has this number
+abbrev pub Named : {A : Type 0} → (A → ℕ) → ℕ → List A → Type 0
+Named {A} id n xs = (x : A) × (Has x xs × (id x ≡ n))
+
+pub has_map : {A B : Type 0} (f : A → B) (x : A) (xs : List A) → Has x xs → Has (f x) (map f xs)
+has_map f x [] k = absurd k
+has_map f x (z ∷ zs) k = ⊎_elim (λ e. inl (ap f e)) (λ m. inr (has_map f x zs m)) k
+
+pub map_has : {A B : Type 0} (f : A → B) (y : B) (xs : List A) → Has y (map f xs) → (x : A) × (Has x xs × (f x ≡ y))
+map_has f y [] k = absurd k
+map_has f y (z ∷ zs) k = ⊎_elim (λ e. (z, (inl refl, sym e))) (λ m. let w = map_has f y zs m in (w.0, (inr w.1.0, w.1.1))) k
+
+pub contains_named : {A : Type 0} (id : A → ℕ) (n : ℕ) (xs : List A) → Named id n xs → Contains (map id xs) n
+contains_named id n xs w = contains_from_has n (map id xs) (subst (λ m. Has m (map id xs)) w.1.1 (has_map id w.0 xs w.1.0))
+
+pub named_contains : {A : Type 0} (id : A → ℕ) (n : ℕ) (xs : List A) → Contains (map id xs) n → Named id n xs
+named_contains id n xs c = map_has id n xs (has_from_contains n (map id xs) c)

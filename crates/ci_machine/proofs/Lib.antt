@@ -1,10 +1,15 @@
 pub mod EachPlan
 pub mod Tokens
 pub mod Keyed
+pub mod Counts
 pub mod Pieces
 pub mod Grants
+pub mod Pending
+pub mod OneJob
 pub mod Traces
 pub mod Ends
 pub mod Reached
 pub mod Variables
 pub mod Held
+pub mod Sound
+pub mod Numbers

@@ -2,9 +2,11 @@
 use Rattle.std.specs.Prelude.{◌≡◌, ℕ, ◌+◌, ◌<◌, ◌≤◌, Bool, true, false, not, ◌==◌, ◌&&◌, nat_lt, nat_le, List, [], ◌∷◌, ◌++◌, length, map, if◌then◌else◌, Option, Some, None, option_map, Result, Ok, Err}
 use Rattle.std.specs.List.{flat_map}
 use Rattle.std.specs.Str.{bytes_eq}
-use Rattle.std.proofs.Common.{refl, sym, ap, subst, ◌∙◌, inl, inr, ⊎_elim, arith, eqb-true, eq-eqb}
+use Rattle.std.proofs.Common.{refl, sym, ap, subst, ◌∙◌, inl, inr, ⊎_elim, arith, eqb-true}
 use Rattle.std.proofs.lemmas.Bool.{cond_both}
 use Rattle.std.proofs.lemmas.Slice.Eq.{bytes_eq-Decides}
+use Rattle.ci_board.specs.declared.facts.Status.{Status}
+use Rattle.ci_machine.specs.declared.records.BoardRow.{BoardRow}
 use Rattle.ci_machine.specs.declared.records.Project.{Project}
 use Rattle.ci_machine.specs.declared.records.Runner.{Runner}
 use Rattle.ci_machine.specs.declared.records.Pipeline.{Pipeline}
@@ -42,6 +44,7 @@ use Rattle.ci_machine.specs.declared.reply.Answer.TheVariants as answer
 use Rattle.ci_machine.specs.declared.reply.Swept.{Swept}
 use Rattle.ci_values.specs.Names.{is_name}
 use Rattle.ci_machine.specs.State.{State, applied, attempt_cmp}
+use Rattle.ci_machine.specs.Statuses.{status_for, AreBoard}
 use Rattle.ci_machine.specs.Leases.{is_live, renewed, if_leased, size_after, accepted, cause_of, is_over, first_due}
 use Rattle.ci_machine.specs.Eligible.{may_run, chosen}
 use Rattle.ci_values.specs.declared.limits.TheConstants.{MAX_NUMBER}
@@ -56,12 +59,13 @@ use Rattle.ci_machine.specs.Traces.{grown, appended, append_trace}
 use Rattle.ci_machine.specs.Shows.{asked_job, shown, traced}
 use Rattle.ci_machine.specs.Sweeps.{sweep}
 use Rattle.ci_machine.specs.Reply.{status_of_state}
-use Rattle.ci_machine.specs.Step.{Does, Happens, project_at, project_with, runner_with, job_at, attempt_at, pipeline_of, last_attempt, pieces_in, lease_of, leases, live_attempts, attempts_of, is_pending, pending_jobs, queued, queue, offer, offered_variables}
+use Rattle.ci_machine.specs.Step.{Does, Happens, project_at, project_with, runner_with, job_at, attempt_at, pipeline_of, last_attempt, pieces_in, lease_of, leases, live_attempts, is_pending, pending_jobs, queued, queue, offer, offered_variables}
 use Rattle.ci_machine.specs.History.{Past, Leads}
 use Rattle.ci_machine.specs.Laws.{grants, is_grant, accepted_bytes, IsLeastEligible}
 use Rattle.ci_machine.proofs.Keyed.{Has, Rising, has_put, rising_put, rising_filter, has_filter, filter_has, has_find, least_find, find-map, one_at, All-from_has, contains_from_has}
 use Rattle.ci_machine.proofs.Grants as leased
-use Rattle.ci_machine.proofs.Grants.{Grants, grants_empty}
+use Rattle.ci_machine.proofs.Grants.{Grants, grants_empty, live_last}
+use Rattle.ci_machine.proofs.Pending.{pending_free}
 use Rattle.ci_machine.proofs.Traces as pieces
 use Rattle.ci_machine.proofs.Ends as finals
 use Rattle.ci_machine.proofs.Ends.{Ends, renewed_live, leased_live}
@@ -194,20 +198,17 @@ pipelines h s p now seed i (Some project) =
 
 -- ---- a job request
 
-none_of : (n : ℕ) (xs : List Attempt) → (length xs == 0) ≡ true → (a : Attempt) → Has a xs → ⊥
-none_of n [] e a k = k
-none_of n (x ∷ xs) e a k = absurd (let l : length (x ∷ xs) ≡ 0 = eqb-true (length (x ∷ xs)) 0 e in omega arith)
-
--- a pending job has no attempt
-pending_free : (s : State) (job : Job) → is_pending s job ≡ true → (a : Attempt) → Has a s.attempts → a.job ≡ job.id → ⊥
-pending_free s job p a k e =
-    none_of 0 (attempts_of s job.id) p a (filter_has (λ (b : Attempt). b.job == job.id) a s.attempts k (eq-eqb a.job job.id e))
+-- where a job is pending, none of its attempts is live
+pending_none : (h : List Past) (s : State) (board : List BoardRow) → AreBoard s board → Inv h s → (job : Job) → Has job s.jobs → is_pending board job ≡ true
+    → (a : Attempt) → Has a s.attempts → is_live a ≡ true → a.job ≡ job.id → ⊥
+pending_none h s board are i job has pending a k live its =
+    pending_free s board are job has pending a (subst (λ n. last_attempt s n ≡ Some a) its (live_last h s i.grants a k live)) live
 
 -- a grant
 starts : (h : List Past) (s : State) (token : List ℕ) (now : ℕ) (seed : Seed) (runner : Runner) (q : QueuedJob) (vs : List JobVariable) (job : Job) → Inv h s
-    → is_pending s job ≡ true → job.id ≡ q.job.id → IsLeastEligible s runner job → runner.token ≡ token → After h s (event.Request (AskJob token)) now seed (granted runner q vs s.next.attempt now seed)
-starts h s token now seed runner q vs job i pending its_job eligible asked = record {
-  grants = leased.gives h s _ _ _ i.grants refl (λ a k l m. pending_free s job pending a k (m ∙ sym its_job)) (λ n. refl) runner job refl its_job eligible (ap (λ t. event.Request (AskJob t)) (sym asked)) refl refl refl;
+    → ((a : Attempt) → Has a s.attempts → is_live a ≡ true → a.job ≡ job.id → ⊥) → job.id ≡ q.job.id → IsLeastEligible s runner job → runner.token ≡ token → After h s (event.Request (AskJob token)) now seed (granted runner q vs s.next.attempt now seed)
+starts h s token now seed runner q vs job i free its_job eligible asked = record {
+  grants = leased.gives h s _ _ _ i.grants refl (λ a k l m. free a k l (m ∙ sym its_job)) (λ n. refl) runner job refl its_job eligible (ap (λ t. event.Request (AskJob t)) (sym asked)) refl refl refl;
   traces = pieces.stays h s _ _ i.traces (λ n. refl) refl (omega arith) (λ b k. ⊎_elim
       (λ w. inr (record { id = let m : b.id ≡ s.next.attempt = ap (λ (c : Attempt). c.id) w in omega arith; pieces = ap (λ (c : Attempt). c.pieces) w; size = ap (λ (c : Attempt). c.size) w }))
       (λ m. same s b m)
@@ -215,40 +216,42 @@ starts h s token now seed runner q vs job i pending its_job eligible asked = rec
   ends = finals.puts h s (applied (granted runner q vs s.next.attempt now seed).1 s) _ _ refl i.ends refl (λ b k e. let l : b.id < s.next.attempt = i.grants.below b k in let m : b.id ≡ s.next.attempt = e in absurd (omega arith));
 }
 
-grants_least : (h : List Past) (s : State) (token : List ℕ) (now : ℕ) (seed : Seed) → Inv h s → (runner : Runner) → runner_with s token ≡ Some runner
-    → (q : QueuedJob) → chosen (queue s) runner ≡ Some q → (vs : List JobVariable)
+grants_least : (h : List Past) (s : State) (board : List BoardRow) (token : List ℕ) (now : ℕ) (seed : Seed) → AreBoard s board → Inv h s → (runner : Runner) → runner_with s token ≡ Some runner
+    → (q : QueuedJob) → chosen (queue s board) runner ≡ Some q → (vs : List JobVariable)
     → After h s (event.Request (AskJob token)) now seed (ask_job (Some runner) (Some q) vs s.next.attempt now seed)
-grants_least h s token now seed i runner found q offered vs =
+grants_least h s board token now seed are i runner found q offered vs =
     let e = event.Request (AskJob token) in
     let test : Job → Bool = λ j. may_run runner (queued s j) in
     let is_runner = has_find (λ (w : Runner). bytes_eq w.token token) runner s.runners found in
-    let at = find-map (queued s) (may_run runner) q (pending_jobs s) offered in
+    let at = find-map (queued s) (may_run runner) q (pending_jobs s board) offered in
     let job = at.0 in
-    let first = has_find test job (pending_jobs s) at.1.1 in
-    let is_job = has_filter (is_pending s) job s.jobs first.0 in
+    let first = has_find test job (pending_jobs s board) at.1.1 in
+    let is_job = has_filter (is_pending board) job s.jobs first.0 in
     let same_job : job.id ≡ q.job.id = ap (λ (w : QueuedJob). w.job.id) at.1.0 in
-    let Least : Job → Type 0 = λ other. is_pending s other ≡ true → may_run runner (queued s other) ≡ true → job.id ≤ other.id in
+    let Least : Job → Type 0 = λ other. is_pending board other ≡ true → may_run runner (queued s other) ≡ true → job.id ≤ other.id in
     cond_both (nat_lt MAX_NUMBER s.next.attempt) (refused M15) (granted runner q vs s.next.attempt now seed) (After h s e now seed)
     (λ _. rests h s e now seed _ i refl (λ n. refl))
-    (λ _. starts h s token now seed runner q vs job i is_job.1 same_job (record {
+    (λ _. starts h s token now seed runner q vs job i (pending_none h s board are i job is_job.0 is_job.1) same_job (record {
+      board = board;
+      are_board = are;
       is_runner = contains_from_has runner s.runners is_runner.0;
       is_job = contains_from_has job s.jobs is_job.0;
       pending = is_job.1;
       allowed = first.1;
       least = All-from_has Least s.jobs (λ other k p m.
-          least_find (λ (w : Job). w.id) test job other 0 (pending_jobs s) (rising_filter (λ (w : Job). w.id) (is_pending s) 0 s.jobs i.grants.jobs_rise) at.1.1 (filter_has (is_pending s) other s.jobs k p) m);
+          least_find (λ (w : Job). w.id) test job other 0 (pending_jobs s board) (rising_filter (λ (w : Job). w.id) (is_pending board) 0 s.jobs i.grants.jobs_rise) at.1.1 (filter_has (is_pending board) other s.jobs k p) m);
     }) ((bytes_eq-Decides runner.token token).0 is_runner.1))
 
-offers : (h : List Past) (s : State) (token : List ℕ) (now : ℕ) (seed : Seed) → Inv h s → (runner : Runner) → runner_with s token ≡ Some runner
-    → (q : Option QueuedJob) → chosen (queue s) runner ≡ q → (vs : List JobVariable)
+offers : (h : List Past) (s : State) (board : List BoardRow) (token : List ℕ) (now : ℕ) (seed : Seed) → AreBoard s board → Inv h s → (runner : Runner) → runner_with s token ≡ Some runner
+    → (q : Option QueuedJob) → chosen (queue s board) runner ≡ q → (vs : List JobVariable)
     → After h s (event.Request (AskJob token)) now seed (ask_job (Some runner) q vs s.next.attempt now seed)
-offers h s token now seed i runner found None offered vs = rests h s (event.Request (AskJob token)) now seed _ i refl (λ n. refl)
-offers h s token now seed i runner found (Some q) offered vs = grants_least h s token now seed i runner found q offered vs
+offers h s board token now seed are i runner found None offered vs = rests h s (event.Request (AskJob token)) now seed _ i refl (λ n. refl)
+offers h s board token now seed are i runner found (Some q) offered vs = grants_least h s board token now seed are i runner found q offered vs
 
-asks : (h : List Past) (s : State) (token : List ℕ) (now : ℕ) (seed : Seed) → Inv h s → (runner : Option Runner) → runner_with s token ≡ runner
-    → After h s (event.Request (AskJob token)) now seed (ask_job runner (offer s runner) (offered_variables s (offer s runner)) s.next.attempt now seed)
-asks h s token now seed i None found = rests h s (event.Request (AskJob token)) now seed _ i refl (λ n. refl)
-asks h s token now seed i (Some runner) found = offers h s token now seed i runner found (chosen (queue s) runner) refl _
+asks : (h : List Past) (s : State) (board : List BoardRow) (token : List ℕ) (now : ℕ) (seed : Seed) → AreBoard s board → Inv h s → (runner : Option Runner) → runner_with s token ≡ runner
+    → After h s (event.Request (AskJob token)) now seed (ask_job runner (offer s board runner) (offered_variables s (offer s board runner)) s.next.attempt now seed)
+asks h s board token now seed are i None found = rests h s (event.Request (AskJob token)) now seed _ i refl (λ n. refl)
+asks h s board token now seed are i (Some runner) found = offers h s board token now seed are i runner found (chosen (queue s board) runner) refl _
 
 -- ---- what a runner says of an attempt
 
@@ -334,9 +337,9 @@ parts h s part now seed i (Some a) found =
 
 -- ---- a job is shown, a sweep
 
-looks : (h : List Past) (s : State) (e : Event) (now : ℕ) (seed : Seed) (last : Option Attempt) → Inv h s → ((a : Answer) → is_grant e a ≡ false) → ((a : Answer) → Quiet e a) → (r : Result Job Code) → After h s e now seed (shown r last)
-looks h s e now seed last i isnt quiet (Ok job) = rests h s e now seed _ i (isnt _) (quiet _)
-looks h s e now seed last i isnt quiet (Err code) = rests h s e now seed _ i (isnt _) (quiet _)
+looks : (h : List Past) (s : State) (e : Event) (now : ℕ) (seed : Seed) (status : Status) → Inv h s → ((a : Answer) → is_grant e a ≡ false) → ((a : Answer) → Quiet e a) → (r : Result Job Code) → After h s e now seed (shown r status)
+looks h s e now seed status i isnt quiet (Ok job) = rests h s e now seed _ i (isnt _) (quiet _)
+looks h s e now seed status i isnt quiet (Err code) = rests h s e now seed _ i (isnt _) (quiet _)
 
 reads : (h : List Past) (s : State) (e : Event) (now : ℕ) (seed : Seed) (ps : List Piece) → Inv h s → ((a : Answer) → is_grant e a ≡ false) → ((a : Answer) → Quiet e a) → (r : Result Job Code) → After h s e now seed (traced r ps)
 reads h s e now seed ps i isnt quiet (Ok job) = rests h s e now seed _ i (isnt _) (quiet _)
@@ -354,32 +357,32 @@ sweeps h s now seed i (Some l) found =
     refl refl refl refl refl (subst (λ (b : Attempt). is_live b ≡ true) is has.1) refl (λ n. refl)
 
 -- each event keeps the invariant
-does : (h : List Past) (s : State) (r : Request) (now : ℕ) (seed : Seed) (f : Plan) → Inv h s → Does s r now seed f → After h s (event.Request r) now seed f
-does h s (AddProject name) now seed f i is = subst (After h s (event.Request (AddProject name)) now seed) (sym is) (projects h s name now seed i)
-does h s (AddRunner name) now seed f i is = subst (After h s (event.Request (AddRunner name)) now seed) (sym is) (runners h s name now seed i)
-does h s (EnterPipeline p) now seed f i is = subst (After h s (event.Request (EnterPipeline p)) now seed) (sym is) (pipelines h s p now seed i (project_at s p.project))
-does h s (AskJob token) now seed f i is = subst (After h s (event.Request (AskJob token)) now seed) (sym is) (asks h s token now seed i (runner_with s token) refl)
-does h s (UpdateJob u) now seed f i is = subst (After h s (event.Request (UpdateJob u)) now seed) (sym is) (updates h s u now seed i (attempt_at s u.attempt) refl)
-does h s (AppendTrace part) now seed f i is = subst (After h s (event.Request (AppendTrace part)) now seed) (sym is) (parts h s part now seed i (attempt_at s part.attempt) refl)
-does h s (ShowJob query) now seed f i is =
+does : (h : List Past) (s : State) (board : List BoardRow) (r : Request) (now : ℕ) (seed : Seed) (f : Plan) → AreBoard s board → Inv h s → Does s board r now seed f → After h s (event.Request r) now seed f
+does h s board (AddProject name) now seed f are i is = subst (After h s (event.Request (AddProject name)) now seed) (sym is) (projects h s name now seed i)
+does h s board (AddRunner name) now seed f are i is = subst (After h s (event.Request (AddRunner name)) now seed) (sym is) (runners h s name now seed i)
+does h s board (EnterPipeline p) now seed f are i is = subst (After h s (event.Request (EnterPipeline p)) now seed) (sym is) (pipelines h s p now seed i (project_at s p.project))
+does h s board (AskJob token) now seed f are i is = subst (After h s (event.Request (AskJob token)) now seed) (sym is) (asks h s board token now seed are i (runner_with s token) refl)
+does h s board (UpdateJob u) now seed f are i is = subst (After h s (event.Request (UpdateJob u)) now seed) (sym is) (updates h s u now seed i (attempt_at s u.attempt) refl)
+does h s board (AppendTrace part) now seed f are i is = subst (After h s (event.Request (AppendTrace part)) now seed) (sym is) (parts h s part now seed i (attempt_at s part.attempt) refl)
+does h s board (ShowJob query) now seed f are i is =
     let job = job_at s query.job in
     subst (After h s (event.Request (ShowJob query)) now seed) (sym is)
-    (looks h s (event.Request (ShowJob query)) now seed (last_attempt s query.job) i (λ a. refl) (λ a n. refl) (asked_job (project_with s query.token) job (pipeline_of s job) query))
-does h s (ShowTrace query) now seed f i is =
+    (looks h s (event.Request (ShowJob query)) now seed (status_for board query.job) i (λ a. refl) (λ a n. refl) (asked_job (project_with s query.token) job (pipeline_of s job) query))
+does h s board (ShowTrace query) now seed f are i is =
     let job = job_at s query.job in
     subst (After h s (event.Request (ShowTrace query)) now seed) (sym is)
     (reads h s (event.Request (ShowTrace query)) now seed (pieces_in s (last_attempt s query.job)) i (λ a. refl) (λ a n. refl) (asked_job (project_with s query.token) job (pipeline_of s job) query))
 
-goes_on : (h : List Past) (s : State) (e : Event) (now : ℕ) (seed : Seed) (a : Answer) (changes : List RowChange) → Inv h s → Happens s e now seed a changes → Changed h s e now seed a changes
-goes_on h s (event.Request r) now seed (answer.Reply reply) changes i is = does h s r now seed (reply, changes) i is
-goes_on h s event.Sweep now seed (answer.Swept swept) changes i is =
+goes_on : (h : List Past) (s : State) (board : List BoardRow) (e : Event) (now : ℕ) (seed : Seed) (a : Answer) (changes : List RowChange) → AreBoard s board → Inv h s → Happens s board e now seed a changes → Changed h s e now seed a changes
+goes_on h s board (event.Request r) now seed (answer.Reply reply) changes are i is = does h s board r now seed (reply, changes) are i is
+goes_on h s board event.Sweep now seed (answer.Swept swept) changes are i is =
     let P : Swept × List RowChange → Type 0 = λ f. Changed h s event.Sweep now seed (answer.Swept f.0) f.1 in
     subst P (sym is) (sweeps h s now seed i (first_due (leases s) now) refl)
-goes_on h s (event.Request r) now seed (answer.Swept swept) changes i is = absurd is
-goes_on h s event.Sweep now seed (answer.Reply reply) changes i is = absurd is
+goes_on h s board (event.Request r) now seed (answer.Swept swept) changes are i is = absurd is
+goes_on h s board event.Sweep now seed (answer.Reply reply) changes are i is = absurd is
 
 pub reached : (h : List Past) (s : State) → Leads h s → Inv h s
 reached [] s l = subst (Inv []) (sym l) (record { grants = grants_empty; traces = traces_empty; ends = λ p k. absurd k })
 reached (p ∷ h) s l =
-    let i = goes_on h p.before p.event p.now p.seed p.answer l.1.changes (reached h p.before l.0) l.1.happens in
+    let i = goes_on h p.before l.1.before p.event p.now p.seed p.answer l.1.changes l.1.are_before (reached h p.before l.0) l.1.happens in
     subst (Inv (p ∷ h)) (sym l.1.state) i

@@ -13,6 +13,7 @@ use Rattle.std.proofs.Common.{refl, sym, ap, subst, ◌∙◌, inl, inr, ⊎_eli
 use Rattle.std.proofs.lemmas.Bool.{cond_both, both_ways, cases_Bool, false≢true}
 use Rattle.std.proofs.lemmas.List.Sums.{length-filter}
 use Rattle.std.proofs.lemmas.Map.Text.{is_eq-slice_cmp}
+use Rattle.ci_machine.specs.declared.records.BoardRow.{BoardRow}
 use Rattle.ci_machine.specs.declared.records.Runner.{Runner}
 use Rattle.ci_machine.specs.declared.records.Job.{Job}
 use Rattle.ci_machine.specs.declared.records.JobVariable.{JobVariable}
@@ -59,7 +60,7 @@ not_so : (b : Bool) → not b ≡ true → b ≡ false
 not_so true e = absurd (false≢true e)
 not_so false e = refl
 
-filter_ordered : {A : Type 0} (cmp : A → A → Ordering) (p : A → Bool) (xs : List A) → Ordered cmp xs → Ordered cmp (filter p xs)
+pub filter_ordered : {A : Type 0} (cmp : A → A → Ordering) (p : A → Bool) (xs : List A) → Ordered cmp xs → Ordered cmp (filter p xs)
 filter_ordered cmp p [] r = tt
 filter_ordered cmp p (z ∷ zs) r =
     cond_both (p z) (z ∷ filter p zs) (filter p zs) (λ l. Ordered cmp l)
@@ -78,7 +79,7 @@ module _ {A : Type 0} (cmp : A → A → Ordering) (o : IsTotalOrder cmp) where
       (λ e. let first : cmp x z ≡ Less = o.antisymm x z ∙ greater_turned (cmp z x) e (d z (inl refl)) in
       ((λ y k. ⊎_elim (λ q. subst (λ w. cmp x w ≡ Less) (sym q) first) (λ m. o.trans x z y first (r.0 y m)) k), r))
 
-  put_ordered : (x : A) (xs : List A) → Ordered cmp xs → Ordered cmp (put cmp x xs)
+  pub put_ordered : (x : A) (xs : List A) → Ordered cmp xs → Ordered cmp (put cmp x xs)
   put_ordered x xs r =
       let rest = λ (y : A). not (is_eq (cmp y x)) in
       placed_ordered x (others cmp x xs) (filter_ordered cmp rest xs r) (λ y k. not_so (is_eq (cmp y x)) (has_filter rest y xs k).1)
@@ -157,6 +158,7 @@ recorded (row.Runner p) s o = o
 recorded (row.Pipeline p) s o = o
 recorded (row.Job p) s o = o
 recorded (row.JobVariable v) s o = put_ordered job_variable_cmp variable_total v s.job_variables o
+recorded (row.Need n) s o = o
 recorded (row.Attempt p) s o = o
 recorded (row.Piece p) s o = o
 
@@ -166,6 +168,7 @@ removed (key.Runner n) s o = o
 removed (key.Pipeline n) s o = o
 removed (key.Job n) s o = o
 removed (key.JobVariable n name) s o = filter_ordered job_variable_cmp _ s.job_variables o
+removed (key.Need n pred) s o = o
 removed (key.Attempt n) s o = o
 removed (key.Piece n seq) s o = o
 
@@ -191,19 +194,20 @@ offers s now seed o runner (Some q) =
     (λ _ e. absurd (false≢true e))
     (λ _ _. (q, token_of (codes "j") s.next.attempt seed, refl, granted_ascend s q.job s.next.attempt q.job.id o))
 
-asks : (s : State) (now : ℕ) (seed : Seed) → Ordered job_variable_cmp s.job_variables → (runner : Option Runner)
-    → Gives s (ask_job runner (offer s runner) (offered_variables s (offer s runner)) s.next.attempt now seed)
-asks s now seed o None = λ e. absurd (false≢true e)
-asks s now seed o (Some runner) = offers s now seed o runner (chosen (queue s) runner)
+asks : (s : State) (board : List BoardRow) (now : ℕ) (seed : Seed) → Ordered job_variable_cmp s.job_variables → (runner : Option Runner)
+    → Gives s (ask_job runner (offer s board runner) (offered_variables s (offer s board runner)) s.next.attempt now seed)
+asks s board now seed o None = λ e. absurd (false≢true e)
+asks s board now seed o (Some runner) = offers s now seed o runner (chosen (queue s board) runner)
 
-pub gives_in_order : (s : State) (e : Event) (now : ℕ) (seed : Seed) (a : Answer) (changes : List RowChange) → Ordered job_variable_cmp s.job_variables → Happens s e now seed a changes → is_grant e a ≡ true → GivesInOrder s a
-gives_in_order s (event.Request (AskJob token)) now seed (answer.Reply reply) changes o is g = subst (Gives s) (sym is) (asks s now seed o (runner_with s token)) g
-gives_in_order s (event.Request request) now seed (answer.Swept swept) changes o is g = absurd is
-gives_in_order s event.Sweep now seed a changes o is g = absurd (false≢true g)
-gives_in_order s (event.Request (AddProject x)) now seed (answer.Reply reply) changes o is g = absurd (false≢true g)
-gives_in_order s (event.Request (AddRunner x)) now seed (answer.Reply reply) changes o is g = absurd (false≢true g)
-gives_in_order s (event.Request (EnterPipeline x)) now seed (answer.Reply reply) changes o is g = absurd (false≢true g)
-gives_in_order s (event.Request (UpdateJob x)) now seed (answer.Reply reply) changes o is g = absurd (false≢true g)
-gives_in_order s (event.Request (AppendTrace x)) now seed (answer.Reply reply) changes o is g = absurd (false≢true g)
-gives_in_order s (event.Request (ShowJob x)) now seed (answer.Reply reply) changes o is g = absurd (false≢true g)
-gives_in_order s (event.Request (ShowTrace x)) now seed (answer.Reply reply) changes o is g = absurd (false≢true g)
+pub gives_in_order : (s : State) (board : List BoardRow) (e : Event) (now : ℕ) (seed : Seed) (a : Answer) (changes : List RowChange)
+    → Ordered job_variable_cmp s.job_variables → Happens s board e now seed a changes → is_grant e a ≡ true → GivesInOrder s a
+gives_in_order s board (event.Request (AskJob token)) now seed (answer.Reply reply) changes o is g = subst (Gives s) (sym is) (asks s board now seed o (runner_with s token)) g
+gives_in_order s board (event.Request request) now seed (answer.Swept swept) changes o is g = absurd is
+gives_in_order s board event.Sweep now seed a changes o is g = absurd (false≢true g)
+gives_in_order s board (event.Request (AddProject x)) now seed (answer.Reply reply) changes o is g = absurd (false≢true g)
+gives_in_order s board (event.Request (AddRunner x)) now seed (answer.Reply reply) changes o is g = absurd (false≢true g)
+gives_in_order s board (event.Request (EnterPipeline x)) now seed (answer.Reply reply) changes o is g = absurd (false≢true g)
+gives_in_order s board (event.Request (UpdateJob x)) now seed (answer.Reply reply) changes o is g = absurd (false≢true g)
+gives_in_order s board (event.Request (AppendTrace x)) now seed (answer.Reply reply) changes o is g = absurd (false≢true g)
+gives_in_order s board (event.Request (ShowJob x)) now seed (answer.Reply reply) changes o is g = absurd (false≢true g)
+gives_in_order s board (event.Request (ShowTrace x)) now seed (answer.Reply reply) changes o is g = absurd (false≢true g)

@@ -1,5 +1,9 @@
 -- Worked examples: a first project, a runner, a pipeline of one job, and the runner's requests, each one computed.
 use Rattle.std.specs.Prelude.{ℕ, false, List, [], ◌∷◌, None, codes, replicate}
+use Rattle.ci_board.specs.declared.facts.Status.{Status}
+use Rattle.ci_board.specs.declared.facts.Status.TheVariants.{Pending}
+use Rattle.ci_board.specs.Rows.{no_row}
+use Rattle.ci_machine.specs.declared.records.BoardRow.{BoardRow}
 use Rattle.ci_machine.specs.declared.lease.Lease.{Lease}
 use Rattle.ci_machine.specs.declared.records.Job.{Job}
 use Rattle.ci_machine.specs.declared.records.RefKind.TheVariants.{Branch}
@@ -15,10 +19,11 @@ use Rattle.ci_machine.specs.declared.change.RowChange.{RowChange}
 use Rattle.ci_machine.specs.declared.reply.Swept.{Swept}
 use Rattle.ci_machine.specs.Reply.{body_text}
 use Rattle.ci_machine.specs.State.{State, empty, applied}
+use Rattle.ci_machine.specs.Statuses.{status_for}
 use Rattle.ci_machine.specs.Plans.{Plan}
 use Rattle.ci_machine.specs.Projects.{add_project}
 use Rattle.ci_machine.specs.Runners.{add_runner}
-use Rattle.ci_machine.specs.Pipelines.{enter_pipeline}
+use Rattle.ci_machine.specs.Pipelines.{plain_options, enter_pipeline}
 use Rattle.ci_machine.specs.Grants.{ask_job}
 use Rattle.ci_machine.specs.Reports.{update_job}
 use Rattle.ci_machine.specs.Traces.{append_trace}
@@ -63,17 +68,22 @@ pipeline_entered = enter_pipeline (project_at with_runner pipeline.project) with
 abbrev pub with_pipeline : State
 with_pipeline = after pipeline_entered with_runner
 
+-- the rows of the job 1, which waits for no other
+abbrev pub rows : Status → List BoardRow
+rows status = (record { job = 1; row = record no_row { status = status } }) ∷ []
+
 -- then a job request of that token
-abbrev pub asked : State → List ℕ → Plan
-asked s token =
+abbrev pub asked : State → List BoardRow → List ℕ → Plan
+asked s board token =
     let runner = runner_with s token in
-    ask_job runner (offer s runner) (offered_variables s (offer s runner)) s.next.attempt 1000 seed
+    let offered = offer s board runner in
+    ask_job runner offered (offered_variables s offered) s.next.attempt 1000 seed
 
 abbrev pub token : List ℕ
 token = codes "r1-abababababababababababababababab"
 
 abbrev pub granted : Plan
-granted = asked with_pipeline token
+granted = asked with_pipeline (rows Pending) token
 
 abbrev pub with_attempt : State
 with_attempt = after granted with_pipeline
@@ -88,7 +98,7 @@ lease seen limit = record { attempt = attempt seen Live; limit = limit }
 
 -- that attempt of the job 1, which has a limit of an hour, in the project 1 with the token `p`
 abbrev pub job : Job
-job = record { id = 1; pipeline = 1; position = 0; name = codes "build"; stage = codes "build"; options = record { script = []; timeout = 3600 }; played = false; cancelled = false; set_aside = 0 }
+job = record { id = 1; pipeline = 1; position = 0; name = codes "build"; stage = codes "build"; options = plain_options []; played = false; cancelled = false; set_aside = 0 }
 
 abbrev pub leased : State
 leased = record empty {
@@ -112,8 +122,8 @@ swept s now = sweep (first_due (leases s) now)
 abbrev pub query : ℕ → ℕ → List ℕ → JobQuery
 query project number token = record { project = project; token = token; job = number }
 
-abbrev pub job_shown : State → JobQuery → Plan
-job_shown s q = show_job (project_with s q.token) (job_at s q.job) (pipeline_of s (job_at s q.job)) (last_attempt s q.job) q
+abbrev pub job_shown : State → List BoardRow → JobQuery → Plan
+job_shown s board q = show_job (project_with s q.token) (job_at s q.job) (pipeline_of s (job_at s q.job)) (status_for board q.job) q
 
 abbrev pub trace_shown : State → JobQuery → Plan
 trace_shown s q = show_trace (project_with s q.token) (job_at s q.job) (pipeline_of s (job_at s q.job)) (pieces_in s (last_attempt s q.job)) q

@@ -24,7 +24,9 @@ use Rattle.ci_values.specs.declared.attempts.AttemptState.TheVariants.{Live}
 use Rattle.ci_values.specs.declared.attempts.Cause.{Cause}
 use Rattle.ci_machine.specs.Leases.{is_live, is_over, cause_of}
 use Rattle.ci_machine.specs.Eligible.{may_run}
+use Rattle.ci_machine.specs.declared.records.BoardRow.{BoardRow}
 use Rattle.ci_machine.specs.State.{State}
+use Rattle.ci_machine.specs.Statuses.{AreBoard}
 use Rattle.ci_machine.specs.Bodies.{grant_data, granted_variables}
 use Rattle.ci_machine.specs.Plans.{created}
 use Rattle.ci_machine.specs.Shows.{joined}
@@ -54,13 +56,15 @@ is_grant _ _ = false
 abbrev pub grants : ℕ → Past → Bool
 grants n p = is_grant p.event p.answer && (p.before.next.attempt == n)
 
--- in that state the job may be given to the runner, and of the jobs that may it has the least number
+-- in that state, by the statuses of its jobs, the job may be given to the runner, and of the jobs that may it has the least number
 pub record IsLeastEligible (s : State) (runner : Runner) (job : Job) : Type 0 where
+  pub board : List BoardRow
+  pub are_board : AreBoard s board
   pub is_runner : Contains s.runners runner
   pub is_job : Contains s.jobs job
-  pub pending : is_pending s job ≡ true
+  pub pending : is_pending board job ≡ true
   pub allowed : may_run runner (queued s job) ≡ true
-  pub least : All (λ other. is_pending s other ≡ true → may_run runner (queued s other) ≡ true → job.id ≤ other.id) s.jobs
+  pub least : All (λ other. is_pending board other ≡ true → may_run runner (queued s other) ≡ true → job.id ≤ other.id) s.jobs
 
 -- just one line of the history granted the attempt; it asked with the token of the attempt's runner, and in the state before it
 -- the attempt's job was the least eligible for that runner
@@ -131,6 +135,8 @@ pub record IsLinked (s : State) : Type 0 where
   pub attempt_runner : All (λ a. Contains (map (λ r. r.id) s.runners) a.runner) s.attempts
   pub job_pipeline : All (λ j. Contains (map (λ p. p.id) s.pipelines) j.pipeline) s.jobs
   pub pipeline_project : All (λ p. Contains (map (λ q. q.id) s.projects) p.project) s.pipelines
+  pub need_job : All (λ w. Contains (map (λ j. j.id) s.jobs) w.job) s.needs
+  pub need_pred : All (λ w. Contains (map (λ j. j.id) s.jobs) w.pred) s.needs
 
 -- the lease of the attempt is over at this moment
 abbrev pub is_due : State → ℕ → Attempt → Bool
@@ -175,5 +181,6 @@ pub record Laws (h : List Past) (s : State) : Type 0 where
   pub ends_stay : All (λ p. EndsStay p.before s) h
   pub stays : All (λ p. Stays p.before s) h
   pub linked : IsLinked s
+  pub settled : (board : List BoardRow) × AreBoard s board
   pub swept : All (λ p. IsSweptBy p.before p.now p.event p.answer) h
   pub in_order : All (λ p. is_grant p.event p.answer ≡ true → GivesInOrder p.before p.answer) h

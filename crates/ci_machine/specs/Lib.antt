@@ -1,4 +1,6 @@
 pub mod State
+pub mod Kept
+pub mod Statuses
 pub mod Reply
 pub mod Bodies
 pub mod Eligible
@@ -13,6 +15,8 @@ pub mod Traces
 pub mod Shows
 pub mod Sweeps
 pub mod Step
+pub mod Ranges
 pub mod History
 pub mod Laws
+pub mod Sound
 pub mod Examples

@@ -5,11 +5,13 @@ use Rattle.std.specs.Fmt.{decimal}
 use Rattle.serde_json.specs.Written.{compact_text}
 use Rattle.ci_values.specs.Names.{is_name}
 use Rattle.ci_values.specs.declared.limits.TheConstants.{MAX_NUMBER}
+use Rattle.ci_graph.specs.JobGraph.{no_part}
 use Rattle.ci_machine.specs.declared.limits.TheConstants.{MAX_JOBS, DEFAULT_TIMEOUT_SECONDS}
 use Rattle.ci_machine.specs.declared.records.Project.{Project}
 use Rattle.ci_machine.specs.declared.records.Pipeline.{Pipeline}
 use Rattle.ci_machine.specs.declared.records.RefKind.TheVariants.{Branch}
 use Rattle.ci_machine.specs.declared.records.Source.TheVariants.{Api}
+use Rattle.ci_machine.specs.declared.records.JobOptions.{JobOptions}
 use Rattle.ci_machine.specs.declared.records.Job.{Job}
 use Rattle.ci_machine.specs.declared.records.JobVariable.{JobVariable}
 use Rattle.ci_machine.specs.declared.change.RowChange.{RowChange}
@@ -28,10 +30,14 @@ use Rattle.ci_machine.specs.Plans.{Plan, refused, faulted, created}
 abbrev pub has_names : NewPipeline → Bool
 has_names p = is_name p.git_ref && is_name p.stage && list_all (λ j. is_name j.name) p.jobs
 
--- the job at a position of a pipeline, whose first job has the number first: its limit is that of a job that sets none
+-- what is fixed of a job that sets nothing but its script
+abbrev pub plain_options : List (List ℕ) → JobOptions
+plain_options script = record { script = script; timeout = DEFAULT_TIMEOUT_SECONDS; tags = []; resource_group = None; interruptible = false; part = no_part }
+
+-- the job at a position of a pipeline, whose first job has the number first
 abbrev pub new_job : List ℕ → ℕ → ℕ → ℕ → NewJob → Job
 new_job stage pipeline first position j =
-    record { id = first + position; pipeline = pipeline; position = position; name = j.name; stage = stage; options = record { script = j.script; timeout = DEFAULT_TIMEOUT_SECONDS }; played = false; cancelled = false; set_aside = 0 }
+    record { id = first + position; pipeline = pipeline; position = position; name = j.name; stage = stage; options = plain_options j.script; played = false; cancelled = false; set_aside = 0 }
 
 -- the jobs from a position on
 abbrev pub new_jobs : List ℕ → ℕ → ℕ → ℕ → List NewJob → List Job

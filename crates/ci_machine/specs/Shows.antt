@@ -1,11 +1,10 @@
 -- A job of a project is asked for, or the trace of its last attempt.
-use Rattle.std.specs.Prelude.{ℕ, List, [], if◌then◌else◌, ◌==◌, Option, Some, None, Result, Ok, Err, codes}
+use Rattle.std.specs.Prelude.{ℕ, List, [], if◌then◌else◌, ◌==◌, Option, Some, None, Result, Ok, Err}
 use Rattle.std.specs.List.{flat_map}
 use Rattle.serde_json.specs.Written.{compact_text}
 use Rattle.ci_machine.specs.declared.records.Project.{Project}
 use Rattle.ci_machine.specs.declared.records.Pipeline.{Pipeline}
 use Rattle.ci_machine.specs.declared.records.Job.{Job}
-use Rattle.ci_machine.specs.declared.records.Attempt.{Attempt}
 use Rattle.ci_machine.specs.declared.records.Piece.{Piece}
 use Rattle.ci_machine.specs.declared.request.JobQuery.{JobQuery}
 use Rattle.ci_machine.specs.declared.reply.Code.{Code}
@@ -14,7 +13,9 @@ use Rattle.ci_machine.specs.declared.reply.HttpStatus.TheVariants.{Fine}
 use Rattle.ci_machine.specs.declared.reply.Body.{Body}
 use Rattle.ci_machine.specs.declared.reply.Body.TheVariants.{Json, Plain}
 use Rattle.ci_machine.specs.declared.reply.Reply.{Reply}
-use Rattle.ci_machine.specs.Reply.{status_of_state, status_text, plain}
+use Rattle.ci_board.specs.declared.facts.Status.{Status}
+use Rattle.ci_board.specs.Texts.{status_text}
+use Rattle.ci_machine.specs.Reply.{plain}
 use Rattle.ci_machine.specs.Bodies.{job_data}
 use Rattle.ci_machine.specs.Plans.{Plan, refused}
 
@@ -32,22 +33,17 @@ asked_job (Some project) job pipeline query = if project.id == query.project the
 abbrev pub fine : Body → Reply
 fine body = record (plain Fine) { body = Some body }
 
--- the status of a job as it is shown, by its last attempt: it is pending while it has none
-abbrev pub shown_status : Option Attempt → List ℕ
-shown_status None = codes "pending"
-shown_status (Some last) = status_text (status_of_state last.state)
-
 -- the job with its status
-abbrev pub job_shown : Job → Option Attempt → Plan
-job_shown job last = (fine (Json (compact_text (job_data (shown_status last) job))), [])
+abbrev pub job_shown : Job → Status → Plan
+job_shown job status = (fine (Json (compact_text (job_data (status_text status) job))), [])
 
-abbrev pub shown : Result Job Code → Option Attempt → Plan
-shown (Ok job) last = job_shown job last
-shown (Err code) last = refused code
+abbrev pub shown : Result Job Code → Status → Plan
+shown (Ok job) status = job_shown job status
+shown (Err code) status = refused code
 
--- a job of a project, and the last of its attempts
-abbrev pub show_job : Option Project → Option Job → Option Pipeline → Option Attempt → JobQuery → Plan
-show_job project job pipeline last query = shown (asked_job project job pipeline query) last
+-- a job of a project, and its status
+abbrev pub show_job : Option Project → Option Job → Option Pipeline → Status → JobQuery → Plan
+show_job project job pipeline status query = shown (asked_job project job pipeline query) status
 
 -- the pieces of a trace, joined in their order
 abbrev pub joined : List Piece → List ℕ

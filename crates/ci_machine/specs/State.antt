@@ -8,6 +8,7 @@ use Rattle.ci_machine.specs.declared.records.Runner.{Runner}
 use Rattle.ci_machine.specs.declared.records.Pipeline.{Pipeline}
 use Rattle.ci_machine.specs.declared.records.Job.{Job}
 use Rattle.ci_machine.specs.declared.records.JobVariable.{JobVariable}
+use Rattle.ci_machine.specs.declared.records.Need.{Need}
 use Rattle.ci_machine.specs.declared.records.Attempt.{Attempt}
 use Rattle.ci_machine.specs.declared.records.Piece.{Piece}
 use Rattle.ci_machine.specs.declared.records.Numbers.{Numbers}
@@ -26,6 +27,7 @@ pub record State : Type 0 where
   pub pipelines : List Pipeline
   pub jobs : List Job
   pub job_variables : List JobVariable  -- by the job, then by the key
+  pub needs : List Need  -- by the job, then by the one that it waits for
   pub attempts : List Attempt
   pub pieces : List Piece  -- by the attempt, then by the place in its trace
   pub next : Numbers
@@ -35,10 +37,10 @@ first_numbers = record { project = 1; runner = 1; pipeline = 1; job = 1; attempt
 
 -- nothing, and each next number is 1
 abbrev pub empty : State
-empty = record { projects = []; runners = []; pipelines = []; jobs = []; job_variables = []; attempts = []; pieces = []; next = first_numbers }
+empty = record { projects = []; runners = []; pipelines = []; jobs = []; job_variables = []; needs = []; attempts = []; pieces = []; next = first_numbers }
 
 -- how records of a table are ordered: by their numbers, a job's variables by the job and then by the bytes of the key, the
--- pieces of a trace by the attempt and then by their place
+-- pairs of graphs by the job and then by the one that it waits for, the pieces of a trace by the attempt and then by their place
 abbrev pub project_cmp : Project → Project → Ordering
 project_cmp a b = nat_cmp a.id b.id
 
@@ -53,6 +55,9 @@ job_cmp a b = nat_cmp a.id b.id
 
 abbrev pub job_variable_cmp : JobVariable → JobVariable → Ordering
 job_variable_cmp a b = ordering_then (nat_cmp a.job b.job) (slice_cmp nat_cmp a.key b.key)
+
+abbrev pub need_cmp : Need → Need → Ordering
+need_cmp a b = ordering_then (nat_cmp a.job b.job) (nat_cmp a.pred b.pred)
 
 abbrev pub attempt_cmp : Attempt → Attempt → Ordering
 attempt_cmp a b = nat_cmp a.id b.id
@@ -83,6 +88,7 @@ with_record (row.Runner r) s = record s { runners = put runner_cmp r s.runners }
 with_record (row.Pipeline p) s = record s { pipelines = put pipeline_cmp p s.pipelines }
 with_record (row.Job j) s = record s { jobs = put job_cmp j s.jobs }
 with_record (row.JobVariable v) s = record s { job_variables = put job_variable_cmp v s.job_variables }
+with_record (row.Need n) s = record s { needs = put need_cmp n s.needs }
 with_record (row.Attempt a) s = record s { attempts = put attempt_cmp a s.attempts }
 with_record (row.Piece p) s = record s { pieces = put piece_cmp p s.pieces }
 
@@ -92,6 +98,7 @@ without_record (key.Runner n) s = record s { runners = without (λ r. r.id) n s.
 without_record (key.Pipeline n) s = record s { pipelines = without (λ p. p.id) n s.pipelines }
 without_record (key.Job n) s = record s { jobs = without (λ j. j.id) n s.jobs }
 without_record (key.JobVariable n name) s = record s { job_variables = filter (λ v. not (is_eq (ordering_then (nat_cmp v.job n) (slice_cmp nat_cmp v.key name)))) s.job_variables }
+without_record (key.Need n pred) s = record s { needs = filter (λ w. not (is_eq (ordering_then (nat_cmp w.job n) (nat_cmp w.pred pred)))) s.needs }
 without_record (key.Attempt n) s = record s { attempts = without (λ a. a.id) n s.attempts }
 without_record (key.Piece n seq) s = record s { pieces = filter (λ p. not (is_eq (ordering_then (nat_cmp p.attempt n) (nat_cmp p.seq seq)))) s.pieces }
 

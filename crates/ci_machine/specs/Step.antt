@@ -1,5 +1,5 @@
--- One step of the machine: what an event does, by what the state holds, and then its changes applied.
-use Rattle.std.specs.Prelude.{◌≡◌, ℕ, Bool, List, [], filter, length, find, map, ◌==◌, Option, Some, None, option_map, option_and_then}
+-- One step of the machine: what an event does, by what the state holds and by the statuses of its jobs, and then its changes applied.
+use Rattle.std.specs.Prelude.{◌≡◌, ℕ, Bool, List, [], filter, find, map, ◌==◌, Option, Some, None, option_map, option_and_then}
 use Rattle.std.specs.List.{last_or}
 use Rattle.std.specs.Str.{bytes_eq}
 use Rattle.ci_machine.specs.declared.records.Project.{Project}
@@ -22,7 +22,11 @@ use Rattle.ci_machine.specs.declared.request.Seed.{Seed}
 use Rattle.ci_machine.specs.declared.change.RowChange.{RowChange}
 use Rattle.ci_machine.specs.declared.reply.Answer.{Answer}
 use Rattle.ci_machine.specs.declared.reply.Answer.TheVariants as answer
+use Rattle.ci_board.specs.declared.facts.Status.TheVariants as status
+use Rattle.ci_board.specs.Effects.{is_status}
+use Rattle.ci_machine.specs.declared.records.BoardRow.{BoardRow}
 use Rattle.ci_machine.specs.State.{State, applied}
+use Rattle.ci_machine.specs.Statuses.{attempts_of, status_for, AreBoard}
 use Rattle.ci_machine.specs.Eligible.{chosen}
 use Rattle.ci_machine.specs.Leases.{is_live, first_due}
 use Rattle.ci_machine.specs.Plans.{Plan}
@@ -59,10 +63,6 @@ attempt_at s n = find (λ a. a.id == n) s.attempts
 abbrev pub variables_of : State → ℕ → List JobVariable
 variables_of s job = filter (λ v. v.job == job) s.job_variables
 
--- the attempts of a job, by number
-abbrev pub attempts_of : State → ℕ → List Attempt
-attempts_of s job = filter (λ a. a.job == job) s.attempts
-
 abbrev pub last_attempt : State → ℕ → Option Attempt
 last_attempt s job = last_or None (attempts_of s job)
 
@@ -88,12 +88,12 @@ live_attempts s = filter is_live s.attempts
 abbrev pub leases : State → List Lease
 leases s = map (lease_of s) (live_attempts s)
 
--- a job is pending while it has no attempt
-abbrev pub is_pending : State → Job → Bool
-is_pending s job = length (attempts_of s job.id) == 0
+-- a job is pending where its row says so
+abbrev pub is_pending : List BoardRow → Job → Bool
+is_pending board job = is_status (status_for board job.id) status.Pending
 
-abbrev pub pending_jobs : State → List Job
-pending_jobs s = filter (is_pending s) s.jobs
+abbrev pub pending_jobs : State → List BoardRow → List Job
+pending_jobs s board = filter (is_pending board) s.jobs
 
 -- the project of a pipeline; a job's pipeline is always there
 abbrev pub project_or_none : Option Pipeline → ℕ
@@ -104,12 +104,12 @@ abbrev pub queued : State → Job → QueuedJob
 queued s job = record { job = job; project = project_or_none (pipeline_at s job.pipeline) }
 
 -- the pending jobs, by number
-abbrev pub queue : State → List QueuedJob
-queue s = map (queued s) (pending_jobs s)
+abbrev pub queue : State → List BoardRow → List QueuedJob
+queue s board = map (queued s) (pending_jobs s board)
 
 -- the job that the runner, if there is one, is offered
-abbrev pub offer : State → Option Runner → Option QueuedJob
-offer s runner = option_and_then (chosen (queue s)) runner
+abbrev pub offer : State → List BoardRow → Option Runner → Option QueuedJob
+offer s board runner = option_and_then (chosen (queue s board)) runner
 
 abbrev pub offered_variables : State → Option QueuedJob → List JobVariable
 offered_variables s None = []
@@ -134,32 +134,38 @@ next_of counter.Attempt next = next.attempt
 
 -- ---- the step
 
--- what a request does in a state
-abbrev pub Does : State → Request → ℕ → Seed → Plan → Type 0
-Does s (AddProject name) now seed plan = plan ≡ add_project s.next.project name seed
-Does s (AddRunner name) now seed plan = plan ≡ add_runner s.next.runner name seed
-Does s (EnterPipeline p) now seed plan = plan ≡ enter_pipeline (project_at s p.project) s.next.pipeline s.next.job p now
-Does s (AskJob token) now seed plan =
+-- what a request does in a state whose jobs have these rows
+abbrev pub Does : State → List BoardRow → Request → ℕ → Seed → Plan → Type 0
+Does s board (AddProject name) now seed plan = plan ≡ add_project s.next.project name seed
+Does s board (AddRunner name) now seed plan = plan ≡ add_runner s.next.runner name seed
+Does s board (EnterPipeline p) now seed plan = plan ≡ enter_pipeline (project_at s p.project) s.next.pipeline s.next.job p now
+Does s board (AskJob token) now seed plan =
     let runner = runner_with s token in
-    plan ≡ ask_job runner (offer s runner) (offered_variables s (offer s runner)) s.next.attempt now seed
-Does s (UpdateJob update) now seed plan = plan ≡ update_job (lease_at s update.attempt) update now
-Does s (AppendTrace part) now seed plan = plan ≡ append_trace (lease_at s part.attempt) part now
-Does s (ShowJob query) now seed plan =
+    let offered = offer s board runner in
+    plan ≡ ask_job runner offered (offered_variables s offered) s.next.attempt now seed
+Does s board (UpdateJob update) now seed plan = plan ≡ update_job (lease_at s update.attempt) update now
+Does s board (AppendTrace part) now seed plan = plan ≡ append_trace (lease_at s part.attempt) part now
+Does s board (ShowJob query) now seed plan =
     let job = job_at s query.job in
-    plan ≡ show_job (project_with s query.token) job (pipeline_of s job) (last_attempt s query.job) query
-Does s (ShowTrace query) now seed plan =
+    plan ≡ show_job (project_with s query.token) job (pipeline_of s job) (status_for board query.job) query
+Does s board (ShowTrace query) now seed plan =
     let job = job_at s query.job in
     plan ≡ show_trace (project_with s query.token) job (pipeline_of s job) (pieces_in s (last_attempt s query.job)) query
 
--- what an event does in a state: a request is answered by a reply, and a sweep by what it ended
-abbrev pub Happens : State → Event → ℕ → Seed → Answer → List RowChange → Type 0
-Happens s (event.Request request) now seed (answer.Reply reply) changes = Does s request now seed (reply, changes)
-Happens s event.Sweep now seed (answer.Swept swept) changes = (swept, changes) ≡ sweep (first_due (leases s) now)
-Happens s (event.Request request) now seed (answer.Swept swept) changes = ⊥
-Happens s event.Sweep now seed (answer.Reply reply) changes = ⊥
+-- what an event does in a state whose jobs have these rows: a request is answered by a reply, and a sweep by what it ended
+abbrev pub Happens : State → List BoardRow → Event → ℕ → Seed → Answer → List RowChange → Type 0
+Happens s board (event.Request request) now seed (answer.Reply reply) changes = Does s board request now seed (reply, changes)
+Happens s board event.Sweep now seed (answer.Swept swept) changes = (swept, changes) ≡ sweep (first_due (leases s) now)
+Happens s board (event.Request request) now seed (answer.Swept swept) changes = ⊥
+Happens s board event.Sweep now seed (answer.Reply reply) changes = ⊥
 
--- from a state an event, at a moment and with a seed, leads to an answer and the next state
+-- From a state an event, at a moment and with a seed, leads to an answer and the next state. Neither has statuses: the step asks for the
+-- rows of the state before, and there are those of the state after.
 pub record Step (s : State) (e : Event) (now : ℕ) (seed : Seed) (a : Answer) (t : State) : Type 0 where
+  pub before : List BoardRow
+  pub are_before : AreBoard s before
   pub changes : List RowChange
-  pub happens : Happens s e now seed a changes
+  pub happens : Happens s before e now seed a changes
   pub state : t ≡ applied changes s
+  pub after : List BoardRow
+  pub are_after : AreBoard t after

@@ -2,7 +2,7 @@
 
 ghost use Rattle.std.specs.Prelude.{◌≡◌, ◌↔◌, [], IsTrue};
 
-use crate::records::{Attempt, Job, JobVariable, Piece, Pipeline, Project, Runner};
+use crate::records::{Attempt, Job, JobVariable, Need, Piece, Pipeline, Project, Runner};
 use crate::text::Text;
 use std::marker::Model;
 
@@ -14,6 +14,7 @@ pub enum Record {
     Pipeline(Pipeline),
     Job(Job),
     JobVariable(JobVariable),
+    Need(Need),
     Attempt(Attempt),
     Piece(Piece),
 }
@@ -26,6 +27,8 @@ pub enum Key {
     Pipeline(u64),
     Job(u64),
     JobVariable(u64, Text),
+    /// Of a job, and of the one that it waits for.
+    Need(u64, u64),
     Attempt(u64),
     /// Of an attempt, at a place of its trace.
     Piece(u64, u64),

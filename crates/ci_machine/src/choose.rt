@@ -13,7 +13,8 @@ pub fn choose<'a>(queue: &'a [QueuedJob], runner: &Runner) -> Option<&'a QueuedJ
     queue.iter().find(|queued| may_run(runner, queued))
 }
 
-fn may_run(runner: &Runner, queued: &QueuedJob) -> bool
+/// May the runner be given the job?
+pub fn may_run(runner: &Runner, queued: &QueuedJob) -> bool
     ensures { result ≡ may_run runner.now queued.now }
 {
     !runner.paused && is_open_to(runner.project, queued.project)

@@ -5,6 +5,7 @@ ghost use Rattle.ci_machine.specs.declared.request.Event.{Event};
 ghost use Rattle.ci_machine.specs.declared.request.Seed.{Seed};
 ghost use Rattle.ci_machine.specs.declared.reply.Answer.{Answer};
 ghost use Rattle.ci_machine.specs.State.{State};
+ghost use Rattle.ci_machine.specs.Statuses.{AreBoard};
 ghost use Rattle.ci_machine.specs.Plans.{token_of, refused};
 ghost use Rattle.ci_machine.specs.Projects.{add_project, made_project};
 ghost use Rattle.ci_machine.specs.Runners.{add_runner, made_runner};
@@ -16,14 +17,16 @@ ghost use Rattle.ci_values.specs.Names.{is_name};
 ghost use Rattle.ci_machine.specs.Step.{Step};
 ghost use Rattle.ci_machine.specs.Reply.{Stepped, outcome_of, detail_text};
 ghost use Rattle.ci_machine.specs.Laws.{IsRefusal, Laws};
-ghost use Rattle.ci_machine.specs.History.{Past, Leads};
-ghost use Rattle.ci_machine.specs.Examples.{reply_text, project_added, runner_added, pipeline_entered, granted, with_attempt, token, asked, seed, attempt, lease, leased, after, sent, said, swept, query, job_shown, trace_shown, hello, hello_world};
+ghost use Rattle.ci_machine.specs.History.{Past, Leads, IsReached};
+ghost use Rattle.ci_machine.specs.Sound.{IsSound};
+ghost use Rattle.ci_machine.specs.Examples.{reply_text, project_added, runner_added, pipeline_entered, granted, with_pipeline, with_attempt, token, rows, asked, seed, attempt, lease, leased, after, sent, said, swept, query, job_shown, trace_shown, hello, hello_world};
 ghost use Rattle.ci_machine.specs.Leases.{renewed, is_over, deadline, accepted, size_after, finished, cause_of};
 
 use crate::lease::{LeaseFault, PieceFault};
 use crate::records::{AttemptState, Cause};
 use crate::reply::{Code, Detail, FaultCode, JobStatus, Swept};
 use crate::request::Report;
+use ci_board::facts::Status;
 
 /// A step that refuses leaves the state as it was.
 pub fn a_refusal_changes_nothing()
@@ -46,9 +49,17 @@ pub fn worked_examples()
     ensures runner { reply_text runner_added ≡ codes "{\"id\":1,\"token\":\"r1-abababababababababababababababab\"}" }
     ensures pipeline { reply_text pipeline_entered ≡ codes "{\"id\":1,\"jobs\":[{\"id\":1,\"name\":\"build\",\"stage\":\"build\",\"status\":\"pending\"}],\"ref\":\"main\",\"source\":\"api\",\"status\":\"pending\"}" }
     ensures granted { reply_text granted ≡ codes "{\"id\":1,\"job_info\":{\"name\":\"build\",\"project_id\":1,\"stage\":\"build\"},\"script\":[\"make\"],\"timeout\":3600,\"token\":\"j1-abababababababababababababababab\",\"variables\":[{\"key\":\"CI\",\"value\":\"true\"},{\"key\":\"CI_COMMIT_BRANCH\",\"value\":\"main\"},{\"key\":\"CI_COMMIT_REF_NAME\",\"value\":\"main\"},{\"key\":\"CI_JOB_ID\",\"value\":\"1\"},{\"key\":\"CI_JOB_NAME\",\"value\":\"build\"},{\"key\":\"CI_JOB_STAGE\",\"value\":\"build\"},{\"key\":\"CI_PIPELINE_ID\",\"value\":\"1\"},{\"key\":\"CI_PIPELINE_SOURCE\",\"value\":\"api\"},{\"key\":\"CI_PROJECT_ID\",\"value\":\"1\"}]}" }
-    ensures asked_again { asked with_attempt token ≡ nothing_to_run }
-    ensures unknown_token { asked with_attempt (codes "nope") ≡ refused Code.M4 }
-    ensures unknown_body { reply_text (asked with_attempt (codes "nope")) ≡ codes "{\"code\":\"M4\"}" }
+    ensures asked_again { asked with_attempt (rows Status.Running) token ≡ nothing_to_run }
+    ensures unknown_token { asked with_attempt (rows Status.Running) (codes "nope") ≡ refused Code.M4 }
+    ensures unknown_body { reply_text (asked with_attempt (rows Status.Running) (codes "nope")) ≡ codes "{\"code\":\"M4\"}" }
+{}
+
+/// The rows with which the examples go on are those of their states.
+pub fn example_boards()
+    ensures entered { AreBoard with_pipeline (rows Status.Pending) }
+    ensures granted { AreBoard with_attempt (rows Status.Running) }
+    ensures leased { AreBoard leased (rows Status.Running) }
+    ensures ended { AreBoard (after (swept leased 1120) leased) (rows Status.Failed) }
 {}
 
 /// What the details of faults print, worked out by hand.
@@ -126,19 +137,25 @@ pub fn trace_examples()
     ensures late_end { said leased [] (Report.Success None) 1120 ≡ refused Code.M7 }
     ensures other_token { said leased (codes "j") Report.Running 1000 ≡ refused Code.M5 }
 
-    ensures unknown_project { job_shown leased (query 1 1 (codes "q")) ≡ refused Code.M1 }
-    ensures other_project { job_shown leased (query 2 1 (codes "p")) ≡ refused Code.M2 }
-    ensures unknown_job { job_shown leased (query 1 2 (codes "p")) ≡ refused Code.M3 }
-    ensures running { reply_text (job_shown leased (query 1 1 (codes "p"))) ≡ codes "{\"id\":1,\"name\":\"build\",\"stage\":\"build\",\"status\":\"running\"}" }
-    ensures failed { reply_text (job_shown (after (swept leased 1120) leased) (query 1 1 (codes "p"))) ≡ codes "{\"id\":1,\"name\":\"build\",\"stage\":\"build\",\"status\":\"failed\"}" }
+    ensures unknown_project { job_shown leased (rows Status.Running) (query 1 1 (codes "q")) ≡ refused Code.M1 }
+    ensures other_project { job_shown leased (rows Status.Running) (query 2 1 (codes "p")) ≡ refused Code.M2 }
+    ensures unknown_job { job_shown leased (rows Status.Running) (query 1 2 (codes "p")) ≡ refused Code.M3 }
+    ensures running { reply_text (job_shown leased (rows Status.Running) (query 1 1 (codes "p"))) ≡ codes "{\"id\":1,\"name\":\"build\",\"stage\":\"build\",\"status\":\"running\"}" }
+    ensures failed { reply_text (job_shown (after (swept leased 1120) leased) (rows Status.Failed) (query 1 1 (codes "p"))) ≡ codes "{\"id\":1,\"name\":\"build\",\"stage\":\"build\",\"status\":\"failed\"}" }
 {}
 
 /// In each state that a history leads to, each job has at most one live attempt; each attempt was granted by just one
 /// request, with its runner's token, in a state in which its job was pending and, of those that its runner may run, the
 /// one of least number; each trace is the bytes that were accepted of its attempt, joined in the order of the history; an
-/// attempt that had ended in an earlier state stands as it ended; no record of an earlier state is gone; and the records
-/// that others name are there. Each sweep of the history ended the due attempt of least number, or there was none; and
-/// each grant gave the variables of its job in the order of their keys.
+/// attempt that had ended in an earlier state stands as it ended; no record of an earlier state is gone; the records that
+/// others name are there; and there are rows of its jobs' statuses. Each sweep of the history ended the due attempt of least
+/// number, or there was none; and each grant gave the variables of its job in the order of their keys.
 pub fn laws_of_each_reached_state()
     ensures { (h : List Past) (s : State) → Leads h s → Laws h s }
+{}
+
+/// In each state that a history leads to, records stand in the order of their numbers, which are below those that come
+/// next; what a record names is there; and the live attempt of a job, if it has one, is its last.
+pub fn sound_of_each_reached_state()
+    ensures { (s : State) → IsReached s → IsSound s }
 {}

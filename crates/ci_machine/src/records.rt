@@ -2,12 +2,16 @@
 
 ghost use Rattle.std.specs.Prelude.{◌≡◌};
 ghost use Rattle.ci_machine.specs.Bodies.{source_text};
+ghost use Rattle.ci_machine.specs.Pipelines.{plain_options};
 
+use crate::limits::DEFAULT_TIMEOUT_SECONDS;
 use crate::moment::Moment;
 use crate::text::{Bytes, Text, Texts};
+use ci_board::facts::Row;
+use ci_graph::part::Part;
 pub use ci_values::attempts::{AttemptState, Cause};
 pub use ci_values::limits::MAX_NUMBER;
-use std::alloc::AllocError;
+use std::alloc::{AllocError, Global};
 
 /// A project, with the token that its users send and its pipeline file.
 #[derive(Clone, Drop)]
@@ -84,6 +88,30 @@ pub struct JobOptions {
     pub script: Texts,
     /// The time limit of an attempt, in seconds.
     pub timeout: u32,
+    /// The tags that a runner must have to be given the job.
+    pub tags: Texts,
+    /// The group of whose jobs one at a time holds a lease, in each project.
+    pub resource_group: Option<Text>,
+    /// Whether a newer pipeline may make it redundant.
+    pub interruptible: bool,
+    /// What its status depends on.
+    pub part: Part,
+}
+
+impl JobOptions {
+    /// What is fixed of a job that sets nothing but its script.
+    pub fn plain(alloc: Global, script: Texts) -> JobOptions
+        ensures { result ≡ plain_options script }
+    {
+        JobOptions {
+            script,
+            timeout: DEFAULT_TIMEOUT_SECONDS,
+            tags: Texts::new(Vec::new(alloc)),
+            resource_group: None,
+            interruptible: false,
+            part: Part::plain(),
+        }
+    }
 }
 
 /// A job of a pipeline.
@@ -131,6 +159,21 @@ impl Clone for JobVariable {
             value,
         })
     }
+}
+
+/// A pair of a pipeline's graph: the job waits for another of its pipeline.
+#[derive(Clone, Copy, Drop)]
+pub struct Need {
+    pub job: u64,
+    /// The job that it waits for.
+    pub pred: u64,
+}
+
+/// The row of a job's status. It is kept beside the state, which has no statuses.
+#[derive(Clone, Copy, Drop)]
+pub struct BoardRow {
+    pub job: u64,
+    pub row: Row,
 }
 
 /// A run of a job by a runner. While it is live it is the runner's lease on the job.

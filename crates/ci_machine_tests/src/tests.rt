@@ -1,7 +1,7 @@
 //! Each public call of the machine on its happy path, with what it answers worked out by hand.
 
 use ci_machine::change::{Counter, Delta, RowChange};
-use ci_machine::choose::choose;
+use ci_machine::choose::{choose, may_run};
 use ci_machine::lease::{Lease, accept_piece, cause, due, finish, is_over, renew};
 use ci_machine::moment::Moment;
 use ci_machine::records::{
@@ -140,17 +140,14 @@ fn why_a_lease_ends(rt: HostRuntime) -> Result<(), Fail> {
     Ok(())
 }
 
-fn job(id: u64, name: Text, stage: Text, script: Texts) -> Job {
+fn job(id: u64, name: Text, stage: Text, options: JobOptions) -> Job {
     Job {
         id,
         pipeline: 1,
         position: 0,
         name,
         stage,
-        options: JobOptions {
-            script,
-            timeout: 3600,
-        },
+        options,
         played: false,
         cancelled: false,
         set_aside: 0,
@@ -160,7 +157,8 @@ fn job(id: u64, name: Text, stage: Text, script: Texts) -> Job {
 fn queued(alloc: Global, id: u64, project: u64) -> Result<QueuedJob, AllocError> {
     let name = text(alloc, "build")?;
     let stage = text(alloc, "build")?;
-    let job = job(id, name, stage, Texts::new(Vec::new(alloc)));
+    let options = JobOptions::plain(alloc, Texts::new(Vec::new(alloc)));
+    let job = job(id, name, stage, options);
     Ok(QueuedJob { job, project })
 }
 
@@ -205,6 +203,30 @@ fn choices(rt: HostRuntime) -> Result<(), Fail> {
         };
         assert!(rt; found == *number);
     }
+    Ok(())
+}
+
+/// Whether the runners of that table may be given the job 5, of project 2.
+const GIVEN: &[bool] = &[true, false, true, false, false];
+
+#[test]
+fn who_may_run_it(rt: HostRuntime) -> Result<(), Fail> {
+    let alloc = rt.alloc();
+    let queued = queued(alloc, 5, 2)?;
+    for ((project, paused, _), given) in RUNNERS.iter().zip(GIVEN) {
+        let runner = runner(alloc, *project, *paused)?;
+        assert!(rt; may_run(&runner, &queued) == *given);
+    }
+    Ok(())
+}
+
+#[test]
+fn a_plain_job(rt: HostRuntime) -> Result<(), Fail> {
+    let alloc = rt.alloc();
+    let options = JobOptions::plain(alloc, Texts::new(Vec::new(alloc)));
+    assert!(rt; options.timeout == 3600 && options.tags.as_slice().is_empty());
+    assert!(rt; options.resource_group.is_none() && !options.interruptible);
+    assert!(rt; options.part.retry.max == 0 && !options.part.gives_needs);
     Ok(())
 }
 

@@ -17,7 +17,7 @@ ghost use Rattle.ci_plans.specs.Refusals as refusals;
 use crate::body;
 use crate::replies::{Refusal, and, created, unmade};
 use ci_machine::change::{Counter, Delta, Record, RowChange};
-use ci_machine::limits::{DEFAULT_TIMEOUT_SECONDS, MAX_JOBS};
+use ci_machine::limits::MAX_JOBS;
 use ci_machine::moment::Moment;
 use ci_machine::records::{
     Job, JobOptions, JobVariable, MAX_NUMBER, Pipeline, Project, RefKind, Source,
@@ -39,8 +39,8 @@ fn are_named(jobs: &[NewJob]) -> bool
     jobs.iter().all(|job| job.name.is_name())
 }
 
-/// The jobs of a new pipeline, the first of which has the number `first`.
-fn new_jobs(
+/// The jobs of a new pipeline, the first of which has the number `first`, by what is asked for of each. Errors: memory was refused.
+pub fn new_jobs(
     alloc: Global,
     stage: &Text,
     pipeline: u64,
@@ -60,10 +60,7 @@ fn new_jobs(
             position,
             name,
             stage: stage.clone()?,
-            options: JobOptions {
-                script,
-                timeout: DEFAULT_TIMEOUT_SECONDS,
-            },
+            options: JobOptions::plain(alloc, script),
             played: false,
             cancelled: false,
             set_aside: 0,

@@ -7,9 +7,10 @@ ghost use Rattle.ci_machine.specs.Shows as shows;
 
 use crate::body;
 use crate::replies::unchanged;
+use ci_board::facts::Status;
 use ci_machine::change::Delta;
-use ci_machine::records::{Attempt, Job, Piece, Pipeline, Project};
-use ci_machine::reply::{Body, Code, HttpStatus, JobStatus, Reply};
+use ci_machine::records::{Job, Piece, Pipeline, Project};
+use ci_machine::reply::{Body, Code, HttpStatus, Reply};
 use ci_machine::request::JobQuery;
 use ci_machine::text::Bytes;
 use std::alloc::{AllocError, Global};
@@ -55,25 +56,11 @@ pub fn asked_job<'a>(
     }
 }
 
-/// The status of a job as it is shown, by its last attempt.
-fn shown_status(last: Option<&Attempt>) -> &'static str
-    ensures { result.now ≡ shows.shown_status (option_copied last.entry) }
+/// The job that `asked_job` gives is shown with its status (200).
+pub fn job_shown(alloc: Global, job: &Job, status: Status) -> Result<(Reply, Delta), AllocError>
+    ensures { IfOk result (λ plan. plan ≡ shows.job_shown job.now status) }
 {
-    match last {
-        None => "pending",
-        Some(attempt) => JobStatus::of(attempt.state).as_str(),
-    }
-}
-
-/// The job that `asked_job` gives is shown with its status, by the last of its attempts (200).
-pub fn job_shown(
-    alloc: Global,
-    job: &Job,
-    last: Option<&Attempt>,
-) -> Result<(Reply, Delta), AllocError>
-    ensures { IfOk result (λ plan. plan ≡ shows.job_shown job.now (option_copied last.entry)) }
-{
-    let text = body::job(alloc, shown_status(last), job)?;
+    let text = body::job(alloc, status.as_str(), job)?;
     Ok(unchanged(alloc, fine(Body::Json(text))))
 }
 

@@ -5,25 +5,47 @@ use Rattle.std.proofs.lemmas.Bool.{false≢true}
 use Rattle.ci_machine.specs.declared.reply.Answer.{Answer}
 use Rattle.ci_machine.specs.declared.change.RowChange.{RowChange}
 use Rattle.ci_machine.specs.declared.request.Event.{Event}
+use Rattle.ci_machine.specs.declared.records.BoardRow.{BoardRow}
 use Rattle.ci_machine.specs.State.{State, applied}
+use Rattle.ci_machine.specs.Kept.{Kept, put_rows, written}
+use Rattle.ci_machine.specs.Statuses.{AreBoard}
+use Rattle.ci_machine.specs.Sound.{IsSound}
+use Rattle.ci_machine.specs.History.{IsReached}
 use Rattle.ci_machine.specs.Step.{Happens, Step}
 use Rattle.ci_tables.specs.declared.fault.StoreFault.{StoreFault}
 use Rattle.ci_tables.specs.declared.fault.StoreFault.TheVariants.{Memory, Broken}
-use Rattle.ci_store.specs.Store.{Ends}
+use Rattle.ci_store.specs.Store.{Ends, UnlessBroken}
 use Rattle.ci_server.specs.declared.fail_stop.FailStop.{FailStop}
 use Rattle.ci_machine.specs.Reply.{outcome_of}
+use Rattle.ci_server.specs.Holding.{with_rows, Holds, Leaves}
 use Rattle.ci_server.specs.Handling.{Call, answer_by, closed_by, Performs, Handled, answered, no_memory, look_failed, commit_failed}
 use Rattle.ci_server.specs.Server.{HandlesBy}
 use Rattle.ci_server.proofs.Runs.{AllStep, outcome-M16, outcome-M17}
 
-module _ {T : Type 0} (holds : T → State → Type 0) (leaves : T → State → State → Type 0) {A : Type 0} (as_answer : A → Answer) (c : Call) (s : State) where
-  -- the changes of the event's plan were committed, or not
-  pub performed : (plan : A × List RowChange) (new : T) (r : Result A StoreFault) → Happens s c.0 c.1 c.2 (as_answer plan.0) plan.1 → IfOk r (λ a. a ≡ plan.0)
-      → Ends r (holds new (applied plan.1 s)) (holds new s) (leaves new s (applied plan.1 s)) → Performs holds leaves as_answer c s new r
-  performed plan new (Ok a) does same held =
-      (applied plan.1 s, record { changes = plan.1; happens = subst (λ b. Happens s c.0 c.1 c.2 (as_answer b) plan.1) (sym same) does; state = refl }, held)
-  performed plan new (Err Memory) does same held = held
-  performed plan new (Err Broken) does same left = inr (as_answer plan.0, applied plan.1 s, record { changes = plan.1; happens = does; state = refl }, left)
+module _ {T : Type 0} (keeps : T → Kept → Type 0) (leaves : T → Kept → Kept → Type 0) {A : Type 0} (as_answer : A → Answer) (c : Call) (s : State) (board : List BoardRow) (are : AreBoard s board) where
+  -- the changes of the event's plan were committed with its rows, or not
+  pub performed : (a : A) (changes : List RowChange) (rows : List BoardRow) (new : T) (r : Result A StoreFault) → Happens s board c.0 c.1 c.2 (as_answer a) changes
+      → AreBoard (applied changes s) (put_rows rows board) → IfOk r (λ x. x ≡ a)
+      → Ends r (keeps new (written changes rows (with_rows s board))) (keeps new (with_rows s board)) (leaves new (with_rows s board) (written changes rows (with_rows s board)))
+      → Performs (Holds keeps) (Leaves leaves) as_answer c s new r
+  performed a changes rows new (Ok x) does after same held =
+      (applied changes s, step, record { board = put_rows rows board; are_board = after; kept = held })
+    where
+      step : Step s c.0 c.1 c.2 (as_answer x) (applied changes s)
+      step = record { before = board; are_before = are; changes = changes; happens = subst (λ b. Happens s board c.0 c.1 c.2 (as_answer b) changes) (sym same) does; state = refl; after = put_rows rows board; are_after = after }
+  performed a changes rows new (Err Memory) does after same held = record { board = board; are_board = are; kept = held }
+  performed a changes rows new (Err Broken) does after same left = inr (
+    as_answer a,
+    applied changes s,
+    record { before = board; are_before = are; changes = changes; happens = does; state = refl; after = put_rows rows board; are_after = after },
+    record { before = board; after = put_rows rows board; are_before = are; are_after = after; left = left },
+  )
+
+  -- the store failed or lacked memory before anything changed
+  pub unplanned : (B : Type 0) (fault : StoreFault) (new : T) → UnlessBroken {A = B} (Err fault) (keeps new (with_rows s board)) → leaves new (with_rows s board) (with_rows s board)
+      → Performs (Holds keeps) (Leaves leaves) as_answer c s new (Err fault)
+  unplanned B Memory new held left = record { board = board; are_board = are; kept = held }
+  unplanned B Broken new held left = inl (record { before = board; after = board; are_before = are; are_after = are; left = left })
 
 module _ {T : Type 0} (honest : T → Type 0) (holds : T → State → Type 0) (leaves : T → State → State → Type 0) {A : Type 0} (as_answer : A → Answer) (c : Call) where
   ended : AllStep → (s : State) (new : T) (closed : Bool) (r : Result A StoreFault) (a : Answer) → a ≡ answer_by as_answer c.0 r → closed ≡ closed_by (outcome_of a) false
@@ -36,11 +58,11 @@ module _ {T : Type 0} (honest : T → Type 0) (holds : T → State → Type 0) (
       ⊎_elim (λ left. look_failed is left shut) (λ p. commit_failed p.0 p.1 p.2 is p.3 shut) failed
 
   -- an event of an open server, by what it did to the store
-  pub handled : AllStep → (old new : FailStop T) (r : Result A StoreFault) (a : Answer) → old.closed ≡ false → a ≡ answer_by as_answer c.0 r → new.closed ≡ closed_by (outcome_of a) false
-      → (honest new.store → honest old.store) → (honest new.store → (s : State) → holds old.store s → Performs holds leaves as_answer c s new.store r) → HandlesBy honest holds leaves old c new a
-  handled steps old new r a was is closes back does = record {
+  pub handled : AllStep → ((s : State) → IsReached s → IsSound s) → (old new : FailStop T) (r : Result A StoreFault) (a : Answer) → old.closed ≡ false → a ≡ answer_by as_answer c.0 r → new.closed ≡ closed_by (outcome_of a) false
+      → (honest new.store → honest old.store) → (honest new.store → (s : State) → IsSound s → holds old.store s → Performs holds leaves as_answer c s new.store r) → HandlesBy honest holds leaves old c new a
+  handled steps sound old new r a was is closes back does = record {
     was_honest = back;
-    while_open = λ _ h s held. ended steps s new.store new.closed r a is closes (does h s held);
+    while_open = λ _ h s reached held. ended steps s new.store new.closed r a is closes (does h s (sound s reached) held);
     once_closed = λ shut. absurd (false≢true (sym was ∙ shut));
     closes = closes ∙ ap (closed_by (outcome_of a)) (sym was);
   }

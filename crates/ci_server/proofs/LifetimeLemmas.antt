@@ -1,5 +1,5 @@
 -- What stands of each server, by the operations that it came of.
-use Rattle.std.proofs.Common.{◌≡◌, ◌⊎◌, inl, inr, ⊎_elim, Bool, true, false, List, [], ◌∷◌, IsTrue, refl, sym, ap, subst, ◌∙◌}
+use Rattle.std.proofs.Common.{◌≡◌, ◌⊎◌, inl, inr, ⊎_elim, Bool, true, false, List, [], ◌∷◌, IsTrue, refl, sym, ap, subst, ◌∙◌, arith}
 use Rattle.std.proofs.lemmas.Bool.{false≢true}
 use Rattle.sqlite.specs.Tree.{Trees}
 use Rattle.sqlite.specs.Store.{Ghosts}
@@ -9,7 +9,10 @@ use Rattle.ci_machine.specs.Reply.{Outcome, LackedMemory, StoreFailed, outcome_o
 use Rattle.ci_machine.specs.State.{State, empty}
 use Rattle.ci_machine.specs.History.{Past, Leads}
 use Rattle.ci_store.specs.Open.{LeavesNoMore}
-use Rattle.ci_store.specs.Stands.{StandsIn, IsAt, LeavesOnly, LeavesEither}
+use Rattle.ci_machine.specs.Kept.{Kept, nothing_kept}
+use Rattle.ci_machine.specs.Statuses.{AreBoard}
+use Rattle.ci_store.specs.Stands.{StandsIn, IsAt, LeavesOnly}
+use Rattle.ci_server.specs.Holding.{with_rows, HoldsIn, LeavesIn, StandsFor}
 use Rattle.ci_server.specs.declared.fail_stop.FailStop.{FailStop}
 use Rattle.ci_server.specs.Handling.{Call, Handled, closed_by, answered, no_memory, look_failed, commit_failed}
 use Rattle.ci_server.specs.Server.{IsHonest, Handles, HandlesEach, Opens}
@@ -22,6 +25,10 @@ abbrev IsHistoryBy : Outcome → List Operation → Call → Answer → List Pas
 IsHistoryBy o ops c a h =
     by_outcome o (HasNewest (λ g. IsHistoryOf ops g) c a h) (IsHistoryOf ops h)
     (IsHistoryOf ops h ⊎ ((has_failed ops ≡ false) × (answer : Answer) × HasNewest (λ g. IsHistoryOf ops g) c answer h))
+
+-- the empty state has no rows
+no_rows : AreBoard empty []
+no_rows = record { keys = refl; each = λ p. record { counted = λ i below. absurd (omega arith); settled = λ i below. absurd (omega arith) } }
 
 -- ---- the history of the operations and one call more
 
@@ -42,12 +49,13 @@ module _ {S : Type 0} (g : Ghosts S) (settled : (s : S) (db : Trees) → IsTrue 
   Stands ops server = LosesNoStep g ops server × (server.closed ≡ has_failed ops)
 
   -- a server whose tables hold a state that the operations reach
-  holding : (ops : List Operation) (server : FailStop (Held S)) (s : State) → IsReachedBy ops s → IsAt g s server.store → server.closed ≡ has_failed ops → Stands ops server
-  holding ops server s reached at closed = (record { held = λ _. (s, reached, at); left = λ db may. (s, reached, at.left db may) }, closed)
+  holding : (ops : List Operation) (server : FailStop (Held S)) (s : State) → IsReachedBy ops s → HoldsIn g s server.store → server.closed ≡ has_failed ops → Stands ops server
+  holding ops server s reached at closed =
+      (record { held = λ _. (s, reached, at); left = λ db may. (s, reached, record { board = at.board; are_board = at.are_board; stands = at.kept.left db may }) }, closed)
 
   -- a server that is closed after a call in which the store failed, or which it refused
   failed : (ops : List Operation) (new : FailStop (Held S)) (c : Call) (a : Answer) → outcome_of a ≡ StoreFailed → new.closed ≡ true
-      → ((db : Trees) → (state g new.store).may_leave db → (s : State) × IsReachedBy (called c a ∷ ops) s × StandsIn s db) → Stands (called c a ∷ ops) new
+      → ((db : Trees) → (state g new.store).may_leave db → (s : State) × IsReachedBy (called c a ∷ ops) s × StandsFor s db) → Stands (called c a ∷ ops) new
   failed ops new c a is is_closed left =
       (record { held = λ o. absurd (false≢true (sym o ∙ is_closed)); left = left }, is_closed ∙ sym (ap (λ w. closed_by w (has_failed ops)) is))
 
@@ -57,7 +65,7 @@ module _ {S : Type 0} (g : Ghosts S) (settled : (s : S) (db : Trees) → IsTrue 
   still_open ops c a o closed is same none is_open = is_open ∙ sym (ap (λ w. closed_by w (has_failed ops)) is ∙ same ∙ none)
 
   called_open : (ops : List Operation) (new : FailStop (Held S)) (c : Call) (a : Answer) (s : State) → has_failed ops ≡ false → IsReachedBy ops s
-      → Handled (λ (h : Held S) t. IsAt g t h) (λ (h : Held S) t u. LeavesEither g t u h) c s new.store new.closed a → Stands (called c a ∷ ops) new
+      → Handled (λ (h : Held S) t. HoldsIn g t h) (λ (h : Held S) t u. LeavesIn g t u h) c s new.store new.closed a → Stands (called c a ∷ ops) new
   called_open ops new c a s none k (answered t step held is_open) =
       let is = steps s t c.0 c.1 c.2 a step in
       let leads : Leads (line s c a ∷ k.history) t = (k.leads, step) in
@@ -69,13 +77,23 @@ module _ {S : Type 0} (g : Ghosts S) (settled : (s : S) (db : Trees) → IsTrue 
   called_open ops new c a s none k (look_failed refuses left is_closed) =
       let is : outcome_of a ≡ StoreFailed = ap outcome_of refuses ∙ outcome-M17 c.0 in
       let now = without_line ops c a s is k in
-      failed ops new c a is is_closed (λ db may. (s, now, ⊎_elim (λ x. x) (λ x. x) (left db may)))
+      failed ops new c a is is_closed (λ db may. (
+        s,
+        now,
+        ⊎_elim
+            (λ x. record { board = left.before; are_board = left.are_before; stands = x })
+            (λ x. record { board = left.after; are_board = left.are_after; stands = x })
+            (left.left db may),
+      ))
   called_open ops new c a s none k (commit_failed b t step refuses left is_closed) =
       let is : outcome_of a ≡ StoreFailed = ap outcome_of refuses ∙ outcome-M17 c.0 in
       let leads : Leads (line s c b ∷ k.history) t = (k.leads, step) in
       let without = without_line ops c a s is k in
       let with_line : IsReachedBy (called c a ∷ ops) t = record { history = line s c b ∷ k.history; is_history = subst (λ o. IsHistoryBy o ops c a (line s c b ∷ k.history)) (sym is) (inr (none, b, newest ops c b s k)); leads = leads; laws = laws _ t leads } in
-      failed ops new c a is is_closed (λ db may. ⊎_elim (λ x. (s, without, x)) (λ x. (t, with_line, x)) (left db may))
+      failed ops new c a is is_closed (λ db may. ⊎_elim
+      (λ x. (s, without, record { board = left.before; are_board = left.are_before; stands = x }))
+      (λ x. (t, with_line, record { board = left.after; are_board = left.are_after; stands = x }))
+      (left.left db may))
 
   called_closed : (ops : List Operation) (old new : FailStop (Held S)) (c : Call) (a : Answer) → Stands ops old → old.closed ≡ true → outcome_of a ≡ StoreFailed → new ≡ old
       → Stands (called c a ∷ ops) new
@@ -89,15 +107,16 @@ module _ {S : Type 0} (g : Ghosts S) (settled : (s : S) (db : Trees) → IsTrue 
       let w = one.once_closed shut in called_closed ops old new c a earlier shut (ap outcome_of w.0 ∙ outcome-M17 c.0) w.1
   called_once ops old new c a false was_open earlier one honest =
       let at = earlier.0.held was_open in
-      called_open ops new c a at.0 (sym earlier.1 ∙ was_open) at.1 (one.while_open was_open honest at.0 at.2)
+      called_open ops new c a at.0 (sym earlier.1 ∙ was_open) at.1 (one.while_open was_open honest at.0 (at.1.history, at.1.leads) at.2)
 
   opened_again : (ops : List Operation) (old new : FailStop (Held S)) (conn : Held S) → Stands ops old → Recovers g old.store conn → Opens g conn new → IsHonest g new.store
       → Stands (opened ∷ ops) new
   opened_again ops old new conn earlier recovers opens honest =
       let was = earlier.0.left (state g conn).committed.trees recovers.left in
-      let only : LeavesOnly g was.0 conn = λ db may. subst (StandsIn was.0) (sym (settled conn.store db recovers.is_open may)) was.2 in
+      let kept = with_rows was.0 was.2.board in
+      let only : LeavesOnly g kept conn = λ db may. subst (StandsIn kept) (sym (settled conn.store db recovers.is_open may)) was.2.stands in
       let now : IsReachedBy (opened ∷ ops) was.0 = record { history = was.1.history; is_history = was.1.is_history; leads = was.1.leads; laws = was.1.laws } in
-      holding (opened ∷ ops) new was.0 now (opens.opened honest was.0 only) opens.is_open
+      holding (opened ∷ ops) new was.0 now (record { board = was.2.board; are_board = was.2.are_board; kept = opens.opened honest kept only }) opens.is_open
 
   -- what an opening leaves that failed
   not_opened : (ops : List Operation) (old new : FailStop (Held S)) (conn : Held S) → Stands ops old → Recovers g old.store conn → LeavesNoMore g conn new.store → new.closed ≡ true
@@ -107,17 +126,21 @@ module _ {S : Type 0} (g : Ghosts S) (settled : (s : S) (db : Trees) → IsTrue 
       let now : IsReachedBy (unopened ∷ ops) was.0 = record { history = was.1.history; is_history = was.1.is_history; leads = was.1.leads; laws = was.1.laws } in (
         record {
           held = λ o. absurd (false≢true (sym o ∙ shut));
-          left = λ db may. (was.0, now, subst (StandsIn was.0) (sym (settled conn.store db recovers.is_open (less honest db may))) was.2);
+          left = λ db may. (was.0, now, subst (StandsFor was.0) (sym (settled conn.store db recovers.is_open (less honest db may))) was.2);
         },
         shut,
       )
+
+  -- tables that keep nothing hold the empty state
+  blank : {h : Held S} → IsAt g nothing_kept h → HoldsIn g empty h
+  blank at = record { board = []; are_board = no_rows; kept = at }
 
   pub stands : (ops : List Operation) (server : FailStop (Held S)) → ComesOf g ops server → IsHonest g server.store → Stands ops server
   stands [] server came honest =
       let now : IsReachedBy [] empty = record { history = []; is_history = refl; leads = refl; laws = laws [] empty refl } in
       ⊎_elim
-      (λ made. holding [] server empty now (made.made honest made.was_blank) made.is_open)
-      (λ found. holding [] server empty now (found.1.opened honest empty found.0) found.1.is_open)
+      (λ made. holding [] server empty now (blank (made.made honest made.was_blank)) made.is_open)
+      (λ found. holding [] server empty now (blank (found.1.opened honest nothing_kept found.0)) found.1.is_open)
       came.1
   stands (called c a ∷ before) server came honest =
       called_once before came.0 server c a came.0.closed refl (stands before came.0 came.1 (came.2.was_honest honest)) came.2 honest

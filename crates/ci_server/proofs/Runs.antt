@@ -10,12 +10,12 @@ use Rattle.ci_machine.specs.declared.reply.Code.TheVariants.{M16, M17}
 use Rattle.ci_machine.specs.Reply.{Outcome, Stepped, LackedMemory, StoreFailed, outcome_of}
 use Rattle.ci_machine.specs.State.{State}
 use Rattle.ci_machine.specs.Step.{Step}
-use Rattle.ci_machine.specs.History.{Past, Leads}
+use Rattle.ci_machine.specs.History.{Past, Leads, IsReached}
 use Rattle.ci_machine.specs.Laws.{Laws}
 use Rattle.ci_server.specs.Handling.{Call, refused, Handled, answered, no_memory, look_failed, commit_failed}
 use Rattle.sqlite.specs.Store.{Ghosts}
 use Rattle.sqlite.specs.Held.{Held}
-use Rattle.ci_store.specs.Stands.{IsAt, LeavesEither}
+use Rattle.ci_server.specs.Holding.{HoldsIn, LeavesIn}
 use Rattle.ci_server.specs.declared.fail_stop.FailStop.{FailStop}
 use Rattle.ci_server.specs.Server.{IsHonest, HandlesBy, HandlesEachBy, Handles, HandlesEach, closed_by_each, each_refused}
 use Rattle.ci_server.specs.Runs.{line, by_outcome, GoesOn, NoneFailed, IsUnanswered, OneMore, IsRun, Runs}
@@ -186,13 +186,13 @@ module _ {T : Type 0} (holds : T → State → Type 0) (leaves : T → State →
       (r.is_closed refl))
 
   pub run_more : (h : List Past) (cs : List Call) (rs : List Answer) (mid new : T) (was closed : Bool) (c : Call) (a : Answer) → IsRun holds leaves h cs rs mid was
-      → (was ≡ false → (s : State) → holds mid s → Handled holds leaves c s new closed a)
+      → (was ≡ false → (s : State) → IsReached s → holds mid s → Handled holds leaves c s new closed a)
       → (was ≡ true → (outcome_of a ≡ StoreFailed) × (closed ≡ true) × (new ≡ mid))
       → IsRun holds leaves h (cs ++ c ∷ []) (rs ++ a ∷ []) new closed
   run_more h cs rs mid new true closed c a r open_call closed_call =
       let w = closed_call refl in after_fault h cs rs mid new closed c a r w.0 w.1 w.2
   run_more h cs rs mid new false closed c a r open_call closed_call =
-      let w = r.is_open refl in opened h cs rs mid new false closed c a r w.0 (open_call refl r.state w.1)
+      let w = r.is_open refl in opened h cs rs mid new false closed c a r w.0 (open_call refl r.state (r.history, r.leads) w.1)
 
 -- ---- calls one after the other
 
@@ -228,7 +228,7 @@ module _ {T : Type 0} (honest : T → Type 0) (holds : T → State → Type 0) (
       let mid = each.0 in
       let there = was_honest mid new cs rs each.2 ok in
       let more = run_more holds leaves laws steps h before earlier old.store mid.store old.closed mid.closed c a r
-      (λ was_open s held. each.1.while_open was_open there s held) (once_closed c a old mid each.1) in
+      (λ was_open s reached held. each.1.while_open was_open there s reached held) (once_closed c a old mid each.1) in
       subst₂ (λ (xs : List Call) (ys : List Answer). IsRun holds leaves h xs ys new.store new.closed) (append_assoc before (c ∷ []) cs) (append_assoc earlier (a ∷ []) rs)
       (runs laws steps h (before ++ c ∷ []) (earlier ++ a ∷ []) mid new cs rs more each.2 ok)
 
@@ -260,7 +260,9 @@ module _ {T : Type 0} (honest : T → Type 0) (holds : T → State → Type 0) (
 pub run_of_each : {S : Type 0} (g : Ghosts S) → AllLaws → AllStep → (old new : FailStop (Held S)) (cs : List Call) (rs : List Answer) → HandlesEach g old cs rs new
     → Runs g old cs rs new
 run_of_each {S = S} g laws steps old new cs rs each = λ honest h s leads at.
-    run_from (IsHonest g) (λ (t : Held S) u. IsAt g u t) (λ (t : Held S) u v. LeavesEither g u v t) laws steps h s old new cs rs (λ db may. inl (at.left db may)) leads at each honest
+    run_from (IsHonest g) (λ (t : Held S) u. HoldsIn g u t) (λ (t : Held S) u v. LeavesIn g u v t) laws steps h s old new cs rs
+    (record { before = at.board; after = at.board; are_before = at.are_board; are_after = at.are_board; left = λ db may. inl (at.kept.left db may) })
+    leads at each honest
 
 pub run_of_one : {S : Type 0} (g : Ghosts S) → AllLaws → AllStep → (old new : FailStop (Held S)) (c : Call) (a : Answer) → Handles g old c new a
     → Runs g old (c ∷ []) (a ∷ []) new

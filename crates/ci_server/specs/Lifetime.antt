@@ -5,12 +5,14 @@ use Rattle.sqlite.specs.Store.{Ghosts}
 use Rattle.sqlite.specs.Held.{Held, state}
 use Rattle.ci_machine.specs.declared.reply.Answer.{Answer}
 use Rattle.ci_machine.specs.Reply.{outcome_of}
-use Rattle.ci_machine.specs.State.{State, empty}
+use Rattle.ci_machine.specs.State.{State}
+use Rattle.ci_machine.specs.Kept.{nothing_kept}
 use Rattle.ci_machine.specs.History.{Past, Leads}
 use Rattle.ci_machine.specs.Laws.{Laws}
 use Rattle.ci_store.specs.Open.{LeavesNoMore}
-use Rattle.ci_store.specs.Stands.{StandsIn, IsAt, LeavesOnly}
+use Rattle.ci_store.specs.Stands.{LeavesOnly}
 use Rattle.ci_server.specs.declared.fail_stop.FailStop.{FailStop}
+use Rattle.ci_server.specs.Holding.{HoldsIn, StandsFor}
 use Rattle.ci_server.specs.Handling.{Call, closed_by}
 use Rattle.ci_server.specs.Server.{IsHonest, Handles, Creates, Opens}
 use Rattle.ci_server.specs.Runs.{line, by_outcome}
@@ -26,9 +28,9 @@ pub record Recovers {S : Type 0} (g : Ghosts S) (old conn : Held S) : Type 0 whe
   pub is_open : IsTrue (state g conn).is_open
   pub left : (state g old).may_leave (state g conn).committed.trees
 
--- The server is new: it was made in a store that listed nothing, or opened over the empty state, which a creation that fails may leave.
+-- The server is new: it was made in a store that listed nothing, or opened over the empty tables, which a creation that fails may leave.
 abbrev pub Begins : {S : Type 0} → Ghosts S → FailStop (Held S) → Type 0
-Begins {S} g new = (conn : Held S) × (Creates g conn new ⊎ (LeavesOnly g empty conn × Opens g conn new))
+Begins {S} g new = (conn : Held S) × (Creates g conn new ⊎ (LeavesOnly g nothing_kept conn × Opens g conn new))
 
 -- The server came of these operations, the newest first: it is new, events came, and it was opened again over what a stop may have left of it,
 -- at whatever call it was stopped. Where the opening failed, what comes back is a server that is closed.
@@ -79,7 +81,8 @@ pub record IsReachedBy (operations : List Operation) (s : State) : Type 0 where
   pub leads : Leads history s
   pub laws : Laws history s
 
--- No step of the operations is lost: an open server holds a state that they reach, and each file that a stop may leave stands for one.
+-- No step of the operations is lost: an open server holds a state that they reach, with its rows, and each file that a stop may leave
+-- stands for one, its rows being those that are recomputed from it.
 pub record LosesNoStep {S : Type 0} (g : Ghosts S) (operations : List Operation) (server : FailStop (Held S)) : Type 0 where
-  pub held : server.closed ≡ false → (s : State) × IsReachedBy operations s × IsAt g s server.store
-  pub left : (db : Trees) → (state g server.store).may_leave db → (s : State) × IsReachedBy operations s × StandsIn s db
+  pub held : server.closed ≡ false → (s : State) × IsReachedBy operations s × HoldsIn g s server.store
+  pub left : (db : Trees) → (state g server.store).may_leave db → (s : State) × IsReachedBy operations s × StandsFor s db

@@ -7,7 +7,7 @@ use Rattle.ci_machine.specs.History.{Past, Leads}
 use Rattle.ci_machine.specs.Laws.{Laws}
 use Rattle.sqlite.specs.Store.{Ghosts}
 use Rattle.sqlite.specs.Held.{Held}
-use Rattle.ci_store.specs.Stands.{IsAt, LeavesEither}
+use Rattle.ci_server.specs.Holding.{HoldsIn, LeavesIn}
 use Rattle.ci_server.specs.Handling.{Call}
 use Rattle.ci_server.specs.declared.fail_stop.FailStop.{FailStop}
 use Rattle.ci_server.specs.Server.{IsHonest}
@@ -65,5 +65,5 @@ pub record IsRun {T : Type 0} (holds : T → State → Type 0) (leaves : T → S
 -- it is that of calls which were all refused.
 abbrev pub Runs : {S : Type 0} → Ghosts S → FailStop (Held S) → List Call → List Answer → FailStop (Held S) → Type 0
 Runs {S} g old cs rs new =
-    IsHonest g new.store → (h : List Past) (s : State) → Leads h s → IsAt g s old.store
-    → IsRun (λ (t : Held S) u. IsAt g u t) (λ (t : Held S) u v. LeavesEither g u v t) h cs rs new.store new.closed
+    IsHonest g new.store → (h : List Past) (s : State) → Leads h s → HoldsIn g s old.store
+    → IsRun (λ (t : Held S) u. HoldsIn g u t) (λ (t : Held S) u v. LeavesIn g u v t) h cs rs new.store new.closed

@@ -8,22 +8,25 @@ use Rattle.sqlite.specs.Store.{Ghosts}
 use Rattle.sqlite.specs.Held.{Held, state}
 use Rattle.ci_machine.specs.declared.reply.Answer.{Answer}
 use Rattle.ci_machine.specs.declared.reply.Code.TheVariants.{M17}
-use Rattle.ci_machine.specs.State.{State, empty}
+use Rattle.ci_machine.specs.State.{State}
+use Rattle.ci_machine.specs.Kept.{Kept, nothing_kept}
+use Rattle.ci_machine.specs.History.{IsReached}
 use Rattle.ci_store.specs.Create.{IsBlank}
-use Rattle.ci_store.specs.Stands.{IsAt, LeavesOnly, LeavesEither}
+use Rattle.ci_store.specs.Stands.{IsAt, LeavesOnly}
 use Rattle.ci_server.specs.declared.fail_stop.FailStop.{FailStop}
 use Rattle.ci_machine.specs.Reply.{outcome_of}
+use Rattle.ci_server.specs.Holding.{HoldsIn, LeavesIn}
 use Rattle.ci_server.specs.Handling.{Call, refused, Handled, closed_by}
 
 abbrev pub fail_stop_code : {T : Type 0} → Coded T → Coded (FailStop T)
 fail_stop_code code = coded_via (coded× code coded_bool) (λ s. (s.store, s.closed)) (λ x y e. ap (λ p. record { store = p.0; closed = p.1 }) e)
 
 module _ {T : Type 0} (honest : T → Type 0) (holds : T → State → Type 0) (leaves : T → State → State → Type 0) where
-  -- What a call does: on an open server that holds a state, what `Handled` says; on a closed one nothing, and the answer is M17. Over any disk it
+  -- What a call does: on an open server that holds a state which a history leads to, what `Handled` says; on a closed one nothing, and the answer is M17. Over any disk it
   -- closes the server exactly where its answer is M17.
   pub record HandlesBy (old : FailStop T) (c : Call) (new : FailStop T) (a : Answer) : Type 0 where
     pub was_honest : honest new.store → honest old.store
-    pub while_open : old.closed ≡ false → honest new.store → (s : State) → holds old.store s → Handled holds leaves c s new.store new.closed a
+    pub while_open : old.closed ≡ false → honest new.store → (s : State) → IsReached s → holds old.store s → Handled holds leaves c s new.store new.closed a
     pub once_closed : old.closed ≡ true → (a ≡ refused c.0 M17) × (new ≡ old)
     pub closes : new.closed ≡ closed_by (outcome_of a) old.closed
 
@@ -50,19 +53,19 @@ abbrev pub IsHonest : {S : Type 0} → Ghosts S → Held S → Type 0
 IsHonest g h = HasCleanDisk (state g h)
 
 abbrev pub Handles : {S : Type 0} → Ghosts S → FailStop (Held S) → Call → FailStop (Held S) → Answer → Type 0
-Handles g old c new a = HandlesBy (IsHonest g) (λ h s. IsAt g s h) (λ h s t. LeavesEither g s t h) old c new a
+Handles g old c new a = HandlesBy (IsHonest g) (λ h s. HoldsIn g s h) (λ h s t. LeavesIn g s t h) old c new a
 
 abbrev pub HandlesEach : {S : Type 0} → Ghosts S → FailStop (Held S) → List Call → List Answer → FailStop (Held S) → Type 0
-HandlesEach g old cs rs new = HandlesEachBy (IsHonest g) (λ h s. IsAt g s h) (λ h s t. LeavesEither g s t h) old cs rs new
+HandlesEach g old cs rs new = HandlesEachBy (IsHonest g) (λ h s. HoldsIn g s h) (λ h s t. LeavesIn g s t h) old cs rs new
 
--- the store listed nothing, and the server is new over the tables that it made in it, which hold the empty state
+-- the store listed nothing, and the server is new over the tables that it made in it, which keep nothing
 pub record Creates {S : Type 0} (g : Ghosts S) (conn : Held S) (new : FailStop (Held S)) : Type 0 where
   pub is_open : new.closed ≡ false
   pub was_honest : IsHonest g new.store → IsHonest g conn
   pub was_blank : IsBlank g conn
-  pub made : IsHonest g new.store → IsBlank g conn → IsAt g empty new.store
+  pub made : IsHonest g new.store → IsBlank g conn → IsAt g nothing_kept new.store
 
--- the server is new over the tables that this store has, and holds the state that each file which a stop may leave stands for
+-- the server is new over the tables that this store has, and keeps what each file that a stop may leave stands for
 pub record Opens {S : Type 0} (g : Ghosts S) (conn : Held S) (new : FailStop (Held S)) : Type 0 where
   pub is_open : new.closed ≡ false
-  pub opened : IsHonest g new.store → (s : State) → LeavesOnly g s conn → IsAt g s new.store
+  pub opened : IsHonest g new.store → (k : Kept) → LeavesOnly g k conn → IsAt g k new.store

@@ -7,10 +7,11 @@ ghost use Rattle.ci_machine.specs.declared.request.Seed.{Seed};
 ghost use Rattle.ci_machine.specs.declared.request.Request.{Request};
 ghost use Rattle.ci_machine.specs.Reply.{outcome_by, outcome_of};
 ghost use Rattle.ci_server.specs.Handling.{refused, code_of, answer_by, closed_by};
+ghost use Rattle.ci_server.specs.Holding.{Holds, Leaves};
 ghost use Rattle.ci_server.specs.Server.{HandlesBy, HandlesEachBy};
 
 use crate::events;
-use ci_machine::laws::a_step_is_answered;
+use ci_machine::laws::{a_step_is_answered, sound_of_each_reached_state};
 use ci_machine::moment::Moment;
 use ci_machine::reply::{Answer, Code, Reply, Swept};
 use ci_machine::request::{Event, Request, Seed};
@@ -35,9 +36,10 @@ impl<T: Store> FailStop<T> {
         now: Moment,
         seed: Seed,
     ) -> Reply
-        ensures { HandlesBy T.honest T.holds T.leaves self.old (event.Request request, now, seed) self.new (answer.Reply result) }
+        ensures { HandlesBy T.honest (Holds T.holds) (Leaves T.leaves) self.old (event.Request request, now, seed) self.new (answer.Reply result) }
     {
         a_step_is_answered();
+        sound_of_each_reached_state();
         if self.closed {
             return Reply::refusal(Code::M17);
         }
@@ -48,9 +50,10 @@ impl<T: Store> FailStop<T> {
 
     /// Sweeps: ends one lease that is over, if there is one.
     pub(crate) fn sweep(&mut self, alloc: Global, now: Moment) -> Swept
-        ensures { (seed : Seed) → HandlesBy T.honest T.holds T.leaves self.old (event.Sweep, now, seed) self.new (answer.Swept result) }
+        ensures { (seed : Seed) → HandlesBy T.honest (Holds T.holds) (Leaves T.leaves) self.old (event.Sweep, now, seed) self.new (answer.Swept result) }
     {
         a_step_is_answered();
+        sound_of_each_reached_state();
         if self.closed {
             return Swept::Refused(Code::M17);
         }
@@ -66,7 +69,7 @@ impl<T: Store> FailStop<T> {
         calls: &[(Event, Moment, Seed)],
     ) -> Result<Vec<Answer>, AllocError>
         ensures was_honest { T.honest self.new.store → T.honest self.old.store }
-        ensures each { IfOk result (λ answers. HandlesEachBy T.honest T.holds T.leaves self.old calls.now answers.items self.new) }
+        ensures each { IfOk result (λ answers. HandlesEachBy T.honest (Holds T.holds) (Leaves T.leaves) self.old calls.now answers.items self.new) }
         ensures memory { OnErr result (self.new ≡ self.old) }
     {
         let mut answers = Vec::with_capacity(alloc, calls.len())?;
@@ -79,7 +82,7 @@ impl<T: Store> FailStop<T> {
 
     /// Handles a copy of an event. Where there is no memory for the copy, it is not handled.
     fn handle_copy(&mut self, alloc: Global, call: &(Event, Moment, Seed)) -> Answer
-        ensures { HandlesBy T.honest T.holds T.leaves self.old call.now self.new result }
+        ensures { HandlesBy T.honest (Holds T.holds) (Leaves T.leaves) self.old call.now self.new result }
     {
         let (event, moment, seed) = call;
         if self.closed {
@@ -92,7 +95,7 @@ impl<T: Store> FailStop<T> {
     }
 
     fn handle_event(&mut self, alloc: Global, event: Event, moment: Moment, seed: Seed) -> Answer
-        ensures { HandlesBy T.honest T.holds T.leaves self.old (event, moment, seed) self.new result }
+        ensures { HandlesBy T.honest (Holds T.holds) (Leaves T.leaves) self.old (event, moment, seed) self.new result }
     {
         match event {
             Event::Request(request) => Answer::Reply(self.handle(alloc, request, moment, seed)),

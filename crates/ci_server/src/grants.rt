@@ -1,20 +1,25 @@
-//! What a runner's request for a job does, from what the store holds: the pending jobs are looked up, and the least that the
-//! runner may run is granted.
+//! What a runner's request for a job does, from what the store holds: the least pending job that the runner may run is granted.
 
-ghost use Rattle.std.specs.Prelude.{◌≡◌, ◌++◌, ◌∷◌, [], Some, map, filter, if◌then◌else◌};
+ghost use Rattle.std.specs.Prelude.{◌≡◌, ◌∷◌, [], Some, IfOk, IfErr, if◌then◌else◌};
 ghost use Rattle.ci_machine.specs.Grants as machine;
 ghost use Rattle.ci_machine.specs.Step as step;
 ghost use Rattle.ci_machine.specs.declared.request.Request.TheVariants as asked;
 ghost use Rattle.ci_store.specs.Store.{LoadsBy};
+ghost use Rattle.ci_board.specs.declared.facts.Status.TheVariants as status;
+ghost use Rattle.ci_server.specs.Planning.{IsKept, PlansFor};
+ghost use Rattle.ci_server.specs.Search.{IsOffered};
 
-use ci_machine::change::{Counter, Delta};
-use ci_machine::choose::choose;
+use crate::planned::Planned;
+use crate::search::{Offer, first_offer};
+use ci_machine::change::Counter;
 use ci_machine::moment::Moment;
-use ci_machine::records::{Job, QueuedJob, Runner};
+use ci_machine::records::{BoardRow, Runner};
 use ci_machine::reply::Reply;
 use ci_machine::request::Seed;
 use ci_machine::text::Text;
 use ci_plans::grants;
+use ci_statuses::laws::grant_settles;
+use ci_statuses::pending::started;
 use ci_store::fault::StoreFault;
 use ci_store::store::Store;
 use std::alloc::Global;
@@ -26,11 +31,12 @@ pub(crate) fn ask_job<T: Store>(
     token: Text,
     now: Moment,
     seed: Seed,
-) -> Result<(Reply, Delta), StoreFault>
-    ensures { LoadsBy T.honest T.holds T.leaves store.old store.new result (λ s plan. step.Does s (asked.AskJob token) now seed plan) }
+) -> Result<Planned<Reply>, StoreFault>
+    ensures { LoadsBy T.honest T.holds T.leaves store.old store.new result
+        (λ k p. IsKept k → PlansFor k (step.Does k.state k.board (asked.AskJob token) now seed (p.answer, p.changes)) p.changes p.rows.items) }
 {
     match store.runner_with(&token)? {
-        None => Ok(grants::unknown_runner(alloc)),
+        None => Ok(Planned::without_rows(alloc, grants::unknown_runner(alloc))),
         Some(runner) => ask_for(alloc, store, &runner, now, seed),
     }
 }
@@ -42,15 +48,14 @@ fn ask_for<T: Store>(
     runner: &Runner,
     now: Moment,
     seed: Seed,
-) -> Result<(Reply, Delta), StoreFault>
+) -> Result<Planned<Reply>, StoreFault>
     ensures { LoadsBy T.honest T.holds T.leaves store.old store.new result
-        (λ s plan. let q = step.offer s (Some runner.now) in plan ≡ machine.ask_job (Some runner.now) q (step.offered_variables s q) s.next.attempt now seed) }
+        (λ k p. IsKept k → let q = step.offer k.state k.board (Some runner.now) in
+        PlansFor k ((p.answer, p.changes) ≡ machine.ask_job (Some runner.now) q (step.offered_variables k.state q) k.state.next.attempt now seed) p.changes p.rows.items) }
 {
-    let jobs = store.jobs()?;
-    let queue = queue(alloc, store, jobs)?;
-    match choose(queue.as_slice(), runner) {
-        None => Ok(grants::nothing_to_run(alloc)),
-        Some(queued) => grant(alloc, store, runner, queued, now, seed),
+    match first_offer(store, runner)? {
+        None => Ok(Planned::without_rows(alloc, grants::nothing_to_run(alloc))),
+        Some(offer) => grant(alloc, store, runner, &offer, now, seed),
     }
 }
 
@@ -59,67 +64,38 @@ fn grant<T: Store>(
     alloc: Global,
     store: &mut T,
     runner: &Runner,
-    queued: &QueuedJob,
+    offer: &Offer,
     now: Moment,
     seed: Seed,
-) -> Result<(Reply, Delta), StoreFault>
+) -> Result<Planned<Reply>, StoreFault>
     ensures { LoadsBy T.honest T.holds T.leaves store.old store.new result
-        (λ s plan. plan ≡ machine.grant runner.now queued.now (step.variables_of s queued.now.job.id) s.next.attempt now seed) }
+        (λ k p. IsKept k → IsOffered k runner.now (Some offer.now) →
+        PlansFor k ((p.answer, p.changes) ≡ machine.grant runner.now offer.now.queued (step.variables_of k.state offer.now.queued.job.id) k.state.next.attempt now seed) p.changes p.rows.items) }
 {
-    let variables = store.job_variables(queued.job.id)?;
+    grant_settles();
+    let variables = store.job_variables(offer.queued.job.id)?;
     let next = store.next(Counter::Attempt)?;
-    Ok(grants::grant(alloc, runner, queued, variables.as_slice(), next, now, seed)?)
+    let plan = grants::grant(
+        alloc,
+        runner,
+        &offer.queued,
+        variables.as_slice(),
+        next,
+        now,
+        seed,
+    )?;
+    let rows = started_rows(alloc, plan.1.is_empty(), offer.row);
+    Planned::with_rows(plan, rows)
 }
 
-/// The pending ones among the jobs, with the projects of their pipelines.
-fn queue<T: Store>(
-    alloc: Global,
-    store: &mut T,
-    jobs: Vec<Job>,
-) -> Result<Vec<QueuedJob>, StoreFault>
-    ensures { LoadsBy T.honest T.holds T.leaves store.old store.new result
-        (λ s queue. queue.items ≡ map (step.queued s) (filter (step.is_pending s) jobs.items)) }
+/// The row of a job that is started, or none where it isn't.
+fn started_rows(alloc: Global, refused: bool, row: BoardRow) -> Result<Vec<BoardRow>, StoreFault>
+    ensures rows { IfOk result (λ rows. rows.items ≡ (if refused then [] else record row { row = record row.row { status = status.Running } } ∷ [])) }
+    ensures fault { IfErr result (λ fault. fault ≡ StoreFault.Memory) }
 {
-    let mut queue = Vec::new(alloc);
-    for job in jobs {
-        push_if_pending(store, &mut queue, job)?;
+    let mut rows = Vec::new(alloc);
+    if !refused {
+        rows.push(started(row))?;
     }
-    Ok(queue)
-}
-
-/// Adds the job, where it is pending.
-fn push_if_pending<T: Store>(
-    store: &mut T,
-    queue: &mut Vec<QueuedJob>,
-    job: Job,
-) -> Result<(), StoreFault>
-    ensures { LoadsBy T.honest T.holds T.leaves store.old store.new result
-        (λ s _. queue.new.items ≡ queue.old.items ++ (if step.is_pending s job then step.queued s job ∷ [] else [])) }
-{
-    if is_pending(store, &job)? {
-        let queued = queued(store, job)?;
-        queue.push(queued)?;
-    }
-    Ok(())
-}
-
-/// Is the job pending: has it no attempt?
-fn is_pending<T: Store>(store: &mut T, job: &Job) -> Result<bool, StoreFault>
-    ensures { LoadsBy T.honest T.holds T.leaves store.old store.new result (λ s b. b ≡ step.is_pending s job.now) }
-{
-    let attempts = store.attempts_of(job.id)?;
-    Ok(attempts.len() == 0)
-}
-
-/// The job with the project of its pipeline.
-fn queued<T: Store>(store: &mut T, job: Job) -> Result<QueuedJob, StoreFault>
-    ensures { LoadsBy T.honest T.holds T.leaves store.old store.new result (λ s q. q ≡ step.queued s job) }
-{
-    match store.pipeline(job.pipeline)? {
-        Some(pipeline) => Ok(QueuedJob {
-            job,
-            project: pipeline.project,
-        }),
-        None => Err(StoreFault::Broken),
-    }
+    Ok(rows)
 }

@@ -1,6 +1,6 @@
 //! Attempts with the time limits of their jobs, from what the store holds.
 
-ghost use Rattle.std.specs.Prelude.{◌≡◌};
+ghost use Rattle.std.specs.Prelude.{◌≡◌, option_map};
 ghost use Rattle.ci_machine.specs.Step as step;
 ghost use Rattle.ci_store.specs.Store.{LoadsBy};
 
@@ -11,7 +11,7 @@ use ci_store::store::Store;
 
 /// The attempt with the time limit of its job.
 pub(crate) fn lease_of<T: Store>(store: &mut T, attempt: Attempt) -> Result<Lease, StoreFault>
-    ensures { LoadsBy T.honest T.holds T.leaves store.old store.new result (λ s l. l ≡ step.lease_of s attempt) }
+    ensures { LoadsBy T.honest T.holds T.leaves store.old store.new result (λ k l. l ≡ step.lease_of k.state attempt) }
 {
     match store.job(attempt.job)? {
         Some(job) => Ok(Lease {
@@ -24,10 +24,43 @@ pub(crate) fn lease_of<T: Store>(store: &mut T, attempt: Attempt) -> Result<Leas
 
 /// The attempt with a number, with the time limit of its job.
 pub(crate) fn lease_at<T: Store>(store: &mut T, attempt: u64) -> Result<Option<Lease>, StoreFault>
-    ensures { LoadsBy T.honest T.holds T.leaves store.old store.new result (λ s l. l ≡ step.lease_at s attempt) }
+    ensures { LoadsBy T.honest T.holds T.leaves store.old store.new result (λ k l. l ≡ step.lease_at k.state attempt) }
 {
     match store.attempt(attempt)? {
         Some(attempt) => Ok(Some(lease_of(store, attempt)?)),
         None => Ok(None),
+    }
+}
+
+/// A lease, with the pipeline of its job.
+#[derive(Drop)]
+pub struct Leased {
+    pub lease: Lease,
+    pub pipeline: u64,
+}
+
+/// The attempt with a number, with the time limit and the pipeline of its job.
+pub(crate) fn leased_at<T: Store>(store: &mut T, attempt: u64) -> Result<Option<Leased>, StoreFault>
+    ensures { LoadsBy T.honest T.holds T.leaves store.old store.new result (λ k l. option_map (λ x. x.lease) l ≡ step.lease_at k.state attempt) }
+{
+    match store.attempt(attempt)? {
+        Some(attempt) => Ok(Some(with_pipeline(store, attempt)?)),
+        None => Ok(None),
+    }
+}
+
+/// The attempt with the time limit and the pipeline of its job.
+fn with_pipeline<T: Store>(store: &mut T, attempt: Attempt) -> Result<Leased, StoreFault>
+    ensures { LoadsBy T.honest T.holds T.leaves store.old store.new result (λ k l. l.lease ≡ step.lease_of k.state attempt) }
+{
+    match store.job(attempt.job)? {
+        Some(job) => Ok(Leased {
+            lease: Lease {
+                attempt,
+                limit: job.options.timeout,
+            },
+            pipeline: job.pipeline,
+        }),
+        None => Err(StoreFault::Broken),
     }
 }

@@ -1,15 +1,18 @@
 //! The server: requests over the tables, served from bytes to bytes.
 #![tactic(auto)]
 
+mod ends;
 mod events;
 mod fail_stop;
 mod grants;
 mod leases;
 pub mod lifetime;
 mod pipelines;
+mod planned;
 mod projects;
 mod reports;
 mod runners;
+mod search;
 pub mod serve;
 pub mod server;
 mod shows;

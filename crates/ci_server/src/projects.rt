@@ -20,7 +20,7 @@ pub(crate) fn add_project<T: Store>(
     name: Text,
     seed: Seed,
 ) -> Result<(Reply, Delta), StoreFault>
-    ensures { LoadsBy T.honest T.holds T.leaves store.old store.new result (λ s plan. plan ≡ machine.add_project s.next.project name seed) }
+    ensures { LoadsBy T.honest T.holds T.leaves store.old store.new result (λ k plan. plan ≡ machine.add_project k.state.next.project name seed) }
 {
     let next = store.next(Counter::Project)?;
     Ok(projects::add_project(alloc, next, name, seed)?)

@@ -20,7 +20,7 @@ pub(crate) fn add_runner<T: Store>(
     name: Text,
     seed: Seed,
 ) -> Result<(Reply, Delta), StoreFault>
-    ensures { LoadsBy T.honest T.holds T.leaves store.old store.new result (λ s plan. plan ≡ machine.add_runner s.next.runner name seed) }
+    ensures { LoadsBy T.honest T.holds T.leaves store.old store.new result (λ k plan. plan ≡ machine.add_runner k.state.next.runner name seed) }
 {
     let next = store.next(Counter::Runner)?;
     Ok(runners::add_runner(alloc, next, name, seed)?)

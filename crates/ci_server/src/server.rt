@@ -7,7 +7,7 @@ ghost use Rattle.sqlite.specs.Tree.{Trees};
 ghost use Rattle.ci_machine.specs.declared.reply.Answer.TheVariants as answer;
 ghost use Rattle.ci_machine.specs.declared.request.Event.TheVariants as event;
 ghost use Rattle.ci_machine.specs.declared.request.Seed.{Seed};
-ghost use Rattle.ci_machine.specs.State.{State, empty};
+ghost use Rattle.ci_machine.specs.Kept.{Kept, nothing_kept};
 ghost use Rattle.ci_store.specs.Create.{IsBlank};
 ghost use Rattle.ci_store.specs.Open.{Blames, IsFailure, LeavesNoMore};
 ghost use Rattle.ci_store.specs.Stands.{StandsIn, LeavesOnly};
@@ -46,13 +46,13 @@ impl<S: Alter> Model for Server<S> {
 }
 
 impl<S: Alter> Server<S> {
-    /// A server over an empty store, whose tables it makes: they hold the empty state, in which each next number is 1.
+    /// A server over an empty store, whose tables it makes: they keep nothing, and each next number is 1.
     /// Errors: O1, the store lists something; O3, it failed; Memory, memory was refused. The connection comes back: a stop
-    /// leaves of it no more than before, or, of a store that listed nothing, the empty state.
+    /// leaves of it no more than before, or, of a store that listed nothing, tables that keep nothing.
     pub fn create(conn: Connection<S>) -> Result<Server<S>, (OpenFault, Connection<S>)>
         ensures made { IfOk result (Creates S.Store conn) }
-        ensures left { IfErr result (λ e. HasCleanDisk (state S.Store e.1) → IsBlank S.Store conn → (db : Trees) → (state S.Store e.1).may_leave db → (state S.Store conn).may_leave db ⊎ StandsIn empty db) }
-        ensures added { IfErr result (λ e. HasCleanDisk (state S.Store e.1) → (db : Trees) → (state S.Store e.1).may_leave db → (state S.Store conn).may_leave db ⊎ (IsBlank S.Store conn × StandsIn empty db)) }
+        ensures left { IfErr result (λ e. HasCleanDisk (state S.Store e.1) → IsBlank S.Store conn → (db : Trees) → (state S.Store e.1).may_leave db → (state S.Store conn).may_leave db ⊎ StandsIn nothing_kept db) }
+        ensures added { IfErr result (λ e. HasCleanDisk (state S.Store e.1) → (db : Trees) → (state S.Store e.1).may_leave db → (state S.Store conn).may_leave db ⊎ (IsBlank S.Store conn × StandsIn nothing_kept db)) }
         ensures listed { IfErr result (λ e. e.0 ≡ OpenFault.O1 → ¬ IsBlank S.Store conn) }
         ensures unversioned { IfErr result (λ e. e.0 ≢ OpenFault.O2) }
     {
@@ -62,15 +62,15 @@ impl<S: Alter> Server<S> {
         }
     }
 
-    /// A server over the tables that a store has. It holds the state that each file which a stop may leave stands for.
+    /// A server over the tables that a store has. It holds the state, with its rows, that each file which a stop may leave stands for.
     /// Errors: O1, the store is not of this format; O2, it is of another version; O3, it failed; Memory, memory was refused.
     /// The connection comes back, and a stop leaves of it no more than before.
     pub fn open(conn: Connection<S>) -> Result<Server<S>, (OpenFault, Connection<S>)>
         ensures opened { IfOk result (Opens S.Store conn) }
-        ensures left { IfErr result (λ e. HasCleanDisk (state S.Store e.1) → (s : State) → LeavesOnly S.Store s conn → LeavesOnly S.Store s e.1) }
+        ensures left { IfErr result (λ e. HasCleanDisk (state S.Store e.1) → (k : Kept) → LeavesOnly S.Store k conn → LeavesOnly S.Store k e.1) }
         ensures less { IfErr result (λ e. LeavesNoMore S.Store conn e.1) }
         ensures blamed { IfErr result (λ e. HasCleanDisk (state S.Store e.1) → Blames e.0 (state S.Store conn).now) }
-        ensures own { IfErr result (λ e. HasCleanDisk (state S.Store e.1) → (s : State) → LeavesOnly S.Store s conn → IsFailure e.0) }
+        ensures own { IfErr result (λ e. HasCleanDisk (state S.Store e.1) → (k : Kept) → LeavesOnly S.Store k conn → IsFailure e.0) }
     {
         match Tables::open(conn) {
             Ok(store) => Ok(Server::over(store)),

@@ -5,6 +5,7 @@ ghost use Rattle.std.specs.List.{last_or};
 ghost use Rattle.std.specs.Option.{option_copied};
 ghost use Rattle.std.specs.Result.{result_map_both};
 ghost use Rattle.ci_machine.specs.Shows as machine;
+ghost use Rattle.ci_machine.specs.Statuses.{status_for};
 ghost use Rattle.ci_machine.specs.Step as step;
 ghost use Rattle.ci_store.specs.Store.{LoadsBy};
 
@@ -13,6 +14,7 @@ use ci_machine::records::{Attempt, Job, Piece, Pipeline, Project};
 use ci_machine::reply::{Code, Reply};
 use ci_machine::request::JobQuery;
 use ci_plans::{replies, shows};
+use ci_statuses::pending::status_of;
 use ci_store::fault::StoreFault;
 use ci_store::store::Store;
 use std::alloc::Global;
@@ -27,8 +29,8 @@ struct Named {
 
 fn load_named<T: Store>(store: &mut T, query: &JobQuery) -> Result<Named, StoreFault>
     ensures { LoadsBy T.honest T.holds T.leaves store.old store.new result
-        (λ s n. let job = step.job_at s query.now.job in
-        n ≡ record { project = step.project_with s query.now.token; job = job; pipeline = step.pipeline_of s job }) }
+        (λ k n. let job = step.job_at k.state query.now.job in
+        n ≡ record { project = step.project_with k.state query.now.token; job = job; pipeline = step.pipeline_of k.state job }) }
 {
     let project = store.project_with(&query.token)?;
     let job = store.job(query.job)?;
@@ -42,7 +44,7 @@ fn load_named<T: Store>(store: &mut T, query: &JobQuery) -> Result<Named, StoreF
 
 /// The pipeline of a job, if there is one.
 fn pipeline_of<T: Store>(store: &mut T, job: Option<&Job>) -> Result<Option<Pipeline>, StoreFault>
-    ensures { LoadsBy T.honest T.holds T.leaves store.old store.new result (λ s p. p ≡ step.pipeline_of s (option_copied job.entry)) }
+    ensures { LoadsBy T.honest T.holds T.leaves store.old store.new result (λ k p. p ≡ step.pipeline_of k.state (option_copied job.entry)) }
 {
     match job {
         Some(job) => store.pipeline(job.pipeline),
@@ -69,14 +71,14 @@ pub(crate) fn show_job<T: Store>(
     query: &JobQuery,
 ) -> Result<(Reply, Delta), StoreFault>
     ensures { LoadsBy T.honest T.holds T.leaves store.old store.new result
-        (λ s plan. let job = step.job_at s query.now.job in
-        plan ≡ machine.show_job (step.project_with s query.now.token) job (step.pipeline_of s job) (step.last_attempt s query.now.job) query.now) }
+        (λ k plan. let job = step.job_at k.state query.now.job in
+        plan ≡ machine.show_job (step.project_with k.state query.now.token) job (step.pipeline_of k.state job) (status_for k.board query.now.job) query.now) }
 {
     let named = load_named(store, query)?;
     match asked(&named, query) {
         Ok(job) => {
-            let last = last_attempt(store, query.job)?;
-            Ok(shows::job_shown(alloc, job, last.as_ref())?)
+            let row = store.row(query.job)?;
+            Ok(shows::job_shown(alloc, job, status_of(row))?)
         }
         Err(code) => Ok(replies::refused(alloc, code)),
     }
@@ -89,8 +91,8 @@ pub(crate) fn show_trace<T: Store>(
     query: &JobQuery,
 ) -> Result<(Reply, Delta), StoreFault>
     ensures { LoadsBy T.honest T.holds T.leaves store.old store.new result
-        (λ s plan. let job = step.job_at s query.now.job in
-        plan ≡ machine.show_trace (step.project_with s query.now.token) job (step.pipeline_of s job) (step.pieces_in s (step.last_attempt s query.now.job)) query.now) }
+        (λ k plan. let job = step.job_at k.state query.now.job in
+        plan ≡ machine.show_trace (step.project_with k.state query.now.token) job (step.pipeline_of k.state job) (step.pieces_in k.state (step.last_attempt k.state query.now.job)) query.now) }
 {
     let named = load_named(store, query)?;
     match asked(&named, query) {
@@ -105,7 +107,7 @@ pub(crate) fn show_trace<T: Store>(
 /// The pieces of the trace of the last attempt of a job.
 fn last_pieces<T: Store>(alloc: Global, store: &mut T, job: u64) -> Result<Vec<Piece>, StoreFault>
     ensures { LoadsBy T.honest T.holds T.leaves store.old store.new result
-        (λ s pieces. pieces.items ≡ step.pieces_in s (step.last_attempt s job)) }
+        (λ k pieces. pieces.items ≡ step.pieces_in k.state (step.last_attempt k.state job)) }
 {
     match last_attempt(store, job)? {
         Some(attempt) => store.pieces_of(attempt.id),
@@ -115,7 +117,7 @@ fn last_pieces<T: Store>(alloc: Global, store: &mut T, job: u64) -> Result<Vec<P
 
 /// The last of the attempts of a job.
 fn last_attempt<T: Store>(store: &mut T, job: u64) -> Result<Option<Attempt>, StoreFault>
-    ensures { LoadsBy T.honest T.holds T.leaves store.old store.new result (λ s a. a ≡ step.last_attempt s job) }
+    ensures { LoadsBy T.honest T.holds T.leaves store.old store.new result (λ k a. a ≡ step.last_attempt k.state job) }
 {
     let attempts = store.attempts_of(job)?;
     Ok(last(attempts))

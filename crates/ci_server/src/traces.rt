@@ -23,7 +23,7 @@ pub(crate) fn append_trace<T: Store>(
     now: Moment,
 ) -> Result<(Reply, Delta), StoreFault>
     ensures { LoadsBy T.honest T.holds T.leaves store.old store.new result
-        (λ s plan. plan ≡ machine.append_trace (lease_at s part.attempt) part now) }
+        (λ k plan. plan ≡ machine.append_trace (lease_at k.state part.attempt) part now) }
 {
     let lease = lease_at(store, part.attempt)?;
     Ok(traces::append_trace(alloc, lease.as_ref(), part, now)?)

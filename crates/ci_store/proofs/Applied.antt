@@ -3,7 +3,9 @@ use Rattle.std.proofs.Common.{◌≡◌, ◌∙◌, ℕ, ◌+◌, ◌<◌, List,
 use Rattle.std.proofs.lemmas.List.Sums.{fold_more}
 use Rattle.sqlite.specs.Store.{Ghosts}
 use Rattle.sqlite.specs.Held.{Held}
-use Rattle.ci_machine.specs.State.{State, applied, changed}
+use Rattle.ci_machine.specs.Kept.{Kept, row_cmp, put_rows}
+use Rattle.ci_machine.specs.declared.records.BoardRow.{BoardRow}
+use Rattle.ci_machine.specs.State.{State, put, applied, changed}
 use Rattle.ci_machine.specs.declared.change.RowChange.{RowChange}
 use Rattle.ci_store.specs.Commit.{Makes}
 
@@ -14,6 +16,13 @@ applied_is (c ∷ cs) s = applied_is cs (changed c s)
 pub applied_more : (s : State) (cs : List RowChange) (i : ℕ) (d : RowChange) → i < length cs → applied (take (i + 1) cs) s ≡ changed (get_or cs i d) (applied (take i cs) s)
 applied_more s cs i d low = applied_is (take (i + 1) cs) s ∙ fold_more (λ s c. changed c s) s cs i d low ∙ ap (changed (get_or cs i d)) (sym (applied_is (take i cs) s))
 
+put_rows_is : (rs : List BoardRow) (board : List BoardRow) → put_rows rs board ≡ fold (λ board r. put row_cmp r board) board rs
+put_rows_is [] board = refl
+put_rows_is (r ∷ rs) board = put_rows_is rs (put row_cmp r board)
+
+pub put_more : (board rs : List BoardRow) (i : ℕ) (d : BoardRow) → i < length rs → put_rows (take (i + 1) rs) board ≡ put row_cmp (get_or rs i d) (put_rows (take i rs) board)
+put_more board rs i d low = put_rows_is (take (i + 1) rs) board ∙ fold_more (λ board r. put row_cmp r board) board rs i d low ∙ ap (put row_cmp (get_or rs i d)) (sym (put_rows_is (take i rs) board))
+
 -- what a change makes of the tables, whatever it is called
-pub by_item : {S A E X : Type 0} (g : Ghosts S) (old new : Held S) (change : X → State → State) {x y : X} → y ≡ x → (result : Result A E) → OnOk result (Makes g (change x) old new) → OnOk result (Makes g (change y) old new)
+pub by_item : {S A E X : Type 0} (g : Ghosts S) (old new : Held S) (change : X → Kept → Kept) {x y : X} → y ≡ x → (result : Result A E) → OnOk result (Makes g (change x) old new) → OnOk result (Makes g (change y) old new)
 by_item g old new change same result h = subst (λ x. OnOk result (Makes g (change x) old new)) (sym same) h

@@ -8,7 +8,8 @@ use Rattle.sqlite.specs.Listing.{understood}
 use Rattle.sqlite.specs.Store.{Ghosts}
 use Rattle.sqlite.specs.Held.{Held, state}
 use Rattle.sqlite_keyed.proofs.ListLemmas.{ascending-filter}
-use Rattle.ci_machine.specs.State.{State, with_record, without_record, attempt_cmp}
+use Rattle.ci_machine.specs.Kept.{Kept}
+use Rattle.ci_machine.specs.State.{with_record, without_record, attempt_cmp}
 use Rattle.ci_machine.specs.declared.records.Attempt.{Attempt}
 use Rattle.ci_machine.specs.declared.change.Record.TheVariants as row
 use Rattle.ci_machine.specs.declared.change.Key.TheVariants as key
@@ -16,14 +17,14 @@ use Rattle.ci_tables.specs.Stands.{image, places}
 use Rattle.ci_tables.specs.Statements.{HasPut}
 use Rattle.ci_tables.proofs.Puts.{MeansPut, MeansRemove, GivesRecord}
 use Rattle.ci_tables.proofs.Absent.{absent_rowid}
-use Rattle.ci_tables.proofs.Scalars.{cast_int}
-use Rattle.ci_store.specs.declared.texts.TheConstants.{UPDATE_ATTEMPT, INSERT_ATTEMPT, DELETE_ATTEMPT, SELECT_ATTEMPT, SELECT_ATTEMPTS_OF, SELECT_ATTEMPTS_IN}
+use Rattle.ci_tables.proofs.Scalars.{cast_int, compares}
+use Rattle.ci_store.specs.declared.texts.TheConstants.{UPDATE_ATTEMPT, INSERT_ATTEMPT, DELETE_ATTEMPT, SELECT_ATTEMPT, SELECT_ATTEMPTS_OF, SELECT_ATTEMPTS_IN, SELECT_ATTEMPTS_WITHIN}
 use Rattle.ci_store.specs.Schema.{the_schema, attempt}
 use Rattle.ci_store.specs.Rows.{number, attempt_row, state_number, cause_in, exit_in}
 use Rattle.ci_store.specs.Stands.{rows_by_tree, rows_of, Stands, IsAt}
 use Rattle.ci_store.proofs.OneList.{IsAlike, alike_but, regular_with_attempts}
 use Rattle.ci_store.proofs.Lists.{put_rises, by_number}
-use Rattle.ci_store.proofs.Records.{is, put_stands, same_number, finds_number, numbered, cast_option}
+use Rattle.ci_store.proofs.Records.{is, at_least, at_most, put_stands, same_number, finds_number, finds_within, numbered, cast_option}
 use Rattle.sqlite.specs.Collation.TheVariants.{Binary}
 use Rattle.sqlite_schema.specs.Rules.{equal}
 use Rattle.sqlite.proofs.Callers.{IsPlain}
@@ -31,7 +32,10 @@ use Rattle.ci_tables.proofs.Selects.{MeansSelect}
 use Rattle.ci_store.specs.Calls.{ShowsRecords, listed}
 use Rattle.ci_values.specs.Attempts.{is_live_state}
 use Rattle.ci_machine.specs.Leases.{is_live}
-use Rattle.ci_machine.specs.Step.{attempt_at, attempts_of, live_attempts}
+use Rattle.sqlite_sql.specs.declared.ops.CompareOp.TheVariants.{Le, Ge}
+use Rattle.ci_machine.specs.Statuses.{attempts_of}
+use Rattle.ci_machine.specs.Ranges.{is_within, attempts_within}
+use Rattle.ci_machine.specs.Step.{attempt_at, live_attempts}
 use Rattle.ci_values.specs.declared.attempts.AttemptState.{AttemptState}
 use Rattle.ci_values.specs.declared.attempts.AttemptState.TheVariants.{Live, Succeeded, Failed, Cancelled}
 use Rattle.ci_store.proofs.Shows.{columns_of, names_of, by, shows_passing, shows_sorted, found_one, found_all, rising_numbers}
@@ -39,7 +43,7 @@ use Rattle.std.specs.List.{list_any}
 use Rattle.sqlite_value.specs.Keys.{plain, joined}
 use Rattle.sqlite_schema.specs.declared.schema.Keys.TheVariants.{Enforced}
 use Rattle.sqlite_rules.specs.Action.{works, pairs, loses}
-use Rattle.ci_store.specs.Commit.{RemovesUnreferred}
+use Rattle.ci_store.specs.Commit.{in_state, RemovesUnreferred}
 use Rattle.ci_store.proofs.Removals.{Referring, queries, cascades, removed_numbered}
 use Rattle.ci_store.proofs.Pieces.{refers_to_attempt}
 use Rattle.sqlite.specs.Values.{or_null}
@@ -65,13 +69,13 @@ gives a = record {
 }
 
 -- the other tables have the rows that they had
-alike : (s : State) (xs : List Attempt) → IsAlike (rows_of s) (rows_of (record s { attempts = xs })) attempt
-alike s xs = alike_but (take 6 (rows_by_tree s)) (drop 7 (rows_by_tree s)) attempt (map attempt_row s.attempts) (map attempt_row xs)
+alike : (k : Kept) (xs : List Attempt) → IsAlike (rows_of k) (rows_of (record k { state = record k.state { attempts = xs } })) attempt
+alike k xs = alike_but (take 6 (rows_by_tree k)) (drop 7 (rows_by_tree k)) attempt (map attempt_row k.state.attempts) (map attempt_row xs)
 
-pub attempt_puts : {S : Type 0} (ghosts : Ghosts S) (before after : Held S) (a : Attempt) (s : State) → Stands s (state ghosts before).now → HasPut ghosts UPDATE_ATTEMPT.now INSERT_ATTEMPT.now (attempt_row a) before after
-    → Stands (with_record (row.Attempt a) s) (state ghosts after).now
-attempt_puts ghosts before after a s stands h =
-    put_stands attempt_row s.attempts s (with_record (row.Attempt a) s) attempt refl (alike s _) (regular_with_attempts s _ (put_rises attempt_cmp (by_number (λ (q : Attempt). q.id)) a s.attempts stands.inside.regular.attempts) stands.inside.regular)
+pub attempt_puts : {S : Type 0} (ghosts : Ghosts S) (before after : Held S) (a : Attempt) (k : Kept) → Stands k (state ghosts before).now → HasPut ghosts UPDATE_ATTEMPT.now INSERT_ATTEMPT.now (attempt_row a) before after
+    → Stands (in_state (with_record (row.Attempt a)) k) (state ghosts after).now
+attempt_puts ghosts before after a k stands h =
+    put_stands attempt_row k.state.attempts k (in_state (with_record (row.Attempt a)) k) attempt refl (alike k _) (regular_with_attempts k _ (put_rises attempt_cmp (by_number (λ (q : Attempt). q.id)) a k.state.attempts stands.inside.regular.attempts) stands.inside.regular)
     6 UPDATE_ATTEMPT.now INSERT_ATTEMPT.now (is 0 0 ∷ []) sets sets means attempt_cmp (number a.id ∷ []) a (gives a) (λ q. same_number q.id a.id) refl ghosts before after stands h
 
 means_remove : MeansRemove the_schema 6 attempt DELETE_ATTEMPT.now (is 0 0 ∷ [])
@@ -83,9 +87,9 @@ works_are : (olds : List Row) → works the_schema Enforced 0 attempt.tree olds 
 unfolding everything joined
 works_are olds = refl
 
-pub attempt_removed : {S : Type 0} (g : Ghosts S) (old new : Held S) (id : ℕ) (s : State) → Stands s (state g old).now → RemovesUnreferred g (queries (refers_to_attempt ∷ [])) DELETE_ATTEMPT.now (number id ∷ []) old new → Stands (without_record (key.Attempt id) s) (state g new).now
-attempt_removed g old new id s =
-    removed_numbered g old new attempt_row (λ q. q.id) s.attempts id s (without_record (key.Attempt id) s) 6 attempt refl refl refl (alike s _) (λ o. regular_with_attempts s _ (ascending-filter _ _ s.attempts o.attempts) o) (λ q. same_number q.id id) (λ r. refl)
+pub attempt_removed : {S : Type 0} (g : Ghosts S) (old new : Held S) (id : ℕ) (k : Kept) → Stands k (state g old).now → RemovesUnreferred g (queries (refers_to_attempt ∷ [])) DELETE_ATTEMPT.now (number id ∷ []) old new → Stands (in_state (without_record (key.Attempt id)) k) (state g new).now
+attempt_removed g old new id k =
+    removed_numbered g old new attempt_row (λ q. q.id) k.state.attempts id k (in_state (without_record (key.Attempt id)) k) 6 attempt refl refl refl (alike k _) (λ o. regular_with_attempts k _ (ascending-filter _ _ k.state.attempts o.attempts) o) (λ q. same_number q.id id) (λ r. refl)
     DELETE_ATTEMPT.now means_remove (codes "attempt") (refers_to_attempt ∷ []) works_are (λ e. absurd cc, tt)
 
 -- ---- two records with the same row
@@ -139,10 +143,10 @@ means_select = record { is = refl; unlisted = refl; plain = (refl, refl) }
 pub plain_select : IsPlain (understood the_schema SELECT_ATTEMPT.now)
 plain_select = means_select.plain
 
-pub attempt_found : {S : Type 0} (g : Ghosts S) (old new : Held S) (s : State) → IsAt g s old → (id : ℕ) (found : Option Attempt) → ShowsRecords (λ row x. row ≡ attempt_row x) g SELECT_ATTEMPT.now (number id ∷ []) old new (listed found) → found ≡ attempt_at s id
-attempt_found g old new s at id found h =
-    found_one (λ row x. row ≡ attempt_row x) attempt_row (λ x. x.id == id) s.attempts (λ x y _ same. sym (same_attempt y x same)) h.rows
-    (shows_passing attempt_row 6 attempt refl SELECT_ATTEMPT.now (is 0 0 ∷ []) (number id ∷ []) (λ im. equal Binary (column im 0) (number id) && true) (λ r. refl) (λ x. x.id == id) (λ x. finds_number x.id id) s s.attempts refl h.rows
+pub attempt_found : {S : Type 0} (g : Ghosts S) (old new : Held S) (k : Kept) → IsAt g k old → (id : ℕ) (found : Option Attempt) → ShowsRecords (λ row x. row ≡ attempt_row x) g SELECT_ATTEMPT.now (number id ∷ []) old new (listed found) → found ≡ attempt_at k.state id
+attempt_found g old new k at id found h =
+    found_one (λ row x. row ≡ attempt_row x) attempt_row (λ x. x.id == id) k.state.attempts (λ x y _ same. sym (same_attempt y x same)) h.rows
+    (shows_passing attempt_row 6 attempt refl SELECT_ATTEMPT.now (is 0 0 ∷ []) (number id ∷ []) (λ im. equal Binary (column im 0) (number id) && true) (λ r. refl) (λ x. x.id == id) (λ x. finds_number x.id id) k k.state.attempts refl h.rows
     (λ r. refl) means_select (state g old) (state g new) at.now h.shown)
     found h.read
 
@@ -156,12 +160,12 @@ refers_to_job = record { child = attempt; at = 6; there = refl; place = 2; text 
 pub plain_select_of : IsPlain (understood the_schema SELECT_ATTEMPTS_OF.now)
 plain_select_of = means_select_of.plain
 
-pub attempts_found : {S : Type 0} (g : Ghosts S) (old new : Held S) (s : State) → IsAt g s old → (job : ℕ) (found : List Attempt) → ShowsRecords (λ row x. row ≡ attempt_row x) g SELECT_ATTEMPTS_OF.now (number job ∷ []) old new found
-    → found ≡ attempts_of s job
-attempts_found g old new s at job found h =
-    found_all (λ row x. row ≡ attempt_row x) attempt_row (λ x. x.job == job) s.attempts (λ x y _ same. sym (same_attempt y x same)) h.rows
-    (shows_sorted attempt_row 6 attempt refl SELECT_ATTEMPTS_OF.now (is 2 0 ∷ []) (number job ∷ []) (λ im. equal Binary (column im 1) (number job) && true) (λ r. refl) (λ x. x.job == job) (λ x. finds_number x.job job) s s.attempts refl h.rows
-    0 0 (λ r. refl) means_select_of (rising_numbers (λ (x : Attempt). x.id) (λ x. x.job == job) s.attempts at.now.inside.regular.attempts) (state g old) (state g new) at.now h.shown)
+pub attempts_found : {S : Type 0} (g : Ghosts S) (old new : Held S) (k : Kept) → IsAt g k old → (job : ℕ) (found : List Attempt) → ShowsRecords (λ row x. row ≡ attempt_row x) g SELECT_ATTEMPTS_OF.now (number job ∷ []) old new found
+    → found ≡ attempts_of k.state job
+attempts_found g old new k at job found h =
+    found_all (λ row x. row ≡ attempt_row x) attempt_row (λ x. x.job == job) k.state.attempts (λ x y _ same. sym (same_attempt y x same)) h.rows
+    (shows_sorted attempt_row 6 attempt refl SELECT_ATTEMPTS_OF.now (is 2 0 ∷ []) (number job ∷ []) (λ im. equal Binary (column im 1) (number job) && true) (λ r. refl) (λ x. x.job == job) (λ x. finds_number x.job job) k k.state.attempts refl h.rows
+    0 0 (λ r. refl) means_select_of (rising_numbers (λ (x : Attempt). x.id) (λ x. x.job == job) k.state.attempts at.now.inside.regular.attempts) (state g old) (state g new) at.now h.shown)
     found h.read
 
 means_select_in : MeansSelect the_schema attempt SELECT_ATTEMPTS_IN.now (is 7 0 ∷ []) (columns_of attempt) (by 0) (names_of attempt)
@@ -177,9 +181,25 @@ live_is (Succeeded exit) = refl
 live_is (Failed cause exit) = refl
 live_is Cancelled = refl
 
-pub live_found : {S : Type 0} (g : Ghosts S) (old new : Held S) (s : State) → IsAt g s old → (found : List Attempt) → ShowsRecords (λ row x. row ≡ attempt_row x) g SELECT_ATTEMPTS_IN.now (number 0 ∷ []) old new found → found ≡ live_attempts s
-live_found g old new s at found h =
-    found_all (λ row x. row ≡ attempt_row x) attempt_row is_live s.attempts (λ x y _ same. sym (same_attempt y x same)) h.rows
-    (shows_sorted attempt_row 6 attempt refl SELECT_ATTEMPTS_IN.now (is 7 0 ∷ []) (number 0 ∷ []) (λ im. equal Binary (column im 6) (number 0) && true) (λ r. refl) is_live (λ x. finds_number (state_number x.state) 0 ∙ live_is x.state) s s.attempts refl h.rows
-    0 0 (λ r. refl) means_select_in (rising_numbers (λ (x : Attempt). x.id) is_live s.attempts at.now.inside.regular.attempts) (state g old) (state g new) at.now h.shown)
+pub live_found : {S : Type 0} (g : Ghosts S) (old new : Held S) (k : Kept) → IsAt g k old → (found : List Attempt) → ShowsRecords (λ row x. row ≡ attempt_row x) g SELECT_ATTEMPTS_IN.now (number 0 ∷ []) old new found → found ≡ live_attempts k.state
+live_found g old new k at found h =
+    found_all (λ row x. row ≡ attempt_row x) attempt_row is_live k.state.attempts (λ x y _ same. sym (same_attempt y x same)) h.rows
+    (shows_sorted attempt_row 6 attempt refl SELECT_ATTEMPTS_IN.now (is 7 0 ∷ []) (number 0 ∷ []) (λ im. equal Binary (column im 6) (number 0) && true) (λ r. refl) is_live (λ x. finds_number (state_number x.state) 0 ∙ live_is x.state) k k.state.attempts refl h.rows
+    0 0 (λ r. refl) means_select_in (rising_numbers (λ (x : Attempt). x.id) is_live k.state.attempts at.now.inside.regular.attempts) (state g old) (state g new) at.now h.shown)
+    found h.read
+
+means_select_within : MeansSelect the_schema attempt SELECT_ATTEMPTS_WITHIN.now (at_least 2 0 ∷ at_most 2 1 ∷ []) (columns_of attempt) (by 0) (names_of attempt)
+unfolding understood everything
+means_select_within = record { is = refl; unlisted = refl; plain = (refl, refl) }
+
+pub plain_select_within : IsPlain (understood the_schema SELECT_ATTEMPTS_WITHIN.now)
+plain_select_within = means_select_within.plain
+
+pub attempts_within_found : {S : Type 0} (g : Ghosts S) (old new : Held S) (k : Kept) → IsAt g k old → (first last : ℕ) (found : List Attempt)
+    → ShowsRecords (λ row x. row ≡ attempt_row x) g SELECT_ATTEMPTS_WITHIN.now (number first ∷ number last ∷ []) old new found → found ≡ attempts_within first last k.state.attempts
+attempts_within_found g old new k at first last found h =
+    found_all (λ row x. row ≡ attempt_row x) attempt_row (λ x. is_within first last x.job) k.state.attempts (λ x y _ same. sym (same_attempt y x same)) h.rows
+    (shows_sorted attempt_row 6 attempt refl SELECT_ATTEMPTS_WITHIN.now (at_least 2 0 ∷ at_most 2 1 ∷ []) (number first ∷ number last ∷ []) (λ im. compares Ge (column im 1) (number first) && (compares Le (column im 1) (number last) && true)) (λ r. refl)
+    (λ x. is_within first last x.job) (λ x. finds_within first last x.job) k k.state.attempts refl h.rows 0 0 (λ r. refl) means_select_within
+    (rising_numbers (λ (x : Attempt). x.id) (λ x. is_within first last x.job) k.state.attempts at.now.inside.regular.attempts) (state g old) (state g new) at.now h.shown)
     found h.read

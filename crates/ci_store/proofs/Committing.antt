@@ -6,7 +6,8 @@ use Rattle.sqlite.specs.State.{State as Seen, HasCleanDisk, Survives, IsUnchange
 use Rattle.sqlite.specs.Store.{Ghosts}
 use Rattle.sqlite.specs.Held.{Held, state}
 use Rattle.sqlite.proofs.StateLemmas.{survives_then}
-use Rattle.ci_machine.specs.State.{State, applied, empty}
+use Rattle.ci_machine.specs.Kept.{Kept, nothing_kept, written}
+use Rattle.ci_machine.specs.declared.records.BoardRow.{BoardRow}
 use Rattle.ci_machine.specs.declared.change.RowChange.{RowChange}
 use Rattle.ci_tables.specs.declared.fault.StoreFault.{StoreFault}
 use Rattle.ci_store.specs.declared.commit.Ended.{Ended}
@@ -25,24 +26,24 @@ survives_same s P = record { clean = omega arith; shield = λ h. h; counts = ome
 
 module _ {S : Type 0} (g : Ghosts S) where
   -- a store that is as the last commit left it, and open, holds what it held
-  pub back_at : (s : State) (old mid new : Held S) → IsAt g s old → (state g old).now ≡ (state g old).committed → IsBack g old mid → IsUnchanged (state g mid) (state g new)
-      → ((db : Trees) → IsTrue (state g new).is_open → (state g new).may_leave db → db ≡ (state g new).committed.trees) → IsAt g s new
-  back_at s old mid new at settled back same only =
+  pub back_at : (k : Kept) (old mid new : Held S) → IsAt g k old → (state g old).now ≡ (state g old).committed → IsBack g old mid → IsUnchanged (state g mid) (state g new)
+      → ((db : Trees) → IsTrue (state g new).is_open → (state g new).may_leave db → db ≡ (state g new).committed.trees) → IsAt g k new
+  back_at k old mid new at settled back same only =
       let was = back.back same.0.was_open in
       let now : (state g new).now ≡ (state g old).now = same.0.now_is ∙ was.0 ∙ sym settled in
       let committed : (state g new).committed ≡ (state g old).now = same.0.committed_is ∙ was.1 ∙ sym settled in
       record {
         is_open = same.0.is_open;
-        now = subst (Stands s) (sym now) at.now;
-        left = λ db may. subst (StandsIn s) (sym (only db same.0.is_open may ∙ ap (λ (d : Database). d.trees) committed)) at.now.inside;
+        now = subst (Stands k) (sym now) at.now;
+        left = λ db may. subst (StandsIn k) (sym (only db same.0.is_open may ∙ ap (λ (d : Database). d.trees) committed)) at.now.inside;
       }
 
   -- a stop after it leaves the state before the changes or the one after them
-  pub left_either : (changes : List RowChange) (s : State) (old mid new : Held S) → IsAt g s old → HasCleanDisk (state g new) → Survives (state g old) (state g mid) (CommitsAll g changes old) → Survives (state g mid) (state g new) (λ _. ⊥)
-      → LeavesEither g s (applied changes s) new
-  left_either changes s old mid new at clean first second db may =
+  pub left_either : (changes : List RowChange) (rows : List BoardRow) (k : Kept) (old mid new : Held S) → IsAt g k old → HasCleanDisk (state g new) → Survives (state g old) (state g mid) (CommitsAll g changes rows old) → Survives (state g mid) (state g new) (λ _. ⊥)
+      → LeavesEither g k (written changes rows k) new
+  left_either changes rows k old mid new at clean first second db may =
       let early : HasCleanDisk (state g mid) = omega (arith, clean, second.clean) in
-      ⊎_elim (λ was. ⊎_elim (λ before. inl (at.left db before)) (λ done. inr (done s at.now)) (first.crash early db was)) (λ none. absurd none) (second.crash clean db may)
+      ⊎_elim (λ was. ⊎_elim (λ before. inl (at.left db before)) (λ done. inr (done k at.now)) (first.crash early db was)) (λ none. absurd none) (second.crash clean db may)
 
   -- ---- a transaction from its begin to its end, after which the connection is the caller's again
 
@@ -56,11 +57,11 @@ module _ {S : Type 0} (g : Ghosts S) where
       subst (λ t. Survives (state g old) t P) (sym same) (survives_then (state g old) (state g made) (state g ended) (λ _. ⊥) Q P (λ _ db none. absurd none) so inside two)
 
   -- what is committed is what was made
-  pub commits_all : (old begun made : Held S) → begun ≡ record old { in_transaction = true } → (changes : List RowChange) (db : Trees) → Makes g (applied changes) begun made → db ≡ (state g made).now.trees → CommitsAll g changes old db
-  commits_all old begun made begins changes db makes is s stands = subst (λ t. StandsIn (applied changes s) t) (sym is) (makes.1 s (subst (λ h. Stands s (state g h).now) (sym begins) stands)).inside
+  pub commits_all : (old begun made : Held S) → begun ≡ record old { in_transaction = true } → (changes : List RowChange) (rows : List BoardRow) (db : Trees) → Makes g (written changes rows) begun made → db ≡ (state g made).now.trees → CommitsAll g changes rows old db
+  commits_all old begun made begins changes rows db makes is k stands = subst (λ t. StandsIn (written changes rows k) t) (sym is) (makes.1 k (subst (λ h. Stands k (state g h).now) (sym begins) stands)).inside
 
-  pub commits_empty : (old begun made : Held S) → begun ≡ record old { in_transaction = true } → (db : Trees) → (IsBlank g begun → Stands empty (state g made).now) → db ≡ (state g made).now.trees → IsBlank g old → StandsIn empty db
-  commits_empty old begun made begins db makes is blank = subst (λ t. StandsIn empty t) (sym is) (makes (subst (λ h. IsBlank g h) (sym begins) blank)).inside
+  pub commits_empty : (old begun made : Held S) → begun ≡ record old { in_transaction = true } → (db : Trees) → (IsBlank g begun → Stands nothing_kept (state g made).now) → db ≡ (state g made).now.trees → IsBlank g old → StandsIn nothing_kept db
+  commits_empty old begun made begins db makes is blank = subst (λ t. StandsIn nothing_kept t) (sym is) (makes (subst (λ h. IsBlank g h) (sym begins) blank)).inside
 
   module _ (old begun made ended new : Held S) (same : new ≡ ended) (begins : begun ≡ record old { in_transaction = true }) where
     -- the transaction is undone
@@ -76,23 +77,23 @@ module _ {S : Type 0} (g : Ghosts S) where
         })
 
     -- the changes are committed
-    pub is_done_all : (changes : List RowChange) → Makes g (applied changes) begun made → Shows (state g made) (state g ended) (state g made).now (state g made).now false → IsDone g changes old new
-    is_done_all changes makes shows =
-        subst (λ h. IsDone g changes old h) (sym same)
+    pub is_done_all : (changes : List RowChange) (rows : List BoardRow) → Makes g (written changes rows) begun made → Shows (state g made) (state g ended) (state g made).now (state g made).now false → IsDone g changes rows old new
+    is_done_all changes rows makes shows =
+        subst (λ h. IsDone g changes rows old h) (sym same)
         (record {
           is_open = shows.is_open;
-          stands = λ s stands. subst (Stands (applied changes s)) (sym shows.now_is) (makes.1 s (subst (λ h. Stands s (state g h).now) (sym begins) stands));
+          stands = λ k stands. subst (Stands (written changes rows k)) (sym shows.now_is) (makes.1 k (subst (λ h. Stands k (state g h).now) (sym begins) stands));
           committed = shows.committed_is ∙ sym shows.now_is;
         })
 
     -- the tables of the empty state are committed
-    pub is_at_empty : (IsBlank g begun → Stands empty (state g made).now) → Shows (state g made) (state g ended) (state g made).now (state g made).now false
-        → ((db : Trees) → IsTrue (state g ended).is_open → (state g ended).may_leave db → db ≡ (state g ended).committed.trees) → IsBlank g old → IsAt g empty new
+    pub is_at_empty : (IsBlank g begun → Stands nothing_kept (state g made).now) → Shows (state g made) (state g ended) (state g made).now (state g made).now false
+        → ((db : Trees) → IsTrue (state g ended).is_open → (state g ended).may_leave db → db ≡ (state g ended).committed.trees) → IsBlank g old → IsAt g nothing_kept new
     is_at_empty makes shows only blank =
         let stands = makes (subst (IsBlank g) (sym begins) blank) in
-        subst (IsAt g empty) (sym same)
+        subst (IsAt g nothing_kept) (sym same)
         (record {
           is_open = shows.is_open;
-          now = subst (Stands empty) (sym shows.now_is) stands;
-          left = λ db may. subst (StandsIn empty) (sym (only db shows.is_open may ∙ ap (λ (d : Database). d.trees) shows.committed_is)) stands.inside;
+          now = subst (Stands nothing_kept) (sym shows.now_is) stands;
+          left = λ db may. subst (StandsIn nothing_kept) (sym (only db shows.is_open may ∙ ap (λ (d : Database). d.trees) shows.committed_is)) stands.inside;
         })

@@ -13,7 +13,8 @@ use Rattle.sqlite.specs.State.{State as Store, Executes}
 use Rattle.sqlite_catalog.specs.Listing.{IsSound}
 use Rattle.sqlite_trees.specs.View.{IsShaped}
 use Rattle.sqlite_trees.specs.declared.store.Shape.TheVariants as shape
-use Rattle.ci_machine.specs.State.{empty, first_numbers}
+use Rattle.ci_machine.specs.Kept.{nothing_kept}
+use Rattle.ci_machine.specs.State.{first_numbers}
 use Rattle.ci_tables.specs.Stands.{image, places, without, Holds, IsOf}
 use Rattle.ci_tables.proofs.Puts.{inserts_one}
 use Rattle.ci_store.specs.declared.texts.TheConstants.{UPDATE_META, INSERT_META}
@@ -44,10 +45,10 @@ begins db bare = record {
   inside = record { sound = subst (λ s. IsSound s db.trees) bare.listed (bare.sound (λ e. cc)); holds = holds_none the_schema.tables db.trees bare.rows };
 }
 
-pub ends : (db : Database) → IsOf the_schema (rows_after 7) db → Stands empty db
+pub ends : (db : Database) → IsOf the_schema (rows_after 7) db → Stands nothing_kept db
 ends db it = record {
   listed = it.listed;
-  inside = record { tables = record { sound = it.inside.sound; holds = it.inside.holds }; regular = record { projects = tt; runners = tt; pipelines = tt; jobs = tt; job_variables = tt; attempts = tt; pieces = tt; tags = tt; specs = tt } };
+  inside = record { tables = record { sound = it.inside.sound; holds = it.inside.holds }; regular = record { projects = tt; runners = tt; pipelines = tt; jobs = tt; job_variables = tt; needs = tt; attempts = tt; pieces = tt; board = tt; tags = tt; specs = tt } };
 }
 
 -- a row that is new is put after those that are there

@@ -15,7 +15,8 @@ use Rattle.sqlite.specs.Listing.{understood}
 use Rattle.sqlite.specs.Store.{Ghosts}
 use Rattle.sqlite.specs.Held.{Held, state}
 use Rattle.sqlite_keyed.proofs.ListLemmas.{ascending-filter}
-use Rattle.ci_machine.specs.State.{State, with_record, without_record, job_variable_cmp}
+use Rattle.ci_machine.specs.Kept.{Kept}
+use Rattle.ci_machine.specs.State.{with_record, without_record, job_variable_cmp}
 use Rattle.ci_machine.specs.declared.records.JobVariable.{JobVariable}
 use Rattle.ci_machine.specs.declared.change.Record.TheVariants as row
 use Rattle.ci_machine.specs.declared.change.Key.TheVariants as key
@@ -38,7 +39,7 @@ use Rattle.ci_store.proofs.Owned.{tests, sets, terms, unnumbered, agrees, remove
 use Rattle.ci_store.proofs.Shows.{columns_of, names_of, by, rising_text}
 use Rattle.ci_machine.specs.Step.{variables_of}
 use Rattle.ci_store.proofs.Removals.{Referring}
-use Rattle.ci_store.specs.Commit.{RemovesUnreferred}
+use Rattle.ci_store.specs.Commit.{in_state, RemovesUnreferred}
 
 means : MeansPut the_schema 5 jobvar UPDATE_JOB_VARIABLE.now INSERT_JOB_VARIABLE.now tests sets terms
 unfolding understood everything
@@ -61,13 +62,13 @@ same_key : (job : ℕ) (name : List ℕ) (q : JobVariable) → (equal Binary (nu
 same_key job name q = (λ i. equal_int q.job job i && (equal_text q.key name i && true)) ∙ both_equal (nat_cmp q.job job) (slice_cmp nat_cmp q.key name)
 
 -- the other tables have the rows that they had
-alike : (s : State) (xs : List JobVariable) → IsAlike (rows_of s) (rows_of (record s { job_variables = xs })) jobvar
-alike s xs = alike_but (take 5 (rows_by_tree s)) (drop 6 (rows_by_tree s)) jobvar (map job_variable_row s.job_variables) (map job_variable_row xs)
+alike : (k : Kept) (xs : List JobVariable) → IsAlike (rows_of k) (rows_of (record k { state = record k.state { job_variables = xs } })) jobvar
+alike k xs = alike_but (take 5 (rows_by_tree k)) (drop 6 (rows_by_tree k)) jobvar (map job_variable_row k.state.job_variables) (map job_variable_row xs)
 
-pub job_variable_puts : {S : Type 0} (ghosts : Ghosts S) (before after : Held S) (v : JobVariable) (s : State) → Stands s (state ghosts before).now → HasPut ghosts UPDATE_JOB_VARIABLE.now INSERT_JOB_VARIABLE.now (job_variable_row v) before after
-    → Stands (with_record (row.JobVariable v) s) (state ghosts after).now
-job_variable_puts ghosts before after v s stands h =
-    put_stands job_variable_row s.job_variables s (with_record (row.JobVariable v) s) jobvar refl (alike s _) (regular_with_job_variables s _ (put_rises job_variable_cmp (by_both (λ (q : JobVariable). q.job) (λ q. q.key)) v s.job_variables stands.inside.regular.job_variables) stands.inside.regular)
+pub job_variable_puts : {S : Type 0} (ghosts : Ghosts S) (before after : Held S) (v : JobVariable) (k : Kept) → Stands k (state ghosts before).now → HasPut ghosts UPDATE_JOB_VARIABLE.now INSERT_JOB_VARIABLE.now (job_variable_row v) before after
+    → Stands (in_state (with_record (row.JobVariable v)) k) (state ghosts after).now
+job_variable_puts ghosts before after v k stands h =
+    put_stands job_variable_row k.state.job_variables k (in_state (with_record (row.JobVariable v)) k) jobvar refl (alike k _) (regular_with_job_variables k _ (put_rises job_variable_cmp (by_both (λ (q : JobVariable). q.job) (λ q. q.key)) v k.state.job_variables stands.inside.regular.job_variables) stands.inside.regular)
     5 UPDATE_JOB_VARIABLE.now INSERT_JOB_VARIABLE.now tests sets terms means job_variable_cmp (key_of v.job v.key) v (gives v) (same_key v.job v.key) refl ghosts before after stands h
 
 means_remove : MeansRemove the_schema 5 jobvar DELETE_JOB_VARIABLE.now tests
@@ -78,9 +79,9 @@ whole : (params : Row) (db : Trees) → IsWholeStep the_schema jobvar tests para
 unfolding everything
 whole params db = whole_if_alone the_schema jobvar tests params db (λ olds. refl)
 
-pub job_variable_removed : {S : Type 0} (g : Ghosts S) (old new : Held S) (id : ℕ) (name : List ℕ) (s : State) → Stands s (state g old).now → RemovesUnreferred g [] DELETE_JOB_VARIABLE.now (key_of id name) old new → Stands (without_record (key.JobVariable id name) s) (state g new).now
-job_variable_removed g old new id name s =
-    removed_owned g old new job_variable_row 5 jobvar (λ q. is_eq (ordering_then (nat_cmp q.job id) (slice_cmp nat_cmp q.key name))) s.job_variables (key_of id name) s (without_record (key.JobVariable id name) s) refl refl (alike s _) (λ o. regular_with_job_variables s _ (ascending-filter _ _ s.job_variables o.job_variables) o) (same_key id name) (λ r. refl)
+pub job_variable_removed : {S : Type 0} (g : Ghosts S) (old new : Held S) (id : ℕ) (name : List ℕ) (k : Kept) → Stands k (state g old).now → RemovesUnreferred g [] DELETE_JOB_VARIABLE.now (key_of id name) old new → Stands (in_state (without_record (key.JobVariable id name)) k) (state g new).now
+job_variable_removed g old new id name k =
+    removed_owned g old new job_variable_row 5 jobvar (λ q. is_eq (ordering_then (nat_cmp q.job id) (slice_cmp nat_cmp q.key name))) k.state.job_variables (key_of id name) k (in_state (without_record (key.JobVariable id name)) k) refl refl (alike k _) (λ o. regular_with_job_variables k _ (ascending-filter _ _ k.state.job_variables o.job_variables) o) (same_key id name) (λ r. refl)
     DELETE_JOB_VARIABLE.now means_remove whole
 
 -- ---- two records with the same row
@@ -104,6 +105,6 @@ refers_to_job = record { child = jobvar; at = 5; there = refl; place = 1; text =
 pub plain_select_of : IsPlain (understood the_schema SELECT_JOB_VARIABLES.now)
 plain_select_of = means_select_of.plain
 
-pub job_variables_found : {S : Type 0} (g : Ghosts S) (old new : Held S) (s : State) → IsAt g s old → (owner : ℕ) (found : List JobVariable) → ShowsRecords (λ row x. row ≡ job_variable_row x) g SELECT_JOB_VARIABLES.now (number owner ∷ []) old new found → found ≡ variables_of s owner
-job_variables_found g old new s at =
-    owned_found g old new job_variable_row 5 jobvar (λ x. x.job) (λ x y. slice_cmp nat_cmp x.key y.key) same_job_variable refl SELECT_JOB_VARIABLES.now means_select_of (λ n r. refl) (λ n x. same_number x.job n) (λ n r. refl) (λ x y low. rising_text x.key y.key low) s s.job_variables refl at at.now.inside.regular.job_variables
+pub job_variables_found : {S : Type 0} (g : Ghosts S) (old new : Held S) (k : Kept) → IsAt g k old → (owner : ℕ) (found : List JobVariable) → ShowsRecords (λ row x. row ≡ job_variable_row x) g SELECT_JOB_VARIABLES.now (number owner ∷ []) old new found → found ≡ variables_of k.state owner
+job_variables_found g old new k at =
+    owned_found g old new job_variable_row 5 jobvar (λ x. x.job) (λ x y. slice_cmp nat_cmp x.key y.key) same_job_variable refl SELECT_JOB_VARIABLES.now means_select_of (λ n r. refl) (λ n x. same_number x.job n) (λ n r. refl) (λ x y low. rising_text x.key y.key low) k k.state.job_variables refl at at.now.inside.regular.job_variables

@@ -1,5 +1,5 @@
 -- The statements that write `job`.
-use Rattle.std.proofs.Common.{◌≡◌, ◌∙◌, ℕ, pos, List, [], ◌∷◌, if◌then◌else◌, Some, refl, ap, ◌==◌, ◌&&◌, true, Option, sym, filter, map, take, drop, codes}
+use Rattle.std.proofs.Common.{◌≡◌, ◌∙◌, ℕ, pos, List, [], ◌∷◌, ◌++◌, if◌then◌else◌, cond, Some, None, refl, ap, ◌==◌, ◌&&◌, true, Option, sym, map, take, drop, codes}
 use Rattle.sqlite.specs.declared.types.Value.TheVariants.{Null, Text}
 use Rattle.sqlite.specs.Order.{Row, column}
 use Rattle.sqlite.specs.Term.{Term, lit, col}
@@ -8,7 +8,8 @@ use Rattle.sqlite.specs.Listing.{understood}
 use Rattle.sqlite.specs.Store.{Ghosts}
 use Rattle.sqlite.specs.Held.{Held, state}
 use Rattle.sqlite_keyed.proofs.ListLemmas.{ascending-filter, all-filter}
-use Rattle.ci_machine.specs.State.{State, with_record, without_record, job_cmp}
+use Rattle.ci_machine.specs.Kept.{Kept}
+use Rattle.ci_machine.specs.State.{with_record, without_record, job_cmp}
 use Rattle.ci_machine.specs.declared.records.Job.{Job}
 use Rattle.ci_machine.specs.declared.change.Record.TheVariants as row
 use Rattle.ci_machine.specs.declared.change.Key.TheVariants as key
@@ -16,10 +17,11 @@ use Rattle.ci_tables.specs.Stands.{image, places}
 use Rattle.ci_tables.specs.Statements.{HasPut}
 use Rattle.ci_tables.proofs.Puts.{MeansPut, MeansRemove, GivesRecord}
 use Rattle.ci_tables.proofs.Absent.{absent_rowid}
+use Rattle.ci_tables.proofs.Childless.{cascade}
 use Rattle.ci_tables.proofs.Scalars.{cast_int}
-use Rattle.ci_store.specs.declared.texts.TheConstants.{UPDATE_JOB, INSERT_JOB, DELETE_JOB, SELECT_JOB, SELECT_JOBS, SELECT_JOBS_OF}
-use Rattle.ci_store.specs.Schema.{the_schema, job}
-use Rattle.ci_store.specs.JsonText.{spec_text, spec_data}
+use Rattle.ci_store.specs.declared.texts.TheConstants.{UPDATE_JOB, INSERT_JOB, DELETE_JOB, SELECT_JOB, SELECT_JOBS_OF}
+use Rattle.ci_store.specs.Schema.{the_schema, job, need}
+use Rattle.ci_records.specs.JsonText.{spec_text, spec_data}
 use Rattle.serde_json.specs.Read.{read}
 use Rattle.ci_store.specs.Rows.{number, job_row}
 use Rattle.ci_store.specs.Stands.{rows_by_tree, rows_of, Stands, IsAt}
@@ -32,19 +34,23 @@ use Rattle.sqlite.proofs.Callers.{IsPlain}
 use Rattle.ci_tables.proofs.Selects.{MeansSelect}
 use Rattle.ci_store.specs.Calls.{ShowsRecords, listed}
 use Rattle.sqlite_rules.proofs.ListLemmas.{all_has}
+use Rattle.ci_machine.specs.Statuses.{jobs_of}
 use Rattle.ci_machine.specs.Step.{job_at}
 use Rattle.ci_store.specs.Load.{IsJobRow}
 use Rattle.ci_store.proofs.Shows.{columns_of, names_of, by, shows_passing, shows_sorted, found_one, found_all, rising_numbers}
-use Rattle.std.specs.List.{list_any}
+use Rattle.std.specs.List.{list_any, cons_option}
 use Rattle.sqlite_value.specs.Keys.{plain, joined}
 use Rattle.sqlite_schema.specs.declared.schema.Keys.TheVariants.{Enforced}
-use Rattle.sqlite_rules.specs.Action.{works, pairs, loses}
-use Rattle.ci_store.specs.Commit.{RemovesUnreferred}
-use Rattle.ci_store.proofs.Removals.{Referring, queries, cascades, removed_numbered}
+use Rattle.sqlite_rules.specs.Action.{Work, works, pairs, loses}
+use Rattle.ci_store.specs.Commit.{in_state, RemovesUnreferred}
+use Rattle.ci_store.proofs.Removals.{Referring, queries, cascades, twice, removed_numbered}
 use Rattle.ci_store.proofs.JobVariables.{refers_to_job as variables_refer}
 use Rattle.ci_store.proofs.Attempts.{refers_to_job as attempts_refer}
+use Rattle.ci_store.proofs.Needs.{needs_refer, needed_refer}
+use Rattle.ci_store.proofs.Board.{rows_refer}
 use Rattle.ci_store.specs.Rows.{flag}
-use Rattle.ci_store.specs.Load.{ReadsSpec, job_cells}
+use Rattle.ci_store.specs.Load.{job_cells}
+use Rattle.ci_records.specs.Reads.{ReadsSpec}
 use Rattle.ci_store.proofs.Same.{same_flag}
 
 abbrev sets : List Term
@@ -64,13 +70,13 @@ gives j = record {
 }
 
 -- the other tables have the rows that they had
-alike : (s : State) (xs : List Job) → IsAlike (rows_of s) (rows_of (record s { jobs = xs })) job
-alike s xs = alike_but (take 4 (rows_by_tree s)) (drop 5 (rows_by_tree s)) job (map job_row s.jobs) (map job_row xs)
+alike : (k : Kept) (xs : List Job) → IsAlike (rows_of k) (rows_of (record k { state = record k.state { jobs = xs } })) job
+alike k xs = alike_but (take 4 (rows_by_tree k)) (drop 5 (rows_by_tree k)) job (map job_row k.state.jobs) (map job_row xs)
 
-pub job_puts : {S : Type 0} (ghosts : Ghosts S) (before after : Held S) (j : Job) (s : State) → read (spec_text j.options) ≡ Some (spec_data j.options) → Stands s (state ghosts before).now → HasPut ghosts UPDATE_JOB.now INSERT_JOB.now (job_row j) before after
-    → Stands (with_record (row.Job j) s) (state ghosts after).now
-job_puts ghosts before after j s read_back stands h =
-    put_stands job_row s.jobs s (with_record (row.Job j) s) job refl (alike s _) (regular_with_jobs s _ (put_rises job_cmp (by_number (λ (q : Job). q.id)) j s.jobs stands.inside.regular.jobs) (all_put job_cmp _ j s.jobs read_back stands.inside.regular.specs) stands.inside.regular)
+pub job_puts : {S : Type 0} (ghosts : Ghosts S) (before after : Held S) (j : Job) (k : Kept) → read (spec_text j.options) ≡ Some (spec_data j.options) → Stands k (state ghosts before).now → HasPut ghosts UPDATE_JOB.now INSERT_JOB.now (job_row j) before after
+    → Stands (in_state (with_record (row.Job j)) k) (state ghosts after).now
+job_puts ghosts before after j k read_back stands h =
+    put_stands job_row k.state.jobs k (in_state (with_record (row.Job j)) k) job refl (alike k _) (regular_with_jobs k _ (put_rises job_cmp (by_number (λ (q : Job). q.id)) j k.state.jobs stands.inside.regular.jobs) (all_put job_cmp _ j k.state.jobs read_back stands.inside.regular.specs) stands.inside.regular)
     4 UPDATE_JOB.now INSERT_JOB.now (is 0 0 ∷ []) sets sets means job_cmp (number j.id ∷ []) j (gives j) (λ q. same_number q.id j.id) refl ghosts before after stands h
 
 means_remove : MeansRemove the_schema 4 job DELETE_JOB.now (is 0 0 ∷ [])
@@ -78,14 +84,17 @@ unfolding understood everything
 means_remove = record { there = refl; apart = refl; delete_is = refl; delete_plain = (refl, refl) }
 
 -- what its removal sets off
-works_are : (olds : List Row) → works the_schema Enforced 0 job.tree olds [] ≡ cascades (list_any (loses plain (0 ∷ [])) (pairs olds [])) (variables_refer ∷ attempts_refer ∷ []) (codes "job") olds
+works_are : (olds : List Row) → works the_schema Enforced 0 job.tree olds [] ≡ cascades (list_any (loses plain (0 ∷ [])) (pairs olds [])) (variables_refer ∷ attempts_refer ∷ needs_refer ∷ needed_refer ∷ rows_refer ∷ []) (codes "job") olds
 unfolding everything joined
-works_are olds = refl
+works_are olds =
+    let loses_some = list_any (loses plain (0 ∷ [])) (pairs olds []) in
+    let of : Referring → List Work = λ r. cons_option (cond loses_some (Some (cascade r.child r.place (codes "job") olds)) None) [] in
+    ap (λ l. of variables_refer ++ (of attempts_refer ++ l)) (twice loses_some (cascade need 1 (codes "job") olds) (cascade need 2 (codes "job") olds) (of rows_refer ++ []))
 
-pub job_removed : {S : Type 0} (g : Ghosts S) (old new : Held S) (id : ℕ) (s : State) → Stands s (state g old).now → RemovesUnreferred g (queries (variables_refer ∷ attempts_refer ∷ [])) DELETE_JOB.now (number id ∷ []) old new → Stands (without_record (key.Job id) s) (state g new).now
-job_removed g old new id s =
-    removed_numbered g old new job_row (λ q. q.id) s.jobs id s (without_record (key.Job id) s) 4 job refl refl refl (alike s _) (λ o. regular_with_jobs s _ (ascending-filter _ _ s.jobs o.jobs) (all-filter _ _ s.jobs o.specs) o) (λ q. same_number q.id id) (λ r. refl)
-    DELETE_JOB.now means_remove (codes "job") (variables_refer ∷ attempts_refer ∷ []) works_are (λ e. absurd cc, (λ e. absurd cc, tt))
+pub job_removed : {S : Type 0} (g : Ghosts S) (old new : Held S) (id : ℕ) (k : Kept) → Stands k (state g old).now → RemovesUnreferred g (queries (variables_refer ∷ attempts_refer ∷ needs_refer ∷ needed_refer ∷ rows_refer ∷ [])) DELETE_JOB.now (number id ∷ []) old new → Stands (in_state (without_record (key.Job id)) k) (state g new).now
+job_removed g old new id k =
+    removed_numbered g old new job_row (λ q. q.id) k.state.jobs id k (in_state (without_record (key.Job id)) k) 4 job refl refl refl (alike k _) (λ o. regular_with_jobs k _ (ascending-filter _ _ k.state.jobs o.jobs) (all-filter _ _ k.state.jobs o.specs) o) (λ q. same_number q.id id) (λ r. refl)
+    DELETE_JOB.now means_remove (codes "job") (variables_refer ∷ attempts_refer ∷ needs_refer ∷ needed_refer ∷ rows_refer ∷ []) works_are (λ e. absurd cc, (λ e. absurd cc, (λ e. absurd cc, (λ e. absurd cc, (λ e. absurd cc, tt)))))
 
 -- ---- two records with the same row
 
@@ -112,35 +121,26 @@ means_select = record { is = refl; unlisted = refl; plain = (refl, refl) }
 pub plain_select : IsPlain (understood the_schema SELECT_JOB.now)
 plain_select = means_select.plain
 
-pub job_found : {S : Type 0} (g : Ghosts S) (old new : Held S) (s : State) → IsAt g s old → (id : ℕ) (found : Option Job) → ShowsRecords IsJobRow g SELECT_JOB.now (number id ∷ []) old new (listed found) → found ≡ job_at s id
-job_found g old new s at id found h =
-    found_one IsJobRow job_row (λ x. x.id == id) s.jobs (λ x y there same. same_job x y same.0 same.2 (all_has _ s.jobs y at.now.inside.regular.specs there) (sym same.1)) h.rows
-    (shows_passing job_row 4 job refl SELECT_JOB.now (is 0 0 ∷ []) (number id ∷ []) (λ im. equal Binary (column im 0) (number id) && true) (λ r. refl) (λ x. x.id == id) (λ x. finds_number x.id id) s s.jobs refl h.rows
+pub job_found : {S : Type 0} (g : Ghosts S) (old new : Held S) (k : Kept) → IsAt g k old → (id : ℕ) (found : Option Job) → ShowsRecords IsJobRow g SELECT_JOB.now (number id ∷ []) old new (listed found) → found ≡ job_at k.state id
+job_found g old new k at id found h =
+    found_one IsJobRow job_row (λ x. x.id == id) k.state.jobs (λ x y there same. same_job x y same.0 same.2 (all_has _ k.state.jobs y at.now.inside.regular.specs there) (sym same.1)) h.rows
+    (shows_passing job_row 4 job refl SELECT_JOB.now (is 0 0 ∷ []) (number id ∷ []) (λ im. equal Binary (column im 0) (number id) && true) (λ r. refl) (λ x. x.id == id) (λ x. finds_number x.id id) k k.state.jobs refl h.rows
     (λ r. refl) means_select (state g old) (state g new) at.now h.shown)
     found h.read
 
-means_select_all : MeansSelect the_schema job SELECT_JOBS.now [] (columns_of job) (by 0) (names_of job)
-unfolding understood everything
-means_select_all = record { is = refl; unlisted = refl; plain = (refl, refl) }
-
-pub plain_select_all : IsPlain (understood the_schema SELECT_JOBS.now)
-plain_select_all = means_select_all.plain
-
-all_true : {A : Type 0} (xs : List A) → filter (λ x. true) xs ≡ xs
-all_true [] = refl
-all_true (x ∷ xs) = ap (λ l. x ∷ l) (all_true xs)
-
-pub jobs_found : {S : Type 0} (g : Ghosts S) (old new : Held S) (s : State) → IsAt g s old → (found : List Job) → ShowsRecords IsJobRow g SELECT_JOBS.now [] old new found → found ≡ s.jobs
-jobs_found g old new s at found h =
-    found_all IsJobRow job_row (λ x. true) s.jobs (λ x y there same. same_job x y same.0 same.2 (all_has _ s.jobs y at.now.inside.regular.specs there) (sym same.1)) h.rows
-    (shows_sorted job_row 4 job refl SELECT_JOBS.now [] [] (λ im. true) (λ r. refl) (λ x. true) (λ x. refl) s s.jobs refl h.rows 0 0 (λ r. refl) means_select_all
-    (rising_numbers (λ (x : Job). x.id) (λ x. true) s.jobs at.now.inside.regular.jobs) (state g old) (state g new) at.now h.shown)
-    found h.read
-    ∙ all_true s.jobs
-
-pub means_select_of : MeansSelect the_schema job SELECT_JOBS_OF.now (is 2 0 ∷ []) (col 1 0 ∷ []) [] (codes "id" ∷ [])
+pub means_select_of : MeansSelect the_schema job SELECT_JOBS_OF.now (is 2 0 ∷ []) (columns_of job) (by 0) (names_of job)
 unfolding understood everything
 means_select_of = record { is = refl; unlisted = refl; plain = (refl, refl) }
 
 abbrev pub refers_to_pipeline : Referring
-refers_to_pipeline = record { child = job; at = 4; there = refl; place = 2; text = SELECT_JOBS_OF.now; columns = col 1 0 ∷ []; order = []; names = codes "id" ∷ []; means = means_select_of }
+refers_to_pipeline = record { child = job; at = 4; there = refl; place = 2; text = SELECT_JOBS_OF.now; columns = columns_of job; order = by 0; names = names_of job; means = means_select_of }
+
+pub plain_select_of : IsPlain (understood the_schema SELECT_JOBS_OF.now)
+plain_select_of = means_select_of.plain
+
+pub jobs_found : {S : Type 0} (g : Ghosts S) (old new : Held S) (k : Kept) → IsAt g k old → (pipeline : ℕ) (found : List Job) → ShowsRecords IsJobRow g SELECT_JOBS_OF.now (number pipeline ∷ []) old new found → found ≡ jobs_of k.state pipeline
+jobs_found g old new k at pipeline found h =
+    found_all IsJobRow job_row (λ x. x.pipeline == pipeline) k.state.jobs (λ x y there same. same_job x y same.0 same.2 (all_has _ k.state.jobs y at.now.inside.regular.specs there) (sym same.1)) h.rows
+    (shows_sorted job_row 4 job refl SELECT_JOBS_OF.now (is 2 0 ∷ []) (number pipeline ∷ []) (λ im. equal Binary (column im 1) (number pipeline) && true) (λ r. refl) (λ x. x.pipeline == pipeline) (λ x. finds_number x.pipeline pipeline) k k.state.jobs refl h.rows
+    0 0 (λ r. refl) means_select_of (rising_numbers (λ (x : Job). x.id) (λ x. x.pipeline == pipeline) k.state.jobs at.now.inside.regular.jobs) (state g old) (state g new) at.now h.shown)
+    found h.read

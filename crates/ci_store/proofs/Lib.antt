@@ -7,11 +7,12 @@ mod Jobs
 mod Attempts
 mod JobVariables
 mod Pieces
+mod Needs
+mod Board
 mod Meta
 mod OneList
 mod Creates
 mod Fills
-mod JsonTexts
 mod Applied
 mod Committing
 mod Removals

@@ -1,6 +1,6 @@
 -- How loads meet one after the other.
 use Rattle.std.proofs.Common.{◌≡◌, Result, Ok, Err, IfOk, subst}
-use Rattle.ci_machine.specs.State.{State}
+use Rattle.ci_machine.specs.Kept.{Kept}
 use Rattle.ci_tables.specs.declared.fault.StoreFault.{StoreFault}
 use Rattle.ci_tables.specs.declared.fault.StoreFault.TheVariants.{Memory, Broken}
 use Rattle.ci_store.specs.Store.{LoadsBy, UnlessBroken}
@@ -18,54 +18,54 @@ pub if_ok : {A : Type 0} {P Q : A → Type 0} (r : Result A StoreFault) → ((x 
 if_ok (Ok x) f h = f x h
 if_ok (Err e) f h = tt
 
-module _ {T : Type 0} {honest : T → Type 0} {holds : T → State → Type 0} {leaves : T → State → State → Type 0} where
+module _ {T : Type 0} {honest : T → Type 0} {holds : T → Kept → Type 0} {leaves : T → Kept → Kept → Type 0} where
   -- an answer that follows from another
-  pub answered_so : {A : Type 0} {old new : T} {r : Result A StoreFault} {P Q : State → A → Type 0} → LoadsBy honest holds leaves old new r P → ((s : State) → holds old s → (x : A) → P s x → Q s x) → LoadsBy honest holds leaves old new r Q
+  pub answered_so : {A : Type 0} {old new : T} {r : Result A StoreFault} {P Q : Kept → A → Type 0} → LoadsBy honest holds leaves old new r P → ((k : Kept) → holds old k → (x : A) → P k x → Q k x) → LoadsBy honest holds leaves old new r Q
   answered_so {r = r} load so = record {
     was_honest = load.was_honest;
     kept = load.kept;
     left = load.left;
-    answered = λ clean s at. if_ok r (so s at) (load.answered clean s at);
+    answered = λ clean k at. if_ok r (so k at) (load.answered clean k at);
   }
 
   -- a load from the same store under another name
-  pub begun : {A : Type 0} {old before new : T} {r : Result A StoreFault} {P : State → A → Type 0} → old ≡ before → LoadsBy honest holds leaves old new r P → LoadsBy honest holds leaves before new r P
+  pub begun : {A : Type 0} {old before new : T} {r : Result A StoreFault} {P : Kept → A → Type 0} → old ≡ before → LoadsBy honest holds leaves old new r P → LoadsBy honest holds leaves before new r P
   begun {new = new} {r = r} {P = P} same load = subst (λ t. LoadsBy honest holds leaves t new r P) same load
 
   -- what is made of the answer of a load, without the store
-  pub after_ok : {A B : Type 0} {old new : T} {x : A} {P : State → A → Type 0} {Q : State → B → Type 0} (r : Result B StoreFault) → LoadsBy honest holds leaves old new (Ok x) P → ((s : State) → holds old s → P s x → IfOk r (Q s))
+  pub after_ok : {A B : Type 0} {old new : T} {x : A} {P : Kept → A → Type 0} {Q : Kept → B → Type 0} (r : Result B StoreFault) → LoadsBy honest holds leaves old new (Ok x) P → ((k : Kept) → holds old k → P k x → IfOk r (Q k))
       → LoadsBy honest holds leaves old new r Q
   after_ok r load so = record {
     was_honest = load.was_honest;
-    kept = λ clean s at. unless_broken r (load.kept clean s at);
+    kept = λ clean k at. unless_broken r (load.kept clean k at);
     left = load.left;
-    answered = λ clean s at. so s at (load.answered clean s at);
+    answered = λ clean k at. so k at (load.answered clean k at);
   }
 
   -- the fault of a load is that of the call
-  pub after_err : {A B : Type 0} {old new : T} {P : State → A → Type 0} {Q : State → B → Type 0} (fault : StoreFault) → LoadsBy honest holds leaves old new (Err fault) P → LoadsBy honest holds leaves old new (Err fault) Q
+  pub after_err : {A B : Type 0} {old new : T} {P : Kept → A → Type 0} {Q : Kept → B → Type 0} (fault : StoreFault) → LoadsBy honest holds leaves old new (Err fault) P → LoadsBy honest holds leaves old new (Err fault) Q
   after_err {A = A} {B = B} {new = new} fault load = record {
     was_honest = load.was_honest;
-    kept = λ clean s at. same_fault A B (holds new s) fault (load.kept clean s at);
+    kept = λ clean k at. same_fault A B (holds new k) fault (load.kept clean k at);
     left = load.left;
-    answered = λ clean s at. tt;
+    answered = λ clean k at. tt;
   }
 
   -- a load after a load
-  pub after_load : {A B : Type 0} {old mid new : T} {x : A} {P : State → A → Type 0} {Q R : State → B → Type 0} {r : Result B StoreFault} → LoadsBy honest holds leaves old mid (Ok x) P → LoadsBy honest holds leaves mid new r Q
-      → ((s : State) → holds old s → P s x → (y : B) → Q s y → R s y) → LoadsBy honest holds leaves old new r R
+  pub after_load : {A B : Type 0} {old mid new : T} {x : A} {P : Kept → A → Type 0} {Q R : Kept → B → Type 0} {r : Result B StoreFault} → LoadsBy honest holds leaves old mid (Ok x) P → LoadsBy honest holds leaves mid new r Q
+      → ((k : Kept) → holds old k → P k x → (y : B) → Q k y → R k y) → LoadsBy honest holds leaves old new r R
   after_load {r = r} first second so = record {
     was_honest = λ clean. first.was_honest (second.was_honest clean);
-    kept = λ clean s at. second.kept clean s (first.kept (second.was_honest clean) s at);
-    left = λ clean s at. second.left clean s (first.kept (second.was_honest clean) s at);
-    answered = λ clean s at. if_ok r (so s at (first.answered (second.was_honest clean) s at)) (second.answered clean s (first.kept (second.was_honest clean) s at));
+    kept = λ clean k at. second.kept clean k (first.kept (second.was_honest clean) k at);
+    left = λ clean k at. second.left clean k (first.kept (second.was_honest clean) k at);
+    answered = λ clean k at. if_ok r (so k at (first.answered (second.was_honest clean) k at)) (second.answered clean k (first.kept (second.was_honest clean) k at));
   }
 
   -- a call that didn't get to the store
-  pub without_load : {B : Type 0} {Q : State → B → Type 0} (store : T) (fault : StoreFault) → ((s : State) → holds store s → leaves store s s) → LoadsBy honest holds leaves store store (Err fault) Q
+  pub without_load : {B : Type 0} {Q : Kept → B → Type 0} (store : T) (fault : StoreFault) → ((k : Kept) → holds store k → leaves store k k) → LoadsBy honest holds leaves store store (Err fault) Q
   without_load {B = B} store fault is_left = record {
     was_honest = λ clean. clean;
-    kept = λ clean s at. unless_broken {A = B} (Err fault) at;
-    left = λ clean s at. is_left s at;
-    answered = λ clean s at. tt;
+    kept = λ clean k at. unless_broken {A = B} (Err fault) at;
+    left = λ clean k at. is_left k at;
+    answered = λ clean k at. tt;
   }

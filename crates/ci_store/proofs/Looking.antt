@@ -9,7 +9,7 @@ use Rattle.sqlite.specs.State.{HasCleanDisk, Survives}
 use Rattle.sqlite.specs.Store.{Ghosts}
 use Rattle.sqlite.specs.Held.{Held, state}
 use Rattle.sqlite_trees.specs.View.{doubt}
-use Rattle.ci_machine.specs.State.{State}
+use Rattle.ci_machine.specs.Kept.{Kept}
 use Rattle.ci_tables.specs.declared.fault.StoreFault.{StoreFault}
 use Rattle.ci_tables.specs.declared.fault.StoreFault.TheVariants.{Memory, Broken}
 use Rattle.ci_store.specs.Schema.{the_schema}
@@ -19,34 +19,34 @@ use Rattle.ci_store.specs.Store.{Ends}
 use Rattle.ci_store.proofs.Loading.{unless_broken, without_load}
 
 -- a call that didn't get to the tables
-pub no_look : {S A : Type 0} (g : Ghosts S) (h : Held S) (fault : StoreFault) (Q : State → A → Type 0) → Loads g h h (Err fault) Q
-no_look g h fault Q = without_load h fault (λ s at db may. inl (at.left db may))
+pub no_look : {S A : Type 0} (g : Ghosts S) (h : Held S) (fault : StoreFault) (Q : Kept → A → Type 0) → Loads g h h (Err fault) Q
+no_look g h fault Q = without_load h fault (λ k at db may. inl (at.left db may))
 
 module _ {S : Type 0} (g : Ghosts S) (old mid : Held S) (sql : List ℕ) (plain : IsPlain (understood the_schema sql))
     (survives : HasCleanDisk (state g mid) → IsPlain (understood (state g old).now.schema sql) → Survives (state g old) (state g mid) (λ _. ⊥)) where
   -- a query leaves what a stop may leave
-  still_left : HasCleanDisk (state g mid) → (s : State) → IsAt g s old → LeavesOnly g s mid
-  still_left clean s at db may =
+  still_left : HasCleanDisk (state g mid) → (k : Kept) → IsAt g k old → LeavesOnly g k mid
+  still_left clean k at db may =
       let here = subst (λ (schema : Schema). IsPlain (understood schema sql)) (sym at.now.listed) plain in
       ⊎_elim (at.left db) (λ x. absurd x) ((survives clean here).crash clean db may)
 
   -- where the store failed, the tables hold what they held if the connection is open still
-  pub looks_in_vain : {A : Type 0} (new : Held S) (fault : StoreFault) (Q : State → A → Type 0) → doubt (state g old).is_clean ≤ doubt (state g mid).is_clean → doubt (state g mid).is_clean ≤ doubt (state g new).is_clean
-      → (HasCleanDisk (state g new) → (s : State) → LeavesOnly g s mid → LeavesOnly g s new) → (HasCleanDisk (state g new) → (s : State) → LeavesOnly g s mid → IsAt g s new) → Loads g old new (Err fault) Q
+  pub looks_in_vain : {A : Type 0} (new : Held S) (fault : StoreFault) (Q : Kept → A → Type 0) → doubt (state g old).is_clean ≤ doubt (state g mid).is_clean → doubt (state g mid).is_clean ≤ doubt (state g new).is_clean
+      → (HasCleanDisk (state g new) → (k : Kept) → LeavesOnly g k mid → LeavesOnly g k new) → (HasCleanDisk (state g new) → (k : Kept) → LeavesOnly g k mid → IsAt g k new) → Loads g old new (Err fault) Q
   looks_in_vain {A = A} new fault Q first second left intact = record {
     was_honest = λ clean. omega (arith, first, second, clean);
-    kept = λ clean s at. unless_broken {A = A} (Err fault) (intact clean s (still_left (omega (arith, clean, second)) s at));
-    left = λ clean s at db may. inl (left clean s (still_left (omega (arith, clean, second)) s at) db may);
-    answered = λ clean s at. tt;
+    kept = λ clean k at. unless_broken {A = A} (Err fault) (intact clean k (still_left (omega (arith, clean, second)) k at));
+    left = λ clean k at db may. inl (left clean k (still_left (omega (arith, clean, second)) k at) db may);
+    answered = λ clean k at. tt;
   }
 
-  pub fails : {A : Type 0} (new : Held S) (Q : State → A → Type 0) → doubt (state g old).is_clean ≤ doubt (state g mid).is_clean → doubt (state g mid).is_clean ≤ doubt (state g new).is_clean
-      → (HasCleanDisk (state g new) → (s : State) → LeavesOnly g s mid → LeavesOnly g s new) → Loads g old new (Err Broken) Q
+  pub fails : {A : Type 0} (new : Held S) (Q : Kept → A → Type 0) → doubt (state g old).is_clean ≤ doubt (state g mid).is_clean → doubt (state g mid).is_clean ≤ doubt (state g new).is_clean
+      → (HasCleanDisk (state g new) → (k : Kept) → LeavesOnly g k mid → LeavesOnly g k new) → Loads g old new (Err Broken) Q
   fails new Q first second left = record {
     was_honest = λ clean. omega (arith, first, second, clean);
-    kept = λ clean s at. tt;
-    left = λ clean s at db may. inl (left clean s (still_left (omega (arith, clean, second)) s at) db may);
-    answered = λ clean s at. tt;
+    kept = λ clean k at. tt;
+    left = λ clean k at db may. inl (left clean k (still_left (omega (arith, clean, second)) k at) db may);
+    answered = λ clean k at. tt;
   }
 
 -- what is said of a call that ended well, by what else is said of it
@@ -76,8 +76,8 @@ by_params {is_row = is_row} {g = g} {sql = sql} {old = old} {new = new} {found =
 
 -- ---- a commit
 
-pub ends : {S A : Type 0} (g : Ghosts S) (old new : Held S) (result : Result A StoreFault) (after : State → State) (s : State) → IsAt g s old → OnOk result ((s : State) → IsAt g s old → IsAt g (after s) new)
-    → (result ≡ Err Memory → IsAt g s new) → LeavesEither g s (after s) new → Ends result (IsAt g (after s) new) (IsAt g s new) (LeavesEither g s (after s) new)
-ends g old new (Ok x) after s at done kept left = done s at
-ends g old new (Err Memory) after s at done kept left = kept refl
-ends g old new (Err Broken) after s at done kept left = left
+pub ends : {S A : Type 0} (g : Ghosts S) (old new : Held S) (result : Result A StoreFault) (after : Kept → Kept) (k : Kept) → IsAt g k old → OnOk result ((k : Kept) → IsAt g k old → IsAt g (after k) new)
+    → (result ≡ Err Memory → IsAt g k new) → LeavesEither g k (after k) new → Ends result (IsAt g (after k) new) (IsAt g k new) (LeavesEither g k (after k) new)
+ends g old new (Ok x) after k at done kept left = done k at
+ends g old new (Err Memory) after k at done kept left = kept refl
+ends g old new (Err Broken) after k at done kept left = left

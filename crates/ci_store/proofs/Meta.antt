@@ -17,7 +17,8 @@ use Rattle.sqlite_tied.specs.Compute.{everything}
 use Rattle.sqlite.specs.Listing.{understood}
 use Rattle.sqlite.specs.Store.{Ghosts}
 use Rattle.sqlite.specs.Held.{Held, state}
-use Rattle.ci_machine.specs.State.{State, with_next}
+use Rattle.ci_machine.specs.Kept.{Kept}
+use Rattle.ci_machine.specs.State.{with_next}
 use Rattle.ci_machine.specs.declared.records.Numbers.{Numbers}
 use Rattle.ci_machine.specs.declared.change.Counter.{Counter}
 use Rattle.ci_machine.specs.declared.change.Counter.TheVariants as counter
@@ -74,10 +75,10 @@ moved counter.Attempt n next =
     (meta_row (codes "format") 1128878163 ∷ meta_row (codes "version") 1 ∷ meta_row (codes "next_project") next.project ∷ meta_row (codes "next_runner") next.runner ∷ meta_row (codes "next_pipeline") next.pipeline
     ∷ meta_row (codes "next_job") next.job ∷ []) _ _)
 
-pub next_sets : {S : Type 0} (ghosts : Ghosts S) (before after : Held S) (c : Counter) (n : ℕ) (s : State) → Stands s (state ghosts before).now → Changes ghosts UPDATE_META.now (meta_row (counter_key c) n) 1 before after
-    → Stands (record s { next = with_next c n s.next }) (state ghosts after).now
-next_sets ghosts before after c n s stands h =
-    let t = record s { next = with_next c n s.next } in
-    after_it ghosts t after (regular_with_next s (with_next c n s.next) stands.inside.regular)
-    (updates_one the_schema 0 meta UPDATE_META.now INSERT_META.now (is 1 0 ∷ []) sets terms means (Text (counter_key c) ∷ []) (meta_row (counter_key c) n) (gives (counter_key c) n) (rows_of s) (rows_of t)
-    (alike_but [] (drop 1 (rows_by_tree s)) meta (meta_rows s.next) (meta_rows (with_next c n s.next))) (moved c n s.next) (state ghosts before) (state ghosts after) (before_it ghosts s before stands) h)
+pub next_sets : {S : Type 0} (ghosts : Ghosts S) (before after : Held S) (c : Counter) (n : ℕ) (k : Kept) → Stands k (state ghosts before).now → Changes ghosts UPDATE_META.now (meta_row (counter_key c) n) 1 before after
+    → Stands (record k { state = record k.state { next = with_next c n k.state.next } }) (state ghosts after).now
+next_sets ghosts before after c n k stands h =
+    let next = record k { state = record k.state { next = with_next c n k.state.next } } in
+    after_it ghosts next after (regular_with_next k (with_next c n k.state.next) stands.inside.regular)
+    (updates_one the_schema 0 meta UPDATE_META.now INSERT_META.now (is 1 0 ∷ []) sets terms means (Text (counter_key c) ∷ []) (meta_row (counter_key c) n) (gives (counter_key c) n) (rows_of k) (rows_of next)
+    (alike_but [] (drop 1 (rows_by_tree k)) meta (meta_rows k.state.next) (meta_rows (with_next c n k.state.next))) (moved c n k.state.next) (state ghosts before) (state ghosts after) (before_it ghosts k before stands) h)

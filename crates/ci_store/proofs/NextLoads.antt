@@ -8,7 +8,7 @@ use Rattle.sqlite.specs.State.{State as Seen, Shown}
 use Rattle.sqlite.specs.Listing.{understood}
 use Rattle.sqlite_tied.specs.Compute.{everything}
 use Rattle.sqlite.proofs.Callers.{IsPlain, one_permutation}
-use Rattle.ci_machine.specs.State.{State}
+use Rattle.ci_machine.specs.Kept.{Kept}
 use Rattle.ci_machine.specs.declared.records.Numbers.{Numbers}
 use Rattle.ci_machine.specs.declared.change.Counter.{Counter}
 use Rattle.ci_machine.specs.declared.change.Counter.TheVariants as counter
@@ -36,11 +36,11 @@ one_row counter.Pipeline next = refl
 one_row counter.Job next = refl
 one_row counter.Attempt next = refl
 
-pub next_found : (old new : Seen) (s : State) → Stands s old.now → (c : Counter) (rows : List Row) → Shown SELECT_META.now (Text (counter_key c) ∷ []) old new rows → rows ≡ meta_row (counter_key c) (next_of c s.next) ∷ []
-next_found old new s stands c rows h =
-    one_permutation (meta_row (counter_key c) (next_of c s.next)) rows
-    (subst (λ l. IsPermutation l rows) (one_row c s.next)
-    (selects the_schema meta SELECT_META.now (is 1 0 ∷ []) _ [] _ means_meta (Text (counter_key c) ∷ []) (has_key (Text (counter_key c) ∷ [])) (λ r. refl) (λ r. refl) old new (rows_of s meta.tree) rows stands.listed (held s old.now stands 0 meta refl) h))
+pub next_found : (old new : Seen) (k : Kept) → Stands k old.now → (c : Counter) (rows : List Row) → Shown SELECT_META.now (Text (counter_key c) ∷ []) old new rows → rows ≡ meta_row (counter_key c) (next_of c k.state.next) ∷ []
+next_found old new k stands c rows h =
+    one_permutation (meta_row (counter_key c) (next_of c k.state.next)) rows
+    (subst (λ l. IsPermutation l rows) (one_row c k.state.next)
+    (selects the_schema meta SELECT_META.now (is 1 0 ∷ []) _ [] _ means_meta (Text (counter_key c) ∷ []) (has_key (Text (counter_key c) ∷ [])) (λ r. refl) (λ r. refl) old new (rows_of k meta.tree) rows stands.listed (held k old.now stands 0 meta refl) h))
 
 pub number_read : (key : List ℕ) (m n : ℕ) (row : Row) → meta_row key n ≡ row → column row 1 ≡ Int (pos m) → m ≡ n
 number_read key m n row is read = let e : Int (pos n) ≡ Int (pos m) = ap (λ r. column r 1) is ∙ read in cc

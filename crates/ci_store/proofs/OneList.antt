@@ -1,21 +1,24 @@
--- One list of a state changes, and the others stay.
+-- One list of what is kept changes, and the others stay.
 use Rattle.std.proofs.Common.{rules, ◌≡◌, ◌≢◌, ◌==◌, ℕ, List, [], ◌∷◌, ◌++◌, if◌then◌else◌, Bool, true, false, Some, refl, ap, ne_eqb}
 use Rattle.std.specs.List.{AllByRecursion}
 use Rattle.sqlite.specs.Order.{Row}
 use Rattle.sqlite.specs.Table.{Table}
 use Rattle.sqlite_rules.proofs.ListLemmas.{all_from}
 use Rattle.serde_json.specs.Read.{read}
-use Rattle.ci_machine.specs.State.{State, project_cmp, runner_cmp, pipeline_cmp, job_cmp, job_variable_cmp, attempt_cmp, piece_cmp}
+use Rattle.ci_machine.specs.Kept.{Kept, row_cmp}
+use Rattle.ci_machine.specs.State.{project_cmp, runner_cmp, pipeline_cmp, job_cmp, job_variable_cmp, need_cmp, attempt_cmp, piece_cmp}
 use Rattle.ci_machine.specs.declared.records.Numbers.{Numbers}
 use Rattle.ci_machine.specs.declared.records.Project.{Project}
 use Rattle.ci_machine.specs.declared.records.Runner.{Runner}
 use Rattle.ci_machine.specs.declared.records.Pipeline.{Pipeline}
 use Rattle.ci_machine.specs.declared.records.Job.{Job}
 use Rattle.ci_machine.specs.declared.records.JobVariable.{JobVariable}
+use Rattle.ci_machine.specs.declared.records.Need.{Need}
 use Rattle.ci_machine.specs.declared.records.Attempt.{Attempt}
 use Rattle.ci_machine.specs.declared.records.Piece.{Piece}
+use Rattle.ci_machine.specs.declared.records.BoardRow.{BoardRow}
 use Rattle.ci_store.specs.Schema.{the_schema}
-use Rattle.ci_store.specs.JsonText.{tags_text, tags_data, spec_text, spec_data}
+use Rattle.ci_records.specs.JsonText.{tags_text, tags_data, spec_text, spec_data}
 use Rattle.ci_store.specs.Stands.{rows_at, Rises, IsRegular}
 
 -- ---- the rows of the other tables
@@ -38,26 +41,32 @@ alike_but before after table rows others = all_from (λ u. u.tree ≢ table.tree
 
 -- ---- what is regular still
 
-pub regular_with_next : (s : State) (next : Numbers) → IsRegular s → IsRegular (record s { next = next })
-regular_with_next s next o = search rules
+pub regular_with_next : (k : Kept) (next : Numbers) → IsRegular k → IsRegular (record k { state = record k.state { next = next } })
+regular_with_next k next o = search rules
 
-pub regular_with_projects : (s : State) (xs : List Project) → Rises project_cmp xs → IsRegular s → IsRegular (record s { projects = xs })
-regular_with_projects s xs up o = search rules
+pub regular_with_projects : (k : Kept) (xs : List Project) → Rises project_cmp xs → IsRegular k → IsRegular (record k { state = record k.state { projects = xs } })
+regular_with_projects k xs up o = search rules
 
-pub regular_with_runners : (s : State) (xs : List Runner) → Rises runner_cmp xs → AllByRecursion (λ r. read (tags_text r.tags) ≡ Some (tags_data r.tags)) xs → IsRegular s → IsRegular (record s { runners = xs })
-regular_with_runners s xs up back o = search rules
+pub regular_with_runners : (k : Kept) (xs : List Runner) → Rises runner_cmp xs → AllByRecursion (λ r. read (tags_text r.tags) ≡ Some (tags_data r.tags)) xs → IsRegular k → IsRegular (record k { state = record k.state { runners = xs } })
+regular_with_runners k xs up back o = search rules
 
-pub regular_with_pipelines : (s : State) (xs : List Pipeline) → Rises pipeline_cmp xs → IsRegular s → IsRegular (record s { pipelines = xs })
-regular_with_pipelines s xs up o = search rules
+pub regular_with_pipelines : (k : Kept) (xs : List Pipeline) → Rises pipeline_cmp xs → IsRegular k → IsRegular (record k { state = record k.state { pipelines = xs } })
+regular_with_pipelines k xs up o = search rules
 
-pub regular_with_jobs : (s : State) (xs : List Job) → Rises job_cmp xs → AllByRecursion (λ j. read (spec_text j.options) ≡ Some (spec_data j.options)) xs → IsRegular s → IsRegular (record s { jobs = xs })
-regular_with_jobs s xs up back o = search rules
+pub regular_with_jobs : (k : Kept) (xs : List Job) → Rises job_cmp xs → AllByRecursion (λ j. read (spec_text j.options) ≡ Some (spec_data j.options)) xs → IsRegular k → IsRegular (record k { state = record k.state { jobs = xs } })
+regular_with_jobs k xs up back o = search rules
 
-pub regular_with_job_variables : (s : State) (xs : List JobVariable) → Rises job_variable_cmp xs → IsRegular s → IsRegular (record s { job_variables = xs })
-regular_with_job_variables s xs up o = search rules
+pub regular_with_job_variables : (k : Kept) (xs : List JobVariable) → Rises job_variable_cmp xs → IsRegular k → IsRegular (record k { state = record k.state { job_variables = xs } })
+regular_with_job_variables k xs up o = search rules
 
-pub regular_with_attempts : (s : State) (xs : List Attempt) → Rises attempt_cmp xs → IsRegular s → IsRegular (record s { attempts = xs })
-regular_with_attempts s xs up o = search rules
+pub regular_with_needs : (k : Kept) (xs : List Need) → Rises need_cmp xs → IsRegular k → IsRegular (record k { state = record k.state { needs = xs } })
+regular_with_needs k xs up o = search rules
 
-pub regular_with_pieces : (s : State) (xs : List Piece) → Rises piece_cmp xs → IsRegular s → IsRegular (record s { pieces = xs })
-regular_with_pieces s xs up o = search rules
+pub regular_with_attempts : (k : Kept) (xs : List Attempt) → Rises attempt_cmp xs → IsRegular k → IsRegular (record k { state = record k.state { attempts = xs } })
+regular_with_attempts k xs up o = search rules
+
+pub regular_with_pieces : (k : Kept) (xs : List Piece) → Rises piece_cmp xs → IsRegular k → IsRegular (record k { state = record k.state { pieces = xs } })
+regular_with_pieces k xs up o = search rules
+
+pub regular_with_board : (k : Kept) (xs : List BoardRow) → Rises row_cmp xs → IsRegular k → IsRegular (record k { board = xs })
+regular_with_board k xs up o = search rules

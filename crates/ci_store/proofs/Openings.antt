@@ -18,7 +18,7 @@ use Rattle.sqlite_trees.specs.declared.error.StoreError.{StoreError}
 use Rattle.sqlite_trees.specs.declared.error.StoreError.TheVariants.{OutOfMemory, Io, Corrupt, Full, Broken as Closed, Unstorable}
 use Rattle.sqlite.specs.declared.error.Error.TheVariants.{SqlInputError}
 use Rattle.sqlite.proofs.Callers.{IsPlain, command_of, one_permutation}
-use Rattle.ci_machine.specs.State.{State}
+use Rattle.ci_machine.specs.Kept.{Kept}
 use Rattle.ci_machine.specs.declared.records.Numbers.{Numbers}
 use Rattle.ci_tables.specs.declared.fault.StoreFault.{StoreFault}
 use Rattle.ci_tables.specs.declared.fault.StoreFault.TheVariants.{Memory as Refused, Broken}
@@ -115,17 +115,17 @@ no_number (x ∷ y ∷ row) num none is = none (omega arith) (num, is)
 
 -- ---- a store that holds a state is of this format and version
 
-of_state : (s : State) (db : Database) → Stands s db → (key : List ℕ) (num : ℕ) → filter (has_key (Text key ∷ [])) (meta_rows s.next) ≡ meta_row key num ∷ [] → (rows : List Row) → SelectsMeta key rows db → rows ≡ meta_row key num ∷ []
-of_state s db stands key num one rows it =
+of_state : (k : Kept) (db : Database) → Stands k db → (key : List ℕ) (num : ℕ) → filter (has_key (Text key ∷ [])) (meta_rows k.state.next) ≡ meta_row key num ∷ [] → (rows : List Row) → SelectsMeta key rows db → rows ≡ meta_row key num ∷ []
+of_state k db stands key num one rows it =
     let known = sym it.is ∙ ap (λ (schema : Schema). understood schema SELECT_META.now) stands.listed in
     let source : it.source ≡ db = subst (λ b. IsSourceOf b db it.source) (ap (λ (schema : Schema). reads_listing schema SELECT_META.now) stands.listed ∙ means_meta.unlisted) it.from in
     let read = subst₂ (λ k d. Reads k d (Text key ∷ []) rows) (ap command_of known ∙ means_meta.is) source it.read in
     one_permutation (meta_row key num) rows
-    (subst (λ l. IsPermutation l rows) one (selects_of the_schema meta SELECT_META.now (is 1 0 ∷ []) _ [] _ means_meta (Text key ∷ []) (has_key (Text key ∷ [])) (λ r. refl) (λ r. refl) db (meta_rows s.next) rows (held s db stands 0 meta refl) read))
+    (subst (λ l. IsPermutation l rows) one (selects_of the_schema meta SELECT_META.now (is 1 0 ∷ []) _ [] _ means_meta (Text key ∷ []) (has_key (Text key ∷ [])) (λ r. refl) (λ r. refl) db (meta_rows k.state.next) rows (held k db stands 0 meta refl) read))
 
-never_lacks : (s : State) (db : Database) → Stands s db → (key : List ℕ) (num : ℕ) → filter (has_key (Text key ∷ [])) (meta_rows s.next) ≡ meta_row key num ∷ [] → ¬ LacksNumber key num db
-never_lacks s db stands key num one (inl bad) = subst IsPlain (ap (λ (schema : Schema). understood schema SELECT_META.now) (sym stands.listed) ∙ bad.1) plain_meta
-never_lacks s db stands key num one (inr it) = it.2 (meta_row key num, of_state s db stands key num one it.0 it.1, refl)
+never_lacks : (k : Kept) (db : Database) → Stands k db → (key : List ℕ) (num : ℕ) → filter (has_key (Text key ∷ [])) (meta_rows k.state.next) ≡ meta_row key num ∷ [] → ¬ LacksNumber key num db
+never_lacks k db stands key num one (inl bad) = subst IsPlain (ap (λ (schema : Schema). understood schema SELECT_META.now) (sym stands.listed) ∙ bad.1) plain_meta
+never_lacks k db stands key num one (inr it) = it.2 (meta_row key num, of_state k db stands key num one it.0 it.1, refl)
 
 format_row : (next : Numbers) → filter (has_key (Text (codes "format") ∷ [])) (meta_rows next) ≡ meta_row (codes "format") 1128878163 ∷ []
 unfolding binary value_cmp lib.Ieee.is_nan lib.Ieee.lt
@@ -135,11 +135,11 @@ version_row : (next : Numbers) → filter (has_key (Text (codes "version") ∷ [
 unfolding binary value_cmp lib.Ieee.is_nan lib.Ieee.lt
 version_row next = refl
 
-pub never_blamed : (s : State) (db : Database) → Stands s db → (fault : OpenFault) → Blames fault db → IsFailure fault
-never_blamed s db stands O1 lacks = never_lacks s db stands (codes "format") 1128878163 (format_row s.next) lacks
-never_blamed s db stands O2 h = never_lacks s db stands (codes "version") 1 (version_row s.next) h.1
-never_blamed s db stands O3 h = tt
-never_blamed s db stands Memory h = tt
+pub never_blamed : (k : Kept) (db : Database) → Stands k db → (fault : OpenFault) → Blames fault db → IsFailure fault
+never_blamed k db stands O1 lacks = never_lacks k db stands (codes "format") 1128878163 (format_row k.state.next) lacks
+never_blamed k db stands O2 h = never_lacks k db stands (codes "version") 1 (version_row k.state.next) h.1
+never_blamed k db stands O3 h = tt
+never_blamed k db stands Memory h = tt
 
 -- ---- faults of the store
 

@@ -15,7 +15,7 @@ use Rattle.sqlite.specs.Query.{output, output_cmp}
 use Rattle.sqlite.specs.Store.{Ghosts}
 use Rattle.sqlite.specs.Held.{Held, state}
 use Rattle.sqlite_keyed.proofs.ListLemmas.{filter_same}
-use Rattle.ci_machine.specs.State.{State}
+use Rattle.ci_machine.specs.Kept.{Kept}
 use Rattle.ci_tables.specs.Stands.{has_key, image, places}
 use Rattle.ci_tables.proofs.Queries.{query, picks}
 use Rattle.ci_tables.proofs.Writes.{IsWholeStep}
@@ -51,12 +51,12 @@ agrees r new_row x y z is =
 
 module _ {S : Type 0} (g : Ghosts S) (old new : Held S) {A : Type 0} (values : A → Row) (at : ℕ) (table : Table) where
   -- the removal of a record by its key, where no table refers to it
-  pub removed_owned : (test : A → Bool) (xs : List A) (key : Row) (s t : State) → rows_of s table.tree ≡ map values xs → rows_of t table.tree ≡ map values (filter (λ x. not (test x)) xs) → IsAlike (rows_of s) (rows_of t) table
-      → (IsRegular s → IsRegular t) → ((x : A) → has_key key (values x) ≡ test x) → ((r : Row) → picks tests key r ≡ has_key key (image (places table) r))
+  pub removed_owned : (test : A → Bool) (xs : List A) (key : Row) (k next : Kept) → rows_of k table.tree ≡ map values xs → rows_of next table.tree ≡ map values (filter (λ x. not (test x)) xs) → IsAlike (rows_of k) (rows_of next) table
+      → (IsRegular k → IsRegular next) → ((x : A) → has_key key (values x) ≡ test x) → ((r : Row) → picks tests key r ≡ has_key key (image (places table) r))
       → (delete : List ℕ) → MeansRemove the_schema at table delete tests → ((params : Row) (db : Trees) → IsWholeStep the_schema table tests params db)
-      → Stands s (state g old).now → RemovesUnreferred g [] delete key old new → Stands t (state g new).now
-  removed_owned test xs key s t was gone alike regular keyed tested delete means whole stands h =
-      remove_stands values xs s t table was alike (regular stands.inside.regular) at delete tests means key tested test keyed gone g h.mid new h.count (subst (λ h. Stands s (state g h).now) h.none stands) (whole key (state g h.mid).now.trees) h.removed
+      → Stands k (state g old).now → RemovesUnreferred g [] delete key old new → Stands next (state g new).now
+  removed_owned test xs key k next was gone alike regular keyed tested delete means whole stands h =
+      remove_stands values xs k next table was alike (regular stands.inside.regular) at delete tests means key tested test keyed gone g h.mid new h.count (subst (λ h. Stands k (state g h).now) h.none stands) (whole key (state g h.mid).now.trees) h.removed
 
   -- the records of an owner, which a query shows in the order of the second column
   pub owned_found : (owner : A → ℕ) (second : A → A → Ordering) → ((x y : A) → values x ≡ values y → x ≡ y) → slice_get the_schema.tables at ≡ Some table
@@ -65,11 +65,11 @@ module _ {S : Type 0} (g : Ghosts S) (old new : Held S) {A : Type 0} (values : A
       → ((n : ℕ) (x : A) → (equal Binary (column (values x) 0) (number n) && true) ≡ is_eq (nat_cmp (owner x) n))
       → ((n : ℕ) (r : Row) → output (query table.tree (is 1 0 ∷ []) (columns_of table) (by 2)) ((number n ∷ []) ∷ r ∷ []) ≡ pair 1 (image (places table) r))
       → ((x y : A) → second x y ≡ Less → output_cmp (query table.tree (is 1 0 ∷ []) (columns_of table) (by 2)) (pair 1 (values x)) (pair 1 (values y)) ≡ Less)
-      → (s : State) (xs : List A) → rows_of s table.tree ≡ map values xs → IsAt g s old → Rises (λ x y. ordering_then (nat_cmp (owner x) (owner y)) (second x y)) xs
+      → (k : Kept) (xs : List A) → rows_of k table.tree ≡ map values xs → IsAt g k old → Rises (λ x y. ordering_then (nat_cmp (owner x) (owner y)) (second x y)) xs
       → (n : ℕ) (found : List A) → ShowsRecords (λ row x. row ≡ values x) g text (number n ∷ []) old new found → found ≡ filter (λ x. owner x == n) xs
-  owned_found owner second same there text means tested owned paired lower s xs was at_s rises n found h =
+  owned_found owner second same there text means tested owned paired lower k xs was at_s rises n found h =
       found_all (λ row x. row ≡ values x) values (λ x. is_eq (nat_cmp (owner x) n)) xs (λ x y _ is. sym (same y x is)) h.rows
-      (shows_sorted values at table there text (is 1 0 ∷ []) (number n ∷ []) (λ im. equal Binary (column im 0) (number n) && true) (tested n) (λ x. is_eq (nat_cmp (owner x) n)) (owned n) s xs was h.rows 2 1 (paired n) means
+      (shows_sorted values at table there text (is 1 0 ∷ []) (number n ∷ []) (λ im. equal Binary (column im 0) (number n) && true) (tested n) (λ x. is_eq (nat_cmp (owner x) n)) (owned n) k xs was h.rows 2 1 (paired n) means
       (rise_within owner second (λ x y. output_cmp (query table.tree (is 1 0 ∷ []) (columns_of table) (by 2)) (pair 1 (values x)) (pair 1 (values y)) ≡ Less) lower n xs rises) (state g old) (state g new) at_s.now h.shown)
       found h.read
       ∙ filter_same _ _ (λ x. is_number (owner x) n) xs

@@ -14,7 +14,8 @@ use Rattle.sqlite.specs.Listing.{understood}
 use Rattle.sqlite.specs.Store.{Ghosts}
 use Rattle.sqlite.specs.Held.{Held, state}
 use Rattle.sqlite_keyed.proofs.ListLemmas.{ascending-filter}
-use Rattle.ci_machine.specs.State.{State, with_record, without_record, piece_cmp}
+use Rattle.ci_machine.specs.Kept.{Kept}
+use Rattle.ci_machine.specs.State.{with_record, without_record, piece_cmp}
 use Rattle.ci_machine.specs.declared.records.Piece.{Piece}
 use Rattle.ci_machine.specs.declared.change.Record.TheVariants as row
 use Rattle.ci_machine.specs.declared.change.Key.TheVariants as key
@@ -37,7 +38,7 @@ use Rattle.ci_store.proofs.Owned.{tests, sets, terms, unnumbered, agrees, remove
 use Rattle.ci_store.proofs.Shows.{columns_of, names_of, by, rising_number}
 use Rattle.ci_machine.specs.Step.{pieces_of}
 use Rattle.ci_store.proofs.Removals.{Referring}
-use Rattle.ci_store.specs.Commit.{RemovesUnreferred}
+use Rattle.ci_store.specs.Commit.{in_state, RemovesUnreferred}
 
 means : MeansPut the_schema 7 piece UPDATE_PIECE.now INSERT_PIECE.now tests sets terms
 unfolding understood everything
@@ -60,13 +61,13 @@ same_key : (attempt seq : ℕ) (q : Piece) → (equal Binary (number q.attempt) 
 same_key attempt seq q = (λ i. equal_int q.attempt attempt i && (equal_int q.seq seq i && true)) ∙ both_equal (nat_cmp q.attempt attempt) (nat_cmp q.seq seq)
 
 -- the other tables have the rows that they had
-alike : (s : State) (xs : List Piece) → IsAlike (rows_of s) (rows_of (record s { pieces = xs })) piece
-alike s xs = alike_but (take 7 (rows_by_tree s)) (drop 8 (rows_by_tree s)) piece (map piece_row s.pieces) (map piece_row xs)
+alike : (k : Kept) (xs : List Piece) → IsAlike (rows_of k) (rows_of (record k { state = record k.state { pieces = xs } })) piece
+alike k xs = alike_but (take 7 (rows_by_tree k)) (drop 8 (rows_by_tree k)) piece (map piece_row k.state.pieces) (map piece_row xs)
 
-pub piece_puts : {S : Type 0} (ghosts : Ghosts S) (before after : Held S) (p : Piece) (s : State) → Stands s (state ghosts before).now → HasPut ghosts UPDATE_PIECE.now INSERT_PIECE.now (piece_row p) before after
-    → Stands (with_record (row.Piece p) s) (state ghosts after).now
-piece_puts ghosts before after p s stands h =
-    put_stands piece_row s.pieces s (with_record (row.Piece p) s) piece refl (alike s _) (regular_with_pieces s _ (put_rises piece_cmp (by_two (λ (q : Piece). q.attempt) (λ q. q.seq)) p s.pieces stands.inside.regular.pieces) stands.inside.regular)
+pub piece_puts : {S : Type 0} (ghosts : Ghosts S) (before after : Held S) (p : Piece) (k : Kept) → Stands k (state ghosts before).now → HasPut ghosts UPDATE_PIECE.now INSERT_PIECE.now (piece_row p) before after
+    → Stands (in_state (with_record (row.Piece p)) k) (state ghosts after).now
+piece_puts ghosts before after p k stands h =
+    put_stands piece_row k.state.pieces k (in_state (with_record (row.Piece p)) k) piece refl (alike k _) (regular_with_pieces k _ (put_rises piece_cmp (by_two (λ (q : Piece). q.attempt) (λ q. q.seq)) p k.state.pieces stands.inside.regular.pieces) stands.inside.regular)
     7 UPDATE_PIECE.now INSERT_PIECE.now tests sets terms means piece_cmp (key_of p.attempt p.seq) p (gives p) (same_key p.attempt p.seq) refl ghosts before after stands h
 
 means_remove : MeansRemove the_schema 7 piece DELETE_PIECE.now tests
@@ -77,9 +78,9 @@ whole : (params : Row) (db : Trees) → IsWholeStep the_schema piece tests param
 unfolding everything
 whole params db = whole_if_alone the_schema piece tests params db (λ olds. refl)
 
-pub piece_removed : {S : Type 0} (g : Ghosts S) (old new : Held S) (attempt : ℕ) (seq : ℕ) (s : State) → Stands s (state g old).now → RemovesUnreferred g [] DELETE_PIECE.now (key_of attempt seq) old new → Stands (without_record (key.Piece attempt seq) s) (state g new).now
-piece_removed g old new attempt seq s =
-    removed_owned g old new piece_row 7 piece (λ q. is_eq (ordering_then (nat_cmp q.attempt attempt) (nat_cmp q.seq seq))) s.pieces (key_of attempt seq) s (without_record (key.Piece attempt seq) s) refl refl (alike s _) (λ o. regular_with_pieces s _ (ascending-filter _ _ s.pieces o.pieces) o) (same_key attempt seq) (λ r. refl)
+pub piece_removed : {S : Type 0} (g : Ghosts S) (old new : Held S) (attempt : ℕ) (seq : ℕ) (k : Kept) → Stands k (state g old).now → RemovesUnreferred g [] DELETE_PIECE.now (key_of attempt seq) old new → Stands (in_state (without_record (key.Piece attempt seq)) k) (state g new).now
+piece_removed g old new attempt seq k =
+    removed_owned g old new piece_row 7 piece (λ q. is_eq (ordering_then (nat_cmp q.attempt attempt) (nat_cmp q.seq seq))) k.state.pieces (key_of attempt seq) k (in_state (without_record (key.Piece attempt seq)) k) refl refl (alike k _) (λ o. regular_with_pieces k _ (ascending-filter _ _ k.state.pieces o.pieces) o) (same_key attempt seq) (λ r. refl)
     DELETE_PIECE.now means_remove whole
 
 -- ---- two records with the same row
@@ -103,6 +104,6 @@ refers_to_attempt = record { child = piece; at = 7; there = refl; place = 1; tex
 pub plain_select_of : IsPlain (understood the_schema SELECT_PIECES.now)
 plain_select_of = means_select_of.plain
 
-pub pieces_found : {S : Type 0} (g : Ghosts S) (old new : Held S) (s : State) → IsAt g s old → (owner : ℕ) (found : List Piece) → ShowsRecords (λ row x. row ≡ piece_row x) g SELECT_PIECES.now (number owner ∷ []) old new found → found ≡ pieces_of s owner
-pieces_found g old new s at =
-    owned_found g old new piece_row 7 piece (λ x. x.attempt) (λ x y. nat_cmp x.seq y.seq) same_piece refl SELECT_PIECES.now means_select_of (λ n r. refl) (λ n x. same_number x.attempt n) (λ n r. refl) (λ x y low. rising_number x.seq y.seq low) s s.pieces refl at at.now.inside.regular.pieces
+pub pieces_found : {S : Type 0} (g : Ghosts S) (old new : Held S) (k : Kept) → IsAt g k old → (owner : ℕ) (found : List Piece) → ShowsRecords (λ row x. row ≡ piece_row x) g SELECT_PIECES.now (number owner ∷ []) old new found → found ≡ pieces_of k.state owner
+pieces_found g old new k at =
+    owned_found g old new piece_row 7 piece (λ x. x.attempt) (λ x y. nat_cmp x.seq y.seq) same_piece refl SELECT_PIECES.now means_select_of (λ n r. refl) (λ n x. same_number x.attempt n) (λ n r. refl) (λ x y low. rising_number x.seq y.seq low) k k.state.pieces refl at at.now.inside.regular.pieces

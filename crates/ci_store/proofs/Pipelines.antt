@@ -8,7 +8,8 @@ use Rattle.sqlite.specs.Listing.{understood}
 use Rattle.sqlite.specs.Store.{Ghosts}
 use Rattle.sqlite.specs.Held.{Held, state}
 use Rattle.sqlite_keyed.proofs.ListLemmas.{ascending-filter}
-use Rattle.ci_machine.specs.State.{State, with_record, without_record, pipeline_cmp}
+use Rattle.ci_machine.specs.Kept.{Kept}
+use Rattle.ci_machine.specs.State.{with_record, without_record, pipeline_cmp}
 use Rattle.ci_machine.specs.declared.records.Pipeline.{Pipeline}
 use Rattle.ci_machine.specs.declared.change.Record.TheVariants as row
 use Rattle.ci_machine.specs.declared.change.Key.TheVariants as key
@@ -35,7 +36,7 @@ use Rattle.std.specs.List.{list_any}
 use Rattle.sqlite_value.specs.Keys.{plain, joined}
 use Rattle.sqlite_schema.specs.declared.schema.Keys.TheVariants.{Enforced}
 use Rattle.sqlite_rules.specs.Action.{works, pairs, loses}
-use Rattle.ci_store.specs.Commit.{RemovesUnreferred}
+use Rattle.ci_store.specs.Commit.{in_state, RemovesUnreferred}
 use Rattle.ci_store.proofs.Removals.{queries, cascades, removed_numbered}
 use Rattle.ci_store.proofs.Jobs.{refers_to_pipeline}
 use Rattle.ci_machine.specs.declared.records.RefKind.{RefKind}
@@ -60,13 +61,13 @@ gives p = record {
 }
 
 -- the other tables have the rows that they had
-alike : (s : State) (xs : List Pipeline) → IsAlike (rows_of s) (rows_of (record s { pipelines = xs })) pipeline
-alike s xs = alike_but (take 3 (rows_by_tree s)) (drop 4 (rows_by_tree s)) pipeline (map pipeline_row s.pipelines) (map pipeline_row xs)
+alike : (k : Kept) (xs : List Pipeline) → IsAlike (rows_of k) (rows_of (record k { state = record k.state { pipelines = xs } })) pipeline
+alike k xs = alike_but (take 3 (rows_by_tree k)) (drop 4 (rows_by_tree k)) pipeline (map pipeline_row k.state.pipelines) (map pipeline_row xs)
 
-pub pipeline_puts : {S : Type 0} (ghosts : Ghosts S) (before after : Held S) (p : Pipeline) (s : State) → Stands s (state ghosts before).now → HasPut ghosts UPDATE_PIPELINE.now INSERT_PIPELINE.now (pipeline_row p) before after
-    → Stands (with_record (row.Pipeline p) s) (state ghosts after).now
-pipeline_puts ghosts before after p s stands h =
-    put_stands pipeline_row s.pipelines s (with_record (row.Pipeline p) s) pipeline refl (alike s _) (regular_with_pipelines s _ (put_rises pipeline_cmp (by_number (λ (q : Pipeline). q.id)) p s.pipelines stands.inside.regular.pipelines) stands.inside.regular)
+pub pipeline_puts : {S : Type 0} (ghosts : Ghosts S) (before after : Held S) (p : Pipeline) (k : Kept) → Stands k (state ghosts before).now → HasPut ghosts UPDATE_PIPELINE.now INSERT_PIPELINE.now (pipeline_row p) before after
+    → Stands (in_state (with_record (row.Pipeline p)) k) (state ghosts after).now
+pipeline_puts ghosts before after p k stands h =
+    put_stands pipeline_row k.state.pipelines k (in_state (with_record (row.Pipeline p)) k) pipeline refl (alike k _) (regular_with_pipelines k _ (put_rises pipeline_cmp (by_number (λ (q : Pipeline). q.id)) p k.state.pipelines stands.inside.regular.pipelines) stands.inside.regular)
     3 UPDATE_PIPELINE.now INSERT_PIPELINE.now (is 0 0 ∷ []) sets sets means pipeline_cmp (number p.id ∷ []) p (gives p) (λ q. same_number q.id p.id) refl ghosts before after stands h
 
 means_remove : MeansRemove the_schema 3 pipeline DELETE_PIPELINE.now (is 0 0 ∷ [])
@@ -78,9 +79,9 @@ works_are : (olds : List Row) → works the_schema Enforced 0 pipeline.tree olds
 unfolding everything joined
 works_are olds = refl
 
-pub pipeline_removed : {S : Type 0} (g : Ghosts S) (old new : Held S) (id : ℕ) (s : State) → Stands s (state g old).now → RemovesUnreferred g (queries (refers_to_pipeline ∷ [])) DELETE_PIPELINE.now (number id ∷ []) old new → Stands (without_record (key.Pipeline id) s) (state g new).now
-pipeline_removed g old new id s =
-    removed_numbered g old new pipeline_row (λ q. q.id) s.pipelines id s (without_record (key.Pipeline id) s) 3 pipeline refl refl refl (alike s _) (λ o. regular_with_pipelines s _ (ascending-filter _ _ s.pipelines o.pipelines) o) (λ q. same_number q.id id) (λ r. refl)
+pub pipeline_removed : {S : Type 0} (g : Ghosts S) (old new : Held S) (id : ℕ) (k : Kept) → Stands k (state g old).now → RemovesUnreferred g (queries (refers_to_pipeline ∷ [])) DELETE_PIPELINE.now (number id ∷ []) old new → Stands (in_state (without_record (key.Pipeline id)) k) (state g new).now
+pipeline_removed g old new id k =
+    removed_numbered g old new pipeline_row (λ q. q.id) k.state.pipelines id k (in_state (without_record (key.Pipeline id)) k) 3 pipeline refl refl refl (alike k _) (λ o. regular_with_pipelines k _ (ascending-filter _ _ k.state.pipelines o.pipelines) o) (λ q. same_number q.id id) (λ r. refl)
     DELETE_PIPELINE.now means_remove (codes "pipeline") (refers_to_pipeline ∷ []) works_are (λ e. absurd cc, tt)
 
 -- ---- two records with the same row
@@ -123,9 +124,9 @@ means_select = record { is = refl; unlisted = refl; plain = (refl, refl) }
 pub plain_select : IsPlain (understood the_schema SELECT_PIPELINE.now)
 plain_select = means_select.plain
 
-pub pipeline_found : {S : Type 0} (g : Ghosts S) (old new : Held S) (s : State) → IsAt g s old → (id : ℕ) (found : Option Pipeline) → ShowsRecords (λ row x. row ≡ pipeline_row x) g SELECT_PIPELINE.now (number id ∷ []) old new (listed found) → found ≡ pipeline_at s id
-pipeline_found g old new s at id found h =
-    found_one (λ row x. row ≡ pipeline_row x) pipeline_row (λ x. x.id == id) s.pipelines (λ x y _ same. sym (same_pipeline y x same)) h.rows
-    (shows_passing pipeline_row 3 pipeline refl SELECT_PIPELINE.now (is 0 0 ∷ []) (number id ∷ []) (λ im. equal Binary (column im 0) (number id) && true) (λ r. refl) (λ x. x.id == id) (λ x. finds_number x.id id) s s.pipelines refl h.rows
+pub pipeline_found : {S : Type 0} (g : Ghosts S) (old new : Held S) (k : Kept) → IsAt g k old → (id : ℕ) (found : Option Pipeline) → ShowsRecords (λ row x. row ≡ pipeline_row x) g SELECT_PIPELINE.now (number id ∷ []) old new (listed found) → found ≡ pipeline_at k.state id
+pipeline_found g old new k at id found h =
+    found_one (λ row x. row ≡ pipeline_row x) pipeline_row (λ x. x.id == id) k.state.pipelines (λ x y _ same. sym (same_pipeline y x same)) h.rows
+    (shows_passing pipeline_row 3 pipeline refl SELECT_PIPELINE.now (is 0 0 ∷ []) (number id ∷ []) (λ im. equal Binary (column im 0) (number id) && true) (λ r. refl) (λ x. x.id == id) (λ x. finds_number x.id id) k k.state.pipelines refl h.rows
     (λ r. refl) means_select (state g old) (state g new) at.now h.shown)
     found h.read

@@ -8,7 +8,8 @@ use Rattle.sqlite.specs.Listing.{understood}
 use Rattle.sqlite.specs.Store.{Ghosts}
 use Rattle.sqlite.specs.Held.{Held, state}
 use Rattle.sqlite_keyed.proofs.ListLemmas.{ascending-filter}
-use Rattle.ci_machine.specs.State.{State, with_record, without_record, project_cmp}
+use Rattle.ci_machine.specs.Kept.{Kept}
+use Rattle.ci_machine.specs.State.{with_record, without_record, project_cmp}
 use Rattle.ci_machine.specs.declared.records.Project.{Project}
 use Rattle.ci_machine.specs.declared.change.Record.TheVariants as row
 use Rattle.ci_machine.specs.declared.change.Key.TheVariants as key
@@ -36,7 +37,7 @@ use Rattle.std.specs.List.{list_any}
 use Rattle.sqlite_value.specs.Keys.{plain}
 use Rattle.sqlite_schema.specs.declared.schema.Keys.TheVariants.{Enforced}
 use Rattle.sqlite_rules.specs.Action.{works, pairs, loses}
-use Rattle.ci_store.specs.Commit.{RemovesUnreferred}
+use Rattle.ci_store.specs.Commit.{in_state, RemovesUnreferred}
 use Rattle.ci_store.proofs.Removals.{cascades, removed_numbered}
 use Rattle.sqlite.specs.Values.{or_null}
 use Rattle.ci_store.proofs.Same.{same_words}
@@ -58,13 +59,13 @@ gives p = record {
 }
 
 -- the other tables have the rows that they had
-alike : (s : State) (xs : List Project) → IsAlike (rows_of s) (rows_of (record s { projects = xs })) project
-alike s xs = alike_but (take 1 (rows_by_tree s)) (drop 2 (rows_by_tree s)) project (map project_row s.projects) (map project_row xs)
+alike : (k : Kept) (xs : List Project) → IsAlike (rows_of k) (rows_of (record k { state = record k.state { projects = xs } })) project
+alike k xs = alike_but (take 1 (rows_by_tree k)) (drop 2 (rows_by_tree k)) project (map project_row k.state.projects) (map project_row xs)
 
-pub project_puts : {S : Type 0} (ghosts : Ghosts S) (before after : Held S) (p : Project) (s : State) → Stands s (state ghosts before).now → HasPut ghosts UPDATE_PROJECT.now INSERT_PROJECT.now (project_row p) before after
-    → Stands (with_record (row.Project p) s) (state ghosts after).now
-project_puts ghosts before after p s stands h =
-    put_stands project_row s.projects s (with_record (row.Project p) s) project refl (alike s _) (regular_with_projects s _ (put_rises project_cmp (by_number (λ (q : Project). q.id)) p s.projects stands.inside.regular.projects) stands.inside.regular)
+pub project_puts : {S : Type 0} (ghosts : Ghosts S) (before after : Held S) (p : Project) (k : Kept) → Stands k (state ghosts before).now → HasPut ghosts UPDATE_PROJECT.now INSERT_PROJECT.now (project_row p) before after
+    → Stands (in_state (with_record (row.Project p)) k) (state ghosts after).now
+project_puts ghosts before after p k stands h =
+    put_stands project_row k.state.projects k (in_state (with_record (row.Project p)) k) project refl (alike k _) (regular_with_projects k _ (put_rises project_cmp (by_number (λ (q : Project). q.id)) p k.state.projects stands.inside.regular.projects) stands.inside.regular)
     1 UPDATE_PROJECT.now INSERT_PROJECT.now (is 0 0 ∷ []) sets sets means project_cmp (number p.id ∷ []) p (gives p) (λ q. same_number q.id p.id) refl ghosts before after stands h
 
 means_remove : MeansRemove the_schema 1 project DELETE_PROJECT.now (is 0 0 ∷ [])
@@ -76,9 +77,9 @@ works_are : (olds : List Row) → works the_schema Enforced 0 project.tree olds 
 unfolding everything
 works_are olds = refl
 
-pub project_removed : {S : Type 0} (g : Ghosts S) (old new : Held S) (id : ℕ) (s : State) → Stands s (state g old).now → RemovesUnreferred g [] DELETE_PROJECT.now (number id ∷ []) old new → Stands (without_record (key.Project id) s) (state g new).now
-project_removed g old new id s =
-    removed_numbered g old new project_row (λ q. q.id) s.projects id s (without_record (key.Project id) s) 1 project refl refl refl (alike s _) (λ o. regular_with_projects s _ (ascending-filter _ _ s.projects o.projects) o) (λ q. same_number q.id id) (λ r. refl)
+pub project_removed : {S : Type 0} (g : Ghosts S) (old new : Held S) (id : ℕ) (k : Kept) → Stands k (state g old).now → RemovesUnreferred g [] DELETE_PROJECT.now (number id ∷ []) old new → Stands (in_state (without_record (key.Project id)) k) (state g new).now
+project_removed g old new id k =
+    removed_numbered g old new project_row (λ q. q.id) k.state.projects id k (in_state (without_record (key.Project id)) k) 1 project refl refl refl (alike k _) (λ o. regular_with_projects k _ (ascending-filter _ _ k.state.projects o.projects) o) (λ q. same_number q.id id) (λ r. refl)
     DELETE_PROJECT.now means_remove (codes "project") [] works_are tt
 
 -- ---- two records with the same row
@@ -100,10 +101,10 @@ means_select = record { is = refl; unlisted = refl; plain = (refl, refl) }
 pub plain_select : IsPlain (understood the_schema SELECT_PROJECT.now)
 plain_select = means_select.plain
 
-pub project_found : {S : Type 0} (g : Ghosts S) (old new : Held S) (s : State) → IsAt g s old → (id : ℕ) (found : Option Project) → ShowsRecords (λ row x. row ≡ project_row x) g SELECT_PROJECT.now (number id ∷ []) old new (listed found) → found ≡ project_at s id
-project_found g old new s at id found h =
-    found_one (λ row x. row ≡ project_row x) project_row (λ x. x.id == id) s.projects (λ x y _ same. sym (same_project y x same)) h.rows
-    (shows_passing project_row 1 project refl SELECT_PROJECT.now (is 0 0 ∷ []) (number id ∷ []) (λ im. equal Binary (column im 0) (number id) && true) (λ r. refl) (λ x. x.id == id) (λ x. finds_number x.id id) s s.projects refl h.rows
+pub project_found : {S : Type 0} (g : Ghosts S) (old new : Held S) (k : Kept) → IsAt g k old → (id : ℕ) (found : Option Project) → ShowsRecords (λ row x. row ≡ project_row x) g SELECT_PROJECT.now (number id ∷ []) old new (listed found) → found ≡ project_at k.state id
+project_found g old new k at id found h =
+    found_one (λ row x. row ≡ project_row x) project_row (λ x. x.id == id) k.state.projects (λ x y _ same. sym (same_project y x same)) h.rows
+    (shows_passing project_row 1 project refl SELECT_PROJECT.now (is 0 0 ∷ []) (number id ∷ []) (λ im. equal Binary (column im 0) (number id) && true) (λ r. refl) (λ x. x.id == id) (λ x. finds_number x.id id) k k.state.projects refl h.rows
     (λ r. refl) means_select (state g old) (state g new) at.now h.shown)
     found h.read
 
@@ -114,9 +115,9 @@ means_select_with = record { is = refl; unlisted = refl; plain = (refl, refl) }
 pub plain_select_with : IsPlain (understood the_schema SELECT_PROJECT_WITH.now)
 plain_select_with = means_select_with.plain
 
-pub project_with_found : {S : Type 0} (g : Ghosts S) (old new : Held S) (s : State) → IsAt g s old → (token : List ℕ) (found : Option Project) → ShowsRecords (λ row x. row ≡ project_row x) g SELECT_PROJECT_WITH.now (Text token ∷ []) old new (listed found) → found ≡ project_with s token
-project_with_found g old new s at token found h =
-    found_one (λ row x. row ≡ project_row x) project_row (λ x. bytes_eq x.token token) s.projects (λ x y _ same. sym (same_project y x same)) h.rows
-    (shows_passing project_row 1 project refl SELECT_PROJECT_WITH.now (is 3 0 ∷ []) (Text token ∷ []) (λ im. equal Binary (column im 2) (Text token) && true) (λ r. refl) (λ x. bytes_eq x.token token) (λ x. finds_text x.token token) s s.projects refl h.rows
+pub project_with_found : {S : Type 0} (g : Ghosts S) (old new : Held S) (k : Kept) → IsAt g k old → (token : List ℕ) (found : Option Project) → ShowsRecords (λ row x. row ≡ project_row x) g SELECT_PROJECT_WITH.now (Text token ∷ []) old new (listed found) → found ≡ project_with k.state token
+project_with_found g old new k at token found h =
+    found_one (λ row x. row ≡ project_row x) project_row (λ x. bytes_eq x.token token) k.state.projects (λ x y _ same. sym (same_project y x same)) h.rows
+    (shows_passing project_row 1 project refl SELECT_PROJECT_WITH.now (is 3 0 ∷ []) (Text token ∷ []) (λ im. equal Binary (column im 2) (Text token) && true) (λ r. refl) (λ x. bytes_eq x.token token) (λ x. finds_text x.token token) k k.state.projects refl h.rows
     (λ r. refl) means_select_with (state g old) (state g new) at.now h.shown)
     found h.read

@@ -1,32 +1,25 @@
 -- The records that rows are read as.
-use Rattle.std.proofs.Common.{◌≡◌, ◌∙◌, ℕ, List, [], ◌∷◌, length, Option, Some, None, Result, Ok, Err, IfOk, ◌≢◌, MatchOption, refl, sym, arith}
+use Rattle.std.proofs.Common.{◌≡◌, ℕ, [], ◌∷◌, length, Option, Some, None, ◌≢◌, MatchOption, refl, arith}
 use Rattle.sqlite.specs.declared.types.Value.{Value}
 use Rattle.sqlite.specs.declared.types.Value.TheVariants.{Null}
 use Rattle.sqlite.specs.Values.{or_null}
 use Rattle.sqlite.specs.Order.{Row, column}
-use Rattle.serde_json.specs.Data.{Data, array}
-use Rattle.serde_json.specs.Read.{read}
-use Rattle.ci_machine.specs.declared.records.JobOptions.{JobOptions}
 use Rattle.ci_store.specs.Rows.{number}
-use Rattle.ci_store.specs.JsonText.{strings, tags_data, spec_data}
-use Rattle.ci_store.specs.Load.{ReadsTags, ReadsSpec}
 
-pub same_strings : (xs ys : List (List ℕ)) → strings xs ≡ strings ys → xs ≡ ys
-same_strings [] [] h = refl
-same_strings [] (y ∷ ys) h = cc
-same_strings (x ∷ xs) [] h = cc
-same_strings (x ∷ xs) (y ∷ ys) h =
-    let first : x ≡ y = cc in
-    let rest : strings xs ≡ strings ys = cc in
-    λ i. first i ∷ same_strings xs ys rest i
+pub row2 : (row : Row) → length row ≡ 2 → row ≡ column row 0 ∷ column row 1 ∷ []
+row2 [] is = cc
+row2 (a ∷ []) is = cc
+row2 (a ∷ b ∷ []) is = refl
+row2 (a ∷ b ∷ x ∷ more) is = absurd (omega (arith, is))
 
-pub tags_read : {E : Type 0} (r : Result (List (List ℕ)) E) (text : List ℕ) (v : Data) → read text ≡ Some v → IfOk r (λ ts. v ≡ array (strings ts)) → IfOk r (ReadsTags text)
-tags_read (Ok ts) text v is h = λ others reads. let same : tags_data ts ≡ tags_data others = let a = sym is ∙ reads in cc in let inner : strings ts ≡ strings others = cc in same_strings ts others inner
-tags_read (Err e) text v is h = tt
-
-pub spec_read : {E : Type 0} (r : Result JobOptions E) (text : List ℕ) (v : Data) → read text ≡ Some v → IfOk r (λ spec. (other : JobOptions) → v ≡ spec_data other → spec ≡ other) → IfOk r (ReadsSpec text)
-spec_read (Ok spec) text v is h = λ other reads. let same : v ≡ spec_data other = let a = sym is ∙ reads in cc in h other same
-spec_read (Err e) text v is h = tt
+pub row5 : (row : Row) → length row ≡ 5 → row ≡ column row 0 ∷ column row 1 ∷ column row 2 ∷ column row 3 ∷ column row 4 ∷ []
+row5 [] is = cc
+row5 (a ∷ []) is = cc
+row5 (a ∷ b ∷ []) is = cc
+row5 (a ∷ b ∷ c ∷ []) is = cc
+row5 (a ∷ b ∷ c ∷ d ∷ []) is = cc
+row5 (a ∷ b ∷ c ∷ d ∷ e ∷ []) is = refl
+row5 (a ∷ b ∷ c ∷ d ∷ e ∷ x ∷ more) is = absurd (omega (arith, is))
 
 pub row7 : (row : Row) → length row ≡ 7 → row ≡ column row 0 ∷ column row 1 ∷ column row 2 ∷ column row 3 ∷ column row 4 ∷ column row 5 ∷ column row 6 ∷ []
 row7 [] is = cc

@@ -1,5 +1,5 @@
 -- A record that is put, and one that is removed, in a table of its own.
-use Rattle.std.proofs.Common.{◌≡◌, ◌<◌, ◌==◌, ℕ, ℤ, pos, nat_lt, cond, arith, ltb-true, ne_eqb, Less, Equal, Greater, List, ◌∷◌, map, filter, Bool, true, false, not, ◌&&◌, Ordering, is_eq, refl, sym, ap, subst, ◌∙◌, Some, None, Option, IsPermutation}
+use Rattle.std.proofs.Common.{◌≡◌, ◌<◌, ◌==◌, ℕ, ℤ, pos, nat_lt, nat_le, cond, arith, ltb-true, ne_eqb, Less, Equal, Greater, List, ◌∷◌, map, filter, Bool, true, false, not, ◌&&◌, Ordering, is_eq, refl, sym, ap, subst, ◌∙◌, Some, None, Option, IsPermutation}
 use Rattle.std.specs.Ordering.{nat_cmp, ordering_then}
 use Rattle.std.proofs.lemmas.Bool.{cond_both}
 use Rattle.std.proofs.lemmas.Map.Text.{is_eq-slice_cmp}
@@ -7,7 +7,7 @@ use Rattle.std.specs.Str.{bytes_eq}
 use Rattle.sqlite.specs.declared.types.Value.TheVariants.{Int, Text}
 use Rattle.sqlite_value.specs.declared.keys.Collation.TheVariants.{Binary}
 use Rattle.sqlite_sql.specs.declared.ops.BinaryOp.TheVariants.{Compare}
-use Rattle.sqlite_sql.specs.declared.ops.CompareOp.TheVariants.{Eq}
+use Rattle.sqlite_sql.specs.declared.ops.CompareOp.TheVariants.{Eq, Le, Gt, Ge}
 use Rattle.sqlite.specs.Order.{Row}
 use Rattle.sqlite.specs.Term.{Term, col, op2}
 use Rattle.sqlite.specs.Table.{Table}
@@ -18,14 +18,16 @@ use Rattle.sqlite.specs.Rowids.TheVariants.{Chosen}
 use Rattle.sqlite.specs.Values.{or_null, bound_value}
 use Rattle.sqlite.specs.Store.{Ghosts}
 use Rattle.sqlite.specs.Held.{Held, state}
-use Rattle.ci_machine.specs.State.{State, put}
+use Rattle.ci_machine.specs.Kept.{Kept}
+use Rattle.ci_machine.specs.State.{put}
 use Rattle.ci_tables.specs.Stands.{has_key, image, places, without, IsOf}
 use Rattle.sqlite_schema.specs.Rules.{equal}
 use Rattle.ci_tables.specs.Statements.{Changes, HasPut}
 use Rattle.ci_tables.proofs.Queries.{picks}
 use Rattle.ci_tables.proofs.Writes.{IsWholeStep}
 use Rattle.ci_tables.proofs.Puts.{MeansPut, MeansRemove, GivesRecord, puts, removes}
-use Rattle.ci_tables.proofs.Scalars.{cast_int, cast_null, equal_int, equal_text}
+use Rattle.ci_tables.proofs.Scalars.{cast_int, cast_null, equal_int, equal_text, compares, compares_at_least, compares_at_most, compares_above}
+use Rattle.ci_machine.specs.Ranges.{is_within}
 use Rattle.ci_store.specs.Schema.{the_schema}
 use Rattle.ci_store.specs.Rows.{number}
 use Rattle.ci_store.specs.Stands.{rows_of, IsRegular, Stands}
@@ -35,27 +37,36 @@ use Rattle.ci_store.proofs.OneList.{IsAlike}
 abbrev pub is : ℕ → ℕ → Term
 is place param = op2 (Compare Eq Binary) (col 1 place) (col 0 param)
 
-pub before_it : {S : Type 0} (ghosts : Ghosts S) (s : State) (h : Held S) → Stands s (state ghosts h).now → IsOf the_schema (rows_of s) (state ghosts h).now
-before_it ghosts s h stands = record { listed = stands.listed; inside = stands.inside.tables }
+abbrev pub at_least : ℕ → ℕ → Term
+at_least place param = op2 (Compare Ge Binary) (col 1 place) (col 0 param)
 
-pub after_it : {S : Type 0} (ghosts : Ghosts S) (s : State) (h : Held S) → IsRegular s → IsOf the_schema (rows_of s) (state ghosts h).now → Stands s (state ghosts h).now
-after_it ghosts s h ordered it = record { listed = it.listed; inside = record { tables = it.inside; regular = ordered } }
+abbrev pub at_most : ℕ → ℕ → Term
+at_most place param = op2 (Compare Le Binary) (col 1 place) (col 0 param)
 
-module _ {A : Type 0} (values : A → Row) (xs : List A) (s t : State) (table : Table) (was : rows_of s table.tree ≡ map values xs) (alike : IsAlike (rows_of s) (rows_of t) table) (ordered : IsRegular t) where
+abbrev pub above : ℕ → ℕ → Term
+above place param = op2 (Compare Gt Binary) (col 1 place) (col 0 param)
+
+pub before_it : {S : Type 0} (ghosts : Ghosts S) (k : Kept) (h : Held S) → Stands k (state ghosts h).now → IsOf the_schema (rows_of k) (state ghosts h).now
+before_it ghosts k h stands = record { listed = stands.listed; inside = stands.inside.tables }
+
+pub after_it : {S : Type 0} (ghosts : Ghosts S) (k : Kept) (h : Held S) → IsRegular k → IsOf the_schema (rows_of k) (state ghosts h).now → Stands k (state ghosts h).now
+after_it ghosts k h ordered it = record { listed = it.listed; inside = record { tables = it.inside; regular = ordered } }
+
+module _ {A : Type 0} (values : A → Row) (xs : List A) (k next : Kept) (table : Table) (was : rows_of k table.tree ≡ map values xs) (alike : IsAlike (rows_of k) (rows_of next) table) (ordered : IsRegular next) where
   pub put_stands : (at : ℕ) (update insert : List ℕ) (tests sets terms : List Term) → MeansPut the_schema at table update insert tests sets terms → (cmp : A → A → Ordering) (key : Row) (x : A)
-      → GivesRecord the_schema table tests sets terms key (values x) → ((y : A) → has_key key (values y) ≡ is_eq (cmp y x)) → rows_of t table.tree ≡ map values (put cmp x xs)
-      → {S : Type 0} (ghosts : Ghosts S) (before after : Held S) → Stands s (state ghosts before).now → HasPut ghosts update insert (values x) before after → Stands t (state ghosts after).now
+      → GivesRecord the_schema table tests sets terms key (values x) → ((y : A) → has_key key (values y) ≡ is_eq (cmp y x)) → rows_of next table.tree ≡ map values (put cmp x xs)
+      → {S : Type 0} (ghosts : Ghosts S) (before after : Held S) → Stands k (state ghosts before).now → HasPut ghosts update insert (values x) before after → Stands next (state ghosts after).now
   put_stands at update insert tests sets terms means cmp key x gives same_key is ghosts before after stands h =
-      let moved = subst (λ l. IsPermutation (values x ∷ without key l) (rows_of t table.tree)) (sym was) (subst (IsPermutation _) (sym is) (put_among values key cmp x same_key xs)) in
-      after_it ghosts t after ordered (puts the_schema at table update insert tests sets terms means key (values x) gives (rows_of s) (rows_of t) alike moved ghosts before after (before_it ghosts s before stands) h)
+      let moved = subst (λ l. IsPermutation (values x ∷ without key l) (rows_of next table.tree)) (sym was) (subst (IsPermutation _) (sym is) (put_among values key cmp x same_key xs)) in
+      after_it ghosts next after ordered (puts the_schema at table update insert tests sets terms means key (values x) gives (rows_of k) (rows_of next) alike moved ghosts before after (before_it ghosts k before stands) h)
 
   pub remove_stands : (at : ℕ) (delete : List ℕ) (tests : List Term) → MeansRemove the_schema at table delete tests → (key : Row) → ((r : Row) → picks tests key r ≡ has_key key (image (places table) r))
-      → (test : A → Bool) → ((y : A) → has_key key (values y) ≡ test y) → rows_of t table.tree ≡ map values (filter (λ y. not (test y)) xs)
-      → {S : Type 0} (ghosts : Ghosts S) (before after : Held S) (count : ℕ) → Stands s (state ghosts before).now → IsWholeStep the_schema table tests key (state ghosts before).now.trees → Changes ghosts delete key count before after
-      → Stands t (state ghosts after).now
+      → (test : A → Bool) → ((y : A) → has_key key (values y) ≡ test y) → rows_of next table.tree ≡ map values (filter (λ y. not (test y)) xs)
+      → {S : Type 0} (ghosts : Ghosts S) (before after : Held S) (count : ℕ) → Stands k (state ghosts before).now → IsWholeStep the_schema table tests key (state ghosts before).now.trees → Changes ghosts delete key count before after
+      → Stands next (state ghosts after).now
   remove_stands at delete tests means key tested test same_key is ghosts before after count stands whole h =
-      let gone = subst (λ l. IsPermutation (without key l) (rows_of t table.tree)) (sym was) (subst (IsPermutation _) (sym is) (removed_from values key test same_key xs)) in
-      after_it ghosts t after ordered (removes the_schema at table delete tests means key (rows_of s) (rows_of t) tested alike gone (state ghosts before) (state ghosts after) count (before_it ghosts s before stands) whole h)
+      let gone = subst (λ l. IsPermutation (without key l) (rows_of next table.tree)) (sym was) (subst (IsPermutation _) (sym is) (removed_from values key test same_key xs)) in
+      after_it ghosts next after ordered (removes the_schema at table delete tests means key (rows_of k) (rows_of next) tested alike gone (state ghosts before) (state ghosts after) count (before_it ghosts k before stands) whole h)
 
 -- ---- tables whose key is a number
 
@@ -76,6 +87,14 @@ is_number m n =
 
 pub finds_number : (m n : ℕ) → (equal Binary (number m) (number n) && true) ≡ (m == n)
 finds_number m n = same_number m n ∙ is_number m n
+
+-- numbers from the first to the last pass both tests of a range
+pub finds_within : (first last n : ℕ) → (compares Ge (number n) (number first) && (compares Le (number n) (number last) && true)) ≡ is_within first last n
+finds_within first last n = (λ i. compares_at_least n first i && (compares_at_most n last i && true)) ∙ ap (λ b. nat_le first n && b) (and_true (nat_le n last))
+
+-- those above another, of what has a number in common
+pub finds_above : (group other m n : ℕ) → (equal Binary (number m) (number group) && (compares Gt (number n) (number other) && true)) ≡ ((m == group) && nat_lt other n)
+finds_above group other m n = (λ i. (equal_int m group ∙ is_number m group) i && (compares_above n other i && true)) ∙ ap (λ b. (m == group) && b) (and_true (nat_lt other n))
 
 -- texts that compare as equal are the same
 pub finds_text : (a b : List ℕ) → (equal Binary (Text a) (Text b) && true) ≡ bytes_eq a b

@@ -8,7 +8,8 @@ use Rattle.sqlite.specs.Listing.{understood}
 use Rattle.sqlite.specs.Store.{Ghosts}
 use Rattle.sqlite.specs.Held.{Held, state}
 use Rattle.sqlite_keyed.proofs.ListLemmas.{ascending-filter, all-filter}
-use Rattle.ci_machine.specs.State.{State, with_record, without_record, runner_cmp}
+use Rattle.ci_machine.specs.Kept.{Kept}
+use Rattle.ci_machine.specs.State.{with_record, without_record, runner_cmp}
 use Rattle.ci_machine.specs.declared.records.Runner.{Runner}
 use Rattle.ci_machine.specs.declared.change.Record.TheVariants as row
 use Rattle.ci_machine.specs.declared.change.Key.TheVariants as key
@@ -19,7 +20,7 @@ use Rattle.ci_tables.proofs.Absent.{absent_rowid}
 use Rattle.ci_tables.proofs.Scalars.{cast_int}
 use Rattle.ci_store.specs.declared.texts.TheConstants.{UPDATE_RUNNER, INSERT_RUNNER, DELETE_RUNNER, SELECT_RUNNER_WITH}
 use Rattle.ci_store.specs.Schema.{the_schema, runner}
-use Rattle.ci_store.specs.JsonText.{tags_text, tags_data}
+use Rattle.ci_records.specs.JsonText.{tags_text, tags_data}
 use Rattle.serde_json.specs.Read.{read}
 use Rattle.ci_store.specs.Rows.{number, runner_row}
 use Rattle.ci_store.specs.Stands.{rows_by_tree, rows_of, Stands, IsAt}
@@ -40,11 +41,12 @@ use Rattle.std.specs.List.{list_any}
 use Rattle.sqlite_value.specs.Keys.{plain}
 use Rattle.sqlite_schema.specs.declared.schema.Keys.TheVariants.{Enforced}
 use Rattle.sqlite_rules.specs.Action.{works, pairs, loses}
-use Rattle.ci_store.specs.Commit.{RemovesUnreferred}
+use Rattle.ci_store.specs.Commit.{in_state, RemovesUnreferred}
 use Rattle.ci_store.proofs.Removals.{cascades, removed_numbered}
 use Rattle.sqlite.specs.Values.{or_null}
 use Rattle.ci_store.specs.Rows.{flag}
-use Rattle.ci_store.specs.Load.{ReadsTags, runner_cells}
+use Rattle.ci_store.specs.Load.{runner_cells}
+use Rattle.ci_records.specs.Reads.{ReadsTags}
 use Rattle.ci_store.proofs.Same.{same_option, same_flag}
 
 abbrev sets : List Term
@@ -64,13 +66,13 @@ gives r = record {
 }
 
 -- the other tables have the rows that they had
-alike : (s : State) (xs : List Runner) → IsAlike (rows_of s) (rows_of (record s { runners = xs })) runner
-alike s xs = alike_but (take 2 (rows_by_tree s)) (drop 3 (rows_by_tree s)) runner (map runner_row s.runners) (map runner_row xs)
+alike : (k : Kept) (xs : List Runner) → IsAlike (rows_of k) (rows_of (record k { state = record k.state { runners = xs } })) runner
+alike k xs = alike_but (take 2 (rows_by_tree k)) (drop 3 (rows_by_tree k)) runner (map runner_row k.state.runners) (map runner_row xs)
 
-pub runner_puts : {S : Type 0} (ghosts : Ghosts S) (before after : Held S) (r : Runner) (s : State) → read (tags_text r.tags) ≡ Some (tags_data r.tags) → Stands s (state ghosts before).now → HasPut ghosts UPDATE_RUNNER.now INSERT_RUNNER.now (runner_row r) before after
-    → Stands (with_record (row.Runner r) s) (state ghosts after).now
-runner_puts ghosts before after r s read_back stands h =
-    put_stands runner_row s.runners s (with_record (row.Runner r) s) runner refl (alike s _) (regular_with_runners s _ (put_rises runner_cmp (by_number (λ (q : Runner). q.id)) r s.runners stands.inside.regular.runners) (all_put runner_cmp _ r s.runners read_back stands.inside.regular.tags) stands.inside.regular)
+pub runner_puts : {S : Type 0} (ghosts : Ghosts S) (before after : Held S) (r : Runner) (k : Kept) → read (tags_text r.tags) ≡ Some (tags_data r.tags) → Stands k (state ghosts before).now → HasPut ghosts UPDATE_RUNNER.now INSERT_RUNNER.now (runner_row r) before after
+    → Stands (in_state (with_record (row.Runner r)) k) (state ghosts after).now
+runner_puts ghosts before after r k read_back stands h =
+    put_stands runner_row k.state.runners k (in_state (with_record (row.Runner r)) k) runner refl (alike k _) (regular_with_runners k _ (put_rises runner_cmp (by_number (λ (q : Runner). q.id)) r k.state.runners stands.inside.regular.runners) (all_put runner_cmp _ r k.state.runners read_back stands.inside.regular.tags) stands.inside.regular)
     2 UPDATE_RUNNER.now INSERT_RUNNER.now (is 0 0 ∷ []) sets sets means runner_cmp (number r.id ∷ []) r (gives r) (λ q. same_number q.id r.id) refl ghosts before after stands h
 
 means_remove : MeansRemove the_schema 2 runner DELETE_RUNNER.now (is 0 0 ∷ [])
@@ -82,9 +84,9 @@ works_are : (olds : List Row) → works the_schema Enforced 0 runner.tree olds [
 unfolding everything
 works_are olds = refl
 
-pub runner_removed : {S : Type 0} (g : Ghosts S) (old new : Held S) (id : ℕ) (s : State) → Stands s (state g old).now → RemovesUnreferred g [] DELETE_RUNNER.now (number id ∷ []) old new → Stands (without_record (key.Runner id) s) (state g new).now
-runner_removed g old new id s =
-    removed_numbered g old new runner_row (λ q. q.id) s.runners id s (without_record (key.Runner id) s) 2 runner refl refl refl (alike s _) (λ o. regular_with_runners s _ (ascending-filter _ _ s.runners o.runners) (all-filter _ _ s.runners o.tags) o) (λ q. same_number q.id id) (λ r. refl)
+pub runner_removed : {S : Type 0} (g : Ghosts S) (old new : Held S) (id : ℕ) (k : Kept) → Stands k (state g old).now → RemovesUnreferred g [] DELETE_RUNNER.now (number id ∷ []) old new → Stands (in_state (without_record (key.Runner id)) k) (state g new).now
+runner_removed g old new id k =
+    removed_numbered g old new runner_row (λ q. q.id) k.state.runners id k (in_state (without_record (key.Runner id)) k) 2 runner refl refl refl (alike k _) (λ o. regular_with_runners k _ (ascending-filter _ _ k.state.runners o.runners) (all-filter _ _ k.state.runners o.tags) o) (λ q. same_number q.id id) (λ r. refl)
     DELETE_RUNNER.now means_remove (codes "runner") [] works_are tt
 
 -- ---- two records with the same row
@@ -110,9 +112,9 @@ means_select_with = record { is = refl; unlisted = refl; plain = (refl, refl) }
 pub plain_select_with : IsPlain (understood the_schema SELECT_RUNNER_WITH.now)
 plain_select_with = means_select_with.plain
 
-pub runner_with_found : {S : Type 0} (g : Ghosts S) (old new : Held S) (s : State) → IsAt g s old → (token : List ℕ) (found : Option Runner) → ShowsRecords IsRunnerRow g SELECT_RUNNER_WITH.now (Text token ∷ []) old new (listed found) → found ≡ runner_with s token
-runner_with_found g old new s at token found h =
-    found_one IsRunnerRow runner_row (λ x. bytes_eq x.token token) s.runners (λ x y there same. same_runner x y same.0 same.2 (all_has _ s.runners y at.now.inside.regular.tags there) (sym same.1)) h.rows
-    (shows_passing runner_row 2 runner refl SELECT_RUNNER_WITH.now (is 3 0 ∷ []) (Text token ∷ []) (λ im. equal Binary (column im 2) (Text token) && true) (λ r. refl) (λ x. bytes_eq x.token token) (λ x. finds_text x.token token) s s.runners refl h.rows
+pub runner_with_found : {S : Type 0} (g : Ghosts S) (old new : Held S) (k : Kept) → IsAt g k old → (token : List ℕ) (found : Option Runner) → ShowsRecords IsRunnerRow g SELECT_RUNNER_WITH.now (Text token ∷ []) old new (listed found) → found ≡ runner_with k.state token
+runner_with_found g old new k at token found h =
+    found_one IsRunnerRow runner_row (λ x. bytes_eq x.token token) k.state.runners (λ x y there same. same_runner x y same.0 same.2 (all_has _ k.state.runners y at.now.inside.regular.tags there) (sym same.1)) h.rows
+    (shows_passing runner_row 2 runner refl SELECT_RUNNER_WITH.now (is 3 0 ∷ []) (Text token ∷ []) (λ im. equal Binary (column im 2) (Text token) && true) (λ r. refl) (λ x. bytes_eq x.token token) (λ x. finds_text x.token token) k k.state.runners refl h.rows
     (λ r. refl) means_select_with (state g old) (state g new) at.now h.shown)
     found h.read

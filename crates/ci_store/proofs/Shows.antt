@@ -1,9 +1,10 @@
 -- What a query over one table shows of a state, and the records that its rows are read as.
-use Rattle.std.proofs.Common.{◌≡◌, ◌∙◌, ℕ, pos, List, [], ◌∷◌, map, filter, find, slice_get, Bool, true, false, is_eq, Ordering, Less, Equal, Greater, Option, Some, None, refl, sym, ap, subst, cond, inl, inr, IsPermutation}
+use Rattle.std.proofs.Common.{◌≡◌, ◌∙◌, ℕ, pos, List, [], ◌∷◌, map, filter, find, take, drop, slice_get, Bool, true, false, is_eq, Ordering, Less, Equal, Greater, Option, Some, None, refl, sym, ap, subst, cond, inl, inr, IsPermutation}
 use Rattle.std.specs.List.{AllByRecursion, AllZip}
 use Rattle.std.specs.Ordering.{nat_cmp, ordering_then}
 use Rattle.std.specs.Cmp.{IsTotalOrder}
 use Rattle.std.specs.Cmp.Lexicographic.{slice_cmp}
+use Rattle.std.proofs.lemmas.List.{take-append-drop, take-map}
 use Rattle.std.proofs.lemmas.Cmp.{on_total, then_total, nat_cmp_total, tied_back}
 use Rattle.std.proofs.lemmas.List.Sorted.{IsPermutation-sym}
 use Rattle.sqlite.specs.Collation.TheVariants.{Binary}
@@ -14,7 +15,7 @@ use Rattle.sqlite_value.proofs.OrderLemmas.{value_cmp-Int, value_cmp-Text, then-
 use Rattle.sqlite.specs.declared.types.Value.TheVariants.{Text}
 use Rattle.sqlite.specs.Order.{Row, column}
 use Rattle.sqlite.specs.Term.{Term, col, eval_all}
-use Rattle.sqlite.specs.Query.{Output, output, output_cmp}
+use Rattle.sqlite.specs.Query.{Output, output, output_cmp, key_cmp, limited}
 use Rattle.sqlite.specs.Table.{Table}
 use Rattle.sqlite.specs.Effect.{Database}
 use Rattle.sqlite.specs.State.{State as Seen, Shown}
@@ -22,12 +23,12 @@ use Rattle.sqlite_trees.specs.Tree.{IsAscending}
 use Rattle.sqlite.proofs.Callers.{one_permutation}
 use Rattle.sqlite_keyed.proofs.ListLemmas.{filter-map, filter_same, slice_get-filter, ascending-map, ascending_weaker, ascending-filter}
 use Rattle.sqlite_rules.specs.Lists.{Has}
-use Rattle.sqlite_rules.proofs.ListLemmas.{all_has, has_got, has_filtered}
-use Rattle.ci_machine.specs.State.{State}
+use Rattle.sqlite_rules.proofs.ListLemmas.{all_has, has_got, has_filtered, has_left}
+use Rattle.ci_machine.specs.Kept.{Kept}
 use Rattle.ci_tables.specs.Stands.{Holds, image, places}
 use Rattle.ci_tables.proofs.Writes.{perm_nil, map_nil, map_one}
-use Rattle.ci_tables.proofs.Queries.{query, picks}
-use Rattle.ci_tables.proofs.Selects.{MeansSelect, selects}
+use Rattle.ci_tables.proofs.Queries.{query, picks, no_limit, count_of}
+use Rattle.ci_tables.proofs.Selects.{MeansSelect, MeansSelectTo, selects}
 use Rattle.ci_tables.proofs.Ordered.{no_key_total, selects_sorted}
 use Rattle.ci_tables.proofs.Scalars.{int_nat}
 use Rattle.ci_store.specs.Schema.{the_schema}
@@ -42,8 +43,8 @@ columns_of table = map (λ at. col 1 at) (places table)
 abbrev pub names_of : Table → List (List ℕ)
 names_of table = map (λ c. c.name) table.columns
 
-pub held : (s : State) (db : Database) → Stands s db → (at : ℕ) (t : Table) → slice_get the_schema.tables at ≡ Some t → Holds t (rows_of s t.tree) db.trees
-held s db stands at t there = all_has (λ (t : Table). Holds t (rows_of s t.tree) db.trees) the_schema.tables t stands.inside.tables.holds (has_got the_schema.tables at t there)
+pub held : (k : Kept) (db : Database) → Stands k db → (at : ℕ) (t : Table) → slice_get the_schema.tables at ≡ Some t → Holds t (rows_of k t.tree) db.trees
+held k db stands at t there = all_has (λ (t : Table). Holds t (rows_of k t.tree) db.trees) the_schema.tables t stands.inside.tables.holds (has_got the_schema.tables at t there)
 
 -- the order of what is shown, by the column at a place of the row
 abbrev pub pair : ℕ → Row → Output
@@ -55,29 +56,50 @@ by place = (col 1 place, ascending Binary) ∷ []
 pub by_total : (tests columns : List Term) (tree place : ℕ) → IsTotalOrder (output_cmp (query tree tests columns (by place)))
 by_total tests columns tree place = on_total (λ (o : Output). o.0) (then_total (on_total (λ (r : Row). column r 0) (by_key_total (ascending Binary))) no_key_total)
 
+-- and by those at two places
+abbrev pub pair_of_two : ℕ → ℕ → Row → Output
+pair_of_two first second im = (column im first ∷ column im second ∷ [], im)
+
+abbrev pub by_two : ℕ → ℕ → List (Term × Key)
+by_two first second = (col 1 first, ascending Binary) ∷ (col 1 second, ascending Binary) ∷ []
+
+pub by_two_total : (tests columns : List Term) (tree first second : ℕ) → IsTotalOrder (output_cmp (query tree tests columns (by_two first second)))
+by_two_total tests columns tree first second =
+    on_total (λ (o : Output). o.0) (then_total (on_total (λ (r : Row). column r 0) (by_key_total (ascending Binary))) (then_total (on_total (λ (r : Row). column r 1) (by_key_total (ascending Binary))) no_more_total))
+  where
+    no_more_total : IsTotalOrder (key_cmp 2 [])
+    no_more_total = record { antisymm = λ x y. refl; trans = λ x y z p q. p; congr = λ x y z p. refl }
+
 module _ {A : Type 0} (values : A → Row) (at : ℕ) (t : Table) (there : slice_get the_schema.tables at ≡ Some t) (text : List ℕ) (tests : List Term) (key : Row) (p : Row → Bool)
     (tested : (r : Row) → picks tests key r ≡ p (image (places t) r)) (passes : A → Bool) (same : (x : A) → p (values x) ≡ passes x)
-    (s : State) (xs : List A) (is : rows_of s t.tree ≡ map values xs) (rows : List Row) where
+    (k : Kept) (xs : List A) (is : rows_of k t.tree ≡ map values xs) (rows : List Row) where
   filtered : filter p (map values xs) ≡ map values (filter passes xs)
   filtered = filter-map p values xs ∙ ap (map values) (filter_same _ _ same xs)
 
   -- the rows of the records that pass the tests, in some order
   pub shows_passing : (showed : (r : Row) → eval_all (columns_of t) (key ∷ r ∷ []) ≡ image (places t) r) → MeansSelect the_schema t text tests (columns_of t) [] (names_of t)
-      → (old new : Seen) → Stands s old.now → Shown text key old new rows → IsPermutation (map values (filter passes xs)) rows
+      → (old new : Seen) → Stands k old.now → Shown text key old new rows → IsPermutation (map values (filter passes xs)) rows
   shows_passing showed means old new stands h =
       subst (λ l. IsPermutation l rows) (ap (filter p) is ∙ filtered)
-      (selects the_schema t text tests (columns_of t) [] (names_of t) means key p tested showed old new (rows_of s t.tree) rows stands.listed (held s old.now stands at t there) h)
+      (selects the_schema t text tests (columns_of t) [] (names_of t) means key p tested showed old new (rows_of k t.tree) rows stands.listed (held k old.now stands at t there) h)
 
-  -- and in the order of a column
-  pub shows_sorted : (place k : ℕ) (paired : (r : Row) → output (query t.tree tests (columns_of t) (by place)) (key ∷ r ∷ []) ≡ pair k (image (places t) r)) → MeansSelect the_schema t text tests (columns_of t) (by place) (names_of t)
-      → IsAscending (λ x y. output_cmp (query t.tree tests (columns_of t) (by place)) (pair k (values x)) (pair k (values y)) ≡ Less) (filter passes xs)
-      → (old new : Seen) → Stands s old.now → Shown text key old new rows → rows ≡ map values (filter passes xs)
-  shows_sorted place k paired means up old new stands h =
-      let Up = λ (a b : Output). output_cmp (query t.tree tests (columns_of t) (by place)) a b ≡ Less in
-      let up' = ascending-map Up (pair k) _ (ascending-map (λ a b. Up (pair k a) (pair k b)) values _ up) in
-      selects_sorted the_schema t text tests (columns_of t) (by place) (names_of t) means key p tested (pair k) paired (λ im. refl) (by_total tests (columns_of t) t.tree place) old new (map values xs) rows stands.listed
-      (subst (λ l. Holds t l old.now.trees) is (held s old.now stands at t there)) h (subst (λ l. IsAscending Up (map (pair k) l)) (sym filtered) up')
-      ∙ filtered
+  -- and in an order, of them the first ones that a limit lets through
+  pub shows_ordered : (limit : Term) (order : List (Term × Key)) (total : IsTotalOrder (output_cmp (query t.tree tests (columns_of t) order))) (pair : Row → Output) (second : (im : Row) → (pair im).1 ≡ im)
+      → (paired : (r : Row) → output (query t.tree tests (columns_of t) order) (key ∷ r ∷ []) ≡ pair (image (places t) r)) → MeansSelectTo limit the_schema t text tests (columns_of t) order (names_of t)
+      → IsAscending (λ x y. output_cmp (query t.tree tests (columns_of t) order) (pair (values x)) (pair (values y)) ≡ Less) (filter passes xs)
+      → (old new : Seen) → Stands k old.now → Shown text key old new rows → rows ≡ limited (count_of limit key) (map values (filter passes xs))
+  shows_ordered limit order total pair second paired means up old new stands h =
+      let Up = λ (a b : Output). output_cmp (query t.tree tests (columns_of t) order) a b ≡ Less in
+      let up' = ascending-map Up pair _ (ascending-map (λ a b. Up (pair a) (pair b)) values _ up) in
+      selects_sorted limit the_schema t text tests (columns_of t) order (names_of t) means key p tested pair paired second total old new (map values xs) rows stands.listed
+      (subst (λ l. Holds t l old.now.trees) is (held k old.now stands at t there)) h (subst (λ l. IsAscending Up (map pair l)) (sym filtered) up')
+      ∙ ap (limited (count_of limit key)) filtered
+
+  -- all of them, in the order of a column
+  pub shows_sorted : (place shown_at : ℕ) (paired : (r : Row) → output (query t.tree tests (columns_of t) (by place)) (key ∷ r ∷ []) ≡ pair shown_at (image (places t) r)) → MeansSelect the_schema t text tests (columns_of t) (by place) (names_of t)
+      → IsAscending (λ x y. output_cmp (query t.tree tests (columns_of t) (by place)) (pair shown_at (values x)) (pair shown_at (values y)) ≡ Less) (filter passes xs)
+      → (old new : Seen) → Stands k old.now → Shown text key old new rows → rows ≡ map values (filter passes xs)
+  shows_sorted place shown_at = shows_ordered no_limit (by place) (by_total tests (columns_of t) t.tree place) (pair shown_at) (λ im. refl)
 
 -- ---- the records that the rows are read as
 
@@ -103,6 +125,14 @@ module _ {A : Type 0} (is_row : Row → A → Type 0) (values : A → Row) (pass
       let same = one x y (sub y (inl refl)) read.0 in
       let more = each ys (λ z h. sub z (inr h)) found read.1 in
       λ i. same i ∷ more i
+
+  -- the first so many of them
+  pub found_first : (n : ℕ) (rows : List Row) → rows ≡ take n (map values (filter passes xs)) → (found : List A) → AllZip is_row rows found → found ≡ take n (filter passes xs)
+  found_first n rows is found read =
+      each (take n (filter passes xs)) (λ y h. (has_filtered passes xs y (has_taken n (filter passes xs) y h)).0) found (subst (λ l. AllZip is_row l found) (is ∙ take-map values n (filter passes xs)) read)
+    where
+      has_taken : (n : ℕ) (ys : List A) (y : A) → Has (take n ys) y → Has ys y
+      has_taken n ys y h = subst (λ l. Has l y) (take-append-drop n ys) (has_left (take n ys) (drop n ys) y h)
 
   pub found_all : (rows : List Row) → rows ≡ map values (filter passes xs) → (found : List A) → AllZip is_row rows found → found ≡ filter passes xs
   found_all rows is found read = each (filter passes xs) (λ y h. (has_filtered passes xs y h).0) found (subst (λ l. AllZip is_row l found) is read)
@@ -148,6 +178,16 @@ module _ {X : Type 0} (owner : X → ℕ) (second : X → X → Ordering) (Up : 
 
 pub rising_number : (a b : ℕ) → nat_cmp a b ≡ Less → ordering_then (by_key (ascending Binary) (number a) (number b)) Equal ≡ Less
 rising_number a b h = then-Equal _ ∙ value_cmp-Int (pos a) (pos b) ∙ int_nat a b ∙ h
+
+-- what is in order by two numbers is so by the columns
+pub rising_two : (a b c d : ℕ) → ordering_then (nat_cmp a b) (nat_cmp c d) ≡ Less → ordering_then (by_key (ascending Binary) (number a) (number b)) (ordering_then (by_key (ascending Binary) (number c) (number d)) Equal) ≡ Less
+rising_two a b c d h = (λ i. ordering_then (first i) (second i)) ∙ h
+  where
+    first : by_key (ascending Binary) (number a) (number b) ≡ nat_cmp a b
+    first = value_cmp-Int (pos a) (pos b) ∙ int_nat a b
+
+    second : ordering_then (by_key (ascending Binary) (number c) (number d)) Equal ≡ nat_cmp c d
+    second = then-Equal _ ∙ value_cmp-Int (pos c) (pos d) ∙ int_nat c d
 
 pub rising_text : (a b : List ℕ) → slice_cmp nat_cmp a b ≡ Less → ordering_then (by_key (ascending Binary) (Text a) (Text b)) Equal ≡ Less
 rising_text a b h = then-Equal _ ∙ value_cmp-Text a b ∙ h

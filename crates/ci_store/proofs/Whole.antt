@@ -8,7 +8,7 @@ use Rattle.sqlite.specs.Effect.{Database, IsDatabase}
 use Rattle.sqlite_catalog.specs.Listing.{IsSound}
 use Rattle.sqlite_rules.specs.Lists.{Has}
 use Rattle.sqlite_rules.proofs.ListLemmas.{test_has}
-use Rattle.ci_machine.specs.State.{State}
+use Rattle.ci_machine.specs.Kept.{Kept}
 use Rattle.ci_tables.proofs.OneSchema.{one_schema}
 use Rattle.ci_store.specs.Schema.{the_schema}
 use Rattle.ci_store.specs.Stands.{StandsIn, Stands}
@@ -21,8 +21,8 @@ pub the_one_schema : (other : Schema) (db : Trees) → IsSound the_schema db →
 the_one_schema other db = one_schema the_schema.tables the_schema.indexes other db few_uniques
 
 -- a database whose trees stand for a state stands for it
-pub stands_whole : (s : State) (db : Database) → IsDatabase db → StandsIn s db.trees → Stands s db
-stands_whole s db sound inside = record { listed = the_one_schema db.schema db.trees inside.tables.sound sound; inside = inside }
+pub stands_whole : (k : Kept) (db : Database) → IsDatabase db → StandsIn k db.trees → Stands k db
+stands_whole k db sound inside = record { listed = the_one_schema db.schema db.trees inside.tables.sound sound; inside = inside }
 
 -- what is said of a value that is there, apart from the value
 pub of_ok : {T E : Type 0} (A : T → Type 0) (B : Type 0) (r : Result T E) → IfOk r (λ x. A x × B) → is_ok r ≡ true → B

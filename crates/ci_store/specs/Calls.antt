@@ -5,14 +5,14 @@ use Rattle.sqlite.specs.Order.{Row}
 use Rattle.sqlite.specs.State.{HasCleanDisk, Shown}
 use Rattle.sqlite.specs.Store.{Ghosts}
 use Rattle.sqlite.specs.Held.{Held, state}
-use Rattle.ci_machine.specs.State.{State}
+use Rattle.ci_machine.specs.Kept.{Kept}
 use Rattle.ci_tables.specs.declared.fault.StoreFault.{StoreFault}
 use Rattle.ci_store.specs.Stands.{IsAt, LeavesEither}
 use Rattle.ci_store.specs.Store.{LoadsBy}
 
--- a call on tables only loads, and its answer is so of the state that they hold
-abbrev pub Loads : {S A : Type 0} → Ghosts S → Held S → Held S → Result A StoreFault → (State → A → Type 0) → Type 0
-Loads g old new result IsSo = LoadsBy (λ t. HasCleanDisk (state g t)) (λ t s. IsAt g s t) (λ t s u. LeavesEither g s u t) old new result IsSo
+-- a call on tables only loads, and its answer is so of what they keep
+abbrev pub Loads : {S A : Type 0} → Ghosts S → Held S → Held S → Result A StoreFault → (Kept → A → Type 0) → Type 0
+Loads g old new result IsSo = LoadsBy (λ t. HasCleanDisk (state g t)) (λ t k. IsAt g k t) (λ t k l. LeavesEither g k l t) old new result IsSo
 
 -- the rows that the query shows are those of these records
 pub record ShowsRecords {S R : Type 0} (is_row : Row → R → Type 0) (g : Ghosts S) (sql : List ℕ) (params : Row) (old new : Held S) (found : List R) : Type 0 where

@@ -5,24 +5,34 @@ use Rattle.sqlite.specs.State.{HasCleanDisk, Shown}
 use Rattle.sqlite.specs.Tree.{Trees}
 use Rattle.sqlite.specs.Store.{Ghosts}
 use Rattle.sqlite.specs.Held.{Held, state}
-use Rattle.ci_machine.specs.State.{State, applied}
+use Rattle.ci_machine.specs.Kept.{Kept, written}
+use Rattle.ci_machine.specs.State.{State}
 use Rattle.ci_tables.specs.Statements.{Changes}
 use Rattle.ci_machine.specs.declared.change.RowChange.{RowChange}
+use Rattle.ci_machine.specs.declared.records.BoardRow.{BoardRow}
 use Rattle.ci_store.specs.declared.commit.Ended.{Ended}
 use Rattle.ci_store.specs.declared.commit.Ended.TheVariants.{Done, Undone}
 use Rattle.ci_store.specs.Stands.{Stands, StandsIn}
 
--- inside a transaction the tables follow this change of the state
-abbrev pub Makes : {S : Type 0} → Ghosts S → (State → State) → Held S → Held S → Type 0
-Makes g change old new = IsTrue new.in_transaction × ((s : State) → Stands s (state g old).now → Stands (change s) (state g new).now)
+-- a change of the state, which leaves the rows of the statuses
+abbrev pub in_state : (State → State) → Kept → Kept
+in_state change k = record k { state = change k.state }
 
--- where a call inside a transaction ends well, the tables follow this change of the state
-abbrev pub MakesInside : {S A E : Type 0} → Ghosts S → (State → State) → Held S → Held S → Result A E → Type 0
+-- a change of the rows of the statuses, which leaves the state
+abbrev pub in_board : (List BoardRow → List BoardRow) → Kept → Kept
+in_board change k = record k { board = change k.board }
+
+-- inside a transaction the tables follow this change of what they keep
+abbrev pub Makes : {S : Type 0} → Ghosts S → (Kept → Kept) → Held S → Held S → Type 0
+Makes g change old new = IsTrue new.in_transaction × ((k : Kept) → Stands k (state g old).now → Stands (change k) (state g new).now)
+
+-- where a call inside a transaction ends well, the tables follow this change of what they keep
+abbrev pub MakesInside : {S A E : Type 0} → Ghosts S → (Kept → Kept) → Held S → Held S → Result A E → Type 0
 MakesInside g change old new result = HasCleanDisk (state g new) → IsTrue old.in_transaction → OnOk result (Makes g change old new)
 
--- what is committed after the changes stands for the state after them
-abbrev pub CommitsAll : {S : Type 0} → Ghosts S → List RowChange → Held S → Trees → Type 0
-CommitsAll g changes old db = (s : State) → Stands s (state g old).now → StandsIn (applied changes s) db
+-- what is committed stands for what is kept after the changes and the puts of rows
+abbrev pub CommitsAll : {S : Type 0} → Ghosts S → List RowChange → List BoardRow → Held S → Trees → Type 0
+CommitsAll g changes rows old db = (k : Kept) → Stands k (state g old).now → StandsIn (written changes rows k) db
 
 abbrev pub is_done : Ended → Bool
 is_done Done = true
@@ -37,10 +47,10 @@ pub record IsBack {S : Type 0} (g : Ghosts S) (old new : Held S) : Type 0 where
   pub was_open : IsTrue (state g new).is_open → IsTrue (state g old).is_open
   pub back : IsTrue (state g new).is_open → ((state g new).now ≡ (state g old).committed) × ((state g new).committed ≡ (state g old).committed)
 
--- the changes are made and committed
-pub record IsDone {S : Type 0} (g : Ghosts S) (changes : List RowChange) (old new : Held S) : Type 0 where
+-- the changes are made, the rows are put, and all is committed
+pub record IsDone {S : Type 0} (g : Ghosts S) (changes : List RowChange) (rows : List BoardRow) (old new : Held S) : Type 0 where
   pub is_open : IsTrue (state g new).is_open
-  pub stands : (s : State) → Stands s (state g old).now → Stands (applied changes s) (state g new).now
+  pub stands : (k : Kept) → Stands k (state g old).now → Stands (written changes rows k) (state g new).now
   pub committed : (state g new).committed ≡ (state g new).now
 
 -- the queries, each after the one before, show no row

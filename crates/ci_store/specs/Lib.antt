@@ -1,5 +1,4 @@
 pub mod Schema
-pub mod JsonText
 pub mod Rows
 pub mod Stands
 pub mod Calls

@@ -1,27 +1,19 @@
 -- What the rows that are read hold.
-use Rattle.std.specs.Prelude.{◌≡◌, ℕ, List, [], ◌∷◌, Option, Some}
+use Rattle.std.specs.Prelude.{◌≡◌, ℕ, List, [], ◌∷◌, Option}
 use Rattle.sqlite.specs.declared.types.Value.{Value}
 use Rattle.sqlite.specs.declared.types.Value.TheVariants.{Text}
 use Rattle.sqlite.specs.Values.{or_null}
 use Rattle.sqlite.specs.Order.{Row}
-use Rattle.serde_json.specs.Read.{read}
 use Rattle.ci_machine.specs.declared.records.Runner.{Runner}
 use Rattle.ci_machine.specs.declared.records.Job.{Job}
 use Rattle.ci_machine.specs.declared.records.JobOptions.{JobOptions}
 use Rattle.ci_values.specs.declared.attempts.AttemptState.{AttemptState}
-use Rattle.ci_store.specs.JsonText.{tags_data, spec_data}
+use Rattle.ci_records.specs.Reads.{ReadsTags, ReadsSpec}
 use Rattle.ci_store.specs.Rows.{number, flag, state_number, cause_in, exit_in}
 
 -- the three columns are those of the state
 abbrev pub HasState : ℕ → Option ℕ → Option ℕ → AttemptState → Type 0
 HasState number cause exit state = (number ≡ state_number state) × (cause ≡ cause_in state) × (exit ≡ exit_in state)
-
--- the text can be read as these tags alone
-abbrev pub ReadsTags : List ℕ → List (List ℕ) → Type 0
-ReadsTags text tags = (others : List (List ℕ)) → read text ≡ Some (tags_data others) → tags ≡ others
-
-abbrev pub ReadsSpec : List ℕ → JobOptions → Type 0
-ReadsSpec text spec = (others : JobOptions) → read text ≡ Some (spec_data others) → spec ≡ others
 
 -- the value is a text that can be read as these tags alone
 abbrev pub HoldsTags : Value → List (List ℕ) → Type 0

@@ -9,8 +9,11 @@ use Rattle.ci_machine.specs.declared.records.Runner.{Runner}
 use Rattle.ci_machine.specs.declared.records.Pipeline.{Pipeline}
 use Rattle.ci_machine.specs.declared.records.Job.{Job}
 use Rattle.ci_machine.specs.declared.records.JobVariable.{JobVariable}
+use Rattle.ci_machine.specs.declared.records.Need.{Need}
 use Rattle.ci_machine.specs.declared.records.Attempt.{Attempt}
 use Rattle.ci_machine.specs.declared.records.Piece.{Piece}
+use Rattle.ci_machine.specs.declared.records.BoardRow.{BoardRow}
+use Rattle.ci_board.specs.Effects.{status_number}
 use Rattle.ci_machine.specs.declared.records.RefKind.{RefKind}
 use Rattle.ci_machine.specs.declared.records.RefKind.TheVariants.{Branch, Tag}
 use Rattle.ci_machine.specs.declared.records.Source.{Source}
@@ -19,7 +22,7 @@ use Rattle.ci_values.specs.declared.attempts.Cause.{Cause}
 use Rattle.ci_values.specs.declared.attempts.Cause.TheVariants.{UnknownFailure, ScriptFailure, ApiFailure, StuckOrTimeoutFailure, RunnerSystemFailure, JobExecutionTimeout}
 use Rattle.ci_values.specs.declared.attempts.AttemptState.{AttemptState}
 use Rattle.ci_values.specs.declared.attempts.AttemptState.TheVariants.{Live, Succeeded, Failed, Cancelled}
-use Rattle.ci_store.specs.JsonText.{tags_text, spec_text}
+use Rattle.ci_records.specs.JsonText.{tags_text, spec_text}
 
 abbrev pub number : ℕ → Value
 number n = Int (pos n)
@@ -82,3 +85,9 @@ attempt_row a =
 
 abbrev pub piece_row : Piece → Row
 piece_row p = number p.attempt ∷ number p.seq ∷ Blob p.bytes ∷ []
+
+abbrev pub need_row : Need → Row
+need_row n = number n.job ∷ number n.pred ∷ []
+
+abbrev pub board_row : BoardRow → Row
+board_row r = number r.job ∷ number (status_number r.row.status) ∷ number r.row.opens ∷ number r.row.failed ∷ number r.row.barred ∷ []

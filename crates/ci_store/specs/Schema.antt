@@ -173,5 +173,39 @@ piece =
 abbrev pub piece_index_1 : Index
 piece_index_1 = automatic piece 0 (1 ∷ 2 ∷ []) 15
 
+-- the job of the second column is one that the first one's waits for
+abbrev pub need : Table
+need =
+    keyed (codes "need") 16
+    (column (codes "job") Integer true
+    ∷ column (codes "pred") Integer true
+    ∷ [])
+    (1 ∷ 2 ∷ []) (refers 1 (codes "job") Cascade ∷ refers 2 (codes "job") Cascade ∷ [])
+
+abbrev pub need_index_1 : Index
+need_index_1 = automatic need 0 (1 ∷ 2 ∷ []) 17
+
+abbrev pub need_pred : Index
+need_pred = record { name = codes "need_pred"; tree = 18; table = 16; columns = 2 ∷ []; order = plain; is_unique = false }
+
+abbrev pub board : Table
+board =
+    numbered (codes "board") 19
+    (column (codes "job") Integer false
+    ∷ column (codes "status") Integer true
+    ∷ column (codes "open") Integer true
+    ∷ column (codes "failed") Integer true
+    ∷ column (codes "barred") Integer true
+    ∷ [])
+    [] (refers 0 (codes "job") Cascade ∷ [])
+
+-- by the status, and of one status by the job, which is the rowid
+abbrev pub board_status : Index
+board_status = record { name = codes "board_status"; tree = 20; table = 19; columns = 2 ∷ 0 ∷ []; order = plain; is_unique = false }
+
 abbrev pub the_schema : Schema
-the_schema = record { tables = meta ∷ project ∷ runner ∷ pipeline ∷ job ∷ jobvar ∷ attempt ∷ piece ∷ []; indexes = meta_index_1 ∷ project_index_1 ∷ runner_index_1 ∷ job_pipeline ∷ jobvar_index_1 ∷ attempt_job ∷ attempt_state ∷ piece_index_1 ∷ []; views = [] }
+the_schema = record {
+  tables = meta ∷ project ∷ runner ∷ pipeline ∷ job ∷ jobvar ∷ attempt ∷ piece ∷ need ∷ board ∷ [];
+  indexes = meta_index_1 ∷ project_index_1 ∷ runner_index_1 ∷ job_pipeline ∷ jobvar_index_1 ∷ attempt_job ∷ attempt_state ∷ piece_index_1 ∷ need_index_1 ∷ need_pred ∷ board_status ∷ [];
+  views = [];
+}

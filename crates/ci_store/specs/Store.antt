@@ -1,6 +1,6 @@
--- What a call leaves of a store: the state that it holds, and what a stop may leave.
+-- What a call leaves of a store: what it keeps, a state with rows of statuses, and what a stop may leave.
 use Rattle.std.specs.Prelude.{Result, Ok, Err, IfOk}
-use Rattle.ci_machine.specs.State.{State}
+use Rattle.ci_machine.specs.Kept.{Kept}
 use Rattle.ci_tables.specs.declared.fault.StoreFault.{StoreFault}
 use Rattle.ci_tables.specs.declared.fault.StoreFault.TheVariants.{Memory, Broken}
 
@@ -16,11 +16,11 @@ Ends (Ok x) done memory broken = done
 Ends (Err Memory) done memory broken = memory
 Ends (Err Broken) done memory broken = broken
 
--- A call that only loads: its answer is so of the state that the store holds. Unless the store fails, it holds that state still; and a stop
--- leaves that state alone, however the call ends.
+-- A call that only loads: its answer is so of what the store keeps. Unless the store fails, it keeps that still; and a stop leaves that
+-- alone, however the call ends.
 -- All of it stands under an honest disk: one that has given back, up to the call's end, what was written to it.
-pub record LoadsBy {T A : Type 0} (honest : T → Type 0) (holds : T → State → Type 0) (leaves : T → State → State → Type 0) (old new : T) (result : Result A StoreFault) (IsSo : State → A → Type 0) : Type 0 where
+pub record LoadsBy {T A : Type 0} (honest : T → Type 0) (holds : T → Kept → Type 0) (leaves : T → Kept → Kept → Type 0) (old new : T) (result : Result A StoreFault) (IsSo : Kept → A → Type 0) : Type 0 where
   pub was_honest : honest new → honest old
-  pub kept : honest new → (s : State) → holds old s → UnlessBroken result (holds new s)
-  pub left : honest new → (s : State) → holds old s → leaves new s s
-  pub answered : honest new → (s : State) → holds old s → IfOk result (IsSo s)
+  pub kept : honest new → (k : Kept) → holds old k → UnlessBroken result (holds new k)
+  pub left : honest new → (k : Kept) → holds old k → leaves new k k
+  pub answered : honest new → (k : Kept) → holds old k → IfOk result (IsSo k)

@@ -42,13 +42,15 @@ fn read_state(state: u32, cause: Option<u32>, exit: Option<u32>) -> Option<Attem
 }
 
 impl Stored for Attempt {
+    ghost use Rattle.ci_machine.specs.State.{with_record};
     ghost use Rattle.ci_machine.specs.declared.change.Record.TheVariants as variant;
+    ghost use Rattle.ci_store.specs.Commit.{in_state};
     ghost use Rattle.std.specs.Prelude.{◌≡◌};
     ghost use Rattle.ci_store.specs.Rows.{attempt_row};
 
     ghost is_row = { λ row a. row ≡ attempt_row a };
 
-    ghost as_record = { variant.Attempt };
+    ghost puts = { λ x. in_state (with_record (variant.Attempt x)) };
 
     fn read(_: Global, row: &Row) -> Result<Attempt, StoreFault> {
         has_columns(row, 11)?;

@@ -4,15 +4,18 @@ ghost use Rattle.std.specs.Prelude.{◌≡◌, ◌≤◌, true, false, Err, OnOk
 ghost use Rattle.sqlite.specs.State.{HasCleanDisk, Survives};
 ghost use Rattle.sqlite_trees.specs.View.{doubt};
 ghost use Rattle.sqlite.specs.Held.{state};
-ghost use Rattle.ci_machine.specs.State.{State, applied};
+ghost use Rattle.ci_machine.specs.Kept.{Kept, put_rows, written};
+ghost use Rattle.ci_machine.specs.State.{applied};
 ghost use Rattle.ci_store.specs.Stands.{IsAt, LeavesEither};
 ghost use Rattle.ci_tables.specs.declared.fault.StoreFault.TheVariants.{Memory};
 ghost use Rattle.ci_tables.specs.Statements.{KeepsInside, CommitsNothing};
-ghost use Rattle.ci_store.specs.Commit.{MakesInside, CommitsAll, is_done, is_undone, IsBack, IsDone};
+ghost use Rattle.ci_store.specs.Commit.{in_state, in_board, MakesInside, CommitsAll, is_done, is_undone, IsBack, IsDone};
 
 use crate::make::make;
 use crate::probe::probe;
+use crate::read::Stored;
 use ci_machine::change::RowChange;
+use ci_machine::records::BoardRow;
 use ci_tables::fault::StoreFault;
 use sqlite::{Alter, Connection, Transaction};
 use std::alloc::Global;
@@ -24,7 +27,7 @@ fn make_all<S: Alter>(
     changes: &[RowChange],
 ) -> Result<(), StoreFault>
     ensures same_reference { tx.new.conn.ghost_name ≡ tx.old.conn.ghost_name }
-    ensures makes { MakesInside S.Store (applied changes.now) tx.old.conn.now tx.new.conn.now result }
+    ensures makes { MakesInside S.Store (in_state (applied changes.now)) tx.old.conn.now tx.new.conn.now result }
     ensures kept { KeepsInside S.Store tx.old.conn.now tx.new.conn.now }
     ensures survives { CommitsNothing S.Store tx.old.conn.now tx.new.conn.now }
 {
@@ -32,6 +35,39 @@ fn make_all<S: Alter>(
         make(tx, alloc, change)?;
     }
     Ok(())
+}
+
+/// Puts the rows of statuses in turn.
+fn put_rows<S: Alter>(
+    tx: &mut Transaction<'_, S>,
+    alloc: Global,
+    rows: &[BoardRow],
+) -> Result<(), StoreFault>
+    ensures same_reference { tx.new.conn.ghost_name ≡ tx.old.conn.ghost_name }
+    ensures makes { MakesInside S.Store (in_board (put_rows rows.now)) tx.old.conn.now tx.new.conn.now result }
+    ensures kept { KeepsInside S.Store tx.old.conn.now tx.new.conn.now }
+    ensures survives { CommitsNothing S.Store tx.old.conn.now tx.new.conn.now }
+{
+    for row in rows {
+        row.put(tx, alloc, false)?;
+    }
+    Ok(())
+}
+
+/// Makes the changes in turn, and then puts the rows.
+fn write_all<S: Alter>(
+    tx: &mut Transaction<'_, S>,
+    alloc: Global,
+    changes: &[RowChange],
+    rows: &[BoardRow],
+) -> Result<(), StoreFault>
+    ensures same_reference { tx.new.conn.ghost_name ≡ tx.old.conn.ghost_name }
+    ensures makes { MakesInside S.Store (written changes.now rows.now) tx.old.conn.now tx.new.conn.now result }
+    ensures kept { KeepsInside S.Store tx.old.conn.now tx.new.conn.now }
+    ensures survives { CommitsNothing S.Store tx.old.conn.now tx.new.conn.now }
+{
+    make_all(tx, alloc, changes)?;
+    put_rows(tx, alloc, rows)
 }
 
 /// How a transaction of changes ended.
@@ -44,16 +80,21 @@ enum Ended {
     Unknown(StoreFault),
 }
 
-fn attempt<S: Alter>(conn: &mut Connection<S>, alloc: Global, changes: &[RowChange]) -> Ended
+fn attempt<S: Alter>(
+    conn: &mut Connection<S>,
+    alloc: Global,
+    changes: &[RowChange],
+    rows: &[BoardRow],
+) -> Ended
     requires { conn.old.in_transaction ≡ false }
     ensures idle { conn.new.in_transaction ≡ false }
-    ensures done { HasCleanDisk (state S.Store conn.new) → is_done result ≡ true → IsDone S.Store changes.now conn.old conn.new }
+    ensures done { HasCleanDisk (state S.Store conn.new) → is_done result ≡ true → IsDone S.Store changes.now rows.now conn.old conn.new }
     ensures back { HasCleanDisk (state S.Store conn.new) → is_done result ≡ false → IsBack S.Store conn.old conn.new }
-    ensures survives { Survives (state S.Store conn.old) (state S.Store conn.new) (CommitsAll S.Store changes.now conn.old) }
+    ensures survives { Survives (state S.Store conn.old) (state S.Store conn.new) (CommitsAll S.Store changes.now rows.now conn.old) }
     ensures quiet { is_undone result ≡ true → Survives (state S.Store conn.old) (state S.Store conn.new) (λ _. ⊥) }
 {
     let mut tx = conn.transaction();
-    if let Err(fault) = make_all(&mut tx, alloc, changes) {
+    if let Err(fault) = write_all(&mut tx, alloc, changes, rows) {
         return Ended::Undone(fault);
     }
     match tx.commit() {
@@ -62,22 +103,23 @@ fn attempt<S: Alter>(conn: &mut Connection<S>, alloc: Global, changes: &[RowChan
     }
 }
 
-/// Makes the changes in one transaction, or none of them.
+/// Makes the changes and puts the rows in one transaction, or none of it.
 pub(crate) fn commit<S: Alter>(
     conn: &mut Connection<S>,
     alloc: Global,
     changes: &[RowChange],
+    rows: &[BoardRow],
 ) -> Result<(), StoreFault>
     requires { conn.old.in_transaction ≡ false }
     ensures idle { conn.new.in_transaction ≡ false }
     ensures clean { doubt (state S.Store conn.old).is_clean ≤ doubt (state S.Store conn.new).is_clean }
-    ensures done { HasCleanDisk (state S.Store conn.new) → OnOk result ((s : State) → IsAt S.Store s conn.old → IsAt S.Store (applied changes.now s) conn.new) }
-    ensures memory { HasCleanDisk (state S.Store conn.new) → result ≡ Err Memory → (s : State) → IsAt S.Store s conn.old → IsAt S.Store s conn.new }
-    ensures left { HasCleanDisk (state S.Store conn.new) → (s : State) → IsAt S.Store s conn.old → LeavesEither S.Store s (applied changes.now s) conn.new }
+    ensures done { HasCleanDisk (state S.Store conn.new) → OnOk result ((k : Kept) → IsAt S.Store k conn.old → IsAt S.Store (written changes.now rows.now k) conn.new) }
+    ensures memory { HasCleanDisk (state S.Store conn.new) → result ≡ Err Memory → (k : Kept) → IsAt S.Store k conn.old → IsAt S.Store k conn.new }
+    ensures left { HasCleanDisk (state S.Store conn.new) → (k : Kept) → IsAt S.Store k conn.old → LeavesEither S.Store k (written changes.now rows.now k) conn.new }
 {
     // With no transaction open, what is seen is what is committed.
     let _is_idle = conn.is_autocommit();
-    match attempt(conn, alloc, changes) {
+    match attempt(conn, alloc, changes, rows) {
         Ended::Done => Ok(()),
         Ended::Undone(fault) | Ended::Unknown(fault) => match probe(conn) {
             Ok(()) => Err(fault),

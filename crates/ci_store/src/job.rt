@@ -5,10 +5,10 @@ ghost use Rattle.sqlite.specs.Order.{column};
 ghost use Rattle.ci_store.specs.Load.{HoldsSpec};
 
 use crate::columns::text;
-use crate::json_text::{read_spec, spec_text};
 use crate::read::{Stored, flag_at, has_columns, text_at};
 use crate::texts;
 use ci_machine::records::{Job, JobOptions};
+use ci_records::{read_spec, spec_text};
 use ci_tables::fault::StoreFault;
 use ci_tables::values::number;
 use ci_tables::write::put;
@@ -24,12 +24,14 @@ fn options_at(alloc: Global, row: &Row, at: usize) -> Result<JobOptions, StoreFa
 }
 
 impl Stored for Job {
+    ghost use Rattle.ci_machine.specs.State.{with_record};
     ghost use Rattle.ci_machine.specs.declared.change.Record.TheVariants as variant;
+    ghost use Rattle.ci_store.specs.Commit.{in_state};
     ghost use Rattle.ci_store.specs.Load.{IsJobRow};
 
     ghost is_row = { IsJobRow };
 
-    ghost as_record = { variant.Job };
+    ghost puts = { λ x. in_state (with_record (variant.Job x)) };
 
     fn read(alloc: Global, row: &Row) -> Result<Job, StoreFault> {
         has_columns(row, 9)?;

@@ -11,13 +11,15 @@ use sqlite::{Alter, Row, Transaction};
 use std::alloc::Global;
 
 impl Stored for JobVariable {
+    ghost use Rattle.ci_machine.specs.State.{with_record};
     ghost use Rattle.ci_machine.specs.declared.change.Record.TheVariants as variant;
+    ghost use Rattle.ci_store.specs.Commit.{in_state};
     ghost use Rattle.std.specs.Prelude.{◌≡◌};
     ghost use Rattle.ci_store.specs.Rows.{job_variable_row};
 
     ghost is_row = { λ row v. row ≡ job_variable_row v };
 
-    ghost as_record = { variant.JobVariable };
+    ghost puts = { λ x. in_state (with_record (variant.JobVariable x)) };
 
     fn read(_: Global, row: &Row) -> Result<JobVariable, StoreFault> {
         has_columns(row, 3)?;

@@ -2,13 +2,14 @@
 #![tactic(auto)]
 
 mod attempt;
+mod board_row;
 pub mod columns;
 pub mod commit;
 mod job;
 mod job_variable;
-pub mod json_text;
 pub mod load;
 pub mod make;
+mod need;
 mod piece;
 mod pipeline;
 mod probe;

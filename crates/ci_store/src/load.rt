@@ -7,15 +7,17 @@ ghost use Rattle.sqlite.specs.Values.{bound};
 ghost use Rattle.sqlite.specs.State.{Shown};
 ghost use Rattle.sqlite.specs.Held.{state};
 ghost use Rattle.sqlite_trees.specs.View.{doubt};
+ghost use Rattle.ci_board.specs.Effects.{status_number};
 ghost use Rattle.ci_machine.specs.Step.{next_of};
 ghost use Rattle.ci_store.specs.Schema.{the_schema};
 ghost use Rattle.ci_store.specs.Calls.{Loads, ShowsRecords, listed};
 ghost use Rattle.ci_store.specs.Rows.{number};
 
-use crate::columns::counter_key;
+use crate::columns::{counter_key, status_number};
 use crate::probe::probe_intact;
 use crate::read::{Stored, read_all};
 use crate::texts;
+use ci_board::facts::Status;
 use ci_machine::change::Counter;
 use ci_tables::fault::StoreFault;
 use ci_tables::read::rows;
@@ -48,7 +50,7 @@ pub(crate) fn look_up<S: Alter>(
 pub(crate) fn next<S: Alter>(conn: &mut Connection<S>, counter: Counter) -> Result<u64, StoreFault>
     requires { conn.old.in_transaction ≡ false }
     ensures idle { conn.new.in_transaction ≡ false }
-    ensures loads { Loads S.Store conn.old conn.new result (λ s n. n ≡ next_of counter s.next) }
+    ensures loads { Loads S.Store conn.old conn.new result (λ k n. n ≡ next_of counter k.state.next) }
 {
     let rows = look_up(conn, texts::SELECT_META, &[counter_key(counter).to_sql()])?;
     match rows.as_slice() {
@@ -119,4 +121,39 @@ pub(crate) fn list_of<S: Alter, R: Stored>(
 {
     let owner = number(owner)?;
     list(conn, sql, &[owner])
+}
+
+/// The records that a query by the first number of a range and by its last one shows.
+pub(crate) fn list_within<S: Alter, R: Stored>(
+    conn: &mut Connection<S>,
+    sql: &str,
+    first: u64,
+    last: u64,
+) -> Result<Vec<R>, StoreFault>
+    requires idle { conn.old.in_transaction ≡ false }
+    requires plain { IsPlain (understood the_schema sql.now) }
+    ensures idle { conn.new.in_transaction ≡ false }
+    ensures loads { Loads S.Store conn.old conn.new result (λ _ found. ShowsRecords R.is_row S.Store sql.now (number first ∷ number last ∷ []) conn.old conn.new found.items) }
+{
+    let first = number(first)?;
+    let last = number(last)?;
+    list(conn, sql, &[first, last])
+}
+
+/// The records that a query by a status, by the job before the page, and by how many rows a page has shows.
+pub(crate) fn list_after<S: Alter, R: Stored>(
+    conn: &mut Connection<S>,
+    sql: &str,
+    status: Status,
+    job: u64,
+    count: usize,
+) -> Result<Vec<R>, StoreFault>
+    requires idle { conn.old.in_transaction ≡ false }
+    requires plain { IsPlain (understood the_schema sql.now) }
+    ensures idle { conn.new.in_transaction ≡ false }
+    ensures loads { Loads S.Store conn.old conn.new result (λ _ found. ShowsRecords R.is_row S.Store sql.now (number (status_number status) ∷ number job ∷ number count ∷ []) conn.old conn.new found.items) }
+{
+    let job = number(job)?;
+    let count = number(count as u64)?;
+    list(conn, sql, &[status_number(status).to_sql(), job, count])
 }

@@ -7,7 +7,7 @@ ghost use Rattle.sqlite.specs.Held.{state};
 ghost use Rattle.ci_machine.specs.State.{with_record, without_record, with_next, changed};
 ghost use Rattle.ci_tables.specs.Statements.{KeepsInside, CommitsNothing};
 ghost use Rattle.ci_machine.specs.declared.change.Key.TheVariants as key;
-ghost use Rattle.ci_store.specs.Commit.{MakesInside, RemovesUnreferred};
+ghost use Rattle.ci_store.specs.Commit.{in_state, MakesInside, RemovesUnreferred};
 ghost use Rattle.ci_store.specs.Rows.{number};
 
 use crate::columns::{counter_key, text};
@@ -30,7 +30,7 @@ fn put_record<S: Alter>(
     item: &Record,
 ) -> Result<(), StoreFault>
     ensures same_reference { tx.new.conn.ghost_name ≡ tx.old.conn.ghost_name }
-    ensures makes { MakesInside S.Store (with_record item.now) tx.old.conn.now tx.new.conn.now result }
+    ensures makes { MakesInside S.Store (in_state (with_record item.now)) tx.old.conn.now tx.new.conn.now result }
     ensures kept { KeepsInside S.Store tx.old.conn.now tx.new.conn.now }
     ensures survives { CommitsNothing S.Store tx.old.conn.now tx.new.conn.now }
 {
@@ -40,6 +40,7 @@ fn put_record<S: Alter>(
         Record::Pipeline(pipeline) => pipeline.put(tx, alloc, is_new),
         Record::Job(job) => job.put(tx, alloc, is_new),
         Record::JobVariable(variable) => variable.put(tx, alloc, is_new),
+        Record::Need(need) => need.put(tx, alloc, is_new),
         Record::Attempt(attempt) => attempt.put(tx, alloc, is_new),
         Record::Piece(piece) => piece.put(tx, alloc, is_new),
     }
@@ -108,7 +109,7 @@ fn remove_job_variable<S: Alter>(
     name: &Text,
 ) -> Result<(), StoreFault>
     ensures same_reference { tx.new.conn.ghost_name ≡ tx.old.conn.ghost_name }
-    ensures makes { MakesInside S.Store (without_record (key.JobVariable job name.now)) tx.old.conn.now tx.new.conn.now result }
+    ensures makes { MakesInside S.Store (in_state (without_record (key.JobVariable job name.now))) tx.old.conn.now tx.new.conn.now result }
     ensures kept { KeepsInside S.Store tx.old.conn.now tx.new.conn.now }
     ensures survives { CommitsNothing S.Store tx.old.conn.now tx.new.conn.now }
 {
@@ -116,24 +117,27 @@ fn remove_job_variable<S: Alter>(
     remove(tx, &[], texts::DELETE_JOB_VARIABLE, &[job, text(name)])
 }
 
-fn remove_piece<S: Alter>(
+/// Removes the row with a key of two numbers, to which no other refers.
+fn remove_pair<S: Alter>(
     tx: &mut Transaction<'_, S>,
-    attempt: u64,
-    seq: u64,
+    delete: &str,
+    first: u64,
+    second: u64,
 ) -> Result<(), StoreFault>
     ensures same_reference { tx.new.conn.ghost_name ≡ tx.old.conn.ghost_name }
-    ensures makes { MakesInside S.Store (without_record (key.Piece attempt seq)) tx.old.conn.now tx.new.conn.now result }
+    ensures removes { HasCleanDisk (state S.Store tx.new.conn.now) → IsTrue tx.old.conn.now.in_transaction
+        → OnOk result (IsTrue tx.new.conn.now.in_transaction × RemovesUnreferred S.Store [] delete.now (number first ∷ number second ∷ []) tx.old.conn.now tx.new.conn.now) }
     ensures kept { KeepsInside S.Store tx.old.conn.now tx.new.conn.now }
     ensures survives { CommitsNothing S.Store tx.old.conn.now tx.new.conn.now }
 {
-    let attempt = number(attempt)?;
-    let seq = number(seq)?;
-    remove(tx, &[], texts::DELETE_PIECE, &[attempt, seq])
+    let first = number(first)?;
+    let second = number(second)?;
+    remove(tx, &[], delete, &[first, second])
 }
 
 fn remove_record<S: Alter>(tx: &mut Transaction<'_, S>, key: &Key) -> Result<(), StoreFault>
     ensures same_reference { tx.new.conn.ghost_name ≡ tx.old.conn.ghost_name }
-    ensures makes { MakesInside S.Store (without_record key.now) tx.old.conn.now tx.new.conn.now result }
+    ensures makes { MakesInside S.Store (in_state (without_record key.now)) tx.old.conn.now tx.new.conn.now result }
     ensures kept { KeepsInside S.Store tx.old.conn.now tx.new.conn.now }
     ensures survives { CommitsNothing S.Store tx.old.conn.now tx.new.conn.now }
 {
@@ -143,13 +147,20 @@ fn remove_record<S: Alter>(tx: &mut Transaction<'_, S>, key: &Key) -> Result<(),
         Key::Pipeline(id) => remove_at(tx, &[texts::SELECT_JOBS_OF], texts::DELETE_PIPELINE, *id),
         Key::Job(id) => remove_at(
             tx,
-            &[texts::SELECT_JOB_VARIABLES, texts::SELECT_ATTEMPTS_OF],
+            &[
+                texts::SELECT_JOB_VARIABLES,
+                texts::SELECT_ATTEMPTS_OF,
+                texts::SELECT_NEEDS_OF,
+                texts::SELECT_NEEDS_ON,
+                texts::SELECT_ROW,
+            ],
             texts::DELETE_JOB,
             *id,
         ),
         Key::JobVariable(job, name) => remove_job_variable(tx, *job, name),
+        Key::Need(job, pred) => remove_pair(tx, texts::DELETE_NEED, *job, *pred),
         Key::Attempt(id) => remove_at(tx, &[texts::SELECT_PIECES], texts::DELETE_ATTEMPT, *id),
-        Key::Piece(attempt, seq) => remove_piece(tx, *attempt, *seq),
+        Key::Piece(attempt, seq) => remove_pair(tx, texts::DELETE_PIECE, *attempt, *seq),
     }
 }
 
@@ -159,7 +170,7 @@ fn set_next<S: Alter>(
     next: u64,
 ) -> Result<(), StoreFault>
     ensures same_reference { tx.new.conn.ghost_name ≡ tx.old.conn.ghost_name }
-    ensures makes { MakesInside S.Store (λ s. record s { next = with_next counter next s.next }) tx.old.conn.now tx.new.conn.now result }
+    ensures makes { MakesInside S.Store (in_state (λ s. record s { next = with_next counter next s.next })) tx.old.conn.now tx.new.conn.now result }
     ensures kept { KeepsInside S.Store tx.old.conn.now tx.new.conn.now }
     ensures survives { CommitsNothing S.Store tx.old.conn.now tx.new.conn.now }
 {
@@ -178,7 +189,7 @@ pub(crate) fn make<S: Alter>(
     change: &RowChange,
 ) -> Result<(), StoreFault>
     ensures same_reference { tx.new.conn.ghost_name ≡ tx.old.conn.ghost_name }
-    ensures makes { MakesInside S.Store (changed change.now) tx.old.conn.now tx.new.conn.now result }
+    ensures makes { MakesInside S.Store (in_state (changed change.now)) tx.old.conn.now tx.new.conn.now result }
     ensures kept { KeepsInside S.Store tx.old.conn.now tx.new.conn.now }
     ensures survives { CommitsNothing S.Store tx.old.conn.now tx.new.conn.now }
 {

@@ -11,13 +11,15 @@ use sqlite::{Alter, Row, Transaction};
 use std::alloc::Global;
 
 impl Stored for Piece {
+    ghost use Rattle.ci_machine.specs.State.{with_record};
     ghost use Rattle.ci_machine.specs.declared.change.Record.TheVariants as variant;
+    ghost use Rattle.ci_store.specs.Commit.{in_state};
     ghost use Rattle.std.specs.Prelude.{◌≡◌};
     ghost use Rattle.ci_store.specs.Rows.{piece_row};
 
     ghost is_row = { λ row p. row ≡ piece_row p };
 
-    ghost as_record = { variant.Piece };
+    ghost puts = { λ x. in_state (with_record (variant.Piece x)) };
 
     fn read(_: Global, row: &Row) -> Result<Piece, StoreFault> {
         has_columns(row, 3)?;

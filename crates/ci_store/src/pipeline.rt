@@ -38,13 +38,15 @@ fn read_source(number: u32) -> Option<Source>
 }
 
 impl Stored for Pipeline {
+    ghost use Rattle.ci_machine.specs.State.{with_record};
     ghost use Rattle.ci_machine.specs.declared.change.Record.TheVariants as variant;
+    ghost use Rattle.ci_store.specs.Commit.{in_state};
     ghost use Rattle.std.specs.Prelude.{◌≡◌};
     ghost use Rattle.ci_store.specs.Rows.{pipeline_row};
 
     ghost is_row = { λ row p. row ≡ pipeline_row p };
 
-    ghost as_record = { variant.Pipeline };
+    ghost puts = { λ x. in_state (with_record (variant.Pipeline x)) };
 
     fn read(_: Global, row: &Row) -> Result<Pipeline, StoreFault> {
         has_columns(row, 6)?;

@@ -4,7 +4,7 @@ ghost use Rattle.std.specs.Prelude.{◌≡◌, ◌≤◌, false, OnOk};
 ghost use Rattle.sqlite.specs.State.{HasCleanDisk, Survives, IsUnchanged};
 ghost use Rattle.sqlite_trees.specs.View.{doubt};
 ghost use Rattle.sqlite.specs.Held.{state};
-ghost use Rattle.ci_machine.specs.State.{State};
+ghost use Rattle.ci_machine.specs.Kept.{Kept};
 ghost use Rattle.ci_store.specs.Stands.{IsAt, LeavesOnly};
 
 use ci_tables::fault::StoreFault;
@@ -21,15 +21,15 @@ pub(crate) fn probe<S: Alter>(conn: &mut Connection<S>) -> Result<(), StoreFault
     Ok(())
 }
 
-/// Tells that the connection is open, by a statement that is not run. Then it holds the state that alone a stop leaves.
+/// Tells that the connection is open, by a statement that is not run. Then it keeps what alone a stop leaves.
 /// Errors: it is not open, or memory was refused.
 pub(crate) fn probe_intact<S: Alter>(conn: &mut Connection<S>) -> Result<(), StoreFault>
     requires { conn.old.in_transaction ≡ false }
     ensures idle { conn.new.in_transaction ≡ false }
     ensures same { HasCleanDisk (state S.Store conn.new) → OnOk result (IsUnchanged (state S.Store conn.old) (state S.Store conn.new)) }
     ensures survives { Survives (state S.Store conn.old) (state S.Store conn.new) (λ _. ⊥) }
-    ensures intact { HasCleanDisk (state S.Store conn.new) → OnOk result ((s : State) → LeavesOnly S.Store s conn.old → IsAt S.Store s conn.new) }
-    ensures left { HasCleanDisk (state S.Store conn.new) → (s : State) → LeavesOnly S.Store s conn.old → LeavesOnly S.Store s conn.new }
+    ensures intact { HasCleanDisk (state S.Store conn.new) → OnOk result ((k : Kept) → LeavesOnly S.Store k conn.old → IsAt S.Store k conn.new) }
+    ensures left { HasCleanDisk (state S.Store conn.new) → (k : Kept) → LeavesOnly S.Store k conn.old → LeavesOnly S.Store k conn.new }
 {
     let _schema = conn.schema();
     let _is_idle = conn.is_autocommit();

@@ -11,13 +11,15 @@ use sqlite::{Alter, Row, Transaction};
 use std::alloc::Global;
 
 impl Stored for Project {
+    ghost use Rattle.ci_machine.specs.State.{with_record};
     ghost use Rattle.ci_machine.specs.declared.change.Record.TheVariants as variant;
+    ghost use Rattle.ci_store.specs.Commit.{in_state};
     ghost use Rattle.std.specs.Prelude.{◌≡◌};
     ghost use Rattle.ci_store.specs.Rows.{project_row};
 
     ghost is_row = { λ row p. row ≡ project_row p };
 
-    ghost as_record = { variant.Project };
+    ghost puts = { λ x. in_state (with_record (variant.Project x)) };
 
     fn read(_: Global, row: &Row) -> Result<Project, StoreFault> {
         has_columns(row, 4)?;

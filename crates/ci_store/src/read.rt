@@ -5,8 +5,7 @@ ghost use Rattle.std.specs.List.{AllZip};
 ghost use Rattle.sqlite.specs.Order.{Row, column};
 ghost use Rattle.sqlite.specs.Values.{or_null};
 ghost use Rattle.sqlite.specs.declared.types.Value.TheVariants.{Text as Words, Blob};
-ghost use Rattle.ci_machine.specs.State.{with_record};
-ghost use Rattle.ci_machine.specs.declared.change.Record.{Record};
+ghost use Rattle.ci_machine.specs.Kept.{Kept};
 ghost use Rattle.ci_tables.specs.Statements.{KeepsInside, CommitsNothing};
 ghost use Rattle.ci_store.specs.Rows.{number, flag};
 ghost use Rattle.ci_store.specs.Commit.{MakesInside};
@@ -47,6 +46,13 @@ pub(crate) fn moment_at(row: &Row, at: usize) -> Result<Moment, StoreFault>
     Moment::new(row.get(at)?).ok_or(StoreFault::Broken)
 }
 
+pub(crate) fn count_at(row: &Row, at: usize) -> Result<usize, StoreFault>
+    ensures { IfOk result (λ n. column row.now at ≡ number n) }
+{
+    let count: u64 = row.get(at)?;
+    usize::try_from(count).map_err(|_| StoreFault::Broken)
+}
+
 /// A flag is 0 or 1.
 pub(crate) fn flag_at(row: &Row, at: usize) -> Result<bool, StoreFault>
     ensures { IfOk result (λ b. column row.now at ≡ flag b) }
@@ -74,8 +80,8 @@ pub trait Stored: Drop {
     /// The row has the values of the record.
     ghost is_row: { Row → Self → Type 0 };
 
-    /// The record as a change names it.
-    ghost as_record: { Self → Record };
+    /// What a put of the record makes of what is kept.
+    ghost puts: { Self → Kept → Kept };
 
     /// The record of a row. Errors: memory was refused, or the row is of no such record.
     fn read(alloc: Global, row: &Row) -> Result<Self, StoreFault>
@@ -90,7 +96,7 @@ pub trait Stored: Drop {
         is_new: bool,
     ) -> Result<(), StoreFault>
         ensures same_reference { tx.new.conn.ghost_name ≡ tx.old.conn.ghost_name }
-        ensures makes { MakesInside S.Store (with_record (as_record self.now)) tx.old.conn.now tx.new.conn.now result }
+        ensures makes { MakesInside S.Store (puts self.now) tx.old.conn.now tx.new.conn.now result }
         ensures kept { KeepsInside S.Store tx.old.conn.now tx.new.conn.now }
         ensures survives { CommitsNothing S.Store tx.old.conn.now tx.new.conn.now };
 }

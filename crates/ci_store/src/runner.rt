@@ -5,11 +5,11 @@ ghost use Rattle.sqlite.specs.Order.{column};
 ghost use Rattle.ci_store.specs.Load.{HoldsTags};
 
 use crate::columns::text;
-use crate::json_text::{read_tags, tags_text};
 use crate::read::{Stored, flag_at, has_columns, text_at};
 use crate::texts;
 use ci_machine::records::Runner;
 use ci_machine::text::Texts;
+use ci_records::{read_tags, tags_text};
 use ci_tables::fault::StoreFault;
 use ci_tables::values::{number, optional_number};
 use ci_tables::write::put;
@@ -25,12 +25,14 @@ fn tags_at(alloc: Global, row: &Row, at: usize) -> Result<Texts, StoreFault>
 }
 
 impl Stored for Runner {
+    ghost use Rattle.ci_machine.specs.State.{with_record};
     ghost use Rattle.ci_machine.specs.declared.change.Record.TheVariants as variant;
+    ghost use Rattle.ci_store.specs.Commit.{in_state};
     ghost use Rattle.ci_store.specs.Load.{IsRunnerRow};
 
     ghost is_row = { IsRunnerRow };
 
-    ghost as_record = { variant.Runner };
+    ghost puts = { λ x. in_state (with_record (variant.Runner x)) };
 
     fn read(alloc: Global, row: &Row) -> Result<Runner, StoreFault> {
         has_columns(row, 7)?;

@@ -1,79 +1,107 @@
 //! A store of the machine's state, by what it holds and by what a stop may leave of it.
 
 ghost use Rattle.std.specs.Prelude.{◌≡◌};
-ghost use Rattle.ci_machine.specs.State.{State, applied};
-ghost use Rattle.ci_machine.specs.Step.{project_at, project_with, runner_with, pipeline_at, job_at, variables_of, attempt_at, attempts_of, live_attempts, pieces_of, next_of};
+ghost use Rattle.ci_machine.specs.Kept.{Kept, written};
+ghost use Rattle.ci_machine.specs.Statuses.{attempts_of, jobs_of};
+ghost use Rattle.ci_machine.specs.Step.{project_at, project_with, runner_with, pipeline_at, job_at, variables_of, attempt_at, live_attempts, pieces_of, next_of};
+ghost use Rattle.ci_machine.specs.Ranges.{needs_within, attempts_within, rows_within, row_at, pending_after};
 ghost use Rattle.ci_store.specs.Store.{LoadsBy, Ends};
 
 use ci_machine::change::{Counter, Delta};
-use ci_machine::records::{Attempt, Job, JobVariable, Piece, Pipeline, Project, Runner};
+use ci_machine::records::{
+    Attempt, BoardRow, Job, JobVariable, Need, Piece, Pipeline, Project, Runner,
+};
 use ci_machine::text::Text;
 use ci_tables::fault::StoreFault;
 
-/// A store of the machine's state. Its loads give what the state has; one commit makes the changes of an event.
+/// How many rows a page of pending jobs has, at most.
+pub const PAGE_ROWS: usize = 16;
+
+/// A store of the machine's state, and of the rows of its jobs' statuses. Its loads give what the state has; one commit makes
+/// the changes of an event. It knows nothing of what makes the rows right.
 pub trait Store {
     /// The disk has given back what was written to it.
     ghost honest: { Self → Type 0 };
 
-    /// The store is open and holds this state, and a stop leaves it alone.
-    ghost holds: { Self → State → Type 0 };
+    /// The store is open and keeps this state with these rows, and a stop leaves them alone.
+    ghost holds: { Self → Kept → Type 0 };
 
-    /// A stop leaves one of the two states and nothing else.
-    ghost leaves: { Self → State → State → Type 0 };
+    /// A stop leaves one of the two, each a state with rows, and nothing else.
+    ghost leaves: { Self → Kept → Kept → Type 0 };
 
     /// The next number of a kind.
     fn next(&mut self, counter: Counter) -> Result<u64, StoreFault>
-        ensures { LoadsBy honest holds leaves self.old self.new result (λ s n. n ≡ next_of counter s.next) };
+        ensures { LoadsBy honest holds leaves self.old self.new result (λ k n. n ≡ next_of counter k.state.next) };
 
     /// The project with a number.
     fn project(&mut self, id: u64) -> Result<Option<Project>, StoreFault>
-        ensures { LoadsBy honest holds leaves self.old self.new result (λ s p. p ≡ project_at s id) };
+        ensures { LoadsBy honest holds leaves self.old self.new result (λ k p. p ≡ project_at k.state id) };
 
     /// The project with a token.
     fn project_with(&mut self, token: &Text) -> Result<Option<Project>, StoreFault>
-        ensures { LoadsBy honest holds leaves self.old self.new result (λ s p. p ≡ project_with s token.now) };
+        ensures { LoadsBy honest holds leaves self.old self.new result (λ k p. p ≡ project_with k.state token.now) };
 
     /// The runner with a token.
     fn runner_with(&mut self, token: &Text) -> Result<Option<Runner>, StoreFault>
-        ensures { LoadsBy honest holds leaves self.old self.new result (λ s r. r ≡ runner_with s token.now) };
+        ensures { LoadsBy honest holds leaves self.old self.new result (λ k r. r ≡ runner_with k.state token.now) };
 
     /// The pipeline with a number.
     fn pipeline(&mut self, id: u64) -> Result<Option<Pipeline>, StoreFault>
-        ensures { LoadsBy honest holds leaves self.old self.new result (λ s p. p ≡ pipeline_at s id) };
+        ensures { LoadsBy honest holds leaves self.old self.new result (λ k p. p ≡ pipeline_at k.state id) };
 
     /// The job with a number.
     fn job(&mut self, id: u64) -> Result<Option<Job>, StoreFault>
-        ensures { LoadsBy honest holds leaves self.old self.new result (λ s j. j ≡ job_at s id) };
+        ensures { LoadsBy honest holds leaves self.old self.new result (λ k j. j ≡ job_at k.state id) };
 
     /// The variables of a job, by key.
     fn job_variables(&mut self, job: u64) -> Result<Vec<JobVariable>, StoreFault>
-        ensures { LoadsBy honest holds leaves self.old self.new result (λ s vs. vs.items ≡ variables_of s job) };
+        ensures { LoadsBy honest holds leaves self.old self.new result (λ k vs. vs.items ≡ variables_of k.state job) };
 
     /// The attempt with a number.
     fn attempt(&mut self, id: u64) -> Result<Option<Attempt>, StoreFault>
-        ensures { LoadsBy honest holds leaves self.old self.new result (λ s a. a ≡ attempt_at s id) };
+        ensures { LoadsBy honest holds leaves self.old self.new result (λ k a. a ≡ attempt_at k.state id) };
 
     /// The attempts of a job, by number.
     fn attempts_of(&mut self, job: u64) -> Result<Vec<Attempt>, StoreFault>
-        ensures { LoadsBy honest holds leaves self.old self.new result (λ s attempts. attempts.items ≡ attempts_of s job) };
+        ensures { LoadsBy honest holds leaves self.old self.new result (λ k attempts. attempts.items ≡ attempts_of k.state job) };
 
     /// The attempts that have not ended, by number.
     fn live_attempts(&mut self) -> Result<Vec<Attempt>, StoreFault>
-        ensures { LoadsBy honest holds leaves self.old self.new result (λ s attempts. attempts.items ≡ live_attempts s) };
+        ensures { LoadsBy honest holds leaves self.old self.new result (λ k attempts. attempts.items ≡ live_attempts k.state) };
 
     /// The pieces of the trace of an attempt, in order.
     fn pieces_of(&mut self, attempt: u64) -> Result<Vec<Piece>, StoreFault>
-        ensures { LoadsBy honest holds leaves self.old self.new result (λ s pieces. pieces.items ≡ pieces_of s attempt) };
+        ensures { LoadsBy honest holds leaves self.old self.new result (λ k pieces. pieces.items ≡ pieces_of k.state attempt) };
 
-    /// All jobs, by number. It may read them all.
-    fn jobs(&mut self) -> Result<Vec<Job>, StoreFault>
-        ensures { LoadsBy honest holds leaves self.old self.new result (λ s jobs. jobs.items ≡ s.jobs) };
+    /// The jobs of a pipeline, by number.
+    fn jobs_of(&mut self, pipeline: u64) -> Result<Vec<Job>, StoreFault>
+        ensures { LoadsBy honest holds leaves self.old self.new result (λ k jobs. jobs.items ≡ jobs_of k.state pipeline) };
 
-    /// Makes the changes, all of them or none.
-    fn commit(&mut self, delta: Delta) -> Result<(), StoreFault>
+    /// The needs of the jobs from the first number to the last one, by the job and then by the one that it waits for.
+    fn needs_within(&mut self, first: u64, last: u64) -> Result<Vec<Need>, StoreFault>
+        ensures { LoadsBy honest holds leaves self.old self.new result (λ k needs. needs.items ≡ needs_within first last k.state.needs) };
+
+    /// The attempts of the jobs from the first number to the last one, by number.
+    fn attempts_within(&mut self, first: u64, last: u64) -> Result<Vec<Attempt>, StoreFault>
+        ensures { LoadsBy honest holds leaves self.old self.new result (λ k attempts. attempts.items ≡ attempts_within first last k.state.attempts) };
+
+    /// The rows of the jobs from the first number to the last one, by job.
+    fn rows_within(&mut self, first: u64, last: u64) -> Result<Vec<BoardRow>, StoreFault>
+        ensures { LoadsBy honest holds leaves self.old self.new result (λ k rows. rows.items ≡ rows_within first last k.board) };
+
+    /// The row of a job.
+    fn row(&mut self, job: u64) -> Result<Option<BoardRow>, StoreFault>
+        ensures { LoadsBy honest holds leaves self.old self.new result (λ k row. row ≡ row_at job k.board) };
+
+    /// The first pending rows behind a job, by job: at most `PAGE_ROWS` of them.
+    fn pending_after(&mut self, job: u64) -> Result<Vec<BoardRow>, StoreFault>
+        ensures { LoadsBy honest holds leaves self.old self.new result (λ k rows. rows.items ≡ pending_after PAGE_ROWS job k.board) };
+
+    /// Makes the changes of records, and then puts the rows, all of it or nothing.
+    fn commit(&mut self, delta: Delta, rows: Vec<BoardRow>) -> Result<(), StoreFault>
         ensures was_honest { honest self.new → honest self.old }
-        ensures ends { honest self.new → (s : State) → holds self.old s → Ends result (holds self.new (applied delta s)) (holds self.new s) (leaves self.new s (applied delta s)) };
+        ensures ends { honest self.new → (k : Kept) → holds self.old k → Ends result (holds self.new (written delta rows.items k)) (holds self.new k) (leaves self.new k (written delta rows.items k)) };
 
-    // What it holds is what a stop leaves.
-    ghost held_is_left: { (store : Self) (s : State) → holds store s → leaves store s s };
+    // What it keeps is what a stop leaves.
+    ghost held_is_left: { (store : Self) (k : Kept) → holds store k → leaves store k k };
 }

@@ -6,7 +6,7 @@ ghost use Rattle.sqlite.specs.State.{HasCleanDisk, Survives, IsUnchanged};
 ghost use Rattle.sqlite.specs.Held.{state};
 ghost use Rattle.sqlite.specs.Tree.{Trees};
 ghost use Rattle.sqlite_trees.specs.View.{doubt};
-ghost use Rattle.ci_machine.specs.State.{State, empty};
+ghost use Rattle.ci_machine.specs.Kept.{Kept, nothing_kept};
 ghost use Rattle.ci_tables.specs.Statements.{CommitsNothing};
 ghost use Rattle.ci_store.specs.Schema.{the_schema};
 ghost use Rattle.ci_store.specs.Create.{IsBlank, IsBare};
@@ -17,11 +17,12 @@ ghost use Rattle.ci_store.specs.Rows.{number};
 use crate::columns::{state_numbers, text};
 use crate::commit::commit;
 use crate::probe::probe_intact;
-use crate::store::Store;
+use crate::store::{PAGE_ROWS, Store};
 use crate::{load, texts};
+use ci_board::facts::Status;
 use ci_machine::change::{Counter, Delta};
 use ci_machine::records::{
-    Attempt, AttemptState, Job, JobVariable, Piece, Pipeline, Project, Runner,
+    Attempt, AttemptState, BoardRow, Job, JobVariable, Need, Piece, Pipeline, Project, Runner,
 };
 use ci_machine::text::Text;
 use ci_tables::fault::StoreFault;
@@ -112,7 +113,7 @@ fn define<S: Alter>(tx: &mut Transaction<'_, S>) -> Result<(), StoreFault>
 fn fill<S: Alter>(tx: &mut Transaction<'_, S>) -> Result<(), StoreFault>
     ensures same_reference { tx.new.conn.ghost_name ≡ tx.old.conn.ghost_name }
     ensures makes { HasCleanDisk (state S.Store tx.new.conn.now) → IsTrue tx.old.conn.now.in_transaction
-        → OnOk result (IsTrue tx.new.conn.now.in_transaction × (IsBare the_schema (state S.Store tx.old.conn.now).now → Stands empty (state S.Store tx.new.conn.now).now)) }
+        → OnOk result (IsTrue tx.new.conn.now.in_transaction × (IsBare the_schema (state S.Store tx.old.conn.now).now → Stands nothing_kept (state S.Store tx.new.conn.now).now)) }
     ensures survives { CommitsNothing S.Store tx.old.conn.now tx.new.conn.now }
 {
     for (key, num) in FIRST_ROWS {
@@ -124,7 +125,7 @@ fn fill<S: Alter>(tx: &mut Transaction<'_, S>) -> Result<(), StoreFault>
 fn define_and_fill<S: Alter>(tx: &mut Transaction<'_, S>) -> Result<(), StoreFault>
     ensures same_reference { tx.new.conn.ghost_name ≡ tx.old.conn.ghost_name }
     ensures makes { HasCleanDisk (state S.Store tx.new.conn.now) → IsTrue tx.old.conn.now.in_transaction
-        → OnOk result (IsTrue tx.new.conn.now.in_transaction × (IsBlank S.Store tx.old.conn.now → Stands empty (state S.Store tx.new.conn.now).now)) }
+        → OnOk result (IsTrue tx.new.conn.now.in_transaction × (IsBlank S.Store tx.old.conn.now → Stands nothing_kept (state S.Store tx.new.conn.now).now)) }
     ensures survives { CommitsNothing S.Store tx.old.conn.now tx.new.conn.now }
 {
     define(tx)?;
@@ -142,8 +143,8 @@ fn is_blank<S: Alter>(conn: &Connection<S>) -> bool
 fn make_tables<S: Alter>(conn: &mut Connection<S>) -> Result<(), StoreFault>
     requires { conn.old.in_transaction ≡ false }
     ensures idle { conn.new.in_transaction ≡ false }
-    ensures made { HasCleanDisk (state S.Store conn.new) → OnOk result (IsBlank S.Store conn.old → IsAt S.Store empty conn.new) }
-    ensures survives { Survives (state S.Store conn.old) (state S.Store conn.new) (λ db. IsBlank S.Store conn.old → StandsIn empty db) }
+    ensures made { HasCleanDisk (state S.Store conn.new) → OnOk result (IsBlank S.Store conn.old → IsAt S.Store nothing_kept conn.new) }
+    ensures survives { Survives (state S.Store conn.old) (state S.Store conn.new) (λ db. IsBlank S.Store conn.old → StandsIn nothing_kept db) }
 {
     let mut tx = conn.transaction();
     define_and_fill(&mut tx)?;
@@ -218,10 +219,10 @@ impl<S: Alter> Tables<S> {
     pub fn create(mut conn: Connection<S>) -> Result<Tables<S>, (OpenFault, Connection<S>)>
         ensures clean { IfOk result (λ t. doubt (state S.Store conn).is_clean ≤ doubt (state S.Store t).is_clean) }
         ensures clean_fault { IfErr result (λ e. doubt (state S.Store conn).is_clean ≤ doubt (state S.Store e.1).is_clean) }
-        ensures made { IfOk result (λ t. HasCleanDisk (state S.Store t) → IsBlank S.Store conn → IsAt S.Store empty t) }
-        ensures left { IfErr result (λ e. HasCleanDisk (state S.Store e.1) → IsBlank S.Store conn → (db : Trees) → (state S.Store e.1).may_leave db → (state S.Store conn).may_leave db ⊎ StandsIn empty db) }
+        ensures made { IfOk result (λ t. HasCleanDisk (state S.Store t) → IsBlank S.Store conn → IsAt S.Store nothing_kept t) }
+        ensures left { IfErr result (λ e. HasCleanDisk (state S.Store e.1) → IsBlank S.Store conn → (db : Trees) → (state S.Store e.1).may_leave db → (state S.Store conn).may_leave db ⊎ StandsIn nothing_kept db) }
         ensures blank { OnOk result (IsBlank S.Store conn) }
-        ensures added { IfErr result (λ e. HasCleanDisk (state S.Store e.1) → (db : Trees) → (state S.Store e.1).may_leave db → (state S.Store conn).may_leave db ⊎ (IsBlank S.Store conn × StandsIn empty db)) }
+        ensures added { IfErr result (λ e. HasCleanDisk (state S.Store e.1) → (db : Trees) → (state S.Store e.1).may_leave db → (state S.Store conn).may_leave db ⊎ (IsBlank S.Store conn × StandsIn nothing_kept db)) }
         ensures listed { IfErr result (λ e. e.0 ≡ OpenFault.O1 → ¬ IsBlank S.Store conn) }
         ensures unversioned { IfErr result (λ e. e.0 ≢ OpenFault.O2) }
     {
@@ -242,13 +243,13 @@ impl<S: Alter> Tables<S> {
     pub fn open(mut conn: Connection<S>) -> Result<Tables<S>, (OpenFault, Connection<S>)>
         ensures clean { IfOk result (λ t. doubt (state S.Store conn).is_clean ≤ doubt (state S.Store t).is_clean) }
         ensures clean_fault { IfErr result (λ e. doubt (state S.Store conn).is_clean ≤ doubt (state S.Store e.1).is_clean) }
-        ensures opened { IfOk result (λ t. HasCleanDisk (state S.Store t) → (s : State) → LeavesOnly S.Store s conn → IsAt S.Store s t) }
+        ensures opened { IfOk result (λ t. HasCleanDisk (state S.Store t) → (k : Kept) → LeavesOnly S.Store k conn → IsAt S.Store k t) }
         ensures ours { IfOk result (λ t. HasCleanDisk (state S.Store t) → IsOurs (state S.Store t).now) }
-        ensures left { IfErr result (λ e. HasCleanDisk (state S.Store e.1) → (s : State) → LeavesOnly S.Store s conn → LeavesOnly S.Store s e.1) }
+        ensures left { IfErr result (λ e. HasCleanDisk (state S.Store e.1) → (k : Kept) → LeavesOnly S.Store k conn → LeavesOnly S.Store k e.1) }
         ensures less { IfOk result (λ t. LeavesNoMore S.Store conn t) }
         ensures less_fault { IfErr result (λ e. LeavesNoMore S.Store conn e.1) }
         ensures blamed { IfErr result (λ e. HasCleanDisk (state S.Store e.1) → Blames e.0 (state S.Store conn).now) }
-        ensures own { IfErr result (λ e. HasCleanDisk (state S.Store e.1) → (s : State) → LeavesOnly S.Store s conn → IsFailure e.0) }
+        ensures own { IfErr result (λ e. HasCleanDisk (state S.Store e.1) → (k : Kept) → LeavesOnly S.Store k conn → IsFailure e.0) }
     {
         if !conn.is_autocommit() {
             return Err((OpenFault::O3, conn));
@@ -280,11 +281,11 @@ impl<S: Alter> Store for Tables<S> {
 
     ghost honest = { λ t. HasCleanDisk (state S.Store t) };
 
-    ghost holds = { λ t s. IsAt S.Store s t };
+    ghost holds = { λ t k. IsAt S.Store k t };
 
-    ghost leaves = { λ t s u. LeavesEither S.Store s u t };
+    ghost leaves = { λ t k l. LeavesEither S.Store k l t };
 
-    ghost held_is_left = { λ t s at db may. inl (at.left db may) };
+    ghost held_is_left = { λ t k at db may. inl (at.left db may) };
 
     fn next(&mut self, counter: Counter) -> Result<u64, StoreFault> {
         load::next(&mut self.conn, counter)
@@ -331,14 +332,39 @@ impl<S: Alter> Store for Tables<S> {
         load::list_of(&mut self.conn, texts::SELECT_PIECES, attempt)
     }
 
-    /// It reads the whole table.
-    fn jobs(&mut self) -> Result<Vec<Job>, StoreFault> {
-        load::list(&mut self.conn, texts::SELECT_JOBS, &[])
+    fn jobs_of(&mut self, pipeline: u64) -> Result<Vec<Job>, StoreFault> {
+        load::list_of(&mut self.conn, texts::SELECT_JOBS_OF, pipeline)
     }
 
-    fn commit(&mut self, delta: Delta) -> Result<(), StoreFault> {
+    fn needs_within(&mut self, first: u64, last: u64) -> Result<Vec<Need>, StoreFault> {
+        load::list_within(&mut self.conn, texts::SELECT_NEEDS_WITHIN, first, last)
+    }
+
+    fn attempts_within(&mut self, first: u64, last: u64) -> Result<Vec<Attempt>, StoreFault> {
+        load::list_within(&mut self.conn, texts::SELECT_ATTEMPTS_WITHIN, first, last)
+    }
+
+    fn rows_within(&mut self, first: u64, last: u64) -> Result<Vec<BoardRow>, StoreFault> {
+        load::list_within(&mut self.conn, texts::SELECT_ROWS_WITHIN, first, last)
+    }
+
+    fn row(&mut self, job: u64) -> Result<Option<BoardRow>, StoreFault> {
+        load::one_at(&mut self.conn, texts::SELECT_ROW, job)
+    }
+
+    fn pending_after(&mut self, job: u64) -> Result<Vec<BoardRow>, StoreFault> {
+        load::list_after(
+            &mut self.conn,
+            texts::SELECT_ROWS_AFTER,
+            Status::Pending,
+            job,
+            PAGE_ROWS,
+        )
+    }
+
+    fn commit(&mut self, delta: Delta, rows: Vec<BoardRow>) -> Result<(), StoreFault> {
         let changes = delta.into_vec();
         let alloc = *changes.allocator();
-        commit(&mut self.conn, alloc, changes.as_slice())
+        commit(&mut self.conn, alloc, changes.as_slice(), rows.as_slice())
     }
 }

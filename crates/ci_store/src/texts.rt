@@ -1,6 +1,6 @@
 //! The texts of all statements. A connection keeps the plans of 64 texts; these are fewer.
 
-pub const SCHEMA: [&str; 11] = [
+pub const SCHEMA: [&str; 15] = [
     "CREATE TABLE meta (key TEXT NOT NULL PRIMARY KEY, num INTEGER NOT NULL) STRICT",
     "CREATE TABLE project (id INTEGER PRIMARY KEY, name TEXT NOT NULL, token TEXT NOT NULL UNIQUE, file TEXT) STRICT",
     "CREATE TABLE runner (id INTEGER PRIMARY KEY, name TEXT NOT NULL, token TEXT NOT NULL UNIQUE, project INTEGER REFERENCES project (id), tags TEXT NOT NULL, untagged INTEGER NOT NULL, paused INTEGER NOT NULL) STRICT",
@@ -12,6 +12,10 @@ pub const SCHEMA: [&str; 11] = [
     "CREATE INDEX attempt_job ON attempt (job)",
     "CREATE INDEX attempt_state ON attempt (state)",
     "CREATE TABLE piece (attempt INTEGER NOT NULL REFERENCES attempt (id) ON DELETE CASCADE, seq INTEGER NOT NULL, bytes BLOB NOT NULL, PRIMARY KEY (attempt, seq)) STRICT",
+    "CREATE TABLE need (job INTEGER NOT NULL REFERENCES job (id) ON DELETE CASCADE, pred INTEGER NOT NULL REFERENCES job (id) ON DELETE CASCADE, PRIMARY KEY (job, pred)) STRICT",
+    "CREATE INDEX need_pred ON need (pred)",
+    "CREATE TABLE board (job INTEGER PRIMARY KEY REFERENCES job (id) ON DELETE CASCADE, status INTEGER NOT NULL, open INTEGER NOT NULL, failed INTEGER NOT NULL, barred INTEGER NOT NULL) STRICT",
+    "CREATE INDEX board_status ON board (status, job)",
 ];
 
 pub const INSERT_META: &str = "INSERT INTO meta (key, num) VALUES (?1, ?2)";
@@ -65,10 +69,8 @@ pub const DELETE_JOB: &str = "DELETE FROM job WHERE id = ?1";
 pub const SELECT_JOB: &str =
     "SELECT id, pipeline, pos, name, stage, spec, played, cancelled, aside FROM job WHERE id = ?1";
 
-pub const SELECT_JOBS: &str =
-    "SELECT id, pipeline, pos, name, stage, spec, played, cancelled, aside FROM job ORDER BY id";
-
-pub const SELECT_JOBS_OF: &str = "SELECT id FROM job WHERE pipeline = ?1";
+pub const SELECT_JOBS_OF: &str =
+    "SELECT id, pipeline, pos, name, stage, spec, played, cancelled, aside FROM job WHERE pipeline = ?1 ORDER BY id";
 
 pub const INSERT_JOB_VARIABLE: &str = "INSERT INTO jobvar (job, key, value) VALUES (?1, ?2, ?3)";
 
@@ -97,6 +99,9 @@ pub const SELECT_ATTEMPTS_OF: &str =
 pub const SELECT_ATTEMPTS_IN: &str =
     "SELECT id, job, runner, token, granted, seen, state, cause, exit, pieces, size FROM attempt WHERE state = ?1 ORDER BY id";
 
+pub const SELECT_ATTEMPTS_WITHIN: &str =
+    "SELECT id, job, runner, token, granted, seen, state, cause, exit, pieces, size FROM attempt WHERE job >= ?1 AND job <= ?2 ORDER BY id";
+
 pub const INSERT_PIECE: &str = "INSERT INTO piece (attempt, seq, bytes) VALUES (?1, ?2, ?3)";
 
 pub const UPDATE_PIECE: &str =
@@ -106,3 +111,30 @@ pub const DELETE_PIECE: &str = "DELETE FROM piece WHERE attempt = ?1 AND seq = ?
 
 pub const SELECT_PIECES: &str =
     "SELECT attempt, seq, bytes FROM piece WHERE attempt = ?1 ORDER BY seq";
+
+pub const INSERT_NEED: &str = "INSERT INTO need (job, pred) VALUES (?1, ?2)";
+
+pub const UPDATE_NEED: &str = "UPDATE need SET job = ?1, pred = ?2 WHERE job = ?1 AND pred = ?2";
+
+pub const DELETE_NEED: &str = "DELETE FROM need WHERE job = ?1 AND pred = ?2";
+
+pub const SELECT_NEEDS_OF: &str = "SELECT job, pred FROM need WHERE job = ?1";
+
+pub const SELECT_NEEDS_ON: &str = "SELECT job, pred FROM need WHERE pred = ?1";
+
+pub const SELECT_NEEDS_WITHIN: &str =
+    "SELECT job, pred FROM need WHERE job >= ?1 AND job <= ?2 ORDER BY job, pred";
+
+pub const INSERT_ROW: &str =
+    "INSERT INTO board (job, status, open, failed, barred) VALUES (?1, ?2, ?3, ?4, ?5)";
+
+pub const UPDATE_ROW: &str =
+    "UPDATE board SET job = ?1, status = ?2, open = ?3, failed = ?4, barred = ?5 WHERE job = ?1";
+
+pub const SELECT_ROW: &str = "SELECT job, status, open, failed, barred FROM board WHERE job = ?1";
+
+pub const SELECT_ROWS_WITHIN: &str =
+    "SELECT job, status, open, failed, barred FROM board WHERE job >= ?1 AND job <= ?2 ORDER BY job";
+
+pub const SELECT_ROWS_AFTER: &str =
+    "SELECT job, status, open, failed, barred FROM board WHERE status = ?1 AND job > ?2 ORDER BY job LIMIT ?3";

@@ -1,8 +1,10 @@
 //! Each call of the store fails in turn, on each of its two files; then the files are opened again. The helpers have no
 //! clause, so that a test's proof carries little.
 
-use crate::records::project;
+use crate::records::{add, job, pipeline, project, row_of};
+use ci_board::facts::Status;
 use ci_machine::change::{Counter, Delta, RowChange};
+use ci_machine::records::BoardRow;
 use ci_machine::text::Text;
 use ci_store::fault::StoreFault;
 use ci_store::store::Store;
@@ -17,7 +19,9 @@ use std::test::Fail;
 
 fn first(alloc: Global) -> Result<Delta, Fail> {
     let mut changes = Vec::new(alloc);
-    changes.push(RowChange::Add(project(alloc, 1, "one", "p1")?))?;
+    add(&mut changes, project(alloc, 1, "one", "p1"))?;
+    add(&mut changes, pipeline(alloc, 1))?;
+    add(&mut changes, job(alloc, 1, 1))?;
     Ok(Delta::new(changes))
 }
 
@@ -39,14 +43,21 @@ fn created(alloc: Global, files: Files<Memory>) -> Option<Tables<FileStore<Memor
     }
 }
 
-/// Tables with project 1.
+/// The row that the second commit puts.
+fn first_row(alloc: Global) -> Result<Vec<BoardRow>, Fail> {
+    let mut rows = Vec::new(alloc);
+    rows.push(row_of(1, Status::Pending))?;
+    Ok(rows)
+}
+
+/// Tables with project 1 and a job of it.
 fn made(alloc: Global) -> Result<Tables<FileStore<Memory>>, Fail> {
     let delta = first(alloc)?;
     let Some(mut tables) = created(alloc, empty(alloc)) else {
         let _ = delta.into_vec();
         return Err("not created")?;
     };
-    if tables.commit(delta).is_ok() {
+    if tables.commit(delta, Vec::new(alloc)).is_ok() {
         return Ok(tables);
     }
     discard(tables.close());
@@ -77,7 +88,7 @@ fn is_empty<S: Alter>(tables: &mut Tables<S>) -> Result<bool, StoreFault> {
             return Ok(false);
         }
     }
-    Ok(tables.project(1)?.is_none() && tables.jobs()?.is_empty())
+    Ok(tables.project(1)?.is_none() && tables.row(1)?.is_none())
 }
 
 /// What a store is after a stop.
@@ -154,10 +165,10 @@ fn name_of<S: Alter>(tables: &mut Tables<S>, id: u64) -> Result<Option<Text>, St
     }
 }
 
-fn judged(first: &str, has_second: bool) -> Found {
-    if first == "one" && !has_second {
+fn judged(first: &str, has_second: bool, has_row: bool) -> Found {
+    if first == "one" && !has_second && !has_row {
         Found::Before
-    } else if first == "uno" && has_second {
+    } else if first == "uno" && has_second && has_row {
         Found::After
     } else {
         Found::Neither
@@ -165,11 +176,11 @@ fn judged(first: &str, has_second: bool) -> Found {
 }
 
 fn outcome<S: Alter>(tables: &mut Tables<S>) -> Found {
-    let Ok(second) = name_of(tables, 2) else {
+    let (Ok(second), Ok(row)) = (name_of(tables, 2), tables.row(1)) else {
         return Found::Neither;
     };
     match name_of(tables, 1) {
-        Ok(Some(name)) => judged(name.as_str(), second.is_some()),
+        Ok(Some(name)) => judged(name.as_str(), second.is_some(), row.is_some()),
         _ => Found::Neither,
     }
 }
@@ -230,12 +241,13 @@ fn opened(alloc: Global, files: Files<Fuse<Memory>>) -> Option<Tables<FileStore<
 
 fn tried_commit(alloc: Global, of_log: bool, calls: u64) -> Result<Ended, Fail> {
     let files = closed(made(alloc)?.close()).ok_or("not closed")?;
+    let rows = first_row(alloc)?;
     let delta = renamed(alloc)?;
     let Some(mut tables) = opened(alloc, fused(files, of_log, calls)) else {
         let _ = delta.into_vec();
         return Ok(Ended::Unopened);
     };
-    let is_done = tables.commit(delta).is_ok();
+    let is_done = tables.commit(delta, rows).is_ok();
     match (is_done, reopened(alloc, stopped(tables.close()))) {
         (true, Found::After) => Ok(Ended::Done),
         (false, Found::Before | Found::After) => Ok(Ended::Faulted),

@@ -1,8 +1,8 @@
 //! Stores that are not ours, and rows that are no records: written through plain SQL.
 
 use crate::plain::{
-    attempt, attempts_of, close, create, filled, job, jobs, next, open, parted, pipeline, project,
-    runner_with, wanted,
+    attempt, attempts_of, close, create, filled, job, jobs_of, next, open, parted, pending_after,
+    pipeline, project, row, rows_within, runner_with, wanted,
 };
 use crate::records::text;
 use ci_machine::change::Counter;
@@ -35,7 +35,10 @@ enum Load {
     Runner,
     Pipeline,
     Job,
-    Jobs,
+    JobsOf,
+    Row,
+    RowsWithin,
+    PendingAfter,
     Attempt,
     AttemptsOf,
 }
@@ -50,7 +53,10 @@ fn fault_of(
         Load::Runner => runner_with(tables, &text(alloc, "r1")?).err(),
         Load::Pipeline => pipeline(tables, 1).err(),
         Load::Job => job(tables, 1).err(),
-        Load::Jobs => jobs(tables).err(),
+        Load::JobsOf => jobs_of(tables, 1).err(),
+        Load::Row => row(tables, 1).err(),
+        Load::RowsWithin => rows_within(tables, 1, 2).err(),
+        Load::PendingAfter => pending_after(tables, 0).err(),
         Load::Attempt => attempt(tables, 1).err(),
         Load::AttemptsOf => attempts_of(tables, 1).err(),
     })
@@ -63,7 +69,15 @@ const BROKEN: &[(&str, Load)] = &[
     ("UPDATE pipeline SET kind = 2", Load::Pipeline),
     ("UPDATE pipeline SET created = -1", Load::Pipeline),
     ("UPDATE job SET spec = '[]'", Load::Job),
-    ("UPDATE job SET spec = '[]' WHERE id = 2", Load::Jobs),
+    (
+        "UPDATE job SET spec = '{\"script\":[\"make\"],\"timeout\":3600}'",
+        Load::Job,
+    ),
+    ("UPDATE job SET spec = '[]' WHERE id = 2", Load::JobsOf),
+    ("UPDATE board SET status = 9", Load::Row),
+    ("UPDATE board SET status = 9", Load::RowsWithin),
+    ("UPDATE board SET barred = -1", Load::Row),
+    ("UPDATE board SET status = 1, open = -1", Load::PendingAfter),
     ("UPDATE attempt SET state = 7", Load::Attempt),
     ("UPDATE attempt SET state = 7", Load::AttemptsOf),
     ("UPDATE attempt SET cause = NULL", Load::Attempt),

@@ -10,6 +10,8 @@ mod plain;
 #[cfg(test)]
 mod records;
 #[cfg(test)]
+mod statuses;
+#[cfg(test)]
 mod tests;
 #[cfg(test)]
 mod traces;

@@ -1,8 +1,11 @@
 //! The calls of the tables without their clauses, so that the proof of a test that makes many of them carries little.
 
-use crate::records::{one_of_each, removal};
+use crate::records::{one_of_each, removal, row_of};
+use ci_board::facts::Status;
 use ci_machine::change::{Counter, Delta, Key};
-use ci_machine::records::{Attempt, Job, JobVariable, Piece, Pipeline, Project, Runner};
+use ci_machine::records::{
+    Attempt, BoardRow, Job, JobVariable, Need, Piece, Pipeline, Project, Runner,
+};
 use ci_machine::text::Text;
 use ci_store::fault::StoreFault;
 use ci_store::store::Store;
@@ -56,9 +59,9 @@ pub fn parted<S: Alter>(
     }
 }
 
-/// Is the change made?
-pub fn is_committed<S: Alter>(tables: &mut Tables<S>, delta: Delta) -> bool {
-    tables.commit(delta).is_ok()
+/// Is the change made, with these rows?
+pub fn is_committed<S: Alter>(tables: &mut Tables<S>, delta: Delta, rows: Vec<BoardRow>) -> bool {
+    tables.commit(delta, rows).is_ok()
 }
 
 /// What a load answers.
@@ -84,8 +87,36 @@ pub fn job<S: Alter>(tables: &mut Tables<S>, id: u64) -> Loaded<Option<Job>> {
     tables.job(id)
 }
 
-pub fn jobs<S: Alter>(tables: &mut Tables<S>) -> Loaded<Vec<Job>> {
-    tables.jobs()
+pub fn jobs_of<S: Alter>(tables: &mut Tables<S>, pipeline: u64) -> Loaded<Vec<Job>> {
+    tables.jobs_of(pipeline)
+}
+
+pub fn needs_within<S: Alter>(tables: &mut Tables<S>, first: u64, last: u64) -> Loaded<Vec<Need>> {
+    tables.needs_within(first, last)
+}
+
+pub fn attempts_within<S: Alter>(
+    tables: &mut Tables<S>,
+    first: u64,
+    last: u64,
+) -> Loaded<Vec<Attempt>> {
+    tables.attempts_within(first, last)
+}
+
+pub fn rows_within<S: Alter>(
+    tables: &mut Tables<S>,
+    first: u64,
+    last: u64,
+) -> Loaded<Vec<BoardRow>> {
+    tables.rows_within(first, last)
+}
+
+pub fn row<S: Alter>(tables: &mut Tables<S>, job: u64) -> Loaded<Option<BoardRow>> {
+    tables.row(job)
+}
+
+pub fn pending_after<S: Alter>(tables: &mut Tables<S>, job: u64) -> Loaded<Vec<BoardRow>> {
+    tables.pending_after(job)
 }
 
 pub fn job_variables<S: Alter>(tables: &mut Tables<S>, job: u64) -> Loaded<Vec<JobVariable>> {
@@ -111,7 +142,7 @@ pub fn pieces_of<S: Alter>(tables: &mut Tables<S>, attempt: u64) -> Loaded<Vec<P
 /// Is the row with this key removed?
 pub fn is_removed<S: Alter>(alloc: Global, tables: &mut Tables<S>, key: Key) -> Result<bool, Fail> {
     let delta = removal(alloc, key)?;
-    Ok(is_committed(tables, delta))
+    Ok(is_committed(tables, delta, Vec::new(alloc)))
 }
 
 /// Tables closed and opened again.
@@ -124,13 +155,14 @@ fn over_memory(alloc: Global) -> Result<Tables<MemStore>, Fail> {
     wanted(create(Connection::open_in_memory(alloc)?))
 }
 
-/// The tables once a change is made.
+/// The tables once a change is made, and these rows are put.
 pub fn changed<S: Alter + Drop>(
     mut tables: Tables<S>,
     delta: Result<Delta, Fail>,
+    rows: Vec<BoardRow>,
 ) -> Result<Tables<S>, Fail> {
     let is_done = match delta {
-        Ok(delta) => is_committed(&mut tables, delta),
+        Ok(delta) => is_committed(&mut tables, delta, rows),
         Err(fail) => {
             let_go(tables);
             return Err(fail);
@@ -143,7 +175,9 @@ pub fn changed<S: Alter + Drop>(
     Err("not committed")?
 }
 
-/// Tables over memory with a record of each kind, opened again.
+/// Tables over memory with a record of each kind and a row of job 1, opened again.
 pub fn filled(alloc: Global) -> Result<Tables<MemStore>, Fail> {
-    reopened(changed(over_memory(alloc)?, one_of_each(alloc))?)
+    let mut rows = Vec::new(alloc);
+    rows.push(row_of(1, Status::Manual))?;
+    reopened(changed(over_memory(alloc)?, one_of_each(alloc), rows)?)
 }

@@ -1,12 +1,16 @@
 //! Records for the tests.
 
+use ci_board::facts::{Row, Status};
+use ci_graph::part::Part;
 use ci_machine::change::{Counter, Delta, Key, Record, RowChange};
 use ci_machine::moment::Moment;
 use ci_machine::records::{
-    Attempt, AttemptState, Cause, Job, JobOptions, JobVariable, Piece, Pipeline, Project, RefKind,
-    Runner, Source,
+    Attempt, AttemptState, BoardRow, Cause, Job, JobOptions, JobVariable, Need, Piece, Pipeline,
+    Project, RefKind, Runner, Source,
 };
 use ci_machine::text::{Bytes, Text, Texts};
+use ci_values::items::Items;
+use ci_values::when::{AllowFailure, Causes, Retry, When};
 use std::alloc::Global;
 use std::test::Fail;
 
@@ -47,9 +51,9 @@ pub fn runner(alloc: Global) -> Result<Record, Fail> {
     }))
 }
 
-pub fn pipeline(alloc: Global) -> Result<Record, Fail> {
+pub fn pipeline(alloc: Global, id: u64) -> Result<Record, Fail> {
     Ok(Record::Pipeline(Pipeline {
-        id: 1,
+        id,
         project: 1,
         git_ref: text(alloc, "main")?,
         kind: RefKind::Tag,
@@ -58,17 +62,46 @@ pub fn pipeline(alloc: Global) -> Result<Record, Fail> {
     }))
 }
 
+/// The causes of two of the six flags.
+const CAUSES: Causes = Causes {
+    unknown_failure: false,
+    script_failure: true,
+    api_failure: false,
+    stuck_or_timeout_failure: false,
+    runner_system_failure: false,
+    job_execution_timeout: true,
+};
+
+fn part(alloc: Global) -> Result<Part, Fail> {
+    let mut codes = Vec::new(alloc);
+    codes.push(1u32)?;
+    codes.push(137u32)?;
+    Ok(Part {
+        when: When::Always,
+        allow_failure: AllowFailure::ExitCodes(Items::new(codes)),
+        retry: Retry {
+            max: 2,
+            causes: CAUSES,
+        },
+        gives_needs: true,
+    })
+}
+
 fn options(alloc: Global) -> Result<JobOptions, Fail> {
     Ok(JobOptions {
         script: texts(alloc, &["make", "make check"])?,
         timeout: 3600,
+        tags: texts(alloc, &["gpu"])?,
+        resource_group: Some(text(alloc, "prod")?),
+        interruptible: true,
+        part: part(alloc)?,
     })
 }
 
-pub fn job(alloc: Global, id: u64) -> Result<Record, Fail> {
+pub fn job(alloc: Global, id: u64, pipeline: u64) -> Result<Record, Fail> {
     Ok(Record::Job(Job {
         id,
-        pipeline: 1,
+        pipeline,
         position: 0,
         name: text(alloc, "build")?,
         stage: text(alloc, "test")?,
@@ -87,10 +120,10 @@ pub fn variable(alloc: Global, key: &str) -> Result<Record, Fail> {
     }))
 }
 
-pub fn attempt(alloc: Global, id: u64, state: AttemptState) -> Result<Record, Fail> {
+pub fn attempt(alloc: Global, id: u64, job: u64, state: AttemptState) -> Result<Record, Fail> {
     Ok(Record::Attempt(Attempt {
         id,
-        job: 1,
+        job,
         runner: 1,
         token: text(alloc, "j1")?,
         granted: moment(100)?,
@@ -101,6 +134,23 @@ pub fn attempt(alloc: Global, id: u64, state: AttemptState) -> Result<Record, Fa
     }))
 }
 
+pub fn need(job: u64, pred: u64) -> Record {
+    Record::Need(Need { job, pred })
+}
+
+/// The row of a job, whose predecessors' counts are three different numbers.
+pub fn row_of(job: u64, status: Status) -> BoardRow {
+    BoardRow {
+        job,
+        row: Row {
+            status,
+            opens: 2,
+            failed: 1,
+            barred: 3,
+        },
+    }
+}
+
 pub fn piece(attempt: u64, seq: u64, bytes: Vec<u8>) -> Record {
     Record::Piece(Piece {
         attempt,
@@ -109,17 +159,17 @@ pub fn piece(attempt: u64, seq: u64, bytes: Vec<u8>) -> Record {
     })
 }
 
-fn add(changes: &mut Vec<RowChange>, record: Result<Record, Fail>) -> Result<(), Fail> {
+pub fn add(changes: &mut Vec<RowChange>, record: Result<Record, Fail>) -> Result<(), Fail> {
     changes.push(RowChange::Add(record?))?;
     Ok(())
 }
 
 fn attempt_with_its_job(alloc: Global, changes: &mut Vec<RowChange>) -> Result<(), Fail> {
-    add(changes, pipeline(alloc))?;
-    add(changes, job(alloc, 1))?;
-    add(changes, job(alloc, 2))?;
+    add(changes, pipeline(alloc, 1))?;
+    add(changes, job(alloc, 1, 1))?;
+    add(changes, job(alloc, 2, 1))?;
     let failed = AttemptState::Failed(Cause::ScriptFailure, Some(2));
-    add(changes, attempt(alloc, 1, failed))
+    add(changes, attempt(alloc, 1, 1, failed))
 }
 
 /// A change of each kind of record, with a next number.

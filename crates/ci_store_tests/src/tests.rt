@@ -1,15 +1,17 @@
 //! Each kind of record is committed and loaded.
 
 use crate::plain::{
-    Loaded, attempt, attempts_of, filled, is_removed, job, job_variables, jobs, let_go, next,
+    Loaded, attempt, attempts_of, filled, is_removed, job, job_variables, jobs_of, let_go, next,
     pipeline, project, runner_with,
 };
 use crate::records::text;
+use ci_graph::part::Part;
 use ci_machine::change::{Counter, Key};
-use ci_machine::records::{AttemptState, Cause};
+use ci_machine::records::{AttemptState, Cause, JobOptions};
 use ci_machine::text::Text;
 use ci_store::Alter;
 use ci_store::tables::Tables;
+use ci_values::when::{AllowFailure, When};
 use sqlite::MemStore;
 use std::alloc::Global;
 use std::process::Abort;
@@ -40,12 +42,35 @@ fn has_pipeline<S: Alter>(tables: &mut Tables<S>) -> Loaded<bool> {
     }
 }
 
+fn is_part(part: &Part) -> bool {
+    let causes = part.retry.causes;
+    let is_allowed = match &part.allow_failure {
+        AllowFailure::ExitCodes(codes) => codes.as_slice() == [1u32, 137].as_slice(),
+        _ => false,
+    };
+    is_allowed
+        && part.when == When::Always
+        && part.gives_needs
+        && part.retry.max == 2
+        && causes.script_failure
+        && causes.job_execution_timeout
+        && !causes.api_failure
+}
+
+fn are_options(options: &JobOptions) -> bool {
+    let is_group = match &options.resource_group {
+        Some(name) => name.as_str() == "prod",
+        None => false,
+    };
+    let is_tag = matches!(options.tags.as_slice(), [tag] if tag.as_str() == "gpu");
+    let is_script =
+        matches!(options.script.as_slice(), [_, second] if second.as_str() == "make check");
+    is_group && is_tag && is_script && options.timeout == 3600 && options.interruptible
+}
+
 fn has_job<S: Alter>(tables: &mut Tables<S>) -> Loaded<bool> {
     match job(tables, 2)? {
-        Some(found) => match found.options.script.as_slice() {
-            [_, second] => Ok(second.as_str() == "make check" && found.options.timeout == 3600),
-            _ => Ok(false),
-        },
+        Some(found) => Ok(are_options(&found.options) && is_part(&found.options.part)),
         None => Ok(false),
     }
 }
@@ -68,7 +93,7 @@ fn has_attempt<S: Alter>(tables: &mut Tables<S>) -> Loaded<bool> {
 }
 
 fn has_counts<S: Alter>(tables: &mut Tables<S>) -> Loaded<bool> {
-    let count = jobs(tables)?.len();
+    let count = jobs_of(tables, 1)?.len();
     let next = next(tables, Counter::Job)?;
     let found = attempt(tables, 1)?;
     Ok(count == 2 && next == 3 && found.is_some())

@@ -72,7 +72,7 @@ fn come_and_go(rt: &impl Abort, alloc: Global, tables: &mut Tables<MemStore>) ->
 #[test]
 fn pieces_are_loaded_in_their_order_and_removed(rt: HostRuntime) -> Result<(), Fail> {
     let alloc = rt.alloc();
-    let mut tables = reopened(changed(filled(alloc)?, two_pieces(alloc))?)?;
+    let mut tables = reopened(changed(filled(alloc)?, two_pieces(alloc), Vec::new(alloc))?)?;
     let gone = come_and_go(&rt, alloc, &mut tables);
     let_go(tables);
     gone
@@ -80,14 +80,14 @@ fn pieces_are_loaded_in_their_order_and_removed(rt: HostRuntime) -> Result<(), F
 
 fn two_live(alloc: Global) -> Result<Delta, Fail> {
     let mut changes = Vec::new(alloc);
-    changes.push(RowChange::Add(attempt(alloc, 3, AttemptState::Live)?))?;
-    changes.push(RowChange::Add(attempt(alloc, 2, AttemptState::Live)?))?;
+    changes.push(RowChange::Add(attempt(alloc, 3, 1, AttemptState::Live)?))?;
+    changes.push(RowChange::Add(attempt(alloc, 2, 1, AttemptState::Live)?))?;
     Ok(Delta::new(changes))
 }
 
 fn ended(alloc: Global, id: u64) -> Result<Delta, Fail> {
     let mut changes = Vec::new(alloc);
-    changes.push(RowChange::Put(attempt(alloc, id, AttemptState::Succeeded(Some(0)))?))?;
+    changes.push(RowChange::Put(attempt(alloc, id, 1, AttemptState::Succeeded(Some(0)))?))?;
     Ok(Delta::new(changes))
 }
 
@@ -115,9 +115,9 @@ fn an_attempt_that_has_ended_is_not_live(rt: HostRuntime) -> Result<(), Fail> {
     let alloc = rt.alloc();
     let mut tables = filled(alloc)?;
     assert!(rt; count_live(&mut tables) == Ok(0));
-    let mut tables = changed(tables, two_live(alloc))?;
+    let mut tables = changed(tables, two_live(alloc), Vec::new(alloc))?;
     assert!(rt; are_live(&mut tables, 2, 3) == Ok(true));
-    let mut tables = reopened(changed(tables, ended(alloc, 2))?)?;
+    let mut tables = reopened(changed(tables, ended(alloc, 2), Vec::new(alloc))?)?;
     assert!(rt; is_alone_live(&mut tables, 3) == Ok(true));
     let_go(tables);
     Ok(())

@@ -17,13 +17,17 @@ use Rattle.sqlite_rules.proofs.ListLemmas.{all_from, has_kept}
 use Rattle.ci_tables.proofs.Writes.{perm_nil, map_nil}
 use Rattle.sqlite_trees.proofs.ListLemmas.{IsPermutation-filter, filter-map, filter_same}
 use Rattle.ci_tables.specs.Stands.{places, image, Holds}
-use Rattle.ci_tables.proofs.Queries.{query, picks, answered, shows}
+use Rattle.ci_tables.proofs.Queries.{query, query_to, no_limit, picks, answered, shows}
 
--- what the text of a query means, which `refl` finds
-pub record MeansSelect (schema : Schema) (table : Table) (text : List ℕ) (tests project : List Term) (order : List (Term × Key)) (names : List (List ℕ)) : Type 0 where
-  pub is : command_of (understood schema text) ≡ Select (record { lets = []; body = query table.tree tests project order }) names
+-- what the text of a query of so many rows at most means, which `refl` finds
+pub record MeansSelectTo (limit : Term) (schema : Schema) (table : Table) (text : List ℕ) (tests project : List Term) (order : List (Term × Key)) (names : List (List ℕ)) : Type 0 where
+  pub is : command_of (understood schema text) ≡ Select (record { lets = []; body = query_to limit table.tree tests project order }) names
   pub unlisted : reads_listing schema text ≡ false
   pub plain : IsPlain (understood schema text)
+
+-- the same of a query without a limit
+abbrev pub MeansSelect : Schema → Table → List ℕ → List Term → List Term → List (Term × Key) → List (List ℕ) → Type 0
+MeansSelect = MeansSelectTo no_limit
 
 module _ (schema : Schema) (table : Table) (text : List ℕ) (tests project : List Term) (order : List (Term × Key)) (names : List (List ℕ)) (means : MeansSelect schema table text tests project order names)
     (key : Row) (test : Row → Bool) (tested : (r : Row) → picks tests key r ≡ test (image (places table) r)) (showed : (r : Row) → eval_all project (key ∷ r ∷ []) ≡ image (places table) r) where

@@ -4,4 +4,6 @@
 
 pub mod acts;
 pub mod answers;
+pub mod rows;
 pub mod servers;
+pub mod stages;

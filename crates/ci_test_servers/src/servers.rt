@@ -42,6 +42,11 @@ pub fn after(alloc: Global, acts: &[Act]) -> Result<InMemory, Fail> {
 pub fn altered(server: InMemory, statement: &str) -> Result<InMemory, Fail> {
     let mut conn = left(server);
     let _ = conn.execute(statement, &[])?;
+    over(conn)
+}
+
+/// The server of a connection that has its tables.
+pub fn over<S: Alter + Drop>(conn: Connection<S>) -> Result<Server<S>, Fail> {
     match Server::open(conn) {
         Ok(server) => Ok(server),
         Err(_) => Err("not opened")?,

@@ -1,10 +1,14 @@
 //! Each call of the store fails in turn, in each event, on each of its two files; then the server is opened again.
 
 use ci_machine::reply::{Code, JobStatus};
-use ci_test_disks::{Disks, FailingDisks, empty, fused, stopped};
+use ci_test_disks::{Disks, FailingDisks, closed, connected, discard, empty, fused, stopped};
 use ci_test_servers::acts::{Act, PATH, RUNNER};
 use ci_test_servers::answers::{Want, again, first, is};
-use ci_test_servers::servers::{Failing, is_closed, left, let_go, opened, prepared, tell};
+use ci_test_servers::rows::rightly;
+use ci_test_servers::servers::{
+    Failing, happen, is_closed, left, let_go, opened, over, prepared, tell,
+};
+use ci_test_servers::stages::staged;
 use std::alloc::Global;
 use std::process::Abort;
 use std::test::Fail;
@@ -76,13 +80,13 @@ fn had_happened(alloc: Global, server: &mut Failing, act: Act) -> Result<bool, F
     }
 }
 
-/// Opens the server again after a stop. Had the event happened?
+/// Opens the server again after a stop. Had the event happened? The rows of statuses are those that the records give, then
+/// and after what is asked.
 fn happened(alloc: Global, files: FailingDisks, act: Act) -> Result<bool, Fail> {
-    let Some(mut server) = opened(alloc, files) else {
-        return Err("not opened again")?;
-    };
+    let conn = connected(alloc, files).ok_or("not connected again")?;
+    let mut server = over(rightly(alloc, conn)?)?;
     let had_happened = had_happened(alloc, &mut server, act);
-    let_go(server);
+    discard(rightly(alloc, left(server))?);
     had_happened
 }
 
@@ -116,17 +120,41 @@ fn tried(alloc: Global, files: Disks, act: Act, of_log: bool, calls: u64) -> Res
     Ok(seen)
 }
 
-/// An event that comes after the first ones, so many of them, on files of which one fails from a call on.
+/// What comes before the event.
+#[derive(Clone, Copy)]
+enum Before {
+    /// The first things of the path, so many of them.
+    Path(usize),
+    /// A pipeline of three stages, whose first job is granted.
+    Stages,
+}
+
+/// An event on files of which one fails from a call on.
 #[derive(Clone, Copy)]
 struct Trial {
-    before: usize,
+    before: Before,
     act: Act,
     of_log: bool,
 }
 
+/// Files with a pipeline of three stages, whose first job is granted.
+fn with_stages(alloc: Global) -> Result<Disks, Fail> {
+    let conn = connected(alloc, prepared(alloc, empty(alloc), &PATH[..2])?).ok_or("not connected")?;
+    let mut server = staged(alloc, over(conn)?, 3)?;
+    match happen(alloc, &mut server, &[Act::AskJob(RUNNER)]) {
+        Ok(()) => Ok(closed(left(server)).ok_or("not closed")?),
+        Err(fail) => {
+            let_go(server);
+            Err(fail)
+        }
+    }
+}
+
 fn outcome(alloc: Global, trial: Trial, calls: u64) -> Result<Seen, Fail> {
-    let before = PATH.get(..trial.before).ok_or("too many")?;
-    let files = prepared(alloc, empty(alloc), before)?;
+    let files = match trial.before {
+        Before::Path(count) => prepared(alloc, empty(alloc), PATH.get(..count).ok_or("too many")?)?,
+        Before::Stages => with_stages(alloc)?,
+    };
     tried(alloc, files, trial.act, trial.of_log, calls)
 }
 
@@ -159,8 +187,8 @@ fn sweep(alloc: Global, trial: Trial) -> Result<u64, Fail> {
     Err("never answered")?
 }
 
-/// Sweeps both files for an event that comes after the first ones. Where it changes anything, its commit writes the log.
-fn both(rt: &impl Abort, alloc: Global, before: usize, act: Act) -> Result<(), Fail> {
+/// Sweeps both files for an event. Where it changes anything, its commit writes the log.
+fn both(rt: &impl Abort, alloc: Global, before: Before, act: Act) -> Result<(), Fail> {
     let mut trial = Trial {
         before,
         act,
@@ -176,50 +204,65 @@ fn both(rt: &impl Abort, alloc: Global, before: usize, act: Act) -> Result<(), F
 
 #[test]
 fn each_call_fails_as_a_project_is_made(rt: HostRuntime) -> Result<(), Fail> {
-    both(&rt, rt.alloc(), 0, Act::AddProject("p"))
+    both(&rt, rt.alloc(), Before::Path(0), Act::AddProject("p"))
 }
 
 #[test]
 fn each_call_fails_as_a_runner_is_made(rt: HostRuntime) -> Result<(), Fail> {
-    both(&rt, rt.alloc(), 1, Act::AddRunner("r"))
+    both(&rt, rt.alloc(), Before::Path(1), Act::AddRunner("r"))
 }
 
 #[test]
 fn each_call_fails_as_a_pipeline_is_made(rt: HostRuntime) -> Result<(), Fail> {
-    both(&rt, rt.alloc(), 2, Act::EnterPipeline(1, &["build"]))
+    both(
+        &rt,
+        rt.alloc(),
+        Before::Path(2),
+        Act::EnterPipeline(1, &["build"]),
+    )
 }
 
 #[test]
 fn each_call_fails_in_a_grant(rt: HostRuntime) -> Result<(), Fail> {
-    both(&rt, rt.alloc(), 3, Act::AskJob(RUNNER))
+    both(&rt, rt.alloc(), Before::Path(3), Act::AskJob(RUNNER))
 }
 
 #[test]
 fn each_call_fails_as_a_runner_is_heard(rt: HostRuntime) -> Result<(), Fail> {
-    both(&rt, rt.alloc(), 4, Act::Running)
+    both(&rt, rt.alloc(), Before::Path(4), Act::Running)
 }
 
 #[test]
 fn each_call_fails_as_an_attempt_ends(rt: HostRuntime) -> Result<(), Fail> {
-    both(&rt, rt.alloc(), 4, Act::Success)
+    both(&rt, rt.alloc(), Before::Path(4), Act::Success)
 }
 
 #[test]
 fn each_call_fails_as_a_trace_grows(rt: HostRuntime) -> Result<(), Fail> {
-    both(&rt, rt.alloc(), 4, Act::Append(0, "hello"))
+    both(&rt, rt.alloc(), Before::Path(4), Act::Append(0, "hello"))
+}
+
+#[test]
+fn each_call_fails_as_an_attempt_of_the_first_stage_ends(rt: HostRuntime) -> Result<(), Fail> {
+    both(&rt, rt.alloc(), Before::Stages, Act::Success)
+}
+
+#[test]
+fn each_call_fails_in_a_sweep_over_the_first_stage(rt: HostRuntime) -> Result<(), Fail> {
+    both(&rt, rt.alloc(), Before::Stages, Act::Sweep)
 }
 
 #[test]
 fn each_call_fails_in_a_sweep(rt: HostRuntime) -> Result<(), Fail> {
-    both(&rt, rt.alloc(), 4, Act::Sweep)
+    both(&rt, rt.alloc(), Before::Path(4), Act::Sweep)
 }
 
 #[test]
 fn each_call_fails_as_a_job_is_shown(rt: HostRuntime) -> Result<(), Fail> {
-    both(&rt, rt.alloc(), 4, Act::Show)
+    both(&rt, rt.alloc(), Before::Path(4), Act::Show)
 }
 
 #[test]
 fn each_call_fails_as_a_trace_is_shown(rt: HostRuntime) -> Result<(), Fail> {
-    both(&rt, rt.alloc(), 4, Act::Trace)
+    both(&rt, rt.alloc(), Before::Path(4), Act::Trace)
 }

@@ -6,14 +6,19 @@ use Rattle.ci_machine.specs.Leases.{first_due}
 use Rattle.ci_machine.specs.Step.{leases}
 use Rattle.ci_machine.specs.Sweeps as sweeps
 use Rattle.ci_store.specs.Store.{UnlessBroken}
-use Rattle.ci_server.proofs.Handling.{performed}
+use Rattle.ci_server.specs.Holding.{with_rows}
+use Rattle.ci_server.specs.Planning.{IsKept, PlansFor}
+use Rattle.ci_server.proofs.Handling.{performed, unplanned}
 use Rattle.ci_server.proofs.events.sweep.Goals as goal
 
--- the look-ups left the state as it was, so the changes were committed in it
+-- the look-ups left the store as it was, so the changes were committed in it
 pub returns-clause-performed : goal.returns-clause-performed
-returns-clause-performed g c = λ honest s held seed.
+returns-clause-performed g c = λ honest s sound held seed.
     let looked = c.commit.ensures.was_honest honest in
-    performed g.T.Store.holds g.T.Store.leaves answer.Swept (event.Sweep, c.args.now, seed) s c.in_ok-planned.planned c.commit.new.store c.commit.result
-    (subst (λ r. IfOk r (λ plan. plan ≡ sweeps.sweep (first_due (leases s) c.args.now))) c.in_ok-planned.was (c.sweep.ensures.answered looked s held))
-    c.commit.ensures.answer
-    (c.commit.ensures.ends honest s (subst (λ r. UnlessBroken r (g.T.Store.holds c.sweep.new.store s)) c.in_ok-planned.was (c.sweep.ensures.kept looked s held)))
+    let k = with_rows s held.board in
+    let planned = subst (λ r. IfOk r (λ p. IsKept k → PlansFor k ((p.answer, p.changes) ≡ sweeps.sweep (first_due (leases s) c.args.now)) p.changes p.rows.items)) c.in_ok-planned.was
+    (c.sweep.ensures.answered looked k held.kept) (record { sound = sound; are_board = held.are_board }) in
+    performed g.T.Store.holds g.T.Store.leaves answer.Swept (event.Sweep, c.args.now, seed) s held.board held.are_board
+    c.in_ok-planned.planned.answer c.in_ok-planned.planned.changes c.in_ok-planned.planned.rows.items c.commit.new.store c.commit.result
+    planned.made planned.settled c.commit.ensures.answer
+    (c.commit.ensures.ends honest k (subst (λ r. UnlessBroken r (g.T.Store.holds c.sweep.new.store k)) c.in_ok-planned.was (c.sweep.ensures.kept looked k held.kept)))

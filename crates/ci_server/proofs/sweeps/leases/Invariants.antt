@@ -9,6 +9,6 @@ use Rattle.ci_server.proofs.sweeps.leases.Given as goal
 abbrev pub invariant-loop-attempt : goal.invariant-loop-attempt
 invariant-loop-attempt g l = record {
   loads : LoadsBy {A = Unit {0}} g.T.Store.honest g.T.Store.holds g.T.Store.leaves l.fn.store l.store (Ok tt)
-      (λ s _. l.leases.items ++ map (lease_of s) (into_iter_items l.attempt-iterator) ≡ map (lease_of s) (into_iter_items l.initial.attempt-iterator));
+      (λ k _. l.leases.items ++ map (lease_of k.state) (into_iter_items l.attempt-iterator) ≡ map (lease_of k.state) (into_iter_items l.initial.attempt-iterator));
   count : into_iter_len l.attempt-iterator ≡ length (into_iter_items l.attempt-iterator);
 }

@@ -4,6 +4,7 @@ use Rattle.sqlite.specs.Held.{state}
 use Rattle.sqlite.proofs.StateLemmas.{survives_then}
 use Rattle.sqlite.proofs.InsideLemmas.{keeps_then}
 use Rattle.ci_machine.specs.State.{applied, changed}
+use Rattle.ci_store.specs.Commit.{in_state}
 use Rattle.ci_store.specs.Stands.{Stands}
 use Rattle.std.proofs.lemmas.List.{take_all}
 use Rattle.ci_store.proofs.Committing.{survives_same}
@@ -25,10 +26,10 @@ loop-change-preserved g c =
           let was = inv.1 (early clean) inside in
           let more = one.makes clean was.0 in (
             more.0,
-            λ s stands.
+            λ k stands.
                 let it : get_or c.args.changes.now c.loop-change.change-index c.change-item.result ≡ c.change-item.result = search rules in
-                let step = applied_more s c.args.changes.now c.loop-change.change-index c.change-item.result low ∙ ap (λ x. changed x (applied (take c.loop-change.change-index c.args.changes.now) s)) it in
-                subst (λ t. Stands t (state g.S.Store new).now) (sym step) (more.1 _ (was.1 s stands)),
+                let step = applied_more k.state c.args.changes.now c.loop-change.change-index c.change-item.result low ∙ ap (λ x. changed x (applied (take c.loop-change.change-index c.args.changes.now) k.state)) it in
+                subst (λ s. Stands (record k { state = s }) (state g.S.Store new).now) (sym step) (more.1 _ (was.1 k stands)),
           ),
       λ clean inside. keeps_then _ _ _ (inv.2 (early clean) inside) (one.kept clean (inv.1 (early clean) inside).0),
       survives_then _ _ _ _ _ _ (λ _ db none. none) (λ _ db none. none) inv.3 one.survives,
@@ -44,12 +45,12 @@ pub returns-in_err-make-clause-survives : goal.returns-in_err-make-clause-surviv
 returns-in_err-make-clause-survives g c = survives_then _ _ _ _ _ _ (λ _ db none. none) (λ _ db none. none) c.loop-change.invariant.3 c.make.ensures.survives
 
 pub loop-change-init : goal.loop-change-init
-loop-change-init g c = (refl, (λ clean inside. (inside, λ s stands. stands)), (λ clean inside. record { was_open = λ h. h; committed = λ h. refl }), survives_same _ _)
+loop-change-init g c = (refl, (λ clean inside. (inside, λ k stands. stands)), (λ clean inside. record { was_open = λ h. h; committed = λ h. refl }), survives_same _ _)
 
 pub returns-clause-makes : goal.returns-clause-makes
 returns-clause-makes g c clean inside =
     let was = c.loop-change.invariant.1 clean inside in
-    (was.0, λ s stands. subst (λ cs. Stands (applied cs s) (state g.S.Store c.loop-change.tx.conn.now).now) (take_all _ _ c.loop-change-test.false) (was.1 s stands))
+    (was.0, λ k stands. subst (λ cs. Stands (in_state (applied cs) k) (state g.S.Store c.loop-change.tx.conn.now).now) (take_all _ _ c.loop-change-test.false) (was.1 k stands))
 
 pub returns-clause-kept : goal.returns-clause-kept
 returns-clause-kept g c = c.loop-change.invariant.2

@@ -1,5 +1,5 @@
 use Rattle.std.proofs.Common.{string_bytes, subst}
-use Rattle.ci_store.specs.Load.{ReadsSpec}
+use Rattle.ci_records.specs.Reads.{ReadsSpec}
 use Rattle.ci_store.proofs.Loading.{if_ok}
 use Rattle.ci_store.proofs.job.options_at.Goals as goal
 

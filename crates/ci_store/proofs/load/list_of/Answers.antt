@@ -5,4 +5,4 @@ use Rattle.ci_store.proofs.Looking.{by_params}
 use Rattle.ci_store.proofs.load.list_of.Goals as goal
 
 pub returns-clause-loads : goal.returns-clause-loads
-returns-clause-loads g c = answered_so c.list.ensures.loads (λ s at found. by_params (λ i. bound_value (c.in_ok-owner.ensures i) ∷ []))
+returns-clause-loads g c = answered_so c.list.ensures.loads (λ k at found. by_params (λ i. bound_value (c.in_ok-owner.ensures i) ∷ []))

@@ -6,7 +6,10 @@ use Rattle.ci_store.proofs.Pipelines.{pipeline_removed}
 use Rattle.ci_store.proofs.Jobs.{job_removed, refers_to_pipeline}
 use Rattle.ci_store.proofs.JobVariables.{refers_to_job as variables_refer}
 use Rattle.ci_store.proofs.Attempts.{attempt_removed, refers_to_job as attempts_refer}
-use Rattle.ci_store.proofs.Pieces.{refers_to_attempt}
+use Rattle.ci_store.proofs.Pieces.{piece_removed, refers_to_attempt}
+use Rattle.ci_store.proofs.Needs.{need_removed, needs_refer, needed_refer}
+use Rattle.ci_store.proofs.Board.{rows_refer}
+use Rattle.ci_store.specs.Commit.{in_state}
 use Rattle.ci_store.proofs.Applied.{by_item}
 use Rattle.ci_machine.specs.State.{without_record}
 use Rattle.ci_store.proofs.make.remove_record.Goals as goal
@@ -25,14 +28,19 @@ returns-in-Pipeline-clause-makes g c clean inside =
 
 pub returns-in-Job-clause-makes : goal.returns-in-Job-clause-makes
 returns-in-Job-clause-makes g c clean inside =
-    removed_by g.S.Store c.args.tx.now.conn.now c.remove_at-in-Job.new.tx.conn.now c.in-Job.is c.remove_at-in-Job.result (queries (variables_refer ∷ attempts_refer ∷ [])) _ refl (job_removed g.S.Store c.args.tx.now.conn.now c.remove_at-in-Job.new.tx.conn.now _) (c.remove_at-in-Job.ensures.removes clean inside)
+    removed_by g.S.Store c.args.tx.now.conn.now c.remove_at-in-Job.new.tx.conn.now c.in-Job.is c.remove_at-in-Job.result (queries (variables_refer ∷ attempts_refer ∷ needs_refer ∷ needed_refer ∷ rows_refer ∷ [])) _ refl (job_removed g.S.Store c.args.tx.now.conn.now c.remove_at-in-Job.new.tx.conn.now _) (c.remove_at-in-Job.ensures.removes clean inside)
 
 pub returns-in-JobVariable-clause-makes : goal.returns-in-JobVariable-clause-makes
-returns-in-JobVariable-clause-makes g c clean inside = by_item g.S.Store c.args.tx.now.conn.now c.remove_job_variable.new.tx.conn.now without_record c.in-JobVariable.is c.remove_job_variable.result (c.remove_job_variable.ensures.makes clean inside)
+returns-in-JobVariable-clause-makes g c clean inside = by_item g.S.Store c.args.tx.now.conn.now c.remove_job_variable.new.tx.conn.now (λ key. in_state (without_record key)) c.in-JobVariable.is c.remove_job_variable.result (c.remove_job_variable.ensures.makes clean inside)
 
 pub returns-in-Attempt-clause-makes : goal.returns-in-Attempt-clause-makes
 returns-in-Attempt-clause-makes g c clean inside =
     removed_by g.S.Store c.args.tx.now.conn.now c.remove_at-in-Attempt.new.tx.conn.now c.in-Attempt.is c.remove_at-in-Attempt.result (queries (refers_to_attempt ∷ [])) _ refl (attempt_removed g.S.Store c.args.tx.now.conn.now c.remove_at-in-Attempt.new.tx.conn.now _) (c.remove_at-in-Attempt.ensures.removes clean inside)
 
 pub returns-in-Piece-clause-makes : goal.returns-in-Piece-clause-makes
-returns-in-Piece-clause-makes g c clean inside = by_item g.S.Store c.args.tx.now.conn.now c.remove_piece.new.tx.conn.now without_record c.in-Piece.is c.remove_piece.result (c.remove_piece.ensures.makes clean inside)
+returns-in-Piece-clause-makes g c clean inside =
+    removed_by g.S.Store c.args.tx.now.conn.now c.remove_pair-in-Piece.new.tx.conn.now c.in-Piece.is c.remove_pair-in-Piece.result [] _ refl (piece_removed g.S.Store c.args.tx.now.conn.now c.remove_pair-in-Piece.new.tx.conn.now _ _) (c.remove_pair-in-Piece.ensures.removes clean inside)
+
+pub returns-in-Need-clause-makes : goal.returns-in-Need-clause-makes
+returns-in-Need-clause-makes g c clean inside =
+    removed_by g.S.Store c.args.tx.now.conn.now c.remove_pair.new.tx.conn.now c.in-Need.is c.remove_pair.result [] _ refl (need_removed g.S.Store c.args.tx.now.conn.now c.remove_pair.new.tx.conn.now _ _) (c.remove_pair.ensures.removes clean inside)

@@ -16,4 +16,4 @@ returns-then-branch-eq1-clause-makes g c clean inside =
     let one : c.in_ok-change.field-0 ≡ 1 = search rules in
     let row = (λ i. bound_value (c.to_sql.ensures i) ∷ bound_value (c.in_ok-number.ensures i) ∷ []) ∙ (λ i. Text (c.counter_key.ensures i) ∷ number c.args.next ∷ []) in
     let done = subst (λ n. Changes g.S.Store UPDATE_META.now (meta_row (counter_key c.args.counter) c.args.next) n old new) one (subst (λ row. Changes g.S.Store UPDATE_META.now row c.in_ok-change.field-0 old new) row ran.1) in
-    (ran.0, λ s stands. next_sets g.S.Store old new c.args.counter c.args.next s stands done)
+    (ran.0, λ k stands. next_sets g.S.Store old new c.args.counter c.args.next k stands done)

@@ -1,5 +1,5 @@
 use Rattle.std.proofs.Common.{string_bytes, subst}
-use Rattle.ci_store.specs.Load.{ReadsTags}
+use Rattle.ci_records.specs.Reads.{ReadsTags}
 use Rattle.ci_store.proofs.Loading.{if_ok}
 use Rattle.ci_store.proofs.runner.tags_at.Goals as goal
 

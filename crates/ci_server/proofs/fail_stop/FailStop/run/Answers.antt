@@ -2,6 +2,7 @@ use Rattle.std.proofs.Common.{◌++◌, ◌∷◌, [], take, List, arith, sym, s
 use Rattle.std.proofs.lemmas.List.{take_more}
 use Rattle.ci_machine.specs.declared.reply.Answer.{Answer}
 use Rattle.ci_server.specs.Handling.{Call}
+use Rattle.ci_server.specs.Holding.{Holds, Leaves}
 use Rattle.ci_server.specs.Server.{HandlesEachBy}
 use Rattle.ci_server.proofs.Runs.{each_more}
 use Rattle.ci_server.proofs.fail_stop.FailStop.run.Goals as goal
@@ -9,8 +10,8 @@ use Rattle.ci_server.proofs.fail_stop.FailStop.run.Goals as goal
 pub loop-call-preserved : goal.loop-call-preserved
 loop-call-preserved g c =
     let honest = g.T.Store.honest in
-    let holds = g.T.Store.holds in
-    let leaves = g.T.Store.leaves in
+    let holds = Holds g.T.Store.holds in
+    let leaves = Leaves g.T.Store.leaves in
     let call = c.call-item.result in
     let one = c.handle_copy-answer in
     let calls = take_more c.args.calls.now c.loop-call.call-index call c.loop-call-test.true

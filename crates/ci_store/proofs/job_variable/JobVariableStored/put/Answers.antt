@@ -14,4 +14,4 @@ returns-clause-makes g c clean inside =
     let new = c.put.new.tx.conn.now in
     let x = c.args.self.now in
     let row = (λ i. bound_value (c.in_ok-job.ensures i) ∷ bound_value (c.text.ensures i) ∷ bound_value (c.text-2.ensures i) ∷ []) ∙ (λ i. number x.job ∷ Text x.key ∷ Text x.value ∷ []) in
-    on_ok c.put.result (λ ran. (ran.0, λ s stands. job_variable_puts g.S.Store old new x s stands (subst (λ row. HasPut g.S.Store UPDATE_JOB_VARIABLE.now INSERT_JOB_VARIABLE.now row old new) row ran.1))) (c.put.ensures.put clean inside)
+    on_ok c.put.result (λ ran. (ran.0, λ k stands. job_variable_puts g.S.Store old new x k stands (subst (λ row. HasPut g.S.Store UPDATE_JOB_VARIABLE.now INSERT_JOB_VARIABLE.now row old new) row ran.1))) (c.put.ensures.put clean inside)

@@ -11,4 +11,4 @@ returns-clause-makes g c clean inside =
     let old = c.args.tx.now.conn.now in
     let new = c.put.new.tx.conn.now in
     let x = c.args.self.now in
-    on_ok c.put.result (λ ran. (ran.0, λ s stands. piece_puts g.S.Store old new x s stands (subst (λ row. HasPut g.S.Store UPDATE_PIECE.now INSERT_PIECE.now row old new) (λ i. bound_value (c.in_ok-attempt.ensures i) ∷ bound_value (c.in_ok-seq.ensures i) ∷ bound_value (c.blob.ensures i) ∷ []) ran.1))) (c.put.ensures.put clean inside)
+    on_ok c.put.result (λ ran. (ran.0, λ k stands. piece_puts g.S.Store old new x k stands (subst (λ row. HasPut g.S.Store UPDATE_PIECE.now INSERT_PIECE.now row old new) (λ i. bound_value (c.in_ok-attempt.ensures i) ∷ bound_value (c.in_ok-seq.ensures i) ∷ bound_value (c.blob.ensures i) ∷ []) ran.1))) (c.put.ensures.put clean inside)

@@ -15,4 +15,4 @@ returns-clause-makes g c clean inside =
     let new = c.put.new.tx.conn.now in
     let x = c.args.self.now in
     let row = (λ i. bound_value (c.in_ok-id.ensures i) ∷ bound_value (c.text.ensures i) ∷ bound_value (c.text-2.ensures i) ∷ bound_value (c.optional_text.ensures i) ∷ []) ∙ (λ i. number x.id ∷ Text x.name ∷ Text x.token ∷ bound_words x.file i ∷ []) in
-    on_ok c.put.result (λ ran. (ran.0, λ s stands. project_puts g.S.Store old new x s stands (subst (λ row. HasPut g.S.Store UPDATE_PROJECT.now INSERT_PROJECT.now row old new) row ran.1))) (c.put.ensures.put clean inside)
+    on_ok c.put.result (λ ran. (ran.0, λ k stands. project_puts g.S.Store old new x k stands (subst (λ row. HasPut g.S.Store UPDATE_PROJECT.now INSERT_PROJECT.now row old new) row ran.1))) (c.put.ensures.put clean inside)

@@ -6,4 +6,4 @@ pub one_at-requires-clause-plain : goal.one_at-requires-clause-plain
 one_at-requires-clause-plain g c = plain_select
 
 pub returns : goal.returns
-returns g c = begun c.self.view_is (answered_so c.one_at.ensures.loads (λ s at found. job_found g.S.Store c.self.inside.conn c.one_at.new.conn s at c.args.id found))
+returns g c = begun c.self.view_is (answered_so c.one_at.ensures.loads (λ k at found. job_found g.S.Store c.self.inside.conn c.one_at.new.conn k at c.args.id found))

@@ -11,4 +11,4 @@ list-requires-clause-plain g c = plain_select_in
 
 pub returns : goal.returns
 returns g c =
-    begun c.self.view_is (answered_so c.list.ensures.loads (λ s at found h. live_found g.S.Store c.self.inside.conn c.list.new.conn s at found.items (by_params ((λ i. bound_value (c.to_sql.ensures i) ∷ []) ∙ (λ i. number ((c.state_numbers-live.ensures i).0) ∷ [])) h)))
+    begun c.self.view_is (answered_so c.list.ensures.loads (λ k at found h. live_found g.S.Store c.self.inside.conn c.list.new.conn k at found.items (by_params ((λ i. bound_value (c.to_sql.ensures i) ∷ []) ∙ (λ i. number ((c.state_numbers-live.ensures i).0) ∷ [])) h)))

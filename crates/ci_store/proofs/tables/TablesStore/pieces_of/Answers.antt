@@ -6,4 +6,4 @@ pub list_of-requires-clause-plain : goal.list_of-requires-clause-plain
 list_of-requires-clause-plain g c = plain_select_of
 
 pub returns : goal.returns
-returns g c = begun c.self.view_is (answered_so c.list_of.ensures.loads (λ s at found. pieces_found g.S.Store c.self.inside.conn c.list_of.new.conn s at c.args.attempt found.items))
+returns g c = begun c.self.view_is (answered_so c.list_of.ensures.loads (λ k at found. pieces_found g.S.Store c.self.inside.conn c.list_of.new.conn k at c.args.attempt found.items))

@@ -10,4 +10,4 @@ one-requires-clause-plain g c = plain_select_with
 
 pub returns : goal.returns
 returns g c =
-    begun c.self.view_is (answered_so c.one.ensures.loads (λ s at found h. runner_with_found g.S.Store c.self.inside.conn c.one.new.conn s at c.args.token.now found (by_params (λ i. bound_value (c.text.ensures i) ∷ []) h)))
+    begun c.self.view_is (answered_so c.one.ensures.loads (λ k at found h. runner_with_found g.S.Store c.self.inside.conn c.one.new.conn k at c.args.token.now found (by_params (λ i. bound_value (c.text.ensures i) ∷ []) h)))

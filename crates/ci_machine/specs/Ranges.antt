@@ -1,0 +1,31 @@
+-- What is looked up by a range of job numbers, and page by page.
+use Rattle.std.specs.Prelude.{ℕ, Bool, ◌&&◌, List, filter, find, take, nat_lt, nat_le, ◌==◌, Option}
+use Rattle.ci_board.specs.declared.facts.Status.TheVariants as status
+use Rattle.ci_board.specs.Effects.{is_status}
+use Rattle.ci_machine.specs.declared.records.Need.{Need}
+use Rattle.ci_machine.specs.declared.records.Attempt.{Attempt}
+use Rattle.ci_machine.specs.declared.records.BoardRow.{BoardRow}
+
+-- from the first number to the last one
+abbrev pub is_within : ℕ → ℕ → ℕ → Bool
+is_within first last n = nat_le first n && nat_le n last
+
+abbrev pub needs_within : ℕ → ℕ → List Need → List Need
+needs_within first last needs = filter (λ w. is_within first last w.job) needs
+
+abbrev pub attempts_within : ℕ → ℕ → List Attempt → List Attempt
+attempts_within first last attempts = filter (λ a. is_within first last a.job) attempts
+
+abbrev pub rows_within : ℕ → ℕ → List BoardRow → List BoardRow
+rows_within first last board = filter (λ r. is_within first last r.job) board
+
+abbrev pub row_at : ℕ → List BoardRow → Option BoardRow
+row_at job board = find (λ r. r.job == job) board
+
+-- the row is that of a pending job behind this one
+abbrev pub is_pending_after : ℕ → BoardRow → Bool
+is_pending_after job r = is_status r.row.status status.Pending && nat_lt job r.job
+
+-- the first so many pending rows behind a job
+abbrev pub pending_after : ℕ → ℕ → List BoardRow → List BoardRow
+pending_after count job board = take count (filter (is_pending_after job) board)

@@ -1,0 +1,41 @@
+-- What is planned of an event over what a store keeps: changes of records, and the rows of statuses that are put behind them.
+use Rattle.std.specs.Prelude.{◌≡◌, ◌⊎◌, ℕ, List, [], ◌∷◌, if◌then◌else◌, Option, Some, None}
+use Rattle.ci_machine.specs.declared.records.BoardRow.{BoardRow}
+use Rattle.ci_machine.specs.declared.records.Attempt.{Attempt}
+use Rattle.ci_machine.specs.declared.records.Job.{Job}
+use Rattle.ci_machine.specs.declared.change.Record.TheVariants as row
+use Rattle.ci_machine.specs.declared.change.RowChange.{RowChange}
+use Rattle.ci_machine.specs.declared.change.RowChange.TheVariants.{Put}
+use Rattle.ci_machine.specs.Leases.{is_live}
+use Rattle.ci_machine.specs.State.{State, applied}
+use Rattle.ci_machine.specs.Kept.{Kept, put_rows}
+use Rattle.ci_machine.specs.Statuses.{AreBoard}
+use Rattle.ci_machine.specs.Sound.{IsSound}
+use Rattle.ci_statuses.specs.Changes.{HasLive, IsMade}
+
+-- what is kept is a state that the machine may come to, with its rows
+pub record IsKept (k : Kept) : Type 0 where
+  pub sound : IsSound k.state
+  pub are_board : AreBoard k.state k.board
+
+-- the rows that are put make the rows of the state after the changes
+abbrev pub Settles : Kept → List RowChange → List BoardRow → Type 0
+Settles k changes rows = AreBoard (applied changes k.state) (put_rows rows k.board)
+
+-- The plan is one that the machine makes, and its rows settle its changes, where what is kept is a state with its rows.
+pub record PlansFor (k : Kept) (Makes : Type 0) (changes : List RowChange) (rows : List BoardRow) : Type 0 where
+  pub made : Makes
+  pub settled : Settles k changes rows
+
+-- the changes are none, or they put a live attempt of the state as it stands then
+abbrev pub MovesOne : State → List RowChange → Type 0
+MovesOne s changes = (changes ≡ []) ⊎ ((after : Attempt) × HasLive s after × (changes ≡ Put (row.Attempt after) ∷ []))
+
+-- the rows make those of any state after the pipeline was made with these jobs, none of which waits for another
+abbrev pub RowsMade : ℕ → List Job → List BoardRow → Type 0
+RowsMade pipeline jobs rows = (s t : State) (board : List BoardRow) → IsSound s → AreBoard s board → IsMade s t pipeline jobs [] → AreBoard t (put_rows rows board)
+
+-- the attempt that the changes end, where they put it alone
+abbrev pub attempt_ended : List RowChange → Option Attempt
+attempt_ended (Put (row.Attempt after) ∷ []) = if is_live after then None else Some after
+attempt_ended _ = None

@@ -1,0 +1,17 @@
+pub mod Positions
+pub mod Puts
+pub mod RowPuts
+pub mod Facts
+pub mod Tallies
+pub mod Parts
+pub mod Found
+pub mod Graphs
+pub mod Joint
+pub mod Loaded
+pub mod Settled
+pub mod Ends
+pub mod Stays
+pub mod Grants
+pub mod Made
+pub mod Entered
+pub mod Pages

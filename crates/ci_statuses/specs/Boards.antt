@@ -1,0 +1,23 @@
+-- The board of a pipeline in a state with rows.
+use Rattle.std.specs.Prelude.{◌≡◌, ℕ, List, map}
+use Rattle.ci_graph.specs.Lists.{number_at}
+use Rattle.ci_board.specs.declared.facts.Row.{Row}
+use Rattle.ci_board.specs.Rows.{BoardState, differing, row_at}
+use Rattle.ci_machine.specs.declared.records.BoardRow.{BoardRow}
+use Rattle.ci_machine.specs.State.{State}
+use Rattle.ci_machine.specs.Statuses.{graph_of, facts_of, rows_of}
+
+-- A loaded board is that of the pipeline: its graph has the same parts and predecessors, on which alone the rows depend.
+pub record IsBoardOf (s : State) (board : List BoardRow) (pipeline : ℕ) (loaded : BoardState) : Type 0 where
+  pub parts : loaded.graph.parts ≡ (graph_of s pipeline).parts
+  pub predecessors : loaded.graph.predecessors ≡ (graph_of s pipeline).predecessors
+  pub its_facts : loaded.facts ≡ facts_of s pipeline
+  pub its_rows : loaded.rows ≡ rows_of s board pipeline
+
+-- the row of the job at a position, among jobs with these numbers and rows
+abbrev pub board_row : List ℕ → List Row → ℕ → BoardRow
+board_row numbers rows position = record { job = number_at numbers position; row = row_at rows position }
+
+-- the new rows of the jobs whose rows differ
+abbrev pub changed_rows : List ℕ → List Row → List Row → List BoardRow
+changed_rows numbers olds rows = map (board_row numbers rows) (differing 0 olds rows)

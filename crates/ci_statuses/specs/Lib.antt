@@ -1,0 +1,4 @@
+pub mod Lookups
+pub mod Boards
+pub mod Changes
+pub mod Pages

@@ -1,0 +1,44 @@
+//! Why there are no rows.
+
+use ci_graph::part::GraphFault;
+use std::alloc::{AllocError, AllocFailed};
+
+/// Why there are no rows.
+#[derive(Clone, Copy, Debug, PartialEq, Eq, Drop)]
+pub enum StatusFault {
+    /// Memory was refused.
+    Memory,
+    /// What was looked up doesn't fit together.
+    Broken,
+}
+
+impl From<AllocError> for StatusFault {
+    ghost use Rattle.std.specs.Prelude.{◌≡◌};
+    ghost use Rattle.ci_statuses.specs.declared.fault.StatusFault.TheVariants.{Memory};
+
+    ghost from_gives = { λ _ fault. fault ≡ Memory };
+
+    fn from(_: AllocError) -> StatusFault {
+        StatusFault::Memory
+    }
+}
+
+impl<T: Drop> From<AllocFailed<T>> for StatusFault {
+    ghost use Rattle.std.specs.Prelude.{◌≡◌};
+    ghost use Rattle.ci_statuses.specs.declared.fault.StatusFault.TheVariants.{Memory};
+
+    ghost from_gives = { λ _ fault. fault ≡ Memory };
+
+    fn from(_: AllocFailed<T>) -> StatusFault {
+        StatusFault::Memory
+    }
+}
+
+impl From<GraphFault> for StatusFault {
+    fn from(fault: GraphFault) -> StatusFault {
+        match fault {
+            GraphFault::G3 => StatusFault::Broken,
+            GraphFault::Memory => StatusFault::Memory,
+        }
+    }
+}

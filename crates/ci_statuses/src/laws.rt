@@ -1,0 +1,73 @@
+//! How the rows stay right under the changes of a state.
+
+ghost use Rattle.std.specs.Prelude.{◌≡◌, ◌<◌, ◌++◌, ℕ, true, List, [], ◌∷◌, length, map, Contains, Some};
+ghost use Rattle.std.specs.List.{AllByRecursion};
+ghost use Rattle.ci_values.specs.declared.attempts.AttemptState.TheVariants.{Live};
+ghost use Rattle.ci_board.specs.declared.facts.Row.{Row};
+ghost use Rattle.ci_board.specs.Rows.{AreRows};
+ghost use Rattle.ci_machine.specs.declared.records.Job.{Job};
+ghost use Rattle.ci_machine.specs.declared.records.Attempt.{Attempt};
+ghost use Rattle.ci_machine.specs.declared.records.QueuedJob.{QueuedJob};
+ghost use Rattle.ci_machine.specs.declared.records.BoardRow.{BoardRow};
+ghost use Rattle.ci_machine.specs.declared.change.Record.TheVariants as row;
+ghost use Rattle.ci_machine.specs.declared.change.Counter.TheVariants as counter;
+ghost use Rattle.ci_machine.specs.declared.change.RowChange.{RowChange};
+ghost use Rattle.ci_machine.specs.declared.request.NewPipeline.{NewPipeline};
+ghost use Rattle.ci_machine.specs.State.{State, applied};
+ghost use Rattle.ci_machine.specs.Kept.{put_rows};
+ghost use Rattle.ci_machine.specs.Statuses.{numbers_of, graph_of, facts_of, rows_of, row_for, AreBoard};
+ghost use Rattle.ci_machine.specs.Sound.{IsSound};
+ghost use Rattle.ci_machine.specs.Step.{is_pending, queue};
+ghost use Rattle.ci_machine.specs.Ranges.{row_at, pending_after};
+ghost use Rattle.ci_machine.specs.Plans.{numbered};
+ghost use Rattle.ci_machine.specs.Pipelines.{new_jobs, entered};
+ghost use Rattle.ci_statuses.specs.Boards.{changed_rows};
+ghost use Rattle.ci_statuses.specs.Changes.{IsWithin, HaveSameFacts, LeavesStatuses, IsMade, started_row};
+ghost use Rattle.ci_statuses.specs.Pages.{queue_behind, end_of_page, queued_at};
+
+/// Where nothing changes that a status depends on, the rows are right as they are.
+pub fn same_facts_keep_rows()
+    ensures { (s t : State) (board : List BoardRow) → AreBoard s board → HaveSameFacts s t → AreBoard t board }
+{}
+
+/// So they are after changes of records that have no statuses, and of what an attempt's statuses don't depend on.
+pub fn rows_stay()
+    ensures { (s : State) (board : List BoardRow) (changes : List RowChange) → IsSound s → AreBoard s board → AllByRecursion (LeavesStatuses s) changes → AreBoard (applied changes s) board }
+{}
+
+/// Where the facts of one pipeline's jobs change, the rows that differ are put, and all are right again.
+pub fn differing_rows_settle()
+    ensures { (s t : State) (board : List BoardRow) (pipeline : ℕ) (rows : List Row) → IsSound s → AreBoard s board → IsWithin s t pipeline
+        → length rows ≡ length (numbers_of s pipeline) → AreRows (graph_of s pipeline) (facts_of t pipeline) rows
+        → AreBoard t (put_rows (changed_rows (numbers_of s pipeline) (rows_of s board pipeline) rows) board) }
+{}
+
+/// A grant of a pending job puts its own row alone: it is running then.
+pub fn grant_settles()
+    ensures { (s : State) (board : List BoardRow) (job : Job) (attempt : Attempt) → IsSound s → AreBoard s board → Contains s.jobs job → is_pending board job ≡ true
+        → attempt.id ≡ s.next.attempt → attempt.job ≡ job.id → attempt.state ≡ Live
+        → AreBoard (applied (numbered (row.Attempt attempt) counter.Attempt s.next.attempt) s) (put_rows (started_row board job.id ∷ []) board) }
+{}
+
+/// A pipeline that is entered is made: its jobs are new, none waits for another, and none was tried.
+pub fn entered_is_made()
+    ensures { (s : State) (p : NewPipeline) (now : ℕ) → IsSound s
+        → IsMade s (applied (entered s.next.pipeline s.next.job p now).1 s) s.next.pipeline (new_jobs p.stage s.next.pipeline s.next.job 0 p.jobs) [] }
+{}
+
+/// Each job has one row, which is found at its number.
+pub fn each_job_has_its_row()
+    ensures row { (s : State) (board : List BoardRow) (job : Job) → AreBoard s board → Contains s.jobs job → (r : BoardRow) × (row_at job.id board ≡ Some r) × (r.row ≡ row_for board job.id) }
+    ensures found { (s : State) (board : List BoardRow) (r : BoardRow) → IsSound s → AreBoard s board → Contains board r → row_for board r.job ≡ r.row }
+{}
+
+/// The queue is the pending jobs behind 0; the pending jobs behind a number are those of a page of rows behind it, and behind
+/// these the pending jobs behind the page's end; where the page isn't full there are none there.
+pub fn the_queue_is_its_pages()
+    ensures begin { (s : State) (board : List BoardRow) → IsSound s → queue_behind s board 0 ≡ queue s board }
+    ensures page { (s : State) (board : List BoardRow) (count n : ℕ) (jobs : List QueuedJob) → IsSound s → AreBoard s board
+        → map (λ q. Some q) jobs ≡ map (queued_at s) (pending_after count n board)
+        → queue_behind s board n ≡ jobs ++ queue_behind s board (end_of_page n (pending_after count n board)) }
+    ensures end { (s : State) (board : List BoardRow) (count n : ℕ) → IsSound s → AreBoard s board → length (pending_after count n board) < count
+        → queue_behind s board (end_of_page n (pending_after count n board)) ≡ [] }
+{}

@@ -1,0 +1,7 @@
+//! Tests of the rows that are put beside the changes of a state, each on rows that were worked out by hand.
+#![tactic(auto)]
+
+#[cfg(test)]
+mod records;
+#[cfg(test)]
+mod tests;

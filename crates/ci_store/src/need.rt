@@ -1,0 +1,47 @@
+//! Pairs of pipelines' graphs as rows.
+
+use crate::read::{Stored, has_columns};
+use crate::texts;
+use ci_machine::records::Need;
+use ci_tables::fault::StoreFault;
+use ci_tables::values::number;
+use ci_tables::write::put;
+use sqlite::{Alter, Row, Transaction};
+use std::alloc::Global;
+
+impl Stored for Need {
+    ghost use Rattle.ci_machine.specs.State.{with_record};
+    ghost use Rattle.ci_machine.specs.declared.change.Record.TheVariants as variant;
+    ghost use Rattle.ci_store.specs.Commit.{in_state};
+    ghost use Rattle.std.specs.Prelude.{◌≡◌};
+    ghost use Rattle.ci_store.specs.Rows.{need_row};
+
+    ghost is_row = { λ row n. row ≡ need_row n };
+
+    ghost puts = { λ x. in_state (with_record (variant.Need x)) };
+
+    fn read(_: Global, row: &Row) -> Result<Need, StoreFault> {
+        has_columns(row, 2)?;
+        Ok(Need {
+            job: row.get(0)?,
+            pred: row.get(1)?,
+        })
+    }
+
+    fn put<S: Alter>(
+        &self,
+        tx: &mut Transaction<'_, S>,
+        _: Global,
+        is_new: bool,
+    ) -> Result<(), StoreFault> {
+        let job = number(self.job)?;
+        let pred = number(self.pred)?;
+        put(
+            tx,
+            is_new,
+            texts::UPDATE_NEED,
+            texts::INSERT_NEED,
+            &[job, pred],
+        )
+    }
+}
