@@ -27,6 +27,6 @@ used = resource.getrusage(resource.RUSAGE_CHILDREN)
 print((said.stdout + said.stderr).strip(), f"- {used.ru_utime + used.ru_stime:.2f} s, {used.ru_maxrss // 1024} MiB")' out/bench_patterns "$1"
 }
 echo "files of 65,536 bytes"
-for kind in many large words nested unicode; do row "$kind"; done
+for kind in many large words folds unicode; do row "$kind"; done
 echo "one evaluation on 65,536 bytes"
 for kind in repeat classes mixed empty optional looks groups; do row "$kind"; done

@@ -2,7 +2,7 @@ pub mod Lexing
 pub mod Fronts
 pub mod Sound
 pub mod FoundLemmas
-pub mod Unescaping
+pub mod Sources
 pub mod Descending
 pub mod KindLemmas
 pub mod Parts

@@ -7,7 +7,8 @@ use Rattle.std.proofs.lemmas.List.{length-append}
 use Rattle.ci_expr.specs.declared.token.Kind.{Kind}
 use Rattle.ci_expr.specs.declared.token.Kind.TheVariants.{Name, Text, Null, Pattern}
 use Rattle.ci_expr.specs.Token.{Token, IsMark}
-use Rattle.ci_expr.specs.Formula.{Operand, null, text, variable, IsOperand, IsPatternOf, flag_of, unescaped}
+use Rattle.ci_expr.specs.Formula.{Operand, null, text, variable, IsOperand, IsPatternOf, flag_of}
+use Rattle.ci_expr.specs.Source.{source_of}
 use Rattle.ci_expr.specs.Descent.{behind_byte, before_byte, text_of, flagged, body_by, body_of, pattern_of, operand_by}
 use Rattle.ci_expr.proofs.Fronts.{split, within}
 
@@ -124,10 +125,10 @@ body_by-is s p None e h = let w = flagged-is false (before_byte 47 s) p h in
 body_by-is s p (Some cut) e h = let w = flagged-is true (before_byte 47 cut) p h in
     subst (IsBodyIn s) w.2 (before_byte-is 105 s cut (omega arith) e ∙ ap (λ xs. xs ++ 105 ∷ []) (before_byte-is 47 cut w.0 (omega arith) w.1) ∙ append-assoc w.0 (47 ∷ []) (105 ∷ []))
 
-pub pattern_of-is : (t : Token) (p : Body) → t.kind ≡ Pattern → pattern_of t.slice ≡ Some p → IsPatternOf (unescaped (chars p.0)) p.1 t
+pub pattern_of-is : (t : Token) (p : Body) → t.kind ≡ Pattern → pattern_of t.slice ≡ Some p → IsPatternOf (source_of (chars p.0)) p.1 t
 pattern_of-is t p is h = by-slice (behind_byte 47 t.slice) refl h
   where
-    by-slice : (m : Option (List ℕ)) → behind_byte 47 t.slice ≡ m → option_and_then body_of m ≡ Some p → IsPatternOf (unescaped (chars p.0)) p.1 t
+    by-slice : (m : Option (List ℕ)) → behind_byte 47 t.slice ≡ m → option_and_then body_of m ≡ Some p → IsPatternOf (source_of (chars p.0)) p.1 t
     by-slice None e g = absurd cc
     by-slice (Some s) e g = (is, (p.0, behind_byte-is 47 t.slice s (omega arith) e ∙ ap (λ xs. 47 ∷ xs) (body_by-is s p (before_byte 105 s) refl g), refl))
 

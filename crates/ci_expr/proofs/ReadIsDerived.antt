@@ -6,7 +6,8 @@ use Rattle.ci_expr.specs.declared.token.Kind.TheVariants as kind
 use Rattle.ci_expr.specs.declared.tree.Join.{Join}
 use Rattle.ci_expr.specs.Token.{Token}
 use Rattle.ci_expr.specs.Reading.{◌>>=◌}
-use Rattle.ci_expr.specs.Formula.{Operand, Formula, joined, group, present, equal, found, Level, chain, or, test, part, sign, comparing, matching, IsNamed, unescaped, Derives, single, several, in_group, alone, compared, matched}
+use Rattle.ci_expr.specs.Formula.{Operand, Formula, joined, group, present, equal, found, Level, chain, or, test, part, sign, comparing, matching, IsNamed, Derives, single, several, in_group, alone, compared, matched}
+use Rattle.ci_expr.specs.Source.{source_of}
 use Rattle.ci_expr.specs.Descent.{Read, behind, behind_byte, is_kind, operand_by, pattern_of, compared_by, compared_from, matched_by, matched_from, sign_by, named_from, variable_by, closed, test_by, joined_by, descend}
 use Rattle.ci_expr.proofs.Fronts.{split}
 use Rattle.ci_expr.proofs.KindLemmas.{is_kind-true, Headed, behind-is}
@@ -81,8 +82,8 @@ compared-in v c (w ∷ ts) negated name x named sign g = compared-sound v c w ts
 matched-sound : (v c w : Token) (ts : List Token) (negated : Bool) (name : List ℕ) (x : Formula × List Token) → IsNamed name v → c.kind ≡ matching negated → w.kind ≡ kind.Pattern
     → (o : Option (List ℕ × Bool)) → pattern_of w.slice ≡ o → SameRead (matched_by negated name ts o) x → Cut test (v ∷ c ∷ w ∷ ts) x.0 x.1
 matched-sound v c w ts negated name x named sign pattern None is g = absurd cc
-matched-sound v c w ts negated name x named sign pattern (Some p) is g = cut-same test (v ∷ c ∷ w ∷ ts) (pair (found negated name (unescaped (chars p.0)) p.1) ts) x g
-    (record { front = v ∷ c ∷ w ∷ []; whole = refl; derives = matched v c w negated name (unescaped (chars p.0)) p.1 named sign (pattern_of-is w p pattern is) })
+matched-sound v c w ts negated name x named sign pattern (Some p) is g = cut-same test (v ∷ c ∷ w ∷ ts) (pair (found negated name (source_of (chars p.0)) p.1) ts) x g
+    (record { front = v ∷ c ∷ w ∷ []; whole = refl; derives = matched v c w negated name (source_of (chars p.0)) p.1 named sign (pattern_of-is w p pattern is) })
 
 matched-in : (v c : Token) (ts : List Token) (negated : Bool) (name : List ℕ) (x : Formula × List Token) → IsNamed name v → c.kind ≡ matching negated
     → SameRead (matched_from negated name ts) x → Cut test (v ∷ c ∷ ts) x.0 x.1

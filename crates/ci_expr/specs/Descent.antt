@@ -9,7 +9,8 @@ use Rattle.ci_expr.specs.declared.tree.Join.{Join}
 use Rattle.ci_expr.specs.declared.tree.Join.TheVariants as join
 use Rattle.ci_expr.specs.Token.{Token}
 use Rattle.ci_expr.specs.Reading.{◌>>=◌}
-use Rattle.ci_expr.specs.Formula.{Operand, null, text, variable, Formula, joined, group, present, equal, found, Level, chain, or, test, part, sign, unescaped}
+use Rattle.ci_expr.specs.Formula.{Operand, null, text, variable, Formula, joined, group, present, equal, found, Level, chain, or, test, part, sign}
+use Rattle.ci_expr.specs.Source.{source_of}
 
 -- the place of a kind among the kinds
 abbrev pub place : Kind → ℕ
@@ -82,7 +83,7 @@ compared_from negated name (t ∷ ts) = compared_by negated name ts (operand_by 
 
 abbrev pub matched_by : Bool → List ℕ → List Token → Option (List ℕ × Bool) → Read
 matched_by negated name rest None = Err X4
-matched_by negated name rest (Some p) = Ok (found negated name (unescaped (chars p.0)) p.1, rest)
+matched_by negated name rest (Some p) = Ok (found negated name (source_of (chars p.0)) p.1, rest)
 
 abbrev pub matched_from : Bool → List ℕ → List Token → Read
 matched_from negated name [] = Err X4

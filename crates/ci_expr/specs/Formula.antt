@@ -4,6 +4,7 @@ use Rattle.ci_expr.specs.declared.token.Kind.{Kind}
 use Rattle.ci_expr.specs.declared.token.Kind.TheVariants as kind
 use Rattle.ci_expr.specs.declared.tree.Join.{Join}
 use Rattle.ci_expr.specs.declared.tree.Join.TheVariants as join
+use Rattle.ci_expr.specs.Source.{source_of}
 use Rattle.ci_expr.specs.Token.{Token, IsMark}
 
 -- what a variable is compared with
@@ -65,37 +66,6 @@ IsOperand null t = t.kind ≡ kind.Null
 IsOperand (text bs) t = (t.kind ≡ kind.Text) × ((q : ℕ) × IsMark q × (t.slice ≡ q ∷ (bs ++ q ∷ [])))
 IsOperand (variable name) t = IsNamed name t
 
--- What a backslash and this character stand for in a pattern: `\/` for `/`, and so of `<` and `>`; `\d`, `\s`, `\w` and `\b` for what
--- they are of ASCII; `\p` and `\P`, by which `regex` names classes of Unicode, for `\y`, which is no escape. A class is what stands on
--- both sides of its `&&`. The `]{` at its head is for `[+-\d]`: there the bracket would be the end of a range, `]` would close the
--- class, and `{0-` is no pattern.
-abbrev pub stands_for : ℕ → Option (List ℕ)
-stands_for d =
-    if d == 47 then Some (codes "/")
-    else if d == 100 then Some (codes "[]{0-9&&0-9]")
-    else if d == 68 then Some (codes "[^]{0-9&&0-9]")
-    else if d == 115 then Some (codes "[]{\\t\\n\\f\\r\\x20&&\\t\\n\\f\\r\\x20]")
-    else if d == 83 then Some (codes "[^]{\\t\\n\\f\\r\\x20&&\\t\\n\\f\\r\\x20]")
-    else if d == 119 then Some (codes "[]{0-9A-Za-z_&&0-9A-Za-z_]")
-    else if d == 87 then Some (codes "[^]{0-9A-Za-z_&&0-9A-Za-z_]")
-    else if d == 60 then Some (codes "<")
-    else if d == 62 then Some (codes ">")
-    else if d == 98 then Some (codes "(?-u:\\b)")
-    else if d == 66 then Some (codes "(?-u:\\B)")
-    else if (d == 112) || (d == 80) then Some (codes "\\y")
-    else None
-
--- the characters of a pair: those that it stands for, or its own
-abbrev pub pair_by : ℕ → Option (List ℕ) → List ℕ
-pair_by d None = 92 ∷ d ∷ []
-pair_by d (Some bs) = chars bs
-
--- the characters of a pattern with these in its body: a backslash takes the next with it
-abbrev pub unescaped : List ℕ → List ℕ
-unescaped [] = []
-unescaped (c ∷ []) = c ∷ []
-unescaped (c ∷ d ∷ cs) = if c == 92 then pair_by d (stands_for d) ++ unescaped cs else c ∷ unescaped (d ∷ cs)
-
 abbrev pub flag_of : Bool → List ℕ
 flag_of false = []
 flag_of true = 105 ∷ []
@@ -103,7 +73,7 @@ flag_of true = 105 ∷ []
 -- `/body/`, or `/body/i`
 abbrev pub IsPatternOf : List ℕ → Bool → Token → Type 0
 IsPatternOf source insensitive t =
-    (t.kind ≡ kind.Pattern) × ((body : List ℕ) × (t.slice ≡ 47 ∷ (body ++ 47 ∷ flag_of insensitive)) × (source ≡ unescaped (chars body)))
+    (t.kind ≡ kind.Pattern) × ((body : List ℕ) × (t.slice ≡ 47 ∷ (body ++ 47 ∷ flag_of insensitive)) × (source ≡ source_of (chars body)))
 
 -- the grammar: the tokens are this formula, read at this level
 pub data Derives : Level → List Token → Formula → Type 0 where

@@ -4,6 +4,7 @@ pub mod Lexeme
 pub mod Token
 pub mod Reading
 pub mod View
+pub mod Source
 pub mod Formula
 pub mod Truth
 pub mod Found

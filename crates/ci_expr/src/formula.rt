@@ -1,7 +1,7 @@
 //! Formulas with texts of their own, and their truth.
 
 ghost use Rattle.std.specs.Prelude.{◌≡◌, List, chars, string_bytes, IfOk, IfErr, option_map};
-ghost use Rattle.ci_expr.specs.Formula.{stands_for, unescaped};
+ghost use Rattle.ci_expr.specs.Source.{source_of};
 ghost use Rattle.ci_expr.specs.Truth.{same_value, negated_by, value_of, operand_value, truth};
 ghost use Rattle.ci_expr.specs.View.{tree_view, operand_view, IsOfPattern, RefusesPattern};
 ghost use Rattle.ci_expr.specs.Found.{IsPattern};
@@ -10,6 +10,7 @@ ghost use Rattle.ci_expr.specs.Built.{subject_view, formula_view, values_of};
 
 use crate::fault::{ExprCode, ExprFault};
 use crate::pattern::{Pattern, Refusal, checked, is_found};
+use crate::source::source_of;
 use crate::tree::{Join, Operand, Tree};
 use std::alloc::{AllocError, Global};
 
@@ -47,53 +48,6 @@ pub enum Formula {
     Found(bool, String, Box<Pattern>),
 }
 
-/// What a backslash and this character stand for in a pattern, where they don't stand for themselves. A class begins so that
-/// it is no pattern where its bracket would be the end of a range, as in `[+-\d]`.
-fn stands_for(second: char) -> Option<&'static str>
-    ensures { option_map (λ s. s.now) result ≡ stands_for second }
-{
-    match second {
-        '/' => Some("/"),
-        'd' => Some("[]{0-9&&0-9]"),
-        'D' => Some("[^]{0-9&&0-9]"),
-        's' => Some("[]{\\t\\n\\f\\r\\x20&&\\t\\n\\f\\r\\x20]"),
-        'S' => Some("[^]{\\t\\n\\f\\r\\x20&&\\t\\n\\f\\r\\x20]"),
-        'w' => Some("[]{0-9A-Za-z_&&0-9A-Za-z_]"),
-        'W' => Some("[^]{0-9A-Za-z_&&0-9A-Za-z_]"),
-        '<' => Some("<"),
-        '>' => Some(">"),
-        'b' => Some("(?-u:\\b)"),
-        'B' => Some("(?-u:\\B)"),
-        'p' | 'P' => Some("\\y"),
-        _ => None,
-    }
-}
-
-/// The source of a pattern with this body.
-fn unescaped(alloc: Global, body: &str) -> Result<String, AllocError>
-    ensures { IfOk result (λ s. chars (string_bytes s) ≡ unescaped (chars body.now)) }
-{
-    let mut source = String::new(alloc);
-    let mut rest = body.chars();
-    while let Some(first) = rest.next() {
-        if first != '\\' {
-            source.push(first)?;
-            continue;
-        }
-        match rest.next() {
-            Some(second) => match stands_for(second) {
-                Some(text) => source.push_str(text)?,
-                None => {
-                    source.push(first)?;
-                    source.push(second)?;
-                }
-            },
-            None => source.push(first)?,
-        }
-    }
-    Ok(source)
-}
-
 /// An operand with texts of its own.
 fn subject_of(alloc: Global, operand: &Operand) -> Result<Subject, AllocError>
     ensures { IfOk result (λ s. subject_view s ≡ operand_view operand.now) }
@@ -107,12 +61,12 @@ fn subject_of(alloc: Global, operand: &Operand) -> Result<Subject, AllocError>
 
 /// The pattern of a body.
 fn pattern_from(alloc: Global, body: &str, insensitive: bool) -> Result<Pattern, ExprFault>
-    ensures source { IfOk result (λ p. chars (string_bytes p.source) ≡ unescaped (chars body.now)) }
+    ensures source { IfOk result (λ p. chars (string_bytes p.source) ≡ source_of (chars body.now)) }
     ensures flag { IfOk result (λ p. p.insensitive ≡ insensitive) }
-    ensures pattern { IfOk result (λ p. IsPattern insensitive (unescaped (chars body.now))) }
+    ensures pattern { IfOk result (λ p. IsPattern insensitive (source_of (chars body.now))) }
     ensures refused { IfErr result IsOfPattern }
 {
-    let source = unescaped(alloc, body)?;
+    let source = source_of(alloc, body)?;
     match checked(alloc, source, insensitive) {
         Ok(pattern) => Ok(pattern),
         Err(Refusal::Memory) => Err(ExprFault::Memory),

@@ -10,6 +10,8 @@ mod lexeme;
 mod order;
 mod part;
 mod pattern;
+mod piece;
+mod source;
 mod token;
 mod tree;
 

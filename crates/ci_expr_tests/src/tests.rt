@@ -80,6 +80,21 @@ fn reads_or_refuses(rt: HostRuntime) -> Result<(), Fail> {
         ("$A =~ /([A-\\W])/", "X8"),
         ("$A =~ /[+-\\w]{2}/i", "X8"),
         ("$A =~ /[!-\\b]/", "X8"),
+        ("$A =~ /\\u0041/", "X8"),
+        ("$A =~ /[\\U00000041]/", "X8"),
+        ("$A =~ /[b-a]/", "X8"),
+        ("$A =~ /[a--]/", "X8"),
+        ("$A =~ /[a/", "X8"),
+        ("$A =~ /[[:foo:]]/", "X8"),
+        ("$A =~ /[[:alpha]/", "X8"),
+        ("$A =~ /(?x)a b/", "X8"),
+        ("$A =~ /(?i-x:a)/", "X8"),
+        ("$A =~ /(?u)a/", "X8"),
+        ("$A =~ /(?P<a.b>x)/", "X8"),
+        ("$A =~ /(?P<a[>\\d)/", "X8"),
+        ("$A =~ /(?P<x_1>x)/", "accepted"),
+        ("$A =~ /(?<x>x)/", "accepted"),
+        ("$A =~ /(?i:a)(?s-i).[x]/", "accepted"),
         ("$A =~ /\\\\pL/", "accepted"),
         ("$A", "accepted"),
         ("$A =~ //", "accepted"),
@@ -226,6 +241,59 @@ fn words_of_perl_are_ascii(rt: HostRuntime) {
         ("$A =~ /^\\\\w$/", "\\w", "true"),
         ("$A =~ /^.$/", "\u{e9}", "true"),
         ("$A =~ /^\u{c9}$/i", "\u{e9}", "true"),
+    ] {
+        let pairs = [("A", value)];
+        assert_eq!(rt; worth(alloc, text, pairs.as_slice()), want, "at {text}");
+    }
+}
+
+// As in GitLab, whose engine has no brackets in brackets, no operators on classes, and classes of POSIX. Where a character may
+// begin a range, a hyphen makes one unless it is the last.
+#[test]
+fn brackets_are_read_as_in_gitlab(rt: HostRuntime) {
+    let alloc = rt.alloc();
+    for (text, value, want) in [
+        ("$A =~ /^[[a]+$/", "[a", "true"),
+        ("$A =~ /^[a[b]]$/", "[]", "true"),
+        ("$A =~ /^[a[b]]$/", "a", "false"),
+        ("$A =~ /^[a&&b~~c]+$/", "a&b~c", "true"),
+        ("$A =~ /^[+--]$/", ",", "true"),
+        ("$A =~ /^[--\\/]$/", ".", "true"),
+        ("$A =~ /^[+-[]$/", "A", "true"),
+        ("$A =~ /^[\\w-.]+$/", "a-.", "true"),
+        ("$A =~ /^[\\w-.]+$/", "a,", "false"),
+        ("$A =~ /^[\\d-z]+$/", "1-z", "true"),
+        ("$A =~ /^[\\d-z]+$/", "a", "false"),
+        ("$A =~ /^[\\s-z]$/", "a", "false"),
+        ("$A =~ /^[a-z-\\d]+$/", "b-1", "true"),
+        ("$A =~ /^[a-c-e]+$/", "b-e", "true"),
+        ("$A =~ /^[a-c-e]+$/", "d", "false"),
+        ("$A =~ /^[a-c--]+$/", "b-", "true"),
+        ("$A =~ /^[\\x41-\\x43-z]+$/", "B-z", "true"),
+        ("$A =~ /^[\\x41-\\x43--]+$/", "B-", "true"),
+        ("$A =~ /^[\\x41-\\x43-z]+$/", "m", "false"),
+        ("$A =~ /^[\\x{41}-\\x{43}]$/", "B", "true"),
+        ("$A =~ /^[\\x{41}-\\x{43}--z]$/", "5", "true"),
+        ("$A =~ /^[]a]+$/", "]a", "true"),
+        ("$A =~ /^[]-a]$/", "^", "true"),
+        ("$A =~ /^[^]a]$/", "]", "false"),
+        ("$A =~ /^[^]a]$/", "b", "true"),
+        ("$A =~ /^[a^]+$/", "a^", "true"),
+        ("$A =~ /^[[:alpha:]_]+$/", "aB_", "true"),
+        ("$A =~ /^[[:alpha:]_]+$/", "1", "false"),
+        ("$A =~ /^[[:^digit:]-x]+$/", "a-", "true"),
+        ("$A =~ /^[[:^digit:]]$/", "1", "false"),
+        ("$A =~ /^[\\W\\d]+$/", "1-", "true"),
+        ("$A =~ /^[\\W\\d]$/", "a", "false"),
+        ("$A =~ /^[\\W]$/", "\u{17f}", "true"),
+        ("$A =~ /^[\\W]$/i", "\u{17f}", "false"),
+        ("$A =~ /^[\\W]$/i", "s", "false"),
+        ("$A =~ /^[^\\D]+$/", "12", "true"),
+        ("$A =~ /^[^\\D]$/", "x", "false"),
+        ("$A =~ /^[\\S\\n]$/", "\n", "true"),
+        ("$A =~ /^[\\S\\n]$/", " ", "false"),
+        ("$A =~ /^[\\<\\/\\>]+$/", "</>", "true"),
+        ("$A =~ /^[\\]\\[]+$/", "[]", "true"),
     ] {
         let pairs = [("A", value)];
         assert_eq!(rt; worth(alloc, text, pairs.as_slice()), want, "at {text}");
