@@ -1,5 +1,6 @@
 //! What a text plans.
 
+use crate::begun::begun;
 use ci_config::{ConfigFault, config};
 use ci_layout::{Given, GraphCode, IncludedJob, PipelinePlan, PlanFault, plan};
 use ci_values::when::{AllowFailure, When};
@@ -63,8 +64,23 @@ fn plan_text(alloc: Global, plan: &PipelinePlan) -> Result<String, AllocError> {
     Ok(text)
 }
 
-/// What a file's text plans where a pipeline brings these variables.
-fn laid_out(alloc: Global, text: &str, pipeline: Layer) -> Result<String, AllocError> {
+/// What is told of a plan.
+#[derive(Clone, Copy, Drop)]
+enum Tell {
+    /// Its jobs, and who waits for whom.
+    Plan,
+    /// The statuses with which they begin.
+    Statuses,
+}
+
+/// What is told of a file's text where a pipeline brings these variables.
+fn told(
+    rt: &impl Abort,
+    alloc: Global,
+    tell: Tell,
+    text: &str,
+    pipeline: Layer,
+) -> Result<String, AllocError> {
     let tree = match read(alloc, text) {
         Ok(tree) => tree,
         Err(YamlFault::Memory) => return Err(AllocError),
@@ -81,7 +97,10 @@ fn laid_out(alloc: Global, text: &str, pipeline: Layer) -> Result<String, AllocE
         predefined: &[("CI", "true")],
     };
     match plan(alloc, &given, &config) {
-        Ok(plan) => plan_text(alloc, &plan),
+        Ok(plan) => match tell {
+            Tell::Plan => plan_text(alloc, &plan),
+            Tell::Statuses => begun(rt, alloc, &plan),
+        },
         Err(PlanFault::Memory) => Err(AllocError),
         Err(PlanFault::Fault(code)) => String::from_str(alloc, code_text(code)),
     }
@@ -95,7 +114,16 @@ pub fn plans(
     rows: &[(&str, &str)],
 ) -> Result<(), AllocError> {
     for (text, want) in rows {
-        let said = laid_out(alloc, text, pipeline)?;
+        let said = told(rt, alloc, Tell::Plan, text, pipeline)?;
+        assert_eq!(rt; said.as_str(), *want, "{text}");
+    }
+    Ok(())
+}
+
+/// Do each text's jobs begin with the statuses that stand beside it, where the pipeline brings no variable?
+pub fn begin(rt: &impl Abort, alloc: Global, rows: &[(&str, &str)]) -> Result<(), AllocError> {
+    for (text, want) in rows {
+        let said = told(rt, alloc, Tell::Statuses, text, &[])?;
         assert_eq!(rt; said.as_str(), *want, "{text}");
     }
     Ok(())

@@ -48,6 +48,7 @@ const FAULTS: &[(&str, &str)] = &[
         "a:\n  stage: .pre\n  script: x\nb:\n  stage: .post\n  script: x\n",
         "G4",
     ),
+    ("a:\n  stage: .pre\n  script: x\n", "G4"),
     ("a:\n  script: x\n  needs: [z]\n", "G1"),
     (
         "a:\n  script: x\n  needs:\n  - job: z\n    optional: true\n",
@@ -122,6 +123,12 @@ fn many_needs(rt: HostRuntime) -> Result<(), AllocError> {
     plans(&rt, alloc, NONE, &[(fifty_one.as_str(), "G5")])?;
     let unmet = needing(alloc, 51, "z")?;
     plans(&rt, alloc, NONE, &[(unmet.as_str(), "G5")])?;
-    let fifty = needing(alloc, 50, "z")?;
-    plans(&rt, alloc, NONE, &[(fifty.as_str(), "G1")])
+    let fifty_unmet = needing(alloc, 50, "z")?;
+    plans(&rt, alloc, NONE, &[(fifty_unmet.as_str(), "G1")])?;
+    let fifty = needing(alloc, 50, "a")?;
+    let mut planned = String::from_str(alloc, "a;b;")?;
+    for _ in 0..50 {
+        planned.push_str(" 0-1")?;
+    }
+    plans(&rt, alloc, NONE, &[(fifty.as_str(), planned.as_str())])
 }
