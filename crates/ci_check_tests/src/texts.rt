@@ -262,6 +262,28 @@ fn place_of(alloc: Global, text: &Text) -> Result<String, AllocError> {
     }
 }
 
+/// The places of the keys of a text's map, and of the texts that are their values or stand in their lists.
+fn places_in(alloc: Global, text: &str) -> Result<Vec<String>, AllocError> {
+    let mut found: Vec<String> = Vec::new(alloc);
+    if let Ok(Tree::Map(pairs)) = read(alloc, text) {
+        for (key, value) in &pairs {
+            found.push(place_of(alloc, key)?)?;
+            match value {
+                Tree::Text(text) => found.push(place_of(alloc, text)?)?,
+                Tree::List(items) => {
+                    for item in items {
+                        if let Tree::Text(text) = item {
+                            found.push(place_of(alloc, text)?)?;
+                        }
+                    }
+                }
+                _ => {}
+            }
+        }
+    }
+    Ok(found)
+}
+
 #[test]
 fn spans(rt: HostRuntime) -> Result<(), AllocError> {
     let text = "x: 1\nkey: [ a b , 'c', \"d\\n\" ] # c\n'k': 'e''f'\nb: |\n  z";
@@ -276,23 +298,32 @@ fn spans(rt: HostRuntime) -> Result<(), AllocError> {
         "lent b 4.0 4.1",
         "owned z\n 5.0 6.0",
     ];
-    let mut found: Vec<String> = Vec::new(rt.alloc());
-    if let Ok(Tree::Map(pairs)) = read(rt.alloc(), text) {
-        for (key, value) in &pairs {
-            found.push(place_of(rt.alloc(), key)?)?;
-            match value {
-                Tree::Text(text) => found.push(place_of(rt.alloc(), text)?)?,
-                Tree::List(items) => {
-                    for item in items {
-                        if let Tree::Text(text) = item {
-                            found.push(place_of(rt.alloc(), text)?)?;
-                        }
-                    }
-                }
-                _ => {}
-            }
-        }
+    let found = places_in(rt.alloc(), text)?;
+    assert_eq!(rt; found.len(), expected.len(), "the number of texts");
+    for (one, other) in found.iter().zip(expected) {
+        assert_eq!(rt; one.as_str(), other, "a place");
     }
+    Ok(())
+}
+
+#[test]
+fn spans_of_equal_words(rt: HostRuntime) -> Result<(), AllocError> {
+    let text = "a: a # a\n'b' : [b, 'b' , b] # b\nc:  '' # ''\nd: d\ne: d # d\n";
+    let expected = [
+        "lent a 1.0 1.1",
+        "lent a 1.3 1.4",
+        "lent b 2.0 2.3",
+        "lent b 2.7 2.8",
+        "lent b 2.10 2.13",
+        "lent b 2.16 2.17",
+        "lent c 3.0 3.1",
+        "lent  3.4 3.6",
+        "lent d 4.0 4.1",
+        "lent d 4.3 4.4",
+        "lent e 5.0 5.1",
+        "lent d 5.3 5.4",
+    ];
+    let found = places_in(rt.alloc(), text)?;
     assert_eq!(rt; found.len(), expected.len(), "the number of texts");
     for (one, other) in found.iter().zip(expected) {
         assert_eq!(rt; one.as_str(), other, "a place");
