@@ -1,5 +1,5 @@
 -- The bodies of replies: compact JSON, the members of each object in the order of their bytes.
-use Rattle.std.specs.Prelude.{ℕ, List, map, codes, insert, count_by, if◌then◌else◌}
+use Rattle.std.specs.Prelude.{ℕ, List, [], ◌∷◌, map, codes, insert, count_by, if◌then◌else◌}
 use Rattle.std.specs.List.{list_any}
 use Rattle.std.specs.Fmt.{decimal}
 use Rattle.std.specs.Ordering.{nat_cmp, is_lt}
@@ -7,6 +7,12 @@ use Rattle.std.specs.Cmp.Lexicographic.{slice_cmp}
 use Rattle.std.specs.Str.{bytes_eq}
 use Rattle.serde_json.specs.Data.{Data, array, object, member, no_members, string, number, unsigned}
 use Rattle.serde_json.specs.View.{items_of}
+use Rattle.ci_board.specs.declared.facts.Status.{Status}
+use Rattle.ci_board.specs.declared.facts.Facts.{Facts}
+use Rattle.ci_board.specs.declared.facts.Row.{Row}
+use Rattle.ci_board.specs.Texts.{status_text}
+use Rattle.ci_board.specs.Rows.{statuses}
+use Rattle.ci_board.specs.PipelineStatus.{pipeline_status}
 use Rattle.ci_machine.specs.declared.records.Pipeline.{Pipeline}
 use Rattle.ci_machine.specs.declared.records.Source.{Source}
 use Rattle.ci_machine.specs.declared.records.Source.TheVariants.{Push, Web, Schedule, Api, Trigger}
@@ -39,14 +45,28 @@ job_data status j =
     (member (codes "stage") (string j.stage)
     (member (codes "status") (string status) no_members))))
 
--- a pipeline none of whose jobs has been granted: it and each of them are pending
-abbrev pub new_pipeline_data : Pipeline → List Job → Data
-new_pipeline_data p jobs =
+-- how many jobs of a file aren't hidden: {"jobs":..}
+abbrev pub file_data : ℕ → Data
+file_data count = object (member (codes "jobs") (number (unsigned count)) no_members)
+
+-- jobs with their rows
+abbrev pub jobs_data : List Job → List Row → List Data
+jobs_data [] rows = []
+jobs_data (j ∷ js) [] = []
+jobs_data (j ∷ js) (r ∷ rows) = job_data (status_text r.status) j ∷ jobs_data js rows
+
+-- the status of a pipeline whose jobs have these facts and rows
+abbrev pub status_of_jobs : List Job → List Facts → List Row → Status
+status_of_jobs jobs facts rows = pipeline_status (map (λ j. j.options.part) jobs) facts (statuses rows)
+
+-- a pipeline with its jobs, which have these facts and rows: {"id":..,"jobs":[..],"ref":..,"source":..,"status":..}
+abbrev pub pipeline_data : Pipeline → List Job → List Facts → List Row → Data
+pipeline_data p jobs facts rows =
     object (member (codes "id") (number (unsigned p.id))
-    (member (codes "jobs") (array (items_of (map (job_data (codes "pending")) jobs)))
+    (member (codes "jobs") (array (items_of (jobs_data jobs rows)))
     (member (codes "ref") (string p.git_ref)
     (member (codes "source") (string (source_text p.source))
-    (member (codes "status") (string (codes "pending")) no_members)))))
+    (member (codes "status") (string (status_text (status_of_jobs jobs facts rows))) no_members)))))
 
 -- a variable as a runner is given it: {"key":..,"value":..}
 abbrev pub variable_data : JobVariable → Data

@@ -1,21 +1,37 @@
--- Worked examples: a first project, a runner, a pipeline of one job, and the runner's requests, each one computed.
-use Rattle.std.specs.Prelude.{ℕ, false, List, [], ◌∷◌, None, codes, replicate}
+-- Worked examples: a first project, a runner, a pipeline of two jobs, and the runner's requests, each one computed.
+use Rattle.std.specs.Prelude.{ℕ, false, List, [], ◌∷◌, map, filter, Option, Some, None, Result, Ok, codes, replicate}
+use Rattle.std.specs.List.{flat_map}
+use Rattle.std.specs.Str.{bytes_eq}
 use Rattle.ci_board.specs.declared.facts.Status.{Status}
 use Rattle.ci_board.specs.declared.facts.Status.TheVariants.{Pending}
+use Rattle.ci_board.specs.declared.facts.Row.{Row}
 use Rattle.ci_board.specs.Rows.{no_row}
+use Rattle.ci_words.specs.Layers.{Variables}
+use Rattle.ci_config.specs.Config.{Config}
+use Rattle.ci_layout.specs.Inclusion.{Given, layered, included}
+use Rattle.ci_layout.specs.Layout.{put, lineup, pairs}
+use Rattle.ci_layout.specs.Examples as layout
+use Rattle.ci_layout.specs.Examples.{file}
 use Rattle.ci_machine.specs.declared.records.BoardRow.{BoardRow}
 use Rattle.ci_machine.specs.declared.lease.Lease.{Lease}
+use Rattle.ci_machine.specs.declared.records.Project.{Project}
+use Rattle.ci_machine.specs.declared.records.Variable.{Variable}
 use Rattle.ci_machine.specs.declared.records.Job.{Job}
 use Rattle.ci_machine.specs.declared.records.RefKind.TheVariants.{Branch}
 use Rattle.ci_machine.specs.declared.records.Source.TheVariants.{Api}
 use Rattle.ci_machine.specs.declared.records.Attempt.{Attempt}
 use Rattle.ci_values.specs.declared.attempts.AttemptState.{AttemptState}
 use Rattle.ci_values.specs.declared.attempts.AttemptState.TheVariants.{Live}
+use Rattle.ci_machine.specs.declared.request.NewVariable.{NewVariable}
+use Rattle.ci_machine.specs.declared.request.PipelineVariable.{PipelineVariable}
 use Rattle.ci_machine.specs.declared.request.NewPipeline.{NewPipeline}
 use Rattle.ci_machine.specs.declared.request.Report.{Report}
 use Rattle.ci_machine.specs.declared.request.JobQuery.{JobQuery}
 use Rattle.ci_machine.specs.declared.request.Seed.{Seed}
 use Rattle.ci_machine.specs.declared.change.RowChange.{RowChange}
+use Rattle.ci_machine.specs.declared.change.RowChange.TheVariants.{Put}
+use Rattle.ci_machine.specs.declared.change.Record.TheVariants as row
+use Rattle.ci_machine.specs.declared.reply.Code.{Code}
 use Rattle.ci_machine.specs.declared.reply.Swept.{Swept}
 use Rattle.ci_machine.specs.Reply.{body_text}
 use Rattle.ci_machine.specs.State.{State, empty, applied}
@@ -23,14 +39,14 @@ use Rattle.ci_machine.specs.Statuses.{status_for}
 use Rattle.ci_machine.specs.Plans.{Plan}
 use Rattle.ci_machine.specs.Projects.{add_project}
 use Rattle.ci_machine.specs.Runners.{add_runner}
-use Rattle.ci_machine.specs.Pipelines.{plain_options, enter_pipeline}
+use Rattle.ci_machine.specs.Pipelines.{plain_options, given_by, Layout, merged, Creation, creation, pipeline_created}
 use Rattle.ci_machine.specs.Grants.{ask_job}
 use Rattle.ci_machine.specs.Reports.{update_job}
 use Rattle.ci_machine.specs.Traces.{append_trace}
 use Rattle.ci_machine.specs.Shows.{show_job, show_trace}
 use Rattle.ci_machine.specs.Sweeps.{sweep}
 use Rattle.ci_machine.specs.Leases.{first_due}
-use Rattle.ci_machine.specs.Step.{project_at, project_with, runner_with, pipeline_of, job_at, last_attempt, pieces_in, lease_at, leases, offer, offered_variables}
+use Rattle.ci_machine.specs.Step.{project_with, project_variables, runner_with, pipeline_of, job_at, last_attempt, pieces_in, lease_at, leases, offer, offered_variables}
 
 -- sixteen bytes ab
 abbrev pub seed : Seed
@@ -58,17 +74,39 @@ runner_added = add_runner with_project.next.runner (codes "r") seed
 abbrev pub with_runner : State
 with_runner = after runner_added with_project
 
--- then a pipeline of `main` with the job `build` of the stage `build`, at the moment 1000
-abbrev pub pipeline : NewPipeline
-pipeline = record { project = 1; git_ref = codes "main"; stage = codes "build"; jobs = (record { name = codes "build"; script = codes "make" ∷ [] }) ∷ [] }
+-- then a pipeline of `main` at the moment 1000, by the file `build:` with `stage: build`, `script: make`, and `unit:` with
+-- `script: [make test]`
+abbrev pub configured : Config
+configured = file (record (layout.job (codes "build") (codes "build")) { script = codes "make" ∷ [] } ∷ record (layout.job (codes "unit") (codes "test")) { script = codes "make test" ∷ [] } ∷ [])
 
-abbrev pub pipeline_entered : Plan
-pipeline_entered = enter_pipeline (project_at with_runner pipeline.project) with_runner.next.pipeline with_runner.next.job pipeline 1000
+abbrev pub pipeline : NewPipeline
+pipeline = record { project = 1; token = codes "p1-abababababababababababababababab"; git_ref = codes "main"; kind = Branch; source = Api; variables = [] }
+
+-- what a configuration lays out
+abbrev pub laid_by : Given → Config → Layout
+laid_by given c = record { config = c; plan = record { jobs = lineup given c; pairs = pairs c.stages (lineup given c) } }
+
+abbrev pub given : Given
+given = given_by pipeline (project_variables with_runner pipeline.project)
+
+abbrev pub made : Creation
+made = creation with_runner.next.pipeline with_runner.next.job pipeline given 1000 (laid_by given configured)
+
+-- the second waits for the first
+abbrev pub first_rows : List Row
+first_rows = record no_row { status = Pending } ∷ record no_row { opens = 1 } ∷ []
+
+abbrev pub pipeline_made : Plan
+pipeline_made = pipeline_created with_runner.next.job made first_rows
 
 abbrev pub with_pipeline : State
-with_pipeline = after pipeline_entered with_runner
+with_pipeline = after pipeline_made with_runner
 
--- the rows of the job 1, which waits for no other
+-- the rows of both jobs, where the first has this status and leaves the second open
+abbrev pub two_rows : Status → List BoardRow
+two_rows status = (record { job = 1; row = record no_row { status = status } }) ∷ (record { job = 2; row = record no_row { opens = 1 } }) ∷ []
+
+-- the row of the job 1, where it waits for no other
 abbrev pub rows : Status → List BoardRow
 rows status = (record { job = 1; row = record no_row { status = status } }) ∷ []
 
@@ -83,10 +121,53 @@ abbrev pub token : List ℕ
 token = codes "r1-abababababababababababababababab"
 
 abbrev pub granted : Plan
-granted = asked with_pipeline (rows Pending) token
+granted = asked with_pipeline (two_rows Pending) token
 
 abbrev pub with_attempt : State
 with_attempt = after granted with_pipeline
+
+-- ---- what refuses a pipeline before its file is read
+
+-- of a project with this file
+abbrev pub project_of : Option (List ℕ) → Result Project Code
+project_of file = Ok (record { id = 1; name = codes "p"; token = codes "p"; file = file })
+
+abbrev pub pair : List ℕ → List ℕ → PipelineVariable
+pair name value = record { key = name; value = value }
+
+abbrev pub with_variables : List PipelineVariable → NewPipeline
+with_variables vs = record pipeline { variables = vs }
+
+-- ---- variables of a project
+
+abbrev pub new_variable : List ℕ → NewVariable
+new_variable name = record { project = 1; token = codes "p"; key = name; value = codes "v" }
+
+abbrev pub old_variable : List ℕ → Variable
+old_variable name = record { project = 1; key = name; value = [] }
+
+-- a hundred of them, the first with this name
+abbrev pub hundred : List ℕ → List Variable
+hundred name = old_variable name ∷ replicate 99 (old_variable (codes "B"))
+
+abbrev pub put_variable : List ℕ → List RowChange
+put_variable name = Put (row.Variable (record { project = 1; key = name; value = codes "v" })) ∷ []
+
+-- ---- the layers of variables: `CI_JOB_STAGE` of a job in `test`
+
+abbrev pub stage : List ℕ
+stage = codes "CI_JOB_STAGE"
+
+abbrev pub set_to : List ℕ → List (List ℕ × List ℕ)
+set_to value = (stage, value) ∷ []
+
+-- where the pipeline, the project, the rule that includes the job, the job and the file set it so
+abbrev pub stage_by : Variables → Variables → Variables → Variables → Variables → List (List ℕ)
+stage_by own project rule job top =
+    let g : Given = record { pipeline = own; project = project; predefined = [] } in
+    let c : Config = record configured { variables = top } in
+    let j = record (layout.job (codes "unit") (codes "test")) { variables = job; rules = Some ((record { condition = None; when = None; allow_failure = None; variables = rule }) ∷ []) } in
+    map (λ v. v.1) (flat_map (λ i. filter (λ v. bytes_eq v.0 stage) (merged (layered g c i.job i.variables))) (put (included g c j) []))
 
 -- ---- an attempt granted at 1000
 

@@ -1,10 +1,13 @@
 -- What holds of every step and every reached state.
-use Rattle.std.specs.Prelude.{⊤, ◌≡◌, ◌≤◌, ℕ, Bool, true, false, ◌&&◌, List, [], ◌∷◌, ◌++◌, length, map, filter, count_by, All, Contains, None, IsSome, ◌==◌, if◌then◌else◌}
+use Rattle.std.specs.Prelude.{⊤, ◌≡◌, ◌≤◌, ℕ, Bool, true, false, ◌&&◌, List, [], ◌∷◌, ◌++◌, length, map, filter, count_by, All, Contains, Some, None, IsSome, Ok, ◌==◌, if◌then◌else◌}
 use Rattle.std.specs.List.{range_with_len}
 use Rattle.std.specs.Ordering.{nat_cmp}
 use Rattle.std.specs.Cmp.Lexicographic.{slice_cmp}
 use Rattle.std.specs.List.Sorted.{IsStrictlySortedBy}
 use Rattle.serde_json.specs.Written.{compact_text}
+use Rattle.ci_config.specs.Config as config
+use Rattle.ci_config.specs.Config.{Config}
+use Rattle.ci_layout.specs.Inclusion.{IncludedJob, included}
 use Rattle.ci_machine.specs.declared.records.Project.{Project}
 use Rattle.ci_machine.specs.declared.records.Runner.{Runner}
 use Rattle.ci_machine.specs.declared.records.Job.{Job}
@@ -13,9 +16,11 @@ use Rattle.ci_machine.specs.declared.records.QueuedJob.{QueuedJob}
 use Rattle.ci_machine.specs.declared.records.Attempt.{Attempt}
 use Rattle.ci_machine.specs.declared.request.Event.{Event}
 use Rattle.ci_machine.specs.declared.request.Event.TheVariants as event
-use Rattle.ci_machine.specs.declared.request.Request.TheVariants.{AskJob, AppendTrace}
+use Rattle.ci_machine.specs.declared.request.NewPipeline.{NewPipeline}
+use Rattle.ci_machine.specs.declared.request.Request.TheVariants.{CreatePipeline, AskJob, AppendTrace}
 use Rattle.ci_machine.specs.declared.reply.Answer.{Answer}
 use Rattle.ci_machine.specs.declared.reply.Answer.TheVariants as answer
+use Rattle.ci_machine.specs.declared.reply.Reply.{Reply}
 use Rattle.ci_machine.specs.declared.reply.HttpStatus.{HttpStatus}
 use Rattle.ci_machine.specs.declared.reply.HttpStatus.TheVariants.{Created, Accepted}
 use Rattle.ci_machine.specs.declared.reply.Swept.{Swept}
@@ -28,9 +33,11 @@ use Rattle.ci_machine.specs.declared.records.BoardRow.{BoardRow}
 use Rattle.ci_machine.specs.State.{State}
 use Rattle.ci_machine.specs.Statuses.{AreBoard}
 use Rattle.ci_machine.specs.Bodies.{grant_data, granted_variables}
-use Rattle.ci_machine.specs.Plans.{created}
+use Rattle.ci_machine.specs.Plans.{created, asked_project}
+use Rattle.ci_machine.specs.Files.{IsRead}
+use Rattle.ci_machine.specs.Pipelines.{given_by, new_job}
 use Rattle.ci_machine.specs.Shows.{joined}
-use Rattle.ci_machine.specs.Step.{is_pending, queued, pieces_of, lease_of, variables_of}
+use Rattle.ci_machine.specs.Step.{project_with, project_variables, is_pending, queued, pieces_of, lease_of, variables_of}
 use Rattle.ci_machine.specs.History.{Past}
 
 -- the answer is a refusal
@@ -66,8 +73,47 @@ pub record IsLeastEligible (s : State) (runner : Runner) (job : Job) : Type 0 wh
   pub allowed : may_run runner (queued s job) ≡ true
   pub least : All (λ other. is_pending board other ≡ true → may_run runner (queued s other) ≡ true → job.id ≤ other.id) s.jobs
 
+-- what a record has for good, apart from what an event may change of it
+abbrev pub project_for_good : Project → Project
+project_for_good p = record p { file = None }
+
+abbrev pub runner_for_good : Runner → Runner
+runner_for_good r = record r { paused = false }
+
+abbrev pub job_for_good : Job → Job
+job_for_good j = record j { played = false; cancelled = false; set_aside = 0 }
+
+-- the number, the job, the runner, the token and the moment of the grant
+abbrev pub attempt_for_good : Attempt → Attempt
+attempt_for_good a = record a { seen = 0; state = Live; pieces = 0; size = 0 }
+
+-- The line made the job's pipeline, whose number it drew. By the file that the project had then, the pipeline included the job by its
+-- rules, and has it as they say.
+pub record IsMadeBy (line : Past) (job : Job) : Type 0 where
+  pub new : NewPipeline
+  pub asked : line.event ≡ event.Request (CreatePipeline new)
+  pub reply : Reply
+  pub answered : line.answer ≡ answer.Reply reply
+  pub made : is_created reply.status ≡ true
+  pub drawn : job.pipeline ≡ line.before.next.pipeline
+  pub project : Project
+  pub its_project : asked_project (project_with line.before new.token) new.project ≡ Ok project
+  pub text : List ℕ
+  pub its_file : project.file ≡ Some text
+  pub configured : Config
+  pub read : IsRead text (Ok configured)
+  pub spec : config.Job
+  pub listed : Contains configured.jobs spec
+  pub as_said : IncludedJob
+  pub is_included : included (given_by new (project_variables line.before new.project)) configured spec ≡ Some as_said
+  pub fixed : job_for_good job ≡ new_job job.pipeline line.before.next.job job.position as_said
+
+-- a line of the history made the job's pipeline, and included the job by its rules
+abbrev pub WasIncluded : List Past → Job → Type 0
+WasIncluded h job = (line : Past) × Contains h line × IsMadeBy line job
+
 -- just one line of the history granted the attempt; it asked with the token of the attempt's runner, and in the state before it
--- the attempt's job was the least eligible for that runner
+-- the attempt's job was the least eligible for that runner; and the line that made the job's pipeline included the job by its rules
 pub record WasGranted (h : List Past) (a : Attempt) : Type 0 where
   pub line : Past
   pub once : filter (grants a.id) h ≡ line ∷ []
@@ -77,6 +123,7 @@ pub record WasGranted (h : List Past) (a : Attempt) : Type 0 where
   pub its_job : job.id ≡ a.job
   pub eligible : IsLeastEligible line.before runner job
   pub asked : line.event ≡ event.Request (AskJob runner.token)
+  pub was_included : WasIncluded h job
 
 abbrev pub is_accepted : HttpStatus → Bool
 is_accepted Accepted = true
@@ -102,20 +149,6 @@ pub record IsTraced (h : List Past) (s : State) (a : Attempt) : Type 0 where
 -- an attempt that has ended in the one state stands in the other as it ended
 abbrev pub EndsStay : State → State → Type 0
 EndsStay s t = All (λ a. is_live a ≡ false → Contains t.attempts a) s.attempts
-
--- what a record has for good, apart from what an event may change of it
-abbrev pub project_for_good : Project → Project
-project_for_good p = record p { file = None }
-
-abbrev pub runner_for_good : Runner → Runner
-runner_for_good r = record r { paused = false }
-
-abbrev pub job_for_good : Job → Job
-job_for_good j = record j { played = false; cancelled = false; set_aside = 0 }
-
--- the number, the job, the runner, the token and the moment of the grant
-abbrev pub attempt_for_good : Attempt → Attempt
-attempt_for_good a = record a { seen = 0; state = Live; pieces = 0; size = 0 }
 
 -- each record of the one list is in the other, with what it has for good
 abbrev pub Stay : {A : Type 0} → (A → A) → List A → List A → Type 0

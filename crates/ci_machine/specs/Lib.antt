@@ -8,6 +8,8 @@ pub mod Leases
 pub mod Plans
 pub mod Projects
 pub mod Runners
+pub mod Files
+pub mod Variables
 pub mod Pipelines
 pub mod Grants
 pub mod Reports

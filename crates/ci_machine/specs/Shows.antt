@@ -1,4 +1,4 @@
--- A job of a project is asked for, or the trace of its last attempt.
+-- A pipeline of a project is asked for, a job of one, or the trace of a job's last attempt.
 use Rattle.std.specs.Prelude.{ℕ, List, [], if◌then◌else◌, ◌==◌, Option, Some, None, Result, Ok, Err}
 use Rattle.std.specs.List.{flat_map}
 use Rattle.serde_json.specs.Written.{compact_text}
@@ -9,15 +9,13 @@ use Rattle.ci_machine.specs.declared.records.Piece.{Piece}
 use Rattle.ci_machine.specs.declared.request.JobQuery.{JobQuery}
 use Rattle.ci_machine.specs.declared.reply.Code.{Code}
 use Rattle.ci_machine.specs.declared.reply.Code.TheVariants.{M1, M2, M3}
-use Rattle.ci_machine.specs.declared.reply.HttpStatus.TheVariants.{Fine}
-use Rattle.ci_machine.specs.declared.reply.Body.{Body}
 use Rattle.ci_machine.specs.declared.reply.Body.TheVariants.{Json, Plain}
-use Rattle.ci_machine.specs.declared.reply.Reply.{Reply}
+use Rattle.ci_board.specs.declared.facts.Facts.{Facts}
+use Rattle.ci_board.specs.declared.facts.Row.{Row}
 use Rattle.ci_board.specs.declared.facts.Status.{Status}
 use Rattle.ci_board.specs.Texts.{status_text}
-use Rattle.ci_machine.specs.Reply.{plain}
-use Rattle.ci_machine.specs.Bodies.{job_data}
-use Rattle.ci_machine.specs.Plans.{Plan, refused}
+use Rattle.ci_machine.specs.Bodies.{job_data, pipeline_data}
+use Rattle.ci_machine.specs.Plans.{Plan, refused, fine}
 
 -- the job, where its pipeline is the project's
 abbrev pub job_within : Option Job → Option Pipeline → ℕ → Result Job Code
@@ -29,9 +27,6 @@ job_within None pipeline project = Err M3
 abbrev pub asked_job : Option Project → Option Job → Option Pipeline → JobQuery → Result Job Code
 asked_job None job pipeline query = Err M1
 asked_job (Some project) job pipeline query = if project.id == query.project then job_within job pipeline project.id else Err M2
-
-abbrev pub fine : Body → Reply
-fine body = record (plain Fine) { body = Some body }
 
 -- the job with its status
 abbrev pub job_shown : Job → Status → Plan
@@ -59,3 +54,23 @@ traced (Err code) pieces = refused code
 -- a job of a project, and the pieces of the trace of its last attempt
 abbrev pub show_trace : Option Project → Option Job → Option Pipeline → List Piece → JobQuery → Plan
 show_trace project job pipeline pieces query = traced (asked_job project job pipeline query) pieces
+
+-- ---- a pipeline
+
+-- the pipeline, where it is the project's
+abbrev pub pipeline_within : Option Pipeline → ℕ → Result Pipeline Code
+pipeline_within None project = Err M3
+pipeline_within (Some pipeline) project = if pipeline.project == project then Ok pipeline else Err M3
+
+-- the pipeline that was found, of the project that was asked for
+abbrev pub asked_pipeline : Result Project Code → Option Pipeline → Result Pipeline Code
+asked_pipeline (Err code) pipeline = Err code
+asked_pipeline (Ok project) pipeline = pipeline_within pipeline project.id
+
+abbrev pub pipeline_shown : Pipeline → List Job → List Facts → List Row → Plan
+pipeline_shown p jobs facts rows = (fine (Json (compact_text (pipeline_data p jobs facts rows))), [])
+
+-- a pipeline, and its jobs with their facts and rows
+abbrev pub show_pipeline : Result Pipeline Code → List Job → List Facts → List Row → Plan
+show_pipeline (Ok p) jobs facts rows = pipeline_shown p jobs facts rows
+show_pipeline (Err code) jobs facts rows = refused code

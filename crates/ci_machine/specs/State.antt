@@ -4,6 +4,7 @@ use Rattle.std.specs.declared.cmp.Ordering.{Ordering}
 use Rattle.std.specs.Ordering.{nat_cmp, is_eq, is_lt, ordering_then}
 use Rattle.std.specs.Cmp.Lexicographic.{slice_cmp}
 use Rattle.ci_machine.specs.declared.records.Project.{Project}
+use Rattle.ci_machine.specs.declared.records.Variable.{Variable}
 use Rattle.ci_machine.specs.declared.records.Runner.{Runner}
 use Rattle.ci_machine.specs.declared.records.Pipeline.{Pipeline}
 use Rattle.ci_machine.specs.declared.records.Job.{Job}
@@ -23,6 +24,7 @@ use Rattle.ci_machine.specs.declared.change.RowChange.TheVariants.{Add, Put, Rem
 
 pub record State : Type 0 where
   pub projects : List Project
+  pub variables : List Variable  -- by the project, then by the key
   pub runners : List Runner
   pub pipelines : List Pipeline
   pub jobs : List Job
@@ -37,12 +39,15 @@ first_numbers = record { project = 1; runner = 1; pipeline = 1; job = 1; attempt
 
 -- nothing, and each next number is 1
 abbrev pub empty : State
-empty = record { projects = []; runners = []; pipelines = []; jobs = []; job_variables = []; needs = []; attempts = []; pieces = []; next = first_numbers }
+empty = record { projects = []; variables = []; runners = []; pipelines = []; jobs = []; job_variables = []; needs = []; attempts = []; pieces = []; next = first_numbers }
 
--- how records of a table are ordered: by their numbers, a job's variables by the job and then by the bytes of the key, the
+-- how records of a table are ordered: by their numbers, variables by their project or job and then by the bytes of the key, the
 -- pairs of graphs by the job and then by the one that it waits for, the pieces of a trace by the attempt and then by their place
 abbrev pub project_cmp : Project → Project → Ordering
 project_cmp a b = nat_cmp a.id b.id
+
+abbrev pub variable_cmp : Variable → Variable → Ordering
+variable_cmp a b = ordering_then (nat_cmp a.project b.project) (slice_cmp nat_cmp a.key b.key)
 
 abbrev pub runner_cmp : Runner → Runner → Ordering
 runner_cmp a b = nat_cmp a.id b.id
@@ -84,6 +89,7 @@ without id n xs = filter (λ y. not (is_eq (nat_cmp (id y) n))) xs
 
 abbrev pub with_record : Record → State → State
 with_record (row.Project p) s = record s { projects = put project_cmp p s.projects }
+with_record (row.Variable v) s = record s { variables = put variable_cmp v s.variables }
 with_record (row.Runner r) s = record s { runners = put runner_cmp r s.runners }
 with_record (row.Pipeline p) s = record s { pipelines = put pipeline_cmp p s.pipelines }
 with_record (row.Job j) s = record s { jobs = put job_cmp j s.jobs }
@@ -94,6 +100,7 @@ with_record (row.Piece p) s = record s { pieces = put piece_cmp p s.pieces }
 
 abbrev pub without_record : Key → State → State
 without_record (key.Project n) s = record s { projects = without (λ p. p.id) n s.projects }
+without_record (key.Variable n name) s = record s { variables = filter (λ v. not (is_eq (ordering_then (nat_cmp v.project n) (slice_cmp nat_cmp v.key name)))) s.variables }
 without_record (key.Runner n) s = record s { runners = without (λ r. r.id) n s.runners }
 without_record (key.Pipeline n) s = record s { pipelines = without (λ p. p.id) n s.pipelines }
 without_record (key.Job n) s = record s { jobs = without (λ j. j.id) n s.jobs }

@@ -36,21 +36,30 @@ place_in numbers n = count_by (λ m. nat_lt m n) numbers
 abbrev pub pair_of : List ℕ → Need → ℕ × ℕ
 pair_of numbers w = (place_in numbers w.pred, place_in numbers w.job)
 
--- the pairs of a pipeline's jobs, by their places
-abbrev pub pairs_of : State → ℕ → List (ℕ × ℕ)
-pairs_of s pipeline =
-    let numbers = numbers_of s pipeline in
-    map (pair_of numbers) (filter (λ w. is_among numbers w.job) s.needs)
+-- the pairs that the needs of the jobs with these numbers are, by the places of both jobs
+abbrev pub pairs_among : List ℕ → List Need → List (ℕ × ℕ)
+pairs_among numbers needs = map (pair_of numbers) (filter (λ w. is_among numbers w.job) needs)
 
--- what statuses depend on of a pipeline's graph: each job's part, and its predecessors
-abbrev pub graph_of : State → ℕ → JobGraph
-graph_of s pipeline = record {
-  parts = map (λ j. j.options.part) (jobs_of s pipeline);
-  predecessors = map (λ place. distinct (firsts_of (pairs_of s pipeline) place)) (range_with_len 0 (length (jobs_of s pipeline)));
+-- of each of so many jobs those that it waits for
+abbrev pub predecessors_by : List (ℕ × ℕ) → ℕ → List (List ℕ)
+predecessors_by pairs count = map (λ place. distinct (firsts_of pairs place)) (range_with_len 0 count)
+
+-- what statuses depend on of the graph of jobs with these needs among others: each job's part, and its predecessors
+abbrev pub graph_by : List Job → List Need → JobGraph
+graph_by jobs needs = record {
+  parts = map (λ j. j.options.part) jobs;
+  predecessors = predecessors_by (pairs_among (map (λ j. j.id) jobs) needs) (length jobs);
   successors = [];
   order = [];
   meter = 0;
 }
+
+-- the pairs of a pipeline's jobs, by their places
+abbrev pub pairs_of : State → ℕ → List (ℕ × ℕ)
+pairs_of s pipeline = pairs_among (numbers_of s pipeline) s.needs
+
+abbrev pub graph_of : State → ℕ → JobGraph
+graph_of s pipeline = graph_by (jobs_of s pipeline) s.needs
 
 -- how a job's last attempt stands, and how many it has that aren't set aside
 abbrev pub facts_in : State → Job → Facts

@@ -1,8 +1,9 @@
 -- One step of the machine: what an event does, by what the state holds and by the statuses of its jobs, and then its changes applied.
-use Rattle.std.specs.Prelude.{◌≡◌, ℕ, Bool, List, [], filter, find, map, ◌==◌, Option, Some, None, option_map, option_and_then}
+use Rattle.std.specs.Prelude.{◌≡◌, ℕ, Bool, List, [], filter, find, map, ◌==◌, ◌&&◌, Option, Some, None, option_map, option_and_then}
 use Rattle.std.specs.List.{last_or}
 use Rattle.std.specs.Str.{bytes_eq}
 use Rattle.ci_machine.specs.declared.records.Project.{Project}
+use Rattle.ci_machine.specs.declared.records.Variable.{Variable}
 use Rattle.ci_machine.specs.declared.records.Runner.{Runner}
 use Rattle.ci_machine.specs.declared.records.Pipeline.{Pipeline}
 use Rattle.ci_machine.specs.declared.records.Job.{Job}
@@ -15,7 +16,7 @@ use Rattle.ci_machine.specs.declared.lease.Lease.{Lease}
 use Rattle.ci_machine.specs.declared.change.Counter.{Counter}
 use Rattle.ci_machine.specs.declared.change.Counter.TheVariants as counter
 use Rattle.ci_machine.specs.declared.request.Request.{Request}
-use Rattle.ci_machine.specs.declared.request.Request.TheVariants.{AddProject, AddRunner, EnterPipeline, AskJob, UpdateJob, AppendTrace, ShowJob, ShowTrace}
+use Rattle.ci_machine.specs.declared.request.Request.TheVariants.{AddProject, AddRunner, SetFile, SetVariable, DeleteVariable, CreatePipeline, ShowPipeline, AskJob, UpdateJob, AppendTrace, ShowJob, ShowTrace}
 use Rattle.ci_machine.specs.declared.request.Event.{Event}
 use Rattle.ci_machine.specs.declared.request.Event.TheVariants as event
 use Rattle.ci_machine.specs.declared.request.Seed.{Seed}
@@ -26,17 +27,19 @@ use Rattle.ci_board.specs.declared.facts.Status.TheVariants as status
 use Rattle.ci_board.specs.Effects.{is_status}
 use Rattle.ci_machine.specs.declared.records.BoardRow.{BoardRow}
 use Rattle.ci_machine.specs.State.{State, applied}
-use Rattle.ci_machine.specs.Statuses.{attempts_of, status_for, AreBoard}
+use Rattle.ci_machine.specs.Statuses.{jobs_of, attempts_of, facts_of, rows_of, status_for, AreBoard}
 use Rattle.ci_machine.specs.Eligible.{chosen}
 use Rattle.ci_machine.specs.Leases.{is_live, first_due}
-use Rattle.ci_machine.specs.Plans.{Plan}
+use Rattle.ci_machine.specs.Plans.{Plan, asked_project}
 use Rattle.ci_machine.specs.Projects.{add_project}
 use Rattle.ci_machine.specs.Runners.{add_runner}
-use Rattle.ci_machine.specs.Pipelines.{enter_pipeline}
+use Rattle.ci_machine.specs.Files.{SetsFile}
+use Rattle.ci_machine.specs.Variables.{set_variable, delete_variable}
+use Rattle.ci_machine.specs.Pipelines.{may_create, given_by, Creates}
 use Rattle.ci_machine.specs.Grants.{ask_job}
 use Rattle.ci_machine.specs.Reports.{update_job}
 use Rattle.ci_machine.specs.Traces.{append_trace}
-use Rattle.ci_machine.specs.Shows.{show_job, show_trace}
+use Rattle.ci_machine.specs.Shows.{asked_pipeline, show_pipeline, show_job, show_trace}
 use Rattle.ci_machine.specs.Sweeps.{sweep}
 
 -- ---- what is looked up in a state
@@ -46,6 +49,13 @@ project_at s n = find (λ p. p.id == n) s.projects
 
 abbrev pub project_with : State → List ℕ → Option Project
 project_with s token = find (λ p. bytes_eq p.token token) s.projects
+
+-- the variables of a project, by their keys
+abbrev pub project_variables : State → ℕ → List Variable
+project_variables s project = filter (λ v. v.project == project) s.variables
+
+abbrev pub variable_at : State → ℕ → List ℕ → Option Variable
+variable_at s project key = find (λ v. (v.project == project) && bytes_eq v.key key) s.variables
 
 abbrev pub runner_with : State → List ℕ → Option Runner
 runner_with s token = find (λ r. bytes_eq r.token token) s.runners
@@ -138,13 +148,20 @@ next_of counter.Attempt next = next.attempt
 abbrev pub Does : State → List BoardRow → Request → ℕ → Seed → Plan → Type 0
 Does s board (AddProject name) now seed plan = plan ≡ add_project s.next.project name seed
 Does s board (AddRunner name) now seed plan = plan ≡ add_runner s.next.runner name seed
-Does s board (EnterPipeline p) now seed plan = plan ≡ enter_pipeline (project_at s p.project) s.next.pipeline s.next.job p now
+Does s board (SetFile new) now seed plan = SetsFile (asked_project (project_with s new.token) new.project) new.text plan
+Does s board (SetVariable new) now seed plan = plan ≡ set_variable (asked_project (project_with s new.token) new.project) (project_variables s new.project) new
+Does s board (DeleteVariable query) now seed plan = plan ≡ delete_variable (asked_project (project_with s query.token) query.project) (variable_at s query.project query.key)
+Does s board (CreatePipeline new) now seed plan =
+    Creates s.next.pipeline s.next.job new (given_by new (project_variables s new.project)) now (may_create (asked_project (project_with s new.token) new.project) new) plan
 Does s board (AskJob token) now seed plan =
     let runner = runner_with s token in
     let offered = offer s board runner in
     plan ≡ ask_job runner offered (offered_variables s offered) s.next.attempt now seed
 Does s board (UpdateJob update) now seed plan = plan ≡ update_job (lease_at s update.attempt) update now
 Does s board (AppendTrace part) now seed plan = plan ≡ append_trace (lease_at s part.attempt) part now
+Does s board (ShowPipeline query) now seed plan =
+    let n = query.pipeline in
+    plan ≡ show_pipeline (asked_pipeline (asked_project (project_with s query.token) query.project) (pipeline_at s n)) (jobs_of s n) (facts_of s n) (rows_of s board n)
 Does s board (ShowJob query) now seed plan =
     let job = job_at s query.job in
     plan ≡ show_job (project_with s query.token) job (pipeline_of s job) (status_for board query.job) query

@@ -2,7 +2,9 @@
 
 ghost use Rattle.std.specs.Prelude.{◌≡◌, ◌↔◌, [], IsTrue};
 
-use crate::records::{Attempt, Job, JobVariable, Need, Piece, Pipeline, Project, Runner};
+use crate::records::{
+    Attempt, Job, JobVariable, Need, Piece, Pipeline, Project, Runner, Variable,
+};
 use crate::text::Text;
 use std::marker::Model;
 
@@ -10,6 +12,7 @@ use std::marker::Model;
 #[derive(Drop)]
 pub enum Record {
     Project(Project),
+    Variable(Variable),
     Runner(Runner),
     Pipeline(Pipeline),
     Job(Job),
@@ -23,6 +26,8 @@ pub enum Record {
 #[derive(Drop)]
 pub enum Key {
     Project(u64),
+    /// Of a project.
+    Variable(u64, Text),
     Runner(u64),
     Pipeline(u64),
     Job(u64),

@@ -1,15 +1,28 @@
 //! What holds of every step and of every token, whatever happens.
 
-ghost use Rattle.std.specs.Prelude.{List, [], ◌∷◌, ℕ, ◌<◌, ◌^◌, ◌≡◌, codes, replicate, true, false, Some, None, Ok, Err};
+ghost use Rattle.std.specs.Prelude.{List, [], ◌∷◌, ◌++◌, ℕ, ◌<◌, ◌^◌, ◌≡◌, map, codes, replicate, true, false, Some, None, Ok, Err};
 ghost use Rattle.ci_machine.specs.declared.request.Event.{Event};
 ghost use Rattle.ci_machine.specs.declared.request.Seed.{Seed};
 ghost use Rattle.ci_machine.specs.declared.reply.Answer.{Answer};
 ghost use Rattle.ci_machine.specs.State.{State};
 ghost use Rattle.ci_machine.specs.Statuses.{AreBoard};
-ghost use Rattle.ci_machine.specs.Plans.{token_of, refused};
+ghost use Rattle.ci_machine.specs.Plans.{token_of, refused, faulted};
 ghost use Rattle.ci_machine.specs.Projects.{add_project, made_project};
 ghost use Rattle.ci_machine.specs.Runners.{add_runner, made_runner};
-ghost use Rattle.ci_machine.specs.Pipelines.{lacks_numbers};
+ghost use Rattle.std.specs.Ordering.{nat_cmp};
+ghost use Rattle.std.specs.Cmp.Lexicographic.{slice_cmp};
+ghost use Rattle.std.specs.List.Sorted.{IsStrictlySortedBy};
+ghost use Rattle.ci_words.specs.Layers.{Variables, value_in};
+ghost use Rattle.ci_words.specs.Table.{meaning_of};
+ghost use Rattle.ci_yaml_lines.specs.declared.code.Code.{Code as YamlCode};
+ghost use Rattle.ci_yaml.specs.FaultText.{fault_text};
+ghost use Rattle.ci_config.specs.Config.{Config, Job as ConfigJob};
+ghost use Rattle.ci_config.specs.Fault.{Fault, said as keyword_text};
+ghost use Rattle.ci_layout.specs.Inclusion.{Given, layered, own_names};
+ghost use Rattle.ci_machine.specs.Files.{keyword_fault, line_fault};
+ghost use Rattle.ci_machine.specs.Variables.{set_variable, delete_variable};
+ghost use Rattle.ci_machine.specs.Reply.{plain};
+ghost use Rattle.ci_machine.specs.Pipelines.{lacks_numbers, may_create, merged};
 ghost use Rattle.ci_machine.specs.Grants.{nothing_to_run};
 ghost use Rattle.ci_machine.specs.Reports.{told, unleased};
 ghost use Rattle.ci_machine.specs.Traces.{accepted_to, not_accepted};
@@ -19,14 +32,15 @@ ghost use Rattle.ci_machine.specs.Reply.{Stepped, outcome_of, detail_text};
 ghost use Rattle.ci_machine.specs.Laws.{IsRefusal, Laws};
 ghost use Rattle.ci_machine.specs.History.{Past, Leads, IsReached};
 ghost use Rattle.ci_machine.specs.Sound.{IsSound};
-ghost use Rattle.ci_machine.specs.Examples.{reply_text, project_added, runner_added, pipeline_entered, granted, with_pipeline, with_attempt, token, rows, asked, seed, attempt, lease, leased, after, sent, said, swept, query, job_shown, trace_shown, hello, hello_world};
+ghost use Rattle.ci_machine.specs.Examples.{reply_text, project_added, runner_added, pipeline, made, given, configured, laid_by, first_rows, pipeline_made, granted, with_pipeline, with_attempt, token, two_rows, rows, asked, project_of, pair, with_variables, set_to, stage_by, new_variable, old_variable, hundred, put_variable, seed, attempt, lease, leased, after, sent, said, swept, query, job_shown, trace_shown, hello, hello_world};
 ghost use Rattle.ci_machine.specs.Leases.{renewed, is_over, deadline, accepted, size_after, finished, cause_of};
 
 use crate::lease::{LeaseFault, PieceFault};
 use crate::records::{AttemptState, Cause};
-use crate::reply::{Code, Detail, FaultCode, JobStatus, Swept};
+use crate::reply::{Code, Detail, FaultCode, HttpStatus, JobStatus, Swept};
 use crate::request::Report;
 use ci_board::facts::Status;
+use ci_yaml::YamlFault;
 
 /// A step that refuses leaves the state as it was.
 pub fn a_refusal_changes_nothing()
@@ -47,19 +61,63 @@ pub fn tokens_hold_their_number()
 pub fn worked_examples()
     ensures project { reply_text project_added ≡ codes "{\"id\":1,\"token\":\"p1-abababababababababababababababab\"}" }
     ensures runner { reply_text runner_added ≡ codes "{\"id\":1,\"token\":\"r1-abababababababababababababababab\"}" }
-    ensures pipeline { reply_text pipeline_entered ≡ codes "{\"id\":1,\"jobs\":[{\"id\":1,\"name\":\"build\",\"stage\":\"build\",\"status\":\"pending\"}],\"ref\":\"main\",\"source\":\"api\",\"status\":\"pending\"}" }
+    ensures pipeline { reply_text pipeline_made ≡ codes "{\"id\":1,\"jobs\":[{\"id\":1,\"name\":\"build\",\"stage\":\"build\",\"status\":\"pending\"},{\"id\":2,\"name\":\"unit\",\"stage\":\"test\",\"status\":\"created\"}],\"ref\":\"main\",\"source\":\"api\",\"status\":\"pending\"}" }
     ensures granted { reply_text granted ≡ codes "{\"id\":1,\"job_info\":{\"name\":\"build\",\"project_id\":1,\"stage\":\"build\"},\"script\":[\"make\"],\"timeout\":3600,\"token\":\"j1-abababababababababababababababab\",\"variables\":[{\"key\":\"CI\",\"value\":\"true\"},{\"key\":\"CI_COMMIT_BRANCH\",\"value\":\"main\"},{\"key\":\"CI_COMMIT_REF_NAME\",\"value\":\"main\"},{\"key\":\"CI_JOB_ID\",\"value\":\"1\"},{\"key\":\"CI_JOB_NAME\",\"value\":\"build\"},{\"key\":\"CI_JOB_STAGE\",\"value\":\"build\"},{\"key\":\"CI_PIPELINE_ID\",\"value\":\"1\"},{\"key\":\"CI_PIPELINE_SOURCE\",\"value\":\"api\"},{\"key\":\"CI_PROJECT_ID\",\"value\":\"1\"}]}" }
-    ensures asked_again { asked with_attempt (rows Status.Running) token ≡ nothing_to_run }
-    ensures unknown_token { asked with_attempt (rows Status.Running) (codes "nope") ≡ refused Code.M4 }
-    ensures unknown_body { reply_text (asked with_attempt (rows Status.Running) (codes "nope")) ≡ codes "{\"code\":\"M4\"}" }
+    ensures asked_again { asked with_attempt (two_rows Status.Running) token ≡ nothing_to_run }
+    ensures unknown_token { asked with_attempt (two_rows Status.Running) (codes "nope") ≡ refused Code.M4 }
+    ensures unknown_body { reply_text (asked with_attempt (two_rows Status.Running) (codes "nope")) ≡ codes "{\"code\":\"M4\"}" }
 {}
 
 /// The rows with which the examples go on are those of their states.
 pub fn example_boards()
-    ensures entered { AreBoard with_pipeline (rows Status.Pending) }
-    ensures granted { AreBoard with_attempt (rows Status.Running) }
+    ensures made { AreBoard with_pipeline (two_rows Status.Pending) }
+    ensures granted { AreBoard with_attempt (two_rows Status.Running) }
     ensures leased { AreBoard leased (rows Status.Running) }
     ensures ended { AreBoard (after (swept leased 1120) leased) (rows Status.Failed) }
+{}
+
+/// What refuses a pipeline before its file is read, in the order in which it is looked for.
+pub fn refusal_examples()
+    ensures unknown { may_create (Err Code.M1) pipeline ≡ Err (refused Code.M1) }
+    ensures bad_ref { may_create (project_of None) (record pipeline { git_ref = []; variables = replicate 101 (pair (codes "1A") []) }) ≡ Err (faulted (Detail.Code (FaultCode.K 16))) }
+    ensures many { may_create (project_of None) (with_variables (replicate 101 (pair (codes "1A") []))) ≡ Err (faulted (Detail.Code (FaultCode.K 11))) }
+    ensures bad_name { may_create (project_of None) (with_variables (pair (codes "1A") [] ∷ [])) ≡ Err (faulted (Detail.Code (FaultCode.K 12))) }
+    ensures twice { may_create (project_of None) (with_variables (pair (codes "A") [] ∷ pair (codes "B") [] ∷ pair (codes "A") [] ∷ [])) ≡ Err (faulted (Detail.Code (FaultCode.K 12))) }
+    ensures no_file { may_create (project_of None) (with_variables (pair (codes "A") [] ∷ [])) ≡ Err (refused Code.M13) }
+    ensures its_file { may_create (project_of (Some (codes "x"))) (with_variables (pair (codes "A") [] ∷ [])) ≡ Ok (codes "x") }
+{}
+
+/// The value of `CI_JOB_STAGE` where each layer gives it, and where the highest ones are taken away in turn.
+pub fn layer_examples()
+    ensures of_pipeline { stage_by (set_to (codes "1")) (set_to (codes "2")) (set_to (codes "3")) (set_to (codes "4")) (set_to (codes "5")) ≡ codes "1" ∷ [] }
+    ensures of_project { stage_by [] (set_to (codes "2")) (set_to (codes "3")) (set_to (codes "4")) (set_to (codes "5")) ≡ codes "2" ∷ [] }
+    ensures of_rule { stage_by [] [] (set_to (codes "3")) (set_to (codes "4")) (set_to (codes "5")) ≡ codes "3" ∷ [] }
+    ensures of_job { stage_by [] [] [] (set_to (codes "4")) (set_to (codes "5")) ≡ codes "4" ∷ [] }
+    ensures of_file { stage_by [] [] [] [] (set_to (codes "5")) ≡ codes "5" ∷ [] }
+    ensures predefined { stage_by [] [] [] [] [] ≡ codes "test" ∷ [] }
+{}
+
+/// Variables of a project: one more than a hundred, one that is there already, a name that is none, and one that goes.
+pub fn variable_examples()
+    ensures set { set_variable (project_of None) [] (new_variable (codes "A")) ≡ (plain HttpStatus.Fine, put_variable (codes "A")) }
+    ensures one_more { set_variable (project_of None) (hundred (codes "B")) (new_variable (codes "1A")) ≡ faulted (Detail.Code (FaultCode.K 11)) }
+    ensures again { set_variable (project_of None) (hundred (codes "A")) (new_variable (codes "A")) ≡ (plain HttpStatus.Fine, put_variable (codes "A")) }
+    ensures bad_name { set_variable (project_of None) [] (new_variable (codes "1A")) ≡ faulted (Detail.Code (FaultCode.K 12)) }
+    ensures none { delete_variable (project_of None) None ≡ refused Code.M3 }
+    ensures unknown { delete_variable (Err Code.M2) (Some (old_variable (codes "A"))) ≡ refused Code.M2 }
+{}
+
+/// The variables of a job are in the order of their names, and each has the value of the first layer that has it.
+pub fn variables_are_of_their_first_layers()
+    ensures ascend { (vs : Variables) → IsStrictlySortedBy (slice_cmp nat_cmp) (map (λ v. v.0) (merged vs)) }
+    ensures values { (vs : Variables) (name : List ℕ) → meaning_of (merged vs) name ≡ meaning_of vs name }
+    ensures layers { (given : Given) (c : Config) (job : ConfigJob) (own : Variables) (name : List ℕ) → meaning_of (layered given c job own) name ≡ value_in (given.pipeline ∷ given.project ∷ own ∷ c.variables ∷ (own_names job ++ given.predefined) ∷ []) name }
+{}
+
+/// A detail prints a fault of a file as `ciserver check` does.
+pub fn details_print_faults()
+    ensures keywords { (fault : Fault) → detail_text (keyword_fault fault) ≡ keyword_text fault }
+    ensures lines { (code : YamlCode) (line : ℕ) → detail_text (line_fault code line) ≡ fault_text (YamlFault.Fault code line) }
 {}
 
 /// What the details of faults print, worked out by hand.
@@ -146,7 +204,7 @@ pub fn trace_examples()
 
 /// In each state that a history leads to, each job has at most one live attempt; each attempt was granted by just one
 /// request, with its runner's token, in a state in which its job was pending and, of those that its runner may run, the
-/// one of least number; each trace is the bytes that were accepted of its attempt, joined in the order of the history; an
+/// one of least number, and the step that made the job's pipeline included the job by its rules; each trace is the bytes that were accepted of its attempt, joined in the order of the history; an
 /// attempt that had ended in an earlier state stands as it ended; no record of an earlier state is gone; the records that
 /// others name are there; and there are rows of its jobs' statuses. Each sweep of the history ended the due attempt of least
 /// number, or there was none; and each grant gave the variables of its job in the order of their keys.

@@ -1,8 +1,5 @@
 //! The limits of the machine. Each name ends with the unit, where there is one.
 
-/// The most jobs of a pipeline.
-pub const MAX_JOBS: usize = 100;
-
 /// The greatest size of a trace, in bytes.
 pub const MAX_TRACE_BYTES: u64 = 4_194_304;
 

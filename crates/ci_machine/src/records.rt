@@ -23,6 +23,14 @@ pub struct Project {
     pub file: Option<Text>,
 }
 
+/// A variable of a project: the jobs of its pipelines are given it.
+#[derive(Clone, Drop)]
+pub struct Variable {
+    pub project: u64,
+    pub key: Text,
+    pub value: Text,
+}
+
 /// A runner, with the token that it asks for jobs with.
 #[derive(Clone, Drop)]
 pub struct Runner {

@@ -35,7 +35,7 @@ pub enum Code {
     M1,
     /// The project doesn't exist, or isn't the token's.
     M2,
-    /// There is no such job.
+    /// There is no such pipeline, job or variable.
     M3,
     /// The runner token is unknown.
     M4,
@@ -49,6 +49,8 @@ pub enum Code {
     M8,
     /// The trace would pass its limit.
     M9,
+    /// The project has no file.
+    M13,
     /// What is to be made has a fault, which the detail names.
     M14,
     /// A number over the limit would be needed.
@@ -160,7 +162,7 @@ impl Code {
             Code::M4 | Code::M5 | Code::M6 | Code::M7 => HttpStatus::Forbidden,
             Code::M8 => HttpStatus::RangeNotSatisfiable,
             Code::M9 | Code::H4 => HttpStatus::PayloadTooLarge,
-            Code::M14 | Code::H1 | Code::H7 => HttpStatus::BadRequest,
+            Code::M13 | Code::M14 | Code::H1 | Code::H7 => HttpStatus::BadRequest,
             Code::M15 | Code::M16 | Code::M17 => HttpStatus::ServiceUnavailable,
             Code::H2 => HttpStatus::HeaderFieldsTooLarge,
             Code::H3 => HttpStatus::LengthRequired,
@@ -183,6 +185,7 @@ impl Code {
             Code::M7 => "{\"code\":\"M7\"}",
             Code::M8 => "{\"code\":\"M8\"}",
             Code::M9 => "{\"code\":\"M9\"}",
+            Code::M13 => "{\"code\":\"M13\"}",
             Code::M14 => "{\"code\":\"M14\"}",
             Code::M15 => "{\"code\":\"M15\"}",
             Code::M16 => "{\"code\":\"M16\"}",

@@ -2,30 +2,64 @@
 
 ghost use Rattle.std.specs.Prelude.{◌≡◌};
 
-use crate::records::Cause;
-use crate::text::{Bytes, Text, Texts};
+use crate::records::{Cause, RefKind, Source};
+use crate::text::{Bytes, Text};
 use ci_values::items::Items;
 use std::alloc::AllocError;
 
-/// A job of a pipeline to be made.
+/// The text of a project's CI file, sent with the project's token.
 #[derive(Clone, Drop)]
-pub struct NewJob {
-    pub name: Text,
-    pub script: Texts,
+pub struct NewFile {
+    pub project: u64,
+    pub token: Text,
+    pub text: Text,
 }
 
-/// The jobs of a pipeline to be made, in order.
-pub type NewJobs = Items<NewJob>;
+/// A variable of a project and its value, sent with the project's token.
+#[derive(Clone, Drop)]
+pub struct NewVariable {
+    pub project: u64,
+    pub token: Text,
+    pub key: Text,
+    pub value: Text,
+}
 
-/// A pipeline of a branch to be made, all of whose jobs are of one stage.
-///
-/// It stands in for the pipeline that a project's file describes until files are read.
+/// A variable of a project, named with the project's token.
+#[derive(Clone, Drop)]
+pub struct VariableQuery {
+    pub project: u64,
+    pub token: Text,
+    pub key: Text,
+}
+
+/// A variable of one pipeline.
+#[derive(Clone, Drop)]
+pub struct PipelineVariable {
+    pub key: Text,
+    pub value: Text,
+}
+
+/// The variables of one pipeline, in the order in which they were sent.
+pub type PipelineVariables = Items<PipelineVariable>;
+
+/// A pipeline to be made from its project's file, asked for with the project's token.
 #[derive(Clone, Drop)]
 pub struct NewPipeline {
     pub project: u64,
+    pub token: Text,
+    /// The branch or the tag that it runs for.
     pub git_ref: Text,
-    pub stage: Text,
-    pub jobs: NewJobs,
+    pub kind: RefKind,
+    pub source: Source,
+    pub variables: PipelineVariables,
+}
+
+/// A pipeline of a project, asked for with the project's token.
+#[derive(Clone, Drop)]
+pub struct PipelineQuery {
+    pub project: u64,
+    pub token: Text,
+    pub pipeline: u64,
 }
 
 /// What a runner says of an attempt: that it runs, or how it ended, with the exit code if there is one.
@@ -69,8 +103,16 @@ pub enum Request {
     AddProject(Text),
     /// A runner of this name is to be made. It belongs to the instance, has no tags and runs untagged jobs.
     AddRunner(Text),
-    /// A pipeline is to be made.
-    EnterPipeline(NewPipeline),
+    /// A project's file is to be this text.
+    SetFile(NewFile),
+    /// A variable of a project is to have this value.
+    SetVariable(NewVariable),
+    /// A variable of a project is to go.
+    DeleteVariable(VariableQuery),
+    /// A pipeline is to be made from its project's file.
+    CreatePipeline(NewPipeline),
+    /// A pipeline with its jobs and their statuses is asked for.
+    ShowPipeline(PipelineQuery),
     /// The runner with this token asks for a job.
     AskJob(Text),
     /// A runner says how an attempt of its stands.
@@ -90,7 +132,11 @@ impl Clone for Request {
         Ok(match self {
             Request::AddProject(name) => Request::AddProject(name.clone()?),
             Request::AddRunner(name) => Request::AddRunner(name.clone()?),
-            Request::EnterPipeline(new) => Request::EnterPipeline(new.clone()?),
+            Request::SetFile(new) => Request::SetFile(new.clone()?),
+            Request::SetVariable(new) => Request::SetVariable(new.clone()?),
+            Request::DeleteVariable(query) => Request::DeleteVariable(query.clone()?),
+            Request::CreatePipeline(new) => Request::CreatePipeline(new.clone()?),
+            Request::ShowPipeline(query) => Request::ShowPipeline(query.clone()?),
             Request::AskJob(token) => Request::AskJob(token.clone()?),
             Request::UpdateJob(update) => Request::UpdateJob(update.clone()?),
             Request::AppendTrace(part) => Request::AppendTrace(part.clone()?),
