@@ -1,5 +1,5 @@
 -- What holds of each plan: a refusal changes nothing, and the machine answers neither M16 nor M17.
-use Rattle.std.proofs.Common.{◌≡◌, ℕ, ◌==◌, List, [], length, not, nat_lt, true, Option, None, Some, option_map, Result, Ok, Err, refl, sym, ap, subst, ◌∙◌}
+use Rattle.std.proofs.Common.{◌≡◌, ℕ, ◌==◌, Bool, List, [], length, not, nat_lt, true, false, Option, None, Some, option_map, Result, Ok, Err, refl, sym, ap, subst, ◌∙◌, eqb-true}
 use Rattle.std.specs.Str.{bytes_eq}
 use Rattle.std.proofs.lemmas.Bool.{cond_both, false≢true}
 use Rattle.ci_board.specs.declared.facts.Status.{Status}
@@ -18,11 +18,22 @@ use Rattle.ci_machine.specs.declared.lease.PieceFault.TheVariants.{Unleased, Wro
 use Rattle.ci_machine.specs.declared.records.Runner.{Runner}
 use Rattle.ci_machine.specs.declared.records.QueuedJob.{QueuedJob}
 use Rattle.ci_machine.specs.declared.records.JobVariable.{JobVariable}
+use Rattle.ci_config.specs.Config.{Config}
+use Rattle.ci_config.specs.declared.limits.TheConstants.{MAX_VARIABLES}
+use Rattle.ci_words.specs.Name.{is_variable_name}
+use Rattle.ci_layout.specs.Inclusion.{Given}
+use Rattle.ci_board.specs.declared.facts.Facts.{Facts}
+use Rattle.ci_board.specs.declared.facts.Row.{Row}
+use Rattle.ci_machine.specs.declared.records.Variable.{Variable}
+use Rattle.ci_machine.specs.declared.request.NewFile.{NewFile}
+use Rattle.ci_machine.specs.declared.request.NewVariable.{NewVariable}
+use Rattle.ci_machine.specs.declared.request.VariableQuery.{VariableQuery}
 use Rattle.ci_machine.specs.declared.request.NewPipeline.{NewPipeline}
+use Rattle.ci_machine.specs.declared.request.PipelineQuery.{PipelineQuery}
 use Rattle.ci_machine.specs.declared.request.Event.{Event}
 use Rattle.ci_machine.specs.declared.request.Event.TheVariants as event
 use Rattle.ci_machine.specs.declared.request.Request.{Request}
-use Rattle.ci_machine.specs.declared.request.Request.TheVariants.{AddProject, AddRunner, EnterPipeline, AskJob, UpdateJob, AppendTrace, ShowJob, ShowTrace}
+use Rattle.ci_machine.specs.declared.request.Request.TheVariants.{AddProject, AddRunner, SetFile, SetVariable, DeleteVariable, CreatePipeline, ShowPipeline, AskJob, UpdateJob, AppendTrace, ShowJob, ShowTrace}
 use Rattle.ci_machine.specs.declared.request.Report.{Report}
 use Rattle.ci_machine.specs.declared.request.Report.TheVariants as report
 use Rattle.ci_machine.specs.declared.request.JobUpdate.{JobUpdate}
@@ -30,31 +41,32 @@ use Rattle.ci_machine.specs.declared.request.TracePart.{TracePart}
 use Rattle.ci_machine.specs.declared.request.JobQuery.{JobQuery}
 use Rattle.ci_machine.specs.declared.request.Seed.{Seed}
 use Rattle.ci_machine.specs.declared.reply.Code.{Code}
-use Rattle.ci_machine.specs.declared.reply.Code.TheVariants.{M1, M2, M3, M4, M5, M6, M7, M8, M9, M14, M15, M16, M17, H1, H2, H3, H4, H5, H6, H7, H8}
+use Rattle.ci_machine.specs.declared.reply.Code.TheVariants.{M1, M2, M3, M4, M5, M6, M7, M8, M9, M13, M14, M15, M16, M17, H1, H2, H3, H4, H5, H6, H7, H8}
 use Rattle.ci_machine.specs.declared.reply.Detail.{Detail}
 use Rattle.ci_machine.specs.declared.reply.Detail.TheVariants as detail
-use Rattle.ci_machine.specs.declared.reply.FaultCode.TheVariants.{G, K}
+use Rattle.ci_machine.specs.declared.reply.FaultCode.TheVariants.{K}
 use Rattle.ci_machine.specs.declared.reply.Answer.{Answer}
 use Rattle.ci_machine.specs.declared.reply.Answer.TheVariants as answer
 use Rattle.ci_machine.specs.declared.reply.Swept.{Swept}
 use Rattle.ci_machine.specs.declared.change.RowChange.{RowChange}
 use Rattle.ci_values.specs.Names.{is_name}
 use Rattle.ci_machine.specs.State.{State, applied}
-use Rattle.ci_machine.specs.Statuses.{status_for}
+use Rattle.ci_machine.specs.Statuses.{jobs_of, facts_of, rows_of, status_for}
 use Rattle.ci_values.specs.declared.limits.TheConstants.{MAX_NUMBER}
-use Rattle.ci_machine.specs.declared.limits.TheConstants.{MAX_JOBS}
-use Rattle.ci_machine.specs.Plans.{Plan, refused, faulted}
+use Rattle.ci_machine.specs.Plans.{Plan, refused, faulted, asked_project}
 use Rattle.ci_machine.specs.Projects.{made_project, add_project}
 use Rattle.ci_machine.specs.Runners.{made_runner, add_runner}
-use Rattle.ci_machine.specs.Pipelines.{has_names, lacks_numbers, entered, enter_pipeline}
+use Rattle.ci_machine.specs.Files.{file_set, set_file, SetsFile}
+use Rattle.ci_machine.specs.Variables.{count_with, variable_set, set_variable, variable_gone, delete_variable}
+use Rattle.ci_machine.specs.Pipelines.{have_names, file_or_none, may_create, given_by, Layout, IsLaidOut, lacks_numbers, creation, pipeline_created, MakesUnless, Makes, Creates}
 use Rattle.ci_machine.specs.Grants.{nothing_to_run, granted, ask_job}
 use Rattle.ci_machine.specs.Reports.{unleased, heard, ended, reported, update_job}
 use Rattle.ci_machine.specs.Traces.{not_accepted, grown, appended, append_trace}
-use Rattle.ci_machine.specs.Shows.{job_shown, trace_shown, job_within, asked_job, shown, traced}
+use Rattle.ci_machine.specs.Shows.{asked_pipeline, pipeline_shown, show_pipeline, job_shown, trace_shown, job_within, asked_job, shown, traced}
 use Rattle.ci_machine.specs.Sweeps.{sweep}
 use Rattle.ci_machine.specs.Leases.{accepted, first_due}
 use Rattle.ci_machine.specs.Eligible.{may_run, chosen}
-use Rattle.ci_machine.specs.Step.{Does, Happens, Step, project_at, project_with, runner_with, attempt_at, pipeline_of, job_at, last_attempt, pieces_in, lease_of, leases, is_pending, pending_jobs, queued, queue, offer, offered_variables}
+use Rattle.ci_machine.specs.Step.{Does, Happens, Step, project_with, project_variables, variable_at, pipeline_at, runner_with, attempt_at, pipeline_of, job_at, last_attempt, pieces_in, lease_of, leases, is_pending, pending_jobs, queued, queue, offer, offered_variables}
 use Rattle.ci_machine.specs.Laws.{IsRefusal}
 use Rattle.ci_machine.specs.Reply.{Stepped, outcome_of}
 use Rattle.ci_machine.proofs.Keyed.{Has, has_filter, has_find, find-map}
@@ -66,17 +78,130 @@ IsMachineCode M2 = Unit {0}
 IsMachineCode M3 = Unit {0}
 IsMachineCode M4 = Unit {0}
 IsMachineCode M5 = Unit {0}
+IsMachineCode M13 = Unit {0}
 IsMachineCode M14 = Unit {0}
 IsMachineCode M15 = Unit {0}
 IsMachineCode _ = ⊥
 
--- a fact of each plan that a request may have in a state whose jobs have these rows
-pub record Each (s : State) (board : List BoardRow) (P : Plan → Type 0) : Type 0 where
+-- ---- a project that is asked for, its file, its variables and its pipelines
+
+-- a project that was asked for is there and has the number; and else the request is refused
+abbrev pub Asked : State → ℕ → Result Project Code → Type 0
+Asked s named (Ok project) = Has project s.projects × (project.id ≡ named)
+Asked s named (Err code) = IsMachineCode code
+
+asked_is : (s : State) (token : List ℕ) (named : ℕ) (o : Option Project) → project_with s token ≡ o → Asked s named (asked_project o named)
+asked_is s token named None found = tt
+asked_is s token named (Some project) found =
+    cond_both (project.id == named) (Ok project) (Err M2) (Asked s named)
+    (λ e. ((has_find (λ (p : Project). bytes_eq p.token token) project s.projects found).0, eqb-true project.id named e))
+    (λ _. tt)
+
+-- the project that was asked for
+abbrev pub of_asked : State → List ℕ → ℕ → Result Project Code
+of_asked s token named = asked_project (project_with s token) named
+
+pub is_asked : (s : State) (token : List ℕ) (named : ℕ) → Asked s named (of_asked s token named)
+is_asked s token named = asked_is s token named (project_with s token) refl
+
+abbrev pub given_in : State → NewPipeline → Given
+given_in s new = given_by new (project_variables s new.project)
+
+-- a fact of each plan by which a pipeline is made
+abbrev pub OfCreation : State → (Plan → Type 0) → NewPipeline → ℕ → Type 0
+OfCreation s P new now =
+    (project : Project) (text : List ℕ) (laid : Layout) (rows : List Row) → of_asked s new.token new.project ≡ Ok project → Has project s.projects → project.id ≡ new.project → project.file ≡ Some text
+    → IsLaidOut text (given_in s new) (Ok laid) → P (pipeline_created s.next.job (creation s.next.pipeline s.next.job new (given_in s new) now laid) rows)
+
+module _ (s : State) (P : Plan → Type 0) (of_code : (c : Code) → IsMachineCode c → P (refused c)) (of_fault : (d : Detail) → P (faulted d)) where
+  file_said : (project : Project) (text : List ℕ) → ((c : Config) → P (file_set project text c)) → (said : Result Config Detail) → P (set_file project text said)
+  file_said project text h (Ok c) = h c
+  file_said project text h (Err d) = of_fault d
+
+  sets : (named : ℕ) (text : List ℕ) (plan : Plan) → ((project : Project) (c : Config) → Has project s.projects → P (file_set project text c)) → (r : Result Project Code) → Asked s named r → SetsFile r text plan → P plan
+  sets named text plan h (Err code) asked is = subst P (sym is) (of_code code asked)
+  sets named text plan h (Ok project) asked is = subst P (sym is.2) (file_said project text (λ c. h project c asked.0) is.0)
+
+  -- a project's file is to be a text
+  pub of_file : (new : NewFile) (plan : Plan) → ((project : Project) (c : Config) → Has project s.projects → P (file_set project new.text c)) → SetsFile (of_asked s new.token new.project) new.text plan → P plan
+  of_file new plan h = sets new.project new.text plan h (of_asked s new.token new.project) (is_asked s new.token new.project)
+
+  puts : (named : ℕ) (vs : List Variable) (new : NewVariable) → ((project : Project) → P (variable_set project new)) → (r : Result Project Code) → Asked s named r → P (set_variable r vs new)
+  puts named vs new h (Err code) asked = of_code code asked
+  puts named vs new h (Ok project) asked =
+      cond_both (nat_lt MAX_VARIABLES (count_with new.key vs)) (faulted (detail.Code (K 11))) _ P (λ _. of_fault (detail.Code (K 11))) (λ _.
+      cond_both (not (is_variable_name new.key)) (faulted (detail.Code (K 12))) (variable_set project new) P (λ _. of_fault (detail.Code (K 12))) (λ _. h project))
+
+  -- a variable is to have a value
+  pub of_variable : (new : NewVariable) → ((project : Project) → P (variable_set project new)) → P (set_variable (of_asked s new.token new.project) (project_variables s new.project) new)
+  of_variable new h = puts new.project (project_variables s new.project) new h (of_asked s new.token new.project) (is_asked s new.token new.project)
+
+  removes : (named : ℕ) → ((v : Variable) → P (variable_gone v)) → (found : Option Variable) (r : Result Project Code) → Asked s named r → P (delete_variable r found)
+  removes named h found (Err code) asked = of_code code asked
+  removes named h None (Ok project) asked = of_code M3 tt
+  removes named h (Some v) (Ok project) asked = h v
+
+  -- a variable is to go
+  pub of_removal : (query : VariableQuery) → ((v : Variable) → P (variable_gone v)) → P (delete_variable (of_asked s query.token query.project) (variable_at s query.project query.key))
+  of_removal query h = removes query.project h (variable_at s query.project query.key) (of_asked s query.token query.project) (is_asked s query.token query.project)
+
+  -- ---- a pipeline is to be made
+
+  unless : (new : NewPipeline) (now : ℕ) (plan : Plan) (laid : Layout) → ((rows : List Row) → P (pipeline_created s.next.job (creation s.next.pipeline s.next.job new (given_in s new) now laid) rows)) → (lacks : Bool)
+      → MakesUnless lacks s.next.job (creation s.next.pipeline s.next.job new (given_in s new) now laid) plan → P plan
+  unless new now plan laid h true is = subst P (sym is) (of_code M15 tt)
+  unless new now plan laid h false is = subst P (sym is.2) (h is.0)
+
+  makes : (new : NewPipeline) (now : ℕ) (plan : Plan) → OfCreation s P new now → (project : Project) → of_asked s new.token new.project ≡ Ok project → Asked s new.project (Ok project)
+      → (text : List ℕ) → project.file ≡ Some text → (laid : Result Layout Detail) → IsLaidOut text (given_in s new) laid → Makes s.next.pipeline s.next.job new (given_in s new) now laid plan → P plan
+  makes new now plan h project is_project asked text file (Err fault) lays is = subst P (sym is) (of_fault fault)
+  makes new now plan h project is_project asked text file (Ok laid) lays is =
+      unless new now plan laid (λ rows. h project text laid rows is_project asked.0 asked.1 file lays) (lacks_numbers s.next.pipeline s.next.job (length laid.plan.jobs)) is
+
+  reads : (new : NewPipeline) (now : ℕ) (plan : Plan) → OfCreation s P new now → (project : Project) → of_asked s new.token new.project ≡ Ok project → Asked s new.project (Ok project)
+      → (file : Option (List ℕ)) → project.file ≡ file → Creates s.next.pipeline s.next.job new (given_in s new) now (file_or_none file) plan → P plan
+  reads new now plan h project is_project asked None file is = subst P (sym is) (of_code M13 tt)
+  reads new now plan h project is_project asked (Some text) file is = makes new now plan h project is_project asked text file is.0 is.1 is.2
+
+  creates : (new : NewPipeline) (now : ℕ) (plan : Plan) → OfCreation s P new now → (r : Result Project Code) → of_asked s new.token new.project ≡ r → Asked s new.project r
+      → Creates s.next.pipeline s.next.job new (given_in s new) now (may_create r new) plan → P plan
+  creates new now plan h (Err code) is asked made = subst P (sym made) (of_code code asked)
+  creates new now plan h (Ok project) is asked made =
+      let C : Result (List ℕ) Plan → Type 0 = λ t. Creates s.next.pipeline s.next.job new (given_in s new) now t plan → P plan in
+      cond_both (not (is_name new.git_ref)) (Err (faulted (detail.Code (K 16)))) _ C (λ _ k. subst P (sym k) (of_fault (detail.Code (K 16)))) (λ _.
+      cond_both (nat_lt MAX_VARIABLES (length new.variables)) (Err (faulted (detail.Code (K 11)))) _ C (λ _ k. subst P (sym k) (of_fault (detail.Code (K 11)))) (λ _.
+      cond_both (not (have_names new.variables)) (Err (faulted (detail.Code (K 12)))) (file_or_none project.file) C (λ _ k. subst P (sym k) (of_fault (detail.Code (K 12))))
+      (λ _. reads new now plan h project is asked project.file refl))) made
+
+  pub of_creation : (new : NewPipeline) (now : ℕ) (plan : Plan) → OfCreation s P new now
+      → Creates s.next.pipeline s.next.job new (given_in s new) now (may_create (of_asked s new.token new.project) new) plan → P plan
+  of_creation new now plan h = creates new now plan h (of_asked s new.token new.project) refl (is_asked s new.token new.project)
+
+  -- ---- a pipeline is shown
+
+  shows : (jobs : List Job) (facts : List Facts) (rows : List Row) → ((p : Pipeline) → P (pipeline_shown p jobs facts rows)) → (named : ℕ) (found : Option Pipeline) (r : Result Project Code) → Asked s named r
+      → P (show_pipeline (asked_pipeline r found) jobs facts rows)
+  shows jobs facts rows h named found (Err code) asked = of_code code asked
+  shows jobs facts rows h named None (Ok project) asked = of_code M3 tt
+  shows jobs facts rows h named (Some p) (Ok project) asked =
+      cond_both (p.project == project.id) (Ok p) (Err M3) (λ r. P (show_pipeline r jobs facts rows)) (λ _. h p) (λ _. of_code M3 tt)
+
+  pub of_pipeline : (query : PipelineQuery) (jobs : List Job) (facts : List Facts) (rows : List Row) → ((p : Pipeline) → P (pipeline_shown p jobs facts rows))
+      → P (show_pipeline (asked_pipeline (of_asked s query.token query.project) (pipeline_at s query.pipeline)) jobs facts rows)
+  of_pipeline query jobs facts rows h = shows jobs facts rows h query.project (pipeline_at s query.pipeline) (of_asked s query.token query.project) (is_asked s query.token query.project)
+
+-- ---- every request
+
+-- a fact of each plan that the request may have in a state whose jobs have these rows
+pub record Each (s : State) (board : List BoardRow) (request : Request) (P : Plan → Type 0) : Type 0 where
   pub refused : (c : Code) → IsMachineCode c → P (refused c)
   pub faulted : (d : Detail) → P (faulted d)
   pub project : (name : List ℕ) (seed : Seed) → P (made_project s.next.project name seed)
   pub runner : (name : List ℕ) (seed : Seed) → P (made_runner s.next.runner name seed)
-  pub pipeline : (project : Project) (p : NewPipeline) (now : ℕ) → project_at s p.project ≡ Some project → P (entered s.next.pipeline s.next.job p now)
+  pub file : (project : Project) (text : List ℕ) (c : Config) → Has project s.projects → P (file_set project text c)
+  pub variable : (project : Project) (new : NewVariable) → P (variable_set project new)
+  pub gone : (v : Variable) → P (variable_gone v)
+  pub pipeline : (new : NewPipeline) (now : ℕ) → request ≡ CreatePipeline new → OfCreation s P new now
   pub nothing : P nothing_to_run
   pub granted : (runner : Runner) (job : Job) (q : QueuedJob) (variables : List JobVariable) (now : ℕ) (seed : Seed)
       → Has runner s.runners → Has job s.jobs → is_pending board job ≡ true → job.id ≡ q.job.id → P (granted runner q variables s.next.attempt now seed)
@@ -85,10 +210,11 @@ pub record Each (s : State) (board : List BoardRow) (P : Plan → Type 0) : Type
   pub ended : (a : Attempt) (state : AttemptState) → Has a s.attempts → P (ended a (Ok state))
   pub misplaced : (fault : PieceFault) → P (not_accepted fault, [])
   pub grown : (a : Attempt) (bytes : List ℕ) (now size : ℕ) → Has a s.attempts → P (grown a bytes now size)
+  pub pipeline_shown : (p : Pipeline) (jobs : List Job) (facts : List Facts) (rows : List Row) → P (pipeline_shown p jobs facts rows)
   pub shown : (job : Job) (status : Status) → P (job_shown job status)
   pub traced : (pieces : List Piece) → P (trace_shown pieces)
 
-module _ (s : State) (board : List BoardRow) (P : Plan → Type 0) (each : Each s board P) where
+module _ (s : State) (board : List BoardRow) (request : Request) (P : Plan → Type 0) (each : Each s board request P) where
   projects : (name : List ℕ) (seed : Seed) → P (add_project s.next.project name seed)
   projects name seed =
       cond_both (not (is_name name)) (faulted (detail.Code (K 16))) _ P (λ _. each.faulted (detail.Code (K 16))) (λ _.
@@ -98,15 +224,6 @@ module _ (s : State) (board : List BoardRow) (P : Plan → Type 0) (each : Each 
   runners name seed =
       cond_both (not (is_name name)) (faulted (detail.Code (K 16))) _ P (λ _. each.faulted (detail.Code (K 16))) (λ _.
       cond_both (nat_lt MAX_NUMBER s.next.runner) (refused M15) (made_runner s.next.runner name seed) P (λ _. each.refused M15 tt) (λ _. each.runner name seed))
-
-  pipelines : (p : NewPipeline) (now : ℕ) (project : Option Project) → project_at s p.project ≡ project → P (enter_pipeline project s.next.pipeline s.next.job p now)
-  pipelines p now None found = each.refused M2 tt
-  pipelines p now (Some project) found =
-      cond_both (nat_lt (length p.jobs) 1) (faulted (detail.Code (G 4))) _ P (λ _. each.faulted (detail.Code (G 4))) (λ _.
-      cond_both (nat_lt MAX_JOBS (length p.jobs)) (faulted (detail.Code (K 11))) _ P (λ _. each.faulted (detail.Code (K 11))) (λ _.
-      cond_both (not (has_names p)) (faulted (detail.Code (K 16))) _ P (λ _. each.faulted (detail.Code (K 16))) (λ _.
-      cond_both (lacks_numbers s.next.pipeline s.next.job (length p.jobs)) (refused M15) (entered s.next.pipeline s.next.job p now) P (λ _. each.refused M15 tt)
-      (λ _. each.pipeline project p now found))))
 
   offers : (now : ℕ) (seed : Seed) (runner : Runner) → Has runner s.runners → (q : Option QueuedJob) → chosen (queue s board) runner ≡ q → (variables : List JobVariable)
       → P (ask_job (Some runner) q variables s.next.attempt now seed)
@@ -166,18 +283,24 @@ asked Q fine refused None job pipeline query = refused M1 tt
 asked Q fine refused (Some project) job pipeline query =
     cond_both (project.id == query.project) (job_within job pipeline project.id) (Err M2) Q (λ _. within Q fine refused job pipeline project.id) (λ _. refused M2 tt)
 
-pub does : (s : State) (board : List BoardRow) (P : Plan → Type 0) → Each s board P → (request : Request) (now : ℕ) (seed : Seed) (plan : Plan) → Does s board request now seed plan → P plan
-does s board P each (AddProject name) now seed plan is = subst P (sym is) (projects s board P each name seed)
-does s board P each (AddRunner name) now seed plan is = subst P (sym is) (runners s board P each name seed)
-does s board P each (EnterPipeline p) now seed plan is = subst P (sym is) (pipelines s board P each p now (project_at s p.project) refl)
-does s board P each (AskJob token) now seed plan is = subst P (sym is) (asks s board P each token now seed (runner_with s token) refl)
-does s board P each (UpdateJob update) now seed plan is = subst P (sym is) (updates s board P each update now (attempt_at s update.attempt) refl)
-does s board P each (AppendTrace part) now seed plan is = subst P (sym is) (appends s board P each part now (attempt_at s part.attempt) refl)
-does s board P each (ShowJob query) now seed plan is =
+pub does : (s : State) (board : List BoardRow) (P : Plan → Type 0) (request : Request) → Each s board request P → (now : ℕ) (seed : Seed) (plan : Plan) → Does s board request now seed plan → P plan
+does s board P (AddProject name) each now seed plan is = subst P (sym is) (projects s board (AddProject name) P each name seed)
+does s board P (AddRunner name) each now seed plan is = subst P (sym is) (runners s board (AddRunner name) P each name seed)
+does s board P (SetFile new) each now seed plan is = of_file s P each.refused each.faulted new plan (λ project c has. each.file project new.text c has) is
+does s board P (SetVariable new) each now seed plan is = subst P (sym is) (of_variable s P each.refused each.faulted new (λ project. each.variable project new))
+does s board P (DeleteVariable query) each now seed plan is = subst P (sym is) (of_removal s P each.refused each.faulted query each.gone)
+does s board P (CreatePipeline new) each now seed plan is = of_creation s P each.refused each.faulted new now plan (each.pipeline new now refl) is
+does s board P (ShowPipeline query) each now seed plan is =
+    let n = query.pipeline in
+    subst P (sym is) (of_pipeline s P each.refused each.faulted query (jobs_of s n) (facts_of s n) (rows_of s board n) (λ p. each.pipeline_shown p (jobs_of s n) (facts_of s n) (rows_of s board n)))
+does s board P (AskJob token) each now seed plan is = subst P (sym is) (asks s board (AskJob token) P each token now seed (runner_with s token) refl)
+does s board P (UpdateJob update) each now seed plan is = subst P (sym is) (updates s board (UpdateJob update) P each update now (attempt_at s update.attempt) refl)
+does s board P (AppendTrace part) each now seed plan is = subst P (sym is) (appends s board (AppendTrace part) P each part now (attempt_at s part.attempt) refl)
+does s board P (ShowJob query) each now seed plan is =
     let job = job_at s query.job in
     let status = status_for board query.job in
     subst P (sym is) (asked (λ r. P (shown r status)) (λ j. each.shown j status) (λ c m. each.refused c m) (project_with s query.token) job (pipeline_of s job) query)
-does s board P each (ShowTrace query) now seed plan is =
+does s board P (ShowTrace query) each now seed plan is =
     let job = job_at s query.job in
     let pieces = pieces_in s (last_attempt s query.job) in
     subst P (sym is) (asked (λ r. P (traced r pieces)) (λ j. each.traced pieces) (λ c m. each.refused c m) (project_with s query.token) job (pipeline_of s job) query)
@@ -186,13 +309,16 @@ does s board P each (ShowTrace query) now seed plan is =
 abbrev Keeps : Plan → Type 0
 Keeps plan = IsRefusal (answer.Reply plan.0) → plan.1 ≡ []
 
-keeps : (s : State) (board : List BoardRow) → Each s board Keeps
-keeps s board = record {
+keeps : (s : State) (board : List BoardRow) (request : Request) → Each s board request Keeps
+keeps s board request = record {
   refused = λ c _ _. refl;
   faulted = λ d _. refl;
   project = λ name seed refused. absurd (false≢true refused);
   runner = λ name seed refused. absurd (false≢true refused);
-  pipeline = λ project p now found refused. absurd (false≢true refused);
+  file = λ project text c has refused. absurd (false≢true refused);
+  variable = λ project new refused. absurd (false≢true refused);
+  gone = λ v refused. absurd (false≢true refused);
+  pipeline = λ new now is project text laid rows asked has named file lays refused. absurd (false≢true refused);
   nothing = λ _. refl;
   granted = λ runner job q variables now seed h k m e refused. absurd (false≢true refused);
   turned_away = λ fault _. refl;
@@ -200,8 +326,9 @@ keeps s board = record {
   ended = λ a state has refused. absurd (false≢true refused);
   misplaced = λ fault _. refl;
   grown = λ a bytes now size has refused. absurd (false≢true refused);
-  shown = λ job status refused. absurd (false≢true refused);
-  traced = λ pieces refused. absurd (false≢true refused);
+  pipeline_shown = λ p jobs facts rows _. refl;
+  shown = λ job status _. refl;
+  traced = λ pieces _. refl;
 }
 
 -- a sweep that ends nothing changes nothing, and it refuses nothing
@@ -210,7 +337,7 @@ swept_keeps None refused = refl
 swept_keeps (Some l) refused = absurd refused
 
 refused_keeps : (s : State) (board : List BoardRow) (e : Event) (now : ℕ) (seed : Seed) (a : Answer) (changes : List RowChange) → Happens s board e now seed a changes → IsRefusal a → changes ≡ []
-refused_keeps s board (event.Request request) now seed (answer.Reply reply) changes is refused = does s board Keeps (keeps s board) request now seed (reply, changes) is refused
+refused_keeps s board (event.Request request) now seed (answer.Reply reply) changes is refused = does s board Keeps request (keeps s board request) now seed (reply, changes) is refused
 refused_keeps s board event.Sweep now seed (answer.Swept swept) changes is refused =
     let P : Swept × List RowChange → Type 0 = λ plan. IsRefusal (answer.Swept plan.0) → plan.1 ≡ [] in
     subst P (sym is) (swept_keeps (first_due (leases s) now)) refused
@@ -224,13 +351,16 @@ unchanged s t e now seed a step refused = step.state ∙ ap (λ cs. applied cs s
 abbrev IsStep : Plan → Type 0
 IsStep plan = outcome_of (answer.Reply plan.0) ≡ Stepped
 
-steps : (s : State) (board : List BoardRow) → Each s board IsStep
-steps s board = record {
+steps : (s : State) (board : List BoardRow) (request : Request) → Each s board request IsStep
+steps s board request = record {
   refused = stepped;
   faulted = λ d. refl;
   project = λ name seed. refl;
   runner = λ name seed. refl;
-  pipeline = λ project p now found. refl;
+  file = λ project text c has. refl;
+  variable = λ project new. refl;
+  gone = λ v. refl;
+  pipeline = λ new now is project text laid rows asked has named file lays. refl;
   nothing = refl;
   granted = λ runner job q variables now seed h k m e. refl;
   turned_away = away;
@@ -238,6 +368,7 @@ steps s board = record {
   ended = λ a state has. refl;
   misplaced = misplaces;
   grown = λ a bytes now size has. refl;
+  pipeline_shown = λ p jobs facts rows. refl;
   shown = λ job status. refl;
   traced = λ pieces. refl;
 } where
@@ -260,6 +391,7 @@ steps s board = record {
   stepped M7 m = refl
   stepped M8 m = refl
   stepped M9 m = refl
+  stepped M13 m = refl
   stepped M14 m = refl
   stepped M15 m = refl
   stepped M16 m = absurd m
@@ -278,7 +410,7 @@ swept_steps None = refl
 swept_steps (Some l) = refl
 
 all_step : (s : State) (board : List BoardRow) (e : Event) (now : ℕ) (seed : Seed) (a : Answer) (changes : List RowChange) → Happens s board e now seed a changes → outcome_of a ≡ Stepped
-all_step s board (event.Request request) now seed (answer.Reply reply) changes is = does s board IsStep (steps s board) request now seed (reply, changes) is
+all_step s board (event.Request request) now seed (answer.Reply reply) changes is = does s board IsStep request (steps s board request) now seed (reply, changes) is
 all_step s board event.Sweep now seed (answer.Swept swept) changes is = ap (λ plan. outcome_of (answer.Swept plan.0)) is ∙ swept_steps (first_due (leases s) now)
 all_step s board (event.Request request) now seed (answer.Swept swept) changes is = absurd is
 all_step s board event.Sweep now seed (answer.Reply reply) changes is = absurd is

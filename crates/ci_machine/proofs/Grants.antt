@@ -12,8 +12,19 @@ use Rattle.ci_machine.specs.Statuses.{attempts_of}
 use Rattle.ci_machine.specs.Leases.{is_live}
 use Rattle.ci_machine.specs.Step.{last_attempt}
 use Rattle.ci_machine.specs.History.{Past}
-use Rattle.ci_machine.specs.Laws.{grants, IsLeastEligible, WasGranted, OneLease}
+use Rattle.ci_machine.specs.Laws.{grants, IsLeastEligible, OneLease}
 use Rattle.ci_machine.proofs.Keyed.{Has, Rising, has_put, rising_put, rising_filter, has_filter, filter_has, last_greatest, count_one}
+
+-- just one line granted the attempt, to the least eligible job: as the law says, but for how the job came into its pipeline
+pub record WasGiven (h : List Past) (a : Attempt) : Type 0 where
+  pub line : Past
+  pub once : filter (grants a.id) h ≡ line ∷ []
+  pub runner : Runner
+  pub job : Job
+  pub its_runner : runner.id ≡ a.runner
+  pub its_job : job.id ≡ a.job
+  pub eligible : IsLeastEligible line.before runner job
+  pub asked : line.event ≡ event.Request (AskJob runner.token)
 
 -- what the attempts are, besides their traces
 pub record Grants (h : List Past) (s : State) : Type 0 where
@@ -22,7 +33,7 @@ pub record Grants (h : List Past) (s : State) : Type 0 where
   pub below : (a : Attempt) → Has a s.attempts → a.id < s.next.attempt
   -- a live attempt is the last of its job
   pub is_last : (a b : Attempt) → Has a s.attempts → Has b s.attempts → is_live a ≡ true → a.job ≡ b.job → b.id ≤ a.id
-  pub granted : (a : Attempt) → Has a s.attempts → WasGranted h a
+  pub granted : (a : Attempt) → Has a s.attempts → WasGiven h a
   -- no line grants a number that is still to come
   pub fresh : (n : ℕ) → s.next.attempt ≤ n → filter (grants n) h ≡ []
 
@@ -54,7 +65,7 @@ grants_empty = record {
 }
 
 -- a line that grants another number
-longer : (p : Past) (h : List Past) (a : Attempt) → grants a.id p ≡ false → WasGranted h a → WasGranted (p ∷ h) a
+longer : (p : Past) (h : List Past) (a : Attempt) → grants a.id p ≡ false → WasGiven h a → WasGiven (p ∷ h) a
 longer p h a isnt w = record {
   line = w.line;
   once = cond-false (grants a.id p) (p ∷ filter (grants a.id) h) (filter (grants a.id) h) isnt ∙ w.once;
@@ -100,7 +111,7 @@ alters h s t p a x i has same_id same_job same_runner live isnt e f r =
           (λ w. i.is_last b c m w lv j) (cases c l))
           (cases b k);
       granted = λ b k. longer p h b (isnt b.id) (⊎_elim
-          (λ q. subst (WasGranted h) (sym q) (let w = i.granted a has in record {
+          (λ q. subst (WasGiven h) (sym q) (let w = i.granted a has in record {
             line = w.line;
             once = subst (λ n. filter (grants n) h ≡ w.line ∷ []) (sym same_id) w.once;
             runner = w.runner;
@@ -135,7 +146,7 @@ gives h s t p x i at_next free grant_of runner job its_runner its_job eligible a
           (λ w. i.is_last b c m w lv j) (cases c l))
           (cases b k);
       granted = λ b k. ⊎_elim
-          (λ q. subst (WasGranted (p ∷ h)) (sym q) (record {
+          (λ q. subst (WasGiven (p ∷ h)) (sym q) (record {
             line = p;
             once = cond-true (grants x.id p) (p ∷ filter (grants x.id) h) (filter (grants x.id) h) (grant_of x.id ∙ eq-eqb x.id x.id refl)
                 ∙ ap (λ l. p ∷ l) (i.fresh x.id (let z : s.next.attempt ≤ x.id = omega arith in z));

@@ -1,5 +1,5 @@
 -- What stays, which records others name, and what sweeps end, in every state that a history leads to; and all its laws.
-use Rattle.std.specs.Prelude.{◌≡◌, ◌⊎◌, ℕ, ◌+◌, ◌<◌, ◌≤◌, Bool, true, false, ◌==◌, ◌&&◌, not, max, List, [], ◌∷◌, ◌++◌, length, map, filter, find, Option, Some, None, Contains}
+use Rattle.std.specs.Prelude.{◌≡◌, ◌⊎◌, ℕ, ◌+◌, ◌<◌, ◌≤◌, Bool, true, false, ◌==◌, ◌&&◌, not, max, List, [], ◌∷◌, ◌++◌, length, map, filter, find, Option, Some, None, Ok, Contains}
 use Rattle.std.specs.List.{flat_map}
 use Rattle.std.specs.Ordering.{nat_cmp, is_eq, is_lt}
 use Rattle.std.specs.declared.cmp.Ordering.{Ordering}
@@ -11,34 +11,41 @@ use Rattle.ci_machine.specs.declared.records.Project.{Project}
 use Rattle.ci_machine.specs.declared.records.Runner.{Runner}
 use Rattle.ci_machine.specs.declared.records.Pipeline.{Pipeline}
 use Rattle.ci_machine.specs.declared.records.Job.{Job}
-use Rattle.ci_machine.specs.declared.records.JobVariable.{JobVariable}
+use Rattle.ci_machine.specs.declared.records.Variable.{Variable}
 use Rattle.ci_machine.specs.declared.records.Attempt.{Attempt}
 use Rattle.ci_machine.specs.declared.lease.Lease.{Lease}
 use Rattle.ci_machine.specs.declared.change.RowChange.{RowChange}
 use Rattle.ci_machine.specs.declared.change.RowChange.TheVariants.{Add, Put}
 use Rattle.ci_machine.specs.declared.change.Record.TheVariants as row
-use Rattle.ci_machine.specs.declared.request.NewJob.{NewJob}
 use Rattle.ci_machine.specs.declared.request.NewPipeline.{NewPipeline}
+use Rattle.ci_machine.specs.declared.request.Request.{Request}
 use Rattle.ci_machine.specs.declared.request.Event.{Event}
 use Rattle.ci_machine.specs.declared.request.Event.TheVariants as event
 use Rattle.ci_machine.specs.declared.request.Seed.{Seed}
 use Rattle.ci_machine.specs.declared.reply.Answer.{Answer}
 use Rattle.ci_machine.specs.declared.reply.Answer.TheVariants as answer
 use Rattle.ci_machine.specs.declared.reply.Swept.{Swept}
-use Rattle.ci_machine.specs.State.{State, empty, applied, placed, put, others, pipeline_cmp, job_cmp, job_variable_cmp, attempt_cmp}
+use Rattle.ci_machine.specs.State.{State, empty, applied, placed, put, others, variable_cmp, pipeline_cmp, job_cmp, job_variable_cmp, need_cmp, attempt_cmp}
 use Rattle.ci_machine.specs.Statuses.{attempts_of, AreBoard}
 use Rattle.ci_machine.specs.Leases.{is_live, cause_of, is_over, first_due}
 use Rattle.ci_machine.specs.Plans.{Plan}
-use Rattle.ci_machine.specs.Pipelines.{new_job, new_jobs, new_pipeline, predefined, job_changes, entered}
+use Rattle.ci_graph.specs.Pairs.{AreWithin}
+use Rattle.ci_layout.specs.Inclusion.{Given, IncludedJob}
+use Rattle.ci_layout.specs.Layout.{lineup, pairs}
+use Rattle.ci_layout.proofs.Within.{pairs_within}
+use Rattle.ci_machine.specs.Pipelines.{Layout, IsLaidOut, new_jobs, creation, need_of}
 use Rattle.ci_machine.specs.Sweeps.{sweep}
 use Rattle.ci_machine.specs.Traces.{grown as traces_grown}
-use Rattle.ci_machine.specs.Step.{Happens, project_at, lease_of, leases, live_attempts}
+use Rattle.ci_machine.specs.Step.{Happens, lease_of, leases, live_attempts}
 use Rattle.ci_machine.specs.History.{Past, Leads}
-use Rattle.ci_machine.specs.Laws.{WasGranted, IsTraced, EndsStay, Stay, project_for_good, runner_for_good, job_for_good, attempt_for_good, Stays, IsLinked, is_due, SweepsLeast, IsSweptBy, is_grant, GivesInOrder, Laws}
-use Rattle.ci_machine.proofs.Keyed.{Has, Rising, has_put, put_has, same, rising_filter, filter_has, has_filter, has_find, least_find, find-map, one_at, All-from_has, contains_from_has, Below, Named, has_map, contains_named}
+use Rattle.ci_machine.specs.Laws.{grants, WasGranted, IsTraced, EndsStay, Stay, project_for_good, runner_for_good, job_for_good, attempt_for_good, Stays, IsLinked, is_due, SweepsLeast, IsSweptBy, is_grant, GivesInOrder, Laws}
+use Rattle.ci_machine.proofs.Keyed.{Has, Rising, has_put, put_has, same, rising_from, rising_put, has_from_all, rising_filter, filter_has, has_filter, has_find, least_find, find-map, one_at, All-from_has, contains_from_has, has_from_contains, Below, Named, has_map, contains_named}
 use Rattle.ci_machine.proofs.Counts.{passing_new, passing_put}
-use Rattle.ci_machine.proofs.EachPlan.{Each, does}
-use Rattle.ci_machine.proofs.Grants.{one_lease}
+use Rattle.ci_machine.proofs.Behind.{in_either, has_left, has_right, put_all, all_behind, has_all, rising_ordered, nat_less}
+use Rattle.ci_machine.proofs.Created.{created_state, after_creation, new_rise, new_length, IsNew, new_are, new_numbered, needs_are, laid_is}
+use Rattle.ci_machine.proofs.Included.{was_included}
+use Rattle.ci_machine.proofs.EachPlan.{Each, does, given_in}
+use Rattle.ci_machine.proofs.Grants.{WasGiven, one_lease}
 use Rattle.ci_machine.proofs.Reached.{reached}
 use Rattle.ci_machine.proofs.Variables.{Ordered, changes_ordered, gives_in_order}
 
@@ -127,6 +134,7 @@ later_self s = record {
 
 -- numbers that are still to come are new, and the records that others name are there
 pub record Linked (s : State) : Type 0 where
+  pub projects_rise : Rising (λ (p : Project). p.id) 0 s.projects
   pub project_below : Below (λ (p : Project). p.id) s.next.project s.projects
   pub runner_below : Below (λ (r : Runner). r.id) s.next.runner s.runners
   pub pipeline_below : Below (λ (p : Pipeline). p.id) s.next.pipeline s.pipelines
@@ -145,6 +153,7 @@ pub record Linked (s : State) : Type 0 where
 -- the next state: what was there is there, and its new records are linked
 record Next (s t : State) : Type 0 where
   later : Later s t
+  projects_rise : Rising (λ (p : Project). p.id) 0 t.projects
   project_below : Below (λ (p : Project). p.id) t.next.project t.projects
   runner_below : Below (λ (r : Runner). r.id) t.next.runner t.runners
   pipeline_below : Below (λ (p : Pipeline). p.id) t.next.pipeline t.pipelines
@@ -159,6 +168,7 @@ record Next (s t : State) : Type 0 where
 
 linked_on : (s t : State) → Linked s → Next s t → Linked t
 linked_on s t i n = record {
+  projects_rise = n.projects_rise;
   project_below = n.project_below;
   runner_below = n.runner_below;
   pipeline_below = n.pipeline_below;
@@ -178,6 +188,7 @@ linked_on s t i n = record {
 rests : (s : State) → Linked s → Next s s
 rests s i = record {
   later = later_self s;
+  projects_rise = i.projects_rise;
   project_below = i.project_below;
   runner_below = i.runner_below;
   pipeline_below = i.pipeline_below;
@@ -201,6 +212,7 @@ alters s x a i r has good = record {
     jobs = kept job_for_good s.jobs s.jobs refl;
     attempts = kept_put (λ (b : Attempt). b.id) attempt_for_good x a s.attempts r has (ap (λ (b : Attempt). b.id) good) good;
   };
+  projects_rise = i.projects_rise;
   project_below = i.project_below;
   runner_below = i.runner_below;
   pipeline_below = i.pipeline_below;
@@ -217,93 +229,113 @@ alters s x a i r has good = record {
   needs = λ w k. inl k;
 }
 
--- ---- the jobs of a new pipeline
+-- ---- a project's file
 
--- the state but for variables and pieces
-abbrev main : State → State
-main s = record s { job_variables = []; pieces = [] }
-
-variables_leave : (vs : List JobVariable) (s : State) → main (applied (map (λ v. Add (row.JobVariable v)) vs) s) ≡ main s
-variables_leave [] s = refl
-variables_leave (v ∷ vs) s = variables_leave vs (applied (Add (row.JobVariable v) ∷ []) s)
-
-applied-append : (xs ys : List RowChange) (s : State) → applied (xs ++ ys) s ≡ applied ys (applied xs s)
-applied-append [] ys s = refl
-applied-append (x ∷ xs) ys s = applied-append xs ys _
-
--- what rows of jobs and of their variables leave
-record Adds (s t : State) (pipeline first n : ℕ) : Type 0 where
-  others : record (main t) { jobs = [] } ≡ record (main s) { jobs = [] }
-  kept : Kept job_for_good s.jobs t.jobs
-  new : (j : Job) → Has j t.jobs → Has j s.jobs ⊎ ((j.pipeline ≡ pipeline) × ((first ≤ j.id) × (j.set_aside ≡ 0)))
-  below : Below (λ (j : Job). j.id) n t.jobs
-
-adds : (p : Pipeline) (stage : List ℕ) (id first position : ℕ) (js : List NewJob) (s : State) → Below (λ (j : Job). j.id) (first + position) s.jobs
-    → Adds s (applied (flat_map (job_changes p) (new_jobs stage id first position js)) s) id first (first + (position + length js))
-adds p stage id first position [] s b = record {
-  others = refl;
-  kept = kept job_for_good s.jobs s.jobs refl;
-  new = λ j k. inl k;
-  below = λ j k. let z : j.id < first + position = b j k in omega arith;
-}
-adds p stage id first position (x ∷ xs) s b =
-    let j = new_job stage id first position x in
-    let rest = flat_map (job_changes p) (new_jobs stage id first (position + 1) xs) in
-    let one = applied (Add (row.Job j) ∷ []) s in
-    let m = applied (job_changes p j) s in
-    let left : main m ≡ main one = variables_leave (predefined p j) one in
-    let jobs : m.jobs ≡ put job_cmp j s.jobs = ap (λ (w : State). w.jobs) left in
-    let ids = λ (w : Job). w.id in
-    let lower : Below ids (first + (position + 1)) m.jobs
-    = subst (Below ids (first + (position + 1))) (sym jobs) (below_put ids j (first + position) (first + (position + 1)) s.jobs b (omega arith) (omega arith)) in
-    let a = adds p stage id first (position + 1) xs m lower in
-    let here : Kept job_for_good s.jobs m.jobs = subst (Kept job_for_good s.jobs) (sym jobs) (kept_new ids job_for_good j (first + position) s.jobs b (omega arith)) in
-    let t = applied rest m in
-    let made : Adds s t id first (first + (position + length (x ∷ xs))) = record {
-      others = a.others ∙ ap (λ (w : State). record w { jobs = [] }) left;
-      kept = kept_through job_for_good s.jobs m.jobs t.jobs here a.kept;
-      new = λ w k. ⊎_elim (λ l. ⊎_elim (λ e. inr (ap (λ (v : Job). v.pipeline) e, (let z : w.id ≡ first + position = ap ids e in omega arith, ap (λ (v : Job). v.set_aside) e))) (λ h. inl h) (has_put job_cmp j w s.jobs (subst (Has w) jobs l))) (λ e. inr e) (a.new w k);
-      below = λ w k. let z : w.id < first + ((position + 1) + length xs) = a.below w k in omega arith;
-    } in
-    subst (λ w. Adds s w id first (first + (position + length (x ∷ xs)))) (sym (applied-append (job_changes p j) rest s)) made
-
-enters : (s : State) (project : Project) (p : NewPipeline) (now : ℕ) → Linked s → project_at s p.project ≡ Some project
-    → Next s (applied (entered s.next.pipeline s.next.job p now).1 s)
-enters s project p now i found =
-    let pipeline = new_pipeline s.next.pipeline p now in
-    let pids = λ (w : Pipeline). w.id in
-    let m = applied (Add (row.Pipeline pipeline) ∷ []) s in
-    let start = record m { next = record s.next { pipeline = s.next.pipeline + 1; job = s.next.job + length p.jobs } } in
-    let t = applied (flat_map (job_changes pipeline) (new_jobs p.stage s.next.pipeline s.next.job 0 p.jobs)) start in
-    let a = adds pipeline p.stage s.next.pipeline s.next.job 0 p.jobs start (λ j k. let z : j.id < s.next.job = i.job_below j k in omega arith) in
-    let projects : t.projects ≡ s.projects = ap (λ (w : State). w.projects) a.others in
-    let runners : t.runners ≡ s.runners = ap (λ (w : State). w.runners) a.others in
-    let attempts : t.attempts ≡ s.attempts = ap (λ (w : State). w.attempts) a.others in
-    let pipelines : t.pipelines ≡ m.pipelines = ap (λ (w : State). w.pipelines) a.others in
-    let next : t.next ≡ start.next = ap (λ (w : State). w.next) a.others in
-    let its = has_find (λ (w : Project). w.id == p.project) project s.projects found in
-    let is_project : Named (λ (w : Project). w.id) p.project t.projects = (project, (subst (Has project) (sym projects) its.0, eqb-true project.id p.project its.1)) in
-    let is_pipeline : Named pids s.next.pipeline t.pipelines = (pipeline, (subst (Has pipeline) (sym pipelines) (has_self pipeline_cmp pipeline (others pipeline_cmp pipeline s.pipelines)), refl)) in
+-- a project in place of one of its number, with another file
+files : (s : State) (project : Project) (text : Option (List ℕ)) → Linked s → Has project s.projects → Next s (applied (Put (row.Project (record project { file = text })) ∷ []) s)
+files s project text i has =
+    let ids = λ (p : Project). p.id in
+    let x = record project { file = text } in
+    let n = rests s i in
     record {
       later = record {
-        projects = kept project_for_good s.projects t.projects projects;
-        runners = kept runner_for_good s.runners t.runners runners;
-        pipelines = subst (Kept (λ (w : Pipeline). w) s.pipelines) (sym pipelines) (kept_new pids (λ w. w) pipeline s.next.pipeline s.pipelines i.pipeline_below (omega arith));
-        jobs = a.kept;
-        attempts = kept attempt_for_good s.attempts t.attempts attempts;
+        projects = kept_put ids project_for_good x project s.projects i.projects_rise has refl refl;
+        runners = n.later.runners;
+        pipelines = n.later.pipelines;
+        jobs = n.later.jobs;
+        attempts = n.later.attempts;
       };
-      project_below = λ w k. subst (λ n. w.id < n.project) (sym next) (i.project_below w (subst (Has w) projects k));
-      runner_below = λ w k. subst (λ n. w.id < n.runner) (sym next) (i.runner_below w (subst (Has w) runners k));
-      pipeline_below = λ w k. subst (λ n. w.id < n.pipeline) (sym next) (below_put pids pipeline s.next.pipeline (s.next.pipeline + 1) s.pipelines i.pipeline_below (omega arith) (omega arith) w (subst (Has w) pipelines k));
-      job_below = λ w k. subst (λ n. w.id < n.job) (sym next) (let z : w.id < s.next.job + (0 + length p.jobs) = a.below w k in omega arith);
-      next_job = subst (λ n. s.next.job ≤ n.job) (sym next) (omega arith);
-      counts = λ n. subst (λ l. length (attempts_of s n) ≤ length (filter (λ (w : Attempt). w.job == n) l)) (sym attempts) (omega arith);
-      attempts = λ w k. inl (subst (Has w) attempts k);
-      jobs = λ w k. ⊎_elim (λ l. inl l) (λ e. inr (subst (λ n. Named pids n t.pipelines) (sym e.0) is_pipeline, (e.1.0, let none = e.1.1 in omega arith))) (a.new w k);
+      projects_rise = rising_put ids x 0 s.projects i.projects_rise (omega arith);
+      project_below = below_put ids x s.next.project s.next.project s.projects i.project_below (omega arith) (i.project_below project has);
+      runner_below = n.runner_below;
+      pipeline_below = n.pipeline_below;
+      job_below = n.job_below;
+      next_job = n.next_job;
+      counts = n.counts;
+      attempts = n.attempts;
+      jobs = n.jobs;
+      pipelines = λ p k. inl k;
+      needs = n.needs;
+    }
+
+-- variables are put, or go
+variables : (s : State) (vs : List Variable) → Linked s → Next s (record s { variables = vs })
+variables s vs i =
+    let n = rests s i in
+    record {
+      later = record { projects = n.later.projects; runners = n.later.runners; pipelines = n.later.pipelines; jobs = n.later.jobs; attempts = n.later.attempts };
+      projects_rise = n.projects_rise;
+      project_below = n.project_below;
+      runner_below = n.runner_below;
+      pipeline_below = n.pipeline_below;
+      job_below = n.job_below;
+      next_job = n.next_job;
+      counts = n.counts;
+      attempts = n.attempts;
+      jobs = n.jobs;
+      pipelines = n.pipelines;
+      needs = n.needs;
+    }
+
+-- ---- a new pipeline
+
+-- its jobs come behind all others
+pub jobs_behind : (s : State) (is : List IncludedJob) → Below (λ (j : Job). j.id) s.next.job s.jobs
+    → put_all job_cmp (new_jobs s.next.pipeline s.next.job 0 is) s.jobs ≡ s.jobs ++ new_jobs s.next.pipeline s.next.job 0 is
+jobs_behind s is below =
+    let js = new_jobs s.next.pipeline s.next.job 0 is in
+    let rise = new_rise s.next.pipeline s.next.job 0 is in
+    all_behind job_cmp js s.jobs (rising_ordered (λ (j : Job). j.id) (s.next.job + 0) js rise)
+    (λ r k y m. nat_less y.id r.id (let a : y.id < s.next.job = below y m in let b : s.next.job + 0 ≤ r.id = rising_from (λ (j : Job). j.id) r (s.next.job + 0) js rise k in omega arith))
+
+enters : (s : State) (new : NewPipeline) (project : Project) (given : Given) (now : ℕ) (text : List ℕ) (laid : Layout) → Linked s → Has project s.projects → project.id ≡ new.project → IsLaidOut text given (Ok laid)
+    → Next s (created_state s.next.job (creation s.next.pipeline s.next.job new given now laid) s)
+enters s new project given now text laid i has named lays =
+    let made = creation s.next.pipeline s.next.job new given now laid in
+    let t = created_state s.next.job made s in
+    let is = laid.plan.jobs in
+    let count = length is in
+    let pids = λ (w : Pipeline). w.id in
+    let ids = λ (w : Job). w.id in
+    let long : length made.jobs ≡ count = new_length s.next.pipeline s.next.job 0 is in
+    let jobs : t.jobs ≡ s.jobs ++ made.jobs = jobs_behind s is i.job_below in
+    let cases : (j : Job) → Has j t.jobs → Has j s.jobs ⊎ IsNew s.next.pipeline s.next.job (0 + count) is j
+    = λ j k. ⊎_elim (λ m. inl m) (λ m. inr (new_are s.next.pipeline s.next.job 0 is j m)) (in_either j s.jobs made.jobs (subst (Has j) jobs k)) in
+    let is_pipeline : Named pids s.next.pipeline t.pipelines = (made.pipeline, (has_self pipeline_cmp made.pipeline (others pipeline_cmp made.pipeline s.pipelines), refl)) in
+    let numbered : (k : ℕ) → k < count → Named ids (s.next.job + k) t.jobs
+    = λ k l. let w = new_numbered s.next.pipeline s.next.job 0 is k (omega arith) (omega arith) in (w.0, (subst (Has w.0) (sym jobs) (has_right w.0 s.jobs made.jobs w.1.0), w.1.1)) in
+    let is_plan = (laid_is text given (Ok laid) lays).1 in
+    let within : (p : ℕ × ℕ) → Has p laid.plan.pairs → (p.0 < count) × (p.1 < count)
+    = λ p k. has_from_all (λ (q : ℕ × ℕ). (q.0 < count) × (q.1 < count)) p laid.plan.pairs
+        (subst (λ (ps : List (ℕ × ℕ)). AreWithin count ps) (sym is_plan.1)
+        (subst (λ (js : List IncludedJob). AreWithin (length js) (pairs laid.config.stages (lineup given laid.config))) (sym is_plan.0) (pairs_within laid.config.stages (lineup given laid.config)))) k in
+    record {
+      later = record {
+        projects = kept project_for_good s.projects s.projects refl;
+        runners = kept runner_for_good s.runners s.runners refl;
+        pipelines = kept_new pids (λ w. w) made.pipeline s.next.pipeline s.pipelines i.pipeline_below (omega arith);
+        jobs = λ x k. (x, (subst (Has x) (sym jobs) (has_left x s.jobs made.jobs k), refl));
+        attempts = kept attempt_for_good s.attempts s.attempts refl;
+      };
+      projects_rise = i.projects_rise;
+      project_below = i.project_below;
+      runner_below = i.runner_below;
+      pipeline_below = below_put pids made.pipeline s.next.pipeline (s.next.pipeline + 1) s.pipelines i.pipeline_below (omega arith) (omega arith);
+      job_below = λ w k. ⊎_elim (λ m. let a : w.id < s.next.job = i.job_below w m in omega arith) (λ e. let b = e.below in omega arith) (cases w k);
+      next_job = omega arith;
+      counts = λ n. omega arith;
+      attempts = λ a k. inl k;
+      jobs = λ w k. ⊎_elim (λ m. inl m)
+          (λ e. inr (subst (λ n. Named pids n t.pipelines) (sym (ap (λ (v : Job). v.pipeline) e.job)) is_pipeline, (e.above, let none : w.set_aside ≡ 0 = ap (λ (v : Job). v.set_aside) e.job in omega arith))) (cases w k);
       pipelines = λ w k. ⊎_elim
-          (λ e. inr (subst (λ n. Named (λ (v : Project). v.id) n t.projects) (sym (ap (λ (v : Pipeline). v.project) e)) is_project))
-          (λ l. inl l) (has_put pipeline_cmp pipeline w s.pipelines (subst (Has w) pipelines k));
-      needs = λ w k. inl (subst (Has w) (ap (λ (v : State). v.needs) a.others) k);
+          (λ e. inr (project, (has, named ∙ sym (ap (λ (v : Pipeline). v.project) e))))
+          (λ l. inl l) (has_put pipeline_cmp made.pipeline w s.pipelines k);
+      needs = λ w k. ⊎_elim (λ m. inl m)
+          (λ m. ⊎_elim (λ e. absurd e)
+          (λ q. let of = within q.0 q.1.0 in
+          inr (subst (λ n. Named ids n t.jobs) (sym (ap (λ (v : Need). v.job) q.1.1)) (numbered q.0.1 of.1), subst (λ n. Named ids n t.jobs) (sym (ap (λ (v : Need). v.pred) q.1.1)) (numbered q.0.0 of.0)))
+          (needs_are s.next.job laid.plan.pairs [] w m))
+          (has_all need_cmp made.needs s.needs w k);
     }
 
 -- ---- each step
@@ -311,8 +343,8 @@ enters s project p now i found =
 abbrev Goes : State → Plan → Type 0
 Goes s plan = Next s (applied plan.1 s)
 
-goes : (s : State) (board : List BoardRow) → Linked s → Rising (λ (a : Attempt). a.id) 0 s.attempts → Below (λ (a : Attempt). a.id) s.next.attempt s.attempts → Each s board (Goes s)
-goes s board i r b = record {
+goes : (s : State) (board : List BoardRow) (request : Request) → Linked s → Rising (λ (a : Attempt). a.id) 0 s.attempts → Below (λ (a : Attempt). a.id) s.next.attempt s.attempts → Each s board request (Goes s)
+goes s board request i r b = record {
   refused = λ c m. rests s i;
   faulted = λ d. rests s i;
   project = λ name seed. record {
@@ -323,6 +355,7 @@ goes s board i r b = record {
       jobs = kept job_for_good s.jobs s.jobs refl;
       attempts = kept attempt_for_good s.attempts s.attempts refl;
     };
+    projects_rise = rising_put (λ (w : Project). w.id) _ 0 s.projects i.projects_rise (omega arith);
     project_below = below_put (λ (w : Project). w.id) _ s.next.project (s.next.project + 1) s.projects i.project_below (omega arith) (omega arith);
     runner_below = i.runner_below;
     pipeline_below = i.pipeline_below;
@@ -342,6 +375,7 @@ goes s board i r b = record {
       jobs = kept job_for_good s.jobs s.jobs refl;
       attempts = kept attempt_for_good s.attempts s.attempts refl;
     };
+    projects_rise = i.projects_rise;
     project_below = i.project_below;
     runner_below = below_put (λ (w : Runner). w.id) _ s.next.runner (s.next.runner + 1) s.runners i.runner_below (omega arith) (omega arith);
     pipeline_below = i.pipeline_below;
@@ -353,7 +387,11 @@ goes s board i r b = record {
     pipelines = λ p k. inl k;
     needs = λ w k. inl k;
   };
-  pipeline = λ project p now found. enters s project p now i found;
+  file = λ project text c has. files s project (Some text) i has;
+  variable = λ project new. variables s (put variable_cmp (record { project = project.id; key = new.key; value = new.value }) s.variables) i;
+  gone = λ v. variables s _ i;
+  pipeline = λ new now is project text laid rows asked has named file lays.
+      subst (Next s) (sym (after_creation s.next.job (creation s.next.pipeline s.next.job new (given_in s new) now laid) s)) (enters s new project (given_in s new) now text laid i has named lays);
   nothing = rests s i;
   granted = λ runner job q variables now seed has_runner has_job pending its_job. record {
     later = record {
@@ -363,6 +401,7 @@ goes s board i r b = record {
       jobs = kept job_for_good s.jobs s.jobs refl;
       attempts = kept_new (λ (w : Attempt). w.id) attempt_for_good _ s.next.attempt s.attempts b (omega arith);
     };
+    projects_rise = i.projects_rise;
     project_below = i.project_below;
     runner_below = i.runner_below;
     pipeline_below = i.pipeline_below;
@@ -383,6 +422,7 @@ goes s board i r b = record {
       cond_both (is_live a) (Put (row.Attempt x) ∷ []) [] (λ cs. Next s (applied cs s)) (λ _. alters s x a i r has refl) (λ _. rests s i);
   misplaced = λ fault. rests s i;
   grown = λ a bytes now size has. grows a bytes now size has;
+  pipeline_shown = λ p jobs facts rows. rests s i;
   shown = λ job status. rests s i;
   traced = λ pieces. rests s i;
 } where
@@ -391,6 +431,7 @@ goes s board i r b = record {
       let n = alters s (record a { seen = max a.seen now; pieces = a.pieces + 1; size = size }) a i r has refl in
       record {
         later = record { projects = n.later.projects; runners = n.later.runners; pipelines = n.later.pipelines; jobs = n.later.jobs; attempts = n.later.attempts };
+        projects_rise = n.projects_rise;
         project_below = n.project_below;
         runner_below = n.runner_below;
         pipeline_below = n.pipeline_below;
@@ -446,7 +487,7 @@ swept_least s now r (Some l) found =
 
 next : (s : State) (board : List BoardRow) (e : Event) (now : ℕ) (seed : Seed) (a : Answer) (changes : List RowChange) → Linked s → Rising (λ (w : Attempt). w.id) 0 s.attempts → Below (λ (w : Attempt). w.id) s.next.attempt s.attempts
     → Happens s board e now seed a changes → Next s (applied changes s)
-next s board (event.Request request) now seed (answer.Reply reply) changes i r b is = does s board (Goes s) (goes s board i r b) request now seed (reply, changes) is
+next s board (event.Request request) now seed (answer.Reply reply) changes i r b is = does s board (Goes s) request (goes s board request i r b) now seed (reply, changes) is
 next s board event.Sweep now seed (answer.Swept swept) changes i r b is =
     let P : Swept × List RowChange → Type 0 = λ f. Next s (applied f.1 s) in
     subst P (sym is) (swept_next s now i r (first_due (leases s) now) refl)
@@ -469,6 +510,7 @@ pub record Held (h : List Past) (s : State) : Type 0 where
 
 linked_empty : Linked empty
 linked_empty = record {
+  projects_rise = tt;
   project_below = λ w k. absurd k;
   runner_below = λ w k. absurd k;
   pipeline_below = λ w k. absurd k;
@@ -537,6 +579,22 @@ settled : (h : List Past) (s : State) → Leads h s → (board : List BoardRow) 
 settled [] s l = subst (λ (w : State). (board : List BoardRow) × AreBoard w board) (sym l) ([], no_rows)
 settled (p ∷ h) s l = (l.1.after, l.1.are_after)
 
+-- each attempt was granted to the least eligible job, which its rules had included
+granted : (h : List Past) (s : State) → Leads h s → (a : Attempt) → WasGiven h a → WasGranted h a
+granted h s leads a w = record {
+  line = w.line;
+  once = w.once;
+  runner = w.runner;
+  job = w.job;
+  its_runner = w.its_runner;
+  its_job = w.its_job;
+  eligible = w.eligible;
+  asked = w.asked;
+  was_included = was_included h s leads w.line
+      (has_filter (grants a.id) w.line h (subst (Has w.line) (sym w.once) (inl refl))).0
+      w.job (has_from_contains w.job w.line.before.jobs w.eligible.is_job);
+}
+
 -- all the laws
 pub laws : (h : List Past) (s : State) → Leads h s → Laws h s
 laws h s leads =
@@ -544,7 +602,7 @@ laws h s leads =
     let held = held h s leads in
     record {
       one_lease = one_lease h s i.grants;
-      was_granted = All-from_has (WasGranted h) s.attempts i.grants.granted;
+      was_granted = All-from_has (WasGranted h) s.attempts (λ a k. granted h s leads a (i.grants.granted a k));
       traced = All-from_has (IsTraced h s) s.attempts i.traces.traced;
       ends_stay = All-from_has (λ (p : Past). EndsStay p.before s) h (λ p k. All-from_has (λ (a : Attempt). is_live a ≡ false → Contains s.attempts a) p.before.attempts (λ a m l. contains_from_has a s.attempts (i.ends p k a m l)));
       stays = All-from_has (λ (p : Past). Stays p.before s) h (λ p k. stays_from p.before s (held.stays p k));

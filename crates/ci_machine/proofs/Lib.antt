@@ -8,8 +8,11 @@ pub mod Pending
 pub mod OneJob
 pub mod Traces
 pub mod Ends
-pub mod Reached
 pub mod Variables
+pub mod Behind
+pub mod Created
+pub mod Reached
+pub mod Included
 pub mod Held
 pub mod Sound
 pub mod Numbers

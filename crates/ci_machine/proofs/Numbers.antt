@@ -37,6 +37,7 @@ need_total = then_total (on_total (λ (w : Need). w.job) nat_cmp_total) (on_tota
 
 recorded : (r : Record) (s : State) → Ordered need_cmp s.needs → Ordered need_cmp (with_record r s).needs
 recorded (row.Project p) s o = o
+recorded (row.Variable v) s o = o
 recorded (row.Runner p) s o = o
 recorded (row.Pipeline p) s o = o
 recorded (row.Job p) s o = o
@@ -47,6 +48,7 @@ recorded (row.Piece p) s o = o
 
 removed : (k : Key) (s : State) → Ordered need_cmp s.needs → Ordered need_cmp (without_record k s).needs
 removed (key.Project n) s o = o
+removed (key.Variable n name) s o = o
 removed (key.Runner n) s o = o
 removed (key.Pipeline n) s o = o
 removed (key.Job n) s o = o

@@ -25,7 +25,11 @@ use Rattle.ci_machine.specs.declared.lease.PieceFault.TheVariants.{Unleased, Wro
 use Rattle.ci_machine.specs.declared.change.RowChange.{RowChange}
 use Rattle.ci_machine.specs.declared.change.RowChange.TheVariants.{Add, Put}
 use Rattle.ci_machine.specs.declared.change.Record.TheVariants as row
+use Rattle.ci_machine.specs.declared.request.NewFile.{NewFile}
+use Rattle.ci_machine.specs.declared.request.NewVariable.{NewVariable}
+use Rattle.ci_machine.specs.declared.request.VariableQuery.{VariableQuery}
 use Rattle.ci_machine.specs.declared.request.NewPipeline.{NewPipeline}
+use Rattle.ci_machine.specs.declared.request.PipelineQuery.{PipelineQuery}
 use Rattle.ci_machine.specs.declared.request.Report.{Report}
 use Rattle.ci_machine.specs.declared.request.Report.TheVariants as report
 use Rattle.ci_machine.specs.declared.request.JobUpdate.{JobUpdate}
@@ -33,39 +37,45 @@ use Rattle.ci_machine.specs.declared.request.TracePart.{TracePart}
 use Rattle.ci_machine.specs.declared.request.Event.{Event}
 use Rattle.ci_machine.specs.declared.request.Event.TheVariants as event
 use Rattle.ci_machine.specs.declared.request.Request.{Request}
-use Rattle.ci_machine.specs.declared.request.Request.TheVariants.{AddProject, AddRunner, EnterPipeline, AskJob, UpdateJob, AppendTrace, ShowJob, ShowTrace}
+use Rattle.ci_machine.specs.declared.request.Request.TheVariants.{AddProject, AddRunner, SetFile, SetVariable, DeleteVariable, CreatePipeline, ShowPipeline, AskJob, UpdateJob, AppendTrace, ShowJob, ShowTrace}
 use Rattle.ci_machine.specs.declared.request.Seed.{Seed}
 use Rattle.ci_machine.specs.declared.reply.Code.{Code}
 use Rattle.ci_machine.specs.declared.reply.Code.TheVariants.{M5, M15}
+use Rattle.ci_machine.specs.declared.reply.Detail.{Detail}
 use Rattle.ci_machine.specs.declared.reply.Detail.TheVariants as detail
-use Rattle.ci_machine.specs.declared.reply.FaultCode.TheVariants.{G, K}
+use Rattle.ci_machine.specs.declared.reply.FaultCode.TheVariants.{K}
 use Rattle.ci_machine.specs.declared.reply.Answer.{Answer}
 use Rattle.ci_machine.specs.declared.reply.Answer.TheVariants as answer
 use Rattle.ci_machine.specs.declared.reply.Swept.{Swept}
 use Rattle.ci_values.specs.Names.{is_name}
-use Rattle.ci_machine.specs.State.{State, applied, attempt_cmp}
-use Rattle.ci_machine.specs.Statuses.{status_for, AreBoard}
+use Rattle.ci_machine.specs.State.{State, applied, put, job_cmp, attempt_cmp}
+use Rattle.ci_machine.specs.Statuses.{jobs_of, facts_of, rows_of, status_for, AreBoard}
 use Rattle.ci_machine.specs.Leases.{is_live, renewed, if_leased, size_after, accepted, cause_of, is_over, first_due}
 use Rattle.ci_machine.specs.Eligible.{may_run, chosen}
 use Rattle.ci_values.specs.declared.limits.TheConstants.{MAX_NUMBER}
-use Rattle.ci_machine.specs.declared.limits.TheConstants.{MAX_JOBS, MAX_TRACE_BYTES}
+use Rattle.ci_machine.specs.declared.limits.TheConstants.{MAX_TRACE_BYTES}
 use Rattle.ci_machine.specs.Plans.{Plan, refused, faulted}
 use Rattle.ci_machine.specs.Projects.{made_project, add_project}
 use Rattle.ci_machine.specs.Runners.{made_runner, add_runner}
-use Rattle.ci_machine.specs.Pipelines.{has_names, lacks_numbers, new_jobs, new_pipeline, predefined, job_changes, entered, enter_pipeline}
+use Rattle.ci_machine.specs.Files.{file_set, SetsFile}
+use Rattle.ci_machine.specs.Variables.{variable_set, set_variable, variable_gone, delete_variable}
+use Rattle.ci_machine.specs.Pipelines.{may_create, creation, pipeline_created, Creates}
 use Rattle.ci_machine.specs.Grants.{granted, ask_job}
 use Rattle.ci_machine.specs.Reports.{told, heard, ended, reported, update_job}
 use Rattle.ci_machine.specs.Traces.{grown, appended, append_trace}
-use Rattle.ci_machine.specs.Shows.{asked_job, shown, traced}
+use Rattle.ci_machine.specs.Shows.{asked_pipeline, show_pipeline, asked_job, shown, traced}
 use Rattle.ci_machine.specs.Sweeps.{sweep}
 use Rattle.ci_machine.specs.Reply.{status_of_state}
-use Rattle.ci_machine.specs.Step.{Does, Happens, project_at, project_with, runner_with, job_at, attempt_at, pipeline_of, last_attempt, pieces_in, lease_of, leases, live_attempts, is_pending, pending_jobs, queued, queue, offer, offered_variables}
+use Rattle.ci_machine.specs.Step.{Does, Happens, project_with, project_variables, variable_at, pipeline_at, runner_with, job_at, attempt_at, pipeline_of, last_attempt, pieces_in, lease_of, leases, live_attempts, is_pending, pending_jobs, queued, queue, offer, offered_variables}
 use Rattle.ci_machine.specs.History.{Past, Leads}
 use Rattle.ci_machine.specs.Laws.{grants, is_grant, accepted_bytes, IsLeastEligible}
 use Rattle.ci_machine.proofs.Keyed.{Has, Rising, has_put, rising_put, rising_filter, has_filter, filter_has, has_find, least_find, find-map, one_at, All-from_has, contains_from_has}
 use Rattle.ci_machine.proofs.Grants as leased
 use Rattle.ci_machine.proofs.Grants.{Grants, grants_empty, live_last}
 use Rattle.ci_machine.proofs.Pending.{pending_free}
+use Rattle.ci_machine.proofs.Behind.{put_all}
+use Rattle.ci_machine.proofs.Created.{after_creation}
+use Rattle.ci_machine.proofs.EachPlan.{IsMachineCode, of_asked, given_in, of_file, of_variable, of_removal, of_creation, of_pipeline}
 use Rattle.ci_machine.proofs.Traces as pieces
 use Rattle.ci_machine.proofs.Ends as finals
 use Rattle.ci_machine.proofs.Ends.{Ends, renewed_live, leased_live}
@@ -150,51 +160,71 @@ runners h s name now seed i =
     cond_both (nat_lt MAX_NUMBER next) (refused M15) (made_runner next name seed) (After h s e now seed) (λ _. rests h s e now seed _ i refl (λ n. refl)) (λ _.
     keeps h s _ _ refl i (λ n. refl) (λ n. refl) refl refl refl i.grants.jobs_rise))
 
--- ---- a pipeline
+-- ---- a file, a variable, a pipeline
 
--- the rows of variables, and of jobs, leave the attempts and the pieces, and the jobs rise
-record Leaves (s t : State) : Type 0 where
-  attempts : t.attempts ≡ s.attempts
-  pieces : t.pieces ≡ s.pieces
-  next : t.next ≡ s.next
-  rise : Rising (λ (j : Job). j.id) 0 s.jobs → Rising (λ (j : Job). j.id) 0 t.jobs
+abbrev IsOther : Request → Type 0
+IsOther r = ((a : Answer) → is_grant (event.Request r) a ≡ false) × ((a : Answer) → Quiet (event.Request r) a)
 
-through : (s m t : State) → Leaves s m → Leaves m t → Leaves s t
-through s m t a b = record { attempts = b.attempts ∙ a.attempts; pieces = b.pieces ∙ a.pieces; next = b.next ∙ a.next; rise = λ r. b.rise (a.rise r) }
+-- a request that neither asks for a job nor sends a piece, and its plan leaves attempts and pieces
+stands : (h : List Past) (s : State) (r : Request) (now : ℕ) (seed : Seed) → Inv h s → IsOther r → (plan : Plan) → (applied plan.1 s).attempts ≡ s.attempts → (applied plan.1 s).pieces ≡ s.pieces
+    → (applied plan.1 s).next.attempt ≡ s.next.attempt → Rising (λ (j : Job). j.id) 0 (applied plan.1 s).jobs → After h s (event.Request r) now seed plan
+stands h s r now seed i other plan e f g rise = keeps h s _ _ refl i (λ n. ap (λ b. b && (s.next.attempt == n)) (other.0 (answer.Reply plan.0))) (other.1 (answer.Reply plan.0)) e f g rise
 
-variables_leave : (vs : List JobVariable) (s : State) → Leaves s (applied (map (λ v. Add (row.JobVariable v)) vs) s)
-variables_leave [] s = record { attempts = refl; pieces = refl; next = refl; rise = λ r. r }
-variables_leave (v ∷ vs) s =
-    let m = applied (Add (row.JobVariable v) ∷ []) s in
-    through s m _ (record { attempts = refl; pieces = refl; next = refl; rise = λ r. r }) (variables_leave vs m)
+module _ (h : List Past) (s : State) (r : Request) (now : ℕ) (seed : Seed) (i : Inv h s) (other : IsOther r) where
+  refuses : (c : Code) → IsMachineCode c → After h s (event.Request r) now seed (refused c)
+  refuses c m = rests h s (event.Request r) now seed _ i (other.0 _) (other.1 _)
 
-applied-append : (xs ys : List RowChange) (s : State) → applied (xs ++ ys) s ≡ applied ys (applied xs s)
-applied-append [] ys s = refl
-applied-append (x ∷ xs) ys s = applied-append xs ys _
+  faults : (d : Detail) → After h s (event.Request r) now seed (faulted d)
+  faults d = rests h s (event.Request r) now seed _ i (other.0 _) (other.1 _)
 
-job_leaves : (p : Pipeline) (j : Job) (s : State) → Leaves s (applied (job_changes p j) s)
-job_leaves p j s =
-    let m = applied (Add (row.Job j) ∷ []) s in
-    through s m _ (record { attempts = refl; pieces = refl; next = refl; rise = λ r. rising_put (λ (x : Job). x.id) j 0 s.jobs r (omega arith) }) (variables_leave (predefined p j) m)
+files : (h : List Past) (s : State) (new : NewFile) (now : ℕ) (seed : Seed) (plan : Plan) → Inv h s → SetsFile (of_asked s new.token new.project) new.text plan → After h s (event.Request (SetFile new)) now seed plan
+files h s new now seed plan i is =
+    let r = SetFile new in
+    let other : IsOther r = (λ a. refl, λ a n. refl) in
+    of_file s (After h s (event.Request r) now seed) (refuses h s r now seed i other) (faults h s r now seed i other) new plan
+    (λ project c has. stands h s r now seed i other (file_set project new.text c) refl refl refl i.grants.jobs_rise) is
 
-jobs_leave : (p : Pipeline) (js : List Job) (s : State) → Leaves s (applied (flat_map (job_changes p) js) s)
-jobs_leave p [] s = record { attempts = refl; pieces = refl; next = refl; rise = λ r. r }
-jobs_leave p (j ∷ js) s =
-    let m = applied (job_changes p j) s in
-    subst (Leaves s) (sym (applied-append (job_changes p j) (flat_map (job_changes p) js) s)) (through s m _ (job_leaves p j s) (jobs_leave p js m))
+variables : (h : List Past) (s : State) (new : NewVariable) (now : ℕ) (seed : Seed) → Inv h s
+    → After h s (event.Request (SetVariable new)) now seed (set_variable (of_asked s new.token new.project) (project_variables s new.project) new)
+variables h s new now seed i =
+    let r = SetVariable new in
+    let other : IsOther r = (λ a. refl, λ a n. refl) in
+    of_variable s (After h s (event.Request r) now seed) (refuses h s r now seed i other) (faults h s r now seed i other) new
+    (λ project. stands h s r now seed i other (variable_set project new) refl refl refl i.grants.jobs_rise)
 
-pipelines : (h : List Past) (s : State) (p : NewPipeline) (now : ℕ) (seed : Seed) → Inv h s → (project : Option Project)
-    → After h s (event.Request (EnterPipeline p)) now seed (enter_pipeline project s.next.pipeline s.next.job p now)
-pipelines h s p now seed i None = rests h s (event.Request (EnterPipeline p)) now seed _ i refl (λ n. refl)
-pipelines h s p now seed i (Some project) =
-    let e = event.Request (EnterPipeline p) in
-    let f = entered s.next.pipeline s.next.job p now in
-    cond_both (nat_lt (length p.jobs) 1) (faulted (detail.Code (G 4))) _ (After h s e now seed) (λ _. rests h s e now seed _ i refl (λ n. refl)) (λ _.
-    cond_both (nat_lt MAX_JOBS (length p.jobs)) (faulted (detail.Code (K 11))) _ (After h s e now seed) (λ _. rests h s e now seed _ i refl (λ n. refl)) (λ _.
-    cond_both (not (has_names p)) (faulted (detail.Code (K 16))) _ (After h s e now seed) (λ _. rests h s e now seed _ i refl (λ n. refl)) (λ _.
-    cond_both (lacks_numbers s.next.pipeline s.next.job (length p.jobs)) (refused M15) f (After h s e now seed) (λ _. rests h s e now seed _ i refl (λ n. refl)) (λ _.
-    let l = jobs_leave (new_pipeline s.next.pipeline p now) (new_jobs p.stage s.next.pipeline s.next.job 0 p.jobs) _ in
-    keeps h s (applied f.1 s) (line s e now seed (answer.Reply f.0)) refl i (λ n. refl) (λ n. refl) l.attempts l.pieces (ap (λ n. n.attempt) l.next) (l.rise i.grants.jobs_rise)))))
+removals : (h : List Past) (s : State) (query : VariableQuery) (now : ℕ) (seed : Seed) → Inv h s
+    → After h s (event.Request (DeleteVariable query)) now seed (delete_variable (of_asked s query.token query.project) (variable_at s query.project query.key))
+removals h s query now seed i =
+    let r = DeleteVariable query in
+    let other : IsOther r = (λ a. refl, λ a n. refl) in
+    of_removal s (After h s (event.Request r) now seed) (refuses h s r now seed i other) (faults h s r now seed i other) query
+    (λ v. stands h s r now seed i other (variable_gone v) refl refl refl i.grants.jobs_rise)
+
+jobs_rise : (js xs : List Job) → Rising (λ (j : Job). j.id) 0 xs → Rising (λ (j : Job). j.id) 0 (put_all job_cmp js xs)
+jobs_rise [] xs r = r
+jobs_rise (j ∷ js) xs r = jobs_rise js (put job_cmp j xs) (rising_put (λ (w : Job). w.id) j 0 xs r (omega arith))
+
+creates : (h : List Past) (s : State) (new : NewPipeline) (now : ℕ) (seed : Seed) (plan : Plan) → Inv h s
+    → Creates s.next.pipeline s.next.job new (given_in s new) now (may_create (of_asked s new.token new.project) new) plan → After h s (event.Request (CreatePipeline new)) now seed plan
+creates h s new now seed plan i is =
+    let r = CreatePipeline new in
+    let other : IsOther r = (λ a. refl, λ a n. refl) in
+    of_creation s (After h s (event.Request r) now seed) (refuses h s r now seed i other) (faults h s r now seed i other) new now plan
+    (λ project text laid rows asked has named file lays.
+    let made = creation s.next.pipeline s.next.job new (given_in s new) now laid in
+    let e = after_creation s.next.job made s in
+    stands h s r now seed i other (pipeline_created s.next.job made rows) (ap (λ (t : State). t.attempts) e) (ap (λ (t : State). t.pieces) e) (ap (λ (t : State). t.next.attempt) e)
+    (subst (λ (t : State). Rising (λ (j : Job). j.id) 0 t.jobs) (sym e) (jobs_rise made.jobs s.jobs i.grants.jobs_rise))) is
+
+pipeline_shows : (h : List Past) (s : State) (board : List BoardRow) (query : PipelineQuery) (now : ℕ) (seed : Seed) → Inv h s
+    → After h s (event.Request (ShowPipeline query)) now seed
+    (show_pipeline (asked_pipeline (of_asked s query.token query.project) (pipeline_at s query.pipeline)) (jobs_of s query.pipeline) (facts_of s query.pipeline) (rows_of s board query.pipeline))
+pipeline_shows h s board query now seed i =
+    let r = ShowPipeline query in
+    let other : IsOther r = (λ a. refl, λ a n. refl) in
+    let n = query.pipeline in
+    of_pipeline s (After h s (event.Request r) now seed) (refuses h s r now seed i other) (faults h s r now seed i other) query (jobs_of s n) (facts_of s n) (rows_of s board n)
+    (λ p. rests h s (event.Request r) now seed _ i refl (λ m. refl))
 
 -- ---- a job request
 
@@ -360,7 +390,11 @@ sweeps h s now seed i (Some l) found =
 does : (h : List Past) (s : State) (board : List BoardRow) (r : Request) (now : ℕ) (seed : Seed) (f : Plan) → AreBoard s board → Inv h s → Does s board r now seed f → After h s (event.Request r) now seed f
 does h s board (AddProject name) now seed f are i is = subst (After h s (event.Request (AddProject name)) now seed) (sym is) (projects h s name now seed i)
 does h s board (AddRunner name) now seed f are i is = subst (After h s (event.Request (AddRunner name)) now seed) (sym is) (runners h s name now seed i)
-does h s board (EnterPipeline p) now seed f are i is = subst (After h s (event.Request (EnterPipeline p)) now seed) (sym is) (pipelines h s p now seed i (project_at s p.project))
+does h s board (SetFile new) now seed f are i is = files h s new now seed f i is
+does h s board (SetVariable new) now seed f are i is = subst (After h s (event.Request (SetVariable new)) now seed) (sym is) (variables h s new now seed i)
+does h s board (DeleteVariable query) now seed f are i is = subst (After h s (event.Request (DeleteVariable query)) now seed) (sym is) (removals h s query now seed i)
+does h s board (CreatePipeline new) now seed f are i is = creates h s new now seed f i is
+does h s board (ShowPipeline query) now seed f are i is = subst (After h s (event.Request (ShowPipeline query)) now seed) (sym is) (pipeline_shows h s board query now seed i)
 does h s board (AskJob token) now seed f are i is = subst (After h s (event.Request (AskJob token)) now seed) (sym is) (asks h s board token now seed are i (runner_with s token) refl)
 does h s board (UpdateJob u) now seed f are i is = subst (After h s (event.Request (UpdateJob u)) now seed) (sym is) (updates h s u now seed i (attempt_at s u.attempt) refl)
 does h s board (AppendTrace part) now seed f are i is = subst (After h s (event.Request (AppendTrace part)) now seed) (sym is) (parts h s part now seed i (attempt_at s part.attempt) refl)

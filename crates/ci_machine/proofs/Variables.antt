@@ -26,7 +26,7 @@ use Rattle.ci_machine.specs.declared.change.Key.{Key}
 use Rattle.ci_machine.specs.declared.change.Key.TheVariants as key
 use Rattle.ci_machine.specs.declared.request.Event.{Event}
 use Rattle.ci_machine.specs.declared.request.Event.TheVariants as event
-use Rattle.ci_machine.specs.declared.request.Request.TheVariants.{AddProject, AddRunner, EnterPipeline, AskJob, UpdateJob, AppendTrace, ShowJob, ShowTrace}
+use Rattle.ci_machine.specs.declared.request.Request.TheVariants.{AddProject, AddRunner, SetFile, SetVariable, DeleteVariable, CreatePipeline, ShowPipeline, AskJob, UpdateJob, AppendTrace, ShowJob, ShowTrace}
 use Rattle.ci_machine.specs.declared.request.Seed.{Seed}
 use Rattle.ci_machine.specs.declared.reply.Answer.{Answer}
 use Rattle.ci_machine.specs.declared.reply.Answer.TheVariants as answer
@@ -154,6 +154,7 @@ granted_ascend s job attempt n r =
 
 recorded : (r : Record) (s : State) → Ordered job_variable_cmp s.job_variables → Ordered job_variable_cmp (with_record r s).job_variables
 recorded (row.Project p) s o = o
+recorded (row.Variable v) s o = o
 recorded (row.Runner p) s o = o
 recorded (row.Pipeline p) s o = o
 recorded (row.Job p) s o = o
@@ -164,6 +165,7 @@ recorded (row.Piece p) s o = o
 
 removed : (k : Key) (s : State) → Ordered job_variable_cmp s.job_variables → Ordered job_variable_cmp (without_record k s).job_variables
 removed (key.Project n) s o = o
+removed (key.Variable n name) s o = o
 removed (key.Runner n) s o = o
 removed (key.Pipeline n) s o = o
 removed (key.Job n) s o = o
@@ -206,7 +208,11 @@ gives_in_order s board (event.Request request) now seed (answer.Swept swept) cha
 gives_in_order s board event.Sweep now seed a changes o is g = absurd (false≢true g)
 gives_in_order s board (event.Request (AddProject x)) now seed (answer.Reply reply) changes o is g = absurd (false≢true g)
 gives_in_order s board (event.Request (AddRunner x)) now seed (answer.Reply reply) changes o is g = absurd (false≢true g)
-gives_in_order s board (event.Request (EnterPipeline x)) now seed (answer.Reply reply) changes o is g = absurd (false≢true g)
+gives_in_order s board (event.Request (SetFile x)) now seed (answer.Reply reply) changes o is g = absurd (false≢true g)
+gives_in_order s board (event.Request (SetVariable x)) now seed (answer.Reply reply) changes o is g = absurd (false≢true g)
+gives_in_order s board (event.Request (DeleteVariable x)) now seed (answer.Reply reply) changes o is g = absurd (false≢true g)
+gives_in_order s board (event.Request (CreatePipeline x)) now seed (answer.Reply reply) changes o is g = absurd (false≢true g)
+gives_in_order s board (event.Request (ShowPipeline x)) now seed (answer.Reply reply) changes o is g = absurd (false≢true g)
 gives_in_order s board (event.Request (UpdateJob x)) now seed (answer.Reply reply) changes o is g = absurd (false≢true g)
 gives_in_order s board (event.Request (AppendTrace x)) now seed (answer.Reply reply) changes o is g = absurd (false≢true g)
 gives_in_order s board (event.Request (ShowJob x)) now seed (answer.Reply reply) changes o is g = absurd (false≢true g)

@@ -1,0 +1,134 @@
+-- Each job came into its pipeline by its rules, in every state that a history leads to.
+use Rattle.std.specs.Prelude.{◌≡◌, ◌⊎◌, ℕ, List, [], ◌∷◌, Option, Some, None, Ok, Contains}
+use Rattle.std.proofs.Common.{refl, sym, ap, subst, ◌∙◌, inl, inr, ⊎_elim}
+use Rattle.std.proofs.lemmas.Bool.{cond_both}
+use Rattle.std.proofs.lemmas.List.Elements.{Contains-append_right}
+use Rattle.ci_layout.specs.Inclusion.{IncludedJob}
+use Rattle.ci_board.specs.declared.facts.Row.{Row}
+use Rattle.ci_machine.specs.declared.lease.Lease.{Lease}
+use Rattle.ci_machine.specs.declared.records.BoardRow.{BoardRow}
+use Rattle.ci_machine.specs.declared.records.Project.{Project}
+use Rattle.ci_machine.specs.declared.records.Job.{Job}
+use Rattle.ci_machine.specs.declared.change.RowChange.{RowChange}
+use Rattle.ci_machine.specs.declared.change.RowChange.TheVariants.{Put}
+use Rattle.ci_machine.specs.declared.change.Record.TheVariants as row
+use Rattle.ci_machine.specs.declared.request.NewPipeline.{NewPipeline}
+use Rattle.ci_machine.specs.declared.request.Request.{Request}
+use Rattle.ci_machine.specs.declared.request.Request.TheVariants.{CreatePipeline}
+use Rattle.ci_machine.specs.declared.request.Event.{Event}
+use Rattle.ci_machine.specs.declared.request.Event.TheVariants as event
+use Rattle.ci_machine.specs.declared.request.Seed.{Seed}
+use Rattle.ci_machine.specs.declared.reply.Answer.{Answer}
+use Rattle.ci_machine.specs.declared.reply.Answer.TheVariants as answer
+use Rattle.ci_machine.specs.declared.reply.Swept.{Swept}
+use Rattle.ci_machine.specs.State.{State, applied, job_cmp}
+use Rattle.ci_machine.specs.Leases.{is_live, first_due}
+use Rattle.ci_machine.specs.Plans.{Plan}
+use Rattle.ci_machine.specs.Pipelines.{Layout, IsLaidOut, new_job, new_jobs, creation, pipeline_created}
+use Rattle.ci_machine.specs.Reports.{ended}
+use Rattle.ci_machine.specs.Sweeps.{sweep}
+use Rattle.ci_machine.specs.Step.{Happens, leases}
+use Rattle.ci_machine.specs.History.{Past, Leads}
+use Rattle.ci_machine.specs.Laws.{job_for_good, IsMadeBy, WasIncluded}
+use Rattle.ci_machine.proofs.Keyed.{Has, contains_from_has}
+use Rattle.ci_machine.proofs.Behind.{has_all}
+use Rattle.ci_machine.proofs.Created.{after_creation, IsNew, new_are, laid_is, lineup_are}
+use Rattle.ci_machine.proofs.EachPlan.{Each, does, of_asked, given_in}
+
+abbrev line : State → Event → ℕ → Seed → Answer → Past
+line s e now seed a = record { before = s; event = e; now = now; seed = seed; answer = a }
+
+-- each job after the changes was there, or the line made it
+abbrev Are : State → Event → ℕ → Seed → Answer → List RowChange → Type 0
+Are s e now seed a changes = (j : Job) → Has j (applied changes s).jobs → Has j s.jobs ⊎ IsMadeBy (line s e now seed a) j
+
+module _ (s : State) (board : List BoardRow) (request : Request) (now : ℕ) (seed : Seed) where
+  abbrev From : Plan → Type 0
+  From plan = Are s (event.Request request) now seed (answer.Reply plan.0) plan.1
+
+  makes : (new : NewPipeline) (at : ℕ) → request ≡ CreatePipeline new → (project : Project) (text : List ℕ) (laid : Layout) (rows : List Row) → of_asked s new.token new.project ≡ Ok project → project.file ≡ Some text
+      → IsLaidOut text (given_in s new) (Ok laid) → From (pipeline_created s.next.job (creation s.next.pipeline s.next.job new (given_in s new) at laid) rows)
+  makes new at is project text laid rows asked file lays j k =
+      let made = creation s.next.pipeline s.next.job new (given_in s new) at laid in
+      let lays = laid_is text (given_in s new) (Ok laid) lays in
+      ⊎_elim (λ m. inl m)
+      (λ m. let n = new_are s.next.pipeline s.next.job 0 laid.plan.jobs j m in
+      let drawn : j.pipeline ≡ s.next.pipeline = ap (λ (w : Job). w.pipeline) n.job in
+      let of = lineup_are (given_in s new) laid.config n.as_said (subst (Has n.as_said) lays.1.0 n.has) in
+      inr (record {
+        new = new;
+        asked = ap event.Request is;
+        reply = (pipeline_created s.next.job made rows).0;
+        answered = refl;
+        made = refl;
+        drawn = drawn;
+        project = project;
+        its_project = asked;
+        text = text;
+        its_file = file;
+        configured = laid.config;
+        read = lays.0;
+        spec = of.0;
+        listed = contains_from_has of.0 laid.config.jobs of.1.0;
+        as_said = n.as_said;
+        is_included = of.1.1;
+        fixed = ap job_for_good n.job ∙ ap (λ q. new_job q s.next.job j.position n.as_said) (sym drawn);
+      }))
+      (has_all job_cmp made.jobs s.jobs j (subst (λ (t : State). Has j t.jobs) (after_creation s.next.job made s) k))
+
+  each : Each s board request From
+  each = record {
+    refused = λ c m j k. inl k;
+    faulted = λ d j k. inl k;
+    project = λ name seed j k. inl k;
+    runner = λ name seed j k. inl k;
+    file = λ project text c has j k. inl k;
+    variable = λ project new j k. inl k;
+    gone = λ v j k. inl k;
+    pipeline = λ new at is project text laid rows asked has named file lays. makes new at is project text laid rows asked file lays;
+    nothing = λ j k. inl k;
+    granted = λ runner job q variables at seed h i p e j k. inl k;
+    turned_away = λ fault j k. inl k;
+    heard = λ a seen has j k. inl k;
+    ended = λ a state has.
+        cond_both (is_live a) (Put (row.Attempt (record a { state = state })) ∷ []) [] (λ cs. (j : Job) → Has j (applied cs s).jobs → Has j s.jobs ⊎ IsMadeBy (line s (event.Request request) now seed (answer.Reply (ended a (Ok state)).0)) j)
+        (λ _ j k. inl k) (λ _ j k. inl k);
+    misplaced = λ fault j k. inl k;
+    grown = λ a bytes at size has j k. inl k;
+    pipeline_shown = λ p jobs facts rows j k. inl k;
+    shown = λ job status j k. inl k;
+    traced = λ pieces j k. inl k;
+  }
+
+swept : (s : State) (o : Option Lease) (j : Job) → Has j (applied (sweep o).1 s).jobs → Has j s.jobs
+swept s None j k = k
+swept s (Some l) j k = k
+
+are : (s : State) (board : List BoardRow) (e : Event) (now : ℕ) (seed : Seed) (a : Answer) (changes : List RowChange) → Happens s board e now seed a changes → Are s e now seed a changes
+are s board (event.Request r) now seed (answer.Reply reply) changes is = does s board (From s board r now seed) r (each s board r now seed) now seed (reply, changes) is
+are s board event.Sweep now seed (answer.Swept out) changes is = λ j k.
+    let P : Swept × List RowChange → Type 0 = λ f. Has j (applied f.1 s).jobs → Has j s.jobs in
+    inl (subst P (sym is) (swept s (first_due (leases s) now) j) k)
+are s board (event.Request r) now seed (answer.Swept out) changes is = absurd is
+are s board event.Sweep now seed (answer.Reply reply) changes is = absurd is
+
+more : (p : Past) (h : List Past) (j : Job) → WasIncluded h j → WasIncluded (p ∷ h) j
+more p h j w = (w.0, Contains-append_right (p ∷ []) h w.0 w.1, w.2)
+
+-- each job of a reached state was included
+included : (h : List Past) (s : State) → Leads h s → (j : Job) → Has j s.jobs → WasIncluded h j
+included [] s l j k = absurd (subst (λ (t : State). Has j t.jobs) l k)
+included (p ∷ h) s l j k =
+    ⊎_elim
+    (λ m. more p h j (included h p.before l.0 j m))
+    (λ q. (p, contains_from_has p (p ∷ h) (inl refl), q))
+    (are p.before l.1.before p.event p.now p.seed p.answer l.1.changes l.1.happens j (subst (λ (t : State). Has j t.jobs) l.1.state k))
+
+-- and so was each job of an earlier state
+pub was_included : (h : List Past) (s : State) → Leads h s → (p : Past) → Has p h → (j : Job) → Has j p.before.jobs → WasIncluded h j
+was_included [] s l p m j k = absurd m
+was_included (q ∷ h) s l p m j k =
+    ⊎_elim
+    (λ e. more q h j (included h q.before l.0 j (subst (λ (w : Past). Has j w.before.jobs) e k)))
+    (λ n. more q h j (was_included h q.before l.0 p n j k))
+    m
