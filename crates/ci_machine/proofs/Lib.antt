@@ -6,9 +6,12 @@ pub mod Pieces
 pub mod Grants
 pub mod Pending
 pub mod OneJob
+pub mod TwoJobs
 pub mod Traces
 pub mod Ends
 pub mod Variables
+pub mod Layers
+pub mod Details
 pub mod Behind
 pub mod Created
 pub mod Reached
