@@ -1,21 +1,16 @@
 -- What the changes of a creation lead to, and what its records are.
 use Rattle.std.specs.Prelude.{◌≡◌, ◌⊎◌, ℕ, suc, ◌+◌, ◌<◌, ◌≤◌, List, [], ◌∷◌, ◌++◌, length, map, filter, nat_lt, Option, Some, None, Result, Ok, Err}
-use Rattle.std.specs.Ordering.{nat_cmp, ordering_then}
-use Rattle.std.specs.declared.cmp.Ordering.TheVariants.{Less}
 use Rattle.std.specs.Cmp.{IsTotalOrder}
 use Rattle.std.proofs.lemmas.Cmp.{nat_cmp_total, on_total, then_total}
 use Rattle.std.proofs.Common.{refl, sym, ap, subst, ◌∙◌, inl, inr, ⊎_elim, arith, ltb-true}
-use Rattle.std.specs.Str.{bytes_eq}
 use Rattle.std.proofs.lemmas.Bool.{cond_both, ltb-false}
 use Rattle.ci_config.specs.Config as config
 use Rattle.ci_config.specs.Config.{Text, Config}
-use Rattle.ci_graph.specs.Pairs.{AreWithin}
 use Rattle.ci_layout.specs.Inclusion.{Given, IncludedJob, included}
 use Rattle.ci_layout.specs.Layout as layout
 use Rattle.ci_layout.specs.Layout.{all_included, is_of, by_stage, lineup, pairs}
 use Rattle.ci_layout.specs.Fault.{Plan, Plans, faulty, cyclic, planned}
 use Rattle.ci_layout.specs.declared.fault.GraphCode.{GraphCode}
-use Rattle.ci_layout.proofs.Within.{pairs_within}
 use Rattle.ci_machine.specs.declared.records.Job.{Job}
 use Rattle.ci_machine.specs.declared.records.JobVariable.{JobVariable}
 use Rattle.ci_machine.specs.declared.records.Need.{Need}
@@ -28,7 +23,7 @@ use Rattle.ci_machine.specs.State.{State, put, pipeline_cmp, job_cmp, job_variab
 use Rattle.ci_machine.specs.Files.{IsRead}
 use Rattle.ci_machine.specs.Pipelines as pipelines
 use Rattle.ci_machine.specs.Pipelines.{Layout, IsLaidOut, misread, unplanned, new_job, new_jobs, need_of, put_needs, Creation, creation_changes}
-use Rattle.ci_machine.proofs.Keyed.{Has, Rising, rising_from, has_put, has_filter, has_from_all}
+use Rattle.ci_machine.proofs.Keyed.{Has, Rising, has_put, has_filter}
 use Rattle.ci_machine.proofs.Behind.{in_either, put_all}
 use Rattle.ci_machine.proofs.Variables.{Ordered, put_ordered}
 

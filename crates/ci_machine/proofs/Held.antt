@@ -1,9 +1,8 @@
 -- What stays, which records others name, and what sweeps end, in every state that a history leads to; and all its laws.
-use Rattle.std.specs.Prelude.{◌≡◌, ◌⊎◌, ℕ, ◌+◌, ◌<◌, ◌≤◌, Bool, true, false, ◌==◌, ◌&&◌, not, max, List, [], ◌∷◌, ◌++◌, length, map, filter, find, Option, Some, None, Ok, Contains}
-use Rattle.std.specs.List.{flat_map}
+use Rattle.std.specs.Prelude.{◌≡◌, ◌⊎◌, ℕ, ◌+◌, ◌<◌, ◌≤◌, Bool, true, false, ◌==◌, ◌&&◌, not, max, List, [], ◌∷◌, ◌++◌, length, map, find, Option, Some, None, Ok, Contains}
 use Rattle.std.specs.Ordering.{nat_cmp, is_eq, is_lt}
 use Rattle.std.specs.declared.cmp.Ordering.{Ordering}
-use Rattle.std.proofs.Common.{refl, sym, ap, subst, ◌∙◌, inl, inr, ⊎_elim, arith, eqb-true}
+use Rattle.std.proofs.Common.{refl, sym, ap, subst, ◌∙◌, inl, inr, ⊎_elim, arith}
 use Rattle.std.proofs.lemmas.Bool.{and_parts, cases_Bool, cond_both}
 use Rattle.ci_machine.specs.declared.records.BoardRow.{BoardRow}
 use Rattle.ci_machine.specs.declared.records.Need.{Need}
@@ -15,7 +14,7 @@ use Rattle.ci_machine.specs.declared.records.Variable.{Variable}
 use Rattle.ci_machine.specs.declared.records.Attempt.{Attempt}
 use Rattle.ci_machine.specs.declared.lease.Lease.{Lease}
 use Rattle.ci_machine.specs.declared.change.RowChange.{RowChange}
-use Rattle.ci_machine.specs.declared.change.RowChange.TheVariants.{Add, Put}
+use Rattle.ci_machine.specs.declared.change.RowChange.TheVariants.{Put}
 use Rattle.ci_machine.specs.declared.change.Record.TheVariants as row
 use Rattle.ci_machine.specs.declared.request.NewPipeline.{NewPipeline}
 use Rattle.ci_machine.specs.declared.request.Request.{Request}
@@ -33,7 +32,7 @@ use Rattle.ci_graph.specs.Pairs.{AreWithin}
 use Rattle.ci_layout.specs.Inclusion.{Given, IncludedJob}
 use Rattle.ci_layout.specs.Layout.{lineup, pairs}
 use Rattle.ci_layout.proofs.Within.{pairs_within}
-use Rattle.ci_machine.specs.Pipelines.{Layout, IsLaidOut, new_jobs, creation, need_of}
+use Rattle.ci_machine.specs.Pipelines.{Layout, IsLaidOut, new_jobs, creation}
 use Rattle.ci_machine.specs.Sweeps.{sweep}
 use Rattle.ci_machine.specs.Traces.{grown as traces_grown}
 use Rattle.ci_machine.specs.Step.{Happens, lease_of, leases, live_attempts}
@@ -307,8 +306,8 @@ enters s new project given now text laid i has named lays =
     let is_plan = (laid_is text given (Ok laid) lays).1 in
     let within : (p : ℕ × ℕ) → Has p laid.plan.pairs → (p.0 < count) × (p.1 < count)
     = λ p k. has_from_all (λ (q : ℕ × ℕ). (q.0 < count) × (q.1 < count)) p laid.plan.pairs
-        (subst (λ (ps : List (ℕ × ℕ)). AreWithin count ps) (sym is_plan.1)
-        (subst (λ (js : List IncludedJob). AreWithin (length js) (pairs laid.config.stages (lineup given laid.config))) (sym is_plan.0) (pairs_within laid.config.stages (lineup given laid.config)))) k in
+    (subst (λ (ps : List (ℕ × ℕ)). AreWithin count ps) (sym is_plan.1)
+    (subst (λ (js : List IncludedJob). AreWithin (length js) (pairs laid.config.stages (lineup given laid.config))) (sym is_plan.0) (pairs_within laid.config.stages (lineup given laid.config)))) k in
     record {
       later = record {
         projects = kept project_for_good s.projects s.projects refl;

@@ -1,9 +1,8 @@
 -- Each job came into its pipeline by its rules, in every state that a history leads to.
-use Rattle.std.specs.Prelude.{◌≡◌, ◌⊎◌, ℕ, List, [], ◌∷◌, Option, Some, None, Ok, Contains}
+use Rattle.std.specs.Prelude.{◌≡◌, ◌⊎◌, ℕ, List, [], ◌∷◌, Option, Some, None, Ok}
 use Rattle.std.proofs.Common.{refl, sym, ap, subst, ◌∙◌, inl, inr, ⊎_elim}
 use Rattle.std.proofs.lemmas.Bool.{cond_both}
 use Rattle.std.proofs.lemmas.List.Elements.{Contains-append_right}
-use Rattle.ci_layout.specs.Inclusion.{IncludedJob}
 use Rattle.ci_board.specs.declared.facts.Row.{Row}
 use Rattle.ci_machine.specs.declared.lease.Lease.{Lease}
 use Rattle.ci_machine.specs.declared.records.BoardRow.{BoardRow}
@@ -24,7 +23,7 @@ use Rattle.ci_machine.specs.declared.reply.Swept.{Swept}
 use Rattle.ci_machine.specs.State.{State, applied, job_cmp}
 use Rattle.ci_machine.specs.Leases.{is_live, first_due}
 use Rattle.ci_machine.specs.Plans.{Plan}
-use Rattle.ci_machine.specs.Pipelines.{Layout, IsLaidOut, new_job, new_jobs, creation, pipeline_created}
+use Rattle.ci_machine.specs.Pipelines.{Layout, IsLaidOut, new_job, creation, pipeline_created}
 use Rattle.ci_machine.specs.Reports.{ended}
 use Rattle.ci_machine.specs.Sweeps.{sweep}
 use Rattle.ci_machine.specs.Step.{Happens, leases}
@@ -32,7 +31,7 @@ use Rattle.ci_machine.specs.History.{Past, Leads}
 use Rattle.ci_machine.specs.Laws.{job_for_good, IsMadeBy, WasIncluded}
 use Rattle.ci_machine.proofs.Keyed.{Has, contains_from_has}
 use Rattle.ci_machine.proofs.Behind.{has_all}
-use Rattle.ci_machine.proofs.Created.{after_creation, IsNew, new_are, laid_is, lineup_are}
+use Rattle.ci_machine.proofs.Created.{after_creation, new_are, laid_is, lineup_are}
 use Rattle.ci_machine.proofs.EachPlan.{Each, does, of_asked, given_in}
 
 abbrev line : State → Event → ℕ → Seed → Answer → Past

@@ -1,15 +1,12 @@
 -- What holds of every state that a history leads to.
-use Rattle.std.specs.Prelude.{◌≡◌, ℕ, ◌+◌, ◌<◌, ◌≤◌, Bool, true, false, not, ◌==◌, ◌&&◌, nat_lt, nat_le, List, [], ◌∷◌, ◌++◌, length, map, if◌then◌else◌, Option, Some, None, option_map, Result, Ok, Err}
-use Rattle.std.specs.List.{flat_map}
+use Rattle.std.specs.Prelude.{◌≡◌, ℕ, ◌+◌, ◌<◌, ◌≤◌, Bool, true, false, not, ◌==◌, ◌&&◌, nat_lt, nat_le, List, [], ◌∷◌, length, if◌then◌else◌, Option, Some, None, option_map, Result, Ok, Err}
 use Rattle.std.specs.Str.{bytes_eq}
 use Rattle.std.proofs.Common.{refl, sym, ap, subst, ◌∙◌, inl, inr, ⊎_elim, arith, eqb-true}
 use Rattle.std.proofs.lemmas.Bool.{cond_both}
 use Rattle.std.proofs.lemmas.Slice.Eq.{bytes_eq-Decides}
 use Rattle.ci_board.specs.declared.facts.Status.{Status}
 use Rattle.ci_machine.specs.declared.records.BoardRow.{BoardRow}
-use Rattle.ci_machine.specs.declared.records.Project.{Project}
 use Rattle.ci_machine.specs.declared.records.Runner.{Runner}
-use Rattle.ci_machine.specs.declared.records.Pipeline.{Pipeline}
 use Rattle.ci_machine.specs.declared.records.Job.{Job}
 use Rattle.ci_machine.specs.declared.records.JobVariable.{JobVariable}
 use Rattle.ci_machine.specs.declared.records.QueuedJob.{QueuedJob}
@@ -23,7 +20,7 @@ use Rattle.ci_machine.specs.declared.lease.LeaseFault.TheVariants.{NotLive, Leas
 use Rattle.ci_machine.specs.declared.lease.PieceFault.{PieceFault}
 use Rattle.ci_machine.specs.declared.lease.PieceFault.TheVariants.{Unleased, WrongOffset, TraceFull}
 use Rattle.ci_machine.specs.declared.change.RowChange.{RowChange}
-use Rattle.ci_machine.specs.declared.change.RowChange.TheVariants.{Add, Put}
+use Rattle.ci_machine.specs.declared.change.RowChange.TheVariants.{Put}
 use Rattle.ci_machine.specs.declared.change.Record.TheVariants as row
 use Rattle.ci_machine.specs.declared.request.NewFile.{NewFile}
 use Rattle.ci_machine.specs.declared.request.NewVariable.{NewVariable}

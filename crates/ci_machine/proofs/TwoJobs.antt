@@ -1,12 +1,12 @@
 -- The board of a state with two jobs of one pipeline.
 use Rattle.std.specs.Prelude.{◌≡◌, ℕ, Bool, ◌==◌, cond, List, [], ◌∷◌, map, filter}
-use Rattle.std.proofs.Common.{refl, sym, ap, subst, ◌∙◌, ⊎_elim, arith}
+use Rattle.std.proofs.Common.{sym, ap, subst, ◌∙◌, ⊎_elim, arith}
 use Rattle.std.proofs.lemmas.Bool.{cases_Bool}
 use Rattle.ci_board.specs.Rows.{AreRows}
 use Rattle.ci_machine.specs.declared.records.Job.{Job}
 use Rattle.ci_machine.specs.declared.records.BoardRow.{BoardRow}
 use Rattle.ci_machine.specs.State.{State}
-use Rattle.ci_machine.specs.Statuses.{graph_by, graph_of, facts_in, facts_of, row_for, rows_of, AreBoard}
+use Rattle.ci_machine.specs.Statuses.{graph_by, facts_in, row_for, AreBoard}
 
 module _ (s : State) (board : List BoardRow) (a b : Job) (p : ℕ) (are : s.jobs ≡ a ∷ b ∷ []) (of_a : a.pipeline ≡ p) (of_b : b.pipeline ≡ p) (keys : map (λ r. r.job) board ≡ a.id ∷ b.id ∷ []) where
   -- the rows of some of its jobs

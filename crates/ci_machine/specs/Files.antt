@@ -1,5 +1,5 @@
 -- What a CI file says; and a project's file is to be this text.
-use Rattle.std.specs.Prelude.{◌≡◌, ℕ, List, [], ◌∷◌, length, Some, Result, Ok, Err, codes}
+use Rattle.std.specs.Prelude.{◌≡◌, ℕ, List, [], ◌∷◌, length, Some, Result, Ok, Err}
 use Rattle.serde_json.specs.Written.{compact_text}
 use Rattle.ci_yaml_lines.specs.declared.code.Code.{Code}
 use Rattle.ci_yaml_lines.specs.Least.{number_of}

@@ -9,7 +9,6 @@ use Rattle.ci_machine.specs.declared.change.RowChange.TheVariants.{Put, Remove}
 use Rattle.ci_machine.specs.declared.change.Record.TheVariants as row
 use Rattle.ci_machine.specs.declared.change.Key.TheVariants as key
 use Rattle.ci_machine.specs.declared.request.NewVariable.{NewVariable}
-use Rattle.ci_machine.specs.declared.request.VariableQuery.{VariableQuery}
 use Rattle.ci_machine.specs.declared.reply.Code.{Code}
 use Rattle.ci_machine.specs.declared.reply.Code.TheVariants.{M3}
 use Rattle.ci_machine.specs.declared.reply.FaultCode.TheVariants.{K}

@@ -2,9 +2,7 @@
 
 ghost use Rattle.std.specs.Prelude.{◌≡◌, ◌↔◌, [], IsTrue};
 
-use crate::records::{
-    Attempt, Job, JobVariable, Need, Piece, Pipeline, Project, Runner, Variable,
-};
+use crate::records::{Attempt, Job, JobVariable, Need, Piece, Pipeline, Project, Runner, Variable};
 use crate::text::Text;
 use std::marker::Model;
 

@@ -5,14 +5,11 @@ use Rattle.hex.proofs.OnLiterals.{hex_on_literals}
 use Rattle.ci_graph.specs.JobGraph.{JobGraph, part_at}
 use Rattle.ci_board.specs.declared.facts.Facts.{Facts}
 use Rattle.ci_board.specs.declared.facts.Row.{Row}
-use Rattle.ci_board.specs.declared.facts.Status.{Status}
 use Rattle.ci_board.specs.declared.facts.Status.TheVariants.{Pending, Running, Failed}
 use Rattle.ci_board.specs.Effects.{status_of_row}
 use Rattle.ci_board.specs.Rows.{AreRows, AreCounted, HasCounts, no_row, row_at, facts_at}
 use Rattle.ci_machine.specs.declared.records.Job.{Job}
-use Rattle.ci_machine.specs.State.{State}
-use Rattle.ci_machine.specs.Statuses.{graph_by, facts_in, row_for}
-use Rattle.ci_machine.specs.Pipelines.{new_job}
+use Rattle.ci_machine.specs.Statuses.{graph_by, facts_in}
 use Rattle.ci_machine.specs.Examples.{made, with_pipeline, with_attempt, leased, after, swept, job, two_rows}
 use Rattle.ci_machine.proofs.OneJob.{one_job}
 use Rattle.ci_machine.proofs.TwoJobs.{two_jobs}
