@@ -6,6 +6,8 @@ use Rattle.std.proofs.Common.{refl, sym, ap, subst, ◌∙◌, inl, inr, ⊎_eli
 use Rattle.std.proofs.lemmas.Bool.{cond_both, ltb-false}
 use Rattle.ci_config.specs.Config as config
 use Rattle.ci_config.specs.Config.{Text, Config}
+use Rattle.ci_graph.specs.Pairs.{AreWithin}
+use Rattle.ci_layout.proofs.Within.{pairs_within}
 use Rattle.ci_layout.specs.Inclusion.{Given, IncludedJob, included}
 use Rattle.ci_layout.specs.Layout as layout
 use Rattle.ci_layout.specs.Layout.{all_included, is_of, by_stage, lineup, pairs}
@@ -23,8 +25,8 @@ use Rattle.ci_machine.specs.State.{State, put, pipeline_cmp, job_cmp, job_variab
 use Rattle.ci_machine.specs.Files.{IsRead}
 use Rattle.ci_machine.specs.Pipelines as pipelines
 use Rattle.ci_machine.specs.Pipelines.{Layout, IsLaidOut, misread, unplanned, new_job, new_jobs, need_of, put_needs, Creation, creation_changes}
-use Rattle.ci_machine.proofs.Keyed.{Has, Rising, has_put, has_filter}
-use Rattle.ci_machine.proofs.Behind.{in_either, put_all}
+use Rattle.ci_machine.proofs.Keyed.{Has, Rising, Below, rising_from, has_put, has_filter, has_from_all}
+use Rattle.ci_machine.proofs.Behind.{in_either, put_all, all_behind, rising_ordered, nat_less}
 use Rattle.ci_machine.proofs.Variables.{Ordered, put_ordered}
 
 -- ---- the changes
@@ -176,3 +178,21 @@ stage_are g c (stage ∷ stages) i h =
 
 pub lineup_are : (g : Given) (c : Config) (i : IncludedJob) → Has i (lineup g c) → (j : config.Job) × (Has j c.jobs × (included g c j ≡ Some i))
 lineup_are g c i h = stage_are g c c.stages i h
+
+-- the pairs are of its jobs
+pub pairs_inside : (text : List ℕ) (g : Given) (laid : Layout) → IsLaidOut text g (Ok laid) → (p : ℕ × ℕ) → Has p laid.plan.pairs → (p.0 < length laid.plan.jobs) × (p.1 < length laid.plan.jobs)
+pairs_inside text g laid lays p h =
+    let is = (laid_is text g (Ok laid) lays).1 in
+    let count = length laid.plan.jobs in
+    has_from_all (λ (q : ℕ × ℕ). (q.0 < count) × (q.1 < count)) p laid.plan.pairs
+    (subst (λ (ps : List (ℕ × ℕ)). AreWithin count ps) (sym is.1)
+    (subst (λ (js : List IncludedJob). AreWithin (length js) (pairs laid.config.stages (lineup g laid.config))) (sym is.0) (pairs_within laid.config.stages (lineup g laid.config)))) h
+
+-- its jobs come behind all others
+pub jobs_behind : (s : State) (is : List IncludedJob) → Below (λ (j : Job). j.id) s.next.job s.jobs
+    → put_all job_cmp (new_jobs s.next.pipeline s.next.job 0 is) s.jobs ≡ s.jobs ++ new_jobs s.next.pipeline s.next.job 0 is
+jobs_behind s is below =
+    let js = new_jobs s.next.pipeline s.next.job 0 is in
+    let rise = new_rise s.next.pipeline s.next.job 0 is in
+    all_behind job_cmp js s.jobs (rising_ordered (λ (j : Job). j.id) (s.next.job + 0) js rise)
+    (λ r k y m. nat_less y.id r.id (let a : y.id < s.next.job = below y m in let b : s.next.job + 0 ≤ r.id = rising_from (λ (j : Job). j.id) r (s.next.job + 0) js rise k in omega arith))

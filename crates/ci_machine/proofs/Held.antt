@@ -41,7 +41,7 @@ use Rattle.ci_machine.specs.Laws.{grants, WasGranted, IsTraced, EndsStay, Stay, 
 use Rattle.ci_machine.proofs.Keyed.{Has, Rising, has_put, put_has, same, rising_from, rising_put, has_from_all, rising_filter, filter_has, has_filter, has_find, least_find, find-map, one_at, All-from_has, contains_from_has, has_from_contains, Below, Named, has_map, contains_named}
 use Rattle.ci_machine.proofs.Counts.{passing_new, passing_put}
 use Rattle.ci_machine.proofs.Behind.{in_either, has_left, has_right, put_all, all_behind, has_all, rising_ordered, nat_less}
-use Rattle.ci_machine.proofs.Created.{created_state, after_creation, new_rise, new_length, IsNew, new_are, new_numbered, needs_are, laid_is}
+use Rattle.ci_machine.proofs.Created.{created_state, after_creation, new_rise, new_length, IsNew, new_are, new_numbered, needs_are, pairs_inside, jobs_behind}
 use Rattle.ci_machine.proofs.Included.{was_included}
 use Rattle.ci_machine.proofs.EachPlan.{Each, does, given_in}
 use Rattle.ci_machine.proofs.Grants.{WasGiven, one_lease}
@@ -278,15 +278,6 @@ variables s vs i =
 
 -- ---- a new pipeline
 
--- its jobs come behind all others
-pub jobs_behind : (s : State) (is : List IncludedJob) → Below (λ (j : Job). j.id) s.next.job s.jobs
-    → put_all job_cmp (new_jobs s.next.pipeline s.next.job 0 is) s.jobs ≡ s.jobs ++ new_jobs s.next.pipeline s.next.job 0 is
-jobs_behind s is below =
-    let js = new_jobs s.next.pipeline s.next.job 0 is in
-    let rise = new_rise s.next.pipeline s.next.job 0 is in
-    all_behind job_cmp js s.jobs (rising_ordered (λ (j : Job). j.id) (s.next.job + 0) js rise)
-    (λ r k y m. nat_less y.id r.id (let a : y.id < s.next.job = below y m in let b : s.next.job + 0 ≤ r.id = rising_from (λ (j : Job). j.id) r (s.next.job + 0) js rise k in omega arith))
-
 enters : (s : State) (new : NewPipeline) (project : Project) (given : Given) (now : ℕ) (text : List ℕ) (laid : Layout) → Linked s → Has project s.projects → project.id ≡ new.project → IsLaidOut text given (Ok laid)
     → Next s (created_state s.next.job (creation s.next.pipeline s.next.job new given now laid) s)
 enters s new project given now text laid i has named lays =
@@ -303,11 +294,7 @@ enters s new project given now text laid i has named lays =
     let is_pipeline : Named pids s.next.pipeline t.pipelines = (made.pipeline, (has_self pipeline_cmp made.pipeline (others pipeline_cmp made.pipeline s.pipelines), refl)) in
     let numbered : (k : ℕ) → k < count → Named ids (s.next.job + k) t.jobs
     = λ k l. let w = new_numbered s.next.pipeline s.next.job 0 is k (omega arith) (omega arith) in (w.0, (subst (Has w.0) (sym jobs) (has_right w.0 s.jobs made.jobs w.1.0), w.1.1)) in
-    let is_plan = (laid_is text given (Ok laid) lays).1 in
-    let within : (p : ℕ × ℕ) → Has p laid.plan.pairs → (p.0 < count) × (p.1 < count)
-    = λ p k. has_from_all (λ (q : ℕ × ℕ). (q.0 < count) × (q.1 < count)) p laid.plan.pairs
-    (subst (λ (ps : List (ℕ × ℕ)). AreWithin count ps) (sym is_plan.1)
-    (subst (λ (js : List IncludedJob). AreWithin (length js) (pairs laid.config.stages (lineup given laid.config))) (sym is_plan.0) (pairs_within laid.config.stages (lineup given laid.config)))) k in
+    let within = pairs_inside text given laid lays in
     record {
       later = record {
         projects = kept project_for_good s.projects s.projects refl;

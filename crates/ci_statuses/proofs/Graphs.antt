@@ -6,7 +6,7 @@ use Rattle.std.proofs.lemmas.List.{ext_get_or, get_or-map, length-map}
 use Rattle.ci_graph.specs.Lists.{distinct}
 use Rattle.ci_graph.specs.Pairs.{firsts_of}
 use Rattle.ci_graph.specs.JobGraph.{JobGraph, IsJobGraph, HasPairs}
-use Rattle.ci_statuses.specs.Lookups.{predecessors_by}
+use Rattle.ci_machine.specs.Statuses.{predecessors_by}
 
 range_long : (low n : ℕ) → length (range_with_len low n) ≡ n
 range_long low zero = refl

@@ -13,5 +13,5 @@ pub mod Ends
 pub mod Stays
 pub mod Grants
 pub mod Made
-pub mod Entered
+pub mod Creations
 pub mod Pages

@@ -9,14 +9,16 @@ use Rattle.ci_machine.specs.declared.records.Attempt.{Attempt}
 use Rattle.ci_machine.specs.declared.records.BoardRow.{BoardRow}
 use Rattle.ci_machine.specs.declared.change.Record.{Record}
 use Rattle.ci_machine.specs.declared.change.Record.TheVariants as row
+use Rattle.ci_machine.specs.declared.change.Key.{Key}
+use Rattle.ci_machine.specs.declared.change.Key.TheVariants as key
 use Rattle.ci_machine.specs.declared.change.RowChange.{RowChange}
 use Rattle.ci_machine.specs.declared.change.RowChange.TheVariants.{Add, Put, Remove, SetNext}
-use Rattle.ci_machine.specs.State.{State, attempt_cmp, placed, others, put, with_record, changed, applied}
+use Rattle.ci_machine.specs.State.{State, attempt_cmp, placed, others, put, with_record, without_record, changed, applied}
 use Rattle.ci_machine.specs.Statuses.{jobs_of, graph_of, facts_in, AreBoard}
 use Rattle.ci_machine.specs.Sound.{IsSound}
 use Rattle.ci_machine.proofs.Keyed.{Has, Rising, rising_put, has_from_contains, put_has, one_at, unequal}
 use Rattle.ci_machine.proofs.Sound.{sound}
-use Rattle.ci_statuses.specs.Changes.{HaveSameFacts, IsNoStatus, LeavesStatuses}
+use Rattle.ci_statuses.specs.Changes.{HaveSameFacts, IsNoStatus, IsNoStatusKey, LeavesStatuses}
 use Rattle.ci_statuses.proofs.Puts.{map_same}
 use Rattle.ci_statuses.proofs.Facts.{same_state}
 use Rattle.ci_statuses.proofs.Joint.{same_facts}
@@ -59,6 +61,7 @@ module _ (s : State) (ascend : Rising (λ a. a.id) 0 s.attempts) where
 
   record_put : (t : State) (r : Record) → IsNoStatus s r → IsLike s t → IsLike s (with_record r t)
   record_put t (row.Project p) n k = record { jobs = k.jobs; needs = k.needs; rise = k.rise; attempts = k.attempts; facts = k.facts }
+  record_put t (row.Variable v) n k = record { jobs = k.jobs; needs = k.needs; rise = k.rise; attempts = k.attempts; facts = k.facts }
   record_put t (row.Runner r) n k = record { jobs = k.jobs; needs = k.needs; rise = k.rise; attempts = k.attempts; facts = k.facts }
   record_put t (row.Pipeline p) n k = record { jobs = k.jobs; needs = k.needs; rise = k.rise; attempts = k.attempts; facts = k.facts }
   record_put t (row.Job j) n k = absurd n
@@ -67,10 +70,21 @@ module _ (s : State) (ascend : Rising (λ a. a.id) 0 s.attempts) where
   record_put t (row.Attempt a) n k = attempt_put t a n.0 (has_from_contains n.0 s.attempts n.1) n.2 n.3 n.4 k
   record_put t (row.Piece p) n k = record { jobs = k.jobs; needs = k.needs; rise = k.rise; attempts = k.attempts; facts = k.facts }
 
+  record_gone : (t : State) (x : Key) → IsNoStatusKey x → IsLike s t → IsLike s (without_record x t)
+  record_gone t (key.Variable n name) u k = record { jobs = k.jobs; needs = k.needs; rise = k.rise; attempts = k.attempts; facts = k.facts }
+  record_gone t (key.Project n) u k = absurd u
+  record_gone t (key.Runner n) u k = absurd u
+  record_gone t (key.Pipeline n) u k = absurd u
+  record_gone t (key.Job n) u k = absurd u
+  record_gone t (key.JobVariable n name) u k = absurd u
+  record_gone t (key.Need n pred) u k = absurd u
+  record_gone t (key.Attempt n) u k = absurd u
+  record_gone t (key.Piece n seq) u k = absurd u
+
   one_change : (t : State) (c : RowChange) → LeavesStatuses s c → IsLike s t → IsLike s (changed c t)
   one_change t (Add r) n k = record_put t r n k
   one_change t (Put r) n k = record_put t r n k
-  one_change t (Remove key) n k = absurd n
+  one_change t (Remove x) n k = record_gone t x n k
   one_change t (SetNext counter n) u k = record { jobs = k.jobs; needs = k.needs; rise = k.rise; attempts = k.attempts; facts = k.facts }
 
   all_changes : (t : State) (cs : List RowChange) → AllByRecursion (LeavesStatuses s) cs → IsLike s t → IsLike s (applied cs t)

@@ -9,6 +9,8 @@ use Rattle.ci_machine.specs.declared.records.Attempt.{Attempt}
 use Rattle.ci_machine.specs.declared.records.BoardRow.{BoardRow}
 use Rattle.ci_machine.specs.declared.change.Record.{Record}
 use Rattle.ci_machine.specs.declared.change.Record.TheVariants as row
+use Rattle.ci_machine.specs.declared.change.Key.{Key}
+use Rattle.ci_machine.specs.declared.change.Key.TheVariants as key
 use Rattle.ci_machine.specs.declared.change.RowChange.{RowChange}
 use Rattle.ci_machine.specs.declared.change.RowChange.TheVariants.{Add, Put, Remove, SetNext}
 use Rattle.ci_machine.specs.Leases.{is_live}
@@ -40,6 +42,7 @@ HasLive s a = (b : Attempt) × Contains s.attempts b × (b.id ≡ a.id) × (b.jo
 -- no status depends on the record, where it is put into the state
 abbrev pub IsNoStatus : State → Record → Type 0
 IsNoStatus s (row.Project p) = Unit {0}
+IsNoStatus s (row.Variable v) = Unit {0}
 IsNoStatus s (row.Runner r) = Unit {0}
 IsNoStatus s (row.Pipeline p) = Unit {0}
 IsNoStatus s (row.Job j) = ⊥
@@ -48,11 +51,16 @@ IsNoStatus s (row.Need w) = ⊥
 IsNoStatus s (row.Attempt a) = HasLike s a
 IsNoStatus s (row.Piece p) = Unit {0}
 
+-- no status depends on the record with the key: it is a project's variable
+abbrev pub IsNoStatusKey : Key → Type 0
+IsNoStatusKey (key.Variable project name) = Unit {0}
+IsNoStatusKey _ = ⊥
+
 -- the change leaves all statuses of the state
 abbrev pub LeavesStatuses : State → RowChange → Type 0
 LeavesStatuses s (Add r) = IsNoStatus s r
 LeavesStatuses s (Put r) = IsNoStatus s r
-LeavesStatuses s (Remove k) = ⊥
+LeavesStatuses s (Remove k) = IsNoStatusKey k
 LeavesStatuses s (SetNext counter n) = Unit {0}
 
 -- the row of a pending job that is started

@@ -9,7 +9,7 @@ use Rattle.ci_machine.specs.declared.records.Need.{Need}
 use Rattle.ci_machine.specs.declared.records.Attempt.{Attempt}
 use Rattle.ci_machine.specs.declared.records.BoardRow.{BoardRow}
 use Rattle.ci_machine.specs.State.{State}
-use Rattle.ci_machine.specs.Statuses.{jobs_of, place_in, pair_of}
+use Rattle.ci_machine.specs.Statuses.{jobs_of, place_in}
 use Rattle.ci_machine.specs.Ranges.{is_within, needs_within, attempts_within, rows_within}
 use Rattle.ci_statuses.specs.declared.tally.Tally.{Tally}
 
@@ -26,14 +26,6 @@ pub record AreRecords (s : State) (board : List BoardRow) (pipeline : ℕ) (jobs
 -- where a number stands among numbers in their order, if it is one of them
 abbrev pub place_of : List ℕ → ℕ → Option ℕ
 place_of numbers n = if is_among numbers n then Some (place_in numbers n) else None
-
--- the pairs that the needs of these jobs are, by the places of both jobs
-abbrev pub pairs_among : List ℕ → List Need → List (ℕ × ℕ)
-pairs_among numbers needs = map (pair_of numbers) (filter (λ w. is_among numbers w.job) needs)
-
--- of each of so many jobs those that it waits for
-abbrev pub predecessors_by : List (ℕ × ℕ) → ℕ → List (List ℕ)
-predecessors_by pairs count = map (λ place. distinct (firsts_of pairs place)) (range_with_len 0 count)
 
 abbrev pub no_tally : Tally
 no_tally = record { count = 0; last = None }

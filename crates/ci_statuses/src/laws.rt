@@ -1,6 +1,6 @@
 //! How the rows stay right under the changes of a state.
 
-ghost use Rattle.std.specs.Prelude.{◌≡◌, ◌<◌, ◌++◌, ℕ, true, List, [], ◌∷◌, length, map, Contains, Some};
+ghost use Rattle.std.specs.Prelude.{◌≡◌, ◌<◌, ◌++◌, ℕ, true, List, [], ◌∷◌, length, map, Contains, Some, Ok};
 ghost use Rattle.std.specs.List.{AllByRecursion};
 ghost use Rattle.ci_values.specs.declared.attempts.AttemptState.TheVariants.{Live};
 ghost use Rattle.ci_board.specs.declared.facts.Row.{Row};
@@ -20,7 +20,8 @@ ghost use Rattle.ci_machine.specs.Sound.{IsSound};
 ghost use Rattle.ci_machine.specs.Step.{is_pending, queue};
 ghost use Rattle.ci_machine.specs.Ranges.{row_at, pending_after};
 ghost use Rattle.ci_machine.specs.Plans.{numbered};
-ghost use Rattle.ci_machine.specs.Pipelines.{new_jobs, entered};
+ghost use Rattle.ci_layout.specs.Inclusion.{Given};
+ghost use Rattle.ci_machine.specs.Pipelines.{Layout, IsLaidOut, Creation, creation, creation_changes};
 ghost use Rattle.ci_statuses.specs.Boards.{changed_rows};
 ghost use Rattle.ci_statuses.specs.Changes.{IsWithin, HaveSameFacts, LeavesStatuses, IsMade, started_row};
 ghost use Rattle.ci_statuses.specs.Pages.{queue_behind, end_of_page, queued_at};
@@ -49,10 +50,11 @@ pub fn grant_settles()
         → AreBoard (applied (numbered (row.Attempt attempt) counter.Attempt s.next.attempt) s) (put_rows (started_row board job.id ∷ []) board) }
 {}
 
-/// A pipeline that is entered is made: its jobs are new, none waits for another, and none was tried.
-pub fn entered_is_made()
-    ensures { (s : State) (p : NewPipeline) (now : ℕ) → IsSound s
-        → IsMade s (applied (entered s.next.pipeline s.next.job p now).1 s) s.next.pipeline (new_jobs p.stage s.next.pipeline s.next.job 0 p.jobs) [] }
+/// A pipeline that is created is made: its jobs are new and come behind all others, so do its needs, and none was tried.
+pub fn created_is_made()
+    ensures { (s : State) (new : NewPipeline) (given : Given) (now : ℕ) (text : List ℕ) (laid : Layout) (made : Creation) → IsSound s → IsLaidOut text given (Ok laid)
+        → made ≡ creation s.next.pipeline s.next.job new given now laid
+        → IsMade s (applied (creation_changes s.next.job made) s) s.next.pipeline made.jobs made.needs }
 {}
 
 /// Each job has one row, which is found at its number.

@@ -5,10 +5,13 @@ ghost use Rattle.std.specs.Ordering.{nat_cmp};
 ghost use Rattle.std.specs.List.Sorted.{IsStrictlySortedBy};
 ghost use Rattle.ci_machine.specs.declared.records.BoardRow.{BoardRow};
 ghost use Rattle.ci_machine.specs.State.{State};
+ghost use Rattle.ci_machine.specs.declared.records.Need.{Need};
+ghost use Rattle.ci_machine.specs.Statuses as statuses;
 ghost use Rattle.ci_machine.specs.Statuses.{jobs_of, row_for, AreBoard};
 ghost use Rattle.ci_machine.specs.Sound.{IsSound};
 ghost use Rattle.ci_machine.specs.Ranges.{is_within};
-ghost use Rattle.ci_statuses.specs.Lookups.{pairs_among, predecessors_by, tally_of, facts_by, AreRecords};
+ghost use Rattle.ci_statuses.specs.Lookups.{tally_of, facts_by, AreRecords};
+ghost use Rattle.ci_machine.specs.Statuses.{pairs_among, predecessors_by};
 ghost use Rattle.ci_statuses.specs.Boards.{IsBoardOf};
 
 use crate::fault::StatusFault;
@@ -119,4 +122,22 @@ pub fn load_board<L: Ledger>(
     let facts = facts_of(alloc, jobs, numbers.as_slice(), attempts)?;
     let rows = rows_of(alloc, numbers.as_slice(), rows)?;
     Ok(Board::load(graph, facts, rows))
+}
+
+/// The facts and the rows of a pipeline's jobs, of its jobs and at least their attempts and rows. Errors: memory was refused, or
+/// these don't fit together.
+pub fn facts_and_rows(
+    alloc: Global,
+    jobs: &[Job],
+    attempts: &[Attempt],
+    rows: &[BoardRow],
+) -> Result<(Vec<Facts>, Vec<Row>), StatusFault>
+    ensures long { IfOk result (λ r. (length r.0.items ≡ length jobs.now) × (length r.1.items ≡ length jobs.now)) }
+    ensures facts { IfOk result (λ r. (s : State) (kept : List BoardRow) (pipeline : ℕ) (needs : List Need) → IsSound s → AreBoard s kept → AreRecords s kept pipeline jobs.now needs attempts.now rows.now → r.0.items ≡ statuses.facts_of s pipeline) }
+    ensures rows { IfOk result (λ r. (s : State) (kept : List BoardRow) (pipeline : ℕ) (needs : List Need) → IsSound s → AreBoard s kept → AreRecords s kept pipeline jobs.now needs attempts.now rows.now → r.1.items ≡ statuses.rows_of s kept pipeline) }
+{
+    let numbers = numbers_of(alloc, jobs)?;
+    let facts = facts_of(alloc, jobs, numbers.as_slice(), attempts)?;
+    let rows = rows_of(alloc, numbers.as_slice(), rows)?;
+    Ok((facts, rows))
 }

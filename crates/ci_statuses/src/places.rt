@@ -5,7 +5,8 @@ ghost use Rattle.std.specs.Ordering.{nat_cmp};
 ghost use Rattle.std.specs.List.Sorted.{IsStrictlySortedBy};
 ghost use Rattle.ci_graph.specs.Pairs.{AreWithin};
 ghost use Rattle.ci_machine.specs.Statuses.{place_in};
-ghost use Rattle.ci_statuses.specs.Lookups.{place_of, pairs_among};
+ghost use Rattle.ci_statuses.specs.Lookups.{place_of};
+ghost use Rattle.ci_machine.specs.Statuses.{pairs_among};
 
 use crate::fault::StatusFault;
 use ci_machine::records::{BoardRow, Job, Need};

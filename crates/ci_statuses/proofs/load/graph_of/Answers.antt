@@ -1,6 +1,6 @@
 use Rattle.std.proofs.Common.{length, ap, ◌∙◌}
 use Rattle.std.proofs.lemmas.List.{length-map}
-use Rattle.ci_statuses.specs.Lookups.{predecessors_by}
+use Rattle.ci_machine.specs.Statuses.{predecessors_by}
 use Rattle.ci_statuses.proofs.Graphs.{predecessors_are}
 use Rattle.ci_statuses.proofs.load.graph_of.Goals as goal
 

@@ -2,7 +2,7 @@ use Rattle.std.proofs.Common.{◌≡◌, length, take}
 use Rattle.std.specs.Ordering.{nat_cmp}
 use Rattle.std.specs.List.Sorted.{IsStrictlySortedBy}
 use Rattle.ci_graph.specs.Pairs.{AreWithin}
-use Rattle.ci_statuses.specs.Lookups.{pairs_among}
+use Rattle.ci_machine.specs.Statuses.{pairs_among}
 use Rattle.ci_statuses.proofs.places.pairs_among.Given as goal
 
 -- the pairs of the needs so far
