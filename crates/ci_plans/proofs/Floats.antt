@@ -7,16 +7,22 @@ use Rattle.ci_machine.specs.declared.records.Pipeline.{Pipeline}
 use Rattle.ci_machine.specs.declared.records.Job.{Job}
 use Rattle.ci_machine.specs.declared.records.JobVariable.{JobVariable}
 use Rattle.ci_machine.specs.declared.records.QueuedJob.{QueuedJob}
-use Rattle.ci_machine.specs.Bodies.{job_data, new_pipeline_data, variable_data, granted_variables, grant_data}
-use Rattle.std.specs.Prelude.{codes}
+use Rattle.ci_machine.specs.Bodies.{jobs_data, pipeline_data, variable_data, granted_variables, grant_data}
+use Rattle.ci_board.specs.declared.facts.Facts.{Facts}
+use Rattle.ci_board.specs.declared.facts.Row.{Row}
 
 -- a list whose items have none has none
 items : {A : Type 0} (data_of : A → Data) → ((x : A) → has_float (data_of x) ≡ false) → (xs : List A) → items_have_float (items_of (map data_of xs)) ≡ false
 items data_of plain [] = refl
 items data_of plain (x ∷ xs) = λ i. plain x i || items data_of plain xs i
 
-pub new_pipeline_has_none : (p : Pipeline) (jobs : List Job) → has_float (new_pipeline_data p jobs) ≡ false
-new_pipeline_has_none p jobs = ap (λ b. b || false) (items (job_data (codes "pending")) (λ j. refl) jobs)
+jobs_have_none : (jobs : List Job) (rows : List Row) → items_have_float (items_of (jobs_data jobs rows)) ≡ false
+jobs_have_none [] rows = refl
+jobs_have_none (j ∷ js) [] = refl
+jobs_have_none (j ∷ js) (r ∷ rows) = jobs_have_none js rows
+
+pub pipeline_has_none : (p : Pipeline) (jobs : List Job) (facts : List Facts) (rows : List Row) → has_float (pipeline_data p jobs facts rows) ≡ false
+pipeline_has_none p jobs facts rows = ap (λ b. b || false) (jobs_have_none jobs rows)
 
 pub grant_has_none : (attempt : ℕ) (token : List ℕ) (q : QueuedJob) (vs : List JobVariable) → has_float (grant_data attempt token q vs) ≡ false
 grant_has_none attempt token q vs =

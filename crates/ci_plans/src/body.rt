@@ -9,10 +9,13 @@ ghost use Rattle.std.specs.Fmt.{decimal};
 ghost use Rattle.serde_json.specs.Data.{array, object, string};
 ghost use Rattle.serde_json.specs.View.{view, items_of};
 ghost use Rattle.serde_json.specs.Written.{compact_text};
-ghost use Rattle.ci_machine.specs.Bodies.{fault_data, created_data, job_data, new_pipeline_data, variable_data, with_default, granted_variables, grant_data};
+ghost use Rattle.ci_machine.specs.Bodies.{fault_data, created_data, job_data, file_data, jobs_data, pipeline_data, variable_data, with_default, granted_variables, grant_data};
 ghost use Rattle.ci_plans.specs.Objects.{members_of, job_info_data};
 
 use crate::object::Object;
+use ci_board::facts::{Facts, Row};
+use ci_board::pipeline::pipeline_status;
+use ci_graph::part::Part;
 use ci_machine::records::{Job, JobVariable, Pipeline, QueuedJob};
 use ci_machine::reply::Detail;
 use ci_machine::text::Text;
@@ -54,36 +57,70 @@ fn job_object(alloc: Global, status: &str, job: &Job) -> Result<Object, AllocErr
     shown.with_text(alloc, "status", status)
 }
 
-fn pending_jobs(alloc: Global, jobs: &[Job]) -> Result<Value, AllocError>
-    ensures { IfOk result (λ v. view v ≡ array (items_of (map (job_data (codes "pending")) jobs.now))) }
+/// The body that tells how many jobs of a file aren't hidden.
+pub fn file(alloc: Global, jobs: usize) -> Result<Text, AllocError>
+    ensures { IfOk result (λ t. t ≡ compact_text (file_data jobs)) }
+{
+    let body = Object::new(alloc).with_number(alloc, "jobs", jobs as u64)?;
+    body.into_text(alloc)
+}
+
+fn jobs_with_rows(alloc: Global, jobs: &[Job], rows: &[Row]) -> Result<Value, AllocError>
+    requires { length rows.now ≡ length jobs.now }
+    ensures { IfOk result (λ v. view v ≡ array (items_of (jobs_data jobs.now rows.now))) }
 {
     let mut items = Vec::new(alloc);
-    for job in jobs {
-        items.push(job_object(alloc, "pending", job)?.into_value())?;
+    for i in 0..jobs.len() {
+        items.push(job_object(alloc, rows[i].status.as_str(), &jobs[i])?.into_value())?;
     }
     Ok(Value::Array(items))
 }
 
-/// The body of a new pipeline: it and each of its jobs are pending.
-pub fn new_pipeline(alloc: Global, pipeline: &Pipeline, jobs: &[Job]) -> Result<Text, AllocError>
-    ensures { IfOk result (λ t. t ≡ compact_text (new_pipeline_data pipeline.now jobs.now)) }
+/// The parts of jobs.
+fn parts_of(alloc: Global, jobs: &[Job]) -> Result<Vec<Part>, AllocError>
+    ensures { IfOk result (λ v. v.items ≡ map (λ j. j.options.part) jobs.now) }
 {
-    new_pipeline_object(alloc, pipeline, jobs)?.into_text(alloc)
+    let mut parts = Vec::with_capacity(alloc, jobs.len())?;
+    for job in jobs {
+        parts.push(job.options.part.clone()?)?;
+    }
+    Ok(parts)
 }
 
-fn new_pipeline_object(
+/// The body that shows a pipeline with its jobs, which have these facts and rows.
+pub fn pipeline(
     alloc: Global,
     pipeline: &Pipeline,
     jobs: &[Job],
-) -> Result<Object, AllocError>
-    ensures { IfOk result (λ o. object (members_of o) ≡ new_pipeline_data pipeline.now jobs.now) }
+    facts: &[Facts],
+    rows: &[Row],
+) -> Result<Text, AllocError>
+    requires facts { length facts.now ≡ length jobs.now }
+    requires rows { length rows.now ≡ length jobs.now }
+    ensures { IfOk result (λ t. t ≡ compact_text (pipeline_data pipeline.now jobs.now facts.now rows.now)) }
 {
-    let jobs = pending_jobs(alloc, jobs)?;
+    pipeline_object(alloc, pipeline, jobs, facts, rows)?.into_text(alloc)
+}
+
+fn pipeline_object(
+    alloc: Global,
+    pipeline: &Pipeline,
+    jobs: &[Job],
+    facts: &[Facts],
+    rows: &[Row],
+) -> Result<Object, AllocError>
+    requires facts { length facts.now ≡ length jobs.now }
+    requires rows { length rows.now ≡ length jobs.now }
+    ensures { IfOk result (λ o. object (members_of o) ≡ pipeline_data pipeline.now jobs.now facts.now rows.now) }
+{
+    let parts = parts_of(alloc, jobs)?;
+    let status = pipeline_status(parts.as_slice(), facts, rows);
+    let jobs = jobs_with_rows(alloc, jobs, rows)?;
     let shown = Object::new(alloc).with(alloc, "jobs", jobs)?;
     let shown = shown.with_number(alloc, "id", pipeline.id)?;
     let shown = shown.with_text(alloc, "ref", pipeline.git_ref.as_str())?;
     let shown = shown.with_text(alloc, "source", pipeline.source.as_str())?;
-    shown.with_text(alloc, "status", "pending")
+    shown.with_text(alloc, "status", status.as_str())
 }
 
 fn lines(alloc: Global, texts: &[Text]) -> Result<Value, AllocError>

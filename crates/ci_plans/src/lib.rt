@@ -3,6 +3,7 @@
 #![tactic(auto)]
 
 pub mod body;
+pub mod files;
 pub mod grants;
 mod object;
 pub mod pipelines;
@@ -13,3 +14,4 @@ pub mod runners;
 pub mod shows;
 pub mod sweeps;
 pub mod traces;
+pub mod variables;

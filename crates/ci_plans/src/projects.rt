@@ -1,12 +1,15 @@
-//! A project is to be made.
+//! A project is to be made, or asked for.
 
 ghost use Rattle.std.specs.Prelude.{◌≡◌, IfOk};
+ghost use Rattle.std.specs.Option.{option_copied};
+ghost use Rattle.std.specs.Result.{result_map_both};
+ghost use Rattle.ci_machine.specs.Plans as plans;
 ghost use Rattle.ci_machine.specs.Projects as projects;
 
 use crate::replies::{identity, made, refusal_of_named, unmade};
 use ci_machine::change::{Counter, Delta, Record};
 use ci_machine::records::Project;
-use ci_machine::reply::Reply;
+use ci_machine::reply::{Code, Reply};
 use ci_machine::request::Seed;
 use ci_machine::text::Text;
 use std::alloc::{AllocError, Global};
@@ -33,4 +36,17 @@ pub fn add_project(
         file: None,
     });
     made(alloc, text, project, Counter::Project, next)
+}
+
+/// The project with the token that was sent, if there is one, where it is the one that is named.
+///
+/// Refusals, in order: M1 where there is no such project; M2 where it isn't the one that is named.
+pub fn asked_project<'a>(project: Option<&'a Project>, named: u64) -> Result<&'a Project, Code>
+    ensures { result_map_both (λ p. p.now) (λ c. c) result ≡ plans.asked_project (option_copied project.entry) named }
+{
+    match project {
+        None => Err(Code::M1),
+        Some(project) if project.id != named => Err(Code::M2),
+        Some(project) => Ok(project),
+    }
 }

@@ -26,26 +26,27 @@ pub fn refused(alloc: Global, code: Code) -> (Reply, Delta)
 
 /// Why what was to be made isn't.
 #[derive(Clone, Copy, Drop)]
-pub(crate) enum Refusal {
+pub enum Refusal {
     Code(Code),
     /// M14, for this fault.
     Fault(FaultCode),
 }
 
 /// The plan that refuses what was to be made.
-pub(crate) fn unmade(alloc: Global, refusal: Refusal) -> Result<(Reply, Delta), AllocError>
+pub fn unmade(alloc: Global, refusal: Refusal) -> Result<(Reply, Delta), AllocError>
     ensures { IfOk result (λ plan. plan ≡ refusals.unmade refusal) }
 {
     match refusal {
         Refusal::Code(code) => Ok(refused(alloc, code)),
-        Refusal::Fault(code) => faulted(alloc, code),
+        Refusal::Fault(code) => faulted(alloc, &Detail::Code(code)),
     }
 }
 
-fn faulted(alloc: Global, code: FaultCode) -> Result<(Reply, Delta), AllocError>
-    ensures { IfOk result (λ plan. plan ≡ plans.faulted (detail.Code code)) }
+/// The plan that refuses what has a fault: M14 with its detail.
+pub fn faulted(alloc: Global, detail: &Detail) -> Result<(Reply, Delta), AllocError>
+    ensures { IfOk result (λ plan. plan ≡ plans.faulted detail.now) }
 {
-    let text = body::fault(alloc, &Detail::Code(code))?;
+    let text = body::fault(alloc, detail)?;
     let mut reply = Reply::refusal(Code::M14);
     reply.body = Some(Body::Json(text));
     Ok(unchanged(alloc, reply))
@@ -146,6 +147,23 @@ pub(crate) fn made(
 {
     let changes = numbered(alloc, new, counter, id)?;
     Ok(created(text, changes))
+}
+
+/// A reply (200) with this body.
+pub(crate) fn fine(body: Body) -> Reply
+    ensures { result ≡ plans.fine body }
+{
+    let mut reply = Reply::plain(HttpStatus::Fine);
+    reply.body = Some(body);
+    reply
+}
+
+/// One change.
+pub(crate) fn only(alloc: Global, change: RowChange) -> Result<Delta, AllocError>
+    ensures { IfOk result (λ changes. changes ≡ change ∷ []) }
+{
+    let changes = and(Vec::new(alloc), change)?;
+    Ok(Delta::new(changes))
 }
 
 /// An attempt in place of the one with its number.

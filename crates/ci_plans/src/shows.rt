@@ -1,27 +1,19 @@
-//! A job of a project is asked for, or the trace of its last attempt.
+//! A pipeline of a project is asked for, a job of one, or the trace of a job's last attempt.
 
-ghost use Rattle.std.specs.Prelude.{◌≡◌, IfOk};
+ghost use Rattle.std.specs.Prelude.{◌≡◌, IfOk, length};
 ghost use Rattle.std.specs.Option.{option_copied};
 ghost use Rattle.std.specs.Result.{result_map_both};
 ghost use Rattle.ci_machine.specs.Shows as shows;
 
 use crate::body;
-use crate::replies::unchanged;
-use ci_board::facts::Status;
+use crate::replies::{fine, unchanged};
+use ci_board::facts::{Facts, Row, Status};
 use ci_machine::change::Delta;
 use ci_machine::records::{Job, Piece, Pipeline, Project};
-use ci_machine::reply::{Body, Code, HttpStatus, Reply};
+use ci_machine::reply::{Body, Code, Reply};
 use ci_machine::request::JobQuery;
 use ci_machine::text::Bytes;
 use std::alloc::{AllocError, Global};
-
-fn fine(body: Body) -> Reply
-    ensures { result ≡ shows.fine body }
-{
-    let mut reply = Reply::plain(HttpStatus::Fine);
-    reply.body = Some(body);
-    reply
-}
 
 /// The job, where its pipeline is the project's.
 fn job_within<'a>(
@@ -82,4 +74,39 @@ pub fn trace_shown(alloc: Global, pieces: &[Piece]) -> Result<(Reply, Delta), Al
 {
     let bytes = joined(alloc, pieces)?;
     Ok(unchanged(alloc, fine(Body::Plain(bytes))))
+}
+
+/// The pipeline that was found, if there is one, where it is one of the project that was asked for.
+///
+/// Refusals, in order: those of `asked_project`; M3 where there is no such pipeline, or it isn't the project's.
+pub fn asked_pipeline<'a>(
+    project: Result<&Project, Code>,
+    pipeline: Option<&'a Pipeline>,
+) -> Result<&'a Pipeline, Code>
+    ensures { result_map_both (λ p. p.now) (λ c. c) result ≡ shows.asked_pipeline (result_map_both (λ p. p.now) (λ c. c) project.entry) (option_copied pipeline.entry) }
+{
+    let project = match project {
+        Ok(project) => project,
+        Err(code) => return Err(code),
+    };
+    match pipeline {
+        Some(pipeline) if pipeline.project == project.id => Ok(pipeline),
+        _ => Err(Code::M3),
+    }
+}
+
+/// The pipeline that `asked_pipeline` gives is shown with its jobs, which have these facts and rows (200).
+pub fn pipeline_shown(
+    alloc: Global,
+    pipeline: &Pipeline,
+    jobs: &[Job],
+    facts: &[Facts],
+    rows: &[Row],
+) -> Result<(Reply, Delta), AllocError>
+    requires facts { length facts.now ≡ length jobs.now }
+    requires rows { length rows.now ≡ length jobs.now }
+    ensures { IfOk result (λ plan. plan ≡ shows.pipeline_shown pipeline.now jobs.now facts.now rows.now) }
+{
+    let text = body::pipeline(alloc, pipeline, jobs, facts, rows)?;
+    Ok(unchanged(alloc, fine(Body::Json(text))))
 }

@@ -1,7 +1,0 @@
-use Rattle.std.proofs.Common.{◌∙◌, ap}
-use Rattle.serde_json.specs.Written.{has_float}
-use Rattle.ci_plans.proofs.Floats.{new_pipeline_has_none}
-use Rattle.ci_plans.proofs.body.new_pipeline.Goals as goal
-
-pub into_text-requires : goal.into_text-requires
-into_text-requires c = ap has_float c.in_ok-new_pipeline_object.ensures ∙ new_pipeline_has_none c.args.pipeline.now c.args.jobs.now

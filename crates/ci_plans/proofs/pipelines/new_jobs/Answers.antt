@@ -1,6 +1,0 @@
-use Rattle.std.proofs.Common.{arith}
-use Rattle.std.proofs.lemmas.Grind.{common_steps}
-use Rattle.ci_plans.proofs.pipelines.new_jobs.Goals as goal
-
-pub loop-alloc-preserved : goal.loop-alloc-preserved
-loop-alloc-preserved c = grind (arith, common_steps)
