@@ -1,6 +1,7 @@
 //! The variables of a project: one is to have a value, or to go.
 
-ghost use Rattle.std.specs.Prelude.{◌≡◌, ◌+◌, IfOk};
+ghost use Rattle.std.specs.Prelude.{◌≡◌, ◌+◌, IfOk, count_by, not};
+ghost use Rattle.std.specs.Str.{bytes_eq};
 ghost use Rattle.std.specs.Option.{option_copied};
 ghost use Rattle.std.specs.Result.{result_map_both};
 ghost use Rattle.ci_machine.specs.declared.records.Project.{Project};
@@ -17,13 +18,20 @@ use ci_words::is_variable_name;
 use std::alloc::{AllocError, Global};
 
 /// How many of the variables have another name.
-fn count_of_others(name: &Text, variables: &[Variable]) -> usize
-    ensures { result + 1 ≡ settings.count_with name.now variables.now }
+fn others(name: &Text, variables: &[Variable]) -> usize
+    ensures { result ≡ count_by (λ v. not (bytes_eq v.key name.now)) variables.now }
 {
     variables
         .iter()
         .filter(|one| !one.key.is_same(name))
         .count()
+}
+
+/// How many of the variables have another name: one less than would stand with one of this name.
+fn count_of_others(name: &Text, variables: &[Variable]) -> usize
+    ensures { result + 1 ≡ settings.count_with name.now variables.now }
+{
+    others(name, variables)
 }
 
 /// A variable of the project that was asked for, if it was, is to have a value (200); the project has these.
