@@ -1,4 +1,4 @@
--- What the tables of a file's patterns take together, in bytes.
+-- What the patterns of a file take together, in bytes: their texts, and the tables of their automata.
 use Rattle.std.specs.Prelude.{ℕ, Option, Some, None, sum_by}
 use Rattle.std.specs.Global.{Vec}
 use Rattle.ci_expr.specs.Built.{pattern_bytes}

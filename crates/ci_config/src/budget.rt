@@ -57,7 +57,7 @@ fn left_by_jobs(budget: usize, jobs: &[JobSpec]) -> Option<usize>
     Some(left)
 }
 
-/// Whether the tables of all patterns take no more than they may.
+/// Whether all patterns take no more than they may.
 pub fn is_within(config: &Config) -> bool
     ensures { result ≡ nat_le (config_bytes config.now) MAX_PATTERNS_BYTES }
 {

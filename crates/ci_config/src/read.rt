@@ -33,7 +33,7 @@ fn meaning<'t>(alloc: Global, tree: &'t Tree) -> Result<Config<'t>, ConfigFault>
 ///
 /// Errors: memory was refused; or the first fault of the tree, in the order of the definition: the document's own kind; the
 /// entries in their order, each one's inside before the next; then the jobs, their scripts and stages; then that there is one;
-/// then that the tables of all patterns take no more than `MAX_PATTERNS_BYTES`, and else X8.
+/// then that all patterns together take no more than `MAX_PATTERNS_BYTES`, and else X8.
 pub fn config<'t>(alloc: Global, tree: &'t Tree) -> Result<Config<'t>, ConfigFault>
     // What is answered is what the tree may mean.
     ensures answer { Answers result (value_view tree.now) }

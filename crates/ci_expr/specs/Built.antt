@@ -1,5 +1,5 @@
 -- What a built formula says.
-use Rattle.std.specs.Prelude.{ℕ, ◌+◌, map, chars, string_bytes, ⊤}
+use Rattle.std.specs.Prelude.{ℕ, ◌+◌, length, map, chars, string_bytes, ⊤}
 use Rattle.ci_expr.specs.declared.expr.Expr.{Expr}
 use Rattle.ci_expr.specs.declared.formula.Env.{Env}
 use Rattle.ci_expr.specs.declared.formula.Subject as subjects
@@ -29,15 +29,15 @@ formula_view (Found negated name pattern) = found negated (string_bytes name) (c
 abbrev pub formula_of : Expr → Formula
 formula_of e = formula_view e.root
 
--- ---- what the tables of its patterns take
+-- ---- what its patterns take: each its text, and the tables of its automaton
 abbrev pub formula_bytes : formulas.Formula → ℕ
 formula_bytes (Joined' j p a q b) = formula_bytes a + formula_bytes b
 formula_bytes (Group' p a) = formula_bytes a
 formula_bytes (Present name) = 0
 formula_bytes (Equal negated name subject) = 0
-formula_bytes (Found negated name pattern) = pattern.value.bytes
+formula_bytes (Found negated name pattern) = length (string_bytes pattern.value.source) + pattern.value.bytes
 
--- the bytes of the tables of an expression's patterns together
+-- what the patterns of an expression take together, in bytes
 abbrev pub pattern_bytes : Expr → ℕ
 pattern_bytes e = formula_bytes e.root
 

@@ -30,7 +30,8 @@ impl Expr {
         truth(&self.root, alloc, env)
     }
 
-    /// What is left of a budget of bytes behind the tables of the expression's patterns, or nothing where they take more.
+    /// What is left of a budget of bytes behind the expression's patterns, each with its text and the tables of its automaton, or
+    /// nothing where they take more.
     pub fn left_of(&self, budget: usize) -> Option<usize>
         ensures { Leaves budget (pattern_bytes self.now) result }
     {

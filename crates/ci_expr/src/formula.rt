@@ -143,7 +143,7 @@ fn subject_value<'a>(env: &Env<'a>, subject: &'a Subject) -> Option<&'a str>
     }
 }
 
-/// What is left of a budget of bytes behind the tables of a formula's patterns, or nothing where they take more.
+/// What is left of a budget of bytes behind a formula's patterns, each with its text and its tables, or nothing where they take more.
 pub fn left_of(formula: &Formula, budget: usize) -> Option<usize>
     ensures { Leaves budget (formula_bytes formula.now) result }
 {
@@ -154,7 +154,9 @@ pub fn left_of(formula: &Formula, budget: usize) -> Option<usize>
         },
         Formula::Group(a) => left_of(a, budget),
         Formula::Present(_) | Formula::Equal(..) => Some(budget),
-        Formula::Found(_, _, pattern) => budget.checked_sub(pattern.bytes),
+        Formula::Found(_, _, pattern) => budget
+            .checked_sub(pattern.source.len())?
+            .checked_sub(pattern.bytes),
     }
 }
 
