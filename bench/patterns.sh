@@ -28,7 +28,7 @@ used = resource.getrusage(resource.RUSAGE_CHILDREN)
 print((said.stdout + said.stderr).strip(), f"- {used.ru_utime + used.ru_stime:.2f} s, {used.ru_maxrss // 1024} MiB")' out/bench_patterns "$1"
 }
 echo "files of 65,536 bytes"
-for kind in many large words folds built unicode; do row "$kind"; done
+for kind in many large words folds unicode; do row "$kind"; done
 echo "all rules of a file on 65,536 bytes"
 for kind in short long turns edges; do row "$kind"; done
 echo "one evaluation on 65,536 bytes"

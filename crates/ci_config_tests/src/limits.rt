@@ -215,16 +215,19 @@ fn patterned(alloc: Global, rules: u32, last: &str) -> Result<String, AllocError
 fn bytes_of_all_patterns(rt: HostRuntime) -> Result<(), AllocError> {
     let alloc = rt.alloc();
     for (rules, last, want) in [
-        // 1,073 * 61 + 7 + 4 * 12 + (12 + 2 * 8) = 65,536
-        (1073, "$A =~ /[aaacc]/", "jobs: 17"),
-        (1073, "$A =~ /[aaaccc]/", "K13 X8"),
-        // 1,074 * 61 = 65,514
-        (1074, "$A", "jobs: 17"),
-        (1074, "$A =~ /x/", "K13 X8"),
-        (1073, "$A =~ /x/ && $A =~ /x/", "K13 X8"),
-        (1073, "$A =~ /x/ || ($A && $A =~ /x/)", "K13 X8"),
-        (1074, "$A =~ /x/\n  stage: nope", "K6"),
-        (1074, "$A =~ /x/\n    when: sometimes", "K8"),
+        // 1,610 * 61 + 18 + 4 * 12 + (12 + 2 * 8) = 98,304
+        (1610, "$A =~ /[aaaaaaaaaaaaaacc]/", "jobs: 26"),
+        (1610, "$A =~ /[aaaaaaaaaaaaaaccc]/", "K13 X8"),
+        // 1,607 * 61 + 80 + 126 + 71 = 98,304, each with 48: 4 + 28, 6 + 72, and 11 + 12
+        (1607, "$A =~ /[ac]/ || $A =~ /^main$/ || $A =~ /[aaaaaaaaa]/", "jobs: 26"),
+        (1607, "$A =~ /[ac]/ || $A =~ /^main$/ || $A =~ /[aaaaaaaaaa]/", "K13 X8"),
+        // 1,611 * 61 = 98,271
+        (1611, "$A", "jobs: 26"),
+        (1611, "$A =~ /x/", "K13 X8"),
+        (1610, "$A =~ /x/ && $A =~ /x/", "K13 X8"),
+        (1610, "$A =~ /x/ || ($A && $A =~ /x/)", "K13 X8"),
+        (1611, "$A =~ /x/\n  stage: nope", "K6"),
+        (1611, "$A =~ /x/\n    when: sometimes", "K8"),
     ] {
         let text = patterned(alloc, rules, last)?;
         let said = answer(alloc, text.as_str())?;
