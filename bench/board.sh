@@ -25,7 +25,7 @@ pick() {
 use Rattle.bench_board.proofs.$1.Given as goal
 
 abbrev pub ghosts-$2 : goal.ghosts-$2
-ghosts-$2 g a = record { name = a.blank.name; parts = a.blank.parts }
+ghosts-$2 a = record { name = a.blank.name; parts = a.blank.parts }
 END
 }
 pick time_build build_once

@@ -1,7 +1,8 @@
 #!/usr/bin/env bash
-# Times what the patterns of a CI file cost, and the most memory that each takes: the greatest files of patterns, read whole and
-# then evaluated rule by rule on a short value, and single evaluations on a value of 65,536 bytes. Wants python3. Takes a few
-# minutes: the program is proved before it is built.
+# Times what the patterns of a CI file cost, and the most memory that each takes: the greatest files of patterns, read whole and,
+# where they aren't refused, evaluated rule by rule on a short value; files of as many patterns as one may have, evaluated on a value
+# of 65,536 bytes; and single evaluations on such a value. Wants python3. Takes a few minutes: the program is proved before it is
+# built.
 set -eu
 . "$(dirname "$0")/tables.sh"
 need rt python3
@@ -28,5 +29,7 @@ print((said.stdout + said.stderr).strip(), f"- {used.ru_utime + used.ru_stime:.2
 }
 echo "files of 65,536 bytes"
 for kind in many large words folds unicode; do row "$kind"; done
+echo "all rules of a file on 65,536 bytes"
+for kind in short long turns edges; do row "$kind"; done
 echo "one evaluation on 65,536 bytes"
 for kind in repeat classes mixed empty optional looks groups; do row "$kind"; done

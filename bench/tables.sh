@@ -25,20 +25,22 @@ below() {
   echo "$1"
 }
 
-# Builds the program bench/NAME.rt.txt over the crates of the tables, as $program, and goes to a new folder in the one that is
-# named second, where the program's file is to lie. Takes a few minutes: the program is proved before it is built.
+# Builds the program bench/NAME.rt.txt over the crates of the tables, or over the crate that is named third, as $program, and goes
+# to a new folder in the one that is named second, where the program's file is to lie. Takes a few minutes: the program is proved
+# before it is built.
 build() {
-  local crate="$work/crates/bench_$1" low
+  local crate="$work/crates/bench_$1" low top="${3:-ci_store}"
   [ -d "$2" ] || stop "there is no folder $2"
   need rt sqlite3
   mkdir -p "$crate/src" "$crate/specs"
-  for low in $(below ci_store | sort -u); do
+  for low in $(below "$top" | sort -u); do
     cp -r "$root/crates/$low" "$work/crates/"
     grep "^$low:" "$root/crates.txt" >> "$work/crates.txt"
   done
-  echo "bench_$1: ci_board ci_machine ci_store sqlite anyhow" >> "$work/crates.txt"
+  echo "bench_$1: ci_board ci_machine ci_store $(echo "$top" | grep -v "^ci_store$" || true) sqlite anyhow" >> "$work/crates.txt"
   cp "$root/bench/$1.rt.txt" "$crate/src/main.rt"
   cp "$root/bench/made.rt.txt" "$crate/src/made.rt"
+  [ "$1" != poll ] || cp "$root/bench/queue.rt.txt" "$crate/src/queue.rt"
   : > "$crate/specs/Lib.antt"
   cd "$crate"
   rt run > build.log 2>&1 || { tail -20 build.log >&2; stop "bench/$1.rt.txt was not built"; }

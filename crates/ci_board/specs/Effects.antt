@@ -1,5 +1,5 @@
 -- What a job's status means to the jobs that wait for it, and what an idle job makes of it.
-use Rattle.std.specs.Prelude.{ℕ, Bool, true, false, ◌&&◌, ◌||◌, not, List, if◌then◌else◌, ◌==◌, Option, Some, None}
+use Rattle.std.specs.Prelude.{ℕ, Bool, true, false, ◌&&◌, not, List, if◌then◌else◌, ◌==◌, Option, Some, None}
 use Rattle.std.specs.List.{list_any}
 use Rattle.ci_values.specs.declared.attempts.AttemptState.{AttemptState}
 use Rattle.ci_values.specs.declared.attempts.AttemptState.TheVariants as attempt

@@ -49,7 +49,8 @@ fn fill(into: &mut Vec<usize>, before: &[Row], after: &[Row])
     requires empty { into.old.items ≡ [] }
     requires none { vec_len into.old ≡ 0 }
     requires room { length after.now ≤ vec_capacity into.old }
-    ensures { into.new.items ≡ differing 0 before.now after.now }
+    ensures answer { into.new.items ≡ differing 0 before.now after.now }
+    ensures exact { IsAnswer into.new.items before.now after.now }
 {
     for j in 0..after.len() {
         if !same_row(before[j], after[j]) {

@@ -4,3 +4,5 @@ pub mod Conditions
 pub mod Alike
 pub mod Wholes
 pub mod Owns
+pub mod Lacks
+pub mod Budgets

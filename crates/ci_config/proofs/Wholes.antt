@@ -43,11 +43,11 @@ pub record Bound {A B : Type 0} (m : Result A Fault) (k : A → Result B Fault) 
   pub first : m ≡ Ok value
   pub next : k value ≡ Ok y
 
-bound : {A B : Type 0} (m : Result A Fault) (k : A → Result B Fault) (y : B) → (m >>= k) ≡ Ok y → Bound m k y
+pub bound : {A B : Type 0} (m : Result A Fault) (k : A → Result B Fault) (y : B) → (m >>= k) ≡ Ok y → Bound m k y
 bound (Ok x) k y e = record { value = x; first = refl; next = e }
 bound (Err f) k y e = absurd cc
 
-demanded : {A : Type 0} (holds : Bool) (f : Fault) (m : Result A Fault) (y : A) → demand holds f m ≡ Ok y → (holds ≡ true) × (m ≡ Ok y)
+pub demanded : {A : Type 0} (holds : Bool) (f : Fault) (m : Result A Fault) (y : A) → demand holds f m ≡ Ok y → (holds ≡ true) × (m ≡ Ok y)
 demanded true f m y e = (refl, e)
 demanded false f m y e = absurd cc
 
@@ -58,11 +58,11 @@ there {A = A} (Some y) f x e = let same : y ≡ x = cc in ap (λ z. just z) same
     just : A → Option A
     just z = Some z
 
-same-ok : {A : Type 0} (x y : A) → ◌≡◌ {A = Result A Fault} (Ok x) (Ok y) → x ≡ y
+pub same-ok : {A : Type 0} (x y : A) → ◌≡◌ {A = Result A Fault} (Ok x) (Ok y) → x ≡ y
 same-ok x y e = cc
 
 -- ---- lists and maps
-each-append : {A : Type 0} (P : A → Type 0) (xs ys : List A) → Each P xs → Each P ys → Each P (xs ++ ys)
+pub each-append : {A : Type 0} (P : A → Type 0) (xs ys : List A) → Each P xs → Each P ys → Each P (xs ++ ys)
 each-append P [] ys h g = g
 each-append P (x ∷ xs) ys h g = (h.0, each-append P xs ys h.1 g)
 
@@ -74,14 +74,14 @@ each-filter {A = A} P keep (x ∷ xs) h = by-test (keep x) (each-filter P keep x
     by-test true g = (h.0, g)
     by-test false g = g
 
-each-read : {A B : Type 0} (P : B → Type 0) (read : List B → A → Result B Fault) → ((done : List B) (x : A) (y : B) → read done x ≡ Ok y → P y)
+pub each-read : {A B : Type 0} (P : B → Type 0) (read : List B → A → Result B Fault) → ((done : List B) (x : A) (y : B) → read done x ≡ Ok y → P y)
     → (done : List B) (xs : List A) (ys : List B) → Each P done → each read done xs ≡ Ok ys → Each P ys
 each-read P read good done [] ys h e = subst (Each P) (same-ok done ys e) h
 each-read P read good done (x ∷ xs) ys h e =
     let b = bound (read done x) (λ y. each read (done ++ y ∷ []) xs) ys e in
     each-read P read good (done ++ b.value ∷ []) xs ys (each-append P done (b.value ∷ []) h (good done x b.value b.first, tt)) b.next
 
-entries-read : {A S : Type 0} (P : S → Type 0) (set : A → S → Result S Fault) → ((x : A) (s t : S) → P s → set x s ≡ Ok t → P t)
+pub entries-read : {A S : Type 0} (P : S → Type 0) (set : A → S → Result S Fault) → ((x : A) (s t : S) → P s → set x s ≡ Ok t → P t)
     → (s : S) (xs : List A) (t : S) → P s → entries set s xs ≡ Ok t → P t
 entries-read P set keeps s [] t h e = subst P (same-ok s t e) h
 entries-read P set keeps s (x ∷ xs) t h e =
@@ -325,11 +325,11 @@ file-read : (p : Patterns) (ms : List (Text × Value)) (f : FileSaid) → file_f
 file-read p ms f e = entries-read FileNamed (file_entry p) (file-entry-read p) blank_file ms f (record { stages = tt; variables = tt; jobs = tt; few = omega arith }) e
 
 -- ---- and then
-not-true : (b : Bool) → not b ≡ true → b ≡ false
+pub not-true : (b : Bool) → not b ≡ true → b ≡ false
 not-true true e = absurd cc
 not-true false e = refl
 
-jobs-judged : (stages : List Text) (js : List Job) (next : Result Config Fault) (c : Config) → jobs_judged stages js next ≡ Ok c → Each (CanRun stages) js × (next ≡ Ok c)
+pub jobs-judged : (stages : List Text) (js : List Job) (next : Result Config Fault) (c : Config) → jobs_judged stages js next ≡ Ok c → Each (CanRun stages) js × (next ≡ Ok c)
 jobs-judged stages [] next c e = (tt, e)
 jobs-judged stages (j ∷ js) next c e =
     let a = demanded (not (is_nil j.script)) K5 (demand (is_among stages j.stage) K6 (jobs_judged stages js next)) c e in

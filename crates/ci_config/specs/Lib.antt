@@ -14,6 +14,7 @@ pub mod Files
 pub mod Meaning
 pub mod FaultView
 pub mod View
+pub mod Budget
 pub mod Answer
 pub mod Laws
 pub mod Examples

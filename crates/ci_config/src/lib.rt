@@ -4,6 +4,7 @@
 #![tactic(auto)]
 
 mod allow_failure;
+mod budget;
 pub mod examples;
 mod fault;
 mod file;
@@ -24,8 +25,8 @@ pub use file::Config;
 pub use job::JobSpec;
 pub use keyword::RuleWhen;
 pub use limits::{
-    MAX_EXIT_CODE, MAX_EXIT_CODES, MAX_JOBS, MAX_RETRIES, MAX_RULES, MAX_SCRIPT_ITEMS, MAX_STAGES,
-    MAX_TAGS, MAX_VARIABLES,
+    MAX_EXIT_CODE, MAX_EXIT_CODES, MAX_JOBS, MAX_PATTERNS_BYTES, MAX_RETRIES, MAX_RULES,
+    MAX_SCRIPT_ITEMS, MAX_STAGES, MAX_TAGS, MAX_VARIABLES,
 };
 pub use need::Need;
 pub use read::config;

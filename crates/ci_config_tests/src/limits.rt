@@ -195,3 +195,43 @@ fn names(rt: HostRuntime) -> Result<(), AllocError> {
     }
     Ok(())
 }
+
+/// A file of so many rules with a pattern that takes 61 bytes, its text and five states, 64 rules a job; and one more rule.
+fn patterned(alloc: Global, rules: u32, last: &str) -> Result<String, AllocError> {
+    let mut text = String::new(alloc);
+    for n in 0..rules {
+        if n % 64 == 0 {
+            let job = format!(in alloc; "j{n}:\n  script: x\n  rules:\n")?;
+            text.push_str(job.as_str())?;
+        }
+        text.push_str("  - if: $A =~ /x/\n")?;
+    }
+    text.push_str("  - if: ")?;
+    text.push_str(last)?;
+    Ok(text)
+}
+
+#[test]
+fn bytes_of_all_patterns(rt: HostRuntime) -> Result<(), AllocError> {
+    let alloc = rt.alloc();
+    for (rules, last, want) in [
+        // 1,610 * 61 + 18 + 4 * 12 + (12 + 2 * 8) = 98,304
+        (1610, "$A =~ /[aaaaaaaaaaaaaacc]/", "jobs: 26"),
+        (1610, "$A =~ /[aaaaaaaaaaaaaaccc]/", "K13 X8"),
+        // 1,607 * 61 + 80 + 126 + 71 = 98,304, each with 48: 4 + 28, 6 + 72, and 11 + 12
+        (1607, "$A =~ /[ac]/ || $A =~ /^main$/ || $A =~ /[aaaaaaaaa]/", "jobs: 26"),
+        (1607, "$A =~ /[ac]/ || $A =~ /^main$/ || $A =~ /[aaaaaaaaaa]/", "K13 X8"),
+        // 1,611 * 61 = 98,271
+        (1611, "$A", "jobs: 26"),
+        (1611, "$A =~ /x/", "K13 X8"),
+        (1610, "$A =~ /x/ && $A =~ /x/", "K13 X8"),
+        (1610, "$A =~ /x/ || ($A && $A =~ /x/)", "K13 X8"),
+        (1611, "$A =~ /x/\n  stage: nope", "K6"),
+        (1611, "$A =~ /x/\n    when: sometimes", "K8"),
+    ] {
+        let text = patterned(alloc, rules, last)?;
+        let said = answer(alloc, text.as_str())?;
+        assert_eq!(rt; said.as_str(), want, "{rules} {last}");
+    }
+    Ok(())
+}

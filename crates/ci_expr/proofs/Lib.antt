@@ -15,3 +15,4 @@ pub mod TokenLemmas
 pub mod OrderLemmas
 pub mod OneMeaning
 pub mod Computing
+pub mod Bytes

@@ -1,5 +1,5 @@
 -- Formulas, the tokens that spell them, and their truth.
-use Rattle.std.specs.Prelude.{◌≡◌, ℕ, Bool, true, false, List, [], ◌∷◌, ◌++◌, ◌==◌, ◌||◌, Option, Some, None, if◌then◌else◌, chars, codes}
+use Rattle.std.specs.Prelude.{◌≡◌, ℕ, Bool, true, false, List, [], ◌∷◌, ◌++◌, ◌||◌, chars}
 use Rattle.ci_expr.specs.declared.token.Kind.{Kind}
 use Rattle.ci_expr.specs.declared.token.Kind.TheVariants as kind
 use Rattle.ci_expr.specs.declared.tree.Join.{Join}

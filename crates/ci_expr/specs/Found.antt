@@ -6,6 +6,7 @@ use Rattle.regex_syntax.specs.Brackets.{Nested}
 use Rattle.regex_syntax.specs.Grammar.{Names, read}
 use Rattle.regex_syntax.specs.Verdict.{default_config}
 use Rattle.regex_syntax.specs.declared.Config.{Config}
+use Rattle.regex_nfa.specs.Sizes.{table_bytes}
 use Rattle.regex_nfa.specs.declared.nfa.Nfa.{Nfa}
 use Rattle.regex_vm.specs.Found.{first_match}
 use Rattle.ci_expr.specs.declared.pattern.Refusal.{Refusal}
@@ -41,3 +42,7 @@ IsRefused insensitive source refusals.Size = IsPattern insensitive source
 abbrev pub Finds : Nfa → Bool → List ℕ → Type 0
 Finds nfa insensitive source =
     (text : List ℕ) → All (λ b. b < 256) text → is_some (first_match nfa text (length text) 0 (length text)) ≡ is_found_in (config_of insensitive) source text
+
+-- the tables of an automaton that finds what the pattern's characters say take so many bytes
+abbrev pub HasTables : Bool → List ℕ → ℕ → Type 0
+HasTables insensitive source bytes = (nfa : Nfa) × Finds nfa insensitive source × (bytes ≡ table_bytes nfa)

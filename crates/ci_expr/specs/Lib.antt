@@ -13,4 +13,5 @@ pub mod Order
 pub mod Descent
 pub mod Meaning
 pub mod Built
+pub mod Budget
 pub mod Computed

@@ -1,5 +1,5 @@
 -- The source of a pattern: its body in the syntax of `regex`, where the reader finds what RE2 reads in the body.
-use Rattle.std.specs.Prelude.{ℕ, zero, suc, ◌+◌, Bool, false, List, [], ◌∷◌, ◌++◌, length, take, drop, get_or, Option, Some, None, ◌==◌, not, ◌&&◌, ◌||◌, is_some, if◌then◌else◌, chars, codes}
+use Rattle.std.specs.Prelude.{ℕ, zero, suc, ◌+◌, Bool, List, [], ◌∷◌, ◌++◌, length, take, drop, get_or, Option, Some, None, ◌==◌, not, ◌&&◌, ◌||◌, is_some, if◌then◌else◌, chars, codes}
 use Rattle.regex_syntax.specs.Reading.{spells}
 use Rattle.ci_expr.specs.declared.piece.Place.{Place}
 use Rattle.ci_expr.specs.declared.piece.Place.TheVariants.{Outside, Flags, Name, Item, Character, End}

@@ -3,14 +3,15 @@
 ghost use Rattle.std.specs.Prelude.{◌≡◌, List, Result, IfOk, map};
 ghost use Rattle.ci_expr.specs.Formula.{Formula as Meant};
 ghost use Rattle.ci_expr.specs.declared.fault.ExprCode.{ExprCode as Code};
+ghost use Rattle.ci_expr.specs.Budget.{Leaves};
 ghost use Rattle.ci_expr.specs.Truth.{truth};
 ghost use Rattle.ci_expr.specs.View.{token_view};
 ghost use Rattle.ci_expr.specs.Meaning.{Means, Answers, Allows, AtMostOneFormula, MeansOneThing, ArePatterns, parse_of, IsBuilt};
-ghost use Rattle.ci_expr.specs.Built.{values_of, formula_of};
+ghost use Rattle.ci_expr.specs.Built.{values_of, formula_of, pattern_bytes, IsMeasured};
 
 use crate::descent::formula_from;
 use crate::fault::ExprFault;
-use crate::formula::{Env, Formula, build, truth};
+use crate::formula::{Env, Formula, build, left_of, truth};
 use crate::order::list_fault;
 use crate::token::{Token, tokens};
 use std::alloc::{AllocError, Global};
@@ -28,12 +29,21 @@ impl Expr {
     {
         truth(&self.root, alloc, env)
     }
+
+    /// What is left of a budget of bytes behind the expression's patterns, each with its text and the tables of its automaton, or
+    /// nothing where they take more.
+    pub fn left_of(&self, budget: usize) -> Option<usize>
+        ensures { Leaves budget (pattern_bytes self.now) result }
+    {
+        left_of(&self.root, budget)
+    }
 }
 
 /// The expression of a list of tokens.
 fn parse_tokens(alloc: Global, tokens: &[Token]) -> Result<Expr, ExprFault>
     ensures built { IsBuilt formula_of result (parse_of (map token_view tokens.now)) }
     ensures patterns { IfOk result (λ e. ArePatterns (formula_of e)) }
+    ensures measured { IfOk result IsMeasured }
 {
     if let Some(fault) = list_fault(tokens) {
         return Err(ExprFault::Fault(fault));
@@ -56,6 +66,8 @@ pub fn parse(alloc: Global, text: &str) -> Result<Expr, ExprFault>
     ensures only { (r : Result Meant Code) → Means text.now r → Allows formula_of result r }
     // An expression that is answered holds no pattern but such as the grammar of `regex` reads.
     ensures patterns { IfOk result (λ e. ArePatterns (formula_of e)) }
+    // Each of them is kept with the bytes of its tables.
+    ensures measured { IfOk result IsMeasured }
     // The grammar leaves no choice.
     ensures one { AtMostOneFormula }
     // Nor does the text.

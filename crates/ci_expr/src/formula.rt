@@ -4,9 +4,10 @@ ghost use Rattle.std.specs.Prelude.{◌≡◌, List, chars, string_bytes, IfOk, 
 ghost use Rattle.ci_expr.specs.Source.{source_of};
 ghost use Rattle.ci_expr.specs.Truth.{same_value, negated_by, value_of, operand_value, truth};
 ghost use Rattle.ci_expr.specs.View.{tree_view, operand_view, IsOfPattern, RefusesPattern};
-ghost use Rattle.ci_expr.specs.Found.{IsPattern};
+ghost use Rattle.ci_expr.specs.Budget.{Leaves};
+ghost use Rattle.ci_expr.specs.Found.{HasTables, IsPattern};
 ghost use Rattle.ci_expr.specs.Meaning.{ArePatterns};
-ghost use Rattle.ci_expr.specs.Built.{subject_view, formula_view, values_of};
+ghost use Rattle.ci_expr.specs.Built.{subject_view, formula_view, formula_bytes, values_of, AreMeasured};
 
 use crate::fault::{ExprCode, ExprFault};
 use crate::pattern::{Pattern, Refusal, checked, is_found};
@@ -63,6 +64,7 @@ fn subject_of(alloc: Global, operand: &Operand) -> Result<Subject, AllocError>
 fn pattern_from(alloc: Global, body: &str, insensitive: bool) -> Result<Pattern, ExprFault>
     ensures source { IfOk result (λ p. chars (string_bytes p.source) ≡ source_of (chars body.now)) }
     ensures flag { IfOk result (λ p. p.insensitive ≡ insensitive) }
+    ensures tables { IfOk result (λ p. HasTables p.insensitive (chars (string_bytes p.source)) p.bytes) }
     ensures pattern { IfOk result (λ p. IsPattern insensitive (source_of (chars body.now))) }
     ensures refused { IfErr result IsOfPattern }
 {
@@ -78,6 +80,7 @@ fn pattern_from(alloc: Global, body: &str, insensitive: bool) -> Result<Pattern,
 pub fn build(alloc: Global, tree: &Tree) -> Result<Formula, ExprFault>
     ensures built { IfOk result (λ f. formula_view f ≡ tree_view tree.now) }
     ensures patterns { IfOk result (λ f. ArePatterns (tree_view tree.now)) }
+    ensures measured { IfOk result AreMeasured }
     ensures refused { IfErr result (λ e. RefusesPattern e (tree_view tree.now)) }
 {
     match tree {
@@ -137,6 +140,23 @@ fn subject_value<'a>(env: &Env<'a>, subject: &'a Subject) -> Option<&'a str>
         Subject::Null => None,
         Subject::Text(text) => Some(text.as_str()),
         Subject::Variable(name) => value_of(env, name.as_str()),
+    }
+}
+
+/// What is left of a budget of bytes behind a formula's patterns, each with its text and its tables, or nothing where they take more.
+pub fn left_of(formula: &Formula, budget: usize) -> Option<usize>
+    ensures { Leaves budget (formula_bytes formula.now) result }
+{
+    match formula {
+        Formula::Joined(_, a, b) => match left_of(a, budget) {
+            Some(left) => left_of(b, left),
+            None => None,
+        },
+        Formula::Group(a) => left_of(a, budget),
+        Formula::Present(_) | Formula::Equal(..) => Some(budget),
+        Formula::Found(_, _, pattern) => budget
+            .checked_sub(pattern.source.len())?
+            .checked_sub(pattern.bytes),
     }
 }
 

@@ -4,7 +4,7 @@ ghost use Rattle.std.specs.Prelude.{◌≡◌, ◌≢◌, ◌≤◌, ◌+◌, ch
 ghost use Rattle.regex_hir.specs.Meaning.{meaning};
 ghost use Rattle.regex_nfa.specs.Sizes.{table_bytes};
 ghost use Rattle.regex_compile.specs.Implements.{Implements};
-ghost use Rattle.ci_expr.specs.Found.{config_of, is_found_in, Finds, IsPattern, IsRefused};
+ghost use Rattle.ci_expr.specs.Found.{config_of, is_found_in, Finds, HasTables, IsPattern, IsRefused};
 
 use regex_compile::{Error, compile};
 use regex_nfa::Nfa;
@@ -23,6 +23,8 @@ pub struct Pattern {
     pub source: String,
     /// Letters match in either case.
     pub insensitive: bool,
+    /// What the tables of its automaton take, in bytes.
+    pub bytes: usize,
 }
 
 /// Why a pattern was not built.
@@ -76,17 +78,27 @@ fn build_pattern(alloc: Global, source: &str, insensitive: bool) -> Result<Nfa, 
     }
 }
 
-/// The pattern of a text that can be built. It is built here to see that it can be, and not kept.
+/// What the tables of an automaton take, in bytes: 12 for a state, and 8 for a range of a state that has several.
+fn bytes_of(nfa: &Nfa) -> usize
+    requires { table_bytes nfa.now ≤ 6144 + 24 }
+    ensures { result ≡ table_bytes nfa.now }
+{
+    12 * nfa.states.len() + 8 * nfa.transitions.len()
+}
+
+/// The pattern of a text that can be built. It is built here to see that it can be and how large, and not kept.
 pub fn checked(alloc: Global, source: String, insensitive: bool) -> Result<Pattern, Refusal>
     ensures source { IfOk result (λ p. p.source ≡ source) }
     ensures flag { IfOk result (λ p. p.insensitive ≡ insensitive) }
+    ensures tables { IfOk result (λ p. HasTables p.insensitive (chars (string_bytes p.source)) p.bytes) }
     ensures pattern { IfOk result (λ p. IsPattern insensitive (chars (string_bytes source))) }
     ensures refused { IfErr result (IsRefused insensitive (chars (string_bytes source))) }
 {
     match build_pattern(alloc, source.as_str(), insensitive) {
-        Ok(_) => Ok(Pattern {
+        Ok(nfa) => Ok(Pattern {
             source,
             insensitive,
+            bytes: bytes_of(&nfa),
         }),
         Err(refusal) => Err(refusal),
     }

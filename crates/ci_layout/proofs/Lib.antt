@@ -1,3 +1,4 @@
 pub mod Placing
 pub mod Within
 pub mod Planned
+pub mod Rising

@@ -1,5 +1,5 @@
 -- What a graph has of the jobs of a pipeline.
-use Rattle.std.specs.Prelude.{◌≡◌, ℕ, Bool, true, false, List, map, length, Option, Some, None, unwrap_or}
+use Rattle.std.specs.Prelude.{Bool, true, false, List, map, length, Option, Some, None, unwrap_or}
 use Rattle.ci_values.specs.declared.when.Retry.{Retry}
 use Rattle.ci_graph.specs.JobGraph.{no_causes}
 use Rattle.ci_graph.specs.Pairs.{AreWithin, IsAcyclic}

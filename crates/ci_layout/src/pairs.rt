@@ -3,7 +3,7 @@
 ghost use Rattle.std.specs.Prelude.{◌≡◌, ◌++◌, IfOk, OnOk, map};
 ghost use Rattle.ci_config.specs.View.{need_view};
 ghost use Rattle.ci_layout.specs.Layout.{below, needed, predecessors, pairs};
-ghost use Rattle.ci_layout.specs.Places.{IsPlaced, stages_of, jobs_of};
+ghost use Rattle.ci_layout.specs.Places.{IsPlaced, stages_of, jobs_of, never_falls_from};
 ghost use Rattle.ci_layout.specs.View.{included_view};
 
 use crate::inclusion::IncludedJob;
@@ -14,13 +14,22 @@ use std::alloc::{AllocError, Global};
 /// A position of a predecessor, and that of the job that waits for it.
 pub type Pairs = Vec<(usize, usize)>;
 
-/// Puts a pair behind those that are there for each job of lower rank.
-fn put_below(pairs: &mut Pairs, ranks: &[usize], own: usize, job: usize) -> Result<(), AllocError>
+/// Puts a pair behind those that are there for each job of lower rank. Where the ranks never fall these stand first.
+fn put_below(
+    pairs: &mut Pairs,
+    ranks: &[usize],
+    in_order: bool,
+    own: usize,
+    job: usize,
+) -> Result<(), AllocError>
+    requires { in_order ≡ never_falls_from 0 ranks.now }
     ensures { OnOk result (pairs.new.items ≡ pairs.old.items ++ map (λ i. (i, job)) (below own 0 ranks.now)) }
 {
     for (i, other) in ranks.iter().enumerate() {
         if *other < own {
             pairs.push((i, job))?;
+        } else if in_order {
+            return Ok(());
         }
     }
     Ok(())
@@ -55,6 +64,7 @@ impl<'a, 't> Lineup<'a, 't> {
             None => put_below(
                 pairs,
                 &self.ranks,
+                self.in_order,
                 rank(self.stages, job.job.stage),
                 position,
             ),

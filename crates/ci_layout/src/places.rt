@@ -5,7 +5,7 @@ ghost use Rattle.std.specs.HashMap as hash;
 ghost use Rattle.std.specs.Str.{bytes_eq};
 ghost use Rattle.ci_words.specs.Table.{words_view};
 ghost use Rattle.ci_layout.specs.Layout.{rank, ranks, place_of};
-ghost use Rattle.ci_layout.specs.Places.{IsPlaced, jobs_of};
+ghost use Rattle.ci_layout.specs.Places.{IsPlaced, jobs_of, never_falls_from};
 ghost use Rattle.ci_layout.specs.View.{included_view};
 
 use crate::inclusion::IncludedJob;
@@ -21,6 +21,8 @@ pub struct Lineup<'a, 't> {
     pub places: HashMap<&'a str, usize>,
     /// The place of each job's stage among the stages.
     pub ranks: Vec<usize>,
+    /// Whether these never fall, as where no stage stands twice in the file.
+    pub in_order: bool,
 }
 
 /// Where the jobs stand, by their names.
@@ -60,6 +62,20 @@ fn ranks(alloc: Global, stages: &[&str], jobs: &[IncludedJob]) -> Result<Vec<usi
     Ok(found)
 }
 
+/// Is no number below one before it?
+fn never_falls(numbers: &[usize]) -> bool
+    ensures { result ≡ never_falls_from 0 numbers.now }
+{
+    let mut least = 0;
+    for number in numbers {
+        if *number < least {
+            return false;
+        }
+        least = *number;
+    }
+    true
+}
+
 impl<'a, 't> Lineup<'a, 't> {
     /// The jobs, with the stages of their file.
     pub fn new(
@@ -73,11 +89,13 @@ impl<'a, 't> Lineup<'a, 't> {
     {
         let places = places(alloc, &jobs)?;
         let ranks = ranks(alloc, stages, &jobs)?;
+        let in_order = never_falls(&ranks);
         Ok(Lineup {
             stages,
             jobs,
             places,
             ranks,
+            in_order,
         })
     }
 

@@ -1,5 +1,5 @@
 -- The statements that write `attempt`.
-use Rattle.std.proofs.Common.{◌∙◌, ℕ, pos, List, [], ◌∷◌, refl, ap, ◌≡◌, ◌==◌, ◌&&◌, true, Option, sym, map, take, drop, codes, if◌then◌else◌, None, Some}
+use Rattle.std.proofs.Common.{◌∙◌, ℕ, pos, List, [], ◌∷◌, refl, ap, ◌≡◌, ◌==◌, ◌&&◌, true, Option, sym, map, take, drop, codes, if◌then◌else◌, None, Some, inl, inr, nat_lt}
 use Rattle.sqlite.specs.declared.types.Value.TheVariants.{Null, Text}
 use Rattle.sqlite.specs.Order.{Row, column}
 use Rattle.sqlite.specs.Term.{Term, lit, col}
@@ -18,27 +18,28 @@ use Rattle.ci_tables.specs.Statements.{HasPut}
 use Rattle.ci_tables.proofs.Puts.{MeansPut, MeansRemove, GivesRecord}
 use Rattle.ci_tables.proofs.Absent.{absent_rowid}
 use Rattle.ci_tables.proofs.Scalars.{cast_int, compares}
-use Rattle.ci_store.specs.declared.texts.TheConstants.{UPDATE_ATTEMPT, INSERT_ATTEMPT, DELETE_ATTEMPT, SELECT_ATTEMPT, SELECT_ATTEMPTS_OF, SELECT_ATTEMPTS_IN, SELECT_ATTEMPTS_WITHIN}
+use Rattle.ci_store.specs.declared.texts.TheConstants.{UPDATE_ATTEMPT, INSERT_ATTEMPT, DELETE_ATTEMPT, SELECT_ATTEMPT, SELECT_ATTEMPTS_OF, SELECT_ATTEMPTS_IN, SELECT_ATTEMPTS_WITHIN, SELECT_ATTEMPTS_ABOVE}
+use Rattle.ci_store.specs.declared.load.TheConstants.{LAST_INTEGER}
 use Rattle.ci_store.specs.Schema.{the_schema, attempt}
 use Rattle.ci_store.specs.Rows.{number, attempt_row, state_number, cause_in, exit_in}
 use Rattle.ci_store.specs.Stands.{rows_by_tree, rows_of, Stands, IsAt}
 use Rattle.ci_store.proofs.OneList.{IsAlike, alike_but, regular_with_attempts}
 use Rattle.ci_store.proofs.Lists.{put_rises, by_number}
-use Rattle.ci_store.proofs.Records.{is, at_least, at_most, put_stands, same_number, finds_number, finds_within, numbered, cast_option}
+use Rattle.ci_store.proofs.Records.{is, at_least, at_most, put_stands, same_number, finds_number, finds_within, numbered, cast_option, above, finds_beyond}
 use Rattle.sqlite.specs.Collation.TheVariants.{Binary}
 use Rattle.sqlite_schema.specs.Rules.{equal}
 use Rattle.sqlite.proofs.Callers.{IsPlain}
 use Rattle.ci_tables.proofs.Selects.{MeansSelect}
-use Rattle.ci_store.specs.Calls.{ShowsRecords, listed}
+use Rattle.ci_store.specs.Calls.{ShowsRecords, listed, FindsNumber}
 use Rattle.ci_values.specs.Attempts.{is_live_state}
 use Rattle.ci_machine.specs.Leases.{is_live}
-use Rattle.sqlite_sql.specs.declared.ops.CompareOp.TheVariants.{Le, Ge}
+use Rattle.sqlite_sql.specs.declared.ops.CompareOp.TheVariants.{Le, Ge, Gt}
 use Rattle.ci_machine.specs.Statuses.{attempts_of}
 use Rattle.ci_machine.specs.Ranges.{is_within, attempts_within}
 use Rattle.ci_machine.specs.Step.{attempt_at, live_attempts}
 use Rattle.ci_values.specs.declared.attempts.AttemptState.{AttemptState}
 use Rattle.ci_values.specs.declared.attempts.AttemptState.TheVariants.{Live, Succeeded, Failed, Cancelled}
-use Rattle.ci_store.proofs.Shows.{columns_of, names_of, by, shows_passing, shows_sorted, found_one, found_all, rising_numbers}
+use Rattle.ci_store.proofs.Shows.{columns_of, names_of, by, shows_passing, shows_sorted, found_one, found_all, rising_numbers, found_none}
 use Rattle.std.specs.List.{list_any}
 use Rattle.sqlite_value.specs.Keys.{plain, joined}
 use Rattle.sqlite_schema.specs.declared.schema.Keys.TheVariants.{Enforced}
@@ -149,6 +150,22 @@ attempt_found g old new k at id found h =
     (shows_passing attempt_row 6 attempt refl SELECT_ATTEMPT.now (is 0 0 ∷ []) (number id ∷ []) (λ im. equal Binary (column im 0) (number id) && true) (λ r. refl) (λ x. x.id == id) (λ x. finds_number x.id id) k k.state.attempts refl h.rows
     (λ r. refl) means_select (state g old) (state g new) at.now h.shown)
     found h.read
+
+means_select_above : MeansSelect the_schema attempt SELECT_ATTEMPTS_ABOVE.now (above 0 0 ∷ []) (columns_of attempt) [] (names_of attempt)
+unfolding understood everything
+means_select_above = record { is = refl; unlisted = refl; plain = (refl, refl) }
+
+pub plain_select_above : IsPlain (understood the_schema SELECT_ATTEMPTS_ABOVE.now)
+plain_select_above = means_select_above.plain
+
+pub attempt_named : {S : Type 0} (g : Ghosts S) (old new : Held S) (k : Kept) → IsAt g k old → (id : ℕ) (found : Option Attempt) → FindsNumber (λ row x. row ≡ attempt_row x) g SELECT_ATTEMPT.now SELECT_ATTEMPTS_ABOVE.now id old new found → found ≡ attempt_at k.state id
+attempt_named g old new k at id found (inl h) = attempt_found g old new k at id found h
+attempt_named g old new k at id found (inr h) =
+    h.0
+    ∙ sym (found_none (λ (x : Attempt). x.id) LAST_INTEGER id h.1 (λ row x. row ≡ attempt_row x) attempt_row k.state.attempts h.2.rows
+    (shows_passing attempt_row 6 attempt refl SELECT_ATTEMPTS_ABOVE.now (above 0 0 ∷ []) (number LAST_INTEGER ∷ []) (λ im. compares Gt (column im 0) (number LAST_INTEGER) && true) (λ r. refl) (λ x. nat_lt LAST_INTEGER x.id) (λ x. finds_beyond LAST_INTEGER x.id) k k.state.attempts refl h.2.rows
+    (λ r. refl) means_select_above (state g old) (state g new) at.now h.2.shown)
+    h.2.read)
 
 pub means_select_of : MeansSelect the_schema attempt SELECT_ATTEMPTS_OF.now (is 2 0 ∷ []) (columns_of attempt) (by 0) (names_of attempt)
 unfolding understood everything

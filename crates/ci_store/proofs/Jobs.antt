@@ -1,5 +1,5 @@
 -- The statements that write `job`.
-use Rattle.std.proofs.Common.{◌≡◌, ◌∙◌, ℕ, pos, List, [], ◌∷◌, ◌++◌, if◌then◌else◌, cond, Some, None, refl, ap, ◌==◌, ◌&&◌, true, Option, sym, map, take, drop, codes}
+use Rattle.std.proofs.Common.{◌≡◌, ◌∙◌, ℕ, pos, List, [], ◌∷◌, ◌++◌, if◌then◌else◌, cond, Some, None, refl, ap, ◌==◌, ◌&&◌, true, Option, sym, map, take, drop, codes, inl, inr, nat_lt}
 use Rattle.sqlite.specs.declared.types.Value.TheVariants.{Null, Text}
 use Rattle.sqlite.specs.Order.{Row, column}
 use Rattle.sqlite.specs.Term.{Term, lit, col}
@@ -8,6 +8,7 @@ use Rattle.sqlite.specs.Listing.{understood}
 use Rattle.sqlite.specs.Store.{Ghosts}
 use Rattle.sqlite.specs.Held.{Held, state}
 use Rattle.sqlite_keyed.proofs.ListLemmas.{ascending-filter, all-filter}
+use Rattle.sqlite_sql.specs.declared.ops.CompareOp.TheVariants.{Gt}
 use Rattle.ci_machine.specs.Kept.{Kept}
 use Rattle.ci_machine.specs.State.{with_record, without_record, job_cmp}
 use Rattle.ci_machine.specs.declared.records.Job.{Job}
@@ -18,8 +19,9 @@ use Rattle.ci_tables.specs.Statements.{HasPut}
 use Rattle.ci_tables.proofs.Puts.{MeansPut, MeansRemove, GivesRecord}
 use Rattle.ci_tables.proofs.Absent.{absent_rowid}
 use Rattle.ci_tables.proofs.Childless.{cascade}
-use Rattle.ci_tables.proofs.Scalars.{cast_int}
-use Rattle.ci_store.specs.declared.texts.TheConstants.{UPDATE_JOB, INSERT_JOB, DELETE_JOB, SELECT_JOB, SELECT_JOBS_OF}
+use Rattle.ci_tables.proofs.Scalars.{cast_int, compares}
+use Rattle.ci_store.specs.declared.texts.TheConstants.{UPDATE_JOB, INSERT_JOB, DELETE_JOB, SELECT_JOB, SELECT_JOBS_OF, SELECT_JOBS_ABOVE}
+use Rattle.ci_store.specs.declared.load.TheConstants.{LAST_INTEGER}
 use Rattle.ci_store.specs.Schema.{the_schema, job, need}
 use Rattle.ci_records.specs.JsonText.{spec_text, spec_data}
 use Rattle.serde_json.specs.Read.{read}
@@ -27,17 +29,17 @@ use Rattle.ci_store.specs.Rows.{number, job_row}
 use Rattle.ci_store.specs.Stands.{rows_by_tree, rows_of, Stands, IsAt}
 use Rattle.ci_store.proofs.OneList.{IsAlike, alike_but, regular_with_jobs}
 use Rattle.ci_store.proofs.Lists.{put_rises, by_number, all_put}
-use Rattle.ci_store.proofs.Records.{is, put_stands, same_number, finds_number, numbered}
+use Rattle.ci_store.proofs.Records.{is, put_stands, same_number, finds_number, numbered, above, finds_beyond}
 use Rattle.sqlite.specs.Collation.TheVariants.{Binary}
 use Rattle.sqlite_schema.specs.Rules.{equal}
 use Rattle.sqlite.proofs.Callers.{IsPlain}
 use Rattle.ci_tables.proofs.Selects.{MeansSelect}
-use Rattle.ci_store.specs.Calls.{ShowsRecords, listed}
+use Rattle.ci_store.specs.Calls.{ShowsRecords, listed, FindsNumber}
 use Rattle.sqlite_rules.proofs.ListLemmas.{all_has}
 use Rattle.ci_machine.specs.Statuses.{jobs_of}
 use Rattle.ci_machine.specs.Step.{job_at}
 use Rattle.ci_store.specs.Load.{IsJobRow}
-use Rattle.ci_store.proofs.Shows.{columns_of, names_of, by, shows_passing, shows_sorted, found_one, found_all, rising_numbers}
+use Rattle.ci_store.proofs.Shows.{columns_of, names_of, by, shows_passing, shows_sorted, found_one, found_all, rising_numbers, found_none}
 use Rattle.std.specs.List.{list_any, cons_option}
 use Rattle.sqlite_value.specs.Keys.{plain, joined}
 use Rattle.sqlite_schema.specs.declared.schema.Keys.TheVariants.{Enforced}
@@ -127,6 +129,22 @@ job_found g old new k at id found h =
     (shows_passing job_row 4 job refl SELECT_JOB.now (is 0 0 ∷ []) (number id ∷ []) (λ im. equal Binary (column im 0) (number id) && true) (λ r. refl) (λ x. x.id == id) (λ x. finds_number x.id id) k k.state.jobs refl h.rows
     (λ r. refl) means_select (state g old) (state g new) at.now h.shown)
     found h.read
+
+means_select_above : MeansSelect the_schema job SELECT_JOBS_ABOVE.now (above 0 0 ∷ []) (columns_of job) [] (names_of job)
+unfolding understood everything
+means_select_above = record { is = refl; unlisted = refl; plain = (refl, refl) }
+
+pub plain_select_above : IsPlain (understood the_schema SELECT_JOBS_ABOVE.now)
+plain_select_above = means_select_above.plain
+
+pub job_named : {S : Type 0} (g : Ghosts S) (old new : Held S) (k : Kept) → IsAt g k old → (id : ℕ) (found : Option Job) → FindsNumber IsJobRow g SELECT_JOB.now SELECT_JOBS_ABOVE.now id old new found → found ≡ job_at k.state id
+job_named g old new k at id found (inl h) = job_found g old new k at id found h
+job_named g old new k at id found (inr h) =
+    h.0
+    ∙ sym (found_none (λ (x : Job). x.id) LAST_INTEGER id h.1 IsJobRow job_row k.state.jobs h.2.rows
+    (shows_passing job_row 4 job refl SELECT_JOBS_ABOVE.now (above 0 0 ∷ []) (number LAST_INTEGER ∷ []) (λ im. compares Gt (column im 0) (number LAST_INTEGER) && true) (λ r. refl) (λ x. nat_lt LAST_INTEGER x.id) (λ x. finds_beyond LAST_INTEGER x.id) k k.state.jobs refl h.2.rows
+    (λ r. refl) means_select_above (state g old) (state g new) at.now h.2.shown)
+    h.2.read)
 
 pub means_select_of : MeansSelect the_schema job SELECT_JOBS_OF.now (is 2 0 ∷ []) (columns_of job) (by 0) (names_of job)
 unfolding understood everything

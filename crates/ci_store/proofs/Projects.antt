@@ -1,5 +1,5 @@
 -- The statements that write `project`.
-use Rattle.std.proofs.Common.{◌∙◌, ℕ, pos, List, [], ◌∷◌, refl, ap, ◌≡◌, ◌==◌, ◌&&◌, true, Option, sym, map, take, drop, codes}
+use Rattle.std.proofs.Common.{◌∙◌, ℕ, pos, List, [], ◌∷◌, refl, ap, ◌≡◌, ◌==◌, ◌&&◌, true, Option, sym, map, take, drop, codes, inl, inr, nat_lt}
 use Rattle.sqlite.specs.declared.types.Value.TheVariants.{Null, Text}
 use Rattle.sqlite.specs.Order.{Row, column}
 use Rattle.sqlite.specs.Term.{Term, lit, col}
@@ -8,6 +8,7 @@ use Rattle.sqlite.specs.Listing.{understood}
 use Rattle.sqlite.specs.Store.{Ghosts}
 use Rattle.sqlite.specs.Held.{Held, state}
 use Rattle.sqlite_keyed.proofs.ListLemmas.{ascending-filter}
+use Rattle.sqlite_sql.specs.declared.ops.CompareOp.TheVariants.{Gt}
 use Rattle.ci_machine.specs.Kept.{Kept}
 use Rattle.ci_machine.specs.State.{with_record, without_record, project_cmp}
 use Rattle.ci_machine.specs.declared.records.Project.{Project}
@@ -17,22 +18,23 @@ use Rattle.ci_tables.specs.Stands.{image, places}
 use Rattle.ci_tables.specs.Statements.{HasPut}
 use Rattle.ci_tables.proofs.Puts.{MeansPut, MeansRemove, GivesRecord}
 use Rattle.ci_tables.proofs.Absent.{absent_rowid}
-use Rattle.ci_tables.proofs.Scalars.{cast_int, cast_text}
-use Rattle.ci_store.specs.declared.texts.TheConstants.{UPDATE_PROJECT, INSERT_PROJECT, DELETE_PROJECT, SELECT_PROJECT, SELECT_PROJECT_WITH}
+use Rattle.ci_tables.proofs.Scalars.{cast_int, cast_text, compares}
+use Rattle.ci_store.specs.declared.texts.TheConstants.{UPDATE_PROJECT, INSERT_PROJECT, DELETE_PROJECT, SELECT_PROJECT, SELECT_PROJECT_WITH, SELECT_PROJECTS_ABOVE}
+use Rattle.ci_store.specs.declared.load.TheConstants.{LAST_INTEGER}
 use Rattle.ci_store.specs.Schema.{the_schema, project}
 use Rattle.ci_store.specs.Rows.{number, project_row}
 use Rattle.ci_store.specs.Stands.{rows_by_tree, rows_of, Stands, IsAt}
 use Rattle.ci_store.proofs.OneList.{IsAlike, alike_but, regular_with_projects}
 use Rattle.ci_store.proofs.Lists.{put_rises, by_number}
-use Rattle.ci_store.proofs.Records.{is, put_stands, same_number, finds_number, finds_text, numbered}
+use Rattle.ci_store.proofs.Records.{is, put_stands, same_number, finds_number, finds_text, numbered, above, finds_beyond}
 use Rattle.sqlite.specs.Collation.TheVariants.{Binary}
 use Rattle.sqlite_schema.specs.Rules.{equal}
 use Rattle.sqlite.proofs.Callers.{IsPlain}
 use Rattle.ci_tables.proofs.Selects.{MeansSelect}
-use Rattle.ci_store.specs.Calls.{ShowsRecords, listed}
+use Rattle.ci_store.specs.Calls.{ShowsRecords, listed, FindsNumber}
 use Rattle.std.specs.Str.{bytes_eq}
 use Rattle.ci_machine.specs.Step.{project_at, project_with}
-use Rattle.ci_store.proofs.Shows.{columns_of, names_of, shows_passing, found_one}
+use Rattle.ci_store.proofs.Shows.{columns_of, names_of, shows_passing, found_one, found_none}
 use Rattle.std.specs.List.{list_any}
 use Rattle.sqlite_value.specs.Keys.{plain}
 use Rattle.sqlite_schema.specs.declared.schema.Keys.TheVariants.{Enforced}
@@ -107,6 +109,22 @@ project_found g old new k at id found h =
     (shows_passing project_row 1 project refl SELECT_PROJECT.now (is 0 0 ∷ []) (number id ∷ []) (λ im. equal Binary (column im 0) (number id) && true) (λ r. refl) (λ x. x.id == id) (λ x. finds_number x.id id) k k.state.projects refl h.rows
     (λ r. refl) means_select (state g old) (state g new) at.now h.shown)
     found h.read
+
+means_select_above : MeansSelect the_schema project SELECT_PROJECTS_ABOVE.now (above 0 0 ∷ []) (columns_of project) [] (names_of project)
+unfolding understood everything
+means_select_above = record { is = refl; unlisted = refl; plain = (refl, refl) }
+
+pub plain_select_above : IsPlain (understood the_schema SELECT_PROJECTS_ABOVE.now)
+plain_select_above = means_select_above.plain
+
+pub project_named : {S : Type 0} (g : Ghosts S) (old new : Held S) (k : Kept) → IsAt g k old → (id : ℕ) (found : Option Project) → FindsNumber (λ row x. row ≡ project_row x) g SELECT_PROJECT.now SELECT_PROJECTS_ABOVE.now id old new found → found ≡ project_at k.state id
+project_named g old new k at id found (inl h) = project_found g old new k at id found h
+project_named g old new k at id found (inr h) =
+    h.0
+    ∙ sym (found_none (λ (x : Project). x.id) LAST_INTEGER id h.1 (λ row x. row ≡ project_row x) project_row k.state.projects h.2.rows
+    (shows_passing project_row 1 project refl SELECT_PROJECTS_ABOVE.now (above 0 0 ∷ []) (number LAST_INTEGER ∷ []) (λ im. compares Gt (column im 0) (number LAST_INTEGER) && true) (λ r. refl) (λ x. nat_lt LAST_INTEGER x.id) (λ x. finds_beyond LAST_INTEGER x.id) k k.state.projects refl h.2.rows
+    (λ r. refl) means_select_above (state g old) (state g new) at.now h.2.shown)
+    h.2.read)
 
 means_select_with : MeansSelect the_schema project SELECT_PROJECT_WITH.now (is 3 0 ∷ []) (columns_of project) [] (names_of project)
 unfolding understood everything

@@ -96,6 +96,10 @@ finds_within first last n = (λ i. compares_at_least n first i && (compares_at_m
 pub finds_above : (group other m n : ℕ) → (equal Binary (number m) (number group) && (compares Gt (number n) (number other) && true)) ≡ ((m == group) && nat_lt other n)
 finds_above group other m n = (λ i. (equal_int m group ∙ is_number m group) i && (compares_above n other i && true)) ∙ ap (λ b. (m == group) && b) (and_true (nat_lt other n))
 
+-- those above another
+pub finds_beyond : (other n : ℕ) → (compares Gt (number n) (number other) && true) ≡ nat_lt other n
+finds_beyond other n = and_true _ ∙ compares_above n other
+
 -- texts that compare as equal are the same
 pub finds_text : (a b : List ℕ) → (equal Binary (Text a) (Text b) && true) ≡ bytes_eq a b
 finds_text a b = and_true _ ∙ equal_text a b ∙ is_eq-slice_cmp a b

@@ -1,5 +1,6 @@
 -- What a query over one table shows of a state, and the records that its rows are read as.
-use Rattle.std.proofs.Common.{◌≡◌, ◌∙◌, ℕ, pos, List, [], ◌∷◌, map, filter, find, take, drop, slice_get, Bool, true, false, is_eq, Ordering, Less, Equal, Greater, Option, Some, None, refl, sym, ap, subst, cond, inl, inr, IsPermutation}
+use Rattle.std.proofs.Common.{◌≡◌, ◌∙◌, ℕ, pos, List, [], ◌∷◌, map, filter, find, take, drop, slice_get, Bool, true, false, is_eq, Ordering, Less, Equal, Greater, Option, Some, None, refl, sym, ap, subst, cond, inl, inr, IsPermutation, ◌<◌, ◌≤◌, ◌==◌, nat_lt, ltb-false, ne_eqb, arith}
+use Rattle.std.proofs.lemmas.Bool.{cond_both}
 use Rattle.std.specs.List.{AllByRecursion, AllZip}
 use Rattle.std.specs.Ordering.{nat_cmp, ordering_then}
 use Rattle.std.specs.Cmp.{IsTotalOrder}
@@ -136,6 +137,23 @@ module _ {A : Type 0} (is_row : Row → A → Type 0) (values : A → Row) (pass
 
   pub found_all : (rows : List Row) → rows ≡ map values (filter passes xs) → (found : List A) → AllZip is_row rows found → found ≡ filter passes xs
   found_all rows is found read = each (filter passes xs) (λ y h. (has_filtered passes xs y h).0) found (subst (λ l. AllZip is_row l found) is read)
+
+-- ---- a number above which no record is shown
+
+module _ {A : Type 0} (id : A → ℕ) (last n : ℕ) (over : last < n) where
+  none_among : (xs : List A) → filter (λ x. nat_lt last (id x)) xs ≡ [] → find (λ x. id x == n) xs ≡ None
+  none_among [] e = refl
+  none_among (x ∷ xs) e =
+      cond_both (nat_lt last (id x)) (x ∷ filter (λ y. nat_lt last (id y)) xs) (filter (λ y. nat_lt last (id y)) xs) (λ l. l ≡ [] → find (λ y. id y == n) (x ∷ xs) ≡ None)
+      (λ _ some. absurd (cc))
+      (λ low rest.
+      let other : (id x == n) ≡ false = ne_eqb (id x) n (λ same. let le : id x ≤ last = ltb-false last (id x) low in omega arith) in
+      subst (λ b. cond b (Some x) (find (λ y. id y == n) xs) ≡ None) (sym other) (none_among xs rest))
+      e
+
+  pub found_none : (is_row : Row → A → Type 0) (values : A → Row) (xs : List A) (rows : List Row) → IsPermutation (map values (filter (λ x. nat_lt last (id x)) xs)) rows → AllZip is_row rows [] → find (λ x. id x == n) xs ≡ None
+  found_none is_row values xs [] same read = none_among xs (map_nil _ _ (perm_nil _ same))
+  found_none is_row values xs (r ∷ rows) same read = absurd read
 
 -- ---- the records of one owner, which rise by the second part of their key
 

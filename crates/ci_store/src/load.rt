@@ -10,7 +10,7 @@ ghost use Rattle.sqlite_trees.specs.View.{doubt};
 ghost use Rattle.ci_board.specs.Effects.{status_number};
 ghost use Rattle.ci_machine.specs.Step.{next_of};
 ghost use Rattle.ci_store.specs.Schema.{the_schema};
-ghost use Rattle.ci_store.specs.Calls.{Loads, ShowsRecords, listed};
+ghost use Rattle.ci_store.specs.Calls.{Loads, ShowsRecords, FindsNumber, listed};
 ghost use Rattle.ci_store.specs.Rows.{number};
 
 use crate::columns::{counter_key, status_number};
@@ -24,6 +24,9 @@ use ci_tables::read::rows;
 use ci_tables::values::number;
 use sqlite::types::{ToSql, ValueRef};
 use sqlite::{Alter, Connection, Row};
+
+/// The greatest integer of SQL.
+pub const LAST_INTEGER: u64 = 9_223_372_036_854_775_807;
 
 /// The rows of a query that writes nothing. `Memory` is answered only where the store is open still.
 pub(crate) fn look_up<S: Alter>(
@@ -91,6 +94,30 @@ pub(crate) fn one_at<S: Alter, R: Stored>(
 {
     let id = number(id)?;
     one(conn, sql, &[id])
+}
+
+/// The record with a number that a call names, which may be any: where it is over the greatest integer of SQL, none has it, and
+/// the query of the records above that integer says so. Errors: that query shows one.
+pub(crate) fn one_named<S: Alter, R: Stored>(
+    conn: &mut Connection<S>,
+    sql: &str,
+    above: &str,
+    id: u64,
+) -> Result<Option<R>, StoreFault>
+    requires idle { conn.old.in_transaction ≡ false }
+    requires plain { IsPlain (understood the_schema sql.now) }
+    requires plain_above { IsPlain (understood the_schema above.now) }
+    ensures idle { conn.new.in_transaction ≡ false }
+    ensures loads { Loads S.Store conn.old conn.new result (λ _ found. FindsNumber R.is_row S.Store sql.now above.now id conn.old conn.new found) }
+{
+    if id <= LAST_INTEGER {
+        return one_at(conn, sql, id);
+    }
+    let found: Option<R> = one_at(conn, above, LAST_INTEGER)?;
+    match found {
+        None => Ok(None),
+        Some(_) => Err(StoreFault::Broken),
+    }
 }
 
 /// The records that a query shows.

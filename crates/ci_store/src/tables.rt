@@ -292,7 +292,12 @@ impl<S: Alter> Store for Tables<S> {
     }
 
     fn project(&mut self, id: u64) -> Result<Option<Project>, StoreFault> {
-        load::one_at(&mut self.conn, texts::SELECT_PROJECT, id)
+        load::one_named(
+            &mut self.conn,
+            texts::SELECT_PROJECT,
+            texts::SELECT_PROJECTS_ABOVE,
+            id,
+        )
     }
 
     fn project_with(&mut self, token: &Text) -> Result<Option<Project>, StoreFault> {
@@ -308,7 +313,12 @@ impl<S: Alter> Store for Tables<S> {
     }
 
     fn job(&mut self, id: u64) -> Result<Option<Job>, StoreFault> {
-        load::one_at(&mut self.conn, texts::SELECT_JOB, id)
+        load::one_named(
+            &mut self.conn,
+            texts::SELECT_JOB,
+            texts::SELECT_JOBS_ABOVE,
+            id,
+        )
     }
 
     fn job_variables(&mut self, job: u64) -> Result<Vec<JobVariable>, StoreFault> {
@@ -316,7 +326,12 @@ impl<S: Alter> Store for Tables<S> {
     }
 
     fn attempt(&mut self, id: u64) -> Result<Option<Attempt>, StoreFault> {
-        load::one_at(&mut self.conn, texts::SELECT_ATTEMPT, id)
+        load::one_named(
+            &mut self.conn,
+            texts::SELECT_ATTEMPT,
+            texts::SELECT_ATTEMPTS_ABOVE,
+            id,
+        )
     }
 
     fn attempts_of(&mut self, job: u64) -> Result<Vec<Attempt>, StoreFault> {

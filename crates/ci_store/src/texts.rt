@@ -1,4 +1,4 @@
-//! The texts of all statements. A connection keeps the plans of 64 texts; these are fewer.
+//! The texts of all statements. A connection keeps the plans of 64 texts; those behind the schema are fewer.
 
 pub const SCHEMA: [&str; 15] = [
     "CREATE TABLE meta (key TEXT NOT NULL PRIMARY KEY, num INTEGER NOT NULL) STRICT",
@@ -33,6 +33,8 @@ pub const UPDATE_PROJECT: &str =
 pub const DELETE_PROJECT: &str = "DELETE FROM project WHERE id = ?1";
 
 pub const SELECT_PROJECT: &str = "SELECT id, name, token, file FROM project WHERE id = ?1";
+
+pub const SELECT_PROJECTS_ABOVE: &str = "SELECT id, name, token, file FROM project WHERE id > ?1";
 
 pub const SELECT_PROJECT_WITH: &str = "SELECT id, name, token, file FROM project WHERE token = ?1";
 
@@ -69,6 +71,9 @@ pub const DELETE_JOB: &str = "DELETE FROM job WHERE id = ?1";
 pub const SELECT_JOB: &str =
     "SELECT id, pipeline, pos, name, stage, spec, played, cancelled, aside FROM job WHERE id = ?1";
 
+pub const SELECT_JOBS_ABOVE: &str =
+    "SELECT id, pipeline, pos, name, stage, spec, played, cancelled, aside FROM job WHERE id > ?1";
+
 pub const SELECT_JOBS_OF: &str =
     "SELECT id, pipeline, pos, name, stage, spec, played, cancelled, aside FROM job WHERE pipeline = ?1 ORDER BY id";
 
@@ -92,6 +97,9 @@ pub const DELETE_ATTEMPT: &str = "DELETE FROM attempt WHERE id = ?1";
 
 pub const SELECT_ATTEMPT: &str =
     "SELECT id, job, runner, token, granted, seen, state, cause, exit, pieces, size FROM attempt WHERE id = ?1";
+
+pub const SELECT_ATTEMPTS_ABOVE: &str =
+    "SELECT id, job, runner, token, granted, seen, state, cause, exit, pieces, size FROM attempt WHERE id > ?1";
 
 pub const SELECT_ATTEMPTS_OF: &str =
     "SELECT id, job, runner, token, granted, seen, state, cause, exit, pieces, size FROM attempt WHERE job = ?1 ORDER BY id";

@@ -6,4 +6,6 @@ mod boards;
 #[cfg(test)]
 mod limits;
 #[cfg(test)]
+mod numbers;
+#[cfg(test)]
 mod tests;

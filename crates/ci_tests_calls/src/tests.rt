@@ -2,9 +2,10 @@
 
 use ci_machine::records::Cause;
 use ci_machine::reply::{Answer, Code, JobStatus};
-use ci_test_servers::acts::{Act, PATH, at, part};
+use ci_test_servers::acts::{Act, PATH, RUNNER, at, part};
 use ci_test_servers::answers::{Want, again, first, is};
 use ci_test_servers::servers::{InMemory, after, asked, is_closed, let_go, run, tell};
+use ci_witness::life::granted_and_reopened;
 use std::alloc::Global;
 use std::process::Abort;
 use std::test::Fail;
@@ -294,6 +295,28 @@ fn a_run_has_sweeps(rt: HostRuntime) -> Result<(), Fail> {
     let alloc = rt.alloc();
     let mut server = after(alloc, &PATH)?;
     let followed = run_and_follow(&rt, alloc, &mut server);
+    let_go(server);
+    followed
+}
+
+/// What follows a grant and a reopening: the one job runs, no other waits, and its lease ends 120 seconds after it.
+const AFTER_LIFE: &[Row] = &[
+    (1000, Act::Show, Want::Job(JobStatus::Running)),
+    (1000, Act::AskJob(RUNNER), Want::Says("")),
+    (1119, Act::Sweep, Want::Nothing),
+    (1120, Act::Sweep, Want::Ended(Cause::StuckOrTimeoutFailure)),
+];
+
+/// The server of the witness, if it comes.
+fn lived(alloc: Global) -> Result<InMemory, Fail> {
+    Ok(granted_and_reopened(alloc).ok().ok_or("it came to no grant")?)
+}
+
+#[test]
+fn a_grant_outlives_a_closing(rt: HostRuntime) -> Result<(), Fail> {
+    let alloc = rt.alloc();
+    let mut server = lived(alloc)?;
+    let followed = follow_on(&rt, alloc, &mut server, AFTER_LIFE);
     let_go(server);
     followed
 }

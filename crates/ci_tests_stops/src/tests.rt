@@ -85,9 +85,16 @@ fn had_happened(alloc: Global, server: &mut Failing, act: Act) -> Result<bool, F
 fn happened(alloc: Global, files: FailingDisks, act: Act) -> Result<bool, Fail> {
     let conn = connected(alloc, files).ok_or("not connected again")?;
     let mut server = over(rightly(alloc, conn)?)?;
-    let had_happened = had_happened(alloc, &mut server, act);
-    discard(rightly(alloc, left(server))?);
-    had_happened
+    match had_happened(alloc, &mut server, act) {
+        Ok(had) => {
+            discard(rightly(alloc, left(server))?);
+            Ok(had)
+        }
+        Err(fail) => {
+            let_go(server);
+            Err(fail)
+        }
+    }
 }
 
 /// Sends the event. Once it met a fault, the server stays closed.

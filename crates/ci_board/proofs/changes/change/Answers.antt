@@ -3,7 +3,6 @@ use Rattle.ci_board.specs.declared.facts.Row.{Row}
 use Rattle.ci_board.specs.Rows.{is_touched, differing}
 use Rattle.ci_board.proofs.Answered.{touched_facts, touched_status}
 use Rattle.ci_board.proofs.Assignments.{rows_moved}
-use Rattle.ci_board.proofs.Exact.{answer_of}
 use Rattle.ci_board.proofs.changes.change.Goals as goal
 
 pub returns-clause-rows : goal.returns-clause-rows
@@ -14,8 +13,4 @@ pub returns-clause-meter : goal.returns-clause-meter
 returns-clause-meter g c =
     c.settle.ensures.meter (is_touched c.args.changes.now c.fill.new.into.items)
     (λ i e. rw (c.replace.ensures, c.requires.fresh) (touched_facts c.args.changes.now c.fill.new.into.items c.args.facts.now i e))
-    (touched_status c.args.changes.now c.fill.new.into.items c.args.rows.now c.settle.new.rows (sym c.settle.auto.rows) (c.fill.ensures ∙ ap (λ (xs : List Row). differing 0 xs c.settle.new.rows) c.requires.before))
-
-pub returns-clause-exact : goal.returns-clause-exact
-returns-clause-exact g c =
-    answer_of _ _ _ (sym c.settle.auto.rows) (c.fill.ensures ∙ ap (λ (xs : List Row). differing 0 xs c.settle.new.rows) c.requires.before)
+    (touched_status c.args.changes.now c.fill.new.into.items c.args.rows.now c.settle.new.rows (sym c.settle.auto.rows) (c.fill.ensures.answer ∙ ap (λ (xs : List Row). differing 0 xs c.settle.new.rows) c.requires.before))

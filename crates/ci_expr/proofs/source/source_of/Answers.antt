@@ -1,4 +1,4 @@
-use Rattle.std.proofs.Common.{◌≡◌, chars, string_bytes, sym, ◌∙◌, ap, rules}
+use Rattle.std.proofs.Common.{◌≡◌, chars, sym, ◌∙◌, ap, rules}
 use Rattle.std.proofs.lemmas.Result.{IfOk-weaker}
 use Rattle.std.proofs.lemmas.Str.{chars_from_encodes, IsUtf8-string_bytes}
 use Rattle.ci_expr.specs.Source.{source_of}

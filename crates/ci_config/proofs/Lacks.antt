@@ -1,0 +1,211 @@
+-- What is read with every pattern refused holds no pattern, and so takes no bytes of tables.
+use Rattle.std.proofs.Common.{◌≡◌, ℕ, Bool, true, false, cond, not, List, [], ◌∷◌, map, Option, Some, None, Result, Ok, Err, IfSome, length, refl, subst, arith, inl, inr}
+use Rattle.std.specs.Prelude.{nat_lt, nat_le, option_map, sum_by}
+use Rattle.std.specs.Global.{Vec}
+use Rattle.std.proofs.lemmas.List.Sums.{sum_by-cons}
+use Rattle.ci_values.specs.Names.{is_name}
+use Rattle.ci_words.specs.Table.{meaning_of, word_in}
+use Rattle.ci_yaml_lines.specs.Tree.{Value}
+use Rattle.ci_expr.specs.Built.{formula_of, pattern_bytes}
+use Rattle.ci_expr.specs.Computed.{expression_of}
+use Rattle.ci_expr.specs.Formula.{Formula, has_pattern}
+use Rattle.ci_expr.specs.declared.expr.Expr.{Expr}
+use Rattle.ci_expr.specs.declared.fault.ExprCode.{ExprCode}
+use Rattle.ci_expr.specs.declared.fault.ExprCode.TheVariants.{X8}
+use Rattle.ci_config.specs.AllowFailures.{allow_failure_of}
+use Rattle.ci_config.specs.Answer.{Finds}
+use Rattle.ci_config.specs.Budget.{condition_bytes, rule_bytes, rules_bytes, job_bytes, config_bytes}
+use Rattle.ci_config.specs.Config as config
+use Rattle.ci_config.specs.Config.{Text, Rule, Job}
+use Rattle.ci_config.specs.Expressions.{refused, condition_by, condition_of}
+use Rattle.ci_config.specs.Fault.{Fault, K1, K11, K13, K15, K16}
+use Rattle.ci_config.specs.Files.{FileSaid, stages_of, is_hidden, job_of, with_job, job_value, other_value, keyword_value, file_value, file_entry, blank_file, file_from}
+use Rattle.ci_config.specs.Jobs as job
+use Rattle.ci_config.specs.Jobs.{script_of, plain_job_value, job_entry, blank_job, job_from}
+use Rattle.ci_config.specs.Laws.{Each}
+use Rattle.ci_config.specs.Meaning.{Means, no_pattern, config_of, is_nil, judged, file_config, meaning}
+use Rattle.ci_config.specs.Needs.{needs_of}
+use Rattle.ci_config.specs.Reading.{◌>>=◌, demand, keyword_of}
+use Rattle.ci_config.specs.Retries.{retry_of}
+use Rattle.ci_config.specs.Rules.{plain_rule_value, rule_value, rule_entry, blank_rule, rule_from, rule_of, rules_from, rules_of}
+use Rattle.ci_config.specs.Tables.{rule_keywords, rule_left_out, job_keywords, job_left_out, file_keywords, file_left_out}
+use Rattle.ci_config.specs.Values.{is_map, text_of, bool_of, list_of, map_of, name_of, timeout_of, names_of, variables_of}
+use Rattle.ci_config.specs.View.{rule_view, rules_view, job_view, config_view}
+use Rattle.ci_config.specs.Whens.{when_of, rule_when_of}
+use Rattle.ci_config.specs.declared.file.Config.{Config}
+use Rattle.ci_config.specs.declared.rule.Rule as rust
+use Rattle.ci_config.specs.declared.keyword.FileKeyword.{FileKeyword}
+use Rattle.ci_config.specs.declared.keyword.FileKeyword.TheVariants as of_file
+use Rattle.ci_config.specs.declared.keyword.JobKeyword.{JobKeyword}
+use Rattle.ci_config.specs.declared.keyword.JobKeyword.TheVariants as of_key
+use Rattle.ci_config.specs.declared.keyword.PlainJobKeyword.{PlainJobKeyword}
+use Rattle.ci_config.specs.declared.keyword.PlainJobKeyword.TheVariants as of_job
+use Rattle.ci_config.specs.declared.keyword.PlainRuleKeyword.{PlainRuleKeyword}
+use Rattle.ci_config.specs.declared.keyword.PlainRuleKeyword.TheVariants as of_rule
+use Rattle.ci_config.specs.declared.keyword.RuleKeyword.{RuleKeyword}
+use Rattle.ci_config.specs.declared.keyword.RuleKeyword.TheVariants as of_rules
+use Rattle.ci_config.specs.declared.limits.TheConstants.{MAX_JOBS, MAX_PATTERNS_BYTES, MAX_RULES, MAX_TAGS}
+use Rattle.ci_config.proofs.Wholes.{bound, demanded, same-ok, each-append, each-read, entries-read, not-true, jobs-judged}
+
+-- where whatever is set keeps a property
+sets : {A S : Type 0} (P : S → Type 0) (m : Result A Fault) (set : A → S) (t : S) → ((x : A) → P (set x)) → (m >>= λ x. Ok (set x)) ≡ Ok t → P t
+sets P m set t h e =
+    let b = bound m (λ x. Ok (set x)) t e in
+    subst P (same-ok (set b.value) t b.next) (h b.value)
+
+-- ---- rules
+abbrev Lacks : Formula → Type 0
+Lacks f = has_pattern f ≡ false
+
+abbrev RuleLacks : Rule → Type 0
+RuleLacks r = IfSome r.condition Lacks
+
+condition-lacks : (bs : Text) (f : Formula) → condition_of bs refused ≡ Ok f → Lacks f
+condition-lacks bs f e = by-value (expression_of bs) e
+  where
+    by-value : (r : Result Formula ExprCode) → condition_by refused r ≡ Ok f → Lacks f
+    by-value (Err x) e = absurd cc
+    by-value (Ok g) e =
+        let d = demanded (not (has_pattern g)) (K13 X8) (Ok g) f e in
+        subst Lacks (same-ok g f d.1) (not-true (has_pattern g) d.0)
+
+plain-rule-lacks : (k : PlainRuleKeyword) (v : Value) (r s : Rule) → RuleLacks r → plain_rule_value k v r ≡ Ok s → RuleLacks s
+plain-rule-lacks of_rule.When v r s h e = sets RuleLacks (rule_when_of v) (λ w. record r { when = Some w }) s (λ w. h) e
+plain-rule-lacks of_rule.AllowFailure v r s h e = sets RuleLacks (bool_of v) (λ b. record r { allow_failure = Some b }) s (λ b. h) e
+plain-rule-lacks of_rule.Variables v r s h e = sets RuleLacks (variables_of v) (λ vs. record r { variables = vs }) s (λ vs. h) e
+
+rule-value-lacks : (k : RuleKeyword) (v : Value) (r s : Rule) → RuleLacks r → rule_value k v r refused ≡ Ok s → RuleLacks s
+rule-value-lacks of_rules.If v r s h e =
+    let a = bound (text_of v) (λ bs. condition_of bs refused >>= λ f. Ok (record r { condition = Some f })) s e in
+    let b = bound (condition_of a.value refused) (λ f. Ok (record r { condition = Some f })) s a.next in
+    subst RuleLacks (same-ok (record r { condition = Some b.value }) s b.next) (condition-lacks a.value b.value b.first)
+rule-value-lacks (of_rules.Plain k) v r s h e = plain-rule-lacks k v r s h e
+
+rule-entry-lacks : (m : Text × Value) (r s : Rule) → RuleLacks r → rule_entry refused m r ≡ Ok s → RuleLacks s
+rule-entry-lacks m r s h e =
+    let b = bound (keyword_of rule_keywords rule_left_out m.0) (λ k. rule_value k m.1 r refused) s e in
+    rule-value-lacks b.value m.1 r s h b.next
+
+rule-lacks : (done : List Rule) (v : Value) (r : Rule) → rule_of refused done v ≡ Ok r → RuleLacks r
+rule-lacks done v r e =
+    let a = bound (map_of v) (λ ms. demand (nat_lt (length done) MAX_RULES) K11 (rule_from refused ms)) r e in
+    let b = demanded (nat_lt (length done) MAX_RULES) K11 (rule_from refused a.value) r a.next in
+    entries-read RuleLacks (rule_entry refused) rule-entry-lacks blank_rule a.value r tt b.1
+
+rules-lack : (v : Value) (rs : List Rule) → rules_of v refused ≡ Ok rs → Each RuleLacks rs
+rules-lack v rs e =
+    let b = bound (list_of v) (rules_from refused) rs e in
+    each-read RuleLacks (rule_of refused) rule-lacks [] b.value rs tt b.next
+
+-- ---- jobs
+abbrev JobLacks : Job → Type 0
+JobLacks j = IfSome j.rules (Each RuleLacks)
+
+plain-value-lacks : (k : PlainJobKeyword) (v : Value) (j i : Job) → JobLacks j → plain_job_value k v j ≡ Ok i → JobLacks i
+plain-value-lacks of_job.Script v j i h e = sets JobLacks (script_of v) (λ x. record j { script = x }) i (λ x. h) e
+plain-value-lacks of_job.Stage v j i h e = sets JobLacks (name_of v) (λ x. record j { stage = x }) i (λ x. h) e
+plain-value-lacks of_job.Needs v j i h e = sets JobLacks (needs_of v) (λ x. record j { needs = Some x }) i (λ x. h) e
+plain-value-lacks of_job.When v j i h e = sets JobLacks (when_of v) (λ x. record j { when = Some x }) i (λ x. h) e
+plain-value-lacks of_job.AllowFailure v j i h e = sets JobLacks (allow_failure_of v) (λ x. record j { allow_failure = Some x }) i (λ x. h) e
+plain-value-lacks of_job.Retry v j i h e = sets JobLacks (retry_of v) (λ x. record j { retry = Some x }) i (λ x. h) e
+plain-value-lacks of_job.Tags v j i h e = sets JobLacks (names_of MAX_TAGS v) (λ x. record j { tags = x }) i (λ x. h) e
+plain-value-lacks of_job.Timeout v j i h e = sets JobLacks (timeout_of v) (λ x. record j { timeout = Some x }) i (λ x. h) e
+plain-value-lacks of_job.ResourceGroup v j i h e = sets JobLacks (name_of v) (λ x. record j { resource_group = Some x }) i (λ x. h) e
+plain-value-lacks of_job.Interruptible v j i h e = sets JobLacks (bool_of v) (λ x. record j { interruptible = x }) i (λ x. h) e
+plain-value-lacks of_job.Variables v j i h e = sets JobLacks (variables_of v) (λ x. record j { variables = x }) i (λ x. h) e
+
+job-value-lacks : (k : JobKeyword) (v : Value) (j i : Job) → JobLacks j → job.job_value k v j refused ≡ Ok i → JobLacks i
+job-value-lacks of_key.Rules v j i h e =
+    let b = bound (rules_of v refused) (λ x. Ok (record j { rules = Some x })) i e in
+    subst JobLacks (same-ok (record j { rules = Some b.value }) i b.next) (rules-lack v b.value b.first)
+job-value-lacks (of_key.Plain k) v j i h e = plain-value-lacks k v j i h e
+
+job-entry-lacks : (m : Text × Value) (j i : Job) → JobLacks j → job_entry refused m j ≡ Ok i → JobLacks i
+job-entry-lacks m j i h e =
+    let b = bound (keyword_of job_keywords job_left_out m.0) (λ k. job.job_value k m.1 j refused) i e in
+    job-value-lacks b.value m.1 j i h b.next
+
+-- ---- files
+abbrev JobsLack : FileSaid → Type 0
+JobsLack f = Each JobLacks f.jobs
+
+job-of-lacks : (before : ℕ) (name : Text) (v : Value) (j : Job) → job_of before name v refused ≡ Ok j → JobLacks j
+job-of-lacks before name v j e =
+    let a = bound (map_of v) (λ ms. demand (nat_lt before MAX_JOBS) K11 (demand (is_name name) K16 (job_from refused name ms))) j e in
+    let b = demanded (nat_lt before MAX_JOBS) K11 (demand (is_name name) K16 (job_from refused name a.value)) j a.next in
+    let c = demanded (is_name name) K16 (job_from refused name a.value) j b.1 in
+    entries-read JobLacks (job_entry refused) job-entry-lacks (blank_job name) a.value j tt c.1
+
+file-job-lacks : (name : Text) (v : Value) (f g : FileSaid) → JobsLack f → job_value name v f refused ≡ Ok g → JobsLack g
+file-job-lacks name v f g h e =
+    let b = bound (job_of (length f.jobs) name v refused) (λ j. Ok (with_job f j)) g e in
+    let one = job-of-lacks (length f.jobs) name v b.value b.first in
+    subst JobsLack (same-ok (with_job f b.value) g b.next) (each-append JobLacks f.jobs (b.value ∷ []) h (one, tt))
+
+other-lacks : (o : Option Text) (key : Text) (v : Value) (f g : FileSaid) → JobsLack f → other_value o key v f refused ≡ Ok g → JobsLack g
+other-lacks (Some name) key v f g h e = absurd cc
+other-lacks None key v f g h e = by-test (is_hidden key) e
+  where
+    by-test : (b : Bool) → cond b (Ok f) (job_value key v f refused) ≡ Ok g → JobsLack g
+    by-test true e = subst JobsLack (same-ok f g e) h
+    by-test false e = file-job-lacks key v f g h e
+
+keyword-lacks : (k : FileKeyword) (v : Value) (f g : FileSaid) → JobsLack f → keyword_value k v f ≡ Ok g → JobsLack g
+keyword-lacks of_file.Stages v f g h e = sets JobsLack (stages_of v) (λ x. record f { stages = Some x }) g (λ x. h) e
+keyword-lacks of_file.Variables v f g h e = sets JobsLack (variables_of v) (λ x. record f { variables = x }) g (λ x. h) e
+
+file-value-lacks : (o : Option FileKeyword) (key : Text) (v : Value) (f g : FileSaid) → JobsLack f → file_value o key v f refused ≡ Ok g → JobsLack g
+file-value-lacks (Some k) key v f g h e = keyword-lacks k v f g h e
+file-value-lacks None key v f g h e = other-lacks (word_in file_left_out key) key v f g h e
+
+file-entry-lacks : (m : Text × Value) (f g : FileSaid) → JobsLack f → file_entry refused m f ≡ Ok g → JobsLack g
+file-entry-lacks m f g h e = file-value-lacks (meaning_of file_keywords m.0) m.0 m.1 f g h e
+
+abbrev ConfigLacks : config.Config → Type 0
+ConfigLacks c = Each JobLacks c.jobs
+
+judged-lacks : (f : FileSaid) (c : config.Config) → JobsLack f → judged (config_of f) ≡ Ok c → ConfigLacks c
+judged-lacks f c h e =
+    let k = config_of f in
+    let a = jobs-judged k.stages k.jobs (demand (not (is_nil k.jobs)) K15 (Ok k)) c e in
+    let b = demanded (not (is_nil k.jobs)) K15 (Ok k) c a.1 in
+    subst ConfigLacks (same-ok k c b.1) h
+
+lacks : (v : Value) (c : config.Config) → meaning refused v ≡ Ok c → ConfigLacks c
+lacks v c e =
+    let a = demanded (is_map v) K1 (map_of v >>= λ ms. file_config ms refused) c e in
+    let b = bound (map_of v) (λ ms. file_config ms refused) c a.1 in
+    let d = bound (file_from b.value refused) (λ f. judged (config_of f)) c b.next in
+    judged-lacks d.value c (entries-read JobsLack (file_entry refused) file-entry-lacks blank_file b.value d.value tt d.first) d.next
+
+-- ---- bytes
+-- nothing but a pattern takes any, as `ci_expr` says
+abbrev NoBytes : Type 0
+NoBytes = (e : Expr) → has_pattern (formula_of e) ≡ false → pattern_bytes e ≡ 0
+
+sum-none : {A B : Type 0} (view : A → B) (P : B → Type 0) (f : A → ℕ) → ((x : A) → P (view x) → f x ≡ 0) → (xs : List A) → Each P (map view xs) → sum_by f xs ≡ 0
+sum-none view P f none [] h = refl
+sum-none view P f none (x ∷ xs) h =
+    let whole = sum_by-cons f x xs in
+    let one = none x h.0 in
+    let others = sum-none view P f none xs h.1 in
+    omega (arith, whole, one, others)
+
+condition-none : NoBytes → (o : Option Expr) → IfSome (option_map formula_of o) Lacks → condition_bytes o ≡ 0
+condition-none law None h = refl
+condition-none law (Some e) h = law e h
+
+rules-none : NoBytes → (o : Option (Vec rust.Rule)) → IfSome (option_map rules_view o) (Each RuleLacks) → rules_bytes o ≡ 0
+rules-none law None h = refl
+rules-none law (Some rs) h = sum-none rule_view RuleLacks rule_bytes (λ r. condition-none law r.condition) rs.items h
+
+config-none : NoBytes → (c : Config) → ConfigLacks (config_view c) → config_bytes c ≡ 0
+config-none law c h = sum-none job_view JobLacks job_bytes (λ j. rules-none law j.rules) c.jobs.items h
+
+-- so more than there may be comes of a pattern
+pub over-budget : NoBytes → (v : Value) (c : Config) → Finds (λ p. meaning p v) (config_view c) → nat_le (config_bytes c) MAX_PATTERNS_BYTES ≡ false → Means v (Err (K13 X8))
+over-budget law v c (is, inr e) over = no_pattern refl e
+over-budget law v c (is, inl e) over =
+    let none = config-none law c (lacks v (config_view c) e) in
+    let no : nat_le 0 MAX_PATTERNS_BYTES ≡ false = subst (λ n. nat_le n MAX_PATTERNS_BYTES ≡ false) none over in
+    absurd cc

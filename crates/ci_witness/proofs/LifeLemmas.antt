@@ -1,0 +1,193 @@
+-- A life with one operation more.
+use Rattle.std.specs.Prelude.{Bool, true, false, map, if◌then◌else◌, None, codes, option_and_then, Result, Ok, Err, IfErr}
+use Rattle.std.specs.Result.{IsErrAnd}
+use Rattle.std.proofs.Common.{◌≡◌, ◌⊎◌, inl, inr, List, [], ◌∷◌, refl, sym, ap, subst, ◌∙◌, arith}
+use Rattle.std.specs.Fmt.{digits}
+use Rattle.hex.proofs.OnLiterals.{hex_on_literals}
+use Rattle.sqlite.specs.Held.{Held}
+use Rattle.sqlite.specs.Steps.{over_memory}
+use Rattle.sqlite.proofs.Callers.{memory_is_clean}
+use Rattle.sqlite_trees.specs.declared.memory.MemStore.{MemStore}
+use Rattle.ci_values.specs.declared.attempts.AttemptState.TheVariants.{Live}
+use Rattle.ci_board.specs.declared.facts.Status.{Status}
+use Rattle.ci_board.specs.declared.facts.Status.TheVariants.{Pending}
+use Rattle.ci_board.specs.declared.facts.Row.{Row}
+use Rattle.ci_board.specs.Effects.{status_of_row, is_status}
+use Rattle.ci_machine.specs.declared.records.BoardRow.{BoardRow}
+use Rattle.ci_machine.specs.declared.records.Job.{Job}
+use Rattle.ci_machine.specs.declared.request.Request.{Request}
+use Rattle.ci_machine.specs.declared.request.Request.TheVariants.{AddProject, AddRunner, EnterPipeline, AskJob}
+use Rattle.ci_machine.specs.declared.request.Event.TheVariants as event
+use Rattle.ci_machine.specs.declared.reply.Answer.{Answer}
+use Rattle.ci_machine.specs.declared.reply.Answer.TheVariants as answer
+use Rattle.ci_machine.specs.declared.reply.Code.TheVariants.{M16, M17}
+use Rattle.ci_machine.specs.declared.reply.HttpStatus.TheVariants.{Created}
+use Rattle.ci_machine.specs.declared.reply.Reply.{Reply}
+use Rattle.ci_machine.specs.Reply.{refusal}
+use Rattle.ci_machine.specs.Plans.{Plan, token_of}
+use Rattle.ci_machine.specs.Pipelines.{new_job}
+use Rattle.ci_machine.specs.Grants.{ask_job}
+use Rattle.ci_machine.specs.State.{State, empty, applied}
+use Rattle.ci_machine.specs.Statuses.{row_for, facts_in, AreBoard}
+use Rattle.ci_machine.specs.Step.{runner_with, queued, offered_variables}
+use Rattle.ci_machine.specs.Eligible.{chosen}
+use Rattle.ci_machine.specs.History.{IsReached}
+use Rattle.ci_machine.specs.Examples.{seed, token, pipeline, with_project, with_runner, with_pipeline, with_attempt, project_added, runner_added, pipeline_entered, granted}
+use Rattle.ci_store.specs.declared.tables.OpenFault.{OpenFault}
+use Rattle.ci_store.specs.declared.tables.OpenFault.TheVariants.{O1, O2, O3, Memory}
+use Rattle.ci_store.specs.Open.{IsFailure}
+use Rattle.ci_server.specs.Holding.{HoldsIn, LeavesIn, with_rows}
+use Rattle.ci_server.specs.Handling.{Handled, answered, no_memory, look_failed, commit_failed}
+use Rattle.ci_server.specs.Server.{Handles, Creates, Opens}
+use Rattle.ci_server.specs.Lifetime.{Operation, opened}
+use Rattle.ci_witness.specs.declared.life.Stop.TheVariants as stop
+use Rattle.ci_witness.specs.Life.{at_1000, planned, InMemory, IsOpenAt, IsPlanned, IsCause, IsLeased}
+
+-- ---- the server is made
+
+no_rows : AreBoard empty []
+no_rows = record { keys = refl; each = λ p. record { counted = λ i below. absurd (omega arith); settled = λ i below. absurd (omega arith) } }
+
+pub created_at : (conn : Held MemStore) (new : InMemory) → Creates over_memory conn new → IsOpenAt [] empty new
+created_at conn new made = record {
+  came = (conn, inl made);
+  honest = memory_is_clean new.store;
+  is_open = made.is_open;
+  reached = ([], refl);
+  holds = record { board = []; are_board = no_rows; kept = made.made (memory_is_clean new.store) made.was_blank };
+}
+
+pub uncreated : (fault : OpenFault) → (fault ≡ O1 → ⊥) → (fault ≡ O2 → ⊥) → IsFailure fault
+uncreated O1 listed unversioned = absurd (listed refl)
+uncreated O2 listed unversioned = absurd (unversioned refl)
+uncreated O3 listed unversioned = tt
+uncreated Memory listed unversioned = tt
+
+-- ---- a request is handled
+
+abbrev reply_in : Answer → Reply
+reply_in (answer.Reply reply) = reply
+reply_in (answer.Swept swept) = refusal M16
+
+module _ (ops : List Operation) (s : State) (request : Request) (plan : Plan) (old new : InMemory) (reply : Reply) (was : IsOpenAt ops s old) (is : IsPlanned s request plan)
+    (handled : Handles over_memory old (at_1000 request) new (answer.Reply reply)) where
+  abbrev Ended : Type 0
+  Ended = Handled (λ (h : Held MemStore) t. HoldsIn over_memory t h) (λ (h : Held MemStore) t u. LeavesIn over_memory t u h) (at_1000 request) s new.store new.closed (answer.Reply reply)
+
+  ended : Ended
+  ended = handled.while_open was.is_open (memory_is_clean new.store) s was.reached was.holds
+
+  goes_on : Ended → reply.status ≡ Created → IsOpenAt (planned request plan ∷ ops) (applied plan.1 s) new
+  goes_on (answered t step held is_open) made =
+      let same : (reply, step.changes) ≡ plan = is.only step.before step.are_before (reply, step.changes) step.happens in
+      let to : t ≡ applied plan.1 s = step.state ∙ ap (λ (p : Plan). applied p.1 s) same in
+      record {
+        came = (old, was.came, subst (λ (p : Plan). Handles over_memory old (at_1000 request) new (answer.Reply p.0)) same handled);
+        honest = memory_is_clean new.store;
+        is_open = is_open;
+        reached = subst IsReached to ((record { before = s; event = event.Request request; now = 1000; seed = seed; answer = answer.Reply reply }) ∷ was.reached.0, (was.reached.1, step));
+        holds = subst (λ (u : State). HoldsIn over_memory u new.store) to held;
+      }
+  goes_on (no_memory refuses held is_open) made = let same : reply ≡ refusal M16 = ap reply_in refuses in absurd (cc)
+  goes_on (look_failed refuses left closed) made = let same : reply ≡ refusal M17 = ap reply_in refuses in absurd (cc)
+  goes_on (commit_failed b t step refuses left closed) made = let same : reply ≡ refusal M17 = ap reply_in refuses in absurd (cc)
+
+  stops : Ended → (reply.status ≡ Created → ⊥) → (reply ≡ refusal M16) ⊎ (reply ≡ refusal M17)
+  stops (answered t step held is_open) unmade =
+      let same : (reply, step.changes) ≡ plan = is.only step.before step.are_before (reply, step.changes) step.happens in
+      absurd (unmade (ap (λ (p : Plan). p.0.status) same ∙ is.made))
+  stops (no_memory refuses held is_open) unmade = inl (ap reply_in refuses)
+  stops (look_failed refuses left closed) unmade = inr (ap reply_in refuses)
+  stops (commit_failed b t step refuses left closed) unmade = inr (ap reply_in refuses)
+
+  pub made_at : reply.status ≡ Created → IsOpenAt (planned request plan ∷ ops) (applied plan.1 s) new
+  made_at = goes_on ended
+
+  pub unmade : (reply.status ≡ Created → ⊥) → IsCause (stop.Refused reply)
+  unmade = stops ended
+
+-- the request is the one that was meant
+pub asked : {s : State} {request meant : Request} {plan : Plan} → request ≡ meant → IsPlanned s meant plan → IsPlanned s request plan
+asked {s = s} {plan = plan} same is = subst (λ r. IsPlanned s r plan) (sym same) is
+
+pub next : {ops : List Operation} {s : State} {request meant : Request} {plan : Plan} {old new : InMemory} → request ≡ meant → IsPlanned s meant plan
+    → ((ops : List Operation) (s : State) (plan : Plan) → IsOpenAt ops s old → IsPlanned s request plan → IsOpenAt (planned request plan ∷ ops) (applied plan.1 s) new) → IsOpenAt ops s old
+    → IsOpenAt (planned meant plan ∷ ops) (applied plan.1 s) new
+next {ops = ops} {s = s} {plan = plan} {new = new} same is made was = subst (λ r. IsOpenAt (planned r plan ∷ ops) (applied plan.1 s) new) same (made ops s plan was (asked same is))
+
+-- an error is handed on as it came
+pub handed_on : {A E : Type 0} {Same P : E → Type 0} (r : Result A E) → IsErrAnd r Same → ((e : E) → Same e → P e) → IfErr r P
+handed_on (Ok x) is so = tt
+handed_on (Err e) is so = so e is
+
+-- ---- the plans of the requests
+
+pub plans_project : IsPlanned empty (AddProject (codes "p")) project_added
+plans_project = record { only = λ board are p does. does; made = refl }
+
+pub plans_runner : IsPlanned with_project (AddRunner (codes "r")) runner_added
+unfolding digits hex_on_literals
+plans_runner = record { only = λ board are p does. does; made = refl }
+
+pub plans_pipeline : IsPlanned with_runner (EnterPipeline pipeline) pipeline_entered
+unfolding digits hex_on_literals
+plans_pipeline = record { only = λ board are p does. does; made = refl }
+
+-- the one job of the pipeline
+abbrev build : Job
+build = new_job pipeline.stage 1 1 0 (record { name = codes "build"; script = codes "make" ∷ [] })
+
+-- its row says that it is pending: it waits for no other, and was never tried
+is_waiting : (board : List BoardRow) → AreBoard with_pipeline board → (row_for board 1).status ≡ Pending
+unfolding digits hex_on_literals
+is_waiting board are =
+    let row : Row = row_for board 1 in
+    let rows = are.each 1 in
+    let counts = rows.counted 0 (omega arith) in
+    rows.settled 0 (omega arith)
+    ∙ (λ i. status_of_row build.options.part (facts_in with_pipeline build) (record { status = row.status; opens = counts.opens i; failed = counts.failed i; barred = counts.barred i }))
+
+-- what the runner's request comes to, by whether the job is pending
+abbrev by_pending : Bool → Plan
+by_pending pending =
+    let runner = runner_with with_pipeline token in
+    let offered = option_and_then (chosen (map (queued with_pipeline) (if pending then build ∷ [] else []))) runner in
+    ask_job runner offered (offered_variables with_pipeline offered) with_pipeline.next.attempt 1000 seed
+
+pub plans_grant : IsPlanned with_pipeline (AskJob token) granted
+unfolding digits hex_on_literals
+plans_grant = record {
+  only = λ board are p does. does ∙ ap (λ (s : Status). by_pending (is_status s Pending)) (is_waiting board are);
+  made = refl;
+}
+
+-- ---- the server is opened again
+
+-- over memory a closed server is what a stop leaves of it
+pub reopened_at : (ops : List Operation) (s : State) (old new : InMemory) → IsOpenAt ops s old → Opens over_memory old.store new → IsOpenAt (opened ∷ ops) s new
+reopened_at ops s old new was opens =
+    let kept = with_rows s was.holds.board in
+    record {
+      came = (old, old.store, was.came, memory_is_clean old.store, record { is_open = was.holds.kept.is_open; left = refl }, opens);
+      honest = memory_is_clean new.store;
+      is_open = opens.is_open;
+      reached = was.reached;
+      holds = record { board = was.holds.board; are_board = was.holds.are_board; kept = opens.opened (memory_is_clean new.store) kept was.holds.kept.left };
+    }
+
+-- ---- the state after the grant, computed
+
+pub leased : IsLeased with_attempt token
+unfolding digits hex_on_literals
+leased = record {
+  runner = record { id = 1; name = codes "r"; token = token; project = None; tags = []; untagged = true; paused = false };
+  job = build;
+  attempt = record { id = 1; job = 1; runner = 1; token = token_of (codes "j") 1 seed; granted = 1000; seen = 1000; state = Live; pieces = 0; size = 0 };
+  one_runner = refl;
+  one_job = refl;
+  one_attempt = refl;
+  is_live = refl;
+  its_job = refl;
+  its_runner = refl;
+  its_token = refl;
+}

@@ -1,0 +1,5 @@
+//! A witness of the server's whole life: one that lives through what is claimed of each.
+#![tactic(auto)]
+
+pub mod life;
+mod requests;
