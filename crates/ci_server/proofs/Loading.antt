@@ -24,6 +24,11 @@ pub third : {A : Type 0} (P Q R : A → Type 0) (r : Result A StoreFault) → If
 third P Q R (Ok y) w = w.2
 third P Q R (Err e) w = tt
 
+-- what holds of an answer holds of it where it is handed on
+pub carried : {A E F : Type 0} (P : A → Type 0) (found : Result A E) (r : Result A F) → IfOk r (λ a. found ≡ Ok a) → IfOk found P → IfOk r P
+carried P found (Ok a) same is = subst (λ z. IfOk z P) same is
+carried P found (Err e) same is = tt
+
 both_ok : {A : Type 0} (P Q : A → Type 0) (r : Result A StoreFault) → IfOk r P → IfOk r Q → IfOk r (λ y. P y × Q y)
 both_ok P Q (Ok y) p q = (p, q)
 both_ok P Q (Err e) p q = tt

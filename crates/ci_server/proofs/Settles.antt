@@ -5,14 +5,22 @@ use Rattle.std.specs.Str.{bytes_eq}
 use Rattle.std.proofs.Common.{refl, sym, ap, subst, ◌∙◌, inl, inr, ⊎_elim, arith}
 use Rattle.std.proofs.lemmas.Bool.{cond_both, both_ways, false≢true}
 use Rattle.std.proofs.lemmas.List.Elements.{Contains-append_right, Contains-get_or, All-contains, All-contains_itself, All-filter, filter_passes}
+use Rattle.std.specs.Ordering.{nat_cmp}
+use Rattle.std.specs.List.Sorted.{IsStrictlySortedBy}
 use Rattle.ci_values.specs.Names.{is_name}
 use Rattle.ci_values.specs.declared.limits.TheConstants.{MAX_NUMBER}
 use Rattle.ci_values.specs.declared.attempts.AttemptState.{AttemptState}
 use Rattle.ci_values.specs.declared.attempts.AttemptState.TheVariants.{Live, Succeeded, Failed, Cancelled}
 use Rattle.ci_values.specs.Attempts.{is_live_state}
+use Rattle.ci_words.specs.Name.{is_variable_name}
+use Rattle.ci_config.specs.Config.{Config}
+use Rattle.ci_config.specs.declared.limits.TheConstants.{MAX_VARIABLES}
+use Rattle.ci_layout.specs.Inclusion.{Given}
 use Rattle.ci_machine.specs.declared.records.Attempt.{Attempt}
 use Rattle.ci_machine.specs.declared.records.Job.{Job}
+use Rattle.ci_machine.specs.declared.records.Pipeline.{Pipeline}
 use Rattle.ci_machine.specs.declared.records.Project.{Project}
+use Rattle.ci_machine.specs.declared.records.Variable.{Variable}
 use Rattle.ci_machine.specs.declared.lease.Lease.{Lease}
 use Rattle.ci_machine.specs.declared.lease.LeaseFault.{LeaseFault}
 use Rattle.ci_machine.specs.declared.lease.PieceFault.{PieceFault}
@@ -25,10 +33,11 @@ use Rattle.ci_machine.specs.declared.request.Report.TheVariants as report
 use Rattle.ci_machine.specs.declared.request.JobUpdate.{JobUpdate}
 use Rattle.ci_machine.specs.declared.request.TracePart.{TracePart}
 use Rattle.ci_machine.specs.declared.request.NewPipeline.{NewPipeline}
-use Rattle.ci_machine.specs.declared.reply.Code.TheVariants.{M2, M5, M15}
-use Rattle.ci_machine.specs.declared.reply.FaultCode.TheVariants.{G, K}
+use Rattle.ci_machine.specs.declared.request.NewVariable.{NewVariable}
+use Rattle.ci_machine.specs.declared.reply.Code.TheVariants.{M5, M15}
+use Rattle.ci_machine.specs.declared.reply.FaultCode.TheVariants.{K}
+use Rattle.ci_machine.specs.declared.reply.Detail.{Detail}
 use Rattle.ci_machine.specs.declared.reply.Detail.TheVariants as detail
-use Rattle.ci_machine.specs.declared.limits.TheConstants.{MAX_JOBS}
 use Rattle.ci_machine.specs.declared.reply.Reply.{Reply}
 use Rattle.ci_machine.specs.Plans.{Plan, refused, faulted, numbered}
 use Rattle.ci_machine.specs.Projects.{add_project, made_project}
@@ -39,7 +48,11 @@ use Rattle.ci_machine.specs.Reports.{ended}
 use Rattle.ci_machine.specs.Leases.{is_live, is_over, while_leased, renewed, accepted, finished, is_same_end, first_due}
 use Rattle.ci_machine.specs.Sweeps.{sweep}
 use Rattle.ci_machine.specs.Leases.{cause_of}
-use Rattle.ci_machine.specs.Pipelines.{new_jobs, entered, enter_pipeline, has_names, lacks_numbers}
+use Rattle.ci_machine.specs.Files.{SetsFile, set_file}
+use Rattle.ci_machine.specs.Variables.{set_variable, variable_set, delete_variable, count_with}
+use Rattle.ci_machine.specs.Pipelines.{Layout, IsLaidOut, Creation, creation, creation_changes, AreFirstRows, pipeline_created, lacks_numbers, MakesUnless, Makes, Creates}
+use Rattle.ci_board.specs.declared.facts.Facts.{Facts}
+use Rattle.ci_board.specs.declared.facts.Row.{Row}
 use Rattle.ci_board.specs.declared.facts.Status.TheVariants as status
 use Rattle.ci_machine.specs.declared.records.BoardRow.{BoardRow}
 use Rattle.ci_machine.specs.declared.records.JobVariable.{JobVariable}
@@ -59,8 +72,14 @@ use Rattle.ci_server.specs.Search.{IsOffered}
 use Rattle.ci_board.specs.declared.facts.Status.{Status}
 use Rattle.ci_machine.specs.declared.records.Piece.{Piece}
 use Rattle.ci_machine.specs.declared.reply.Code.{Code}
-use Rattle.ci_machine.specs.Shows.{shown, traced}
-use Rattle.ci_server.specs.Planning.{PlansFor, IsKept, Settles, MovesOne, RowsMade, attempt_ended}
+use Rattle.ci_machine.specs.Shows.{shown, show_pipeline, traced}
+use Rattle.ci_plans.specs.Creations.{LaysOut}
+use Rattle.ci_plans.specs.declared.layout.LayoutFault.{LayoutFault}
+use Rattle.ci_plans.specs.declared.layout.LayoutFault.TheVariants as layout
+use Rattle.ci_plans.specs.Refusals.{unmade}
+use Rattle.ci_plans.specs.declared.replies.Refusal.{Refusal}
+use Rattle.ci_plans.specs.declared.replies.Refusal.TheVariants as refusal
+use Rattle.ci_server.specs.Planning.{PlansFor, IsKept, Settles, MovesOne, RowsMade, Refuses, attempt_ended}
 
 -- ---- what is found is in the list
 
@@ -110,6 +129,27 @@ trace_leaves s (Some l) part now there =
 
 pub piece_leaves : (s : State) (part : TracePart) (now : ℕ) → AllByRecursion (LeavesStatuses s) (append_trace (lease_at s part.attempt) part now).1
 piece_leaves s part now = trace_leaves s (lease_at s part.attempt) part now (leased s part.attempt)
+
+-- ---- files and variables of projects
+
+pub file_leaves : (s : State) (r : Result Project Code) (text : List ℕ) (plan : Plan) → SetsFile r text plan → AllByRecursion (LeavesStatuses s) plan.1
+file_leaves s (Err code) text plan is = subst (λ (p : Plan). AllByRecursion (LeavesStatuses s) p.1) (sym is) tt
+file_leaves s (Ok project) text plan is = subst (λ (p : Plan). AllByRecursion (LeavesStatuses s) p.1) (sym is.2) (by_reading is.0)
+  where
+    by_reading : (said : Result Config Detail) → AllByRecursion (LeavesStatuses s) (set_file project text said).1
+    by_reading (Ok c) = (tt, tt)
+    by_reading (Err fault) = tt
+
+pub variable_leaves : (s : State) (r : Result Project Code) (vs : List Variable) (new : NewVariable) → AllByRecursion (LeavesStatuses s) (set_variable r vs new).1
+variable_leaves s (Err code) vs new = tt
+variable_leaves s (Ok project) vs new =
+    cond_both (nat_lt MAX_VARIABLES (count_with new.key vs)) (faulted (detail.Code (K 11))) _ (λ (p : Plan). AllByRecursion (LeavesStatuses s) p.1) (λ _. tt)
+    (λ _. cond_both (not (is_variable_name new.key)) (faulted (detail.Code (K 12))) (variable_set project new) (λ (p : Plan). AllByRecursion (LeavesStatuses s) p.1) (λ _. tt) (λ _. (tt, tt)))
+
+pub deletion_leaves : (s : State) (r : Result Project Code) (found : Option Variable) → AllByRecursion (LeavesStatuses s) (delete_variable r found).1
+deletion_leaves s (Err code) found = tt
+deletion_leaves s (Ok project) None = tt
+deletion_leaves s (Ok project) (Some v) = (tt, tt)
 
 -- ---- plans that move one attempt
 
@@ -164,50 +204,45 @@ due_is_live s now l e =
 
 -- ---- a new pipeline
 
-abbrev EnteredIsMade : Type 0
-EnteredIsMade = (s : State) (p : NewPipeline) (now : ℕ) → IsSound s
-    → IsMade s (applied (entered s.next.pipeline s.next.job p now).1 s) s.next.pipeline (new_jobs p.stage s.next.pipeline s.next.job 0 p.jobs) []
+abbrev CreatedIsMade : Type 0
+CreatedIsMade = (s : State) (new : NewPipeline) (given : Given) (now : ℕ) (text : List ℕ) (laid : Layout) (made : Creation) → IsSound s → IsLaidOut text given (Ok laid)
+    → made ≡ creation s.next.pipeline s.next.job new given now laid → IsMade s (applied (creation_changes s.next.job made) s) s.next.pipeline made.jobs made.needs
 
--- the plan of a new pipeline, with the rows of its jobs or without any where it is refused, leaves right rows
-pub creation_settled : EnteredIsMade → (k : Kept) → IsKept k → (project : Option Project) (p : NewPipeline) (now : ℕ) (refusing : Bool) (rows : List BoardRow)
-    → (refusing ≡ true) ↔ ((enter_pipeline project k.state.next.pipeline k.state.next.job p now).1 ≡ []) → (refusing ≡ true → rows ≡ [])
-    → (refusing ≡ false → RowsMade k.state.next.pipeline (new_jobs p.stage k.state.next.pipeline k.state.next.job 0 p.jobs) rows)
-    → Settles k (enter_pipeline project k.state.next.pipeline k.state.next.job p now).1 rows
-creation_settled law k is project p now refusing rows says none made = by_project project says
-  where
-    first : ℕ
-    first = k.state.next.job
+module _ (k : Kept) (is : IsKept k) (new : NewPipeline) (given : Given) (now : ℕ) (text : List ℕ) where
+  -- what the file lays out is made, and the rows of its jobs are put
+  pub creation_planned : CreatedIsMade → (laid : Layout) (made : Creation) (rows : List BoardRow) (plan : Plan) → IsLaidOut text given (Ok laid)
+      → lacks_numbers k.state.next.pipeline k.state.next.job (length laid.plan.jobs) ≡ false → made ≡ creation k.state.next.pipeline k.state.next.job new given now laid
+      → (IsStrictlySortedBy nat_cmp (map (λ j. j.id) made.jobs) → AreFirstRows made.jobs made.needs (map (λ r. r.row) rows)) → RowsMade made.jobs made.needs rows
+      → plan ≡ pipeline_created k.state.next.job made (map (λ r. r.row) rows)
+      → PlansFor k (Creates k.state.next.pipeline k.state.next.job new given now (Ok text) plan) plan.1 rows
+  creation_planned law laid made rows plan laid_out enough same first_rows right planned = record {
+    made = (Ok laid, laid_out, subst (λ (b : Bool). MakesUnless b k.state.next.job (creation k.state.next.pipeline k.state.next.job new given now laid) plan) (sym enough)
+        (subst (λ (m : Creation). MakesUnless false k.state.next.job m plan) same (map (λ r. r.row) rows, first_rows its_made.ascend, planned)));
+    settled = subst (λ (cs : List RowChange). Settles k cs rows) (sym (ap (λ (p : Plan). p.1) planned))
+        (right k.state (applied (creation_changes k.state.next.job made) k.state) k.board k.state.next.pipeline is.sound is.are_board its_made);
+  }
+    where
+      its_made : IsMade k.state (applied (creation_changes k.state.next.job made) k.state) k.state.next.pipeline made.jobs made.needs
+      its_made = law k.state new given now text laid made is.sound laid_out same
 
-    Right : Plan → Type 0
-    Right plan = ((refusing ≡ true) ↔ (plan.1 ≡ [])) → Settles k plan.1 rows
+  -- where it lays out none, its fault is told
+  pub unlaid : (fault : Detail) → IsLaidOut text given (Err fault) → Creates k.state.next.pipeline k.state.next.job new given now (Ok text) (faulted fault)
+  unlaid fault laid_out = (Err fault, laid_out, refl)
 
-    unmade : (plan : Plan) → plan.1 ≡ [] → Right plan
-    unmade plan e w = subst (λ (cs : List RowChange). Settles k cs rows) (sym e) (subst (λ rs. Settles k [] rs) (sym (none (w.1 e))) is.are_board)
+  -- where there are no numbers for what it lays out, that is told
+  pub unnumbered : (laid : Layout) → IsLaidOut text given (Ok laid) → lacks_numbers k.state.next.pipeline k.state.next.job (length laid.plan.jobs) ≡ true
+      → Creates k.state.next.pipeline k.state.next.job new given now (Ok text) (refused M15)
+  unnumbered laid laid_out lacks =
+      (Ok laid, laid_out, subst (λ (b : Bool). MakesUnless b k.state.next.job (creation k.state.next.pipeline k.state.next.job new given now laid) (refused M15)) (sym lacks) refl)
 
-    whole : Plan
-    whole = entered k.state.next.pipeline first p now
-
-    by_refusal : (b : Bool) → refusing ≡ b → Right whole
-    by_refusal true e w = absurd (cc (w.0 e))
-    by_refusal false e w = made e k.state (applied whole.1 k.state) k.board is.sound is.are_board (law k.state p now is.sound)
-
-    numbered_plan : Plan
-    numbered_plan = if lacks_numbers k.state.next.pipeline first (length p.jobs) then refused M15 else whole
-
-    named_plan : Plan
-    named_plan = if not (has_names p) then faulted (detail.Code (K 16)) else numbered_plan
-
-    few_plan : Plan
-    few_plan = if nat_lt MAX_JOBS (length p.jobs) then faulted (detail.Code (K 11)) else named_plan
-
-    by_project : (o : Option Project) → Right (enter_pipeline o k.state.next.pipeline k.state.next.job p now)
-    by_project None = unmade (refused M2) refl
-    by_project (Some q) =
-        cond_both (nat_lt (length p.jobs) 1) (faulted (detail.Code (G 4))) few_plan Right (λ _. unmade (faulted (detail.Code (G 4))) refl)
-        (λ _. cond_both (nat_lt MAX_JOBS (length p.jobs)) (faulted (detail.Code (K 11))) named_plan Right (λ _. unmade (faulted (detail.Code (K 11))) refl)
-        (λ _. cond_both (not (has_names p)) (faulted (detail.Code (K 16))) numbered_plan Right (λ _. unmade (faulted (detail.Code (K 16))) refl)
-        (λ _. cond_both (lacks_numbers k.state.next.pipeline first (length p.jobs)) (refused M15) whole Right (λ _. unmade (refused M15) refl)
-        (λ _. by_refusal refusing refl))))
+  -- so what refuses it for this fault is a plan that changes nothing
+  pub unlaid_planned : (fault : LayoutFault) (plan : Plan) → LaysOut text given k.state.next.pipeline k.state.next.job new now (Err fault) → Refuses fault plan
+      → Creates k.state.next.pipeline k.state.next.job new given now (Ok text) plan × (plan.1 ≡ [])
+  unlaid_planned (layout.Fault fault) plan out refuses =
+      (subst (λ (p : Plan). Creates k.state.next.pipeline k.state.next.job new given now (Ok text) p) (sym refuses) (unlaid fault out), ap (λ (p : Plan). p.1) refuses)
+  unlaid_planned layout.NoNumbers plan out refuses =
+      (subst (λ (p : Plan). Creates k.state.next.pipeline k.state.next.job new given now (Ok text) p) (sym refuses) (unnumbered out.0 out.1 out.2), ap (λ (p : Plan). p.1) refuses)
+  unlaid_planned layout.Memory plan out refuses = absurd refuses
 
 -- a pair by its parts
 pub pair_is : {A B : Type 0} (a : A) (b : B) (p q : A × B) → a ≡ p.0 → b ≡ p.1 → p ≡ q → (a, b) ≡ q
@@ -307,6 +342,10 @@ pub traced_leaves : (s : State) (r : Result Job Code) (pieces : List Piece) → 
 traced_leaves s (Ok job) pieces = tt
 traced_leaves s (Err code) pieces = tt
 
+pub pipeline_shown_leaves : (s : State) (r : Result Pipeline Code) (jobs : List Job) (facts : List Facts) (rows : List Row) → AllByRecursion (LeavesStatuses s) (show_pipeline r jobs facts rows).1
+pipeline_shown_leaves s (Ok p) jobs facts rows = tt
+pipeline_shown_leaves s (Err code) jobs facts rows = tt
+
 abbrev RowsStay : Type 0
 RowsStay = (s : State) (board : List BoardRow) (changes : List RowChange) → IsSound s → AreBoard s board → AllByRecursion (LeavesStatuses s) changes → AreBoard (applied changes s) board
 
@@ -317,3 +356,17 @@ without_rows law k is Makes plan answer changes rows same_answer same_changes no
   settled = subst (λ (cs : List RowChange). Settles k cs rows) (sym same_changes)
       (subst (λ (rs : List BoardRow). Settles k plan.1 rs) (sym none) (law k.state k.board plan.1 is.sound is.are_board leaves));
 }
+
+-- ---- what is refused
+
+-- a plan that changes nothing leaves all rows
+pub nothing_changes : (k : Kept) → IsKept k → (Makes : Plan → Type 0) (plan : Plan) (answer : Reply) (changes : List RowChange) (rows : List BoardRow) → answer ≡ plan.0 → changes ≡ plan.1 → rows ≡ []
+    → Makes plan → plan.1 ≡ [] → PlansFor k (Makes (answer, changes)) changes rows
+nothing_changes k is Makes plan answer changes rows same_answer same_changes none makes nothing = record {
+  made = subst Makes (sym (pair_is answer changes plan plan same_answer same_changes refl)) makes;
+  settled = subst (λ (cs : List RowChange). Settles k cs rows) (sym (same_changes ∙ nothing)) (subst (λ (rs : List BoardRow). Settles k [] rs) (sym none) is.are_board);
+}
+
+pub refusals_change_nothing : (r : Refusal) → (unmade r).1 ≡ []
+refusals_change_nothing (refusal.Code code) = refl
+refusals_change_nothing (refusal.Fault code) = refl

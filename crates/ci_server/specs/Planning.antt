@@ -1,8 +1,13 @@
 -- What is planned of an event over what a store keeps: changes of records, and the rows of statuses that are put behind them.
-use Rattle.std.specs.Prelude.{◌≡◌, ◌⊎◌, ℕ, List, [], ◌∷◌, if◌then◌else◌, Option, Some, None}
+use Rattle.std.specs.Prelude.{◌≡◌, ◌⊎◌, ℕ, List, [], ◌∷◌, if◌then◌else◌, Option, Some, None, Ok}
 use Rattle.ci_machine.specs.declared.records.BoardRow.{BoardRow}
 use Rattle.ci_machine.specs.declared.records.Attempt.{Attempt}
 use Rattle.ci_machine.specs.declared.records.Job.{Job}
+use Rattle.ci_machine.specs.declared.records.Need.{Need}
+use Rattle.ci_machine.specs.declared.records.Variable.{Variable}
+use Rattle.ci_machine.specs.declared.request.NewPipeline.{NewPipeline}
+use Rattle.ci_machine.specs.declared.reply.Code.TheVariants.{M15}
+use Rattle.ci_machine.specs.declared.reply.Reply.{Reply}
 use Rattle.ci_machine.specs.declared.change.Record.TheVariants as row
 use Rattle.ci_machine.specs.declared.change.RowChange.{RowChange}
 use Rattle.ci_machine.specs.declared.change.RowChange.TheVariants.{Put}
@@ -10,8 +15,12 @@ use Rattle.ci_machine.specs.Leases.{is_live}
 use Rattle.ci_machine.specs.State.{State, applied}
 use Rattle.ci_machine.specs.Kept.{Kept, put_rows}
 use Rattle.ci_machine.specs.Statuses.{AreBoard}
+use Rattle.ci_machine.specs.Plans.{Plan, refused, faulted}
+use Rattle.ci_machine.specs.Pipelines.{given_by, Creates}
 use Rattle.ci_machine.specs.Sound.{IsSound}
 use Rattle.ci_statuses.specs.Changes.{HasLive, IsMade}
+use Rattle.ci_plans.specs.declared.layout.LayoutFault.{LayoutFault}
+use Rattle.ci_plans.specs.declared.layout.LayoutFault.TheVariants as layout
 
 -- what is kept is a state that the machine may come to, with its rows
 pub record IsKept (k : Kept) : Type 0 where
@@ -31,9 +40,22 @@ pub record PlansFor (k : Kept) (Makes : Type 0) (changes : List RowChange) (rows
 abbrev pub MovesOne : State → List RowChange → Type 0
 MovesOne s changes = (changes ≡ []) ⊎ ((after : Attempt) × HasLive s after × (changes ≡ Put (row.Attempt after) ∷ []))
 
--- the rows make those of any state after the pipeline was made with these jobs, none of which waits for another
-abbrev pub RowsMade : ℕ → List Job → List BoardRow → Type 0
-RowsMade pipeline jobs rows = (s t : State) (board : List BoardRow) → IsSound s → AreBoard s board → IsMade s t pipeline jobs [] → AreBoard t (put_rows rows board)
+-- the rows make those of any state after a pipeline was made with these jobs and needs
+abbrev pub RowsMade : List Job → List Need → List BoardRow → Type 0
+RowsMade jobs needs rows = (s t : State) (board : List BoardRow) (pipeline : ℕ) → IsSound s → AreBoard s board → IsMade s t pipeline jobs needs → AreBoard t (put_rows rows board)
+
+-- What is planned of a pipeline that this file makes, with these variables of its project and these next numbers: the plan is one that
+-- the machine makes wherever the numbers are the next, and its rows settle its changes there.
+abbrev pub PlansFile : List ℕ → List Variable → NewPipeline → ℕ → ℕ → ℕ → Reply → List RowChange → List BoardRow → Type 0
+PlansFile text variables new pipeline first now answer changes rows =
+    (k : Kept) → IsKept k → pipeline ≡ k.state.next.pipeline → first ≡ k.state.next.job
+    → PlansFor k (Creates k.state.next.pipeline k.state.next.job new (given_by new variables) now (Ok text) (answer, changes)) changes rows
+
+-- the plan refuses a pipeline for which nothing is laid out, for this fault
+abbrev pub Refuses : LayoutFault → Plan → Type 0
+Refuses (layout.Fault detail) plan = plan ≡ faulted detail
+Refuses layout.NoNumbers plan = plan ≡ refused M15
+Refuses layout.Memory plan = ⊥
 
 -- the attempt that the changes end, where they put it alone
 abbrev pub attempt_ended : List RowChange → Option Attempt

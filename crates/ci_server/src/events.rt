@@ -13,15 +13,17 @@ ghost use Rattle.ci_server.specs.Handling.{Performs};
 ghost use Rattle.ci_server.specs.Holding.{Holds, Leaves};
 ghost use Rattle.ci_server.specs.Planning.{IsKept, PlansFor};
 
+use crate::files::set_file;
 use crate::grants::ask_job;
-use crate::pipelines::enter_pipeline;
+use crate::pipelines::create_pipeline;
 use crate::planned::Planned;
 use crate::projects::add_project;
 use crate::reports::update_job;
 use crate::runners::add_runner;
-use crate::shows::{show_job, show_trace};
+use crate::shows::{show_job, show_pipeline, show_trace};
 use crate::sweeps;
 use crate::traces::append_trace;
+use crate::variables::{delete_variable, set_variable};
 use ci_machine::moment::Moment;
 use ci_machine::reply::{Reply, Swept};
 use ci_machine::request::{Request, Seed};
@@ -73,7 +75,7 @@ fn plan<T: Store>(
 {
     rows_stay();
     match request {
-        Request::EnterPipeline(new) => enter_pipeline(alloc, store, new, now),
+        Request::CreatePipeline(new) => create_pipeline(alloc, store, &new, now),
         Request::AskJob(token) => ask_job(alloc, store, token, now, seed),
         Request::UpdateJob(update) => update_job(alloc, store, &update, now),
         Request::AddProject(name) => {
@@ -84,8 +86,24 @@ fn plan<T: Store>(
             let plan = add_runner(alloc, store, name, seed)?;
             Ok(Planned::without_rows(alloc, plan))
         }
+        Request::SetFile(new) => {
+            let plan = set_file(alloc, store, new)?;
+            Ok(Planned::without_rows(alloc, plan))
+        }
+        Request::SetVariable(new) => {
+            let plan = set_variable(alloc, store, new)?;
+            Ok(Planned::without_rows(alloc, plan))
+        }
+        Request::DeleteVariable(query) => {
+            let plan = delete_variable(alloc, store, &query)?;
+            Ok(Planned::without_rows(alloc, plan))
+        }
         Request::AppendTrace(part) => {
             let plan = append_trace(alloc, store, part, now)?;
+            Ok(Planned::without_rows(alloc, plan))
+        }
+        Request::ShowPipeline(query) => {
+            let plan = show_pipeline(alloc, store, &query)?;
             Ok(Planned::without_rows(alloc, plan))
         }
         Request::ShowJob(query) => {

@@ -4,6 +4,7 @@
 mod ends;
 mod events;
 mod fail_stop;
+mod files;
 mod grants;
 mod leases;
 pub mod lifetime;
@@ -18,5 +19,6 @@ pub mod server;
 mod shows;
 mod sweeps;
 mod traces;
+mod variables;
 
 pub use ci_http::link;

@@ -1,11 +1,14 @@
-//! What a request for a new project does, from what the store holds.
+//! What a request for a new project does, from what the store holds; and the project that a request names.
 
 ghost use Rattle.std.specs.Prelude.{◌≡◌};
+ghost use Rattle.std.specs.Result.{result_map_both};
+ghost use Rattle.ci_machine.specs.Plans.{asked_project};
 ghost use Rattle.ci_machine.specs.Projects as machine;
 ghost use Rattle.ci_store.specs.Store.{LoadsBy};
 
 use ci_machine::change::{Counter, Delta};
-use ci_machine::reply::Reply;
+use ci_machine::records::Project;
+use ci_machine::reply::{Code, Reply};
 use ci_machine::request::Seed;
 use ci_machine::text::Text;
 use ci_plans::projects;
@@ -24,4 +27,11 @@ pub(crate) fn add_project<T: Store>(
 {
     let next = store.next(Counter::Project)?;
     Ok(projects::add_project(alloc, next, name, seed)?)
+}
+
+/// The project with the token that came, where it is the one that is named. Refusals: those of the machine's `asked_project`.
+pub(crate) fn asked(project: &Option<Project>, named: u64) -> Result<&Project, Code>
+    ensures { result_map_both (λ p. p.now) (λ c. c) result ≡ asked_project project.now named }
+{
+    projects::asked_project(project.as_ref(), named)
 }

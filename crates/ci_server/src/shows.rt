@@ -1,19 +1,31 @@
-//! What a question for a job or for its trace does, from what the store holds.
+//! What a question for a pipeline, for a job or for its trace does, from what the store holds.
 
-ghost use Rattle.std.specs.Prelude.{◌≡◌, None};
+ghost use Rattle.std.specs.Prelude.{◌≡◌, None, ℕ, List, length, IfOk};
 ghost use Rattle.std.specs.List.{last_or};
 ghost use Rattle.std.specs.Option.{option_copied};
 ghost use Rattle.std.specs.Result.{result_map_both};
+ghost use Rattle.ci_machine.specs.declared.records.BoardRow.{BoardRow};
+ghost use Rattle.ci_machine.specs.declared.records.Need.{Need};
+ghost use Rattle.ci_machine.specs.State.{State};
+ghost use Rattle.ci_machine.specs.Kept.{Kept};
+ghost use Rattle.ci_machine.specs.Plans.{asked_project};
 ghost use Rattle.ci_machine.specs.Shows as machine;
-ghost use Rattle.ci_machine.specs.Statuses.{status_for};
+ghost use Rattle.ci_machine.specs.Sound.{IsSound};
+ghost use Rattle.ci_machine.specs.Statuses.{jobs_of, facts_of, rows_of, status_for, AreBoard};
 ghost use Rattle.ci_machine.specs.Step as step;
+ghost use Rattle.ci_statuses.specs.Lookups.{AreRecords};
 ghost use Rattle.ci_store.specs.Store.{LoadsBy};
+ghost use Rattle.ci_server.specs.Planning.{IsKept};
 
+use crate::ends::or_store_fault;
+use crate::projects;
+use ci_board::facts::{Facts, Row};
 use ci_machine::change::Delta;
-use ci_machine::records::{Attempt, Job, Piece, Pipeline, Project};
+use ci_machine::records::{Attempt, BoardRow, Job, Piece, Pipeline, Project};
 use ci_machine::reply::{Code, Reply};
-use ci_machine::request::JobQuery;
+use ci_machine::request::{JobQuery, PipelineQuery};
 use ci_plans::{replies, shows};
+use ci_statuses::load::{facts_and_rows, range_of};
 use ci_statuses::pending::status_of;
 use ci_store::fault::StoreFault;
 use ci_store::store::Store;
@@ -128,4 +140,94 @@ fn last(attempts: Vec<Attempt>) -> Option<Attempt>
 {
     let mut attempts = attempts;
     attempts.pop()
+}
+
+/// A pipeline with its jobs and their statuses is asked for. Its jobs are looked up only where it is the asking project's.
+pub(crate) fn show_pipeline<T: Store>(
+    alloc: Global,
+    store: &mut T,
+    query: &PipelineQuery,
+) -> Result<(Reply, Delta), StoreFault>
+    ensures { LoadsBy T.honest T.holds T.leaves store.old store.new result
+        (λ k plan. IsKept k → let n = query.now.pipeline in
+        plan ≡ machine.show_pipeline (machine.asked_pipeline (asked_project (step.project_with k.state query.now.token) query.now.project) (step.pipeline_at k.state n)) (jobs_of k.state n) (facts_of k.state n) (rows_of k.state k.board n)) }
+{
+    let project = store.project_with(&query.token)?;
+    let pipeline = store.pipeline(query.pipeline)?;
+    match asked_pipeline(&project, &pipeline, query.project) {
+        Ok(found) => pipeline_shown(alloc, store, found, query.pipeline),
+        Err(code) => Ok(replies::refused(alloc, code)),
+    }
+}
+
+/// The pipeline that was found, where it is one of the project that is named. Refusals: those of the machine's `asked_pipeline`.
+fn asked_pipeline<'a>(
+    project: &Option<Project>,
+    pipeline: &'a Option<Pipeline>,
+    named: u64,
+) -> Result<&'a Pipeline, Code>
+    ensures { result_map_both (λ p. p.now) (λ c. c) result ≡ machine.asked_pipeline (asked_project project.now named) pipeline.now }
+{
+    shows::asked_pipeline(projects::asked(project, named), pipeline.as_ref())
+}
+
+/// The pipeline with this number is shown, with what is looked up of its jobs: their attempts and rows.
+fn pipeline_shown<T: Store>(
+    alloc: Global,
+    store: &mut T,
+    pipeline: &Pipeline,
+    number: u64,
+) -> Result<(Reply, Delta), StoreFault>
+    ensures { LoadsBy T.honest T.holds T.leaves store.old store.new result
+        (λ k plan. IsKept k → plan ≡ machine.pipeline_shown pipeline.now (jobs_of k.state number) (facts_of k.state number) (rows_of k.state k.board number)) }
+{
+    let jobs = store.jobs_of(number)?;
+    let Some((first, last)) = range_of(jobs.as_slice()) else {
+        return Err(StoreFault::Broken);
+    };
+    let attempts = store.attempts_within(first, last)?;
+    let rows = store.rows_within(first, last)?;
+    jobs_shown(
+        alloc,
+        pipeline,
+        jobs.as_slice(),
+        attempts.as_slice(),
+        rows.as_slice(),
+    )
+}
+
+/// The pipeline is shown with these jobs, by at least their attempts and rows.
+fn jobs_shown(
+    alloc: Global,
+    pipeline: &Pipeline,
+    jobs: &[Job],
+    attempts: &[Attempt],
+    rows: &[BoardRow],
+) -> Result<(Reply, Delta), StoreFault>
+    ensures { IfOk result (λ plan. (k : Kept) (number : ℕ) (needs : List Need) → IsKept k → AreRecords k.state k.board number jobs.now needs attempts.now rows.now
+        → plan ≡ machine.pipeline_shown pipeline.now jobs.now (facts_of k.state number) (rows_of k.state k.board number)) }
+{
+    let found = loaded(alloc, jobs, attempts, rows)?;
+    let plan = shows::pipeline_shown(
+        alloc,
+        pipeline,
+        jobs,
+        found.0.as_slice(),
+        found.1.as_slice(),
+    )?;
+    Ok(plan)
+}
+
+/// The facts and the rows of a pipeline's jobs. Errors: memory was refused, or the records don't fit together.
+fn loaded(
+    alloc: Global,
+    jobs: &[Job],
+    attempts: &[Attempt],
+    rows: &[BoardRow],
+) -> Result<(Vec<Facts>, Vec<Row>), StoreFault>
+    ensures long { IfOk result (λ r. (length r.0.items ≡ length jobs.now) × (length r.1.items ≡ length jobs.now)) }
+    ensures facts { IfOk result (λ r. (s : State) (board : List BoardRow) (number : ℕ) (needs : List Need) → IsSound s → AreBoard s board → AreRecords s board number jobs.now needs attempts.now rows.now → r.0.items ≡ facts_of s number) }
+    ensures rows { IfOk result (λ r. (s : State) (board : List BoardRow) (number : ℕ) (needs : List Need) → IsSound s → AreBoard s board → AreRecords s board number jobs.now needs attempts.now rows.now → r.1.items ≡ rows_of s board number) }
+{
+    or_store_fault(facts_and_rows(alloc, jobs, attempts, rows))
 }
