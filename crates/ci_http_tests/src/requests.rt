@@ -158,6 +158,10 @@ fn fields_of_replies(rt: HostRuntime) -> Result<(), Fail> {
             Reply::refusal(Code::M9),
             b"HTTP/1.1 413 Payload Too Large\r\nContent-Type: application/json\r\nContent-Length: 13\r\nConnection: close\r\n\r\n{\"code\":\"M9\"}",
         ),
+        (
+            Reply::refusal(Code::M13),
+            b"HTTP/1.1 400 Bad Request\r\nContent-Type: application/json\r\nContent-Length: 14\r\nConnection: close\r\n\r\n{\"code\":\"M13\"}",
+        ),
     ];
     for (reply, wanted) in &rows {
         assert!(&rt; text_of(rt.alloc(), reply)?.as_slice() == *wanted);

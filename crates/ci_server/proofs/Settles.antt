@@ -74,8 +74,8 @@ use Rattle.ci_machine.specs.declared.records.Piece.{Piece}
 use Rattle.ci_machine.specs.declared.reply.Code.{Code}
 use Rattle.ci_machine.specs.Shows.{shown, show_pipeline, traced}
 use Rattle.ci_plans.specs.Creations.{LaysOut}
-use Rattle.ci_plans.specs.declared.layout.LayoutFault.{LayoutFault}
-use Rattle.ci_plans.specs.declared.layout.LayoutFault.TheVariants as layout
+use Rattle.ci_plans.specs.declared.files.FileFault.{FileFault}
+use Rattle.ci_plans.specs.declared.files.FileFault.TheVariants.{Memory, Fault}
 use Rattle.ci_plans.specs.Refusals.{unmade}
 use Rattle.ci_plans.specs.declared.replies.Refusal.{Refusal}
 use Rattle.ci_plans.specs.declared.replies.Refusal.TheVariants as refusal
@@ -236,13 +236,11 @@ module _ (k : Kept) (is : IsKept k) (new : NewPipeline) (given : Given) (now : �
       (Ok laid, laid_out, subst (λ (b : Bool). MakesUnless b k.state.next.job (creation k.state.next.pipeline k.state.next.job new given now laid) (refused M15)) (sym lacks) refl)
 
   -- so what refuses it for this fault is a plan that changes nothing
-  pub unlaid_planned : (fault : LayoutFault) (plan : Plan) → LaysOut text given k.state.next.pipeline k.state.next.job new now (Err fault) → Refuses fault plan
+  pub unread_planned : (fault : FileFault) (plan : Plan) → LaysOut text (record { id = k.state.next.pipeline; first_job = k.state.next.job; asked = new; given = given; moment = now }) (Err fault) → Refuses fault plan
       → Creates k.state.next.pipeline k.state.next.job new given now (Ok text) plan × (plan.1 ≡ [])
-  unlaid_planned (layout.Fault fault) plan out refuses =
+  unread_planned (Fault fault) plan out refuses =
       (subst (λ (p : Plan). Creates k.state.next.pipeline k.state.next.job new given now (Ok text) p) (sym refuses) (unlaid fault out), ap (λ (p : Plan). p.1) refuses)
-  unlaid_planned layout.NoNumbers plan out refuses =
-      (subst (λ (p : Plan). Creates k.state.next.pipeline k.state.next.job new given now (Ok text) p) (sym refuses) (unnumbered out.0 out.1 out.2), ap (λ (p : Plan). p.1) refuses)
-  unlaid_planned layout.Memory plan out refuses = absurd refuses
+  unread_planned Memory plan out refuses = absurd refuses
 
 -- a pair by its parts
 pub pair_is : {A B : Type 0} (a : A) (b : B) (p q : A × B) → a ≡ p.0 → b ≡ p.1 → p ≡ q → (a, b) ≡ q

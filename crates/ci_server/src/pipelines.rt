@@ -1,7 +1,7 @@
 //! What a request for a new pipeline does, from what the store holds: the file of its project is read and laid out, and what it lays
 //! out is made, with the rows of its jobs.
 
-ghost use Rattle.std.specs.Prelude.{◌≡◌, map, length, Ok, IfOk};
+ghost use Rattle.std.specs.Prelude.{◌≡◌, ◌≤◌, ◌+◌, map, length, Ok, IfOk, IfSome};
 ghost use Rattle.std.specs.Result.{result_map_both};
 ghost use Rattle.std.specs.Ordering.{nat_cmp};
 ghost use Rattle.std.specs.List.Sorted.{IsStrictlySortedBy};
@@ -11,18 +11,20 @@ ghost use Rattle.ci_machine.specs.Step.{project_with, project_variables};
 ghost use Rattle.ci_plans.specs.Refusals as refusals;
 ghost use Rattle.ci_plans.specs.Creations.{creation_view};
 ghost use Rattle.ci_store.specs.Store.{LoadsBy};
-ghost use Rattle.ci_server.specs.Planning.{IsKept, PlansFor, PlansFile, Refuses, RowsMade};
+ghost use Rattle.ci_server.specs.Planning.{IsKept, PlansFor, PlansFile, PlansRecords, Refuses, RowsMade};
 
 use crate::ends::or_store_fault;
 use crate::planned::Planned;
 use crate::projects::asked;
 use ci_machine::change::{Counter, Delta};
 use ci_machine::moment::Moment;
-use ci_machine::records::{BoardRow, Project, Variable};
+use ci_machine::records::{BoardRow, MAX_NUMBER, Project, Variable};
 use ci_machine::reply::{Code, Reply};
 use ci_machine::request::NewPipeline;
 use ci_machine::text::Text;
-use ci_plans::layout::{self, Creation, LayoutFault, lay_out};
+use ci_plans::creation::{self, Creation};
+use ci_plans::files::FileFault;
+use ci_plans::layouts::lay_out;
 use ci_plans::pipelines::may_create;
 use ci_plans::replies::{Refusal, faulted, refused, unmade};
 use ci_statuses::creation::rows_of_creation;
@@ -87,24 +89,39 @@ fn by_file(
 ) -> Result<Planned<Reply>, StoreFault>
     ensures { IfOk result (λ p. PlansFile text.now variables.now new.now pipeline job now p.answer p.changes p.rows.items) }
 {
-    created_is_made();
-    match lay_out(alloc, text, variables, new, pipeline, job, now) {
-        Ok(creation) => with_its_rows(alloc, creation, job),
+    match lay_out(alloc, text.as_str(), variables, new, pipeline, job, now) {
+        Ok(made) => by_records(alloc, made, job),
         Err(fault) => {
-            let plan = unlaid(alloc, fault)?;
+            let plan = unread(alloc, fault)?;
             Ok(Planned::without_rows(alloc, plan))
         }
     }
 }
 
-/// The plan that refuses a pipeline for which nothing is laid out. Errors: memory was refused, there or here.
-fn unlaid(alloc: Global, fault: LayoutFault) -> Result<(Reply, Delta), StoreFault>
+/// The plan that refuses a pipeline by the fault of its file. Errors: memory was refused, there or here.
+fn unread(alloc: Global, fault: FileFault) -> Result<(Reply, Delta), StoreFault>
     ensures { IfOk result (Refuses fault) }
 {
     match fault {
-        LayoutFault::Fault(detail) => Ok(faulted(alloc, &detail)?),
-        LayoutFault::NoNumbers => Ok(refused(alloc, Code::M15)),
-        LayoutFault::Memory => Err(StoreFault::Memory),
+        FileFault::Fault(detail) => Ok(faulted(alloc, &detail)?),
+        FileFault::Memory => Err(StoreFault::Memory),
+    }
+}
+
+/// What is planned of a pipeline with these records, whose first job has this number; or with none, where a number is over the limit.
+fn by_records(
+    alloc: Global,
+    made: Option<Creation>,
+    first: u64,
+) -> Result<Planned<Reply>, StoreFault>
+    requires pipeline { IfSome made (λ c. c.pipeline.id ≤ MAX_NUMBER) }
+    requires jobs { IfSome made (λ c. first + length c.jobs.items ≤ MAX_NUMBER + 1) }
+    ensures { IfOk result (λ p. PlansRecords made first p.answer p.changes p.rows.items) }
+{
+    created_is_made();
+    match made {
+        Some(creation) => with_its_rows(alloc, creation, first),
+        None => Ok(Planned::without_rows(alloc, refused(alloc, Code::M15))),
     }
 }
 
@@ -114,12 +131,14 @@ fn with_its_rows(
     creation: Creation,
     first: u64,
 ) -> Result<Planned<Reply>, StoreFault>
+    requires pipeline { creation.pipeline.id ≤ MAX_NUMBER }
+    requires jobs { first + length creation.jobs.items ≤ MAX_NUMBER + 1 }
     ensures rows { IfOk result (λ p. IsStrictlySortedBy nat_cmp (map (λ j. j.id) creation.jobs.items) → machine.AreFirstRows creation.jobs.items creation.needs.items (map (λ r. r.row) p.rows.items)) }
     ensures made { IfOk result (λ p. RowsMade creation.jobs.items creation.needs.items p.rows.items) }
     ensures plan { IfOk result (λ p. (p.answer, p.changes) ≡ machine.pipeline_created first (creation_view creation) (map (λ r. r.row) p.rows.items)) }
 {
     let rows = rows_of(alloc, &creation)?;
-    let plan = layout::create_pipeline(alloc, first, creation, rows.as_slice())?;
+    let plan = creation::create_pipeline(alloc, first, creation, rows.as_slice())?;
     let (answer, changes) = plan;
     Ok(Planned {
         answer,

@@ -1,10 +1,12 @@
 //! What happens to a server in the tests.
 
 use ci_machine::moment::Moment;
+use ci_machine::records::{RefKind, Source};
 use ci_machine::request::{
-    Event, JobQuery, JobUpdate, NewJob, NewJobs, NewPipeline, Report, Request, Seed, TracePart,
+    Event, JobQuery, JobUpdate, NewFile, NewPipeline, NewVariable, PipelineQuery, PipelineVariable,
+    PipelineVariables, Report, Request, Seed, TracePart, VariableQuery,
 };
-use ci_machine::text::{Bytes, Text, Texts};
+use ci_machine::text::{Bytes, Text};
 use std::alloc::{AllocError, Global};
 use std::test::Fail;
 
@@ -14,12 +16,6 @@ pub const SEED: Seed = Seed([0xab; 16]);
 /// The token of the first runner.
 pub const RUNNER: &str = "r1-abababababababababababababababab";
 
-/// The token of the first project.
-const PROJECT: &str = "p1-abababababababababababababababab";
-
-/// The token of the first attempt.
-const ATTEMPT: &str = "j1-abababababababababababababababab";
-
 /// What happens to a server.
 #[derive(Clone, Copy)]
 pub enum Act {
@@ -27,28 +23,53 @@ pub enum Act {
     AddProject(&'static str),
     /// A runner is made, of this name.
     AddRunner(&'static str),
-    /// A pipeline is made in the project of this number, with jobs of these names.
-    EnterPipeline(u64, &'static [&'static str]),
+    /// The project of this number gets this file.
+    SetFile(u64, &'static str),
+    /// The project of this number gets a file of so many jobs, `j1` and on, in the stage `build`.
+    SetJobs(u64, usize),
+    /// A variable of the first project gets a value.
+    SetVariable(&'static str, &'static str),
+    /// A variable of the first project goes.
+    DeleteVariable(&'static str),
+    /// A pipeline of `main` is made in the project of this number.
+    CreatePipeline(u64),
+    /// One is made in the first project, with variables of its own.
+    CreateWith(&'static [(&'static str, &'static str)]),
     /// The runner with this token asks for a job.
     AskJob(&'static str),
     /// The runner of the first attempt says that it runs.
     Running,
     /// It says that the attempt went well.
     Success,
-    /// It sends the text at this offset of the trace.
+    /// The runner of the attempt of this number says how it stands.
+    Tell(u64, Report),
+    /// The runner of the first attempt sends the text at this offset of the trace.
     Append(u64, &'static str),
     /// The first job is looked at.
     Show,
     /// Its trace is.
     Trace,
+    /// The pipeline of this number is, by the first project.
+    ShowPipeline(u64),
     Sweep,
 }
 
-/// The first path: a project, a runner, a pipeline with one job, and its grant. Each number is 1.
-pub const PATH: [Act; 4] = [
+/// A file of one job.
+pub const ONE_JOB: &str = "build:\n  stage: build\n  script: make\n";
+
+/// A file of two jobs, of which the second waits for the first.
+pub const TWO_JOBS: &str =
+    "build:\n  stage: build\n  script: make\nunit:\n  script: [make test]\n";
+
+/// A file of three stages with a job each: each waits for those of the stages before.
+pub const THREE_STAGES: &str = "build:\n  stage: build\n  script: make\ntest:\n  stage: test\n  script: make\ndeploy:\n  stage: deploy\n  script: make\n";
+
+/// The first path: a project, a runner, a file of one job, a pipeline made of it, and its grant. Each number is 1.
+pub const PATH: [Act; 5] = [
     Act::AddProject("p"),
     Act::AddRunner("r"),
-    Act::EnterPipeline(1, &["build"]),
+    Act::SetFile(1, ONE_JOB),
+    Act::CreatePipeline(1),
     Act::AskJob(RUNNER),
 ];
 
@@ -57,54 +78,101 @@ pub fn at(seconds: u64) -> Result<Moment, Fail> {
     Ok(Moment::new(seconds).ok_or("no moment")?)
 }
 
-fn text(alloc: Global, text: &str) -> Result<Text, AllocError> {
+/// A text.
+pub fn text(alloc: Global, text: &str) -> Result<Text, AllocError> {
     Text::copy_of(alloc, text)
 }
 
-fn script(alloc: Global) -> Result<Texts, AllocError> {
-    let mut lines = Vec::new(alloc);
-    lines.push(text(alloc, "make")?)?;
-    Ok(Texts::new(lines))
+/// The token of a record: of the project (`p`), the runner (`r`) or the attempt (`j`) with a number.
+pub fn token(alloc: Global, letter: &str, number: u64) -> Result<Text, AllocError> {
+    let token = format!(in alloc; "{letter}{number}-abababababababababababababababab")?;
+    text(alloc, token.as_str())
 }
 
-fn new_job(alloc: Global, name: &str) -> Result<NewJob, AllocError> {
-    let name = text(alloc, name)?;
-    let script = script(alloc)?;
-    Ok(NewJob { name, script })
-}
-
-fn new_jobs(alloc: Global, names: &[&'static str]) -> Result<NewJobs, AllocError> {
-    let mut jobs = Vec::new(alloc);
-    for name in names {
-        jobs.push(new_job(alloc, name)?)?;
-    }
-    Ok(NewJobs::new(jobs))
-}
-
-/// The pipeline of some jobs in a project.
-pub fn pipeline(alloc: Global, project: u64, jobs: NewJobs) -> Result<Request, AllocError> {
-    Ok(Request::EnterPipeline(NewPipeline {
+/// A project's file is to be a text, by the project's token.
+pub fn new_file(alloc: Global, project: u64, file: &str) -> Result<Request, AllocError> {
+    Ok(Request::SetFile(NewFile {
         project,
-        git_ref: text(alloc, "main")?,
-        stage: text(alloc, "build")?,
-        jobs,
+        token: token(alloc, "p", project)?,
+        text: text(alloc, file)?,
     }))
+}
+
+/// The text of a file of so many jobs in the stage `build`: `j1`, `j2` and on.
+fn file_of(alloc: Global, jobs: usize) -> Result<String, AllocError> {
+    let mut file = String::new(alloc);
+    for number in 1..=jobs {
+        let name = format!(in alloc; "j{number}")?;
+        file.push_str(name.as_str())?;
+        file.push_str(":\n  stage: build\n  script: make\n")?;
+    }
+    Ok(file)
+}
+
+fn new_jobs(alloc: Global, project: u64, jobs: usize) -> Result<Request, AllocError> {
+    let file = file_of(alloc, jobs)?;
+    new_file(alloc, project, file.as_str())
+}
+
+/// A variable of the first project is to have a value.
+pub fn new_variable(alloc: Global, key: &str, value: &str) -> Result<Request, AllocError> {
+    Ok(Request::SetVariable(NewVariable {
+        project: 1,
+        token: token(alloc, "p", 1)?,
+        key: text(alloc, key)?,
+        value: text(alloc, value)?,
+    }))
+}
+
+fn gone_variable(alloc: Global, key: &str) -> Result<Request, AllocError> {
+    Ok(Request::DeleteVariable(VariableQuery {
+        project: 1,
+        token: token(alloc, "p", 1)?,
+        key: text(alloc, key)?,
+    }))
+}
+
+fn variables(alloc: Global, pairs: &[(&str, &str)]) -> Result<PipelineVariables, AllocError> {
+    let mut variables = Vec::new(alloc);
+    for (key, value) in pairs {
+        variables.push(PipelineVariable {
+            key: text(alloc, key)?,
+            value: text(alloc, value)?,
+        })?;
+    }
+    Ok(PipelineVariables::new(variables))
+}
+
+/// A pipeline of `main` to be made in a project, by the project's token.
+pub fn new_pipeline(
+    alloc: Global,
+    project: u64,
+    pairs: &[(&str, &str)],
+) -> Result<NewPipeline, AllocError> {
+    Ok(NewPipeline {
+        project,
+        token: token(alloc, "p", project)?,
+        git_ref: text(alloc, "main")?,
+        kind: RefKind::Branch,
+        source: Source::Api,
+        variables: variables(alloc, pairs)?,
+    })
 }
 
 /// The next bytes of the first attempt's trace, at an offset.
 pub fn part(alloc: Global, from: u64, bytes: Vec<u8>) -> Result<Request, AllocError> {
     Ok(Request::AppendTrace(TracePart {
         attempt: 1,
-        token: text(alloc, ATTEMPT)?,
+        token: token(alloc, "j", 1)?,
         from,
         bytes: Bytes::new(bytes),
     }))
 }
 
-fn update(alloc: Global, report: Report) -> Result<Request, AllocError> {
+fn update(alloc: Global, attempt: u64, report: Report) -> Result<Request, AllocError> {
     Ok(Request::UpdateJob(JobUpdate {
-        attempt: 1,
-        token: text(alloc, ATTEMPT)?,
+        attempt,
+        token: token(alloc, "j", attempt)?,
         report,
     }))
 }
@@ -112,9 +180,17 @@ fn update(alloc: Global, report: Report) -> Result<Request, AllocError> {
 fn query(alloc: Global) -> Result<JobQuery, AllocError> {
     Ok(JobQuery {
         project: 1,
-        token: text(alloc, PROJECT)?,
+        token: token(alloc, "p", 1)?,
         job: 1,
     })
+}
+
+fn pipeline_query(alloc: Global, pipeline: u64) -> Result<Request, AllocError> {
+    Ok(Request::ShowPipeline(PipelineQuery {
+        project: 1,
+        token: token(alloc, "p", 1)?,
+        pipeline,
+    }))
 }
 
 /// The event of what happens.
@@ -122,13 +198,20 @@ pub fn event(alloc: Global, act: Act) -> Result<Event, AllocError> {
     Ok(Event::Request(match act {
         Act::AddProject(name) => Request::AddProject(text(alloc, name)?),
         Act::AddRunner(name) => Request::AddRunner(text(alloc, name)?),
-        Act::EnterPipeline(project, jobs) => pipeline(alloc, project, new_jobs(alloc, jobs)?)?,
+        Act::SetFile(project, file) => new_file(alloc, project, file)?,
+        Act::SetJobs(project, jobs) => new_jobs(alloc, project, jobs)?,
+        Act::SetVariable(key, value) => new_variable(alloc, key, value)?,
+        Act::DeleteVariable(key) => gone_variable(alloc, key)?,
+        Act::CreatePipeline(project) => Request::CreatePipeline(new_pipeline(alloc, project, &[])?),
+        Act::CreateWith(pairs) => Request::CreatePipeline(new_pipeline(alloc, 1, pairs)?),
         Act::AskJob(token) => Request::AskJob(text(alloc, token)?),
-        Act::Running => update(alloc, Report::Running)?,
-        Act::Success => update(alloc, Report::Success(None))?,
+        Act::Running => update(alloc, 1, Report::Running)?,
+        Act::Success => update(alloc, 1, Report::Success(None))?,
+        Act::Tell(attempt, report) => update(alloc, attempt, report)?,
         Act::Append(from, text) => part(alloc, from, Vec::from_slice(alloc, text.as_bytes())?)?,
         Act::Show => Request::ShowJob(query(alloc)?),
         Act::Trace => Request::ShowTrace(query(alloc)?),
+        Act::ShowPipeline(pipeline) => pipeline_query(alloc, pipeline)?,
         Act::Sweep => return Ok(Event::Sweep),
     }))
 }
