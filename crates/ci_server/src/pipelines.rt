@@ -22,7 +22,7 @@ use ci_machine::records::{BoardRow, MAX_NUMBER, Project, Variable};
 use ci_machine::reply::{Code, Reply};
 use ci_machine::request::NewPipeline;
 use ci_machine::text::Text;
-use ci_plans::creation::{self, Creation};
+use ci_plans::creation::Creation;
 use ci_plans::files::FileFault;
 use ci_plans::layouts::lay_out;
 use ci_plans::pipelines::may_create;
@@ -138,7 +138,7 @@ fn with_its_rows(
     ensures plan { IfOk result (λ p. (p.answer, p.changes) ≡ machine.pipeline_created first (creation_view creation) (map (λ r. r.row) p.rows.items)) }
 {
     let rows = rows_of(alloc, &creation)?;
-    let plan = creation::create_pipeline(alloc, first, creation, rows.as_slice())?;
+    let plan = creation.into_plan(alloc, first, rows.as_slice())?;
     let (answer, changes) = plan;
     Ok(Planned {
         answer,

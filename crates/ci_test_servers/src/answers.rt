@@ -3,6 +3,7 @@
 use crate::acts::Act;
 use ci_machine::records::Cause;
 use ci_machine::reply::{Answer, Code, HttpStatus, JobStatus, Reply, Swept};
+use ci_machine::request::Report;
 
 /// What an answer is to be.
 #[derive(Clone, Copy)]
@@ -11,6 +12,8 @@ pub enum Want {
     Says(&'static str),
     /// A reply with this body, and no refusal.
     Done(&'static str),
+    /// A reply with this status, no body and no refusal.
+    Empty(HttpStatus),
     /// The first job is shown, with this status.
     Job(JobStatus),
     /// The trace is shown, with this text.
@@ -45,6 +48,9 @@ fn is_reply(reply: &Reply, want: Want) -> bool {
     match want {
         Want::Says(body) => says(reply, body),
         Want::Done(body) => reply.code.is_none() && says(reply, body),
+        Want::Empty(status) => {
+            reply.status == status && reply.code.is_none() && says(reply, "")
+        }
         Want::Job(status) => reply.status == HttpStatus::Fine && says(reply, shown(status)),
         Want::Trace(text) => reply.status == HttpStatus::Fine && says(reply, text),
         Want::Taken(job) => is_told(reply, HttpStatus::Fine, job, None),
@@ -103,17 +109,24 @@ pub fn first(act: Act) -> Want {
         Act::AddRunner(_) => {
             Want::Done("{\"id\":1,\"token\":\"r1-abababababababababababababababab\"}")
         }
-        Act::EnterPipeline(_, _) => Want::Done(
+        Act::SetFile(_, _) | Act::SetJobs(_, _) => Want::Done("{\"jobs\":1}"),
+        Act::SetVariable(_, _) => Want::Empty(HttpStatus::Fine),
+        Act::DeleteVariable(_) => Want::Empty(HttpStatus::NoContent),
+        Act::CreatePipeline(_) | Act::CreateWith(_) => Want::Done(
             "{\"id\":1,\"jobs\":[{\"id\":1,\"name\":\"build\",\"stage\":\"build\",\"status\":\"pending\"}],\"ref\":\"main\",\"source\":\"api\",\"status\":\"pending\"}",
         ),
         Act::AskJob(_) => Want::Done(
             "{\"id\":1,\"job_info\":{\"name\":\"build\",\"project_id\":1,\"stage\":\"build\"},\"script\":[\"make\"],\"timeout\":3600,\"token\":\"j1-abababababababababababababababab\",\"variables\":[{\"key\":\"CI\",\"value\":\"true\"},{\"key\":\"CI_COMMIT_BRANCH\",\"value\":\"main\"},{\"key\":\"CI_COMMIT_REF_NAME\",\"value\":\"main\"},{\"key\":\"CI_JOB_ID\",\"value\":\"1\"},{\"key\":\"CI_JOB_NAME\",\"value\":\"build\"},{\"key\":\"CI_JOB_STAGE\",\"value\":\"build\"},{\"key\":\"CI_PIPELINE_ID\",\"value\":\"1\"},{\"key\":\"CI_PIPELINE_SOURCE\",\"value\":\"api\"},{\"key\":\"CI_PROJECT_ID\",\"value\":\"1\"}]}",
         ),
-        Act::Running => Want::Taken(JobStatus::Running),
-        Act::Success => Want::Taken(JobStatus::Success),
+        Act::Running | Act::Tell(_, Report::Running) => Want::Taken(JobStatus::Running),
+        Act::Success | Act::Tell(_, Report::Success(_)) => Want::Taken(JobStatus::Success),
+        Act::Tell(_, Report::Failed(_, _)) => Want::Taken(JobStatus::Failed),
         Act::Append(_, _) => Want::Accepted(5),
         Act::Show => Want::Job(JobStatus::Running),
         Act::Trace => Want::Trace(""),
+        Act::ShowPipeline(_) => Want::Done(
+            "{\"id\":1,\"jobs\":[{\"id\":1,\"name\":\"build\",\"stage\":\"build\",\"status\":\"running\"}],\"ref\":\"main\",\"source\":\"api\",\"status\":\"running\"}",
+        ),
         Act::Sweep => Want::Ended(Cause::StuckOrTimeoutFailure),
     }
 }
@@ -127,12 +140,21 @@ pub fn again(act: Act) -> Want {
         Act::AddRunner(_) => {
             Want::Done("{\"id\":2,\"token\":\"r2-abababababababababababababababab\"}")
         }
-        Act::EnterPipeline(_, _) => Want::Done(
+        Act::CreatePipeline(_) | Act::CreateWith(_) => Want::Done(
             "{\"id\":2,\"jobs\":[{\"id\":2,\"name\":\"build\",\"stage\":\"build\",\"status\":\"pending\"}],\"ref\":\"main\",\"source\":\"api\",\"status\":\"pending\"}",
         ),
+        Act::DeleteVariable(_) => Want::Refused(Code::M3, None),
         Act::AskJob(_) => Want::Done(""),
         Act::Append(_, _) => Want::Refused(Code::M8, Some(5)),
         Act::Sweep => Want::Nothing,
-        Act::Running | Act::Success | Act::Show | Act::Trace => first(act),
+        Act::SetFile(_, _)
+        | Act::SetJobs(_, _)
+        | Act::SetVariable(_, _)
+        | Act::Running
+        | Act::Success
+        | Act::Tell(_, _)
+        | Act::Show
+        | Act::Trace
+        | Act::ShowPipeline(_) => first(act),
     }
 }

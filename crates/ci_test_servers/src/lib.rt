@@ -6,4 +6,3 @@ pub mod acts;
 pub mod answers;
 pub mod rows;
 pub mod servers;
-pub mod stages;

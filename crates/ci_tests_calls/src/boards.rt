@@ -3,18 +3,18 @@
 use ci_board::facts::Status::{Created, Failed, Pending, Running, Skipped, Success};
 use ci_machine::records::BoardRow;
 use ci_machine::reply::Answer;
-use ci_test_servers::acts::{Act, PATH, RUNNER};
+use ci_test_servers::acts::{Act, PATH, RUNNER, THREE_STAGES, TWO_JOBS};
 use ci_test_servers::answers::{Want, is};
 use ci_test_servers::rows::{are_same, row, rows_left};
 use ci_test_servers::servers::{InMemory, after, altered, happen, left, let_go, tell};
-use ci_test_servers::stages::staged;
 use std::alloc::Global;
 use std::process::Abort;
 use std::test::Fail;
 
-/// A server with a pipeline of so many stages, to which these things happened then.
-fn after_stages(alloc: Global, stages: usize, acts: &[Act]) -> Result<InMemory, Fail> {
-    let mut server = staged(alloc, after(alloc, &PATH[..2])?, stages)?;
+/// A server with a pipeline made of a file, to which these things happened then.
+fn after_file(alloc: Global, file: &'static str, acts: &[Act]) -> Result<InMemory, Fail> {
+    let [project, runner, _, pipeline, _] = PATH;
+    let mut server = after(alloc, &[project, runner, Act::SetFile(1, file), pipeline])?;
     match happen(alloc, &mut server, acts) {
         Ok(()) => Ok(server),
         Err(fail) => {
@@ -58,7 +58,7 @@ fn leaves(
 #[test]
 fn board_built_anew(rt: HostRuntime) -> Result<(), Fail> {
     let alloc = rt.alloc();
-    let server = after_stages(alloc, 2, &[Act::AskJob(RUNNER)])?;
+    let server = after_file(alloc, TWO_JOBS, &[Act::AskJob(RUNNER)])?;
     // a board that was built anew would say pending, with none open
     let server = altered(server, "UPDATE board SET open = 2 WHERE job = 2")?;
     let rows = [row(1, Success, 0, 0), row(2, Created, 1, 0)];
@@ -68,7 +68,7 @@ fn board_built_anew(rt: HostRuntime) -> Result<(), Fail> {
 #[test]
 fn a_success_lets_the_next_stage_run(rt: HostRuntime) -> Result<(), Fail> {
     let alloc = rt.alloc();
-    let server = after_stages(alloc, 2, &[Act::AskJob(RUNNER)])?;
+    let server = after_file(alloc, TWO_JOBS, &[Act::AskJob(RUNNER)])?;
     let rows = [row(1, Success, 0, 0), row(2, Pending, 0, 0)];
     leaves(&rt, alloc, server, 1010, Act::Success, &rows)
 }
@@ -80,7 +80,7 @@ fn asks_twice(rt: &impl Abort, alloc: Global, server: &mut InMemory) -> Result<(
     assert!(rt; is(&early, Want::Done("")));
     happen(alloc, server, &[Act::Success])?;
     let then = tell(alloc, server, 1010, ask)?;
-    assert!(rt; is_grant(&then, "{\"id\":2,\"job_info\":{\"name\":\"test\","));
+    assert!(rt; is_grant(&then, "{\"id\":2,\"job_info\":{\"name\":\"unit\","));
     let late = tell(alloc, server, 1010, ask)?;
     assert!(rt; is(&late, Want::Done("")));
     Ok(())
@@ -89,7 +89,7 @@ fn asks_twice(rt: &impl Abort, alloc: Global, server: &mut InMemory) -> Result<(
 #[test]
 fn the_next_stage_is_granted(rt: HostRuntime) -> Result<(), Fail> {
     let alloc = rt.alloc();
-    let mut server = after_stages(alloc, 2, &[Act::AskJob(RUNNER)])?;
+    let mut server = after_file(alloc, TWO_JOBS, &[Act::AskJob(RUNNER)])?;
     let asked = asks_twice(&rt, alloc, &mut server);
     let_go(server);
     asked
@@ -98,7 +98,7 @@ fn the_next_stage_is_granted(rt: HostRuntime) -> Result<(), Fail> {
 #[test]
 fn a_grant_puts_its_own_row_alone(rt: HostRuntime) -> Result<(), Fail> {
     let alloc = rt.alloc();
-    let server = after_stages(alloc, 3, &[])?;
+    let server = after_file(alloc, THREE_STAGES, &[])?;
     // rows that were put again would have one open, and two
     let server = altered(server, "UPDATE board SET open = 7 WHERE job > 1")?;
     let rows = [
@@ -111,8 +111,8 @@ fn a_grant_puts_its_own_row_alone(rt: HostRuntime) -> Result<(), Fail> {
 
 /// A pipeline of three stages whose first job runs, and another pipeline with a row that is altered.
 fn beside_another(alloc: Global) -> Result<InMemory, Fail> {
-    let acts = [Act::AskJob(RUNNER), Act::EnterPipeline(1, &["build"])];
-    let server = after_stages(alloc, 3, &acts)?;
+    let acts = [Act::AskJob(RUNNER), PATH[2], PATH[3]];
+    let server = after_file(alloc, THREE_STAGES, &acts)?;
     altered(server, "UPDATE board SET failed = 7 WHERE job = 4")
 }
 
@@ -144,19 +144,21 @@ fn a_sweep_puts_the_rows_of_its_pipeline(rt: HostRuntime) -> Result<(), Fail> {
 fn finds_one(alloc: Global, server: &mut InMemory) -> Result<bool, Fail> {
     let found = tell(alloc, server, 1000, Act::AskJob(RUNNER))?;
     let then = tell(alloc, server, 1000, Act::AskJob(RUNNER))?;
-    let start = "{\"id\":1,\"job_info\":{\"name\":\"here\",\"project_id\":1,";
+    let start = "{\"id\":1,\"job_info\":{\"name\":\"build\",\"project_id\":1,";
     Ok(is_grant(&found, start) && is(&then, Want::Done("")))
 }
 
 /// A runner of the first project asks, where the jobs of another project's pipeline come before the one that it may run.
-fn is_found(alloc: Global, others: &'static [&'static str]) -> Result<bool, Fail> {
-    let [project, runner, _, _] = PATH;
+fn is_found(alloc: Global, others: usize) -> Result<bool, Fail> {
+    let [project, runner, file, pipeline, _] = PATH;
     let entered = [
         project,
         project,
         runner,
-        Act::EnterPipeline(2, others),
-        Act::EnterPipeline(1, &["here"]),
+        Act::SetJobs(2, others),
+        Act::CreatePipeline(2),
+        file,
+        pipeline,
     ];
     let mut server = altered(after(alloc, &entered)?, "UPDATE runner SET project = 1")?;
     let found = finds_one(alloc, &mut server);
@@ -165,22 +167,12 @@ fn is_found(alloc: Global, others: &'static [&'static str]) -> Result<bool, Fail
 }
 
 /// Jobs of the other project, about the ends of pages of 16.
-const OTHERS: &[&[&str]] = &[
-    &["build"; 1],
-    &["build"; 15],
-    &["build"; 16],
-    &["build"; 17],
-    &["build"; 31],
-    &["build"; 32],
-    &["build"; 33],
-    &["build"; 40],
-];
+const OTHERS: &[usize] = &[1, 15, 16, 17, 31, 32, 33, 40];
 
 #[test]
 fn the_search_goes_on_behind_each_page(rt: HostRuntime) -> Result<(), Fail> {
     for others in OTHERS {
-        let count = others.len();
-        assert!(rt; is_found(rt.alloc(), others)?, "behind {count}");
+        assert!(rt; is_found(rt.alloc(), *others)?, "behind {others}");
     }
     Ok(())
 }

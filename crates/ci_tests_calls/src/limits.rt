@@ -9,40 +9,40 @@ use std::alloc::{AllocError, Global};
 use std::process::Abort;
 use std::test::Fail;
 
-/// The body of the first pipeline with so many jobs `build`.
-fn entered(alloc: Global, jobs: u64) -> Result<String, AllocError> {
+/// The body of the first pipeline with so many jobs `j1` and on.
+fn created(alloc: Global, jobs: u64) -> Result<String, AllocError> {
     let mut body = String::from_str(alloc, "{\"id\":1,\"jobs\":[")?;
     for id in 1..=jobs {
         let number = format!(in alloc; "{id}")?;
         body.push_str(if id == 1 { "{\"id\":" } else { ",{\"id\":" })?;
         body.push_str(number.as_str())?;
-        body.push_str(",\"name\":\"build\",\"stage\":\"build\",\"status\":\"pending\"}")?;
+        body.push_str(",\"name\":\"j")?;
+        body.push_str(number.as_str())?;
+        body.push_str("\",\"stage\":\"build\",\"status\":\"pending\"}")?;
     }
     body.push_str("],\"ref\":\"main\",\"source\":\"api\",\"status\":\"pending\"}")?;
     Ok(body)
 }
 
-/// As many jobs as a pipeline can have.
-const MOST: Act = Act::EnterPipeline(1, &["build"; 100]);
-
-/// One more.
-const TOO_MANY: Act = Act::EnterPipeline(1, &["build"; 101]);
-
-/// The pipeline that comes next: none of the refused jobs took a number.
+/// The pipeline that comes next, of one job: the file of 101 jobs wasn't taken, and took no number.
 const THEN: &str =
     "{\"id\":2,\"jobs\":[{\"id\":101,\"name\":\"build\",\"stage\":\"build\",\"status\":\"pending\"}],\"ref\":\"main\",\"source\":\"api\",\"status\":\"pending\"}";
 
-fn enters_most(alloc: Global, server: &mut InMemory) -> Result<bool, Fail> {
-    let body = entered(alloc, 100)?;
-    match tell(alloc, server, 1000, MOST)? {
-        Answer::Reply(reply) => Ok(reply.code.is_none() && reply.body() == body.as_bytes()),
+fn creates_most(alloc: Global, server: &mut InMemory) -> Result<bool, Fail> {
+    let taken = tell(alloc, server, 1000, Act::SetJobs(1, 100))?;
+    let body = created(alloc, 100)?;
+    match tell(alloc, server, 1000, Act::CreatePipeline(1))? {
+        Answer::Reply(reply) => Ok(is(&taken, Want::Done("{\"jobs\":100}"))
+            && reply.code.is_none()
+            && reply.body() == body.as_bytes()),
         Answer::Swept(_) => Ok(false),
     }
 }
 
 fn refuses_more(alloc: Global, server: &mut InMemory) -> Result<bool, Fail> {
-    let refusal = tell(alloc, server, 1000, TOO_MANY)?;
-    let then = tell(alloc, server, 1000, Act::EnterPipeline(1, &["build"]))?;
+    let refusal = tell(alloc, server, 1000, Act::SetJobs(1, 101))?;
+    happen(alloc, server, &[PATH[2]])?;
+    let then = tell(alloc, server, 1000, Act::CreatePipeline(1))?;
     let is_refused = is(
         &refusal,
         Want::Says("{\"code\":\"M14\",\"detail\":\"K11\"}"),
@@ -51,7 +51,7 @@ fn refuses_more(alloc: Global, server: &mut InMemory) -> Result<bool, Fail> {
 }
 
 fn most_and_more(rt: &impl Abort, alloc: Global, server: &mut InMemory) -> Result<(), Fail> {
-    assert!(rt; enters_most(alloc, server)?);
+    assert!(rt; creates_most(alloc, server)?);
     assert!(rt; refuses_more(alloc, server)?);
     Ok(())
 }
@@ -91,18 +91,25 @@ const NUMBERS: &[(&str, Act, Want)] = &[
     ),
     (
         "UPDATE meta SET num = 9007199254740992 WHERE key = 'next_pipeline'",
-        Act::EnterPipeline(1, &["build"]),
+        Act::CreatePipeline(1),
         Want::Refused(Code::M15, None),
     ),
     (
         "UPDATE meta SET num = 9007199254740991 WHERE key = 'next_job'",
-        Act::EnterPipeline(1, &["build", "test"]),
+        Act::CreatePipeline(1),
+        Want::Done(
+            "{\"id\":2,\"jobs\":[{\"id\":9007199254740991,\"name\":\"build\",\"stage\":\"build\",\"status\":\"pending\"}],\"ref\":\"main\",\"source\":\"api\",\"status\":\"pending\"}",
+        ),
+    ),
+    (
+        "UPDATE meta SET num = 9007199254740992 WHERE key = 'next_job'",
+        Act::CreatePipeline(1),
         Want::Refused(Code::M15, None),
     ),
 ];
 
 fn is_answered(alloc: Global, statement: &str, act: Act, want: Want) -> Result<bool, Fail> {
-    let mut server = altered(after(alloc, &PATH[..3])?, statement)?;
+    let mut server = altered(after(alloc, &PATH[..4])?, statement)?;
     let answer = tell(alloc, &mut server, 1000, act);
     let_go(server);
     Ok(is(&answer?, want))
@@ -121,7 +128,8 @@ fn numbers_have_an_end(rt: HostRuntime) -> Result<(), Fail> {
 
 /// Grants each job of two pipelines of 100, so that 200 attempts are live.
 fn grant_all(alloc: Global, server: &mut InMemory) -> Result<(), Fail> {
-    happen(alloc, server, &[MOST, MOST])?;
+    let create = Act::CreatePipeline(1);
+    happen(alloc, server, &[Act::SetJobs(1, 100), create, create])?;
     for _ in 0..200 {
         match tell(alloc, server, 1000, Act::AskJob(RUNNER))? {
             Answer::Reply(reply) if reply.code.is_none() && !reply.body().is_empty() => {}

@@ -1,9 +1,12 @@
 //! Requests that name a number which no row of a database can have.
 
 use ci_machine::reply::{Code, JobStatus};
-use ci_machine::request::{JobQuery, JobUpdate, Report, Request, TracePart};
-use ci_machine::text::{Bytes, Text};
-use ci_test_servers::acts::{Act, PATH, at};
+use ci_machine::request::{
+    JobQuery, JobUpdate, NewFile, NewVariable, PipelineQuery, Report, Request, TracePart,
+    VariableQuery,
+};
+use ci_machine::text::Bytes;
+use ci_test_servers::acts::{Act, PATH, at, new_pipeline, text, token};
 use ci_test_servers::answers::{Want, is};
 use ci_test_servers::servers::{InMemory, after, asked, is_closed, let_go, tell};
 use std::alloc::{AllocError, Global};
@@ -17,14 +20,18 @@ const NUMBERS: [u64; 3] = [
     18_446_744_073_709_551_615,
 ];
 
-/// What names the number.
+/// What names the number: of a job, of an attempt, of a pipeline, or of a project, with the token of the first.
 #[derive(Clone, Copy)]
 enum Naming {
     Show,
     Trace,
     Update,
     Append,
-    Enter,
+    ShowPipeline,
+    SetFile,
+    SetVariable,
+    DeleteVariable,
+    CreatePipeline,
 }
 
 /// Each of them, and how it is refused.
@@ -33,18 +40,17 @@ const NAMINGS: &[(Naming, Code)] = &[
     (Naming::Trace, Code::M3),
     (Naming::Update, Code::M5),
     (Naming::Append, Code::M5),
-    (Naming::Enter, Code::M2),
+    (Naming::ShowPipeline, Code::M3),
+    (Naming::SetFile, Code::M2),
+    (Naming::SetVariable, Code::M2),
+    (Naming::DeleteVariable, Code::M2),
+    (Naming::CreatePipeline, Code::M2),
 ];
-
-fn token(alloc: Global, letter: &str) -> Result<Text, AllocError> {
-    let text = format!(in alloc; "{letter}1-abababababababababababababababab")?;
-    Text::copy_of(alloc, text.as_str())
-}
 
 fn query(alloc: Global, job: u64) -> Result<JobQuery, AllocError> {
     Ok(JobQuery {
         project: 1,
-        token: token(alloc, "p")?,
+        token: token(alloc, "p", 1)?,
         job,
     })
 }
@@ -52,7 +58,7 @@ fn query(alloc: Global, job: u64) -> Result<JobQuery, AllocError> {
 fn update(alloc: Global, attempt: u64) -> Result<Request, AllocError> {
     Ok(Request::UpdateJob(JobUpdate {
         attempt,
-        token: token(alloc, "j")?,
+        token: token(alloc, "j", 1)?,
         report: Report::Running,
     }))
 }
@@ -60,10 +66,63 @@ fn update(alloc: Global, attempt: u64) -> Result<Request, AllocError> {
 fn append(alloc: Global, attempt: u64) -> Result<Request, AllocError> {
     Ok(Request::AppendTrace(TracePart {
         attempt,
-        token: token(alloc, "j")?,
+        token: token(alloc, "j", 1)?,
         from: 0,
         bytes: Bytes::new(Vec::new(alloc)),
     }))
+}
+
+fn show_pipeline(alloc: Global, pipeline: u64) -> Result<Request, AllocError> {
+    Ok(Request::ShowPipeline(PipelineQuery {
+        project: 1,
+        token: token(alloc, "p", 1)?,
+        pipeline,
+    }))
+}
+
+fn set_file(alloc: Global, project: u64) -> Result<Request, AllocError> {
+    Ok(Request::SetFile(NewFile {
+        project,
+        token: token(alloc, "p", 1)?,
+        text: text(alloc, "")?,
+    }))
+}
+
+fn set_variable(alloc: Global, project: u64) -> Result<Request, AllocError> {
+    Ok(Request::SetVariable(NewVariable {
+        project,
+        token: token(alloc, "p", 1)?,
+        key: text(alloc, "A")?,
+        value: text(alloc, "")?,
+    }))
+}
+
+fn delete_variable(alloc: Global, project: u64) -> Result<Request, AllocError> {
+    Ok(Request::DeleteVariable(VariableQuery {
+        project,
+        token: token(alloc, "p", 1)?,
+        key: text(alloc, "A")?,
+    }))
+}
+
+fn create_pipeline(alloc: Global, project: u64) -> Result<Request, AllocError> {
+    let mut new = new_pipeline(alloc, 1, &[])?;
+    new.project = project;
+    Ok(Request::CreatePipeline(new))
+}
+
+fn request(alloc: Global, number: u64, naming: Naming) -> Result<Request, AllocError> {
+    match naming {
+        Naming::Show => Ok(Request::ShowJob(query(alloc, number)?)),
+        Naming::Trace => Ok(Request::ShowTrace(query(alloc, number)?)),
+        Naming::Update => update(alloc, number),
+        Naming::Append => append(alloc, number),
+        Naming::ShowPipeline => show_pipeline(alloc, number),
+        Naming::SetFile => set_file(alloc, number),
+        Naming::SetVariable => set_variable(alloc, number),
+        Naming::DeleteVariable => delete_variable(alloc, number),
+        Naming::CreatePipeline => create_pipeline(alloc, number),
+    }
 }
 
 /// Is the number refused so, and the server still open?
@@ -74,31 +133,9 @@ fn is_refused(
     naming: Naming,
     code: Code,
 ) -> Result<bool, Fail> {
-    let request = match naming {
-        Naming::Show => Request::ShowJob(query(alloc, number)?),
-        Naming::Trace => Request::ShowTrace(query(alloc, number)?),
-        Naming::Update => update(alloc, number)?,
-        Naming::Append => append(alloc, number)?,
-        Naming::Enter => return enters(alloc, server, number, code),
-    };
+    let request = request(alloc, number, naming)?;
     let reply = asked(alloc, server, request, at(1000)?);
     Ok(reply.code == Some(code) && !is_closed(server))
-}
-
-/// The same of a pipeline in the project of the number.
-fn enters(
-    alloc: Global,
-    server: &mut InMemory,
-    project: u64,
-    code: Code,
-) -> Result<bool, Fail> {
-    let answer = tell(
-        alloc,
-        server,
-        1000,
-        Act::EnterPipeline(project, &["build"]),
-    )?;
-    Ok(is(&answer, Want::Refused(code, None)) && !is_closed(server))
 }
 
 /// Each number is refused wherever it is named, and then the server goes on.

@@ -38,12 +38,16 @@ fn follow(rt: &impl Abort, alloc: Global, before: &[Act], rows: &[Row]) -> Resul
 
 #[test]
 fn each_event_twice(rt: HostRuntime) -> Result<(), Fail> {
-    let [project, runner, pipeline, ask] = PATH;
+    let [project, runner, file, pipeline, ask] = PATH;
+    let show = Act::ShowPipeline(1);
     let rows = [
         (1000, project, first(project)),
         (1000, runner, first(runner)),
+        (1000, file, first(file)),
+        (1000, file, again(file)),
         (1000, pipeline, first(pipeline)),
         (1000, ask, first(ask)),
+        (1000, show, first(show)),
         (1000, ask, again(ask)),
         (1000, project, again(project)),
         (1000, runner, again(runner)),
@@ -52,24 +56,9 @@ fn each_event_twice(rt: HostRuntime) -> Result<(), Fail> {
     follow(&rt, rt.alloc(), &[], &rows)
 }
 
-/// The refusals of the first path. None of them takes a number.
+/// The refusals of the first path, but for those of files and pipelines. None of them takes a number.
 const REFUSALS: &[Row] = &[
     (1000, Act::AskJob("nope"), Want::Says("{\"code\":\"M4\"}")),
-    (
-        1000,
-        Act::EnterPipeline(2, &["build"]),
-        Want::Says("{\"code\":\"M2\"}"),
-    ),
-    (
-        1000,
-        Act::EnterPipeline(1, &["a\tb"]),
-        Want::Says("{\"code\":\"M14\",\"detail\":\"K16\"}"),
-    ),
-    (
-        1000,
-        Act::EnterPipeline(1, &[]),
-        Want::Says("{\"code\":\"M14\",\"detail\":\"G4\"}"),
-    ),
     (
         1000,
         Act::AddProject(""),
@@ -258,10 +247,11 @@ fn run_through(
 #[test]
 fn a_run_answers_in_turn(rt: HostRuntime) -> Result<(), Fail> {
     let alloc = rt.alloc();
-    let [project, runner, pipeline, ask] = PATH;
+    let [project, runner, file, pipeline, ask] = PATH;
     let rows = [
         (1000, project, first(project)),
         (1000, runner, first(runner)),
+        (1000, file, first(file)),
         (1000, pipeline, first(pipeline)),
         (1000, ask, first(ask)),
     ];
