@@ -97,7 +97,7 @@ const EXCHANGES: &[(&str, &str)] = &[
 #[test]
 fn a_runner_is_answered(rt: HostRuntime) -> Result<(), Fail> {
     let alloc = rt.alloc();
-    let mut server = after(alloc, &PATH[..3])?;
+    let mut server = after(alloc, &PATH[..4])?;
     for (request, reply) in EXCHANGES {
         let found = answer(alloc, &mut server, request)?;
         assert!(rt; found.as_slice() == reply.as_bytes(), "{request}");

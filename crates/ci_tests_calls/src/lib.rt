@@ -4,8 +4,14 @@
 #[cfg(test)]
 mod boards;
 #[cfg(test)]
+mod files;
+#[cfg(test)]
 mod limits;
 #[cfg(test)]
 mod numbers;
 #[cfg(test)]
+mod statuses;
+#[cfg(test)]
 mod tests;
+#[cfg(test)]
+mod variables;

@@ -1,14 +1,11 @@
 //! Each call of the store fails in turn, in each event, on each of its two files; then the server is opened again.
 
-use ci_machine::reply::{Code, JobStatus};
-use ci_test_disks::{Disks, FailingDisks, closed, connected, discard, empty, fused, stopped};
-use ci_test_servers::acts::{Act, PATH, RUNNER};
+use ci_machine::reply::{Code, HttpStatus, JobStatus};
+use ci_test_disks::{Disks, FailingDisks, connected, discard, empty, fused, stopped};
+use ci_test_servers::acts::{Act, ONE_JOB, PATH, RUNNER, THREE_STAGES, TWO_JOBS};
 use ci_test_servers::answers::{Want, again, first, is};
 use ci_test_servers::rows::rightly;
-use ci_test_servers::servers::{
-    Failing, happen, is_closed, left, let_go, opened, over, prepared, tell,
-};
-use ci_test_servers::stages::staged;
+use ci_test_servers::servers::{Failing, is_closed, left, let_go, opened, over, prepared, tell};
 use std::alloc::Global;
 use std::process::Abort;
 use std::test::Fail;
@@ -59,9 +56,48 @@ fn ends_well(alloc: Global, server: &mut Failing) -> Result<bool, Fail> {
     Ok(is(&again, Want::Taken(JobStatus::Success)) && is(&then, Want::Job(JobStatus::Success)))
 }
 
+/// What comes before the event.
+#[derive(Clone, Copy)]
+enum Before {
+    /// The first things of the path, so many of them.
+    Path(usize),
+    /// A project with a variable.
+    Variable,
+    /// A project with a file of two jobs, and a runner.
+    TwoJobs,
+    /// A pipeline of three stages, whose first job is granted.
+    Stages,
+}
+
+/// An event on files of which one fails from a call on.
+#[derive(Clone, Copy)]
+struct Trial {
+    before: Before,
+    act: Act,
+    of_log: bool,
+}
+
+/// The pipeline of two jobs, and one more.
+const OF_TWO: Want = Want::Done(
+    "{\"id\":1,\"jobs\":[{\"id\":1,\"name\":\"build\",\"stage\":\"build\",\"status\":\"pending\"},{\"id\":2,\"name\":\"unit\",\"stage\":\"test\",\"status\":\"created\"}],\"ref\":\"main\",\"source\":\"api\",\"status\":\"pending\"}",
+);
+
+const TWO_MORE: Want = Want::Done(
+    "{\"id\":2,\"jobs\":[{\"id\":3,\"name\":\"build\",\"stage\":\"build\",\"status\":\"pending\"},{\"id\":4,\"name\":\"unit\",\"stage\":\"test\",\"status\":\"created\"}],\"ref\":\"main\",\"source\":\"api\",\"status\":\"pending\"}",
+);
+
+/// What the event is answered, and what it is answered once more.
+fn wanted(trial: Trial) -> (Want, Want) {
+    match (trial.before, trial.act) {
+        (Before::TwoJobs, Act::CreatePipeline(_)) => (OF_TWO, TWO_MORE),
+        (_, act) => (first(act), again(act)),
+    }
+}
+
 /// Had the event happened, before a stop? It is sent again, or what follows tells.
-fn had_happened(alloc: Global, server: &mut Failing, act: Act) -> Result<bool, Fail> {
-    match act {
+fn had_happened(alloc: Global, server: &mut Failing, trial: Trial) -> Result<bool, Fail> {
+    let (once, twice) = wanted(trial);
+    match trial.act {
         Act::Success => {
             let (yes, no) = (Want::Job(JobStatus::Success), Want::Job(JobStatus::Running));
             let had_ended = either(alloc, server, 1010, Act::Show, yes, no)?;
@@ -74,18 +110,32 @@ fn had_happened(alloc: Global, server: &mut Failing, act: Act) -> Result<bool, F
             let (yes, no) = (again(Act::Sweep), first(Act::Sweep));
             either(alloc, server, 1125, Act::Sweep, yes, no)
         }
+        Act::SetFile(_, _) => {
+            let create = Act::CreatePipeline(1);
+            let no = Want::Refused(Code::M13, None);
+            either(alloc, server, 1010, create, first(create), no)
+        }
+        Act::SetVariable(key, _) => {
+            let (yes, no) = (
+                Want::Empty(HttpStatus::NoContent),
+                Want::Refused(Code::M3, None),
+            );
+            either(alloc, server, 1010, Act::DeleteVariable(key), yes, no)
+        }
         // A question is answered as it was.
-        Act::Show | Act::Trace => either(alloc, server, 1010, act, first(act), Want::Nothing),
-        _ => either(alloc, server, moment_of(act), act, again(act), first(act)),
+        Act::Show | Act::Trace | Act::ShowPipeline(_) => {
+            either(alloc, server, 1010, trial.act, once, Want::Nothing)
+        }
+        act => either(alloc, server, moment_of(act), act, twice, once),
     }
 }
 
 /// Opens the server again after a stop. Had the event happened? The rows of statuses are those that the records give, then
 /// and after what is asked.
-fn happened(alloc: Global, files: FailingDisks, act: Act) -> Result<bool, Fail> {
+fn happened(alloc: Global, files: FailingDisks, trial: Trial) -> Result<bool, Fail> {
     let conn = connected(alloc, files).ok_or("not connected again")?;
     let mut server = over(rightly(alloc, conn)?)?;
-    match had_happened(alloc, &mut server, act) {
+    match had_happened(alloc, &mut server, trial) {
         Ok(had) => {
             discard(rightly(alloc, left(server))?);
             Ok(had)
@@ -98,9 +148,11 @@ fn happened(alloc: Global, files: FailingDisks, act: Act) -> Result<bool, Fail> 
 }
 
 /// Sends the event. Once it met a fault, the server stays closed.
-fn met(alloc: Global, server: &mut Failing, act: Act) -> Result<Seen, Fail> {
+fn met(alloc: Global, server: &mut Failing, trial: Trial) -> Result<Seen, Fail> {
+    let act = trial.act;
+    let (once, _) = wanted(trial);
     let answer = tell(alloc, server, moment_of(act), act)?;
-    if !is_closed(server) && is(&answer, first(act)) {
+    if !is_closed(server) && is(&answer, once) {
         return Ok(Seen::Answered);
     }
     if !is(&answer, CLOSED) {
@@ -114,55 +166,40 @@ fn met(alloc: Global, server: &mut Failing, act: Act) -> Result<Seen, Fail> {
 }
 
 /// Sends the event on a store that fails from a call on, and opens the server again.
-fn tried(alloc: Global, files: Disks, act: Act, of_log: bool, calls: u64) -> Result<Seen, Fail> {
-    let Some(mut server) = opened(alloc, fused(files, of_log, calls)) else {
+fn tried(alloc: Global, files: Disks, trial: Trial, calls: u64) -> Result<Seen, Fail> {
+    let Some(mut server) = opened(alloc, fused(files, trial.of_log, calls)) else {
         return Ok(Seen::Unopened);
     };
-    let seen = met(alloc, &mut server, act);
+    let seen = met(alloc, &mut server, trial);
     let files = stopped(left(server));
     let seen = seen?;
-    if !happened(alloc, files, act)? && seen == Seen::Answered {
+    if !happened(alloc, files, trial)? && seen == Seen::Answered {
         return Err("an answered event is lost")?;
     }
     Ok(seen)
 }
 
-/// What comes before the event.
-#[derive(Clone, Copy)]
-enum Before {
-    /// The first things of the path, so many of them.
-    Path(usize),
-    /// A pipeline of three stages, whose first job is granted.
-    Stages,
-}
-
-/// An event on files of which one fails from a call on.
-#[derive(Clone, Copy)]
-struct Trial {
-    before: Before,
-    act: Act,
-    of_log: bool,
-}
-
-/// Files with a pipeline of three stages, whose first job is granted.
-fn with_stages(alloc: Global) -> Result<Disks, Fail> {
-    let conn = connected(alloc, prepared(alloc, empty(alloc), &PATH[..2])?).ok_or("not connected")?;
-    let mut server = staged(alloc, over(conn)?, 3)?;
-    match happen(alloc, &mut server, &[Act::AskJob(RUNNER)]) {
-        Ok(()) => Ok(closed(left(server)).ok_or("not closed")?),
-        Err(fail) => {
-            let_go(server);
-            Err(fail)
+/// The files of a server to which these things have happened.
+fn files_after(alloc: Global, before: Before) -> Result<Disks, Fail> {
+    let [project, runner, _, pipeline, ask] = PATH;
+    let files = empty(alloc);
+    match before {
+        Before::Path(count) => prepared(alloc, files, PATH.get(..count).ok_or("too many")?),
+        Before::Variable => prepared(alloc, files, &[project, Act::SetVariable("A", "1")]),
+        Before::TwoJobs => {
+            let file = Act::SetFile(1, TWO_JOBS);
+            prepared(alloc, files, &[project, runner, file])
+        }
+        Before::Stages => {
+            let file = Act::SetFile(1, THREE_STAGES);
+            prepared(alloc, files, &[project, runner, file, pipeline, ask])
         }
     }
 }
 
 fn outcome(alloc: Global, trial: Trial, calls: u64) -> Result<Seen, Fail> {
-    let files = match trial.before {
-        Before::Path(count) => prepared(alloc, empty(alloc), PATH.get(..count).ok_or("too many")?)?,
-        Before::Stages => with_stages(alloc)?,
-    };
-    tried(alloc, files, trial.act, trial.of_log, calls)
+    let files = files_after(alloc, trial.before)?;
+    tried(alloc, files, trial, calls)
 }
 
 /// The least number of calls with which the server opens.
@@ -184,7 +221,7 @@ fn opens_from(alloc: Global, trial: Trial) -> Result<u64, Fail> {
 fn sweep(alloc: Global, trial: Trial) -> Result<u64, Fail> {
     let from = opens_from(alloc, trial)?;
     let mut faults = 0u64;
-    for calls in from..from.saturating_add(80) {
+    for calls in from..from.saturating_add(300) {
         match outcome(alloc, trial, calls)? {
             Seen::Answered => return Ok(faults),
             Seen::Faulted => faults = faults.saturating_add(1),
@@ -202,7 +239,7 @@ fn both(rt: &impl Abort, alloc: Global, before: Before, act: Act) -> Result<(), 
         of_log: true,
     };
     let faults = sweep(alloc, trial)?;
-    let changes = !matches!(act, Act::Show | Act::Trace);
+    let changes = !matches!(act, Act::Show | Act::Trace | Act::ShowPipeline(_));
     assert!(rt; faults > 0 || !changes);
     trial.of_log = false;
     let _ = sweep(alloc, trial)?;
@@ -220,33 +257,48 @@ fn each_call_fails_as_a_runner_is_made(rt: HostRuntime) -> Result<(), Fail> {
 }
 
 #[test]
+fn each_call_fails_as_a_file_is_set(rt: HostRuntime) -> Result<(), Fail> {
+    both(&rt, rt.alloc(), Before::Path(2), Act::SetFile(1, ONE_JOB))
+}
+
+#[test]
+fn each_call_fails_as_a_variable_is_set(rt: HostRuntime) -> Result<(), Fail> {
+    both(&rt, rt.alloc(), Before::Path(1), Act::SetVariable("A", "1"))
+}
+
+#[test]
+fn each_call_fails_as_a_variable_goes(rt: HostRuntime) -> Result<(), Fail> {
+    both(&rt, rt.alloc(), Before::Variable, Act::DeleteVariable("A"))
+}
+
+#[test]
 fn each_call_fails_as_a_pipeline_is_made(rt: HostRuntime) -> Result<(), Fail> {
-    both(
-        &rt,
-        rt.alloc(),
-        Before::Path(2),
-        Act::EnterPipeline(1, &["build"]),
-    )
+    both(&rt, rt.alloc(), Before::TwoJobs, Act::CreatePipeline(1))
+}
+
+#[test]
+fn each_call_fails_as_a_pipeline_is_shown(rt: HostRuntime) -> Result<(), Fail> {
+    both(&rt, rt.alloc(), Before::Path(5), Act::ShowPipeline(1))
 }
 
 #[test]
 fn each_call_fails_in_a_grant(rt: HostRuntime) -> Result<(), Fail> {
-    both(&rt, rt.alloc(), Before::Path(3), Act::AskJob(RUNNER))
+    both(&rt, rt.alloc(), Before::Path(4), Act::AskJob(RUNNER))
 }
 
 #[test]
 fn each_call_fails_as_a_runner_is_heard(rt: HostRuntime) -> Result<(), Fail> {
-    both(&rt, rt.alloc(), Before::Path(4), Act::Running)
+    both(&rt, rt.alloc(), Before::Path(5), Act::Running)
 }
 
 #[test]
 fn each_call_fails_as_an_attempt_ends(rt: HostRuntime) -> Result<(), Fail> {
-    both(&rt, rt.alloc(), Before::Path(4), Act::Success)
+    both(&rt, rt.alloc(), Before::Path(5), Act::Success)
 }
 
 #[test]
 fn each_call_fails_as_a_trace_grows(rt: HostRuntime) -> Result<(), Fail> {
-    both(&rt, rt.alloc(), Before::Path(4), Act::Append(0, "hello"))
+    both(&rt, rt.alloc(), Before::Path(5), Act::Append(0, "hello"))
 }
 
 #[test]
@@ -261,15 +313,15 @@ fn each_call_fails_in_a_sweep_over_the_first_stage(rt: HostRuntime) -> Result<()
 
 #[test]
 fn each_call_fails_in_a_sweep(rt: HostRuntime) -> Result<(), Fail> {
-    both(&rt, rt.alloc(), Before::Path(4), Act::Sweep)
+    both(&rt, rt.alloc(), Before::Path(5), Act::Sweep)
 }
 
 #[test]
 fn each_call_fails_as_a_job_is_shown(rt: HostRuntime) -> Result<(), Fail> {
-    both(&rt, rt.alloc(), Before::Path(4), Act::Show)
+    both(&rt, rt.alloc(), Before::Path(5), Act::Show)
 }
 
 #[test]
 fn each_call_fails_as_a_trace_is_shown(rt: HostRuntime) -> Result<(), Fail> {
-    both(&rt, rt.alloc(), Before::Path(4), Act::Trace)
+    both(&rt, rt.alloc(), Before::Path(5), Act::Trace)
 }
