@@ -3,9 +3,9 @@
 ghost use Rattle.std.specs.Prelude.{◌≡◌, ◌<◌};
 
 use ci_machine::moment::Moment;
-use ci_machine::reply::HttpStatus;
-use ci_machine::request::{NewJob, NewJobs, NewPipeline, Request, Seed};
-use ci_machine::text::{Text, Texts};
+use ci_machine::records::{RefKind, Source};
+use ci_machine::request::{NewFile, NewPipeline, PipelineVariables, Request, Seed};
+use ci_machine::text::Text;
 use ci_server::link::Link;
 use ci_server::serve::{Served, serve_one};
 use ci_server::server::Server;
@@ -22,8 +22,14 @@ const MOMENT: u64 = 1000;
 /// The seed that comes with everything.
 const SEED: Seed = Seed([0xab; 16]);
 
-/// Makes, over memory, the project `p`, the runner `r` and a pipeline of `main` with the job `build`; serves the
-/// bytes of the input once, and writes the reply to the output. What became of the request, if these could be made?
+/// The token of the project, which the seed makes.
+const TOKEN: &str = "p1-abababababababababababababababab";
+
+/// The file of the project.
+const FILE: &str = "build:\n  stage: build\n  script: make\n";
+
+/// Makes, over memory, the project `p` with a file of the job `build`, the runner `r` and a pipeline of `main`; serves the bytes of
+/// the input once, and writes the reply to the output. What became of the request, if these could be made?
 pub fn serve_demo<R: Read + Drop, W: Write + Drop>(
     alloc: Global,
     input: R,
@@ -62,15 +68,16 @@ fn serve_links<R: Read + Drop, W: Write + Drop, A: Ledger, B: Ledger>(
     Some(served)
 }
 
-/// Makes the project, the runner and the pipeline. Did each of them get made?
+/// Makes the project with its file, the runner and the pipeline. Did each come about?
 fn is_ready<S: Alter>(alloc: Global, server: &mut Server<S>, moment: Moment) -> bool {
-    is_made(alloc, server, moment, project(alloc))
-        && is_made(alloc, server, moment, runner(alloc))
-        && is_made(alloc, server, moment, pipeline(alloc))
+    is_done(alloc, server, moment, project(alloc))
+        && is_done(alloc, server, moment, runner(alloc))
+        && is_done(alloc, server, moment, file(alloc))
+        && is_done(alloc, server, moment, pipeline(alloc))
 }
 
-/// Handles a request, if there is one. Did it make what it asks for?
-fn is_made<S: Alter>(
+/// Handles a request, if there is one. Was it done, and not refused?
+fn is_done<S: Alter>(
     alloc: Global,
     server: &mut Server<S>,
     moment: Moment,
@@ -79,7 +86,7 @@ fn is_made<S: Alter>(
     match request {
         Ok(request) => {
             let reply = server.handle(alloc, request, moment, SEED);
-            reply.status == HttpStatus::Created
+            reply.code.is_none()
         }
         Err(_) => false,
     }
@@ -93,18 +100,21 @@ fn runner(alloc: Global) -> Result<Request, AllocError> {
     Ok(Request::AddRunner(Text::copy_of(alloc, "r")?))
 }
 
-fn pipeline(alloc: Global) -> Result<Request, AllocError> {
-    let jobs = NewJobs::new(vec![in alloc; build(alloc)?]?);
-    Ok(Request::EnterPipeline(NewPipeline {
+fn file(alloc: Global) -> Result<Request, AllocError> {
+    Ok(Request::SetFile(NewFile {
         project: 1,
-        git_ref: Text::copy_of(alloc, "main")?,
-        stage: Text::copy_of(alloc, "build")?,
-        jobs,
+        token: Text::copy_of(alloc, TOKEN)?,
+        text: Text::copy_of(alloc, FILE)?,
     }))
 }
 
-fn build(alloc: Global) -> Result<NewJob, AllocError> {
-    let name = Text::copy_of(alloc, "build")?;
-    let script = Texts::new(vec![in alloc; Text::copy_of(alloc, "make")?]?);
-    Ok(NewJob { name, script })
+fn pipeline(alloc: Global) -> Result<Request, AllocError> {
+    Ok(Request::CreatePipeline(NewPipeline {
+        project: 1,
+        token: Text::copy_of(alloc, TOKEN)?,
+        git_ref: Text::copy_of(alloc, "main")?,
+        kind: RefKind::Branch,
+        source: Source::Api,
+        variables: PipelineVariables::new(Vec::new(alloc)),
+    }))
 }
