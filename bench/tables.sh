@@ -39,7 +39,7 @@ build() {
   done
   echo "bench_$1: ci_board ci_machine ci_store $(echo "$top" | grep -v "^ci_store$" || true) sqlite anyhow" >> "$work/crates.txt"
   cp "$root/bench/$1.rt.txt" "$crate/src/main.rt"
-  cp "$root/bench/made.rt.txt" "$crate/src/made.rt"
+  ! grep -q '^mod made;' "$crate/src/main.rt" || cp "$root/bench/made.rt.txt" "$crate/src/made.rt"
   [ "$1" != poll ] || cp "$root/bench/queue.rt.txt" "$crate/src/queue.rt"
   : > "$crate/specs/Lib.antt"
   cd "$crate"

@@ -1,0 +1,25 @@
+#!/usr/bin/env bash
+# Times, on a real file, the creation of a pipeline of 100 jobs with 4,500 pairs, and of one of 100 jobs with 100 variables of the
+# request, of the project and of the file and 60 of each job: the least of ten. Then it counts the rows of one of them. Wants
+# sqlite3. Takes a few minutes: the program is proved before it is built.
+# The files lie in the folder that is named, /dev/shm without one: there a sync costs nothing.
+set -eu
+. "$(dirname "$0")/tables.sh"
+build create "${1:-/dev/shm}" ci_server
+# What a creation writes: a statement for each record, one for each of two next numbers, and two for each row of a status, an UPDATE
+# that finds none and an INSERT.
+counted() {
+  local rows
+  rows=$(sqlite3 "$1" 'SELECT count(*) FROM job WHERE pipeline = 1;
+    SELECT count(*) FROM jobvar WHERE job IN (SELECT id FROM job WHERE pipeline = 1);
+    SELECT count(*) FROM need WHERE job IN (SELECT id FROM job WHERE pipeline = 1);
+    SELECT count(*) FROM board WHERE job IN (SELECT id FROM job WHERE pipeline = 1);' | tr '\n' ' ')
+  set -- "$1" $rows
+  echo "$1: $2 jobs, $3 variables of jobs, $4 needs, $5 rows of statuses; $(($2 + $3 + $4 + 2 * $5 + 3)) statements"
+}
+for turn in 1 2 3; do
+  rm -f ./*.db*
+  "$program"
+done
+counted pairs.db
+counted variables.db
