@@ -1,5 +1,6 @@
 -- A life with one operation more.
-use Rattle.std.specs.Prelude.{Bool, true, false, map, if◌then◌else◌, None, codes, option_and_then, Result, Ok, Err, IfErr}
+use Rattle.std.specs.Prelude.{ℕ, zero, suc, ◌<◌, ◌≤◌, Bool, true, false, map, length, if◌then◌else◌, Option, Some, None, codes, option_and_then, Result, Ok, Err, IfErr, Contains}
+use Rattle.std.specs.Str.Lines.{lines}
 use Rattle.std.specs.Result.{IsErrAnd}
 use Rattle.std.proofs.Common.{◌≡◌, ◌⊎◌, inl, inr, List, [], ◌∷◌, refl, sym, ap, subst, ◌∙◌, arith}
 use Rattle.std.specs.Fmt.{digits}
@@ -13,26 +14,47 @@ use Rattle.ci_board.specs.declared.facts.Status.{Status}
 use Rattle.ci_board.specs.declared.facts.Status.TheVariants.{Pending}
 use Rattle.ci_board.specs.declared.facts.Row.{Row}
 use Rattle.ci_board.specs.Effects.{status_of_row, is_status}
+use Rattle.ci_board.specs.Rows.{no_row}
+use Rattle.ci_yaml_lines.specs.declared.code.Code.{Code}
+use Rattle.ci_yaml_lines.specs.Tree.{Value, null}
+use Rattle.ci_yaml_lines.specs.Entry.{Entry}
+use Rattle.ci_yaml_lines.specs.Line.{Line}
+use Rattle.ci_yaml.specs.Document.{Ending, Parses, HasTree, IsFault}
+use Rattle.ci_yaml.specs.Node.{IsDocument}
+use Rattle.ci_yaml.specs.Reading.{finished}
+use Rattle.ci_yaml.specs.ReadLines.{Reader, read_lines, beginning}
+use Rattle.ci_expr.specs.declared.fault.ExprCode.TheVariants.{X2}
+use Rattle.ci_config.specs.Config.{Config}
+use Rattle.ci_config.specs.Expressions.{built}
+use Rattle.ci_config.specs.Fault.{Fault}
+use Rattle.ci_config.specs.Laws.{LacksPatterns}
+use Rattle.ci_config.specs.Meaning.{meaning, Means}
+use Rattle.ci_graph.specs.Pairs.{IsWalk, HasCycle}
+use Rattle.ci_layout.specs.Fault as layout
+use Rattle.ci_layout.specs.Fault.{Plans, faulty, cyclic}
+use Rattle.ci_layout.specs.declared.fault.GraphCode.{GraphCode}
+use Rattle.ci_machine.specs.declared.reply.Detail.{Detail}
+use Rattle.ci_machine.specs.Files.{set_file, IsRead, configures, misconfigures, lacks_tree}
+use Rattle.ci_machine.specs.Pipelines.{Layout, IsLaidOut, misread, unplanned, AreFirstRows, pipeline_created}
+use Rattle.ci_machine.specs.Pipelines as pipelines
 use Rattle.ci_machine.specs.declared.records.BoardRow.{BoardRow}
 use Rattle.ci_machine.specs.declared.records.Job.{Job}
 use Rattle.ci_machine.specs.declared.request.Request.{Request}
-use Rattle.ci_machine.specs.declared.request.Request.TheVariants.{AddProject, AddRunner, EnterPipeline, AskJob}
+use Rattle.ci_machine.specs.declared.request.Request.TheVariants.{AddProject, AddRunner, SetFile, CreatePipeline, AskJob}
 use Rattle.ci_machine.specs.declared.request.Event.TheVariants as event
 use Rattle.ci_machine.specs.declared.reply.Answer.{Answer}
 use Rattle.ci_machine.specs.declared.reply.Answer.TheVariants as answer
 use Rattle.ci_machine.specs.declared.reply.Code.TheVariants.{M16, M17}
-use Rattle.ci_machine.specs.declared.reply.HttpStatus.TheVariants.{Created}
 use Rattle.ci_machine.specs.declared.reply.Reply.{Reply}
 use Rattle.ci_machine.specs.Reply.{refusal}
 use Rattle.ci_machine.specs.Plans.{Plan, token_of}
-use Rattle.ci_machine.specs.Pipelines.{new_job}
 use Rattle.ci_machine.specs.Grants.{ask_job}
 use Rattle.ci_machine.specs.State.{State, empty, applied}
 use Rattle.ci_machine.specs.Statuses.{row_for, facts_in, AreBoard}
 use Rattle.ci_machine.specs.Step.{runner_with, queued, offered_variables}
 use Rattle.ci_machine.specs.Eligible.{chosen}
 use Rattle.ci_machine.specs.History.{IsReached}
-use Rattle.ci_machine.specs.Examples.{seed, token, pipeline, with_project, with_runner, with_pipeline, with_attempt, project_added, runner_added, pipeline_entered, granted}
+use Rattle.ci_machine.specs.Examples.{seed, token, pipeline, with_project, with_runner, project_added, runner_added, laid_by, job}
 use Rattle.ci_store.specs.declared.tables.OpenFault.{OpenFault}
 use Rattle.ci_store.specs.declared.tables.OpenFault.TheVariants.{O1, O2, O3, Memory}
 use Rattle.ci_store.specs.Open.{IsFailure}
@@ -41,7 +63,7 @@ use Rattle.ci_server.specs.Handling.{Handled, answered, no_memory, look_failed, 
 use Rattle.ci_server.specs.Server.{Handles, Creates, Opens}
 use Rattle.ci_server.specs.Lifetime.{Operation, opened}
 use Rattle.ci_witness.specs.declared.life.Stop.TheVariants as stop
-use Rattle.ci_witness.specs.Life.{at_1000, planned, InMemory, IsOpenAt, IsPlanned, IsCause, IsLeased}
+use Rattle.ci_witness.specs.Life.{file_text, new_file, owner, configured, file_added, with_file, given, made, pipeline_made, with_pipeline, granted, with_attempt, at_1000, planned, InMemory, IsOpenAt, IsPlanned, IsCause, IsLeased}
 
 -- ---- the server is made
 
@@ -77,7 +99,7 @@ module _ (ops : List Operation) (s : State) (request : Request) (plan : Plan) (o
   ended : Ended
   ended = handled.while_open was.is_open (memory_is_clean new.store) s was.reached was.holds
 
-  goes_on : Ended → reply.status ≡ Created → IsOpenAt (planned request plan ∷ ops) (applied plan.1 s) new
+  goes_on : Ended → reply.code ≡ None → IsOpenAt (planned request plan ∷ ops) (applied plan.1 s) new
   goes_on (answered t step held is_open) made =
       let same : (reply, step.changes) ≡ plan = is.only step.before step.are_before (reply, step.changes) step.happens in
       let to : t ≡ applied plan.1 s = step.state ∙ ap (λ (p : Plan). applied p.1 s) same in
@@ -92,18 +114,18 @@ module _ (ops : List Operation) (s : State) (request : Request) (plan : Plan) (o
   goes_on (look_failed refuses left closed) made = let same : reply ≡ refusal M17 = ap reply_in refuses in absurd (cc)
   goes_on (commit_failed b t step refuses left closed) made = let same : reply ≡ refusal M17 = ap reply_in refuses in absurd (cc)
 
-  stops : Ended → (reply.status ≡ Created → ⊥) → (reply ≡ refusal M16) ⊎ (reply ≡ refusal M17)
+  stops : Ended → (reply.code ≡ None → ⊥) → (reply ≡ refusal M16) ⊎ (reply ≡ refusal M17)
   stops (answered t step held is_open) unmade =
       let same : (reply, step.changes) ≡ plan = is.only step.before step.are_before (reply, step.changes) step.happens in
-      absurd (unmade (ap (λ (p : Plan). p.0.status) same ∙ is.made))
+      absurd (unmade (ap (λ (p : Plan). p.0.code) same ∙ is.taken))
   stops (no_memory refuses held is_open) unmade = inl (ap reply_in refuses)
   stops (look_failed refuses left closed) unmade = inr (ap reply_in refuses)
   stops (commit_failed b t step refuses left closed) unmade = inr (ap reply_in refuses)
 
-  pub made_at : reply.status ≡ Created → IsOpenAt (planned request plan ∷ ops) (applied plan.1 s) new
+  pub made_at : reply.code ≡ None → IsOpenAt (planned request plan ∷ ops) (applied plan.1 s) new
   made_at = goes_on ended
 
-  pub unmade : (reply.status ≡ Created → ⊥) → IsCause (stop.Refused reply)
+  pub unmade : (reply.code ≡ None → ⊥) → IsCause (stop.Refused reply)
   unmade = stops ended
 
 -- the request is the one that was meant
@@ -123,19 +145,121 @@ handed_on (Err e) is so = so e is
 -- ---- the plans of the requests
 
 pub plans_project : IsPlanned empty (AddProject (codes "p")) project_added
-plans_project = record { only = λ board are p does. does; made = refl }
+plans_project = record { only = λ board are p does. does; taken = refl }
 
 pub plans_runner : IsPlanned with_project (AddRunner (codes "r")) runner_added
 unfolding digits hex_on_literals
-plans_runner = record { only = λ board are p does. does; made = refl }
-
-pub plans_pipeline : IsPlanned with_runner (EnterPipeline pipeline) pipeline_entered
-unfolding digits hex_on_literals
-plans_pipeline = record { only = λ board are p does. does; made = refl }
+plans_runner = record { only = λ board are p does. does; taken = refl }
 
 -- the one job of the pipeline
+abbrev first_of : List Job → Job
+first_of [] = job
+first_of (j ∷ js) = j
+
 abbrev build : Job
-build = new_job pipeline.stage 1 1 0 (record { name = codes "build"; script = codes "make" ∷ [] })
+build = first_of made.jobs
+
+-- ---- the file is read
+
+abbrev pub HasOneTree : Type 0
+HasOneTree = (bytes : List ℕ) (v w : Value) → HasTree bytes v → HasTree bytes w → v ≡ w
+
+abbrev pub HasNotBoth : Type 0
+HasNotBoth = (bytes : List ℕ) (v : Value) (at : ℕ) (code : Code) → HasTree bytes v → IsFault bytes at code → ⊥
+
+abbrev pub ReadsTrees : Type 0
+ReadsTrees = (ls : List Line) (r : Reader) (v : Value) → read_lines beginning ls ≡ Ok r → finished r.state ≡ Some v → (es : List Entry) × (end : Ending) × Parses ls es end × IsDocument v es
+
+abbrev pub AnswersOnce : Type 0
+AnswersOnce = (v : Value) (r : Result Config Fault) → LacksPatterns v → Means v r → r ≡ meaning built v
+
+-- what its lines are read to, computed
+abbrev reader_of : Result Reader Code → Reader
+reader_of (Ok r) = r
+reader_of (Err code) = beginning
+
+abbrev reader : Reader
+reader = reader_of (read_lines beginning (lines file_text))
+
+abbrev value_of : Option Value → Value
+value_of (Some v) = v
+value_of None = null
+
+abbrev tree : Value
+tree = value_of (finished reader.state)
+
+-- no expression at all stands in its texts, and so none with a pattern
+no_patterns : LacksPatterns tree
+no_patterns = ((λ f e. let bad : Err X2 ≡ Ok f = e in absurd (cc), ((λ f e. let bad : Err X2 ≡ Ok f = e in absurd (cc), tt))), tt)
+
+-- no walk goes along no pairs
+no_walk : (i : ℕ) (ks : List ℕ) (j : ℕ) → IsWalk [] i ks j → ⊥
+no_walk i [] j h = absurd (omega (arith, h.1))
+no_walk i (k ∷ ks) j h = absurd (omega (arith, h.0.1))
+
+no_cycle : HasCycle [] → ⊥
+no_cycle h = no_walk h.0 h.1.0 h.0 h.1.1
+
+module _ (one_tree : HasOneTree) (not_both : HasNotBoth) (reads : ReadsTrees) (once : AnswersOnce) where
+  has : HasTree file_text tree
+  has = let read = reads (lines file_text) reader tree refl refl in record { size = omega arith; entries = read.0; end = read.1; parses = read.2; document = read.3 }
+
+  -- any tree of it means this, and nothing else
+  means_so : (v : Value) (r : Result Config Fault) → HasTree file_text v → Means v r → r ≡ Ok configured
+  means_so v r h m = once tree r no_patterns (subst (λ (w : Value). Means w r) (one_tree file_text v tree h has) m)
+
+  read_so : (said : Result Config Detail) → IsRead file_text said → said ≡ Ok configured
+  read_so _ (configures v c h m) = let same : Ok c ≡ Ok configured = means_so v (Ok c) h m in cc
+  read_so _ (misconfigures v fault h m) = let same : Err fault ≡ Ok configured = means_so v (Err fault) h m in absurd (cc)
+  read_so _ (lacks_tree line code fault) = absurd (not_both file_text tree line code has fault)
+
+  pub plans_file : IsPlanned with_runner (SetFile new_file) file_added
+  plans_file = record {
+    only = λ board are p does. does.2 ∙ ap (λ (said : Result Config Detail). set_file owner file_text said) (read_so does.0 does.1);
+    taken = refl;
+  }
+
+  -- ---- a pipeline is made of it
+
+  -- it lays out one job, and no pair
+  plan_so : (r : Result layout.Plan GraphCode) → Plans given configured r → r ≡ Ok (laid_by given configured).plan
+  plan_so _ (faulty code e) = let bad : None ≡ Some code = e in absurd (cc)
+  plan_so _ (cyclic e h) = absurd (no_cycle h)
+  plan_so _ (layout.planned e a) = refl
+
+  laid_so : (r : Result Layout Detail) → IsLaidOut file_text given r → r ≡ Ok (laid_by given configured)
+  laid_so _ (misread fault is) = let same : Err fault ≡ Ok configured = read_so (Err fault) is in absurd (cc)
+  laid_so _ (unplanned c code is plan) =
+      let same : Ok c ≡ Ok configured = read_so (Ok c) is in
+      let its : c ≡ configured = cc in
+      let bad : Err code ≡ Ok (laid_by given configured).plan = plan_so (Err code) (subst (λ (d : Config). Plans given d (Err code)) its plan) in
+      absurd (cc)
+  laid_so _ (pipelines.planned c p is plan) =
+      let same : Ok c ≡ Ok configured = read_so (Ok c) is in
+      let its : c ≡ configured = cc in
+      let so : Ok p ≡ Ok (laid_by given configured).plan = plan_so (Ok p) (subst (λ (d : Config). Plans given d (Ok p)) its plan) in
+      let its_plan : p ≡ (laid_by given configured).plan = cc in
+      ap (λ (d : Config). Ok (record { config = d; plan = p })) its ∙ ap (λ (q : layout.Plan). Ok (record { config = configured; plan = q })) its_plan
+
+  -- its one row says that it is pending, and what the reply shows of it is no more
+  rows_so : (rows : List Row) → AreFirstRows made.jobs made.needs rows → pipeline_created 1 made rows ≡ pipeline_made
+  rows_so [] are = let bad : 0 ≡ 1 = are.long in absurd (omega (arith, bad))
+  rows_so (row ∷ []) are =
+      let counts = are.settled.counted 0 (omega arith) in
+      let status : row.status ≡ Pending =
+      are.settled.settled 0 (omega arith)
+      ∙ (λ i. status_of_row build.options.part (facts_in with_pipeline build) (record { status = row.status; opens = counts.opens i; failed = counts.failed i; barred = counts.barred i })) in
+      ap (λ (w : Status). pipeline_created 1 made (record row { status = w } ∷ [])) status
+  rows_so (a ∷ b ∷ rows) are = let bad : suc (suc (length rows)) ≡ 1 = are.long in absurd (omega (arith, bad))
+
+  pub plans_pipeline : IsPlanned with_file (CreatePipeline pipeline) pipeline_made
+  unfolding digits hex_on_literals
+  plans_pipeline = record {
+    only = λ board are p does.
+        let makes = subst (λ (r : Result Layout Detail). pipelines.Makes 1 1 pipeline given 1000 r p) (laid_so does.0 does.1) does.2 in
+        makes.2 ∙ rows_so makes.0 makes.1;
+    taken = refl;
+  }
 
 -- its row says that it is pending: it waits for no other, and was never tried
 is_waiting : (board : List BoardRow) → AreBoard with_pipeline board → (row_for board 1).status ≡ Pending
@@ -158,7 +282,7 @@ pub plans_grant : IsPlanned with_pipeline (AskJob token) granted
 unfolding digits hex_on_literals
 plans_grant = record {
   only = λ board are p does. does ∙ ap (λ (s : Status). by_pending (is_status s Pending)) (is_waiting board are);
-  made = refl;
+  taken = refl;
 }
 
 -- ---- the server is opened again

@@ -3,17 +3,19 @@
 ghost use Rattle.std.specs.Prelude.{[], ◌∷◌, List, IfOk, IfErr};
 ghost use Rattle.ci_machine.specs.Plans.{Plan};
 ghost use Rattle.ci_machine.specs.State.{State, empty, applied};
-ghost use Rattle.ci_machine.specs.Examples.{with_attempt, token};
+ghost use Rattle.ci_machine.specs.Examples.{token};
 ghost use Rattle.ci_server.specs.Lifetime.{Operation, opened};
-ghost use Rattle.ci_witness.specs.Life.{IsOpenAt, IsPlanned, IsCause, IsLeased, planned, until_grant, life};
+ghost use Rattle.ci_witness.specs.Life.{IsOpenAt, IsPlanned, IsCause, IsLeased, planned, until_grant, with_attempt, life};
 
-use crate::requests::{job_request, pipeline, project, runner};
+use crate::requests::{file, job_request, pipeline, project, runner};
+use ci_config::laws::answers_once_without_patterns;
 use ci_machine::moment::Moment;
-use ci_machine::reply::{HttpStatus, Reply};
+use ci_machine::reply::Reply;
 use ci_machine::request::{Request, Seed};
 use ci_server::server::Server;
 use ci_store::Connection;
 use ci_store::tables::OpenFault;
+use ci_yaml::laws::{has_not_both, has_one_tree, reads_trees};
 use sqlite::MemStore;
 use std::alloc::{AllocError, Global};
 
@@ -45,9 +47,9 @@ impl From<AllocError> for Stop {
     }
 }
 
-/// A server over memory, of which nothing is claimed in vain. It was made in a store that listed nothing; a project, a runner
-/// and a pipeline of one job were made; the runner asked for a job and was granted it; and the server was closed and opened
-/// again. So it meets each premise of `no_step_is_lost`, and it holds the one attempt still, with its lease.
+/// A server over memory, of which nothing is claimed in vain. It was made in a store that listed nothing; a project and a runner
+/// were made; the project got a file of one job, and a pipeline was made of it; the runner asked for a job and was granted it; and
+/// the server was closed and opened again. So it meets each premise of `no_step_is_lost`, and it holds the one attempt still, with its lease.
 ///
 /// Errors: what was called refused, for want of memory or since the store failed, and for no other reason.
 pub fn granted_and_reopened(alloc: Global) -> Result<Server<MemStore>, Stop>
@@ -64,11 +66,16 @@ fn granted(alloc: Global) -> Result<Server<MemStore>, Stop>
     ensures granted { IfOk result (IsOpenAt until_grant with_attempt) }
     ensures stopped { IfErr result IsCause }
 {
+    has_one_tree();
+    has_not_both();
+    reads_trees();
+    answers_once_without_patterns();
     let server = created(alloc)?;
-    let server = made(alloc, server, project(alloc)?)?;
-    let server = made(alloc, server, runner(alloc)?)?;
-    let server = made(alloc, server, pipeline(alloc)?)?;
-    made(alloc, server, job_request(alloc)?)
+    let server = taken(alloc, server, project(alloc)?)?;
+    let server = taken(alloc, server, runner(alloc)?)?;
+    let server = taken(alloc, server, file(alloc)?)?;
+    let server = taken(alloc, server, pipeline(alloc)?)?;
+    taken(alloc, server, job_request(alloc)?)
 }
 
 /// A new server over an empty store.
@@ -83,20 +90,20 @@ fn created(alloc: Global) -> Result<Server<MemStore>, Stop>
     }
 }
 
-/// The server after a request that makes something.
-fn made(
+/// The server after a request that isn't refused.
+fn taken(
     alloc: Global,
     mut server: Server<MemStore>,
     request: Request,
 ) -> Result<Server<MemStore>, Stop>
-    ensures made { (operations : List Operation) (s : State) (plan : Plan) → IsOpenAt operations s server → IsPlanned s request plan → IfOk result (IsOpenAt (planned request plan ∷ operations) (applied plan.1 s)) }
+    ensures taken { (operations : List Operation) (s : State) (plan : Plan) → IsOpenAt operations s server → IsPlanned s request plan → IfOk result (IsOpenAt (planned request plan ∷ operations) (applied plan.1 s)) }
     ensures stopped { (operations : List Operation) (s : State) (plan : Plan) → IsOpenAt operations s server → IsPlanned s request plan → IfErr result IsCause }
 {
     let Some(moment) = Moment::new(MOMENT) else {
         unreachable!()
     };
     let reply = server.handle(alloc, request, moment, SEED);
-    if reply.status == HttpStatus::Created {
+    if reply.code.is_none() {
         Ok(server)
     } else {
         Err(Stop::Refused(reply))

@@ -1,12 +1,17 @@
 //! The requests of the witness: those of the worked examples.
 
-ghost use Rattle.std.specs.Prelude.{◌≡◌, ◌∷◌, [], IfOk, codes};
-ghost use Rattle.ci_machine.specs.declared.request.Request.TheVariants.{AddProject, AddRunner, EnterPipeline, AskJob};
+ghost use Rattle.std.specs.Prelude.{◌≡◌, IfOk, codes};
+ghost use Rattle.ci_machine.specs.declared.request.Request.TheVariants.{AddProject, AddRunner, SetFile, CreatePipeline, AskJob};
 ghost use Rattle.ci_machine.specs.Examples.{pipeline, token};
+ghost use Rattle.ci_witness.specs.Life.{new_file};
 
-use ci_machine::request::{NewJob, NewJobs, NewPipeline, Request};
-use ci_machine::text::{Text, Texts};
+use ci_machine::records::{RefKind, Source};
+use ci_machine::request::{NewFile, NewPipeline, PipelineVariables, Request};
+use ci_machine::text::Text;
 use std::alloc::{AllocError, Global};
+
+/// The token of the project.
+const OWNER: &str = "p1-abababababababababababababababab";
 
 /// The project `p` is to be made.
 pub(crate) fn project(alloc: Global) -> Result<Request, AllocError>
@@ -22,26 +27,31 @@ pub(crate) fn runner(alloc: Global) -> Result<Request, AllocError>
     Ok(Request::AddRunner(Text::copy_of(alloc, "r")?))
 }
 
-/// A pipeline of `main` with the job `build` is to be made in the first project.
-pub(crate) fn pipeline(alloc: Global) -> Result<Request, AllocError>
-    ensures { IfOk result (λ request. request ≡ EnterPipeline pipeline) }
+/// The first project is to have a file of the job `build`.
+pub(crate) fn file(alloc: Global) -> Result<Request, AllocError>
+    ensures { IfOk result (λ request. request ≡ SetFile new_file) }
 {
-    let jobs = NewJobs::new(vec![in alloc; build(alloc)?]?);
-    Ok(Request::EnterPipeline(NewPipeline {
+    Ok(Request::SetFile(NewFile {
         project: 1,
-        git_ref: Text::copy_of(alloc, "main")?,
-        stage: Text::copy_of(alloc, "build")?,
-        jobs,
+        token: Text::copy_of(alloc, OWNER)?,
+        text: Text::copy_of(alloc, "build:\n  stage: build\n  script: make\n")?,
     }))
 }
 
-/// The job `build`, whose script is `make`.
-fn build(alloc: Global) -> Result<NewJob, AllocError>
-    ensures { IfOk result (λ job. job ≡ record { name = codes "build"; script = codes "make" ∷ [] }) }
+/// A pipeline of `main` is to be made in the first project.
+pub(crate) fn pipeline(alloc: Global) -> Result<Request, AllocError>
+    ensures { IfOk result (λ request. request ≡ CreatePipeline pipeline) }
 {
-    let name = Text::copy_of(alloc, "build")?;
-    let script = Texts::new(vec![in alloc; Text::copy_of(alloc, "make")?]?);
-    Ok(NewJob { name, script })
+    let token = Text::copy_of(alloc, OWNER)?;
+    let git_ref = Text::copy_of(alloc, "main")?;
+    Ok(Request::CreatePipeline(NewPipeline {
+        project: 1,
+        token,
+        git_ref,
+        kind: RefKind::Branch,
+        source: Source::Api,
+        variables: PipelineVariables::new(Vec::new(alloc)),
+    }))
 }
 
 /// The first runner asks for a job.
