@@ -1,5 +1,5 @@
 -- A life with one operation more.
-use Rattle.std.specs.Prelude.{ℕ, zero, suc, ◌<◌, ◌≤◌, Bool, true, false, map, length, if◌then◌else◌, Option, Some, None, codes, option_and_then, Result, Ok, Err, IfErr, Contains}
+use Rattle.std.specs.Prelude.{ℕ, zero, suc, ◌<◌, ◌≤◌, Bool, true, false, map, length, if◌then◌else◌, Option, Some, None, codes, option_and_then, Result, Ok, Err, IfErr}
 use Rattle.std.specs.Str.Lines.{lines}
 use Rattle.std.specs.Result.{IsErrAnd}
 use Rattle.std.proofs.Common.{◌≡◌, ◌⊎◌, inl, inr, List, [], ◌∷◌, refl, sym, ap, subst, ◌∙◌, arith}
@@ -14,7 +14,7 @@ use Rattle.ci_board.specs.declared.facts.Status.{Status}
 use Rattle.ci_board.specs.declared.facts.Status.TheVariants.{Pending}
 use Rattle.ci_board.specs.declared.facts.Row.{Row}
 use Rattle.ci_board.specs.Effects.{status_of_row, is_status}
-use Rattle.ci_board.specs.Rows.{no_row}
+use Rattle.ci_board.specs.Rows.{no_row, no_facts}
 use Rattle.ci_yaml_lines.specs.declared.code.Code.{Code}
 use Rattle.ci_yaml_lines.specs.Tree.{Value, null}
 use Rattle.ci_yaml_lines.specs.Entry.{Entry}
@@ -24,10 +24,11 @@ use Rattle.ci_yaml.specs.Node.{IsDocument}
 use Rattle.ci_yaml.specs.Reading.{finished}
 use Rattle.ci_yaml.specs.ReadLines.{Reader, read_lines, beginning}
 use Rattle.ci_expr.specs.declared.fault.ExprCode.TheVariants.{X2}
+use Rattle.ci_expr.specs.Computed.{expression_of}
 use Rattle.ci_config.specs.Config.{Config}
 use Rattle.ci_config.specs.Expressions.{built}
 use Rattle.ci_config.specs.Fault.{Fault}
-use Rattle.ci_config.specs.Laws.{LacksPatterns}
+use Rattle.ci_config.specs.Laws.{LacksPatterns, HasNoPattern}
 use Rattle.ci_config.specs.Meaning.{meaning, Means}
 use Rattle.ci_graph.specs.Pairs.{IsWalk, HasCycle}
 use Rattle.ci_layout.specs.Fault as layout
@@ -188,9 +189,12 @@ value_of None = null
 abbrev tree : Value
 tree = value_of (finished reader.state)
 
--- no expression at all stands in its texts, and so none with a pattern
+-- no expression stands in its texts, and so none with a pattern
+no_expression : (bs : List ℕ) → expression_of bs ≡ Err X2 → HasNoPattern bs
+no_expression bs none f e = let bad : Err X2 ≡ Ok f = sym none ∙ e in absurd (cc)
+
 no_patterns : LacksPatterns tree
-no_patterns = ((λ f e. let bad : Err X2 ≡ Ok f = e in absurd (cc), ((λ f e. let bad : Err X2 ≡ Ok f = e in absurd (cc), tt))), tt)
+no_patterns = ((no_expression (codes "build") refl, (no_expression (codes "make") refl, tt)), tt)
 
 -- no walk goes along no pairs
 no_walk : (i : ℕ) (ks : List ℕ) (j : ℕ) → IsWalk [] i ks j → ⊥
@@ -209,17 +213,24 @@ module _ (one_tree : HasOneTree) (not_both : HasNotBoth) (reads : ReadsTrees) (o
   means_so v r h m = once tree r no_patterns (subst (λ (w : Value). Means w r) (one_tree file_text v tree h has) m)
 
   read_so : (said : Result Config Detail) → IsRead file_text said → said ≡ Ok configured
-  read_so _ (configures v c h m) = let same : Ok c ≡ Ok configured = means_so v (Ok c) h m in cc
+  read_so _ (configures v c h m) =
+      let same : Ok c ≡ Ok configured = means_so v (Ok c) h m in
+      let its : c ≡ configured = cc in
+      ap (λ (d : Config). Ok d) its
   read_so _ (misconfigures v fault h m) = let same : Err fault ≡ Ok configured = means_so v (Err fault) h m in absurd (cc)
   read_so _ (lacks_tree line code fault) = absurd (not_both file_text tree line code has fault)
 
   pub plans_file : IsPlanned with_runner (SetFile new_file) file_added
+  unfolding digits hex_on_literals
   plans_file = record {
     only = λ board are p does. does.2 ∙ ap (λ (said : Result Config Detail). set_file owner file_text said) (read_so does.0 does.1);
     taken = refl;
   }
 
   -- ---- a pipeline is made of it
+
+  abbrev laid_out : Config → layout.Plan → Result Layout Detail
+  laid_out c p = Ok (record { config = c; plan = p })
 
   -- it lays out one job, and no pair
   plan_so : (r : Result layout.Plan GraphCode) → Plans given configured r → r ≡ Ok (laid_by given configured).plan
@@ -239,18 +250,19 @@ module _ (one_tree : HasOneTree) (not_both : HasNotBoth) (reads : ReadsTrees) (o
       let its : c ≡ configured = cc in
       let so : Ok p ≡ Ok (laid_by given configured).plan = plan_so (Ok p) (subst (λ (d : Config). Plans given d (Ok p)) its plan) in
       let its_plan : p ≡ (laid_by given configured).plan = cc in
-      ap (λ (d : Config). Ok (record { config = d; plan = p })) its ∙ ap (λ (q : layout.Plan). Ok (record { config = configured; plan = q })) its_plan
+      ap (λ (d : Config). laid_out d p) its ∙ ap (laid_out configured) its_plan
 
   -- its one row says that it is pending, and what the reply shows of it is no more
   rows_so : (rows : List Row) → AreFirstRows made.jobs made.needs rows → pipeline_created 1 made rows ≡ pipeline_made
-  rows_so [] are = let bad : 0 ≡ 1 = are.long in absurd (omega (arith, bad))
+  rows_so [] are = let bad : ◌≡◌ {A = ℕ} 0 1 = are.long in absurd (omega (arith, bad))
   rows_so (row ∷ []) are =
       let counts = are.settled.counted 0 (omega arith) in
       let status : row.status ≡ Pending =
       are.settled.settled 0 (omega arith)
-      ∙ (λ i. status_of_row build.options.part (facts_in with_pipeline build) (record { status = row.status; opens = counts.opens i; failed = counts.failed i; barred = counts.barred i })) in
-      ap (λ (w : Status). pipeline_created 1 made (record row { status = w } ∷ [])) status
-  rows_so (a ∷ b ∷ rows) are = let bad : suc (suc (length rows)) ≡ 1 = are.long in absurd (omega (arith, bad))
+      ∙ (λ i. status_of_row build.options.part no_facts (record { status = row.status; opens = counts.opens i; failed = counts.failed i; barred = counts.barred i })) in
+      let same : row ≡ record no_row { status = Pending } = λ i. record { status = status i; opens = counts.opens i; failed = counts.failed i; barred = counts.barred i } in
+      ap (λ (w : Row). pipeline_created 1 made (w ∷ [])) same
+  rows_so (a ∷ b ∷ rows) are = let bad : ◌≡◌ {A = ℕ} (suc (suc (length rows))) 1 = are.long in absurd (omega (arith, bad))
 
   pub plans_pipeline : IsPlanned with_file (CreatePipeline pipeline) pipeline_made
   unfolding digits hex_on_literals
