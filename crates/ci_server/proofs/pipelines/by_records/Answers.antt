@@ -1,7 +1,8 @@
-use Rattle.std.specs.Prelude.{◌≡◌, ℕ, List, Ok, IfOk, Option, map}
+use Rattle.std.specs.Prelude.{◌≡◌, ◌≤◌, ◌+◌, ℕ, Ok, IfOk, IfSome, length, map}
 use Rattle.std.specs.Ordering.{nat_cmp}
 use Rattle.std.specs.List.Sorted.{IsStrictlySortedBy}
 use Rattle.std.proofs.Common.{subst, sym, ap, ◌∙◌}
+use Rattle.ci_values.specs.declared.limits.TheConstants.{MAX_NUMBER}
 use Rattle.ci_machine.specs.Pipelines.{AreFirstRows, pipeline_created, Creates}
 use Rattle.ci_machine.specs.Plans.{Plan}
 use Rattle.ci_plans.specs.Creations.{creation_view, IsMadeOf}
@@ -9,6 +10,13 @@ use Rattle.ci_server.specs.Planning.{RowsMade}
 use Rattle.ci_server.proofs.Loading.{on_ok}
 use Rattle.ci_server.proofs.Settles.{creation_planned, unnumbered, nothing_changes}
 use Rattle.ci_server.proofs.pipelines.by_records.Goals as goal
+
+-- the numbers of the records are within the limit
+pub with_its_rows-requires-clause-pipeline : goal.with_its_rows-requires-clause-pipeline
+with_its_rows-requires-clause-pipeline c = subst (λ z. IfSome z (λ m. m.pipeline.id ≤ MAX_NUMBER)) c.in-Some.is c.requires.pipeline
+
+pub with_its_rows-requires-clause-jobs : goal.with_its_rows-requires-clause-jobs
+with_its_rows-requires-clause-jobs c = subst (λ z. IfSome z (λ m. c.args.first + length m.jobs.items ≤ MAX_NUMBER + 1)) c.in-Some.is c.requires.jobs
 
 -- these are the records of what the file lays out, and their rows are put
 pub returns-in-Some : goal.returns-in-Some
