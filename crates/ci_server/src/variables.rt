@@ -33,6 +33,7 @@ pub(crate) fn set_variable<T: Store>(
     }
 }
 
+/// A variable of this project is to have a value.
 fn set_in<T: Store>(
     alloc: Global,
     store: &mut T,
@@ -62,6 +63,7 @@ pub(crate) fn delete_variable<T: Store>(
     }
 }
 
+/// A variable of this project is to go.
 fn delete_from<T: Store>(
     alloc: Global,
     store: &mut T,

@@ -33,7 +33,7 @@ returns-in-Ok c =
 
 -- nothing is laid out, and so nothing changes
 pub returns-in_ok-plan-in-Err : goal.returns-in_ok-plan-in-Err
-returns-in_ok-plan-in-Err c k kept same_pipeline same_job =
+returns-in_ok-plan-in-Err c = λ k kept same_pipeline same_job.
     let new = c.args.new.now in
     let text = c.args.text.now in
     let given = given_by new c.args.variables.now in

@@ -33,7 +33,7 @@ returns-in-Some c =
 
 -- there are no numbers for what the file lays out, and nothing changes
 pub returns-in-None : goal.returns-in-None
-returns-in-None c k new given now text laid kept same_job laid_out made =
+returns-in-None c = λ k new given now text laid kept same_job laid_out made.
     let lacks = subst (λ z. IsMadeOf (record { id = k.state.next.pipeline; first_job = k.state.next.job; asked = new; given = given; moment = now }) laid z) c.in-None.is made in
     let none = c.without_rows in
     nothing_changes k kept (λ (p : Plan). Creates k.state.next.pipeline k.state.next.job new given now (Ok text) p)

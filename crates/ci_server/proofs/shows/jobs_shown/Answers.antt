@@ -24,7 +24,7 @@ pipeline_shown-requires-clause-rows c =
 
 -- what was found is the pipeline's
 pub returns : goal.returns
-returns c k number needs kept are =
+returns c = λ k number needs kept are.
     let plan = subst (λ z. IfOk z (λ p. p ≡ machine.pipeline_shown c.args.pipeline.now c.args.jobs.now c.as_slice.result.now c.as_slice-2.result.now)) c.in_ok-plan.was c.pipeline_shown.ensures in
     let its_facts = subst (λ z. IfOk z (λ r. (s : State) (board : List BoardRow) (n : ℕ) (ws : List Need) → IsSound s → AreBoard s board
     → AreRecords s board n c.args.jobs.now ws c.args.attempts.now c.args.rows.now → r.0.items ≡ facts_of s n)) c.in_ok-found.was c.loaded.ensures.facts in
