@@ -114,13 +114,17 @@ const FAULTS: &[Row] = &[
     ),
 ];
 
-fn is_told(alloc: Global, (file, taken, made): Row) -> Result<bool, Fail> {
+fn tells(alloc: Global, server: &mut InMemory, (file, taken, made): Row) -> Result<bool, Fail> {
+    let told = tell(alloc, server, 1000, Act::SetFile(1, file))?;
+    let then = tell(alloc, server, 1000, Act::CreatePipeline(1))?;
+    Ok(is(&told, taken) && is(&then, made) && !is_closed(server))
+}
+
+fn is_told(alloc: Global, row: Row) -> Result<bool, Fail> {
     let mut server = after(alloc, &PATH[..2])?;
-    let told = tell(alloc, &mut server, 1000, Act::SetFile(1, file));
-    let then = tell(alloc, &mut server, 1000, Act::CreatePipeline(1));
-    let is_open = !is_closed(&server);
+    let told = tells(alloc, &mut server, row);
     let_go(server);
-    Ok(is(&told?, taken) && is(&then?, made) && is_open)
+    told
 }
 
 #[test]
