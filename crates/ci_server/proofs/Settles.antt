@@ -216,8 +216,12 @@ module _ (k : Kept) (is : IsKept k) (new : NewPipeline) (given : Given) (now : �
       → plan ≡ pipeline_created k.state.next.job made (map (λ r. r.row) rows)
       → PlansFor k (Creates k.state.next.pipeline k.state.next.job new given now (Ok text) plan) plan.1 rows
   creation_planned law laid made rows plan laid_out enough same first_rows right planned = record {
-    made = (Ok laid, laid_out, subst (λ (b : Bool). MakesUnless b k.state.next.job (creation k.state.next.pipeline k.state.next.job new given now laid) plan) (sym enough)
-        (subst (λ (m : Creation). MakesUnless false k.state.next.job m plan) same (map (λ r. r.row) rows, first_rows its_made.ascend, planned)));
+    made = (
+      Ok laid,
+      laid_out,
+      subst (λ (b : Bool). MakesUnless b k.state.next.job (creation k.state.next.pipeline k.state.next.job new given now laid) plan) (sym enough)
+          (subst (λ (m : Creation). MakesUnless false k.state.next.job m plan) same (map (λ r. r.row) rows, first_rows its_made.ascend, planned)),
+    );
     settled = subst (λ (cs : List RowChange). Settles k cs rows) (sym (ap (λ (p : Plan). p.1) planned))
         (right k.state (applied (creation_changes k.state.next.job made) k.state) k.board k.state.next.pipeline is.sound is.are_board its_made);
   }

@@ -153,9 +153,5 @@ fn rows_of(alloc: Global, creation: &Creation) -> Result<Vec<BoardRow>, StoreFau
     ensures rows { IfOk result (λ rows. IsStrictlySortedBy nat_cmp (map (λ j. j.id) creation.now.jobs.items) → machine.AreFirstRows creation.now.jobs.items creation.now.needs.items (map (λ r. r.row) rows.items)) }
     ensures made { IfOk result (λ rows. RowsMade creation.now.jobs.items creation.now.needs.items rows.items) }
 {
-    or_store_fault(rows_of_creation(
-        alloc,
-        creation.jobs.as_slice(),
-        creation.needs.as_slice(),
-    ))
+    or_store_fault(rows_of_creation(alloc, creation.jobs.as_slice(), creation.needs.as_slice()))
 }

@@ -58,11 +58,11 @@ pub enum Act {
 pub const ONE_JOB: &str = "build:\n  stage: build\n  script: make\n";
 
 /// A file of two jobs, of which the second waits for the first.
-pub const TWO_JOBS: &str =
-    "build:\n  stage: build\n  script: make\nunit:\n  script: [make test]\n";
+pub const TWO_JOBS: &str = "build:\n  stage: build\n  script: make\nunit:\n  script: [make test]\n";
 
 /// A file of three stages with a job each: each waits for those of the stages before.
-pub const THREE_STAGES: &str = "build:\n  stage: build\n  script: make\ntest:\n  stage: test\n  script: make\ndeploy:\n  stage: deploy\n  script: make\n";
+pub const THREE_STAGES: &str =
+    "build:\n  stage: build\n  script: make\ntest:\n  stage: test\n  script: make\ndeploy:\n  stage: deploy\n  script: make\n";
 
 /// The first path: a project, a runner, a file of one job, a pipeline made of it, and its grant. Each number is 1.
 pub const PATH: [Act; 5] = [

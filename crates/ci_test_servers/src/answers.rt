@@ -48,9 +48,7 @@ fn is_reply(reply: &Reply, want: Want) -> bool {
     match want {
         Want::Says(body) => says(reply, body),
         Want::Done(body) => reply.code.is_none() && says(reply, body),
-        Want::Empty(status) => {
-            reply.status == status && reply.code.is_none() && says(reply, "")
-        }
+        Want::Empty(status) => { reply.status == status && reply.code.is_none() && says(reply, "") }
         Want::Job(status) => reply.status == HttpStatus::Fine && says(reply, shown(status)),
         Want::Trace(text) => reply.status == HttpStatus::Fine && says(reply, text),
         Want::Taken(job) => is_told(reply, HttpStatus::Fine, job, None),

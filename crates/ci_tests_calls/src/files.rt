@@ -3,9 +3,7 @@
 use ci_machine::records::{RefKind, Source};
 use ci_machine::reply::{Code, HttpStatus, JobStatus, Reply};
 use ci_machine::request::{NewFile, PipelineQuery, Request};
-use ci_test_servers::acts::{
-    Act, ONE_JOB, PATH, RUNNER, TWO_JOBS, at, new_pipeline, text,
-};
+use ci_test_servers::acts::{Act, ONE_JOB, PATH, RUNNER, TWO_JOBS, at, new_pipeline, text};
 use ci_test_servers::answers::{Want, first, is, says};
 use ci_test_servers::servers::{InMemory, after, asked, happen, is_closed, let_go, tell};
 use std::alloc::{AllocError, Global};
@@ -373,7 +371,8 @@ fn each_project_has_its_own(rt: HostRuntime) -> Result<(), Fail> {
 }
 
 /// A pipeline for a tag, made by a push.
-const OF_TAG: &str = "{\"id\":1,\"jobs\":[{\"id\":1,\"name\":\"build\",\"stage\":\"build\",\"status\":\"pending\"}],\"ref\":\"v1\",\"source\":\"push\",\"status\":\"pending\"}";
+const OF_TAG: &str =
+    "{\"id\":1,\"jobs\":[{\"id\":1,\"name\":\"build\",\"stage\":\"build\",\"status\":\"pending\"}],\"ref\":\"v1\",\"source\":\"push\",\"status\":\"pending\"}";
 
 /// What its job is handed.
 const GRANT_OF_TAG: Want = Want::Done(

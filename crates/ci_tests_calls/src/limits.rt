@@ -32,9 +32,11 @@ fn creates_most(alloc: Global, server: &mut InMemory) -> Result<bool, Fail> {
     let taken = tell(alloc, server, 1000, Act::SetJobs(1, 100))?;
     let body = created(alloc, 100)?;
     match tell(alloc, server, 1000, Act::CreatePipeline(1))? {
-        Answer::Reply(reply) => Ok(is(&taken, Want::Done("{\"jobs\":100}"))
-            && reply.code.is_none()
-            && reply.body() == body.as_bytes()),
+        Answer::Reply(reply) => Ok(
+            is(&taken, Want::Done("{\"jobs\":100}"))
+                && reply.code.is_none()
+                && reply.body() == body.as_bytes(),
+        ),
         Answer::Swept(_) => Ok(false),
     }
 }

@@ -142,7 +142,10 @@ fn is_refused(
 fn refuse_all(rt: &impl Abort, alloc: Global, server: &mut InMemory) -> Result<(), Fail> {
     for number in NUMBERS {
         for (naming, code) in NAMINGS {
-            assert!(rt; is_refused(alloc, server, number, *naming, *code)?, "{number}");
+            assert!(rt;
+                is_refused(alloc, server, number, *naming, *code)?,
+                "{number}"
+            );
         }
     }
     let answer = tell(alloc, server, 1000, Act::Show)?;

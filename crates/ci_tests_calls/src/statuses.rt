@@ -165,7 +165,8 @@ fn a_stage_behind_a_failure_is_skipped(rt: HostRuntime) -> Result<(), Fail> {
 }
 
 /// A job of the last stage that waits for none.
-const LINT: &str = "stages: [build, test, deploy]\nslow:\n  stage: build\n  script: x\npack:\n  script: x\nlint:\n  stage: deploy\n  needs: []\n  script: x\n";
+const LINT: &str =
+    "stages: [build, test, deploy]\nslow:\n  stage: build\n  script: x\npack:\n  script: x\nlint:\n  stage: deploy\n  needs: []\n  script: x\n";
 
 const NEEDS_NONE: &[Stand] = &[
     Stand {
@@ -205,7 +206,8 @@ fn a_job_that_needs_none_comes_at_once(rt: HostRuntime) -> Result<(), Fail> {
 }
 
 /// Jobs that wait for `a` whatever their stage, and for how it ends.
-const AFTER_A: &str = "a:\n  stage: build\n  script: x\nf:\n  needs: [a]\n  when: on_failure\n  script: x\nw:\n  needs: [a]\n  when: always\n  script: x\ns:\n  needs: [a]\n  script: x\ng:\n  stage: deploy\n  needs: [s]\n  script: x\n";
+const AFTER_A: &str =
+    "a:\n  stage: build\n  script: x\nf:\n  needs: [a]\n  when: on_failure\n  script: x\nw:\n  needs: [a]\n  when: always\n  script: x\ns:\n  needs: [a]\n  script: x\ng:\n  stage: deploy\n  needs: [s]\n  script: x\n";
 
 const A_FAILS: &[Stand] = &[
     Stand {
@@ -266,7 +268,8 @@ fn on_failure_waits_for_a_failure(rt: HostRuntime) -> Result<(), Fail> {
 }
 
 /// A job that is started by hand, and one that waits for a failure of its stage, of which there is none before it.
-const BY_HAND: &str = "run:\n  stage: build\n  script: x\nhand:\n  stage: build\n  when: manual\n  script: x\nalarm:\n  stage: build\n  when: on_failure\n  script: x\nlater:\n  script: x\n";
+const BY_HAND: &str =
+    "run:\n  stage: build\n  script: x\nhand:\n  stage: build\n  when: manual\n  script: x\nalarm:\n  stage: build\n  when: on_failure\n  script: x\nlater:\n  script: x\n";
 
 const UNPLAYED: &[Stand] = &[
     Stand {
@@ -322,7 +325,8 @@ fn a_manual_job_that_may_not_fail_is_waited_for(rt: HostRuntime) -> Result<(), F
     follow(&rt, rt.alloc(), MUST_PLAY, WAITED_FOR)
 }
 
-const RETRIED: &str = "build:\n  stage: build\n  script: make\n  retry:\n    max: 2\n    when: runner_system_failure\n";
+const RETRIED: &str =
+    "build:\n  stage: build\n  script: make\n  retry:\n    max: 2\n    when: runner_system_failure\n";
 
 const SCRIPT_FAILS: &[Stand] = &[Stand {
     steps: &[Step::Ask, Step::Ill(1, Cause::ScriptFailure)],

@@ -35,7 +35,10 @@ const FULL: &[(Act, Want)] = &[
     ),
     (Act::SetVariable("A7", "w"), Want::Empty(HttpStatus::Fine)),
     (Act::DeleteVariable("B"), Want::Says("{\"code\":\"M3\"}")),
-    (Act::DeleteVariable("A7"), Want::Empty(HttpStatus::NoContent)),
+    (
+        Act::DeleteVariable("A7"),
+        Want::Empty(HttpStatus::NoContent),
+    ),
     (Act::DeleteVariable("A7"), Want::Says("{\"code\":\"M3\"}")),
     (
         Act::SetVariable("1A", "v"),
@@ -143,9 +146,11 @@ fn a_variable_that_went_is_not_handed_out(rt: HostRuntime) -> Result<(), Fail> {
 }
 
 /// A file that sets `CI_JOB_STAGE` at its top, and in a job and in the rule by which that is included.
-const ALL_SET: &str = "variables:\n  CI_JOB_STAGE: 5\nunit:\n  script: x\n  variables:\n    CI_JOB_STAGE: 4\n  rules:\n  - variables:\n      CI_JOB_STAGE: 3\n";
+const ALL_SET: &str =
+    "variables:\n  CI_JOB_STAGE: 5\nunit:\n  script: x\n  variables:\n    CI_JOB_STAGE: 4\n  rules:\n  - variables:\n      CI_JOB_STAGE: 3\n";
 
-const NOT_BY_RULE: &str = "variables:\n  CI_JOB_STAGE: 5\nunit:\n  script: x\n  variables:\n    CI_JOB_STAGE: 4\n";
+const NOT_BY_RULE: &str =
+    "variables:\n  CI_JOB_STAGE: 5\nunit:\n  script: x\n  variables:\n    CI_JOB_STAGE: 4\n";
 
 const AT_TOP: &str = "variables:\n  CI_JOB_STAGE: 5\nunit:\n  script: x\n";
 
@@ -176,9 +181,11 @@ const LAYERS: &[(&[Act], &str)] = &[
 ];
 
 /// The grant of the job, up to the value and behind it.
-const BEFORE: &str = "{\"id\":1,\"job_info\":{\"name\":\"unit\",\"project_id\":1,\"stage\":\"test\"},\"script\":[\"x\"],\"timeout\":3600,\"token\":\"j1-abababababababababababababababab\",\"variables\":[{\"key\":\"CI\",\"value\":\"true\"},{\"key\":\"CI_COMMIT_BRANCH\",\"value\":\"main\"},{\"key\":\"CI_COMMIT_REF_NAME\",\"value\":\"main\"},{\"key\":\"CI_JOB_ID\",\"value\":\"1\"},{\"key\":\"CI_JOB_NAME\",\"value\":\"unit\"},{\"key\":\"CI_JOB_STAGE\",\"value\":\"";
+const BEFORE: &str =
+    "{\"id\":1,\"job_info\":{\"name\":\"unit\",\"project_id\":1,\"stage\":\"test\"},\"script\":[\"x\"],\"timeout\":3600,\"token\":\"j1-abababababababababababababababab\",\"variables\":[{\"key\":\"CI\",\"value\":\"true\"},{\"key\":\"CI_COMMIT_BRANCH\",\"value\":\"main\"},{\"key\":\"CI_COMMIT_REF_NAME\",\"value\":\"main\"},{\"key\":\"CI_JOB_ID\",\"value\":\"1\"},{\"key\":\"CI_JOB_NAME\",\"value\":\"unit\"},{\"key\":\"CI_JOB_STAGE\",\"value\":\"";
 
-const BEHIND: &str = "\"},{\"key\":\"CI_PIPELINE_ID\",\"value\":\"1\"},{\"key\":\"CI_PIPELINE_SOURCE\",\"value\":\"api\"},{\"key\":\"CI_PROJECT_ID\",\"value\":\"1\"}]}";
+const BEHIND: &str =
+    "\"},{\"key\":\"CI_PIPELINE_ID\",\"value\":\"1\"},{\"key\":\"CI_PIPELINE_SOURCE\",\"value\":\"api\"},{\"key\":\"CI_PROJECT_ID\",\"value\":\"1\"}]}";
 
 fn grant_with(alloc: Global, value: &str) -> Result<String, AllocError> {
     let mut body = String::from_str(alloc, BEFORE)?;
