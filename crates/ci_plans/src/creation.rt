@@ -3,7 +3,6 @@
 ghost use Rattle.std.specs.Prelude.{◌≡◌, ◌+◌, ◌≤◌, ◌++◌, [], IfOk, OnOk, length, map, option_map, replicate};
 ghost use Rattle.ci_words.specs.Layers.{text_view};
 ghost use Rattle.ci_words.specs.Table.{words_view};
-ghost use Rattle.ci_config.specs.View.{config_view};
 ghost use Rattle.ci_board.specs.Rows.{no_facts};
 ghost use Rattle.ci_graph.specs.Pairs.{AreWithin};
 ghost use Rattle.ci_layout.specs.Parts.{job_part};
