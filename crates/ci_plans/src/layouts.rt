@@ -7,15 +7,19 @@ ghost use Rattle.std.specs.List.Sorted.{IsStrictlySortedBy};
 ghost use Rattle.ci_yaml_lines.specs.TreeView.{value_view};
 ghost use Rattle.ci_yaml.specs.Document.{HasTree};
 ghost use Rattle.ci_config.specs.View.{config_view};
+ghost use Rattle.ci_graph.specs.Pairs.{AreWithin};
+ghost use Rattle.ci_layout.specs.Plans.{plan_view};
+ghost use Rattle.ci_layout.specs.View.{given_view};
 ghost use Rattle.ci_machine.specs.Files.{IsRead};
 ghost use Rattle.ci_machine.specs.Pipelines as pipelines;
-ghost use Rattle.ci_plans.specs.Creations.{origin, origin_view, plan_fault, LaysOut};
+ghost use Rattle.ci_machine.specs.Pipelines.{IsLaidOut};
+ghost use Rattle.ci_plans.specs.Creations.{layout_view, origin, origin_view, plan_fault, LaysOut};
 
 use crate::creation::{Creation, records_of};
 use crate::files::{FileFault, config_fault, yaml_fault};
 use crate::layers::Brought;
 use ci_config::{Config, config};
-use ci_layout::{Given, GraphCode, PlanFault, plan};
+use ci_layout::{Given, GraphCode, PipelinePlan, PlanFault, plan};
 use ci_machine::moment::Moment;
 use ci_machine::records::{MAX_NUMBER, Variable};
 use ci_machine::reply::{Detail, FaultCode};
@@ -61,6 +65,22 @@ fn plan_fault(fault: PlanFault) -> FileFault
     }
 }
 
+/// The records of what is planned.
+fn lay_out_plan<'a, 't>(
+    alloc: Global,
+    config: &'a Config<'t>,
+    given: &Given<'a>,
+    plan: &PipelinePlan<'a, 't>,
+    start: &Start,
+) -> Result<Option<Creation>, FileFault>
+    requires given { given_view given.now ≡ given_view start.now.given }
+    requires within { AreWithin (length (plan_view plan.now).jobs) (plan_view plan.now).pairs }
+    ensures { (text : List ℕ) → IsLaidOut text (given_view start.now.given) (Ok (layout_view config.now plan.now)) → LaysOut text (origin_view start.now) result }
+{
+    let made = records_of(alloc, config, given, plan, start)?;
+    Ok(made)
+}
+
 /// The records of what a file configures.
 fn lay_out_config(
     alloc: Global,
@@ -75,10 +95,7 @@ fn lay_out_config(
         predefined: start.given.predefined,
     };
     match plan(alloc, &given, config) {
-        Ok(plan) => {
-            let made = records_of(alloc, config, &given, &plan, start)?;
-            Ok(made)
-        }
+        Ok(plan) => lay_out_plan(alloc, config, &given, &plan, start),
         Err(fault) => Err(plan_fault(fault)),
     }
 }

@@ -1,13 +1,15 @@
 use Rattle.ci_config.specs.View.{config_view}
 use Rattle.ci_layout.specs.Plans.{plan_view}
 use Rattle.ci_machine.specs.Pipelines.{planned}
-use Rattle.ci_plans.specs.Creations.{layout_view, origin_view}
+use Rattle.ci_plans.specs.Creations.{origin_view}
 use Rattle.ci_plans.proofs.Laying.{not_planned}
 use Rattle.ci_plans.proofs.layouts.lay_out_config.Goals as goal
 
+pub lay_out_plan-requires-clause-within : goal.lay_out_plan-requires-clause-within
+lay_out_plan-requires-clause-within c = c.in-Ok.ensures.graph.within
+
 pub returns-in-Ok : goal.returns-in-Ok
-returns-in-Ok c = λ text read.
-    (layout_view c.args.config.now c.in-Ok.plan, planned (config_view c.args.config.now) (plan_view c.in-Ok.plan) read c.in-Ok.ensures.plan, c.in_ok-made.ensures)
+returns-in-Ok c = λ text read. c.lay_out_plan.ensures text (planned (config_view c.args.config.now) (plan_view c.in-Ok.plan) read c.in-Ok.ensures.plan)
 
 pub returns-in-Err : goal.returns-in-Err
 returns-in-Err c = λ text read.
