@@ -94,7 +94,7 @@ module _ (text : List ℕ) (o : Origin) where
   -- ---- the plans of the definition
 
   pub creates : (c : Creation) (rows : List Row) (p : Plan) → LaysOut text o (Ok (Some c)) → AreFirstRows c.jobs.items c.needs.items rows → p ≡ pipeline_created o.first_job (creation_view c) rows
-      → Creates o.id o.first_job o.asked o.given o.moment (Ok text) plan
+      → Creates o.id o.first_job o.asked o.given o.moment (Ok text) p
   creates c rows p l first is = (
     Ok l.0,
     l.1.0,
@@ -102,8 +102,8 @@ module _ (text : List ℕ) (o : Origin) where
     (subst (λ (m : pipelines.Creation). MakesUnless false o.first_job m p) l.1.1.0 (rows, first, is)),
   )
 
-  pub creates_none : (p : Plan) → LaysOut text o (Ok None) → p ≡ refused M15 → Creates o.id o.first_job o.asked o.given o.moment (Ok text) plan
+  pub creates_none : (p : Plan) → LaysOut text o (Ok None) → p ≡ refused M15 → Creates o.id o.first_job o.asked o.given o.moment (Ok text) p
   creates_none p l is = (Ok l.0, l.1.0, subst (λ (b : Bool). MakesUnless b o.first_job (creation_of o l.0) p) (sym l.1.1) is)
 
-  pub creates_fault : (detail : Detail) (p : Plan) → LaysOut text o (Err (Fault detail)) → p ≡ faulted detail → Creates o.id o.first_job o.asked o.given o.moment (Ok text) plan
+  pub creates_fault : (detail : Detail) (p : Plan) → LaysOut text o (Err (Fault detail)) → p ≡ faulted detail → Creates o.id o.first_job o.asked o.given o.moment (Ok text) p
   creates_fault detail p l is = (Err detail, l, is)
