@@ -1,4 +1,4 @@
-use Rattle.std.proofs.Common.{◌≡◌, length, map, sym, ap, ◌∙◌, arith}
+use Rattle.std.proofs.Common.{◌≡◌, ℕ, length, map, sym, ap, ◌∙◌, arith}
 use Rattle.std.proofs.lemmas.List.{length-map}
 use Rattle.ci_layout.specs.View.{included_view}
 use Rattle.ci_machine.specs.Pipelines.{lacks_numbers}
@@ -9,7 +9,7 @@ pub returns-then-lacks_numbers : goal.returns-then-lacks_numbers
 returns-then-lacks_numbers c =
     let start = c.args.start.now in
     let count : length c.args.plan.now.jobs.items ≡ c.len.result = omega arith in
-    ap (λ n. lacks_numbers start.id start.first_job n) (length-map c.args.plan.now.jobs.items included_view ∙ count) ∙ (sym c.lacks_numbers.ensures ∙ c.if-lacks_numbers.true)
+    ap (λ (n : ℕ). lacks_numbers start.id start.first_job n) (length-map c.args.plan.now.jobs.items included_view ∙ count) ∙ (sym c.lacks_numbers.ensures ∙ c.if-lacks_numbers.true)
 
 pub all_records-requires-clause-numbers : goal.all_records-requires-clause-numbers
 all_records-requires-clause-numbers c =
@@ -21,4 +21,4 @@ returns c =
     let start = c.args.start.now in
     let count : length c.args.plan.now.jobs.items ≡ c.len.result = omega arith in
     (c.in_ok-made.ensures,
-    ap (λ n. lacks_numbers start.id start.first_job n) (length-map c.args.plan.now.jobs.items included_view ∙ count) ∙ (sym c.lacks_numbers.ensures ∙ c.if-lacks_numbers.false))
+    ap (λ (n : ℕ). lacks_numbers start.id start.first_job n) (length-map c.args.plan.now.jobs.items included_view ∙ count) ∙ (sym c.lacks_numbers.ensures ∙ c.if-lacks_numbers.false))

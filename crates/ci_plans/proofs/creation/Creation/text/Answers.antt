@@ -1,4 +1,4 @@
-use Rattle.std.proofs.Common.{◌≡◌, length, replicate, sym, ap, ◌∙◌, arith}
+use Rattle.std.proofs.Common.{◌≡◌, ℕ, length, replicate, sym, ap, ◌∙◌, arith}
 use Rattle.std.proofs.lemmas.List.{length-map, length-replicate}
 use Rattle.std.proofs.lemmas.Result.{IfOk-weaker}
 use Rattle.serde_json.specs.Written.{compact_text}
@@ -20,6 +20,6 @@ pub returns : goal.returns
 returns c =
     let count : c.len.result ≡ length c.args.self.now.jobs.items = omega arith in
     let jobs = c.as_slice-jobs.ensures.value in
-    let facts = c.as_slice.ensures.value ∙ (c.in_ok-facts.ensures ∙ ap (λ n. replicate n no_facts) count) in
+    let facts = c.as_slice.ensures.value ∙ (c.in_ok-facts.ensures ∙ ap (λ (n : ℕ). replicate n no_facts) count) in
     let rows = c.as_slice-2.ensures.value ∙ c.in_ok-rows.ensures in
     IfOk-weaker c.pipeline.result _ _ (λ t is. is ∙ (λ i. compact_text (pipeline_data c.args.self.now.pipeline (jobs i) (facts i) (rows i)))) c.pipeline.ensures
