@@ -13,8 +13,8 @@ next_job : (jobs : List Job) (rows : List Row) (i : ℕ) (j : Job) (r : Row) →
     → jobs_data (drop i jobs) (drop i rows) ≡ job_data (status_text r.status) j ∷ jobs_data (drop (i + 1) jobs) (drop (i + 1) rows)
 next_job jobs rows i j r in_jobs in_rows at_job at_row =
     let rest = jobs_data (drop (i + 1) jobs) (drop (i + 1) rows) in
-    at_drop_more (λ js. jobs_data js (drop i rows)) jobs i j in_jobs
-    ∙ (at_drop_more (λ rs. jobs_data (slice_index_or jobs i j ∷ drop (i + 1) jobs) rs) rows i r in_rows
+    at_drop_more (λ (js : List Job). jobs_data js (drop i rows)) jobs i j in_jobs
+    ∙ (at_drop_more (λ (rs : List Row). jobs_data (slice_index_or jobs i j ∷ drop (i + 1) jobs) rs) rows i r in_rows
     ∙ (ap (λ (x : Row). job_data (status_text x.status) (slice_index_or jobs i j) ∷ rest) (sym at_row)
     ∙ ap (λ (x : Job). job_data (status_text r.status) x ∷ rest) (sym at_job)))
 

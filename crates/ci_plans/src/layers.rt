@@ -16,7 +16,7 @@ use ci_layout::{Given, IncludedJob, Variables};
 use ci_machine::records::{JobVariable, MAX_NUMBER, RefKind, Variable};
 use ci_machine::request::{NewPipeline, PipelineVariable};
 use ci_machine::text::Text;
-use ci_yaml::Words;
+use ci_yaml_lines::tree::Words;
 use std::alloc::{AllocError, Global};
 use std::collections::BTreeMap;
 

@@ -1,10 +1,11 @@
-use Rattle.std.proofs.Common.{ap, ◌∙◌}
+use Rattle.std.proofs.Common.{List, ap, ◌∙◌}
 use Rattle.ci_words.specs.Layers.{layer_view}
-use Rattle.ci_plans.proofs.Merging.{onto, onto_none, onto_further}
+use Rattle.ci_plans.proofs.Merging.{Word, onto, onto_none, onto_further}
 use Rattle.ci_plans.proofs.layers.merged.Goals as goal
 
 pub loop-pair-init : goal.loop-pair-init
-loop-pair-init c = ap (λ es. onto (layer_view c.args.pairs.items) (layer_view es)) c.new-all.ensures.empty ∙ onto_none (layer_view c.args.pairs.items)
+loop-pair-init c =
+    ap (λ (es : List (Word × Word)). onto (layer_view c.args.pairs.items) (layer_view es)) c.new-all.ensures.empty ∙ onto_none (layer_view c.args.pairs.items)
 
 pub loop-pair-preserved : goal.loop-pair-preserved
 loop-pair-preserved c =
