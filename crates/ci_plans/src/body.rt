@@ -72,7 +72,8 @@ fn jobs_with_rows(alloc: Global, jobs: &[Job], rows: &[Row]) -> Result<Value, Al
 {
     let mut items = Vec::new(alloc);
     for i in 0..jobs.len() {
-        items.push(job_object(alloc, rows[i].status.as_str(), &jobs[i])?.into_value())?;
+        let shown = job_object(alloc, rows[i].status.as_str(), &jobs[i])?;
+        items.push(shown.into_value())?;
     }
     Ok(Value::Array(items))
 }
