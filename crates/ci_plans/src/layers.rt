@@ -67,10 +67,11 @@ fn predefined_pairs<'a>(
     requires { number.now ≡ decimal asked.now.project }
     ensures { IfOk result (λ pairs. layer_view pairs.items ≡ predefined asked.now) }
 {
-    let mut pairs = Vec::new(alloc);
+    let mut pairs: Variables<'a> = Vec::new(alloc);
     pairs.push(("CI", "true"))?;
-    pairs.push((ref_name(asked.kind), asked.git_ref.as_str()))?;
-    pairs.push(("CI_COMMIT_REF_NAME", asked.git_ref.as_str()))?;
+    let git_ref: &'a str = asked.git_ref.as_str();
+    pairs.push((ref_name(asked.kind), git_ref))?;
+    pairs.push(("CI_COMMIT_REF_NAME", git_ref))?;
     pairs.push(("CI_PIPELINE_SOURCE", asked.source.as_str()))?;
     pairs.push(("CI_PROJECT_ID", number))?;
     Ok(pairs)

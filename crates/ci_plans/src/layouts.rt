@@ -82,20 +82,17 @@ fn lay_out_plan<'a, 't>(
 }
 
 /// The records of what a file configures.
-fn lay_out_config(
+fn lay_out_config<'a, 't>(
     alloc: Global,
-    config: &Config,
+    config: &'a Config<'t>,
+    given: &Given<'a>,
     start: &Start,
 ) -> Result<Option<Creation>, FileFault>
+    requires { given_view given.now ≡ given_view start.now.given }
     ensures { (text : List ℕ) → IsRead text (Ok (config_view config.now)) → LaysOut text (origin_view start.now) result }
 {
-    let given = Given {
-        pipeline: start.given.pipeline,
-        project: start.given.project,
-        predefined: start.given.predefined,
-    };
-    match plan(alloc, &given, config) {
-        Ok(plan) => lay_out_plan(alloc, config, &given, &plan, start),
+    match plan(alloc, given, config) {
+        Ok(plan) => lay_out_plan(alloc, config, given, &plan, start),
         Err(fault) => Err(plan_fault(fault)),
     }
 }
@@ -105,7 +102,14 @@ fn lay_out_tree(alloc: Global, tree: &Tree, start: &Start) -> Result<Option<Crea
     ensures { (text : List ℕ) → HasTree text (value_view tree.now) → LaysOut text (origin_view start.now) result }
 {
     match config(alloc, tree) {
-        Ok(config) => lay_out_config(alloc, &config, start),
+        Ok(config) => {
+            let given = Given {
+                pipeline: start.given.pipeline,
+                project: start.given.project,
+                predefined: start.given.predefined,
+            };
+            lay_out_config(alloc, &config, &given, start)
+        }
         Err(fault) => Err(config_fault(alloc, fault)),
     }
 }
