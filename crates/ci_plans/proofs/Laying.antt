@@ -72,38 +72,44 @@ module _ (text : List ℕ) (o : Origin) where
   pipeline_within (Err f) l = tt
   pipeline_within (Ok None) l = tt
   pipeline_within (Ok (Some c)) l =
-      let same : c.pipeline.id ≡ o.id = ap (λ (m : pipelines.Creation). m.pipeline.id) l.1.1.0 in
-      let fits : o.id ≤ MAX_NUMBER = (numbers_fit o.id o.first_job (length l.0.plan.jobs) l.1.1.1).0 in
+      let (laid, is, made) = l in
+      let same : c.pipeline.id ≡ o.id = ap (λ (m : pipelines.Creation). m.pipeline.id) made.0 in
+      let fits : o.id ≤ MAX_NUMBER = (numbers_fit o.id o.first_job (length laid.plan.jobs) made.1).0 in
       omega arith
 
   pub jobs_within : (r : Result (Option Creation) FileFault) → LaysOut text o r → IfOk r (λ made. IfSome made (λ c. o.first_job + length c.jobs.items ≤ MAX_NUMBER + 1))
   jobs_within (Err f) l = tt
   jobs_within (Ok None) l = tt
   jobs_within (Ok (Some c)) l =
-      let same : length c.jobs.items ≡ length l.0.plan.jobs = ap (λ (m : pipelines.Creation). length m.jobs) l.1.1.0 ∙ new_length o.id o.first_job 0 l.0.plan.jobs in
-      let fits : o.first_job + length l.0.plan.jobs ≤ MAX_NUMBER + 1 = (numbers_fit o.id o.first_job (length l.0.plan.jobs) l.1.1.1).1 in
+      let (laid, is, made) = l in
+      let same : length c.jobs.items ≡ length laid.plan.jobs = ap (λ (m : pipelines.Creation). length m.jobs) made.0 ∙ new_length o.id o.first_job 0 laid.plan.jobs in
+      let fits : o.first_job + length laid.plan.jobs ≤ MAX_NUMBER + 1 = (numbers_fit o.id o.first_job (length laid.plan.jobs) made.1).1 in
       omega arith
 
   pub jobs_ascend : (r : Result (Option Creation) FileFault) → LaysOut text o r → IfOk r (λ made. IfSome made (λ c. IsStrictlySortedBy nat_cmp (map (λ j. j.id) c.jobs.items)))
   jobs_ascend (Err f) l = tt
   jobs_ascend (Ok None) l = tt
   jobs_ascend (Ok (Some c)) l =
-      subst (λ (js : List Job). IsStrictlySortedBy nat_cmp (map (λ j. j.id) js)) (sym (ap (λ (m : pipelines.Creation). m.jobs) l.1.1.0))
-      (ascend_from_rising (λ (j : Job). j.id) (o.first_job + 0) (new_jobs o.id o.first_job 0 l.0.plan.jobs) (new_rise o.id o.first_job 0 l.0.plan.jobs))
+      let (laid, is, made) = l in
+      subst (λ (js : List Job). IsStrictlySortedBy nat_cmp (map (λ j. j.id) js)) (sym (ap (λ (m : pipelines.Creation). m.jobs) made.0))
+      (ascend_from_rising (λ (j : Job). j.id) (o.first_job + 0) (new_jobs o.id o.first_job 0 laid.plan.jobs) (new_rise o.id o.first_job 0 laid.plan.jobs))
 
   -- ---- the plans of the definition
 
   pub creates : (c : Creation) (rows : List Row) (p : Plan) → LaysOut text o (Ok (Some c)) → AreFirstRows c.jobs.items c.needs.items rows → p ≡ pipeline_created o.first_job (creation_view c) rows
       → Creates o.id o.first_job o.asked o.given o.moment (Ok text) p
-  creates c rows p l first is = (
-    Ok l.0,
-    l.1.0,
-    subst (λ (b : Bool). MakesUnless b o.first_job (creation_of o l.0) p) (sym l.1.1.1)
-    (subst (λ (m : pipelines.Creation). MakesUnless false o.first_job m p) l.1.1.0 (rows, first, is)),
-  )
+  creates c rows p l first is =
+      let (laid, lays, made) = l in (
+        Ok laid,
+        lays,
+        subst (λ (b : Bool). MakesUnless b o.first_job (creation_of o laid) p) (sym made.1)
+        (subst (λ (m : pipelines.Creation). MakesUnless false o.first_job m p) made.0 (rows, first, is)),
+      )
 
   pub creates_none : (p : Plan) → LaysOut text o (Ok None) → p ≡ refused M15 → Creates o.id o.first_job o.asked o.given o.moment (Ok text) p
-  creates_none p l is = (Ok l.0, l.1.0, subst (λ (b : Bool). MakesUnless b o.first_job (creation_of o l.0) p) (sym l.1.1) is)
+  creates_none p l is =
+      let (laid, lays, lack) = l in
+      (Ok laid, lays, subst (λ (b : Bool). MakesUnless b o.first_job (creation_of o laid) p) (sym lack) is)
 
   pub creates_fault : (detail : Detail) (p : Plan) → LaysOut text o (Err (Fault detail)) → p ≡ faulted detail → Creates o.id o.first_job o.asked o.given o.moment (Ok text) p
   creates_fault detail p l is = (Err detail, l, is)

@@ -10,9 +10,8 @@ use Rattle.ci_plans.proofs.creation.all_records.Goals as goal
 
 pub need_keys-requires-clause-within : goal.need_keys-requires-clause-within
 need_keys-requires-clause-within c =
-    let count : length c.args.plan.now.jobs.items ≡ c.len.result = omega arith in
-    subst (λ (ps : List (ℕ × ℕ)). AreWithin c.len.result ps) (sym c.as_slice.ensures.value)
-    (subst (λ (n : ℕ). AreWithin n c.args.plan.now.pairs.items) (length-map c.args.plan.now.jobs.items included_view ∙ count) c.requires.within)
+    subst (λ (ps : List (ℕ × ℕ)). AreWithin (length c.as_slice-included.result.now) ps) (sym c.as_slice.ensures.value)
+    (subst (λ (n : ℕ). AreWithin n c.args.plan.now.pairs.items) (length-map c.args.plan.now.jobs.items included_view ∙ sym (ap length c.as_slice-included.ensures.value)) c.requires.within)
 
 pub returns : goal.returns
 returns c =

@@ -9,8 +9,8 @@ use Rattle.ci_plans.proofs.files.set_file.Goals as goal
 pub returns-in-Ok : goal.returns-in-Ok
 returns-in-Ok c =
     let said = c.in-Ok.ensures in
-    let read : IsRead c.args.text (Ok said.0) = subst (λ (t : List ℕ). IsRead t (Ok said.0)) c.as_str.ensures said.1.0 in
-    IfOk-weaker c.put_file.result _ _ (λ plan is. (Ok said.0, read, is)) (c.put_file.ensures said.0 said.1.1)
+    let read : IsRead c.args.text (Ok said.0) = subst (λ (t : List ℕ). IsRead t (Ok said.0)) c.as_str.ensures said.1 in
+    IfOk-weaker c.put_file.result _ _ (λ plan is. (Ok said.0, read, is)) (c.put_file.ensures said.0 said.2)
 
 pub returns-in-Err-Fault : goal.returns-in-Err-Fault
 returns-in-Err-Fault c =
