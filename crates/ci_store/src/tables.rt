@@ -318,7 +318,12 @@ impl<S: Alter> Store for Tables<S> {
     }
 
     fn pipeline(&mut self, id: u64) -> Result<Option<Pipeline>, StoreFault> {
-        load::one_at(&mut self.conn, texts::SELECT_PIPELINE, id)
+        load::one_named(
+            &mut self.conn,
+            texts::SELECT_PIPELINE,
+            texts::SELECT_PIPELINES_ABOVE,
+            id,
+        )
     }
 
     fn job(&mut self, id: u64) -> Result<Option<Job>, StoreFault> {

@@ -74,6 +74,9 @@ pub const DELETE_PIPELINE: &str = "DELETE FROM pipeline WHERE id = ?1";
 pub const SELECT_PIPELINE: &str =
     "SELECT id, project, ref, kind, source, created FROM pipeline WHERE id = ?1";
 
+pub const SELECT_PIPELINES_ABOVE: &str =
+    "SELECT id, project, ref, kind, source, created FROM pipeline WHERE id > ?1";
+
 pub const INSERT_JOB: &str =
     "INSERT INTO job (id, pipeline, pos, name, stage, spec, played, cancelled, aside) VALUES (?1, ?2, ?3, ?4, ?5, ?6, ?7, ?8, ?9)";
 

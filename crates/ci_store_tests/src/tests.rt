@@ -150,3 +150,19 @@ fn a_row_that_others_name_is_not_removed(rt: HostRuntime) -> Result<(), Fail> {
     let_go(tables);
     removed
 }
+
+/// The first number over the greatest integer of SQL, and the greatest number of all.
+const OVER: [u64; 2] = [9_223_372_036_854_775_808, 18_446_744_073_709_551_615];
+
+#[test]
+fn a_number_over_the_greatest_integer_of_sql_is_no_rows(rt: HostRuntime) -> Result<(), Fail> {
+    let mut tables = filled(rt.alloc())?;
+    for id in OVER {
+        assert!(rt; matches!(project(&mut tables, id), Ok(None)));
+        assert!(rt; matches!(pipeline(&mut tables, id), Ok(None)));
+        assert!(rt; matches!(job(&mut tables, id), Ok(None)));
+        assert!(rt; matches!(attempt(&mut tables, id), Ok(None)));
+    }
+    let_go(tables);
+    Ok(())
+}
