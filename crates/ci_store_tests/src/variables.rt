@@ -103,15 +103,18 @@ fn finds_no_other(
     Ok(())
 }
 
+fn look_up(rt: &impl Abort, alloc: Global, tables: &mut Tables<MemStore>) -> Result<(), Fail> {
+    finds_each(rt, alloc, tables)?;
+    finds_no_other(rt, alloc, tables)
+}
+
 #[test]
 fn a_variable_is_found_by_its_project_and_key(rt: HostRuntime) -> Result<(), Fail> {
     let alloc = rt.alloc();
     let mut tables = with_four(alloc)?;
-    let found = finds_each(&rt, alloc, &mut tables);
-    let missing = finds_no_other(&rt, alloc, &mut tables);
+    let looked = look_up(&rt, alloc, &mut tables);
     let_go(tables);
-    found?;
-    missing
+    looked
 }
 
 /// Project 2 stays as long as it has a variable, and that of project 1 with the same key goes alone.
