@@ -83,7 +83,10 @@ const FOUND: &[(u64, &str, &str)] = &[(1, "_", "5"), (1, "a", "1"), (2, "a", "3"
 fn finds_each(rt: &impl Abort, alloc: Global, tables: &mut Tables<MemStore>) -> Result<(), Fail> {
     for (project, key, value) in FOUND {
         let key = text(alloc, key)?;
-        assert!(rt; has_value(tables, *project, &key, value) == Ok(true), "{value}");
+        assert!(rt;
+            has_value(tables, *project, &key, value) == Ok(true),
+            "{value}"
+        );
     }
     Ok(())
 }
@@ -98,7 +101,10 @@ fn finds_no_other(
 ) -> Result<(), Fail> {
     for (project, key) in MISSING {
         let name = text(alloc, key)?;
-        assert!(rt; matches!(variable(tables, *project, &name), Ok(None)), "{key} of {project}");
+        assert!(rt;
+            matches!(variable(tables, *project, &name), Ok(None)),
+            "{key} of {project}"
+        );
     }
     Ok(())
 }
