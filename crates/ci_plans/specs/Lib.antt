@@ -1,3 +1,4 @@
 pub mod Objects
 pub mod Refusals
 pub mod Readings
+pub mod Creations

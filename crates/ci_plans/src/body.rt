@@ -9,11 +9,11 @@ ghost use Rattle.std.specs.Fmt.{decimal};
 ghost use Rattle.serde_json.specs.Data.{array, object, string};
 ghost use Rattle.serde_json.specs.View.{view, items_of};
 ghost use Rattle.serde_json.specs.Written.{compact_text};
-ghost use Rattle.ci_machine.specs.Bodies.{fault_data, created_data, job_data, file_data, jobs_data, pipeline_data, variable_data, with_default, granted_variables, grant_data};
+ghost use Rattle.ci_machine.specs.Bodies.{fault_data, created_data, job_data, file_data, jobs_data, status_of_jobs, pipeline_data, variable_data, with_default, granted_variables, grant_data};
 ghost use Rattle.ci_plans.specs.Objects.{members_of, job_info_data};
 
 use crate::object::Object;
-use ci_board::facts::{Facts, Row};
+use ci_board::facts::{Facts, Row, Status};
 use ci_board::pipeline::pipeline_status;
 use ci_graph::part::Part;
 use ci_machine::records::{Job, JobVariable, Pipeline, QueuedJob};
@@ -65,13 +65,15 @@ pub fn file(alloc: Global, jobs: usize) -> Result<Text, AllocError>
     body.into_text(alloc)
 }
 
+/// The jobs, each with the status of its row.
 fn jobs_with_rows(alloc: Global, jobs: &[Job], rows: &[Row]) -> Result<Value, AllocError>
     requires { length rows.now ≡ length jobs.now }
     ensures { IfOk result (λ v. view v ≡ array (items_of (jobs_data jobs.now rows.now))) }
 {
     let mut items = Vec::new(alloc);
     for i in 0..jobs.len() {
-        items.push(job_object(alloc, rows[i].status.as_str(), &jobs[i])?.into_value())?;
+        let shown = job_object(alloc, rows[i].status.as_str(), &jobs[i])?;
+        items.push(shown.into_value())?;
     }
     Ok(Value::Array(items))
 }
@@ -85,6 +87,21 @@ fn parts_of(alloc: Global, jobs: &[Job]) -> Result<Vec<Part>, AllocError>
         parts.push(job.options.part.clone()?)?;
     }
     Ok(parts)
+}
+
+/// The status of the pipeline whose jobs have these facts and rows.
+fn status_of(
+    alloc: Global,
+    jobs: &[Job],
+    facts: &[Facts],
+    rows: &[Row],
+) -> Result<Status, AllocError>
+    requires facts { length facts.now ≡ length jobs.now }
+    requires rows { length rows.now ≡ length jobs.now }
+    ensures { IfOk result (λ s. s ≡ status_of_jobs jobs.now facts.now rows.now) }
+{
+    let parts = parts_of(alloc, jobs)?;
+    Ok(pipeline_status(parts.as_slice(), facts, rows))
 }
 
 /// The body that shows a pipeline with its jobs, which have these facts and rows.
@@ -113,8 +130,7 @@ fn pipeline_object(
     requires rows { length rows.now ≡ length jobs.now }
     ensures { IfOk result (λ o. object (members_of o) ≡ pipeline_data pipeline.now jobs.now facts.now rows.now) }
 {
-    let parts = parts_of(alloc, jobs)?;
-    let status = pipeline_status(parts.as_slice(), facts, rows);
+    let status = status_of(alloc, jobs, facts, rows)?;
     let jobs = jobs_with_rows(alloc, jobs, rows)?;
     let shown = Object::new(alloc).with(alloc, "jobs", jobs)?;
     let shown = shown.with_number(alloc, "id", pipeline.id)?;

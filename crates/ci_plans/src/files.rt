@@ -116,13 +116,13 @@ pub(crate) fn config_fault(alloc: Global, fault: ConfigFault) -> FileFault
 pub fn jobs_in(alloc: Global, text: &str) -> Result<usize, FileFault>
     ensures { Counts text.now result }
 {
-    let tree = match read(alloc, text) {
-        Ok(tree) => tree,
-        Err(fault) => return Err(yaml_fault(fault)),
-    };
-    jobs_of_tree(alloc, &tree)
+    match read(alloc, text) {
+        Ok(tree) => jobs_of_tree(alloc, &tree),
+        Err(fault) => Err(yaml_fault(fault)),
+    }
 }
 
+/// How many jobs that a tree configures aren't hidden.
 fn jobs_of_tree(alloc: Global, tree: &Tree) -> Result<usize, FileFault>
     ensures { CountsTree (value_view tree.now) result }
 {
@@ -149,6 +149,7 @@ pub fn set_file(
     }
 }
 
+/// The project has this text for its file; so many of the text's jobs aren't hidden.
 fn put_file(
     alloc: Global,
     project: &Project,
@@ -158,8 +159,12 @@ fn put_file(
     ensures { (c : Config) → count ≡ length c.jobs → IfOk result (λ plan. plan ≡ files.file_set project.now text c) }
 {
     let reply = fine(Body::Json(body::file(alloc, count)?));
-    let mut project = project.clone()?;
-    project.file = Some(text);
-    let changes = only(alloc, RowChange::Put(Record::Project(project)))?;
+    let filed = Project {
+        id: project.id,
+        name: project.name.clone()?,
+        token: project.token.clone()?,
+        file: Some(text),
+    };
+    let changes = only(alloc, RowChange::Put(Record::Project(filed)))?;
     Ok((reply, changes))
 }

@@ -3,8 +3,12 @@
 #![tactic(auto)]
 
 pub mod body;
+pub mod creation;
 pub mod files;
 pub mod grants;
+pub mod laws;
+mod layers;
+pub mod layouts;
 mod object;
 pub mod pipelines;
 pub mod projects;

@@ -95,12 +95,12 @@ creates_index before after at table text index means old new count bare h =
 
 -- how many tables and indexes there are after the first texts
 abbrev counts : List (ℕ × ℕ)
-counts = (0, 0) ∷ (1, 1) ∷ (2, 2) ∷ (3, 3) ∷ (4, 3) ∷ (5, 3) ∷ (5, 4) ∷ (6, 5) ∷ (7, 5) ∷ (7, 6) ∷ (7, 7) ∷ (8, 8) ∷ (9, 9) ∷ (9, 10) ∷ (10, 10) ∷ []
+counts = (0, 0) ∷ (1, 1) ∷ (2, 2) ∷ (3, 3) ∷ (4, 3) ∷ (5, 3) ∷ (5, 4) ∷ (6, 5) ∷ (7, 5) ∷ (7, 6) ∷ (7, 7) ∷ (8, 8) ∷ (9, 9) ∷ (9, 10) ∷ (10, 10) ∷ (10, 11) ∷ []
 
 -- the schema after the first texts
 abbrev pub schema_after : ℕ → Schema
 schema_after k =
-    let count = slice_index_or counts k (10, 11) in
+    let count = slice_index_or counts k (11, 12) in
     record { tables = take count.0 the_schema.tables; indexes = take count.1 the_schema.indexes; views = [] }
 
 abbrev pub text_at : ℕ → List ℕ
@@ -166,8 +166,12 @@ makes_board_status : MeansIndex (schema_after 14) (schema_after 15) 9 table.boar
 unfolding understood everything
 makes_board_status = record { there = refl; command = refl; plain = (refl, refl); whole = refl; defined = refl; is = refl }
 
+makes_variable : MeansTable (schema_after 15) (schema_after 16) (text_at 15) (record table.variable { tree = 0 })
+unfolding understood everything
+makes_variable = record { command = refl; plain = (refl, refl); whole = refl; defined = refl; is = refl; uncounted = refl }
+
 -- after each text the schema is that of one text more
-makes_next : (k : ℕ) → k < 15 → (old new : State) (count : ℕ) → IsBare (schema_after k) old.now → Executes (text_at k) [] old new (Ok count) → IsBare (schema_after (k + 1)) new.now
+makes_next : (k : ℕ) → k < 16 → (old new : State) (count : ℕ) → IsBare (schema_after k) old.now → Executes (text_at k) [] old new (Ok count) → IsBare (schema_after (k + 1)) new.now
 makes_next zero low = creates_table (schema_after 0) (schema_after 1) (text_at 0) _ makes_meta
 makes_next (suc zero) low = creates_table (schema_after 1) (schema_after 2) (text_at 1) _ makes_project
 makes_next (suc (suc zero)) low = creates_table (schema_after 2) (schema_after 3) (text_at 2) _ makes_runner
@@ -183,26 +187,28 @@ makes_next (suc (suc (suc (suc (suc (suc (suc (suc (suc (suc (suc zero))))))))))
 makes_next (suc (suc (suc (suc (suc (suc (suc (suc (suc (suc (suc (suc zero)))))))))))) low = creates_index (schema_after 12) (schema_after 13) 8 table.need (text_at 12) _ makes_need_pred
 makes_next (suc (suc (suc (suc (suc (suc (suc (suc (suc (suc (suc (suc (suc zero))))))))))))) low = creates_table (schema_after 13) (schema_after 14) (text_at 13) _ makes_board
 makes_next (suc (suc (suc (suc (suc (suc (suc (suc (suc (suc (suc (suc (suc (suc zero)))))))))))))) low = creates_index (schema_after 14) (schema_after 15) 9 table.board (text_at 14) _ makes_board_status
-makes_next (suc (suc (suc (suc (suc (suc (suc (suc (suc (suc (suc (suc (suc (suc (suc k))))))))))))))) low = absurd (omega (arith, low))
+makes_next (suc (suc (suc (suc (suc (suc (suc (suc (suc (suc (suc (suc (suc (suc (suc zero))))))))))))))) low = creates_table (schema_after 15) (schema_after 16) (text_at 15) _ makes_variable
+makes_next (suc (suc (suc (suc (suc (suc (suc (suc (suc (suc (suc (suc (suc (suc (suc (suc k)))))))))))))))) low = absurd (omega (arith, low))
 
--- each place below fifteen
-pub below_fifteen : (k : ℕ) → k < 15 → (k ≡ 0) ⊎ ((k ≡ 1) ⊎ ((k ≡ 2) ⊎ ((k ≡ 3) ⊎ ((k ≡ 4) ⊎ ((k ≡ 5) ⊎ ((k ≡ 6) ⊎ ((k ≡ 7) ⊎ ((k ≡ 8) ⊎ ((k ≡ 9) ⊎ ((k ≡ 10) ⊎ ((k ≡ 11) ⊎ ((k ≡ 12) ⊎ ((k ≡ 13) ⊎ ((k ≡ 14)))))))))))))))
-below_fifteen zero low = inl refl
-below_fifteen (suc zero) low = inr (inl refl)
-below_fifteen (suc (suc zero)) low = inr (inr (inl refl))
-below_fifteen (suc (suc (suc zero))) low = inr (inr (inr (inl refl)))
-below_fifteen (suc (suc (suc (suc zero)))) low = inr (inr (inr (inr (inl refl))))
-below_fifteen (suc (suc (suc (suc (suc zero))))) low = inr (inr (inr (inr (inr (inl refl)))))
-below_fifteen (suc (suc (suc (suc (suc (suc zero)))))) low = inr (inr (inr (inr (inr (inr (inl refl))))))
-below_fifteen (suc (suc (suc (suc (suc (suc (suc zero))))))) low = inr (inr (inr (inr (inr (inr (inr (inl refl)))))))
-below_fifteen (suc (suc (suc (suc (suc (suc (suc (suc zero)))))))) low = inr (inr (inr (inr (inr (inr (inr (inr (inl refl))))))))
-below_fifteen (suc (suc (suc (suc (suc (suc (suc (suc (suc zero))))))))) low = inr (inr (inr (inr (inr (inr (inr (inr (inr (inl refl)))))))))
-below_fifteen (suc (suc (suc (suc (suc (suc (suc (suc (suc (suc zero)))))))))) low = inr (inr (inr (inr (inr (inr (inr (inr (inr (inr (inl refl))))))))))
-below_fifteen (suc (suc (suc (suc (suc (suc (suc (suc (suc (suc (suc zero))))))))))) low = inr (inr (inr (inr (inr (inr (inr (inr (inr (inr (inr (inl refl)))))))))))
-below_fifteen (suc (suc (suc (suc (suc (suc (suc (suc (suc (suc (suc (suc zero)))))))))))) low = inr (inr (inr (inr (inr (inr (inr (inr (inr (inr (inr (inr (inl refl))))))))))))
-below_fifteen (suc (suc (suc (suc (suc (suc (suc (suc (suc (suc (suc (suc (suc zero))))))))))))) low = inr (inr (inr (inr (inr (inr (inr (inr (inr (inr (inr (inr (inr (inl refl)))))))))))))
-below_fifteen (suc (suc (suc (suc (suc (suc (suc (suc (suc (suc (suc (suc (suc (suc zero)))))))))))))) low = inr (inr (inr (inr (inr (inr (inr (inr (inr (inr (inr (inr (inr (inr refl)))))))))))))
-below_fifteen (suc (suc (suc (suc (suc (suc (suc (suc (suc (suc (suc (suc (suc (suc (suc k))))))))))))))) low = absurd (omega (arith, low))
+-- each place below sixteen
+pub below_sixteen : (k : ℕ) → k < 16 → (k ≡ 0) ⊎ ((k ≡ 1) ⊎ ((k ≡ 2) ⊎ ((k ≡ 3) ⊎ ((k ≡ 4) ⊎ ((k ≡ 5) ⊎ ((k ≡ 6) ⊎ ((k ≡ 7) ⊎ ((k ≡ 8) ⊎ ((k ≡ 9) ⊎ ((k ≡ 10) ⊎ ((k ≡ 11) ⊎ ((k ≡ 12) ⊎ ((k ≡ 13) ⊎ ((k ≡ 14) ⊎ (k ≡ 15)))))))))))))))
+below_sixteen zero low = inl refl
+below_sixteen (suc zero) low = inr (inl refl)
+below_sixteen (suc (suc zero)) low = inr (inr (inl refl))
+below_sixteen (suc (suc (suc zero))) low = inr (inr (inr (inl refl)))
+below_sixteen (suc (suc (suc (suc zero)))) low = inr (inr (inr (inr (inl refl))))
+below_sixteen (suc (suc (suc (suc (suc zero))))) low = inr (inr (inr (inr (inr (inl refl)))))
+below_sixteen (suc (suc (suc (suc (suc (suc zero)))))) low = inr (inr (inr (inr (inr (inr (inl refl))))))
+below_sixteen (suc (suc (suc (suc (suc (suc (suc zero))))))) low = inr (inr (inr (inr (inr (inr (inr (inl refl)))))))
+below_sixteen (suc (suc (suc (suc (suc (suc (suc (suc zero)))))))) low = inr (inr (inr (inr (inr (inr (inr (inr (inl refl))))))))
+below_sixteen (suc (suc (suc (suc (suc (suc (suc (suc (suc zero))))))))) low = inr (inr (inr (inr (inr (inr (inr (inr (inr (inl refl)))))))))
+below_sixteen (suc (suc (suc (suc (suc (suc (suc (suc (suc (suc zero)))))))))) low = inr (inr (inr (inr (inr (inr (inr (inr (inr (inr (inl refl))))))))))
+below_sixteen (suc (suc (suc (suc (suc (suc (suc (suc (suc (suc (suc zero))))))))))) low = inr (inr (inr (inr (inr (inr (inr (inr (inr (inr (inr (inl refl)))))))))))
+below_sixteen (suc (suc (suc (suc (suc (suc (suc (suc (suc (suc (suc (suc zero)))))))))))) low = inr (inr (inr (inr (inr (inr (inr (inr (inr (inr (inr (inr (inl refl))))))))))))
+below_sixteen (suc (suc (suc (suc (suc (suc (suc (suc (suc (suc (suc (suc (suc zero))))))))))))) low = inr (inr (inr (inr (inr (inr (inr (inr (inr (inr (inr (inr (inr (inl refl)))))))))))))
+below_sixteen (suc (suc (suc (suc (suc (suc (suc (suc (suc (suc (suc (suc (suc (suc zero)))))))))))))) low = inr (inr (inr (inr (inr (inr (inr (inr (inr (inr (inr (inr (inr (inr (inl refl))))))))))))))
+below_sixteen (suc (suc (suc (suc (suc (suc (suc (suc (suc (suc (suc (suc (suc (suc (suc zero))))))))))))))) low = inr (inr (inr (inr (inr (inr (inr (inr (inr (inr (inr (inr (inr (inr (inr refl))))))))))))))
+below_sixteen (suc (suc (suc (suc (suc (suc (suc (suc (suc (suc (suc (suc (suc (suc (suc (suc k)))))))))))))))) low = absurd (omega (arith, low))
 
-pub runs_next : (k : ℕ) → k < 15 → (text : List ℕ) (old new : State) (count : ℕ) → IsBare (schema_after k) old.now → Executes text [] old new (Ok count) → text ≡ text_at k → IsBare (schema_after (k + 1)) new.now
+pub runs_next : (k : ℕ) → k < 16 → (text : List ℕ) (old new : State) (count : ℕ) → IsBare (schema_after k) old.now → Executes text [] old new (Ok count) → text ≡ text_at k → IsBare (schema_after (k + 1)) new.now
 runs_next k low text old new count bare h is = makes_next k low old new count bare (subst (λ t. Executes t [] old new (Ok count)) is h)

@@ -1,6 +1,7 @@
 mod Lists
 mod Records
 mod Projects
+mod Variables
 mod Runners
 mod Pipelines
 mod Jobs

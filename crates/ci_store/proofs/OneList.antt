@@ -6,9 +6,10 @@ use Rattle.sqlite.specs.Table.{Table}
 use Rattle.sqlite_rules.proofs.ListLemmas.{all_from}
 use Rattle.serde_json.specs.Read.{read}
 use Rattle.ci_machine.specs.Kept.{Kept, row_cmp}
-use Rattle.ci_machine.specs.State.{project_cmp, runner_cmp, pipeline_cmp, job_cmp, job_variable_cmp, need_cmp, attempt_cmp, piece_cmp}
+use Rattle.ci_machine.specs.State.{project_cmp, variable_cmp, runner_cmp, pipeline_cmp, job_cmp, job_variable_cmp, need_cmp, attempt_cmp, piece_cmp}
 use Rattle.ci_machine.specs.declared.records.Numbers.{Numbers}
 use Rattle.ci_machine.specs.declared.records.Project.{Project}
+use Rattle.ci_machine.specs.declared.records.Variable.{Variable}
 use Rattle.ci_machine.specs.declared.records.Runner.{Runner}
 use Rattle.ci_machine.specs.declared.records.Pipeline.{Pipeline}
 use Rattle.ci_machine.specs.declared.records.Job.{Job}
@@ -46,6 +47,9 @@ regular_with_next k next o = search rules
 
 pub regular_with_projects : (k : Kept) (xs : List Project) → Rises project_cmp xs → IsRegular k → IsRegular (record k { state = record k.state { projects = xs } })
 regular_with_projects k xs up o = search rules
+
+pub regular_with_variables : (k : Kept) (xs : List Variable) → Rises variable_cmp xs → IsRegular k → IsRegular (record k { state = record k.state { variables = xs } })
+regular_with_variables k xs up o = search rules
 
 pub regular_with_runners : (k : Kept) (xs : List Runner) → Rises runner_cmp xs → AllByRecursion (λ r. read (tags_text r.tags) ≡ Some (tags_data r.tags)) xs → IsRegular k → IsRegular (record k { state = record k.state { runners = xs } })
 regular_with_runners k xs up back o = search rules

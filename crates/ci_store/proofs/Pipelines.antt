@@ -1,5 +1,5 @@
 -- The statements that write `pipeline`.
-use Rattle.std.proofs.Common.{◌∙◌, ℕ, pos, List, [], ◌∷◌, refl, ap, ◌≡◌, ◌==◌, ◌&&◌, true, Option, sym, map, take, drop, codes, if◌then◌else◌}
+use Rattle.std.proofs.Common.{◌∙◌, ℕ, pos, List, [], ◌∷◌, refl, ap, ◌≡◌, ◌==◌, ◌&&◌, true, Option, sym, map, take, drop, codes, if◌then◌else◌, inl, inr, nat_lt}
 use Rattle.sqlite.specs.declared.types.Value.TheVariants.{Null, Text}
 use Rattle.sqlite.specs.Order.{Row, column}
 use Rattle.sqlite.specs.Term.{Term, lit, col}
@@ -8,6 +8,7 @@ use Rattle.sqlite.specs.Listing.{understood}
 use Rattle.sqlite.specs.Store.{Ghosts}
 use Rattle.sqlite.specs.Held.{Held, state}
 use Rattle.sqlite_keyed.proofs.ListLemmas.{ascending-filter}
+use Rattle.sqlite_sql.specs.declared.ops.CompareOp.TheVariants.{Gt}
 use Rattle.ci_machine.specs.Kept.{Kept}
 use Rattle.ci_machine.specs.State.{with_record, without_record, pipeline_cmp}
 use Rattle.ci_machine.specs.declared.records.Pipeline.{Pipeline}
@@ -17,21 +18,22 @@ use Rattle.ci_tables.specs.Stands.{image, places}
 use Rattle.ci_tables.specs.Statements.{HasPut}
 use Rattle.ci_tables.proofs.Puts.{MeansPut, MeansRemove, GivesRecord}
 use Rattle.ci_tables.proofs.Absent.{absent_rowid}
-use Rattle.ci_tables.proofs.Scalars.{cast_int}
-use Rattle.ci_store.specs.declared.texts.TheConstants.{UPDATE_PIPELINE, INSERT_PIPELINE, DELETE_PIPELINE, SELECT_PIPELINE}
+use Rattle.ci_tables.proofs.Scalars.{cast_int, compares}
+use Rattle.ci_store.specs.declared.texts.TheConstants.{UPDATE_PIPELINE, INSERT_PIPELINE, DELETE_PIPELINE, SELECT_PIPELINE, SELECT_PIPELINES_ABOVE}
+use Rattle.ci_store.specs.declared.load.TheConstants.{LAST_INTEGER}
 use Rattle.ci_store.specs.Schema.{the_schema, pipeline}
 use Rattle.ci_store.specs.Rows.{number, pipeline_row, kind_number, source_number}
 use Rattle.ci_store.specs.Stands.{rows_by_tree, rows_of, Stands, IsAt}
 use Rattle.ci_store.proofs.OneList.{IsAlike, alike_but, regular_with_pipelines}
 use Rattle.ci_store.proofs.Lists.{put_rises, by_number}
-use Rattle.ci_store.proofs.Records.{is, put_stands, same_number, finds_number, numbered}
+use Rattle.ci_store.proofs.Records.{is, put_stands, same_number, finds_number, numbered, above, finds_beyond}
 use Rattle.sqlite.specs.Collation.TheVariants.{Binary}
 use Rattle.sqlite_schema.specs.Rules.{equal}
 use Rattle.sqlite.proofs.Callers.{IsPlain}
 use Rattle.ci_tables.proofs.Selects.{MeansSelect}
-use Rattle.ci_store.specs.Calls.{ShowsRecords, listed}
+use Rattle.ci_store.specs.Calls.{ShowsRecords, listed, FindsNumber}
 use Rattle.ci_machine.specs.Step.{pipeline_at}
-use Rattle.ci_store.proofs.Shows.{columns_of, names_of, shows_passing, found_one}
+use Rattle.ci_store.proofs.Shows.{columns_of, names_of, shows_passing, found_one, found_none}
 use Rattle.std.specs.List.{list_any}
 use Rattle.sqlite_value.specs.Keys.{plain, joined}
 use Rattle.sqlite_schema.specs.declared.schema.Keys.TheVariants.{Enforced}
@@ -130,3 +132,19 @@ pipeline_found g old new k at id found h =
     (shows_passing pipeline_row 3 pipeline refl SELECT_PIPELINE.now (is 0 0 ∷ []) (number id ∷ []) (λ im. equal Binary (column im 0) (number id) && true) (λ r. refl) (λ x. x.id == id) (λ x. finds_number x.id id) k k.state.pipelines refl h.rows
     (λ r. refl) means_select (state g old) (state g new) at.now h.shown)
     found h.read
+
+means_select_above : MeansSelect the_schema pipeline SELECT_PIPELINES_ABOVE.now (above 0 0 ∷ []) (columns_of pipeline) [] (names_of pipeline)
+unfolding understood everything
+means_select_above = record { is = refl; unlisted = refl; plain = (refl, refl) }
+
+pub plain_select_above : IsPlain (understood the_schema SELECT_PIPELINES_ABOVE.now)
+plain_select_above = means_select_above.plain
+
+pub pipeline_named : {S : Type 0} (g : Ghosts S) (old new : Held S) (k : Kept) → IsAt g k old → (id : ℕ) (found : Option Pipeline) → FindsNumber (λ row x. row ≡ pipeline_row x) g SELECT_PIPELINE.now SELECT_PIPELINES_ABOVE.now id old new found → found ≡ pipeline_at k.state id
+pipeline_named g old new k at id found (inl h) = pipeline_found g old new k at id found h
+pipeline_named g old new k at id found (inr h) =
+    h.0
+    ∙ sym (found_none (λ (x : Pipeline). x.id) LAST_INTEGER id h.1 (λ row x. row ≡ pipeline_row x) pipeline_row k.state.pipelines h.2.rows
+    (shows_passing pipeline_row 3 pipeline refl SELECT_PIPELINES_ABOVE.now (above 0 0 ∷ []) (number LAST_INTEGER ∷ []) (λ im. compares Gt (column im 0) (number LAST_INTEGER) && true) (λ r. refl) (λ x. nat_lt LAST_INTEGER x.id) (λ x. finds_beyond LAST_INTEGER x.id) k k.state.pipelines refl h.2.rows
+    (λ r. refl) means_select_above (state g old) (state g new) at.now h.2.shown)
+    h.2.read)

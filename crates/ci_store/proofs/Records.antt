@@ -104,6 +104,10 @@ finds_beyond other n = and_true _ ∙ compares_above n other
 pub finds_text : (a b : List ℕ) → (equal Binary (Text a) (Text b) && true) ≡ bytes_eq a b
 finds_text a b = and_true _ ∙ equal_text a b ∙ is_eq-slice_cmp a b
 
+-- an owner's number and a name are each the same
+pub finds_named : (m n : ℕ) (a b : List ℕ) → (equal Binary (number m) (number n) && (equal Binary (Text a) (Text b) && true)) ≡ ((m == n) && bytes_eq a b)
+finds_named m n a b = λ i. (equal_int m n ∙ is_number m n) i && finds_text a b i
+
 -- the two parts of a key are compared in turn
 pub both_equal : (a b : Ordering) → (is_eq a && (is_eq b && true)) ≡ is_eq (ordering_then a b)
 both_equal Less b = refl

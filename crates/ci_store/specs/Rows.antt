@@ -5,6 +5,7 @@ use Rattle.sqlite.specs.declared.types.Value.TheVariants.{Int, Text, Blob}
 use Rattle.sqlite.specs.Values.{or_null}
 use Rattle.sqlite.specs.Order.{Row}
 use Rattle.ci_machine.specs.declared.records.Project.{Project}
+use Rattle.ci_machine.specs.declared.records.Variable.{Variable}
 use Rattle.ci_machine.specs.declared.records.Runner.{Runner}
 use Rattle.ci_machine.specs.declared.records.Pipeline.{Pipeline}
 use Rattle.ci_machine.specs.declared.records.Job.{Job}
@@ -66,6 +67,9 @@ exit_in _ = None
 
 abbrev pub project_row : Project → Row
 project_row p = number p.id ∷ Text p.name ∷ Text p.token ∷ or_null Text p.file ∷ []
+
+abbrev pub variable_row : Variable → Row
+variable_row v = number v.project ∷ Text v.key ∷ Text v.value ∷ []
 
 abbrev pub runner_row : Runner → Row
 runner_row r = number r.id ∷ Text r.name ∷ Text r.token ∷ or_null number r.project ∷ Text (tags_text r.tags) ∷ flag r.untagged ∷ flag r.paused ∷ []

@@ -203,9 +203,21 @@ board =
 abbrev pub board_status : Index
 board_status = record { name = codes "board_status"; tree = 20; table = 19; columns = 2 ∷ 0 ∷ []; order = plain; is_unique = false }
 
+abbrev pub variable : Table
+variable =
+    keyed (codes "variable") 21
+    (column (codes "project") Integer true
+    ∷ column (codes "key") Text true
+    ∷ column (codes "value") Text true
+    ∷ [])
+    (1 ∷ 2 ∷ []) (refers 1 (codes "project") NoAction ∷ [])
+
+abbrev pub variable_index_1 : Index
+variable_index_1 = automatic variable 0 (1 ∷ 2 ∷ []) 22
+
 abbrev pub the_schema : Schema
 the_schema = record {
-  tables = meta ∷ project ∷ runner ∷ pipeline ∷ job ∷ jobvar ∷ attempt ∷ piece ∷ need ∷ board ∷ [];
-  indexes = meta_index_1 ∷ project_index_1 ∷ runner_index_1 ∷ job_pipeline ∷ jobvar_index_1 ∷ attempt_job ∷ attempt_state ∷ piece_index_1 ∷ need_index_1 ∷ need_pred ∷ board_status ∷ [];
+  tables = meta ∷ project ∷ runner ∷ pipeline ∷ job ∷ jobvar ∷ attempt ∷ piece ∷ need ∷ board ∷ variable ∷ [];
+  indexes = meta_index_1 ∷ project_index_1 ∷ runner_index_1 ∷ job_pipeline ∷ jobvar_index_1 ∷ attempt_job ∷ attempt_state ∷ piece_index_1 ∷ need_index_1 ∷ need_pred ∷ board_status ∷ variable_index_1 ∷ [];
   views = [];
 }

@@ -11,7 +11,7 @@ use Rattle.sqlite.specs.Store.{Ghosts}
 use Rattle.sqlite.specs.Held.{Held, state}
 use Rattle.sqlite_trees.specs.Tree.{IsAscending}
 use Rattle.ci_machine.specs.Kept.{Kept, row_cmp}
-use Rattle.ci_machine.specs.State.{project_cmp, runner_cmp, pipeline_cmp, job_cmp, job_variable_cmp, need_cmp, attempt_cmp, piece_cmp}
+use Rattle.ci_machine.specs.State.{project_cmp, variable_cmp, runner_cmp, pipeline_cmp, job_cmp, job_variable_cmp, need_cmp, attempt_cmp, piece_cmp}
 use Rattle.ci_machine.specs.declared.records.Numbers.{Numbers}
 use Rattle.ci_machine.specs.declared.change.Counter.{Counter}
 use Rattle.ci_machine.specs.declared.change.Counter.TheVariants as counter
@@ -20,7 +20,7 @@ use Rattle.serde_json.specs.Read.{read}
 use Rattle.ci_records.specs.JsonText.{tags_data, tags_text, spec_data, spec_text}
 use Rattle.ci_store.specs.Schema as table
 use Rattle.ci_store.specs.Schema.{the_schema}
-use Rattle.ci_store.specs.Rows.{number, project_row, runner_row, pipeline_row, job_row, job_variable_row, need_row, attempt_row, piece_row, board_row}
+use Rattle.ci_store.specs.Rows.{number, project_row, variable_row, runner_row, pipeline_row, job_row, job_variable_row, need_row, attempt_row, piece_row, board_row}
 
 abbrev pub meta_row : List ℕ → ℕ → Row
 meta_row key num = Text key ∷ number num ∷ []
@@ -52,6 +52,7 @@ rows_by_tree k =
     ∷ (table.piece.tree, map piece_row k.state.pieces)
     ∷ (table.need.tree, map need_row k.state.needs)
     ∷ (table.board.tree, map board_row k.board)
+    ∷ (table.variable.tree, map variable_row k.state.variables)
     ∷ []
 
 -- the rows of this tree, and none where it is no table's
@@ -70,6 +71,7 @@ Rises cmp = IsAscending (λ a b. cmp a b ≡ Less)
 -- each list is in the order of its key, which no two records share, and the JSON of each record reads as what it was written of
 pub record IsRegular (k : Kept) : Type 0 where
   pub projects : Rises project_cmp k.state.projects
+  pub variables : Rises variable_cmp k.state.variables
   pub runners : Rises runner_cmp k.state.runners
   pub pipelines : Rises pipeline_cmp k.state.pipelines
   pub jobs : Rises job_cmp k.state.jobs

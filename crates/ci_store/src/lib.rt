@@ -19,6 +19,7 @@ mod runner;
 pub mod store;
 pub mod tables;
 pub mod texts;
+mod variable;
 
 pub use ci_tables::fault;
 pub use sqlite::{Alter, Connection};

@@ -1,6 +1,7 @@
 //! Loads of records, by a query that writes nothing.
 
 ghost use Rattle.std.specs.Prelude.{◌≡◌, ◌≤◌, false, [], ◌∷◌};
+ghost use Rattle.sqlite.specs.declared.types.Value.TheVariants.{Text as Words};
 ghost use Rattle.sqlite.specs.Given.{IsPlain};
 ghost use Rattle.sqlite.specs.Listing.{understood};
 ghost use Rattle.sqlite.specs.Values.{bound};
@@ -13,12 +14,13 @@ ghost use Rattle.ci_store.specs.Schema.{the_schema};
 ghost use Rattle.ci_store.specs.Calls.{Loads, ShowsRecords, FindsNumber, listed};
 ghost use Rattle.ci_store.specs.Rows.{number};
 
-use crate::columns::{counter_key, status_number};
+use crate::columns::{counter_key, status_number, text};
 use crate::probe::probe_intact;
 use crate::read::{Stored, read_all};
 use crate::texts;
 use ci_board::facts::Status;
 use ci_machine::change::Counter;
+use ci_machine::text::Text;
 use ci_tables::fault::StoreFault;
 use ci_tables::read::rows;
 use ci_tables::values::number;
@@ -118,6 +120,22 @@ pub(crate) fn one_named<S: Alter, R: Stored>(
         None => Ok(None),
         Some(_) => Err(StoreFault::Broken),
     }
+}
+
+/// The record that a query by an owner's number and a name shows, if it shows any.
+pub(crate) fn one_of<S: Alter, R: Stored>(
+    conn: &mut Connection<S>,
+    sql: &str,
+    owner: u64,
+    name: &Text,
+) -> Result<Option<R>, StoreFault>
+    requires idle { conn.old.in_transaction ≡ false }
+    requires plain { IsPlain (understood the_schema sql.now) }
+    ensures idle { conn.new.in_transaction ≡ false }
+    ensures loads { Loads S.Store conn.old conn.new result (λ _ found. ShowsRecords R.is_row S.Store sql.now (number owner ∷ Words name.now ∷ []) conn.old conn.new (listed found)) }
+{
+    let owner = number(owner)?;
+    one(conn, sql, &[owner, text(name)])
 }
 
 /// The records that a query shows.

@@ -1,12 +1,12 @@
 //! What each change does to the rows.
 
 ghost use Rattle.std.specs.Prelude.{◌≡◌, [], ◌∷◌, map, IsTrue, OnOk};
+ghost use Rattle.sqlite.specs.declared.types.Value.TheVariants.{Text as Words};
 ghost use Rattle.sqlite.specs.State.{HasCleanDisk, Shown};
 ghost use Rattle.sqlite.specs.Values.{bound};
 ghost use Rattle.sqlite.specs.Held.{state};
 ghost use Rattle.ci_machine.specs.State.{with_record, without_record, with_next, changed};
 ghost use Rattle.ci_tables.specs.Statements.{KeepsInside, CommitsNothing};
-ghost use Rattle.ci_machine.specs.declared.change.Key.TheVariants as key;
 ghost use Rattle.ci_store.specs.Commit.{in_state, MakesInside, RemovesUnreferred};
 ghost use Rattle.ci_store.specs.Rows.{number};
 
@@ -36,6 +36,7 @@ fn put_record<S: Alter>(
 {
     match item {
         Record::Project(project) => project.put(tx, alloc, is_new),
+        Record::Variable(variable) => variable.put(tx, alloc, is_new),
         Record::Runner(runner) => runner.put(tx, alloc, is_new),
         Record::Pipeline(pipeline) => pipeline.put(tx, alloc, is_new),
         Record::Job(job) => job.put(tx, alloc, is_new),
@@ -103,18 +104,21 @@ fn remove_at<S: Alter>(
     remove(tx, referring, delete, &[id])
 }
 
-fn remove_job_variable<S: Alter>(
+/// Removes the row with a key of an owner's number and a name, to which no other refers.
+fn remove_named<S: Alter>(
     tx: &mut Transaction<'_, S>,
-    job: u64,
+    delete: &str,
+    owner: u64,
     name: &Text,
 ) -> Result<(), StoreFault>
     ensures same_reference { tx.new.conn.ghost_name ≡ tx.old.conn.ghost_name }
-    ensures makes { MakesInside S.Store (in_state (without_record (key.JobVariable job name.now))) tx.old.conn.now tx.new.conn.now result }
+    ensures removes { HasCleanDisk (state S.Store tx.new.conn.now) → IsTrue tx.old.conn.now.in_transaction
+        → OnOk result (IsTrue tx.new.conn.now.in_transaction × RemovesUnreferred S.Store [] delete.now (number owner ∷ Words name.now ∷ []) tx.old.conn.now tx.new.conn.now) }
     ensures kept { KeepsInside S.Store tx.old.conn.now tx.new.conn.now }
     ensures survives { CommitsNothing S.Store tx.old.conn.now tx.new.conn.now }
 {
-    let job = number(job)?;
-    remove(tx, &[], texts::DELETE_JOB_VARIABLE, &[job, text(name)])
+    let owner = number(owner)?;
+    remove(tx, &[], delete, &[owner, text(name)])
 }
 
 /// Removes the row with a key of two numbers, to which no other refers.
@@ -143,6 +147,7 @@ fn remove_record<S: Alter>(tx: &mut Transaction<'_, S>, key: &Key) -> Result<(),
 {
     match key {
         Key::Project(id) => remove_at(tx, &[], texts::DELETE_PROJECT, *id),
+        Key::Variable(project, name) => remove_named(tx, texts::DELETE_VARIABLE, *project, name),
         Key::Runner(id) => remove_at(tx, &[], texts::DELETE_RUNNER, *id),
         Key::Pipeline(id) => remove_at(tx, &[texts::SELECT_JOBS_OF], texts::DELETE_PIPELINE, *id),
         Key::Job(id) => remove_at(
@@ -157,7 +162,7 @@ fn remove_record<S: Alter>(tx: &mut Transaction<'_, S>, key: &Key) -> Result<(),
             texts::DELETE_JOB,
             *id,
         ),
-        Key::JobVariable(job, name) => remove_job_variable(tx, *job, name),
+        Key::JobVariable(job, name) => remove_named(tx, texts::DELETE_JOB_VARIABLE, *job, name),
         Key::Need(job, pred) => remove_pair(tx, texts::DELETE_NEED, *job, *pred),
         Key::Attempt(id) => remove_at(tx, &[texts::SELECT_PIECES], texts::DELETE_ATTEMPT, *id),
         Key::Piece(attempt, seq) => remove_pair(tx, texts::DELETE_PIECE, *attempt, *seq),

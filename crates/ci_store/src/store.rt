@@ -3,13 +3,13 @@
 ghost use Rattle.std.specs.Prelude.{◌≡◌};
 ghost use Rattle.ci_machine.specs.Kept.{Kept, written};
 ghost use Rattle.ci_machine.specs.Statuses.{attempts_of, jobs_of};
-ghost use Rattle.ci_machine.specs.Step.{project_at, project_with, runner_with, pipeline_at, job_at, variables_of, attempt_at, live_attempts, pieces_of, next_of};
+ghost use Rattle.ci_machine.specs.Step.{project_at, project_with, project_variables, variable_at, runner_with, pipeline_at, job_at, variables_of, attempt_at, live_attempts, pieces_of, next_of};
 ghost use Rattle.ci_machine.specs.Ranges.{needs_within, attempts_within, rows_within, row_at, pending_after};
 ghost use Rattle.ci_store.specs.Store.{LoadsBy, Ends};
 
 use ci_machine::change::{Counter, Delta};
 use ci_machine::records::{
-    Attempt, BoardRow, Job, JobVariable, Need, Piece, Pipeline, Project, Runner,
+    Attempt, BoardRow, Job, JobVariable, Need, Piece, Pipeline, Project, Runner, Variable,
 };
 use ci_machine::text::Text;
 use ci_tables::fault::StoreFault;
@@ -40,6 +40,14 @@ pub trait Store {
     /// The project with a token.
     fn project_with(&mut self, token: &Text) -> Result<Option<Project>, StoreFault>
         ensures { LoadsBy honest holds leaves self.old self.new result (λ k p. p ≡ project_with k.state token.now) };
+
+    /// The variables of a project that was found, by key: so its number isn't over the greatest integer of SQL.
+    fn variables_of(&mut self, project: u64) -> Result<Vec<Variable>, StoreFault>
+        ensures { LoadsBy honest holds leaves self.old self.new result (λ k vs. vs.items ≡ project_variables k.state project) };
+
+    /// The variable with a key, of a project that was found.
+    fn variable(&mut self, project: u64, key: &Text) -> Result<Option<Variable>, StoreFault>
+        ensures { LoadsBy honest holds leaves self.old self.new result (λ k v. v ≡ variable_at k.state project key.now) };
 
     /// The runner with a token.
     fn runner_with(&mut self, token: &Text) -> Result<Option<Runner>, StoreFault>

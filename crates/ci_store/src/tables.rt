@@ -23,6 +23,7 @@ use ci_board::facts::Status;
 use ci_machine::change::{Counter, Delta};
 use ci_machine::records::{
     Attempt, AttemptState, BoardRow, Job, JobVariable, Need, Piece, Pipeline, Project, Runner,
+    Variable,
 };
 use ci_machine::text::Text;
 use ci_tables::fault::StoreFault;
@@ -304,12 +305,25 @@ impl<S: Alter> Store for Tables<S> {
         load::one(&mut self.conn, texts::SELECT_PROJECT_WITH, &[text(token)])
     }
 
+    fn variables_of(&mut self, project: u64) -> Result<Vec<Variable>, StoreFault> {
+        load::list_of(&mut self.conn, texts::SELECT_VARIABLES, project)
+    }
+
+    fn variable(&mut self, project: u64, key: &Text) -> Result<Option<Variable>, StoreFault> {
+        load::one_of(&mut self.conn, texts::SELECT_VARIABLE, project, key)
+    }
+
     fn runner_with(&mut self, token: &Text) -> Result<Option<Runner>, StoreFault> {
         load::one(&mut self.conn, texts::SELECT_RUNNER_WITH, &[text(token)])
     }
 
     fn pipeline(&mut self, id: u64) -> Result<Option<Pipeline>, StoreFault> {
-        load::one_at(&mut self.conn, texts::SELECT_PIPELINE, id)
+        load::one_named(
+            &mut self.conn,
+            texts::SELECT_PIPELINE,
+            texts::SELECT_PIPELINES_ABOVE,
+            id,
+        )
     }
 
     fn job(&mut self, id: u64) -> Result<Option<Job>, StoreFault> {

@@ -1,6 +1,6 @@
 //! The texts of all statements. A connection keeps the plans of 64 texts; those behind the schema are fewer.
 
-pub const SCHEMA: [&str; 15] = [
+pub const SCHEMA: [&str; 16] = [
     "CREATE TABLE meta (key TEXT NOT NULL PRIMARY KEY, num INTEGER NOT NULL) STRICT",
     "CREATE TABLE project (id INTEGER PRIMARY KEY, name TEXT NOT NULL, token TEXT NOT NULL UNIQUE, file TEXT) STRICT",
     "CREATE TABLE runner (id INTEGER PRIMARY KEY, name TEXT NOT NULL, token TEXT NOT NULL UNIQUE, project INTEGER REFERENCES project (id), tags TEXT NOT NULL, untagged INTEGER NOT NULL, paused INTEGER NOT NULL) STRICT",
@@ -16,6 +16,7 @@ pub const SCHEMA: [&str; 15] = [
     "CREATE INDEX need_pred ON need (pred)",
     "CREATE TABLE board (job INTEGER PRIMARY KEY REFERENCES job (id) ON DELETE CASCADE, status INTEGER NOT NULL, open INTEGER NOT NULL, failed INTEGER NOT NULL, barred INTEGER NOT NULL) STRICT",
     "CREATE INDEX board_status ON board (status, job)",
+    "CREATE TABLE variable (project INTEGER NOT NULL REFERENCES project (id), key TEXT NOT NULL, value TEXT NOT NULL, PRIMARY KEY (project, key)) STRICT",
 ];
 
 pub const INSERT_META: &str = "INSERT INTO meta (key, num) VALUES (?1, ?2)";
@@ -38,6 +39,19 @@ pub const SELECT_PROJECTS_ABOVE: &str = "SELECT id, name, token, file FROM proje
 
 pub const SELECT_PROJECT_WITH: &str = "SELECT id, name, token, file FROM project WHERE token = ?1";
 
+pub const INSERT_VARIABLE: &str = "INSERT INTO variable (project, key, value) VALUES (?1, ?2, ?3)";
+
+pub const UPDATE_VARIABLE: &str =
+    "UPDATE variable SET project = ?1, key = ?2, value = ?3 WHERE project = ?1 AND key = ?2";
+
+pub const DELETE_VARIABLE: &str = "DELETE FROM variable WHERE project = ?1 AND key = ?2";
+
+pub const SELECT_VARIABLE: &str =
+    "SELECT project, key, value FROM variable WHERE project = ?1 AND key = ?2";
+
+pub const SELECT_VARIABLES: &str =
+    "SELECT project, key, value FROM variable WHERE project = ?1 ORDER BY key";
+
 pub const INSERT_RUNNER: &str =
     "INSERT INTO runner (id, name, token, project, tags, untagged, paused) VALUES (?1, ?2, ?3, ?4, ?5, ?6, ?7)";
 
@@ -59,6 +73,9 @@ pub const DELETE_PIPELINE: &str = "DELETE FROM pipeline WHERE id = ?1";
 
 pub const SELECT_PIPELINE: &str =
     "SELECT id, project, ref, kind, source, created FROM pipeline WHERE id = ?1";
+
+pub const SELECT_PIPELINES_ABOVE: &str =
+    "SELECT id, project, ref, kind, source, created FROM pipeline WHERE id > ?1";
 
 pub const INSERT_JOB: &str =
     "INSERT INTO job (id, pipeline, pos, name, stage, spec, played, cancelled, aside) VALUES (?1, ?2, ?3, ?4, ?5, ?6, ?7, ?8, ?9)";

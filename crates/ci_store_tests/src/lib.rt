@@ -15,3 +15,5 @@ mod statuses;
 mod tests;
 #[cfg(test)]
 mod traces;
+#[cfg(test)]
+mod variables;

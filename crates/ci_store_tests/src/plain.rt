@@ -4,7 +4,7 @@ use crate::records::{one_of_each, removal, row_of};
 use ci_board::facts::Status;
 use ci_machine::change::{Counter, Delta, Key};
 use ci_machine::records::{
-    Attempt, BoardRow, Job, JobVariable, Need, Piece, Pipeline, Project, Runner,
+    Attempt, BoardRow, Job, JobVariable, Need, Piece, Pipeline, Project, Runner, Variable,
 };
 use ci_machine::text::Text;
 use ci_store::fault::StoreFault;
@@ -73,6 +73,18 @@ pub fn next<S: Alter>(tables: &mut Tables<S>, counter: Counter) -> Loaded<u64> {
 
 pub fn project<S: Alter>(tables: &mut Tables<S>, id: u64) -> Loaded<Option<Project>> {
     tables.project(id)
+}
+
+pub fn variables_of<S: Alter>(tables: &mut Tables<S>, project: u64) -> Loaded<Vec<Variable>> {
+    tables.variables_of(project)
+}
+
+pub fn variable<S: Alter>(
+    tables: &mut Tables<S>,
+    project: u64,
+    key: &Text,
+) -> Loaded<Option<Variable>> {
+    tables.variable(project, key)
 }
 
 pub fn runner_with<S: Alter>(tables: &mut Tables<S>, token: &Text) -> Loaded<Option<Runner>> {

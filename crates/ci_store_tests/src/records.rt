@@ -6,7 +6,7 @@ use ci_machine::change::{Counter, Delta, Key, Record, RowChange};
 use ci_machine::moment::Moment;
 use ci_machine::records::{
     Attempt, AttemptState, BoardRow, Cause, Job, JobOptions, JobVariable, Need, Piece, Pipeline,
-    Project, RefKind, Runner, Source,
+    Project, RefKind, Runner, Source, Variable,
 };
 use ci_machine::text::{Bytes, Text, Texts};
 use ci_values::items::Items;
@@ -36,6 +36,19 @@ pub fn project(alloc: Global, id: u64, name: &str, token: &str) -> Result<Record
         name: text(alloc, name)?,
         token: text(alloc, token)?,
         file: None,
+    }))
+}
+
+pub fn project_variable(
+    alloc: Global,
+    project: u64,
+    key: &str,
+    value: &str,
+) -> Result<Record, Fail> {
+    Ok(Record::Variable(Variable {
+        project,
+        key: text(alloc, key)?,
+        value: text(alloc, value)?,
     }))
 }
 
@@ -176,6 +189,7 @@ fn attempt_with_its_job(alloc: Global, changes: &mut Vec<RowChange>) -> Result<(
 pub fn one_of_each(alloc: Global) -> Result<Delta, Fail> {
     let mut changes = Vec::new(alloc);
     add(&mut changes, project(alloc, 1, "one", "p1"))?;
+    add(&mut changes, project_variable(alloc, 1, "LEVEL", "0"))?;
     add(&mut changes, runner(alloc))?;
     attempt_with_its_job(alloc, &mut changes)?;
     add(&mut changes, variable(alloc, "KEY"))?;

@@ -275,6 +275,10 @@ const TEXTS: &[(&str, &str)] = &[
         "SELECT sql FROM sqlite_schema WHERE name = 'need_pred'",
         "CREATE INDEX need_pred ON need (pred)",
     ),
+    (
+        "SELECT sql FROM sqlite_schema WHERE name = 'variable'",
+        "CREATE TABLE variable (project INTEGER NOT NULL REFERENCES project (id), key TEXT NOT NULL, value TEXT NOT NULL, PRIMARY KEY (project, key)) STRICT",
+    ),
 ];
 
 #[test]

@@ -2,7 +2,7 @@
 
 use crate::plain::{
     Loaded, attempt, attempts_of, filled, is_removed, job, job_variables, jobs_of, let_go, next,
-    pipeline, project, runner_with,
+    pipeline, project, runner_with, variables_of,
 };
 use crate::records::text;
 use ci_graph::part::Part;
@@ -21,6 +21,15 @@ fn has_project<S: Alter>(tables: &mut Tables<S>) -> Loaded<bool> {
     match project(tables, 1)? {
         Some(found) => Ok(found.id == 1 && found.token.as_str() == "p1" && found.file.is_none()),
         None => Ok(false),
+    }
+}
+
+fn has_project_variable<S: Alter>(tables: &mut Tables<S>) -> Loaded<bool> {
+    match variables_of(tables, 1)?.as_slice() {
+        [only] => {
+            Ok(only.project == 1 && only.key.as_str() == "LEVEL" && only.value.as_str() == "0")
+        }
+        _ => Ok(false),
     }
 }
 
@@ -104,6 +113,7 @@ fn each_kind_of_record_is_loaded_back(rt: HostRuntime) -> Result<(), Fail> {
     let alloc = rt.alloc();
     let mut tables = filled(alloc)?;
     assert!(rt; has_project(&mut tables) == Ok(true));
+    assert!(rt; has_project_variable(&mut tables) == Ok(true));
     assert!(rt; has_runner(alloc, &mut tables) == Ok(true));
     assert!(rt; has_pipeline(&mut tables) == Ok(true));
     assert!(rt; has_job(&mut tables) == Ok(true));
@@ -139,4 +149,20 @@ fn a_row_that_others_name_is_not_removed(rt: HostRuntime) -> Result<(), Fail> {
     let removed = remove_each(&rt, alloc, &mut tables);
     let_go(tables);
     removed
+}
+
+/// The first number over the greatest integer of SQL, and the greatest number of all.
+const OVER: [u64; 2] = [9_223_372_036_854_775_808, 18_446_744_073_709_551_615];
+
+#[test]
+fn a_number_over_the_greatest_integer_of_sql_is_no_rows(rt: HostRuntime) -> Result<(), Fail> {
+    let mut tables = filled(rt.alloc())?;
+    for id in OVER {
+        assert!(rt; matches!(project(&mut tables, id), Ok(None)));
+        assert!(rt; matches!(pipeline(&mut tables, id), Ok(None)));
+        assert!(rt; matches!(job(&mut tables, id), Ok(None)));
+        assert!(rt; matches!(attempt(&mut tables, id), Ok(None)));
+    }
+    let_go(tables);
+    Ok(())
 }

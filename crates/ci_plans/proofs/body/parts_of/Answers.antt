@@ -1,5 +1,5 @@
 use Rattle.std.proofs.Common.{arith}
-use Rattle.ci_statuses.proofs.Parts.{part_pushed}
+use Rattle.ci_plans.proofs.Parts.{part_pushed}
 use Rattle.ci_plans.proofs.body.parts_of.Goals as goal
 
 pub loop-job-preserved : goal.loop-job-preserved

@@ -6,6 +6,9 @@ use Rattle.ci_store.proofs.make.put_record.Goals as goal
 pub returns-in-Project-clause-makes : goal.returns-in-Project-clause-makes
 returns-in-Project-clause-makes g c clean inside = by_item g.S.Store c.args.tx.now.conn.now c.put.new.tx.conn.now (λ r. in_state (with_record r)) c.in-Project.is c.put.result (c.put.ensures.makes clean inside)
 
+pub returns-in-Variable-clause-makes : goal.returns-in-Variable-clause-makes
+returns-in-Variable-clause-makes g c clean inside = by_item g.S.Store c.args.tx.now.conn.now c.put-in-Variable.new.tx.conn.now (λ r. in_state (with_record r)) c.in-Variable.is c.put-in-Variable.result (c.put-in-Variable.ensures.makes clean inside)
+
 pub returns-in-Runner-clause-makes : goal.returns-in-Runner-clause-makes
 returns-in-Runner-clause-makes g c clean inside = by_item g.S.Store c.args.tx.now.conn.now c.put-in-Runner.new.tx.conn.now (λ r. in_state (with_record r)) c.in-Runner.is c.put-in-Runner.result (c.put-in-Runner.ensures.makes clean inside)
 

@@ -1,22 +1,24 @@
 use Rattle.std.proofs.Common.{[], ◌∷◌, refl}
 use Rattle.ci_store.proofs.Removals.{queries, removed_by}
 use Rattle.ci_store.proofs.Projects.{project_removed}
+use Rattle.ci_store.proofs.Variables.{variable_removed}
 use Rattle.ci_store.proofs.Runners.{runner_removed}
 use Rattle.ci_store.proofs.Pipelines.{pipeline_removed}
 use Rattle.ci_store.proofs.Jobs.{job_removed, refers_to_pipeline}
-use Rattle.ci_store.proofs.JobVariables.{refers_to_job as variables_refer}
+use Rattle.ci_store.proofs.JobVariables.{job_variable_removed, refers_to_job as variables_refer}
 use Rattle.ci_store.proofs.Attempts.{attempt_removed, refers_to_job as attempts_refer}
 use Rattle.ci_store.proofs.Pieces.{piece_removed, refers_to_attempt}
 use Rattle.ci_store.proofs.Needs.{need_removed, needs_refer, needed_refer}
 use Rattle.ci_store.proofs.Board.{rows_refer}
-use Rattle.ci_store.specs.Commit.{in_state}
-use Rattle.ci_store.proofs.Applied.{by_item}
-use Rattle.ci_machine.specs.State.{without_record}
 use Rattle.ci_store.proofs.make.remove_record.Goals as goal
 
 pub returns-in-Project-clause-makes : goal.returns-in-Project-clause-makes
 returns-in-Project-clause-makes g c clean inside =
     removed_by g.S.Store c.args.tx.now.conn.now c.remove_at.new.tx.conn.now c.in-Project.is c.remove_at.result [] _ refl (project_removed g.S.Store c.args.tx.now.conn.now c.remove_at.new.tx.conn.now _) (c.remove_at.ensures.removes clean inside)
+
+pub returns-in-Variable-clause-makes : goal.returns-in-Variable-clause-makes
+returns-in-Variable-clause-makes g c clean inside =
+    removed_by g.S.Store c.args.tx.now.conn.now c.remove_named.new.tx.conn.now c.in-Variable.is c.remove_named.result [] _ refl (variable_removed g.S.Store c.args.tx.now.conn.now c.remove_named.new.tx.conn.now _ _) (c.remove_named.ensures.removes clean inside)
 
 pub returns-in-Runner-clause-makes : goal.returns-in-Runner-clause-makes
 returns-in-Runner-clause-makes g c clean inside =
@@ -31,7 +33,8 @@ returns-in-Job-clause-makes g c clean inside =
     removed_by g.S.Store c.args.tx.now.conn.now c.remove_at-in-Job.new.tx.conn.now c.in-Job.is c.remove_at-in-Job.result (queries (variables_refer ∷ attempts_refer ∷ needs_refer ∷ needed_refer ∷ rows_refer ∷ [])) _ refl (job_removed g.S.Store c.args.tx.now.conn.now c.remove_at-in-Job.new.tx.conn.now _) (c.remove_at-in-Job.ensures.removes clean inside)
 
 pub returns-in-JobVariable-clause-makes : goal.returns-in-JobVariable-clause-makes
-returns-in-JobVariable-clause-makes g c clean inside = by_item g.S.Store c.args.tx.now.conn.now c.remove_job_variable.new.tx.conn.now (λ key. in_state (without_record key)) c.in-JobVariable.is c.remove_job_variable.result (c.remove_job_variable.ensures.makes clean inside)
+returns-in-JobVariable-clause-makes g c clean inside =
+    removed_by g.S.Store c.args.tx.now.conn.now c.remove_named-in-JobVariable.new.tx.conn.now c.in-JobVariable.is c.remove_named-in-JobVariable.result [] _ refl (job_variable_removed g.S.Store c.args.tx.now.conn.now c.remove_named-in-JobVariable.new.tx.conn.now _ _) (c.remove_named-in-JobVariable.ensures.removes clean inside)
 
 pub returns-in-Attempt-clause-makes : goal.returns-in-Attempt-clause-makes
 returns-in-Attempt-clause-makes g c clean inside =
