@@ -86,18 +86,8 @@ fn is_refused(
 }
 
 /// The same of a pipeline in the project of the number.
-fn enters(
-    alloc: Global,
-    server: &mut InMemory,
-    project: u64,
-    code: Code,
-) -> Result<bool, Fail> {
-    let answer = tell(
-        alloc,
-        server,
-        1000,
-        Act::EnterPipeline(project, &["build"]),
-    )?;
+fn enters(alloc: Global, server: &mut InMemory, project: u64, code: Code) -> Result<bool, Fail> {
+    let answer = tell(alloc, server, 1000, Act::EnterPipeline(project, &["build"]))?;
     Ok(is(&answer, Want::Refused(code, None)) && !is_closed(server))
 }
 
@@ -105,7 +95,10 @@ fn enters(
 fn refuse_all(rt: &impl Abort, alloc: Global, server: &mut InMemory) -> Result<(), Fail> {
     for number in NUMBERS {
         for (naming, code) in NAMINGS {
-            assert!(rt; is_refused(alloc, server, number, *naming, *code)?, "{number}");
+            assert!(rt;
+                is_refused(alloc, server, number, *naming, *code)?,
+                "{number}"
+            );
         }
     }
     let answer = tell(alloc, server, 1000, Act::Show)?;

@@ -309,7 +309,11 @@ const AFTER_LIFE: &[Row] = &[
 
 /// The server of the witness, if it comes.
 fn lived(alloc: Global) -> Result<InMemory, Fail> {
-    Ok(granted_and_reopened(alloc).ok().ok_or("it came to no grant")?)
+    Ok(
+        granted_and_reopened(alloc)
+            .ok()
+            .ok_or("it came to no grant")?,
+    )
 }
 
 #[test]

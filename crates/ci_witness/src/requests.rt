@@ -48,8 +48,5 @@ fn build(alloc: Global) -> Result<NewJob, AllocError>
 pub(crate) fn job_request(alloc: Global) -> Result<Request, AllocError>
     ensures { IfOk result (λ request. request ≡ AskJob token) }
 {
-    Ok(Request::AskJob(Text::copy_of(
-        alloc,
-        "r1-abababababababababababababababab",
-    )?))
+    Ok(Request::AskJob(Text::copy_of(alloc, "r1-abababababababababababababababab")?))
 }
