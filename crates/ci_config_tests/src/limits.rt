@@ -219,8 +219,16 @@ fn bytes_of_all_patterns(rt: HostRuntime) -> Result<(), AllocError> {
         (1610, "$A =~ /[aaaaaaaaaaaaaacc]/", "jobs: 26"),
         (1610, "$A =~ /[aaaaaaaaaaaaaaccc]/", "K13 X8"),
         // 1,607 * 61 + 80 + 126 + 71 = 98,304, each with 48: 4 + 28, 6 + 72, and 11 + 12
-        (1607, "$A =~ /[ac]/ || $A =~ /^main$/ || $A =~ /[aaaaaaaaa]/", "jobs: 26"),
-        (1607, "$A =~ /[ac]/ || $A =~ /^main$/ || $A =~ /[aaaaaaaaaa]/", "K13 X8"),
+        (
+            1607,
+            "$A =~ /[ac]/ || $A =~ /^main$/ || $A =~ /[aaaaaaaaa]/",
+            "jobs: 26",
+        ),
+        (
+            1607,
+            "$A =~ /[ac]/ || $A =~ /^main$/ || $A =~ /[aaaaaaaaaa]/",
+            "K13 X8",
+        ),
         // 1,611 * 61 = 98,271
         (1611, "$A", "jobs: 26"),
         (1611, "$A =~ /x/", "K13 X8"),

@@ -1,6 +1,6 @@
 //! Attempts with the time limits of their jobs, from what the store holds.
 
-ghost use Rattle.std.specs.Prelude.{◌≡◌, option_map};
+ghost use Rattle.std.specs.Prelude.{◌≡◌, Some, option_map};
 ghost use Rattle.ci_machine.specs.Step as step;
 ghost use Rattle.ci_store.specs.Store.{LoadsBy};
 
@@ -51,7 +51,8 @@ pub(crate) fn leased_at<T: Store>(store: &mut T, attempt: u64) -> Result<Option<
 
 /// The attempt with the time limit and the pipeline of its job.
 fn with_pipeline<T: Store>(store: &mut T, attempt: Attempt) -> Result<Leased, StoreFault>
-    ensures { LoadsBy T.honest T.holds T.leaves store.old store.new result (λ k l. l.lease ≡ step.lease_of k.state attempt) }
+    ensures lease { LoadsBy T.honest T.holds T.leaves store.old store.new result (λ k l. l.lease ≡ step.lease_of k.state attempt) }
+    ensures pipeline { LoadsBy T.honest T.holds T.leaves store.old store.new result (λ k l. option_map (λ j. j.pipeline) (step.job_at k.state attempt.job) ≡ Some l.pipeline) }
 {
     match store.job(attempt.job)? {
         Some(job) => Ok(Leased {
