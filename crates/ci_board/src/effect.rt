@@ -9,26 +9,11 @@ use ci_graph::part::Part;
 use ci_values::attempts::AttemptState;
 use ci_values::when::AllowFailure;
 
-fn status_number(status: Status) -> u8
-    ensures { result ≡ spec.status_number status }
-{
-    match status {
-        Status::Created => 0,
-        Status::Pending => 1,
-        Status::Running => 2,
-        Status::Success => 3,
-        Status::Failed => 4,
-        Status::Canceled => 5,
-        Status::Skipped => 6,
-        Status::Manual => 7,
-    }
-}
-
 /// Are both the same?
 pub fn is_status(a: Status, b: Status) -> bool
     ensures { result ≡ spec.is_status a b }
 {
-    status_number(a) == status_number(b)
+    a.as_number() == b.as_number()
 }
 
 fn contains(codes: &[u32], code: u32) -> bool

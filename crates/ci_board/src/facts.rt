@@ -1,6 +1,7 @@
 //! What a job's status is made of: its facts, its row, and what it means to others.
 
 ghost use Rattle.std.specs.Prelude.{◌≡◌};
+ghost use Rattle.ci_board.specs.Effects.{status_number};
 ghost use Rattle.ci_board.specs.Texts.{status_text};
 
 use ci_values::attempts::AttemptState;
@@ -32,6 +33,22 @@ impl Status {
             Status::Canceled => "canceled",
             Status::Skipped => "skipped",
             Status::Manual => "manual",
+        }
+    }
+
+    /// The number that stands for the status in a stored row.
+    pub fn as_number(self) -> u32
+        ensures { result ≡ status_number self }
+    {
+        match self {
+            Status::Created => 0,
+            Status::Pending => 1,
+            Status::Running => 2,
+            Status::Success => 3,
+            Status::Failed => 4,
+            Status::Canceled => 5,
+            Status::Skipped => 6,
+            Status::Manual => 7,
         }
     }
 }

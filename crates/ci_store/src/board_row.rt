@@ -3,7 +3,6 @@
 ghost use Rattle.std.specs.Prelude.{◌≡◌, IfSome};
 ghost use Rattle.ci_board.specs.Effects.{status_number};
 
-use crate::columns::status_number;
 use crate::read::{Stored, count_at, has_columns};
 use crate::texts;
 use ci_board::facts::{Row as StatusRow, Status};
@@ -72,7 +71,7 @@ impl Stored for BoardRow {
             texts::INSERT_ROW,
             &[
                 job,
-                status_number(self.row.status).to_sql(),
+                self.row.status.as_number().to_sql(),
                 opens,
                 failed,
                 barred,

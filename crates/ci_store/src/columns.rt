@@ -4,11 +4,9 @@ ghost use Rattle.std.specs.Prelude.{◌≡◌};
 ghost use Rattle.sqlite.specs.Value.{owned};
 ghost use Rattle.sqlite.specs.Values.{or_null};
 ghost use Rattle.sqlite.specs.declared.types.Value.TheVariants.{Text as Words, Blob};
-ghost use Rattle.ci_board.specs.Effects.{status_number};
 ghost use Rattle.ci_store.specs.Stands.{counter_key};
 ghost use Rattle.ci_store.specs.Rows.{kind_number, source_number, cause_number, state_number, cause_in, exit_in};
 
-use ci_board::facts::Status;
 use ci_machine::change::Counter;
 use ci_machine::records::{AttemptState, Cause, RefKind, Source};
 use ci_machine::text::{Bytes, Text};
@@ -73,22 +71,6 @@ pub fn state_numbers(state: AttemptState) -> (u32, Option<u32>, Option<u32>)
         AttemptState::Succeeded(exit) => (1, None, exit),
         AttemptState::Failed(cause, exit) => (2, Some(cause_number(cause)), exit),
         AttemptState::Cancelled => (3, None, None),
-    }
-}
-
-/// The column `status` of a job's row.
-pub fn status_number(status: Status) -> u32
-    ensures { result ≡ status_number status }
-{
-    match status {
-        Status::Created => 0,
-        Status::Pending => 1,
-        Status::Running => 2,
-        Status::Success => 3,
-        Status::Failed => 4,
-        Status::Canceled => 5,
-        Status::Skipped => 6,
-        Status::Manual => 7,
     }
 }
 

@@ -14,7 +14,7 @@ ghost use Rattle.ci_store.specs.Schema.{the_schema};
 ghost use Rattle.ci_store.specs.Calls.{Loads, ShowsRecords, FindsNumber, listed};
 ghost use Rattle.ci_store.specs.Rows.{number};
 
-use crate::columns::{counter_key, status_number, text};
+use crate::columns::{counter_key, text};
 use crate::probe::probe_intact;
 use crate::read::{Stored, read_all};
 use crate::texts;
@@ -200,5 +200,5 @@ pub(crate) fn list_after<S: Alter, R: Stored>(
 {
     let job = number(job)?;
     let count = number(count as u64)?;
-    list(conn, sql, &[status_number(status).to_sql(), job, count])
+    list(conn, sql, &[status.as_number().to_sql(), job, count])
 }

@@ -8,4 +8,4 @@ use Rattle.ci_store.proofs.load.list_after.Goals as goal
 pub returns-clause-loads : goal.returns-clause-loads
 returns-clause-loads g c =
     answered_so c.list.ensures.loads
-    (λ k at found. by_params ((λ i. bound_value (c.to_sql.ensures i) ∷ bound_value (c.in_ok-job.ensures i) ∷ bound_value (c.in_ok-count.ensures i) ∷ []) ∙ (λ i. number (c.status_number.ensures i) ∷ number c.args.job ∷ number c.args.count ∷ [])))
+    (λ k at found. by_params ((λ i. bound_value (c.to_sql.ensures i) ∷ bound_value (c.in_ok-job.ensures i) ∷ bound_value (c.in_ok-count.ensures i) ∷ []) ∙ (λ i. number (c.as_number.ensures i) ∷ number c.args.job ∷ number c.args.count ∷ [])))
