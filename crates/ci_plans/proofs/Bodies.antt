@@ -1,6 +1,6 @@
 -- Jobs that are shown, one after the other.
 use Rattle.std.specs.Prelude.{◌≡◌, ℕ, ◌+◌, ◌<◌, ◌≤◌, List, [], ◌∷◌, ◌++◌, length, map, drop, slice_index_or}
-use Rattle.std.proofs.Common.{sym, ap, ◌∙◌, arith}
+use Rattle.std.proofs.Common.{sym, ap, ◌∙◌}
 use Rattle.std.proofs.lemmas.List.{append-nil, append_assoc, at_drop_more, drop_all, map_push}
 use Rattle.serde_json.specs.Data.{Data}
 use Rattle.ci_board.specs.declared.facts.Row.{Row}

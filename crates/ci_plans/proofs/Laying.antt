@@ -1,5 +1,5 @@
 -- What is answered where a pipeline is to be made of a text fits it.
-use Rattle.std.specs.Prelude.{◌≡◌, ⊤, ℕ, ◌+◌, ◌-◌, ◌≤◌, Bool, true, false, ◌||◌, nat_lt, List, length, map, Option, Some, None, Result, Ok, Err, IfOk, IfSome}
+use Rattle.std.specs.Prelude.{◌≡◌, ℕ, ◌+◌, ◌-◌, ◌≤◌, Bool, true, false, ◌||◌, nat_lt, List, length, map, Option, Some, None, Result, Ok, Err, IfOk, IfSome}
 use Rattle.std.specs.Ordering.{nat_cmp}
 use Rattle.std.specs.List.Sorted.{IsStrictlySortedBy}
 use Rattle.std.proofs.Common.{refl, sym, ap, subst, ◌∙◌, arith}
@@ -103,7 +103,7 @@ module _ (text : List ℕ) (o : Origin) where
         Ok laid,
         lays,
         subst (λ (b : Bool). MakesUnless b o.first_job (creation_of o laid) p) (sym made.1)
-        (subst (λ (m : pipelines.Creation). MakesUnless false o.first_job m p) made.0 (rows, first, is)),
+            (subst (λ (m : pipelines.Creation). MakesUnless false o.first_job m p) made.0 (rows, first, is)),
       )
 
   pub creates_none : (p : Plan) → LaysOut text o (Ok None) → p ≡ refused M15 → Creates o.id o.first_job o.asked o.given o.moment (Ok text) p

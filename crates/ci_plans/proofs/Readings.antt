@@ -1,5 +1,5 @@
 -- What is answered of a text fits it.
-use Rattle.std.proofs.Common.{◌≡◌, ℕ, List, Result, Ok, Err, sym, subst, refl}
+use Rattle.std.proofs.Common.{◌≡◌, ℕ, List, Result, Ok, Err, sym, subst}
 use Rattle.ci_yaml_lines.specs.Tree.{Value}
 use Rattle.ci_yaml.specs.Document.{HasTree}
 use Rattle.ci_yaml.specs.Stops.{RefusedBy}
@@ -9,7 +9,6 @@ use Rattle.ci_config.specs.Answer.{Answers}
 use Rattle.ci_config.specs.FaultView.{code_view}
 use Rattle.ci_config.specs.declared.fault.ConfigFault.{ConfigFault}
 use Rattle.ci_config.specs.declared.fault.ConfigFault.TheVariants as config
-use Rattle.ci_machine.specs.declared.reply.Detail.{Detail}
 use Rattle.ci_machine.specs.Files.{IsRead, configures, misconfigures, lacks_tree}
 use Rattle.ci_plans.specs.declared.files.FileFault.{FileFault}
 use Rattle.ci_plans.specs.declared.files.FileFault.TheVariants.{Memory, Fault}

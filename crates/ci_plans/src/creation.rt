@@ -24,9 +24,7 @@ use ci_graph::part::Part;
 use ci_layout::{Given, IncludedJob, PipelinePlan};
 use ci_machine::change::{Counter, Delta, Record, RowChange};
 use ci_machine::limits::DEFAULT_TIMEOUT_SECONDS;
-use ci_machine::records::{
-    BoardRow, Job, JobOptions, JobVariable, MAX_NUMBER, Need, Pipeline,
-};
+use ci_machine::records::{BoardRow, Job, JobOptions, JobVariable, MAX_NUMBER, Need, Pipeline};
 use ci_machine::reply::Reply;
 use ci_machine::text::{Text, Texts};
 use std::alloc::{AllocError, Global};
@@ -319,7 +317,13 @@ impl Creation {
         let facts = first_facts(alloc, self.jobs.len())?;
         let rows = bare_rows(alloc, rows)?;
         let jobs = self.jobs.as_slice();
-        body::pipeline(alloc, &self.pipeline, jobs, facts.as_slice(), rows.as_slice())
+        body::pipeline(
+            alloc,
+            &self.pipeline,
+            jobs,
+            facts.as_slice(),
+            rows.as_slice(),
+        )
     }
 
     /// The records are added; and the numbers that come next, where the first job has this number.

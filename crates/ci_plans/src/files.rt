@@ -29,6 +29,7 @@ pub enum FileFault {
 
 impl From<AllocError> for FileFault {
     ghost from_gives = { λ _ fault. fault ≡ Memory };
+
     ghost use Rattle.ci_plans.specs.declared.files.FileFault.TheVariants.{Memory};
 
     fn from(_refused: AllocError) -> FileFault {
@@ -135,11 +136,7 @@ fn jobs_of_tree(alloc: Global, tree: &Tree) -> Result<usize, FileFault>
 /// The file of the project that was asked for is to be this text. The reply (200) tells how many of its jobs aren't hidden.
 ///
 /// Refusals: M14 with the first fault of the text, of its lines or its keywords.
-pub fn set_file(
-    alloc: Global,
-    project: &Project,
-    text: Text,
-) -> Result<(Reply, Delta), AllocError>
+pub fn set_file(alloc: Global, project: &Project, text: Text) -> Result<(Reply, Delta), AllocError>
     ensures { IfOk result (λ plan. files.SetsFile (Ok project.now) text plan) }
 {
     match jobs_in(alloc, text.as_str()) {

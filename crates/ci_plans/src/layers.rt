@@ -35,10 +35,7 @@ fn pipeline_pairs<'a>(
 }
 
 /// The pairs of a project's variables.
-fn project_pairs<'a>(
-    alloc: Global,
-    variables: &'a [Variable],
-) -> Result<Variables<'a>, AllocError>
+fn project_pairs<'a>(alloc: Global, variables: &'a [Variable]) -> Result<Variables<'a>, AllocError>
     ensures { IfOk result (λ pairs. layer_view pairs.items ≡ map (λ v. (v.key, v.value)) variables.now) }
 {
     let mut pairs = Vec::new(alloc);

@@ -59,11 +59,7 @@ pub fn set_variable(
     put_variable(alloc, project.id, new)
 }
 
-fn put_variable(
-    alloc: Global,
-    project: u64,
-    new: NewVariable,
-) -> Result<(Reply, Delta), AllocError>
+fn put_variable(alloc: Global, project: u64, new: NewVariable) -> Result<(Reply, Delta), AllocError>
     ensures { (p : Project) → p.id ≡ project → IfOk result (λ plan. plan ≡ settings.variable_set p new) }
 {
     let NewVariable { key, value, .. } = new;

@@ -1,4 +1,4 @@
-use Rattle.std.proofs.Common.{◌≡◌, ℕ, length, map, sym, ap, ◌∙◌, arith}
+use Rattle.std.proofs.Common.{◌≡◌, ℕ, length, sym, ap, ◌∙◌, arith}
 use Rattle.std.proofs.lemmas.List.{length-map}
 use Rattle.ci_layout.specs.View.{included_view}
 use Rattle.ci_machine.specs.Pipelines.{lacks_numbers}
@@ -19,6 +19,7 @@ all_records-requires-clause-numbers c =
 pub returns : goal.returns
 returns c =
     let start = c.args.start.now in
-    let count : length c.args.plan.now.jobs.items ≡ c.len.result = omega arith in
-    (c.in_ok-made.ensures,
-    ap (λ (n : ℕ). lacks_numbers start.id start.first_job n) (length-map c.args.plan.now.jobs.items included_view ∙ count) ∙ (sym c.lacks_numbers.ensures ∙ c.if-lacks_numbers.false))
+    let count : length c.args.plan.now.jobs.items ≡ c.len.result = omega arith in (
+      c.in_ok-made.ensures,
+      ap (λ (n : ℕ). lacks_numbers start.id start.first_job n) (length-map c.args.plan.now.jobs.items included_view ∙ count) ∙ (sym c.lacks_numbers.ensures ∙ c.if-lacks_numbers.false),
+    )

@@ -1,4 +1,4 @@
-use Rattle.std.proofs.Common.{◌≡◌, ◌+◌, ◌∙◌, ap, sym, not}
+use Rattle.std.proofs.Common.{◌+◌, ◌∙◌, ap, sym, not}
 use Rattle.std.specs.Str.{bytes_eq}
 use Rattle.std.proofs.lemmas.List.Sums.{length-filter}
 use Rattle.ci_machine.specs.declared.records.Variable.{Variable}
