@@ -113,8 +113,8 @@ module _ {T : Type 0} (honest : T → Type 0) (holds : T → Kept → Type 0) (l
       mid h k held = subst (λ f. UnlessBroken f (holds b k)) is (load.kept (more.was_honest h) k held)
 
   -- what two clauses say of one load
-  pub both : {A : Type 0} {P Q : Kept → A → Type 0} (a b : T) (r : Result A StoreFault) → LoadsBy honest holds leaves a b r P → LoadsBy honest holds leaves a b r Q → LoadsBy honest holds leaves a b r (λ k y. P k y × Q k y)
-  both {P = P} {Q = Q} a b r load more = record {
+  pub loads_both : {A : Type 0} {P Q : Kept → A → Type 0} (a b : T) (r : Result A StoreFault) → LoadsBy honest holds leaves a b r P → LoadsBy honest holds leaves a b r Q → LoadsBy honest holds leaves a b r (λ k y. P k y × Q k y)
+  loads_both {P = P} {Q = Q} a b r load more = record {
     was_honest = load.was_honest;
     kept = load.kept;
     left = load.left;
