@@ -1,6 +1,6 @@
 -- Loads one after the other.
 use Rattle.std.specs.Prelude.{◌≡◌, Result, Ok, Err, IfOk, IfErr}
-use Rattle.std.proofs.Common.{refl, sym, subst}
+use Rattle.std.proofs.Common.{refl, subst}
 use Rattle.ci_machine.specs.Kept.{Kept}
 use Rattle.ci_tables.specs.declared.fault.StoreFault.{StoreFault}
 use Rattle.ci_tables.specs.declared.fault.StoreFault.TheVariants.{Memory, Broken}

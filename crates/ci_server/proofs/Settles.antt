@@ -1,9 +1,9 @@
 -- Which rows the plans of events leave as they are, and which attempts they end.
-use Rattle.std.specs.Prelude.{◌≡◌, ◌↔◌, if◌then◌else◌, ◌⊎◌, ℕ, ◌+◌, ◌<◌, Bool, true, false, not, nat_lt, max, ◌==◌, List, [], ◌∷◌, ◌++◌, length, map, filter, find, Option, Some, None, Result, Ok, Err, Contains, All, option_map}
+use Rattle.std.specs.Prelude.{◌≡◌, ◌↔◌, if◌then◌else◌, ℕ, Bool, true, false, not, nat_lt, max, ◌==◌, List, [], ◌∷◌, length, map, find, Option, Some, None, Result, Ok, Err, Contains, option_map}
 use Rattle.std.specs.List.{AllByRecursion}
 use Rattle.std.specs.Str.{bytes_eq}
 use Rattle.std.proofs.Common.{refl, sym, ap, subst, ◌∙◌, inl, inr, ⊎_elim, arith}
-use Rattle.std.proofs.lemmas.Bool.{cond_both, both_ways, false≢true}
+use Rattle.std.proofs.lemmas.Bool.{cond_both}
 use Rattle.std.proofs.lemmas.List.Elements.{Contains-append_right, Contains-get_or, All-contains, All-contains_itself, All-filter, filter_passes}
 use Rattle.std.specs.Ordering.{nat_cmp}
 use Rattle.std.specs.List.Sorted.{IsStrictlySortedBy}
@@ -26,7 +26,7 @@ use Rattle.ci_machine.specs.declared.lease.LeaseFault.{LeaseFault}
 use Rattle.ci_machine.specs.declared.lease.PieceFault.{PieceFault}
 use Rattle.ci_machine.specs.declared.change.Record.TheVariants as row
 use Rattle.ci_machine.specs.declared.change.RowChange.{RowChange}
-use Rattle.ci_machine.specs.declared.change.RowChange.TheVariants.{Add, Put}
+use Rattle.ci_machine.specs.declared.change.RowChange.TheVariants.{Put}
 use Rattle.ci_machine.specs.declared.request.Seed.{Seed}
 use Rattle.ci_machine.specs.declared.request.Request.{Request}
 use Rattle.ci_machine.specs.declared.request.Request.TheVariants.{AddProject, AddRunner, SetFile, SetVariable, DeleteVariable, CreatePipeline, ShowPipeline, AskJob, UpdateJob, AppendTrace, ShowJob, ShowTrace}
@@ -44,10 +44,10 @@ use Rattle.ci_machine.specs.declared.reply.Reply.{Reply}
 use Rattle.ci_machine.specs.Plans.{Plan, asked_project, refused, faulted, numbered}
 use Rattle.ci_machine.specs.Projects.{add_project, made_project}
 use Rattle.ci_machine.specs.Runners.{add_runner, made_runner}
-use Rattle.ci_machine.specs.Traces.{append_trace, appended, grown, not_accepted}
-use Rattle.ci_machine.specs.Reports.{update_job, reported, heard, ending}
+use Rattle.ci_machine.specs.Traces.{append_trace, appended, grown}
+use Rattle.ci_machine.specs.Reports.{update_job, reported, heard}
 use Rattle.ci_machine.specs.Reports.{ended}
-use Rattle.ci_machine.specs.Leases.{is_live, is_over, while_leased, renewed, accepted, finished, is_same_end, first_due}
+use Rattle.ci_machine.specs.Leases.{is_live, is_over, while_leased, renewed, accepted, first_due}
 use Rattle.ci_machine.specs.Sweeps.{sweep}
 use Rattle.ci_machine.specs.Leases.{cause_of}
 use Rattle.ci_machine.specs.Files.{SetsFile, set_file}
@@ -69,7 +69,7 @@ use Rattle.ci_machine.specs.Sound.{IsSound}
 use Rattle.ci_machine.specs.State.{State, applied}
 use Rattle.ci_machine.specs.Statuses.{AreBoard}
 use Rattle.ci_machine.specs.Step.{Does, project_with, project_variables, variable_at, attempt_at, lease_at, lease_of, leases, live_attempts, offer, queued, is_pending, pending_jobs}
-use Rattle.ci_statuses.specs.Changes.{HasLike, HasLive, LeavesStatuses, IsMade, started_row}
+use Rattle.ci_statuses.specs.Changes.{HasLive, LeavesStatuses, IsMade, started_row}
 use Rattle.ci_tables.specs.declared.fault.StoreFault.{StoreFault}
 use Rattle.ci_store.specs.Store.{LoadsBy}
 use Rattle.ci_server.specs.declared.search.Offer.{Offer}
