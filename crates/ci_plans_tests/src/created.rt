@@ -9,20 +9,34 @@ const TWO_JOBS: &str =
 
 #[test]
 fn a_pipeline_is_made_of_its_file(rt: HostRuntime) -> Result<(), Fail> {
-    let told = made(&rt, rt.alloc(), TWO_JOBS, (1, 1), [&[], &[]], "CI_PROJECT_ID")?;
+    let told = made(
+        &rt,
+        rt.alloc(),
+        TWO_JOBS,
+        (1, 1),
+        [&[], &[]],
+        "CI_PROJECT_ID",
+    )?;
     assert!(rt;
-        told.as_str() == "{\"id\":1,\"jobs\":[{\"id\":1,\"name\":\"build\",\"stage\":\"build\",\"status\":\"pending\"},{\"id\":2,\"name\":\"unit\",\"stage\":\"test\",\"status\":\"created\"}],\"ref\":\"main\",\"source\":\"api\",\"status\":\"pending\"} pipeline 1 next 2 next 3 job 1/0/3600 job 2/1/300 1=7 2=7 2<1",
+        told.as_str()
+            == "{\"id\":1,\"jobs\":[{\"id\":1,\"name\":\"build\",\"stage\":\"build\",\"status\":\"pending\"},{\"id\":2,\"name\":\"unit\",\"stage\":\"test\",\"status\":\"created\"}],\"ref\":\"main\",\"source\":\"api\",\"status\":\"pending\"} pipeline 1 next 2 next 3 job 1/0/3600 job 2/1/300 1=7 2=7 2<1",
         "{told}"
     );
     Ok(())
 }
 
 /// A job's variables at each layer that a file has.
-const ALL_LAYERS: &str = "variables:\n  CI_JOB_STAGE: '5'\na:\n  script: x\n  variables:\n    CI_JOB_STAGE: '4'\n  rules:\n  - variables:\n      CI_JOB_STAGE: '3'\n";
+const ALL_LAYERS: &str =
+    "variables:\n  CI_JOB_STAGE: '5'\na:\n  script: x\n  variables:\n    CI_JOB_STAGE: '4'\n  rules:\n  - variables:\n      CI_JOB_STAGE: '3'\n";
 
 /// Files, the variables of the pipeline and of its project, and the value that the job has.
 const LAYERS: &[(&str, &[(&str, &str)], &[(&str, &str)], &str)] = &[
-    (ALL_LAYERS, &[("CI_JOB_STAGE", "1")], &[("CI_JOB_STAGE", "2")], " 9=1"),
+    (
+        ALL_LAYERS,
+        &[("CI_JOB_STAGE", "1")],
+        &[("CI_JOB_STAGE", "2")],
+        " 9=1",
+    ),
     (ALL_LAYERS, &[], &[("CI_JOB_STAGE", "2")], " 9=2"),
     (ALL_LAYERS, &[], &[], " 9=3"),
     (
@@ -31,14 +45,26 @@ const LAYERS: &[(&str, &[(&str, &str)], &[(&str, &str)], &str)] = &[
         &[],
         " 9=4",
     ),
-    ("variables:\n  CI_JOB_STAGE: '5'\na:\n  script: x\n", &[], &[], " 9=5"),
+    (
+        "variables:\n  CI_JOB_STAGE: '5'\na:\n  script: x\n",
+        &[],
+        &[],
+        " 9=5",
+    ),
     ("a:\n  script: x\n", &[], &[], " 9=test"),
 ];
 
 #[test]
 fn a_variable_is_of_its_first_layer(rt: HostRuntime) -> Result<(), Fail> {
     for (text, pipeline, project, value) in LAYERS {
-        let told = made(&rt, rt.alloc(), *text, (4, 9), [*pipeline, *project], "CI_JOB_STAGE")?;
+        let told = made(
+            &rt,
+            rt.alloc(),
+            *text,
+            (4, 9),
+            [*pipeline, *project],
+            "CI_JOB_STAGE",
+        )?;
         assert!(rt; told.as_str().ends_with(*value), "{value} {told}");
     }
     Ok(())
@@ -46,7 +72,10 @@ fn a_variable_is_of_its_first_layer(rt: HostRuntime) -> Result<(), Fail> {
 
 /// Files, and why they make no pipeline.
 const FAULTS: &[(&str, &str)] = &[
-    ("a:\n  script: x\n  needs: [b]\nb:\n  script: x\n  needs: [a]\n", "G3"),
+    (
+        "a:\n  script: x\n  needs: [b]\nb:\n  script: x\n  needs: [a]\n",
+        "G3",
+    ),
     (
         "a:\n  script: x\n  rules:\n  - when: never\nb:\n  script: x\n  needs: [a]\n",
         "G1",

@@ -4,4 +4,6 @@
 #[cfg(test)]
 mod created;
 #[cfg(test)]
+mod filed;
+#[cfg(test)]
 mod made;
