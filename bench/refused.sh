@@ -28,15 +28,15 @@ loads="next project project-with runner-with pipeline job job-variables attempt 
   needs-within attempts-within rows-within row pending-after"
 events="add-project add-runner enter-pipeline ask-job ask-job-none ask-job-unknown running success success-stages append show-job
   show-trace sweep sweep-stages sweep-none"
-for call in create open commit $loads serve-ask serve-unknown serve-body; do tried "0 10" "$call" memory; done
-for call in create open; do tried "0 10" "$call" file; done
 for look in rows again; do
-  for call in $events sweep-hundreds sweep-hundreds-none; do tried "0 10" "$call" memory handle "$look"; done
-  for call in $events; do tried "0 10" "$call" file handle "$look"; done
-  for call in ask-job append sweep; do tried "0 10" "$call" memory run "$look"; done
+  for call in $loads commit $events sweep-hundreds sweep-hundreds-none; do tried "0 10" "$call" memory "$look"; done
+  for call in ask-job append sweep; do tried "0 10" "$call" memory "$look" run; done
+  for call in $events; do tried "0 10" "$call" file "$look"; done
 done
-# These ask for no memory at all.
-for request in empty version no-length long path method coded; do tried 0 "serve-$request" memory; done
+for call in create open serve-ask serve-unknown serve-body; do tried "0 10" "$call" memory again; done
+for call in create open; do tried "0 10" "$call" file again; done
+# Its answer needs no memory at all.
+tried 0 serve-path memory again
 export REFUSE=rest
-for call in $events; do tried "0 10 11" "$call" memory handle rows; done
+for call in $loads commit $events; do tried "0 10 11" "$call" memory rows; done
 exit "$ended"
