@@ -1,4 +1,4 @@
-/* Refuses memory, for refused_memory.sh, which has a program load this before the C library.
+/* Refuses memory, for refused.sh, which has a program load this before the C library.
  *
  * The program marks what is tried: it asks for a block of EACH bytes before it, then for one of FROM bytes, and behind it for one of
  * TO bytes. None of these is given. At the first EACH the process forks a child for each number 1, 2, 3, .., one after the other,
