@@ -78,8 +78,8 @@ use Rattle.ci_board.specs.declared.facts.Status.{Status}
 use Rattle.ci_machine.specs.declared.records.Piece.{Piece}
 use Rattle.ci_machine.specs.declared.reply.Code.{Code}
 use Rattle.ci_machine.specs.Shows.{shown, show_pipeline, traced}
-use Rattle.ci_plans.specs.declared.creation.Creation.{Creation}
-use Rattle.ci_plans.specs.Creations.{Origin, origin, creation_view, LaysOut}
+use Rattle.ci_pipelines.specs.declared.creation.Creation.{Creation}
+use Rattle.ci_pipelines.specs.Creations.{Origin, origin, creation_view, LaysOut}
 use Rattle.ci_plans.specs.Refusals.{unmade}
 use Rattle.ci_plans.specs.declared.replies.Refusal.{Refusal}
 use Rattle.ci_plans.specs.declared.replies.Refusal.TheVariants as refusal

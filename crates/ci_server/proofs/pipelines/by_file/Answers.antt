@@ -6,10 +6,10 @@ use Rattle.ci_machine.specs.declared.records.Variable.{Variable}
 use Rattle.ci_machine.specs.declared.request.NewPipeline.{NewPipeline}
 use Rattle.ci_machine.specs.Pipelines.{given_by, AreFirstRows, pipeline_created, Creates}
 use Rattle.ci_machine.specs.Plans.{Plan, faulted}
-use Rattle.ci_plans.specs.declared.creation.Creation.{Creation}
-use Rattle.ci_plans.specs.declared.files.FileFault.{FileFault}
-use Rattle.ci_plans.specs.declared.files.FileFault.TheVariants.{Fault}
-use Rattle.ci_plans.specs.Creations.{origin, creation_view, LaysOut}
+use Rattle.ci_pipelines.specs.declared.creation.Creation.{Creation}
+use Rattle.ci_pipelines.specs.declared.files.FileFault.{FileFault}
+use Rattle.ci_pipelines.specs.declared.files.FileFault.TheVariants.{Fault}
+use Rattle.ci_pipelines.specs.Creations.{origin, creation_view, LaysOut}
 use Rattle.ci_server.specs.Planning.{RowsMade}
 use Rattle.ci_server.proofs.Loading.{on_ok}
 use Rattle.ci_server.proofs.Settles.{creation_planned, nothing_changes}
