@@ -4,5 +4,6 @@
 
 pub mod acts;
 pub mod answers;
+pub mod links;
 pub mod rows;
 pub mod servers;
