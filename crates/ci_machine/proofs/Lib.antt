@@ -7,13 +7,16 @@ pub mod Grants
 pub mod Pending
 pub mod OneJob
 pub mod TwoJobs
+pub mod Computed
 pub mod Traces
 pub mod Ends
 pub mod Variables
 pub mod Layers
 pub mod Details
 pub mod Behind
+pub mod PutAll
 pub mod Created
+pub mod Acts
 pub mod Reached
 pub mod Included
 pub mod Held

@@ -26,3 +26,4 @@ pub mod History
 pub mod Laws
 pub mod Sound
 pub mod Examples
+pub mod ActExamples
