@@ -1,7 +1,9 @@
 pub mod Positions
 pub mod Puts
+pub mod ManyPuts
 pub mod RowPuts
 pub mod Facts
+pub mod ActFacts
 pub mod Tallies
 pub mod Parts
 pub mod Found

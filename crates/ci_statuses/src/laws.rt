@@ -1,6 +1,6 @@
 //! How the rows stay right under the changes of a state.
 
-ghost use Rattle.std.specs.Prelude.{◌≡◌, ◌<◌, ◌++◌, ℕ, true, List, [], ◌∷◌, length, map, Contains, Some, Ok};
+ghost use Rattle.std.specs.Prelude.{◌≡◌, ◌<◌, ◌++◌, ℕ, Bool, true, List, [], ◌∷◌, length, map, filter, Contains, Some, Ok};
 ghost use Rattle.std.specs.List.{AllByRecursion};
 ghost use Rattle.ci_values.specs.declared.attempts.AttemptState.TheVariants.{Live};
 ghost use Rattle.ci_board.specs.declared.facts.Row.{Row};
@@ -15,7 +15,10 @@ ghost use Rattle.ci_machine.specs.declared.change.RowChange.{RowChange};
 ghost use Rattle.ci_machine.specs.declared.request.NewPipeline.{NewPipeline};
 ghost use Rattle.ci_machine.specs.State.{State, applied};
 ghost use Rattle.ci_machine.specs.Kept.{put_rows};
-ghost use Rattle.ci_machine.specs.Statuses.{numbers_of, graph_of, facts_of, rows_of, row_for, AreBoard};
+ghost use Rattle.ci_machine.specs.Statuses.{jobs_of, numbers_of, attempts_of, graph_of, facts_of, rows_of, row_for, AreRowsOf, AreBoard};
+ghost use Rattle.ci_machine.specs.Plays.{play};
+ghost use Rattle.ci_machine.specs.Retries.{retry};
+ghost use Rattle.ci_machine.specs.Cancels.{cancel};
 ghost use Rattle.ci_machine.specs.Sound.{IsSound};
 ghost use Rattle.ci_machine.specs.Step.{is_pending, queue};
 ghost use Rattle.ci_machine.specs.Ranges.{row_at, pending_after};
@@ -24,7 +27,10 @@ ghost use Rattle.ci_layout.specs.Inclusion.{Given};
 ghost use Rattle.ci_machine.specs.Pipelines.{Layout, IsLaidOut, Creation, creation, creation_changes};
 ghost use Rattle.ci_statuses.specs.Boards.{changed_rows};
 ghost use Rattle.ci_statuses.specs.Changes.{IsWithin, HaveSameFacts, LeavesStatuses, IsMade, started_row};
+ghost use Rattle.ci_statuses.specs.Acts.{act_changes, facts_acted};
 ghost use Rattle.ci_statuses.specs.Pages.{queue_behind, end_of_page, queued_at};
+
+use crate::act::Act;
 
 /// Where nothing changes that a status depends on, the rows are right as they are.
 pub fn same_facts_keep_rows()
@@ -48,6 +54,20 @@ pub fn grant_settles()
     ensures { (s : State) (board : List BoardRow) (job : Job) (attempt : Attempt) → IsSound s → AreBoard s board → Contains s.jobs job → is_pending board job ≡ true
         → attempt.id ≡ s.next.attempt → attempt.job ≡ job.id → attempt.state ≡ Live
         → AreBoard (applied (numbered (row.Attempt attempt) counter.Attempt s.next.attempt) s) (put_rows (started_row board job.id ∷ []) board) }
+{}
+
+/// A user acts on jobs of a pipeline, all at once: the rows that differ are put, and all are right again. What the machine does
+/// is such an act, on one job or on all that can be cancelled.
+pub fn acts_settle()
+    ensures settle { (act : Act) (s : State) (board : List BoardRow) (pipeline : ℕ) (test : Job → Bool) (rows : List Row) → IsSound s → AreBoard s board
+        → length rows ≡ length (numbers_of s pipeline) → AreRows (graph_of s pipeline) (facts_acted act s pipeline test) rows
+        → AreBoard (applied (act_changes act s (filter test (jobs_of s pipeline))) s) (put_rows (changed_rows (numbers_of s pipeline) (rows_of s board pipeline) rows) board) }
+    ensures rows { (act : Act) (s : State) (pipeline : ℕ) (test : Job → Bool) (rows : List Row) → IsSound s
+        → length rows ≡ length (numbers_of s pipeline) → AreRows (graph_of s pipeline) (facts_acted act s pipeline test) rows
+        → AreRowsOf (applied (act_changes act s (filter test (jobs_of s pipeline))) s) pipeline rows }
+    ensures play { (s : State) (job : Job) → act_changes Act.Play s (job ∷ []) ≡ play job }
+    ensures retry { (s : State) (job : Job) → act_changes Act.Retry s (job ∷ []) ≡ retry (attempts_of s job.id) job }
+    ensures cancel { (s : State) (jobs : List Job) → act_changes Act.Cancel s jobs ≡ cancel s.attempts jobs }
 {}
 
 /// A pipeline that is created is made: its jobs are new and come behind all others, so do its needs, and none was tried.

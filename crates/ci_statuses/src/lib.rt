@@ -1,6 +1,7 @@
 //! The rows of jobs' statuses under the changes of a state: what is put beside each change so that they stay right.
 #![tactic(auto)]
 
+pub mod act;
 pub mod creation;
 pub mod end;
 pub mod fault;
