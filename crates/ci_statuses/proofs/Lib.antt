@@ -12,6 +12,7 @@ pub mod Joint
 pub mod Loaded
 pub mod Settled
 pub mod Ends
+pub mod ActPlaces
 pub mod Stays
 pub mod Grants
 pub mod Made

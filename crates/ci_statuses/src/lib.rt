@@ -7,6 +7,7 @@ pub mod end;
 pub mod fault;
 pub mod laws;
 pub mod load;
+pub mod outcome;
 pub mod pending;
 mod places;
 pub mod settle;
