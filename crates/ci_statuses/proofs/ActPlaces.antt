@@ -1,7 +1,7 @@
 -- A user acts on jobs of a pipeline: the places of these jobs on its board, and the board after.
 use Rattle.std.specs.Prelude.{◌≡◌, ◌⊎◌, ℕ, zero, suc, ◌+◌, ◌<◌, ◌≤◌, Bool, true, false, cond, ◌&&◌, ◌||◌, ◌==◌, List, [], ◌∷◌, ◌++◌, length, map, filter, All, if◌then◌else◌, Option, Some, None, slice_index_or, slice_set}
 use Rattle.std.specs.List.{range_with_len}
-use Rattle.std.proofs.Common.{refl, sym, ap, subst, ◌∙◌, inl, inr, ⊎_elim, arith, eqb-true, eq-eqb}
+use Rattle.std.proofs.Common.{refl, sym, ap, subst, ◌∙◌, inl, inr, ⊎_elim, arith, eqb-true, eq-eqb, ne_eqb}
 use Rattle.std.proofs.lemmas.Bool.{cond_both, cond-true, cond-false, cases_Bool, both_ways, eqb-false}
 use Rattle.std.proofs.lemmas.List.{append-nil, get_or-map, get_or-set_same, get_or-set_other, length-map, length-set}
 use Rattle.std.proofs.lemmas.List.Elements.{filter-append}
@@ -14,9 +14,9 @@ use Rattle.ci_machine.specs.declared.records.Job.{Job}
 use Rattle.ci_machine.specs.declared.records.BoardRow.{BoardRow}
 use Rattle.ci_machine.specs.State.{State, applied}
 use Rattle.ci_machine.specs.Kept.{put_rows}
-use Rattle.ci_machine.specs.Statuses.{jobs_of, numbers_of, graph_of, facts_in, facts_of, rows_of, row_for, AreRowsOf, AreBoard}
+use Rattle.ci_machine.specs.Statuses.{jobs_of, numbers_of, graph_of, facts_in, facts_of, rows_of, row_for, status_for, AreRowsOf, AreBoard}
 use Rattle.ci_machine.specs.Pipelines.{plain_options}
-use Rattle.ci_machine.proofs.Keyed.{Has, has_filter, filter_has, has_map, map_has, All-from_has}
+use Rattle.ci_machine.proofs.Keyed.{Has, Rising, rising_from, rising_filter, has_filter, filter_has, filter_none, map_has, All-from_has}
 use Rattle.ci_machine.proofs.Pieces.{range_more}
 use Rattle.ci_machine.proofs.Sound.{Sound}
 use Rattle.ci_statuses.specs.declared.act.Act.{Act}
@@ -231,3 +231,28 @@ all_positions act facts m places changes r n e same is =
     let b = in_range 0 n w.0 f.0 in
     let l : w.0 < 0 + n = b.1 in
     subst (λ (d : FactsChange). d.position < m) w.1.1 (omega arith)))
+
+-- ---- one job
+
+-- of a list in the order of its numbers, those of one number
+filter_one : {A : Type 0} (id : A → ℕ) (q : A → Bool) (x : A) (low : ℕ) (xs : List A) → Rising id low xs → Has x xs → filter (λ y. (id y == id x) && q y) xs ≡ cond (q x) (x ∷ []) []
+filter_one id q x low [] r h = absurd h
+filter_one {A} id q x low (z ∷ zs) r h =
+    let one : A → Bool = λ y. (id y == id x) && q y in
+    ⊎_elim
+    (λ e. let none : filter one zs ≡ [] = filter_none one zs (λ y k. ap (λ b. b && q y) (ne_eqb (id y) (id x) (λ f. let m : id z + 1 ≤ id y = rising_from id y (id z + 1) zs r.1 k in let g : id x ≡ id z = ap id e in absurd (omega arith)))) in
+    ap (λ l. cond (one z) (z ∷ l) l) none
+    ∙ (ap (λ b. cond b (z ∷ []) []) (ap (λ b. b && q z) (eq-eqb (id z) (id x) (ap id (sym e))))
+    ∙ ap (λ (w : A). cond (q w) (w ∷ []) []) (sym e)))
+    (λ m. let after : id z + 1 ≤ id x = rising_from id x (id z + 1) zs r.1 m in
+    cond-false (one z) (z ∷ filter one zs) (filter one zs) (ap (λ b. b && q z) (ne_eqb (id z) (id x) (λ f. absurd (omega arith))))
+    ∙ filter_one id q x (id z + 1) zs r.1 m)
+    h
+
+-- where one job is asked for, it is done to this one, or to none
+pub one_acted : (act : Act) (s : State) (board : List BoardRow) (job : Job) → Sound s → Has job s.jobs
+    → acted_jobs act (Some job.id) s board job.pipeline ≡ (if is_permitted act (status_for board job.id) then job ∷ [] else [])
+one_acted act s board job sound has =
+    filter_one (λ (j : Job). j.id) (λ (j : Job). is_permitted act (status_for board j.id)) job 0 (jobs_of s job.pipeline)
+    (rising_filter (λ (j : Job). j.id) (λ (j : Job). j.pipeline == job.pipeline) 0 s.jobs sound.jobs)
+    (filter_has (λ (j : Job). j.pipeline == job.pipeline) job s.jobs has (eq-eqb job.pipeline job.pipeline refl))

@@ -1,6 +1,6 @@
 //! How the rows stay right under the changes of a state.
 
-ghost use Rattle.std.specs.Prelude.{◌≡◌, ◌<◌, ◌++◌, ℕ, Bool, true, List, [], ◌∷◌, length, map, filter, Contains, Some, Ok};
+ghost use Rattle.std.specs.Prelude.{◌≡◌, ◌<◌, ◌++◌, ℕ, Bool, true, List, [], ◌∷◌, length, map, filter, if◌then◌else◌, Contains, Some, None, Ok};
 ghost use Rattle.std.specs.List.{AllByRecursion};
 ghost use Rattle.ci_values.specs.declared.attempts.AttemptState.TheVariants.{Live};
 ghost use Rattle.ci_board.specs.declared.facts.Row.{Row};
@@ -15,10 +15,10 @@ ghost use Rattle.ci_machine.specs.declared.change.RowChange.{RowChange};
 ghost use Rattle.ci_machine.specs.declared.request.NewPipeline.{NewPipeline};
 ghost use Rattle.ci_machine.specs.State.{State, applied};
 ghost use Rattle.ci_machine.specs.Kept.{put_rows};
-ghost use Rattle.ci_machine.specs.Statuses.{jobs_of, numbers_of, attempts_of, graph_of, facts_of, rows_of, row_for, AreRowsOf, AreBoard};
+ghost use Rattle.ci_machine.specs.Statuses.{jobs_of, numbers_of, attempts_of, graph_of, facts_of, rows_of, row_for, status_for, AreRowsOf, AreBoard};
 ghost use Rattle.ci_machine.specs.Plays.{play};
 ghost use Rattle.ci_machine.specs.Retries.{retry};
-ghost use Rattle.ci_machine.specs.Cancels.{cancel};
+ghost use Rattle.ci_machine.specs.Cancels.{cancellable_jobs, cancel};
 ghost use Rattle.ci_machine.specs.Sound.{IsSound};
 ghost use Rattle.ci_machine.specs.Step.{is_pending, queue};
 ghost use Rattle.ci_machine.specs.Ranges.{row_at, pending_after};
@@ -27,7 +27,7 @@ ghost use Rattle.ci_layout.specs.Inclusion.{Given};
 ghost use Rattle.ci_machine.specs.Pipelines.{Layout, IsLaidOut, Creation, creation, creation_changes};
 ghost use Rattle.ci_statuses.specs.Boards.{changed_rows};
 ghost use Rattle.ci_statuses.specs.Changes.{IsWithin, HaveSameFacts, LeavesStatuses, IsMade, started_row};
-ghost use Rattle.ci_statuses.specs.Acts.{act_changes, facts_acted};
+ghost use Rattle.ci_statuses.specs.Acts.{is_permitted, act_changes, facts_acted, acted_jobs};
 ghost use Rattle.ci_statuses.specs.Pages.{queue_behind, end_of_page, queued_at};
 
 use crate::act::Act;
@@ -68,6 +68,13 @@ pub fn acts_settle()
     ensures play { (s : State) (job : Job) → act_changes Act.Play s (job ∷ []) ≡ play job }
     ensures retry { (s : State) (job : Job) → act_changes Act.Retry s (job ∷ []) ≡ retry (attempts_of s job.id) job }
     ensures cancel { (s : State) (jobs : List Job) → act_changes Act.Cancel s jobs ≡ cancel s.attempts jobs }
+{}
+
+/// Where one job is asked for, it is done to this one, or to none if its status doesn't permit it; all jobs of a pipeline that
+/// are cancelled are those that can be.
+pub fn acted_jobs_are_asked()
+    ensures one { (act : Act) (s : State) (board : List BoardRow) (job : Job) → IsSound s → Contains s.jobs job → acted_jobs act (Some job.id) s board job.pipeline ≡ (if is_permitted act (status_for board job.id) then job ∷ [] else []) }
+    ensures all { (s : State) (board : List BoardRow) (pipeline : ℕ) → acted_jobs Act.Cancel None s board pipeline ≡ cancellable_jobs s board pipeline }
 {}
 
 /// A pipeline that is created is made: its jobs are new and come behind all others, so do its needs, and none was tried.
