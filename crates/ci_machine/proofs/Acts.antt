@@ -1,5 +1,5 @@
 -- What a user does to jobs: which records it puts, and which state it leads to.
-use Rattle.std.specs.Prelude.{◌≡◌, ◌⊎◌, Bool, true, false, List, [], ◌∷◌, ◌++◌, length, map, filter}
+use Rattle.std.specs.Prelude.{◌≡◌, ◌⊎◌, true, false, List, [], ◌∷◌, ◌++◌, length, map, filter}
 use Rattle.std.proofs.Common.{refl, sym, ap, ◌∙◌, inl, inr, ⊎_elim}
 use Rattle.std.proofs.lemmas.Bool.{and_parts}
 use Rattle.ci_machine.specs.declared.records.Job.{Job}

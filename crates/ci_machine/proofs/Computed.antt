@@ -1,5 +1,5 @@
 -- Boards that are computed: of a state with one pipeline, whose rows are given.
-use Rattle.std.specs.Prelude.{◌≡◌, ◌⊎◌, ℕ, ◌+◌, ◌<◌, ◌≤◌, ◌==◌, nat_lt, Bool, true, false, List, [], ◌∷◌, length, map, filter}
+use Rattle.std.specs.Prelude.{◌≡◌, ◌⊎◌, ℕ, ◌+◌, ◌<◌, ◌≤◌, ◌==◌, nat_lt, Bool, true, List, [], ◌∷◌, length, map, filter}
 use Rattle.std.specs.List.{AllByRecursion}
 use Rattle.std.proofs.Common.{refl, sym, ap, subst, ◌∙◌, inl, inr, ⊎_elim, arith, ltb-true}
 use Rattle.std.proofs.lemmas.Bool.{cond_both, cases_Bool, ltb-false}
@@ -11,7 +11,7 @@ use Rattle.ci_board.specs.Rows.{AreRows, HasCounts, row_at, facts_at}
 use Rattle.ci_machine.specs.declared.records.Job.{Job}
 use Rattle.ci_machine.specs.declared.records.BoardRow.{BoardRow}
 use Rattle.ci_machine.specs.State.{State}
-use Rattle.ci_machine.specs.Statuses.{jobs_of, graph_by, facts_in, row_for, AreBoard}
+use Rattle.ci_machine.specs.Statuses.{graph_by, facts_in, row_for, AreBoard}
 use Rattle.ci_machine.proofs.Keyed.{Has, filter_none}
 
 -- ---- rows

@@ -28,20 +28,17 @@ use Rattle.ci_machine.specs.State.{State, empty, applied, placed, put, others, v
 use Rattle.ci_machine.specs.Statuses.{attempts_of, AreBoard}
 use Rattle.ci_machine.specs.Leases.{is_live, cause_of, is_over, first_due}
 use Rattle.ci_machine.specs.Plans.{Plan}
-use Rattle.ci_graph.specs.Pairs.{AreWithin}
-use Rattle.ci_layout.specs.Inclusion.{Given, IncludedJob}
-use Rattle.ci_layout.specs.Layout.{lineup, pairs}
-use Rattle.ci_layout.proofs.Within.{pairs_within}
-use Rattle.ci_machine.specs.Pipelines.{Layout, IsLaidOut, new_jobs, creation}
+use Rattle.ci_layout.specs.Inclusion.{Given}
+use Rattle.ci_machine.specs.Pipelines.{Layout, IsLaidOut, creation}
 use Rattle.ci_machine.specs.Sweeps.{sweep}
 use Rattle.ci_machine.specs.Traces.{grown as traces_grown}
 use Rattle.ci_machine.specs.Step.{Happens, lease_of, leases, live_attempts}
 use Rattle.ci_machine.specs.History.{Past, Leads}
 use Rattle.ci_machine.specs.Laws.{grants, WasGranted, IsTraced, EndsStay, Stay, project_for_good, runner_for_good, job_for_good, attempt_for_good, Stays, IsLinked, is_due, SweepsLeast, IsSweptBy, is_grant, GivesInOrder, Laws}
-use Rattle.ci_machine.proofs.Keyed.{Has, Rising, has_put, put_has, same, rising_from, rising_put, has_from_all, rising_filter, filter_has, has_filter, has_find, least_find, find-map, one_at, All-from_has, contains_from_has, has_from_contains, Below, Named, has_map, contains_named}
+use Rattle.ci_machine.proofs.Keyed.{Has, Rising, has_put, put_has, same, rising_put, rising_filter, filter_has, has_filter, has_find, least_find, find-map, one_at, All-from_has, contains_from_has, has_from_contains, Below, Named, has_map, contains_named}
 use Rattle.ci_machine.proofs.Counts.{passing_new, passing_put}
-use Rattle.ci_machine.proofs.Behind.{in_either, has_left, has_right, put_all, all_behind, has_all, rising_ordered, nat_less}
-use Rattle.ci_machine.proofs.Created.{created_state, after_creation, new_rise, new_length, IsNew, new_are, new_numbered, needs_are, pairs_inside, jobs_behind}
+use Rattle.ci_machine.proofs.Behind.{in_either, has_left, has_right, put_all, has_all}
+use Rattle.ci_machine.proofs.Created.{created_state, after_creation, new_length, IsNew, new_are, new_numbered, needs_are, pairs_inside, jobs_behind}
 use Rattle.ci_machine.proofs.Acts.{IsAct, after_act}
 use Rattle.ci_machine.proofs.Included.{was_included}
 use Rattle.ci_machine.proofs.EachPlan.{Each, does, given_in}

@@ -5,8 +5,6 @@ pub mod Counts
 pub mod Pieces
 pub mod Grants
 pub mod Pending
-pub mod OneJob
-pub mod TwoJobs
 pub mod Computed
 pub mod Traces
 pub mod Ends

@@ -45,7 +45,7 @@ use Rattle.ci_machine.specs.declared.reply.Answer.{Answer}
 use Rattle.ci_machine.specs.declared.reply.Answer.TheVariants as answer
 use Rattle.ci_machine.specs.declared.reply.Swept.{Swept}
 use Rattle.ci_values.specs.Names.{is_name}
-use Rattle.ci_machine.specs.State.{State, applied, put, job_cmp, attempt_cmp}
+use Rattle.ci_machine.specs.State.{State, applied, job_cmp, attempt_cmp}
 use Rattle.ci_machine.specs.Statuses.{jobs_of, facts_of, rows_of, status_for, AreBoard}
 use Rattle.ci_machine.specs.Leases.{is_live, renewed, if_leased, size_after, accepted, cause_of, is_over, first_due}
 use Rattle.ci_machine.specs.Eligible.{may_run, chosen}
@@ -67,7 +67,7 @@ use Rattle.ci_machine.specs.Reply.{status_of_state}
 use Rattle.ci_machine.specs.Step.{Does, Happens, project_with, project_variables, variable_at, pipeline_at, runner_with, job_at, attempt_at, pipeline_of, last_attempt, pieces_in, lease_of, leases, live_attempts, is_pending, pending_jobs, queued, queue, offer, offered_variables}
 use Rattle.ci_machine.specs.History.{Past, Leads}
 use Rattle.ci_machine.specs.Laws.{grants, is_grant, accepted_bytes, IsLeastEligible}
-use Rattle.ci_machine.proofs.Keyed.{Has, Rising, has_put, rising_put, rising_filter, has_filter, filter_has, has_find, least_find, find-map, one_at, All-from_has, contains_from_has}
+use Rattle.ci_machine.proofs.Keyed.{Has, Rising, has_put, rising_filter, has_filter, filter_has, has_find, least_find, find-map, one_at, All-from_has, contains_from_has}
 use Rattle.ci_machine.proofs.Grants as leased
 use Rattle.ci_machine.proofs.Grants.{Grants, grants_empty, live_last}
 use Rattle.ci_machine.proofs.Pending.{pending_free}
