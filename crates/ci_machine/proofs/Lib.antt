@@ -20,3 +20,4 @@ pub mod Included
 pub mod Held
 pub mod Sound
 pub mod Numbers
+pub mod Alike

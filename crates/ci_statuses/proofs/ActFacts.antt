@@ -64,7 +64,7 @@ marked_pipeline Play s j = refl
 marked_pipeline Retry s j = refl
 marked_pipeline Cancel s j = refl
 
-marked_part : (act : Act) (s : State) (j : Job) → (marked act s j).options.part ≡ j.options.part
+pub marked_part : (act : Act) (s : State) (j : Job) → (marked act s j).options.part ≡ j.options.part
 marked_part Play s j = refl
 marked_part Retry s j = refl
 marked_part Cancel s j = refl
@@ -183,7 +183,7 @@ module _ (s : State) (act : Act) (p : ℕ) (test : Job → Bool) (sound : Sound 
   abbrev ended : List Attempt
   ended = ended_leases act s.attempts done_to
 
-  abbrev of_job : Job → Job
+  abbrev pub of_job : Job → Job
   of_job = where_in job_id (marked act s) done_to
 
   abbrev new_attempt : Attempt → Attempt
@@ -223,13 +223,13 @@ module _ (s : State) (act : Act) (p : ℕ) (test : Job → Bool) (sound : Sound 
       (λ a h. ap (λ (m : ℕ). m == n) (cond_both (is_among (map attempt_id ended) a.id) (cancelled_attempt a) a (λ (b : Attempt). b.job ≡ a.job) (λ _. refl) (λ _. refl)))
 
   -- what a mark leaves of a job, all jobs keep
-  keeps : {B : Type 0} (g : Job → B) → ((j : Job) → g (marked act s j) ≡ g j) → (j : Job) → g (of_job j) ≡ g j
+  pub keeps : {B : Type 0} (g : Job → B) → ((j : Job) → g (marked act s j) ≡ g j) → (j : Job) → g (of_job j) ≡ g j
   keeps g same j = cond_both (is_among (map job_id done_to) j.id) (marked act s j) j (λ (i : Job). g i ≡ g j) (λ _. same j) (λ _. refl)
 
-  all_keep : {B : Type 0} (g : Job → B) → ((j : Job) → g (marked act s j) ≡ g j) → (l : List Job) → map g (map of_job l) ≡ map g l
+  pub all_keep : {B : Type 0} (g : Job → B) → ((j : Job) → g (marked act s j) ≡ g j) → (l : List Job) → map g (map of_job l) ≡ map g l
   all_keep g same l = map_twice g of_job l ∙ map_same (λ j. g (of_job j)) g l (λ j h. keeps g same j)
 
-  jobs_after : (q : ℕ) → jobs_of t q ≡ map of_job (jobs_of s q)
+  pub jobs_after : (q : ℕ) → jobs_of t q ≡ map of_job (jobs_of s q)
   jobs_after q = filter-map (λ (j : Job). j.pipeline == q) of_job s.jobs (λ j h. ap (λ (m : ℕ). m == q) (keeps (λ (i : Job). i.pipeline) (marked_pipeline act s) j))
 
   -- the facts of a job after it

@@ -13,6 +13,7 @@ pub mod Loaded
 pub mod Settled
 pub mod Ends
 pub mod ActPlaces
+pub mod ActShows
 pub mod Stays
 pub mod Grants
 pub mod Made

@@ -4,7 +4,7 @@ ghost use Rattle.std.specs.Prelude.{◌≡◌, ◌<◌, ◌++◌, ℕ, Bool, tru
 ghost use Rattle.std.specs.List.{AllByRecursion};
 ghost use Rattle.ci_values.specs.declared.attempts.AttemptState.TheVariants.{Live};
 ghost use Rattle.ci_board.specs.declared.facts.Row.{Row};
-ghost use Rattle.ci_board.specs.Rows.{AreRows};
+ghost use Rattle.ci_board.specs.Rows.{AreRows, row_at as row_of};
 ghost use Rattle.ci_machine.specs.declared.records.Job.{Job};
 ghost use Rattle.ci_machine.specs.declared.records.Attempt.{Attempt};
 ghost use Rattle.ci_machine.specs.declared.records.QueuedJob.{QueuedJob};
@@ -16,6 +16,9 @@ ghost use Rattle.ci_machine.specs.declared.request.NewPipeline.{NewPipeline};
 ghost use Rattle.ci_machine.specs.State.{State, applied};
 ghost use Rattle.ci_machine.specs.Kept.{put_rows};
 ghost use Rattle.ci_machine.specs.Statuses.{jobs_of, numbers_of, attempts_of, graph_of, facts_of, rows_of, row_for, status_for, AreRowsOf, AreBoard};
+ghost use Rattle.ci_machine.specs.declared.records.Pipeline.{Pipeline};
+ghost use Rattle.ci_machine.specs.Shows.{job_shown, pipeline_shown};
+ghost use Rattle.ci_machine.specs.Acts.{ShowsJobAfter, ShowsPipelineAfter};
 ghost use Rattle.ci_machine.specs.Plays.{play};
 ghost use Rattle.ci_machine.specs.Retries.{retry};
 ghost use Rattle.ci_machine.specs.Cancels.{cancellable_jobs, cancel};
@@ -27,10 +30,11 @@ ghost use Rattle.ci_layout.specs.Inclusion.{Given};
 ghost use Rattle.ci_machine.specs.Pipelines.{Layout, IsLaidOut, Creation, creation, creation_changes};
 ghost use Rattle.ci_statuses.specs.Boards.{changed_rows};
 ghost use Rattle.ci_statuses.specs.Changes.{IsWithin, HaveSameFacts, LeavesStatuses, IsMade, started_row};
-ghost use Rattle.ci_statuses.specs.Acts.{is_permitted, act_changes, facts_acted, acted_jobs};
+ghost use Rattle.ci_statuses.specs.Acts.{is_permitted, act_changes, facts_acted, acted_jobs, IsOutcome};
 ghost use Rattle.ci_statuses.specs.Pages.{queue_behind, end_of_page, queued_at};
 
 use crate::act::Act;
+use crate::outcome::Outcome;
 
 /// Where nothing changes that a status depends on, the rows are right as they are.
 pub fn same_facts_keep_rows()
@@ -68,6 +72,15 @@ pub fn acts_settle()
     ensures play { (s : State) (job : Job) → act_changes Act.Play s (job ∷ []) ≡ play job }
     ensures retry { (s : State) (job : Job) → act_changes Act.Retry s (job ∷ []) ≡ retry (attempts_of s job.id) job }
     ensures cancel { (s : State) (jobs : List Job) → act_changes Act.Cancel s jobs ≡ cancel s.attempts jobs }
+{}
+
+/// What an outcome says is what the machine shows after it: the job that was asked for, at its one place; and the pipeline with its
+/// jobs.
+pub fn outcomes_are_shown()
+    ensures job { (act : Act) (s : State) (board : List BoardRow) (job : Job) (o : Outcome) → IsSound s → Contains s.jobs job → is_permitted act (status_for board job.id) ≡ true → IsOutcome act (Some job.id) s board job.pipeline o
+        → (i : ℕ) × ((o.places.items ≡ i ∷ []) × ShowsJobAfter s job (act_changes act s (job ∷ [])) ((job_shown job (row_of o.rows.items i).status).0, act_changes act s (job ∷ []))) }
+    ensures pipeline { (act : Act) (s : State) (board : List BoardRow) (p : Pipeline) (o : Outcome) → IsSound s → IsOutcome act None s board p.id o
+        → ShowsPipelineAfter s p (act_changes act s (acted_jobs act None s board p.id)) ((pipeline_shown p (jobs_of s p.id) o.facts.items o.rows.items).0, act_changes act s (acted_jobs act None s board p.id)) }
 {}
 
 /// Where one job is asked for, it is done to this one, or to none if its status doesn't permit it; all jobs of a pipeline that
