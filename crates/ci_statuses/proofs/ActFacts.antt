@@ -1,14 +1,13 @@
 -- A user acts on jobs of a pipeline: the facts of the state after.
-use Rattle.std.specs.Prelude.{◌≡◌, ℕ, ◌+◌, ◌-◌, ◌<◌, ◌≤◌, Bool, true, false, cond, ◌||◌, ◌==◌, List, [], ◌∷◌, ◌++◌, length, map, filter, if◌then◌else◌, Option, Some, None, option_map}
+use Rattle.std.specs.Prelude.{◌≡◌, ℕ, ◌-◌, Bool, true, false, ◌||◌, ◌==◌, List, [], ◌∷◌, length, map, filter, if◌then◌else◌, Option, Some, None, option_map}
 use Rattle.std.specs.List.{last_or, list_any}
-use Rattle.std.proofs.Common.{refl, sym, ap, subst, ◌∙◌, inl, inr, ⊎_elim, arith, eqb-true, eq-eqb}
+use Rattle.std.proofs.Common.{refl, sym, ap, subst, ◌∙◌, inl, inr, ⊎_elim, arith, eqb-true}
 use Rattle.std.proofs.lemmas.Bool.{cond_both, cond-true, cond-false, and_parts, both_ways, cases_Bool}
 use Rattle.std.proofs.lemmas.List.{length-map}
 use Rattle.ci_values.specs.declared.attempts.AttemptState.{AttemptState}
 use Rattle.ci_values.specs.declared.attempts.AttemptState.TheVariants as state
 use Rattle.ci_values.specs.Attempts.{is_live_state}
 use Rattle.ci_graph.specs.Lists.{is_among}
-use Rattle.ci_board.specs.declared.facts.Facts.{Facts}
 use Rattle.ci_machine.specs.declared.records.Attempt.{Attempt}
 use Rattle.ci_machine.specs.declared.records.Job.{Job}
 use Rattle.ci_machine.specs.declared.change.RowChange.TheVariants.{Put}
@@ -17,7 +16,7 @@ use Rattle.ci_machine.specs.State.{State, job_cmp, attempt_cmp, put, applied}
 use Rattle.ci_machine.specs.Statuses.{jobs_of, numbers_of, attempts_of, pairs_among, predecessors_by, graph_of, facts_in, facts_of}
 use Rattle.ci_machine.specs.Leases.{is_live}
 use Rattle.ci_machine.specs.Cancels.{is_lease_on, cancelled_attempt}
-use Rattle.ci_machine.proofs.Keyed.{Has, Rising, rising_filter, has_filter, filter_has, has_map, map_has, one_at}
+use Rattle.ci_machine.proofs.Keyed.{Has, Rising, rising_filter, has_filter, filter_has, has_map, one_at}
 use Rattle.ci_machine.proofs.Behind.{put_all}
 use Rattle.ci_machine.proofs.Created.{applied_append}
 use Rattle.ci_machine.proofs.Sound.{Sound}

@@ -1,10 +1,8 @@
 -- What a user does to jobs: what its outcome shows.
-use Rattle.std.specs.Prelude.{◌≡◌, ℕ, zero, suc, ◌+◌, ◌<◌, ◌≤◌, Bool, true, List, [], ◌∷◌, length, map, filter, cond, All, Some, None, slice_index_or}
-use Rattle.std.proofs.Common.{refl, sym, ap, subst, ◌∙◌, inl, arith}
+use Rattle.std.specs.Prelude.{◌≡◌, ℕ, ◌<◌, Bool, true, List, [], ◌∷◌, length, map, Some, None, slice_index_or}
+use Rattle.std.proofs.Common.{refl, sym, ap, subst, ◌∙◌, inl}
 use Rattle.std.proofs.lemmas.Bool.{cond-true}
 use Rattle.std.proofs.lemmas.List.{get_or-map, length-map}
-use Rattle.ci_graph.specs.declared.part.Part.{Part}
-use Rattle.ci_board.specs.declared.facts.Facts.{Facts}
 use Rattle.ci_board.specs.declared.facts.Row.{Row}
 use Rattle.ci_board.specs.Rows.{row_at, statuses}
 use Rattle.ci_board.specs.Texts.{status_text}
@@ -16,10 +14,9 @@ use Rattle.ci_machine.specs.Statuses.{jobs_of, numbers_of, place_in, facts_of, s
 use Rattle.ci_machine.specs.declared.change.RowChange.{RowChange}
 use Rattle.ci_machine.specs.declared.reply.Reply.{Reply}
 use Rattle.ci_machine.specs.Bodies.{job_data, jobs_data}
-use Rattle.ci_machine.specs.Plans.{Plan}
 use Rattle.ci_machine.specs.Shows.{job_shown, pipeline_shown}
-use Rattle.ci_machine.specs.Acts.{status_among, ShowsJobAfter, ShowsPipelineAfter}
-use Rattle.ci_machine.proofs.Keyed.{Has, rising_filter, has_from_all}
+use Rattle.ci_machine.specs.Acts.{ShowsJobAfter, ShowsPipelineAfter}
+use Rattle.ci_machine.proofs.Keyed.{Has, has_from_all}
 use Rattle.ci_machine.proofs.Sound.{Sound}
 use Rattle.ci_machine.proofs.Alike.{shown_alike}
 use Rattle.ci_statuses.specs.declared.act.Act.{Act}
@@ -28,9 +25,8 @@ use Rattle.ci_statuses.specs.declared.outcome.Outcome.{Outcome}
 use Rattle.ci_statuses.specs.Acts.{is_permitted, marked, act_changes, is_acted_on, acted_jobs, acted_state, IsOutcome}
 use Rattle.ci_statuses.proofs.Positions.{place_at}
 use Rattle.ci_statuses.proofs.Joint.{numbers_rise}
-use Rattle.ci_statuses.proofs.ManyPuts.{map_twice}
 use Rattle.ci_statuses.proofs.Puts.{cons_same}
-use Rattle.ci_statuses.proofs.ActFacts.{t, after_is, within, of_job, jobs_after, keeps, all_keep, marked_part}
+use Rattle.ci_statuses.proofs.ActFacts.{after_is, within, of_job, jobs_after, keeps, all_keep, marked_part}
 use Rattle.ci_statuses.proofs.ActPlaces.{one_acted}
 
 -- ---- one job

@@ -1,13 +1,13 @@
 -- A pipeline that is created is made.
-use Rattle.std.specs.Prelude.{◌≡◌, ◌⊎◌, ℕ, ◌+◌, ◌<◌, ◌≤◌, false, List, [], ◌++◌, length, map, Contains, Ok}
+use Rattle.std.specs.Prelude.{◌≡◌, ℕ, ◌+◌, ◌<◌, ◌≤◌, false, List, [], ◌++◌, length, map, Contains, Ok}
 use Rattle.std.specs.Ordering.{nat_cmp, ordering_then}
-use Rattle.std.proofs.Common.{refl, sym, ap, subst, ◌∙◌, inl, inr, ⊎_elim, arith}
+use Rattle.std.proofs.Common.{sym, ap, subst, ◌∙◌, ⊎_elim, arith}
 use Rattle.ci_layout.specs.Inclusion.{Given}
 use Rattle.ci_machine.specs.declared.records.Job.{Job}
 use Rattle.ci_machine.specs.declared.records.Need.{Need}
 use Rattle.ci_machine.specs.declared.request.NewPipeline.{NewPipeline}
 use Rattle.ci_machine.specs.State.{State, need_cmp, applied}
-use Rattle.ci_machine.specs.Pipelines.{Layout, IsLaidOut, new_jobs, need_of, Creation, creation, creation_changes}
+use Rattle.ci_machine.specs.Pipelines.{Layout, IsLaidOut, need_of, Creation, creation, creation_changes}
 use Rattle.ci_machine.proofs.Keyed.{Has, Rising, rising_from, All-from_has, contains_named}
 use Rattle.ci_machine.proofs.Behind.{put_all, all_behind, nat_less}
 use Rattle.ci_machine.proofs.Created.{after_creation, new_rise, new_are, new_numbered, needs_ordered, needs_are, pairs_inside, jobs_behind}

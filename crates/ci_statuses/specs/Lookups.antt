@@ -1,8 +1,7 @@
 -- What is looked up of a pipeline's jobs, and what a board takes of it.
-use Rattle.std.specs.Prelude.{◌≡◌, ℕ, ◌-◌, true, List, length, map, filter, All, Option, Some, None, option_map, if◌then◌else◌, ◌==◌, slice_index_or}
-use Rattle.std.specs.List.{last_or, range_with_len}
-use Rattle.ci_graph.specs.Lists.{is_among, distinct}
-use Rattle.ci_graph.specs.Pairs.{firsts_of}
+use Rattle.std.specs.Prelude.{◌≡◌, ℕ, ◌-◌, true, List, length, filter, All, Option, Some, None, option_map, if◌then◌else◌, ◌==◌, slice_index_or}
+use Rattle.std.specs.List.{last_or}
+use Rattle.ci_graph.specs.Lists.{is_among}
 use Rattle.ci_board.specs.declared.facts.Facts.{Facts}
 use Rattle.ci_machine.specs.declared.records.Job.{Job}
 use Rattle.ci_machine.specs.declared.records.Need.{Need}

@@ -1,12 +1,8 @@
-use Rattle.std.proofs.Common.{length, map, sym, ap, subst, ◌∙◌}
+use Rattle.std.proofs.Common.{length, sym, ap, subst, ◌∙◌}
 use Rattle.std.specs.Ordering.{nat_cmp}
 use Rattle.std.specs.List.Sorted.{IsStrictlySortedBy}
-use Rattle.std.proofs.lemmas.List.{length-map}
-use Rattle.ci_board.proofs.Assignments.{same_graph}
 use Rattle.ci_machine.proofs.Sound.{sound}
-use Rattle.ci_machine.specs.declared.records.BoardRow.{BoardRow}
-use Rattle.ci_machine.specs.declared.records.Job.{Job}
-use Rattle.ci_machine.specs.Statuses.{pairs_among, predecessors_by, graph_by}
+use Rattle.ci_machine.specs.Statuses.{pairs_among, predecessors_by}
 use Rattle.ci_statuses.proofs.Made.{new_board, first_rows}
 use Rattle.ci_statuses.proofs.creation.rows_of_creation_on.Goals as goal
 
