@@ -25,11 +25,11 @@ below() {
   echo "$1"
 }
 
-# Builds the program bench/NAME.rt.txt over the crates of the tables, or over the crate that is named third, as $program, and goes
-# to a new folder in the one that is named second, where the program's file is to lie. Takes a few minutes: the program is proved
-# before it is built.
+# Builds the program bench/NAME.rt.txt over the crates of the tables, or over those that are named third and behind, of which the
+# third stands above the others, as $program, and goes to a new folder in the one that is named second, where the program's file is to
+# lie. Takes a few minutes: the program is proved before it is built.
 build() {
-  local crate="$work/crates/bench_$1" low top="${3:-ci_store}"
+  local crate="$work/crates/bench_$1" low part top="${3:-ci_store}"
   [ -d "$2" ] || stop "there is no folder $2"
   need rt sqlite3
   mkdir -p "$crate/src" "$crate/specs"
@@ -37,10 +37,11 @@ build() {
     cp -r "$root/crates/$low" "$work/crates/"
     grep "^$low:" "$root/crates.txt" >> "$work/crates.txt"
   done
-  echo "bench_$1: ci_board ci_machine ci_store $(echo "$top" | grep -v "^ci_store$" || true) sqlite anyhow" >> "$work/crates.txt"
+  echo "bench_$1: ci_board ci_machine ci_store ${*:3} sqlite anyhow" >> "$work/crates.txt"
   cp "$root/bench/$1.rt.txt" "$crate/src/main.rt"
-  ! grep -q '^mod made;' "$crate/src/main.rt" || cp "$root/bench/made.rt.txt" "$crate/src/made.rt"
-  [ "$1" != poll ] || cp "$root/bench/queue.rt.txt" "$crate/src/queue.rt"
+  for part in $(sed -n 's/^mod \(.*\);$/\1/p' "$crate/src/main.rt"); do
+    cp "$root/bench/$part.rt.txt" "$crate/src/$part.rt"
+  done
   : > "$crate/specs/Lib.antt"
   cd "$crate"
   rt run > build.log 2>&1 || { tail -20 build.log >&2; stop "bench/$1.rt.txt was not built"; }

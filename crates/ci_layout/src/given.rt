@@ -3,7 +3,7 @@
 ghost use Rattle.std.specs.Prelude.{◌≡◌, ◌++◌, IfOk, OnOk, map};
 ghost use Rattle.ci_words.specs.Layers.{layer_view};
 ghost use Rattle.ci_config.specs.View.{config_view, job_view, variable_view};
-ghost use Rattle.ci_layout.specs.Inclusion.{seen, own_names};
+ghost use Rattle.ci_layout.specs.Inclusion.{layered, seen, own_names};
 ghost use Rattle.ci_layout.specs.View.{given_view};
 
 use ci_config::{Config, JobSpec, Variable};
@@ -67,6 +67,30 @@ fn put_own_names<'a, 't>(pairs: &mut Variables<'a>, job: &'a JobSpec<'t>) -> Res
     Ok(())
 }
 
+/// The layers above a job's own variables.
+fn above<'a>(alloc: Global, given: &Given<'a>) -> Result<Variables<'a>, AllocError>
+    ensures { IfOk result (λ pairs. layer_view pairs.items ≡ (given_view given.now).pipeline ++ (given_view given.now).project) }
+{
+    let mut pairs = Vec::new(alloc);
+    put_pairs(&mut pairs, given.pipeline)?;
+    put_pairs(&mut pairs, given.project)?;
+    Ok(pairs)
+}
+
+/// Puts the layers below a job's own variables behind the pairs that are there.
+fn put_below<'a, 't>(
+    pairs: &mut Variables<'a>,
+    given: &Given<'a>,
+    config: &'a Config<'t>,
+    job: &'a JobSpec<'t>,
+) -> Result<(), AllocError>
+    ensures { OnOk result (layer_view pairs.new.items ≡ layer_view pairs.old.items ++ (config_view config.now).variables ++ own_names (job_view job.now) ++ (given_view given.now).predefined) }
+{
+    put_variables(pairs, &config.variables)?;
+    put_own_names(pairs, job)?;
+    put_pairs(pairs, given.predefined)
+}
+
 /// What the rules of a job see, the highest layer first.
 pub fn seen<'a, 't>(
     alloc: Global,
@@ -76,12 +100,24 @@ pub fn seen<'a, 't>(
 ) -> Result<Variables<'a>, AllocError>
     ensures { IfOk result (λ pairs. layer_view pairs.items ≡ seen (given_view given.now) (config_view config.now) (job_view job.now)) }
 {
-    let mut pairs = Vec::new(alloc);
-    put_pairs(&mut pairs, given.pipeline)?;
-    put_pairs(&mut pairs, given.project)?;
+    let mut pairs = above(alloc, given)?;
     put_variables(&mut pairs, &job.variables)?;
-    put_variables(&mut pairs, &config.variables)?;
-    put_own_names(&mut pairs, job)?;
-    put_pairs(&mut pairs, given.predefined)?;
+    put_below(&mut pairs, given, config, job)?;
+    Ok(pairs)
+}
+
+/// The variables of a job whose own are these, the highest layer first.
+pub fn layered<'a, 't>(
+    alloc: Global,
+    given: &Given<'a>,
+    config: &'a Config<'t>,
+    job: &'a JobSpec<'t>,
+    own: &[(&'a str, &'a str)],
+) -> Result<Variables<'a>, AllocError>
+    ensures { IfOk result (λ pairs. layer_view pairs.items ≡ layered (given_view given.now) (config_view config.now) (job_view job.now) (layer_view own.now)) }
+{
+    let mut pairs = above(alloc, given)?;
+    put_pairs(&mut pairs, own)?;
+    put_below(&mut pairs, given, config, job)?;
     Ok(pairs)
 }

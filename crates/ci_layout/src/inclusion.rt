@@ -4,10 +4,10 @@ ghost use Rattle.std.specs.Prelude.{◌≡◌, ◌++◌, IfOk, OnOk, map, filter
 ghost use Rattle.ci_expr.specs.Built.{values_of, formula_of};
 ghost use Rattle.ci_words.specs.Layers.{layer_view};
 ghost use Rattle.ci_config.specs.View.{config_view, job_view, rule_view, variable_view};
-ghost use Rattle.ci_layout.specs.Inclusion.{holds, deciding, names, joined, may_fail, allowing, without_rules, by_rule, ruled, included};
+ghost use Rattle.ci_layout.specs.Inclusion.{layered, holds, deciding, names, joined, may_fail, allowing, without_rules, by_rule, ruled, included};
 ghost use Rattle.ci_layout.specs.View.{given_view, included_view};
 
-use crate::given::{Given, Variables, pair_of, put_variables, seen};
+use crate::given::{Given, Variables, layered, pair_of, put_variables, seen};
 use ci_config::{Config, JobSpec, Rule, RuleWhen, Variable};
 use ci_expr::{Env, Expr};
 use ci_values::when::{AllowFailure, When};
@@ -22,6 +22,21 @@ pub struct IncludedJob<'a, 't> {
     pub allow_failure: AllowFailure,
     /// Those of the rule that included it, and then its own that the rule doesn't give.
     pub variables: Variables<'a>,
+}
+
+impl<'a, 't> IncludedJob<'a, 't> {
+    /// Its variables of all layers, the highest layer first: those of the pipeline, of the project, its own, those of the file, its
+    /// name and stage, and the predefined ones. Of two pairs with one name the first counts.
+    pub fn layers(
+        &self,
+        alloc: Global,
+        given: &Given<'a>,
+        config: &'a Config<'t>,
+    ) -> Result<Variables<'a>, AllocError>
+        ensures { IfOk result (λ pairs. layer_view pairs.items ≡ layered (given_view given.now) (config_view config.now) (included_view self.now).job (included_view self.now).variables) }
+    {
+        layered(alloc, given, config, self.job, &self.variables)
+    }
 }
 
 /// Whether a condition holds. A rule without one always matches.

@@ -31,16 +31,18 @@ fn no_retry() -> Retry
     }
 }
 
-/// What the status of a job depends on.
-fn job_part(job: &IncludedJob) -> Result<Part, AllocError>
-    ensures { IfOk result (λ p. p ≡ job_part (included_view job.now)) }
-{
-    Ok(Part {
-        when: job.when,
-        allow_failure: job.allow_failure.clone()?,
-        retry: job.job.retry.unwrap_or(no_retry()),
-        gives_needs: job.job.needs.is_some(),
-    })
+impl<'a, 't> IncludedJob<'a, 't> {
+    /// What its status depends on.
+    pub fn part(&self) -> Result<Part, AllocError>
+        ensures { IfOk result (λ p. p ≡ job_part (included_view self.now)) }
+    {
+        Ok(Part {
+            when: self.when,
+            allow_failure: self.allow_failure.clone()?,
+            retry: self.job.retry.unwrap_or(no_retry()),
+            gives_needs: self.job.needs.is_some(),
+        })
+    }
 }
 
 impl<'a, 't> PipelinePlan<'a, 't> {
@@ -50,7 +52,7 @@ impl<'a, 't> PipelinePlan<'a, 't> {
     {
         let mut found = Vec::new(alloc);
         for job in &self.jobs {
-            found.push(job_part(job)?)?;
+            found.push(job.part()?)?;
         }
         Ok(found)
     }

@@ -1,4 +1,2 @@
 pub mod Objects
 pub mod Refusals
-pub mod Readings
-pub mod Creations

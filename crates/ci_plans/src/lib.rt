@@ -3,14 +3,8 @@
 #![tactic(auto)]
 
 pub mod body;
-pub mod creation;
-pub mod files;
 pub mod grants;
-pub mod laws;
-mod layers;
-pub mod layouts;
 mod object;
-pub mod pipelines;
 pub mod projects;
 pub mod replies;
 pub mod reports;

@@ -126,7 +126,7 @@ fn numbered(alloc: Global, new: Record, counter: Counter, id: u64) -> Result<Del
 }
 
 /// What was made is told with this body (201), and these are the changes.
-pub(crate) fn created(text: Text, changes: Delta) -> (Reply, Delta)
+pub fn created(text: Text, changes: Delta) -> (Reply, Delta)
     ensures { result ≡ (plans.created text, changes) }
 {
     let mut reply = Reply::plain(HttpStatus::Created);
@@ -150,7 +150,7 @@ pub(crate) fn made(
 }
 
 /// A reply (200) with this body.
-pub(crate) fn fine(body: Body) -> Reply
+pub fn fine(body: Body) -> Reply
     ensures { result ≡ plans.fine body }
 {
     let mut reply = Reply::plain(HttpStatus::Fine);
@@ -159,7 +159,7 @@ pub(crate) fn fine(body: Body) -> Reply
 }
 
 /// One change.
-pub(crate) fn only(alloc: Global, change: RowChange) -> Result<Delta, AllocError>
+pub fn only(alloc: Global, change: RowChange) -> Result<Delta, AllocError>
     ensures { IfOk result (λ changes. changes ≡ change ∷ []) }
 {
     let changes = and(Vec::new(alloc), change)?;

@@ -9,7 +9,7 @@ use Rattle.ci_machine.specs.Reply.{Outcome, LackedMemory, StoreFailed, outcome_o
 use Rattle.ci_machine.specs.State.{State, empty}
 use Rattle.ci_machine.specs.History.{Past, Leads}
 use Rattle.ci_store.specs.Open.{LeavesNoMore}
-use Rattle.ci_machine.specs.Kept.{Kept, nothing_kept}
+use Rattle.ci_machine.specs.Kept.{nothing_kept}
 use Rattle.ci_machine.specs.Statuses.{AreBoard}
 use Rattle.ci_store.specs.Stands.{StandsIn, IsAt, LeavesOnly}
 use Rattle.ci_server.specs.Holding.{with_rows, HoldsIn, LeavesIn, StandsFor}

@@ -1,6 +1,6 @@
 -- Loads one after the other.
 use Rattle.std.specs.Prelude.{◌≡◌, Result, Ok, Err, IfOk, IfErr}
-use Rattle.std.proofs.Common.{refl, sym, subst}
+use Rattle.std.proofs.Common.{refl, subst}
 use Rattle.ci_machine.specs.Kept.{Kept}
 use Rattle.ci_tables.specs.declared.fault.StoreFault.{StoreFault}
 use Rattle.ci_tables.specs.declared.fault.StoreFault.TheVariants.{Memory, Broken}
@@ -113,8 +113,8 @@ module _ {T : Type 0} (honest : T → Type 0) (holds : T → Kept → Type 0) (l
       mid h k held = subst (λ f. UnlessBroken f (holds b k)) is (load.kept (more.was_honest h) k held)
 
   -- what two clauses say of one load
-  pub both : {A : Type 0} {P Q : Kept → A → Type 0} (a b : T) (r : Result A StoreFault) → LoadsBy honest holds leaves a b r P → LoadsBy honest holds leaves a b r Q → LoadsBy honest holds leaves a b r (λ k y. P k y × Q k y)
-  both {P = P} {Q = Q} a b r load more = record {
+  pub loads_both : {A : Type 0} {P Q : Kept → A → Type 0} (a b : T) (r : Result A StoreFault) → LoadsBy honest holds leaves a b r P → LoadsBy honest holds leaves a b r Q → LoadsBy honest holds leaves a b r (λ k y. P k y × Q k y)
+  loads_both {P = P} {Q = Q} a b r load more = record {
     was_honest = load.was_honest;
     kept = load.kept;
     left = load.left;

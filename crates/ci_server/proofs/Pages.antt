@@ -1,5 +1,5 @@
 -- The search for a pending job, page by page.
-use Rattle.std.specs.Prelude.{◌≡◌, ℕ, zero, suc, ◌+◌, ◌<◌, Bool, true, false, cond, List, [], ◌∷◌, ◌++◌, length, map, filter, take, Option, Some, None, IfSome, is_some, option_and_then, option_map, Contains, slice_index_or, ◌==◌}
+use Rattle.std.specs.Prelude.{◌≡◌, ℕ, zero, suc, ◌+◌, ◌<◌, Bool, true, false, cond, List, [], ◌∷◌, ◌++◌, length, map, filter, take, Option, Some, None, Result, Ok, IfSome, is_some, option_and_then, option_map, Contains, slice_index_or, ◌==◌}
 use Rattle.std.specs.Option.{option_or}
 use Rattle.std.proofs.Common.{refl, sym, ap, subst, ◌∙◌, inl, inr, ⊎_elim, drop, arith, eqb-true}
 use Rattle.std.proofs.lemmas.List.{drop_more, take-map}
@@ -19,10 +19,13 @@ use Rattle.ci_machine.proofs.Keyed.{Has, has_find, has_filter, contains_from_has
 use Rattle.ci_machine.proofs.Sound.{sound}
 use Rattle.ci_statuses.specs.Pages.{queued_at, queue_behind, end_of_page}
 use Rattle.ci_statuses.proofs.Pages.{rows_queue}
+use Rattle.ci_tables.specs.declared.fault.StoreFault.{StoreFault}
 use Rattle.ci_store.specs.declared.store.TheConstants.{PAGE_ROWS}
+use Rattle.ci_store.specs.Store.{LoadsBy}
 use Rattle.ci_server.specs.declared.search.Offer.{Offer}
 use Rattle.ci_server.specs.Planning.{IsKept}
 use Rattle.ci_server.specs.Search.{may_run_found, first_row, IsOffered, LeadsOn}
+use Rattle.ci_server.proofs.Loading.{goes_on, so, loads_both}
 
 -- where each row of a page has a job, the first row whose job the runner may run is that of the first such job
 pub first_of_page : (s : State) (runner : Runner) (rows : List BoardRow) (jobs : List QueuedJob) → map (λ q. Some q) jobs ≡ map (queued_at s) rows
@@ -125,6 +128,22 @@ pub record IsSearched (k : Kept) (runner : Runner) (n : ℕ) (rows : List BoardR
   pub page : rows ≡ pending_after PAGE_ROWS n k.board
   pub first : option_map (λ o. o.row) found ≡ first_row k.state runner rows
   pub its : IfSome found (λ o. queued_at k.state o.row ≡ Some o.queued)
+
+module _ {T : Type 0} (honest : T → Type 0) (holds : T → Kept → Type 0) (leaves : T → Kept → Kept → Type 0) where
+  -- so it was once the page and then its jobs were looked up
+  pub searched : {A : Type 0} {P : Kept → A → Type 0} (runner : Runner) (n : ℕ) (rows : List BoardRow) (a b c d : T) (page : Result A StoreFault) (x : A) (found : Result (Option Offer) StoreFault)
+      → page ≡ Ok x → ((k : Kept) → P k x → rows ≡ pending_after PAGE_ROWS n k.board)
+      → LoadsBy {A = Unit {0}} honest holds leaves a b (Ok tt) (λ k _. IsKept k → chosen (queue_behind k.state k.board n) runner ≡ chosen (queue k.state k.board) runner)
+      → LoadsBy honest holds leaves b c page P
+      → LoadsBy honest holds leaves c d found (λ k o. option_map (λ f. f.row) o ≡ first_row k.state runner rows)
+      → LoadsBy honest holds leaves c d found (λ k o. IfSome o (λ f. queued_at k.state f.row ≡ Some f.queued))
+      → LoadsBy honest holds leaves a d found (λ k o. IsSearched k runner n rows o)
+  searched runner n rows a b c d page x found was are_rows before load first its =
+      goes_on honest holds leaves (λ k o. IsSearched k runner n rows o) a c d (Ok tt) tt found refl
+      (so honest holds leaves (λ k (_ : Unit {0}). (IsKept k → chosen (queue_behind k.state k.board n) runner ≡ chosen (queue k.state k.board) runner) × (rows ≡ pending_after PAGE_ROWS n k.board))
+      a b c (Ok tt) tt page x tt refl was before load (λ k known p. (known, are_rows k p)))
+      (loads_both honest holds leaves c d found first its)
+      (λ k o is known here. record { before = known.0; page = known.1; first = here.0; its = here.1 })
 
 module _ (law : ByPages) (k : Kept) (runner : Runner) (n : ℕ) (rows : List BoardRow) where
   -- what is found on a page is the first of its jobs that the runner may run

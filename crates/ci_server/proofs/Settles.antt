@@ -1,9 +1,9 @@
 -- Which rows the plans of events leave as they are, and which attempts they end.
-use Rattle.std.specs.Prelude.{◌≡◌, ◌↔◌, if◌then◌else◌, ◌⊎◌, ℕ, ◌+◌, ◌<◌, Bool, true, false, not, nat_lt, max, ◌==◌, List, [], ◌∷◌, ◌++◌, length, map, filter, find, Option, Some, None, Result, Ok, Err, Contains, All, option_map}
+use Rattle.std.specs.Prelude.{◌≡◌, ◌↔◌, if◌then◌else◌, ℕ, Bool, true, false, not, nat_lt, max, ◌==◌, List, [], ◌∷◌, length, map, find, Option, Some, None, Result, Ok, Err, Contains, option_map}
 use Rattle.std.specs.List.{AllByRecursion}
 use Rattle.std.specs.Str.{bytes_eq}
 use Rattle.std.proofs.Common.{refl, sym, ap, subst, ◌∙◌, inl, inr, ⊎_elim, arith}
-use Rattle.std.proofs.lemmas.Bool.{cond_both, both_ways, false≢true}
+use Rattle.std.proofs.lemmas.Bool.{cond_both}
 use Rattle.std.proofs.lemmas.List.Elements.{Contains-append_right, Contains-get_or, All-contains, All-contains_itself, All-filter, filter_passes}
 use Rattle.std.specs.Ordering.{nat_cmp}
 use Rattle.std.specs.List.Sorted.{IsStrictlySortedBy}
@@ -26,8 +26,10 @@ use Rattle.ci_machine.specs.declared.lease.LeaseFault.{LeaseFault}
 use Rattle.ci_machine.specs.declared.lease.PieceFault.{PieceFault}
 use Rattle.ci_machine.specs.declared.change.Record.TheVariants as row
 use Rattle.ci_machine.specs.declared.change.RowChange.{RowChange}
-use Rattle.ci_machine.specs.declared.change.RowChange.TheVariants.{Add, Put}
+use Rattle.ci_machine.specs.declared.change.RowChange.TheVariants.{Put}
 use Rattle.ci_machine.specs.declared.request.Seed.{Seed}
+use Rattle.ci_machine.specs.declared.request.Request.{Request}
+use Rattle.ci_machine.specs.declared.request.Request.TheVariants.{AddProject, AddRunner, SetFile, SetVariable, DeleteVariable, CreatePipeline, ShowPipeline, AskJob, UpdateJob, AppendTrace, ShowJob, ShowTrace}
 use Rattle.ci_machine.specs.declared.request.Report.{Report}
 use Rattle.ci_machine.specs.declared.request.Report.TheVariants as report
 use Rattle.ci_machine.specs.declared.request.JobUpdate.{JobUpdate}
@@ -39,18 +41,19 @@ use Rattle.ci_machine.specs.declared.reply.FaultCode.TheVariants.{K}
 use Rattle.ci_machine.specs.declared.reply.Detail.{Detail}
 use Rattle.ci_machine.specs.declared.reply.Detail.TheVariants as detail
 use Rattle.ci_machine.specs.declared.reply.Reply.{Reply}
-use Rattle.ci_machine.specs.Plans.{Plan, refused, faulted, numbered}
+use Rattle.ci_machine.specs.Plans.{Plan, asked_project, refused, faulted, numbered}
 use Rattle.ci_machine.specs.Projects.{add_project, made_project}
 use Rattle.ci_machine.specs.Runners.{add_runner, made_runner}
-use Rattle.ci_machine.specs.Traces.{append_trace, appended, grown, not_accepted}
-use Rattle.ci_machine.specs.Reports.{update_job, reported, heard, ending}
+use Rattle.ci_machine.specs.Traces.{append_trace, appended, grown}
+use Rattle.ci_machine.specs.Reports.{update_job, reported, heard}
 use Rattle.ci_machine.specs.Reports.{ended}
-use Rattle.ci_machine.specs.Leases.{is_live, is_over, while_leased, renewed, accepted, finished, is_same_end, first_due}
+use Rattle.ci_machine.specs.Leases.{is_live, is_over, while_leased, renewed, accepted, first_due}
 use Rattle.ci_machine.specs.Sweeps.{sweep}
 use Rattle.ci_machine.specs.Leases.{cause_of}
 use Rattle.ci_machine.specs.Files.{SetsFile, set_file}
 use Rattle.ci_machine.specs.Variables.{set_variable, variable_set, delete_variable, count_with}
-use Rattle.ci_machine.specs.Pipelines.{Layout, IsLaidOut, Creation, creation, creation_changes, AreFirstRows, pipeline_created, lacks_numbers, MakesUnless, Makes, Creates}
+use Rattle.ci_machine.specs.Pipelines as pipelines
+use Rattle.ci_machine.specs.Pipelines.{Layout, IsLaidOut, creation, creation_changes, given_by, AreFirstRows, pipeline_created, Creates}
 use Rattle.ci_board.specs.declared.facts.Facts.{Facts}
 use Rattle.ci_board.specs.declared.facts.Row.{Row}
 use Rattle.ci_board.specs.declared.facts.Status.TheVariants as status
@@ -65,21 +68,23 @@ use Rattle.ci_machine.specs.Kept.{Kept, put_rows}
 use Rattle.ci_machine.specs.Sound.{IsSound}
 use Rattle.ci_machine.specs.State.{State, applied}
 use Rattle.ci_machine.specs.Statuses.{AreBoard}
-use Rattle.ci_machine.specs.Step.{attempt_at, lease_at, lease_of, leases, live_attempts, offer, queued, is_pending, pending_jobs}
-use Rattle.ci_statuses.specs.Changes.{HasLike, HasLive, LeavesStatuses, IsMade, started_row}
+use Rattle.ci_machine.specs.Step.{Does, project_with, project_variables, variable_at, attempt_at, lease_at, lease_of, leases, live_attempts, offer, queued, is_pending, pending_jobs}
+use Rattle.ci_statuses.specs.Changes.{HasLive, LeavesStatuses, IsMade, started_row}
+use Rattle.ci_tables.specs.declared.fault.StoreFault.{StoreFault}
+use Rattle.ci_store.specs.Store.{LoadsBy}
 use Rattle.ci_server.specs.declared.search.Offer.{Offer}
 use Rattle.ci_server.specs.Search.{IsOffered}
 use Rattle.ci_board.specs.declared.facts.Status.{Status}
 use Rattle.ci_machine.specs.declared.records.Piece.{Piece}
 use Rattle.ci_machine.specs.declared.reply.Code.{Code}
 use Rattle.ci_machine.specs.Shows.{shown, show_pipeline, traced}
-use Rattle.ci_plans.specs.Creations.{LaysOut}
-use Rattle.ci_plans.specs.declared.files.FileFault.{FileFault}
-use Rattle.ci_plans.specs.declared.files.FileFault.TheVariants.{Memory, Fault}
+use Rattle.ci_pipelines.specs.declared.creation.Creation.{Creation}
+use Rattle.ci_pipelines.specs.Creations.{Origin, origin, creation_view, LaysOut}
 use Rattle.ci_plans.specs.Refusals.{unmade}
 use Rattle.ci_plans.specs.declared.replies.Refusal.{Refusal}
 use Rattle.ci_plans.specs.declared.replies.Refusal.TheVariants as refusal
-use Rattle.ci_server.specs.Planning.{PlansFor, IsKept, Settles, MovesOne, RowsMade, Refuses, attempt_ended}
+use Rattle.ci_server.specs.Planning.{PlansFor, IsKept, Settles, MovesOne, RowsMade, attempt_ended}
+use Rattle.ci_server.proofs.Loading.{gives}
 
 -- ---- what is found is in the list
 
@@ -205,46 +210,28 @@ due_is_live s now l e =
 -- ---- a new pipeline
 
 abbrev CreatedIsMade : Type 0
-CreatedIsMade = (s : State) (new : NewPipeline) (given : Given) (now : ℕ) (text : List ℕ) (laid : Layout) (made : Creation) → IsSound s → IsLaidOut text given (Ok laid)
+CreatedIsMade = (s : State) (new : NewPipeline) (given : Given) (now : ℕ) (text : List ℕ) (laid : Layout) (made : pipelines.Creation) → IsSound s → IsLaidOut text given (Ok laid)
     → made ≡ creation s.next.pipeline s.next.job new given now laid → IsMade s (applied (creation_changes s.next.job made) s) s.next.pipeline made.jobs made.needs
 
-module _ (k : Kept) (is : IsKept k) (new : NewPipeline) (given : Given) (now : ℕ) (text : List ℕ) where
+abbrev LaidOutCreates : Type 0
+LaidOutCreates = (text : List ℕ) (o : Origin) (made : Creation) (rows : List Row) (plan : Plan) → LaysOut text o (Ok (Some made)) → AreFirstRows made.jobs.items made.needs.items rows
+    → plan ≡ pipeline_created o.first_job (creation_view made) rows → Creates o.id o.first_job o.asked o.given o.moment (Ok text) plan
+
+module _ (k : Kept) (is : IsKept k) (text : List ℕ) (new : NewPipeline) (variables : List Variable) (now : ℕ) where
   -- what the file lays out is made, and the rows of its jobs are put
-  pub creation_planned : CreatedIsMade → (laid : Layout) (made : Creation) (rows : List BoardRow) (plan : Plan) → IsLaidOut text given (Ok laid)
-      → lacks_numbers k.state.next.pipeline k.state.next.job (length laid.plan.jobs) ≡ false → made ≡ creation k.state.next.pipeline k.state.next.job new given now laid
-      → (IsStrictlySortedBy nat_cmp (map (λ j. j.id) made.jobs) → AreFirstRows made.jobs made.needs (map (λ r. r.row) rows)) → RowsMade made.jobs made.needs rows
-      → plan ≡ pipeline_created k.state.next.job made (map (λ r. r.row) rows)
-      → PlansFor k (Creates k.state.next.pipeline k.state.next.job new given now (Ok text) plan) plan.1 rows
-  creation_planned law laid made rows plan laid_out enough same first_rows right planned = record {
-    made = (
-      Ok laid,
-      laid_out,
-      subst (λ (b : Bool). MakesUnless b k.state.next.job (creation k.state.next.pipeline k.state.next.job new given now laid) plan) (sym enough)
-          (subst (λ (m : Creation). MakesUnless false k.state.next.job m plan) same (map (λ r. r.row) rows, first_rows its_made.ascend, planned)),
-    );
+  pub creation_planned : LaidOutCreates → CreatedIsMade → (made : Creation) (rows : List BoardRow) (plan : Plan)
+      → LaysOut text (origin k.state.next.pipeline k.state.next.job new variables now) (Ok (Some made))
+      → (IsStrictlySortedBy nat_cmp (map (λ j. j.id) made.jobs.items) → AreFirstRows made.jobs.items made.needs.items (map (λ r. r.row) rows)) → RowsMade made.jobs.items made.needs.items rows
+      → plan ≡ pipeline_created k.state.next.job (creation_view made) (map (λ r. r.row) rows)
+      → PlansFor k (Creates k.state.next.pipeline k.state.next.job new (given_by new variables) now (Ok text) plan) plan.1 rows
+  creation_planned creates is_made made rows plan out first_rows right planned = record {
+    made = creates text (origin k.state.next.pipeline k.state.next.job new variables now) made (map (λ r. r.row) rows) plan out (first_rows its_made.ascend) planned;
     settled = subst (λ (cs : List RowChange). Settles k cs rows) (sym (ap (λ (p : Plan). p.1) planned))
-        (right k.state (applied (creation_changes k.state.next.job made) k.state) k.board k.state.next.pipeline is.sound is.are_board its_made);
+        (right k.state (applied (creation_changes k.state.next.job (creation_view made)) k.state) k.board k.state.next.pipeline is.sound is.are_board its_made);
   }
     where
-      its_made : IsMade k.state (applied (creation_changes k.state.next.job made) k.state) k.state.next.pipeline made.jobs made.needs
-      its_made = law k.state new given now text laid made is.sound laid_out same
-
-  -- where it lays out none, its fault is told
-  pub unlaid : (fault : Detail) → IsLaidOut text given (Err fault) → Creates k.state.next.pipeline k.state.next.job new given now (Ok text) (faulted fault)
-  unlaid fault laid_out = (Err fault, laid_out, refl)
-
-  -- where there are no numbers for what it lays out, that is told
-  pub unnumbered : (laid : Layout) → IsLaidOut text given (Ok laid) → lacks_numbers k.state.next.pipeline k.state.next.job (length laid.plan.jobs) ≡ true
-      → Creates k.state.next.pipeline k.state.next.job new given now (Ok text) (refused M15)
-  unnumbered laid laid_out lacks =
-      (Ok laid, laid_out, subst (λ (b : Bool). MakesUnless b k.state.next.job (creation k.state.next.pipeline k.state.next.job new given now laid) (refused M15)) (sym lacks) refl)
-
-  -- so what refuses it for this fault is a plan that changes nothing
-  pub unread_planned : (fault : FileFault) (plan : Plan) → LaysOut text (record { id = k.state.next.pipeline; first_job = k.state.next.job; asked = new; given = given; moment = now }) (Err fault) → Refuses fault plan
-      → Creates k.state.next.pipeline k.state.next.job new given now (Ok text) plan × (plan.1 ≡ [])
-  unread_planned (Fault fault) plan out refuses =
-      (subst (λ (p : Plan). Creates k.state.next.pipeline k.state.next.job new given now (Ok text) p) (sym refuses) (unlaid fault out), ap (λ (p : Plan). p.1) refuses)
-  unread_planned Memory plan out refuses = absurd refuses
+      its_made : IsMade k.state (applied (creation_changes k.state.next.job (creation_view made)) k.state) k.state.next.pipeline made.jobs.items made.needs.items
+      its_made = is_made k.state new (given_by new variables) now text out.0 (creation_view made) is.sound out.1 out.2.0
 
 -- a pair by its parts
 pub pair_is : {A B : Type 0} (a : A) (b : B) (p q : A × B) → a ≡ p.0 → b ≡ p.1 → p ≡ q → (a, b) ≡ q
@@ -358,6 +345,48 @@ without_rows law k is Makes plan answer changes rows same_answer same_changes no
   settled = subst (λ (cs : List RowChange). Settles k cs rows) (sym same_changes)
       (subst (λ (rs : List BoardRow). Settles k plan.1 rs) (sym none) (law k.state k.board plan.1 is.sound is.are_board leaves));
 }
+
+-- ---- requests by which no row differs
+
+-- the request makes no pipeline, and moves no attempt but by its trace
+abbrev pub KeepsRows : Request → Type 0
+KeepsRows (CreatePipeline new) = ⊥
+KeepsRows (AskJob token) = ⊥
+KeepsRows (UpdateJob update) = ⊥
+KeepsRows _ = Unit {0}
+
+leaves_so : (s : State) (plan is : Plan) → plan ≡ is → AllByRecursion (LeavesStatuses s) is.1 → AllByRecursion (LeavesStatuses s) plan.1
+leaves_so s plan is same leaves = subst (λ (p : Plan). AllByRecursion (LeavesStatuses s) p.1) (sym same) leaves
+
+pub leaves_rows : (s : State) (board : List BoardRow) (asked : Request) (now : ℕ) (seed : Seed) (plan : Plan) → KeepsRows asked → Does s board asked now seed plan → AllByRecursion (LeavesStatuses s) plan.1
+leaves_rows s board (AddProject name) now seed plan keeps does = leaves_so s plan _ does (project_leaves s s.next.project name seed)
+leaves_rows s board (AddRunner name) now seed plan keeps does = leaves_so s plan _ does (runner_leaves s s.next.runner name seed)
+leaves_rows s board (SetFile new) now seed plan keeps does = file_leaves s (asked_project (project_with s new.token) new.project) new.text plan does
+leaves_rows s board (SetVariable new) now seed plan keeps does =
+    leaves_so s plan _ does (variable_leaves s (asked_project (project_with s new.token) new.project) (project_variables s new.project) new)
+leaves_rows s board (DeleteVariable query) now seed plan keeps does =
+    leaves_so s plan _ does (deletion_leaves s (asked_project (project_with s query.token) query.project) (variable_at s query.project query.key))
+leaves_rows s board (CreatePipeline new) now seed plan keeps does = absurd keeps
+leaves_rows s board (AskJob token) now seed plan keeps does = absurd keeps
+leaves_rows s board (UpdateJob update) now seed plan keeps does = absurd keeps
+leaves_rows s board (AppendTrace part) now seed plan keeps does = leaves_so s plan _ does (piece_leaves s part now)
+leaves_rows s board (ShowPipeline query) now seed plan keeps does = leaves_so s plan _ does (pipeline_shown_leaves s _ _ _ _)
+leaves_rows s board (ShowJob query) now seed plan keeps does = leaves_so s plan _ does (shown_leaves s _ _)
+leaves_rows s board (ShowTrace query) now seed plan keeps does = leaves_so s plan _ does (traced_leaves s _ _)
+
+module _ {T : Type 0} (honest : T → Type 0) (holds : T → Kept → Type 0) (leaves : T → Kept → Kept → Type 0) where
+  -- what is loaded for such a request is planned without rows
+  pub planned_alone : {B : Type 0} {P : Kept → Plan → Type 0} (law : RowsStay) (request asked : Request) (now : ℕ) (seed : Seed) (a b : T) (first : Result Plan StoreFault) (plan : Plan) (y : B)
+      (answer : B → Reply) (changes : B → List RowChange) (rows : B → List BoardRow)
+      → request ≡ asked → KeepsRows asked → first ≡ Ok plan → LoadsBy honest holds leaves a b first P → ((k : Kept) → IsKept k → P k plan → Does k.state k.board asked now seed plan)
+      → answer y ≡ plan.0 → changes y ≡ plan.1 → rows y ≡ []
+      → LoadsBy honest holds leaves a b (Ok y) (λ k p. IsKept k → PlansFor k (Does k.state k.board request now seed (answer p, changes p)) (changes p) (rows p))
+  planned_alone law request asked now seed a b first plan y answer changes rows is keeps was load so same_answer same_changes none =
+      gives honest holds leaves (λ k p. IsKept k → PlansFor k (Does k.state k.board request now seed (answer p, changes p)) (changes p) (rows p)) a b first plan y was load
+      (λ k planned kept.
+      let does : Does k.state k.board asked now seed plan = so k kept planned in
+      without_rows law k kept (λ (p : Plan). Does k.state k.board request now seed p) plan (answer y) (changes y) (rows y) same_answer same_changes none
+      (subst (λ (q : Request). Does k.state k.board q now seed plan) (sym is) does) (leaves_rows k.state k.board asked now seed plan keeps does))
 
 -- ---- what is refused
 

@@ -1,6 +1,5 @@
 -- What is planned of an event over what a store keeps: changes of records, and the rows of statuses that are put behind them.
 use Rattle.std.specs.Prelude.{◌≡◌, ◌⊎◌, ℕ, List, [], ◌∷◌, if◌then◌else◌, Option, Some, None, Ok}
-use Rattle.ci_layout.specs.Inclusion.{Given}
 use Rattle.ci_machine.specs.declared.records.BoardRow.{BoardRow}
 use Rattle.ci_machine.specs.declared.records.Attempt.{Attempt}
 use Rattle.ci_machine.specs.declared.records.Job.{Job}
@@ -15,14 +14,9 @@ use Rattle.ci_machine.specs.Leases.{is_live}
 use Rattle.ci_machine.specs.State.{State, applied}
 use Rattle.ci_machine.specs.Kept.{Kept, put_rows}
 use Rattle.ci_machine.specs.Statuses.{AreBoard}
-use Rattle.ci_machine.specs.Plans.{Plan, faulted}
-use Rattle.ci_machine.specs.Pipelines.{given_by, Layout, IsLaidOut, Creates}
+use Rattle.ci_machine.specs.Pipelines.{given_by, Creates}
 use Rattle.ci_machine.specs.Sound.{IsSound}
 use Rattle.ci_statuses.specs.Changes.{HasLive, IsMade}
-use Rattle.ci_plans.specs.declared.creation.Creation.{Creation}
-use Rattle.ci_plans.specs.declared.files.FileFault.{FileFault}
-use Rattle.ci_plans.specs.declared.files.FileFault.TheVariants.{Memory, Fault}
-use Rattle.ci_plans.specs.Creations.{IsMadeOf}
 
 -- what is kept is a state that the machine may come to, with its rows
 pub record IsKept (k : Kept) : Type 0 where
@@ -52,19 +46,6 @@ abbrev pub PlansFile : List ℕ → List Variable → NewPipeline → ℕ → �
 PlansFile text variables new pipeline first now answer changes rows =
     (k : Kept) → IsKept k → pipeline ≡ k.state.next.pipeline → first ≡ k.state.next.job
     → PlansFor k (Creates k.state.next.pipeline k.state.next.job new (given_by new variables) now (Ok text) (answer, changes)) changes rows
-
--- The same of a pipeline with these records, of which the first job has this number, or with none: so wherever they are those of what a
--- file lays out, and the number is the next.
-abbrev pub PlansRecords : Option Creation → ℕ → Reply → List RowChange → List BoardRow → Type 0
-PlansRecords made first answer changes rows =
-    (k : Kept) (new : NewPipeline) (given : Given) (now : ℕ) (text : List ℕ) (laid : Layout) → IsKept k → first ≡ k.state.next.job → IsLaidOut text given (Ok laid)
-    → IsMadeOf (record { id = k.state.next.pipeline; first_job = k.state.next.job; asked = new; given = given; moment = now }) laid made
-    → PlansFor k (Creates k.state.next.pipeline k.state.next.job new given now (Ok text) (answer, changes)) changes rows
-
--- the plan refuses a pipeline by this fault of its file
-abbrev pub Refuses : FileFault → Plan → Type 0
-Refuses (Fault detail) plan = plan ≡ faulted detail
-Refuses Memory plan = ⊥
 
 -- the attempt that the changes end, where they put it alone
 abbrev pub attempt_ended : List RowChange → Option Attempt

@@ -13,21 +13,16 @@ use ci_store::store::Store;
 pub(crate) fn lease_of<T: Store>(store: &mut T, attempt: Attempt) -> Result<Lease, StoreFault>
     ensures { LoadsBy T.honest T.holds T.leaves store.old store.new result (λ k l. l ≡ step.lease_of k.state attempt) }
 {
-    match store.job(attempt.job)? {
-        Some(job) => Ok(Lease {
-            attempt,
-            limit: job.options.timeout,
-        }),
-        None => Err(StoreFault::Broken),
-    }
+    let Leased { lease, pipeline: _ } = with_pipeline(store, attempt)?;
+    Ok(lease)
 }
 
 /// The attempt with a number, with the time limit of its job.
 pub(crate) fn lease_at<T: Store>(store: &mut T, attempt: u64) -> Result<Option<Lease>, StoreFault>
     ensures { LoadsBy T.honest T.holds T.leaves store.old store.new result (λ k l. l ≡ step.lease_at k.state attempt) }
 {
-    match store.attempt(attempt)? {
-        Some(attempt) => Ok(Some(lease_of(store, attempt)?)),
+    match leased_at(store, attempt)? {
+        Some(leased) => Ok(Some(leased.lease)),
         None => Ok(None),
     }
 }

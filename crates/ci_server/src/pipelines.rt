@@ -1,7 +1,7 @@
 //! What a request for a new pipeline does, from what the store holds: the file of its project is read and laid out, and what it lays
 //! out is made, with the rows of its jobs.
 
-ghost use Rattle.std.specs.Prelude.{◌≡◌, ◌≤◌, ◌+◌, map, length, Ok, IfOk, IfSome};
+ghost use Rattle.std.specs.Prelude.{◌≡◌, ◌≤◌, ◌+◌, map, length, Ok, IfOk};
 ghost use Rattle.std.specs.Result.{result_map_both};
 ghost use Rattle.std.specs.Ordering.{nat_cmp};
 ghost use Rattle.std.specs.List.Sorted.{IsStrictlySortedBy};
@@ -9,23 +9,24 @@ ghost use Rattle.ci_machine.specs.Pipelines as machine;
 ghost use Rattle.ci_machine.specs.Plans.{asked_project};
 ghost use Rattle.ci_machine.specs.Step.{project_with, project_variables};
 ghost use Rattle.ci_plans.specs.Refusals as refusals;
-ghost use Rattle.ci_plans.specs.Creations.{creation_view};
+ghost use Rattle.ci_pipelines.specs.Creations.{creation_view};
 ghost use Rattle.ci_store.specs.Store.{LoadsBy};
-ghost use Rattle.ci_server.specs.Planning.{IsKept, PlansFor, PlansFile, PlansRecords, Refuses, RowsMade};
+ghost use Rattle.ci_server.specs.Planning.{IsKept, PlansFor, PlansFile, RowsMade};
 
 use crate::ends::or_store_fault;
 use crate::planned::Planned;
 use crate::projects::asked;
-use ci_machine::change::{Counter, Delta};
+use ci_machine::change::Counter;
 use ci_machine::moment::Moment;
 use ci_machine::records::{BoardRow, MAX_NUMBER, Project, Variable};
 use ci_machine::reply::{Code, Reply};
 use ci_machine::request::NewPipeline;
 use ci_machine::text::Text;
-use ci_plans::creation::Creation;
-use ci_plans::files::FileFault;
-use ci_plans::layouts::lay_out;
-use ci_plans::pipelines::may_create;
+use ci_pipelines::creation::Creation;
+use ci_pipelines::files::FileFault;
+use ci_pipelines::laws::laid_out_creates;
+use ci_pipelines::layouts::lay_out;
+use ci_pipelines::pipelines::may_create;
 use ci_plans::replies::{Refusal, faulted, refused, unmade};
 use ci_statuses::creation::rows_of_creation;
 use ci_statuses::laws::created_is_made;
@@ -89,39 +90,16 @@ fn by_file(
 ) -> Result<Planned<Reply>, StoreFault>
     ensures { IfOk result (λ p. PlansFile text.now variables.now new.now pipeline job now p.answer p.changes p.rows.items) }
 {
+    laid_out_creates();
+    created_is_made();
     match lay_out(alloc, text.as_str(), variables, new, pipeline, job, now) {
-        Ok(made) => by_records(alloc, made, job),
-        Err(fault) => {
-            let plan = unread(alloc, fault)?;
+        Ok(Some(creation)) => with_its_rows(alloc, creation, job),
+        Ok(None) => Ok(Planned::without_rows(alloc, refused(alloc, Code::M15))),
+        Err(FileFault::Fault(detail)) => {
+            let plan = faulted(alloc, &detail)?;
             Ok(Planned::without_rows(alloc, plan))
         }
-    }
-}
-
-/// The plan that refuses a pipeline by the fault of its file. Errors: memory was refused, there or here.
-fn unread(alloc: Global, fault: FileFault) -> Result<(Reply, Delta), StoreFault>
-    ensures { IfOk result (Refuses fault) }
-{
-    match fault {
-        FileFault::Fault(detail) => Ok(faulted(alloc, &detail)?),
-        FileFault::Memory => Err(StoreFault::Memory),
-    }
-}
-
-/// What is planned of a pipeline with these records, whose first job has this number; or with none, where a number is over the limit.
-fn by_records(
-    alloc: Global,
-    made: Option<Creation>,
-    first: u64,
-) -> Result<Planned<Reply>, StoreFault>
-    requires pipeline { IfSome made (λ c. c.pipeline.id ≤ MAX_NUMBER) }
-    requires jobs { IfSome made (λ c. first + length c.jobs.items ≤ MAX_NUMBER + 1) }
-    ensures { IfOk result (λ p. PlansRecords made first p.answer p.changes p.rows.items) }
-{
-    created_is_made();
-    match made {
-        Some(creation) => with_its_rows(alloc, creation, first),
-        None => Ok(Planned::without_rows(alloc, refused(alloc, Code::M15))),
+        Err(FileFault::Memory) => Err(StoreFault::Memory),
     }
 }
 

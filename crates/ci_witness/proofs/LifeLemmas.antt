@@ -1,5 +1,5 @@
 -- A life with one operation more.
-use Rattle.std.specs.Prelude.{ℕ, zero, suc, ◌<◌, ◌≤◌, Bool, true, false, map, length, if◌then◌else◌, Option, Some, None, codes, option_and_then, Result, Ok, Err, IfErr}
+use Rattle.std.specs.Prelude.{ℕ, suc, Bool, true, false, map, length, if◌then◌else◌, Option, Some, None, codes, option_and_then, Result, Ok, Err, IfErr}
 use Rattle.std.specs.Str.Lines.{lines}
 use Rattle.std.specs.Result.{IsErrAnd}
 use Rattle.std.proofs.Common.{◌≡◌, ◌⊎◌, inl, inr, List, [], ◌∷◌, refl, sym, ap, subst, ◌∙◌, arith}

@@ -21,8 +21,8 @@ use Rattle.ci_yaml_lines.proofs.SpansTexts.{texts-Text}
 pub stand-tail : (at : SourceLine) (bs tail c : List ℕ) (ts : List Text) → tail ≡ tail_of bs → Stand at tail ts c → Stand at bs ts c
 stand-tail at bs tail c ts e stand = stand-within at bs tail c ts (subst (EndsIn bs) (sym e) (ends-tail bs)) stand
 
-pub stand-drop : (at : SourceLine) (bs from c : List ℕ) (n : ℕ) (ts : List Text) → from ≡ drop n bs → Stand at from ts c → Stand at bs ts c
-stand-drop at bs from c n ts e stand = stand-within at bs from c ts (subst (EndsIn bs) (sym e) (ends-drop n bs)) stand
+pub stand_drop : (at : SourceLine) (bs from c : List ℕ) (n : ℕ) (ts : List Text) → from ≡ drop n bs → Stand at from ts c → Stand at bs ts c
+stand_drop at bs from c n ts e stand = stand-within at bs from c ts (subst (EndsIn bs) (sym e) (ends-drop n bs)) stand
 
 -- ---- texts at the front
 

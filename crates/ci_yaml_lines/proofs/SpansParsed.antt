@@ -19,7 +19,7 @@ use Rattle.ci_yaml_lines.specs.Spans.{span_before, Stand, StandOn, given_texts, 
 use Rattle.ci_yaml_lines.specs.SpansParsed.{GoOn, KeyOf, ItemStands}
 use Rattle.ci_yaml_lines.proofs.SpansStand.{stand-none, stand-then, stand-all, longer, stand-longer}
 use Rattle.ci_yaml_lines.proofs.SpansFlow.{EndsIn, ends-more, ends-drop, ends-tail, ends-then, stand-end}
-use Rattle.ci_yaml_lines.proofs.SpansGiven.{stand-tail, stand-drop, stand-trimmed, trimmed-parts}
+use Rattle.ci_yaml_lines.proofs.SpansGiven.{stand-tail, stand_drop, stand-trimmed, trimmed-parts}
 
 -- ---- keys
 
@@ -98,7 +98,7 @@ line-stands n column l text ts column-is text-is stand =
     let parts : from ≡ text ++ xs = trimmed-parts from text text-is in
     let at : SourceLine = record { line = n; end = column + length text } in
     let all : Stand (longer at xs) (text ++ xs) ts [] = stand-all (longer at xs) (text ++ xs) xs ts (stand-longer at text [] xs ts stand) in
-    let whole : Stand (longer at xs) l ts [] = stand-drop (longer at xs) l (text ++ xs) [] (spaces l) ts (sym parts) all in
+    let whole : Stand (longer at xs) l ts [] = stand_drop (longer at xs) l (text ++ xs) [] (spaces l) ts (sym parts) all in
     let end : column + length text + length xs ≡ length l = ap (λ (c : ℕ). c + length text + length xs) column-is
     ∙ line-end (spaces l) (length from) (length text) (length xs) (length l) (prefix_len-le-length is_space l) (ap length parts ∙ length-append text xs) (length-drop (spaces l) l) in
     subst (λ (e : ℕ). Stand (record { line = n; end = e }) l ts []) end whole

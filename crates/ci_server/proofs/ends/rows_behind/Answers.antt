@@ -1,4 +1,4 @@
-use Rattle.std.specs.Prelude.{◌≡◌, Ok, Some, None, List}
+use Rattle.std.specs.Prelude.{List}
 use Rattle.std.specs.Option.{option_copied}
 use Rattle.std.proofs.Common.{subst, sym, ap, ◌∙◌}
 use Rattle.ci_machine.specs.declared.records.BoardRow.{BoardRow}

@@ -1,4 +1,4 @@
-use Rattle.std.specs.Prelude.{◌≡◌, Ok, Some, IfOk, IfSome, List, All, true, ℕ, [], ◌∷◌}
+use Rattle.std.specs.Prelude.{◌≡◌, Ok, IfOk, IfSome, List, All, true, ℕ, [], ◌∷◌}
 use Rattle.std.proofs.Common.{subst, sym, ◌∙◌}
 use Rattle.ci_machine.specs.declared.records.BoardRow.{BoardRow}
 use Rattle.ci_machine.specs.declared.records.Job.{Job}

@@ -8,7 +8,7 @@ use Rattle.ci_machine.specs.Sweeps as sweeps
 use Rattle.ci_store.specs.Store.{UnlessBroken}
 use Rattle.ci_server.specs.Holding.{with_rows}
 use Rattle.ci_server.specs.Planning.{IsKept, PlansFor}
-use Rattle.ci_server.proofs.Handling.{performed, unplanned}
+use Rattle.ci_server.proofs.Handling.{performed}
 use Rattle.ci_server.proofs.events.sweep.Goals as goal
 
 -- the look-ups left the store as it was, so the changes were committed in it

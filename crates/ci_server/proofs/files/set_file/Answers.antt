@@ -11,8 +11,8 @@ use Rattle.ci_server.proofs.Loading.{gives}
 use Rattle.ci_server.proofs.files.set_file.Goals as goal
 
 -- the project that was looked up is the one that is named, and its plan is the file's
-pub returns-in_ok-plan-in-Ok : goal.returns-in_ok-plan-in-Ok
-returns-in_ok-plan-in-Ok g c =
+pub returns-in-Ok : goal.returns-in-Ok
+returns-in-Ok g c =
     let new = c.args.new in
     let plan = c.in_ok-plan-in-Ok.plan in
     gives g.T.Store.honest g.T.Store.holds g.T.Store.leaves _ _ _ c.project_with.result c.in_ok-project.project plan c.in_ok-project.was c.project_with.ensures

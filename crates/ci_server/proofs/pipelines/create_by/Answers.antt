@@ -2,7 +2,6 @@ use Rattle.std.specs.Prelude.{◌≡◌, Ok, IfOk, List}
 use Rattle.std.proofs.Common.{subst, ◌∙◌}
 use Rattle.ci_machine.specs.declared.records.Variable.{Variable}
 use Rattle.ci_machine.specs.Pipelines.{given_by, Creates}
-use Rattle.ci_machine.specs.Step.{project_variables}
 use Rattle.ci_server.specs.Planning.{PlansFor, PlansFile}
 use Rattle.ci_server.proofs.Loading.{ends, goes_on}
 use Rattle.ci_server.proofs.pipelines.create_by.Goals as goal

@@ -25,8 +25,8 @@ returns-in-Ok g c =
     (sym file) (planned kept))
 
 -- it is refused before its file is read
-pub returns-in_ok-plan-in-Err : goal.returns-in_ok-plan-in-Err
-returns-in_ok-plan-in-Err g c =
+pub returns : goal.returns
+returns g c =
     let new = c.args.new.now in
     let plan = c.in_ok-plan-in-Err.plan in
     let made = c.without_rows in

@@ -1,4 +1,4 @@
-use Rattle.std.specs.Prelude.{◌≡◌, List, Ok, IfOk, map, length}
+use Rattle.std.specs.Prelude.{◌≡◌, List, IfOk, map, length}
 use Rattle.std.specs.Ordering.{nat_cmp}
 use Rattle.std.specs.List.Sorted.{IsStrictlySortedBy}
 use Rattle.std.proofs.Common.{subst, sym, ap, ◌∙◌}

@@ -2,7 +2,7 @@ use Rattle.std.specs.Prelude.{◌≡◌, List, IfOk, length, map}
 use Rattle.std.proofs.Common.{subst, ap, ◌∙◌}
 use Rattle.ci_machine.specs.declared.records.BoardRow.{BoardRow}
 use Rattle.ci_machine.specs.Pipelines.{pipeline_created}
-use Rattle.ci_plans.specs.Creations.{creation_view}
+use Rattle.ci_pipelines.specs.Creations.{creation_view}
 use Rattle.ci_server.proofs.pipelines.with_its_rows.Goals as goal
 
 -- there is a row for each job

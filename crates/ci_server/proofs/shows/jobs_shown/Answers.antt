@@ -1,4 +1,4 @@
-use Rattle.std.specs.Prelude.{◌≡◌, ℕ, List, length, Ok, IfOk}
+use Rattle.std.specs.Prelude.{◌≡◌, ℕ, List, length, IfOk}
 use Rattle.std.proofs.Common.{subst, ap, ◌∙◌}
 use Rattle.ci_board.specs.declared.facts.Facts.{Facts}
 use Rattle.ci_board.specs.declared.facts.Row.{Row}

@@ -1,4 +1,4 @@
-use Rattle.std.specs.Prelude.{◌≡◌, Ok, Some, IfOk, IfSome, List, All, true, ℕ}
+use Rattle.std.specs.Prelude.{◌≡◌, IfOk, IfSome, List, All, true, ℕ}
 use Rattle.std.proofs.Common.{refl, subst, sym, ap, ◌∙◌}
 use Rattle.ci_machine.specs.declared.records.Job.{Job}
 use Rattle.ci_machine.specs.declared.records.Need.{Need}

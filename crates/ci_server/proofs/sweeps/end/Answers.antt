@@ -1,5 +1,5 @@
-use Rattle.std.specs.Prelude.{◌≡◌, Ok, Some, IfOk, List, [], ◌∷◌}
-use Rattle.std.proofs.Common.{subst, sym, ap, ◌∙◌, inr}
+use Rattle.std.specs.Prelude.{◌≡◌, Ok, Some, IfOk, List}
+use Rattle.std.proofs.Common.{subst, sym}
 use Rattle.ci_machine.specs.declared.change.RowChange.{RowChange}
 use Rattle.ci_machine.specs.declared.reply.Swept.{Swept}
 use Rattle.ci_machine.specs.Sweeps as machine

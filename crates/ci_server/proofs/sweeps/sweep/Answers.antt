@@ -1,11 +1,9 @@
-use Rattle.std.specs.Prelude.{◌≡◌, Ok, Some, IfOk, List, Option}
+use Rattle.std.specs.Prelude.{◌≡◌, Some, List}
 use Rattle.std.specs.Option.{option_copied}
-use Rattle.std.proofs.Common.{subst, sym, ap, ◌∙◌}
+use Rattle.std.proofs.Common.{sym, ap, ◌∙◌}
 use Rattle.ci_machine.specs.declared.lease.Lease.{Lease}
-use Rattle.ci_machine.specs.declared.change.RowChange.{RowChange}
-use Rattle.ci_machine.specs.declared.reply.Swept.{Swept}
 use Rattle.ci_machine.specs.Leases.{first_due}
-use Rattle.ci_machine.specs.Step.{leases, lease_of, live_attempts}
+use Rattle.ci_machine.specs.Step.{leases, lease_of}
 use Rattle.ci_machine.specs.Sweeps as machine
 use Rattle.std.proofs.Common.{map}
 use Rattle.ci_server.proofs.Loading.{goes_on}

@@ -1,4 +1,4 @@
-use Rattle.std.proofs.Common.{rules, IfOk, ◌∷◌, subst, sym}
+use Rattle.std.proofs.Common.{IfOk, ◌∷◌, subst, sym}
 use Rattle.ci_witness.specs.Life.{IsOpenAt, IsCause, planned, before_grant, granted, with_attempt}
 use Rattle.ci_witness.proofs.LifeLemmas.{asked, next, handed_on, plans_project, plans_runner, plans_file, plans_pipeline, plans_grant}
 use Rattle.ci_witness.proofs.life.granted.Goals as goal
@@ -7,14 +7,14 @@ pub returns-in_err-server-2-clause-stopped : goal.returns-in_err-server-2-clause
 returns-in_err-server-2-clause-stopped c =
     let first = c.in_ok-server.ensures.created in
     let cause = c.in_err-server-2.ensures.stopped _ _ _ first (asked c.in_ok-project.ensures plans_project) in
-    search (rules, cause)
+    handed_on c.from_residual-in_err-server-2.result c.from_residual-in_err-server-2.ensures.1 (λ e same. subst IsCause (sym same) cause)
 
 pub returns-in_err-server-3-clause-stopped : goal.returns-in_err-server-3-clause-stopped
 returns-in_err-server-3-clause-stopped c =
     let first = c.in_ok-server.ensures.created in
     let second = next c.in_ok-project.ensures plans_project c.in_ok-server-2.ensures.taken first in
     let cause = c.in_err-server-3.ensures.stopped _ _ _ second (asked c.in_ok-runner.ensures plans_runner) in
-    search (rules, cause)
+    handed_on c.from_residual-in_err-server-3.result c.from_residual-in_err-server-3.ensures.1 (λ e same. subst IsCause (sym same) cause)
 
 pub returns-in_err-server-4-clause-stopped : goal.returns-in_err-server-4-clause-stopped
 returns-in_err-server-4-clause-stopped c =
@@ -23,7 +23,7 @@ returns-in_err-server-4-clause-stopped c =
     let second = next c.in_ok-project.ensures plans_project c.in_ok-server-2.ensures.taken first in
     let third = next c.in_ok-runner.ensures plans_runner c.in_ok-server-3.ensures.taken second in
     let cause = c.in_err-server-4.ensures.stopped _ _ _ third (asked c.in_ok-file.ensures file_so) in
-    search (rules, cause)
+    handed_on c.from_residual-in_err-server-4.result c.from_residual-in_err-server-4.ensures.1 (λ e same. subst IsCause (sym same) cause)
 
 pub returns-in_err-server-5-clause-stopped : goal.returns-in_err-server-5-clause-stopped
 returns-in_err-server-5-clause-stopped c =

@@ -1,7 +1,7 @@
 use Rattle.std.proofs.Common.{[]}
 use Rattle.ci_yaml_lines.specs.Line.{spaces}
 use Rattle.ci_yaml_lines.proofs.SpansStand.{stand-none}
-use Rattle.ci_yaml_lines.proofs.SpansGiven.{stand-drop, stand-nothing}
+use Rattle.ci_yaml_lines.proofs.SpansGiven.{stand_drop, stand-nothing}
 use Rattle.std.proofs.Common.{◌≡◌, ◌∙◌, ℕ, ◌+◌, true, false, drop, refl, sym, ap}
 use Rattle.ci_yaml_lines.specs.Scalar.{only_comment, head_is}
 use Rattle.ci_yaml_lines.specs.View.{inner, value, least_item}
@@ -18,7 +18,7 @@ returns-then-head_is-clause-spans c = stand-nothing c.args.source c.args.text.no
 pub returns-then-branch-clause-spans : goal.returns-then-branch-clause-spans
 returns-then-branch-clause-spans c =
     let inner = c.drop_spaces-inner.result.now in
-    stand-drop c.args.source c.args.text.now inner inner (spaces c.args.text.now) [] c.drop_spaces-inner.ensures (stand-none c.args.source inner)
+    stand_drop c.args.source c.args.text.now inner inner (spaces c.args.text.now) [] c.drop_spaces-inner.ensures (stand-none c.args.source inner)
 
 pub returns-then-is_only_comment-clause-value : goal.returns-then-is_only_comment-clause-value
 returns-then-is_only_comment-clause-value c =

@@ -1,7 +1,7 @@
 use Rattle.std.proofs.Common.{[], ◌≡◌}
 use Rattle.ci_yaml_lines.specs.Scalar.{blanks, drop_blanks}
 use Rattle.ci_yaml_lines.specs.Spans.{Stand, given_texts}
-use Rattle.ci_yaml_lines.proofs.SpansGiven.{stand-drop, stand-nothing, if-ok}
+use Rattle.ci_yaml_lines.proofs.SpansGiven.{stand_drop, stand-nothing, if-ok}
 use Rattle.ci_yaml_lines.proofs.SpansOf.{exact-unwritten, exact-written}
 use Rattle.ci_yaml_lines.specs.Line.{written, written_at}
 use Rattle.ci_yaml_lines.specs.SpansOf.{spans_of, given_spans}
@@ -13,7 +13,7 @@ returns-then-is_only_comment-clause-spans c = stand-nothing c.args.source c.args
 pub returns-clause-spans : goal.returns-clause-spans
 returns-clause-spans c =
     if-ok c.read_value.result (λ w. Stand c.args.source c.drop_blanks.result.now (given_texts w.given) []) (λ w. Stand c.args.source c.args.text.now (given_texts w.given) [])
-    (λ w stand. stand-drop c.args.source c.args.text.now c.drop_blanks.result.now [] (blanks c.args.text.now) (given_texts w.given) c.drop_blanks.ensures stand) c.read_value.ensures.spans
+    (λ w stand. stand_drop c.args.source c.args.text.now c.drop_blanks.result.now [] (blanks c.args.text.now) (given_texts w.given) c.drop_blanks.ensures stand) c.read_value.ensures.spans
 
 pub returns-then-is_only_comment-clause-exact : goal.returns-then-is_only_comment-clause-exact
 returns-then-is_only_comment-clause-exact c = exact-unwritten c.args.source c.args.last c.args.text.now c.as_bytes.result.now c.as_bytes.ensures.value c.if-is_only_comment.ensures
