@@ -14,6 +14,7 @@ pub mod Settled
 pub mod Ends
 pub mod ActPlaces
 pub mod ActShows
+pub mod ActRecords
 pub mod Stays
 pub mod Grants
 pub mod Made

@@ -1,12 +1,13 @@
 //! How the rows stay right under the changes of a state.
 
-ghost use Rattle.std.specs.Prelude.{◌≡◌, ◌<◌, ◌++◌, ℕ, Bool, true, List, [], ◌∷◌, length, map, filter, if◌then◌else◌, Contains, Some, None, Ok};
+ghost use Rattle.std.specs.Prelude.{◌≡◌, ◌<◌, ◌++◌, ◌==◌, ℕ, Bool, true, List, [], ◌∷◌, length, map, filter, if◌then◌else◌, All, Contains, Some, None, Ok};
 ghost use Rattle.std.specs.List.{AllByRecursion};
 ghost use Rattle.ci_values.specs.declared.attempts.AttemptState.TheVariants.{Live};
 ghost use Rattle.ci_board.specs.declared.facts.Row.{Row};
 ghost use Rattle.ci_board.specs.Rows.{AreRows, row_at as row_of};
 ghost use Rattle.ci_machine.specs.declared.records.Job.{Job};
 ghost use Rattle.ci_machine.specs.declared.records.Attempt.{Attempt};
+ghost use Rattle.ci_machine.specs.declared.records.Need.{Need};
 ghost use Rattle.ci_machine.specs.declared.records.QueuedJob.{QueuedJob};
 ghost use Rattle.ci_machine.specs.declared.records.BoardRow.{BoardRow};
 ghost use Rattle.ci_machine.specs.declared.change.Record.TheVariants as row;
@@ -29,6 +30,7 @@ ghost use Rattle.ci_machine.specs.Plans.{numbered};
 ghost use Rattle.ci_layout.specs.Inclusion.{Given};
 ghost use Rattle.ci_machine.specs.Pipelines.{Layout, IsLaidOut, Creation, creation, creation_changes};
 ghost use Rattle.ci_statuses.specs.Boards.{changed_rows};
+ghost use Rattle.ci_statuses.specs.Lookups.{AreRecords};
 ghost use Rattle.ci_statuses.specs.Changes.{IsWithin, HaveSameFacts, LeavesStatuses, IsMade, started_row};
 ghost use Rattle.ci_statuses.specs.Acts.{is_permitted, act_changes, facts_acted, acted_jobs, IsOutcome};
 ghost use Rattle.ci_statuses.specs.Pages.{queue_behind, end_of_page, queued_at};
@@ -72,6 +74,16 @@ pub fn acts_settle()
     ensures play { (s : State) (job : Job) → act_changes Act.Play s (job ∷ []) ≡ play job }
     ensures retry { (s : State) (job : Job) → act_changes Act.Retry s (job ∷ []) ≡ retry (attempts_of s job.id) job }
     ensures cancel { (s : State) (jobs : List Job) → act_changes Act.Cancel s jobs ≡ cancel s.attempts jobs }
+{}
+
+/// What is looked up of a pipeline has all that the machine takes for a retry of one of its jobs, and for the end of some.
+pub fn acts_are_of_records()
+    ensures retry { (s : State) (board : List BoardRow) (pipeline : ℕ) (jobs : List Job) (needs : List Need) (attempts : List Attempt) (rows : List BoardRow) (job : Job)
+        → AreRecords s board pipeline jobs needs attempts rows → Contains jobs job
+        → act_changes Act.Retry s (job ∷ []) ≡ retry (filter (λ a. a.job == job.id) attempts) job }
+    ensures cancel { (s : State) (board : List BoardRow) (pipeline : ℕ) (jobs : List Job) (needs : List Need) (attempts : List Attempt) (rows : List BoardRow) (chosen : List Job)
+        → AreRecords s board pipeline jobs needs attempts rows → All (Contains jobs) chosen
+        → act_changes Act.Cancel s chosen ≡ cancel attempts chosen }
 {}
 
 /// What an outcome says is what the machine shows after it: the job that was asked for, at its one place; and the pipeline with its

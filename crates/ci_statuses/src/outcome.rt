@@ -133,7 +133,9 @@ pub fn outcome_of(
     act: Act,
     only: Option<u64>,
 ) -> Result<Outcome, StatusFault>
-    ensures { IfOk result (λ v. (s : State) (board : List BoardRow) (pipeline : ℕ) → IsSound s → AreBoard s board → AreRecords s board pipeline jobs.now needs.now attempts.now rows.now → IsOutcome act only s board pipeline v) }
+    ensures places { IfOk result (λ v. All (λ place. place < length jobs.now) v.places.items) }
+    ensures long { IfOk result (λ v. (length v.facts.items ≡ length jobs.now) × (length v.rows.items ≡ length jobs.now)) }
+    ensures outcome { IfOk result (λ v. (s : State) (board : List BoardRow) (pipeline : ℕ) → IsSound s → AreBoard s board → AreRecords s board pipeline jobs.now needs.now attempts.now rows.now → IsOutcome act only s board pipeline v) }
 {
     outcome_on::<Brand>(alloc, Blank::new(1), jobs, needs, attempts, rows, act, only)
 }
@@ -151,7 +153,9 @@ fn outcome_on<L: Ledger>(
     requires name { blank.name ≡ L.name }
     requires ledger { blank.parts ≡ L.parts }
     requires some { 0 < blank.parts }
-    ensures { IfOk result (λ v. (s : State) (board : List BoardRow) (pipeline : ℕ) → IsSound s → AreBoard s board → AreRecords s board pipeline jobs.now needs.now attempts.now rows.now → IsOutcome act only s board pipeline v) }
+    ensures places { IfOk result (λ v. All (λ place. place < length jobs.now) v.places.items) }
+    ensures long { IfOk result (λ v. (length v.facts.items ≡ length jobs.now) × (length v.rows.items ≡ length jobs.now)) }
+    ensures outcome { IfOk result (λ v. (s : State) (board : List BoardRow) (pipeline : ℕ) → IsSound s → AreBoard s board → AreRecords s board pipeline jobs.now needs.now attempts.now rows.now → IsOutcome act only s board pipeline v) }
 {
     let mut board = load_board::<L>(alloc, blank, jobs, needs, attempts, rows)?;
     let _size = board.size();

@@ -1,4 +1,4 @@
-use Rattle.std.proofs.Common.{sym, ap, subst, ◌∙◌, length, map}
+use Rattle.std.proofs.Common.{refl, sym, ap, subst, ◌∙◌, length, map}
 use Rattle.ci_board.specs.Rows.{AreRows, replaced}
 use Rattle.ci_machine.proofs.Sound.{sound}
 use Rattle.ci_statuses.specs.Acts.{is_acted_at, facts_change}
@@ -19,8 +19,8 @@ settle-requires-clause-changes g c =
     (is_acted_at c.args.act c.args.only (map (λ j. j.id) c.args.jobs.now) b.rows) (length c.args.jobs.now)
     (c.as_slice.ensures.value ∙ c.in_ok-places.ensures) (sym c.in_ok-board.ensures.long) (c.as_slice-2.ensures.value ∙ c.in_ok-changes.ensures)
 
-pub returns : goal.returns
-returns g c = λ s board pipeline is_sound are records.
+pub returns-clause-outcome : goal.returns-clause-outcome
+returns-clause-outcome g c = λ s board pipeline is_sound are records.
     let b = c.in_ok-board.board in
     let changes = c.as_slice-2.result.now in
     outcome_is c.args.act c.args.only s board pipeline (sound s is_sound) are c.args.jobs.now b changes c.settle.new.board.facts
@@ -32,3 +32,15 @@ returns g c = λ s board pipeline is_sound are records.
     (ap length c.in_ok-rows.ensures ∙ c.in_ok-changed.ensures.long)
     (λ before. subst (λ rows. AreRows b.graph (replaced changes b.facts) rows) (sym c.in_ok-rows.ensures) (c.in_ok-changed.ensures.right before))
     (c.in_ok-changed.ensures.rows ∙ ap (changed_rows (map (λ j. j.id) c.args.jobs.now) b.rows) (sym c.in_ok-rows.ensures))
+
+-- each place is that of a job, and each job has its facts and its row
+pub returns-clause-places : goal.returns-clause-places
+returns-clause-places g c =
+    all_there (is_acted_at c.args.act c.args.only (map (λ j. j.id) c.args.jobs.now) c.in_ok-board.board.rows) (length c.args.jobs.now) (length c.args.jobs.now) c.in_ok-places.places.items
+    c.in_ok-places.ensures refl
+
+pub returns-clause-long : goal.returns-clause-long
+returns-clause-long g c = (
+  ap length c.in_ok-facts.ensures ∙ (c.in_ok-changed.ensures.long_facts ∙ (c.size-size.ensures.facts ∙ c.in_ok-board.ensures.long)),
+  ap length c.in_ok-rows.ensures ∙ (c.in_ok-changed.ensures.long ∙ (c.size-size.ensures.rows ∙ c.in_ok-board.ensures.long)),
+)
