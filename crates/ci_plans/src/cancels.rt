@@ -1,6 +1,7 @@
 //! Jobs are cancelled: one, or those of a pipeline that can be. Both are the same of a list of jobs.
 
-ghost use Rattle.std.specs.Prelude.{◌≡◌, ◌++◌, ◌∷◌, [], map, filter, length, IfOk};
+ghost use Rattle.std.specs.Prelude.{◌≡◌, ◌==◌, ◌++◌, ◌∷◌, [], map, filter, length, IfOk};
+ghost use Rattle.std.specs.List.{list_any};
 ghost use Rattle.ci_machine.specs.declared.change.RowChange.TheVariants as change;
 ghost use Rattle.ci_machine.specs.declared.change.Record.TheVariants as row;
 ghost use Rattle.ci_machine.specs.Cancels as cancels;
@@ -98,7 +99,13 @@ fn with_ends(
 fn is_lease_on(jobs: &[Job], attempt: &Attempt) -> bool
     ensures { result ≡ cancels.is_lease_on jobs.now attempt.now }
 {
-    attempt.state.is_live() && jobs.iter().any(|job| job.id == attempt.job)
+    attempt.state.is_live() && has_number(jobs, attempt.job)
+}
+
+fn has_number(jobs: &[Job], number: u64) -> bool
+    ensures { result ≡ list_any (λ j. j.id == number) jobs.now }
+{
+    jobs.iter().any(|job| job.id == number)
 }
 
 fn ended(attempt: &Attempt) -> Result<RowChange, AllocError>
