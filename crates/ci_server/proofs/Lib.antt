@@ -3,5 +3,6 @@ pub mod Handling
 pub mod Runs
 pub mod LifetimeLemmas
 pub mod Settles
+pub mod Acting
 pub mod Pages
 pub mod Loading

@@ -29,7 +29,7 @@ use Rattle.ci_machine.specs.declared.change.RowChange.{RowChange}
 use Rattle.ci_machine.specs.declared.change.RowChange.TheVariants.{Put}
 use Rattle.ci_machine.specs.declared.request.Seed.{Seed}
 use Rattle.ci_machine.specs.declared.request.Request.{Request}
-use Rattle.ci_machine.specs.declared.request.Request.TheVariants.{AddProject, AddRunner, SetFile, SetVariable, DeleteVariable, CreatePipeline, ShowPipeline, AskJob, UpdateJob, AppendTrace, ShowJob, ShowTrace}
+use Rattle.ci_machine.specs.declared.request.Request.TheVariants.{AddProject, AddRunner, SetFile, SetVariable, DeleteVariable, CreatePipeline, ShowPipeline, AskJob, UpdateJob, AppendTrace, ShowJob, ShowTrace, Play, CancelJob, RetryJob, CancelPipeline}
 use Rattle.ci_machine.specs.declared.request.Report.{Report}
 use Rattle.ci_machine.specs.declared.request.Report.TheVariants as report
 use Rattle.ci_machine.specs.declared.request.JobUpdate.{JobUpdate}
@@ -348,11 +348,15 @@ without_rows law k is Makes plan answer changes rows same_answer same_changes no
 
 -- ---- requests by which no row differs
 
--- the request makes no pipeline, and moves no attempt but by its trace
+-- the request makes no pipeline, acts on no job, and moves no attempt but by its trace
 abbrev pub KeepsRows : Request → Type 0
 KeepsRows (CreatePipeline new) = ⊥
 KeepsRows (AskJob token) = ⊥
 KeepsRows (UpdateJob update) = ⊥
+KeepsRows (Play query) = ⊥
+KeepsRows (CancelJob query) = ⊥
+KeepsRows (RetryJob query) = ⊥
+KeepsRows (CancelPipeline query) = ⊥
 KeepsRows _ = Unit {0}
 
 leaves_so : (s : State) (plan is : Plan) → plan ≡ is → AllByRecursion (LeavesStatuses s) is.1 → AllByRecursion (LeavesStatuses s) plan.1
@@ -369,6 +373,10 @@ leaves_rows s board (DeleteVariable query) now seed plan keeps does =
 leaves_rows s board (CreatePipeline new) now seed plan keeps does = absurd keeps
 leaves_rows s board (AskJob token) now seed plan keeps does = absurd keeps
 leaves_rows s board (UpdateJob update) now seed plan keeps does = absurd keeps
+leaves_rows s board (Play query) now seed plan keeps does = absurd keeps
+leaves_rows s board (CancelJob query) now seed plan keeps does = absurd keeps
+leaves_rows s board (RetryJob query) now seed plan keeps does = absurd keeps
+leaves_rows s board (CancelPipeline query) now seed plan keeps does = absurd keeps
 leaves_rows s board (AppendTrace part) now seed plan keeps does = leaves_so s plan _ does (piece_leaves s part now)
 leaves_rows s board (ShowPipeline query) now seed plan keeps does = leaves_so s plan _ does (pipeline_shown_leaves s _ _ _ _)
 leaves_rows s board (ShowJob query) now seed plan keeps does = leaves_so s plan _ does (shown_leaves s _ _)

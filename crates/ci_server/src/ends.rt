@@ -8,12 +8,12 @@ ghost use Rattle.ci_store.specs.Store.{LoadsBy};
 ghost use Rattle.std.specs.Option.{option_copied};
 ghost use Rattle.ci_server.specs.Planning.{IsKept, Settles, MovesOne, attempt_ended};
 
+use crate::records::records_of;
 use ci_machine::change::{Delta, Record, RowChange};
 use ci_machine::records::{Attempt, BoardRow};
 use ci_statuses::end::rows_of_end;
 use ci_statuses::fault::StatusFault;
 use ci_statuses::laws::rows_stay;
-use ci_statuses::load::range_of;
 use ci_store::fault::StoreFault;
 use ci_store::store::Store;
 use std::alloc::Global;
@@ -56,19 +56,13 @@ fn rows_behind_end<T: Store>(
     ensures { LoadsBy T.honest T.holds T.leaves store.old store.new result
         (λ k rows. IsKept k → HasLive k.state after.now → Settles k (Put (row.Attempt after.now) ∷ []) rows.items) }
 {
-    let jobs = store.jobs_of(pipeline)?;
-    let Some((first, last)) = range_of(jobs.as_slice()) else {
-        return Err(StoreFault::Broken);
-    };
-    let needs = store.needs_within(first, last)?;
-    let attempts = store.attempts_within(first, last)?;
-    let rows = store.rows_within(first, last)?;
+    let records = records_of(store, pipeline)?;
     or_store_fault(rows_of_end(
         alloc,
-        jobs.as_slice(),
-        needs.as_slice(),
-        attempts.as_slice(),
-        rows.as_slice(),
+        records.jobs.as_slice(),
+        records.needs.as_slice(),
+        records.attempts.as_slice(),
+        records.rows.as_slice(),
         after,
     ))
 }

@@ -13,6 +13,7 @@ ghost use Rattle.ci_server.specs.Handling.{Performs};
 ghost use Rattle.ci_server.specs.Holding.{Holds, Leaves};
 ghost use Rattle.ci_server.specs.Planning.{IsKept, PlansFor};
 
+use crate::acts::{act_on, cancel_pipeline};
 use crate::files::set_file;
 use crate::grants::ask_job;
 use crate::pipelines::create_pipeline;
@@ -27,6 +28,7 @@ use crate::variables::{delete_variable, set_variable};
 use ci_machine::moment::Moment;
 use ci_machine::reply::{Reply, Swept};
 use ci_machine::request::{Request, Seed};
+use ci_statuses::act::Act;
 use ci_statuses::laws::rows_stay;
 use ci_store::fault::StoreFault;
 use ci_store::store::Store;
@@ -78,6 +80,10 @@ fn plan<T: Store>(
         Request::CreatePipeline(new) => create_pipeline(alloc, store, &new, now),
         Request::AskJob(token) => ask_job(alloc, store, token, now, seed),
         Request::UpdateJob(update) => update_job(alloc, store, &update, now),
+        Request::Play(query) => act_on(alloc, store, Act::Play, &query),
+        Request::CancelJob(query) => act_on(alloc, store, Act::Cancel, &query),
+        Request::RetryJob(query) => act_on(alloc, store, Act::Retry, &query),
+        Request::CancelPipeline(query) => cancel_pipeline(alloc, store, &query),
         Request::AddProject(name) => {
             let plan = add_project(alloc, store, name, seed)?;
             Ok(Planned::without_rows(alloc, plan))

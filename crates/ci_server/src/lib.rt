@@ -1,6 +1,7 @@
 //! The server: requests over the tables, served from bytes to bytes.
 #![tactic(auto)]
 
+mod acts;
 mod ends;
 mod events;
 mod fail_stop;
@@ -11,6 +12,7 @@ pub mod lifetime;
 mod pipelines;
 mod planned;
 mod projects;
+mod records;
 mod reports;
 mod runners;
 mod search;

@@ -33,13 +33,13 @@ use std::alloc::Global;
 
 /// What a question names: the project with its token, the job with its number, and that job's pipeline, if they are there.
 #[derive(Drop)]
-struct Named {
-    project: Option<Project>,
-    job: Option<Job>,
-    pipeline: Option<Pipeline>,
+pub struct Named {
+    pub project: Option<Project>,
+    pub job: Option<Job>,
+    pub pipeline: Option<Pipeline>,
 }
 
-fn load_named<T: Store>(store: &mut T, query: &JobQuery) -> Result<Named, StoreFault>
+pub(crate) fn load_named<T: Store>(store: &mut T, query: &JobQuery) -> Result<Named, StoreFault>
     ensures { LoadsBy T.honest T.holds T.leaves store.old store.new result
         (λ k n. let job = step.job_at k.state query.now.job in
         n ≡ record { project = step.project_with k.state query.now.token; job = job; pipeline = step.pipeline_of k.state job }) }
@@ -65,7 +65,7 @@ fn pipeline_of<T: Store>(store: &mut T, job: Option<&Job>) -> Result<Option<Pipe
 }
 
 /// The job that a question names, of the project with its token. Refusals: those of the machine's `asked_job`.
-fn asked<'a>(named: &'a Named, query: &JobQuery) -> Result<&'a Job, Code>
+pub(crate) fn asked<'a>(named: &'a Named, query: &JobQuery) -> Result<&'a Job, Code>
     ensures { result_map_both (λ j. j.now) (λ c. c) result ≡ machine.asked_job named.now.project named.now.job named.now.pipeline query.now }
 {
     shows::asked_job(
@@ -161,7 +161,7 @@ pub(crate) fn show_pipeline<T: Store>(
 }
 
 /// The pipeline that was found, where it is one of the project that is named. Refusals: those of the machine's `asked_pipeline`.
-fn asked_pipeline<'a>(
+pub(crate) fn asked_pipeline<'a>(
     project: &Option<Project>,
     pipeline: &'a Option<Pipeline>,
     named: u64,

@@ -5,4 +5,5 @@
 pub mod acts;
 pub mod answers;
 pub mod rows;
+mod rule;
 pub mod servers;
