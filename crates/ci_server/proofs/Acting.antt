@@ -1,10 +1,12 @@
 -- A user acts on jobs: what is looked up of their pipeline gives the plan.
 use Rattle.std.specs.Prelude.{◌≡◌, ℕ, ◌+◌, ◌<◌, Bool, true, false, ◌==◌, List, [], ◌∷◌, ◌++◌, length, map, filter, take, All, Contains, if◌then◌else◌, Option, Some, None, Result, Ok, Err, slice_index_or}
-use Rattle.std.proofs.Common.{refl, sym, ap, subst, ◌∙◌, ⊎_elim, arith, eq-eqb}
+use Rattle.std.proofs.Common.{refl, sym, ap, subst, ◌∙◌, ⊎_elim, arith, eq-eqb, eqb-true}
+use Rattle.std.proofs.Math.Seq.{take-length}
 use Rattle.std.proofs.lemmas.List.{get_or_default, map_more}
 use Rattle.std.proofs.lemmas.List.Elements.{All-filter, All-contains_itself}
-use Rattle.std.proofs.lemmas.Bool.{cond_both, cond-true}
-use Rattle.ci_board.specs.Rows.{row_at}
+use Rattle.std.proofs.lemmas.Bool.{cond_both, cond-true, eqb-false}
+use Rattle.ci_board.specs.declared.facts.Row.{Row}
+use Rattle.ci_board.specs.Rows.{no_row, row_at}
 use Rattle.ci_machine.specs.declared.records.Job.{Job}
 use Rattle.ci_machine.specs.declared.records.Need.{Need}
 use Rattle.ci_machine.specs.declared.records.Attempt.{Attempt}
@@ -233,10 +235,53 @@ module _ (s : State) (query : JobQuery) where
 
 -- ---- jobs at places
 
--- the next one is pushed
-pub job_pushed : (jobs : List Job) (places : List ℕ) (n place : ℕ) (job : Job) (chosen pushed : List Job) (other : Job) → n < length places → place ≡ slice_index_or places n 0 → place < length jobs
-    → job ≡ slice_index_or jobs place job → chosen ≡ map (λ i. slice_index_or jobs i other) (take n places) → pushed ≡ chosen ++ job ∷ [] → pushed ≡ map (λ i. slice_index_or jobs i other) (take (n + 1) places)
-job_pushed jobs places n place job chosen pushed other l at inside is before push =
+-- a job that is cloned is the same
+same_job : (x y : Job) → (y.id ≡ x.id) × ((y.pipeline ≡ x.pipeline) × ((y.position ≡ x.position) × ((y.name ≡ x.name) × ((y.stage ≡ x.stage)
+    × ((y.options ≡ x.options) × ((y.played ≡ x.played) × ((y.cancelled ≡ x.cancelled) × (y.set_aside ≡ x.set_aside)))))))) → y ≡ x
+same_job x y h = λ i. record {
+  id = h.0 i;
+  pipeline = h.1.0 i;
+  position = h.1.1.0 i;
+  name = h.1.1.1.0 i;
+  stage = h.1.1.1.1.0 i;
+  options = h.1.1.1.1.1.0 i;
+  played = h.1.1.1.1.1.1.0 i;
+  cancelled = h.1.1.1.1.1.1.1.0 i;
+  set_aside = h.1.1.1.1.1.1.1.1 i;
+}
+
+-- the clone of the next one is pushed
+pub job_pushed : (jobs : List Job) (places : List ℕ) (n : ℕ) (found job : Job) (chosen pushed : List Job) (other : Job) → n < length places → slice_index_or places n 0 < length jobs
+    → found ≡ slice_index_or jobs (slice_index_or places n 0) found
+    → (job.id ≡ found.id) × ((job.pipeline ≡ found.pipeline) × ((job.position ≡ found.position) × ((job.name ≡ found.name) × ((job.stage ≡ found.stage)
+    × ((job.options ≡ found.options) × ((job.played ≡ found.played) × ((job.cancelled ≡ found.cancelled) × (job.set_aside ≡ found.set_aside))))))))
+    → chosen ≡ map (λ i. slice_index_or jobs i other) (take n places) → pushed ≡ chosen ++ job ∷ [] → pushed ≡ map (λ i. slice_index_or jobs i other) (take (n + 1) places)
+job_pushed jobs places n found job chosen pushed other l inside is cloned before push =
     push
-    ∙ ((λ i. before i ++ (is ∙ (get_or_default jobs place job other inside ∙ ap (λ m. slice_index_or jobs m other) at)) i ∷ [])
+    ∙ ((λ i. before i ++ (same_job found job cloned ∙ (is ∙ get_or_default jobs (slice_index_or places n 0) found other inside)) i ∷ [])
     ∙ sym (map_more (λ i. slice_index_or jobs i other) places n 0 l))
+
+pub all_pushed : (jobs : List Job) (places : List ℕ) (n : ℕ) (chosen : List Job) (other : Job) → n ≡ length places → chosen ≡ map (λ i. slice_index_or jobs i other) (take n places)
+    → chosen ≡ map (λ i. slice_index_or jobs i other) places
+all_pushed jobs places n chosen other l before = before ∙ ap (map (λ i. slice_index_or jobs i other)) (ap (λ m. take m places) l ∙ take-length places)
+
+-- ---- lists by their lengths
+
+pub not_empty : (n long : ℕ) (b : Bool) → b ≡ (n == 0) → b ≡ false → n ≡ long → 0 < long
+not_empty n long b is full same = let d : n ≡ 0 → ⊥ = eqb-false n 0 (sym is ∙ full) in omega (arith, same, d)
+
+pub is_empty : (n long : ℕ) (b : Bool) → b ≡ (n == 0) → b ≡ true → n ≡ long → long ≡ 0
+is_empty n long b is bare same = sym same ∙ eqb-true n 0 (sym is ∙ bare)
+
+-- the status at the first place
+pub status_at : (o : Outcome) (count place : ℕ) (row : Row) → 0 < length o.places.items → All (λ i. i < count) o.places.items → length o.rows.items ≡ count
+    → place ≡ slice_index_or o.places.items 0 place → row ≡ slice_index_or o.rows.items place row → row ≡ row_at o.rows.items (slice_index_or o.places.items 0 0)
+status_at o count place row some all long at is =
+    let first : place ≡ slice_index_or o.places.items 0 0 = at ∙ get_or_default o.places.items 0 place 0 some in
+    let low : slice_index_or o.places.items 0 place < count = all 0 place some in
+    let inside : place < length o.rows.items = subst (λ n. n < length o.rows.items) (sym at) (subst (λ n. slice_index_or o.places.items 0 place < n) (sym long) low) in
+    is ∙ (get_or_default o.rows.items place row no_row inside ∙ ap (row_at o.rows.items) first)
+
+-- what is handed on as well done is the same
+pub ok_same : {A B : Type 0} (f : A → B) (x y : A) → ◌≡◌ {A = Result A StoreFault} (Ok x) (Ok y) → f y ≡ f x
+ok_same f x y e = let same : x ≡ y = cc in sym (ap f same)

@@ -212,8 +212,9 @@ fn jobs_at(alloc: Global, jobs: &[Job], places: &[usize]) -> Result<Vec<Job>, Al
     ensures { IfOk result (λ v. (other : Job) → v.items ≡ map (λ place. slice_index_or jobs.now place other) places.now) }
 {
     let mut chosen = Vec::with_capacity(alloc, places.len())?;
-    for place in places {
-        chosen.push(jobs[*place].clone()?)?;
+    for i in 0..places.len() {
+        let place = places[i];
+        chosen.push(jobs[place].clone()?)?;
     }
     Ok(chosen)
 }

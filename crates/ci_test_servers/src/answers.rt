@@ -105,8 +105,7 @@ fn shown(status: JobStatus) -> &'static str {
 }
 
 /// The first job, where it waits for a runner.
-const PENDING: &str =
-    "{\"id\":1,\"name\":\"build\",\"stage\":\"build\",\"status\":\"pending\"}";
+const PENDING: &str = "{\"id\":1,\"name\":\"build\",\"stage\":\"build\",\"status\":\"pending\"}";
 
 /// What the first thing of its kind is answered, where the things of the first path before it have happened.
 pub fn first(act: Act) -> Want {

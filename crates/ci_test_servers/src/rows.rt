@@ -134,11 +134,7 @@ pub fn slowly_so<S: Alter + Drop>(
     so
 }
 
-fn are_slow<S: Alter>(
-    alloc: Global,
-    tables: &mut Tables<S>,
-    pipeline: u64,
-) -> Result<bool, Fail> {
+fn are_slow<S: Alter>(alloc: Global, tables: &mut Tables<S>, pipeline: u64) -> Result<bool, Fail> {
     let jobs = tables.jobs_of(pipeline)?;
     let (Some(first), Some(last)) = (jobs.first(), jobs.last()) else {
         return Ok(false);

@@ -180,8 +180,7 @@ const PLAYED: &[Row] = &[
     (1000, Act::RetryJob(1), Want::Done(HAND_PENDING)),
 ];
 
-const HAND_PENDING: &str =
-    "{\"id\":1,\"name\":\"hand\",\"stage\":\"test\",\"status\":\"pending\"}";
+const HAND_PENDING: &str = "{\"id\":1,\"name\":\"hand\",\"stage\":\"test\",\"status\":\"pending\"}";
 
 #[test]
 fn a_played_job_stays_played(rt: HostRuntime) -> Result<(), Fail> {

@@ -17,6 +17,7 @@ const MIXED: &str =
 
 /// How many jobs a pipeline has, and how many pipelines are made at most.
 const JOBS: u64 = 8;
+
 const PIPELINES: u64 = 6;
 
 /// Random numbers, and what has come of the events so far.

@@ -29,7 +29,12 @@ fn follow_on(
 }
 
 /// Has each row happen on a server over memory to which these things happened at 1000.
-pub(crate) fn follow(rt: &impl Abort, alloc: Global, before: &[Act], rows: &[Row]) -> Result<(), Fail> {
+pub(crate) fn follow(
+    rt: &impl Abort,
+    alloc: Global,
+    before: &[Act],
+    rows: &[Row],
+) -> Result<(), Fail> {
     let mut server = after(alloc, before)?;
     let followed = follow_on(rt, alloc, &mut server, rows);
     let_go(server);
