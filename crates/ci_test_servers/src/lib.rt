@@ -4,6 +4,7 @@
 
 pub mod acts;
 pub mod answers;
+pub mod links;
 pub mod rows;
 mod rule;
 pub mod servers;

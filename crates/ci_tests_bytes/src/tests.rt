@@ -1,49 +1,23 @@
 //! A runner's path over bytes: what it sends, and what it gets back.
 
-ghost use Rattle.std.specs.Prelude.{◌≡◌, ◌<◌};
-
-use ci_machine::moment::Moment;
-use ci_server::link::Link;
-use ci_server::serve::{Served, serve_one};
 use ci_server::server::Server;
 use ci_store::Alter;
-use ci_test_servers::acts::{PATH, SEED, at};
+use ci_test_servers::acts::{PATH, at};
+use ci_test_servers::links::reply_to;
 use ci_test_servers::servers::after;
 use std::alloc::Global;
-use std::marker::Brand;
-use std::sync::ledger::{Blank, Ledger};
 use std::test::Fail;
-
-/// Serves the bytes of one request, and answers those of its reply.
-fn serve<S: Alter, A: Ledger, B: Ledger>(
-    alloc: Global,
-    server: &mut Server<S>,
-    moment: Moment,
-    bytes: &[u8],
-    reads: Blank,
-    writes: Blank,
-) -> Option<Vec<u8>>
-    requires reads_name { reads.name ≡ A.name }
-    requires reads_parts { reads.parts ≡ A.parts }
-    requires reads_one { 0 < reads.parts }
-    requires writes_name { writes.name ≡ B.name }
-    requires writes_parts { writes.parts ≡ B.parts }
-    requires writes_one { 0 < writes.parts }
-{
-    let mut reader = Link::<&[u8], A>::new(bytes, reads);
-    let mut writer = Link::<Vec<u8>, B>::new(Vec::new(alloc), writes);
-    match serve_one(alloc, &mut reader, &mut writer, server, moment, SEED) {
-        Served::Replied => Some(writer.into_inner()),
-        _ => None,
-    }
-}
 
 /// What a request is answered at 1000.
 fn answer<S: Alter>(alloc: Global, server: &mut Server<S>, request: &str) -> Result<Vec<u8>, Fail> {
-    let moment = at(1000)?;
-    let bytes = request.as_bytes();
-    let (reads, writes) = (Blank::new(1), Blank::new(1));
-    Ok(serve::<S, Brand, Brand>(alloc, server, moment, bytes, reads, writes).ok_or("no reply")?)
+    let reply = reply_to(
+        alloc,
+        server,
+        at(1000)?,
+        request.as_bytes(),
+        Vec::new(alloc),
+    );
+    Ok(reply.ok_or("no reply")?)
 }
 
 /// What the runner sends, and what it gets back.

@@ -1,4 +1,4 @@
-use Rattle.ci_tests_bytes.proofs.tests.answer.Given as goal
+use Rattle.ci_test_servers.proofs.links.reply_to.Given as goal
 
 -- the ledger of each link is the one that its blank opens
 abbrev pub ghosts-serve-A-Ledger : goal.ghosts-serve-A-Ledger
