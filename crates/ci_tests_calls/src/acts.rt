@@ -20,10 +20,8 @@ fn made_of(file: &'static str) -> [Act; 4] {
 /// The first attempt failed by its script.
 const FAILS: Act = Act::Tell(1, Report::Failed(Cause::ScriptFailure, None));
 
-/// The attempt with a number went well.
-const fn well(attempt: u64) -> Act {
-    Act::Tell(attempt, Report::Success(None))
-}
+/// The second attempt went well.
+const SECOND_WELL: Act = Act::Tell(2, Report::Success(None));
 
 const ASK: Act = Act::AskJob(RUNNER);
 
@@ -108,7 +106,7 @@ const A_RETRIED: &[Row] = &[
         ),
     ),
     (1000, ASK, ANY),
-    (1000, well(2), Want::Taken(JobStatus::Success)),
+    (1000, SECOND_WELL, Want::Taken(JobStatus::Success)),
     (
         1010,
         Act::RetryJob(1),
@@ -237,7 +235,7 @@ const ANEW: &[Row] = &[
     ),
     (1020, Act::Success, Want::Over(JobStatus::Canceled)),
     (1020, ASK, ANY),
-    (1030, well(2), Want::Taken(JobStatus::Success)),
+    (1030, SECOND_WELL, Want::Taken(JobStatus::Success)),
     (1030, Act::Show, Want::Job(JobStatus::Success)),
 ];
 
