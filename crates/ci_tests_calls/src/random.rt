@@ -129,14 +129,14 @@ fn many(alloc: Global, seed: u64, events: usize) -> Result<u64, Fail> {
 
 #[test]
 fn random_events(rt: HostRuntime) -> Result<(), Fail> {
-    let attempts = many(rt.alloc(), 17, 40)?;
-    assert!(rt; attempts > 0, "{attempts}");
+    let attempts = many(rt.alloc(), 17, 1500)?;
+    assert!(rt; attempts > 50, "{attempts}");
     Ok(())
 }
 
 #[test]
 fn other_random_events(rt: HostRuntime) -> Result<(), Fail> {
-    let attempts = many(rt.alloc(), 71, 40)?;
-    assert!(rt; attempts > 0, "{attempts}");
+    let attempts = many(rt.alloc(), 71, 1500)?;
+    assert!(rt; attempts > 50, "{attempts}");
     Ok(())
 }
