@@ -53,7 +53,7 @@ fn is_allowed(job: &Job, status: Status, attempts: &[Attempt]) -> bool {
 }
 
 /// What a job that stands so means to one that waits for it.
-fn effect(job: &Job, status: Status, attempts: &[Attempt], needed: bool) -> Effect {
+fn effect_of(job: &Job, status: Status, attempts: &[Attempt], needed: bool) -> Effect {
     let allowed = is_allowed(job, status, attempts);
     match status {
         Status::Success => Effect::Good,
@@ -102,7 +102,7 @@ fn row_of(
     for (pred, row) in jobs.iter().zip(before) {
         if is_needed(needs, job.id, pred.id) {
             let needed = job.options.part.gives_needs;
-            match effect(pred, row.row.status, attempts, needed) {
+            match effect_of(pred, row.row.status, attempts, needed) {
                 Effect::Good => {}
                 Effect::Open => opens = opens.saturating_add(1),
                 Effect::Failed => failed = failed.saturating_add(1),
