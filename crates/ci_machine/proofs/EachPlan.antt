@@ -1,5 +1,5 @@
 -- What holds of each plan: a refusal changes nothing, and the machine answers neither M16 nor M17.
-use Rattle.std.proofs.Common.{◌≡◌, ℕ, ◌==◌, Bool, List, [], length, not, nat_lt, true, false, Option, None, Some, option_map, Result, Ok, Err, refl, sym, ap, subst, ◌∙◌, eqb-true}
+use Rattle.std.proofs.Common.{◌≡◌, ℕ, ◌==◌, Bool, List, [], length, not, nat_lt, true, false, Option, None, Some, option_map, Result, Ok, Err, ◌∷◌, refl, sym, ap, subst, ◌∙◌, ⊎_elim, eqb-true}
 use Rattle.std.specs.Str.{bytes_eq}
 use Rattle.std.proofs.lemmas.Bool.{cond_both, false≢true}
 use Rattle.ci_board.specs.declared.facts.Status.{Status}
@@ -33,7 +33,7 @@ use Rattle.ci_machine.specs.declared.request.PipelineQuery.{PipelineQuery}
 use Rattle.ci_machine.specs.declared.request.Event.{Event}
 use Rattle.ci_machine.specs.declared.request.Event.TheVariants as event
 use Rattle.ci_machine.specs.declared.request.Request.{Request}
-use Rattle.ci_machine.specs.declared.request.Request.TheVariants.{AddProject, AddRunner, SetFile, SetVariable, DeleteVariable, CreatePipeline, ShowPipeline, AskJob, UpdateJob, AppendTrace, ShowJob, ShowTrace}
+use Rattle.ci_machine.specs.declared.request.Request.TheVariants.{AddProject, AddRunner, SetFile, SetVariable, DeleteVariable, CreatePipeline, ShowPipeline, AskJob, UpdateJob, AppendTrace, ShowJob, ShowTrace, Play, CancelJob, CancelPipeline, RetryJob}
 use Rattle.ci_machine.specs.declared.request.Report.{Report}
 use Rattle.ci_machine.specs.declared.request.Report.TheVariants as report
 use Rattle.ci_machine.specs.declared.request.JobUpdate.{JobUpdate}
@@ -41,19 +41,23 @@ use Rattle.ci_machine.specs.declared.request.TracePart.{TracePart}
 use Rattle.ci_machine.specs.declared.request.JobQuery.{JobQuery}
 use Rattle.ci_machine.specs.declared.request.Seed.{Seed}
 use Rattle.ci_machine.specs.declared.reply.Code.{Code}
-use Rattle.ci_machine.specs.declared.reply.Code.TheVariants.{M1, M2, M3, M4, M5, M6, M7, M8, M9, M13, M14, M15, M16, M17, H1, H2, H3, H4, H5, H6, H7, H8}
+use Rattle.ci_machine.specs.declared.reply.Code.TheVariants.{M1, M2, M3, M4, M5, M6, M7, M8, M9, M10, M11, M12, M13, M14, M15, M16, M17, H1, H2, H3, H4, H5, H6, H7, H8}
 use Rattle.ci_machine.specs.declared.reply.Detail.{Detail}
 use Rattle.ci_machine.specs.declared.reply.Detail.TheVariants as detail
 use Rattle.ci_machine.specs.declared.reply.FaultCode.TheVariants.{K}
+use Rattle.ci_machine.specs.declared.reply.Body.TheVariants.{Json}
 use Rattle.ci_machine.specs.declared.reply.Answer.{Answer}
 use Rattle.ci_machine.specs.declared.reply.Answer.TheVariants as answer
 use Rattle.ci_machine.specs.declared.reply.Swept.{Swept}
 use Rattle.ci_machine.specs.declared.change.RowChange.{RowChange}
 use Rattle.ci_values.specs.Names.{is_name}
 use Rattle.ci_machine.specs.State.{State, applied}
-use Rattle.ci_machine.specs.Statuses.{jobs_of, facts_of, rows_of, status_for}
+use Rattle.ci_machine.specs.Statuses.{jobs_of, attempts_of, facts_of, rows_of, status_for}
 use Rattle.ci_values.specs.declared.limits.TheConstants.{MAX_NUMBER}
-use Rattle.ci_machine.specs.Plans.{Plan, refused, faulted, asked_project}
+use Rattle.serde_json.specs.Written.{compact_text}
+use Rattle.ci_board.specs.Texts.{status_text}
+use Rattle.ci_machine.specs.Bodies.{job_data, pipeline_data}
+use Rattle.ci_machine.specs.Plans.{Plan, refused, faulted, fine, asked_project}
 use Rattle.ci_machine.specs.Projects.{made_project, add_project}
 use Rattle.ci_machine.specs.Runners.{made_runner, add_runner}
 use Rattle.ci_machine.specs.Files.{file_set, set_file, SetsFile}
@@ -63,13 +67,18 @@ use Rattle.ci_machine.specs.Grants.{nothing_to_run, granted, ask_job}
 use Rattle.ci_machine.specs.Reports.{unleased, heard, ended, reported, update_job}
 use Rattle.ci_machine.specs.Traces.{not_accepted, grown, appended, append_trace}
 use Rattle.ci_machine.specs.Shows.{asked_pipeline, pipeline_shown, show_pipeline, job_shown, trace_shown, job_within, asked_job, shown, traced}
+use Rattle.ci_machine.specs.Acts.{permitted, status_among, ActsOn}
+use Rattle.ci_machine.specs.Plays.{is_playable, play}
+use Rattle.ci_machine.specs.Retries.{is_retryable, retry}
+use Rattle.ci_machine.specs.Cancels.{is_cancellable, cancellable_jobs, cancel, CancelsSome, CancelsPipeline}
 use Rattle.ci_machine.specs.Sweeps.{sweep}
 use Rattle.ci_machine.specs.Leases.{accepted, first_due}
 use Rattle.ci_machine.specs.Eligible.{may_run, chosen}
-use Rattle.ci_machine.specs.Step.{Does, Happens, Step, project_with, project_variables, variable_at, pipeline_at, runner_with, attempt_at, pipeline_of, job_at, last_attempt, pieces_in, lease_of, leases, is_pending, pending_jobs, queued, queue, offer, offered_variables}
+use Rattle.ci_machine.specs.Step.{Does, Happens, Step, project_with, project_variables, variable_at, pipeline_at, runner_with, attempt_at, pipeline_of, job_at, found_job, found_pipeline, last_attempt, pieces_in, lease_of, leases, is_pending, pending_jobs, queued, queue, offer, offered_variables}
 use Rattle.ci_machine.specs.Laws.{IsRefusal}
 use Rattle.ci_machine.specs.Reply.{Stepped, outcome_of}
 use Rattle.ci_machine.proofs.Keyed.{Has, has_filter, has_find, find-map}
+use Rattle.ci_machine.proofs.Acts.{IsAct, plays, retries, cancels}
 
 -- the codes with which the machine refuses
 abbrev pub IsMachineCode : Code → Type 0
@@ -78,6 +87,9 @@ IsMachineCode M2 = Unit {0}
 IsMachineCode M3 = Unit {0}
 IsMachineCode M4 = Unit {0}
 IsMachineCode M5 = Unit {0}
+IsMachineCode M10 = Unit {0}
+IsMachineCode M11 = Unit {0}
+IsMachineCode M12 = Unit {0}
 IsMachineCode M13 = Unit {0}
 IsMachineCode M14 = Unit {0}
 IsMachineCode M15 = Unit {0}
@@ -190,6 +202,83 @@ module _ (s : State) (P : Plan → Type 0) (of_code : (c : Code) → IsMachineCo
       → P (show_pipeline (asked_pipeline (of_asked s query.token query.project) (pipeline_at s query.pipeline)) jobs facts rows)
   of_pipeline query jobs facts rows h = shows jobs facts rows h query.project (pipeline_at s query.pipeline) (of_asked s query.token query.project) (is_asked s query.token query.project)
 
+-- ---- what a user does to jobs
+
+-- a job that was asked for is there, and else the request is refused
+abbrev Found : State → Result Job Code → Type 0
+Found s (Ok job) = Has job s.jobs
+Found s (Err code) = IsMachineCode code
+
+found_within : (s : State) (job : Option Job) → ((j : Job) → job ≡ Some j → Has j s.jobs) → (pipeline : Option Pipeline) (project : ℕ) → Found s (job_within job pipeline project)
+found_within s None has pipeline project = tt
+found_within s (Some job) has None project = tt
+found_within s (Some job) has (Some pipeline) project = cond_both (pipeline.project == project) (Ok job) (Err M3) (Found s) (λ _. has job refl) (λ _. tt)
+
+found_by : (s : State) (query : JobQuery) (project : Option Project) → Found s (asked_job project (job_at s query.job) (pipeline_of s (job_at s query.job)) query)
+found_by s query None = tt
+found_by s query (Some project) =
+    let job = job_at s query.job in
+    cond_both (project.id == query.project) (job_within job (pipeline_of s job) project.id) (Err M2) (Found s)
+    (λ _. found_within s job (λ j e. (has_find (λ (w : Job). w.id == query.job) j s.jobs e).0) (pipeline_of s job) project.id)
+    (λ _. tt)
+
+-- a pipeline that was asked for, or a code that refuses the request
+abbrev IsPipeline : Result Pipeline Code → Type 0
+IsPipeline (Ok p) = Unit {0}
+IsPipeline (Err code) = IsMachineCode code
+
+pipeline_by : (s : State) (named : ℕ) (found : Option Pipeline) (r : Result Project Code) → Asked s named r → IsPipeline (asked_pipeline r found)
+pipeline_by s named found (Err code) asked = asked
+pipeline_by s named None (Ok project) asked = tt
+pipeline_by s named (Some p) (Ok project) asked = cond_both (p.project == project.id) (Ok p) (Err M3) IsPipeline (λ _. tt) (λ _. tt)
+
+module _ (s : State) (board : List BoardRow) (P : Plan → Type 0) (of_code : (c : Code) → IsMachineCode c → P (refused c))
+    (of_act : (text : List ℕ) (changes : List RowChange) → IsAct s changes → P (fine (Json text), changes)) where
+  permits : (test : Status → Bool) (code : Code) → IsMachineCode code → (r : Result Job Code) → Found s r → Found s (permitted board test code r)
+  permits test code m (Err refusal) found = found
+  permits test code m (Ok job) found = cond_both (test (status_for board job.id)) (Ok job) (Err code) (Found s) (λ _. found) (λ _. m)
+
+  acts : (act : Job → List RowChange) → ((j : Job) → Has j s.jobs → IsAct s (act j)) → (plan : Plan) (r : Result Job Code) → Found s r → ActsOn s act r plan → P plan
+  acts act are plan (Err code) found is = subst P (sym is) (of_code code found)
+  acts act are plan (Ok job) found is =
+      subst P (sym is.2) (of_act (compact_text (job_data (status_text (status_among (applied (act job) s) is.0 job)) job)) (act job) (are job found))
+
+  acts_on : (act : Job → List RowChange) → ((j : Job) → Has j s.jobs → IsAct s (act j)) → (test : Status → Bool) (code : Code) → IsMachineCode code → (query : JobQuery) (plan : Plan)
+      → ActsOn s act (permitted board test code (found_job s query)) plan → P plan
+  acts_on act are test code m query plan is =
+      acts act are plan (permitted board test code (found_job s query)) (permits test code m (found_job s query) (found_by s query (project_with s query.token))) is
+
+  -- a job is to be played
+  pub of_play : (query : JobQuery) (plan : Plan) → ActsOn s play (permitted board is_playable M10 (found_job s query)) plan → P plan
+  of_play query plan is = acts_on play (plays s) is_playable M10 tt query plan is
+
+  -- a job is to be tried again
+  pub of_retry : (query : JobQuery) (plan : Plan) → ActsOn s (λ j. retry (attempts_of s j.id) j) (permitted board is_retryable M11 (found_job s query)) plan → P plan
+  of_retry query plan is = acts_on (λ j. retry (attempts_of s j.id) j) (retries s) is_retryable M11 tt query plan is
+
+  -- a job is to be cancelled
+  pub of_job_cancel : (query : JobQuery) (plan : Plan) → ActsOn s (λ j. cancel s.attempts (j ∷ [])) (permitted board is_cancellable M12 (found_job s query)) plan → P plan
+  of_job_cancel query plan is =
+      acts_on (λ j. cancel s.attempts (j ∷ [])) (λ j has. cancels s (j ∷ []) (λ w k. ⊎_elim (λ e. subst (λ (v : Job). Has v s.jobs) (sym e) has) (λ m. absurd m) k)) is_cancellable M12 tt query plan is
+
+  cancels_some : (plan : Plan) (p : Pipeline) (jobs : List Job) → ((j : Job) → Has j jobs → Has j s.jobs) → CancelsSome s p jobs plan → P plan
+  cancels_some plan p [] within is = subst P (sym is) (of_code M12 tt)
+  cancels_some plan p (j ∷ js) within is =
+      let changes = cancel s.attempts (j ∷ js) in
+      let t = applied changes s in
+      subst P (sym is.2) (of_act (compact_text (pipeline_data p (jobs_of t p.id) (facts_of t p.id) is.0)) changes (cancels s (j ∷ js) within))
+
+  cancels_by : (plan : Plan) (r : Result Pipeline Code) → IsPipeline r → CancelsPipeline s board r plan → P plan
+  cancels_by plan (Err code) found is = subst P (sym is) (of_code code found)
+  cancels_by plan (Ok p) found is =
+      cancels_some plan p (cancellable_jobs s board p.id)
+      (λ j k. (has_filter (λ (w : Job). w.pipeline == p.id) j s.jobs (has_filter (λ (w : Job). is_cancellable (status_for board w.id)) j (jobs_of s p.id) k).0).0) is
+
+  -- the jobs of a pipeline are to be cancelled
+  pub of_cancel : (query : PipelineQuery) (plan : Plan) → CancelsPipeline s board (found_pipeline s query) plan → P plan
+  of_cancel query plan is =
+      cancels_by plan (found_pipeline s query) (pipeline_by s query.project (pipeline_at s query.pipeline) (of_asked s query.token query.project) (is_asked s query.token query.project)) is
+
 -- ---- every request
 
 -- a fact of each plan that the request may have in a state whose jobs have these rows
@@ -213,6 +302,7 @@ pub record Each (s : State) (board : List BoardRow) (request : Request) (P : Pla
   pub pipeline_shown : (p : Pipeline) (jobs : List Job) (facts : List Facts) (rows : List Row) → P (pipeline_shown p jobs facts rows)
   pub shown : (job : Job) (status : Status) → P (job_shown job status)
   pub traced : (pieces : List Piece) → P (trace_shown pieces)
+  pub acted : (text : List ℕ) (changes : List RowChange) → IsAct s changes → P (fine (Json text), changes)
 
 module _ (s : State) (board : List BoardRow) (request : Request) (P : Plan → Type 0) (each : Each s board request P) where
   projects : (name : List ℕ) (seed : Seed) → P (add_project s.next.project name seed)
@@ -304,6 +394,10 @@ does s board P (ShowTrace query) each now seed plan is =
     let job = job_at s query.job in
     let pieces = pieces_in s (last_attempt s query.job) in
     subst P (sym is) (asked (λ r. P (traced r pieces)) (λ j. each.traced pieces) (λ c m. each.refused c m) (project_with s query.token) job (pipeline_of s job) query)
+does s board P (Play query) each now seed plan is = of_play s board P each.refused each.acted query plan is
+does s board P (CancelJob query) each now seed plan is = of_job_cancel s board P each.refused each.acted query plan is
+does s board P (RetryJob query) each now seed plan is = of_retry s board P each.refused each.acted query plan is
+does s board P (CancelPipeline query) each now seed plan is = of_cancel s board P each.refused each.acted query plan is
 
 -- where the plan is a refusal, it changes nothing
 abbrev Keeps : Plan → Type 0
@@ -329,6 +423,7 @@ keeps s board request = record {
   pipeline_shown = λ p jobs facts rows _. refl;
   shown = λ job status _. refl;
   traced = λ pieces _. refl;
+  acted = λ text changes act refused. absurd (false≢true refused);
 }
 
 -- a sweep that ends nothing changes nothing, and it refuses nothing
@@ -371,6 +466,7 @@ steps s board request = record {
   pipeline_shown = λ p jobs facts rows. refl;
   shown = λ job status. refl;
   traced = λ pieces. refl;
+  acted = λ text changes act. refl;
 } where
   away : (fault : LeaseFault) → IsStep (unleased fault, [])
   away (NotLive state) = refl
@@ -391,6 +487,9 @@ steps s board request = record {
   stepped M7 m = refl
   stepped M8 m = refl
   stepped M9 m = refl
+  stepped M10 m = refl
+  stepped M11 m = refl
+  stepped M12 m = refl
   stepped M13 m = refl
   stepped M14 m = refl
   stepped M15 m = refl

@@ -24,6 +24,10 @@ earlier h s p b i q k a m l = ⊎_elim (λ e. subst (λ (w : State). Has a w.att
 pub stays : (h : List Past) (s t : State) (p : Past) → p.before ≡ s → Ends h s → t.attempts ≡ s.attempts → Ends (p ∷ h) t
 stays h s t p b i e q k a m l = subst (Has a) (sym e) (earlier h s p b i q k a m l)
 
+-- a step that leaves what has ended
+pub leaves_ended : (h : List Past) (s t : State) (p : Past) → p.before ≡ s → Ends h s → ((a : Attempt) → Has a s.attempts → is_live a ≡ false → Has a t.attempts) → Ends (p ∷ h) t
+leaves_ended h s t p b i keeps q k a m l = keeps a (earlier h s p b i q k a m l) l
+
 -- a step that puts x, where none of its number has ended
 pub puts : (h : List Past) (s t : State) (p : Past) (x : Attempt) → p.before ≡ s → Ends h s → t.attempts ≡ put attempt_cmp x s.attempts
     → ((a : Attempt) → Has a s.attempts → a.id ≡ x.id → is_live a ≡ true) → Ends (p ∷ h) t

@@ -125,6 +125,39 @@ alters h s t p a x i has same_id same_job same_runner live isnt e f r =
       fresh = λ n l. cond-false (grants n p) (p ∷ filter (grants n) h) (filter (grants n) h) (isnt n) ∙ i.fresh n (subst (λ m. m ≤ n) f l);
     }
 
+-- the attempt was there, with its number, job and runner, and was live if it is
+pub record Stood (s : State) (b : Attempt) : Type 0 where
+  pub old : Attempt
+  pub has : Has old s.attempts
+  pub id : old.id ≡ b.id
+  pub job : old.job ≡ b.job
+  pub runner : old.runner ≡ b.runner
+  pub live : is_live b ≡ true → is_live old ≡ true
+
+-- a step with no attempts but those that were there
+pub stand : (h : List Past) (s t : State) (p : Past) → Grants h s → ((n : ℕ) → grants n p ≡ false) → ((b : Attempt) → Has b t.attempts → Stood s b)
+    → Rising (λ (b : Attempt). b.id) 0 t.attempts → t.next.attempt ≡ s.next.attempt → Rising (λ (j : Job). j.id) 0 t.jobs → Grants (p ∷ h) t
+stand h s t p i isnt stood rise f r = record {
+  jobs_rise = r;
+  rise = rise;
+  below = λ b k. let w = stood b k in subst (λ n. n < t.next.attempt) w.id (subst (λ n. w.old.id < n) (sym f) (i.below w.old w.has));
+  is_last = λ b c k l lv j.
+      let v = stood b k in
+      let w = stood c l in
+      subst (λ n. n ≤ b.id) w.id (subst (λ n. w.old.id ≤ n) v.id (i.is_last v.old w.old v.has w.has (v.live lv) (v.job ∙ (j ∙ sym w.job))));
+  granted = λ b k. let w = stood b k in let g = i.granted w.old w.has in longer p h b (isnt b.id) (record {
+    line = g.line;
+    once = subst (λ n. filter (grants n) h ≡ g.line ∷ []) w.id g.once;
+    runner = g.runner;
+    job = g.job;
+    its_runner = g.its_runner ∙ w.runner;
+    its_job = g.its_job ∙ w.job;
+    eligible = g.eligible;
+    asked = g.asked;
+  });
+  fresh = λ n l. cond-false (grants n p) (p ∷ filter (grants n) h) (filter (grants n) h) (isnt n) ∙ i.fresh n (subst (λ m. m ≤ n) f l);
+}
+
 -- a step that grants the next number, where its job has no live attempt
 pub gives : (h : List Past) (s t : State) (p : Past) (x : Attempt) → Grants h s → x.id ≡ s.next.attempt
     → ((a : Attempt) → Has a s.attempts → is_live a ≡ true → a.job ≡ x.job → ⊥)

@@ -1,5 +1,5 @@
 -- What stays, which records others name, and what sweeps end, in every state that a history leads to; and all its laws.
-use Rattle.std.specs.Prelude.{◌≡◌, ◌⊎◌, ℕ, ◌+◌, ◌<◌, ◌≤◌, Bool, true, false, ◌==◌, ◌&&◌, not, max, List, [], ◌∷◌, ◌++◌, length, map, find, Option, Some, None, Ok, Contains}
+use Rattle.std.specs.Prelude.{◌≡◌, ◌⊎◌, ℕ, ◌+◌, ◌<◌, ◌≤◌, Bool, true, false, ◌==◌, ◌&&◌, not, max, List, [], ◌∷◌, ◌++◌, length, map, filter, find, Option, Some, None, Ok, Contains}
 use Rattle.std.specs.Ordering.{nat_cmp, is_eq, is_lt}
 use Rattle.std.specs.declared.cmp.Ordering.{Ordering}
 use Rattle.std.proofs.Common.{refl, sym, ap, subst, ◌∙◌, inl, inr, ⊎_elim, arith}
@@ -28,20 +28,18 @@ use Rattle.ci_machine.specs.State.{State, empty, applied, placed, put, others, v
 use Rattle.ci_machine.specs.Statuses.{attempts_of, AreBoard}
 use Rattle.ci_machine.specs.Leases.{is_live, cause_of, is_over, first_due}
 use Rattle.ci_machine.specs.Plans.{Plan}
-use Rattle.ci_graph.specs.Pairs.{AreWithin}
-use Rattle.ci_layout.specs.Inclusion.{Given, IncludedJob}
-use Rattle.ci_layout.specs.Layout.{lineup, pairs}
-use Rattle.ci_layout.proofs.Within.{pairs_within}
-use Rattle.ci_machine.specs.Pipelines.{Layout, IsLaidOut, new_jobs, creation}
+use Rattle.ci_layout.specs.Inclusion.{Given}
+use Rattle.ci_machine.specs.Pipelines.{Layout, IsLaidOut, creation}
 use Rattle.ci_machine.specs.Sweeps.{sweep}
 use Rattle.ci_machine.specs.Traces.{grown as traces_grown}
 use Rattle.ci_machine.specs.Step.{Happens, lease_of, leases, live_attempts}
 use Rattle.ci_machine.specs.History.{Past, Leads}
 use Rattle.ci_machine.specs.Laws.{grants, WasGranted, IsTraced, EndsStay, Stay, project_for_good, runner_for_good, job_for_good, attempt_for_good, Stays, IsLinked, is_due, SweepsLeast, IsSweptBy, is_grant, GivesInOrder, Laws}
-use Rattle.ci_machine.proofs.Keyed.{Has, Rising, has_put, put_has, same, rising_from, rising_put, has_from_all, rising_filter, filter_has, has_filter, has_find, least_find, find-map, one_at, All-from_has, contains_from_has, has_from_contains, Below, Named, has_map, contains_named}
+use Rattle.ci_machine.proofs.Keyed.{Has, Rising, has_put, put_has, same, rising_put, rising_filter, filter_has, has_filter, has_find, least_find, find-map, one_at, All-from_has, contains_from_has, has_from_contains, Below, Named, has_map, contains_named}
 use Rattle.ci_machine.proofs.Counts.{passing_new, passing_put}
-use Rattle.ci_machine.proofs.Behind.{in_either, has_left, has_right, put_all, all_behind, has_all, rising_ordered, nat_less}
-use Rattle.ci_machine.proofs.Created.{created_state, after_creation, new_rise, new_length, IsNew, new_are, new_numbered, needs_are, pairs_inside, jobs_behind}
+use Rattle.ci_machine.proofs.Behind.{in_either, has_left, has_right, put_all, has_all}
+use Rattle.ci_machine.proofs.Created.{created_state, after_creation, new_length, IsNew, new_are, new_numbered, needs_are, pairs_inside, jobs_behind}
+use Rattle.ci_machine.proofs.Acts.{IsAct, after_act}
 use Rattle.ci_machine.proofs.Included.{was_included}
 use Rattle.ci_machine.proofs.EachPlan.{Each, does, given_in}
 use Rattle.ci_machine.proofs.Grants.{WasGiven, one_lease}
@@ -97,6 +95,38 @@ kept_put id f x a xs r has same_id good y k =
     (λ e. let q : y ≡ a = one_at id y a 0 xs r k has (same (id y) (id x) e ∙ same_id) in (x, (has_self cmp x (others cmp x xs), good ∙ ap f (sym q))))
     (λ e. (y, (put_has cmp x y xs k (ap not e), refl)))
     (cases_Bool (is_eq (nat_cmp (id y) (id x))))
+
+-- records that come in the places of ones that are the same for good
+module _ {A : Type 0} (id : A → ℕ) (f : A → A) (same_id : (x y : A) → f x ≡ f y → id x ≡ id y) where
+  abbrev by_id : A → A → Ordering
+  by_id a b = nat_cmp (id a) (id b)
+
+  abbrev Old : List A → A → Type 0
+  Old xs r = (a : A) × (Has a xs × (f r ≡ f a))
+
+  one_kept : (x : A) (xs : List A) → Rising id 0 xs → Old xs x → Kept f xs (put by_id x xs)
+  one_kept x xs r old = kept_put id f x old.0 xs r old.1.0 (same_id x old.0 old.1.1) old.1.1
+
+  still_old : (x w : A) (xs : List A) → Rising id 0 xs → Old xs x → Old xs w → Old (put by_id x xs) w
+  still_old x w xs r old other = let y = one_kept x xs r old other.0 other.1.0 in (y.0, (y.1.0, other.1.1 ∙ sym y.1.1))
+
+  kept_all : (rs xs : List A) → Rising id 0 xs → ((w : A) → Has w rs → Old xs w) → Kept f xs (put_all (λ a b. nat_cmp (id a) (id b)) rs xs)
+  kept_all [] xs r old = kept f xs xs refl
+  kept_all (x ∷ rs) xs r old =
+      let first = old x (inl refl) in
+      let ys = put by_id x xs in
+      kept_through f xs ys (put_all by_id rs ys) (one_kept x xs r first) (kept_all rs ys (rising_put id x 0 xs r (omega arith)) (λ w k. still_old x w xs r first (old w (inr k))))
+
+  passing_all : (p : A → Bool) → ((x y : A) → f x ≡ f y → p x ≡ p y) → (rs xs : List A) → Rising id 0 xs → ((w : A) → Has w rs → Old xs w)
+      → length (filter p xs) ≤ length (filter p (put_all (λ a b. nat_cmp (id a) (id b)) rs xs))
+  passing_all p alike [] xs r old = omega arith
+  passing_all p alike (x ∷ rs) xs r old =
+      let first = old x (inl refl) in
+      let ys = put by_id x xs in
+      let one : length (filter p xs) ≤ length (filter p ys) = passing_put id p x first.0 xs r first.1.0 (same_id x first.0 first.1.1) (alike x first.0 first.1.1) in
+      let rest : length (filter p ys) ≤ length (filter p (put_all by_id rs ys))
+      = passing_all p alike rs ys (rising_put id x 0 xs r (omega arith)) (λ w k. still_old x w xs r first (old w (inr k))) in
+      omega arith
 
 named_kept : {A : Type 0} (id : A → ℕ) (f : A → A) (n : ℕ) (xs ys : List A) → ((x y : A) → f y ≡ f x → id y ≡ id x) → Kept f xs ys → Named id n xs → Named id n ys
 named_kept id f n xs ys g k w =
@@ -159,7 +189,7 @@ record Next (s t : State) : Type 0 where
   job_below : Below (λ (j : Job). j.id) t.next.job t.jobs
   next_job : s.next.job ≤ t.next.job
   attempts : (a : Attempt) → Has a t.attempts → Has a s.attempts ⊎ (Named (λ (j : Job). j.id) a.job t.jobs × Named (λ (r : Runner). r.id) a.runner t.runners)
-  jobs : (j : Job) → Has j t.jobs → Has j s.jobs ⊎ (Named (λ (p : Pipeline). p.id) j.pipeline t.pipelines × ((s.next.job ≤ j.id) × (j.set_aside ≤ length (attempts_of t j.id))))
+  jobs : (j : Job) → Has j t.jobs → Has j s.jobs ⊎ (Named (λ (p : Pipeline). p.id) j.pipeline t.pipelines × ((1 ≤ j.id) × (j.set_aside ≤ length (attempts_of t j.id))))
   -- no job has fewer attempts
   counts : (job : ℕ) → length (attempts_of s job) ≤ length (attempts_of t job)
   pipelines : (p : Pipeline) → Has p t.pipelines → Has p s.pipelines ⊎ Named (λ (q : Project). q.id) p.project t.projects
@@ -179,7 +209,7 @@ linked_on s t i n = record {
   need_job = λ w k. ⊎_elim (λ m. named_kept (λ (j : Job). j.id) job_for_good w.job s.jobs t.jobs (λ x y e. ap (λ (j : Job). j.id) e) n.later.jobs (i.need_job w m)) (λ v. v.0) (n.needs w k);
   need_pred = λ w k. ⊎_elim (λ m. named_kept (λ (j : Job). j.id) job_for_good w.pred s.jobs t.jobs (λ x y e. ap (λ (j : Job). j.id) e) n.later.jobs (i.need_pred w m)) (λ v. v.1) (n.needs w k);
   first_job = let a = i.first_job in let b = n.next_job in omega arith;
-  positive = λ j k. ⊎_elim (λ m. i.positive j m) (λ w. let a = i.first_job in let b : s.next.job ≤ j.id = w.1.0 in omega arith) (n.jobs j k);
+  positive = λ j k. ⊎_elim (λ m. i.positive j m) (λ w. w.1.0) (n.jobs j k);
   aside = λ j k. ⊎_elim (λ m. let a = i.aside j m in let b = n.counts j.id in omega arith) (λ w. w.1.1) (n.jobs j k);
 }
 
@@ -312,7 +342,7 @@ enters s new project given now text laid i has named lays =
       counts = λ n. omega arith;
       attempts = λ a k. inl k;
       jobs = λ w k. ⊎_elim (λ m. inl m)
-          (λ e. inr (subst (λ n. Named pids n t.pipelines) (sym (ap (λ (v : Job). v.pipeline) e.job)) is_pipeline, (e.above, let none : w.set_aside ≡ 0 = ap (λ (v : Job). v.set_aside) e.job in omega arith))) (cases w k);
+          (λ e. inr (subst (λ n. Named pids n t.pipelines) (sym (ap (λ (v : Job). v.pipeline) e.job)) is_pipeline, (let a = e.above in let b = i.first_job in omega arith, let none : w.set_aside ≡ 0 = ap (λ (v : Job). v.set_aside) e.job in omega arith))) (cases w k);
       pipelines = λ w k. ⊎_elim
           (λ e. inr (project, (has, named ∙ sym (ap (λ (v : Pipeline). v.project) e))))
           (λ l. inl l) (has_put pipeline_cmp made.pipeline w s.pipelines k);
@@ -324,13 +354,66 @@ enters s new project given now text laid i has named lays =
           (has_all need_cmp made.needs s.needs w k);
     }
 
+-- ---- a user acts on jobs
+
+acts : (s : State) (changes : List RowChange) (act : IsAct s changes) → Linked s → Rising (λ (j : Job). j.id) 0 s.jobs → Rising (λ (a : Attempt). a.id) 0 s.attempts → Next s (applied changes s)
+acts s changes act i jr r =
+    let jids = λ (j : Job). j.id in
+    let aids = λ (a : Attempt). a.id in
+    let t : State = record s { jobs = put_all job_cmp act.jobs s.jobs; attempts = put_all attempt_cmp act.attempts s.attempts } in
+    let rest = rests s i in
+    let was_attempt : (a : Attempt) → Has a act.attempts → (b : Attempt) × (Has b s.attempts × (attempt_for_good a ≡ attempt_for_good b))
+    = λ a k. let w = act.each_attempt a k in (w.old, (w.has, ap attempt_for_good w.is)) in
+    let counts : (n : ℕ) → length (attempts_of s n) ≤ length (attempts_of t n)
+    = λ n. passing_all aids attempt_for_good (λ x y e. ap aids e) (λ (b : Attempt). b.job == n) (λ x y e. ap (λ (b : Attempt). b.job == n) e) act.attempts s.attempts r was_attempt in
+    subst (Next s) (sym (after_act s changes act)) (record {
+      later = record {
+        projects = rest.later.projects;
+        runners = rest.later.runners;
+        pipelines = rest.later.pipelines;
+        jobs = kept_all jids job_for_good (λ x y e. ap jids e) act.jobs s.jobs jr (λ j k. let w = act.each_job j k in (w.old, (w.has, w.good)));
+        attempts = kept_all aids attempt_for_good (λ x y e. ap aids e) act.attempts s.attempts r was_attempt;
+      };
+      projects_rise = i.projects_rise;
+      project_below = i.project_below;
+      runner_below = i.runner_below;
+      pipeline_below = i.pipeline_below;
+      job_below = λ j k. ⊎_elim (λ m. i.job_below j m)
+          (λ m. let w = act.each_job j m in subst (λ n. n < s.next.job) (sym (ap jids w.good)) (i.job_below w.old w.has))
+          (has_all job_cmp act.jobs s.jobs j k);
+      next_job = omega arith;
+      counts = counts;
+      attempts = λ a k. ⊎_elim (λ m. inl m)
+          (λ m. let w = act.each_attempt a m in
+          let named_job = kept_all jids job_for_good (λ x y e. ap jids e) act.jobs s.jobs jr (λ j l. let v = act.each_job j l in (v.old, (v.has, v.good))) in
+          inr (
+            subst (λ n. Named jids n t.jobs) (sym (ap (λ (b : Attempt). b.job) w.is)) (named_kept jids job_for_good w.old.job s.jobs t.jobs (λ x y e. ap jids e) named_job (i.attempt_job w.old w.has)),
+            subst (λ n. Named (λ (q : Runner). q.id) n s.runners) (sym (ap (λ (b : Attempt). b.runner) w.is)) (i.attempt_runner w.old w.has),
+          ))
+          (has_all attempt_cmp act.attempts s.attempts a k);
+      jobs = λ j k. ⊎_elim (λ m. inl m)
+          (λ m. let w = act.each_job j m in
+          let same : j.id ≡ w.old.id = ap jids w.good in
+          let old : w.old.set_aside ≤ length (attempts_of s w.old.id) = i.aside w.old w.has in
+          let more : length (attempts_of s w.old.id) ≤ length (attempts_of t w.old.id) = counts w.old.id in
+          let aside : j.set_aside ≤ length (attempts_of t w.old.id)
+          = ⊎_elim (λ e. let f : j.set_aside ≡ w.old.set_aside = e in omega arith) (λ e. let f : j.set_aside ≡ length (attempts_of s w.old.id) = e in omega arith) w.aside in
+          inr (
+            subst (λ n. Named (λ (p : Pipeline). p.id) n s.pipelines) (sym (ap (λ (v : Job). v.pipeline) w.good)) (i.job_pipeline w.old w.has),
+            (subst (λ n. 1 ≤ n) (sym same) (i.positive w.old w.has), subst (λ n. j.set_aside ≤ length (attempts_of t n)) (sym same) aside),
+          ))
+          (has_all job_cmp act.jobs s.jobs j k);
+      pipelines = λ p k. inl k;
+      needs = λ w k. inl k;
+    })
+
 -- ---- each step
 
 abbrev Goes : State → Plan → Type 0
 Goes s plan = Next s (applied plan.1 s)
 
-goes : (s : State) (board : List BoardRow) (request : Request) → Linked s → Rising (λ (a : Attempt). a.id) 0 s.attempts → Below (λ (a : Attempt). a.id) s.next.attempt s.attempts → Each s board request (Goes s)
-goes s board request i r b = record {
+goes : (s : State) (board : List BoardRow) (request : Request) → Linked s → Rising (λ (j : Job). j.id) 0 s.jobs → Rising (λ (a : Attempt). a.id) 0 s.attempts → Below (λ (a : Attempt). a.id) s.next.attempt s.attempts → Each s board request (Goes s)
+goes s board request i jr r b = record {
   refused = λ c m. rests s i;
   faulted = λ d. rests s i;
   project = λ name seed. record {
@@ -411,6 +494,7 @@ goes s board request i r b = record {
   pipeline_shown = λ p jobs facts rows. rests s i;
   shown = λ job status. rests s i;
   traced = λ pieces. rests s i;
+  acted = λ text changes act. acts s changes act i jr r;
 } where
   grows : (a : Attempt) (bytes : List ℕ) (now size : ℕ) → Has a s.attempts → Goes s (traces_grown a bytes now size)
   grows a bytes now size has =
@@ -471,14 +555,14 @@ swept_least s now r (Some l) found =
 
 -- ---- every state that a history leads to
 
-next : (s : State) (board : List BoardRow) (e : Event) (now : ℕ) (seed : Seed) (a : Answer) (changes : List RowChange) → Linked s → Rising (λ (w : Attempt). w.id) 0 s.attempts → Below (λ (w : Attempt). w.id) s.next.attempt s.attempts
+next : (s : State) (board : List BoardRow) (e : Event) (now : ℕ) (seed : Seed) (a : Answer) (changes : List RowChange) → Linked s → Rising (λ (w : Job). w.id) 0 s.jobs → Rising (λ (w : Attempt). w.id) 0 s.attempts → Below (λ (w : Attempt). w.id) s.next.attempt s.attempts
     → Happens s board e now seed a changes → Next s (applied changes s)
-next s board (event.Request request) now seed (answer.Reply reply) changes i r b is = does s board (Goes s) request (goes s board request i r b) now seed (reply, changes) is
-next s board event.Sweep now seed (answer.Swept swept) changes i r b is =
+next s board (event.Request request) now seed (answer.Reply reply) changes i jr r b is = does s board (Goes s) request (goes s board request i jr r b) now seed (reply, changes) is
+next s board event.Sweep now seed (answer.Swept swept) changes i jr r b is =
     let P : Swept × List RowChange → Type 0 = λ f. Next s (applied f.1 s) in
     subst P (sym is) (swept_next s now i r (first_due (leases s) now) refl)
-next s board (event.Request request) now seed (answer.Swept swept) changes i r b is = absurd is
-next s board event.Sweep now seed (answer.Reply reply) changes i r b is = absurd is
+next s board (event.Request request) now seed (answer.Swept swept) changes i jr r b is = absurd is
+next s board event.Sweep now seed (answer.Reply reply) changes i jr r b is = absurd is
 
 swept_by : (s : State) (board : List BoardRow) (e : Event) (now : ℕ) (seed : Seed) (a : Answer) (changes : List RowChange) → Rising (λ (w : Attempt). w.id) 0 s.attempts → Happens s board e now seed a changes → IsSweptBy s now e a
 swept_by s board (event.Request request) now seed a changes r is = tt
@@ -517,7 +601,7 @@ held [] s l = subst (Held []) (sym l) (record { linked = linked_empty; stays = �
 held (p ∷ h) s l =
     let i = held h p.before l.0 in
     let g = (reached h p.before l.0).grants in
-    let n = next p.before l.1.before p.event p.now p.seed p.answer l.1.changes i.linked g.rise g.below l.1.happens in
+    let n = next p.before l.1.before p.event p.now p.seed p.answer l.1.changes i.linked g.jobs_rise g.rise g.below l.1.happens in
     let t = applied l.1.changes p.before in
     subst (Held (p ∷ h)) (sym l.1.state) (record {
       linked = linked_on p.before t i.linked n;

@@ -32,14 +32,22 @@ use Rattle.ci_machine.specs.Laws.{job_for_good, IsMadeBy, WasIncluded}
 use Rattle.ci_machine.proofs.Keyed.{Has, contains_from_has}
 use Rattle.ci_machine.proofs.Behind.{has_all}
 use Rattle.ci_machine.proofs.Created.{after_creation, new_are, laid_is, lineup_are}
+use Rattle.ci_machine.proofs.Acts.{IsAct, after_act}
 use Rattle.ci_machine.proofs.EachPlan.{Each, does, of_asked, given_in}
 
 abbrev line : State → Event → ℕ → Seed → Answer → Past
 line s e now seed a = record { before = s; event = e; now = now; seed = seed; answer = a }
 
+-- the job was there, with what it has for good
+abbrev Was : State → Job → Type 0
+Was s j = (old : Job) × (Has old s.jobs × (job_for_good j ≡ job_for_good old))
+
+there : (s : State) (j : Job) → Has j s.jobs → Was s j
+there s j k = (j, (k, refl))
+
 -- each job after the changes was there, or the line made it
 abbrev Are : State → Event → ℕ → Seed → Answer → List RowChange → Type 0
-Are s e now seed a changes = (j : Job) → Has j (applied changes s).jobs → Has j s.jobs ⊎ IsMadeBy (line s e now seed a) j
+Are s e now seed a changes = (j : Job) → Has j (applied changes s).jobs → Was s j ⊎ IsMadeBy (line s e now seed a) j
 
 module _ (s : State) (board : List BoardRow) (request : Request) (now : ℕ) (seed : Seed) where
   abbrev From : Plan → Type 0
@@ -50,7 +58,7 @@ module _ (s : State) (board : List BoardRow) (request : Request) (now : ℕ) (se
   makes new at is project text laid rows asked file lays j k =
       let made = creation s.next.pipeline s.next.job new (given_in s new) at laid in
       let lays = laid_is text (given_in s new) (Ok laid) lays in
-      ⊎_elim (λ m. inl m)
+      ⊎_elim (λ m. inl (there s j m))
       (λ m. let n = new_are s.next.pipeline s.next.job 0 laid.plan.jobs j m in
       let drawn : j.pipeline ≡ s.next.pipeline = ap (λ (w : Job). w.pipeline) n.job in
       let of = lineup_are (given_in s new) laid.config n.as_said (subst (Has n.as_said) lays.1.0 n.has) in
@@ -75,28 +83,34 @@ module _ (s : State) (board : List BoardRow) (request : Request) (now : ℕ) (se
       }))
       (has_all job_cmp made.jobs s.jobs j (subst (λ (t : State). Has j t.jobs) (after_creation s.next.job made s) k))
 
+  acts : (changes : List RowChange) → IsAct s changes → (j : Job) → Has j (applied changes s).jobs → Was s j
+  acts changes act j k =
+      ⊎_elim (λ m. there s j m) (λ m. let w = act.each_job j m in (w.old, (w.has, w.good)))
+      (has_all job_cmp act.jobs s.jobs j (subst (λ (t : State). Has j t.jobs) (after_act s changes act) k))
+
   each : Each s board request From
   each = record {
-    refused = λ c m j k. inl k;
-    faulted = λ d j k. inl k;
-    project = λ name seed j k. inl k;
-    runner = λ name seed j k. inl k;
-    file = λ project text c has j k. inl k;
-    variable = λ project new j k. inl k;
-    gone = λ v j k. inl k;
+    refused = λ c m j k. inl (there s j k);
+    faulted = λ d j k. inl (there s j k);
+    project = λ name seed j k. inl (there s j k);
+    runner = λ name seed j k. inl (there s j k);
+    file = λ project text c has j k. inl (there s j k);
+    variable = λ project new j k. inl (there s j k);
+    gone = λ v j k. inl (there s j k);
     pipeline = λ new at is project text laid rows asked has named file lays. makes new at is project text laid rows asked file lays;
-    nothing = λ j k. inl k;
-    granted = λ runner job q variables at seed h i p e j k. inl k;
-    turned_away = λ fault j k. inl k;
-    heard = λ a seen has j k. inl k;
+    nothing = λ j k. inl (there s j k);
+    granted = λ runner job q variables at seed h i p e j k. inl (there s j k);
+    turned_away = λ fault j k. inl (there s j k);
+    heard = λ a seen has j k. inl (there s j k);
     ended = λ a state has.
-        cond_both (is_live a) (Put (row.Attempt (record a { state = state })) ∷ []) [] (λ cs. (j : Job) → Has j (applied cs s).jobs → Has j s.jobs ⊎ IsMadeBy (line s (event.Request request) now seed (answer.Reply (ended a (Ok state)).0)) j)
-        (λ _ j k. inl k) (λ _ j k. inl k);
-    misplaced = λ fault j k. inl k;
-    grown = λ a bytes at size has j k. inl k;
-    pipeline_shown = λ p jobs facts rows j k. inl k;
-    shown = λ job status j k. inl k;
-    traced = λ pieces j k. inl k;
+        cond_both (is_live a) (Put (row.Attempt (record a { state = state })) ∷ []) [] (λ cs. (j : Job) → Has j (applied cs s).jobs → Was s j ⊎ IsMadeBy (line s (event.Request request) now seed (answer.Reply (ended a (Ok state)).0)) j)
+        (λ _ j k. inl (there s j k)) (λ _ j k. inl (there s j k));
+    misplaced = λ fault j k. inl (there s j k);
+    grown = λ a bytes at size has j k. inl (there s j k);
+    pipeline_shown = λ p jobs facts rows j k. inl (there s j k);
+    shown = λ job status j k. inl (there s j k);
+    traced = λ pieces j k. inl (there s j k);
+    acted = λ text changes act j k. inl (acts changes act j k);
   }
 
 swept : (s : State) (o : Option Lease) (j : Job) → Has j (applied (sweep o).1 s).jobs → Has j s.jobs
@@ -107,19 +121,44 @@ are : (s : State) (board : List BoardRow) (e : Event) (now : ℕ) (seed : Seed) 
 are s board (event.Request r) now seed (answer.Reply reply) changes is = does s board (From s board r now seed) r (each s board r now seed) now seed (reply, changes) is
 are s board event.Sweep now seed (answer.Swept out) changes is = λ j k.
     let P : Swept × List RowChange → Type 0 = λ f. Has j (applied f.1 s).jobs → Has j s.jobs in
-    inl (subst P (sym is) (swept s (first_due (leases s) now) j) k)
+    inl (there s j (subst P (sym is) (swept s (first_due (leases s) now) j) k))
 are s board (event.Request r) now seed (answer.Swept out) changes is = absurd is
 are s board event.Sweep now seed (answer.Reply reply) changes is = absurd is
 
 more : (p : Past) (h : List Past) (j : Job) → WasIncluded h j → WasIncluded (p ∷ h) j
 more p h j w = (w.0, Contains-append_right (p ∷ []) h w.0 w.1, w.2)
 
+-- what has been included is included with other marks too
+alike : (p : Past) (j old : Job) → job_for_good j ≡ job_for_good old → IsMadeBy p old → IsMadeBy p j
+alike p j old good m =
+    let pipeline : j.pipeline ≡ old.pipeline = ap (λ (w : Job). w.pipeline) good in
+    let position : j.position ≡ old.position = ap (λ (w : Job). w.position) good in
+    record {
+      new = m.new;
+      asked = m.asked;
+      reply = m.reply;
+      answered = m.answered;
+      made = m.made;
+      drawn = pipeline ∙ m.drawn;
+      project = m.project;
+      its_project = m.its_project;
+      text = m.text;
+      its_file = m.its_file;
+      configured = m.configured;
+      read = m.read;
+      spec = m.spec;
+      listed = m.listed;
+      as_said = m.as_said;
+      is_included = m.is_included;
+      fixed = good ∙ (m.fixed ∙ sym (λ i. new_job (pipeline i) p.before.next.job (position i) m.as_said));
+    }
+
 -- each job of a reached state was included
 included : (h : List Past) (s : State) → Leads h s → (j : Job) → Has j s.jobs → WasIncluded h j
 included [] s l j k = absurd (subst (λ (t : State). Has j t.jobs) l k)
 included (p ∷ h) s l j k =
     ⊎_elim
-    (λ m. more p h j (included h p.before l.0 j m))
+    (λ m. let was = included h p.before l.0 m.0 m.1.0 in more p h j (was.0, was.1, alike was.0 j m.0 m.1.1 was.2))
     (λ q. (p, contains_from_has p (p ∷ h) (inl refl), q))
     (are p.before l.1.before p.event p.now p.seed p.answer l.1.changes l.1.happens j (subst (λ (t : State). Has j t.jobs) l.1.state k))
 

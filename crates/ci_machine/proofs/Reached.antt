@@ -1,8 +1,8 @@
 -- What holds of every state that a history leads to.
-use Rattle.std.specs.Prelude.{◌≡◌, ℕ, ◌+◌, ◌<◌, ◌≤◌, Bool, true, false, not, ◌==◌, ◌&&◌, nat_lt, nat_le, List, [], ◌∷◌, length, if◌then◌else◌, Option, Some, None, option_map, Result, Ok, Err}
+use Rattle.std.specs.Prelude.{◌≡◌, ◌⊎◌, ℕ, ◌+◌, ◌<◌, ◌≤◌, Bool, true, false, not, ◌==◌, ◌&&◌, nat_lt, nat_le, List, [], ◌∷◌, length, if◌then◌else◌, Option, Some, None, option_map, Result, Ok, Err}
 use Rattle.std.specs.Str.{bytes_eq}
 use Rattle.std.proofs.Common.{refl, sym, ap, subst, ◌∙◌, inl, inr, ⊎_elim, arith, eqb-true}
-use Rattle.std.proofs.lemmas.Bool.{cond_both}
+use Rattle.std.proofs.lemmas.Bool.{cond_both, both_ways}
 use Rattle.std.proofs.lemmas.Slice.Eq.{bytes_eq-Decides}
 use Rattle.ci_board.specs.declared.facts.Status.{Status}
 use Rattle.ci_machine.specs.declared.records.BoardRow.{BoardRow}
@@ -34,7 +34,7 @@ use Rattle.ci_machine.specs.declared.request.TracePart.{TracePart}
 use Rattle.ci_machine.specs.declared.request.Event.{Event}
 use Rattle.ci_machine.specs.declared.request.Event.TheVariants as event
 use Rattle.ci_machine.specs.declared.request.Request.{Request}
-use Rattle.ci_machine.specs.declared.request.Request.TheVariants.{AddProject, AddRunner, SetFile, SetVariable, DeleteVariable, CreatePipeline, ShowPipeline, AskJob, UpdateJob, AppendTrace, ShowJob, ShowTrace}
+use Rattle.ci_machine.specs.declared.request.Request.TheVariants.{AddProject, AddRunner, SetFile, SetVariable, DeleteVariable, CreatePipeline, ShowPipeline, AskJob, UpdateJob, AppendTrace, ShowJob, ShowTrace, Play, CancelJob, CancelPipeline, RetryJob}
 use Rattle.ci_machine.specs.declared.request.Seed.{Seed}
 use Rattle.ci_machine.specs.declared.reply.Code.{Code}
 use Rattle.ci_machine.specs.declared.reply.Code.TheVariants.{M5, M15}
@@ -45,13 +45,14 @@ use Rattle.ci_machine.specs.declared.reply.Answer.{Answer}
 use Rattle.ci_machine.specs.declared.reply.Answer.TheVariants as answer
 use Rattle.ci_machine.specs.declared.reply.Swept.{Swept}
 use Rattle.ci_values.specs.Names.{is_name}
-use Rattle.ci_machine.specs.State.{State, applied, put, job_cmp, attempt_cmp}
+use Rattle.ci_machine.specs.State.{State, applied, job_cmp, attempt_cmp}
 use Rattle.ci_machine.specs.Statuses.{jobs_of, facts_of, rows_of, status_for, AreBoard}
 use Rattle.ci_machine.specs.Leases.{is_live, renewed, if_leased, size_after, accepted, cause_of, is_over, first_due}
 use Rattle.ci_machine.specs.Eligible.{may_run, chosen}
 use Rattle.ci_values.specs.declared.limits.TheConstants.{MAX_NUMBER}
 use Rattle.ci_machine.specs.declared.limits.TheConstants.{MAX_TRACE_BYTES}
-use Rattle.ci_machine.specs.Plans.{Plan, refused, faulted}
+use Rattle.ci_machine.specs.declared.reply.Body.TheVariants.{Json}
+use Rattle.ci_machine.specs.Plans.{Plan, refused, faulted, fine}
 use Rattle.ci_machine.specs.Projects.{made_project, add_project}
 use Rattle.ci_machine.specs.Runners.{made_runner, add_runner}
 use Rattle.ci_machine.specs.Files.{file_set, SetsFile}
@@ -66,13 +67,15 @@ use Rattle.ci_machine.specs.Reply.{status_of_state}
 use Rattle.ci_machine.specs.Step.{Does, Happens, project_with, project_variables, variable_at, pipeline_at, runner_with, job_at, attempt_at, pipeline_of, last_attempt, pieces_in, lease_of, leases, live_attempts, is_pending, pending_jobs, queued, queue, offer, offered_variables}
 use Rattle.ci_machine.specs.History.{Past, Leads}
 use Rattle.ci_machine.specs.Laws.{grants, is_grant, accepted_bytes, IsLeastEligible}
-use Rattle.ci_machine.proofs.Keyed.{Has, Rising, has_put, rising_put, rising_filter, has_filter, filter_has, has_find, least_find, find-map, one_at, All-from_has, contains_from_has}
+use Rattle.ci_machine.proofs.Keyed.{Has, Rising, has_put, rising_filter, has_filter, filter_has, has_find, least_find, find-map, one_at, All-from_has, contains_from_has}
 use Rattle.ci_machine.proofs.Grants as leased
 use Rattle.ci_machine.proofs.Grants.{Grants, grants_empty, live_last}
 use Rattle.ci_machine.proofs.Pending.{pending_free}
 use Rattle.ci_machine.proofs.Behind.{put_all}
+use Rattle.ci_machine.proofs.PutAll.{rising_all, has_still}
+use Rattle.ci_machine.proofs.Acts.{WasLive, IsAct, after_act, came}
 use Rattle.ci_machine.proofs.Created.{after_creation}
-use Rattle.ci_machine.proofs.EachPlan.{IsMachineCode, of_asked, given_in, of_file, of_variable, of_removal, of_creation, of_pipeline}
+use Rattle.ci_machine.proofs.EachPlan.{IsMachineCode, of_asked, given_in, of_file, of_variable, of_removal, of_creation, of_pipeline, of_play, of_retry, of_job_cancel, of_cancel}
 use Rattle.ci_machine.proofs.Traces as pieces
 use Rattle.ci_machine.proofs.Ends as finals
 use Rattle.ci_machine.proofs.Ends.{Ends, renewed_live, leased_live}
@@ -197,10 +200,6 @@ removals h s query now seed i =
     of_removal s (After h s (event.Request r) now seed) (refuses h s r now seed i other) (faults h s r now seed i other) query
     (λ v. stands h s r now seed i other (variable_gone v) refl refl refl i.grants.jobs_rise)
 
-jobs_rise : (js xs : List Job) → Rising (λ (j : Job). j.id) 0 xs → Rising (λ (j : Job). j.id) 0 (put_all job_cmp js xs)
-jobs_rise [] xs r = r
-jobs_rise (j ∷ js) xs r = jobs_rise js (put job_cmp j xs) (rising_put (λ (w : Job). w.id) j 0 xs r (omega arith))
-
 creates : (h : List Past) (s : State) (new : NewPipeline) (now : ℕ) (seed : Seed) (plan : Plan) → Inv h s
     → Creates s.next.pipeline s.next.job new (given_in s new) now (may_create (of_asked s new.token new.project) new) plan → After h s (event.Request (CreatePipeline new)) now seed plan
 creates h s new now seed plan i is =
@@ -211,7 +210,7 @@ creates h s new now seed plan i is =
     let made = creation s.next.pipeline s.next.job new (given_in s new) now laid in
     let e = after_creation s.next.job made s in
     stands h s r now seed i other (pipeline_created s.next.job made rows) (ap (λ (t : State). t.attempts) e) (ap (λ (t : State). t.pieces) e) (ap (λ (t : State). t.next.attempt) e)
-    (subst (λ (t : State). Rising (λ (j : Job). j.id) 0 t.jobs) (sym e) (jobs_rise made.jobs s.jobs i.grants.jobs_rise))) is
+    (subst (λ (t : State). Rising (λ (j : Job). j.id) 0 t.jobs) (sym e) (rising_all (λ (j : Job). j.id) made.jobs s.jobs i.grants.jobs_rise))) is
 
 pipeline_shows : (h : List Past) (s : State) (board : List BoardRow) (query : PipelineQuery) (now : ℕ) (seed : Seed) → Inv h s
     → After h s (event.Request (ShowPipeline query)) now seed
@@ -362,6 +361,46 @@ parts h s part now seed i (Some a) found =
     (leased_live a l.limit now (renewed a l.limit now) refl (size_after a.size part.from (length part.bytes))))
     (λ _. rests h s e now seed _ i refl (λ n. refl))
 
+-- ---- a user acts on jobs
+
+-- an attempt that was there, or was live and is cancelled
+stood : (s : State) (b : Attempt) → Has b s.attempts ⊎ WasLive s b → leased.Stood s b
+stood s b (inl k) = record { old = b; has = k; id = refl; job = refl; runner = refl; live = λ l. l }
+stood s b (inr w) = record {
+  old = w.old;
+  has = w.has;
+  id = sym (ap (λ (c : Attempt). c.id) w.is);
+  job = sym (ap (λ (c : Attempt). c.job) w.is);
+  runner = sym (ap (λ (c : Attempt). c.runner) w.is);
+  live = λ l. w.live;
+}
+
+was : (s : State) (b : Attempt) → Has b s.attempts ⊎ WasLive s b → Was s b
+was s b (inl k) = record { old = b; has = k; id = refl; pieces = refl; size = refl }
+was s b (inr w) = record {
+  old = w.old;
+  has = w.has;
+  id = sym (ap (λ (c : Attempt). c.id) w.is);
+  pieces = sym (ap (λ (c : Attempt). c.pieces) w.is);
+  size = sym (ap (λ (c : Attempt). c.size) w.is);
+}
+
+acts : (h : List Past) (s : State) (r : Request) (now : ℕ) (seed : Seed) → Inv h s → IsOther r → (text : List ℕ) (changes : List RowChange) → IsAct s changes
+    → After h s (event.Request r) now seed (fine (Json text), changes)
+acts h s r now seed i other text changes act =
+    let said = answer.Reply (fine (Json text)) in
+    let p = line s (event.Request r) now seed said in
+    let t : State = record s { jobs = put_all job_cmp act.jobs s.jobs; attempts = put_all attempt_cmp act.attempts s.attempts } in
+    subst (Inv (p ∷ h)) (sym (after_act s changes act)) (record {
+      grants = leased.stand h s t p i.grants (λ n. ap (λ b. b && (s.next.attempt == n)) (other.0 said)) (λ b k. stood s b (came s changes act b k))
+          (rising_all (λ (b : Attempt). b.id) act.attempts s.attempts i.grants.rise) refl (rising_all (λ (j : Job). j.id) act.jobs s.jobs i.grants.jobs_rise);
+      traces = pieces.stays h s t p i.traces (other.1 said) refl (omega arith) (λ b k. inl (was s b (came s changes act b k)));
+      ends = finals.leaves_ended h s t p refl i.ends (λ a k ended. has_still (λ (b : Attempt). b.id) act.attempts s.attempts a k
+          (λ c m e. let w = act.each_attempt c m in
+          let same : a ≡ w.old = one_at (λ (b : Attempt). b.id) a w.old 0 s.attempts i.grants.rise k w.has (e ∙ ap (λ (b : Attempt). b.id) w.is) in
+          both_ways (is_live a) ended (ap is_live same ∙ w.live)));
+    })
+
 -- ---- a job is shown, a sweep
 
 looks : (h : List Past) (s : State) (e : Event) (now : ℕ) (seed : Seed) (status : Status) → Inv h s → ((a : Answer) → is_grant e a ≡ false) → ((a : Answer) → Quiet e a) → (r : Result Job Code) → After h s e now seed (shown r status)
@@ -403,6 +442,22 @@ does h s board (ShowTrace query) now seed f are i is =
     let job = job_at s query.job in
     subst (After h s (event.Request (ShowTrace query)) now seed) (sym is)
     (reads h s (event.Request (ShowTrace query)) now seed (pieces_in s (last_attempt s query.job)) i (λ a. refl) (λ a n. refl) (asked_job (project_with s query.token) job (pipeline_of s job) query))
+does h s board (Play query) now seed f are i is =
+    let r = Play query in
+    let other : IsOther r = (λ a. refl, λ a n. refl) in
+    of_play s board (After h s (event.Request r) now seed) (refuses h s r now seed i other) (acts h s r now seed i other) query f is
+does h s board (CancelJob query) now seed f are i is =
+    let r = CancelJob query in
+    let other : IsOther r = (λ a. refl, λ a n. refl) in
+    of_job_cancel s board (After h s (event.Request r) now seed) (refuses h s r now seed i other) (acts h s r now seed i other) query f is
+does h s board (CancelPipeline query) now seed f are i is =
+    let r = CancelPipeline query in
+    let other : IsOther r = (λ a. refl, λ a n. refl) in
+    of_cancel s board (After h s (event.Request r) now seed) (refuses h s r now seed i other) (acts h s r now seed i other) query f is
+does h s board (RetryJob query) now seed f are i is =
+    let r = RetryJob query in
+    let other : IsOther r = (λ a. refl, λ a n. refl) in
+    of_retry s board (After h s (event.Request r) now seed) (refuses h s r now seed i other) (acts h s r now seed i other) query f is
 
 goes_on : (h : List Past) (s : State) (board : List BoardRow) (e : Event) (now : ℕ) (seed : Seed) (a : Answer) (changes : List RowChange) → AreBoard s board → Inv h s → Happens s board e now seed a changes → Changed h s e now seed a changes
 goes_on h s board (event.Request r) now seed (answer.Reply reply) changes are i is = does h s board r now seed (reply, changes) are i is

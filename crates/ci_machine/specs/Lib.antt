@@ -15,6 +15,10 @@ pub mod Grants
 pub mod Reports
 pub mod Traces
 pub mod Shows
+pub mod Acts
+pub mod Plays
+pub mod Retries
+pub mod Cancels
 pub mod Sweeps
 pub mod Step
 pub mod Ranges
@@ -22,3 +26,4 @@ pub mod History
 pub mod Laws
 pub mod Sound
 pub mod Examples
+pub mod ActExamples

@@ -6,7 +6,7 @@ use Rattle.ci_values.specs.declared.attempts.AttemptState.TheVariants.{Live, Suc
 use Rattle.ci_machine.specs.declared.reply.HttpStatus.{HttpStatus}
 use Rattle.ci_machine.specs.declared.reply.HttpStatus.TheVariants.{BadRequest, Unauthorized, Forbidden, NotFound, MethodNotAllowed, LengthRequired, PayloadTooLarge, RangeNotSatisfiable, HeaderFieldsTooLarge, NotImplemented, ServiceUnavailable}
 use Rattle.ci_machine.specs.declared.reply.Code.{Code}
-use Rattle.ci_machine.specs.declared.reply.Code.TheVariants.{M1, M2, M3, M4, M5, M6, M7, M8, M9, M13, M14, M15, M16, M17, H1, H2, H3, H4, H5, H6, H7, H8}
+use Rattle.ci_machine.specs.declared.reply.Code.TheVariants.{M1, M2, M3, M4, M5, M6, M7, M8, M9, M10, M11, M12, M13, M14, M15, M16, M17, H1, H2, H3, H4, H5, H6, H7, H8}
 use Rattle.ci_machine.specs.declared.reply.FaultCode.{FaultCode}
 use Rattle.ci_machine.specs.declared.reply.FaultCode.TheVariants.{G, K, X, Y}
 use Rattle.ci_machine.specs.declared.reply.Detail.{Detail}
@@ -31,6 +31,9 @@ status_of M6 = Forbidden
 status_of M7 = Forbidden
 status_of M8 = RangeNotSatisfiable
 status_of M9 = PayloadTooLarge
+status_of M10 = BadRequest
+status_of M11 = Forbidden
+status_of M12 = Forbidden
 status_of M13 = BadRequest
 status_of M14 = BadRequest
 status_of M15 = ServiceUnavailable
@@ -56,6 +59,9 @@ code_text M6 = codes "M6"
 code_text M7 = codes "M7"
 code_text M8 = codes "M8"
 code_text M9 = codes "M9"
+code_text M10 = codes "M10"
+code_text M11 = codes "M11"
+code_text M12 = codes "M12"
 code_text M13 = codes "M13"
 code_text M14 = codes "M14"
 code_text M15 = codes "M15"

@@ -95,3 +95,8 @@ rows_of s board pipeline = map (row_for board) (numbers_of s pipeline)
 pub record AreBoard (s : State) (board : List BoardRow) : Type 0 where
   pub keys : map (λ r. r.job) board ≡ map (λ j. j.id) s.jobs
   pub each : (pipeline : ℕ) → AreRows (graph_of s pipeline) (facts_of s pipeline) (rows_of s board pipeline)
+
+-- The rows of a pipeline's jobs in a state.
+pub record AreRowsOf (s : State) (pipeline : ℕ) (rows : List Row) : Type 0 where
+  pub long : length rows ≡ length (jobs_of s pipeline)
+  pub settled : AreRows (graph_of s pipeline) (facts_of s pipeline) rows

@@ -1,5 +1,5 @@
 -- One step of the machine: what an event does, by what the state holds and by the statuses of its jobs, and then its changes applied.
-use Rattle.std.specs.Prelude.{◌≡◌, ℕ, Bool, List, [], filter, find, map, ◌==◌, ◌&&◌, Option, Some, None, option_map, option_and_then}
+use Rattle.std.specs.Prelude.{◌≡◌, ℕ, Bool, List, [], ◌∷◌, filter, find, map, ◌==◌, ◌&&◌, Option, Some, None, Result, option_map, option_and_then}
 use Rattle.std.specs.List.{last_or}
 use Rattle.std.specs.Str.{bytes_eq}
 use Rattle.ci_machine.specs.declared.records.Project.{Project}
@@ -16,7 +16,9 @@ use Rattle.ci_machine.specs.declared.lease.Lease.{Lease}
 use Rattle.ci_machine.specs.declared.change.Counter.{Counter}
 use Rattle.ci_machine.specs.declared.change.Counter.TheVariants as counter
 use Rattle.ci_machine.specs.declared.request.Request.{Request}
-use Rattle.ci_machine.specs.declared.request.Request.TheVariants.{AddProject, AddRunner, SetFile, SetVariable, DeleteVariable, CreatePipeline, ShowPipeline, AskJob, UpdateJob, AppendTrace, ShowJob, ShowTrace}
+use Rattle.ci_machine.specs.declared.request.Request.TheVariants.{AddProject, AddRunner, SetFile, SetVariable, DeleteVariable, CreatePipeline, ShowPipeline, AskJob, UpdateJob, AppendTrace, ShowJob, ShowTrace, Play, CancelJob, CancelPipeline, RetryJob}
+use Rattle.ci_machine.specs.declared.request.JobQuery.{JobQuery}
+use Rattle.ci_machine.specs.declared.request.PipelineQuery.{PipelineQuery}
 use Rattle.ci_machine.specs.declared.request.Event.{Event}
 use Rattle.ci_machine.specs.declared.request.Event.TheVariants as event
 use Rattle.ci_machine.specs.declared.request.Seed.{Seed}
@@ -39,7 +41,13 @@ use Rattle.ci_machine.specs.Pipelines.{may_create, given_by, Creates}
 use Rattle.ci_machine.specs.Grants.{ask_job}
 use Rattle.ci_machine.specs.Reports.{update_job}
 use Rattle.ci_machine.specs.Traces.{append_trace}
-use Rattle.ci_machine.specs.Shows.{asked_pipeline, show_pipeline, show_job, show_trace}
+use Rattle.ci_machine.specs.declared.reply.Code.{Code}
+use Rattle.ci_machine.specs.declared.reply.Code.TheVariants.{M10, M11, M12}
+use Rattle.ci_machine.specs.Shows.{asked_job, asked_pipeline, show_pipeline, show_job, show_trace}
+use Rattle.ci_machine.specs.Acts.{permitted, ActsOn}
+use Rattle.ci_machine.specs.Plays.{is_playable, play}
+use Rattle.ci_machine.specs.Retries.{is_retryable, retry}
+use Rattle.ci_machine.specs.Cancels.{is_cancellable, cancel, CancelsPipeline}
 use Rattle.ci_machine.specs.Sweeps.{sweep}
 
 -- ---- what is looked up in a state
@@ -129,6 +137,16 @@ offered_variables s (Some q) = variables_of s q.job.id
 abbrev pub pipeline_of : State → Option Job → Option Pipeline
 pipeline_of s job = option_and_then (λ j. pipeline_at s j.pipeline) job
 
+-- the job that a query names, of the project whose token it has
+abbrev pub found_job : State → JobQuery → Result Job Code
+found_job s query =
+    let job = job_at s query.job in
+    asked_job (project_with s query.token) job (pipeline_of s job) query
+
+-- the pipeline that a query names, of the project whose token it has
+abbrev pub found_pipeline : State → PipelineQuery → Result Pipeline Code
+found_pipeline s query = asked_pipeline (asked_project (project_with s query.token) query.project) (pipeline_at s query.pipeline)
+
 -- the pieces of the trace of an attempt, if there is one
 abbrev pub pieces_in : State → Option Attempt → List Piece
 pieces_in s None = []
@@ -168,6 +186,10 @@ Does s board (ShowJob query) now seed plan =
 Does s board (ShowTrace query) now seed plan =
     let job = job_at s query.job in
     plan ≡ show_trace (project_with s query.token) job (pipeline_of s job) (pieces_in s (last_attempt s query.job)) query
+Does s board (Play query) now seed plan = ActsOn s play (permitted board is_playable M10 (found_job s query)) plan
+Does s board (CancelJob query) now seed plan = ActsOn s (λ j. cancel s.attempts (j ∷ [])) (permitted board is_cancellable M12 (found_job s query)) plan
+Does s board (RetryJob query) now seed plan = ActsOn s (λ j. retry (attempts_of s j.id) j) (permitted board is_retryable M11 (found_job s query)) plan
+Does s board (CancelPipeline query) now seed plan = CancelsPipeline s board (found_pipeline s query) plan
 
 -- what an event does in a state whose jobs have these rows: a request is answered by a reply, and a sweep by what it ended
 abbrev pub Happens : State → List BoardRow → Event → ℕ → Seed → Answer → List RowChange → Type 0

@@ -21,24 +21,25 @@ ghost use Rattle.ci_config.specs.Fault.{Fault, said as keyword_text};
 ghost use Rattle.ci_layout.specs.Inclusion.{Given, layered, own_names};
 ghost use Rattle.ci_machine.specs.Files.{keyword_fault, line_fault};
 ghost use Rattle.ci_machine.specs.Variables.{set_variable, delete_variable};
-ghost use Rattle.ci_machine.specs.Reply.{plain};
+ghost use Rattle.ci_machine.specs.Reply.{plain, refusal};
 ghost use Rattle.ci_machine.specs.Pipelines.{lacks_numbers, may_create, merged};
 ghost use Rattle.ci_machine.specs.Grants.{nothing_to_run};
 ghost use Rattle.ci_machine.specs.Reports.{told, unleased};
 ghost use Rattle.ci_machine.specs.Traces.{accepted_to, not_accepted};
 ghost use Rattle.ci_values.specs.Names.{is_name};
-ghost use Rattle.ci_machine.specs.Step.{Step};
+ghost use Rattle.ci_machine.specs.Step.{Does, Step};
 ghost use Rattle.ci_machine.specs.Reply.{Stepped, outcome_of, detail_text};
 ghost use Rattle.ci_machine.specs.Laws.{IsRefusal, Laws};
 ghost use Rattle.ci_machine.specs.History.{Past, Leads, IsReached};
 ghost use Rattle.ci_machine.specs.Sound.{IsSound};
 ghost use Rattle.ci_machine.specs.Examples.{reply_text, project_added, runner_added, pipeline, made, given, configured, laid_by, first_rows, pipeline_made, granted, with_pipeline, with_attempt, token, two_rows, rows, asked, project_of, pair, with_variables, set_to, stage_by, new_variable, old_variable, hundred, put_variable, seed, attempt, lease, leased, after, sent, said, swept, query, job_shown, trace_shown, hello, hello_world};
+ghost use Rattle.ci_machine.specs.ActExamples.{pipeline_query, board_from, pipeline_after, four, four_board, all_cancelled, cancelled_rows, cancel_marks, run_cancelled, run_cancelled_rows, five, five_board, first_retried, retried_rows, two, two_board, hand_played, played_rows, succeeded, succeeded_board, hand_retried};
 ghost use Rattle.ci_machine.specs.Leases.{renewed, is_over, deadline, accepted, size_after, finished, cause_of};
 
 use crate::lease::{LeaseFault, PieceFault};
 use crate::records::{AttemptState, Cause};
 use crate::reply::{Code, Detail, FaultCode, HttpStatus, JobStatus, Swept};
-use crate::request::Report;
+use crate::request::{Report, Request};
 use ci_board::facts::Status;
 use ci_yaml::YamlFault;
 
@@ -200,6 +201,49 @@ pub fn trace_examples()
     ensures unknown_job { job_shown leased (rows Status.Running) (query 1 2 (codes "p")) ≡ refused Code.M3 }
     ensures running { reply_text (job_shown leased (rows Status.Running) (query 1 1 (codes "p"))) ≡ codes "{\"id\":1,\"name\":\"build\",\"stage\":\"build\",\"status\":\"running\"}" }
     ensures failed { reply_text (job_shown (after (swept leased 1120) leased) (rows Status.Failed) (query 1 1 (codes "p"))) ≡ codes "{\"id\":1,\"name\":\"build\",\"stage\":\"build\",\"status\":\"failed\"}" }
+{}
+
+/// A pipeline is cancelled: at once all its jobs that can be, with the live attempt of one, and not the one that was skipped.
+/// Where one job alone is cancelled, the one that waits for it is skipped.
+pub fn cancel_examples()
+    ensures before { AreBoard four four_board }
+    ensures all { Does four four_board (Request.CancelPipeline (pipeline_query 1 1 (codes "p"))) 1100 seed all_cancelled }
+    ensures reply { reply_text all_cancelled ≡ codes "{\"id\":1,\"jobs\":[{\"id\":1,\"name\":\"run\",\"stage\":\"build\",\"status\":\"canceled\"},{\"id\":2,\"name\":\"hand\",\"stage\":\"build\",\"status\":\"canceled\"},{\"id\":3,\"name\":\"alarm\",\"stage\":\"build\",\"status\":\"skipped\"},{\"id\":4,\"name\":\"later\",\"stage\":\"test\",\"status\":\"canceled\"}],\"ref\":\"main\",\"source\":\"api\",\"status\":\"canceled\"}" }
+    ensures marks { cancel_marks (after all_cancelled four) ≡ true ∷ true ∷ false ∷ true ∷ [] }
+    ensures attempts { (after all_cancelled four).attempts ≡ attempt 1000 AttemptState.Cancelled ∷ [] }
+    ensures board { AreBoard (after all_cancelled four) (board_from 1 cancelled_rows) }
+    ensures told { said (after all_cancelled four) [] (Report.Success None) 1100 ≡ (record (refusal Code.M6) { job_status = Some JobStatus.Canceled }, []) }
+    ensures again { Does (after all_cancelled four) (board_from 1 cancelled_rows) (Request.CancelPipeline (pipeline_query 1 1 (codes "p"))) 1100 seed (refused Code.M12) }
+
+    ensures one { Does four four_board (Request.CancelJob (query 1 1 (codes "p"))) 1100 seed run_cancelled }
+    ensures one_reply { reply_text run_cancelled ≡ codes "{\"id\":1,\"name\":\"run\",\"stage\":\"build\",\"status\":\"canceled\"}" }
+    ensures one_board { AreBoard (after run_cancelled four) (board_from 1 run_cancelled_rows) }
+
+    ensures play_of_created { Does four four_board (Request.Play (query 1 4 (codes "p"))) 1100 seed (refused Code.M10) }
+    ensures retry_of_created { Does four four_board (Request.RetryJob (query 1 4 (codes "p"))) 1100 seed (refused Code.M11) }
+    ensures cancel_of_skipped { Does four four_board (Request.CancelJob (query 1 3 (codes "p"))) 1100 seed (refused Code.M12) }
+    ensures unknown_job { Does four four_board (Request.CancelJob (query 1 5 (codes "p"))) 1100 seed (refused Code.M3) }
+    ensures other_project { Does four four_board (Request.CancelPipeline (pipeline_query 2 1 (codes "p"))) 1100 seed (refused Code.M2) }
+{}
+
+/// A job that failed is tried again: those that were skipped since are taken back, and one that ran since stays.
+pub fn retry_examples()
+    ensures before { AreBoard five five_board }
+    ensures retried { Does five five_board (Request.RetryJob (query 1 1 (codes "p"))) 1100 seed first_retried }
+    ensures reply { reply_text first_retried ≡ codes "{\"id\":1,\"name\":\"a\",\"stage\":\"build\",\"status\":\"pending\"}" }
+    ensures board { AreBoard (after first_retried five) (board_from 1 retried_rows) }
+    ensures pipeline { reply_text (pipeline_after (after first_retried five) [] retried_rows) ≡ codes "{\"id\":1,\"jobs\":[{\"id\":1,\"name\":\"a\",\"stage\":\"build\",\"status\":\"pending\"},{\"id\":2,\"name\":\"f\",\"stage\":\"test\",\"status\":\"success\"},{\"id\":3,\"name\":\"w\",\"stage\":\"test\",\"status\":\"created\"},{\"id\":4,\"name\":\"s\",\"stage\":\"test\",\"status\":\"created\"},{\"id\":5,\"name\":\"g\",\"stage\":\"deploy\",\"status\":\"created\"}],\"ref\":\"main\",\"source\":\"api\",\"status\":\"running\"}" }
+{}
+
+/// A manual job is played, succeeds, and is tried again: it doesn't wait for a user then.
+pub fn play_examples()
+    ensures before { AreBoard two two_board }
+    ensures played { Does two two_board (Request.Play (query 1 1 (codes "p"))) 1100 seed hand_played }
+    ensures reply { reply_text hand_played ≡ codes "{\"id\":1,\"name\":\"hand\",\"stage\":\"test\",\"status\":\"pending\"}" }
+    ensures board { AreBoard (after hand_played two) (board_from 1 played_rows) }
+    ensures succeeded { AreBoard succeeded succeeded_board }
+    ensures retried { Does succeeded succeeded_board (Request.RetryJob (query 1 1 (codes "p"))) 1100 seed hand_retried }
+    ensures board_again { AreBoard (after hand_retried succeeded) (board_from 1 played_rows) }
 {}
 
 /// In each state that a history leads to, each job has at most one live attempt; each attempt was granted by just one

@@ -1,6 +1,6 @@
 //! The records that the machine keeps: a row of a table each.
 
-ghost use Rattle.std.specs.Prelude.{◌≡◌};
+ghost use Rattle.std.specs.Prelude.{◌≡◌, IfOk};
 ghost use Rattle.ci_machine.specs.Bodies.{source_text};
 ghost use Rattle.ci_machine.specs.Pipelines.{plain_options};
 
@@ -91,7 +91,7 @@ pub struct Pipeline {
 }
 
 /// What the file and the rules fixed of a job when its pipeline was made.
-#[derive(Clone, Drop)]
+#[derive(Drop)]
 pub struct JobOptions {
     pub script: Texts,
     /// The time limit of an attempt, in seconds.
@@ -119,6 +119,34 @@ impl JobOptions {
             interruptible: false,
             part: Part::plain(),
         }
+    }
+}
+
+fn copy_of(text: &Option<Text>) -> Result<Option<Text>, AllocError>
+    ensures { IfOk result (λ t. t ≡ text.now) }
+{
+    match text {
+        Some(text) => Ok(Some(text.clone()?)),
+        None => Ok(None),
+    }
+}
+
+impl Clone for JobOptions {
+    ghost is_clone = { λ old new. new ≡ old };
+
+    fn clone(&self) -> Result<JobOptions, AllocError> {
+        let script = self.script.clone()?;
+        let tags = self.tags.clone()?;
+        let resource_group = copy_of(&self.resource_group)?;
+        let part = self.part.clone()?;
+        Ok(JobOptions {
+            script,
+            timeout: self.timeout,
+            tags,
+            resource_group,
+            interruptible: self.interruptible,
+            part,
+        })
     }
 }
 

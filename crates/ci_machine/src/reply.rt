@@ -49,6 +49,12 @@ pub enum Code {
     M8,
     /// The trace would pass its limit.
     M9,
+    /// The job isn't manual, so it can't be played.
+    M10,
+    /// The job hasn't ended, or was skipped, so it can't be tried again.
+    M11,
+    /// The job, or every job of the pipeline, has ended or was skipped, so there is nothing to cancel.
+    M12,
     /// The project has no file.
     M13,
     /// What is to be made has a fault, which the detail names.
@@ -160,9 +166,10 @@ impl Code {
             Code::M1 => HttpStatus::Unauthorized,
             Code::M2 | Code::M3 | Code::H5 => HttpStatus::NotFound,
             Code::M4 | Code::M5 | Code::M6 | Code::M7 => HttpStatus::Forbidden,
+            Code::M11 | Code::M12 => HttpStatus::Forbidden,
             Code::M8 => HttpStatus::RangeNotSatisfiable,
             Code::M9 | Code::H4 => HttpStatus::PayloadTooLarge,
-            Code::M13 | Code::M14 | Code::H1 | Code::H7 => HttpStatus::BadRequest,
+            Code::M10 | Code::M13 | Code::M14 | Code::H1 | Code::H7 => HttpStatus::BadRequest,
             Code::M15 | Code::M16 | Code::M17 => HttpStatus::ServiceUnavailable,
             Code::H2 => HttpStatus::HeaderFieldsTooLarge,
             Code::H3 => HttpStatus::LengthRequired,
@@ -185,6 +192,9 @@ impl Code {
             Code::M7 => "{\"code\":\"M7\"}",
             Code::M8 => "{\"code\":\"M8\"}",
             Code::M9 => "{\"code\":\"M9\"}",
+            Code::M10 => "{\"code\":\"M10\"}",
+            Code::M11 => "{\"code\":\"M11\"}",
+            Code::M12 => "{\"code\":\"M12\"}",
             Code::M13 => "{\"code\":\"M13\"}",
             Code::M14 => "{\"code\":\"M14\"}",
             Code::M15 => "{\"code\":\"M15\"}",

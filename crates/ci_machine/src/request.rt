@@ -123,6 +123,14 @@ pub enum Request {
     ShowJob(JobQuery),
     /// The trace of a job's last attempt is asked for.
     ShowTrace(JobQuery),
+    /// A manual job is to run.
+    Play(JobQuery),
+    /// A job that hasn't ended is to be cancelled.
+    CancelJob(JobQuery),
+    /// All jobs of a pipeline that haven't ended are to be cancelled.
+    CancelPipeline(PipelineQuery),
+    /// A job that has ended is to be tried again.
+    RetryJob(JobQuery),
 }
 
 impl Clone for Request {
@@ -142,6 +150,10 @@ impl Clone for Request {
             Request::AppendTrace(part) => Request::AppendTrace(part.clone()?),
             Request::ShowJob(query) => Request::ShowJob(query.clone()?),
             Request::ShowTrace(query) => Request::ShowTrace(query.clone()?),
+            Request::Play(query) => Request::Play(query.clone()?),
+            Request::CancelJob(query) => Request::CancelJob(query.clone()?),
+            Request::CancelPipeline(query) => Request::CancelPipeline(query.clone()?),
+            Request::RetryJob(query) => Request::RetryJob(query.clone()?),
         })
     }
 }

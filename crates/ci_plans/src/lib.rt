@@ -3,11 +3,14 @@
 #![tactic(auto)]
 
 pub mod body;
+pub mod cancels;
 pub mod grants;
 mod object;
+pub mod plays;
 pub mod projects;
 pub mod replies;
 pub mod reports;
+pub mod retries;
 pub mod runners;
 pub mod shows;
 pub mod sweeps;

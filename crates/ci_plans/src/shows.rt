@@ -52,8 +52,16 @@ pub fn asked_job<'a>(
 pub fn job_shown(alloc: Global, job: &Job, status: Status) -> Result<(Reply, Delta), AllocError>
     ensures { IfOk result (λ plan. plan ≡ shows.job_shown job.now status) }
 {
+    let reply = job_reply(alloc, job, status)?;
+    Ok(unchanged(alloc, reply))
+}
+
+/// The reply (200) that shows a job with its status.
+pub(crate) fn job_reply(alloc: Global, job: &Job, status: Status) -> Result<Reply, AllocError>
+    ensures { IfOk result (λ reply. reply ≡ (shows.job_shown job.now status).0) }
+{
     let text = body::job(alloc, status.as_str(), job)?;
-    Ok(unchanged(alloc, fine(Body::Json(text))))
+    Ok(fine(Body::Json(text)))
 }
 
 /// The pieces of a trace, joined in their order.
@@ -107,6 +115,22 @@ pub fn pipeline_shown(
     requires rows { length rows.now ≡ length jobs.now }
     ensures { IfOk result (λ plan. plan ≡ shows.pipeline_shown pipeline.now jobs.now facts.now rows.now) }
 {
+    let reply = pipeline_reply(alloc, pipeline, jobs, facts, rows)?;
+    Ok(unchanged(alloc, reply))
+}
+
+/// The reply (200) that shows a pipeline with its jobs, which have these facts and rows.
+pub(crate) fn pipeline_reply(
+    alloc: Global,
+    pipeline: &Pipeline,
+    jobs: &[Job],
+    facts: &[Facts],
+    rows: &[Row],
+) -> Result<Reply, AllocError>
+    requires facts { length facts.now ≡ length jobs.now }
+    requires rows { length rows.now ≡ length jobs.now }
+    ensures { IfOk result (λ reply. reply ≡ (shows.pipeline_shown pipeline.now jobs.now facts.now rows.now).0) }
+{
     let text = body::pipeline(alloc, pipeline, jobs, facts, rows)?;
-    Ok(unchanged(alloc, fine(Body::Json(text))))
+    Ok(fine(Body::Json(text)))
 }

@@ -1,7 +1,3 @@
-pub mod Lists
 pub mod Handling
 pub mod Runs
 pub mod LifetimeLemmas
-pub mod Settles
-pub mod Pages
-pub mod Loading

@@ -1,7 +1,5 @@
 pub mod Serving
 pub mod Holding
-pub mod Planning
-pub mod Search
 pub mod Handling
 pub mod Server
 pub mod Runs

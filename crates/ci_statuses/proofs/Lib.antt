@@ -1,7 +1,9 @@
 pub mod Positions
 pub mod Puts
+pub mod ManyPuts
 pub mod RowPuts
 pub mod Facts
+pub mod ActFacts
 pub mod Tallies
 pub mod Parts
 pub mod Found
@@ -10,6 +12,9 @@ pub mod Joint
 pub mod Loaded
 pub mod Settled
 pub mod Ends
+pub mod ActPlaces
+pub mod ActShows
+pub mod ActRecords
 pub mod Stays
 pub mod Grants
 pub mod Made

@@ -29,7 +29,7 @@ abbrev number : Job → ℕ
 number j = j.id
 
 -- what passes p passes q
-filter_implied : {A : Type 0} (p q : A → Bool) (xs : List A) → ((x : A) → p x ≡ true → q x ≡ true) → filter p (filter q xs) ≡ filter p xs
+pub filter_implied : {A : Type 0} (p q : A → Bool) (xs : List A) → ((x : A) → p x ≡ true → q x ≡ true) → filter p (filter q xs) ≡ filter p xs
 filter_implied p q [] h = refl
 filter_implied p q (x ∷ xs) h =
     cond_both (q x) (x ∷ filter q xs) (filter q xs) (λ l. filter p l ≡ filter p (x ∷ xs))

@@ -2,3 +2,4 @@ pub mod Lookups
 pub mod Boards
 pub mod Changes
 pub mod Pages
+pub mod Acts

@@ -44,6 +44,8 @@ pub fn settle<L: Ledger>(
     requires changes { All (λ c. c.position < length board.old.graph.parts) changes.now }
     requires long { length jobs.now ≡ length board.old.graph.parts }
     ensures long { OnOk result (length board.new.rows ≡ length board.old.rows) }
+    ensures long_facts { OnOk result (length board.new.facts ≡ length board.old.facts) }
+    ensures facts { OnOk result (AreRows board.old.graph board.old.facts board.old.rows → board.new.facts ≡ replaced changes.now board.old.facts) }
     ensures right { OnOk result (AreRows board.old.graph board.old.facts board.old.rows → AreRows board.old.graph (replaced changes.now board.old.facts) board.new.rows) }
     ensures rows { IfOk result (λ v. v.items ≡ changed_rows (map (λ j. j.id) jobs.now) board.old.rows board.new.rows) }
 {

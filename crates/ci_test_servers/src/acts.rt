@@ -51,6 +51,14 @@ pub enum Act {
     Trace,
     /// The pipeline of this number is, by the first project.
     ShowPipeline(u64),
+    /// The job of this number is played, by the first project.
+    Play(u64),
+    /// It is cancelled.
+    CancelJob(u64),
+    /// It is tried again.
+    RetryJob(u64),
+    /// The pipeline of this number is cancelled, by the first project.
+    CancelPipeline(u64),
     Sweep,
 }
 
@@ -63,6 +71,14 @@ pub const TWO_JOBS: &str = "build:\n  stage: build\n  script: make\nunit:\n  scr
 /// A file of three stages with a job each: each waits for those of the stages before.
 pub const THREE_STAGES: &str =
     "build:\n  stage: build\n  script: make\ntest:\n  stage: test\n  script: make\ndeploy:\n  stage: deploy\n  script: make\n";
+
+/// A file of jobs in one stage, of which one is started by hand and one waits for a failure before it; and of one behind these.
+pub const BY_HAND: &str =
+    "run:\n  stage: build\n  script: x\nhand:\n  stage: build\n  when: manual\n  script: x\nalarm:\n  stage: build\n  when: on_failure\n  script: x\nlater:\n  script: x\n";
+
+/// A file of jobs that wait for `a` whatever their stage, and for how it ends.
+pub const AFTER_A: &str =
+    "a:\n  stage: build\n  script: x\nf:\n  needs: [a]\n  when: on_failure\n  script: x\nw:\n  needs: [a]\n  when: always\n  script: x\ns:\n  needs: [a]\n  script: x\ng:\n  stage: deploy\n  needs: [s]\n  script: x\n";
 
 /// The first path: a project, a runner, a file of one job, a pipeline made of it, and its grant. Each number is 1.
 pub const PATH: [Act; 5] = [
@@ -177,20 +193,20 @@ fn update(alloc: Global, attempt: u64, report: Report) -> Result<Request, AllocE
     }))
 }
 
-fn query(alloc: Global) -> Result<JobQuery, AllocError> {
+fn query(alloc: Global, job: u64) -> Result<JobQuery, AllocError> {
     Ok(JobQuery {
         project: 1,
         token: token(alloc, "p", 1)?,
-        job: 1,
+        job,
     })
 }
 
-fn pipeline_query(alloc: Global, pipeline: u64) -> Result<Request, AllocError> {
-    Ok(Request::ShowPipeline(PipelineQuery {
+fn pipeline_query(alloc: Global, pipeline: u64) -> Result<PipelineQuery, AllocError> {
+    Ok(PipelineQuery {
         project: 1,
         token: token(alloc, "p", 1)?,
         pipeline,
-    }))
+    })
 }
 
 /// The event of what happens.
@@ -209,9 +225,13 @@ pub fn event(alloc: Global, act: Act) -> Result<Event, AllocError> {
         Act::Success => update(alloc, 1, Report::Success(None))?,
         Act::Tell(attempt, report) => update(alloc, attempt, report)?,
         Act::Append(from, text) => part(alloc, from, Vec::from_slice(alloc, text.as_bytes())?)?,
-        Act::Show => Request::ShowJob(query(alloc)?),
-        Act::Trace => Request::ShowTrace(query(alloc)?),
-        Act::ShowPipeline(pipeline) => pipeline_query(alloc, pipeline)?,
+        Act::Show => Request::ShowJob(query(alloc, 1)?),
+        Act::Trace => Request::ShowTrace(query(alloc, 1)?),
+        Act::ShowPipeline(pipeline) => Request::ShowPipeline(pipeline_query(alloc, pipeline)?),
+        Act::Play(job) => Request::Play(query(alloc, job)?),
+        Act::CancelJob(job) => Request::CancelJob(query(alloc, job)?),
+        Act::RetryJob(job) => Request::RetryJob(query(alloc, job)?),
+        Act::CancelPipeline(pipeline) => Request::CancelPipeline(pipeline_query(alloc, pipeline)?),
         Act::Sweep => return Ok(Event::Sweep),
     }))
 }

@@ -8,6 +8,8 @@ use ci_machine::request::Report;
 /// What an answer is to be.
 #[derive(Clone, Copy)]
 pub enum Want {
+    /// Any reply that is no refusal.
+    Any,
     /// A reply with this body.
     Says(&'static str),
     /// A reply with this body, and no refusal.
@@ -24,6 +26,8 @@ pub enum Want {
     Accepted(u64),
     /// This refusal, with this `Range`.
     Refused(Code, Option<u64>),
+    /// The attempt has ended, and stands so (M6).
+    Over(JobStatus),
     /// A sweep ended the first attempt, for this cause.
     Ended(Cause),
     /// A sweep found nothing to end.
@@ -46,6 +50,7 @@ fn is_told(reply: &Reply, status: HttpStatus, job: JobStatus, range: Option<u64>
 
 fn is_reply(reply: &Reply, want: Want) -> bool {
     match want {
+        Want::Any => reply.code.is_none(),
         Want::Says(body) => says(reply, body),
         Want::Done(body) => reply.code.is_none() && says(reply, body),
         Want::Empty(status) => { reply.status == status && reply.code.is_none() && says(reply, "") }
@@ -59,6 +64,7 @@ fn is_reply(reply: &Reply, want: Want) -> bool {
             Some(size),
         ),
         Want::Refused(code, range) => reply.code == Some(code) && reply.range == range,
+        Want::Over(job) => reply.code == Some(Code::M6) && reply.job_status == Some(job),
         Want::Ended(_) | Want::Nothing => false,
     }
 }
@@ -98,6 +104,9 @@ fn shown(status: JobStatus) -> &'static str {
     }
 }
 
+/// The first job, where it waits for a runner.
+const PENDING: &str = "{\"id\":1,\"name\":\"build\",\"stage\":\"build\",\"status\":\"pending\"}";
+
 /// What the first thing of its kind is answered, where the things of the first path before it have happened.
 pub fn first(act: Act) -> Want {
     match act {
@@ -125,6 +134,11 @@ pub fn first(act: Act) -> Want {
         Act::ShowPipeline(_) => Want::Done(
             "{\"id\":1,\"jobs\":[{\"id\":1,\"name\":\"build\",\"stage\":\"build\",\"status\":\"running\"}],\"ref\":\"main\",\"source\":\"api\",\"status\":\"running\"}",
         ),
+        Act::Play(_) | Act::RetryJob(_) => Want::Done(PENDING),
+        Act::CancelJob(_) => Want::Job(JobStatus::Canceled),
+        Act::CancelPipeline(_) => Want::Done(
+            "{\"id\":1,\"jobs\":[{\"id\":1,\"name\":\"build\",\"stage\":\"build\",\"status\":\"canceled\"}],\"ref\":\"main\",\"source\":\"api\",\"status\":\"canceled\"}",
+        ),
         Act::Sweep => Want::Ended(Cause::StuckOrTimeoutFailure),
     }
 }
@@ -144,6 +158,9 @@ pub fn again(act: Act) -> Want {
         Act::DeleteVariable(_) => Want::Refused(Code::M3, None),
         Act::AskJob(_) => Want::Done(""),
         Act::Append(_, _) => Want::Refused(Code::M8, Some(5)),
+        Act::Play(_) => Want::Refused(Code::M10, None),
+        Act::RetryJob(_) => Want::Refused(Code::M11, None),
+        Act::CancelJob(_) | Act::CancelPipeline(_) => Want::Refused(Code::M12, None),
         Act::Sweep => Want::Nothing,
         Act::SetFile(_, _)
         | Act::SetJobs(_, _)

@@ -6,4 +6,5 @@ pub mod acts;
 pub mod answers;
 pub mod links;
 pub mod rows;
+mod rule;
 pub mod servers;

@@ -1,13 +1,20 @@
-//! The rows of statuses that a store keeps, and the same rows worked out from its records.
+//! The rows of statuses that a store keeps, beside those that are worked out from its records.
 
+ghost use Rattle.std.specs.Prelude.{◌≡◌, ◌<◌};
+
+use crate::rule::worked_out;
 use ci_board::facts::{Row, Status};
-use ci_machine::records::{Attempt, AttemptState, BoardRow, Job, MAX_NUMBER, Need};
+use ci_machine::change::Counter;
+use ci_machine::records::{Attempt, BoardRow, Job, MAX_NUMBER, Need};
+use ci_statuses::load::load_board;
 use ci_store::fault::StoreFault;
 use ci_store::store::Store;
 use ci_store::tables::Tables;
 use ci_store::{Alter, Connection};
 use ci_test_disks::discard;
-use std::alloc::{AllocError, Global};
+use std::alloc::Global;
+use std::marker::Brand;
+use std::sync::ledger::{Blank, Ledger};
 use std::test::Fail;
 
 /// The row of a job: its status, and how many of the jobs that it waits for are open and how many failed.
@@ -44,92 +51,48 @@ pub fn are_same(found: &[BoardRow], wanted: &[BoardRow]) -> bool {
     true
 }
 
-/// How the last attempt of a job stands.
-fn last_of(job: u64, attempts: &[Attempt]) -> Option<AttemptState> {
-    let mut last = None;
-    for attempt in attempts {
-        if attempt.job == job {
-            last = Some(attempt.state);
-        }
-    }
-    last
-}
-
-fn status_in(job: u64, rows: &[BoardRow]) -> Option<Status> {
-    for row in rows {
-        if row.job == job {
-            return Some(row.row.status);
-        }
-    }
-    None
-}
-
-/// How many of the jobs that a job waits for are open, and how many failed. Their rows come before it.
-fn waits(job: u64, needs: &[Need], before: &[BoardRow]) -> (usize, usize) {
-    let mut opens = 0usize;
-    let mut failed = 0usize;
-    for need in needs {
-        if need.job == job {
-            match status_in(need.pred, before) {
-                Some(Status::Success | Status::Skipped) => {}
-                Some(Status::Failed) => failed = failed.saturating_add(1),
-                _ => opens = opens.saturating_add(1),
-            }
-        }
-    }
-    (opens, failed)
-}
-
-/// The status of a job that sets nothing but its script: by its last attempt, or else by the jobs that it waits for.
-fn status(last: Option<AttemptState>, opens: usize, failed: usize) -> Status {
-    match last {
-        Some(AttemptState::Live) => Status::Running,
-        Some(AttemptState::Succeeded(_)) => Status::Success,
-        Some(AttemptState::Failed(_, _)) => Status::Failed,
-        Some(AttemptState::Cancelled) => Status::Canceled,
-        None if opens > 0 => Status::Created,
-        None if failed > 0 => Status::Skipped,
-        None => Status::Pending,
-    }
-}
-
-/// The rows of jobs of which each waits for earlier ones alone.
-fn worked_out(
-    alloc: Global,
-    jobs: &[Job],
-    needs: &[Need],
-    attempts: &[Attempt],
-) -> Result<Vec<BoardRow>, AllocError> {
-    let mut rows = Vec::new(alloc);
-    for job in jobs {
-        let (opens, failed) = waits(job.id, needs, rows.as_slice());
-        let status = status(last_of(job.id, attempts), opens, failed);
-        rows.push(row(job.id, status, opens, failed))?;
-    }
-    Ok(rows)
-}
-
 /// All rows of the store.
 fn all_rows<S: Alter>(tables: &mut Tables<S>) -> Result<Vec<BoardRow>, StoreFault> {
     tables.rows_within(0, MAX_NUMBER)
 }
 
-/// Has each job of the first two pipelines the row that its records give, and is there no other row?
-fn has_right_rows<S: Alter>(alloc: Global, tables: &mut Tables<S>) -> Result<bool, StoreFault> {
-    let mut jobs = tables.jobs_of(1)?;
-    for job in &tables.jobs_of(2)? {
-        jobs.push(job.clone()?)?;
-    }
-    let needs = tables.needs_within(0, MAX_NUMBER)?;
-    let attempts = tables.attempts_within(0, MAX_NUMBER)?;
+/// Has each job of a pipeline the row that its records give? How many jobs are there, if so?
+fn right_rows_of<S: Alter>(
+    alloc: Global,
+    tables: &mut Tables<S>,
+    pipeline: u64,
+) -> Result<Option<usize>, StoreFault> {
+    let jobs = tables.jobs_of(pipeline)?;
+    let (Some(first), Some(last)) = (jobs.first(), jobs.last()) else {
+        return Ok(None);
+    };
+    let (low, high) = (first.id, last.id);
+    let needs = tables.needs_within(low, high)?;
+    let attempts = tables.attempts_within(low, high)?;
     let wanted = worked_out(
         alloc,
         jobs.as_slice(),
         needs.as_slice(),
         attempts.as_slice(),
     )?;
-    let found = all_rows(tables)?;
-    Ok(are_same(found.as_slice(), wanted.as_slice()))
+    let found = tables.rows_within(low, high)?;
+    if are_same(found.as_slice(), wanted.as_slice()) {
+        Ok(Some(jobs.len()))
+    } else {
+        Ok(None)
+    }
+}
+
+/// Has each job the row that its records give, and is there no other row?
+fn has_right_rows<S: Alter>(alloc: Global, tables: &mut Tables<S>) -> Result<bool, StoreFault> {
+    let mut count = 0usize;
+    for pipeline in 1..tables.next(Counter::Pipeline)? {
+        match right_rows_of(alloc, tables, pipeline)? {
+            Some(jobs) => count = count.saturating_add(jobs),
+            None => return Ok(false),
+        }
+    }
+    Ok(all_rows(tables)?.len() == count)
 }
 
 /// The connection, where the rows of its store are those that its records give.
@@ -154,4 +117,65 @@ pub fn rows_left<S: Alter + Drop>(conn: Connection<S>) -> Result<Vec<BoardRow>, 
     let rows = all_rows(&mut tables);
     discard(tables.close());
     Ok(rows?)
+}
+
+/// Is the status of each job of a pipeline in the store the one that its facts alone give, and those of the jobs that it waits for? The
+/// store goes.
+pub fn slowly_so<S: Alter + Drop>(
+    alloc: Global,
+    conn: Connection<S>,
+    pipeline: u64,
+) -> Result<bool, Fail> {
+    let Ok(mut tables) = Tables::open(conn) else {
+        return Err("no tables")?;
+    };
+    let so = are_slow(alloc, &mut tables, pipeline);
+    discard(tables.close());
+    so
+}
+
+fn are_slow<S: Alter>(alloc: Global, tables: &mut Tables<S>, pipeline: u64) -> Result<bool, Fail> {
+    let jobs = tables.jobs_of(pipeline)?;
+    let (Some(first), Some(last)) = (jobs.first(), jobs.last()) else {
+        return Ok(false);
+    };
+    let (low, high) = (first.id, last.id);
+    let needs = tables.needs_within(low, high)?;
+    let attempts = tables.attempts_within(low, high)?;
+    let rows = tables.rows_within(low, high)?;
+    slow_on::<Brand>(
+        alloc,
+        Blank::new(1),
+        jobs.as_slice(),
+        needs.as_slice(),
+        attempts.as_slice(),
+        rows.as_slice(),
+    )
+}
+
+fn slow_on<L: Ledger>(
+    alloc: Global,
+    blank: Blank,
+    jobs: &[Job],
+    needs: &[Need],
+    attempts: &[Attempt],
+    rows: &[BoardRow],
+) -> Result<bool, Fail>
+    requires name { blank.name ≡ L.name }
+    requires ledger { blank.parts ≡ L.parts }
+    requires some { 0 < blank.parts }
+{
+    let Ok(mut board) = load_board::<L>(alloc, blank, jobs, needs, attempts, rows) else {
+        return Ok(false);
+    };
+    for j in 0..jobs.len() {
+        if j >= board.size() {
+            return Ok(false);
+        }
+        let status = board.status(j);
+        if board.slow_status(alloc, j)? != status {
+            return Ok(false);
+        }
+    }
+    Ok(true)
 }

@@ -2,6 +2,8 @@
 #![tactic(auto)]
 
 #[cfg(test)]
+mod acts;
+#[cfg(test)]
 mod boards;
 #[cfg(test)]
 mod files;
@@ -9,6 +11,8 @@ mod files;
 mod limits;
 #[cfg(test)]
 mod numbers;
+#[cfg(test)]
+mod random;
 #[cfg(test)]
 mod statuses;
 #[cfg(test)]

@@ -3,7 +3,7 @@
 use ci_machine::records::Cause;
 use ci_machine::reply::Answer;
 use ci_machine::request::Report;
-use ci_test_servers::acts::{Act, PATH, RUNNER, TWO_JOBS};
+use ci_test_servers::acts::{AFTER_A, Act, BY_HAND, PATH, RUNNER, TWO_JOBS};
 use ci_test_servers::answers::says;
 use ci_test_servers::servers::{InMemory, after, happen, is_closed, let_go, tell};
 use std::alloc::{AllocError, Global};
@@ -205,10 +205,6 @@ fn a_job_that_needs_none_comes_at_once(rt: HostRuntime) -> Result<(), Fail> {
     follow(&rt, rt.alloc(), LINT, NEEDS_NONE)
 }
 
-/// Jobs that wait for `a` whatever their stage, and for how it ends.
-const AFTER_A: &str =
-    "a:\n  stage: build\n  script: x\nf:\n  needs: [a]\n  when: on_failure\n  script: x\nw:\n  needs: [a]\n  when: always\n  script: x\ns:\n  needs: [a]\n  script: x\ng:\n  stage: deploy\n  needs: [s]\n  script: x\n";
-
 const A_FAILS: &[Stand] = &[
     Stand {
         steps: &[],
@@ -266,10 +262,6 @@ const A_SUCCEEDS: &[Stand] = &[Stand {
 fn on_failure_waits_for_a_failure(rt: HostRuntime) -> Result<(), Fail> {
     follow(&rt, rt.alloc(), AFTER_A, A_SUCCEEDS)
 }
-
-/// A job that is started by hand, and one that waits for a failure of its stage, of which there is none before it.
-const BY_HAND: &str =
-    "run:\n  stage: build\n  script: x\nhand:\n  stage: build\n  when: manual\n  script: x\nalarm:\n  stage: build\n  when: on_failure\n  script: x\nlater:\n  script: x\n";
 
 const UNPLAYED: &[Stand] = &[
     Stand {

@@ -11,7 +11,7 @@ use std::process::Abort;
 use std::test::Fail;
 
 /// What happens at a moment in seconds, and what it is to be answered.
-type Row = (u64, Act, Want);
+pub(crate) type Row = (u64, Act, Want);
 
 /// Has each row happen.
 fn follow_on(
@@ -29,7 +29,12 @@ fn follow_on(
 }
 
 /// Has each row happen on a server over memory to which these things happened at 1000.
-fn follow(rt: &impl Abort, alloc: Global, before: &[Act], rows: &[Row]) -> Result<(), Fail> {
+pub(crate) fn follow(
+    rt: &impl Abort,
+    alloc: Global,
+    before: &[Act],
+    rows: &[Row],
+) -> Result<(), Fail> {
     let mut server = after(alloc, before)?;
     let followed = follow_on(rt, alloc, &mut server, rows);
     let_go(server);
@@ -226,7 +231,7 @@ fn a_trace_has_a_limit(rt: HostRuntime) -> Result<(), Fail> {
 }
 
 /// Has the rows happen as one run.
-fn run_through(
+pub(crate) fn run_through(
     rt: &impl Abort,
     alloc: Global,
     server: &mut InMemory,

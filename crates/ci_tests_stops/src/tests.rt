@@ -67,6 +67,10 @@ enum Before {
     TwoJobs,
     /// A pipeline of three stages, whose first job is granted.
     Stages,
+    /// A pipeline of one job that is started by hand.
+    ByHand,
+    /// A pipeline of one job that has succeeded.
+    Ended,
 }
 
 /// An event on files of which one fails from a call on.
@@ -86,10 +90,16 @@ const TWO_MORE: Want = Want::Done(
     "{\"id\":2,\"jobs\":[{\"id\":3,\"name\":\"build\",\"stage\":\"build\",\"status\":\"pending\"},{\"id\":4,\"name\":\"unit\",\"stage\":\"test\",\"status\":\"created\"}],\"ref\":\"main\",\"source\":\"api\",\"status\":\"pending\"}",
 );
 
+/// The pipeline of three stages, once it is cancelled.
+const THREE_CANCELLED: Want = Want::Done(
+    "{\"id\":1,\"jobs\":[{\"id\":1,\"name\":\"build\",\"stage\":\"build\",\"status\":\"canceled\"},{\"id\":2,\"name\":\"test\",\"stage\":\"test\",\"status\":\"canceled\"},{\"id\":3,\"name\":\"deploy\",\"stage\":\"deploy\",\"status\":\"canceled\"}],\"ref\":\"main\",\"source\":\"api\",\"status\":\"canceled\"}",
+);
+
 /// What the event is answered, and what it is answered once more.
 fn wanted(trial: Trial) -> (Want, Want) {
     match (trial.before, trial.act) {
         (Before::TwoJobs, Act::CreatePipeline(_)) => (OF_TWO, TWO_MORE),
+        (Before::Stages, Act::CancelPipeline(_)) => (THREE_CANCELLED, again(trial.act)),
         (_, act) => (first(act), again(act)),
     }
 }
@@ -179,6 +189,9 @@ fn tried(alloc: Global, files: Disks, trial: Trial, calls: u64) -> Result<Seen, 
     Ok(seen)
 }
 
+/// A file of one job that is started by hand.
+const HAND: &str = "build:\n  stage: build\n  when: manual\n  script: make\n";
+
 /// The files of a server to which these things have happened.
 fn files_after(alloc: Global, before: Before) -> Result<Disks, Fail> {
     let [project, runner, _, pipeline, ask] = PATH;
@@ -193,6 +206,15 @@ fn files_after(alloc: Global, before: Before) -> Result<Disks, Fail> {
         Before::Stages => {
             let file = Act::SetFile(1, THREE_STAGES);
             prepared(alloc, files, &[project, runner, file, pipeline, ask])
+        }
+        Before::ByHand => {
+            let file = Act::SetFile(1, HAND);
+            prepared(alloc, files, &[project, runner, file, pipeline])
+        }
+        Before::Ended => {
+            let file = Act::SetFile(1, ONE_JOB);
+            let acts = [project, runner, file, pipeline, ask, Act::Success];
+            prepared(alloc, files, &acts)
         }
     }
 }
@@ -324,4 +346,29 @@ fn each_call_fails_as_a_job_is_shown(rt: HostRuntime) -> Result<(), Fail> {
 #[test]
 fn each_call_fails_as_a_trace_is_shown(rt: HostRuntime) -> Result<(), Fail> {
     both(&rt, rt.alloc(), Before::Path(5), Act::Trace)
+}
+
+#[test]
+fn each_call_fails_as_a_job_is_played(rt: HostRuntime) -> Result<(), Fail> {
+    both(&rt, rt.alloc(), Before::ByHand, Act::Play(1))
+}
+
+#[test]
+fn each_call_fails_as_a_job_is_cancelled(rt: HostRuntime) -> Result<(), Fail> {
+    both(&rt, rt.alloc(), Before::Path(5), Act::CancelJob(1))
+}
+
+#[test]
+fn each_call_fails_as_a_first_job_is_cancelled(rt: HostRuntime) -> Result<(), Fail> {
+    both(&rt, rt.alloc(), Before::Stages, Act::CancelJob(1))
+}
+
+#[test]
+fn each_call_fails_as_a_job_is_tried_again(rt: HostRuntime) -> Result<(), Fail> {
+    both(&rt, rt.alloc(), Before::Ended, Act::RetryJob(1))
+}
+
+#[test]
+fn each_call_fails_as_a_pipeline_is_cancelled(rt: HostRuntime) -> Result<(), Fail> {
+    both(&rt, rt.alloc(), Before::Stages, Act::CancelPipeline(1))
 }

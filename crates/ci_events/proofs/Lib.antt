@@ -1,0 +1,5 @@
+pub mod Lists
+pub mod Settles
+pub mod Acting
+pub mod Pages
+pub mod Loading

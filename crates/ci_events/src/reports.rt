@@ -1,0 +1,41 @@
+//! What a runner's report on an attempt does, from what the store holds.
+
+ghost use Rattle.std.specs.Prelude.{◌≡◌};
+ghost use Rattle.ci_machine.specs.Reports as machine;
+ghost use Rattle.ci_machine.specs.Step.{lease_at};
+ghost use Rattle.ci_store.specs.Store.{LoadsBy};
+ghost use Rattle.ci_events.specs.Planning.{IsKept, PlansFor};
+
+use crate::ends::rows_behind;
+use crate::leases::leased_at;
+use crate::planned::Planned;
+use ci_machine::moment::Moment;
+use ci_machine::reply::Reply;
+use ci_machine::request::JobUpdate;
+use ci_plans::reports;
+use ci_store::fault::StoreFault;
+use ci_store::store::Store;
+use std::alloc::Global;
+
+/// A runner says how an attempt of its stands. Where it ends, the rows that differ then are those of its job and of jobs behind it.
+pub(crate) fn update_job<T: Store>(
+    alloc: Global,
+    store: &mut T,
+    update: &JobUpdate,
+    now: Moment,
+) -> Result<Planned<Reply>, StoreFault>
+    ensures { LoadsBy T.honest T.holds T.leaves store.old store.new result
+        (λ k p. IsKept k → PlansFor k ((p.answer, p.changes) ≡ machine.update_job (lease_at k.state update.now.attempt) update.now now) p.changes p.rows.items) }
+{
+    match leased_at(store, update.attempt)? {
+        None => {
+            let plan = reports::update_job(alloc, None, update, now)?;
+            Ok(Planned::without_rows(alloc, plan))
+        }
+        Some(leased) => {
+            let plan = reports::update_job(alloc, Some(&leased.lease), update, now)?;
+            let rows = rows_behind(alloc, store, leased.pipeline, &plan.1);
+            Planned::with_rows(plan, rows)
+        }
+    }
+}
