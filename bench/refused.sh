@@ -7,9 +7,7 @@
 # 11: the server told of a fault of its store (M17), and all was as with 10 once it was opened again.
 # Any other end is a fault (refused_ends.rt.txt; 128 and more: a signal). 11 is wanted in the last lines alone: there, under `rest`,
 # all memory is refused from one request on to the end of the call, also to the question whether the store is open.
-# Not finished: with the program as it is proved now only the trials over memory with a look at the rows were run, but for the sweeps over
-# hundreds of leases. What else decision 51 tells was run with a build that was not proved, of an earlier set of requests.
-# Wants gcc. Takes some minutes: the program is proved before it is built. The gate doesn't run it: there no allocator but the global
+# Wants gcc. The program is proved before it is built, which takes some minutes; the trials over 300 leases take the longest. The gate doesn't run it: there no allocator but the global
 # one can be had. Files lie in the folder that is named, /dev/shm without one.
 set -eu
 . "$(dirname "$0")/tables.sh"
