@@ -7,8 +7,8 @@
 # 11: the server told of a fault of its store (M17), and all was as with 10 once it was opened again.
 # Any other end is a fault (refused_ends.rt.txt; 128 and more: a signal). 11 is wanted in the last lines alone: there, under `rest`,
 # all memory is refused from one request on to the end of the call, also to the question whether the store is open.
-# Wants gcc. The program is proved before it is built, which takes some minutes; the trials over 300 leases take the longest. The gate doesn't run it: there no allocator but the global
-# one can be had. Files lie in the folder that is named, /dev/shm without one.
+# Wants gcc. The program is proved before it is built, which takes some minutes; the trials over 300 leases take the longest. The gate
+# doesn't run it: there no allocator but the global one can be had. Files lie in the folder that is named, /dev/shm without one.
 set -eu
 . "$(dirname "$0")/tables.sh"
 need gcc
