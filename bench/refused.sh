@@ -24,12 +24,13 @@ tried() {
   EXPECT=" $ends " LD_PRELOAD=$work/refuse.so "$program" "$@" || ended=1
 }
 
-loads="next project project-with variables-of variable runner-with pipeline job job-variables attempt attempts-of live-attempts
+loads="next project project-with variables-of variable runner runner-with pipeline newer-of job demand job-variables attempt attempts-of
+  live-attempts holder unfinished
   pieces-of jobs-of needs-within attempts-within rows-within row pending-after"
 events="add-project add-runner set-file set-file-again set-file-fault set-variable delete-variable create-pipeline create-with
   create-stages create-circle create-no-file ask-job ask-job-none ask-job-unknown running success success-stages append show-job
   show-trace show-pipeline play play-none retry cancel-job cancel-job-stages cancel-pipeline cancel-stages sweep sweep-stages
-  sweep-none"
+  sweep-none add-runner-of pause-runner pause-none ask-ship ask-ship-held success-ship cancel-ship sweep-ship sweep-redundant"
 for look in rows again; do
   for call in $loads commit $events sweep-hundreds sweep-hundreds-none; do tried "0 10" "$call" memory "$look"; done
   for call in create-pipeline ask-job append sweep; do tried "0 10" "$call" memory "$look" run; done

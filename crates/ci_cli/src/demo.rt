@@ -4,8 +4,8 @@ ghost use Rattle.std.specs.Prelude.{◌≡◌, ◌<◌};
 
 use ci_machine::moment::Moment;
 use ci_machine::records::{RefKind, Source};
-use ci_machine::request::{NewFile, NewPipeline, PipelineVariables, Request, Seed};
-use ci_machine::text::Text;
+use ci_machine::request::{NewFile, NewPipeline, NewRunner, PipelineVariables, Request, Seed};
+use ci_machine::text::{Text, Texts};
 use ci_server::link::Link;
 use ci_server::serve::{Served, serve_one};
 use ci_server::server::Server;
@@ -96,8 +96,14 @@ fn project(alloc: Global) -> Result<Request, AllocError> {
     Ok(Request::AddProject(Text::copy_of(alloc, "p")?))
 }
 
+/// The runner is of the instance, and runs untagged jobs.
 fn runner(alloc: Global) -> Result<Request, AllocError> {
-    Ok(Request::AddRunner(Text::copy_of(alloc, "r")?))
+    Ok(Request::AddRunner(NewRunner {
+        name: Text::copy_of(alloc, "r")?,
+        project: None,
+        tags: Texts::new(Vec::new(alloc)),
+        untagged: true,
+    }))
 }
 
 fn file(alloc: Global) -> Result<Request, AllocError> {

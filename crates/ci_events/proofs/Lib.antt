@@ -1,5 +1,9 @@
 pub mod Lists
+pub mod Found
+pub mod Showing
+pub mod Held
+pub mod Leaving
+pub mod Granting
+pub mod Creating
 pub mod Settles
 pub mod Acting
-pub mod Pages
-pub mod Loading

@@ -1,12 +1,17 @@
 -- A user acts on a job: what the machine does, whichever act it is.
-use Rattle.std.specs.Prelude.{ℕ, ◌==◌, List, [], ◌∷◌, filter, slice_index_or, Result}
+use Rattle.std.specs.Prelude.{ℕ, ◌==◌, List, [], ◌∷◌, filter, Option, Result}
 use Rattle.ci_machine.specs.declared.records.Job.{Job}
 use Rattle.ci_machine.specs.declared.records.Attempt.{Attempt}
 use Rattle.ci_machine.specs.declared.records.BoardRow.{BoardRow}
+use Rattle.ci_machine.specs.declared.records.Holder.{Holder}
 use Rattle.ci_machine.specs.declared.change.RowChange.{RowChange}
+use Rattle.ci_machine.specs.declared.change.IndexChange.{IndexChange}
 use Rattle.ci_machine.specs.declared.reply.Code.{Code}
 use Rattle.ci_machine.specs.declared.reply.Code.TheVariants.{M10, M11, M12}
 use Rattle.ci_machine.specs.State.{State}
+use Rattle.ci_machine.specs.Kept.{Kept, written}
+use Rattle.ci_machine.specs.Indexes.{AreIndexes}
+use Rattle.ci_machine.specs.Holders.{holders}
 use Rattle.ci_machine.specs.Plans.{Plan}
 use Rattle.ci_machine.specs.Acts.{permitted, ActsOn}
 use Rattle.ci_machine.specs.Plays.{play}
@@ -14,10 +19,10 @@ use Rattle.ci_machine.specs.Retries.{retry}
 use Rattle.ci_machine.specs.Cancels.{cancel}
 use Rattle.ci_statuses.specs.declared.act.Act.{Act}
 use Rattle.ci_statuses.specs.declared.act.Act.TheVariants.{Play, Retry, Cancel}
-use Rattle.ci_statuses.specs.Acts.{is_permitted, act_changes}
-use Rattle.ci_statuses.specs.Lookups.{AreRecords}
-use Rattle.ci_machine.specs.Kept.{Kept}
-use Rattle.ci_events.specs.declared.records.Records.{Records}
+use Rattle.ci_statuses.specs.declared.outcome.Outcome.{Outcome}
+use Rattle.ci_statuses.specs.Acts.{is_permitted, act_changes, acted_jobs, acted_state, IsOutcome}
+use Rattle.ci_lookups.specs.declared.records.Whole.{Whole}
+use Rattle.ci_lookups.specs.Held.{HoldAlike}
 
 -- the code that refuses it to a job whose status doesn't permit it
 abbrev pub refusal_of : Act → Code
@@ -35,6 +40,9 @@ changes_by Play attempts j = play j
 changes_by Retry attempts j = retry (filter (λ a. a.job == j.id) attempts) j
 changes_by Cancel attempts j = cancel attempts (j ∷ [])
 
--- what was looked up are the records of a pipeline
-abbrev pub AreOf : Kept → ℕ → Records → Type 0
-AreOf k pipeline r = AreRecords k.state k.board pipeline r.jobs.items r.needs.items r.attempts.items r.rows.items
+-- What is done to jobs of a pipeline, of what was looked up of it: what becomes of its jobs, which of the groups that are held and
+-- of the pipelines that aren't finished change, and who holds the groups of its jobs after it.
+pub record IsDone (act : Act) (only : Option ℕ) (k : Kept) (pipeline : ℕ) (w : Whole) (o : Outcome) (indexes : List IndexChange) (held : List Holder) : Type 0 where
+  pub outcome : IsOutcome act only k.state k.board pipeline o
+  pub are_indexes : AreIndexes (written (act_changes act k.state (acted_jobs act only k.state k.board pipeline)) o.changed.items indexes k)
+  pub alike : HoldAlike held (holders (acted_state act only k.state k.board pipeline)) w.pipeline.project w.records.jobs.items

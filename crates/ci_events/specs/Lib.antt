@@ -1,3 +1,3 @@
 pub mod Planning
-pub mod Search
 pub mod Acting
+pub mod Creating

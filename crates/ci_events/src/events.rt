@@ -1,11 +1,10 @@
-//! What an event does, from what a store holds: what it needs is looked up, and its plan is made. The store stays as it is.
+//! What a request does, from what a store holds: what it needs is looked up, and its plan is made. The store stays as it is.
 
 ghost use Rattle.std.specs.Prelude.{◌≡◌};
-ghost use Rattle.ci_machine.specs.Leases.{first_due};
-ghost use Rattle.ci_machine.specs.Step.{Does, leases};
-ghost use Rattle.ci_machine.specs.Sweeps as sweeps;
+ghost use Rattle.ci_machine.specs.Step.{Does};
 ghost use Rattle.ci_store.specs.Store.{LoadsBy};
-ghost use Rattle.ci_events.specs.Planning.{IsKept, PlansFor};
+ghost use Rattle.ci_lookups.specs.Keeps.{IsKept};
+ghost use Rattle.ci_events.specs.Planning.{PlansFor};
 
 use crate::acts::{act_on, cancel_pipeline};
 use crate::files::set_file;
@@ -14,13 +13,13 @@ use crate::pipelines::create_pipeline;
 use crate::planned::Planned;
 use crate::projects::add_project;
 use crate::reports::update_job;
-use crate::runners::add_runner;
+use crate::runners::{add_runner, pause_runner};
 use crate::shows::{show_job, show_pipeline, show_trace};
-use crate::sweeps::sweep;
 use crate::traces::append_trace;
 use crate::variables::{delete_variable, set_variable};
+use ci_indexes::laws::indexes_stay;
 use ci_machine::moment::Moment;
-use ci_machine::reply::{Reply, Swept};
+use ci_machine::reply::Reply;
 use ci_machine::request::{Request, Seed};
 use ci_statuses::act::Act;
 use ci_statuses::laws::rows_stay;
@@ -28,7 +27,7 @@ use ci_store::fault::StoreFault;
 use ci_store::store::Store;
 use std::alloc::Global;
 
-/// What a request does: its reply, its changes, and the rows of statuses behind them. Errors: the store's.
+/// What a request does: its reply, its changes, and what changes beside them. Errors: the store's.
 pub fn plan_request<T: Store>(
     alloc: Global,
     store: &mut T,
@@ -37,9 +36,10 @@ pub fn plan_request<T: Store>(
     seed: Seed,
 ) -> Result<Planned<Reply>, StoreFault>
     ensures { LoadsBy T.honest T.holds T.leaves store.old store.new result
-        (λ k p. IsKept k → PlansFor k (Does k.state k.board request now seed (p.answer, p.changes)) p.changes p.rows.items) }
+        (λ k p. IsKept k → PlansFor k (Does k.state k.board request now seed (p.answer, p.changes)) p.changes p.beside) }
 {
     rows_stay();
+    indexes_stay();
     match request {
         Request::CreatePipeline(new) => create_pipeline(alloc, store, &new, now),
         Request::AskJob(token) => ask_job(alloc, store, token, now, seed),
@@ -50,51 +50,43 @@ pub fn plan_request<T: Store>(
         Request::CancelPipeline(query) => cancel_pipeline(alloc, store, &query),
         Request::AddProject(name) => {
             let plan = add_project(alloc, store, name, seed)?;
-            Ok(Planned::without_rows(alloc, plan))
+            Ok(Planned::alone(alloc, plan))
         }
-        Request::AddRunner(name) => {
-            let plan = add_runner(alloc, store, name, seed)?;
-            Ok(Planned::without_rows(alloc, plan))
+        Request::AddRunner(new) => {
+            let plan = add_runner(alloc, store, new, seed)?;
+            Ok(Planned::alone(alloc, plan))
+        }
+        Request::PauseRunner(pause) => {
+            let plan = pause_runner(alloc, store, pause)?;
+            Ok(Planned::alone(alloc, plan))
         }
         Request::SetFile(new) => {
             let plan = set_file(alloc, store, new)?;
-            Ok(Planned::without_rows(alloc, plan))
+            Ok(Planned::alone(alloc, plan))
         }
         Request::SetVariable(new) => {
             let plan = set_variable(alloc, store, new)?;
-            Ok(Planned::without_rows(alloc, plan))
+            Ok(Planned::alone(alloc, plan))
         }
         Request::DeleteVariable(query) => {
             let plan = delete_variable(alloc, store, &query)?;
-            Ok(Planned::without_rows(alloc, plan))
+            Ok(Planned::alone(alloc, plan))
         }
         Request::AppendTrace(part) => {
             let plan = append_trace(alloc, store, part, now)?;
-            Ok(Planned::without_rows(alloc, plan))
+            Ok(Planned::alone(alloc, plan))
         }
         Request::ShowPipeline(query) => {
             let plan = show_pipeline(alloc, store, &query)?;
-            Ok(Planned::without_rows(alloc, plan))
+            Ok(Planned::alone(alloc, plan))
         }
         Request::ShowJob(query) => {
             let plan = show_job(alloc, store, &query)?;
-            Ok(Planned::without_rows(alloc, plan))
+            Ok(Planned::alone(alloc, plan))
         }
         Request::ShowTrace(query) => {
             let plan = show_trace(alloc, store, &query)?;
-            Ok(Planned::without_rows(alloc, plan))
+            Ok(Planned::alone(alloc, plan))
         }
     }
-}
-
-/// What a sweep does: the lease that is over ends, if there is one, that of the attempt of least number. Errors: the store's.
-pub fn plan_sweep<T: Store>(
-    alloc: Global,
-    store: &mut T,
-    now: Moment,
-) -> Result<Planned<Swept>, StoreFault>
-    ensures { LoadsBy T.honest T.holds T.leaves store.old store.new result
-        (λ k p. IsKept k → PlansFor k ((p.answer, p.changes) ≡ sweeps.sweep (first_due (leases k.state) now)) p.changes p.rows.items) }
-{
-    sweep(alloc, store, now)
 }

@@ -1,4 +1,4 @@
-//! What each event does, planned from what a store holds: an answer, changes of records, and rows of statuses.
+//! What each event does, planned from what a store holds: an answer, changes of records, and what changes beside them.
 #![tactic(auto)]
 
 mod acts;
@@ -6,15 +6,12 @@ mod ends;
 pub mod events;
 mod files;
 mod grants;
-mod leases;
 mod pipelines;
 pub mod planned;
 mod projects;
-mod records;
 mod reports;
 mod runners;
-mod search;
 mod shows;
-mod sweeps;
+pub mod sweeps;
 mod traces;
 mod variables;

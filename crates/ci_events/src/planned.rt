@@ -1,11 +1,11 @@
 //! What is planned of an event before anything changes.
 
-ghost use Rattle.std.specs.Prelude.{◌≡◌, [], Ok, IfOk, IfErr, Err};
+ghost use Rattle.std.specs.Prelude.{◌≡◌, [], option_to_list, Ok, IfOk, IfErr, Err};
 
-use ci_machine::change::Delta;
+use ci_machine::change::{Delta, IndexChange};
 use ci_machine::records::BoardRow;
 use ci_store::fault::StoreFault;
-use std::alloc::Global;
+use std::alloc::{AllocError, Global};
 
 /// What an event does.
 pub struct Planned<A> {
@@ -13,39 +13,76 @@ pub struct Planned<A> {
     pub answer: A,
     /// The records that are put and removed.
     pub changes: Delta,
-    /// The rows of statuses that are put behind them.
+    /// What changes beside them.
+    pub beside: Beside,
+}
+
+/// What changes beside the records.
+#[derive(Drop)]
+pub struct Beside {
+    /// The rows of statuses that are put.
     pub rows: Vec<BoardRow>,
+    /// The groups that are held and the pipelines that aren't finished, as far as that changes.
+    pub indexes: Vec<IndexChange>,
+}
+
+impl Beside {
+    /// Nothing changes beside the records.
+    pub(crate) fn nothing(alloc: Global) -> Beside
+        ensures rows { result.rows.items ≡ [] }
+        ensures indexes { result.indexes.items ≡ [] }
+    {
+        Beside {
+            rows: Vec::new(alloc),
+            indexes: Vec::new(alloc),
+        }
+    }
+}
+
+/// The change of an index, if there is one.
+pub(crate) fn listed(
+    alloc: Global,
+    change: Option<IndexChange>,
+) -> Result<Vec<IndexChange>, AllocError>
+    ensures { IfOk result (λ v. v.items ≡ option_to_list change) }
+{
+    let mut changes = Vec::new(alloc);
+    if let Some(change) = change {
+        changes.push(change)?;
+    }
+    Ok(changes)
 }
 
 impl<A: Drop> Planned<A> {
-    /// A plan by which no row differs.
-    pub(crate) fn without_rows(alloc: Global, plan: (A, Delta)) -> Planned<A>
+    /// A plan beside whose records nothing changes.
+    pub(crate) fn alone(alloc: Global, plan: (A, Delta)) -> Planned<A>
         ensures answer { result.answer ≡ plan.0 }
         ensures changes { result.changes ≡ plan.1 }
-        ensures rows { result.rows.items ≡ [] }
+        ensures rows { result.beside.rows.items ≡ [] }
+        ensures indexes { result.beside.indexes.items ≡ [] }
     {
         let (answer, changes) = plan;
         Planned {
             answer,
             changes,
-            rows: Vec::new(alloc),
+            beside: Beside::nothing(alloc),
         }
     }
 
-    /// The plan with these rows. Errors: there are none, for this fault, and the plan is given up.
-    pub(crate) fn with_rows(
+    /// The plan with what changes beside its records. Errors: that wasn't found, for this fault, and the plan is given up.
+    pub(crate) fn with(
         plan: (A, Delta),
-        rows: Result<Vec<BoardRow>, StoreFault>,
+        beside: Result<Beside, StoreFault>,
     ) -> Result<Planned<A>, StoreFault>
-        ensures planned { IfOk result (λ p. (p.answer ≡ plan.0) × (p.changes ≡ plan.1) × (rows ≡ Ok p.rows)) }
-        ensures fault { IfErr result (λ fault. rows ≡ Err fault) }
+        ensures planned { IfOk result (λ p. (p.answer ≡ plan.0) × (p.changes ≡ plan.1) × (beside ≡ Ok p.beside)) }
+        ensures fault { IfErr result (λ fault. beside ≡ Err fault) }
     {
         let (answer, changes) = plan;
-        match rows {
-            Ok(rows) => Ok(Planned {
+        match beside {
+            Ok(beside) => Ok(Planned {
                 answer,
                 changes,
-                rows,
+                beside,
             }),
             Err(fault) => {
                 let _ = changes.into_vec();

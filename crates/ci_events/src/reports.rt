@@ -4,11 +4,12 @@ ghost use Rattle.std.specs.Prelude.{◌≡◌};
 ghost use Rattle.ci_machine.specs.Reports as machine;
 ghost use Rattle.ci_machine.specs.Step.{lease_at};
 ghost use Rattle.ci_store.specs.Store.{LoadsBy};
-ghost use Rattle.ci_events.specs.Planning.{IsKept, PlansFor};
+ghost use Rattle.ci_lookups.specs.Keeps.{IsKept};
+ghost use Rattle.ci_events.specs.Planning.{PlansFor};
 
-use crate::ends::rows_behind;
-use crate::leases::leased_at;
+use crate::ends::beside_changes;
 use crate::planned::Planned;
+use ci_lookups::leases::leased_at;
 use ci_machine::moment::Moment;
 use ci_machine::reply::Reply;
 use ci_machine::request::JobUpdate;
@@ -17,7 +18,8 @@ use ci_store::fault::StoreFault;
 use ci_store::store::Store;
 use std::alloc::Global;
 
-/// A runner says how an attempt of its stands. Where it ends, the rows that differ then are those of its job and of jobs behind it.
+/// A runner says how an attempt of its stands. Where it ends, the rows of its job and of jobs behind it may differ, its resource
+/// group is free, and its pipeline may be finished.
 pub(crate) fn update_job<T: Store>(
     alloc: Global,
     store: &mut T,
@@ -25,17 +27,17 @@ pub(crate) fn update_job<T: Store>(
     now: Moment,
 ) -> Result<Planned<Reply>, StoreFault>
     ensures { LoadsBy T.honest T.holds T.leaves store.old store.new result
-        (λ k p. IsKept k → PlansFor k ((p.answer, p.changes) ≡ machine.update_job (lease_at k.state update.now.attempt) update.now now) p.changes p.rows.items) }
+        (λ k p. IsKept k → PlansFor k ((p.answer, p.changes) ≡ machine.update_job (lease_at k.state update.now.attempt) update.now now) p.changes p.beside) }
 {
     match leased_at(store, update.attempt)? {
         None => {
             let plan = reports::update_job(alloc, None, update, now)?;
-            Ok(Planned::without_rows(alloc, plan))
+            Ok(Planned::alone(alloc, plan))
         }
         Some(leased) => {
             let plan = reports::update_job(alloc, Some(&leased.lease), update, now)?;
-            let rows = rows_behind(alloc, store, leased.pipeline, &plan.1);
-            Planned::with_rows(plan, rows)
+            let beside = beside_changes(alloc, store, leased.pipeline, &plan.1);
+            Planned::with(plan, beside)
         }
     }
 }

@@ -6,6 +6,7 @@ ghost use Rattle.std.specs.Option.{option_copied};
 ghost use Rattle.std.specs.Result.{result_map_both};
 ghost use Rattle.ci_machine.specs.declared.records.BoardRow.{BoardRow};
 ghost use Rattle.ci_machine.specs.declared.records.Need.{Need};
+ghost use Rattle.ci_machine.specs.Holders.{holders};
 ghost use Rattle.ci_machine.specs.State.{State};
 ghost use Rattle.ci_machine.specs.Kept.{Kept};
 ghost use Rattle.ci_machine.specs.Plans.{asked_project};
@@ -15,13 +16,14 @@ ghost use Rattle.ci_machine.specs.Statuses.{jobs_of, facts_of, rows_of, status_f
 ghost use Rattle.ci_machine.specs.Step as step;
 ghost use Rattle.ci_statuses.specs.Lookups.{AreRecords};
 ghost use Rattle.ci_store.specs.Store.{LoadsBy};
-ghost use Rattle.ci_events.specs.Planning.{IsKept};
+ghost use Rattle.ci_lookups.specs.Keeps.{IsKept};
 
 use crate::ends::or_store_fault;
 use crate::projects;
 use ci_board::facts::{Facts, Row};
+use ci_lookups::holders::holders_of;
 use ci_machine::change::Delta;
-use ci_machine::records::{Attempt, BoardRow, Job, Piece, Pipeline, Project};
+use ci_machine::records::{Attempt, BoardRow, Holder, Job, Piece, Pipeline, Project};
 use ci_machine::reply::{Code, Reply};
 use ci_machine::request::{JobQuery, PipelineQuery};
 use ci_plans::{replies, shows};
@@ -30,6 +32,7 @@ use ci_statuses::pending::status_of;
 use ci_store::fault::StoreFault;
 use ci_store::store::Store;
 use std::alloc::Global;
+use std::slice;
 
 /// What a question names: the project with its token, the job with its number, and that job's pipeline, if they are there.
 #[derive(Drop)]
@@ -84,13 +87,15 @@ pub(crate) fn show_job<T: Store>(
 ) -> Result<(Reply, Delta), StoreFault>
     ensures { LoadsBy T.honest T.holds T.leaves store.old store.new result
         (λ k plan. let job = step.job_at k.state query.now.job in
-        plan ≡ machine.show_job (step.project_with k.state query.now.token) job (step.pipeline_of k.state job) (status_for k.board query.now.job) query.now) }
+        IsKept k → plan ≡ machine.show_job (step.project_with k.state query.now.token) job (step.pipeline_of k.state job) (holders k.state) (status_for k.board query.now.job) query.now) }
 {
     let named = load_named(store, query)?;
     match asked(&named, query) {
         Ok(job) => {
             let row = store.row(query.job)?;
-            Ok(shows::job_shown(alloc, job, status_of(row))?)
+            let held = holders_of(alloc, store, query.project, slice::from_ref(job))?;
+            let status = status_of(row);
+            Ok(shows::job_shown(alloc, held.as_slice(), query.project, job, status)?)
         }
         Err(code) => Ok(replies::refused(alloc, code)),
     }
@@ -150,7 +155,7 @@ pub(crate) fn show_pipeline<T: Store>(
 ) -> Result<(Reply, Delta), StoreFault>
     ensures { LoadsBy T.honest T.holds T.leaves store.old store.new result
         (λ k plan. IsKept k → let n = query.now.pipeline in
-        plan ≡ machine.show_pipeline (machine.asked_pipeline (asked_project (step.project_with k.state query.now.token) query.now.project) (step.pipeline_at k.state n)) (jobs_of k.state n) (facts_of k.state n) (rows_of k.state k.board n)) }
+        plan ≡ machine.show_pipeline (machine.asked_pipeline (asked_project (step.project_with k.state query.now.token) query.now.project) (step.pipeline_at k.state n)) (holders k.state) (jobs_of k.state n) (facts_of k.state n) (rows_of k.state k.board n)) }
 {
     let project = store.project_with(&query.token)?;
     let pipeline = store.pipeline(query.pipeline)?;
@@ -179,7 +184,7 @@ fn pipeline_shown<T: Store>(
     number: u64,
 ) -> Result<(Reply, Delta), StoreFault>
     ensures { LoadsBy T.honest T.holds T.leaves store.old store.new result
-        (λ k plan. IsKept k → plan ≡ machine.pipeline_shown pipeline.now (jobs_of k.state number) (facts_of k.state number) (rows_of k.state k.board number)) }
+        (λ k plan. IsKept k → plan ≡ machine.pipeline_shown pipeline.now (holders k.state) (jobs_of k.state number) (facts_of k.state number) (rows_of k.state k.board number)) }
 {
     let jobs = store.jobs_of(number)?;
     let Some((first, last)) = range_of(jobs.as_slice()) else {
@@ -187,9 +192,11 @@ fn pipeline_shown<T: Store>(
     };
     let attempts = store.attempts_within(first, last)?;
     let rows = store.rows_within(first, last)?;
+    let held = holders_of(alloc, store, pipeline.project, jobs.as_slice())?;
     jobs_shown(
         alloc,
         pipeline,
+        held.as_slice(),
         jobs.as_slice(),
         attempts.as_slice(),
         rows.as_slice(),
@@ -200,17 +207,19 @@ fn pipeline_shown<T: Store>(
 fn jobs_shown(
     alloc: Global,
     pipeline: &Pipeline,
+    held: &[Holder],
     jobs: &[Job],
     attempts: &[Attempt],
     rows: &[BoardRow],
 ) -> Result<(Reply, Delta), StoreFault>
     ensures { IfOk result (λ plan. (k : Kept) (number : ℕ) (needs : List Need) → IsKept k → AreRecords k.state k.board number jobs.now needs attempts.now rows.now
-        → plan ≡ machine.pipeline_shown pipeline.now jobs.now (facts_of k.state number) (rows_of k.state k.board number)) }
+        → plan ≡ machine.pipeline_shown pipeline.now held.now jobs.now (facts_of k.state number) (rows_of k.state k.board number)) }
 {
     let found = loaded(alloc, jobs, attempts, rows)?;
     let plan = shows::pipeline_shown(
         alloc,
         pipeline,
+        held,
         jobs,
         found.0.as_slice(),
         found.1.as_slice(),
@@ -219,7 +228,7 @@ fn jobs_shown(
 }
 
 /// The facts and the rows of a pipeline's jobs. Errors: memory was refused, or the records don't fit together.
-fn loaded(
+pub(crate) fn loaded(
     alloc: Global,
     jobs: &[Job],
     attempts: &[Attempt],

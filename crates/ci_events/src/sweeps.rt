@@ -1,16 +1,18 @@
 //! What a sweep does, from what the store holds.
 
-ghost use Rattle.std.specs.Prelude.{◌≡◌, ◌++◌, ◌∷◌, [], map, Some};
-ghost use Rattle.ci_machine.specs.Leases.{first_due};
-ghost use Rattle.ci_machine.specs.Sweeps as machine;
+ghost use Rattle.std.specs.Prelude.{◌≡◌, ◌++◌, ◌∷◌, [], map, None};
+ghost use Rattle.ci_machine.specs.Sweeps.{ends, sweep};
 ghost use Rattle.ci_machine.specs.Step as step;
 ghost use Rattle.ci_statuses.specs.Changes.{HasLive};
 ghost use Rattle.ci_store.specs.Store.{LoadsBy};
-ghost use Rattle.ci_events.specs.Planning.{IsKept, PlansFor};
+ghost use Rattle.ci_lookups.specs.Keeps.{IsKept};
+ghost use Rattle.ci_events.specs.Planning.{PlansFor};
 
-use crate::ends::rows_behind;
-use crate::leases::lease_of;
+use crate::acts::cancel_redundant;
+use crate::ends::beside_changes;
 use crate::planned::Planned;
+use ci_lookups::leases::lease_of;
+use ci_lookups::redundant::first_redundant;
 use ci_machine::lease::{Lease, due};
 use ci_machine::moment::Moment;
 use ci_machine::records::Attempt;
@@ -20,35 +22,47 @@ use ci_store::fault::StoreFault;
 use ci_store::store::Store;
 use std::alloc::Global;
 
-/// The lease that is over ends, if there is one: that of the attempt of least number. The rows that differ then are those of its
-/// job and of jobs behind it.
-pub(crate) fn sweep<T: Store>(
+/// What a sweep does: the lease that is over ends, if there is one, that of the attempt of least number; where there is none, the
+/// redundant pipeline of least number is cancelled, if there is one. Errors: the store's.
+pub fn plan_sweep<T: Store>(
     alloc: Global,
     store: &mut T,
     now: Moment,
 ) -> Result<Planned<Swept>, StoreFault>
     ensures { LoadsBy T.honest T.holds T.leaves store.old store.new result
-        (λ k p. IsKept k → PlansFor k ((p.answer, p.changes) ≡ machine.sweep (first_due (step.leases k.state) now)) p.changes p.rows.items) }
+        (λ k p. IsKept k → PlansFor k ((p.answer, p.changes) ≡ step.sweep_in k.state k.board now) p.changes p.beside) }
 {
     let attempts = store.live_attempts()?;
     let leases = leases(alloc, store, attempts)?;
     match due(leases.as_slice(), now) {
         Some(lease) => end(alloc, store, lease),
-        None => Ok(Planned::without_rows(alloc, sweeps::sweep(alloc, None)?)),
+        None => sweep_pipelines(alloc, store),
     }
 }
 
 /// The lease ends.
 fn end<T: Store>(alloc: Global, store: &mut T, lease: &Lease) -> Result<Planned<Swept>, StoreFault>
     ensures { LoadsBy T.honest T.holds T.leaves store.old store.new result
-        (λ k p. IsKept k → HasLive k.state lease.now.attempt → PlansFor k ((p.answer, p.changes) ≡ machine.sweep (Some lease.now)) p.changes p.rows.items) }
+        (λ k p. IsKept k → HasLive k.state lease.now.attempt → PlansFor k ((p.answer, p.changes) ≡ ends lease.now) p.changes p.beside) }
 {
     let Some(job) = store.job(lease.attempt.job)? else {
         return Err(StoreFault::Broken);
     };
-    let plan = sweeps::sweep(alloc, Some(lease))?;
-    let rows = rows_behind(alloc, store, job.pipeline, &plan.1);
-    Planned::with_rows(plan, rows)
+    let plan = sweeps::end(alloc, lease)?;
+    let beside = beside_changes(alloc, store, job.pipeline, &plan.1);
+    Planned::with(plan, beside)
+}
+
+/// No lease is over: the redundant pipeline of least number is cancelled, if there is one.
+fn sweep_pipelines<T: Store>(alloc: Global, store: &mut T) -> Result<Planned<Swept>, StoreFault>
+    ensures { LoadsBy T.honest T.holds T.leaves store.old store.new result
+        (λ k p. IsKept k → let redundant = step.redundant_in k.state k.board in
+        PlansFor k ((p.answer, p.changes) ≡ sweep None redundant k.state.attempts (step.cancellable_in k.state k.board redundant)) p.changes p.beside) }
+{
+    match first_redundant(store)? {
+        Some(pipeline) => cancel_redundant(alloc, store, &pipeline),
+        None => Ok(Planned::alone(alloc, sweeps::nothing(alloc))),
+    }
 }
 
 /// The attempts, each with the time limit of its job.

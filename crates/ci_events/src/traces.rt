@@ -5,7 +5,7 @@ ghost use Rattle.ci_machine.specs.Traces as machine;
 ghost use Rattle.ci_machine.specs.Step.{lease_at};
 ghost use Rattle.ci_store.specs.Store.{LoadsBy};
 
-use crate::leases::lease_at;
+use ci_lookups::leases::lease_at;
 use ci_machine::change::Delta;
 use ci_machine::moment::Moment;
 use ci_machine::reply::Reply;

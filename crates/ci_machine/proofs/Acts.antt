@@ -1,18 +1,19 @@
 -- What a user does to jobs: which records it puts, and which state it leads to.
-use Rattle.std.specs.Prelude.{◌≡◌, ◌⊎◌, true, false, List, [], ◌∷◌, ◌++◌, length, map, filter}
+use Rattle.std.specs.Prelude.{◌≡◌, ◌⊎◌, ℕ, ◌==◌, true, false, List, [], ◌∷◌, ◌++◌, length, map, filter}
 use Rattle.std.proofs.Common.{refl, sym, ap, ◌∙◌, inl, inr, ⊎_elim}
 use Rattle.std.proofs.lemmas.Bool.{and_parts}
 use Rattle.ci_machine.specs.declared.records.Job.{Job}
 use Rattle.ci_machine.specs.declared.records.Attempt.{Attempt}
+use Rattle.ci_machine.specs.declared.records.BoardRow.{BoardRow}
 use Rattle.ci_machine.specs.declared.change.RowChange.{RowChange}
 use Rattle.ci_machine.specs.declared.change.RowChange.TheVariants.{Put}
 use Rattle.ci_machine.specs.declared.change.Record.TheVariants as row
 use Rattle.ci_machine.specs.State.{State, put, job_cmp, attempt_cmp, applied}
-use Rattle.ci_machine.specs.Statuses.{attempts_of}
+use Rattle.ci_machine.specs.Statuses.{jobs_of, attempts_of, status_for}
 use Rattle.ci_machine.specs.Leases.{is_live}
 use Rattle.ci_machine.specs.Plays.{play}
 use Rattle.ci_machine.specs.Retries.{retry}
-use Rattle.ci_machine.specs.Cancels.{is_lease_on, cancelled_job, cancelled_attempt, cancel}
+use Rattle.ci_machine.specs.Cancels.{is_cancellable, cancellable_jobs, is_lease_on, cancelled_job, cancelled_attempt, cancel}
 use Rattle.ci_machine.specs.Laws.{job_for_good}
 use Rattle.ci_machine.proofs.Keyed.{Has, has_filter, map_has}
 use Rattle.ci_machine.proofs.Behind.{put_all, has_all}
@@ -86,6 +87,11 @@ cancels s jobs within =
         is = sym w.1.1;
       };
     }
+
+-- the jobs of a pipeline that can be cancelled are there
+pub cancellable_within : (s : State) (board : List BoardRow) (pipeline : ℕ) (j : Job) → Has j (cancellable_jobs s board pipeline) → Has j s.jobs
+cancellable_within s board pipeline j k =
+    (has_filter (λ (w : Job). w.pipeline == pipeline) j s.jobs (has_filter (λ (w : Job). is_cancellable (status_for board w.id)) j (jobs_of s pipeline) k).0).0
 
 -- ---- the state that it leads to
 

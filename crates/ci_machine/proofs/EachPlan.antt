@@ -1,7 +1,7 @@
 -- What holds of each plan: a refusal changes nothing, and the machine answers neither M16 nor M17.
 use Rattle.std.proofs.Common.{◌≡◌, ℕ, ◌==◌, Bool, List, [], length, not, nat_lt, true, false, Option, None, Some, option_map, Result, Ok, Err, ◌∷◌, refl, sym, ap, subst, ◌∙◌, ⊎_elim, eqb-true}
 use Rattle.std.specs.Str.{bytes_eq}
-use Rattle.std.proofs.lemmas.Bool.{cond_both, false≢true}
+use Rattle.std.proofs.lemmas.Bool.{cond_both, and_parts, false≢true}
 use Rattle.ci_board.specs.declared.facts.Status.{Status}
 use Rattle.ci_machine.specs.declared.records.BoardRow.{BoardRow}
 use Rattle.ci_machine.specs.declared.records.Project.{Project}
@@ -19,12 +19,14 @@ use Rattle.ci_machine.specs.declared.records.Runner.{Runner}
 use Rattle.ci_machine.specs.declared.records.QueuedJob.{QueuedJob}
 use Rattle.ci_machine.specs.declared.records.JobVariable.{JobVariable}
 use Rattle.ci_config.specs.Config.{Config}
-use Rattle.ci_config.specs.declared.limits.TheConstants.{MAX_VARIABLES}
+use Rattle.ci_config.specs.declared.limits.TheConstants.{MAX_VARIABLES, MAX_TAGS}
 use Rattle.ci_words.specs.Name.{is_variable_name}
 use Rattle.ci_layout.specs.Inclusion.{Given}
 use Rattle.ci_board.specs.declared.facts.Facts.{Facts}
 use Rattle.ci_board.specs.declared.facts.Row.{Row}
 use Rattle.ci_machine.specs.declared.records.Variable.{Variable}
+use Rattle.ci_machine.specs.declared.records.Holder.{Holder}
+use Rattle.ci_machine.specs.declared.request.NewRunner.{NewRunner}
 use Rattle.ci_machine.specs.declared.request.NewFile.{NewFile}
 use Rattle.ci_machine.specs.declared.request.NewVariable.{NewVariable}
 use Rattle.ci_machine.specs.declared.request.VariableQuery.{VariableQuery}
@@ -33,7 +35,7 @@ use Rattle.ci_machine.specs.declared.request.PipelineQuery.{PipelineQuery}
 use Rattle.ci_machine.specs.declared.request.Event.{Event}
 use Rattle.ci_machine.specs.declared.request.Event.TheVariants as event
 use Rattle.ci_machine.specs.declared.request.Request.{Request}
-use Rattle.ci_machine.specs.declared.request.Request.TheVariants.{AddProject, AddRunner, SetFile, SetVariable, DeleteVariable, CreatePipeline, ShowPipeline, AskJob, UpdateJob, AppendTrace, ShowJob, ShowTrace, Play, CancelJob, CancelPipeline, RetryJob}
+use Rattle.ci_machine.specs.declared.request.Request.TheVariants.{AddProject, AddRunner, PauseRunner, SetFile, SetVariable, DeleteVariable, CreatePipeline, ShowPipeline, AskJob, UpdateJob, AppendTrace, ShowJob, ShowTrace, Play, CancelJob, CancelPipeline, RetryJob}
 use Rattle.ci_machine.specs.declared.request.Report.{Report}
 use Rattle.ci_machine.specs.declared.request.Report.TheVariants as report
 use Rattle.ci_machine.specs.declared.request.JobUpdate.{JobUpdate}
@@ -55,11 +57,10 @@ use Rattle.ci_machine.specs.State.{State, applied}
 use Rattle.ci_machine.specs.Statuses.{jobs_of, attempts_of, facts_of, rows_of, status_for}
 use Rattle.ci_values.specs.declared.limits.TheConstants.{MAX_NUMBER}
 use Rattle.serde_json.specs.Written.{compact_text}
-use Rattle.ci_board.specs.Texts.{status_text}
-use Rattle.ci_machine.specs.Bodies.{job_data, pipeline_data}
+use Rattle.ci_machine.specs.Bodies.{printed_status, job_data, pipeline_data}
 use Rattle.ci_machine.specs.Plans.{Plan, refused, faulted, fine, asked_project}
 use Rattle.ci_machine.specs.Projects.{made_project, add_project}
-use Rattle.ci_machine.specs.Runners.{made_runner, add_runner}
+use Rattle.ci_machine.specs.Runners.{made_runner, are_names, lacks_project, add_runner, runner_paused, pause_runner}
 use Rattle.ci_machine.specs.Files.{file_set, set_file, SetsFile}
 use Rattle.ci_machine.specs.Variables.{count_with, variable_set, set_variable, variable_gone, delete_variable}
 use Rattle.ci_machine.specs.Pipelines.{have_names, file_or_none, may_create, given_by, Layout, IsLaidOut, lacks_numbers, creation, pipeline_created, MakesUnless, Makes, Creates}
@@ -73,12 +74,13 @@ use Rattle.ci_machine.specs.Retries.{is_retryable, retry}
 use Rattle.ci_machine.specs.Cancels.{is_cancellable, cancellable_jobs, cancel, CancelsSome, CancelsPipeline}
 use Rattle.ci_machine.specs.Sweeps.{sweep}
 use Rattle.ci_machine.specs.Leases.{accepted, first_due}
-use Rattle.ci_machine.specs.Eligible.{may_run, chosen}
-use Rattle.ci_machine.specs.Step.{Does, Happens, Step, project_with, project_variables, variable_at, pipeline_at, runner_with, attempt_at, pipeline_of, job_at, found_job, found_pipeline, last_attempt, pieces_in, lease_of, leases, is_pending, pending_jobs, queued, queue, offer, offered_variables}
+use Rattle.ci_machine.specs.Eligible.{may_run, resource_free, is_eligible, chosen}
+use Rattle.ci_machine.specs.Holders.{holders}
+use Rattle.ci_machine.specs.Step.{Does, Happens, Step, project_with, project_named, runner_at, redundant_in, cancellable_in, project_variables, variable_at, pipeline_at, runner_with, attempt_at, pipeline_of, job_at, found_job, found_pipeline, last_attempt, pieces_in, lease_of, leases, is_pending, pending_jobs, queued, queue, offer, offered_variables}
 use Rattle.ci_machine.specs.Laws.{IsRefusal}
 use Rattle.ci_machine.specs.Reply.{Stepped, outcome_of}
 use Rattle.ci_machine.proofs.Keyed.{Has, has_filter, has_find, find-map}
-use Rattle.ci_machine.proofs.Acts.{IsAct, plays, retries, cancels}
+use Rattle.ci_machine.proofs.Acts.{IsAct, plays, retries, cancels, cancellable_within}
 
 -- the codes with which the machine refuses
 abbrev pub IsMachineCode : Code → Type 0
@@ -123,7 +125,7 @@ given_in s new = given_by new (project_variables s new.project)
 abbrev pub OfCreation : State → (Plan → Type 0) → NewPipeline → ℕ → Type 0
 OfCreation s P new now =
     (project : Project) (text : List ℕ) (laid : Layout) (rows : List Row) → of_asked s new.token new.project ≡ Ok project → Has project s.projects → project.id ≡ new.project → project.file ≡ Some text
-    → IsLaidOut text (given_in s new) (Ok laid) → P (pipeline_created s.next.job (creation s.next.pipeline s.next.job new (given_in s new) now laid) rows)
+    → IsLaidOut text (given_in s new) (Ok laid) → P (pipeline_created s.next.job (creation s.next.pipeline s.next.job new (given_in s new) now laid) (holders s) rows)
 
 module _ (s : State) (P : Plan → Type 0) (of_code : (c : Code) → IsMachineCode c → P (refused c)) (of_fault : (d : Detail) → P (faulted d)) where
   file_said : (project : Project) (text : List ℕ) → ((c : Config) → P (file_set project text c)) → (said : Result Config Detail) → P (set_file project text said)
@@ -159,48 +161,48 @@ module _ (s : State) (P : Plan → Type 0) (of_code : (c : Code) → IsMachineCo
 
   -- ---- a pipeline is to be made
 
-  unless : (new : NewPipeline) (now : ℕ) (plan : Plan) (laid : Layout) → ((rows : List Row) → P (pipeline_created s.next.job (creation s.next.pipeline s.next.job new (given_in s new) now laid) rows)) → (lacks : Bool)
-      → MakesUnless lacks s.next.job (creation s.next.pipeline s.next.job new (given_in s new) now laid) plan → P plan
+  unless : (new : NewPipeline) (now : ℕ) (plan : Plan) (laid : Layout) → ((rows : List Row) → P (pipeline_created s.next.job (creation s.next.pipeline s.next.job new (given_in s new) now laid) (holders s) rows)) → (lacks : Bool)
+      → MakesUnless lacks s.next.job (creation s.next.pipeline s.next.job new (given_in s new) now laid) (holders s) plan → P plan
   unless new now plan laid h true is = subst P (sym is) (of_code M15 tt)
   unless new now plan laid h false is = subst P (sym is.2) (h is.0)
 
   makes : (new : NewPipeline) (now : ℕ) (plan : Plan) → OfCreation s P new now → (project : Project) → of_asked s new.token new.project ≡ Ok project → Asked s new.project (Ok project)
-      → (text : List ℕ) → project.file ≡ Some text → (laid : Result Layout Detail) → IsLaidOut text (given_in s new) laid → Makes s.next.pipeline s.next.job new (given_in s new) now laid plan → P plan
+      → (text : List ℕ) → project.file ≡ Some text → (laid : Result Layout Detail) → IsLaidOut text (given_in s new) laid → Makes s.next.pipeline s.next.job (holders s) new (given_in s new) now laid plan → P plan
   makes new now plan h project is_project asked text file (Err fault) lays is = subst P (sym is) (of_fault fault)
   makes new now plan h project is_project asked text file (Ok laid) lays is =
       unless new now plan laid (λ rows. h project text laid rows is_project asked.0 asked.1 file lays) (lacks_numbers s.next.pipeline s.next.job (length laid.plan.jobs)) is
 
   reads : (new : NewPipeline) (now : ℕ) (plan : Plan) → OfCreation s P new now → (project : Project) → of_asked s new.token new.project ≡ Ok project → Asked s new.project (Ok project)
-      → (file : Option (List ℕ)) → project.file ≡ file → Creates s.next.pipeline s.next.job new (given_in s new) now (file_or_none file) plan → P plan
+      → (file : Option (List ℕ)) → project.file ≡ file → Creates s.next.pipeline s.next.job (holders s) new (given_in s new) now (file_or_none file) plan → P plan
   reads new now plan h project is_project asked None file is = subst P (sym is) (of_code M13 tt)
   reads new now plan h project is_project asked (Some text) file is = makes new now plan h project is_project asked text file is.0 is.1 is.2
 
   creates : (new : NewPipeline) (now : ℕ) (plan : Plan) → OfCreation s P new now → (r : Result Project Code) → of_asked s new.token new.project ≡ r → Asked s new.project r
-      → Creates s.next.pipeline s.next.job new (given_in s new) now (may_create r new) plan → P plan
+      → Creates s.next.pipeline s.next.job (holders s) new (given_in s new) now (may_create r new) plan → P plan
   creates new now plan h (Err code) is asked made = subst P (sym made) (of_code code asked)
   creates new now plan h (Ok project) is asked made =
-      let C : Result (List ℕ) Plan → Type 0 = λ t. Creates s.next.pipeline s.next.job new (given_in s new) now t plan → P plan in
+      let C : Result (List ℕ) Plan → Type 0 = λ t. Creates s.next.pipeline s.next.job (holders s) new (given_in s new) now t plan → P plan in
       cond_both (not (is_name new.git_ref)) (Err (faulted (detail.Code (K 16)))) _ C (λ _ k. subst P (sym k) (of_fault (detail.Code (K 16)))) (λ _.
       cond_both (nat_lt MAX_VARIABLES (length new.variables)) (Err (faulted (detail.Code (K 11)))) _ C (λ _ k. subst P (sym k) (of_fault (detail.Code (K 11)))) (λ _.
       cond_both (not (have_names new.variables)) (Err (faulted (detail.Code (K 12)))) (file_or_none project.file) C (λ _ k. subst P (sym k) (of_fault (detail.Code (K 12))))
       (λ _. reads new now plan h project is asked project.file refl))) made
 
   pub of_creation : (new : NewPipeline) (now : ℕ) (plan : Plan) → OfCreation s P new now
-      → Creates s.next.pipeline s.next.job new (given_in s new) now (may_create (of_asked s new.token new.project) new) plan → P plan
+      → Creates s.next.pipeline s.next.job (holders s) new (given_in s new) now (may_create (of_asked s new.token new.project) new) plan → P plan
   of_creation new now plan h = creates new now plan h (of_asked s new.token new.project) refl (is_asked s new.token new.project)
 
   -- ---- a pipeline is shown
 
-  shows : (jobs : List Job) (facts : List Facts) (rows : List Row) → ((p : Pipeline) → P (pipeline_shown p jobs facts rows)) → (named : ℕ) (found : Option Pipeline) (r : Result Project Code) → Asked s named r
-      → P (show_pipeline (asked_pipeline r found) jobs facts rows)
-  shows jobs facts rows h named found (Err code) asked = of_code code asked
-  shows jobs facts rows h named None (Ok project) asked = of_code M3 tt
-  shows jobs facts rows h named (Some p) (Ok project) asked =
-      cond_both (p.project == project.id) (Ok p) (Err M3) (λ r. P (show_pipeline r jobs facts rows)) (λ _. h p) (λ _. of_code M3 tt)
+  shows : (held : List Holder) (jobs : List Job) (facts : List Facts) (rows : List Row) → ((p : Pipeline) → P (pipeline_shown p held jobs facts rows)) → (named : ℕ) (found : Option Pipeline) (r : Result Project Code) → Asked s named r
+      → P (show_pipeline (asked_pipeline r found) held jobs facts rows)
+  shows held jobs facts rows h named found (Err code) asked = of_code code asked
+  shows held jobs facts rows h named None (Ok project) asked = of_code M3 tt
+  shows held jobs facts rows h named (Some p) (Ok project) asked =
+      cond_both (p.project == project.id) (Ok p) (Err M3) (λ r. P (show_pipeline r held jobs facts rows)) (λ _. h p) (λ _. of_code M3 tt)
 
-  pub of_pipeline : (query : PipelineQuery) (jobs : List Job) (facts : List Facts) (rows : List Row) → ((p : Pipeline) → P (pipeline_shown p jobs facts rows))
-      → P (show_pipeline (asked_pipeline (of_asked s query.token query.project) (pipeline_at s query.pipeline)) jobs facts rows)
-  of_pipeline query jobs facts rows h = shows jobs facts rows h query.project (pipeline_at s query.pipeline) (of_asked s query.token query.project) (is_asked s query.token query.project)
+  pub of_pipeline : (query : PipelineQuery) (held : List Holder) (jobs : List Job) (facts : List Facts) (rows : List Row) → ((p : Pipeline) → P (pipeline_shown p held jobs facts rows))
+      → P (show_pipeline (asked_pipeline (of_asked s query.token query.project) (pipeline_at s query.pipeline)) held jobs facts rows)
+  of_pipeline query held jobs facts rows h = shows held jobs facts rows h query.project (pipeline_at s query.pipeline) (of_asked s query.token query.project) (is_asked s query.token query.project)
 
 -- ---- what a user does to jobs
 
@@ -241,7 +243,8 @@ module _ (s : State) (board : List BoardRow) (P : Plan → Type 0) (of_code : (c
   acts : (act : Job → List RowChange) → ((j : Job) → Has j s.jobs → IsAct s (act j)) → (plan : Plan) (r : Result Job Code) → Found s r → ActsOn s act r plan → P plan
   acts act are plan (Err code) found is = subst P (sym is) (of_code code found)
   acts act are plan (Ok job) found is =
-      subst P (sym is.2) (of_act (compact_text (job_data (status_text (status_among (applied (act job) s) is.0 job)) job)) (act job) (are job found))
+      let t = applied (act job) s in
+      subst P (sym is.2) (of_act (compact_text (job_data (printed_status (holders t) (queued t job).project job (status_among t is.0 job)) job)) (act job) (are job found))
 
   acts_on : (act : Job → List RowChange) → ((j : Job) → Has j s.jobs → IsAct s (act j)) → (test : Status → Bool) (code : Code) → IsMachineCode code → (query : JobQuery) (plan : Plan)
       → ActsOn s act (permitted board test code (found_job s query)) plan → P plan
@@ -266,13 +269,12 @@ module _ (s : State) (board : List BoardRow) (P : Plan → Type 0) (of_code : (c
   cancels_some plan p (j ∷ js) within is =
       let changes = cancel s.attempts (j ∷ js) in
       let t = applied changes s in
-      subst P (sym is.2) (of_act (compact_text (pipeline_data p (jobs_of t p.id) (facts_of t p.id) is.0)) changes (cancels s (j ∷ js) within))
+      subst P (sym is.2) (of_act (compact_text (pipeline_data p (holders t) (jobs_of t p.id) (facts_of t p.id) is.0)) changes (cancels s (j ∷ js) within))
 
   cancels_by : (plan : Plan) (r : Result Pipeline Code) → IsPipeline r → CancelsPipeline s board r plan → P plan
   cancels_by plan (Err code) found is = subst P (sym is) (of_code code found)
   cancels_by plan (Ok p) found is =
-      cancels_some plan p (cancellable_jobs s board p.id)
-      (λ j k. (has_filter (λ (w : Job). w.pipeline == p.id) j s.jobs (has_filter (λ (w : Job). is_cancellable (status_for board w.id)) j (jobs_of s p.id) k).0).0) is
+      cancels_some plan p (cancellable_jobs s board p.id) (cancellable_within s board p.id) is
 
   -- the jobs of a pipeline are to be cancelled
   pub of_cancel : (query : PipelineQuery) (plan : Plan) → CancelsPipeline s board (found_pipeline s query) plan → P plan
@@ -286,21 +288,22 @@ pub record Each (s : State) (board : List BoardRow) (request : Request) (P : Pla
   pub refused : (c : Code) → IsMachineCode c → P (refused c)
   pub faulted : (d : Detail) → P (faulted d)
   pub project : (name : List ℕ) (seed : Seed) → P (made_project s.next.project name seed)
-  pub runner : (name : List ℕ) (seed : Seed) → P (made_runner s.next.runner name seed)
+  pub runner : (new : NewRunner) (seed : Seed) → P (made_runner s.next.runner new seed)
+  pub paused : (runner : Runner) (paused : Bool) → Has runner s.runners → P (runner_paused runner paused)
   pub file : (project : Project) (text : List ℕ) (c : Config) → Has project s.projects → P (file_set project text c)
   pub variable : (project : Project) (new : NewVariable) → P (variable_set project new)
   pub gone : (v : Variable) → P (variable_gone v)
   pub pipeline : (new : NewPipeline) (now : ℕ) → request ≡ CreatePipeline new → OfCreation s P new now
   pub nothing : P nothing_to_run
   pub granted : (runner : Runner) (job : Job) (q : QueuedJob) (variables : List JobVariable) (now : ℕ) (seed : Seed)
-      → Has runner s.runners → Has job s.jobs → is_pending board job ≡ true → job.id ≡ q.job.id → P (granted runner q variables s.next.attempt now seed)
+      → Has runner s.runners → Has job s.jobs → is_pending board job ≡ true → queued s job ≡ q → resource_free (holders s) q ≡ true → P (granted runner q variables s.next.attempt now seed)
   pub turned_away : (fault : LeaseFault) → P (unleased fault, [])
   pub heard : (a : Attempt) (seen : ℕ) → Has a s.attempts → P (heard a (Ok seen))
   pub ended : (a : Attempt) (state : AttemptState) → Has a s.attempts → P (ended a (Ok state))
   pub misplaced : (fault : PieceFault) → P (not_accepted fault, [])
   pub grown : (a : Attempt) (bytes : List ℕ) (now size : ℕ) → Has a s.attempts → P (grown a bytes now size)
-  pub pipeline_shown : (p : Pipeline) (jobs : List Job) (facts : List Facts) (rows : List Row) → P (pipeline_shown p jobs facts rows)
-  pub shown : (job : Job) (status : Status) → P (job_shown job status)
+  pub pipeline_shown : (p : Pipeline) (held : List Holder) (jobs : List Job) (facts : List Facts) (rows : List Row) → P (pipeline_shown p held jobs facts rows)
+  pub shown : (held : List Holder) (project : ℕ) (job : Job) (status : Status) → P (job_shown held project job status)
   pub traced : (pieces : List Piece) → P (trace_shown pieces)
   pub acted : (text : List ℕ) (changes : List RowChange) → IsAct s changes → P (fine (Json text), changes)
 
@@ -310,26 +313,33 @@ module _ (s : State) (board : List BoardRow) (request : Request) (P : Plan → T
       cond_both (not (is_name name)) (faulted (detail.Code (K 16))) _ P (λ _. each.faulted (detail.Code (K 16))) (λ _.
       cond_both (nat_lt MAX_NUMBER s.next.project) (refused M15) (made_project s.next.project name seed) P (λ _. each.refused M15 tt) (λ _. each.project name seed))
 
-  runners : (name : List ℕ) (seed : Seed) → P (add_runner s.next.runner name seed)
-  runners name seed =
-      cond_both (not (is_name name)) (faulted (detail.Code (K 16))) _ P (λ _. each.faulted (detail.Code (K 16))) (λ _.
-      cond_both (nat_lt MAX_NUMBER s.next.runner) (refused M15) (made_runner s.next.runner name seed) P (λ _. each.refused M15 tt) (λ _. each.runner name seed))
+  runners : (project : Option Project) (new : NewRunner) (seed : Seed) → P (add_runner s.next.runner project new seed)
+  runners project new seed =
+      cond_both (nat_lt MAX_TAGS (length new.tags)) (faulted (detail.Code (K 11))) _ P (λ _. each.faulted (detail.Code (K 11))) (λ _.
+      cond_both (not (are_names new)) (faulted (detail.Code (K 16))) _ P (λ _. each.faulted (detail.Code (K 16))) (λ _.
+      cond_both (lacks_project new.project project) (refused M2) _ P (λ _. each.refused M2 tt) (λ _.
+      cond_both (nat_lt MAX_NUMBER s.next.runner) (refused M15) (made_runner s.next.runner new seed) P (λ _. each.refused M15 tt) (λ _. each.runner new seed))))
 
-  offers : (now : ℕ) (seed : Seed) (runner : Runner) → Has runner s.runners → (q : Option QueuedJob) → chosen (queue s board) runner ≡ q → (variables : List JobVariable)
+  pauses : (n : ℕ) (paused : Bool) (found : Option Runner) → runner_at s n ≡ found → P (pause_runner found paused)
+  pauses n paused None is = each.refused M3 tt
+  pauses n paused (Some r) is = each.paused r paused (has_find (λ (w : Runner). w.id == n) r s.runners is).0
+
+  offers : (now : ℕ) (seed : Seed) (runner : Runner) → Has runner s.runners → (q : Option QueuedJob) → chosen (queue s board) (holders s) runner ≡ q → (variables : List JobVariable)
       → P (ask_job (Some runner) q variables s.next.attempt now seed)
   offers now seed runner has None offered variables = each.nothing
   offers now seed runner has (Some q) offered variables =
-      let at = find-map (queued s) (may_run runner) q (pending_jobs s board) offered in
-      let first = has_find (λ (j : Job). may_run runner (queued s j)) at.0 (pending_jobs s board) at.1.1 in
+      let at = find-map (queued s) (is_eligible runner (holders s)) q (pending_jobs s board) offered in
+      let first = has_find (λ (j : Job). is_eligible runner (holders s) (queued s j)) at.0 (pending_jobs s board) at.1.1 in
       let is_job = has_filter (is_pending board) at.0 s.jobs first.0 in
+      let both = and_parts (may_run runner (queued s at.0).project at.0.options.tags) (resource_free (holders s) (queued s at.0)) first.1 in
       cond_both (nat_lt MAX_NUMBER s.next.attempt) (refused M15) (granted runner q variables s.next.attempt now seed) P (λ _. each.refused M15 tt)
-      (λ _. each.granted runner at.0 q variables now seed has is_job.0 is_job.1 (ap (λ (w : QueuedJob). w.job.id) at.1.0))
+      (λ _. each.granted runner at.0 q variables now seed has is_job.0 is_job.1 at.1.0 (subst (λ (w : QueuedJob). resource_free (holders s) w ≡ true) at.1.0 both.1))
 
   asks : (token : List ℕ) (now : ℕ) (seed : Seed) (runner : Option Runner) → runner_with s token ≡ runner
       → P (ask_job runner (offer s board runner) (offered_variables s (offer s board runner)) s.next.attempt now seed)
   asks token now seed None found = each.refused M4 tt
   asks token now seed (Some runner) found =
-      offers now seed runner (has_find (λ (r : Runner). bytes_eq r.token token) runner s.runners found).0 (chosen (queue s board) runner) refl _
+      offers now seed runner (has_find (λ (r : Runner). bytes_eq r.token token) runner s.runners found).0 (chosen (queue s board) (holders s) runner) refl _
 
   hears : (a : Attempt) → Has a s.attempts → (seen : Result ℕ LeaseFault) → P (heard a seen)
   hears a has (Ok seen) = each.heard a seen has
@@ -375,21 +385,22 @@ asked Q fine refused (Some project) job pipeline query =
 
 pub does : (s : State) (board : List BoardRow) (P : Plan → Type 0) (request : Request) → Each s board request P → (now : ℕ) (seed : Seed) (plan : Plan) → Does s board request now seed plan → P plan
 does s board P (AddProject name) each now seed plan is = subst P (sym is) (projects s board (AddProject name) P each name seed)
-does s board P (AddRunner name) each now seed plan is = subst P (sym is) (runners s board (AddRunner name) P each name seed)
+does s board P (AddRunner new) each now seed plan is = subst P (sym is) (runners s board (AddRunner new) P each (project_named s new.project) new seed)
+does s board P (PauseRunner pause) each now seed plan is = subst P (sym is) (pauses s board (PauseRunner pause) P each pause.runner pause.paused (runner_at s pause.runner) refl)
 does s board P (SetFile new) each now seed plan is = of_file s P each.refused each.faulted new plan (λ project c has. each.file project new.text c has) is
 does s board P (SetVariable new) each now seed plan is = subst P (sym is) (of_variable s P each.refused each.faulted new (λ project. each.variable project new))
 does s board P (DeleteVariable query) each now seed plan is = subst P (sym is) (of_removal s P each.refused each.faulted query each.gone)
 does s board P (CreatePipeline new) each now seed plan is = of_creation s P each.refused each.faulted new now plan (each.pipeline new now refl) is
 does s board P (ShowPipeline query) each now seed plan is =
     let n = query.pipeline in
-    subst P (sym is) (of_pipeline s P each.refused each.faulted query (jobs_of s n) (facts_of s n) (rows_of s board n) (λ p. each.pipeline_shown p (jobs_of s n) (facts_of s n) (rows_of s board n)))
+    subst P (sym is) (of_pipeline s P each.refused each.faulted query (holders s) (jobs_of s n) (facts_of s n) (rows_of s board n) (λ p. each.pipeline_shown p (holders s) (jobs_of s n) (facts_of s n) (rows_of s board n)))
 does s board P (AskJob token) each now seed plan is = subst P (sym is) (asks s board (AskJob token) P each token now seed (runner_with s token) refl)
 does s board P (UpdateJob update) each now seed plan is = subst P (sym is) (updates s board (UpdateJob update) P each update now (attempt_at s update.attempt) refl)
 does s board P (AppendTrace part) each now seed plan is = subst P (sym is) (appends s board (AppendTrace part) P each part now (attempt_at s part.attempt) refl)
 does s board P (ShowJob query) each now seed plan is =
     let job = job_at s query.job in
     let status = status_for board query.job in
-    subst P (sym is) (asked (λ r. P (shown r status)) (λ j. each.shown j status) (λ c m. each.refused c m) (project_with s query.token) job (pipeline_of s job) query)
+    subst P (sym is) (asked (λ r. P (shown (holders s) query.project r status)) (λ j. each.shown (holders s) query.project j status) (λ c m. each.refused c m) (project_with s query.token) job (pipeline_of s job) query)
 does s board P (ShowTrace query) each now seed plan is =
     let job = job_at s query.job in
     let pieces = pieces_in s (last_attempt s query.job) in
@@ -408,34 +419,36 @@ keeps s board request = record {
   refused = λ c _ _. refl;
   faulted = λ d _. refl;
   project = λ name seed refused. absurd (false≢true refused);
-  runner = λ name seed refused. absurd (false≢true refused);
+  runner = λ new seed refused. absurd (false≢true refused);
+  paused = λ runner paused has refused. absurd (false≢true refused);
   file = λ project text c has refused. absurd (false≢true refused);
   variable = λ project new refused. absurd (false≢true refused);
   gone = λ v refused. absurd (false≢true refused);
   pipeline = λ new now is project text laid rows asked has named file lays refused. absurd (false≢true refused);
   nothing = λ _. refl;
-  granted = λ runner job q variables now seed h k m e refused. absurd (false≢true refused);
+  granted = λ runner job q variables now seed h k m e f refused. absurd (false≢true refused);
   turned_away = λ fault _. refl;
   heard = λ a seen has refused. absurd (false≢true refused);
   ended = λ a state has refused. absurd (false≢true refused);
   misplaced = λ fault _. refl;
   grown = λ a bytes now size has refused. absurd (false≢true refused);
-  pipeline_shown = λ p jobs facts rows _. refl;
-  shown = λ job status _. refl;
+  pipeline_shown = λ p held jobs facts rows _. refl;
+  shown = λ held project job status _. refl;
   traced = λ pieces _. refl;
   acted = λ text changes act refused. absurd (false≢true refused);
 }
 
--- a sweep that ends nothing changes nothing, and it refuses nothing
-swept_keeps : (due : Option Lease) → IsRefusal (answer.Swept (sweep due).0) → (sweep due).1 ≡ []
-swept_keeps None refused = refl
-swept_keeps (Some l) refused = absurd refused
+-- a sweep that ends and cancels nothing changes nothing, and it refuses nothing
+swept_keeps : (due : Option Lease) (redundant : Option Pipeline) (attempts : List Attempt) (jobs : List Job) → IsRefusal (answer.Swept (sweep due redundant attempts jobs).0) → (sweep due redundant attempts jobs).1 ≡ []
+swept_keeps (Some l) redundant attempts jobs refused = absurd refused
+swept_keeps None (Some p) attempts jobs refused = absurd refused
+swept_keeps None None attempts jobs refused = refl
 
 refused_keeps : (s : State) (board : List BoardRow) (e : Event) (now : ℕ) (seed : Seed) (a : Answer) (changes : List RowChange) → Happens s board e now seed a changes → IsRefusal a → changes ≡ []
 refused_keeps s board (event.Request request) now seed (answer.Reply reply) changes is refused = does s board Keeps request (keeps s board request) now seed (reply, changes) is refused
 refused_keeps s board event.Sweep now seed (answer.Swept swept) changes is refused =
     let P : Swept × List RowChange → Type 0 = λ plan. IsRefusal (answer.Swept plan.0) → plan.1 ≡ [] in
-    subst P (sym is) (swept_keeps (first_due (leases s) now)) refused
+    subst P (sym is) (swept_keeps (first_due (leases s) now) (redundant_in s board) s.attempts (cancellable_in s board (redundant_in s board))) refused
 refused_keeps s board (event.Request request) now seed (answer.Swept swept) changes is refused = absurd is
 refused_keeps s board event.Sweep now seed (answer.Reply reply) changes is refused = absurd is
 
@@ -451,20 +464,21 @@ steps s board request = record {
   refused = stepped;
   faulted = λ d. refl;
   project = λ name seed. refl;
-  runner = λ name seed. refl;
+  runner = λ new seed. refl;
+  paused = λ runner paused has. refl;
   file = λ project text c has. refl;
   variable = λ project new. refl;
   gone = λ v. refl;
   pipeline = λ new now is project text laid rows asked has named file lays. refl;
   nothing = refl;
-  granted = λ runner job q variables now seed h k m e. refl;
+  granted = λ runner job q variables now seed h k m e f. refl;
   turned_away = away;
   heard = λ a seen has. refl;
   ended = λ a state has. refl;
   misplaced = misplaces;
   grown = λ a bytes now size has. refl;
-  pipeline_shown = λ p jobs facts rows. refl;
-  shown = λ job status. refl;
+  pipeline_shown = λ p held jobs facts rows. refl;
+  shown = λ held project job status. refl;
   traced = λ pieces. refl;
   acted = λ text changes act. refl;
 } where
@@ -504,13 +518,14 @@ steps s board request = record {
   stepped H7 m = absurd m
   stepped H8 m = absurd m
 
-swept_steps : (due : Option Lease) → outcome_of (answer.Swept (sweep due).0) ≡ Stepped
-swept_steps None = refl
-swept_steps (Some l) = refl
+swept_steps : (due : Option Lease) (redundant : Option Pipeline) (attempts : List Attempt) (jobs : List Job) → outcome_of (answer.Swept (sweep due redundant attempts jobs).0) ≡ Stepped
+swept_steps (Some l) redundant attempts jobs = refl
+swept_steps None (Some p) attempts jobs = refl
+swept_steps None None attempts jobs = refl
 
 all_step : (s : State) (board : List BoardRow) (e : Event) (now : ℕ) (seed : Seed) (a : Answer) (changes : List RowChange) → Happens s board e now seed a changes → outcome_of a ≡ Stepped
 all_step s board (event.Request request) now seed (answer.Reply reply) changes is = does s board IsStep request (steps s board request) now seed (reply, changes) is
-all_step s board event.Sweep now seed (answer.Swept swept) changes is = ap (λ plan. outcome_of (answer.Swept plan.0)) is ∙ swept_steps (first_due (leases s) now)
+all_step s board event.Sweep now seed (answer.Swept swept) changes is = ap (λ plan. outcome_of (answer.Swept plan.0)) is ∙ swept_steps (first_due (leases s) now) (redundant_in s board) s.attempts (cancellable_in s board (redundant_in s board))
 all_step s board (event.Request request) now seed (answer.Swept swept) changes is = absurd is
 all_step s board event.Sweep now seed (answer.Reply reply) changes is = absurd is
 

@@ -1,5 +1,5 @@
 -- What stays, which records others name, and what sweeps end, in every state that a history leads to; and all its laws.
-use Rattle.std.specs.Prelude.{◌≡◌, ◌⊎◌, ℕ, ◌+◌, ◌<◌, ◌≤◌, Bool, true, false, ◌==◌, ◌&&◌, not, max, List, [], ◌∷◌, ◌++◌, length, map, filter, find, Option, Some, None, Ok, Contains}
+use Rattle.std.specs.Prelude.{◌≡◌, ◌⊎◌, ℕ, ◌+◌, ◌<◌, ◌≤◌, Bool, true, false, ◌==◌, ◌&&◌, not, max, List, [], ◌∷◌, ◌++◌, length, map, filter, find, Option, Some, None, option_map, Ok}
 use Rattle.std.specs.Ordering.{nat_cmp, is_eq, is_lt}
 use Rattle.std.specs.declared.cmp.Ordering.{Ordering}
 use Rattle.std.proofs.Common.{refl, sym, ap, subst, ◌∙◌, inl, inr, ⊎_elim, arith}
@@ -9,6 +9,8 @@ use Rattle.ci_machine.specs.declared.records.Need.{Need}
 use Rattle.ci_machine.specs.declared.records.Project.{Project}
 use Rattle.ci_machine.specs.declared.records.Runner.{Runner}
 use Rattle.ci_machine.specs.declared.records.Pipeline.{Pipeline}
+use Rattle.ci_machine.specs.declared.records.PipelineWithStatus.{PipelineWithStatus}
+use Rattle.ci_machine.specs.declared.records.QueuedJob.{QueuedJob}
 use Rattle.ci_machine.specs.declared.records.Job.{Job}
 use Rattle.ci_machine.specs.declared.records.Variable.{Variable}
 use Rattle.ci_machine.specs.declared.records.Attempt.{Attempt}
@@ -32,17 +34,17 @@ use Rattle.ci_layout.specs.Inclusion.{Given}
 use Rattle.ci_machine.specs.Pipelines.{Layout, IsLaidOut, creation}
 use Rattle.ci_machine.specs.Sweeps.{sweep}
 use Rattle.ci_machine.specs.Traces.{grown as traces_grown}
-use Rattle.ci_machine.specs.Step.{Happens, lease_of, leases, live_attempts}
+use Rattle.ci_machine.specs.Redundant.{is_redundant}
+use Rattle.ci_machine.specs.Cancels.{cancellable_jobs, cancel}
+use Rattle.ci_machine.specs.Step.{Happens, lease_of, leases, live_attempts, with_status, was_tried, redundant_in, cancellable_in}
 use Rattle.ci_machine.specs.History.{Past, Leads}
-use Rattle.ci_machine.specs.Laws.{grants, WasGranted, IsTraced, EndsStay, Stay, project_for_good, runner_for_good, job_for_good, attempt_for_good, Stays, IsLinked, is_due, SweepsLeast, IsSweptBy, is_grant, GivesInOrder, Laws}
-use Rattle.ci_machine.proofs.Keyed.{Has, Rising, has_put, put_has, same, rising_put, rising_filter, filter_has, has_filter, has_find, least_find, find-map, one_at, All-from_has, contains_from_has, has_from_contains, Below, Named, has_map, contains_named}
+use Rattle.ci_machine.specs.Laws.{project_for_good, runner_for_good, job_for_good, attempt_for_good, IsLinked, is_due, NoneIsDue, is_redundant_in, IsLeastRedundant, NoneIsRedundant, SweepsLeast, IsSweptBy, is_grant, GivesInOrder}
+use Rattle.ci_machine.proofs.Keyed.{Has, Rising, has_put, put_has, same, rising_put, rising_filter, filter_has, has_filter, has_find, least_find, find-map, one_at, All-from_has, contains_from_has, Below, Named, has_map, contains_named}
 use Rattle.ci_machine.proofs.Counts.{passing_new, passing_put}
 use Rattle.ci_machine.proofs.Behind.{in_either, has_left, has_right, put_all, has_all}
 use Rattle.ci_machine.proofs.Created.{created_state, after_creation, new_length, IsNew, new_are, new_numbered, needs_are, pairs_inside, jobs_behind}
-use Rattle.ci_machine.proofs.Acts.{IsAct, after_act}
-use Rattle.ci_machine.proofs.Included.{was_included}
+use Rattle.ci_machine.proofs.Acts.{IsAct, cancels, cancellable_within, after_act}
 use Rattle.ci_machine.proofs.EachPlan.{Each, does, given_in}
-use Rattle.ci_machine.proofs.Grants.{WasGiven, one_lease}
 use Rattle.ci_machine.proofs.Reached.{reached}
 use Rattle.ci_machine.proofs.Variables.{Ordered, changes_ordered, gives_in_order}
 
@@ -137,11 +139,11 @@ named_kept id f n xs ys g k w =
 
 -- what was there is there
 pub record Later (s t : State) : Type 0 where
-  projects : Kept project_for_good s.projects t.projects
-  runners : Kept runner_for_good s.runners t.runners
-  pipelines : Kept (λ p. p) s.pipelines t.pipelines
-  jobs : Kept job_for_good s.jobs t.jobs
-  attempts : Kept attempt_for_good s.attempts t.attempts
+  pub projects : Kept project_for_good s.projects t.projects
+  pub runners : Kept runner_for_good s.runners t.runners
+  pub pipelines : Kept (λ p. p) s.pipelines t.pipelines
+  pub jobs : Kept job_for_good s.jobs t.jobs
+  pub attempts : Kept attempt_for_good s.attempts t.attempts
 
 later_through : (s m t : State) → Later s m → Later m t → Later s t
 later_through s m t a b = record {
@@ -164,6 +166,8 @@ later_self s = record {
 -- numbers that are still to come are new, and the records that others name are there
 pub record Linked (s : State) : Type 0 where
   pub projects_rise : Rising (λ (p : Project). p.id) 0 s.projects
+  pub runners_rise : Rising (λ (r : Runner). r.id) 0 s.runners
+  pub pipelines_rise : Rising (λ (p : Pipeline). p.id) 0 s.pipelines
   pub project_below : Below (λ (p : Project). p.id) s.next.project s.projects
   pub runner_below : Below (λ (r : Runner). r.id) s.next.runner s.runners
   pub pipeline_below : Below (λ (p : Pipeline). p.id) s.next.pipeline s.pipelines
@@ -183,6 +187,8 @@ pub record Linked (s : State) : Type 0 where
 record Next (s t : State) : Type 0 where
   later : Later s t
   projects_rise : Rising (λ (p : Project). p.id) 0 t.projects
+  runners_rise : Rising (λ (r : Runner). r.id) 0 t.runners
+  pipelines_rise : Rising (λ (p : Pipeline). p.id) 0 t.pipelines
   project_below : Below (λ (p : Project). p.id) t.next.project t.projects
   runner_below : Below (λ (r : Runner). r.id) t.next.runner t.runners
   pipeline_below : Below (λ (p : Pipeline). p.id) t.next.pipeline t.pipelines
@@ -198,6 +204,8 @@ record Next (s t : State) : Type 0 where
 linked_on : (s t : State) → Linked s → Next s t → Linked t
 linked_on s t i n = record {
   projects_rise = n.projects_rise;
+  runners_rise = n.runners_rise;
+  pipelines_rise = n.pipelines_rise;
   project_below = n.project_below;
   runner_below = n.runner_below;
   pipeline_below = n.pipeline_below;
@@ -218,6 +226,8 @@ rests : (s : State) → Linked s → Next s s
 rests s i = record {
   later = later_self s;
   projects_rise = i.projects_rise;
+  runners_rise = i.runners_rise;
+  pipelines_rise = i.pipelines_rise;
   project_below = i.project_below;
   runner_below = i.runner_below;
   pipeline_below = i.pipeline_below;
@@ -242,6 +252,8 @@ alters s x a i r has good = record {
     attempts = kept_put (λ (b : Attempt). b.id) attempt_for_good x a s.attempts r has (ap (λ (b : Attempt). b.id) good) good;
   };
   projects_rise = i.projects_rise;
+  runners_rise = i.runners_rise;
+  pipelines_rise = i.pipelines_rise;
   project_below = i.project_below;
   runner_below = i.runner_below;
   pipeline_below = i.pipeline_below;
@@ -275,6 +287,8 @@ files s project text i has =
         attempts = n.later.attempts;
       };
       projects_rise = rising_put ids x 0 s.projects i.projects_rise (omega arith);
+      runners_rise = n.runners_rise;
+      pipelines_rise = n.pipelines_rise;
       project_below = below_put ids x s.next.project s.next.project s.projects i.project_below (omega arith) (i.project_below project has);
       runner_below = n.runner_below;
       pipeline_below = n.pipeline_below;
@@ -287,6 +301,35 @@ files s project text i has =
       needs = n.needs;
     }
 
+-- a runner in place of one of its number, paused or not
+pauses : (s : State) (runner : Runner) (paused : Bool) → Linked s → Has runner s.runners → Next s (applied (Put (row.Runner (record runner { paused = paused })) ∷ []) s)
+pauses s runner paused i has =
+    let ids = λ (r : Runner). r.id in
+    let x = record runner { paused = paused } in
+    let n = rests s i in
+    record {
+      later = record {
+        projects = n.later.projects;
+        runners = kept_put ids runner_for_good x runner s.runners i.runners_rise has refl refl;
+        pipelines = n.later.pipelines;
+        jobs = n.later.jobs;
+        attempts = n.later.attempts;
+      };
+      projects_rise = n.projects_rise;
+      runners_rise = rising_put ids x 0 s.runners i.runners_rise (omega arith);
+      pipelines_rise = n.pipelines_rise;
+      project_below = n.project_below;
+      runner_below = below_put ids x s.next.runner s.next.runner s.runners i.runner_below (omega arith) (i.runner_below runner has);
+      pipeline_below = n.pipeline_below;
+      job_below = n.job_below;
+      next_job = n.next_job;
+      counts = n.counts;
+      attempts = λ a k. inl k;
+      jobs = n.jobs;
+      pipelines = n.pipelines;
+      needs = n.needs;
+    }
+
 -- variables are put, or go
 variables : (s : State) (vs : List Variable) → Linked s → Next s (record s { variables = vs })
 variables s vs i =
@@ -294,6 +337,8 @@ variables s vs i =
     record {
       later = record { projects = n.later.projects; runners = n.later.runners; pipelines = n.later.pipelines; jobs = n.later.jobs; attempts = n.later.attempts };
       projects_rise = n.projects_rise;
+      runners_rise = n.runners_rise;
+      pipelines_rise = n.pipelines_rise;
       project_below = n.project_below;
       runner_below = n.runner_below;
       pipeline_below = n.pipeline_below;
@@ -334,6 +379,8 @@ enters s new project given now text laid i has named lays =
         attempts = kept attempt_for_good s.attempts s.attempts refl;
       };
       projects_rise = i.projects_rise;
+      runners_rise = i.runners_rise;
+      pipelines_rise = rising_put pids made.pipeline 0 s.pipelines i.pipelines_rise (omega arith);
       project_below = i.project_below;
       runner_below = i.runner_below;
       pipeline_below = below_put pids made.pipeline s.next.pipeline (s.next.pipeline + 1) s.pipelines i.pipeline_below (omega arith) (omega arith);
@@ -375,6 +422,8 @@ acts s changes act i jr r =
         attempts = kept_all aids attempt_for_good (λ x y e. ap aids e) act.attempts s.attempts r was_attempt;
       };
       projects_rise = i.projects_rise;
+      runners_rise = i.runners_rise;
+      pipelines_rise = i.pipelines_rise;
       project_below = i.project_below;
       runner_below = i.runner_below;
       pipeline_below = i.pipeline_below;
@@ -425,6 +474,8 @@ goes s board request i jr r b = record {
       attempts = kept attempt_for_good s.attempts s.attempts refl;
     };
     projects_rise = rising_put (λ (w : Project). w.id) _ 0 s.projects i.projects_rise (omega arith);
+    runners_rise = i.runners_rise;
+    pipelines_rise = i.pipelines_rise;
     project_below = below_put (λ (w : Project). w.id) _ s.next.project (s.next.project + 1) s.projects i.project_below (omega arith) (omega arith);
     runner_below = i.runner_below;
     pipeline_below = i.pipeline_below;
@@ -436,7 +487,7 @@ goes s board request i jr r b = record {
     pipelines = λ p k. inl k;
     needs = λ w k. inl k;
   };
-  runner = λ name seed. record {
+  runner = λ new seed. record {
     later = record {
       projects = kept project_for_good s.projects s.projects refl;
       runners = kept_new (λ (w : Runner). w.id) runner_for_good _ s.next.runner s.runners i.runner_below (omega arith);
@@ -445,6 +496,8 @@ goes s board request i jr r b = record {
       attempts = kept attempt_for_good s.attempts s.attempts refl;
     };
     projects_rise = i.projects_rise;
+    runners_rise = rising_put (λ (w : Runner). w.id) _ 0 s.runners i.runners_rise (omega arith);
+    pipelines_rise = i.pipelines_rise;
     project_below = i.project_below;
     runner_below = below_put (λ (w : Runner). w.id) _ s.next.runner (s.next.runner + 1) s.runners i.runner_below (omega arith) (omega arith);
     pipeline_below = i.pipeline_below;
@@ -456,13 +509,14 @@ goes s board request i jr r b = record {
     pipelines = λ p k. inl k;
     needs = λ w k. inl k;
   };
+  paused = λ runner paused has. pauses s runner paused i has;
   file = λ project text c has. files s project (Some text) i has;
   variable = λ project new. variables s (put variable_cmp (record { project = project.id; key = new.key; value = new.value }) s.variables) i;
   gone = λ v. variables s _ i;
   pipeline = λ new now is project text laid rows asked has named file lays.
       subst (Next s) (sym (after_creation s.next.job (creation s.next.pipeline s.next.job new (given_in s new) now laid) s)) (enters s new project (given_in s new) now text laid i has named lays);
   nothing = rests s i;
-  granted = λ runner job q variables now seed has_runner has_job pending its_job. record {
+  granted = λ runner job q variables now seed has_runner has_job pending is_queued free. let its_job : job.id ≡ q.job.id = ap (λ (w : QueuedJob). w.job.id) is_queued in record {
     later = record {
       projects = kept project_for_good s.projects s.projects refl;
       runners = kept runner_for_good s.runners s.runners refl;
@@ -471,6 +525,8 @@ goes s board request i jr r b = record {
       attempts = kept_new (λ (w : Attempt). w.id) attempt_for_good _ s.next.attempt s.attempts b (omega arith);
     };
     projects_rise = i.projects_rise;
+    runners_rise = i.runners_rise;
+    pipelines_rise = i.pipelines_rise;
     project_below = i.project_below;
     runner_below = i.runner_below;
     pipeline_below = i.pipeline_below;
@@ -491,8 +547,8 @@ goes s board request i jr r b = record {
       cond_both (is_live a) (Put (row.Attempt x) ∷ []) [] (λ cs. Next s (applied cs s)) (λ _. alters s x a i r has refl) (λ _. rests s i);
   misplaced = λ fault. rests s i;
   grown = λ a bytes now size has. grows a bytes now size has;
-  pipeline_shown = λ p jobs facts rows. rests s i;
-  shown = λ job status. rests s i;
+  pipeline_shown = λ p held jobs facts rows. rests s i;
+  shown = λ held project job status. rests s i;
   traced = λ pieces. rests s i;
   acted = λ text changes act. acts s changes act i jr r;
 } where
@@ -502,6 +558,8 @@ goes s board request i jr r b = record {
       record {
         later = record { projects = n.later.projects; runners = n.later.runners; pipelines = n.later.pipelines; jobs = n.later.jobs; attempts = n.later.attempts };
         projects_rise = n.projects_rise;
+        runners_rise = n.runners_rise;
+        pipelines_rise = n.pipelines_rise;
         project_below = n.project_below;
         runner_below = n.runner_below;
         pipeline_below = n.pipeline_below;
@@ -516,17 +574,21 @@ goes s board request i jr r b = record {
 
 -- ---- sweeps
 
-swept_next : (s : State) (now : ℕ) → Linked s → Rising (λ (a : Attempt). a.id) 0 s.attempts → (o : Option Lease) → first_due (leases s) now ≡ o → Next s (applied (sweep o).1 s)
-swept_next s now i r None found = rests s i
-swept_next s now i r (Some l) found =
+swept_next : (s : State) (board : List BoardRow) (now : ℕ) → Linked s → Rising (λ (j : Job). j.id) 0 s.jobs → Rising (λ (a : Attempt). a.id) 0 s.attempts → (o : Option Lease) → first_due (leases s) now ≡ o → (redundant : Option Pipeline)
+    → Next s (applied (sweep o redundant s.attempts (cancellable_in s board redundant)).1 s)
+swept_next s board now i jr r None found None = rests s i
+swept_next s board now i jr r None found (Some p) =
+    acts s (cancel s.attempts (cancellable_jobs s board p.id)) (cancels s (cancellable_jobs s board p.id) (cancellable_within s board p.id)) i jr r
+swept_next s board now i jr r (Some l) found redundant =
     let at = find-map (lease_of s) (λ (w : Lease). is_over w.attempt w.limit now) l (live_attempts s) found in
     let is : at.0 ≡ l.attempt = ap (λ (w : Lease). w.attempt) at.1.0 in
     let live = has_find (λ (b : Attempt). is_over b (lease_of s b).limit now) at.0 (live_attempts s) at.1.1 in
     let has = has_filter is_live at.0 s.attempts live.0 in
     alters s _ l.attempt i r (subst (λ (b : Attempt). Has b s.attempts) is has.0) refl
 
-swept_least : (s : State) (now : ℕ) → Rising (λ (a : Attempt). a.id) 0 s.attempts → (o : Option Lease) → first_due (leases s) now ≡ o → SweepsLeast s now (sweep o).0
-swept_least s now r None found =
+-- no lease is over
+none_due : (s : State) (now : ℕ) → first_due (leases s) now ≡ None → NoneIsDue s now
+none_due s now found =
     let over = λ (w : Lease). is_over w.attempt w.limit now in
     All-from_has (λ (a : Attempt). is_due s now a ≡ false) s.attempts (λ a k.
     let rest = (lease_of s a).limit in
@@ -534,7 +596,43 @@ swept_least s now r None found =
     (λ e. ap (λ t. t && is_over a rest now) e ∙ find_none over (lease_of s a) (leases s) found (has_map (lease_of s) a (live_attempts s) (filter_has is_live a s.attempts k e)))
     (λ e. ap (λ t. t && is_over a rest now) e)
     (cases_Bool (is_live a)))
-swept_least s now r (Some l) found =
+
+-- the redundant pipeline of least number, or none
+module _ (s : State) (board : List BoardRow) (are : AreBoard s board) where
+  abbrev test : PipelineWithStatus → Bool
+  test = is_redundant (map (with_status s board) s.pipelines) (filter (was_tried s) s.jobs)
+
+  least_redundant : Rising (λ (p : Pipeline). p.id) 0 s.pipelines → (o : Option PipelineWithStatus) → find test (map (with_status s board) s.pipelines) ≡ o → (p : Pipeline) → option_map (λ (q : PipelineWithStatus). q.pipeline) o ≡ Some p → IsLeastRedundant s p.id
+  least_redundant r None found p e = absurd (cc)
+  least_redundant r (Some q) found p e =
+      let at = find-map (with_status s board) test q s.pipelines found in
+      let first = has_find (λ (w : Pipeline). test (with_status s board w)) at.0 s.pipelines at.1.1 in
+      let same : q.pipeline ≡ p = cc in
+      let number : at.0.id ≡ p.id = ap (λ (w : PipelineWithStatus). w.pipeline.id) at.1.0 ∙ ap (λ (w : Pipeline). w.id) same in
+      record {
+        board = board;
+        are_board = are;
+        pipeline = at.0;
+        is_pipeline = contains_from_has at.0 s.pipelines first.0;
+        number = number;
+        redundant = first.1;
+        least = All-from_has (λ (w : Pipeline). is_redundant_in s board w ≡ true → p.id ≤ w.id) s.pipelines (λ w k t.
+            subst (λ n. n ≤ w.id) number (least_find (λ (v : Pipeline). v.id) (λ (v : Pipeline). test (with_status s board v)) at.0 w 0 s.pipelines r at.1.1 k t));
+      }
+
+  none_redundant : (o : Option PipelineWithStatus) → find test (map (with_status s board) s.pipelines) ≡ o → option_map (λ (q : PipelineWithStatus). q.pipeline) o ≡ None → NoneIsRedundant s
+  none_redundant (Some q) found e = absurd (cc)
+  none_redundant None found e = record {
+    board = board;
+    are_board = are;
+    none = All-from_has (λ (w : Pipeline). is_redundant_in s board w ≡ false) s.pipelines (λ w k. find_none test (with_status s board w) (map (with_status s board) s.pipelines) found (has_map (with_status s board) w s.pipelines k));
+  }
+
+swept_least : (s : State) (board : List BoardRow) (now : ℕ) → AreBoard s board → Rising (λ (p : Pipeline). p.id) 0 s.pipelines → Rising (λ (a : Attempt). a.id) 0 s.attempts → (o : Option Lease) → first_due (leases s) now ≡ o
+    → (redundant : Option Pipeline) → redundant_in s board ≡ redundant → SweepsLeast s now (sweep o redundant s.attempts (cancellable_in s board redundant)).0
+swept_least s board now are pr r None found None none = (none_due s now found, none_redundant s board are _ refl none)
+swept_least s board now are pr r None found (Some p) is = (none_due s now found, least_redundant s board are pr _ refl p is)
+swept_least s board now are pr r (Some l) found redundant is =
     let test : Attempt → Bool = λ b. is_over b (lease_of s b).limit now in
     let at = find-map (lease_of s) (λ (w : Lease). is_over w.attempt w.limit now) l (live_attempts s) found in
     let a = at.0 in
@@ -560,16 +658,16 @@ next : (s : State) (board : List BoardRow) (e : Event) (now : ℕ) (seed : Seed)
 next s board (event.Request request) now seed (answer.Reply reply) changes i jr r b is = does s board (Goes s) request (goes s board request i jr r b) now seed (reply, changes) is
 next s board event.Sweep now seed (answer.Swept swept) changes i jr r b is =
     let P : Swept × List RowChange → Type 0 = λ f. Next s (applied f.1 s) in
-    subst P (sym is) (swept_next s now i r (first_due (leases s) now) refl)
+    subst P (sym is) (swept_next s board now i jr r (first_due (leases s) now) refl (redundant_in s board))
 next s board (event.Request request) now seed (answer.Swept swept) changes i jr r b is = absurd is
 next s board event.Sweep now seed (answer.Reply reply) changes i jr r b is = absurd is
 
-swept_by : (s : State) (board : List BoardRow) (e : Event) (now : ℕ) (seed : Seed) (a : Answer) (changes : List RowChange) → Rising (λ (w : Attempt). w.id) 0 s.attempts → Happens s board e now seed a changes → IsSweptBy s now e a
-swept_by s board (event.Request request) now seed a changes r is = tt
-swept_by s board event.Sweep now seed (answer.Swept swept) changes r is =
+swept_by : (s : State) (board : List BoardRow) (e : Event) (now : ℕ) (seed : Seed) (a : Answer) (changes : List RowChange) → AreBoard s board → Rising (λ (w : Pipeline). w.id) 0 s.pipelines → Rising (λ (w : Attempt). w.id) 0 s.attempts → Happens s board e now seed a changes → IsSweptBy s now e a
+swept_by s board (event.Request request) now seed a changes are pr r is = tt
+swept_by s board event.Sweep now seed (answer.Swept swept) changes are pr r is =
     let P : Swept × List RowChange → Type 0 = λ f. SweepsLeast s now f.0 in
-    subst P (sym is) (swept_least s now r (first_due (leases s) now) refl)
-swept_by s board event.Sweep now seed (answer.Reply reply) changes r is = absurd is
+    subst P (sym is) (swept_least s board now are pr r (first_due (leases s) now) refl (redundant_in s board) refl)
+swept_by s board event.Sweep now seed (answer.Reply reply) changes are pr r is = absurd is
 
 pub record Held (h : List Past) (s : State) : Type 0 where
   pub linked : Linked s
@@ -581,6 +679,8 @@ pub record Held (h : List Past) (s : State) : Type 0 where
 linked_empty : Linked empty
 linked_empty = record {
   projects_rise = tt;
+  runners_rise = tt;
+  pipelines_rise = tt;
   project_below = λ w k. absurd k;
   runner_below = λ w k. absurd k;
   pipeline_below = λ w k. absurd k;
@@ -607,26 +707,13 @@ held (p ∷ h) s l =
       linked = linked_on p.before t i.linked n;
       stays = λ q k. ⊎_elim (λ e. subst (λ (w : Past). Later w.before t) (sym e) n.later) (λ m. later_through q.before p.before t (i.stays q m) n.later) k;
       swept = λ q k. ⊎_elim
-          (λ e. subst (λ (w : Past). IsSweptBy w.before w.now w.event w.answer) (sym e) (swept_by p.before l.1.before p.event p.now p.seed p.answer l.1.changes g.rise l.1.happens))
+          (λ e. subst (λ (w : Past). IsSweptBy w.before w.now w.event w.answer) (sym e) (swept_by p.before l.1.before p.event p.now p.seed p.answer l.1.changes l.1.are_before i.linked.pipelines_rise g.rise l.1.happens))
           (λ m. i.swept q m) k;
       variables = changes_ordered l.1.changes p.before i.variables;
       in_order = λ q k. ⊎_elim
           (λ e. subst (λ (w : Past). is_grant w.event w.answer ≡ true → GivesInOrder w.before w.answer) (sym e) (gives_in_order p.before l.1.before p.event p.now p.seed p.answer l.1.changes i.variables l.1.happens))
           (λ m. i.in_order q m) k;
     })
-
-stay : {A : Type 0} (f : A → A) (xs ys : List A) → Kept f xs ys → Stay f xs ys
-stay f xs ys k =
-    All-from_has _ xs (λ x m. let y = k x m in contains_from_has (f x) (map f ys) (subst (λ w. Has w (map f ys)) y.1.1 (has_map f y.0 ys y.1.0)))
-
-stays_from : (s t : State) → Later s t → Stays s t
-stays_from s t l = record {
-  projects = stay project_for_good s.projects t.projects l.projects;
-  runners = stay runner_for_good s.runners t.runners l.runners;
-  pipelines = stay (λ p. p) s.pipelines t.pipelines l.pipelines;
-  jobs = stay job_for_good s.jobs t.jobs l.jobs;
-  attempts = stay attempt_for_good s.attempts t.attempts l.attempts;
-}
 
 pub is_linked : (s : State) → Linked s → IsLinked s
 is_linked s i = record {
@@ -637,47 +724,3 @@ is_linked s i = record {
   need_job = All-from_has _ s.needs (λ w k. contains_named (λ (j : Job). j.id) w.job s.jobs (i.need_job w k));
   need_pred = All-from_has _ s.needs (λ w k. contains_named (λ (j : Job). j.id) w.pred s.jobs (i.need_pred w k));
 }
-
--- the rows of nothing
-no_rows : AreBoard empty []
-no_rows = record {
-  keys = refl;
-  each = λ pipeline. record { counted = λ i l. absurd (omega arith); settled = λ i l. absurd (omega arith) };
-}
-
-settled : (h : List Past) (s : State) → Leads h s → (board : List BoardRow) × AreBoard s board
-settled [] s l = subst (λ (w : State). (board : List BoardRow) × AreBoard w board) (sym l) ([], no_rows)
-settled (p ∷ h) s l = (l.1.after, l.1.are_after)
-
--- each attempt was granted to the least eligible job, which its rules had included
-granted : (h : List Past) (s : State) → Leads h s → (a : Attempt) → WasGiven h a → WasGranted h a
-granted h s leads a w = record {
-  line = w.line;
-  once = w.once;
-  runner = w.runner;
-  job = w.job;
-  its_runner = w.its_runner;
-  its_job = w.its_job;
-  eligible = w.eligible;
-  asked = w.asked;
-  was_included = was_included h s leads w.line
-      (has_filter (grants a.id) w.line h (subst (Has w.line) (sym w.once) (inl refl))).0
-      w.job (has_from_contains w.job w.line.before.jobs w.eligible.is_job);
-}
-
--- all the laws
-pub laws : (h : List Past) (s : State) → Leads h s → Laws h s
-laws h s leads =
-    let i = reached h s leads in
-    let held = held h s leads in
-    record {
-      one_lease = one_lease h s i.grants;
-      was_granted = All-from_has (WasGranted h) s.attempts (λ a k. granted h s leads a (i.grants.granted a k));
-      traced = All-from_has (IsTraced h s) s.attempts i.traces.traced;
-      ends_stay = All-from_has (λ (p : Past). EndsStay p.before s) h (λ p k. All-from_has (λ (a : Attempt). is_live a ≡ false → Contains s.attempts a) p.before.attempts (λ a m l. contains_from_has a s.attempts (i.ends p k a m l)));
-      stays = All-from_has (λ (p : Past). Stays p.before s) h (λ p k. stays_from p.before s (held.stays p k));
-      linked = is_linked s held.linked;
-      settled = settled h s leads;
-      swept = All-from_has (λ (p : Past). IsSweptBy p.before p.now p.event p.answer) h held.swept;
-      in_order = All-from_has (λ (p : Past). is_grant p.event p.answer ≡ true → GivesInOrder p.before p.answer) h held.in_order;
-    }

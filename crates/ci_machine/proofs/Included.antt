@@ -7,6 +7,7 @@ use Rattle.ci_board.specs.declared.facts.Row.{Row}
 use Rattle.ci_machine.specs.declared.lease.Lease.{Lease}
 use Rattle.ci_machine.specs.declared.records.BoardRow.{BoardRow}
 use Rattle.ci_machine.specs.declared.records.Project.{Project}
+use Rattle.ci_machine.specs.declared.records.Pipeline.{Pipeline}
 use Rattle.ci_machine.specs.declared.records.Job.{Job}
 use Rattle.ci_machine.specs.declared.change.RowChange.{RowChange}
 use Rattle.ci_machine.specs.declared.change.RowChange.TheVariants.{Put}
@@ -26,13 +27,15 @@ use Rattle.ci_machine.specs.Plans.{Plan}
 use Rattle.ci_machine.specs.Pipelines.{Layout, IsLaidOut, new_job, creation, pipeline_created}
 use Rattle.ci_machine.specs.Reports.{ended}
 use Rattle.ci_machine.specs.Sweeps.{sweep}
-use Rattle.ci_machine.specs.Step.{Happens, leases}
+use Rattle.ci_machine.specs.Holders.{holders}
+use Rattle.ci_machine.specs.Cancels.{cancellable_jobs, cancel}
+use Rattle.ci_machine.specs.Step.{Happens, leases, redundant_in, cancellable_in}
 use Rattle.ci_machine.specs.History.{Past, Leads}
 use Rattle.ci_machine.specs.Laws.{job_for_good, IsMadeBy, WasIncluded}
 use Rattle.ci_machine.proofs.Keyed.{Has, contains_from_has}
 use Rattle.ci_machine.proofs.Behind.{has_all}
 use Rattle.ci_machine.proofs.Created.{after_creation, new_are, laid_is, lineup_are}
-use Rattle.ci_machine.proofs.Acts.{IsAct, after_act}
+use Rattle.ci_machine.proofs.Acts.{IsAct, cancels, cancellable_within, after_act}
 use Rattle.ci_machine.proofs.EachPlan.{Each, does, of_asked, given_in}
 
 abbrev line : State → Event → ℕ → Seed → Answer → Past
@@ -45,6 +48,11 @@ Was s j = (old : Job) × (Has old s.jobs × (job_for_good j ≡ job_for_good old
 there : (s : State) (j : Job) → Has j s.jobs → Was s j
 there s j k = (j, (k, refl))
 
+acted : (s : State) (changes : List RowChange) → IsAct s changes → (j : Job) → Has j (applied changes s).jobs → Was s j
+acted s changes act j k =
+    ⊎_elim (λ m. there s j m) (λ m. let w = act.each_job j m in (w.old, (w.has, w.good)))
+    (has_all job_cmp act.jobs s.jobs j (subst (λ (t : State). Has j t.jobs) (after_act s changes act) k))
+
 -- each job after the changes was there, or the line made it
 abbrev Are : State → Event → ℕ → Seed → Answer → List RowChange → Type 0
 Are s e now seed a changes = (j : Job) → Has j (applied changes s).jobs → Was s j ⊎ IsMadeBy (line s e now seed a) j
@@ -54,7 +62,7 @@ module _ (s : State) (board : List BoardRow) (request : Request) (now : ℕ) (se
   From plan = Are s (event.Request request) now seed (answer.Reply plan.0) plan.1
 
   makes : (new : NewPipeline) (at : ℕ) → request ≡ CreatePipeline new → (project : Project) (text : List ℕ) (laid : Layout) (rows : List Row) → of_asked s new.token new.project ≡ Ok project → project.file ≡ Some text
-      → IsLaidOut text (given_in s new) (Ok laid) → From (pipeline_created s.next.job (creation s.next.pipeline s.next.job new (given_in s new) at laid) rows)
+      → IsLaidOut text (given_in s new) (Ok laid) → From (pipeline_created s.next.job (creation s.next.pipeline s.next.job new (given_in s new) at laid) (holders s) rows)
   makes new at is project text laid rows asked file lays j k =
       let made = creation s.next.pipeline s.next.job new (given_in s new) at laid in
       let lays = laid_is text (given_in s new) (Ok laid) lays in
@@ -65,7 +73,7 @@ module _ (s : State) (board : List BoardRow) (request : Request) (now : ℕ) (se
       inr (record {
         new = new;
         asked = ap event.Request is;
-        reply = (pipeline_created s.next.job made rows).0;
+        reply = (pipeline_created s.next.job made (holders s) rows).0;
         answered = refl;
         made = refl;
         drawn = drawn;
@@ -83,23 +91,19 @@ module _ (s : State) (board : List BoardRow) (request : Request) (now : ℕ) (se
       }))
       (has_all job_cmp made.jobs s.jobs j (subst (λ (t : State). Has j t.jobs) (after_creation s.next.job made s) k))
 
-  acts : (changes : List RowChange) → IsAct s changes → (j : Job) → Has j (applied changes s).jobs → Was s j
-  acts changes act j k =
-      ⊎_elim (λ m. there s j m) (λ m. let w = act.each_job j m in (w.old, (w.has, w.good)))
-      (has_all job_cmp act.jobs s.jobs j (subst (λ (t : State). Has j t.jobs) (after_act s changes act) k))
-
   each : Each s board request From
   each = record {
     refused = λ c m j k. inl (there s j k);
     faulted = λ d j k. inl (there s j k);
     project = λ name seed j k. inl (there s j k);
-    runner = λ name seed j k. inl (there s j k);
+    runner = λ new seed j k. inl (there s j k);
+    paused = λ runner paused has j k. inl (there s j k);
     file = λ project text c has j k. inl (there s j k);
     variable = λ project new j k. inl (there s j k);
     gone = λ v j k. inl (there s j k);
     pipeline = λ new at is project text laid rows asked has named file lays. makes new at is project text laid rows asked file lays;
     nothing = λ j k. inl (there s j k);
-    granted = λ runner job q variables at seed h i p e j k. inl (there s j k);
+    granted = λ runner job q variables at seed h i p e f j k. inl (there s j k);
     turned_away = λ fault j k. inl (there s j k);
     heard = λ a seen has j k. inl (there s j k);
     ended = λ a state has.
@@ -107,21 +111,22 @@ module _ (s : State) (board : List BoardRow) (request : Request) (now : ℕ) (se
         (λ _ j k. inl (there s j k)) (λ _ j k. inl (there s j k));
     misplaced = λ fault j k. inl (there s j k);
     grown = λ a bytes at size has j k. inl (there s j k);
-    pipeline_shown = λ p jobs facts rows j k. inl (there s j k);
-    shown = λ job status j k. inl (there s j k);
+    pipeline_shown = λ p held jobs facts rows j k. inl (there s j k);
+    shown = λ held project job status j k. inl (there s j k);
     traced = λ pieces j k. inl (there s j k);
-    acted = λ text changes act j k. inl (acts changes act j k);
+    acted = λ text changes act j k. inl (acted s changes act j k);
   }
 
-swept : (s : State) (o : Option Lease) (j : Job) → Has j (applied (sweep o).1 s).jobs → Has j s.jobs
-swept s None j k = k
-swept s (Some l) j k = k
+swept : (s : State) (board : List BoardRow) (o : Option Lease) (redundant : Option Pipeline) (j : Job) → Has j (applied (sweep o redundant s.attempts (cancellable_in s board redundant)).1 s).jobs → Was s j
+swept s board (Some l) redundant j k = there s j k
+swept s board None (Some p) j k = acted s (cancel s.attempts (cancellable_jobs s board p.id)) (cancels s (cancellable_jobs s board p.id) (cancellable_within s board p.id)) j k
+swept s board None None j k = there s j k
 
 are : (s : State) (board : List BoardRow) (e : Event) (now : ℕ) (seed : Seed) (a : Answer) (changes : List RowChange) → Happens s board e now seed a changes → Are s e now seed a changes
 are s board (event.Request r) now seed (answer.Reply reply) changes is = does s board (From s board r now seed) r (each s board r now seed) now seed (reply, changes) is
 are s board event.Sweep now seed (answer.Swept out) changes is = λ j k.
-    let P : Swept × List RowChange → Type 0 = λ f. Has j (applied f.1 s).jobs → Has j s.jobs in
-    inl (there s j (subst P (sym is) (swept s (first_due (leases s) now) j) k))
+    let P : Swept × List RowChange → Type 0 = λ f. Has j (applied f.1 s).jobs → Was s j in
+    inl (subst P (sym is) (swept s board (first_due (leases s) now) (redundant_in s board) j) k)
 are s board (event.Request r) now seed (answer.Swept out) changes is = absurd is
 are s board event.Sweep now seed (answer.Reply reply) changes is = absurd is
 

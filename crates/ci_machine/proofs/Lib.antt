@@ -18,6 +18,8 @@ pub mod Acts
 pub mod Reached
 pub mod Included
 pub mod Held
+pub mod Groups
+pub mod AllLaws
 pub mod Sound
 pub mod Numbers
 pub mod Alike

@@ -88,6 +88,7 @@ sound_reached s is =
     let grants = (reached h s is.1).grants in
     let linked = (held h s is.1).linked in
     record {
+      pipelines_ascend = ascend_from_rising (λ (p : Pipeline). p.id) 0 s.pipelines linked.pipelines_rise;
       jobs_ascend = ascend_from_rising (λ (j : Job). j.id) 0 s.jobs grants.jobs_rise;
       attempts_ascend = ascend_from_rising (λ (a : Attempt). a.id) 0 s.attempts grants.rise;
       needs_ascend = ascend need_cmp s.needs (needs h s is.1);

@@ -22,6 +22,10 @@ use Rattle.ci_machine.specs.declared.lease.PieceFault.TheVariants.{Unleased, Wro
 use Rattle.ci_machine.specs.declared.change.RowChange.{RowChange}
 use Rattle.ci_machine.specs.declared.change.RowChange.TheVariants.{Put}
 use Rattle.ci_machine.specs.declared.change.Record.TheVariants as row
+use Rattle.ci_machine.specs.declared.records.Project.{Project}
+use Rattle.ci_machine.specs.declared.records.Pipeline.{Pipeline}
+use Rattle.ci_machine.specs.declared.request.NewRunner.{NewRunner}
+use Rattle.ci_machine.specs.declared.request.RunnerPause.{RunnerPause}
 use Rattle.ci_machine.specs.declared.request.NewFile.{NewFile}
 use Rattle.ci_machine.specs.declared.request.NewVariable.{NewVariable}
 use Rattle.ci_machine.specs.declared.request.VariableQuery.{VariableQuery}
@@ -34,10 +38,10 @@ use Rattle.ci_machine.specs.declared.request.TracePart.{TracePart}
 use Rattle.ci_machine.specs.declared.request.Event.{Event}
 use Rattle.ci_machine.specs.declared.request.Event.TheVariants as event
 use Rattle.ci_machine.specs.declared.request.Request.{Request}
-use Rattle.ci_machine.specs.declared.request.Request.TheVariants.{AddProject, AddRunner, SetFile, SetVariable, DeleteVariable, CreatePipeline, ShowPipeline, AskJob, UpdateJob, AppendTrace, ShowJob, ShowTrace, Play, CancelJob, CancelPipeline, RetryJob}
+use Rattle.ci_machine.specs.declared.request.Request.TheVariants.{AddProject, AddRunner, PauseRunner, SetFile, SetVariable, DeleteVariable, CreatePipeline, ShowPipeline, AskJob, UpdateJob, AppendTrace, ShowJob, ShowTrace, Play, CancelJob, CancelPipeline, RetryJob}
 use Rattle.ci_machine.specs.declared.request.Seed.{Seed}
 use Rattle.ci_machine.specs.declared.reply.Code.{Code}
-use Rattle.ci_machine.specs.declared.reply.Code.TheVariants.{M5, M15}
+use Rattle.ci_machine.specs.declared.reply.Code.TheVariants.{M2, M5, M15}
 use Rattle.ci_machine.specs.declared.reply.Detail.{Detail}
 use Rattle.ci_machine.specs.declared.reply.Detail.TheVariants as detail
 use Rattle.ci_machine.specs.declared.reply.FaultCode.TheVariants.{K}
@@ -48,13 +52,16 @@ use Rattle.ci_values.specs.Names.{is_name}
 use Rattle.ci_machine.specs.State.{State, applied, job_cmp, attempt_cmp}
 use Rattle.ci_machine.specs.Statuses.{jobs_of, facts_of, rows_of, status_for, AreBoard}
 use Rattle.ci_machine.specs.Leases.{is_live, renewed, if_leased, size_after, accepted, cause_of, is_over, first_due}
-use Rattle.ci_machine.specs.Eligible.{may_run, chosen}
+use Rattle.ci_machine.specs.Eligible.{is_eligible, chosen}
 use Rattle.ci_values.specs.declared.limits.TheConstants.{MAX_NUMBER}
 use Rattle.ci_machine.specs.declared.limits.TheConstants.{MAX_TRACE_BYTES}
 use Rattle.ci_machine.specs.declared.reply.Body.TheVariants.{Json}
 use Rattle.ci_machine.specs.Plans.{Plan, refused, faulted, fine}
 use Rattle.ci_machine.specs.Projects.{made_project, add_project}
-use Rattle.ci_machine.specs.Runners.{made_runner, add_runner}
+use Rattle.ci_config.specs.declared.limits.TheConstants.{MAX_TAGS}
+use Rattle.ci_machine.specs.Runners.{made_runner, are_names, lacks_project, add_runner, pause_runner}
+use Rattle.ci_machine.specs.Holders.{holders}
+use Rattle.ci_machine.specs.Cancels.{cancellable_jobs}
 use Rattle.ci_machine.specs.Files.{file_set, SetsFile}
 use Rattle.ci_machine.specs.Variables.{variable_set, set_variable, variable_gone, delete_variable}
 use Rattle.ci_machine.specs.Pipelines.{may_create, creation, pipeline_created, Creates}
@@ -64,7 +71,7 @@ use Rattle.ci_machine.specs.Traces.{grown, appended, append_trace}
 use Rattle.ci_machine.specs.Shows.{asked_pipeline, show_pipeline, asked_job, shown, traced}
 use Rattle.ci_machine.specs.Sweeps.{sweep}
 use Rattle.ci_machine.specs.Reply.{status_of_state}
-use Rattle.ci_machine.specs.Step.{Does, Happens, project_with, project_variables, variable_at, pipeline_at, runner_with, job_at, attempt_at, pipeline_of, last_attempt, pieces_in, lease_of, leases, live_attempts, is_pending, pending_jobs, queued, queue, offer, offered_variables}
+use Rattle.ci_machine.specs.Step.{Does, Happens, project_with, project_named, runner_at, redundant_in, cancellable_in, project_variables, variable_at, pipeline_at, runner_with, job_at, attempt_at, pipeline_of, last_attempt, pieces_in, lease_of, leases, live_attempts, is_pending, pending_jobs, queued, queue, offer, offered_variables}
 use Rattle.ci_machine.specs.History.{Past, Leads}
 use Rattle.ci_machine.specs.Laws.{grants, is_grant, accepted_bytes, IsLeastEligible}
 use Rattle.ci_machine.proofs.Keyed.{Has, Rising, has_put, rising_filter, has_filter, filter_has, has_find, least_find, find-map, one_at, All-from_has, contains_from_has}
@@ -73,7 +80,7 @@ use Rattle.ci_machine.proofs.Grants.{Grants, grants_empty, live_last}
 use Rattle.ci_machine.proofs.Pending.{pending_free}
 use Rattle.ci_machine.proofs.Behind.{put_all}
 use Rattle.ci_machine.proofs.PutAll.{rising_all, has_still}
-use Rattle.ci_machine.proofs.Acts.{WasLive, IsAct, after_act, came}
+use Rattle.ci_machine.proofs.Acts.{WasLive, IsAct, cancels, cancellable_within, after_act, came}
 use Rattle.ci_machine.proofs.Created.{after_creation}
 use Rattle.ci_machine.proofs.EachPlan.{IsMachineCode, of_asked, given_in, of_file, of_variable, of_removal, of_creation, of_pipeline, of_play, of_retry, of_job_cancel, of_cancel}
 use Rattle.ci_machine.proofs.Traces as pieces
@@ -152,13 +159,19 @@ projects h s name now seed i =
     cond_both (nat_lt MAX_NUMBER next) (refused M15) (made_project next name seed) (After h s e now seed) (λ _. rests h s e now seed _ i refl (λ n. refl)) (λ _.
     keeps h s _ _ refl i (λ n. refl) (λ n. refl) refl refl refl i.grants.jobs_rise))
 
-runners : (h : List Past) (s : State) (name : List ℕ) (now : ℕ) (seed : Seed) → Inv h s → After h s (event.Request (AddRunner name)) now seed (add_runner s.next.runner name seed)
-runners h s name now seed i =
-    let e = event.Request (AddRunner name) in
+runners : (h : List Past) (s : State) (project : Option Project) (new : NewRunner) (now : ℕ) (seed : Seed) → Inv h s → After h s (event.Request (AddRunner new)) now seed (add_runner s.next.runner project new seed)
+runners h s project new now seed i =
+    let e = event.Request (AddRunner new) in
     let next = s.next.runner in
-    cond_both (not (is_name name)) (faulted (detail.Code (K 16))) _ (After h s e now seed) (λ _. rests h s e now seed _ i refl (λ n. refl)) (λ _.
-    cond_both (nat_lt MAX_NUMBER next) (refused M15) (made_runner next name seed) (After h s e now seed) (λ _. rests h s e now seed _ i refl (λ n. refl)) (λ _.
-    keeps h s _ _ refl i (λ n. refl) (λ n. refl) refl refl refl i.grants.jobs_rise))
+    cond_both (nat_lt MAX_TAGS (length new.tags)) (faulted (detail.Code (K 11))) _ (After h s e now seed) (λ _. rests h s e now seed _ i refl (λ n. refl)) (λ _.
+    cond_both (not (are_names new)) (faulted (detail.Code (K 16))) _ (After h s e now seed) (λ _. rests h s e now seed _ i refl (λ n. refl)) (λ _.
+    cond_both (lacks_project new.project project) (refused M2) _ (After h s e now seed) (λ _. rests h s e now seed _ i refl (λ n. refl)) (λ _.
+    cond_both (nat_lt MAX_NUMBER next) (refused M15) (made_runner next new seed) (After h s e now seed) (λ _. rests h s e now seed _ i refl (λ n. refl)) (λ _.
+    keeps h s _ _ refl i (λ n. refl) (λ n. refl) refl refl refl i.grants.jobs_rise))))
+
+pauses : (h : List Past) (s : State) (pause : RunnerPause) (now : ℕ) (seed : Seed) → Inv h s → (found : Option Runner) → After h s (event.Request (PauseRunner pause)) now seed (pause_runner found pause.paused)
+pauses h s pause now seed i None = rests h s (event.Request (PauseRunner pause)) now seed _ i refl (λ n. refl)
+pauses h s pause now seed i (Some r) = keeps h s _ _ refl i (λ n. refl) (λ n. refl) refl refl refl i.grants.jobs_rise
 
 -- ---- a file, a variable, a pipeline
 
@@ -201,7 +214,7 @@ removals h s query now seed i =
     (λ v. stands h s r now seed i other (variable_gone v) refl refl refl i.grants.jobs_rise)
 
 creates : (h : List Past) (s : State) (new : NewPipeline) (now : ℕ) (seed : Seed) (plan : Plan) → Inv h s
-    → Creates s.next.pipeline s.next.job new (given_in s new) now (may_create (of_asked s new.token new.project) new) plan → After h s (event.Request (CreatePipeline new)) now seed plan
+    → Creates s.next.pipeline s.next.job (holders s) new (given_in s new) now (may_create (of_asked s new.token new.project) new) plan → After h s (event.Request (CreatePipeline new)) now seed plan
 creates h s new now seed plan i is =
     let r = CreatePipeline new in
     let other : IsOther r = (λ a. refl, λ a n. refl) in
@@ -209,17 +222,17 @@ creates h s new now seed plan i is =
     (λ project text laid rows asked has named file lays.
     let made = creation s.next.pipeline s.next.job new (given_in s new) now laid in
     let e = after_creation s.next.job made s in
-    stands h s r now seed i other (pipeline_created s.next.job made rows) (ap (λ (t : State). t.attempts) e) (ap (λ (t : State). t.pieces) e) (ap (λ (t : State). t.next.attempt) e)
+    stands h s r now seed i other (pipeline_created s.next.job made (holders s) rows) (ap (λ (t : State). t.attempts) e) (ap (λ (t : State). t.pieces) e) (ap (λ (t : State). t.next.attempt) e)
     (subst (λ (t : State). Rising (λ (j : Job). j.id) 0 t.jobs) (sym e) (rising_all (λ (j : Job). j.id) made.jobs s.jobs i.grants.jobs_rise))) is
 
 pipeline_shows : (h : List Past) (s : State) (board : List BoardRow) (query : PipelineQuery) (now : ℕ) (seed : Seed) → Inv h s
     → After h s (event.Request (ShowPipeline query)) now seed
-    (show_pipeline (asked_pipeline (of_asked s query.token query.project) (pipeline_at s query.pipeline)) (jobs_of s query.pipeline) (facts_of s query.pipeline) (rows_of s board query.pipeline))
+    (show_pipeline (asked_pipeline (of_asked s query.token query.project) (pipeline_at s query.pipeline)) (holders s) (jobs_of s query.pipeline) (facts_of s query.pipeline) (rows_of s board query.pipeline))
 pipeline_shows h s board query now seed i =
     let r = ShowPipeline query in
     let other : IsOther r = (λ a. refl, λ a n. refl) in
     let n = query.pipeline in
-    of_pipeline s (After h s (event.Request r) now seed) (refuses h s r now seed i other) (faults h s r now seed i other) query (jobs_of s n) (facts_of s n) (rows_of s board n)
+    of_pipeline s (After h s (event.Request r) now seed) (refuses h s r now seed i other) (faults h s r now seed i other) query (holders s) (jobs_of s n) (facts_of s n) (rows_of s board n)
     (λ p. rests h s (event.Request r) now seed _ i refl (λ m. refl))
 
 -- ---- a job request
@@ -243,18 +256,18 @@ starts h s token now seed runner q vs job i free its_job eligible asked = record
 }
 
 grants_least : (h : List Past) (s : State) (board : List BoardRow) (token : List ℕ) (now : ℕ) (seed : Seed) → AreBoard s board → Inv h s → (runner : Runner) → runner_with s token ≡ Some runner
-    → (q : QueuedJob) → chosen (queue s board) runner ≡ Some q → (vs : List JobVariable)
+    → (q : QueuedJob) → chosen (queue s board) (holders s) runner ≡ Some q → (vs : List JobVariable)
     → After h s (event.Request (AskJob token)) now seed (ask_job (Some runner) (Some q) vs s.next.attempt now seed)
 grants_least h s board token now seed are i runner found q offered vs =
     let e = event.Request (AskJob token) in
-    let test : Job → Bool = λ j. may_run runner (queued s j) in
+    let test : Job → Bool = λ j. is_eligible runner (holders s) (queued s j) in
     let is_runner = has_find (λ (w : Runner). bytes_eq w.token token) runner s.runners found in
-    let at = find-map (queued s) (may_run runner) q (pending_jobs s board) offered in
+    let at = find-map (queued s) (is_eligible runner (holders s)) q (pending_jobs s board) offered in
     let job = at.0 in
     let first = has_find test job (pending_jobs s board) at.1.1 in
     let is_job = has_filter (is_pending board) job s.jobs first.0 in
     let same_job : job.id ≡ q.job.id = ap (λ (w : QueuedJob). w.job.id) at.1.0 in
-    let Least : Job → Type 0 = λ other. is_pending board other ≡ true → may_run runner (queued s other) ≡ true → job.id ≤ other.id in
+    let Least : Job → Type 0 = λ other. is_pending board other ≡ true → is_eligible runner (holders s) (queued s other) ≡ true → job.id ≤ other.id in
     cond_both (nat_lt MAX_NUMBER s.next.attempt) (refused M15) (granted runner q vs s.next.attempt now seed) (After h s e now seed)
     (λ _. rests h s e now seed _ i refl (λ n. refl))
     (λ _. starts h s token now seed runner q vs job i (pending_none h s board are i job is_job.0 is_job.1) same_job (record {
@@ -269,7 +282,7 @@ grants_least h s board token now seed are i runner found q offered vs =
     }) ((bytes_eq-Decides runner.token token).0 is_runner.1))
 
 offers : (h : List Past) (s : State) (board : List BoardRow) (token : List ℕ) (now : ℕ) (seed : Seed) → AreBoard s board → Inv h s → (runner : Runner) → runner_with s token ≡ Some runner
-    → (q : Option QueuedJob) → chosen (queue s board) runner ≡ q → (vs : List JobVariable)
+    → (q : Option QueuedJob) → chosen (queue s board) (holders s) runner ≡ q → (vs : List JobVariable)
     → After h s (event.Request (AskJob token)) now seed (ask_job (Some runner) q vs s.next.attempt now seed)
 offers h s board token now seed are i runner found None offered vs = rests h s (event.Request (AskJob token)) now seed _ i refl (λ n. refl)
 offers h s board token now seed are i runner found (Some q) offered vs = grants_least h s board token now seed are i runner found q offered vs
@@ -277,7 +290,7 @@ offers h s board token now seed are i runner found (Some q) offered vs = grants_
 asks : (h : List Past) (s : State) (board : List BoardRow) (token : List ℕ) (now : ℕ) (seed : Seed) → AreBoard s board → Inv h s → (runner : Option Runner) → runner_with s token ≡ runner
     → After h s (event.Request (AskJob token)) now seed (ask_job runner (offer s board runner) (offered_variables s (offer s board runner)) s.next.attempt now seed)
 asks h s board token now seed are i None found = rests h s (event.Request (AskJob token)) now seed _ i refl (λ n. refl)
-asks h s board token now seed are i (Some runner) found = offers h s board token now seed are i runner found (chosen (queue s board) runner) refl _
+asks h s board token now seed are i (Some runner) found = offers h s board token now seed are i runner found (chosen (queue s board) (holders s) runner) refl _
 
 -- ---- what a runner says of an attempt
 
@@ -385,35 +398,40 @@ was s b (inr w) = record {
   size = sym (ap (λ (c : Attempt). c.size) w.is);
 }
 
-acts : (h : List Past) (s : State) (r : Request) (now : ℕ) (seed : Seed) → Inv h s → IsOther r → (text : List ℕ) (changes : List RowChange) → IsAct s changes
-    → After h s (event.Request r) now seed (fine (Json text), changes)
-acts h s r now seed i other text changes act =
-    let said = answer.Reply (fine (Json text)) in
-    let p = line s (event.Request r) now seed said in
+acted : (h : List Past) (s : State) (e : Event) (now : ℕ) (seed : Seed) (said : Answer) (changes : List RowChange) → Inv h s → is_grant e said ≡ false → Quiet e said → IsAct s changes → Changed h s e now seed said changes
+acted h s e now seed said changes i isnt quiet act =
+    let p = line s e now seed said in
     let t : State = record s { jobs = put_all job_cmp act.jobs s.jobs; attempts = put_all attempt_cmp act.attempts s.attempts } in
     subst (Inv (p ∷ h)) (sym (after_act s changes act)) (record {
-      grants = leased.stand h s t p i.grants (λ n. ap (λ b. b && (s.next.attempt == n)) (other.0 said)) (λ b k. stood s b (came s changes act b k))
+      grants = leased.stand h s t p i.grants (λ n. ap (λ b. b && (s.next.attempt == n)) isnt) (λ b k. stood s b (came s changes act b k))
           (rising_all (λ (b : Attempt). b.id) act.attempts s.attempts i.grants.rise) refl (rising_all (λ (j : Job). j.id) act.jobs s.jobs i.grants.jobs_rise);
-      traces = pieces.stays h s t p i.traces (other.1 said) refl (omega arith) (λ b k. inl (was s b (came s changes act b k)));
+      traces = pieces.stays h s t p i.traces quiet refl (omega arith) (λ b k. inl (was s b (came s changes act b k)));
       ends = finals.leaves_ended h s t p refl i.ends (λ a k ended. has_still (λ (b : Attempt). b.id) act.attempts s.attempts a k
           (λ c m e. let w = act.each_attempt c m in
           let same : a ≡ w.old = one_at (λ (b : Attempt). b.id) a w.old 0 s.attempts i.grants.rise k w.has (e ∙ ap (λ (b : Attempt). b.id) w.is) in
           both_ways (is_live a) ended (ap is_live same ∙ w.live)));
     })
 
+acts : (h : List Past) (s : State) (r : Request) (now : ℕ) (seed : Seed) → Inv h s → IsOther r → (text : List ℕ) (changes : List RowChange) → IsAct s changes
+    → After h s (event.Request r) now seed (fine (Json text), changes)
+acts h s r now seed i other text changes act = acted h s (event.Request r) now seed _ changes i (other.0 _) (other.1 _) act
+
 -- ---- a job is shown, a sweep
 
-looks : (h : List Past) (s : State) (e : Event) (now : ℕ) (seed : Seed) (status : Status) → Inv h s → ((a : Answer) → is_grant e a ≡ false) → ((a : Answer) → Quiet e a) → (r : Result Job Code) → After h s e now seed (shown r status)
-looks h s e now seed status i isnt quiet (Ok job) = rests h s e now seed _ i (isnt _) (quiet _)
-looks h s e now seed status i isnt quiet (Err code) = rests h s e now seed _ i (isnt _) (quiet _)
+looks : (h : List Past) (s : State) (e : Event) (now : ℕ) (seed : Seed) (project : ℕ) (status : Status) → Inv h s → ((a : Answer) → is_grant e a ≡ false) → ((a : Answer) → Quiet e a) → (r : Result Job Code)
+    → After h s e now seed (shown (holders s) project r status)
+looks h s e now seed project status i isnt quiet (Ok job) = rests h s e now seed _ i (isnt _) (quiet _)
+looks h s e now seed project status i isnt quiet (Err code) = rests h s e now seed _ i (isnt _) (quiet _)
 
 reads : (h : List Past) (s : State) (e : Event) (now : ℕ) (seed : Seed) (ps : List Piece) → Inv h s → ((a : Answer) → is_grant e a ≡ false) → ((a : Answer) → Quiet e a) → (r : Result Job Code) → After h s e now seed (traced r ps)
 reads h s e now seed ps i isnt quiet (Ok job) = rests h s e now seed _ i (isnt _) (quiet _)
 reads h s e now seed ps i isnt quiet (Err code) = rests h s e now seed _ i (isnt _) (quiet _)
 
-sweeps : (h : List Past) (s : State) (now : ℕ) (seed : Seed) → Inv h s → (o : Option Lease) → first_due (leases s) now ≡ o → Changed h s event.Sweep now seed (answer.Swept (sweep o).0) (sweep o).1
-sweeps h s now seed i None found = rests h s event.Sweep now seed _ i refl (λ n. refl)
-sweeps h s now seed i (Some l) found =
+sweeps : (h : List Past) (s : State) (board : List BoardRow) (now : ℕ) (seed : Seed) → Inv h s → (o : Option Lease) → first_due (leases s) now ≡ o → (redundant : Option Pipeline)
+    → let does = sweep o redundant s.attempts (cancellable_in s board redundant) in Changed h s event.Sweep now seed (answer.Swept does.0) does.1
+sweeps h s board now seed i None found None = rests h s event.Sweep now seed _ i refl (λ n. refl)
+sweeps h s board now seed i None found (Some p) = acted h s event.Sweep now seed _ _ i refl (λ n. refl) (cancels s (cancellable_jobs s board p.id) (cancellable_within s board p.id))
+sweeps h s board now seed i (Some l) found redundant =
     let at = find-map (lease_of s) (λ (w : Lease). is_over w.attempt w.limit now) l (live_attempts s) found in
     let a = at.0 in
     let is : a ≡ l.attempt = ap (λ (w : Lease). w.attempt) at.1.0 in
@@ -425,7 +443,8 @@ sweeps h s now seed i (Some l) found =
 -- each event keeps the invariant
 does : (h : List Past) (s : State) (board : List BoardRow) (r : Request) (now : ℕ) (seed : Seed) (f : Plan) → AreBoard s board → Inv h s → Does s board r now seed f → After h s (event.Request r) now seed f
 does h s board (AddProject name) now seed f are i is = subst (After h s (event.Request (AddProject name)) now seed) (sym is) (projects h s name now seed i)
-does h s board (AddRunner name) now seed f are i is = subst (After h s (event.Request (AddRunner name)) now seed) (sym is) (runners h s name now seed i)
+does h s board (AddRunner new) now seed f are i is = subst (After h s (event.Request (AddRunner new)) now seed) (sym is) (runners h s (project_named s new.project) new now seed i)
+does h s board (PauseRunner pause) now seed f are i is = subst (After h s (event.Request (PauseRunner pause)) now seed) (sym is) (pauses h s pause now seed i (runner_at s pause.runner))
 does h s board (SetFile new) now seed f are i is = files h s new now seed f i is
 does h s board (SetVariable new) now seed f are i is = subst (After h s (event.Request (SetVariable new)) now seed) (sym is) (variables h s new now seed i)
 does h s board (DeleteVariable query) now seed f are i is = subst (After h s (event.Request (DeleteVariable query)) now seed) (sym is) (removals h s query now seed i)
@@ -437,7 +456,7 @@ does h s board (AppendTrace part) now seed f are i is = subst (After h s (event.
 does h s board (ShowJob query) now seed f are i is =
     let job = job_at s query.job in
     subst (After h s (event.Request (ShowJob query)) now seed) (sym is)
-    (looks h s (event.Request (ShowJob query)) now seed (status_for board query.job) i (λ a. refl) (λ a n. refl) (asked_job (project_with s query.token) job (pipeline_of s job) query))
+    (looks h s (event.Request (ShowJob query)) now seed query.project (status_for board query.job) i (λ a. refl) (λ a n. refl) (asked_job (project_with s query.token) job (pipeline_of s job) query))
 does h s board (ShowTrace query) now seed f are i is =
     let job = job_at s query.job in
     subst (After h s (event.Request (ShowTrace query)) now seed) (sym is)
@@ -463,7 +482,7 @@ goes_on : (h : List Past) (s : State) (board : List BoardRow) (e : Event) (now :
 goes_on h s board (event.Request r) now seed (answer.Reply reply) changes are i is = does h s board r now seed (reply, changes) are i is
 goes_on h s board event.Sweep now seed (answer.Swept swept) changes are i is =
     let P : Swept × List RowChange → Type 0 = λ f. Changed h s event.Sweep now seed (answer.Swept f.0) f.1 in
-    subst P (sym is) (sweeps h s now seed i (first_due (leases s) now) refl)
+    subst P (sym is) (sweeps h s board now seed i (first_due (leases s) now) refl (redundant_in s board))
 goes_on h s board (event.Request r) now seed (answer.Swept swept) changes are i is = absurd is
 goes_on h s board event.Sweep now seed (answer.Reply reply) changes are i is = absurd is
 

@@ -53,6 +53,7 @@ last_above id a b low (x ∷ (y ∷ ys)) o r last k =
 -- ---- a sound state
 
 pub record Sound (s : State) : Type 0 where
+  pub pipelines : Rising (λ (p : Pipeline). p.id) 0 s.pipelines
   pub jobs : Rising (λ (j : Job). j.id) 0 s.jobs
   pub attempts : Rising (λ (a : Attempt). a.id) 0 s.attempts
   pub pipeline_below : Below (λ (p : Pipeline). p.id) s.next.pipeline s.pipelines
@@ -74,6 +75,7 @@ sound s i =
     let live_last : (a : Attempt) → Has a s.attempts → is_live a ≡ true → last_attempt s a.job ≡ Some a
     = λ a k. has_from_all (λ (b : Attempt). is_live b ≡ true → last_attempt s b.job ≡ Some b) a s.attempts i.live_is_last k in
     record {
+      pipelines = rising_from_ascend (λ (p : Pipeline). p.id) s.pipelines i.pipelines_ascend;
       jobs = rising_from_ascend (λ (j : Job). j.id) s.jobs i.jobs_ascend;
       attempts = rise;
       pipeline_below = λ p. has_from_all (λ (q : Pipeline). q.id < s.next.pipeline) p s.pipelines i.pipelines_below;

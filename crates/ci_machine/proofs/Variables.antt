@@ -26,7 +26,7 @@ use Rattle.ci_machine.specs.declared.change.Key.{Key}
 use Rattle.ci_machine.specs.declared.change.Key.TheVariants as key
 use Rattle.ci_machine.specs.declared.request.Event.{Event}
 use Rattle.ci_machine.specs.declared.request.Event.TheVariants as event
-use Rattle.ci_machine.specs.declared.request.Request.TheVariants.{AddProject, AddRunner, SetFile, SetVariable, DeleteVariable, CreatePipeline, ShowPipeline, AskJob, UpdateJob, AppendTrace, ShowJob, ShowTrace, Play, CancelJob, CancelPipeline, RetryJob}
+use Rattle.ci_machine.specs.declared.request.Request.TheVariants.{AddProject, AddRunner, PauseRunner, SetFile, SetVariable, DeleteVariable, CreatePipeline, ShowPipeline, AskJob, UpdateJob, AppendTrace, ShowJob, ShowTrace, Play, CancelJob, CancelPipeline, RetryJob}
 use Rattle.ci_machine.specs.declared.request.Seed.{Seed}
 use Rattle.ci_machine.specs.declared.reply.Answer.{Answer}
 use Rattle.ci_machine.specs.declared.reply.Answer.TheVariants as answer
@@ -35,6 +35,7 @@ use Rattle.ci_values.specs.declared.limits.TheConstants.{MAX_NUMBER}
 use Rattle.ci_machine.specs.State.{State, job_variable_cmp, placed, others, put, with_record, without_record, changed, applied}
 use Rattle.ci_machine.specs.Bodies.{with_default, granted_variables}
 use Rattle.ci_machine.specs.Plans.{Plan, refused, token_of}
+use Rattle.ci_machine.specs.Holders.{holders}
 use Rattle.ci_machine.specs.Grants.{granted, ask_job}
 use Rattle.ci_machine.specs.Eligible.{chosen}
 use Rattle.ci_machine.specs.Step.{Happens, runner_with, variables_of, queue, offer, offered_variables}
@@ -199,7 +200,7 @@ offers s now seed o runner (Some q) =
 asks : (s : State) (board : List BoardRow) (now : ℕ) (seed : Seed) → Ordered job_variable_cmp s.job_variables → (runner : Option Runner)
     → Gives s (ask_job runner (offer s board runner) (offered_variables s (offer s board runner)) s.next.attempt now seed)
 asks s board now seed o None = λ e. absurd (false≢true e)
-asks s board now seed o (Some runner) = offers s now seed o runner (chosen (queue s board) runner)
+asks s board now seed o (Some runner) = offers s now seed o runner (chosen (queue s board) (holders s) runner)
 
 pub gives_in_order : (s : State) (board : List BoardRow) (e : Event) (now : ℕ) (seed : Seed) (a : Answer) (changes : List RowChange)
     → Ordered job_variable_cmp s.job_variables → Happens s board e now seed a changes → is_grant e a ≡ true → GivesInOrder s a
@@ -208,6 +209,7 @@ gives_in_order s board (event.Request request) now seed (answer.Swept swept) cha
 gives_in_order s board event.Sweep now seed a changes o is g = absurd (false≢true g)
 gives_in_order s board (event.Request (AddProject x)) now seed (answer.Reply reply) changes o is g = absurd (false≢true g)
 gives_in_order s board (event.Request (AddRunner x)) now seed (answer.Reply reply) changes o is g = absurd (false≢true g)
+gives_in_order s board (event.Request (PauseRunner x)) now seed (answer.Reply reply) changes o is g = absurd (false≢true g)
 gives_in_order s board (event.Request (SetFile x)) now seed (answer.Reply reply) changes o is g = absurd (false≢true g)
 gives_in_order s board (event.Request (SetVariable x)) now seed (answer.Reply reply) changes o is g = absurd (false≢true g)
 gives_in_order s board (event.Request (DeleteVariable x)) now seed (answer.Reply reply) changes o is g = absurd (false≢true g)

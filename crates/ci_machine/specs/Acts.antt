@@ -10,6 +10,8 @@ use Rattle.ci_machine.specs.declared.change.RowChange.{RowChange}
 use Rattle.ci_machine.specs.declared.reply.Code.{Code}
 use Rattle.ci_machine.specs.State.{State, applied}
 use Rattle.ci_machine.specs.Statuses.{jobs_of, numbers_of, place_in, facts_of, status_for, AreRowsOf}
+use Rattle.ci_machine.specs.Lookups.{queued}
+use Rattle.ci_machine.specs.Holders.{holders}
 use Rattle.ci_machine.specs.Plans.{Plan, refused}
 use Rattle.ci_machine.specs.Shows.{job_shown, pipeline_shown}
 
@@ -26,13 +28,13 @@ status_among s rows job = statuses rows (place_in (numbers_of s job.pipeline) jo
 abbrev pub ShowsJobAfter : State → Job → List RowChange → Plan → Type 0
 ShowsJobAfter s job changes plan =
     let t = applied changes s in
-    (rows : List Row) × AreRowsOf t job.pipeline rows × (plan ≡ ((job_shown job (status_among t rows job)).0, changes))
+    (rows : List Row) × AreRowsOf t job.pipeline rows × (plan ≡ ((job_shown (holders t) (queued t job).project job (status_among t rows job)).0, changes))
 
 -- these changes are made, and the reply shows the pipeline, with the statuses of its jobs in the state after them
 abbrev pub ShowsPipelineAfter : State → Pipeline → List RowChange → Plan → Type 0
 ShowsPipelineAfter s p changes plan =
     let t = applied changes s in
-    (rows : List Row) × AreRowsOf t p.id rows × (plan ≡ ((pipeline_shown p (jobs_of t p.id) (facts_of t p.id) rows).0, changes))
+    (rows : List Row) × AreRowsOf t p.id rows × (plan ≡ ((pipeline_shown p (holders t) (jobs_of t p.id) (facts_of t p.id) rows).0, changes))
 
 -- what is to be done to the job that was asked for is done, unless a code refuses it
 abbrev pub ActsOn : State → (Job → List RowChange) → Result Job Code → Plan → Type 0

@@ -1,13 +1,14 @@
 -- The bodies of replies: compact JSON, the members of each object in the order of their bytes.
-use Rattle.std.specs.Prelude.{ℕ, List, [], ◌∷◌, map, codes, insert, count_by, if◌then◌else◌}
+use Rattle.std.specs.Prelude.{ℕ, Bool, List, [], ◌∷◌, map, codes, insert, count_by, if◌then◌else◌}
 use Rattle.std.specs.List.{list_any}
 use Rattle.std.specs.Fmt.{decimal}
 use Rattle.std.specs.Ordering.{nat_cmp, is_lt}
 use Rattle.std.specs.Cmp.Lexicographic.{slice_cmp}
 use Rattle.std.specs.Str.{bytes_eq}
-use Rattle.serde_json.specs.Data.{Data, array, object, member, no_members, string, number, unsigned}
+use Rattle.serde_json.specs.Data.{Data, array, object, boolean, member, no_members, string, number, unsigned}
 use Rattle.serde_json.specs.View.{items_of}
 use Rattle.ci_board.specs.declared.facts.Status.{Status}
+use Rattle.ci_board.specs.declared.facts.Status.TheVariants as status
 use Rattle.ci_board.specs.declared.facts.Facts.{Facts}
 use Rattle.ci_board.specs.declared.facts.Row.{Row}
 use Rattle.ci_board.specs.Texts.{status_text}
@@ -19,7 +20,9 @@ use Rattle.ci_machine.specs.declared.records.Source.TheVariants.{Push, Web, Sche
 use Rattle.ci_machine.specs.declared.records.Job.{Job}
 use Rattle.ci_machine.specs.declared.records.JobVariable.{JobVariable}
 use Rattle.ci_machine.specs.declared.records.QueuedJob.{QueuedJob}
+use Rattle.ci_machine.specs.declared.records.Holder.{Holder}
 use Rattle.ci_machine.specs.declared.reply.Detail.{Detail}
+use Rattle.ci_machine.specs.Eligible.{is_free}
 use Rattle.ci_machine.specs.Reply.{detail_text}
 
 abbrev pub source_text : Source → List ℕ
@@ -37,6 +40,15 @@ fault_data d = object (member (codes "code") (string (codes "M14")) (member (cod
 abbrev pub created_data : ℕ → List ℕ → Data
 created_data id token = object (member (codes "id") (number (unsigned id)) (member (codes "token") (string token) no_members))
 
+-- a runner that was paused, or goes on: {"id":..,"paused":..}
+abbrev pub paused_data : ℕ → Bool → Data
+paused_data id paused = object (member (codes "id") (number (unsigned id)) (member (codes "paused") (boolean paused) no_members))
+
+-- the status of a job of a project as it is printed: one that is pending waits for its resource group while a live attempt holds that
+abbrev pub printed_status : List Holder → ℕ → Job → Status → List ℕ
+printed_status holders project j status.Pending = if is_free holders project j.options.resource_group then status_text status.Pending else codes "waiting_for_resource"
+printed_status holders project j s = status_text s
+
 -- a job with its status: {"id":..,"name":..,"stage":..,"status":..}
 abbrev pub job_data : List ℕ → Job → Data
 job_data status j =
@@ -49,21 +61,21 @@ job_data status j =
 abbrev pub file_data : ℕ → Data
 file_data count = object (member (codes "jobs") (number (unsigned count)) no_members)
 
--- jobs with their rows
-abbrev pub jobs_data : List Job → List Row → List Data
-jobs_data [] rows = []
-jobs_data (j ∷ js) [] = []
-jobs_data (j ∷ js) (r ∷ rows) = job_data (status_text r.status) j ∷ jobs_data js rows
+-- jobs of a project with their rows
+abbrev pub jobs_data : List Holder → ℕ → List Job → List Row → List Data
+jobs_data holders project [] rows = []
+jobs_data holders project (j ∷ js) [] = []
+jobs_data holders project (j ∷ js) (r ∷ rows) = job_data (printed_status holders project j r.status) j ∷ jobs_data holders project js rows
 
 -- the status of a pipeline whose jobs have these facts and rows
 abbrev pub status_of_jobs : List Job → List Facts → List Row → Status
 status_of_jobs jobs facts rows = pipeline_status (map (λ j. j.options.part) jobs) facts (statuses rows)
 
 -- a pipeline with its jobs, which have these facts and rows: {"id":..,"jobs":[..],"ref":..,"source":..,"status":..}
-abbrev pub pipeline_data : Pipeline → List Job → List Facts → List Row → Data
-pipeline_data p jobs facts rows =
+abbrev pub pipeline_data : Pipeline → List Holder → List Job → List Facts → List Row → Data
+pipeline_data p holders jobs facts rows =
     object (member (codes "id") (number (unsigned p.id))
-    (member (codes "jobs") (array (items_of (jobs_data jobs rows)))
+    (member (codes "jobs") (array (items_of (jobs_data holders p.project jobs rows)))
     (member (codes "ref") (string p.git_ref)
     (member (codes "source") (string (source_text p.source))
     (member (codes "status") (string (status_text (status_of_jobs jobs facts rows))) no_members)))))

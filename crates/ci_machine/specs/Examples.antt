@@ -1,5 +1,5 @@
 -- Worked examples: a first project, a runner, a pipeline of two jobs, and the runner's requests, each one computed.
-use Rattle.std.specs.Prelude.{ℕ, false, List, [], ◌∷◌, map, filter, Option, Some, None, Result, Ok, codes, replicate}
+use Rattle.std.specs.Prelude.{ℕ, true, false, List, [], ◌∷◌, map, filter, Option, Some, None, Result, Ok, codes, replicate}
 use Rattle.std.specs.List.{flat_map}
 use Rattle.std.specs.Str.{bytes_eq}
 use Rattle.ci_board.specs.declared.facts.Status.{Status}
@@ -22,6 +22,7 @@ use Rattle.ci_machine.specs.declared.records.Source.TheVariants.{Api}
 use Rattle.ci_machine.specs.declared.records.Attempt.{Attempt}
 use Rattle.ci_values.specs.declared.attempts.AttemptState.{AttemptState}
 use Rattle.ci_values.specs.declared.attempts.AttemptState.TheVariants.{Live}
+use Rattle.ci_machine.specs.declared.request.NewRunner.{NewRunner}
 use Rattle.ci_machine.specs.declared.request.NewVariable.{NewVariable}
 use Rattle.ci_machine.specs.declared.request.PipelineVariable.{PipelineVariable}
 use Rattle.ci_machine.specs.declared.request.NewPipeline.{NewPipeline}
@@ -36,6 +37,7 @@ use Rattle.ci_machine.specs.declared.reply.Swept.{Swept}
 use Rattle.ci_machine.specs.Reply.{body_text}
 use Rattle.ci_machine.specs.State.{State, empty, applied}
 use Rattle.ci_machine.specs.Statuses.{status_for}
+use Rattle.ci_machine.specs.Holders.{holders}
 use Rattle.ci_machine.specs.Plans.{Plan}
 use Rattle.ci_machine.specs.Projects.{add_project}
 use Rattle.ci_machine.specs.Runners.{add_runner}
@@ -44,9 +46,7 @@ use Rattle.ci_machine.specs.Grants.{ask_job}
 use Rattle.ci_machine.specs.Reports.{update_job}
 use Rattle.ci_machine.specs.Traces.{append_trace}
 use Rattle.ci_machine.specs.Shows.{show_job, show_trace}
-use Rattle.ci_machine.specs.Sweeps.{sweep}
-use Rattle.ci_machine.specs.Leases.{first_due}
-use Rattle.ci_machine.specs.Step.{project_with, project_variables, runner_with, pipeline_of, job_at, last_attempt, pieces_in, lease_at, leases, offer, offered_variables}
+use Rattle.ci_machine.specs.Step.{project_with, project_named, project_variables, runner_with, pipeline_of, job_at, last_attempt, pieces_in, lease_at, offer, offered_variables, sweep_in}
 
 -- sixteen bytes ab
 abbrev pub seed : Seed
@@ -67,9 +67,12 @@ project_added = add_project empty.next.project (codes "p") seed
 abbrev pub with_project : State
 with_project = after project_added empty
 
--- then a runner `r`
+-- then a runner `r` of the instance, which has no tags and runs untagged jobs
+abbrev pub new_runner : NewRunner
+new_runner = record { name = codes "r"; project = None; tags = []; untagged = true }
+
 abbrev pub runner_added : Plan
-runner_added = add_runner with_project.next.runner (codes "r") seed
+runner_added = add_runner with_project.next.runner (project_named with_project new_runner.project) new_runner seed
 
 abbrev pub with_runner : State
 with_runner = after runner_added with_project
@@ -97,7 +100,7 @@ abbrev pub first_rows : List Row
 first_rows = record no_row { status = Pending } ∷ record no_row { opens = 1 } ∷ []
 
 abbrev pub pipeline_made : Plan
-pipeline_made = pipeline_created with_runner.next.job made first_rows
+pipeline_made = pipeline_created with_runner.next.job made (holders with_runner) first_rows
 
 abbrev pub with_pipeline : State
 with_pipeline = after pipeline_made with_runner
@@ -197,14 +200,14 @@ sent s from bytes now = append_trace (lease_at s 1) (record { attempt = 1; token
 abbrev pub said : State → List ℕ → Report → ℕ → Plan
 said s token report now = update_job (lease_at s 1) (record { attempt = 1; token = token; report = report }) now
 
-abbrev pub swept : State → ℕ → Swept × List RowChange
-swept s now = sweep (first_due (leases s) now)
+abbrev pub swept : State → List BoardRow → ℕ → Swept × List RowChange
+swept s board now = sweep_in s board now
 
 abbrev pub query : ℕ → ℕ → List ℕ → JobQuery
 query project number token = record { project = project; token = token; job = number }
 
 abbrev pub job_shown : State → List BoardRow → JobQuery → Plan
-job_shown s board q = show_job (project_with s q.token) (job_at s q.job) (pipeline_of s (job_at s q.job)) (status_for board q.job) q
+job_shown s board q = show_job (project_with s q.token) (job_at s q.job) (pipeline_of s (job_at s q.job)) (holders s) (status_for board q.job) q
 
 abbrev pub trace_shown : State → JobQuery → Plan
 trace_shown s q = show_trace (project_with s q.token) (job_at s q.job) (pipeline_of s (job_at s q.job)) (pieces_in s (last_attempt s q.job)) q

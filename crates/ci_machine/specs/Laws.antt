@@ -10,6 +10,7 @@ use Rattle.ci_config.specs.Config.{Config}
 use Rattle.ci_layout.specs.Inclusion.{IncludedJob, included}
 use Rattle.ci_machine.specs.declared.records.Project.{Project}
 use Rattle.ci_machine.specs.declared.records.Runner.{Runner}
+use Rattle.ci_machine.specs.declared.records.Pipeline.{Pipeline}
 use Rattle.ci_machine.specs.declared.records.Job.{Job}
 use Rattle.ci_machine.specs.declared.records.JobVariable.{JobVariable}
 use Rattle.ci_machine.specs.declared.records.QueuedJob.{QueuedJob}
@@ -28,7 +29,8 @@ use Rattle.ci_machine.specs.declared.reply.Swept.TheVariants as swept
 use Rattle.ci_values.specs.declared.attempts.AttemptState.TheVariants.{Live}
 use Rattle.ci_values.specs.declared.attempts.Cause.{Cause}
 use Rattle.ci_machine.specs.Leases.{is_live, is_over, cause_of}
-use Rattle.ci_machine.specs.Eligible.{may_run}
+use Rattle.ci_machine.specs.Redundant.{is_redundant}
+use Rattle.ci_machine.specs.Eligible.{is_eligible}
 use Rattle.ci_machine.specs.declared.records.BoardRow.{BoardRow}
 use Rattle.ci_machine.specs.State.{State}
 use Rattle.ci_machine.specs.Statuses.{AreBoard}
@@ -37,7 +39,8 @@ use Rattle.ci_machine.specs.Plans.{created, asked_project}
 use Rattle.ci_machine.specs.Files.{IsRead}
 use Rattle.ci_machine.specs.Pipelines.{given_by, new_job}
 use Rattle.ci_machine.specs.Shows.{joined}
-use Rattle.ci_machine.specs.Step.{project_with, project_variables, is_pending, queued, pieces_of, lease_of, variables_of}
+use Rattle.ci_machine.specs.Holders.{holders, is_in_group}
+use Rattle.ci_machine.specs.Step.{project_with, project_variables, is_pending, queued, pieces_of, lease_of, variables_of, with_status, was_tried}
 use Rattle.ci_machine.specs.History.{Past}
 
 -- the answer is a refusal
@@ -45,11 +48,16 @@ abbrev pub IsRefusal : Answer → Type 0
 IsRefusal (answer.Reply reply) = IsSome reply.code
 IsRefusal (answer.Swept (swept.Refused code)) = Unit {0}
 IsRefusal (answer.Swept (swept.Ended attempt cause)) = ⊥
+IsRefusal (answer.Swept (swept.Cancelled pipeline)) = ⊥
 IsRefusal (answer.Swept swept.Nothing) = ⊥
 
 -- each job has at most one live attempt
 abbrev pub OneLease : State → Type 0
 OneLease s = (job : ℕ) → count_by (λ a. is_live a && (a.job == job)) s.attempts ≤ 1
+
+-- each resource group of a project is held by at most one live attempt
+abbrev pub OneLeaseInGroup : State → Type 0
+OneLeaseInGroup s = (project : ℕ) (group : List ℕ) → count_by (λ a. is_live a && is_in_group s project group a) s.attempts ≤ 1
 
 -- a job request was answered with a grant, which drew the number n
 abbrev pub is_created : HttpStatus → Bool
@@ -63,15 +71,16 @@ is_grant _ _ = false
 abbrev pub grants : ℕ → Past → Bool
 grants n p = is_grant p.event p.answer && (p.before.next.attempt == n)
 
--- in that state, by the statuses of its jobs, the job may be given to the runner, and of the jobs that may it has the least number
+-- in that state, by the statuses of its jobs and by what its live attempts hold, the job may be given to the runner, and of the jobs that
+-- may it has the least number
 pub record IsLeastEligible (s : State) (runner : Runner) (job : Job) : Type 0 where
   pub board : List BoardRow
   pub are_board : AreBoard s board
   pub is_runner : Contains s.runners runner
   pub is_job : Contains s.jobs job
   pub pending : is_pending board job ≡ true
-  pub allowed : may_run runner (queued s job) ≡ true
-  pub least : All (λ other. is_pending board other ≡ true → may_run runner (queued s other) ≡ true → job.id ≤ other.id) s.jobs
+  pub allowed : is_eligible runner (holders s) (queued s job) ≡ true
+  pub least : All (λ other. is_pending board other ≡ true → is_eligible runner (holders s) (queued s other) ≡ true → job.id ≤ other.id) s.jobs
 
 -- what a record has for good, apart from what an event may change of it
 abbrev pub project_for_good : Project → Project
@@ -184,10 +193,36 @@ pub record IsLeastDue (s : State) (now n : ℕ) (cause : Cause) : Type 0 where
   pub least : All (λ other. is_due s now other ≡ true → n ≤ other.id) s.attempts
   pub why : cause ≡ cause_of (lease_of s attempt)
 
--- a sweep ended the due attempt of least number, or there was none
+-- no attempt is due
+abbrev pub NoneIsDue : State → ℕ → Type 0
+NoneIsDue s now = All (λ a. is_due s now a ≡ false) s.attempts
+
+-- by these rows of its jobs' statuses the pipeline is redundant in the state
+abbrev pub is_redundant_in : State → List BoardRow → Pipeline → Bool
+is_redundant_in s board p = is_redundant (map (with_status s board) s.pipelines) (filter (was_tried s) s.jobs) (with_status s board p)
+
+-- the pipeline n is the redundant one of least number
+pub record IsLeastRedundant (s : State) (n : ℕ) : Type 0 where
+  pub board : List BoardRow
+  pub are_board : AreBoard s board
+  pub pipeline : Pipeline
+  pub is_pipeline : Contains s.pipelines pipeline
+  pub number : pipeline.id ≡ n
+  pub redundant : is_redundant_in s board pipeline ≡ true
+  pub least : All (λ other. is_redundant_in s board other ≡ true → n ≤ other.id) s.pipelines
+
+-- no pipeline is redundant
+pub record NoneIsRedundant (s : State) : Type 0 where
+  pub board : List BoardRow
+  pub are_board : AreBoard s board
+  pub none : All (λ p. is_redundant_in s board p ≡ false) s.pipelines
+
+-- a sweep ended the due attempt of least number; where there was none, it cancelled the redundant pipeline of least number; or there was none
+-- of either
 abbrev pub SweepsLeast : State → ℕ → Swept → Type 0
 SweepsLeast s now (swept.Ended n cause) = IsLeastDue s now n cause
-SweepsLeast s now swept.Nothing = All (λ a. is_due s now a ≡ false) s.attempts
+SweepsLeast s now (swept.Cancelled n) = NoneIsDue s now × IsLeastRedundant s n
+SweepsLeast s now swept.Nothing = NoneIsDue s now × NoneIsRedundant s
 SweepsLeast s now (swept.Refused code) = ⊥
 
 abbrev pub IsSweptBy : State → ℕ → Event → Answer → Type 0
@@ -209,6 +244,7 @@ GivesInOrder s a =
 -- what holds of each state that a history leads to
 pub record Laws (h : List Past) (s : State) : Type 0 where
   pub one_lease : OneLease s
+  pub one_in_group : OneLeaseInGroup s
   pub was_granted : All (WasGranted h) s.attempts
   pub traced : All (IsTraced h s) s.attempts
   pub ends_stay : All (λ p. EndsStay p.before s) h

@@ -1,9 +1,12 @@
 pub mod State
 pub mod Kept
 pub mod Statuses
+pub mod Lookups
+pub mod Holders
 pub mod Reply
 pub mod Bodies
 pub mod Eligible
+pub mod Redundant
 pub mod Leases
 pub mod Plans
 pub mod Projects
@@ -21,9 +24,11 @@ pub mod Retries
 pub mod Cancels
 pub mod Sweeps
 pub mod Step
+pub mod Indexes
 pub mod Ranges
 pub mod History
 pub mod Laws
 pub mod Sound
 pub mod Examples
 pub mod ActExamples
+pub mod WaitingExamples

@@ -147,4 +147,5 @@ abbrev pub outcome_of : Answer → Outcome
 outcome_of (answer.Reply reply) = outcome_by reply.code
 outcome_of (answer.Swept (swept.Refused code)) = outcome_by (Some code)
 outcome_of (answer.Swept (swept.Ended attempt cause)) = Stepped
+outcome_of (answer.Swept (swept.Cancelled pipeline)) = Stepped
 outcome_of (answer.Swept swept.Nothing) = Stepped

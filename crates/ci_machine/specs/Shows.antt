@@ -6,6 +6,7 @@ use Rattle.ci_machine.specs.declared.records.Project.{Project}
 use Rattle.ci_machine.specs.declared.records.Pipeline.{Pipeline}
 use Rattle.ci_machine.specs.declared.records.Job.{Job}
 use Rattle.ci_machine.specs.declared.records.Piece.{Piece}
+use Rattle.ci_machine.specs.declared.records.Holder.{Holder}
 use Rattle.ci_machine.specs.declared.request.JobQuery.{JobQuery}
 use Rattle.ci_machine.specs.declared.reply.Code.{Code}
 use Rattle.ci_machine.specs.declared.reply.Code.TheVariants.{M1, M2, M3}
@@ -13,8 +14,7 @@ use Rattle.ci_machine.specs.declared.reply.Body.TheVariants.{Json, Plain}
 use Rattle.ci_board.specs.declared.facts.Facts.{Facts}
 use Rattle.ci_board.specs.declared.facts.Row.{Row}
 use Rattle.ci_board.specs.declared.facts.Status.{Status}
-use Rattle.ci_board.specs.Texts.{status_text}
-use Rattle.ci_machine.specs.Bodies.{job_data, pipeline_data}
+use Rattle.ci_machine.specs.Bodies.{printed_status, job_data, pipeline_data}
 use Rattle.ci_machine.specs.Plans.{Plan, refused, fine}
 
 -- the job, where its pipeline is the project's
@@ -28,17 +28,17 @@ abbrev pub asked_job : Option Project → Option Job → Option Pipeline → Job
 asked_job None job pipeline query = Err M1
 asked_job (Some project) job pipeline query = if project.id == query.project then job_within job pipeline project.id else Err M2
 
--- the job with its status
-abbrev pub job_shown : Job → Status → Plan
-job_shown job status = (fine (Json (compact_text (job_data (status_text status) job))), [])
+-- the job of a project with its status, where these resource groups are held
+abbrev pub job_shown : List Holder → ℕ → Job → Status → Plan
+job_shown holders project job status = (fine (Json (compact_text (job_data (printed_status holders project job status) job))), [])
 
-abbrev pub shown : Result Job Code → Status → Plan
-shown (Ok job) status = job_shown job status
-shown (Err code) status = refused code
+abbrev pub shown : List Holder → ℕ → Result Job Code → Status → Plan
+shown holders project (Ok job) status = job_shown holders project job status
+shown holders project (Err code) status = refused code
 
--- a job of a project, and its status
-abbrev pub show_job : Option Project → Option Job → Option Pipeline → Status → JobQuery → Plan
-show_job project job pipeline status query = shown (asked_job project job pipeline query) status
+-- a job of a project, and its status, where these resource groups are held
+abbrev pub show_job : Option Project → Option Job → Option Pipeline → List Holder → Status → JobQuery → Plan
+show_job project job pipeline holders status query = shown holders query.project (asked_job project job pipeline query) status
 
 -- the pieces of a trace, joined in their order
 abbrev pub joined : List Piece → List ℕ
@@ -67,10 +67,10 @@ abbrev pub asked_pipeline : Result Project Code → Option Pipeline → Result P
 asked_pipeline (Err code) pipeline = Err code
 asked_pipeline (Ok project) pipeline = pipeline_within pipeline project.id
 
-abbrev pub pipeline_shown : Pipeline → List Job → List Facts → List Row → Plan
-pipeline_shown p jobs facts rows = (fine (Json (compact_text (pipeline_data p jobs facts rows))), [])
+abbrev pub pipeline_shown : Pipeline → List Holder → List Job → List Facts → List Row → Plan
+pipeline_shown p holders jobs facts rows = (fine (Json (compact_text (pipeline_data p holders jobs facts rows))), [])
 
--- a pipeline, and its jobs with their facts and rows
-abbrev pub show_pipeline : Result Pipeline Code → List Job → List Facts → List Row → Plan
-show_pipeline (Ok p) jobs facts rows = pipeline_shown p jobs facts rows
-show_pipeline (Err code) jobs facts rows = refused code
+-- a pipeline, and its jobs with their facts and rows, where these resource groups are held
+abbrev pub show_pipeline : Result Pipeline Code → List Holder → List Job → List Facts → List Row → Plan
+show_pipeline (Ok p) holders jobs facts rows = pipeline_shown p holders jobs facts rows
+show_pipeline (Err code) holders jobs facts rows = refused code

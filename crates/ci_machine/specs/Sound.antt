@@ -11,6 +11,7 @@ use Rattle.ci_machine.specs.Laws.{IsLinked}
 -- Records stand in the order of their numbers, which are 1 or more and below those that come next; what a record names is there;
 -- and the live attempt of a job, if it has one, is its last.
 pub record IsSound (s : State) : Type 0 where
+  pub pipelines_ascend : IsStrictlySortedBy nat_cmp (map (λ p. p.id) s.pipelines)
   pub jobs_ascend : IsStrictlySortedBy nat_cmp (map (λ j. j.id) s.jobs)
   pub attempts_ascend : IsStrictlySortedBy nat_cmp (map (λ a. a.id) s.attempts)
   pub needs_ascend : IsStrictlySortedBy need_cmp s.needs

@@ -2,7 +2,9 @@
 
 ghost use Rattle.std.specs.Prelude.{◌≡◌, ◌↔◌, [], IsTrue};
 
-use crate::records::{Attempt, Job, JobVariable, Need, Piece, Pipeline, Project, Runner, Variable};
+use crate::records::{
+    Attempt, Holder, Job, JobVariable, Need, Piece, Pipeline, Project, Runner, Unfinished, Variable,
+};
 use crate::text::Text;
 use std::marker::Model;
 
@@ -58,6 +60,19 @@ pub enum RowChange {
     Remove(Key),
     /// The next number of a kind.
     SetNext(Counter, u64),
+}
+
+/// A change of what is kept beside the state for look-ups: which resource groups are held, and which pipelines aren't finished.
+#[derive(Drop)]
+pub enum IndexChange {
+    /// A live attempt holds a group, which none held.
+    Hold(Holder),
+    /// A group of a project is held no more.
+    Free(u64, Text),
+    /// A pipeline isn't finished.
+    Open(Unfinished),
+    /// The pipeline with a number is finished.
+    Close(u64),
 }
 
 /// A list of changes, which one transaction makes. It has to be spent: it can't be dropped.

@@ -32,8 +32,11 @@ ghost use Rattle.ci_machine.specs.Reply.{Stepped, outcome_of, detail_text};
 ghost use Rattle.ci_machine.specs.Laws.{IsRefusal, Laws};
 ghost use Rattle.ci_machine.specs.History.{Past, Leads, IsReached};
 ghost use Rattle.ci_machine.specs.Sound.{IsSound};
-ghost use Rattle.ci_machine.specs.Examples.{reply_text, project_added, runner_added, pipeline, made, given, configured, laid_by, first_rows, pipeline_made, granted, with_pipeline, with_attempt, token, two_rows, rows, asked, project_of, pair, with_variables, set_to, stage_by, new_variable, old_variable, hundred, put_variable, seed, attempt, lease, leased, after, sent, said, swept, query, job_shown, trace_shown, hello, hello_world};
+ghost use Rattle.ci_machine.specs.Examples.{reply_text, project_added, with_project, new_runner, runner_added, pipeline, made, given, configured, laid_by, first_rows, pipeline_made, granted, with_pipeline, with_attempt, token, two_rows, rows, asked, project_of, pair, with_variables, set_to, stage_by, new_variable, old_variable, hundred, put_variable, seed, attempt, lease, leased, after, sent, said, swept, query, job_shown, trace_shown, hello, hello_world};
 ghost use Rattle.ci_machine.specs.ActExamples.{pipeline_query, board_from, pipeline_after, four, four_board, all_cancelled, cancelled_rows, cancel_marks, run_cancelled, run_cancelled_rows, five, five_board, first_retried, retried_rows, two, two_board, hand_played, played_rows, succeeded, succeeded_board, hand_retried};
+ghost use Rattle.ci_machine.specs.WaitingExamples.{some_runner, tagged, waits, pause, both, answer_of, with_tags, for_project, of_a_minute, heard_at, replies_at, moments, ships, shipping, after_asking};
+ghost use Rattle.ci_machine.specs.Holders.{holders};
+ghost use Rattle.ci_machine.specs.Step.{project_at};
 ghost use Rattle.ci_machine.specs.Leases.{renewed, is_over, deadline, accepted, size_after, finished, cause_of};
 
 use crate::lease::{LeaseFault, PieceFault};
@@ -74,7 +77,7 @@ pub fn example_boards()
     ensures made { AreBoard with_pipeline (two_rows Status.Pending) }
     ensures granted { AreBoard with_attempt (two_rows Status.Running) }
     ensures leased { AreBoard leased (rows Status.Running) }
-    ensures ended { AreBoard (after (swept leased 1120) leased) (rows Status.Failed) }
+    ensures ended { AreBoard (after (swept leased (rows Status.Running) 1120) leased) (rows Status.Failed) }
 {}
 
 /// What refuses a pipeline before its file is read, in the order in which it is looked for.
@@ -140,8 +143,8 @@ pub fn limits()
 
     ensures last_project { add_project 9007199254740991 (codes "p") seed ≡ made_project 9007199254740991 (codes "p") seed }
     ensures past_last_project { add_project 9007199254740992 (codes "p") seed ≡ refused Code.M15 }
-    ensures last_runner { add_runner 9007199254740991 (codes "r") seed ≡ made_runner 9007199254740991 (codes "r") seed }
-    ensures past_last_runner { add_runner 9007199254740992 (codes "r") seed ≡ refused Code.M15 }
+    ensures last_runner { add_runner 9007199254740991 None new_runner seed ≡ made_runner 9007199254740991 new_runner seed }
+    ensures past_last_runner { add_runner 9007199254740992 None new_runner seed ≡ refused Code.M15 }
 
     ensures last_pipeline { lacks_numbers 9007199254740991 1 1 ≡ false }
     ensures past_last_pipeline { lacks_numbers 9007199254740992 1 1 ≡ true }
@@ -184,10 +187,10 @@ pub fn trace_examples()
     ensures gap { sent hello_world 11 (codes "ab") 1119 ≡ (not_accepted (PieceFault.WrongOffset 10), []) }
     ensures trace { reply_text (trace_shown hello_world (query 1 1 (codes "p"))) ≡ codes "helloworld" }
 
-    ensures too_early { swept hello_world 1238 ≡ (Swept.Nothing, []) }
+    ensures too_early { swept hello_world (rows Status.Running) 1238 ≡ (Swept.Nothing, []) }
     ensures late_piece { sent hello_world 10 (codes "!") 1239 ≡ refused Code.M7 }
-    ensures ended { (swept hello_world 1239).0 ≡ Swept.Ended 1 Cause.StuckOrTimeoutFailure }
-    ensures ended_once { swept (after (swept hello_world 1239) hello_world) 1240 ≡ (Swept.Nothing, []) }
+    ensures ended { (swept hello_world (rows Status.Running) 1239).0 ≡ Swept.Ended 1 Cause.StuckOrTimeoutFailure }
+    ensures ended_once { swept (after (swept hello_world (rows Status.Running) 1239) hello_world) (rows Status.Failed) 1240 ≡ (Swept.Nothing, []) }
 
     ensures went_back { (after (said (after (said leased [] Report.Running 1100) leased) [] Report.Running 1050) leased).attempts ≡ attempt 1100 AttemptState.Live ∷ [] }
     ensures succeeded { (said leased [] (Report.Success None) 1119).0 ≡ told JobStatus.Success }
@@ -200,7 +203,7 @@ pub fn trace_examples()
     ensures other_project { job_shown leased (rows Status.Running) (query 2 1 (codes "p")) ≡ refused Code.M2 }
     ensures unknown_job { job_shown leased (rows Status.Running) (query 1 2 (codes "p")) ≡ refused Code.M3 }
     ensures running { reply_text (job_shown leased (rows Status.Running) (query 1 1 (codes "p"))) ≡ codes "{\"id\":1,\"name\":\"build\",\"stage\":\"build\",\"status\":\"running\"}" }
-    ensures failed { reply_text (job_shown (after (swept leased 1120) leased) (rows Status.Failed) (query 1 1 (codes "p"))) ≡ codes "{\"id\":1,\"name\":\"build\",\"stage\":\"build\",\"status\":\"failed\"}" }
+    ensures failed { reply_text (job_shown (after (swept leased (rows Status.Running) 1120) leased) (rows Status.Failed) (query 1 1 (codes "p"))) ≡ codes "{\"id\":1,\"name\":\"build\",\"stage\":\"build\",\"status\":\"failed\"}" }
 {}
 
 /// A pipeline is cancelled: at once all its jobs that can be, with the live attempt of one, and not the one that was skipped.
@@ -246,12 +249,64 @@ pub fn play_examples()
     ensures board_again { AreBoard (after hand_retried succeeded) (board_from 1 played_rows) }
 {}
 
-/// In each state that a history leads to, each job has at most one live attempt; each attempt was granted by just one
-/// request, with its runner's token, in a state in which its job was pending and, of those that its runner may run, the
-/// one of least number, and the step that made the job's pipeline included the job by its rules; each trace is the bytes that were accepted of its attempt, joined in the order of the history; an
+/// Runners that are to be made, and refused in the order in which it is looked for: 33 tags, a name or a tag that isn't a name, a project that
+/// isn't there.
+pub fn new_runner_examples()
+    ensures many { add_runner 1 None (record (with_tags (replicate 33 [])) { name = [] }) seed ≡ faulted (Detail.Code (FaultCode.K 11)) }
+    ensures bad_name { add_runner 1 None (record (for_project (Some 2)) { name = [] }) seed ≡ faulted (Detail.Code (FaultCode.K 16)) }
+    ensures bad_tag { add_runner 1 None (record (with_tags (codes "a" ∷ [] ∷ [])) { project = Some 2 }) seed ≡ faulted (Detail.Code (FaultCode.K 16)) }
+    ensures no_project { add_runner 9007199254740992 None (for_project (Some 2)) seed ≡ refused Code.M2 }
+    ensures full { add_runner 1 None (with_tags (replicate 32 (codes "a"))) seed ≡ made_runner 1 (with_tags (replicate 32 (codes "a"))) seed }
+    ensures of_project { add_runner 2 (project_at with_project 1) (for_project (Some 1)) seed ≡ made_runner 2 (for_project (Some 1)) seed }
+{}
+
+/// Which runner a pending job of project 1 is given to: by its tags, by the runner's project, and not while the runner is paused.
+pub fn runner_examples()
+    ensures one_tag { answer_of (waits (codes "linux" ∷ codes "arm" ∷ []) (tagged (codes "linux" ∷ []))) (rows Status.Pending) ≡ HttpStatus.NoContent }
+    ensures all_tags { answer_of (waits (codes "linux" ∷ codes "arm" ∷ []) (tagged (codes "arm" ∷ codes "linux" ∷ codes "x" ∷ []))) (rows Status.Pending) ≡ HttpStatus.Created }
+    ensures untagged { answer_of (waits [] (tagged (codes "arm" ∷ []))) (rows Status.Pending) ≡ HttpStatus.NoContent }
+    ensures other_project { answer_of (waits [] (record some_runner { project = Some 2 })) (rows Status.Pending) ≡ HttpStatus.NoContent }
+    ensures own_project { answer_of (waits [] (record some_runner { project = Some 1 })) (rows Status.Pending) ≡ HttpStatus.Created }
+
+    ensures pausing { reply_text (pause true (waits [] some_runner)) ≡ codes "{\"id\":1,\"paused\":true}" }
+    ensures paused { answer_of (after (pause true (waits [] some_runner)) (waits [] some_runner)) (rows Status.Pending) ≡ HttpStatus.NoContent }
+    ensures resumed { answer_of (after (pause false (waits [] (record some_runner { paused = true }))) (waits [] (record some_runner { paused = true }))) (rows Status.Pending) ≡ HttpStatus.Created }
+    ensures no_runner { pause true leased ≡ refused Code.M3 }
+{}
+
+/// A job with a time limit of a minute: its runner is heard of in time, but its lease ends with the minute.
+pub fn limit_examples()
+    ensures heard { replies_at moments of_a_minute ≡ replicate 6 HttpStatus.Fine }
+    ensures too_early { swept (heard_at moments of_a_minute) (rows Status.Running) 1059 ≡ (Swept.Nothing, []) }
+    ensures ended { (swept (heard_at moments of_a_minute) (rows Status.Running) 1060).0 ≡ Swept.Ended 1 Cause.JobExecutionTimeout }
+{}
+
+/// Two pipelines of `main`, each with a job that has the resource group `prod`: while the first job's attempt is live the second waits, and
+/// a newer pipeline makes the first redundant only if its job is interruptible.
+pub fn group_examples()
+    ensures first { (shipping false (codes "main")).attempts ≡ record (attempt 1000 AttemptState.Live) { token = codes "j1-abababababababababababababababab" } ∷ [] }
+    ensures held { holders (shipping false (codes "main")) ≡ record { project = 1; group = codes "prod"; attempt = 1 } ∷ [] }
+    ensures shown { reply_text (job_shown (shipping false (codes "main")) (both Status.Running Status.Pending) (query 1 2 (codes "p"))) ≡ codes "{\"id\":2,\"name\":\"ship\",\"stage\":\"test\",\"status\":\"waiting_for_resource\"}" }
+    ensures waiting { answer_of (shipping false (codes "main")) (both Status.Running Status.Pending) ≡ HttpStatus.NoContent }
+    ensures kept { swept (shipping false (codes "main")) (both Status.Running Status.Pending) 1001 ≡ (Swept.Nothing, []) }
+    ensures ended { (swept (shipping false (codes "main")) (both Status.Running Status.Pending) 1120).0 ≡ Swept.Ended 1 Cause.StuckOrTimeoutFailure }
+    ensures freed { holders (after (swept (shipping false (codes "main")) (both Status.Running Status.Pending) 1120) (shipping false (codes "main"))) ≡ [] }
+    ensures second { map (λ a. a.job) (after_asking (after (swept (shipping false (codes "main")) (both Status.Running Status.Pending) 1120) (shipping false (codes "main"))) (both Status.Failed Status.Pending)).attempts ≡ 1 ∷ 2 ∷ [] }
+
+    ensures redundant { (swept (shipping true (codes "main")) (both Status.Running Status.Pending) 1001).0 ≡ Swept.Cancelled 1 }
+    ensures cancelled { map (λ a. a.state) (after (swept (shipping true (codes "main")) (both Status.Running Status.Pending) 1001) (shipping true (codes "main"))).attempts ≡ AttemptState.Cancelled ∷ [] }
+    ensures then_second { map (λ a. a.job) (after_asking (after (swept (shipping true (codes "main")) (both Status.Running Status.Pending) 1001) (shipping true (codes "main"))) (both Status.Canceled Status.Pending)).attempts ≡ 1 ∷ 2 ∷ [] }
+    ensures untried { (swept (ships false (codes "main")) (both Status.Pending Status.Pending) 1001).0 ≡ Swept.Cancelled 1 }
+    ensures other_ref { swept (shipping true (codes "next")) (both Status.Running Status.Pending) 1001 ≡ (Swept.Nothing, []) }
+    ensures finished { swept (ships true (codes "main")) (both Status.Success Status.Pending) 1001 ≡ (Swept.Nothing, []) }
+{}
+
+/// In each state that a history leads to, each job has at most one live attempt, and so has each resource group of a project; each
+/// attempt was granted by just one request, with its runner's token, in a state in which its job was pending and, of those that its
+/// runner may be given, the one of least number, and the step that made the job's pipeline included the job by its rules; each trace is the bytes that were accepted of its attempt, joined in the order of the history; an
 /// attempt that had ended in an earlier state stands as it ended; no record of an earlier state is gone; the records that
 /// others name are there; and there are rows of its jobs' statuses. Each sweep of the history ended the due attempt of least
-/// number, or there was none; and each grant gave the variables of its job in the order of their keys.
+/// number; where there was none, it cancelled the redundant pipeline of least number, or there was none either; and each grant gave the variables of its job in the order of their keys.
 pub fn laws_of_each_reached_state()
     ensures { (h : List Past) (s : State) → Leads h s → Laws h s }
 {}

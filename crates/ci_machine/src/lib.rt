@@ -9,6 +9,7 @@ pub mod lease;
 pub mod limits;
 pub mod moment;
 pub mod records;
+pub mod redundant;
 pub mod reply;
 pub mod request;
 pub mod text;

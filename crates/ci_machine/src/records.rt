@@ -7,7 +7,7 @@ ghost use Rattle.ci_machine.specs.Pipelines.{plain_options};
 use crate::limits::DEFAULT_TIMEOUT_SECONDS;
 use crate::moment::Moment;
 use crate::text::{Bytes, Text, Texts};
-use ci_board::facts::Row;
+use ci_board::facts::{Row, Status};
 use ci_graph::part::Part;
 pub use ci_values::attempts::{AttemptState, Cause};
 pub use ci_values::limits::MAX_NUMBER;
@@ -168,11 +168,30 @@ pub struct Job {
     pub set_aside: u64,
 }
 
+/// A pipeline, with the status that follows from its jobs.
+#[derive(Clone, Drop)]
+pub struct PipelineWithStatus {
+    pub pipeline: Pipeline,
+    pub status: Status,
+}
+
 /// A job that waits for a runner, with the project of its pipeline.
 #[derive(Clone, Drop)]
 pub struct QueuedJob {
     pub job: Job,
     pub project: u64,
+}
+
+/// What a job asks of the runner that is given it: told without the job's script.
+#[derive(Clone, Drop)]
+pub struct Demand {
+    pub job: u64,
+    /// Its pipeline, whose project the runner must be open to.
+    pub pipeline: u64,
+    /// The tags that the runner must have.
+    pub tags: Texts,
+    /// The group that no live attempt may hold.
+    pub resource_group: Option<Text>,
 }
 
 /// A variable of a job, as it was fixed when its pipeline was made.
@@ -228,6 +247,22 @@ pub struct Attempt {
     pub pieces: u64,
     /// The size of its trace, in bytes.
     pub size: u64,
+}
+
+/// A resource group of a project that a live attempt holds. It is kept beside the state, which has no such record: which groups are
+/// held follows from the live attempts and their jobs.
+#[derive(Clone, Drop)]
+pub struct Holder {
+    pub project: u64,
+    pub group: Text,
+    /// The attempt, whose job has the group.
+    pub attempt: u64,
+}
+
+/// A pipeline that isn't finished. It is kept beside the state, which has no such record: it follows from the statuses of its jobs.
+#[derive(Clone, Copy, Drop)]
+pub struct Unfinished {
+    pub pipeline: u64,
 }
 
 /// A piece of the trace of an attempt, as its runner sent it.

@@ -35,7 +35,7 @@ pub enum Code {
     M1,
     /// The project doesn't exist, or isn't the token's.
     M2,
-    /// There is no such pipeline, job or variable.
+    /// There is no such pipeline, job, variable or runner.
     M3,
     /// The runner token is unknown.
     M4,
@@ -334,7 +334,9 @@ impl Reply {
 pub enum Swept {
     /// It ended the attempt of this number, as failed for this cause.
     Ended(u64, Cause),
-    /// No lease was over.
+    /// No lease was over, and it cancelled the pipeline of this number, which a newer one made redundant.
+    Cancelled(u64),
+    /// No lease was over, and no pipeline was redundant.
     Nothing,
     /// There was no sweep, for this cause.
     Refused(Code),

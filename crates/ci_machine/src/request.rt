@@ -3,7 +3,7 @@
 ghost use Rattle.std.specs.Prelude.{◌≡◌};
 
 use crate::records::{Cause, RefKind, Source};
-use crate::text::{Bytes, Text};
+use crate::text::{Bytes, Text, Texts};
 use ci_values::items::Items;
 use std::alloc::AllocError;
 
@@ -96,13 +96,33 @@ pub struct JobQuery {
     pub job: u64,
 }
 
+/// A runner to be made.
+#[derive(Clone, Drop)]
+pub struct NewRunner {
+    pub name: Text,
+    /// The project whose jobs it runs; a runner of the instance runs those of every project.
+    pub project: Option<u64>,
+    pub tags: Texts,
+    /// Whether it runs jobs that have no tags.
+    pub untagged: bool,
+}
+
+/// A runner that is to be paused, or to go on.
+#[derive(Clone, Copy, Drop)]
+pub struct RunnerPause {
+    pub runner: u64,
+    pub paused: bool,
+}
+
 /// What the server is asked to do.
 #[derive(Drop)]
 pub enum Request {
     /// A project of this name is to be made.
     AddProject(Text),
-    /// A runner of this name is to be made. It belongs to the instance, has no tags and runs untagged jobs.
-    AddRunner(Text),
+    /// A runner is to be made.
+    AddRunner(NewRunner),
+    /// A runner is to be paused, or to go on.
+    PauseRunner(RunnerPause),
     /// A project's file is to be this text.
     SetFile(NewFile),
     /// A variable of a project is to have this value.
@@ -139,7 +159,8 @@ impl Clone for Request {
     fn clone(&self) -> Result<Request, AllocError> {
         Ok(match self {
             Request::AddProject(name) => Request::AddProject(name.clone()?),
-            Request::AddRunner(name) => Request::AddRunner(name.clone()?),
+            Request::AddRunner(new) => Request::AddRunner(new.clone()?),
+            Request::PauseRunner(pause) => Request::PauseRunner(*pause),
             Request::SetFile(new) => Request::SetFile(new.clone()?),
             Request::SetVariable(new) => Request::SetVariable(new.clone()?),
             Request::DeleteVariable(query) => Request::DeleteVariable(query.clone()?),
@@ -158,7 +179,7 @@ impl Clone for Request {
     }
 }
 
-/// What happens to the machine: a request, or a sweep, which ends one lease that is over.
+/// What happens to the machine: a request, or a sweep, which ends one lease that is over, or else cancels one redundant pipeline.
 #[derive(Drop)]
 pub enum Event {
     Request(Request),

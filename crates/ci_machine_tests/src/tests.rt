@@ -1,12 +1,15 @@
 //! Each public call of the machine on its happy path, with what it answers worked out by hand.
 
+use ci_board::facts::Status;
 use ci_machine::change::{Counter, Delta, RowChange};
-use ci_machine::choose::{choose, may_run};
+use ci_machine::choose::{choose, is_eligible, is_free, may_run, resource_free};
 use ci_machine::lease::{Lease, accept_piece, cause, due, finish, is_over, renew};
 use ci_machine::moment::Moment;
 use ci_machine::records::{
-    Attempt, AttemptState, Cause, Job, JobOptions, QueuedJob, Runner, Source,
+    Attempt, AttemptState, Cause, Holder, Job, JobOptions, Pipeline, PipelineWithStatus, QueuedJob,
+    RefKind, Runner, Source,
 };
+use ci_machine::redundant::{is_bound_to, is_newer_of, is_redundant, is_unfinished, redundant};
 use ci_machine::reply::{Body, Code, Detail, FaultCode, HttpStatus, Reply};
 use ci_machine::text::{Bytes, Text, Texts};
 use std::alloc::{AllocError, Global};
@@ -197,7 +200,7 @@ fn choices(rt: HostRuntime) -> Result<(), Fail> {
     let queue = queue(alloc)?;
     for (project, paused, number) in RUNNERS {
         let runner = runner(alloc, *project, *paused)?;
-        let found = match choose(queue.as_slice(), &runner) {
+        let found = match choose(queue.as_slice(), &[], &runner) {
             Some(queued) => queued.job.id,
             None => 0,
         };
@@ -215,7 +218,141 @@ fn who_may_run_it(rt: HostRuntime) -> Result<(), Fail> {
     let queued = queued(alloc, 5, 2)?;
     for ((project, paused, _), given) in RUNNERS.iter().zip(GIVEN) {
         let runner = runner(alloc, *project, *paused)?;
-        assert!(rt; may_run(&runner, &queued) == *given);
+        assert!(rt; may_run(&runner, queued.project, &[]) == *given);
+        assert!(rt; is_eligible(&queued, &[], &runner) == *given);
+    }
+    Ok(())
+}
+
+fn texts(alloc: Global, words: &[&'static str]) -> Result<Vec<Text>, AllocError> {
+    let mut texts = Vec::new(alloc);
+    for word in words {
+        texts.push(text(alloc, word)?)?;
+    }
+    Ok(texts)
+}
+
+/// The tags of a job, those of a runner, whether the runner runs untagged jobs, and whether it may be given the job.
+const TAGS: &[(&[&'static str], &[&'static str], bool, bool)] = &[
+    (&["linux", "arm"], &["linux"], true, false),
+    (&["linux", "arm"], &["arm", "linux", "x"], false, true),
+    (&["linux"], &[], true, false),
+    (&[], &["arm"], false, false),
+    (&[], &["arm"], true, true),
+];
+
+#[test]
+fn who_has_the_tags(rt: HostRuntime) -> Result<(), Fail> {
+    let alloc = rt.alloc();
+    for (asked, own, untagged, given) in TAGS {
+        let mut runner = runner(alloc, None, false)?;
+        runner.tags = Texts::new(texts(alloc, own)?);
+        runner.untagged = *untagged;
+        let tags = texts(alloc, asked)?;
+        assert!(rt; may_run(&runner, 1, tags.as_slice()) == *given);
+    }
+    Ok(())
+}
+
+/// The project and the resource group of a job, and whether it is free while an attempt holds `prod` of project 1.
+const GROUPS: &[(u64, Option<&'static str>, bool)] = &[
+    (1, Some("prod"), false),
+    (1, Some("test"), true),
+    (2, Some("prod"), true),
+    (1, None, true),
+];
+
+#[test]
+fn which_group_is_free(rt: HostRuntime) -> Result<(), Fail> {
+    let alloc = rt.alloc();
+    let runner = runner(alloc, None, false)?;
+    let group = text(alloc, "prod")?;
+    let holders = &[Holder {
+        project: 1,
+        group,
+        attempt: 7,
+    }];
+    for (project, group, free) in GROUPS {
+        let mut queued = queued(alloc, 3, *project)?;
+        queued.job.options.resource_group = match group {
+            Some(group) => Some(text(alloc, group)?),
+            None => None,
+        };
+        let group = &queued.job.options.resource_group;
+        assert!(rt; is_free(holders, *project, group) == *free);
+        assert!(rt; resource_free(&queued, holders) == *free);
+        assert!(rt; is_eligible(&queued, holders, &runner) == *free);
+    }
+    Ok(())
+}
+
+fn pipeline(alloc: Global, id: u64, git_ref: &str, kind: RefKind) -> Result<Pipeline, Fail> {
+    Ok(Pipeline {
+        id,
+        project: 1,
+        git_ref: text(alloc, git_ref)?,
+        kind,
+        source: Source::Api,
+        created: at(1000)?,
+    })
+}
+
+/// A pipeline's number, its ref, whether that is a branch or a tag, its status, and whether it is redundant among the others.
+const PIPELINES: &[(u64, &'static str, RefKind, Status, bool)] = &[
+    (1, "main", RefKind::Tag, Status::Pending, false),
+    (2, "main", RefKind::Branch, Status::Success, false),
+    (3, "main", RefKind::Branch, Status::Running, true),
+    (4, "main", RefKind::Branch, Status::Manual, true),
+    (5, "main", RefKind::Branch, Status::Pending, false),
+    (6, "next", RefKind::Branch, Status::Pending, false),
+];
+
+#[test]
+fn which_pipeline_is_redundant(rt: HostRuntime) -> Result<(), Fail> {
+    let alloc = rt.alloc();
+    let mut all = Vec::new(alloc);
+    for (id, git_ref, kind, status, _) in PIPELINES {
+        all.push(PipelineWithStatus {
+            pipeline: pipeline(alloc, *id, git_ref, *kind)?,
+            status: *status,
+        })?;
+    }
+    for (one, (id, _, _, _, redundant)) in all.iter().zip(PIPELINES) {
+        assert!(rt;
+            is_redundant(one, all.as_slice(), &[]) == *redundant,
+            "{id}"
+        );
+    }
+    let found = redundant(all.as_slice(), &[]).ok_or("none")?;
+    assert!(rt; found.pipeline.id == 3);
+    Ok(())
+}
+
+/// Whether the job of a pipeline that was tried is interruptible, and the number of the redundant pipeline of the two of a ref, or 0.
+const TRIED: &[(bool, u64)] = &[(true, 1), (false, 0)];
+
+#[test]
+fn what_was_tried_keeps_a_pipeline(rt: HostRuntime) -> Result<(), Fail> {
+    let alloc = rt.alloc();
+    let mut all = Vec::new(alloc);
+    for id in 1..3 {
+        let pipeline = pipeline(alloc, id, "main", RefKind::Branch)?;
+        let status = Status::Running;
+        all.push(PipelineWithStatus { pipeline, status })?;
+    }
+    let older = pipeline(alloc, 1, "main", RefKind::Branch)?;
+    let newer = pipeline(alloc, 2, "main", RefKind::Branch)?;
+    assert!(rt; is_newer_of(&older, &newer) && !is_newer_of(&newer, &older));
+    assert!(rt; is_unfinished(Status::Manual) && !is_unfinished(Status::Skipped));
+    for (interruptible, number) in TRIED {
+        let mut job = queued(alloc, 3, 1)?.job;
+        job.options.interruptible = *interruptible;
+        assert!(rt; is_bound_to(&older, &job) != *interruptible);
+        let found = match redundant(all.as_slice(), &[job]) {
+            Some(one) => one.pipeline.id,
+            None => 0,
+        };
+        assert!(rt; found == *number);
     }
     Ok(())
 }

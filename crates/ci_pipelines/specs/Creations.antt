@@ -12,6 +12,7 @@ use Rattle.ci_layout.specs.View.{given_view}
 use Rattle.ci_layout.specs.declared.planning.PipelinePlan.{PipelinePlan}
 use Rattle.ci_layout.specs.declared.fault.PlanFault.{PlanFault}
 use Rattle.ci_layout.specs.declared.fault.PlanFault.TheVariants as plan
+use Rattle.ci_machine.specs.declared.records.Holder.{Holder}
 use Rattle.ci_machine.specs.declared.records.Need.{Need}
 use Rattle.ci_machine.specs.declared.records.Variable.{Variable}
 use Rattle.ci_machine.specs.declared.request.NewPipeline.{NewPipeline}
@@ -62,9 +63,9 @@ abbrev pub plan_fault : PlanFault → FileFault
 plan_fault plan.Memory = Memory
 plan_fault (plan.Fault code) = Fault (graph_fault code)
 
--- the body that shows the pipeline, of whose jobs none was tried, with these rows
-abbrev pub created_text : Creation → List Row → List ℕ
-created_text c rows = compact_text (pipeline_data c.pipeline c.jobs.items (replicate (length c.jobs.items) no_facts) rows)
+-- the body that shows the pipeline, of whose jobs none was tried, with these rows, where these resource groups are held
+abbrev pub created_text : Creation → List Holder → List Row → List ℕ
+created_text c holders rows = compact_text (pipeline_data c.pipeline holders c.jobs.items (replicate (length c.jobs.items) no_facts) rows)
 
 -- the records of what a file lays out
 abbrev pub creation_of : Origin → Layout → pipelines.Creation

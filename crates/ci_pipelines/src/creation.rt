@@ -7,6 +7,7 @@ ghost use Rattle.ci_board.specs.Rows.{no_facts};
 ghost use Rattle.ci_graph.specs.Pairs.{AreWithin};
 ghost use Rattle.ci_layout.specs.Plans.{plan_view};
 ghost use Rattle.ci_layout.specs.View.{given_view, included_view};
+ghost use Rattle.ci_machine.specs.Bodies.{status_of_jobs};
 ghost use Rattle.ci_machine.specs.State.{put, need_cmp};
 ghost use Rattle.ci_machine.specs.Pipelines as pipelines;
 ghost use Rattle.ci_machine.specs.declared.change.RowChange.TheVariants as change;
@@ -15,15 +16,17 @@ ghost use Rattle.ci_pipelines.specs.Creations.{creation_view, layout_view, need_
 
 use crate::layers::all_variables;
 use crate::layouts::Start;
-use ci_board::facts::{Facts, Row};
+use ci_board::facts::{Facts, Row, Status};
+use ci_bodies::body;
 use ci_config::Config;
 use ci_layout::{Given, IncludedJob, PipelinePlan};
 use ci_machine::change::{Counter, Delta, Record, RowChange};
 use ci_machine::limits::DEFAULT_TIMEOUT_SECONDS;
-use ci_machine::records::{BoardRow, Job, JobOptions, JobVariable, MAX_NUMBER, Need, Pipeline};
+use ci_machine::records::{
+    BoardRow, Holder, Job, JobOptions, JobVariable, MAX_NUMBER, Need, Pipeline,
+};
 use ci_machine::reply::Reply;
 use ci_machine::text::{Text, Texts};
-use ci_plans::body;
 use ci_plans::replies::created;
 use std::alloc::{AllocError, Global};
 use std::collections::BTreeSet;
@@ -294,10 +297,22 @@ fn bare_rows(alloc: Global, rows: &[BoardRow]) -> Result<Vec<Row>, AllocError>
 }
 
 impl Creation {
-    /// The body that shows the pipeline with its jobs, of which none was tried, and which have these rows.
-    fn text(&self, alloc: Global, rows: &[BoardRow]) -> Result<Text, AllocError>
+    /// The status of the pipeline, of whose jobs none was tried, and which have these rows. Errors: memory was refused.
+    pub fn status(&self, alloc: Global, rows: &[BoardRow]) -> Result<Status, AllocError>
         requires { length rows.now ≡ length self.now.jobs.items }
-        ensures { IfOk result (λ t. t ≡ created_text self.now (map (λ r. r.row) rows.now)) }
+        ensures { IfOk result (λ status. status ≡ status_of_jobs self.now.jobs.items (replicate (length self.now.jobs.items) no_facts) (map (λ r. r.row) rows.now)) }
+    {
+        let facts = first_facts(alloc, self.jobs.len())?;
+        let rows = bare_rows(alloc, rows)?;
+        let jobs = self.jobs.as_slice();
+        body::status_of(alloc, jobs, facts.as_slice(), rows.as_slice())
+    }
+
+    /// The body that shows the pipeline with its jobs, of which none was tried, and which have these rows, where these resource groups
+    /// are held.
+    fn text(&self, alloc: Global, holders: &[Holder], rows: &[BoardRow]) -> Result<Text, AllocError>
+        requires { length rows.now ≡ length self.now.jobs.items }
+        ensures { IfOk result (λ t. t ≡ created_text self.now holders.now (map (λ r. r.row) rows.now)) }
     {
         let facts = first_facts(alloc, self.jobs.len())?;
         let rows = bare_rows(alloc, rows)?;
@@ -305,6 +320,7 @@ impl Creation {
         body::pipeline(
             alloc,
             &self.pipeline,
+            holders,
             jobs,
             facts.as_slice(),
             rows.as_slice(),
@@ -335,19 +351,21 @@ impl Creation {
         Ok(Delta::new(changes))
     }
 
-    /// The pipeline is made, and shown with the statuses of its jobs, which have these rows (201). Its first job has this number.
+    /// The pipeline is made, and shown with the statuses of its jobs, which have these rows (201). Its first job has this number. The holders
+    /// are at least those of its jobs' resource groups.
     pub fn into_plan(
         self,
         alloc: Global,
         first_job: u64,
+        holders: &[Holder],
         rows: &[BoardRow],
     ) -> Result<(Reply, Delta), AllocError>
         requires rows { length rows.now ≡ length self.jobs.items }
         requires pipeline { self.pipeline.id ≤ MAX_NUMBER }
         requires jobs { first_job + length self.jobs.items ≤ MAX_NUMBER + 1 }
-        ensures { IfOk result (λ plan. plan ≡ pipelines.pipeline_created first_job (creation_view self) (map (λ r. r.row) rows.now)) }
+        ensures { IfOk result (λ plan. plan ≡ pipelines.pipeline_created first_job (creation_view self) holders.now (map (λ r. r.row) rows.now)) }
     {
-        let text = self.text(alloc, rows)?;
+        let text = self.text(alloc, holders, rows)?;
         let changes = self.into_changes(alloc, first_job)?;
         Ok(created(text, changes))
     }

@@ -7,13 +7,13 @@ ghost use Rattle.ci_config.specs.FaultView.{code_view};
 ghost use Rattle.ci_machine.specs.Files as files;
 ghost use Rattle.ci_pipelines.specs.Readings.{yaml_fault, Shows, Counts, CountsTree};
 
+use ci_bodies::body;
 use ci_config::{ConfigCode, ConfigFault, config};
 use ci_expr::ExprCode;
 use ci_machine::change::{Delta, Record, RowChange};
 use ci_machine::records::Project;
 use ci_machine::reply::{Body, Detail, FaultCode, Reply};
 use ci_machine::text::Text;
-use ci_plans::body;
 use ci_plans::replies::{faulted, fine, only};
 use ci_yaml::{Code as LineCode, Tree, YamlFault, read};
 use std::alloc::{AllocError, Global};

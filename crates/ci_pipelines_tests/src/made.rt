@@ -113,7 +113,7 @@ fn creation_text(
     assert!(rt; count <= 100);
     assert!(rt; first <= 1_000);
     assert!(rt; made.pipeline.id <= 1_000);
-    let (reply, changes) = made.into_plan(alloc, first, rows.as_slice())?;
+    let (reply, changes) = made.into_plan(alloc, first, &[], rows.as_slice())?;
     plan_text(alloc, reply.body(), changes, name)
 }
 

@@ -10,48 +10,52 @@ ghost use Rattle.ci_machine.specs.Shows as shows;
 use crate::shows::{job_reply, pipeline_reply};
 use ci_board::facts::{Facts, Row, Status};
 use ci_machine::change::{Delta, Record, RowChange};
-use ci_machine::records::{Attempt, AttemptState, Job, Pipeline};
+use ci_machine::records::{Attempt, AttemptState, Holder, Job, Pipeline};
 use ci_machine::reply::Reply;
 use std::alloc::{AllocError, Global};
 use std::slice;
 
-/// The job, whose status permits it, is cancelled, and its lease with it. The reply (200) shows it with its status after that. The
-/// attempts are at least those of the job.
+/// The job of a project, whose status permits it, is cancelled, and its lease with it. The reply (200) shows it with its status after that.
+/// The attempts are at least those of the job, and the holders, as they are after that, at least those of its resource group.
 pub fn cancel_job(
     alloc: Global,
     attempts: &[Attempt],
+    holders: &[Holder],
+    project: u64,
     job: &Job,
     after: Status,
 ) -> Result<(Reply, Delta), AllocError>
-    ensures { IfOk result (λ plan. plan ≡ ((shows.job_shown job.now after).0, cancels.cancel attempts.now (job.now ∷ []))) }
+    ensures { IfOk result (λ plan. plan ≡ ((shows.job_shown holders.now project job.now after).0, cancels.cancel attempts.now (job.now ∷ []))) }
 {
-    let reply = job_reply(alloc, job, after)?;
+    let reply = job_reply(alloc, holders, project, job, after)?;
     let changes = cancel(alloc, attempts, slice::from_ref(job))?;
     Ok((reply, changes))
 }
 
 /// These jobs of the pipeline, whose statuses permit it, are cancelled all at once, and their leases with them. The reply (200) shows the
-/// pipeline with all its jobs, which have these facts and rows after that. The attempts are at least those of these jobs.
+/// pipeline with all its jobs, which have these facts and rows after that. The attempts are at least those of these jobs, and the holders,
+/// as they are after that, at least those of all jobs' resource groups.
 pub fn cancel_jobs(
     alloc: Global,
     attempts: &[Attempt],
     cancelled: &[Job],
     pipeline: &Pipeline,
+    holders: &[Holder],
     jobs: &[Job],
     facts: &[Facts],
     rows: &[Row],
 ) -> Result<(Reply, Delta), AllocError>
     requires facts { length facts.now ≡ length jobs.now }
     requires rows { length rows.now ≡ length jobs.now }
-    ensures { IfOk result (λ plan. plan ≡ ((shows.pipeline_shown pipeline.now jobs.now facts.now rows.now).0, cancels.cancel attempts.now cancelled.now)) }
+    ensures { IfOk result (λ plan. plan ≡ ((shows.pipeline_shown pipeline.now holders.now jobs.now facts.now rows.now).0, cancels.cancel attempts.now cancelled.now)) }
 {
-    let reply = pipeline_reply(alloc, pipeline, jobs, facts, rows)?;
+    let reply = pipeline_reply(alloc, pipeline, holders, jobs, facts, rows)?;
     let changes = cancel(alloc, attempts, cancelled)?;
     Ok((reply, changes))
 }
 
 /// Each of the jobs is marked as cancelled, and each lease on one of them, of these attempts, ends as cancelled.
-fn cancel(alloc: Global, attempts: &[Attempt], jobs: &[Job]) -> Result<Delta, AllocError>
+pub(crate) fn cancel(alloc: Global, attempts: &[Attempt], jobs: &[Job]) -> Result<Delta, AllocError>
     ensures { IfOk result (λ changes. changes ≡ cancels.cancel attempts.now jobs.now) }
 {
     let marks = marks(alloc, jobs)?;

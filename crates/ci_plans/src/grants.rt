@@ -4,8 +4,8 @@
 ghost use Rattle.std.specs.Prelude.{◌≡◌, IfOk};
 ghost use Rattle.ci_machine.specs.Grants as grants;
 
-use crate::body;
 use crate::replies::{made, refused, token, unchanged};
+use ci_bodies::body;
 use ci_machine::change::{Counter, Delta, Record};
 use ci_machine::moment::Moment;
 use ci_machine::records::{Attempt, AttemptState, JobVariable, MAX_NUMBER, QueuedJob, Runner};

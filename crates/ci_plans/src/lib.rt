@@ -2,10 +2,8 @@
 //! whole body, and the row changes that a commit makes.
 #![tactic(auto)]
 
-pub mod body;
 pub mod cancels;
 pub mod grants;
-mod object;
 pub mod plays;
 pub mod projects;
 pub mod replies;

@@ -9,7 +9,7 @@ ghost use Rattle.ci_machine.specs.Bodies.{created_data};
 ghost use Rattle.ci_machine.specs.Plans as plans;
 ghost use Rattle.ci_plans.specs.Refusals as refusals;
 
-use crate::body;
+use ci_bodies::body;
 use ci_machine::change::{Counter, Delta, Record, RowChange};
 use ci_machine::records::{Attempt, MAX_NUMBER};
 use ci_machine::reply::{Body, Code, Detail, FaultCode, HttpStatus, Reply};

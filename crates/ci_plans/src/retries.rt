@@ -8,7 +8,7 @@ use crate::replies::only;
 use crate::shows::job_reply;
 use ci_board::facts::Status;
 use ci_machine::change::{Delta, Record, RowChange};
-use ci_machine::records::{Attempt, Job};
+use ci_machine::records::{Attempt, Holder, Job};
 use ci_machine::reply::Reply;
 use std::alloc::{AllocError, Global};
 
@@ -25,17 +25,20 @@ fn attempts_of(attempts: &[Attempt], job: u64) -> u64
     count_of(attempts, job) as u64
 }
 
-/// Of the job, whose status permits it, all attempts are set aside, and it isn't marked as cancelled any more. The reply (200) shows
-/// it with its status after that. The attempts are at least those of the job.
+/// Of the job of a project, whose status permits it, all attempts are set aside, and it isn't marked as cancelled any more. The reply (200)
+/// shows it with its status after that. The attempts are at least those of the job, and the holders, as they are after that, at least those
+/// of its resource group.
 pub fn retry(
     alloc: Global,
     attempts: &[Attempt],
+    holders: &[Holder],
+    project: u64,
     job: &Job,
     after: Status,
 ) -> Result<(Reply, Delta), AllocError>
-    ensures { IfOk result (λ plan. plan ≡ ((job_shown job.now after).0, retries.retry (filter (λ a. a.job == job.now.id) attempts.now) job.now)) }
+    ensures { IfOk result (λ plan. plan ≡ ((job_shown holders.now project job.now after).0, retries.retry (filter (λ a. a.job == job.now.id) attempts.now) job.now)) }
 {
-    let reply = job_reply(alloc, job, after)?;
+    let reply = job_reply(alloc, holders, project, job, after)?;
     let count = attempts_of(attempts, job.id);
     let mut job = job.clone()?;
     job.set_aside = count;

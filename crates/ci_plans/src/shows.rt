@@ -5,11 +5,11 @@ ghost use Rattle.std.specs.Option.{option_copied};
 ghost use Rattle.std.specs.Result.{result_map_both};
 ghost use Rattle.ci_machine.specs.Shows as shows;
 
-use crate::body;
 use crate::replies::{fine, unchanged};
 use ci_board::facts::{Facts, Row, Status};
+use ci_bodies::body;
 use ci_machine::change::Delta;
-use ci_machine::records::{Job, Piece, Pipeline, Project};
+use ci_machine::records::{Holder, Job, Piece, Pipeline, Project};
 use ci_machine::reply::{Body, Code, Reply};
 use ci_machine::request::JobQuery;
 use ci_machine::text::Bytes;
@@ -48,19 +48,31 @@ pub fn asked_job<'a>(
     }
 }
 
-/// The job that `asked_job` gives is shown with its status (200).
-pub fn job_shown(alloc: Global, job: &Job, status: Status) -> Result<(Reply, Delta), AllocError>
-    ensures { IfOk result (λ plan. plan ≡ shows.job_shown job.now status) }
+/// The job of a project that `asked_job` gives is shown with its status (200). The holders are at least those of its resource group.
+pub fn job_shown(
+    alloc: Global,
+    holders: &[Holder],
+    project: u64,
+    job: &Job,
+    status: Status,
+) -> Result<(Reply, Delta), AllocError>
+    ensures { IfOk result (λ plan. plan ≡ shows.job_shown holders.now project job.now status) }
 {
-    let reply = job_reply(alloc, job, status)?;
+    let reply = job_reply(alloc, holders, project, job, status)?;
     Ok(unchanged(alloc, reply))
 }
 
-/// The reply (200) that shows a job with its status.
-pub(crate) fn job_reply(alloc: Global, job: &Job, status: Status) -> Result<Reply, AllocError>
-    ensures { IfOk result (λ reply. reply ≡ (shows.job_shown job.now status).0) }
+/// The reply (200) that shows a job of a project with its status.
+pub(crate) fn job_reply(
+    alloc: Global,
+    holders: &[Holder],
+    project: u64,
+    job: &Job,
+    status: Status,
+) -> Result<Reply, AllocError>
+    ensures { IfOk result (λ reply. reply ≡ (shows.job_shown holders.now project job.now status).0) }
 {
-    let text = body::job(alloc, status.as_str(), job)?;
+    let text = body::job(alloc, body::printed(holders, project, job, status), job)?;
     Ok(fine(Body::Json(text)))
 }
 
@@ -103,19 +115,21 @@ pub fn asked_pipeline<'a>(
     }
 }
 
-/// The pipeline that `asked_pipeline` gives is shown with its jobs, which have these facts and rows (200).
+/// The pipeline that `asked_pipeline` gives is shown with its jobs, which have these facts and rows (200). The holders are at least those
+/// of the jobs' resource groups.
 pub fn pipeline_shown(
     alloc: Global,
     pipeline: &Pipeline,
+    holders: &[Holder],
     jobs: &[Job],
     facts: &[Facts],
     rows: &[Row],
 ) -> Result<(Reply, Delta), AllocError>
     requires facts { length facts.now ≡ length jobs.now }
     requires rows { length rows.now ≡ length jobs.now }
-    ensures { IfOk result (λ plan. plan ≡ shows.pipeline_shown pipeline.now jobs.now facts.now rows.now) }
+    ensures { IfOk result (λ plan. plan ≡ shows.pipeline_shown pipeline.now holders.now jobs.now facts.now rows.now) }
 {
-    let reply = pipeline_reply(alloc, pipeline, jobs, facts, rows)?;
+    let reply = pipeline_reply(alloc, pipeline, holders, jobs, facts, rows)?;
     Ok(unchanged(alloc, reply))
 }
 
@@ -123,14 +137,15 @@ pub fn pipeline_shown(
 pub(crate) fn pipeline_reply(
     alloc: Global,
     pipeline: &Pipeline,
+    holders: &[Holder],
     jobs: &[Job],
     facts: &[Facts],
     rows: &[Row],
 ) -> Result<Reply, AllocError>
     requires facts { length facts.now ≡ length jobs.now }
     requires rows { length rows.now ≡ length jobs.now }
-    ensures { IfOk result (λ reply. reply ≡ (shows.pipeline_shown pipeline.now jobs.now facts.now rows.now).0) }
+    ensures { IfOk result (λ reply. reply ≡ (shows.pipeline_shown pipeline.now holders.now jobs.now facts.now rows.now).0) }
 {
-    let text = body::pipeline(alloc, pipeline, jobs, facts, rows)?;
+    let text = body::pipeline(alloc, pipeline, holders, jobs, facts, rows)?;
     Ok(fine(Body::Json(text)))
 }

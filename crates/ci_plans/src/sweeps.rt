@@ -1,26 +1,44 @@
-//! A sweep: one lease that is over ends.
+//! A sweep: one lease that is over ends; where there is none, one redundant pipeline is cancelled.
 
-ghost use Rattle.std.specs.Prelude.{◌≡◌, IfOk};
+ghost use Rattle.std.specs.Prelude.{◌≡◌, [], None, IfOk};
 ghost use Rattle.std.specs.Option.{option_copied};
 ghost use Rattle.ci_machine.specs.Sweeps as sweeps;
 
+use crate::cancels::cancel;
 use crate::replies::put;
 use ci_machine::change::Delta;
 use ci_machine::lease::{Lease, cause};
-use ci_machine::records::AttemptState;
+use ci_machine::records::{Attempt, AttemptState, Job, Pipeline};
 use ci_machine::reply::Swept;
 use std::alloc::{AllocError, Global};
 
-/// The lease that is over ends, as failed, if there is one: that which `due` gives of the live attempts.
-pub fn sweep(alloc: Global, due: Option<&Lease>) -> Result<(Swept, Delta), AllocError>
-    ensures { IfOk result (λ plan. plan ≡ sweeps.sweep (option_copied due.entry)) }
+/// The lease that is over ends, as failed: that which `due` gives of the live attempts.
+pub fn end(alloc: Global, lease: &Lease) -> Result<(Swept, Delta), AllocError>
+    ensures { IfOk result (λ plan. plan ≡ sweeps.ends lease.now) }
 {
-    let Some(lease) = due else {
-        return Ok((Swept::Nothing, Delta::new(Vec::new(alloc))));
-    };
     let cause = cause(lease);
     let mut attempt = lease.attempt.clone()?;
     attempt.state = AttemptState::Failed(cause, None);
     let swept = Swept::Ended(attempt.id, cause);
     Ok((swept, put(alloc, attempt)?))
+}
+
+/// No lease is over, and these jobs of the redundant pipeline are cancelled: all that can be. The attempts are at least theirs.
+pub fn cancel_redundant(
+    alloc: Global,
+    pipeline: &Pipeline,
+    attempts: &[Attempt],
+    jobs: &[Job],
+) -> Result<(Swept, Delta), AllocError>
+    ensures { IfOk result (λ plan. plan ≡ sweeps.sweep None (Some pipeline.now) attempts.now jobs.now) }
+{
+    let changes = cancel(alloc, attempts, jobs)?;
+    Ok((Swept::Cancelled(pipeline.id), changes))
+}
+
+/// No lease is over, and no pipeline is redundant.
+pub fn nothing(alloc: Global) -> (Swept, Delta)
+    ensures { result ≡ (Swept.Nothing, []) }
+{
+    (Swept::Nothing, Delta::new(Vec::new(alloc)))
 }

@@ -14,8 +14,9 @@ use Rattle.ci_values.specs.declared.when.When.TheVariants.{OnSuccess, OnFailure,
 use Rattle.ci_values.specs.declared.when.AllowFailure.{AllowFailure}
 use Rattle.ci_values.specs.declared.when.AllowFailure.TheVariants.{No, Yes, ExitCodes}
 use Rattle.ci_machine.specs.declared.records.JobOptions.{JobOptions}
-use Rattle.ci_records.specs.JsonText.{strings, numbers, group_data, allow_data, when_text, cause_text, every_cause, causes_data, tags_data, spec_data}
-use Rattle.ci_records.specs.Reads.{ReadsTags, ReadsSpec, is_text}
+use Rattle.ci_machine.specs.declared.records.Demand.{Demand}
+use Rattle.ci_records.specs.JsonText.{strings, numbers, group_data, allow_data, when_text, cause_text, every_cause, causes_data, list_data, spec_data}
+use Rattle.ci_records.specs.Reads.{ReadsList, ReadsSpec, ReadsDemand, is_text}
 
 pub same_strings : (xs ys : List (List ℕ)) → strings xs ≡ strings ys → xs ≡ ys
 same_strings [] [] h = refl
@@ -112,10 +113,20 @@ named s c ds is =
 pub member_is : (name : List ℕ) (object given found there : Data) → get name object ≡ Some found → object ≡ given → get name given ≡ Some there → found ≡ there
 member_is name object given found there got is has = let e : Some found ≡ Some there = sym got ∙ ap (get name) is ∙ has in cc
 
-pub tags_read : {E : Type 0} (r : Result (List (List ℕ)) E) (text : List ℕ) (v : Data) → read text ≡ Some v → IfOk r (λ ts. v ≡ array (strings ts)) → IfOk r (ReadsTags text)
-tags_read (Ok ts) text v is h = λ others reads. let same : tags_data ts ≡ tags_data others = let a = sym is ∙ reads in cc in let inner : strings ts ≡ strings others = cc in same_strings ts others inner
-tags_read (Err e) text v is h = tt
+pub list_read : {E : Type 0} (r : Result (List (List ℕ)) E) (text : List ℕ) (v : Data) → read text ≡ Some v → IfOk r (λ ts. v ≡ array (strings ts)) → IfOk r (ReadsList text)
+list_read (Ok ts) text v is h = λ others reads. let same : list_data ts ≡ list_data others = let a = sym is ∙ reads in cc in let inner : strings ts ≡ strings others = cc in same_strings ts others inner
+list_read (Err e) text v is h = tt
 
-pub spec_read : {E : Type 0} (r : Result JobOptions E) (text : List ℕ) (v : Data) → read text ≡ Some v → IfOk r (λ spec. (other : JobOptions) → v ≡ spec_data other → spec ≡ other) → IfOk r (ReadsSpec text)
-spec_read (Ok spec) text v is h = λ other reads. let same : v ≡ spec_data other = let a = sym is ∙ reads in cc in h other same
-spec_read (Err e) text v is h = tt
+-- the value of a text that can be read as what these options are written as
+value_is : (text : List ℕ) (v : Data) (other : JobOptions) → read text ≡ Some v → read text ≡ Some (spec_data other) → v ≡ spec_data other
+value_is text v other is reads = let a = sym is ∙ reads in cc
+
+pub spec_read : {E : Type 0} (r : Result JobOptions E) (text : List ℕ) (v : Data) (script : List (List ℕ)) → read text ≡ Some v → IfOk r (λ spec. spec.script ≡ script)
+    → IfOk r (λ spec. (other : JobOptions) → v ≡ spec_data other → spec ≡ record other { script = script }) → IfOk r (ReadsSpec text)
+spec_read (Ok spec) text v script is own h = λ other reads. h other (value_is text v other is reads) ∙ ap (λ (lines : List (List ℕ)). record other { script = lines }) (sym own)
+spec_read (Err e) text v script is own h = tt
+
+pub demand_read : {E : Type 0} (r : Result Demand E) (text : List ℕ) (v : Data) → read text ≡ Some v
+    → IfOk r (λ demand. (other : JobOptions) → v ≡ spec_data other → (demand.tags ≡ other.tags) × (demand.resource_group ≡ other.resource_group)) → IfOk r (ReadsDemand text)
+demand_read (Ok demand) text v is h = λ other reads. h other (value_is text v other is reads)
+demand_read (Err e) text v is h = tt

@@ -5,7 +5,7 @@ mod causes;
 mod lists;
 mod options;
 mod part;
-mod tags;
+mod texts;
 
-pub use options::{read_spec, spec_text};
-pub use tags::{read_tags, tags_text};
+pub use options::{read_demand, read_spec, spec_text};
+pub use texts::{list_text, read_list};

@@ -5,10 +5,8 @@ use Rattle.std.proofs.lemmas.Bool.{false≢true}
 use Rattle.ci_machine.specs.declared.reply.Answer.{Answer}
 use Rattle.ci_machine.specs.declared.change.RowChange.{RowChange}
 use Rattle.ci_machine.specs.declared.request.Event.{Event}
-use Rattle.ci_machine.specs.declared.records.BoardRow.{BoardRow}
 use Rattle.ci_machine.specs.State.{State, applied}
 use Rattle.ci_machine.specs.Kept.{Kept, put_rows, written}
-use Rattle.ci_machine.specs.Statuses.{AreBoard}
 use Rattle.ci_machine.specs.Sound.{IsSound}
 use Rattle.ci_machine.specs.History.{IsReached}
 use Rattle.ci_machine.specs.Step.{Happens, Step}
@@ -17,35 +15,47 @@ use Rattle.ci_tables.specs.declared.fault.StoreFault.TheVariants.{Memory, Broken
 use Rattle.ci_store.specs.Store.{Ends, UnlessBroken}
 use Rattle.ci_server.specs.declared.fail_stop.FailStop.{FailStop}
 use Rattle.ci_machine.specs.Reply.{outcome_of}
-use Rattle.ci_server.specs.Holding.{with_rows, Holds, Leaves}
+use Rattle.ci_events.specs.declared.planned.Beside.{Beside}
+use Rattle.ci_events.specs.Planning.{Settles}
+use Rattle.ci_server.specs.Holding.{IsKeptOf, Holds, Leaves}
 use Rattle.ci_server.specs.Handling.{Call, answer_by, closed_by, Performs, Handled, answered, no_memory, look_failed, commit_failed}
 use Rattle.ci_server.specs.Server.{HandlesBy}
+use Rattle.ci_server.proofs.Keeping.{settled}
 use Rattle.ci_server.proofs.Runs.{AllStep, outcome-M16, outcome-M17}
 
-module _ {T : Type 0} (keeps : T → Kept → Type 0) (leaves : T → Kept → Kept → Type 0) {A : Type 0} (as_answer : A → Answer) (c : Call) (s : State) (board : List BoardRow) (are : AreBoard s board) where
-  -- the changes of the event's plan were committed with its rows, or not
-  pub performed : (a : A) (changes : List RowChange) (rows : List BoardRow) (new : T) (r : Result A StoreFault) → Happens s board c.0 c.1 c.2 (as_answer a) changes
-      → AreBoard (applied changes s) (put_rows rows board) → IfOk r (λ x. x ≡ a)
-      → Ends r (keeps new (written changes rows (with_rows s board))) (keeps new (with_rows s board)) (leaves new (with_rows s board) (written changes rows (with_rows s board)))
-      → Performs (Holds keeps) (Leaves leaves) as_answer c s new r
-  performed a changes rows new (Ok x) does after same held =
-      (applied changes s, step, record { board = put_rows rows board; are_board = after; kept = held })
-    where
-      step : Step s c.0 c.1 c.2 (as_answer x) (applied changes s)
-      step = record { before = board; are_before = are; changes = changes; happens = subst (λ b. Happens s board c.0 c.1 c.2 (as_answer b) changes) (sym same) does; state = refl; after = put_rows rows board; are_after = after }
-  performed a changes rows new (Err Memory) does after same held = record { board = board; are_board = are; kept = held }
-  performed a changes rows new (Err Broken) does after same left = inr (
+module _ {T : Type 0} (keeps : T → Kept → Type 0) (leaves : T → Kept → Kept → Type 0) {A : Type 0} (as_answer : A → Answer) (c : Call) where
+  -- it happens in the state that is kept: its changes were committed with what changes beside them, or not
+  performs : (k : Kept) → IsKeptOf k.state k → (a : A) (changes : List RowChange) (beside : Beside) (new : T) (r : Result A StoreFault) → Happens k.state k.board c.0 c.1 c.2 (as_answer a) changes
+      → Settles k changes beside → IfOk r (λ x. x ≡ a)
+      → Ends r (keeps new (written changes beside.rows.items beside.indexes.items k)) (keeps new k) (leaves new k (written changes beside.rows.items beside.indexes.items k))
+      → Performs (Holds keeps) (Leaves leaves) as_answer c k.state new r
+  performs k of a changes beside new (Ok x) does settles same held = (
+    applied changes k.state,
+    record { before = k.board; are_before = of.are_board; changes = changes; happens = subst (λ b. Happens k.state k.board c.0 c.1 c.2 (as_answer b) changes) (sym same) does; state = refl; after = put_rows beside.rows.items k.board; are_after = settles.board },
+    record { kept = written changes beside.rows.items beside.indexes.items k; is_of = settled k changes beside settles; held = held },
+  )
+  performs k of a changes beside new (Err Memory) does settles same held = record { kept = k; is_of = of; held = held }
+  performs k of a changes beside new (Err Broken) does settles same left = inr (
     as_answer a,
-    applied changes s,
-    record { before = board; are_before = are; changes = changes; happens = does; state = refl; after = put_rows rows board; are_after = after },
-    record { before = board; after = put_rows rows board; are_before = are; are_after = after; left = left },
+    applied changes k.state,
+    record { before = k.board; are_before = of.are_board; changes = changes; happens = does; state = refl; after = put_rows beside.rows.items k.board; are_after = settles.board },
+    record { before = k; after = written changes beside.rows.items beside.indexes.items k; is_before = of; is_after = settled k changes beside settles; left = left },
   )
 
+  -- the changes of the event's plan were committed with what changes beside them, or not
+  pub performed : (s : State) (k : Kept) → IsKeptOf s k → (a : A) (changes : List RowChange) (beside : Beside) (new : T) (r : Result A StoreFault) → Happens k.state k.board c.0 c.1 c.2 (as_answer a) changes
+      → Settles k changes beside → IfOk r (λ x. x ≡ a)
+      → Ends r (keeps new (written changes beside.rows.items beside.indexes.items k)) (keeps new k) (leaves new k (written changes beside.rows.items beside.indexes.items k))
+      → Performs (Holds keeps) (Leaves leaves) as_answer c s new r
+  performed s k of a changes beside new r does settles same ends =
+      subst (λ t. Performs (Holds keeps) (Leaves leaves) as_answer c t new r) of.state
+      (performs k (subst (λ t. IsKeptOf t k) (sym of.state) of) a changes beside new r does settles same ends)
+
   -- the store failed or lacked memory before anything changed
-  pub unplanned : (B : Type 0) (fault : StoreFault) (new : T) → UnlessBroken {A = B} (Err fault) (keeps new (with_rows s board)) → leaves new (with_rows s board) (with_rows s board)
+  pub unplanned : (s : State) (k : Kept) → IsKeptOf s k → (B : Type 0) (fault : StoreFault) (new : T) → UnlessBroken {A = B} (Err fault) (keeps new k) → leaves new k k
       → Performs (Holds keeps) (Leaves leaves) as_answer c s new (Err fault)
-  unplanned B Memory new held left = record { board = board; are_board = are; kept = held }
-  unplanned B Broken new held left = inl (record { before = board; after = board; are_before = are; are_after = are; left = left })
+  unplanned s k of B Memory new held left = record { kept = k; is_of = of; held = held }
+  unplanned s k of B Broken new held left = inl (record { before = k; after = k; is_before = of; is_after = of; left = left })
 
 module _ {T : Type 0} (honest : T → Type 0) (holds : T → State → Type 0) (leaves : T → State → State → Type 0) {A : Type 0} (as_answer : A → Answer) (c : Call) where
   ended : AllStep → (s : State) (new : T) (closed : Bool) (r : Result A StoreFault) (a : Answer) → a ≡ answer_by as_answer c.0 r → closed ≡ closed_by (outcome_of a) false

@@ -1,3 +1,4 @@
+pub mod Keeping
 pub mod Handling
 pub mod Runs
 pub mod LifetimeLemmas

@@ -1,5 +1,5 @@
 -- What stands of each server, by the operations that it came of.
-use Rattle.std.proofs.Common.{◌≡◌, ◌⊎◌, inl, inr, ⊎_elim, Bool, true, false, List, [], ◌∷◌, IsTrue, refl, sym, ap, subst, ◌∙◌, arith}
+use Rattle.std.proofs.Common.{◌≡◌, ◌⊎◌, inl, inr, ⊎_elim, Bool, true, false, List, [], ◌∷◌, IsTrue, refl, sym, ap, subst, ◌∙◌}
 use Rattle.std.proofs.lemmas.Bool.{false≢true}
 use Rattle.sqlite.specs.Tree.{Trees}
 use Rattle.sqlite.specs.Store.{Ghosts}
@@ -10,14 +10,14 @@ use Rattle.ci_machine.specs.State.{State, empty}
 use Rattle.ci_machine.specs.History.{Past, Leads}
 use Rattle.ci_store.specs.Open.{LeavesNoMore}
 use Rattle.ci_machine.specs.Kept.{nothing_kept}
-use Rattle.ci_machine.specs.Statuses.{AreBoard}
-use Rattle.ci_store.specs.Stands.{StandsIn, IsAt, LeavesOnly}
-use Rattle.ci_server.specs.Holding.{with_rows, HoldsIn, LeavesIn, StandsFor}
+use Rattle.ci_store.specs.Stands.{StandsIn, LeavesOnly}
+use Rattle.ci_server.specs.Holding.{HoldsIn, LeavesIn, StandsFor}
 use Rattle.ci_server.specs.declared.fail_stop.FailStop.{FailStop}
 use Rattle.ci_server.specs.Handling.{Call, Handled, closed_by, answered, no_memory, look_failed, commit_failed}
 use Rattle.ci_server.specs.Server.{IsHonest, Handles, HandlesEach, Opens}
 use Rattle.ci_server.specs.Runs.{line, by_outcome}
-use Rattle.ci_server.specs.Lifetime.{Operation, called, opened, unopened, Recovers, ComesOf, called_each, has_failed, HasNewest, IsHistoryOf, IsReachedBy, LosesNoStep}
+use Rattle.ci_server.specs.Lifetime.{Operation, called, opened, unopened, Recovers, ComesOf, called_each, has_failed, HasNewest, IsHistoryOf, IsReachedBy, LosesNoStep, KeepsItsGroups}
+use Rattle.ci_server.proofs.Keeping.{nothing_is_kept, groups_in}
 use Rattle.ci_server.proofs.Runs.{AllLaws, AllStep, outcome-M16, outcome-M17}
 
 -- what a call with this outcome adds
@@ -25,10 +25,6 @@ abbrev IsHistoryBy : Outcome → List Operation → Call → Answer → List Pas
 IsHistoryBy o ops c a h =
     by_outcome o (HasNewest (λ g. IsHistoryOf ops g) c a h) (IsHistoryOf ops h)
     (IsHistoryOf ops h ⊎ ((has_failed ops ≡ false) × (answer : Answer) × HasNewest (λ g. IsHistoryOf ops g) c answer h))
-
--- the empty state has no rows
-no_rows : AreBoard empty []
-no_rows = record { keys = refl; each = λ p. record { counted = λ i below. absurd (omega arith); settled = λ i below. absurd (omega arith) } }
 
 -- ---- the history of the operations and one call more
 
@@ -51,7 +47,7 @@ module _ {S : Type 0} (g : Ghosts S) (settled : (s : S) (db : Trees) → IsTrue 
   -- a server whose tables hold a state that the operations reach
   holding : (ops : List Operation) (server : FailStop (Held S)) (s : State) → IsReachedBy ops s → HoldsIn g s server.store → server.closed ≡ has_failed ops → Stands ops server
   holding ops server s reached at closed =
-      (record { held = λ _. (s, reached, at); left = λ db may. (s, reached, record { board = at.board; are_board = at.are_board; stands = at.kept.left db may }) }, closed)
+      (record { held = λ _. (s, reached, at); left = λ db may. (s, reached, record { kept = at.kept; is_of = at.is_of; stands = at.held.left db may }) }, closed)
 
   -- a server that is closed after a call in which the store failed, or which it refused
   failed : (ops : List Operation) (new : FailStop (Held S)) (c : Call) (a : Answer) → outcome_of a ≡ StoreFailed → new.closed ≡ true
@@ -81,8 +77,8 @@ module _ {S : Type 0} (g : Ghosts S) (settled : (s : S) (db : Trees) → IsTrue 
         s,
         now,
         ⊎_elim
-            (λ x. record { board = left.before; are_board = left.are_before; stands = x })
-            (λ x. record { board = left.after; are_board = left.are_after; stands = x })
+            (λ x. record { kept = left.before; is_of = left.is_before; stands = x })
+            (λ x. record { kept = left.after; is_of = left.is_after; stands = x })
             (left.left db may),
       ))
   called_open ops new c a s none k (commit_failed b t step refuses left is_closed) =
@@ -91,8 +87,8 @@ module _ {S : Type 0} (g : Ghosts S) (settled : (s : S) (db : Trees) → IsTrue 
       let without = without_line ops c a s is k in
       let with_line : IsReachedBy (called c a ∷ ops) t = record { history = line s c b ∷ k.history; is_history = subst (λ o. IsHistoryBy o ops c a (line s c b ∷ k.history)) (sym is) (inr (none, b, newest ops c b s k)); leads = leads; laws = laws _ t leads } in
       failed ops new c a is is_closed (λ db may. ⊎_elim
-      (λ x. (s, without, record { board = left.before; are_board = left.are_before; stands = x }))
-      (λ x. (t, with_line, record { board = left.after; are_board = left.are_after; stands = x }))
+      (λ x. (s, without, record { kept = left.before; is_of = left.is_before; stands = x }))
+      (λ x. (t, with_line, record { kept = left.after; is_of = left.is_after; stands = x }))
       (left.left db may))
 
   called_closed : (ops : List Operation) (old new : FailStop (Held S)) (c : Call) (a : Answer) → Stands ops old → old.closed ≡ true → outcome_of a ≡ StoreFailed → new ≡ old
@@ -113,10 +109,10 @@ module _ {S : Type 0} (g : Ghosts S) (settled : (s : S) (db : Trees) → IsTrue 
       → Stands (opened ∷ ops) new
   opened_again ops old new conn earlier recovers opens honest =
       let was = earlier.0.left (state g conn).committed.trees recovers.left in
-      let kept = with_rows was.0 was.2.board in
+      let kept = was.2.kept in
       let only : LeavesOnly g kept conn = λ db may. subst (StandsIn kept) (sym (settled conn.store db recovers.is_open may)) was.2.stands in
       let now : IsReachedBy (opened ∷ ops) was.0 = record { history = was.1.history; is_history = was.1.is_history; leads = was.1.leads; laws = was.1.laws } in
-      holding (opened ∷ ops) new was.0 now (record { board = was.2.board; are_board = was.2.are_board; kept = opens.opened honest kept only }) opens.is_open
+      holding (opened ∷ ops) new was.0 now (opens.holds honest was.0 kept was.2.is_of only) opens.is_open
 
   -- what an opening leaves that failed
   not_opened : (ops : List Operation) (old new : FailStop (Held S)) (conn : Held S) → Stands ops old → Recovers g old.store conn → LeavesNoMore g conn new.store → new.closed ≡ true
@@ -131,16 +127,12 @@ module _ {S : Type 0} (g : Ghosts S) (settled : (s : S) (db : Trees) → IsTrue 
         shut,
       )
 
-  -- tables that keep nothing hold the empty state
-  blank : {h : Held S} → IsAt g nothing_kept h → HoldsIn g empty h
-  blank at = record { board = []; are_board = no_rows; kept = at }
-
   pub stands : (ops : List Operation) (server : FailStop (Held S)) → ComesOf g ops server → IsHonest g server.store → Stands ops server
   stands [] server came honest =
       let now : IsReachedBy [] empty = record { history = []; is_history = refl; leads = refl; laws = laws [] empty refl } in
       ⊎_elim
-      (λ made. holding [] server empty now (blank (made.made honest made.was_blank)) made.is_open)
-      (λ found. holding [] server empty now (blank (found.1.opened honest nothing_kept found.0)) found.1.is_open)
+      (λ made. holding [] server empty now (made.holds honest) made.is_open)
+      (λ found. holding [] server empty now (found.1.holds honest empty nothing_kept nothing_is_kept found.0) found.1.is_open)
       came.1
   stands (called c a ∷ before) server came honest =
       called_once before came.0 server c a came.0.closed refl (stands before came.0 came.1 (came.2.was_honest honest)) came.2 honest
@@ -148,6 +140,10 @@ module _ {S : Type 0} (g : Ghosts S) (settled : (s : S) (db : Trees) → IsTrue 
       opened_again before came.0 server came.1 (stands before came.0 came.2 came.3) came.4 came.5 honest
   stands (unopened ∷ before) server came honest =
       not_opened before came.0 server came.1 (stands before came.0 came.2 came.3) came.4 came.5 came.6 honest
+
+  -- where no step is lost, no group is
+  pub keeps_groups : (ops : List Operation) (server : FailStop (Held S)) → LosesNoStep g ops server → KeepsItsGroups g ops server
+  keeps_groups ops server kept = λ db may. let was = kept.left db may in (was.0, was.1, was.2, groups_in was.0 db was.2)
 
   -- calls one after the other are operations one after the other
   pub comes_of_each : (ops : List Operation) (old new : FailStop (Held S)) (cs : List Call) (rs : List Answer) → ComesOf g ops old → HandlesEach g old cs rs new

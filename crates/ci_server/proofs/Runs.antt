@@ -261,7 +261,7 @@ pub run_of_each : {S : Type 0} (g : Ghosts S) → AllLaws → AllStep → (old n
     → Runs g old cs rs new
 run_of_each {S = S} g laws steps old new cs rs each = λ honest h s leads at.
     run_from (IsHonest g) (λ (t : Held S) u. HoldsIn g u t) (λ (t : Held S) u v. LeavesIn g u v t) laws steps h s old new cs rs
-    (record { before = at.board; after = at.board; are_before = at.are_board; are_after = at.are_board; left = λ db may. inl (at.kept.left db may) })
+    (record { before = at.kept; after = at.kept; is_before = at.is_of; is_after = at.is_of; left = λ db may. inl (at.held.left db may) })
     leads at each honest
 
 pub run_of_one : {S : Type 0} (g : Ghosts S) → AllLaws → AllStep → (old new : FailStop (Held S)) (c : Call) (a : Answer) → Handles g old c new a

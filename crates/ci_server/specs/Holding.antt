@@ -1,43 +1,60 @@
--- What the store of a server holds: a state, and beside it the rows of its jobs' statuses, which are always the state's own.
-use Rattle.std.specs.Prelude.{List}
+-- What the store of a server holds: a state, and beside it what follows from it: the rows of its jobs' statuses, the resource groups that
+-- are held, and the pipelines that aren't finished.
+use Rattle.std.specs.Prelude.{◌≡◌, List, map}
 use Rattle.sqlite.specs.Tree.{Trees}
 use Rattle.sqlite.specs.Store.{Ghosts}
 use Rattle.sqlite.specs.Held.{Held}
-use Rattle.ci_machine.specs.declared.records.BoardRow.{BoardRow}
+use Rattle.ci_machine.specs.declared.records.Holder.{Holder}
 use Rattle.ci_machine.specs.State.{State}
 use Rattle.ci_machine.specs.Kept.{Kept}
 use Rattle.ci_machine.specs.Statuses.{AreBoard}
+use Rattle.ci_machine.specs.Holders.{AreHolders}
+use Rattle.ci_machine.specs.Indexes.{AreIndexes}
+use Rattle.ci_tables.specs.Stands as tables
+use Rattle.ci_store.specs.Schema as table
+use Rattle.ci_store.specs.Rows.{holder_row}
 use Rattle.ci_store.specs.Stands.{StandsIn, IsAt, LeavesEither}
 
-abbrev pub with_rows : State → List BoardRow → Kept
-with_rows s board = record { state = s; board = board }
+-- what is kept is this state, and all that is beside it follows from it
+pub record IsKeptOf (s : State) (k : Kept) : Type 0 where
+  pub state : k.state ≡ s
+  pub are_board : AreBoard s k.board
+  pub are_indexes : AreIndexes k
 
--- the store holds the state, with its rows
+-- the store holds the state, with what follows from it
 pub record Holds {T : Type 0} (keeps : T → Kept → Type 0) (store : T) (s : State) : Type 0 where
-  pub board : List BoardRow
-  pub are_board : AreBoard s board
-  pub kept : keeps store (with_rows s board)
+  pub kept : Kept
+  pub is_of : IsKeptOf s kept
+  pub held : keeps store kept
 
--- a stop leaves one of the two states, each with its rows
+-- a stop leaves one of the two states, each with what follows from it
 pub record Leaves {T : Type 0} (leaves : T → Kept → Kept → Type 0) (store : T) (s t : State) : Type 0 where
-  pub before : List BoardRow
-  pub after : List BoardRow
-  pub are_before : AreBoard s before
-  pub are_after : AreBoard t after
-  pub left : leaves store (with_rows s before) (with_rows t after)
+  pub before : Kept
+  pub after : Kept
+  pub is_before : IsKeptOf s before
+  pub is_after : IsKeptOf t after
+  pub left : leaves store before after
 
 -- ---- over tables
 
--- the tables are open, and hold the state with its rows
+-- the tables are open, and hold the state with what follows from it
 abbrev pub HoldsIn : {S : Type 0} → Ghosts S → State → Held S → Type 0
 HoldsIn g s h = Holds (λ t k. IsAt g k t) h s
 
--- each file that a stop may leave stands for one of the two states, with its rows
+-- each file that a stop may leave stands for one of the two states, with what follows from it
 abbrev pub LeavesIn : {S : Type 0} → Ghosts S → State → State → Held S → Type 0
 LeavesIn g s t h = Leaves (λ u k l. LeavesEither g k l u) h s t
 
--- the file stands for the state: the rows in it are those that are recomputed from its jobs, needs and attempts
+-- The file stands for the state: what is in it beside the state is what follows from the state, the rows of statuses from its jobs, needs
+-- and attempts, the groups that are held from its live attempts, and the pipelines that aren't finished from these rows.
 pub record StandsFor (s : State) (db : Trees) : Type 0 where
-  pub board : List BoardRow
-  pub are_board : AreBoard s board
-  pub stands : StandsIn (with_rows s board) db
+  pub kept : Kept
+  pub is_of : IsKeptOf s kept
+  pub stands : StandsIn kept db
+
+-- The table `holder` of the file has a row for each live attempt whose job has a resource group, once, and no other row; and no two of them
+-- are of the same group of a project.
+pub record KeepsGroups (s : State) (db : Trees) : Type 0 where
+  pub holders : List Holder
+  pub are_holders : AreHolders s holders
+  pub rows : tables.Holds table.holder (map holder_row holders) db

@@ -12,7 +12,7 @@ use Rattle.ci_machine.specs.Laws.{Laws}
 use Rattle.ci_store.specs.Open.{LeavesNoMore}
 use Rattle.ci_store.specs.Stands.{LeavesOnly}
 use Rattle.ci_server.specs.declared.fail_stop.FailStop.{FailStop}
-use Rattle.ci_server.specs.Holding.{HoldsIn, StandsFor}
+use Rattle.ci_server.specs.Holding.{HoldsIn, StandsFor, KeepsGroups}
 use Rattle.ci_server.specs.Handling.{Call, closed_by}
 use Rattle.ci_server.specs.Server.{IsHonest, Handles, Creates, Opens}
 use Rattle.ci_server.specs.Runs.{line, by_outcome}
@@ -81,8 +81,14 @@ pub record IsReachedBy (operations : List Operation) (s : State) : Type 0 where
   pub leads : Leads history s
   pub laws : Laws history s
 
--- No step of the operations is lost: an open server holds a state that they reach, with its rows, and each file that a stop may leave
--- stands for one, its rows being those that are recomputed from it.
+-- No step of the operations is lost: an open server holds a state that they reach, with what follows from it, and each file that a stop may
+-- leave stands for one, what is beside it being what is recomputed from it.
 pub record LosesNoStep {S : Type 0} (g : Ghosts S) (operations : List Operation) (server : FailStop (Held S)) : Type 0 where
   pub held : server.closed ≡ false → (s : State) × IsReachedBy operations s × HoldsIn g s server.store
   pub left : (db : Trees) → (state g server.store).may_leave db → (s : State) × IsReachedBy operations s × StandsFor s db
+
+-- Each file that a stop may leave stands for a state that the operations reach, and its table `holder` has rows for just the live attempts of
+-- that state whose jobs have a resource group.
+abbrev pub KeepsItsGroups : {S : Type 0} → Ghosts S → List Operation → FailStop (Held S) → Type 0
+KeepsItsGroups g operations server =
+    (db : Trees) → (state g server.store).may_leave db → (s : State) × IsReachedBy operations s × StandsFor s db × KeepsGroups s db

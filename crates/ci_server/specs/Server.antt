@@ -8,14 +8,14 @@ use Rattle.sqlite.specs.Store.{Ghosts}
 use Rattle.sqlite.specs.Held.{Held, state}
 use Rattle.ci_machine.specs.declared.reply.Answer.{Answer}
 use Rattle.ci_machine.specs.declared.reply.Code.TheVariants.{M17}
-use Rattle.ci_machine.specs.State.{State}
+use Rattle.ci_machine.specs.State.{State, empty}
 use Rattle.ci_machine.specs.Kept.{Kept, nothing_kept}
 use Rattle.ci_machine.specs.History.{IsReached}
 use Rattle.ci_store.specs.Create.{IsBlank}
 use Rattle.ci_store.specs.Stands.{IsAt, LeavesOnly}
 use Rattle.ci_server.specs.declared.fail_stop.FailStop.{FailStop}
 use Rattle.ci_machine.specs.Reply.{outcome_of}
-use Rattle.ci_server.specs.Holding.{HoldsIn, LeavesIn}
+use Rattle.ci_server.specs.Holding.{IsKeptOf, HoldsIn, LeavesIn}
 use Rattle.ci_server.specs.Handling.{Call, refused, Handled, closed_by}
 
 abbrev pub fail_stop_code : {T : Type 0} → Coded T → Coded (FailStop T)
@@ -64,8 +64,12 @@ pub record Creates {S : Type 0} (g : Ghosts S) (conn : Held S) (new : FailStop (
   pub was_honest : IsHonest g new.store → IsHonest g conn
   pub was_blank : IsBlank g conn
   pub made : IsHonest g new.store → IsBlank g conn → IsAt g nothing_kept new.store
+  -- this is the empty state, with what follows from it
+  pub holds : IsHonest g new.store → HoldsIn g empty new.store
 
 -- the server is new over the tables that this store has, and keeps what each file that a stop may leave stands for
 pub record Opens {S : Type 0} (g : Ghosts S) (conn : Held S) (new : FailStop (Held S)) : Type 0 where
   pub is_open : new.closed ≡ false
   pub opened : IsHonest g new.store → (k : Kept) → LeavesOnly g k conn → IsAt g k new.store
+  -- so it holds the state that this is kept of
+  pub holds : IsHonest g new.store → (s : State) (k : Kept) → IsKeptOf s k → LeavesOnly g k conn → HoldsIn g s new.store

@@ -11,8 +11,9 @@ ghost use Rattle.ci_store.specs.Store.{Ends};
 ghost use Rattle.ci_server.specs.Handling.{Performs};
 ghost use Rattle.ci_server.specs.Holding.{Holds, Leaves};
 
-use ci_events::events::{plan_request, plan_sweep};
-use ci_events::planned::Planned;
+use ci_events::events::plan_request;
+use ci_events::planned::{Beside, Planned};
+use ci_events::sweeps::plan_sweep;
 use ci_machine::moment::Moment;
 use ci_machine::reply::{Reply, Swept};
 use ci_machine::request::{Request, Seed};
@@ -36,7 +37,7 @@ pub(crate) fn handle<T: Store>(
     commit(store, planned)
 }
 
-/// Sweeps: ends one lease that is over, if there is one. Errors: as `handle`.
+/// Sweeps: ends one lease that is over; where there is none, cancels one redundant pipeline, if there is one. Errors: as `handle`.
 pub(crate) fn sweep<T: Store>(
     alloc: Global,
     store: &mut T,
@@ -50,22 +51,23 @@ pub(crate) fn sweep<T: Store>(
     commit(store, planned)
 }
 
-/// Makes the changes of a plan and puts its rows, if there are any, and gives its answer. Errors: the store's.
+/// Makes the changes of a plan, with what changes beside them, if there are any, and gives its answer. Errors: the store's.
 fn commit<T: Store, A: Drop>(store: &mut T, planned: Planned<A>) -> Result<A, StoreFault>
     ensures was_honest { T.honest store.new → T.honest store.old }
     ensures ends { T.honest store.new → (k : Kept) → T.holds store.old k
-        → Ends result (T.holds store.new (written planned.changes planned.rows.items k)) (T.holds store.new k) (T.leaves store.new k (written planned.changes planned.rows.items k)) }
+        → Ends result (T.holds store.new (written planned.changes planned.beside.rows.items planned.beside.indexes.items k)) (T.holds store.new k) (T.leaves store.new k (written planned.changes planned.beside.rows.items planned.beside.indexes.items k)) }
     ensures answer { IfOk result (λ a. a ≡ planned.answer) }
 {
     let Planned {
         answer,
         changes,
-        rows,
+        beside,
     } = planned;
-    if changes.is_empty() && rows.is_empty() {
+    let Beside { rows, indexes } = beside;
+    if changes.is_empty() && rows.is_empty() && indexes.is_empty() {
         let _ = changes.into_vec();
         return Ok(answer);
     }
-    store.commit(changes, rows)?;
+    store.commit(changes, rows, indexes)?;
     Ok(answer)
 }

@@ -48,7 +48,7 @@ impl<T: Store> FailStop<T> {
         reply
     }
 
-    /// Sweeps: ends one lease that is over, if there is one.
+    /// Sweeps: ends one lease that is over; where there is none, cancels one redundant pipeline, if there is one.
     pub(crate) fn sweep(&mut self, alloc: Global, now: Moment) -> Swept
         ensures { (seed : Seed) → HandlesBy T.honest (Holds T.holds) (Leaves T.leaves) self.old (event.Sweep, now, seed) self.new (answer.Swept result) }
     {
@@ -147,7 +147,7 @@ fn is_swept_fault(swept: &Swept) -> bool
 {
     match swept {
         Swept::Refused(code) => is_store_fault(Some(*code)),
-        Swept::Ended(_, _) | Swept::Nothing => false,
+        Swept::Ended(_, _) | Swept::Cancelled(_) | Swept::Nothing => false,
     }
 }
 

@@ -6,7 +6,7 @@ ghost use Rattle.ci_machine.specs.declared.reply.Answer.{Answer};
 ghost use Rattle.ci_server.specs.declared.fail_stop.FailStop.{FailStop};
 ghost use Rattle.ci_server.specs.Handling.{Call};
 ghost use Rattle.ci_server.specs.Server.{IsHonest, HandlesEach};
-ghost use Rattle.ci_server.specs.Lifetime.{Operation, ComesOf, called_each, LosesNoStep};
+ghost use Rattle.ci_server.specs.Lifetime.{Operation, ComesOf, called_each, LosesNoStep, KeepsItsGroups};
 
 use ci_machine::laws::{a_step_is_answered, laws_of_each_reached_state};
 use ci_store::Alter;
@@ -17,9 +17,11 @@ use ci_store::Alter;
 /// (`Server::open`) over what the stop left, where an opening may also fail. While the disk returns what was written: the
 /// history has each step that was answered, and no other but, for each opening, that of the one call in which the store
 /// had failed. An open server holds the state that the history leads to, each file that a stop may leave stands for such a
-/// state, and its laws hold.
+/// state, and its laws hold. In each such file the table `holder` has rows for just the live attempts of jobs with a resource
+/// group; a group of a project has one of these at most.
 pub fn no_step_is_lost<S: Alter>()
     ensures kept { (operations : List Operation) (server : FailStop (Held S)) → ComesOf S.Store operations server → IsHonest S.Store server.store → LosesNoStep S.Store operations server }
+    ensures groups { (operations : List Operation) (server : FailStop (Held S)) → ComesOf S.Store operations server → IsHonest S.Store server.store → KeepsItsGroups S.Store operations server }
     ensures runs { (operations : List Operation) (old new : FailStop (Held S)) (cs : List Call) (rs : List Answer) → ComesOf S.Store operations old → HandlesEach S.Store old cs rs new → ComesOf S.Store (called_each cs rs operations) new }
 {
     laws_of_each_reached_state();

@@ -62,7 +62,8 @@ impl<S: Alter> Server<S> {
         }
     }
 
-    /// A server over the tables that a store has. It holds the state, with its rows, that each file which a stop may leave stands for.
+    /// A server over the tables that a store has. It holds the state, with what follows from it, that each file which a stop may
+    /// leave stands for.
     /// Errors: O1, the store is not of this format; O2, it is of another version; O3, it failed; Memory, memory was refused.
     /// The connection comes back, and a stop leaves of it no more than before.
     pub fn open(conn: Connection<S>) -> Result<Server<S>, (OpenFault, Connection<S>)>
@@ -121,9 +122,10 @@ impl<S: Alter> Server<S> {
         self.inner.handle(alloc, request, moment, seed)
     }
 
-    /// Sweeps at a moment: of the leases that are over it ends the one of the attempt of least number.
+    /// Sweeps at a moment: of the leases that are over it ends the one of the attempt of least number. Where none is over, it
+    /// cancels the redundant pipeline of least number, if there is one.
     ///
-    /// Besides what it ended, or nothing: M16 where memory was refused, and nothing happened; M17 where the store failed in
+    /// Besides what it ended or cancelled, or nothing: M16 where memory was refused, and nothing happened; M17 where the store failed in
     /// this call or an earlier one, and the server is closed exactly from the first M17 on. The call is a run of one, whose
     /// laws hold.
     pub fn sweep(&mut self, alloc: Global, moment: Moment) -> Swept

@@ -212,6 +212,7 @@ module _ (act : Act) (only : Option ℕ) (s : State) (board : List BoardRow) (p 
         jobs = λ other. ap (map (λ i. slice_index_or js i other)) places_are ∙ jobs_are other;
         facts = new_facts ∙ (now before ∙ (replaced_are ∙ (sym (its_facts s act p test sound) ∙ ap (λ (w : State). facts_of w p) (sym (after_is s act p test sound)))));
         rows = act_rows s act p test o.rows.items sound long_there right_here;
+        differing = puts_are;
         board = subst (λ rs. AreBoard (acted_state act only s board p) (put_rows rs board)) (sym puts_are) (act_board s act p test o.rows.items sound long_there right_here board are);
       }
 

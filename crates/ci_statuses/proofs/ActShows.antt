@@ -1,20 +1,23 @@
 -- What a user does to jobs: what its outcome shows.
-use Rattle.std.specs.Prelude.{◌≡◌, ℕ, ◌<◌, Bool, true, List, [], ◌∷◌, length, map, Some, None, slice_index_or}
+use Rattle.std.specs.Prelude.{◌≡◌, ℕ, ◌<◌, Bool, true, List, [], ◌∷◌, length, map, if◌then◌else◌, codes, Some, None, slice_index_or}
 use Rattle.std.proofs.Common.{refl, sym, ap, subst, ◌∙◌, inl}
 use Rattle.std.proofs.lemmas.Bool.{cond-true}
 use Rattle.std.proofs.lemmas.List.{get_or-map, length-map}
 use Rattle.ci_board.specs.declared.facts.Row.{Row}
 use Rattle.ci_board.specs.Rows.{row_at, statuses}
-use Rattle.ci_board.specs.Texts.{status_text}
+use Rattle.ci_board.specs.declared.facts.Status.{Status}
+use Rattle.ci_board.specs.declared.facts.Status.TheVariants as status
 use Rattle.ci_machine.specs.declared.records.Pipeline.{Pipeline}
 use Rattle.ci_machine.specs.declared.records.Job.{Job}
 use Rattle.ci_machine.specs.declared.records.BoardRow.{BoardRow}
+use Rattle.ci_machine.specs.declared.records.Holder.{Holder}
 use Rattle.ci_machine.specs.State.{State}
+use Rattle.ci_machine.specs.Holders.{holders}
+use Rattle.ci_machine.specs.Eligible.{is_free}
 use Rattle.ci_machine.specs.Statuses.{jobs_of, numbers_of, place_in, facts_of, status_for}
 use Rattle.ci_machine.specs.declared.change.RowChange.{RowChange}
 use Rattle.ci_machine.specs.declared.reply.Reply.{Reply}
-use Rattle.ci_machine.specs.Bodies.{job_data, jobs_data}
-use Rattle.ci_machine.specs.Shows.{job_shown, pipeline_shown}
+use Rattle.ci_machine.specs.Bodies.{printed_status, job_data, jobs_data}
 use Rattle.ci_machine.specs.Acts.{ShowsJobAfter, ShowsPipelineAfter}
 use Rattle.ci_machine.proofs.Keyed.{Has, has_from_all}
 use Rattle.ci_machine.proofs.Sound.{Sound}
@@ -22,7 +25,7 @@ use Rattle.ci_machine.proofs.Alike.{shown_alike}
 use Rattle.ci_statuses.specs.declared.act.Act.{Act}
 use Rattle.ci_statuses.specs.declared.act.Act.TheVariants.{Play, Retry, Cancel}
 use Rattle.ci_statuses.specs.declared.outcome.Outcome.{Outcome}
-use Rattle.ci_statuses.specs.Acts.{is_permitted, marked, act_changes, is_acted_on, acted_jobs, acted_state, IsOutcome}
+use Rattle.ci_statuses.specs.Acts.{is_permitted, marked, act_changes, is_acted_on, acted_jobs, acted_state, shows_job_by, shows_pipeline_by, IsOutcome}
 use Rattle.ci_statuses.proofs.Positions.{place_at}
 use Rattle.ci_statuses.proofs.Joint.{numbers_rise}
 use Rattle.ci_statuses.proofs.Puts.{cons_same}
@@ -65,28 +68,55 @@ module _ (act : Act) (s : State) (board : List BoardRow) (job : Job) (o : Outcom
       ∙ (ap (λ (ns : List ℕ). place_in ns job.id) ((within s act p test sound).its_numbers p)
       ∙ (ap (place_in (numbers_of s p)) (sym number) ∙ place_at 0 (numbers_of s p) at.place (numbers_rise s p sound) there))
 
-  pub shows_job : (i : ℕ) × ((o.places.items ≡ i ∷ []) × ShowsJobAfter s job (act_changes act s (job ∷ [])) ((job_shown job (row_at o.rows.items i).status).0, act_changes act s (job ∷ [])))
+  pub shows_job : (i : ℕ) × ((o.places.items ≡ i ∷ []) × ShowsJobAfter s job (act_changes act s (job ∷ [])) (shows_job_by s (act_changes act s (job ∷ [])) job (row_at o.rows.items i).status))
   shows_job = (
     at.place,
     (
       at.only,
-      subst (λ (js : List Job). ShowsJobAfter s job (act_changes act s js) ((job_shown job (row_at o.rows.items at.place).status).0, act_changes act s js)) alone
-          (o.rows.items, outcome.rows, ap (λ n. ((job_shown job (statuses o.rows.items n)).0, act_changes act s (acted_jobs act (Some job.id) s board p))) (sym place_is)),
+      subst (λ (js : List Job). ShowsJobAfter s job (act_changes act s js) (shows_job_by s (act_changes act s js) job (row_at o.rows.items at.place).status)) alone
+          (o.rows.items, outcome.rows, ap (λ n. shows_job_by s (act_changes act s (acted_jobs act (Some job.id) s board p)) job (statuses o.rows.items n)) (sym place_is)),
     ),
   )
 
 -- ---- a pipeline
 
 -- what is shown of a job doesn't change
-marked_shown : (act : Act) (s : State) (status : List ℕ) (j : Job) → job_data status (marked act s j) ≡ job_data status j
-marked_shown Play s status j = refl
-marked_shown Retry s status j = refl
-marked_shown Cancel s status j = refl
+marked_shown : (act : Act) (s : State) (held : List Holder) (project : ℕ) (status : Status) (j : Job) → job_data (printed_status held project (marked act s j) status) (marked act s j) ≡ job_data (printed_status held project j status) j
+marked_shown Play s held project status.Created j = refl
+marked_shown Play s held project status.Pending j = refl
+marked_shown Play s held project status.Running j = refl
+marked_shown Play s held project status.Success j = refl
+marked_shown Play s held project status.Failed j = refl
+marked_shown Play s held project status.Canceled j = refl
+marked_shown Play s held project status.Skipped j = refl
+marked_shown Play s held project status.Manual j = refl
+marked_shown Retry s held project status.Created j = refl
+marked_shown Retry s held project status.Pending j = refl
+marked_shown Retry s held project status.Running j = refl
+marked_shown Retry s held project status.Success j = refl
+marked_shown Retry s held project status.Failed j = refl
+marked_shown Retry s held project status.Canceled j = refl
+marked_shown Retry s held project status.Skipped j = refl
+marked_shown Retry s held project status.Manual j = refl
+marked_shown Cancel s held project status.Created j = refl
+marked_shown Cancel s held project status.Pending j = refl
+marked_shown Cancel s held project status.Running j = refl
+marked_shown Cancel s held project status.Success j = refl
+marked_shown Cancel s held project status.Failed j = refl
+marked_shown Cancel s held project status.Canceled j = refl
+marked_shown Cancel s held project status.Skipped j = refl
+marked_shown Cancel s held project status.Manual j = refl
 
-same_shown : (F : Job → Job) → ((status : List ℕ) (j : Job) → job_data status (F j) ≡ job_data status j) → (js : List Job) (rows : List Row) → jobs_data (map F js) rows ≡ jobs_data js rows
-same_shown F same [] rows = refl
-same_shown F same (j ∷ js) [] = refl
-same_shown F same (j ∷ js) (r ∷ rows) = cons_same (same (status_text r.status) j) (same_shown F same js rows)
+pub marked_group : (act : Act) (s : State) (j : Job) → (marked act s j).options.resource_group ≡ j.options.resource_group
+marked_group Play s j = refl
+marked_group Retry s j = refl
+marked_group Cancel s j = refl
+
+same_shown : (held : List Holder) (project : ℕ) (F : Job → Job) → ((status : Status) (j : Job) → job_data (printed_status held project (F j) status) (F j) ≡ job_data (printed_status held project j status) j) → (js : List Job) (rows : List Row)
+    → jobs_data held project (map F js) rows ≡ jobs_data held project js rows
+same_shown held project F same [] rows = refl
+same_shown held project F same (j ∷ js) [] = refl
+same_shown held project F same (j ∷ js) (r ∷ rows) = cons_same (same r.status j) (same_shown held project F same js rows)
 
 module _ (act : Act) (s : State) (board : List BoardRow) (q : Pipeline) (o : Outcome) (sound : Sound s) (outcome : IsOutcome act None s board q.id o) where
   abbrev wide : Job → Bool
@@ -101,14 +131,17 @@ module _ (act : Act) (s : State) (board : List BoardRow) (q : Pipeline) (o : Out
   new_jobs : jobs_of new q.id ≡ map (of_job s act q.id wide sound) (jobs_of s q.id)
   new_jobs = ap (λ (w : State). jobs_of w q.id) (after_is s act q.id wide sound) ∙ jobs_after s act q.id wide sound q.id
 
-  shown_same : jobs_data (jobs_of new q.id) o.rows.items ≡ jobs_data (jobs_of s q.id) o.rows.items
+  abbrev held : List Holder
+  held = holders new
+
+  shown_same : jobs_data held q.project (jobs_of new q.id) o.rows.items ≡ jobs_data held q.project (jobs_of s q.id) o.rows.items
   shown_same =
-      ap (λ js. jobs_data js o.rows.items) new_jobs
-      ∙ same_shown (of_job s act q.id wide sound) (λ status j. keeps s act q.id wide sound (job_data status) (marked_shown act s status) j) (jobs_of s q.id) o.rows.items
+      ap (λ js. jobs_data held q.project js o.rows.items) new_jobs
+      ∙ same_shown held q.project (of_job s act q.id wide sound) (λ status j. keeps s act q.id wide sound (λ i. job_data (printed_status held q.project i status) i) (marked_shown act s held q.project status) j) (jobs_of s q.id) o.rows.items
 
   parts_same : map (λ (j : Job). j.options.part) (jobs_of new q.id) ≡ map (λ (j : Job). j.options.part) (jobs_of s q.id)
   parts_same = ap (map (λ (j : Job). j.options.part)) new_jobs ∙ all_keep s act q.id wide sound (λ (j : Job). j.options.part) (marked_part act s) (jobs_of s q.id)
 
-  pub shows_pipeline : ShowsPipelineAfter s q changes ((pipeline_shown q (jobs_of s q.id) o.facts.items o.rows.items).0, changes)
+  pub shows_pipeline : ShowsPipelineAfter s q changes (shows_pipeline_by s changes q (jobs_of s q.id) o.facts.items o.rows.items)
   shows_pipeline =
-      (o.rows.items, outcome.rows, ap (λ (r : Reply). (r, changes)) (shown_alike q (jobs_of s q.id) (jobs_of new q.id) o.facts.items (facts_of new q.id) o.rows.items (sym shown_same) (sym parts_same) outcome.facts))
+      (o.rows.items, outcome.rows, ap (λ (r : Reply). (r, changes)) (shown_alike q held held (jobs_of s q.id) (jobs_of new q.id) o.facts.items (facts_of new q.id) o.rows.items (sym shown_same) (sym parts_same) outcome.facts))

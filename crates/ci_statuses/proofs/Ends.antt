@@ -19,6 +19,8 @@ use Rattle.ci_machine.proofs.Keyed.{Has, rising_filter, has_map, has_from_contai
 use Rattle.ci_machine.proofs.Sound.{Sound}
 use Rattle.ci_statuses.specs.Boards.{IsBoardOf, changed_rows}
 use Rattle.ci_statuses.specs.Changes.{IsWithin, HasLive}
+use Rattle.ci_statuses.specs.Ends.{IsSettled}
+use Rattle.ci_statuses.specs.declared.end.Settled.{Settled}
 use Rattle.ci_statuses.proofs.Puts.{map_same}
 use Rattle.ci_statuses.proofs.Positions.{is_there}
 use Rattle.ci_statuses.proofs.Facts.{one_other, ended, ended_other, ended_its}
@@ -59,7 +61,7 @@ module _ (s : State) (board : List BoardRow) (p : ℕ) (sound : Sound s) (are : 
         (λ e. apart s p q x.job sound d (subst (λ n. Has n (numbers_of s p)) at (is_there (numbers_of s p) pos l_numbers))
         (subst (λ n. Has n (numbers_of s q)) (e ∙ live.3) (has_map number i (jobs_of s q) h))))
 
-    within : IsWithin s t p
+    pub within : IsWithin s t p
     within = record { numbers = refl; its_numbers = λ q. refl; graphs = λ q. refl; facts = facts_there }
 
     facts_here : facts_of t p ≡ slice_set (facts_of s p) pos (ended x.state (facts_at (facts_of s p) pos))
@@ -69,17 +71,24 @@ module _ (s : State) (board : List BoardRow) (p : ℕ) (sound : Sound s) (are : 
         (λ i h d. ended_other s t sound.attempts a x there_is (sym live.2) (sym live.3) refl i (λ e. d (e ∙ live.3)))
         (λ i h e. ended_its s t sound.attempts a x there_is (sym live.2) (sym live.3) refl i (λ c m same. sound.is_last a c there_is m live.4 same) (e ∙ sym live.3))
 
-    pub ends : (jobs : List Job) (b : BoardState) (change : FactsChange) (rows : List Row) (puts : List BoardRow) → jobs ≡ jobs_of s p → IsBoardOf s board p b
+    pub ends : (jobs : List Job) (b : BoardState) (change : FactsChange) (facts : List Facts) (v : Settled) → jobs ≡ jobs_of s p → IsBoardOf s board p b
         → change.position ≡ pos → change.facts ≡ record (facts_at b.facts change.position) { last = Some x.state }
-        → length rows ≡ length b.rows → (AreRows b.graph b.facts b.rows → AreRows b.graph (replaced (change ∷ []) b.facts) rows)
-        → puts ≡ changed_rows (map (λ j. j.id) jobs) b.rows rows → AreBoard t (put_rows puts board)
-    ends jobs b change rows puts same is position fresh long right put =
+        → v.facts.items ≡ facts → (AreRows b.graph b.facts b.rows → facts ≡ replaced (change ∷ []) b.facts)
+        → length v.rows.items ≡ length b.rows → (AreRows b.graph b.facts b.rows → AreRows b.graph (replaced (change ∷ []) b.facts) v.rows.items)
+        → v.changed.items ≡ changed_rows (map (λ j. j.id) jobs) b.rows v.rows.items → IsSettled s t board p v
+    ends jobs b change facts v same is position fresh its_facts facts_new long right put =
+        let rows = v.rows.items in
         let long_there : length rows ≡ length (numbers_of s p) = long ∙ (ap length is.its_rows ∙ length-map (numbers_of s p) (row_for board)) in
         let facts_now : replaced (change ∷ []) b.facts ≡ facts_of t p
         = (λ i. slice_set b.facts (position i) (fresh i))
         ∙ ((λ i. slice_set (is.its_facts i) pos (record (facts_at (is.its_facts i) (position i)) { last = Some x.state })) ∙ sym facts_here) in
         let right_now : AreRows (graph_of s p) (facts_of t p) rows
         = subst (λ (f : List Facts). AreRows (graph_of s p) f rows) facts_now (right_there s board p b (replaced (change ∷ []) b.facts) rows is (right (loaded_right s board p b are is))) in
-        let puts_are : puts ≡ changed_rows (numbers_of s p) (rows_of s board p) rows
+        let puts_are : v.changed.items ≡ changed_rows (numbers_of s p) (rows_of s board p) rows
         = put ∙ (λ i. changed_rows (map number (same i)) (is.its_rows i) rows) in
-        subst (λ (rs : List BoardRow). AreBoard t (put_rows rs board)) (sym puts_are) (settled s t board p rows sound are within long_there right_now)
+        record {
+          facts = its_facts ∙ (facts_new (loaded_right s board p b are is) ∙ facts_now);
+          rows = record { long = long_there ∙ length-map (jobs_of s p) number; settled = right_now };
+          differing = puts_are;
+          board = subst (λ (rs : List BoardRow). AreBoard t (put_rows rs board)) (sym puts_are) (settled s t board p rows sound are within long_there right_now);
+        }

@@ -70,7 +70,7 @@ module _ (s : State) (board : List BoardRow) (j : Job) (x : Attempt) (sound : So
   numbered_here : Has j.id (numbers_of s j.pipeline)
   numbered_here = has_map number j (jobs_of s j.pipeline) (filter_has (λ (i : Job). i.pipeline == j.pipeline) j s.jobs has (eq-eqb j.pipeline j.pipeline refl))
 
-  facts_there : (q : ℕ) → (j.pipeline ≡ q → ⊥) → facts_of t q ≡ facts_of s q
+  pub facts_there : (q : ℕ) → (j.pipeline ≡ q → ⊥) → facts_of t q ≡ facts_of s q
   facts_there q d =
       map_same (facts_in t) (facts_in s) (jobs_of s q)
       (λ i h. let w = in_pipeline s q i h in
@@ -103,13 +103,15 @@ module _ (s : State) (board : List BoardRow) (j : Job) (x : Attempt) (sound : So
         ∙ sym (row_replaced 0 ns board its_row pos (numbers_rise s p sound) l at))
         (started_rows (graph_of s p) (facts_of s p) rows pos fresh (omega arith) (omega arith) is_pending_row (ap is_live_state live) (are.each p)))
 
+  pub rows_there : (q : ℕ) → (j.pipeline ≡ q → ⊥) → rows_of t after q ≡ rows_of s board q
+  rows_there q d =
+      map_same (row_for after) (row_for board) (numbers_of s q)
+      (λ n h. row_other its_row n board (λ e. apart s j.pipeline q n sound d (subst (λ m. Has m (numbers_of s j.pipeline)) (sym e) numbered_here) h))
+
   there : (q : ℕ) → (j.pipeline ≡ q → ⊥) → AreRows (graph_of t q) (facts_of t q) (rows_of t after q)
   there q d =
       subst (λ f. AreRows (graph_of s q) f (rows_of s after q)) (sym (facts_there q d))
-      (subst (λ r. AreRows (graph_of s q) (facts_of s q) r)
-      (sym (map_same (row_for after) (row_for board) (numbers_of s q)
-      (λ n h. row_other its_row n board (λ e. apart s j.pipeline q n sound d (subst (λ m. Has m (numbers_of s j.pipeline)) (sym e) numbered_here) h))))
-      (are.each q))
+      (subst (λ r. AreRows (graph_of s q) (facts_of s q) r) (sym (rows_there q d)) (are.each q))
 
   pub granted : AreBoard t after
   granted = record {

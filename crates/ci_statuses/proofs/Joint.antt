@@ -102,5 +102,15 @@ module _ (s t : State) (board : List BoardRow) (p : ℕ) (rows : List Row) (soun
         (λ e. there q (eqb-false p q e));
   }
 
+  differing_are : changed_rows (numbers_of s p) (rows_of s board p) rows ≡ puts
+  differing_are = changed_are (numbers_of s p) (rows_of s board p) rows olds_long rows_long
+
   pub settled : AreBoard t (put_rows (changed_rows (numbers_of s p) (rows_of s board p) rows) board)
-  settled = subst (λ (rs : List BoardRow). AreBoard t (put_rows rs board)) (sym (changed_are (numbers_of s p) (rows_of s board p) rows olds_long rows_long)) settled_by_puts
+  settled = subst (λ (rs : List BoardRow). AreBoard t (put_rows rs board)) (sym differing_are) settled_by_puts
+
+  -- then the pipeline's jobs have these rows, and those of other pipelines the rows that they had
+  pub own_rows : rows_of t (put_rows (changed_rows (numbers_of s p) (rows_of s board p) rows) board) p ≡ rows
+  own_rows = ap (λ (rs : List BoardRow). rows_of t (put_rows rs board) p) differing_are ∙ its_rows
+
+  pub rows_elsewhere : (q : ℕ) → (p ≡ q → ⊥) → rows_of t (put_rows (changed_rows (numbers_of s p) (rows_of s board p) rows) board) q ≡ rows_of s board q
+  rows_elsewhere q d = ap (λ (rs : List BoardRow). rows_of t (put_rows rs board) q) differing_are ∙ other_rows q d

@@ -92,7 +92,7 @@ module _ (s t : State) (board : List BoardRow) (p : ℕ) (jobs : List Job) (need
 
   -- ---- the new pipeline
 
-  its_jobs : jobs_of t p ≡ jobs
+  pub its_jobs : jobs_of t p ≡ jobs
   its_jobs =
       ap (filter (λ (j : Job). j.pipeline == p)) made.all_jobs
       ∙ (filter-append (λ (j : Job). j.pipeline == p) s.jobs jobs
@@ -118,12 +118,10 @@ module _ (s t : State) (board : List BoardRow) (p : ℕ) (jobs : List Job) (need
       let flags = has_from_all (λ (i : Job). (i.cancelled ≡ false) × (i.played ≡ false)) j jobs made.idle h in
       ap (λ (l : List Attempt). facts_with l j) none ∙ (λ i. record { last = None; attempts = (let z : 0 - j.set_aside ≡ 0 = omega arith in z) i; cancelled = flags.0 i; played = flags.1 i })
 
-  its_facts : facts_of t p ≡ replicate (length jobs) no_facts
+  pub its_facts : facts_of t p ≡ replicate (length jobs) no_facts
   its_facts = ap (map (facts_in t)) its_jobs ∙ all_none jobs (facts_in t) untried
 
-  module _ (b : BoardState) (rows : List BoardRow) (keys : map (λ r. r.job) rows ≡ map (λ j. j.id) jobs) (its : map (λ r. r.row) rows ≡ b.rows)
-      (parts : b.graph.parts ≡ map (λ j. j.options.part) jobs) (predecessors : b.graph.predecessors ≡ predecessors_by (pairs_among (map (λ j. j.id) jobs) needs) (length jobs))
-      (facts : b.facts ≡ replicate (length jobs) no_facts) (right : AreRows b.graph b.facts b.rows) where
+  module _ (rows : List BoardRow) (keys : map (λ r. r.job) rows ≡ map (λ j. j.id) jobs) where
     abbrev after : List BoardRow
     after = put_rows rows board
 
@@ -150,22 +148,13 @@ module _ (s t : State) (board : List BoardRow) (p : ℕ) (jobs : List Job) (need
     found [] h = refl
     found (r ∷ l) h = cons_same (its_row 0 after r after_rises (subst (Has r) (sym appended) (has_right r board rows (h r (inl refl))))) (found l (λ x k. h x (inr k)))
 
-    its_rows : rows_of t after p ≡ b.rows
-    its_rows = ap (λ (js : List Job). map (row_for after) (map number js)) its_jobs ∙ (ap (map (row_for after)) (sym keys) ∙ (found rows (λ r h. h) ∙ its))
-
-    here : AreRows (graph_of t p) (facts_of t p) (rows_of t after p)
-    here =
-        subst (λ (f : List Facts). AreRows (graph_of t p) f (rows_of t after p)) (facts ∙ sym its_facts)
-        (subst (λ (r : List Row). AreRows (graph_of t p) b.facts r) (sym its_rows)
-        (same_graph b.graph (graph_of t p)
-        (ap (map (λ (j : Job). j.options.part)) its_jobs ∙ sym parts)
-        ((λ i. predecessors_by (its_pairs i) (length (its_jobs i))) ∙ sym predecessors)
-        b.facts b.rows right))
+    pub its_rows : rows_of t after p ≡ map (λ r. r.row) rows
+    its_rows = ap (λ (js : List Job). map (row_for after) (map number js)) its_jobs ∙ (ap (map (row_for after)) (sym keys) ∙ found rows (λ r h. h))
 
     -- ---- the others
 
     module _ (q : ℕ) (d : p ≡ q → ⊥) where
-      other_jobs : jobs_of t q ≡ jobs_of s q
+      pub other_jobs : jobs_of t q ≡ jobs_of s q
       other_jobs =
           ap (filter (λ (j : Job). j.pipeline == q)) made.all_jobs
           ∙ (filter-append (λ (j : Job). j.pipeline == q) s.jobs jobs
@@ -190,12 +179,12 @@ module _ (s t : State) (board : List BoardRow) (p : ℕ) (jobs : List Job) (need
       other_graph : graph_of t q ≡ graph_of s q
       other_graph = λ i. record { parts = map (λ (j : Job). j.options.part) (other_jobs i); predecessors = predecessors_by (other_pairs i) (length (other_jobs i)); successors = []; order = []; meter = 0 }
 
-      other_facts : facts_of t q ≡ facts_of s q
+      pub other_facts : facts_of t q ≡ facts_of s q
       other_facts =
           ap (map (facts_in t)) other_jobs
           ∙ map_same (facts_in t) (facts_in s) (jobs_of s q) (λ j h. ap (λ (l : List Attempt). facts_with (filter (λ (a : Attempt). a.job == j.id) l) j) made.same_attempts)
 
-      other_rows : rows_of t after q ≡ rows_of s board q
+      pub other_rows : rows_of t after q ≡ rows_of s board q
       other_rows =
           ap (λ (js : List Job). map (row_for after) (map number js)) other_jobs
           ∙ map_same (row_for after) (row_for board) (numbers_of s q)
@@ -207,10 +196,22 @@ module _ (s t : State) (board : List BoardRow) (p : ℕ) (jobs : List Job) (need
           (subst (λ (f : List Facts). AreRows (graph_of s q) f (rows_of t after q)) (sym other_facts)
           (subst (λ (r : List Row). AreRows (graph_of s q) (facts_of s q) r) (sym other_rows) (are.each q)))
 
-    pub new_board : AreBoard t after
-    new_board = record {
-      keys = all_keys;
-      each = λ q. cond_both (p == q) 0 0 (λ (_ : ℕ). AreRows (graph_of t q) (facts_of t q) (rows_of t after q))
-          (λ e. subst (λ x. AreRows (graph_of t x) (facts_of t x) (rows_of t after x)) (eqb-true p q e) here)
-          (λ e. there q (eqb-false p q e));
-    }
+    module _ (b : BoardState) (its : map (λ r. r.row) rows ≡ b.rows) (parts : b.graph.parts ≡ map (λ j. j.options.part) jobs)
+        (predecessors : b.graph.predecessors ≡ predecessors_by (pairs_among (map (λ j. j.id) jobs) needs) (length jobs)) (facts : b.facts ≡ replicate (length jobs) no_facts)
+        (right : AreRows b.graph b.facts b.rows) where
+      here : AreRows (graph_of t p) (facts_of t p) (rows_of t after p)
+      here =
+          subst (λ (f : List Facts). AreRows (graph_of t p) f (rows_of t after p)) (facts ∙ sym its_facts)
+          (subst (λ (r : List Row). AreRows (graph_of t p) b.facts r) (sym (its_rows ∙ its))
+          (same_graph b.graph (graph_of t p)
+          (ap (map (λ (j : Job). j.options.part)) its_jobs ∙ sym parts)
+          ((λ i. predecessors_by (its_pairs i) (length (its_jobs i))) ∙ sym predecessors)
+          b.facts b.rows right))
+
+      pub new_board : AreBoard t after
+      new_board = record {
+        keys = all_keys;
+        each = λ q. cond_both (p == q) 0 0 (λ (_ : ℕ). AreRows (graph_of t q) (facts_of t q) (rows_of t after q))
+            (λ e. subst (λ x. AreRows (graph_of t x) (facts_of t x) (rows_of t after x)) (eqb-true p q e) here)
+            (λ e. there q (eqb-false p q e));
+      }

@@ -16,13 +16,19 @@ use Rattle.ci_machine.specs.declared.change.Record.TheVariants as row
 use Rattle.ci_machine.specs.declared.records.BoardRow.{BoardRow}
 use Rattle.ci_machine.specs.State.{State, applied}
 use Rattle.ci_machine.specs.Kept.{put_rows}
-use Rattle.ci_machine.specs.Statuses.{jobs_of, attempts_of, facts_in, facts_of, status_for, AreRowsOf, AreBoard}
+use Rattle.ci_machine.specs.Statuses.{jobs_of, numbers_of, attempts_of, facts_in, facts_of, rows_of, status_for, AreRowsOf, AreBoard}
+use Rattle.ci_machine.specs.declared.records.Pipeline.{Pipeline}
+use Rattle.ci_machine.specs.Lookups.{queued}
+use Rattle.ci_machine.specs.Holders.{holders}
+use Rattle.ci_machine.specs.Plans.{Plan}
+use Rattle.ci_machine.specs.Shows.{job_shown, pipeline_shown}
 use Rattle.ci_machine.specs.Plays.{is_playable}
 use Rattle.ci_machine.specs.Retries.{is_retryable}
 use Rattle.ci_machine.specs.Cancels.{is_cancellable, is_lease_on, cancelled_job, cancelled_attempt}
 use Rattle.ci_statuses.specs.declared.act.Act.{Act}
 use Rattle.ci_statuses.specs.declared.act.Act.TheVariants.{Play, Retry, Cancel}
 use Rattle.ci_statuses.specs.declared.outcome.Outcome.{Outcome}
+use Rattle.ci_statuses.specs.Boards.{changed_rows}
 
 -- it can be done to a job of this status
 abbrev pub is_permitted : Act → Status → Bool
@@ -91,10 +97,22 @@ is_acted_at act only numbers rows place = is_asked only (number_at numbers place
 abbrev pub facts_change : Act → List Facts → ℕ → FactsChange
 facts_change act facts place = record { position = place; facts = acted act (facts_at facts place) }
 
--- What becomes of a pipeline: to which of its jobs it is done, their facts and rows after it, and the rows that are put.
+-- ---- what is shown
+
+-- these changes, and the reply that shows the job with this status, where the groups are held that are held after them
+abbrev pub shows_job_by : State → List RowChange → Job → Status → Plan
+shows_job_by s changes job status = let t = applied changes s in ((job_shown (holders t) (queued t job).project job status).0, changes)
+
+-- and the one that shows the pipeline with these jobs, facts and rows
+abbrev pub shows_pipeline_by : State → List RowChange → Pipeline → List Job → List Facts → List Row → Plan
+shows_pipeline_by s changes p jobs facts rows = let t = applied changes s in ((pipeline_shown p (holders t) jobs facts rows).0, changes)
+
+-- What becomes of a pipeline: to which of its jobs it is done, their facts and rows after it, and the rows that are put,
+-- which are those that differ.
 pub record IsOutcome (act : Act) (only : Option ℕ) (s : State) (before : List BoardRow) (pipeline : ℕ) (outcome : Outcome) : Type 0 where
   pub within : All (λ place. place < length (jobs_of s pipeline)) outcome.places.items
   pub jobs : (other : Job) → map (λ place. slice_index_or (jobs_of s pipeline) place other) outcome.places.items ≡ acted_jobs act only s before pipeline
   pub facts : outcome.facts.items ≡ facts_of (acted_state act only s before pipeline) pipeline
   pub rows : AreRowsOf (acted_state act only s before pipeline) pipeline outcome.rows.items
+  pub differing : outcome.changed.items ≡ changed_rows (numbers_of s pipeline) (rows_of s before pipeline) outcome.rows.items
   pub board : AreBoard (acted_state act only s before pipeline) (put_rows outcome.changed.items before)

@@ -44,7 +44,7 @@ abbrev pub IsNoStatus : State → Record → Type 0
 IsNoStatus s (row.Project p) = Unit {0}
 IsNoStatus s (row.Variable v) = Unit {0}
 IsNoStatus s (row.Runner r) = Unit {0}
-IsNoStatus s (row.Pipeline p) = Unit {0}
+IsNoStatus s (row.Pipeline p) = ⊥
 IsNoStatus s (row.Job j) = ⊥
 IsNoStatus s (row.JobVariable v) = Unit {0}
 IsNoStatus s (row.Need w) = ⊥

@@ -3,3 +3,4 @@ pub mod Boards
 pub mod Changes
 pub mod Pages
 pub mod Acts
+pub mod Ends

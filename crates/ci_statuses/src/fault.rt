@@ -35,6 +35,12 @@ impl<T: Drop> From<AllocFailed<T>> for StatusFault {
 }
 
 impl From<GraphFault> for StatusFault {
+    ghost use Rattle.std.specs.Prelude.{◌≡◌};
+    ghost use Rattle.ci_graph.specs.declared.part.GraphFault.TheVariants as graph;
+    ghost use Rattle.ci_statuses.specs.declared.fault.StatusFault.TheVariants.{Memory, Broken};
+
+    ghost from_gives = { λ cause fault. (cause ≡ graph.G3 → fault ≡ Broken) × (cause ≡ graph.Memory → fault ≡ Memory) };
+
     fn from(fault: GraphFault) -> StatusFault {
         match fault {
             GraphFault::G3 => StatusFault::Broken,

@@ -18,13 +18,13 @@ ghost use Rattle.ci_machine.specs.State.{State, applied};
 ghost use Rattle.ci_machine.specs.Kept.{put_rows};
 ghost use Rattle.ci_machine.specs.Statuses.{jobs_of, numbers_of, attempts_of, graph_of, facts_of, rows_of, row_for, status_for, AreRowsOf, AreBoard};
 ghost use Rattle.ci_machine.specs.declared.records.Pipeline.{Pipeline};
-ghost use Rattle.ci_machine.specs.Shows.{job_shown, pipeline_shown};
 ghost use Rattle.ci_machine.specs.Acts.{ShowsJobAfter, ShowsPipelineAfter};
 ghost use Rattle.ci_machine.specs.Plays.{play};
 ghost use Rattle.ci_machine.specs.Retries.{retry};
 ghost use Rattle.ci_machine.specs.Cancels.{cancellable_jobs, cancel};
 ghost use Rattle.ci_machine.specs.Sound.{IsSound};
-ghost use Rattle.ci_machine.specs.Step.{is_pending, queue};
+ghost use Rattle.ci_machine.specs.Holders.{holders};
+ghost use Rattle.ci_machine.specs.Step.{is_pending, queue, queued};
 ghost use Rattle.ci_machine.specs.Ranges.{row_at, pending_after};
 ghost use Rattle.ci_machine.specs.Plans.{numbered};
 ghost use Rattle.ci_layout.specs.Inclusion.{Given};
@@ -32,7 +32,7 @@ ghost use Rattle.ci_machine.specs.Pipelines.{Layout, IsLaidOut, Creation, creati
 ghost use Rattle.ci_statuses.specs.Boards.{changed_rows};
 ghost use Rattle.ci_statuses.specs.Lookups.{AreRecords};
 ghost use Rattle.ci_statuses.specs.Changes.{IsWithin, HaveSameFacts, LeavesStatuses, IsMade, started_row};
-ghost use Rattle.ci_statuses.specs.Acts.{is_permitted, act_changes, facts_acted, acted_jobs, IsOutcome};
+ghost use Rattle.ci_statuses.specs.Acts.{is_permitted, act_changes, facts_acted, acted_jobs, shows_job_by, shows_pipeline_by, IsOutcome};
 ghost use Rattle.ci_statuses.specs.Pages.{queue_behind, end_of_page, queued_at};
 
 use crate::act::Act;
@@ -86,13 +86,13 @@ pub fn acts_are_of_records()
         → act_changes Act.Cancel s chosen ≡ cancel attempts chosen }
 {}
 
-/// What an outcome says is what the machine shows after it: the job that was asked for, at its one place; and the pipeline with its
-/// jobs.
+/// What an outcome says is what the machine shows after it, where the groups are held that are held then: the job that was asked for,
+/// at its one place; and the pipeline with its jobs.
 pub fn outcomes_are_shown()
     ensures job { (act : Act) (s : State) (board : List BoardRow) (job : Job) (o : Outcome) → IsSound s → Contains s.jobs job → is_permitted act (status_for board job.id) ≡ true → IsOutcome act (Some job.id) s board job.pipeline o
-        → (i : ℕ) × ((o.places.items ≡ i ∷ []) × ShowsJobAfter s job (act_changes act s (job ∷ [])) ((job_shown job (row_of o.rows.items i).status).0, act_changes act s (job ∷ []))) }
+        → (i : ℕ) × ((o.places.items ≡ i ∷ []) × ShowsJobAfter s job (act_changes act s (job ∷ [])) (shows_job_by s (act_changes act s (job ∷ [])) job (row_of o.rows.items i).status)) }
     ensures pipeline { (act : Act) (s : State) (board : List BoardRow) (p : Pipeline) (o : Outcome) → IsSound s → IsOutcome act None s board p.id o
-        → ShowsPipelineAfter s p (act_changes act s (acted_jobs act None s board p.id)) ((pipeline_shown p (jobs_of s p.id) o.facts.items o.rows.items).0, act_changes act s (acted_jobs act None s board p.id)) }
+        → ShowsPipelineAfter s p (act_changes act s (acted_jobs act None s board p.id)) (shows_pipeline_by s (act_changes act s (acted_jobs act None s board p.id)) p (jobs_of s p.id) o.facts.items o.rows.items) }
 {}
 
 /// Where one job is asked for, it is done to this one, or to none if its status doesn't permit it; all jobs of a pipeline that

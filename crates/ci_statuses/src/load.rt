@@ -1,6 +1,6 @@
 //! The board of a pipeline, made of what was looked up.
 
-ghost use Rattle.std.specs.Prelude.{◌≡◌, ◌<◌, ℕ, true, List, map, length, All, IfOk, IfSome};
+ghost use Rattle.std.specs.Prelude.{◌≡◌, ◌<◌, ℕ, true, List, [], map, length, All, IfOk, IfSome, None};
 ghost use Rattle.std.specs.Ordering.{nat_cmp};
 ghost use Rattle.std.specs.List.Sorted.{IsStrictlySortedBy};
 ghost use Rattle.ci_machine.specs.declared.records.BoardRow.{BoardRow};
@@ -28,7 +28,8 @@ use std::sync::ledger::{Blank, Ledger};
 /// The numbers of the first job and of the last one, between which a pipeline's records are looked up; none where there are
 /// no jobs.
 pub fn range_of(jobs: &[Job]) -> Option<(u64, u64)>
-    ensures { IfSome result (λ r. (s : State) (pipeline : ℕ) → IsSound s → jobs.now ≡ jobs_of s pipeline → All (λ j. is_within r.0 r.1 j.id ≡ true) jobs.now) }
+    ensures within { IfSome result (λ r. (s : State) (pipeline : ℕ) → IsSound s → jobs.now ≡ jobs_of s pipeline → All (λ j. is_within r.0 r.1 j.id ≡ true) jobs.now) }
+    ensures none { result ≡ None → jobs.now ≡ [] }
 {
     if jobs.is_empty() {
         return None;

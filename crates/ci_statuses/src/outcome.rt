@@ -98,7 +98,10 @@ fn changes_at<L: Ledger>(
 }
 
 /// The facts of all jobs of a board.
-fn all_facts<L: Ledger>(alloc: Global, board: &Board<L>) -> Result<Vec<Facts>, AllocError>
+pub(crate) fn all_facts<L: Ledger>(
+    alloc: Global,
+    board: &Board<L>,
+) -> Result<Vec<Facts>, AllocError>
     ensures { IfOk result (λ v. v.items ≡ board.now.facts) }
 {
     let size = board.size();
@@ -110,7 +113,7 @@ fn all_facts<L: Ledger>(alloc: Global, board: &Board<L>) -> Result<Vec<Facts>, A
 }
 
 /// The rows of all jobs of a board.
-fn all_rows<L: Ledger>(alloc: Global, board: &Board<L>) -> Result<Vec<Row>, AllocError>
+pub(crate) fn all_rows<L: Ledger>(alloc: Global, board: &Board<L>) -> Result<Vec<Row>, AllocError>
     ensures { IfOk result (λ v. v.items ≡ board.now.rows) }
 {
     let size = board.size();

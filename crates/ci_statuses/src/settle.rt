@@ -1,7 +1,6 @@
 //! Changes of the facts of one pipeline's jobs, and the rows that differ then.
 
-ghost use Rattle.std.specs.Prelude.{◌≡◌, ◌<◌, map, length, IfOk, IfSome, OnOk, All};
-ghost use Rattle.std.specs.Prelude.{Some};
+ghost use Rattle.std.specs.Prelude.{◌≡◌, ◌<◌, ◌==◌, false, map, length, IfOk, IfSome, OnOk, All, Some, None};
 ghost use Rattle.ci_graph.specs.Lists.{number_at};
 ghost use Rattle.ci_board.specs.Rows.{AreRows, facts_at, replaced};
 ghost use Rattle.ci_statuses.specs.Boards.{board_row, changed_rows};
@@ -78,6 +77,7 @@ pub fn facts_change<L: Ledger>(
     ensures within { IfSome result (λ c. c.position < length jobs.now) }
     ensures job { IfSome result (λ c. number_at (map (λ j. j.id) jobs.now) c.position ≡ job) }
     ensures facts { IfSome result (λ c. c.facts ≡ record (facts_at board.now.facts c.position) { last = Some state }) }
+    ensures none { result ≡ None → All (λ j. (j.id == job) ≡ false) jobs.now }
 {
     let _size = board.size();
     let position = jobs.iter().position(|one| one.id == job)?;

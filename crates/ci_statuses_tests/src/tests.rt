@@ -5,7 +5,7 @@ use ci_board::facts::Status::{Created, Failed, Manual, Pending, Running, Skipped
 use ci_graph::part::Part;
 use ci_machine::records::{Attempt, AttemptState, BoardRow, Cause, Job, Need};
 use ci_statuses::creation::rows_of_creation;
-use ci_statuses::end::rows_of_end;
+use ci_statuses::end::end_of;
 use ci_statuses::fault::StatusFault;
 use ci_statuses::load::range_of;
 use ci_statuses::pending::{started, status_of};
@@ -61,7 +61,7 @@ fn ends(
     let jobs = three_jobs(alloc, set_aside)?;
     let attempts = attempts_of_first(alloc, attempts)?;
     let after = attempt(alloc, 9, 1, state)?;
-    let rows = rows_of_end(
+    let settled = end_of(
         alloc,
         jobs.as_slice(),
         their_needs().as_slice(),
@@ -69,7 +69,7 @@ fn ends(
         their_rows().as_slice(),
         &after,
     );
-    assert!(rt; matches!(&rows, Ok(rows) if are_same(rows.as_slice(), wanted)));
+    assert!(rt; matches!(&settled, Ok(settled) if are_same(settled.changed.as_slice(), wanted)));
     Ok(())
 }
 
@@ -128,7 +128,7 @@ fn kept_counts_are_taken_as_they_are(rt: HostRuntime) -> Result<(), Fail> {
         row(3, Created, 1, 0, 0),
         row(4, Created, 1, 0, 0),
     ];
-    let rows = rows_of_end(
+    let settled = end_of(
         alloc,
         jobs.as_slice(),
         their_needs().as_slice(),
@@ -136,7 +136,7 @@ fn kept_counts_are_taken_as_they_are(rt: HostRuntime) -> Result<(), Fail> {
         kept.as_slice(),
         &after,
     );
-    assert!(rt; matches!(&rows, Ok(rows) if are_same(rows.as_slice(), wanted.as_slice())));
+    assert!(rt; matches!(&settled, Ok(settled) if are_same(settled.changed.as_slice(), wanted.as_slice())));
     Ok(())
 }
 
@@ -152,7 +152,7 @@ fn is_broken(
     let jobs = three_jobs(alloc, set_aside)?;
     let attempts = attempts_of_first(alloc, 1)?;
     let after = attempt(alloc, 9, ended, AttemptState::Succeeded(None))?;
-    let found = rows_of_end(
+    let found = end_of(
         alloc,
         jobs.as_slice(),
         needs,

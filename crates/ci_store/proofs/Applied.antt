@@ -3,10 +3,11 @@ use Rattle.std.proofs.Common.{◌≡◌, ◌∙◌, ℕ, ◌+◌, ◌<◌, List,
 use Rattle.std.proofs.lemmas.List.Sums.{fold_more}
 use Rattle.sqlite.specs.Store.{Ghosts}
 use Rattle.sqlite.specs.Held.{Held}
-use Rattle.ci_machine.specs.Kept.{Kept, row_cmp, put_rows}
+use Rattle.ci_machine.specs.Kept.{Kept, row_cmp, put_rows, indexed, indexed_all}
 use Rattle.ci_machine.specs.declared.records.BoardRow.{BoardRow}
 use Rattle.ci_machine.specs.State.{State, put, applied, changed}
 use Rattle.ci_machine.specs.declared.change.RowChange.{RowChange}
+use Rattle.ci_machine.specs.declared.change.IndexChange.{IndexChange}
 use Rattle.ci_store.specs.Commit.{Makes}
 
 applied_is : (cs : List RowChange) (s : State) → applied cs s ≡ fold (λ s c. changed c s) s cs
@@ -22,6 +23,13 @@ put_rows_is (r ∷ rs) board = put_rows_is rs (put row_cmp r board)
 
 pub put_more : (board rs : List BoardRow) (i : ℕ) (d : BoardRow) → i < length rs → put_rows (take (i + 1) rs) board ≡ put row_cmp (get_or rs i d) (put_rows (take i rs) board)
 put_more board rs i d low = put_rows_is (take (i + 1) rs) board ∙ fold_more (λ board r. put row_cmp r board) board rs i d low ∙ ap (put row_cmp (get_or rs i d)) (sym (put_rows_is (take i rs) board))
+
+indexed_is : (cs : List IndexChange) (k : Kept) → indexed_all cs k ≡ fold (λ k c. indexed c k) k cs
+indexed_is [] k = refl
+indexed_is (c ∷ cs) k = indexed_is cs (indexed c k)
+
+pub indexed_more : (k : Kept) (cs : List IndexChange) (i : ℕ) (d : IndexChange) → i < length cs → indexed_all (take (i + 1) cs) k ≡ indexed (get_or cs i d) (indexed_all (take i cs) k)
+indexed_more k cs i d low = indexed_is (take (i + 1) cs) k ∙ fold_more (λ k c. indexed c k) k cs i d low ∙ ap (indexed (get_or cs i d)) (sym (indexed_is (take i cs) k))
 
 -- what a change makes of the tables, whatever it is called
 pub by_item : {S A E X : Type 0} (g : Ghosts S) (old new : Held S) (change : X → Kept → Kept) {x y : X} → y ≡ x → (result : Result A E) → OnOk result (Makes g (change x) old new) → OnOk result (Makes g (change y) old new)

@@ -47,6 +47,7 @@ use Rattle.sqlite_rules.specs.Action.{works, pairs, loses}
 use Rattle.ci_store.specs.Commit.{in_state, RemovesUnreferred}
 use Rattle.ci_store.proofs.Removals.{Referring, queries, cascades, removed_numbered}
 use Rattle.ci_store.proofs.Pieces.{refers_to_attempt}
+use Rattle.ci_store.proofs.Holders.{holders_refer}
 use Rattle.sqlite.specs.Values.{or_null}
 use Rattle.ci_values.specs.declared.attempts.Cause.{Cause}
 use Rattle.ci_values.specs.declared.attempts.Cause.TheVariants.{UnknownFailure, ScriptFailure, ApiFailure, StuckOrTimeoutFailure, RunnerSystemFailure, JobExecutionTimeout}
@@ -84,14 +85,14 @@ unfolding understood everything
 means_remove = record { there = refl; apart = refl; delete_is = refl; delete_plain = (refl, refl) }
 
 -- what its removal sets off
-works_are : (olds : List Row) → works the_schema Enforced 0 attempt.tree olds [] ≡ cascades (list_any (loses plain (0 ∷ [])) (pairs olds [])) (refers_to_attempt ∷ []) (codes "attempt") olds
+works_are : (olds : List Row) → works the_schema Enforced 0 attempt.tree olds [] ≡ cascades (list_any (loses plain (0 ∷ [])) (pairs olds [])) (refers_to_attempt ∷ holders_refer ∷ []) (codes "attempt") olds
 unfolding everything joined
 works_are olds = refl
 
-pub attempt_removed : {S : Type 0} (g : Ghosts S) (old new : Held S) (id : ℕ) (k : Kept) → Stands k (state g old).now → RemovesUnreferred g (queries (refers_to_attempt ∷ [])) DELETE_ATTEMPT.now (number id ∷ []) old new → Stands (in_state (without_record (key.Attempt id)) k) (state g new).now
+pub attempt_removed : {S : Type 0} (g : Ghosts S) (old new : Held S) (id : ℕ) (k : Kept) → Stands k (state g old).now → RemovesUnreferred g (queries (refers_to_attempt ∷ holders_refer ∷ [])) DELETE_ATTEMPT.now (number id ∷ []) old new → Stands (in_state (without_record (key.Attempt id)) k) (state g new).now
 attempt_removed g old new id k =
     removed_numbered g old new attempt_row (λ q. q.id) k.state.attempts id k (in_state (without_record (key.Attempt id)) k) 6 attempt refl refl refl (alike k _) (λ o. regular_with_attempts k _ (ascending-filter _ _ k.state.attempts o.attempts) o) (λ q. same_number q.id id) (λ r. refl)
-    DELETE_ATTEMPT.now means_remove (codes "attempt") (refers_to_attempt ∷ []) works_are (λ e. absurd cc, tt)
+    DELETE_ATTEMPT.now means_remove (codes "attempt") (refers_to_attempt ∷ holders_refer ∷ []) works_are (λ e. absurd cc, (λ e. absurd cc, tt))
 
 -- ---- two records with the same row
 

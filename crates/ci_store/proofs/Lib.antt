@@ -5,11 +5,14 @@ mod Variables
 mod Runners
 mod Pipelines
 mod Jobs
+mod Demands
 mod Attempts
 mod JobVariables
 mod Pieces
 mod Needs
 mod Board
+mod Holders
+mod OpenPipelines
 mod Meta
 mod OneList
 mod Creates

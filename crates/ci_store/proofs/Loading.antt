@@ -18,6 +18,11 @@ pub if_ok : {A : Type 0} {P Q : A → Type 0} (r : Result A StoreFault) → ((x 
 if_ok (Ok x) f h = f x h
 if_ok (Err e) f h = tt
 
+-- what two clauses say of the answer of a call that ended well
+pub both_ok : {A : Type 0} (P Q : A → Type 0) (r : Result A StoreFault) → IfOk r P → IfOk r Q → IfOk r (λ x. P x × Q x)
+both_ok P Q (Ok x) p q = (p, q)
+both_ok P Q (Err e) p q = tt
+
 module _ {T : Type 0} {honest : T → Type 0} {holds : T → Kept → Type 0} {leaves : T → Kept → Kept → Type 0} where
   -- an answer that follows from another
   pub answered_so : {A : Type 0} {old new : T} {r : Result A StoreFault} {P Q : Kept → A → Type 0} → LoadsBy honest holds leaves old new r P → ((k : Kept) → holds old k → (x : A) → P k x → Q k x) → LoadsBy honest holds leaves old new r Q

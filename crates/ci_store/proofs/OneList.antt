@@ -5,7 +5,8 @@ use Rattle.sqlite.specs.Order.{Row}
 use Rattle.sqlite.specs.Table.{Table}
 use Rattle.sqlite_rules.proofs.ListLemmas.{all_from}
 use Rattle.serde_json.specs.Read.{read}
-use Rattle.ci_machine.specs.Kept.{Kept, row_cmp}
+use Rattle.ci_machine.specs.Kept.{Kept, row_cmp, unfinished_cmp}
+use Rattle.ci_machine.specs.Holders.{holder_cmp}
 use Rattle.ci_machine.specs.State.{project_cmp, variable_cmp, runner_cmp, pipeline_cmp, job_cmp, job_variable_cmp, need_cmp, attempt_cmp, piece_cmp}
 use Rattle.ci_machine.specs.declared.records.Numbers.{Numbers}
 use Rattle.ci_machine.specs.declared.records.Project.{Project}
@@ -18,8 +19,10 @@ use Rattle.ci_machine.specs.declared.records.Need.{Need}
 use Rattle.ci_machine.specs.declared.records.Attempt.{Attempt}
 use Rattle.ci_machine.specs.declared.records.Piece.{Piece}
 use Rattle.ci_machine.specs.declared.records.BoardRow.{BoardRow}
+use Rattle.ci_machine.specs.declared.records.Holder.{Holder}
+use Rattle.ci_machine.specs.declared.records.Unfinished.{Unfinished}
 use Rattle.ci_store.specs.Schema.{the_schema}
-use Rattle.ci_records.specs.JsonText.{tags_text, tags_data, spec_text, spec_data}
+use Rattle.ci_records.specs.JsonText.{list_text, list_data, spec_text, spec_data}
 use Rattle.ci_store.specs.Stands.{rows_at, Rises, IsRegular}
 
 -- ---- the rows of the other tables
@@ -51,14 +54,15 @@ regular_with_projects k xs up o = search rules
 pub regular_with_variables : (k : Kept) (xs : List Variable) → Rises variable_cmp xs → IsRegular k → IsRegular (record k { state = record k.state { variables = xs } })
 regular_with_variables k xs up o = search rules
 
-pub regular_with_runners : (k : Kept) (xs : List Runner) → Rises runner_cmp xs → AllByRecursion (λ r. read (tags_text r.tags) ≡ Some (tags_data r.tags)) xs → IsRegular k → IsRegular (record k { state = record k.state { runners = xs } })
+pub regular_with_runners : (k : Kept) (xs : List Runner) → Rises runner_cmp xs → AllByRecursion (λ r. read (list_text r.tags) ≡ Some (list_data r.tags)) xs → IsRegular k → IsRegular (record k { state = record k.state { runners = xs } })
 regular_with_runners k xs up back o = search rules
 
 pub regular_with_pipelines : (k : Kept) (xs : List Pipeline) → Rises pipeline_cmp xs → IsRegular k → IsRegular (record k { state = record k.state { pipelines = xs } })
 regular_with_pipelines k xs up o = search rules
 
-pub regular_with_jobs : (k : Kept) (xs : List Job) → Rises job_cmp xs → AllByRecursion (λ j. read (spec_text j.options) ≡ Some (spec_data j.options)) xs → IsRegular k → IsRegular (record k { state = record k.state { jobs = xs } })
-regular_with_jobs k xs up back o = search rules
+pub regular_with_jobs : (k : Kept) (xs : List Job) → Rises job_cmp xs → AllByRecursion (λ j. read (spec_text j.options) ≡ Some (spec_data j.options)) xs
+    → AllByRecursion (λ j. read (list_text j.options.script) ≡ Some (list_data j.options.script)) xs → IsRegular k → IsRegular (record k { state = record k.state { jobs = xs } })
+regular_with_jobs k xs up specs scripts o = search rules
 
 pub regular_with_job_variables : (k : Kept) (xs : List JobVariable) → Rises job_variable_cmp xs → IsRegular k → IsRegular (record k { state = record k.state { job_variables = xs } })
 regular_with_job_variables k xs up o = search rules
@@ -71,6 +75,12 @@ regular_with_attempts k xs up o = search rules
 
 pub regular_with_pieces : (k : Kept) (xs : List Piece) → Rises piece_cmp xs → IsRegular k → IsRegular (record k { state = record k.state { pieces = xs } })
 regular_with_pieces k xs up o = search rules
+
+pub regular_with_holders : (k : Kept) (xs : List Holder) → Rises holder_cmp xs → IsRegular k → IsRegular (record k { holders = xs })
+regular_with_holders k xs up o = search rules
+
+pub regular_with_unfinished : (k : Kept) (xs : List Unfinished) → Rises unfinished_cmp xs → IsRegular k → IsRegular (record k { unfinished = xs })
+regular_with_unfinished k xs up o = search rules
 
 pub regular_with_board : (k : Kept) (xs : List BoardRow) → Rises row_cmp xs → IsRegular k → IsRegular (record k { board = xs })
 regular_with_board k xs up o = search rules

@@ -1,5 +1,5 @@
 -- The statements that write `pipeline`.
-use Rattle.std.proofs.Common.{◌∙◌, ℕ, pos, List, [], ◌∷◌, refl, ap, ◌≡◌, ◌==◌, ◌&&◌, true, Option, sym, map, take, drop, codes, if◌then◌else◌, inl, inr, nat_lt}
+use Rattle.std.proofs.Common.{◌∙◌, ℕ, pos, List, [], ◌∷◌, refl, ap, ◌≡◌, ◌==◌, ◌&&◌, Bool, true, false, Option, Some, None, slice_get, filter, sym, map, take, drop, codes, if◌then◌else◌, inl, inr, nat_lt}
 use Rattle.sqlite.specs.declared.types.Value.TheVariants.{Null, Text}
 use Rattle.sqlite.specs.Order.{Row, column}
 use Rattle.sqlite.specs.Term.{Term, lit, col}
@@ -7,7 +7,8 @@ use Rattle.sqlite_tied.specs.Compute.{everything}
 use Rattle.sqlite.specs.Listing.{understood}
 use Rattle.sqlite.specs.Store.{Ghosts}
 use Rattle.sqlite.specs.Held.{Held, state}
-use Rattle.sqlite_keyed.proofs.ListLemmas.{ascending-filter}
+use Rattle.sqlite_keyed.proofs.ListLemmas.{ascending-filter, slice_get-filter}
+use Rattle.std.proofs.lemmas.Map.Text.{is_eq-slice_cmp}
 use Rattle.sqlite_sql.specs.declared.ops.CompareOp.TheVariants.{Gt}
 use Rattle.ci_machine.specs.Kept.{Kept}
 use Rattle.ci_machine.specs.State.{with_record, without_record, pipeline_cmp}
@@ -18,22 +19,25 @@ use Rattle.ci_tables.specs.Stands.{image, places}
 use Rattle.ci_tables.specs.Statements.{HasPut}
 use Rattle.ci_tables.proofs.Puts.{MeansPut, MeansRemove, GivesRecord}
 use Rattle.ci_tables.proofs.Absent.{absent_rowid}
-use Rattle.ci_tables.proofs.Scalars.{cast_int, compares}
-use Rattle.ci_store.specs.declared.texts.TheConstants.{UPDATE_PIPELINE, INSERT_PIPELINE, DELETE_PIPELINE, SELECT_PIPELINE, SELECT_PIPELINES_ABOVE}
+use Rattle.ci_tables.proofs.Scalars.{cast_int, equal_int, equal_text, compares}
+use Rattle.ci_store.specs.declared.texts.TheConstants.{UPDATE_PIPELINE, INSERT_PIPELINE, DELETE_PIPELINE, SELECT_PIPELINE, SELECT_PIPELINES_ABOVE, SELECT_NEWER_PIPELINES}
 use Rattle.ci_store.specs.declared.load.TheConstants.{LAST_INTEGER}
 use Rattle.ci_store.specs.Schema.{the_schema, pipeline}
 use Rattle.ci_store.specs.Rows.{number, pipeline_row, kind_number, source_number}
 use Rattle.ci_store.specs.Stands.{rows_by_tree, rows_of, Stands, IsAt}
 use Rattle.ci_store.proofs.OneList.{IsAlike, alike_but, regular_with_pipelines}
 use Rattle.ci_store.proofs.Lists.{put_rises, by_number}
-use Rattle.ci_store.proofs.Records.{is, put_stands, same_number, finds_number, numbered, above, finds_beyond}
+use Rattle.ci_store.proofs.Records.{is, put_stands, same_number, is_number, finds_number, numbered, above, finds_beyond}
 use Rattle.sqlite.specs.Collation.TheVariants.{Binary}
 use Rattle.sqlite_schema.specs.Rules.{equal}
 use Rattle.sqlite.proofs.Callers.{IsPlain}
-use Rattle.ci_tables.proofs.Selects.{MeansSelect}
+use Rattle.ci_tables.proofs.Selects.{MeansSelect, MeansSelectTo}
 use Rattle.ci_store.specs.Calls.{ShowsRecords, listed, FindsNumber}
+use Rattle.std.specs.Str.{bytes_eq}
 use Rattle.ci_machine.specs.Step.{pipeline_at}
-use Rattle.ci_store.proofs.Shows.{columns_of, names_of, shows_passing, found_one, found_none}
+use Rattle.ci_machine.specs.Indexes.{newer_in}
+use Rattle.ci_machine.specs.Redundant.{same_kind, is_newer_of}
+use Rattle.ci_store.proofs.Shows.{columns_of, names_of, pair, by, by_total, shows_passing, shows_ordered, found_one, found_first, found_none, rising_numbers}
 use Rattle.std.specs.List.{list_any}
 use Rattle.sqlite_value.specs.Keys.{plain, joined}
 use Rattle.sqlite_schema.specs.declared.schema.Keys.TheVariants.{Enforced}
@@ -148,3 +152,60 @@ pipeline_named g old new k at id found (inr h) =
     (shows_passing pipeline_row 3 pipeline refl SELECT_PIPELINES_ABOVE.now (above 0 0 ∷ []) (number LAST_INTEGER ∷ []) (λ im. compares Gt (column im 0) (number LAST_INTEGER) && true) (λ r. refl) (λ x. nat_lt LAST_INTEGER x.id) (λ x. finds_beyond LAST_INTEGER x.id) k k.state.pipelines refl h.2.rows
     (λ r. refl) means_select_above (state g old) (state g new) at.now h.2.shown)
     h.2.read)
+
+-- ---- the newer pipelines of the same project, for the same branch or the same tag
+
+both_kinds : (a b : RefKind) → (kind_number a == kind_number b) ≡ same_kind a b
+both_kinds Branch Branch = refl
+both_kinds Branch Tag = refl
+both_kinds Tag Branch = refl
+both_kinds Tag Tag = refl
+
+turned : (a b c d : Bool) → (a && (b && (c && d))) ≡ (d && a && b && c)
+turned false b c true = refl
+turned false b c false = refl
+turned true false c true = refl
+turned true false c false = refl
+turned true true false true = refl
+turned true true false false = refl
+turned true true true true = refl
+turned true true true false = refl
+
+finds_newer : (p x : Pipeline) → (equal Binary (number x.project) (number p.project) && (equal Binary (Text x.git_ref) (Text p.git_ref) && (equal Binary (number (kind_number x.kind)) (number (kind_number p.kind)) && (compares Gt (number x.id) (number p.id) && true)))) ≡ is_newer_of p x
+finds_newer p x =
+    let project = equal_int x.project p.project ∙ is_number x.project p.project in
+    let git_ref = equal_text x.git_ref p.git_ref ∙ is_eq-slice_cmp x.git_ref p.git_ref in
+    let kind = equal_int (kind_number x.kind) (kind_number p.kind) ∙ is_number (kind_number x.kind) (kind_number p.kind) ∙ both_kinds x.kind p.kind in
+    (λ i. project i && (git_ref i && (kind i && finds_beyond p.id x.id i))) ∙ turned (x.project == p.project) (bytes_eq x.git_ref p.git_ref) (same_kind x.kind p.kind) (nat_lt p.id x.id)
+
+abbrev newer_tests : List Term
+newer_tests = is 2 0 ∷ is 3 1 ∷ is 4 2 ∷ above 0 3 ∷ []
+
+-- the fifth value is how many rows are shown at most
+means_select_newer : MeansSelectTo (col 0 4) the_schema pipeline SELECT_NEWER_PIPELINES.now newer_tests (columns_of pipeline) (by 0) (names_of pipeline)
+unfolding understood everything
+means_select_newer = record { is = refl; unlisted = refl; plain = (refl, refl) }
+
+pub plain_select_newer : IsPlain (understood the_schema SELECT_NEWER_PIPELINES.now)
+plain_select_newer = means_select_newer.plain
+
+abbrev newer_key : Pipeline → Row
+newer_key p = number p.project ∷ Text p.git_ref ∷ number (kind_number p.kind) ∷ number p.id ∷ number 1 ∷ []
+
+first_of_one : (xs : List Pipeline) (found : Option Pipeline) → listed found ≡ take 1 xs → found ≡ slice_get xs 0
+first_of_one [] None h = refl
+first_of_one [] (Some x) h = absurd cc
+first_of_one (x ∷ xs) None h = absurd cc
+first_of_one (x ∷ xs) (Some y) h = let same : y ≡ x = cc in ap Some same
+
+pub newer_found : {S : Type 0} (g : Ghosts S) (old new : Held S) (k : Kept) → IsAt g k old → (p : Pipeline) (found : Option Pipeline) → ShowsRecords (λ row x. row ≡ pipeline_row x) g SELECT_NEWER_PIPELINES.now (newer_key p) old new (listed found)
+    → found ≡ newer_in k.state p
+newer_found g old new k at p found h =
+    first_of_one (filter (is_newer_of p) k.state.pipelines) found
+    (found_first (λ row x. row ≡ pipeline_row x) pipeline_row (is_newer_of p) k.state.pipelines (λ x y _ same. sym (same_pipeline y x same)) 1 h.rows
+    (shows_ordered pipeline_row 3 pipeline refl SELECT_NEWER_PIPELINES.now newer_tests (newer_key p)
+    (λ im. equal Binary (column im 1) (number p.project) && (equal Binary (column im 2) (Text p.git_ref) && (equal Binary (column im 3) (number (kind_number p.kind)) && (compares Gt (column im 0) (number p.id) && true)))) (λ r. refl)
+    (is_newer_of p) (finds_newer p) k k.state.pipelines refl h.rows (col 0 4) (by 0) (by_total newer_tests (columns_of pipeline) pipeline.tree 0) (pair 0) (λ im. refl) (λ r. refl) means_select_newer
+    (rising_numbers (λ (x : Pipeline). x.id) (is_newer_of p) k.state.pipelines at.now.inside.regular.pipelines) (state g old) (state g new) at.now h.shown)
+    (listed found) h.read)
+    ∙ slice_get-filter (is_newer_of p) k.state.pipelines

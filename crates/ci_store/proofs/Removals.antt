@@ -20,9 +20,10 @@ use Rattle.sqlite_rules.specs.Action.{Work, works, pairs, loses}
 use Rattle.sqlite_rules.proofs.ListLemmas.{all_has, has_got}
 use Rattle.sqlite_trees.specs.View.{IsShaped}
 use Rattle.sqlite_trees.specs.declared.store.Shape.TheVariants as shape
-use Rattle.ci_machine.specs.Kept.{Kept}
+use Rattle.ci_machine.specs.Kept.{Kept, indexed}
 use Rattle.ci_machine.specs.State.{without_record}
 use Rattle.ci_machine.specs.declared.change.Key.{Key}
+use Rattle.ci_machine.specs.declared.change.IndexChange.{IndexChange}
 use Rattle.ci_tables.specs.Stands.{Holds, has_key, image, places}
 use Rattle.ci_tables.specs.Statements.{Changes}
 use Rattle.ci_tables.proofs.Scalars.{on_ok}
@@ -155,6 +156,13 @@ module _ {S : Type 0} (g : Ghosts S) (old new : Held S) where
   removed_by same result texts delete same_key removes h =
       on_ok result
       (λ ran. (ran.0, λ k stands. subst (λ key. Stands (in_state (without_record key) k) (state g new).now) (sym same) (removes k stands (subst (λ row. RemovesUnreferred g texts delete row old new) same_key ran.1)))) h
+
+  -- a removal that a change of the indexes asks for
+  pub removed_indexed : {A E : Type 0} {other change : IndexChange} → other ≡ change → (result : Result A E) (texts : List (List ℕ)) (delete : List ℕ) {row : Row}
+      → ((k : Kept) → Stands k (state g old).now → RemovesUnreferred g texts delete row old new → Stands (indexed change k) (state g new).now)
+      → OnOk result (IsTrue new.in_transaction × RemovesUnreferred g texts delete row old new) → OnOk result (Makes g (indexed other) old new)
+  removed_indexed same result texts delete removes h =
+      on_ok result (λ ran. (ran.0, λ k stands. subst (λ change. Stands (indexed change k) (state g new).now) (sym same) (removes k stands ran.1))) h
 
 -- one query more shows no row
 pub one_more : {S : Type 0} (g : Ghosts S) (mid new : Held S) {X : Type 0} (text : X → List ℕ) (key : Row) (xs : List X) (x : X) (first : Held S) → ShowsNone g (map text xs) key first mid → Shown (text x) key (state g mid) (state g new) [] → ShowsNone g (map text (xs ++ x ∷ [])) key first new

@@ -1,5 +1,5 @@
 -- What a query over one table shows of a state, and the records that its rows are read as.
-use Rattle.std.proofs.Common.{◌≡◌, ◌∙◌, ℕ, pos, List, [], ◌∷◌, map, filter, find, take, drop, slice_get, Bool, true, false, is_eq, Ordering, Less, Equal, Greater, Option, Some, None, refl, sym, ap, subst, cond, inl, inr, IsPermutation, ◌<◌, ◌≤◌, ◌==◌, nat_lt, ltb-false, ne_eqb, arith}
+use Rattle.std.proofs.Common.{◌≡◌, ◌∙◌, ℕ, pos, List, [], ◌∷◌, map, filter, find, take, drop, slice_get, Bool, true, false, is_eq, Ordering, Less, Equal, Greater, Option, Some, None, option_map, refl, sym, ap, subst, cond, inl, inr, IsPermutation, ◌<◌, ◌≤◌, ◌==◌, nat_lt, ltb-false, ne_eqb, arith}
 use Rattle.std.proofs.lemmas.Bool.{cond_both}
 use Rattle.std.specs.List.{AllByRecursion, AllZip}
 use Rattle.std.specs.Ordering.{nat_cmp, ordering_then}
@@ -7,7 +7,8 @@ use Rattle.std.specs.Cmp.{IsTotalOrder}
 use Rattle.std.specs.Cmp.Lexicographic.{slice_cmp}
 use Rattle.std.proofs.lemmas.List.{take-append-drop, take-map}
 use Rattle.std.proofs.lemmas.Cmp.{on_total, then_total, nat_cmp_total, tied_back}
-use Rattle.std.proofs.lemmas.List.Sorted.{IsPermutation-sym}
+use Rattle.std.proofs.lemmas.List.Sorted.{IsPermutation-sym, IsPermutation-trans, IsPermutation-map}
+use Rattle.sqlite_trees.proofs.ListLemmas.{IsPermutation-filter}
 use Rattle.sqlite.specs.Collation.TheVariants.{Binary}
 use Rattle.sqlite_value.specs.declared.keys.Key.{Key}
 use Rattle.sqlite_value.specs.Keys.{ascending, by_key}
@@ -21,14 +22,14 @@ use Rattle.sqlite.specs.Table.{Table}
 use Rattle.sqlite.specs.Effect.{Database}
 use Rattle.sqlite.specs.State.{State as Seen, Shown}
 use Rattle.sqlite_trees.specs.Tree.{IsAscending}
-use Rattle.sqlite.proofs.Callers.{one_permutation}
+use Rattle.sqlite.proofs.Callers.{one_permutation, reads_as}
 use Rattle.sqlite_keyed.proofs.ListLemmas.{filter-map, filter_same, slice_get-filter, ascending-map, ascending_weaker, ascending-filter}
 use Rattle.sqlite_rules.specs.Lists.{Has}
 use Rattle.sqlite_rules.proofs.ListLemmas.{all_has, has_got, has_filtered, has_left}
 use Rattle.ci_machine.specs.Kept.{Kept}
 use Rattle.ci_tables.specs.Stands.{Holds, image, places}
 use Rattle.ci_tables.proofs.Writes.{perm_nil, map_nil, map_one}
-use Rattle.ci_tables.proofs.Queries.{query, picks, no_limit, count_of}
+use Rattle.ci_tables.proofs.Queries.{query, picks, no_limit, count_of, shows, answered, map_map}
 use Rattle.ci_tables.proofs.Selects.{MeansSelect, MeansSelectTo, selects}
 use Rattle.ci_tables.proofs.Ordered.{no_key_total, selects_sorted}
 use Rattle.ci_tables.proofs.Scalars.{int_nat}
@@ -71,6 +72,21 @@ by_two_total tests columns tree first second =
     no_more_total : IsTotalOrder (key_cmp 2 [])
     no_more_total = record { antisymm = λ x y. refl; trans = λ x y z p q. p; congr = λ x y z p. refl }
 
+-- what a query of a part of the columns shows of the records of its table
+shows_part : (t : Table) (text : List ℕ) (tests columns : List Term) (names : List (List ℕ)) → MeansSelect the_schema t text tests columns [] names → (key : Row) (p : Row → Bool) → ((r : Row) → picks tests key r ≡ p (image (places t) r))
+    → (part : Row → Row) → ((r : Row) → eval_all columns (key ∷ r ∷ []) ≡ part (image (places t) r)) → (old new : Seen) (records rows : List Row) → old.now.schema ≡ the_schema → Holds t records old.now.trees → Shown text key old new rows
+    → IsPermutation (map part (filter p records)) rows
+shows_part t text tests columns names means key p tested part showed old new records rows has held shown =
+    let there = old.now.trees t.tree in
+    let read = reads_as text key old new the_schema has _ means.is means.plain means.unlisted rows shown in
+    let answer = shows t.tree tests columns [] old.now.trees key rows (answered old.now.schema old.now.trees t.tree tests columns [] key rows read) in
+    let images : map (λ r. eval_all columns (key ∷ r ∷ [])) (filter (picks tests key) there) ≡ map part (filter p (map (image (places t)) there)) =
+    (λ i. map (λ r. showed r i) (filter (picks tests key) there))
+    ∙ sym (map_map part (image (places t)) (filter (picks tests key) there))
+    ∙ ap (λ l. map part (map (image (places t)) l)) (filter_same _ _ tested there)
+    ∙ ap (map part) (sym (filter-map p (image (places t)) there)) in
+    IsPermutation-trans _ _ _ (IsPermutation-map part _ _ (IsPermutation-sym _ _ (IsPermutation-filter p _ _ held.same))) (subst (λ l. IsPermutation l rows) images answer)
+
 module _ {A : Type 0} (values : A → Row) (at : ℕ) (t : Table) (there : slice_get the_schema.tables at ≡ Some t) (text : List ℕ) (tests : List Term) (key : Row) (p : Row → Bool)
     (tested : (r : Row) → picks tests key r ≡ p (image (places t) r)) (passes : A → Bool) (same : (x : A) → p (values x) ≡ passes x)
     (k : Kept) (xs : List A) (is : rows_of k t.tree ≡ map values xs) (rows : List Row) where
@@ -83,6 +99,13 @@ module _ {A : Type 0} (values : A → Row) (at : ℕ) (t : Table) (there : slice
   shows_passing showed means old new stands h =
       subst (λ l. IsPermutation l rows) (ap (filter p) is ∙ filtered)
       (selects the_schema t text tests (columns_of t) [] (names_of t) means key p tested showed old new (rows_of k t.tree) rows stands.listed (held k old.now stands at t there) h)
+
+  -- a part of the columns of each
+  pub shows_columns : (columns : List Term) (names : List (List ℕ)) (part : Row → Row) (showed : (r : Row) → eval_all columns (key ∷ r ∷ []) ≡ part (image (places t) r)) → MeansSelect the_schema t text tests columns [] names
+      → (old new : Seen) → Stands k old.now → Shown text key old new rows → IsPermutation (map (λ x. part (values x)) (filter passes xs)) rows
+  shows_columns columns names part showed means old new stands h =
+      subst (λ l. IsPermutation l rows) (ap (λ l. map part (filter p l)) is ∙ ap (map part) filtered ∙ map_map part values (filter passes xs))
+      (shows_part t text tests columns names means key p tested part showed old new (rows_of k t.tree) rows stands.listed (held k old.now stands at t there) h)
 
   -- and in an order, of them the first ones that a limit lets through
   pub shows_ordered : (limit : Term) (order : List (Term × Key)) (total : IsTotalOrder (output_cmp (query t.tree tests (columns_of t) order))) (pair : Row → Output) (second : (im : Row) → (pair im).1 ≡ im)
@@ -104,19 +127,34 @@ module _ {A : Type 0} (values : A → Row) (at : ℕ) (t : Table) (there : slice
 
 -- ---- the records that the rows are read as
 
-module _ {A : Type 0} (is_row : Row → A → Type 0) (values : A → Row) (passes : A → Bool) (xs : List A) (one : (x y : A) → Has xs y → is_row (values y) x → x ≡ y) where
-  first : find passes xs ≡ slice_get (filter passes xs) 0
-  first = sym (slice_get-filter passes xs)
+-- what is made of the one record that passes, if one does
+pub found_as : {A B : Type 0} (of : A → B) (is_row : Row → B → Type 0) (values : A → Row) (passes : A → Bool) (xs : List A) → ((x : B) (y : A) → Has xs y → is_row (values y) x → x ≡ of y)
+    → (rows : List Row) → IsPermutation (map values (filter passes xs)) rows → (found : Option B) → AllZip is_row rows (listed found) → found ≡ option_map of (find passes xs)
+found_as {A = A} {B = B} of is_row values passes xs one = go
+  where
+    first : find passes xs ≡ slice_get (filter passes xs) 0
+    first = sym (slice_get-filter passes xs)
 
+    made : (l : List A) → filter passes xs ≡ l → option_map of (find passes xs) ≡ option_map of (slice_get l 0)
+    made l is = ap (option_map of) (first ∙ ap (λ l. slice_get l 0) is)
+
+    go : (rows : List Row) → IsPermutation (map values (filter passes xs)) rows → (found : Option B) → AllZip is_row rows (listed found) → found ≡ option_map of (find passes xs)
+    go [] same None read = sym (made [] (map_nil _ _ (perm_nil _ same)))
+    go [] same (Some x) read = absurd read
+    go (r ∷ rows) same None read = absurd read
+    go (r ∷ []) same (Some x) read =
+        let only = map_one values _ r (one_permutation r _ (IsPermutation-sym _ _ same)) in
+        let there : Has (filter passes xs) only.0 = subst (λ l. Has l only.0) (sym only.1) (inl refl) in
+        ap Some (one x only.0 (has_filtered passes xs only.0 there).0 (subst (λ row. is_row row x) only.2 read.0)) ∙ sym (made (only.0 ∷ []) only.1)
+    go (r ∷ t ∷ rows) same (Some x) read = absurd read.1
+
+as_it_is : {A : Type 0} (o : Option A) → option_map (λ x. x) o ≡ o
+as_it_is None = refl
+as_it_is (Some x) = refl
+
+module _ {A : Type 0} (is_row : Row → A → Type 0) (values : A → Row) (passes : A → Bool) (xs : List A) (one : (x y : A) → Has xs y → is_row (values y) x → x ≡ y) where
   pub found_one : (rows : List Row) → IsPermutation (map values (filter passes xs)) rows → (found : Option A) → AllZip is_row rows (listed found) → found ≡ find passes xs
-  found_one [] same None read = sym (first ∙ ap (λ l. slice_get l 0) (map_nil _ _ (perm_nil _ same)))
-  found_one [] same (Some x) read = absurd read
-  found_one (r ∷ rows) same None read = absurd read
-  found_one (r ∷ []) same (Some x) read =
-      let only = map_one values _ r (one_permutation r _ (IsPermutation-sym _ _ same)) in
-      let there : Has (filter passes xs) only.0 = subst (λ l. Has l only.0) (sym only.1) (inl refl) in
-      ap Some (one x only.0 (has_filtered passes xs only.0 there).0 (subst (λ row. is_row row x) only.2 read.0)) ∙ sym (first ∙ ap (λ l. slice_get l 0) only.1)
-  found_one (r ∷ t ∷ rows) same (Some x) read = absurd read.1
+  found_one rows same found read = found_as (λ x. x) is_row values passes xs one rows same found read ∙ as_it_is (find passes xs)
 
   each : (ys : List A) → ((y : A) → Has ys y → Has xs y) → (found : List A) → AllZip is_row (map values ys) found → found ≡ ys
   each [] sub [] read = refl
@@ -151,7 +189,7 @@ module _ {A : Type 0} (id : A → ℕ) (last n : ℕ) (over : last < n) where
       subst (λ b. cond b (Some x) (find (λ y. id y == n) xs) ≡ None) (sym other) (none_among xs rest))
       e
 
-  pub found_none : (is_row : Row → A → Type 0) (values : A → Row) (xs : List A) (rows : List Row) → IsPermutation (map values (filter (λ x. nat_lt last (id x)) xs)) rows → AllZip is_row rows [] → find (λ x. id x == n) xs ≡ None
+  pub found_none : {B : Type 0} (is_row : Row → B → Type 0) (values : A → Row) (xs : List A) (rows : List Row) → IsPermutation (map values (filter (λ x. nat_lt last (id x)) xs)) rows → AllZip is_row rows [] → find (λ x. id x == n) xs ≡ None
   found_none is_row values xs [] same read = none_among xs (map_nil _ _ (perm_nil _ same))
   found_none is_row values xs (r ∷ rows) same read = absurd read
 

@@ -10,17 +10,28 @@ use Rattle.ci_machine.specs.State.{State}
 use Rattle.ci_tables.specs.Statements.{Changes}
 use Rattle.ci_machine.specs.declared.change.RowChange.{RowChange}
 use Rattle.ci_machine.specs.declared.records.BoardRow.{BoardRow}
+use Rattle.ci_machine.specs.declared.records.Holder.{Holder}
+use Rattle.ci_machine.specs.declared.records.Unfinished.{Unfinished}
+use Rattle.ci_machine.specs.declared.change.IndexChange.{IndexChange}
 use Rattle.ci_store.specs.declared.commit.Ended.{Ended}
 use Rattle.ci_store.specs.declared.commit.Ended.TheVariants.{Done, Undone}
 use Rattle.ci_store.specs.Stands.{Stands, StandsIn}
 
--- a change of the state, which leaves the rows of the statuses
+-- a change of the state, which leaves the rows beside it
 abbrev pub in_state : (State → State) → Kept → Kept
 in_state change k = record k { state = change k.state }
 
--- a change of the rows of the statuses, which leaves the state
+-- a change of the rows of the statuses, which leaves the rest
 abbrev pub in_board : (List BoardRow → List BoardRow) → Kept → Kept
 in_board change k = record k { board = change k.board }
+
+-- a change of the groups that are held, which leaves the rest
+abbrev pub in_holders : (List Holder → List Holder) → Kept → Kept
+in_holders change k = record k { holders = change k.holders }
+
+-- a change of the pipelines that aren't finished, which leaves the rest
+abbrev pub in_unfinished : (List Unfinished → List Unfinished) → Kept → Kept
+in_unfinished change k = record k { unfinished = change k.unfinished }
 
 -- inside a transaction the tables follow this change of what they keep
 abbrev pub Makes : {S : Type 0} → Ghosts S → (Kept → Kept) → Held S → Held S → Type 0
@@ -30,9 +41,9 @@ Makes g change old new = IsTrue new.in_transaction × ((k : Kept) → Stands k (
 abbrev pub MakesInside : {S A E : Type 0} → Ghosts S → (Kept → Kept) → Held S → Held S → Result A E → Type 0
 MakesInside g change old new result = HasCleanDisk (state g new) → IsTrue old.in_transaction → OnOk result (Makes g change old new)
 
--- what is committed stands for what is kept after the changes and the puts of rows
-abbrev pub CommitsAll : {S : Type 0} → Ghosts S → List RowChange → List BoardRow → Held S → Trees → Type 0
-CommitsAll g changes rows old db = (k : Kept) → Stands k (state g old).now → StandsIn (written changes rows k) db
+-- what is committed stands for what is kept after the changes, the puts of rows and the changes of indexes
+abbrev pub CommitsAll : {S : Type 0} → Ghosts S → List RowChange → List BoardRow → List IndexChange → Held S → Trees → Type 0
+CommitsAll g changes rows indexes old db = (k : Kept) → Stands k (state g old).now → StandsIn (written changes rows indexes k) db
 
 abbrev pub is_done : Ended → Bool
 is_done Done = true
@@ -47,10 +58,10 @@ pub record IsBack {S : Type 0} (g : Ghosts S) (old new : Held S) : Type 0 where
   pub was_open : IsTrue (state g new).is_open → IsTrue (state g old).is_open
   pub back : IsTrue (state g new).is_open → ((state g new).now ≡ (state g old).committed) × ((state g new).committed ≡ (state g old).committed)
 
--- the changes are made, the rows are put, and all is committed
-pub record IsDone {S : Type 0} (g : Ghosts S) (changes : List RowChange) (rows : List BoardRow) (old new : Held S) : Type 0 where
+-- the changes are made, the rows are put, the indexes are changed, and all is committed
+pub record IsDone {S : Type 0} (g : Ghosts S) (changes : List RowChange) (rows : List BoardRow) (indexes : List IndexChange) (old new : Held S) : Type 0 where
   pub is_open : IsTrue (state g new).is_open
-  pub stands : (k : Kept) → Stands k (state g old).now → Stands (written changes rows k) (state g new).now
+  pub stands : (k : Kept) → Stands k (state g old).now → Stands (written changes rows indexes k) (state g new).now
   pub committed : (state g new).committed ≡ (state g new).now
 
 -- the queries, each after the one before, show no row

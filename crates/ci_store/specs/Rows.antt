@@ -14,6 +14,8 @@ use Rattle.ci_machine.specs.declared.records.Need.{Need}
 use Rattle.ci_machine.specs.declared.records.Attempt.{Attempt}
 use Rattle.ci_machine.specs.declared.records.Piece.{Piece}
 use Rattle.ci_machine.specs.declared.records.BoardRow.{BoardRow}
+use Rattle.ci_machine.specs.declared.records.Holder.{Holder}
+use Rattle.ci_machine.specs.declared.records.Unfinished.{Unfinished}
 use Rattle.ci_board.specs.Effects.{status_number}
 use Rattle.ci_machine.specs.declared.records.RefKind.{RefKind}
 use Rattle.ci_machine.specs.declared.records.RefKind.TheVariants.{Branch, Tag}
@@ -23,7 +25,7 @@ use Rattle.ci_values.specs.declared.attempts.Cause.{Cause}
 use Rattle.ci_values.specs.declared.attempts.Cause.TheVariants.{UnknownFailure, ScriptFailure, ApiFailure, StuckOrTimeoutFailure, RunnerSystemFailure, JobExecutionTimeout}
 use Rattle.ci_values.specs.declared.attempts.AttemptState.{AttemptState}
 use Rattle.ci_values.specs.declared.attempts.AttemptState.TheVariants.{Live, Succeeded, Failed, Cancelled}
-use Rattle.ci_records.specs.JsonText.{tags_text, spec_text}
+use Rattle.ci_records.specs.JsonText.{list_text, spec_text}
 
 abbrev pub number : ℕ → Value
 number n = Int (pos n)
@@ -72,13 +74,13 @@ abbrev pub variable_row : Variable → Row
 variable_row v = number v.project ∷ Text v.key ∷ Text v.value ∷ []
 
 abbrev pub runner_row : Runner → Row
-runner_row r = number r.id ∷ Text r.name ∷ Text r.token ∷ or_null number r.project ∷ Text (tags_text r.tags) ∷ flag r.untagged ∷ flag r.paused ∷ []
+runner_row r = number r.id ∷ Text r.name ∷ Text r.token ∷ or_null number r.project ∷ Text (list_text r.tags) ∷ flag r.untagged ∷ flag r.paused ∷ []
 
 abbrev pub pipeline_row : Pipeline → Row
 pipeline_row p = number p.id ∷ number p.project ∷ Text p.git_ref ∷ number (kind_number p.kind) ∷ number (source_number p.source) ∷ number p.created ∷ []
 
 abbrev pub job_row : Job → Row
-job_row j = number j.id ∷ number j.pipeline ∷ number j.position ∷ Text j.name ∷ Text j.stage ∷ Text (spec_text j.options) ∷ flag j.played ∷ flag j.cancelled ∷ number j.set_aside ∷ []
+job_row j = number j.id ∷ number j.pipeline ∷ number j.position ∷ Text j.name ∷ Text j.stage ∷ Text (spec_text j.options) ∷ Text (list_text j.options.script) ∷ flag j.played ∷ flag j.cancelled ∷ number j.set_aside ∷ []
 
 abbrev pub job_variable_row : JobVariable → Row
 job_variable_row v = number v.job ∷ Text v.key ∷ Text v.value ∷ []
@@ -95,3 +97,9 @@ need_row n = number n.job ∷ number n.pred ∷ []
 
 abbrev pub board_row : BoardRow → Row
 board_row r = number r.job ∷ number (status_number r.row.status) ∷ number r.row.opens ∷ number r.row.failed ∷ number r.row.barred ∷ []
+
+abbrev pub holder_row : Holder → Row
+holder_row h = number h.project ∷ Text h.group ∷ number h.attempt ∷ []
+
+abbrev pub unfinished_row : Unfinished → Row
+unfinished_row u = number u.pipeline ∷ []

@@ -117,6 +117,7 @@ job =
     ∷ column (codes "name") Text true
     ∷ column (codes "stage") Text true
     ∷ column (codes "spec") Text true
+    ∷ column (codes "script") Text true
     ∷ column (codes "played") Integer true
     ∷ column (codes "cancelled") Integer true
     ∷ column (codes "aside") Integer true
@@ -215,9 +216,33 @@ variable =
 abbrev pub variable_index_1 : Index
 variable_index_1 = automatic variable 0 (1 ∷ 2 ∷ []) 22
 
+-- the resource groups that live attempts hold
+abbrev pub holder : Table
+holder =
+    keyed (codes "holder") 23
+    (column (codes "project") Integer true
+    ∷ column (codes "grp") Text true
+    ∷ column (codes "attempt") Integer true
+    ∷ [])
+    (1 ∷ 2 ∷ []) (refers 1 (codes "project") NoAction ∷ refers 3 (codes "attempt") Cascade ∷ [])
+
+abbrev pub holder_index_1 : Index
+holder_index_1 = automatic holder 0 (1 ∷ 2 ∷ []) 24
+
+abbrev pub holder_attempt : Index
+holder_attempt = record { name = codes "holder_attempt"; tree = 25; table = 23; columns = 3 ∷ []; order = plain; is_unique = false }
+
+-- the pipelines that aren't finished: it follows from the rows of their jobs, as `holder` follows from attempts
+abbrev pub unfinished : Table
+unfinished = numbered (codes "unfinished") 26 (column (codes "pipeline") Integer false ∷ []) [] []
+
+-- by the project and by what a pipeline runs for, and of one such by number
+abbrev pub pipeline_ref : Index
+pipeline_ref = record { name = codes "pipeline_ref"; tree = 27; table = 6; columns = 2 ∷ 3 ∷ 4 ∷ 0 ∷ []; order = plain; is_unique = false }
+
 abbrev pub the_schema : Schema
 the_schema = record {
-  tables = meta ∷ project ∷ runner ∷ pipeline ∷ job ∷ jobvar ∷ attempt ∷ piece ∷ need ∷ board ∷ variable ∷ [];
-  indexes = meta_index_1 ∷ project_index_1 ∷ runner_index_1 ∷ job_pipeline ∷ jobvar_index_1 ∷ attempt_job ∷ attempt_state ∷ piece_index_1 ∷ need_index_1 ∷ need_pred ∷ board_status ∷ variable_index_1 ∷ [];
+  tables = meta ∷ project ∷ runner ∷ pipeline ∷ job ∷ jobvar ∷ attempt ∷ piece ∷ need ∷ board ∷ variable ∷ holder ∷ unfinished ∷ [];
+  indexes = meta_index_1 ∷ project_index_1 ∷ runner_index_1 ∷ job_pipeline ∷ jobvar_index_1 ∷ attempt_job ∷ attempt_state ∷ piece_index_1 ∷ need_index_1 ∷ need_pred ∷ board_status ∷ variable_index_1 ∷ holder_index_1 ∷ holder_attempt ∷ pipeline_ref ∷ [];
   views = [];
 }

@@ -5,7 +5,7 @@ ghost use Rattle.ci_store.specs.Rows.{cause_number};
 ghost use Rattle.ci_store.specs.Load.{HasState};
 
 use crate::columns::{state_numbers, text};
-use crate::read::{Stored, has_columns, moment_at, text_at};
+use crate::read::{Loaded, Stored, has_columns, moment_at, text_at};
 use crate::texts;
 use ci_machine::records::{Attempt, AttemptState, Cause};
 use ci_tables::fault::StoreFault;
@@ -41,16 +41,11 @@ fn read_state(state: u32, cause: Option<u32>, exit: Option<u32>) -> Option<Attem
     }
 }
 
-impl Stored for Attempt {
-    ghost use Rattle.ci_machine.specs.State.{with_record};
-    ghost use Rattle.ci_machine.specs.declared.change.Record.TheVariants as variant;
-    ghost use Rattle.ci_store.specs.Commit.{in_state};
+impl Loaded for Attempt {
     ghost use Rattle.std.specs.Prelude.{◌≡◌};
     ghost use Rattle.ci_store.specs.Rows.{attempt_row};
 
     ghost is_row = { λ row a. row ≡ attempt_row a };
-
-    ghost puts = { λ x. in_state (with_record (variant.Attempt x)) };
 
     fn read(_: Global, row: &Row) -> Result<Attempt, StoreFault> {
         has_columns(row, 11)?;
@@ -67,6 +62,14 @@ impl Stored for Attempt {
             token: text_at(row, 3)?,
         })
     }
+}
+
+impl Stored for Attempt {
+    ghost use Rattle.ci_machine.specs.State.{with_record};
+    ghost use Rattle.ci_machine.specs.declared.change.Record.TheVariants as variant;
+    ghost use Rattle.ci_store.specs.Commit.{in_state};
+
+    ghost puts = { λ x. in_state (with_record (variant.Attempt x)) };
 
     fn put<S: Alter>(
         &self,

@@ -3,7 +3,7 @@
 ghost use Rattle.std.specs.Prelude.{◌≡◌, IfSome};
 ghost use Rattle.ci_board.specs.Effects.{status_number};
 
-use crate::read::{Stored, count_at, has_columns};
+use crate::read::{Loaded, Stored, count_at, has_columns};
 use crate::texts;
 use ci_board::facts::{Row as StatusRow, Status};
 use ci_machine::records::BoardRow;
@@ -30,16 +30,11 @@ fn read_status(number: u32) -> Option<Status>
     }
 }
 
-impl Stored for BoardRow {
-    ghost use Rattle.ci_machine.specs.Kept.{row_cmp};
-    ghost use Rattle.ci_machine.specs.State.{put};
-    ghost use Rattle.ci_store.specs.Commit.{in_board};
+impl Loaded for BoardRow {
     ghost use Rattle.std.specs.Prelude.{◌≡◌};
     ghost use Rattle.ci_store.specs.Rows.{board_row};
 
     ghost is_row = { λ row r. row ≡ board_row r };
-
-    ghost puts = { λ r. in_board (put row_cmp r) };
 
     fn read(_: Global, row: &Row) -> Result<BoardRow, StoreFault> {
         has_columns(row, 5)?;
@@ -53,6 +48,14 @@ impl Stored for BoardRow {
             },
         })
     }
+}
+
+impl Stored for BoardRow {
+    ghost use Rattle.ci_machine.specs.Kept.{row_cmp};
+    ghost use Rattle.ci_machine.specs.State.{put};
+    ghost use Rattle.ci_store.specs.Commit.{in_board};
+
+    ghost puts = { λ r. in_board (put row_cmp r) };
 
     fn put<S: Alter>(
         &self,

@@ -4,17 +4,17 @@ ghost use Rattle.std.specs.Prelude.{◌≡◌, ◌≤◌, true, false, Err, OnOk
 ghost use Rattle.sqlite.specs.State.{HasCleanDisk, Survives};
 ghost use Rattle.sqlite_trees.specs.View.{doubt};
 ghost use Rattle.sqlite.specs.Held.{state};
-ghost use Rattle.ci_machine.specs.Kept.{Kept, put_rows, written};
+ghost use Rattle.ci_machine.specs.Kept.{Kept, put_rows, indexed_all, written};
 ghost use Rattle.ci_machine.specs.State.{applied};
 ghost use Rattle.ci_store.specs.Stands.{IsAt, LeavesEither};
 ghost use Rattle.ci_tables.specs.declared.fault.StoreFault.TheVariants.{Memory};
 ghost use Rattle.ci_tables.specs.Statements.{KeepsInside, CommitsNothing};
 ghost use Rattle.ci_store.specs.Commit.{in_state, in_board, MakesInside, CommitsAll, is_done, is_undone, IsBack, IsDone};
 
-use crate::make::make;
+use crate::make::{change_index, make};
 use crate::probe::probe;
 use crate::read::Stored;
-use ci_machine::change::RowChange;
+use ci_machine::change::{IndexChange, RowChange};
 use ci_machine::records::BoardRow;
 use ci_tables::fault::StoreFault;
 use sqlite::{Alter, Connection, Transaction};
@@ -54,20 +54,39 @@ fn put_rows<S: Alter>(
     Ok(())
 }
 
-/// Makes the changes in turn, and then puts the rows.
+/// Makes the changes of the groups that are held and of the pipelines that aren't finished in turn.
+fn change_indexes<S: Alter>(
+    tx: &mut Transaction<'_, S>,
+    alloc: Global,
+    indexes: &[IndexChange],
+) -> Result<(), StoreFault>
+    ensures same_reference { tx.new.conn.ghost_name ≡ tx.old.conn.ghost_name }
+    ensures makes { MakesInside S.Store (indexed_all indexes.now) tx.old.conn.now tx.new.conn.now result }
+    ensures kept { KeepsInside S.Store tx.old.conn.now tx.new.conn.now }
+    ensures survives { CommitsNothing S.Store tx.old.conn.now tx.new.conn.now }
+{
+    for change in indexes {
+        change_index(tx, alloc, change)?;
+    }
+    Ok(())
+}
+
+/// Makes the changes in turn, then puts the rows, and then changes the indexes.
 fn write_all<S: Alter>(
     tx: &mut Transaction<'_, S>,
     alloc: Global,
     changes: &[RowChange],
     rows: &[BoardRow],
+    indexes: &[IndexChange],
 ) -> Result<(), StoreFault>
     ensures same_reference { tx.new.conn.ghost_name ≡ tx.old.conn.ghost_name }
-    ensures makes { MakesInside S.Store (written changes.now rows.now) tx.old.conn.now tx.new.conn.now result }
+    ensures makes { MakesInside S.Store (written changes.now rows.now indexes.now) tx.old.conn.now tx.new.conn.now result }
     ensures kept { KeepsInside S.Store tx.old.conn.now tx.new.conn.now }
     ensures survives { CommitsNothing S.Store tx.old.conn.now tx.new.conn.now }
 {
     make_all(tx, alloc, changes)?;
-    put_rows(tx, alloc, rows)
+    put_rows(tx, alloc, rows)?;
+    change_indexes(tx, alloc, indexes)
 }
 
 /// How a transaction of changes ended.
@@ -85,16 +104,17 @@ fn attempt<S: Alter>(
     alloc: Global,
     changes: &[RowChange],
     rows: &[BoardRow],
+    indexes: &[IndexChange],
 ) -> Ended
     requires { conn.old.in_transaction ≡ false }
     ensures idle { conn.new.in_transaction ≡ false }
-    ensures done { HasCleanDisk (state S.Store conn.new) → is_done result ≡ true → IsDone S.Store changes.now rows.now conn.old conn.new }
+    ensures done { HasCleanDisk (state S.Store conn.new) → is_done result ≡ true → IsDone S.Store changes.now rows.now indexes.now conn.old conn.new }
     ensures back { HasCleanDisk (state S.Store conn.new) → is_done result ≡ false → IsBack S.Store conn.old conn.new }
-    ensures survives { Survives (state S.Store conn.old) (state S.Store conn.new) (CommitsAll S.Store changes.now rows.now conn.old) }
+    ensures survives { Survives (state S.Store conn.old) (state S.Store conn.new) (CommitsAll S.Store changes.now rows.now indexes.now conn.old) }
     ensures quiet { is_undone result ≡ true → Survives (state S.Store conn.old) (state S.Store conn.new) (λ _. ⊥) }
 {
     let mut tx = conn.transaction();
-    if let Err(fault) = write_all(&mut tx, alloc, changes, rows) {
+    if let Err(fault) = write_all(&mut tx, alloc, changes, rows, indexes) {
         return Ended::Undone(fault);
     }
     match tx.commit() {
@@ -103,23 +123,24 @@ fn attempt<S: Alter>(
     }
 }
 
-/// Makes the changes and puts the rows in one transaction, or none of it.
+/// Makes the changes, puts the rows and changes the indexes in one transaction, or none of it.
 pub(crate) fn commit<S: Alter>(
     conn: &mut Connection<S>,
     alloc: Global,
     changes: &[RowChange],
     rows: &[BoardRow],
+    indexes: &[IndexChange],
 ) -> Result<(), StoreFault>
     requires { conn.old.in_transaction ≡ false }
     ensures idle { conn.new.in_transaction ≡ false }
     ensures clean { doubt (state S.Store conn.old).is_clean ≤ doubt (state S.Store conn.new).is_clean }
-    ensures done { HasCleanDisk (state S.Store conn.new) → OnOk result ((k : Kept) → IsAt S.Store k conn.old → IsAt S.Store (written changes.now rows.now k) conn.new) }
+    ensures done { HasCleanDisk (state S.Store conn.new) → OnOk result ((k : Kept) → IsAt S.Store k conn.old → IsAt S.Store (written changes.now rows.now indexes.now k) conn.new) }
     ensures memory { HasCleanDisk (state S.Store conn.new) → result ≡ Err Memory → (k : Kept) → IsAt S.Store k conn.old → IsAt S.Store k conn.new }
-    ensures left { HasCleanDisk (state S.Store conn.new) → (k : Kept) → IsAt S.Store k conn.old → LeavesEither S.Store k (written changes.now rows.now k) conn.new }
+    ensures left { HasCleanDisk (state S.Store conn.new) → (k : Kept) → IsAt S.Store k conn.old → LeavesEither S.Store k (written changes.now rows.now indexes.now k) conn.new }
 {
     // With no transaction open, what is seen is what is committed.
     let _is_idle = conn.is_autocommit();
-    match attempt(conn, alloc, changes, rows) {
+    match attempt(conn, alloc, changes, rows, indexes) {
         Ended::Done => Ok(()),
         Ended::Undone(fault) | Ended::Unknown(fault) => match probe(conn) {
             Ok(()) => Err(fault),

@@ -2,13 +2,13 @@
 
 ghost use Rattle.std.specs.Prelude.{IfOk};
 ghost use Rattle.sqlite.specs.Order.{column};
-ghost use Rattle.ci_store.specs.Load.{HoldsSpec};
+ghost use Rattle.ci_store.specs.Load.{HoldsList, HoldsSpec};
 
 use crate::columns::text;
-use crate::read::{Stored, flag_at, has_columns, text_at};
+use crate::read::{Loaded, Stored, flag_at, has_columns, text_at, texts_at};
 use crate::texts;
 use ci_machine::records::{Job, JobOptions};
-use ci_records::{read_spec, spec_text};
+use ci_records::{list_text, read_spec, spec_text};
 use ci_tables::fault::StoreFault;
 use ci_tables::values::number;
 use ci_tables::write::put;
@@ -16,37 +16,43 @@ use sqlite::types::ToSql;
 use sqlite::{Alter, Row, Transaction};
 use std::alloc::Global;
 
-fn options_at(alloc: Global, row: &Row, at: usize) -> Result<JobOptions, StoreFault>
-    ensures { IfOk result (HoldsSpec (column row.now at)) }
+/// What was fixed of a job, of the columns `spec` and `script`.
+fn options_of(alloc: Global, row: &Row) -> Result<JobOptions, StoreFault>
+    ensures spec { IfOk result (HoldsSpec (column row.now 5)) }
+    ensures script { IfOk result (λ options. HoldsList (column row.now 6) options.script) }
 {
-    let text: String = row.get(at)?;
-    read_spec(alloc, text.as_str())
+    let text: String = row.get(5)?;
+    let script = texts_at(alloc, row, 6)?;
+    read_spec(alloc, text.as_str(), script)
+}
+
+impl Loaded for Job {
+    ghost use Rattle.ci_store.specs.Load.{IsJobRow};
+
+    ghost is_row = { IsJobRow };
+
+    fn read(alloc: Global, row: &Row) -> Result<Job, StoreFault> {
+        has_columns(row, 10)?;
+        Ok(Job {
+            id: row.get(0)?,
+            pipeline: row.get(1)?,
+            position: row.get(2)?,
+            played: flag_at(row, 7)?,
+            cancelled: flag_at(row, 8)?,
+            set_aside: row.get(9)?,
+            name: text_at(row, 3)?,
+            stage: text_at(row, 4)?,
+            options: options_of(alloc, row)?,
+        })
+    }
 }
 
 impl Stored for Job {
     ghost use Rattle.ci_machine.specs.State.{with_record};
     ghost use Rattle.ci_machine.specs.declared.change.Record.TheVariants as variant;
     ghost use Rattle.ci_store.specs.Commit.{in_state};
-    ghost use Rattle.ci_store.specs.Load.{IsJobRow};
-
-    ghost is_row = { IsJobRow };
 
     ghost puts = { λ x. in_state (with_record (variant.Job x)) };
-
-    fn read(alloc: Global, row: &Row) -> Result<Job, StoreFault> {
-        has_columns(row, 9)?;
-        Ok(Job {
-            id: row.get(0)?,
-            pipeline: row.get(1)?,
-            position: row.get(2)?,
-            played: flag_at(row, 6)?,
-            cancelled: flag_at(row, 7)?,
-            set_aside: row.get(8)?,
-            name: text_at(row, 3)?,
-            stage: text_at(row, 4)?,
-            options: options_at(alloc, row, 5)?,
-        })
-    }
 
     fn put<S: Alter>(
         &self,
@@ -55,6 +61,7 @@ impl Stored for Job {
         is_new: bool,
     ) -> Result<(), StoreFault> {
         let spec = spec_text(alloc, &self.options)?;
+        let script = list_text(alloc, &self.options.script)?;
         let id = number(self.id)?;
         let pipeline = number(self.pipeline)?;
         let position = number(self.position)?;
@@ -71,6 +78,7 @@ impl Stored for Job {
                 text(&self.name),
                 text(&self.stage),
                 (&spec).to_sql(),
+                (&script).to_sql(),
                 self.played.to_sql(),
                 self.cancelled.to_sql(),
                 set_aside,

@@ -1,7 +1,7 @@
 //! Variables of jobs as rows.
 
 use crate::columns::text;
-use crate::read::{Stored, has_columns, text_at};
+use crate::read::{Loaded, Stored, has_columns, text_at};
 use crate::texts;
 use ci_machine::records::JobVariable;
 use ci_tables::fault::StoreFault;
@@ -10,16 +10,11 @@ use ci_tables::write::put;
 use sqlite::{Alter, Row, Transaction};
 use std::alloc::Global;
 
-impl Stored for JobVariable {
-    ghost use Rattle.ci_machine.specs.State.{with_record};
-    ghost use Rattle.ci_machine.specs.declared.change.Record.TheVariants as variant;
-    ghost use Rattle.ci_store.specs.Commit.{in_state};
+impl Loaded for JobVariable {
     ghost use Rattle.std.specs.Prelude.{◌≡◌};
     ghost use Rattle.ci_store.specs.Rows.{job_variable_row};
 
     ghost is_row = { λ row v. row ≡ job_variable_row v };
-
-    ghost puts = { λ x. in_state (with_record (variant.JobVariable x)) };
 
     fn read(_: Global, row: &Row) -> Result<JobVariable, StoreFault> {
         has_columns(row, 3)?;
@@ -29,6 +24,14 @@ impl Stored for JobVariable {
             value: text_at(row, 2)?,
         })
     }
+}
+
+impl Stored for JobVariable {
+    ghost use Rattle.ci_machine.specs.State.{with_record};
+    ghost use Rattle.ci_machine.specs.declared.change.Record.TheVariants as variant;
+    ghost use Rattle.ci_store.specs.Commit.{in_state};
+
+    ghost puts = { λ x. in_state (with_record (variant.JobVariable x)) };
 
     fn put<S: Alter>(
         &self,

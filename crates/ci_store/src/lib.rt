@@ -5,6 +5,8 @@ mod attempt;
 mod board_row;
 pub mod columns;
 pub mod commit;
+mod demand;
+mod holder;
 mod job;
 mod job_variable;
 pub mod load;
@@ -19,6 +21,7 @@ mod runner;
 pub mod store;
 pub mod tables;
 pub mod texts;
+mod unfinished;
 mod variable;
 
 pub use ci_tables::fault;

@@ -10,16 +10,18 @@ ghost use Rattle.sqlite.specs.Held.{state};
 ghost use Rattle.sqlite_trees.specs.View.{doubt};
 ghost use Rattle.ci_board.specs.Effects.{status_number};
 ghost use Rattle.ci_machine.specs.Step.{next_of};
+ghost use Rattle.ci_machine.specs.Indexes.{newer_in};
 ghost use Rattle.ci_store.specs.Schema.{the_schema};
 ghost use Rattle.ci_store.specs.Calls.{Loads, ShowsRecords, FindsNumber, listed};
 ghost use Rattle.ci_store.specs.Rows.{number};
 
-use crate::columns::{counter_key, text};
+use crate::columns::{counter_key, kind_number, text};
 use crate::probe::probe_intact;
-use crate::read::{Stored, read_all};
+use crate::read::{Loaded, read_all};
 use crate::texts;
 use ci_board::facts::Status;
 use ci_machine::change::Counter;
+use ci_machine::records::Pipeline;
 use ci_machine::text::Text;
 use ci_tables::fault::StoreFault;
 use ci_tables::read::rows;
@@ -65,7 +67,7 @@ pub(crate) fn next<S: Alter>(conn: &mut Connection<S>, counter: Counter) -> Resu
 }
 
 /// The record that a query shows, if it shows any. Errors: it shows more.
-pub(crate) fn one<S: Alter, R: Stored>(
+pub(crate) fn one<S: Alter, R: Loaded>(
     conn: &mut Connection<S>,
     sql: &str,
     params: &[ValueRef<'_>],
@@ -84,7 +86,7 @@ pub(crate) fn one<S: Alter, R: Stored>(
 }
 
 /// The record that a query by a number shows, if it shows any.
-pub(crate) fn one_at<S: Alter, R: Stored>(
+pub(crate) fn one_at<S: Alter, R: Loaded>(
     conn: &mut Connection<S>,
     sql: &str,
     id: u64,
@@ -100,7 +102,7 @@ pub(crate) fn one_at<S: Alter, R: Stored>(
 
 /// The record with a number that a call names, which may be any: where it is over the greatest integer of SQL, none has it, and
 /// the query of the records above that integer says so. Errors: that query shows one.
-pub(crate) fn one_named<S: Alter, R: Stored>(
+pub(crate) fn one_named<S: Alter, R: Loaded>(
     conn: &mut Connection<S>,
     sql: &str,
     above: &str,
@@ -123,7 +125,7 @@ pub(crate) fn one_named<S: Alter, R: Stored>(
 }
 
 /// The record that a query by an owner's number and a name shows, if it shows any.
-pub(crate) fn one_of<S: Alter, R: Stored>(
+pub(crate) fn one_of<S: Alter, R: Loaded>(
     conn: &mut Connection<S>,
     sql: &str,
     owner: u64,
@@ -139,7 +141,7 @@ pub(crate) fn one_of<S: Alter, R: Stored>(
 }
 
 /// The records that a query shows.
-pub(crate) fn list<S: Alter, R: Stored>(
+pub(crate) fn list<S: Alter, R: Loaded>(
     conn: &mut Connection<S>,
     sql: &str,
     params: &[ValueRef<'_>],
@@ -154,7 +156,7 @@ pub(crate) fn list<S: Alter, R: Stored>(
 }
 
 /// The records that a query by a number shows.
-pub(crate) fn list_of<S: Alter, R: Stored>(
+pub(crate) fn list_of<S: Alter, R: Loaded>(
     conn: &mut Connection<S>,
     sql: &str,
     owner: u64,
@@ -169,7 +171,7 @@ pub(crate) fn list_of<S: Alter, R: Stored>(
 }
 
 /// The records that a query by the first number of a range and by its last one shows.
-pub(crate) fn list_within<S: Alter, R: Stored>(
+pub(crate) fn list_within<S: Alter, R: Loaded>(
     conn: &mut Connection<S>,
     sql: &str,
     first: u64,
@@ -186,7 +188,7 @@ pub(crate) fn list_within<S: Alter, R: Stored>(
 }
 
 /// The records that a query by a status, by the job before the page, and by how many rows a page has shows.
-pub(crate) fn list_after<S: Alter, R: Stored>(
+pub(crate) fn list_after<S: Alter, R: Loaded>(
     conn: &mut Connection<S>,
     sql: &str,
     status: Status,
@@ -201,4 +203,24 @@ pub(crate) fn list_after<S: Alter, R: Stored>(
     let job = number(job)?;
     let count = number(count as u64)?;
     list(conn, sql, &[status.as_number().to_sql(), job, count])
+}
+
+/// The first newer pipeline of the same project, for the same branch or the same tag, as a query by these shows it.
+pub(crate) fn newer<S: Alter>(
+    conn: &mut Connection<S>,
+    pipeline: &Pipeline,
+) -> Result<Option<Pipeline>, StoreFault>
+    requires { conn.old.in_transaction ≡ false }
+    ensures idle { conn.new.in_transaction ≡ false }
+    ensures loads { Loads S.Store conn.old conn.new result (λ k found. found ≡ newer_in k.state pipeline.now) }
+{
+    let project = number(pipeline.project)?;
+    let kind = kind_number(pipeline.kind);
+    let id = number(pipeline.id)?;
+    let only = number(1)?;
+    one(
+        conn,
+        texts::SELECT_NEWER_PIPELINES,
+        &[project, text(&pipeline.git_ref), kind.to_sql(), id, only],
+    )
 }

@@ -7,13 +7,14 @@ ghost use Rattle.sqlite.specs.Values.{bound};
 ghost use Rattle.sqlite.specs.Held.{state};
 ghost use Rattle.ci_machine.specs.State.{with_record, without_record, with_next, changed};
 ghost use Rattle.ci_tables.specs.Statements.{KeepsInside, CommitsNothing};
+ghost use Rattle.ci_machine.specs.Kept.{indexed};
 ghost use Rattle.ci_store.specs.Commit.{in_state, MakesInside, RemovesUnreferred};
 ghost use Rattle.ci_store.specs.Rows.{number};
 
 use crate::columns::{counter_key, text};
 use crate::read::Stored;
 use crate::texts;
-use ci_machine::change::{Counter, Key, Record, RowChange};
+use ci_machine::change::{Counter, IndexChange, Key, Record, RowChange};
 use ci_machine::text::Text;
 use ci_tables::fault::StoreFault;
 use ci_tables::read::rows_inside;
@@ -164,7 +165,12 @@ fn remove_record<S: Alter>(tx: &mut Transaction<'_, S>, key: &Key) -> Result<(),
         ),
         Key::JobVariable(job, name) => remove_named(tx, texts::DELETE_JOB_VARIABLE, *job, name),
         Key::Need(job, pred) => remove_pair(tx, texts::DELETE_NEED, *job, *pred),
-        Key::Attempt(id) => remove_at(tx, &[texts::SELECT_PIECES], texts::DELETE_ATTEMPT, *id),
+        Key::Attempt(id) => remove_at(
+            tx,
+            &[texts::SELECT_PIECES, texts::SELECT_HOLDERS_OF],
+            texts::DELETE_ATTEMPT,
+            *id,
+        ),
         Key::Piece(attempt, seq) => remove_pair(tx, texts::DELETE_PIECE, *attempt, *seq),
     }
 }
@@ -203,5 +209,27 @@ pub(crate) fn make<S: Alter>(
         RowChange::Put(record) => put_record(tx, alloc, false, record),
         RowChange::Remove(key) => remove_record(tx, key),
         RowChange::SetNext(counter, next) => set_next(tx, *counter, *next),
+    }
+}
+
+/// Makes one change of the groups that are held, or of the pipelines that aren't finished. Errors: what is to be added is there
+/// already.
+pub(crate) fn change_index<S: Alter>(
+    tx: &mut Transaction<'_, S>,
+    alloc: Global,
+    change: &IndexChange,
+) -> Result<(), StoreFault>
+    ensures same_reference { tx.new.conn.ghost_name ≡ tx.old.conn.ghost_name }
+    ensures makes { MakesInside S.Store (indexed change.now) tx.old.conn.now tx.new.conn.now result }
+    ensures kept { KeepsInside S.Store tx.old.conn.now tx.new.conn.now }
+    ensures survives { CommitsNothing S.Store tx.old.conn.now tx.new.conn.now }
+{
+    match change {
+        IndexChange::Hold(holder) => holder.put(tx, alloc, true),
+        IndexChange::Free(project, group) => {
+            remove_named(tx, texts::DELETE_HOLDER, *project, group)
+        }
+        IndexChange::Open(unfinished) => unfinished.put(tx, alloc, true),
+        IndexChange::Close(pipeline) => remove_at(tx, &[], texts::DELETE_UNFINISHED, *pipeline),
     }
 }

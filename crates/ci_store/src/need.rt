@@ -1,6 +1,6 @@
 //! Pairs of pipelines' graphs as rows.
 
-use crate::read::{Stored, has_columns};
+use crate::read::{Loaded, Stored, has_columns};
 use crate::texts;
 use ci_machine::records::Need;
 use ci_tables::fault::StoreFault;
@@ -9,16 +9,11 @@ use ci_tables::write::put;
 use sqlite::{Alter, Row, Transaction};
 use std::alloc::Global;
 
-impl Stored for Need {
-    ghost use Rattle.ci_machine.specs.State.{with_record};
-    ghost use Rattle.ci_machine.specs.declared.change.Record.TheVariants as variant;
-    ghost use Rattle.ci_store.specs.Commit.{in_state};
+impl Loaded for Need {
     ghost use Rattle.std.specs.Prelude.{◌≡◌};
     ghost use Rattle.ci_store.specs.Rows.{need_row};
 
     ghost is_row = { λ row n. row ≡ need_row n };
-
-    ghost puts = { λ x. in_state (with_record (variant.Need x)) };
 
     fn read(_: Global, row: &Row) -> Result<Need, StoreFault> {
         has_columns(row, 2)?;
@@ -27,6 +22,14 @@ impl Stored for Need {
             pred: row.get(1)?,
         })
     }
+}
+
+impl Stored for Need {
+    ghost use Rattle.ci_machine.specs.State.{with_record};
+    ghost use Rattle.ci_machine.specs.declared.change.Record.TheVariants as variant;
+    ghost use Rattle.ci_store.specs.Commit.{in_state};
+
+    ghost puts = { λ x. in_state (with_record (variant.Need x)) };
 
     fn put<S: Alter>(
         &self,

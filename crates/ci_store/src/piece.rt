@@ -1,7 +1,7 @@
 //! Pieces of traces as rows.
 
 use crate::columns::blob;
-use crate::read::{Stored, bytes_at, has_columns};
+use crate::read::{Loaded, Stored, bytes_at, has_columns};
 use crate::texts;
 use ci_machine::records::Piece;
 use ci_tables::fault::StoreFault;
@@ -10,16 +10,11 @@ use ci_tables::write::put;
 use sqlite::{Alter, Row, Transaction};
 use std::alloc::Global;
 
-impl Stored for Piece {
-    ghost use Rattle.ci_machine.specs.State.{with_record};
-    ghost use Rattle.ci_machine.specs.declared.change.Record.TheVariants as variant;
-    ghost use Rattle.ci_store.specs.Commit.{in_state};
+impl Loaded for Piece {
     ghost use Rattle.std.specs.Prelude.{◌≡◌};
     ghost use Rattle.ci_store.specs.Rows.{piece_row};
 
     ghost is_row = { λ row p. row ≡ piece_row p };
-
-    ghost puts = { λ x. in_state (with_record (variant.Piece x)) };
 
     fn read(_: Global, row: &Row) -> Result<Piece, StoreFault> {
         has_columns(row, 3)?;
@@ -29,6 +24,14 @@ impl Stored for Piece {
             bytes: bytes_at(row, 2)?,
         })
     }
+}
+
+impl Stored for Piece {
+    ghost use Rattle.ci_machine.specs.State.{with_record};
+    ghost use Rattle.ci_machine.specs.declared.change.Record.TheVariants as variant;
+    ghost use Rattle.ci_store.specs.Commit.{in_state};
+
+    ghost puts = { λ x. in_state (with_record (variant.Piece x)) };
 
     fn put<S: Alter>(
         &self,

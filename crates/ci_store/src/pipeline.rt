@@ -4,7 +4,7 @@ ghost use Rattle.std.specs.Prelude.{◌≡◌, IfSome};
 ghost use Rattle.ci_store.specs.Rows.{kind_number, source_number};
 
 use crate::columns::{kind_number, source_number, text};
-use crate::read::{Stored, has_columns, moment_at, text_at};
+use crate::read::{Loaded, Stored, has_columns, moment_at, text_at};
 use crate::texts;
 use ci_machine::records::{Pipeline, RefKind, Source};
 use ci_tables::fault::StoreFault;
@@ -37,16 +37,11 @@ fn read_source(number: u32) -> Option<Source>
     }
 }
 
-impl Stored for Pipeline {
-    ghost use Rattle.ci_machine.specs.State.{with_record};
-    ghost use Rattle.ci_machine.specs.declared.change.Record.TheVariants as variant;
-    ghost use Rattle.ci_store.specs.Commit.{in_state};
+impl Loaded for Pipeline {
     ghost use Rattle.std.specs.Prelude.{◌≡◌};
     ghost use Rattle.ci_store.specs.Rows.{pipeline_row};
 
     ghost is_row = { λ row p. row ≡ pipeline_row p };
-
-    ghost puts = { λ x. in_state (with_record (variant.Pipeline x)) };
 
     fn read(_: Global, row: &Row) -> Result<Pipeline, StoreFault> {
         has_columns(row, 6)?;
@@ -59,6 +54,14 @@ impl Stored for Pipeline {
             git_ref: text_at(row, 2)?,
         })
     }
+}
+
+impl Stored for Pipeline {
+    ghost use Rattle.ci_machine.specs.State.{with_record};
+    ghost use Rattle.ci_machine.specs.declared.change.Record.TheVariants as variant;
+    ghost use Rattle.ci_store.specs.Commit.{in_state};
+
+    ghost puts = { λ x. in_state (with_record (variant.Pipeline x)) };
 
     fn put<S: Alter>(
         &self,

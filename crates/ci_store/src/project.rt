@@ -1,7 +1,7 @@
 //! Projects as rows.
 
 use crate::columns::{optional_text, text};
-use crate::read::{Stored, has_columns, optional_text_at, text_at};
+use crate::read::{Loaded, Stored, has_columns, optional_text_at, text_at};
 use crate::texts;
 use ci_machine::records::Project;
 use ci_tables::fault::StoreFault;
@@ -10,16 +10,11 @@ use ci_tables::write::put;
 use sqlite::{Alter, Row, Transaction};
 use std::alloc::Global;
 
-impl Stored for Project {
-    ghost use Rattle.ci_machine.specs.State.{with_record};
-    ghost use Rattle.ci_machine.specs.declared.change.Record.TheVariants as variant;
-    ghost use Rattle.ci_store.specs.Commit.{in_state};
+impl Loaded for Project {
     ghost use Rattle.std.specs.Prelude.{◌≡◌};
     ghost use Rattle.ci_store.specs.Rows.{project_row};
 
     ghost is_row = { λ row p. row ≡ project_row p };
-
-    ghost puts = { λ x. in_state (with_record (variant.Project x)) };
 
     fn read(_: Global, row: &Row) -> Result<Project, StoreFault> {
         has_columns(row, 4)?;
@@ -30,6 +25,14 @@ impl Stored for Project {
             file: optional_text_at(row, 3)?,
         })
     }
+}
+
+impl Stored for Project {
+    ghost use Rattle.ci_machine.specs.State.{with_record};
+    ghost use Rattle.ci_machine.specs.declared.change.Record.TheVariants as variant;
+    ghost use Rattle.ci_store.specs.Commit.{in_state};
+
+    ghost puts = { λ x. in_state (with_record (variant.Project x)) };
 
     fn put<S: Alter>(
         &self,

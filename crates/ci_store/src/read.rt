@@ -7,11 +7,13 @@ ghost use Rattle.sqlite.specs.Values.{or_null};
 ghost use Rattle.sqlite.specs.declared.types.Value.TheVariants.{Text as Words, Blob};
 ghost use Rattle.ci_machine.specs.Kept.{Kept};
 ghost use Rattle.ci_tables.specs.Statements.{KeepsInside, CommitsNothing};
+ghost use Rattle.ci_store.specs.Load.{HoldsList};
 ghost use Rattle.ci_store.specs.Rows.{number, flag};
 ghost use Rattle.ci_store.specs.Commit.{MakesInside};
 
 use ci_machine::moment::Moment;
-use ci_machine::text::{Bytes, Text};
+use ci_machine::text::{Bytes, Text, Texts};
+use ci_records::read_list;
 use ci_tables::fault::StoreFault;
 use sqlite::{Alter, Row, Transaction};
 use std::alloc::Global;
@@ -31,6 +33,13 @@ pub(crate) fn optional_text_at(row: &Row, at: usize) -> Result<Option<Text>, Sto
         Some(text) => Ok(Some(Text::new(text))),
         None => Ok(None),
     }
+}
+
+pub(crate) fn texts_at(alloc: Global, row: &Row, at: usize) -> Result<Texts, StoreFault>
+    ensures { IfOk result (HoldsList (column row.now at)) }
+{
+    let text: String = row.get(at)?;
+    read_list(alloc, text.as_str())
 }
 
 pub(crate) fn bytes_at(row: &Row, at: usize) -> Result<Bytes, StoreFault>
@@ -75,17 +84,20 @@ pub(crate) fn has_columns(row: &Row, count: usize) -> Result<(), StoreFault>
     }
 }
 
-/// A record that a table stores, one in each row.
-pub trait Stored: Drop {
+/// A record that a query shows, one in each row.
+pub trait Loaded: Drop {
     /// The row has the values of the record.
     ghost is_row: { Row → Self → Type 0 };
-
-    /// What a put of the record makes of what is kept.
-    ghost puts: { Self → Kept → Kept };
 
     /// The record of a row. Errors: memory was refused, or the row is of no such record.
     fn read(alloc: Global, row: &Row) -> Result<Self, StoreFault>
         ensures { IfOk result (is_row row.now) };
+}
+
+/// A record that a table stores, one in each row.
+pub trait Stored {
+    /// What a put of the record makes of what is kept.
+    ghost puts: { Self → Kept → Kept };
 
     /// Updates the row of the record, or inserts it where it is not there. A new one is only inserted. Errors: memory was
     /// refused, or the store failed.
@@ -102,7 +114,7 @@ pub trait Stored: Drop {
 }
 
 /// The records of rows. Errors: as `read`.
-pub fn read_all<R: Stored>(alloc: Global, rows: &[Row]) -> Result<Vec<R>, StoreFault>
+pub fn read_all<R: Loaded>(alloc: Global, rows: &[Row]) -> Result<Vec<R>, StoreFault>
     ensures { IfOk result (λ found. AllZip R.is_row rows.now found.items) }
 {
     let mut found = Vec::new(alloc);

@@ -1,15 +1,10 @@
 //! Runners as rows.
 
-ghost use Rattle.std.specs.Prelude.{IfOk};
-ghost use Rattle.sqlite.specs.Order.{column};
-ghost use Rattle.ci_store.specs.Load.{HoldsTags};
-
 use crate::columns::text;
-use crate::read::{Stored, flag_at, has_columns, text_at};
+use crate::read::{Loaded, Stored, flag_at, has_columns, text_at, texts_at};
 use crate::texts;
 use ci_machine::records::Runner;
-use ci_machine::text::Texts;
-use ci_records::{read_tags, tags_text};
+use ci_records::list_text;
 use ci_tables::fault::StoreFault;
 use ci_tables::values::{number, optional_number};
 use ci_tables::write::put;
@@ -17,22 +12,10 @@ use sqlite::types::ToSql;
 use sqlite::{Alter, Row, Transaction};
 use std::alloc::Global;
 
-fn tags_at(alloc: Global, row: &Row, at: usize) -> Result<Texts, StoreFault>
-    ensures { IfOk result (HoldsTags (column row.now at)) }
-{
-    let text: String = row.get(at)?;
-    read_tags(alloc, text.as_str())
-}
-
-impl Stored for Runner {
-    ghost use Rattle.ci_machine.specs.State.{with_record};
-    ghost use Rattle.ci_machine.specs.declared.change.Record.TheVariants as variant;
-    ghost use Rattle.ci_store.specs.Commit.{in_state};
+impl Loaded for Runner {
     ghost use Rattle.ci_store.specs.Load.{IsRunnerRow};
 
     ghost is_row = { IsRunnerRow };
-
-    ghost puts = { λ x. in_state (with_record (variant.Runner x)) };
 
     fn read(alloc: Global, row: &Row) -> Result<Runner, StoreFault> {
         has_columns(row, 7)?;
@@ -43,9 +26,17 @@ impl Stored for Runner {
             paused: flag_at(row, 6)?,
             name: text_at(row, 1)?,
             token: text_at(row, 2)?,
-            tags: tags_at(alloc, row, 4)?,
+            tags: texts_at(alloc, row, 4)?,
         })
     }
+}
+
+impl Stored for Runner {
+    ghost use Rattle.ci_machine.specs.State.{with_record};
+    ghost use Rattle.ci_machine.specs.declared.change.Record.TheVariants as variant;
+    ghost use Rattle.ci_store.specs.Commit.{in_state};
+
+    ghost puts = { λ x. in_state (with_record (variant.Runner x)) };
 
     fn put<S: Alter>(
         &self,
@@ -53,7 +44,7 @@ impl Stored for Runner {
         alloc: Global,
         is_new: bool,
     ) -> Result<(), StoreFault> {
-        let tags = tags_text(alloc, &self.tags)?;
+        let tags = list_text(alloc, &self.tags)?;
         let id = number(self.id)?;
         let project = optional_number(self.project)?;
         put(

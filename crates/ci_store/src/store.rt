@@ -3,13 +3,16 @@
 ghost use Rattle.std.specs.Prelude.{◌≡◌};
 ghost use Rattle.ci_machine.specs.Kept.{Kept, written};
 ghost use Rattle.ci_machine.specs.Statuses.{attempts_of, jobs_of};
-ghost use Rattle.ci_machine.specs.Step.{project_at, project_with, project_variables, variable_at, runner_with, pipeline_at, job_at, variables_of, attempt_at, live_attempts, pieces_of, next_of};
+ghost use Rattle.ci_machine.specs.Step.{project_at, project_with, project_variables, variable_at, runner_at, runner_with, pipeline_at, job_at, demand_at, variables_of, attempt_at, live_attempts, pieces_of, next_of};
 ghost use Rattle.ci_machine.specs.Ranges.{needs_within, attempts_within, rows_within, row_at, pending_after};
+ghost use Rattle.ci_machine.specs.Holders.{holder_at};
+ghost use Rattle.ci_machine.specs.Indexes.{newer_in};
 ghost use Rattle.ci_store.specs.Store.{LoadsBy, Ends};
 
-use ci_machine::change::{Counter, Delta};
+use ci_machine::change::{Counter, Delta, IndexChange};
 use ci_machine::records::{
-    Attempt, BoardRow, Job, JobVariable, Need, Piece, Pipeline, Project, Runner, Variable,
+    Attempt, BoardRow, Demand, Holder, Job, JobVariable, Need, Piece, Pipeline, Project, Runner,
+    Unfinished, Variable,
 };
 use ci_machine::text::Text;
 use ci_tables::fault::StoreFault;
@@ -49,6 +52,10 @@ pub trait Store {
     fn variable(&mut self, project: u64, key: &Text) -> Result<Option<Variable>, StoreFault>
         ensures { LoadsBy honest holds leaves self.old self.new result (λ k v. v ≡ variable_at k.state project key.now) };
 
+    /// The runner with a number.
+    fn runner(&mut self, id: u64) -> Result<Option<Runner>, StoreFault>
+        ensures { LoadsBy honest holds leaves self.old self.new result (λ k r. r ≡ runner_at k.state id) };
+
     /// The runner with a token.
     fn runner_with(&mut self, token: &Text) -> Result<Option<Runner>, StoreFault>
         ensures { LoadsBy honest holds leaves self.old self.new result (λ k r. r ≡ runner_with k.state token.now) };
@@ -60,6 +67,10 @@ pub trait Store {
     /// The job with a number.
     fn job(&mut self, id: u64) -> Result<Option<Job>, StoreFault>
         ensures { LoadsBy honest holds leaves self.old self.new result (λ k j. j ≡ job_at k.state id) };
+
+    /// What the job with a number asks of a runner, without its script.
+    fn demand(&mut self, id: u64) -> Result<Option<Demand>, StoreFault>
+        ensures { LoadsBy honest holds leaves self.old self.new result (λ k d. d ≡ demand_at k.state id) };
 
     /// The variables of a job, by key.
     fn job_variables(&mut self, job: u64) -> Result<Vec<JobVariable>, StoreFault>
@@ -105,10 +116,28 @@ pub trait Store {
     fn pending_after(&mut self, job: u64) -> Result<Vec<BoardRow>, StoreFault>
         ensures { LoadsBy honest holds leaves self.old self.new result (λ k rows. rows.items ≡ pending_after PAGE_ROWS job k.board) };
 
-    /// Makes the changes of records, and then puts the rows, all of it or nothing.
-    fn commit(&mut self, delta: Delta, rows: Vec<BoardRow>) -> Result<(), StoreFault>
+    /// The attempt that holds a resource group of a project that was found.
+    fn holder(&mut self, project: u64, group: &Text) -> Result<Option<Holder>, StoreFault>
+        ensures { LoadsBy honest holds leaves self.old self.new result (λ k h. h ≡ holder_at project group.now k.holders) };
+
+    /// The pipelines that aren't finished, by number.
+    fn unfinished(&mut self) -> Result<Vec<Unfinished>, StoreFault>
+        ensures { LoadsBy honest holds leaves self.old self.new result (λ k all. all.items ≡ k.unfinished) };
+
+    /// The first newer pipeline of the same project, for the same branch or the same tag, as a pipeline that was found.
+    fn newer_of(&mut self, pipeline: &Pipeline) -> Result<Option<Pipeline>, StoreFault>
+        ensures { LoadsBy honest holds leaves self.old self.new result (λ k p. p ≡ newer_in k.state pipeline.now) };
+
+    /// Makes the changes of records, then puts the rows, and then changes the groups that are held and the pipelines that
+    /// aren't finished, all of it or nothing.
+    fn commit(
+        &mut self,
+        delta: Delta,
+        rows: Vec<BoardRow>,
+        indexes: Vec<IndexChange>,
+    ) -> Result<(), StoreFault>
         ensures was_honest { honest self.new → honest self.old }
-        ensures ends { honest self.new → (k : Kept) → holds self.old k → Ends result (holds self.new (written delta rows.items k)) (holds self.new k) (leaves self.new k (written delta rows.items k)) };
+        ensures ends { honest self.new → (k : Kept) → holds self.old k → Ends result (holds self.new (written delta rows.items indexes.items k)) (holds self.new k) (leaves self.new k (written delta rows.items indexes.items k)) };
 
     // What it keeps is what a stop leaves.
     ghost held_is_left: { (store : Self) (k : Kept) → holds store k → leaves store k k };

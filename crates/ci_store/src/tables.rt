@@ -20,10 +20,10 @@ use crate::probe::probe_intact;
 use crate::store::{PAGE_ROWS, Store};
 use crate::{load, texts};
 use ci_board::facts::Status;
-use ci_machine::change::{Counter, Delta};
+use ci_machine::change::{Counter, Delta, IndexChange};
 use ci_machine::records::{
-    Attempt, AttemptState, BoardRow, Job, JobVariable, Need, Piece, Pipeline, Project, Runner,
-    Variable,
+    Attempt, AttemptState, BoardRow, Demand, Holder, Job, JobVariable, Need, Piece, Pipeline,
+    Project, Runner, Unfinished, Variable,
 };
 use ci_machine::text::Text;
 use ci_tables::fault::StoreFault;
@@ -313,6 +313,15 @@ impl<S: Alter> Store for Tables<S> {
         load::one_of(&mut self.conn, texts::SELECT_VARIABLE, project, key)
     }
 
+    fn runner(&mut self, id: u64) -> Result<Option<Runner>, StoreFault> {
+        load::one_named(
+            &mut self.conn,
+            texts::SELECT_RUNNER,
+            texts::SELECT_RUNNERS_ABOVE,
+            id,
+        )
+    }
+
     fn runner_with(&mut self, token: &Text) -> Result<Option<Runner>, StoreFault> {
         load::one(&mut self.conn, texts::SELECT_RUNNER_WITH, &[text(token)])
     }
@@ -331,6 +340,15 @@ impl<S: Alter> Store for Tables<S> {
             &mut self.conn,
             texts::SELECT_JOB,
             texts::SELECT_JOBS_ABOVE,
+            id,
+        )
+    }
+
+    fn demand(&mut self, id: u64) -> Result<Option<Demand>, StoreFault> {
+        load::one_named(
+            &mut self.conn,
+            texts::SELECT_DEMAND,
+            texts::SELECT_DEMANDS_ABOVE,
             id,
         )
     }
@@ -391,9 +409,32 @@ impl<S: Alter> Store for Tables<S> {
         )
     }
 
-    fn commit(&mut self, delta: Delta, rows: Vec<BoardRow>) -> Result<(), StoreFault> {
+    fn holder(&mut self, project: u64, group: &Text) -> Result<Option<Holder>, StoreFault> {
+        load::one_of(&mut self.conn, texts::SELECT_HOLDER, project, group)
+    }
+
+    fn unfinished(&mut self) -> Result<Vec<Unfinished>, StoreFault> {
+        load::list(&mut self.conn, texts::SELECT_UNFINISHED, &[])
+    }
+
+    fn newer_of(&mut self, pipeline: &Pipeline) -> Result<Option<Pipeline>, StoreFault> {
+        load::newer(&mut self.conn, pipeline)
+    }
+
+    fn commit(
+        &mut self,
+        delta: Delta,
+        rows: Vec<BoardRow>,
+        indexes: Vec<IndexChange>,
+    ) -> Result<(), StoreFault> {
         let changes = delta.into_vec();
         let alloc = *changes.allocator();
-        commit(&mut self.conn, alloc, changes.as_slice(), rows.as_slice())
+        commit(
+            &mut self.conn,
+            alloc,
+            changes.as_slice(),
+            rows.as_slice(),
+            indexes.as_slice(),
+        )
     }
 }

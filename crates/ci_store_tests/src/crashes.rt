@@ -1,10 +1,10 @@
 //! Each call of the store fails in turn, on each of its two files; then the files are opened again. The helpers have no
 //! clause, so that a test's proof carries little.
 
-use crate::records::{add, job, pipeline, project, row_of};
+use crate::records::{add, attempt, hold, job, pipeline, project, row_of, runner};
 use ci_board::facts::Status;
-use ci_machine::change::{Counter, Delta, RowChange};
-use ci_machine::records::BoardRow;
+use ci_machine::change::{Counter, Delta, IndexChange, RowChange};
+use ci_machine::records::{AttemptState, BoardRow, Unfinished};
 use ci_machine::text::Text;
 use ci_store::fault::StoreFault;
 use ci_store::store::Store;
@@ -20,8 +20,10 @@ use std::test::Fail;
 fn first(alloc: Global) -> Result<Delta, Fail> {
     let mut changes = Vec::new(alloc);
     add(&mut changes, project(alloc, 1, "one", "p1"))?;
+    add(&mut changes, runner(alloc))?;
     add(&mut changes, pipeline(alloc, 1))?;
     add(&mut changes, job(alloc, 1, 1))?;
+    add(&mut changes, attempt(alloc, 1, 1, AttemptState::Live))?;
     Ok(Delta::new(changes))
 }
 
@@ -50,14 +52,25 @@ fn first_row(alloc: Global) -> Result<Vec<BoardRow>, Fail> {
     Ok(rows)
 }
 
-/// Tables with project 1 and a job of it.
+/// The group that the second commit holds, and the pipeline that it opens.
+fn first_indexes(alloc: Global) -> Result<Vec<IndexChange>, Fail> {
+    let mut indexes = Vec::new(alloc);
+    indexes.push(hold(alloc, 1, "prod", 1)?)?;
+    indexes.push(IndexChange::Open(Unfinished { pipeline: 1 }))?;
+    Ok(indexes)
+}
+
+/// Tables with project 1 and a job of it, of which an attempt is live.
 fn made(alloc: Global) -> Result<Tables<FileStore<Memory>>, Fail> {
     let delta = first(alloc)?;
     let Some(mut tables) = created(alloc, empty(alloc)) else {
         let _ = delta.into_vec();
         return Err("not created")?;
     };
-    if tables.commit(delta, Vec::new(alloc)).is_ok() {
+    if tables
+        .commit(delta, Vec::new(alloc), Vec::new(alloc))
+        .is_ok()
+    {
         return Ok(tables);
     }
     discard(tables.close());
@@ -165,24 +178,45 @@ fn name_of<S: Alter>(tables: &mut Tables<S>, id: u64) -> Result<Option<Text>, St
     }
 }
 
-fn judged(first: &str, has_second: bool, has_row: bool) -> Found {
-    if first == "one" && !has_second && !has_row {
-        Found::Before
-    } else if first == "uno" && has_second && has_row {
-        Found::After
-    } else {
-        Found::Neither
+/// Is the first project's name the new one? Is it neither?
+fn is_renamed<S: Alter>(tables: &mut Tables<S>) -> Result<Option<bool>, StoreFault> {
+    match name_of(tables, 1)? {
+        Some(name) if name.as_str() == "one" => Ok(Some(false)),
+        Some(name) if name.as_str() == "uno" => Ok(Some(true)),
+        _ => Ok(None),
     }
 }
 
-fn outcome<S: Alter>(tables: &mut Tables<S>) -> Found {
-    let (Ok(second), Ok(row)) = (name_of(tables, 2), tables.row(1)) else {
-        return Found::Neither;
-    };
-    match name_of(tables, 1) {
-        Ok(Some(name)) => judged(name.as_str(), second.is_some(), row.is_some()),
+/// How much is there of the second commit: of the other project, the row, the group that is held and the pipeline that is open.
+fn parts_of<S: Alter>(tables: &mut Tables<S>, group: &Text) -> Result<usize, StoreFault> {
+    let second = usize::from(name_of(tables, 2)?.is_some());
+    let row = usize::from(tables.row(1)?.is_some());
+    let held = usize::from(tables.holder(1, group)?.is_some());
+    let open = usize::from(!tables.unfinished()?.is_empty());
+    Ok(
+        second
+            .saturating_add(row)
+            .saturating_add(held)
+            .saturating_add(open),
+    )
+}
+
+fn judged(renamed: Option<bool>, parts: usize) -> Found {
+    match (renamed, parts) {
+        (Some(false), 0) => Found::Before,
+        (Some(true), 4) => Found::After,
         _ => Found::Neither,
     }
+}
+
+fn outcome<S: Alter>(alloc: Global, tables: &mut Tables<S>) -> Found {
+    let Ok(group) = Text::copy_of(alloc, "prod") else {
+        return Found::Neither;
+    };
+    let (Ok(renamed), Ok(parts)) = (is_renamed(tables), parts_of(tables, &group)) else {
+        return Found::Neither;
+    };
+    judged(renamed, parts)
 }
 
 /// What is found after a stop.
@@ -192,7 +226,7 @@ fn reopened(alloc: Global, files: Files<Fuse<Memory>>) -> Found {
     };
     match Tables::open(conn) {
         Ok(mut tables) => {
-            let found = outcome(&mut tables);
+            let found = outcome(alloc, &mut tables);
             discard(tables.close());
             found
         }
@@ -242,12 +276,13 @@ fn opened(alloc: Global, files: Files<Fuse<Memory>>) -> Option<Tables<FileStore<
 fn tried_commit(alloc: Global, of_log: bool, calls: u64) -> Result<Ended, Fail> {
     let files = closed(made(alloc)?.close()).ok_or("not closed")?;
     let rows = first_row(alloc)?;
+    let indexes = first_indexes(alloc)?;
     let delta = renamed(alloc)?;
     let Some(mut tables) = opened(alloc, fused(files, of_log, calls)) else {
         let _ = delta.into_vec();
         return Ok(Ended::Unopened);
     };
-    let is_done = tables.commit(delta, rows).is_ok();
+    let is_done = tables.commit(delta, rows, indexes).is_ok();
     match (is_done, reopened(alloc, stopped(tables.close()))) {
         (true, Found::After) => Ok(Ended::Done),
         (false, Found::Before | Found::After) => Ok(Ended::Faulted),

@@ -1,8 +1,8 @@
 //! Stores that are not ours, and rows that are no records: written through plain SQL.
 
 use crate::plain::{
-    attempt, attempts_of, close, create, filled, job, jobs_of, next, open, parted, pending_after,
-    pipeline, project, row, rows_within, runner_with, wanted,
+    attempt, attempts_of, close, create, demand, filled, job, jobs_of, next, open, parted,
+    pending_after, pipeline, project, row, rows_within, runner, runner_with, unfinished, wanted,
 };
 use crate::records::text;
 use ci_machine::change::Counter;
@@ -33,8 +33,11 @@ fn noted(alloc: Global) -> Result<Connection<MemStore>, Fail> {
 enum Load {
     Next,
     Runner,
+    RunnerAt,
     Pipeline,
     Job,
+    Demand,
+    Unfinished,
     JobsOf,
     Row,
     RowsWithin,
@@ -51,8 +54,11 @@ fn fault_of(
     Ok(match load {
         Load::Next => next(tables, Counter::Job).err(),
         Load::Runner => runner_with(tables, &text(alloc, "r1")?).err(),
+        Load::RunnerAt => runner(tables, 1).err(),
         Load::Pipeline => pipeline(tables, 1).err(),
         Load::Job => job(tables, 1).err(),
+        Load::Demand => demand(tables, 1).err(),
+        Load::Unfinished => unfinished(tables).err(),
         Load::JobsOf => jobs_of(tables, 1).err(),
         Load::Row => row(tables, 1).err(),
         Load::RowsWithin => rows_within(tables, 1, 2).err(),
@@ -66,13 +72,22 @@ const BROKEN: &[(&str, Load)] = &[
     ("UPDATE runner SET tags = 'gpu'", Load::Runner),
     ("UPDATE runner SET tags = '{}'", Load::Runner),
     ("UPDATE runner SET paused = 2", Load::Runner),
+    ("UPDATE runner SET untagged = 2", Load::RunnerAt),
     ("UPDATE pipeline SET kind = 2", Load::Pipeline),
     ("UPDATE pipeline SET created = -1", Load::Pipeline),
     ("UPDATE job SET spec = '[]'", Load::Job),
     (
-        "UPDATE job SET spec = '{\"script\":[\"make\"],\"timeout\":3600}'",
+        "UPDATE job SET spec = '{\"tags\":[\"gpu\"],\"timeout\":3600}'",
         Load::Job,
     ),
+    ("UPDATE job SET spec = '[]'", Load::Demand),
+    (
+        "UPDATE job SET spec = '{\"tags\":[\"gpu\"],\"timeout\":3600}'",
+        Load::Demand,
+    ),
+    ("INSERT INTO unfinished VALUES (-1)", Load::Unfinished),
+    ("UPDATE job SET script = 'make'", Load::Job),
+    ("UPDATE job SET script = '{}'", Load::Job),
     ("UPDATE job SET spec = '[]' WHERE id = 2", Load::JobsOf),
     ("UPDATE board SET status = 9", Load::Row),
     ("UPDATE board SET status = 9", Load::RowsWithin),

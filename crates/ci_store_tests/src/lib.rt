@@ -6,6 +6,8 @@ mod crashes;
 #[cfg(test)]
 mod foreign;
 #[cfg(test)]
+mod indexes;
+#[cfg(test)]
 mod plain;
 #[cfg(test)]
 mod records;

@@ -2,9 +2,10 @@
 
 use crate::records::{one_of_each, removal, row_of};
 use ci_board::facts::Status;
-use ci_machine::change::{Counter, Delta, Key};
+use ci_machine::change::{Counter, Delta, IndexChange, Key};
 use ci_machine::records::{
-    Attempt, BoardRow, Job, JobVariable, Need, Piece, Pipeline, Project, Runner, Variable,
+    Attempt, BoardRow, Demand, Holder, Job, JobVariable, Need, Piece, Pipeline, Project, Runner,
+    Unfinished, Variable,
 };
 use ci_machine::text::Text;
 use ci_store::fault::StoreFault;
@@ -59,9 +60,14 @@ pub fn parted<S: Alter>(
     }
 }
 
-/// Is the change made, with these rows?
-pub fn is_committed<S: Alter>(tables: &mut Tables<S>, delta: Delta, rows: Vec<BoardRow>) -> bool {
-    tables.commit(delta, rows).is_ok()
+/// Is the change made, with these rows, and with these groups and pipelines?
+pub fn is_committed<S: Alter>(
+    tables: &mut Tables<S>,
+    delta: Delta,
+    rows: Vec<BoardRow>,
+    indexes: Vec<IndexChange>,
+) -> bool {
+    tables.commit(delta, rows, indexes).is_ok()
 }
 
 /// What a load answers.
@@ -87,6 +93,10 @@ pub fn variable<S: Alter>(
     tables.variable(project, key)
 }
 
+pub fn runner<S: Alter>(tables: &mut Tables<S>, id: u64) -> Loaded<Option<Runner>> {
+    tables.runner(id)
+}
+
 pub fn runner_with<S: Alter>(tables: &mut Tables<S>, token: &Text) -> Loaded<Option<Runner>> {
     tables.runner_with(token)
 }
@@ -97,6 +107,26 @@ pub fn pipeline<S: Alter>(tables: &mut Tables<S>, id: u64) -> Loaded<Option<Pipe
 
 pub fn job<S: Alter>(tables: &mut Tables<S>, id: u64) -> Loaded<Option<Job>> {
     tables.job(id)
+}
+
+pub fn demand<S: Alter>(tables: &mut Tables<S>, id: u64) -> Loaded<Option<Demand>> {
+    tables.demand(id)
+}
+
+pub fn holder<S: Alter>(
+    tables: &mut Tables<S>,
+    project: u64,
+    group: &Text,
+) -> Loaded<Option<Holder>> {
+    tables.holder(project, group)
+}
+
+pub fn unfinished<S: Alter>(tables: &mut Tables<S>) -> Loaded<Vec<Unfinished>> {
+    tables.unfinished()
+}
+
+pub fn newer_of<S: Alter>(tables: &mut Tables<S>, pipeline: &Pipeline) -> Loaded<Option<Pipeline>> {
+    tables.newer_of(pipeline)
 }
 
 pub fn jobs_of<S: Alter>(tables: &mut Tables<S>, pipeline: u64) -> Loaded<Vec<Job>> {
@@ -154,7 +184,7 @@ pub fn pieces_of<S: Alter>(tables: &mut Tables<S>, attempt: u64) -> Loaded<Vec<P
 /// Is the row with this key removed?
 pub fn is_removed<S: Alter>(alloc: Global, tables: &mut Tables<S>, key: Key) -> Result<bool, Fail> {
     let delta = removal(alloc, key)?;
-    Ok(is_committed(tables, delta, Vec::new(alloc)))
+    Ok(is_committed(tables, delta, Vec::new(alloc), Vec::new(alloc)))
 }
 
 /// Tables closed and opened again.
@@ -169,12 +199,23 @@ fn over_memory(alloc: Global) -> Result<Tables<MemStore>, Fail> {
 
 /// The tables once a change is made, and these rows are put.
 pub fn changed<S: Alter + Drop>(
-    mut tables: Tables<S>,
+    alloc: Global,
+    tables: Tables<S>,
     delta: Result<Delta, Fail>,
     rows: Vec<BoardRow>,
 ) -> Result<Tables<S>, Fail> {
+    indexed(tables, delta, rows, Vec::new(alloc))
+}
+
+/// The same, and these groups and pipelines are changed.
+pub fn indexed<S: Alter + Drop>(
+    mut tables: Tables<S>,
+    delta: Result<Delta, Fail>,
+    rows: Vec<BoardRow>,
+    indexes: Vec<IndexChange>,
+) -> Result<Tables<S>, Fail> {
     let is_done = match delta {
-        Ok(delta) => is_committed(&mut tables, delta, rows),
+        Ok(delta) => is_committed(&mut tables, delta, rows, indexes),
         Err(fail) => {
             let_go(tables);
             return Err(fail);
@@ -191,5 +232,5 @@ pub fn changed<S: Alter + Drop>(
 pub fn filled(alloc: Global) -> Result<Tables<MemStore>, Fail> {
     let mut rows = Vec::new(alloc);
     rows.push(row_of(1, Status::Manual))?;
-    reopened(changed(over_memory(alloc)?, one_of_each(alloc), rows)?)
+    reopened(changed(alloc, over_memory(alloc)?, one_of_each(alloc), rows)?)
 }

@@ -2,11 +2,11 @@
 
 use ci_board::facts::{Row, Status};
 use ci_graph::part::Part;
-use ci_machine::change::{Counter, Delta, Key, Record, RowChange};
+use ci_machine::change::{Counter, Delta, IndexChange, Key, Record, RowChange};
 use ci_machine::moment::Moment;
 use ci_machine::records::{
-    Attempt, AttemptState, BoardRow, Cause, Job, JobOptions, JobVariable, Need, Piece, Pipeline,
-    Project, RefKind, Runner, Source, Variable,
+    Attempt, AttemptState, BoardRow, Cause, Holder, Job, JobOptions, JobVariable, Need, Piece,
+    Pipeline, Project, RefKind, Runner, Source, Variable,
 };
 use ci_machine::text::{Bytes, Text, Texts};
 use ci_values::items::Items;
@@ -64,15 +64,26 @@ pub fn runner(alloc: Global) -> Result<Record, Fail> {
     }))
 }
 
-pub fn pipeline(alloc: Global, id: u64) -> Result<Record, Fail> {
-    Ok(Record::Pipeline(Pipeline {
+/// A pipeline of a project, for a branch or a tag.
+pub fn pipeline_for(
+    alloc: Global,
+    id: u64,
+    project: u64,
+    git_ref: &str,
+    kind: RefKind,
+) -> Result<Pipeline, Fail> {
+    Ok(Pipeline {
         id,
-        project: 1,
-        git_ref: text(alloc, "main")?,
-        kind: RefKind::Tag,
+        project,
+        git_ref: text(alloc, git_ref)?,
+        kind,
         source: Source::Schedule,
         created: moment(60)?,
-    }))
+    })
+}
+
+pub fn pipeline(alloc: Global, id: u64) -> Result<Record, Fail> {
+    Ok(Record::Pipeline(pipeline_for(alloc, id, 1, "main", RefKind::Tag)?))
 }
 
 /// The causes of two of the six flags.
@@ -196,6 +207,15 @@ pub fn one_of_each(alloc: Global) -> Result<Delta, Fail> {
     changes.push(RowChange::Put(variable(alloc, "CI")?))?;
     changes.push(RowChange::SetNext(Counter::Job, 3))?;
     Ok(Delta::new(changes))
+}
+
+/// An attempt holds a group of a project.
+pub fn hold(alloc: Global, project: u64, group: &str, attempt: u64) -> Result<IndexChange, Fail> {
+    Ok(IndexChange::Hold(Holder {
+        project,
+        group: text(alloc, group)?,
+        attempt,
+    }))
 }
 
 /// The removal of one row.

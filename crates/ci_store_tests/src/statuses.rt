@@ -45,7 +45,7 @@ fn fifty_rows(alloc: Global) -> Result<Vec<BoardRow>, Fail> {
 
 fn with_fifty(alloc: Global) -> Result<Tables<MemStore>, Fail> {
     let rows = fifty_rows(alloc)?;
-    reopened(changed(filled(alloc)?, fifty_jobs(alloc), rows)?)
+    reopened(changed(alloc, filled(alloc)?, fifty_jobs(alloc), rows)?)
 }
 
 /// Are these the jobs of the rows, in this order?
@@ -171,7 +171,7 @@ fn a_row_is_put_in_the_place_of_one(rt: HostRuntime) -> Result<(), Fail> {
     let mut tables = filled(alloc)?;
     assert!(rt; is_row(row(&mut tables, 1).ok().flatten(), 1, Status::Manual));
     let rows = put_over(alloc)?;
-    let mut tables = reopened(changed(tables, no_change(alloc), rows)?)?;
+    let mut tables = reopened(changed(alloc, tables, no_change(alloc), rows)?)?;
     let has = has_rows(&mut tables);
     let_go(tables);
     assert!(rt; has == Ok(true));
@@ -220,7 +220,7 @@ fn has_attempts<S: Alter>(tables: &mut Tables<S>) -> Loaded<bool> {
 #[test]
 fn pairs_and_attempts_are_found_by_the_range_of_their_jobs(rt: HostRuntime) -> Result<(), Fail> {
     let alloc = rt.alloc();
-    let mut tables = reopened(changed(filled(alloc)?, four_pairs(alloc), Vec::new(alloc))?)?;
+    let mut tables = reopened(changed(alloc, filled(alloc)?, four_pairs(alloc), Vec::new(alloc))?)?;
     let pairs = has_pairs(&mut tables);
     let attempts = has_attempts(&mut tables);
     let_go(tables);
@@ -248,7 +248,7 @@ fn remove_each(rt: &impl Abort, alloc: Global, tables: &mut Tables<MemStore>) ->
 #[test]
 fn a_job_that_another_waits_for_is_not_removed(rt: HostRuntime) -> Result<(), Fail> {
     let alloc = rt.alloc();
-    let mut tables = changed(filled(alloc)?, four_pairs(alloc), Vec::new(alloc))?;
+    let mut tables = changed(alloc, filled(alloc)?, four_pairs(alloc), Vec::new(alloc))?;
     let removed = remove_each(&rt, alloc, &mut tables);
     let_go(tables);
     removed
@@ -257,7 +257,11 @@ fn a_job_that_another_waits_for_is_not_removed(rt: HostRuntime) -> Result<(), Fa
 const TEXTS: &[(&str, &str)] = &[
     (
         "SELECT spec FROM job WHERE id = 1",
-        r#"{"allow_failure":[1,137],"interruptible":true,"needs":true,"resource_group":"prod","retry":{"causes":["script_failure","job_execution_timeout"],"max":2},"script":["make","make check"],"tags":["gpu"],"timeout":3600,"when":"always"}"#,
+        r#"{"allow_failure":[1,137],"interruptible":true,"needs":true,"resource_group":"prod","retry":{"causes":["script_failure","job_execution_timeout"],"max":2},"tags":["gpu"],"timeout":3600,"when":"always"}"#,
+    ),
+    (
+        "SELECT script FROM job WHERE id = 1",
+        r#"["make","make check"]"#,
     ),
     (
         "SELECT sql FROM sqlite_schema WHERE name = 'need'",
@@ -278,6 +282,22 @@ const TEXTS: &[(&str, &str)] = &[
     (
         "SELECT sql FROM sqlite_schema WHERE name = 'variable'",
         "CREATE TABLE variable (project INTEGER NOT NULL REFERENCES project (id), key TEXT NOT NULL, value TEXT NOT NULL, PRIMARY KEY (project, key)) STRICT",
+    ),
+    (
+        "SELECT sql FROM sqlite_schema WHERE name = 'holder'",
+        "CREATE TABLE holder (project INTEGER NOT NULL REFERENCES project (id), grp TEXT NOT NULL, attempt INTEGER NOT NULL REFERENCES attempt (id) ON DELETE CASCADE, PRIMARY KEY (project, grp)) STRICT",
+    ),
+    (
+        "SELECT sql FROM sqlite_schema WHERE name = 'holder_attempt'",
+        "CREATE INDEX holder_attempt ON holder (attempt)",
+    ),
+    (
+        "SELECT sql FROM sqlite_schema WHERE name = 'unfinished'",
+        "CREATE TABLE unfinished (pipeline INTEGER PRIMARY KEY) STRICT",
+    ),
+    (
+        "SELECT sql FROM sqlite_schema WHERE name = 'pipeline_ref'",
+        "CREATE INDEX pipeline_ref ON pipeline (project, ref, kind, id)",
     ),
 ];
 

@@ -1,8 +1,8 @@
 //! Each kind of record is committed and loaded.
 
 use crate::plain::{
-    Loaded, attempt, attempts_of, filled, is_removed, job, job_variables, jobs_of, let_go, next,
-    pipeline, project, runner_with, variables_of,
+    Loaded, attempt, attempts_of, demand, filled, is_removed, job, job_variables, jobs_of, let_go,
+    next, pipeline, project, runner, runner_with, variables_of,
 };
 use crate::records::text;
 use ci_graph::part::Part;
@@ -42,6 +42,33 @@ fn has_runner<S: Alter>(alloc: Global, tables: &mut Tables<S>) -> Loaded<bool> {
         },
         None => Ok(false),
     }
+}
+
+/// The runner by its number.
+fn has_runner_at<S: Alter>(tables: &mut Tables<S>) -> Loaded<bool> {
+    match runner(tables, 1)? {
+        Some(found) => Ok(
+            found.token.as_str() == "r1"
+                && found.project == Some(1)
+                && found.untagged
+                && !found.paused
+                && runner(tables, 2)?.is_none(),
+        ),
+        None => Ok(false),
+    }
+}
+
+/// What the second job asks of a runner.
+fn has_demand<S: Alter>(tables: &mut Tables<S>) -> Loaded<bool> {
+    let Some(found) = demand(tables, 2)? else {
+        return Ok(false);
+    };
+    let is_group = match &found.resource_group {
+        Some(name) => name.as_str() == "prod",
+        None => false,
+    };
+    let is_tag = matches!(found.tags.as_slice(), [tag] if tag.as_str() == "gpu");
+    Ok(is_group && is_tag && found.job == 2 && found.pipeline == 1 && demand(tables, 3)?.is_none())
 }
 
 fn has_pipeline<S: Alter>(tables: &mut Tables<S>) -> Loaded<bool> {
@@ -115,8 +142,10 @@ fn each_kind_of_record_is_loaded_back(rt: HostRuntime) -> Result<(), Fail> {
     assert!(rt; has_project(&mut tables) == Ok(true));
     assert!(rt; has_project_variable(&mut tables) == Ok(true));
     assert!(rt; has_runner(alloc, &mut tables) == Ok(true));
+    assert!(rt; has_runner_at(&mut tables) == Ok(true));
     assert!(rt; has_pipeline(&mut tables) == Ok(true));
     assert!(rt; has_job(&mut tables) == Ok(true));
+    assert!(rt; has_demand(&mut tables) == Ok(true));
     assert!(rt; has_variables(&mut tables) == Ok(true));
     assert!(rt; has_attempt(&mut tables) == Ok(true));
     assert!(rt; has_counts(&mut tables) == Ok(true));
@@ -162,6 +191,8 @@ fn a_number_over_the_greatest_integer_of_sql_is_no_rows(rt: HostRuntime) -> Resu
         assert!(rt; matches!(pipeline(&mut tables, id), Ok(None)));
         assert!(rt; matches!(job(&mut tables, id), Ok(None)));
         assert!(rt; matches!(attempt(&mut tables, id), Ok(None)));
+        assert!(rt; matches!(demand(&mut tables, id), Ok(None)));
+        assert!(rt; matches!(runner(&mut tables, id), Ok(None)));
     }
     let_go(tables);
     Ok(())

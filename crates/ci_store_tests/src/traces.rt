@@ -72,7 +72,7 @@ fn come_and_go(rt: &impl Abort, alloc: Global, tables: &mut Tables<MemStore>) ->
 #[test]
 fn pieces_are_loaded_in_their_order_and_removed(rt: HostRuntime) -> Result<(), Fail> {
     let alloc = rt.alloc();
-    let mut tables = reopened(changed(filled(alloc)?, two_pieces(alloc), Vec::new(alloc))?)?;
+    let mut tables = reopened(changed(alloc, filled(alloc)?, two_pieces(alloc), Vec::new(alloc))?)?;
     let gone = come_and_go(&rt, alloc, &mut tables);
     let_go(tables);
     gone
@@ -115,9 +115,9 @@ fn an_attempt_that_has_ended_is_not_live(rt: HostRuntime) -> Result<(), Fail> {
     let alloc = rt.alloc();
     let mut tables = filled(alloc)?;
     assert!(rt; count_live(&mut tables) == Ok(0));
-    let mut tables = changed(tables, two_live(alloc), Vec::new(alloc))?;
+    let mut tables = changed(alloc, tables, two_live(alloc), Vec::new(alloc))?;
     assert!(rt; are_live(&mut tables, 2, 3) == Ok(true));
-    let mut tables = reopened(changed(tables, ended(alloc, 2), Vec::new(alloc))?)?;
+    let mut tables = reopened(changed(alloc, tables, ended(alloc, 2), Vec::new(alloc))?)?;
     assert!(rt; is_alone_live(&mut tables, 3) == Ok(true));
     let_go(tables);
     Ok(())

@@ -27,7 +27,12 @@ fn four_variables(alloc: Global) -> Result<Delta, Fail> {
 }
 
 fn with_four(alloc: Global) -> Result<Tables<MemStore>, Fail> {
-    reopened(changed(filled(alloc)?, four_variables(alloc), Vec::new(alloc))?)
+    reopened(changed(
+        alloc,
+        filled(alloc)?,
+        four_variables(alloc),
+        Vec::new(alloc),
+    )?)
 }
 
 fn is_pair(found: &Variable, key: &str, value: &str) -> bool {

@@ -3,10 +3,11 @@
 use ci_machine::moment::Moment;
 use ci_machine::records::{RefKind, Source};
 use ci_machine::request::{
-    Event, JobQuery, JobUpdate, NewFile, NewPipeline, NewVariable, PipelineQuery, PipelineVariable,
-    PipelineVariables, Report, Request, Seed, TracePart, VariableQuery,
+    Event, JobQuery, JobUpdate, NewFile, NewPipeline, NewRunner, NewVariable, PipelineQuery,
+    PipelineVariable, PipelineVariables, Report, Request, RunnerPause, Seed, TracePart,
+    VariableQuery,
 };
-use ci_machine::text::{Bytes, Text};
+use ci_machine::text::{Bytes, Text, Texts};
 use std::alloc::{AllocError, Global};
 use std::test::Fail;
 
@@ -21,8 +22,12 @@ pub const RUNNER: &str = "r1-abababababababababababababababab";
 pub enum Act {
     /// A project is made, of this name.
     AddProject(&'static str),
-    /// A runner is made, of this name.
+    /// A runner of the instance is made, of this name. It has no tags, and runs untagged jobs.
     AddRunner(&'static str),
+    /// A runner `r` is made, of the instance or of the project with this number, with these tags. Does it run untagged jobs?
+    AddRunnerOf(Option<u64>, &'static [&'static str], bool),
+    /// The runner of this number is paused, or goes on.
+    Pause(u64, bool),
     /// The project of this number gets this file.
     SetFile(u64, &'static str),
     /// The project of this number gets a file of so many jobs, `j1` and on, in the stage `build`.
@@ -35,8 +40,12 @@ pub enum Act {
     CreatePipeline(u64),
     /// One is made in the first project, with variables of its own.
     CreateWith(&'static [(&'static str, &'static str)]),
+    /// One is made in the project of this number, for this branch or tag.
+    CreateFor(u64, &'static str, RefKind),
     /// The runner with this token asks for a job.
     AskJob(&'static str),
+    /// The runner of this number does.
+    AskAs(u64),
     /// The runner of the first attempt says that it runs.
     Running,
     /// It says that the attempt went well.
@@ -80,6 +89,16 @@ pub const BY_HAND: &str =
 pub const AFTER_A: &str =
     "a:\n  stage: build\n  script: x\nf:\n  needs: [a]\n  when: on_failure\n  script: x\nw:\n  needs: [a]\n  when: always\n  script: x\ns:\n  needs: [a]\n  script: x\ng:\n  stage: deploy\n  needs: [s]\n  script: x\n";
 
+/// A file of one job that holds the resource group `prod` while it runs.
+pub const SHIP: &str = "ship:\n  resource_group: prod\n  script: x\n";
+
+/// The same, of a job that a newer pipeline may make redundant.
+pub const SHIP_INTERRUPTIBLE: &str =
+    "ship:\n  resource_group: prod\n  interruptible: true\n  script: x\n";
+
+/// A file of one job that may run for a minute.
+pub const OF_A_MINUTE: &str = "build:\n  stage: build\n  timeout: 1 minute\n  script: make\n";
+
 /// The first path: a project, a runner, a file of one job, a pipeline made of it, and its grant. Each number is 1.
 pub const PATH: [Act; 5] = [
     Act::AddProject("p"),
@@ -103,6 +122,32 @@ pub fn text(alloc: Global, text: &str) -> Result<Text, AllocError> {
 pub fn token(alloc: Global, letter: &str, number: u64) -> Result<Text, AllocError> {
     let token = format!(in alloc; "{letter}{number}-abababababababababababababababab")?;
     text(alloc, token.as_str())
+}
+
+/// A runner `r` is to be made.
+pub fn new_runner(
+    alloc: Global,
+    project: Option<u64>,
+    tags: &[&str],
+    untagged: bool,
+) -> Result<NewRunner, AllocError> {
+    let mut texts = Vec::new(alloc);
+    for tag in tags {
+        texts.push(text(alloc, tag)?)?;
+    }
+    Ok(NewRunner {
+        name: text(alloc, "r")?,
+        project,
+        tags: Texts::new(texts),
+        untagged,
+    })
+}
+
+/// A runner of the instance is to be made, of this name.
+fn plain_runner(alloc: Global, name: &str) -> Result<Request, AllocError> {
+    let mut new = new_runner(alloc, None, &[], true)?;
+    new.name = text(alloc, name)?;
+    Ok(Request::AddRunner(new))
 }
 
 /// A project's file is to be a text, by the project's token.
@@ -175,6 +220,19 @@ pub fn new_pipeline(
     })
 }
 
+/// A pipeline of a branch or a tag to be made in a project.
+fn pipeline_for(
+    alloc: Global,
+    project: u64,
+    git_ref: &str,
+    kind: RefKind,
+) -> Result<Request, AllocError> {
+    let mut new = new_pipeline(alloc, project, &[])?;
+    new.git_ref = text(alloc, git_ref)?;
+    new.kind = kind;
+    Ok(Request::CreatePipeline(new))
+}
+
 /// The next bytes of the first attempt's trace, at an offset.
 pub fn part(alloc: Global, from: u64, bytes: Vec<u8>) -> Result<Request, AllocError> {
     Ok(Request::AppendTrace(TracePart {
@@ -213,14 +271,20 @@ fn pipeline_query(alloc: Global, pipeline: u64) -> Result<PipelineQuery, AllocEr
 pub fn event(alloc: Global, act: Act) -> Result<Event, AllocError> {
     Ok(Event::Request(match act {
         Act::AddProject(name) => Request::AddProject(text(alloc, name)?),
-        Act::AddRunner(name) => Request::AddRunner(text(alloc, name)?),
+        Act::AddRunner(name) => plain_runner(alloc, name)?,
+        Act::AddRunnerOf(project, tags, untagged) => {
+            Request::AddRunner(new_runner(alloc, project, tags, untagged)?)
+        }
+        Act::Pause(runner, paused) => Request::PauseRunner(RunnerPause { runner, paused }),
         Act::SetFile(project, file) => new_file(alloc, project, file)?,
         Act::SetJobs(project, jobs) => new_jobs(alloc, project, jobs)?,
         Act::SetVariable(key, value) => new_variable(alloc, key, value)?,
         Act::DeleteVariable(key) => gone_variable(alloc, key)?,
         Act::CreatePipeline(project) => Request::CreatePipeline(new_pipeline(alloc, project, &[])?),
         Act::CreateWith(pairs) => Request::CreatePipeline(new_pipeline(alloc, 1, pairs)?),
+        Act::CreateFor(project, git_ref, kind) => pipeline_for(alloc, project, git_ref, kind)?,
         Act::AskJob(token) => Request::AskJob(text(alloc, token)?),
+        Act::AskAs(runner) => Request::AskJob(token(alloc, "r", runner)?),
         Act::Running => update(alloc, 1, Report::Running)?,
         Act::Success => update(alloc, 1, Report::Success(None))?,
         Act::Tell(attempt, report) => update(alloc, attempt, report)?,

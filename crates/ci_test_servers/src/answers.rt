@@ -14,6 +14,8 @@ pub enum Want {
     Says(&'static str),
     /// A reply with this body, and no refusal.
     Done(&'static str),
+    /// A reply whose body begins so, and no refusal.
+    Begins(&'static str),
     /// A reply with this status, no body and no refusal.
     Empty(HttpStatus),
     /// The first job is shown, with this status.
@@ -30,7 +32,9 @@ pub enum Want {
     Over(JobStatus),
     /// A sweep ended the first attempt, for this cause.
     Ended(Cause),
-    /// A sweep found nothing to end.
+    /// A sweep cancelled the pipeline of this number.
+    Cancelled(u64),
+    /// A sweep found nothing to end and nothing to cancel.
     Nothing,
 }
 
@@ -53,6 +57,7 @@ fn is_reply(reply: &Reply, want: Want) -> bool {
         Want::Any => reply.code.is_none(),
         Want::Says(body) => says(reply, body),
         Want::Done(body) => reply.code.is_none() && says(reply, body),
+        Want::Begins(body) => { reply.code.is_none() && reply.body().starts_with(body.as_bytes()) }
         Want::Empty(status) => { reply.status == status && reply.code.is_none() && says(reply, "") }
         Want::Job(status) => reply.status == HttpStatus::Fine && says(reply, shown(status)),
         Want::Trace(text) => reply.status == HttpStatus::Fine && says(reply, text),
@@ -65,13 +70,14 @@ fn is_reply(reply: &Reply, want: Want) -> bool {
         ),
         Want::Refused(code, range) => reply.code == Some(code) && reply.range == range,
         Want::Over(job) => reply.code == Some(Code::M6) && reply.job_status == Some(job),
-        Want::Ended(_) | Want::Nothing => false,
+        Want::Ended(_) | Want::Cancelled(_) | Want::Nothing => false,
     }
 }
 
 fn is_swept(swept: &Swept, want: Want) -> bool {
     match (swept, want) {
         (Swept::Ended(1, found), Want::Ended(cause)) => *found == cause,
+        (Swept::Cancelled(found), Want::Cancelled(pipeline)) => *found == pipeline,
         (Swept::Nothing, Want::Nothing) => true,
         (Swept::Refused(found), Want::Refused(code, None)) => *found == code,
         _ => false,
@@ -107,24 +113,32 @@ fn shown(status: JobStatus) -> &'static str {
 /// The first job, where it waits for a runner.
 const PENDING: &str = "{\"id\":1,\"name\":\"build\",\"stage\":\"build\",\"status\":\"pending\"}";
 
+/// The first pipeline, of the job `build` alone, as it is made.
+pub const BUILD_CREATED: Want = Want::Done(
+    "{\"id\":1,\"jobs\":[{\"id\":1,\"name\":\"build\",\"stage\":\"build\",\"status\":\"pending\"}],\"ref\":\"main\",\"source\":\"api\",\"status\":\"pending\"}",
+);
+
+/// The grant of that job, as the first attempt.
+pub const BUILD_GRANTED: Want = Want::Done(
+    "{\"id\":1,\"job_info\":{\"name\":\"build\",\"project_id\":1,\"stage\":\"build\"},\"script\":[\"make\"],\"timeout\":3600,\"token\":\"j1-abababababababababababababababab\",\"variables\":[{\"key\":\"CI\",\"value\":\"true\"},{\"key\":\"CI_COMMIT_BRANCH\",\"value\":\"main\"},{\"key\":\"CI_COMMIT_REF_NAME\",\"value\":\"main\"},{\"key\":\"CI_JOB_ID\",\"value\":\"1\"},{\"key\":\"CI_JOB_NAME\",\"value\":\"build\"},{\"key\":\"CI_JOB_STAGE\",\"value\":\"build\"},{\"key\":\"CI_PIPELINE_ID\",\"value\":\"1\"},{\"key\":\"CI_PIPELINE_SOURCE\",\"value\":\"api\"},{\"key\":\"CI_PROJECT_ID\",\"value\":\"1\"}]}",
+);
+
 /// What the first thing of its kind is answered, where the things of the first path before it have happened.
 pub fn first(act: Act) -> Want {
     match act {
         Act::AddProject(_) => {
             Want::Done("{\"id\":1,\"token\":\"p1-abababababababababababababababab\"}")
         }
-        Act::AddRunner(_) => {
+        Act::AddRunner(_) | Act::AddRunnerOf(_, _, _) => {
             Want::Done("{\"id\":1,\"token\":\"r1-abababababababababababababababab\"}")
         }
+        Act::Pause(_, true) => Want::Done("{\"id\":1,\"paused\":true}"),
+        Act::Pause(_, false) => Want::Done("{\"id\":1,\"paused\":false}"),
         Act::SetFile(_, _) | Act::SetJobs(_, _) => Want::Done("{\"jobs\":1}"),
         Act::SetVariable(_, _) => Want::Empty(HttpStatus::Fine),
         Act::DeleteVariable(_) => Want::Empty(HttpStatus::NoContent),
-        Act::CreatePipeline(_) | Act::CreateWith(_) => Want::Done(
-            "{\"id\":1,\"jobs\":[{\"id\":1,\"name\":\"build\",\"stage\":\"build\",\"status\":\"pending\"}],\"ref\":\"main\",\"source\":\"api\",\"status\":\"pending\"}",
-        ),
-        Act::AskJob(_) => Want::Done(
-            "{\"id\":1,\"job_info\":{\"name\":\"build\",\"project_id\":1,\"stage\":\"build\"},\"script\":[\"make\"],\"timeout\":3600,\"token\":\"j1-abababababababababababababababab\",\"variables\":[{\"key\":\"CI\",\"value\":\"true\"},{\"key\":\"CI_COMMIT_BRANCH\",\"value\":\"main\"},{\"key\":\"CI_COMMIT_REF_NAME\",\"value\":\"main\"},{\"key\":\"CI_JOB_ID\",\"value\":\"1\"},{\"key\":\"CI_JOB_NAME\",\"value\":\"build\"},{\"key\":\"CI_JOB_STAGE\",\"value\":\"build\"},{\"key\":\"CI_PIPELINE_ID\",\"value\":\"1\"},{\"key\":\"CI_PIPELINE_SOURCE\",\"value\":\"api\"},{\"key\":\"CI_PROJECT_ID\",\"value\":\"1\"}]}",
-        ),
+        Act::CreatePipeline(_) | Act::CreateWith(_) | Act::CreateFor(_, _, _) => BUILD_CREATED,
+        Act::AskJob(_) | Act::AskAs(_) => BUILD_GRANTED,
         Act::Running | Act::Tell(_, Report::Running) => Want::Taken(JobStatus::Running),
         Act::Success | Act::Tell(_, Report::Success(_)) => Want::Taken(JobStatus::Success),
         Act::Tell(_, Report::Failed(_, _)) => Want::Taken(JobStatus::Failed),
@@ -149,20 +163,21 @@ pub fn again(act: Act) -> Want {
         Act::AddProject(_) => {
             Want::Done("{\"id\":2,\"token\":\"p2-abababababababababababababababab\"}")
         }
-        Act::AddRunner(_) => {
+        Act::AddRunner(_) | Act::AddRunnerOf(_, _, _) => {
             Want::Done("{\"id\":2,\"token\":\"r2-abababababababababababababababab\"}")
         }
-        Act::CreatePipeline(_) | Act::CreateWith(_) => Want::Done(
+        Act::CreatePipeline(_) | Act::CreateWith(_) | Act::CreateFor(_, _, _) => Want::Done(
             "{\"id\":2,\"jobs\":[{\"id\":2,\"name\":\"build\",\"stage\":\"build\",\"status\":\"pending\"}],\"ref\":\"main\",\"source\":\"api\",\"status\":\"pending\"}",
         ),
         Act::DeleteVariable(_) => Want::Refused(Code::M3, None),
-        Act::AskJob(_) => Want::Done(""),
+        Act::AskJob(_) | Act::AskAs(_) => Want::Done(""),
         Act::Append(_, _) => Want::Refused(Code::M8, Some(5)),
         Act::Play(_) => Want::Refused(Code::M10, None),
         Act::RetryJob(_) => Want::Refused(Code::M11, None),
         Act::CancelJob(_) | Act::CancelPipeline(_) => Want::Refused(Code::M12, None),
         Act::Sweep => Want::Nothing,
-        Act::SetFile(_, _)
+        Act::Pause(_, _)
+        | Act::SetFile(_, _)
         | Act::SetJobs(_, _)
         | Act::SetVariable(_, _)
         | Act::Running

@@ -4,7 +4,9 @@
 
 pub mod acts;
 pub mod answers;
+pub mod choices;
 pub mod links;
 pub mod rows;
 mod rule;
 pub mod servers;
+pub mod whole;

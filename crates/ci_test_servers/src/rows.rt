@@ -1,11 +1,11 @@
-//! The rows of statuses that a store keeps, beside those that are worked out from its records.
+//! The rows that a store keeps beside its records, of statuses, of groups that are held and of unfinished pipelines, and those that
+//! are worked out from the records.
 
 ghost use Rattle.std.specs.Prelude.{◌≡◌, ◌<◌};
 
-use crate::rule::worked_out;
+use crate::whole::{Whole, kept_rows, whole_of};
 use ci_board::facts::{Row, Status};
-use ci_machine::change::Counter;
-use ci_machine::records::{Attempt, BoardRow, Job, MAX_NUMBER, Need};
+use ci_machine::records::{Attempt, BoardRow, Holder, Job, Need};
 use ci_statuses::load::load_board;
 use ci_store::fault::StoreFault;
 use ci_store::store::Store;
@@ -51,62 +51,122 @@ pub fn are_same(found: &[BoardRow], wanted: &[BoardRow]) -> bool {
     true
 }
 
-/// All rows of the store.
-fn all_rows<S: Alter>(tables: &mut Tables<S>) -> Result<Vec<BoardRow>, StoreFault> {
-    tables.rows_within(0, MAX_NUMBER)
+/// The rows of `holder` in a file: a project, a group of it, and the attempt that holds that.
+type Held = (u64, String, u64);
+
+/// The rows of the tables `holder` and `unfinished` in a file.
+#[derive(Drop)]
+struct Indexes {
+    holders: Vec<Held>,
+    unfinished: Vec<u64>,
 }
 
-/// Has each job of a pipeline the row that its records give? How many jobs are there, if so?
-fn right_rows_of<S: Alter>(
+fn holders_in<S: Alter>(alloc: Global, conn: &mut Connection<S>) -> Result<Vec<Held>, Fail> {
+    let rows = conn.query_all("SELECT project, grp, attempt FROM holder", &[])?;
+    let mut holders = Vec::new(alloc);
+    for row in &rows {
+        holders.push((row.get(0)?, row.get(1)?, row.get(2)?))?;
+    }
+    Ok(holders)
+}
+
+fn unfinished_in<S: Alter>(alloc: Global, conn: &mut Connection<S>) -> Result<Vec<u64>, Fail> {
+    let rows = conn.query_all("SELECT pipeline FROM unfinished ORDER BY pipeline", &[])?;
+    let mut unfinished = Vec::new(alloc);
+    for row in &rows {
+        unfinished.push(row.get(0)?)?;
+    }
+    Ok(unfinished)
+}
+
+fn indexes_in<S: Alter>(alloc: Global, conn: &mut Connection<S>) -> Result<Indexes, Fail> {
+    let holders = holders_in(alloc, conn)?;
+    let unfinished = unfinished_in(alloc, conn)?;
+    Ok(Indexes {
+        holders,
+        unfinished,
+    })
+}
+
+/// Is there a row for the holder?
+fn is_kept(holder: &Holder, rows: &[Held]) -> bool {
+    rows.iter().any(|(project, group, attempt)| {
+        *project == holder.project
+            && group.as_str() == holder.group.as_str()
+            && *attempt == holder.attempt
+    })
+}
+
+/// Are the rows of both tables those that the records give?
+fn are_right(alloc: Global, found: &Indexes, whole: &Whole) -> Result<bool, Fail> {
+    let held = whole.held(alloc)?;
+    let unfinished = whole.unfinished(alloc)?;
+    let rows = found.holders.as_slice();
+    Ok(
+        held.len() == rows.len()
+            && held.iter().all(|holder| is_kept(holder, rows))
+            && unfinished.as_slice() == found.unfinished.as_slice(),
+    )
+}
+
+/// All that the store keeps, and its rows of statuses.
+fn loaded<S: Alter>(
     alloc: Global,
     tables: &mut Tables<S>,
-    pipeline: u64,
-) -> Result<Option<usize>, StoreFault> {
-    let jobs = tables.jobs_of(pipeline)?;
-    let (Some(first), Some(last)) = (jobs.first(), jobs.last()) else {
-        return Ok(None);
-    };
-    let (low, high) = (first.id, last.id);
-    let needs = tables.needs_within(low, high)?;
-    let attempts = tables.attempts_within(low, high)?;
-    let wanted = worked_out(
-        alloc,
-        jobs.as_slice(),
-        needs.as_slice(),
-        attempts.as_slice(),
-    )?;
-    let found = tables.rows_within(low, high)?;
-    if are_same(found.as_slice(), wanted.as_slice()) {
-        Ok(Some(jobs.len()))
-    } else {
-        Ok(None)
-    }
+) -> Result<(Whole, Vec<BoardRow>), StoreFault> {
+    let whole = whole_of(alloc, tables)?;
+    let rows = kept_rows(tables)?;
+    Ok((whole, rows))
 }
 
-/// Has each job the row that its records give, and is there no other row?
-fn has_right_rows<S: Alter>(alloc: Global, tables: &mut Tables<S>) -> Result<bool, StoreFault> {
-    let mut count = 0usize;
-    for pipeline in 1..tables.next(Counter::Pipeline)? {
-        match right_rows_of(alloc, tables, pipeline)? {
-            Some(jobs) => count = count.saturating_add(jobs),
-            None => return Ok(false),
+/// Are the rows in a store those that its records give: of statuses, of groups that are held, and of unfinished pipelines? All that the
+/// store keeps, if so.
+fn right_whole(
+    alloc: Global,
+    found: Result<(Whole, Vec<BoardRow>), StoreFault>,
+    indexes: &Indexes,
+) -> Result<Whole, Fail> {
+    let (whole, rows) = found?;
+    let wanted = whole.rows(alloc)?;
+    if !are_same(rows.as_slice(), wanted.as_slice()) {
+        return Err("other rows of statuses than the records give")?;
+    }
+    if !are_right(alloc, indexes, &whole)? {
+        return Err("other groups or unfinished pipelines than the records give")?;
+    }
+    Ok(whole)
+}
+
+/// The connection and all that its store keeps, where its rows are those that its records give.
+pub fn rightly_whole<S: Alter + Drop>(
+    alloc: Global,
+    mut conn: Connection<S>,
+) -> Result<(Connection<S>, Whole), Fail> {
+    let indexes = match indexes_in(alloc, &mut conn) {
+        Ok(indexes) => indexes,
+        Err(fail) => {
+            discard(conn);
+            return Err(fail);
+        }
+    };
+    let Ok(mut tables) = Tables::open(conn) else {
+        return Err("no tables")?;
+    };
+    let found = loaded(alloc, &mut tables);
+    let conn = tables.close();
+    match right_whole(alloc, found, &indexes) {
+        Ok(whole) => Ok((conn, whole)),
+        Err(fail) => {
+            discard(conn);
+            Err(fail)
         }
     }
-    Ok(all_rows(tables)?.len() == count)
 }
 
 /// The connection, where the rows of its store are those that its records give.
 pub fn rightly<S: Alter + Drop>(alloc: Global, conn: Connection<S>) -> Result<Connection<S>, Fail> {
-    let Ok(mut tables) = Tables::open(conn) else {
-        return Err("no tables")?;
-    };
-    let is_right = has_right_rows(alloc, &mut tables);
-    let conn = tables.close();
-    if matches!(is_right, Ok(true)) {
-        return Ok(conn);
-    }
-    discard(conn);
-    Err("other rows than the records give")?
+    let (conn, _) = rightly_whole(alloc, conn)?;
+    Ok(conn)
 }
 
 /// The rows that a store keeps; it goes.
@@ -114,7 +174,7 @@ pub fn rows_left<S: Alter + Drop>(conn: Connection<S>) -> Result<Vec<BoardRow>, 
     let Ok(mut tables) = Tables::open(conn) else {
         return Err("no tables")?;
     };
-    let rows = all_rows(&mut tables);
+    let rows = kept_rows(&mut tables);
     discard(tables.close());
     Ok(rows?)
 }

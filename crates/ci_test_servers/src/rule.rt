@@ -42,7 +42,7 @@ fn standing(job: &Job, attempts: &[Attempt]) -> Option<Status> {
 }
 
 /// Does the pipeline go on, though the job stands so?
-fn is_allowed(job: &Job, status: Status, attempts: &[Attempt]) -> bool {
+pub fn is_allowed(job: &Job, status: Status, attempts: &[Attempt]) -> bool {
     match (&job.options.part.allow_failure, tries(job, attempts).0) {
         (AllowFailure::Yes, _) => true,
         (AllowFailure::ExitCodes(codes), Some(AttemptState::Failed(_, Some(code)))) => {

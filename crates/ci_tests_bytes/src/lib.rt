@@ -1,5 +1,7 @@
-//! A test of a server's bytes: a runner's whole path, from what it sends to what it gets.
+//! Tests of a server's bytes: a runner's whole path, and which jobs it is given when, from what it sends to what it gets.
 #![tactic(auto)]
 
 #[cfg(test)]
 mod tests;
+#[cfg(test)]
+mod waiting;

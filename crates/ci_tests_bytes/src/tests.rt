@@ -8,12 +8,17 @@ use ci_test_servers::servers::after;
 use std::alloc::Global;
 use std::test::Fail;
 
-/// What a request is answered at 1000.
-fn answer<S: Alter>(alloc: Global, server: &mut Server<S>, request: &str) -> Result<Vec<u8>, Fail> {
+/// What a request is answered at a moment, in seconds.
+pub(crate) fn answer<S: Alter>(
+    alloc: Global,
+    server: &mut Server<S>,
+    seconds: u64,
+    request: &str,
+) -> Result<Vec<u8>, Fail> {
     let reply = reply_to(
         alloc,
         server,
-        at(1000)?,
+        at(seconds)?,
         request.as_bytes(),
         Vec::new(alloc),
     );
@@ -73,7 +78,7 @@ fn a_runner_is_answered(rt: HostRuntime) -> Result<(), Fail> {
     let alloc = rt.alloc();
     let mut server = after(alloc, &PATH[..4])?;
     for (request, reply) in EXCHANGES {
-        let found = answer(alloc, &mut server, request)?;
+        let found = answer(alloc, &mut server, 1000, request)?;
         assert!(rt; found.as_slice() == reply.as_bytes(), "{request}");
     }
     Ok(())

@@ -8,11 +8,17 @@ mod boards;
 #[cfg(test)]
 mod files;
 #[cfg(test)]
+mod groups;
+#[cfg(test)]
 mod limits;
 #[cfg(test)]
 mod numbers;
 #[cfg(test)]
 mod random;
+#[cfg(test)]
+mod redundant;
+#[cfg(test)]
+mod runners;
 #[cfg(test)]
 mod statuses;
 #[cfg(test)]

@@ -2,11 +2,11 @@
 
 use ci_machine::reply::{Code, JobStatus};
 use ci_machine::request::{
-    JobQuery, JobUpdate, NewFile, NewVariable, PipelineQuery, Report, Request, TracePart,
-    VariableQuery,
+    JobQuery, JobUpdate, NewFile, NewVariable, PipelineQuery, Report, Request, RunnerPause,
+    TracePart, VariableQuery,
 };
 use ci_machine::text::Bytes;
-use ci_test_servers::acts::{Act, PATH, at, new_pipeline, text, token};
+use ci_test_servers::acts::{Act, PATH, at, new_pipeline, new_runner, text, token};
 use ci_test_servers::answers::{Want, is};
 use ci_test_servers::servers::{InMemory, after, asked, is_closed, let_go, tell};
 use std::alloc::{AllocError, Global};
@@ -20,7 +20,7 @@ const NUMBERS: [u64; 3] = [
     18_446_744_073_709_551_615,
 ];
 
-/// What names the number: of a job, of an attempt, of a pipeline, or of a project, with the token of the first.
+/// What names the number: of a job, of an attempt, of a pipeline, of a runner, or of a project, with the token of the first.
 #[derive(Clone, Copy)]
 enum Naming {
     Show,
@@ -32,6 +32,8 @@ enum Naming {
     SetVariable,
     DeleteVariable,
     CreatePipeline,
+    AddRunner,
+    PauseRunner,
 }
 
 /// Each of them, and how it is refused.
@@ -45,6 +47,8 @@ const NAMINGS: &[(Naming, Code)] = &[
     (Naming::SetVariable, Code::M2),
     (Naming::DeleteVariable, Code::M2),
     (Naming::CreatePipeline, Code::M2),
+    (Naming::AddRunner, Code::M2),
+    (Naming::PauseRunner, Code::M3),
 ];
 
 fn query(alloc: Global, job: u64) -> Result<JobQuery, AllocError> {
@@ -111,6 +115,17 @@ fn create_pipeline(alloc: Global, project: u64) -> Result<Request, AllocError> {
     Ok(Request::CreatePipeline(new))
 }
 
+fn add_runner(alloc: Global, project: u64) -> Result<Request, AllocError> {
+    Ok(Request::AddRunner(new_runner(alloc, Some(project), &[], true)?))
+}
+
+fn pause_runner(runner: u64) -> Request {
+    Request::PauseRunner(RunnerPause {
+        runner,
+        paused: true,
+    })
+}
+
 fn request(alloc: Global, number: u64, naming: Naming) -> Result<Request, AllocError> {
     match naming {
         Naming::Show => Ok(Request::ShowJob(query(alloc, number)?)),
@@ -122,6 +137,8 @@ fn request(alloc: Global, number: u64, naming: Naming) -> Result<Request, AllocE
         Naming::SetVariable => set_variable(alloc, number),
         Naming::DeleteVariable => delete_variable(alloc, number),
         Naming::CreatePipeline => create_pipeline(alloc, number),
+        Naming::AddRunner => add_runner(alloc, number),
+        Naming::PauseRunner => Ok(pause_runner(number)),
     }
 }
 

@@ -1,24 +1,40 @@
-//! Thousands of random events: after each one the rows of statuses in the store are those that its records give.
+//! Thousands of random events. After each one the rows that the store keeps beside its records are those that the records give: of
+//! statuses, of groups that are held, and of pipelines that aren't finished. Each runner is given the job that a rule of the tests' own
+//! chooses, and each sweep does what that rule says.
 
-use ci_machine::records::Cause;
-use ci_machine::reply::Answer;
+use ci_machine::records::{Cause, Holder, RefKind};
+use ci_machine::reply::{Answer, Code, HttpStatus, Reply, Swept};
 use ci_machine::request::Report;
-use ci_test_servers::acts::{Act, PATH, RUNNER};
-use ci_test_servers::rows::rightly;
+use ci_test_servers::acts::{Act, PATH};
+use ci_test_servers::choices::{offer, sweep};
+use ci_test_servers::rows::rightly_whole;
 use ci_test_servers::servers::{InMemory, after, left, let_go, over, tell};
+use ci_test_servers::whole::Whole;
 use std::alloc::Global;
 use std::process::Abort;
 use std::test::Fail;
 
 /// Jobs of each kind, eight in a pipeline: tried again by themselves, started by hand, waiting for a failure, for any end, for named jobs,
-/// and some that may fail.
+/// and some that may fail; with tags, with a group that they share, with a limit of a minute, and some that are interruptible.
 const MIXED: &str =
-    "a:\n  stage: build\n  script: x\n  retry:\n    max: 1\n    when: script_failure\nhand:\n  stage: build\n  when: manual\n  script: x\nf:\n  needs: [a]\n  when: on_failure\n  script: x\nw:\n  needs: [a]\n  when: always\n  script: x\ns:\n  needs: [a, hand]\n  allow_failure:\n    exit_codes: [3]\n  script: x\ngate:\n  when: manual\n  allow_failure: false\n  script: x\nship:\n  stage: deploy\n  script: x\ng:\n  stage: deploy\n  needs: [s]\n  script: x\n";
+    "a:\n  stage: build\n  script: x\n  interruptible: true\n  retry:\n    max: 1\n    when: script_failure\nhand:\n  stage: build\n  when: manual\n  resource_group: prod\n  script: x\nf:\n  needs: [a]\n  when: on_failure\n  tags: [linux]\n  script: x\nw:\n  needs: [a]\n  when: always\n  resource_group: prod\n  interruptible: true\n  script: x\ns:\n  needs: [a, hand]\n  timeout: 1 minute\n  allow_failure:\n    exit_codes: [3]\n  script: x\ngate:\n  when: manual\n  allow_failure: false\n  tags: [arm, linux]\n  script: x\nship:\n  stage: deploy\n  resource_group: prod\n  script: x\ng:\n  stage: deploy\n  needs: [s]\n  resource_group: test\n  interruptible: true\n  script: x\n";
 
-/// How many jobs a pipeline has, and how many pipelines are made at most.
+/// Three jobs of the other project, two of them with groups of the same names.
+const OTHER: &str =
+    "ship:\n  resource_group: prod\n  interruptible: true\n  script: x\npack:\n  tags: [linux]\n  interruptible: true\n  script: x\ntry:\n  resource_group: test\n  timeout: 1 minute\n  interruptible: true\n  script: x\n";
+
+/// Runners of the instance, with and without tags, and one of each project.
+const RUNNERS: [Act; 4] = [
+    Act::AddRunnerOf(None, &[], true),
+    Act::AddRunnerOf(None, &["linux", "arm"], false),
+    Act::AddRunnerOf(Some(1), &["linux"], true),
+    Act::AddRunnerOf(Some(2), &[], true),
+];
+
+/// How many jobs a pipeline has at most, and how many pipelines are made at most.
 const JOBS: u64 = 8;
 
-const PIPELINES: u64 = 6;
+const PIPELINES: u64 = 12;
 
 /// Random numbers, and what has come of the events so far.
 #[derive(Clone, Copy)]
@@ -26,6 +42,10 @@ struct Course {
     seed: u64,
     pipelines: u64,
     attempts: u64,
+    /// So often a runner that asked was given none.
+    refused: u64,
+    /// So many pipelines did sweeps cancel.
+    cancelled: u64,
 }
 
 impl Course {
@@ -61,17 +81,34 @@ impl Course {
         }
     }
 
+    fn creation(&mut self) -> Act {
+        match self.below(5) {
+            0 | 1 => Act::CreatePipeline(1),
+            2 => Act::CreateFor(1, "v1", RefKind::Tag),
+            3 => Act::CreateFor(1, "v1", RefKind::Branch),
+            _ => Act::CreatePipeline(2),
+        }
+    }
+
+    /// What a user or the owner of a runner does.
+    fn act_of_user(&mut self) -> Act {
+        match self.below(9) {
+            0 | 1 => Act::Play(self.job()),
+            2 => Act::CancelJob(self.job()),
+            3 | 4 => Act::RetryJob(self.job()),
+            5 => Act::CancelPipeline(self.below(PIPELINES.saturating_add(2))),
+            6 => Act::Pause(self.below(6), true),
+            _ => Act::Pause(self.below(6), false),
+        }
+    }
+
     fn act(&mut self) -> Act {
-        match self.below(20) {
-            0 if self.pipelines < PIPELINES => Act::CreatePipeline(1),
-            0..=5 => Act::AskJob(RUNNER),
-            6..=11 => Act::Tell(self.attempt(), self.report()),
-            12 => Act::Play(self.job()),
-            13 => Act::Play(self.job()),
-            14 => Act::CancelJob(self.job()),
-            15 | 16 => Act::RetryJob(self.job()),
-            17 => Act::CancelPipeline(self.below(PIPELINES.saturating_add(2))),
-            18 => Act::Append(self.below(2).saturating_mul(5), "hello"),
+        match self.below(22) {
+            0 if self.pipelines < PIPELINES => self.creation(),
+            0..=7 => Act::AskAs(self.below(6)),
+            8..=12 => Act::Tell(self.attempt(), self.report()),
+            13..=18 => self.act_of_user(),
+            19 => Act::Append(self.below(2).saturating_mul(5), "hello"),
             _ => Act::Sweep,
         }
     }
@@ -81,62 +118,172 @@ impl Course {
         self.below(150).saturating_add(1000)
     }
 
-    /// What the answer tells: an attempt was made, or a pipeline.
-    fn learn(&mut self, act: Act, answer: &Answer) {
-        let Answer::Reply(reply) = answer else {
-            return;
-        };
-        if reply.code.is_some() || reply.body().is_empty() {
+    /// What the reply tells: an attempt was made, or none, or a pipeline.
+    fn learn_reply(&mut self, act: Act, reply: &Reply) {
+        if reply.code.is_some() {
             return;
         }
         match act {
-            Act::AskJob(_) => self.attempts = self.attempts.saturating_add(1),
-            Act::CreatePipeline(_) => self.pipelines = self.pipelines.saturating_add(1),
+            Act::AskAs(_) if reply.body().is_empty() => {
+                self.refused = self.refused.saturating_add(1);
+            }
+            Act::AskAs(_) => self.attempts = self.attempts.saturating_add(1),
+            Act::CreatePipeline(_) | Act::CreateFor(_, _, _) => {
+                self.pipelines = self.pipelines.saturating_add(1);
+            }
             _ => {}
+        }
+    }
+
+    /// What the answer tells.
+    fn learn(&mut self, act: Act, answer: &Answer) {
+        match answer {
+            Answer::Reply(reply) => self.learn_reply(act, reply),
+            Answer::Swept(Swept::Cancelled(_)) => {
+                self.cancelled = self.cancelled.saturating_add(1);
+            }
+            Answer::Swept(_) => {}
         }
     }
 }
 
-/// One random event, and then a reopening: each job's row is the one that the records give.
-fn one_more(alloc: Global, mut server: InMemory, course: &mut Course) -> Result<InMemory, Fail> {
+/// Is a runner that asks answered as the rule of the tests' own has it? The attempt that it is given would have this number.
+fn is_asked(
+    before: &Whole,
+    held: &[Holder],
+    after: &Whole,
+    reply: &Reply,
+    number: u64,
+    attempt: u64,
+) -> bool {
+    let Some(runner) = before.runner(number) else {
+        return reply.code == Some(Code::M4);
+    };
+    match (offer(before, held, runner), after.attempt(attempt)) {
+        (None, None) => reply.status == HttpStatus::NoContent,
+        (Some(job), Some(made)) => {
+            reply.status == HttpStatus::Created && made.job == job && made.runner == number
+        }
+        _ => false,
+    }
+}
+
+fn is_swept(found: &Swept, wanted: &Swept) -> bool {
+    match (found, wanted) {
+        (Swept::Ended(a, why), Swept::Ended(b, cause)) => a == b && why == cause,
+        (Swept::Cancelled(a), Swept::Cancelled(b)) => a == b,
+        (Swept::Nothing, Swept::Nothing) => true,
+        _ => false,
+    }
+}
+
+/// Is the event answered as the rule has it? Only requests for jobs and sweeps are looked at.
+fn is_foretold(
+    alloc: Global,
+    before: &Whole,
+    after: &Whole,
+    (seconds, act): (u64, Act),
+    answer: &Answer,
+    attempt: u64,
+) -> Result<bool, Fail> {
+    match (act, answer) {
+        (Act::AskAs(number), Answer::Reply(reply)) => {
+            let held = before.held(alloc)?;
+            Ok(is_asked(before, held.as_slice(), after, reply, number, attempt))
+        }
+        (Act::Sweep, Answer::Swept(found)) => Ok(is_swept(found, &sweep(before, seconds))),
+        _ => Ok(true),
+    }
+}
+
+/// One random event, and then a reopening. Errors: a row isn't the one that the records give, or the answer isn't as foretold.
+fn one_more(
+    alloc: Global,
+    mut server: InMemory,
+    before: &Whole,
+    course: &mut Course,
+) -> Result<(InMemory, Whole), Fail> {
     let act = course.act();
     let moment = course.moment();
-    match tell(alloc, &mut server, moment, act) {
-        Ok(answer) => course.learn(act, &answer),
+    let attempt = course.attempts.saturating_add(1);
+    let answer = match tell(alloc, &mut server, moment, act) {
+        Ok(answer) => answer,
         Err(fail) => {
             let_go(server);
             return Err(fail);
         }
+    };
+    course.learn(act, &answer);
+    let (conn, after) = rightly_whole(alloc, left(server))?;
+    let server = over(conn)?;
+    match is_foretold(alloc, before, &after, (moment, act), &answer, attempt) {
+        Ok(true) => Ok((server, after)),
+        Ok(false) => {
+            let_go(server);
+            Err("another answer than foretold")?
+        }
+        Err(fail) => {
+            let_go(server);
+            Err(fail)
+        }
     }
-    over(rightly(alloc, left(server))?)
 }
 
-/// So many random events. How many attempts were made?
-fn many(alloc: Global, seed: u64, events: usize) -> Result<u64, Fail> {
-    let [project, runner, _, pipeline, _] = PATH;
-    let mut server = after(alloc, &[project, runner, Act::SetFile(1, MIXED), pipeline])?;
+/// A server with the runners and a pipeline of each project, and all that it keeps.
+fn begun(alloc: Global) -> Result<(InMemory, Whole), Fail> {
+    let [project, _, _, pipeline, _] = PATH;
+    let [first, second, third, fourth] = RUNNERS;
+    let before = [
+        project,
+        project,
+        first,
+        second,
+        third,
+        fourth,
+        Act::SetFile(1, MIXED),
+        Act::SetFile(2, OTHER),
+        pipeline,
+        Act::CreatePipeline(2),
+    ];
+    let (conn, whole) = rightly_whole(alloc, left(after(alloc, &before)?))?;
+    Ok((over(conn)?, whole))
+}
+
+/// So many random events. What came of them?
+fn many(alloc: Global, seed: u64, events: usize) -> Result<Course, Fail> {
+    let (mut server, mut whole) = begun(alloc)?;
     let mut course = Course {
         seed,
-        pipelines: 1,
+        pipelines: 2,
         attempts: 0,
+        refused: 0,
+        cancelled: 0,
     };
     for _ in 0..events {
-        server = one_more(alloc, server, &mut course)?;
+        let (next, after) = one_more(alloc, server, &whole, &mut course)?;
+        server = next;
+        whole = after;
     }
     let_go(server);
-    Ok(course.attempts)
+    Ok(course)
+}
+
+/// Random events of this seed are answered rightly, and of each kind there are some.
+fn go_right(rt: &impl Abort, alloc: Global, seed: u64) -> Result<(), Fail> {
+    let course = many(alloc, seed, 1000)?;
+    let (attempts, refused, cancelled) = (course.attempts, course.refused, course.cancelled);
+    assert!(rt; attempts > 40, "{attempts} attempts");
+    assert!(rt; refused > 40, "{refused} refused");
+    assert!(rt; cancelled > 2, "{cancelled} cancelled");
+    Ok(())
 }
 
 #[test]
 fn random_events(rt: HostRuntime) -> Result<(), Fail> {
-    let attempts = many(rt.alloc(), 17, 1500)?;
-    assert!(rt; attempts > 50, "{attempts}");
-    Ok(())
+    go_right(&rt, rt.alloc(), 17)
 }
 
 #[test]
 fn other_random_events(rt: HostRuntime) -> Result<(), Fail> {
-    let attempts = many(rt.alloc(), 71, 1500)?;
-    assert!(rt; attempts > 50, "{attempts}");
-    Ok(())
+    go_right(&rt, rt.alloc(), 71)
 }

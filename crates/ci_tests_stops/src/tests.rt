@@ -2,7 +2,9 @@
 
 use ci_machine::reply::{Code, HttpStatus, JobStatus};
 use ci_test_disks::{Disks, FailingDisks, connected, discard, empty, fused, stopped};
-use ci_test_servers::acts::{Act, ONE_JOB, PATH, RUNNER, THREE_STAGES, TWO_JOBS};
+use ci_test_servers::acts::{
+    Act, ONE_JOB, PATH, RUNNER, SHIP, SHIP_INTERRUPTIBLE, THREE_STAGES, TWO_JOBS,
+};
 use ci_test_servers::answers::{Want, again, first, is};
 use ci_test_servers::rows::rightly;
 use ci_test_servers::servers::{Failing, is_closed, left, let_go, opened, over, prepared, tell};
@@ -22,9 +24,10 @@ enum Seen {
 }
 
 /// When it comes, in seconds. At 1120 the lease of the first attempt is over.
-fn moment_of(act: Act) -> u64 {
-    match act {
-        Act::Sweep => 1120,
+fn moment_of(trial: Trial) -> u64 {
+    match (trial.before, trial.act) {
+        (Before::Redundant, Act::Sweep) => 1010,
+        (_, Act::Sweep) => 1120,
         _ => 1010,
     }
 }
@@ -57,7 +60,7 @@ fn ends_well(alloc: Global, server: &mut Failing) -> Result<bool, Fail> {
 }
 
 /// What comes before the event.
-#[derive(Clone, Copy)]
+#[derive(Clone, Copy, PartialEq, Eq)]
 enum Before {
     /// The first things of the path, so many of them.
     Path(usize),
@@ -71,6 +74,14 @@ enum Before {
     ByHand,
     /// A pipeline of one job that has succeeded.
     Ended,
+    /// A pipeline of one job that is pending, and a runner that is paused.
+    Paused,
+    /// Two pipelines, each of one job with the same resource group: they wait for a runner.
+    Shipping,
+    /// The same, of which the first job is granted.
+    Shipped,
+    /// The same of interruptible jobs: the first pipeline is redundant.
+    Redundant,
 }
 
 /// An event on files of which one fails from a call on.
@@ -90,6 +101,30 @@ const TWO_MORE: Want = Want::Done(
     "{\"id\":2,\"jobs\":[{\"id\":3,\"name\":\"build\",\"stage\":\"build\",\"status\":\"pending\"},{\"id\":4,\"name\":\"unit\",\"stage\":\"test\",\"status\":\"created\"}],\"ref\":\"main\",\"source\":\"api\",\"status\":\"pending\"}",
 );
 
+/// The grant of the first job with a group.
+const SHIP_GRANTED: Want = Want::Done(
+    "{\"id\":1,\"job_info\":{\"name\":\"ship\",\"project_id\":1,\"stage\":\"test\"},\"script\":[\"x\"],\"timeout\":3600,\"token\":\"j1-abababababababababababababababab\",\"variables\":[{\"key\":\"CI\",\"value\":\"true\"},{\"key\":\"CI_COMMIT_BRANCH\",\"value\":\"main\"},{\"key\":\"CI_COMMIT_REF_NAME\",\"value\":\"main\"},{\"key\":\"CI_JOB_ID\",\"value\":\"1\"},{\"key\":\"CI_JOB_NAME\",\"value\":\"ship\"},{\"key\":\"CI_JOB_STAGE\",\"value\":\"test\"},{\"key\":\"CI_PIPELINE_ID\",\"value\":\"1\"},{\"key\":\"CI_PIPELINE_SOURCE\",\"value\":\"api\"},{\"key\":\"CI_PROJECT_ID\",\"value\":\"1\"}]}",
+);
+
+/// The first job with a group, cancelled.
+const SHIP_CANCELED: Want = Want::Done(
+    "{\"id\":1,\"name\":\"ship\",\"stage\":\"test\",\"status\":\"canceled\"}",
+);
+
+/// Its pipeline, cancelled.
+const SHIPPING_CANCELED: Want = Want::Done(
+    "{\"id\":1,\"jobs\":[{\"id\":1,\"name\":\"ship\",\"stage\":\"test\",\"status\":\"canceled\"}],\"ref\":\"main\",\"source\":\"api\",\"status\":\"canceled\"}",
+);
+
+/// The second job with a group, while the first holds that and where it doesn't.
+const WAITS: Want = Want::Done(
+    "{\"id\":2,\"jobs\":[{\"id\":2,\"name\":\"ship\",\"stage\":\"test\",\"status\":\"waiting_for_resource\"}],\"ref\":\"main\",\"source\":\"api\",\"status\":\"pending\"}",
+);
+
+const WAITS_NOT: Want = Want::Done(
+    "{\"id\":2,\"jobs\":[{\"id\":2,\"name\":\"ship\",\"stage\":\"test\",\"status\":\"pending\"}],\"ref\":\"main\",\"source\":\"api\",\"status\":\"pending\"}",
+);
+
 /// The pipeline of three stages, once it is cancelled.
 const THREE_CANCELLED: Want = Want::Done(
     "{\"id\":1,\"jobs\":[{\"id\":1,\"name\":\"build\",\"stage\":\"build\",\"status\":\"canceled\"},{\"id\":2,\"name\":\"test\",\"stage\":\"test\",\"status\":\"canceled\"},{\"id\":3,\"name\":\"deploy\",\"stage\":\"deploy\",\"status\":\"canceled\"}],\"ref\":\"main\",\"source\":\"api\",\"status\":\"canceled\"}",
@@ -100,44 +135,53 @@ fn wanted(trial: Trial) -> (Want, Want) {
     match (trial.before, trial.act) {
         (Before::TwoJobs, Act::CreatePipeline(_)) => (OF_TWO, TWO_MORE),
         (Before::Stages, Act::CancelPipeline(_)) => (THREE_CANCELLED, again(trial.act)),
+        (Before::Shipping, Act::AskJob(_)) => (SHIP_GRANTED, again(trial.act)),
+        (Before::Shipped, Act::CancelJob(_)) => (SHIP_CANCELED, again(trial.act)),
+        (Before::Shipped, Act::CancelPipeline(_)) => (SHIPPING_CANCELED, again(trial.act)),
+        (Before::Redundant, Act::Sweep) => (Want::Cancelled(1), again(trial.act)),
         (_, act) => (first(act), again(act)),
     }
 }
 
-/// Had the event happened, before a stop? It is sent again, or what follows tells.
-fn had_happened(alloc: Global, server: &mut Failing, trial: Trial) -> Result<bool, Fail> {
+/// What tells whether the event had happened before a stop: when what is asked, and its answers if it had and if it hadn't. Mostly the
+/// event is sent again.
+fn sign_of(trial: Trial) -> (u64, Act, Want, Want) {
     let (once, twice) = wanted(trial);
-    match trial.act {
-        Act::Success => {
-            let (yes, no) = (Want::Job(JobStatus::Success), Want::Job(JobStatus::Running));
-            let had_ended = either(alloc, server, 1010, Act::Show, yes, no)?;
-            if !ends_well(alloc, server)? {
-                return Err("not ended")?;
-            }
-            Ok(had_ended)
-        }
-        Act::Running => {
-            let (yes, no) = (again(Act::Sweep), first(Act::Sweep));
-            either(alloc, server, 1125, Act::Sweep, yes, no)
-        }
-        Act::SetFile(_, _) => {
-            let create = Act::CreatePipeline(1);
-            let no = Want::Refused(Code::M13, None);
-            either(alloc, server, 1010, create, first(create), no)
-        }
-        Act::SetVariable(key, _) => {
-            let (yes, no) = (
-                Want::Empty(HttpStatus::NoContent),
-                Want::Refused(Code::M3, None),
-            );
-            either(alloc, server, 1010, Act::DeleteVariable(key), yes, no)
-        }
+    match (trial.before, trial.act) {
+        (Before::Shipped, _) => (1010, Act::ShowPipeline(2), WAITS_NOT, WAITS),
+        (_, Act::Success) => (
+            1010,
+            Act::Show,
+            Want::Job(JobStatus::Success),
+            Want::Job(JobStatus::Running),
+        ),
+        (_, Act::Running) => (1125, Act::Sweep, again(Act::Sweep), first(Act::Sweep)),
+        (_, Act::SetFile(_, _)) => (1010, CREATE, first(CREATE), Want::Refused(Code::M13, None)),
+        (_, Act::SetVariable(key, _)) => (
+            1010,
+            Act::DeleteVariable(key),
+            Want::Empty(HttpStatus::NoContent),
+            Want::Refused(Code::M3, None),
+        ),
+        (_, Act::Pause(_, true)) => (1010, ASK, again(ASK), first(ASK)),
+        (_, Act::Pause(_, false)) => (1010, ASK, first(ASK), again(ASK)),
         // A question is answered as it was.
-        Act::Show | Act::Trace | Act::ShowPipeline(_) => {
-            either(alloc, server, 1010, trial.act, once, Want::Nothing)
+        (_, Act::Show | Act::Trace | Act::ShowPipeline(_)) => {
+            (1010, trial.act, once, Want::Nothing)
         }
-        act => either(alloc, server, moment_of(act), act, twice, once),
+        (_, act) => (moment_of(trial), act, twice, once),
     }
+}
+
+/// Had the event happened, before a stop? An attempt that had ended has ended still, once its final state is sent again.
+fn had_happened(alloc: Global, server: &mut Failing, trial: Trial) -> Result<bool, Fail> {
+    let (seconds, act, yes, no) = sign_of(trial);
+    let had_happened = either(alloc, server, seconds, act, yes, no)?;
+    let is_final = matches!(trial.act, Act::Success) && trial.before != Before::Shipped;
+    if is_final && !ends_well(alloc, server)? {
+        return Err("not ended")?;
+    }
+    Ok(had_happened)
 }
 
 /// Opens the server again after a stop. Had the event happened? The rows of statuses are those that the records give, then
@@ -161,14 +205,15 @@ fn happened(alloc: Global, files: FailingDisks, trial: Trial) -> Result<bool, Fa
 fn met(alloc: Global, server: &mut Failing, trial: Trial) -> Result<Seen, Fail> {
     let act = trial.act;
     let (once, _) = wanted(trial);
-    let answer = tell(alloc, server, moment_of(act), act)?;
+    let moment = moment_of(trial);
+    let answer = tell(alloc, server, moment, act)?;
     if !is_closed(server) && is(&answer, once) {
         return Ok(Seen::Answered);
     }
     if !is(&answer, CLOSED) {
         return Err("another answer")?;
     }
-    let later = tell(alloc, server, moment_of(act), act)?;
+    let later = tell(alloc, server, moment, act)?;
     if !is_closed(server) || !is(&later, CLOSED) {
         return Err("open after a fault")?;
     }
@@ -192,31 +237,57 @@ fn tried(alloc: Global, files: Disks, trial: Trial, calls: u64) -> Result<Seen, 
 /// A file of one job that is started by hand.
 const HAND: &str = "build:\n  stage: build\n  when: manual\n  script: make\n";
 
+/// A pipeline is made, and a runner asks for a job.
+const CREATE: Act = Act::CreatePipeline(1);
+
+const ASK: Act = Act::AskJob(RUNNER);
+
+/// What may come behind a file.
+const NOTHING: &[Act] = &[];
+
+const CREATED: &[Act] = &[CREATE];
+
+const GRANTED: &[Act] = &[CREATE, ASK];
+
+const ENDED: &[Act] = &[CREATE, ASK, Act::Success];
+
+const PAUSED: &[Act] = &[CREATE, Act::Pause(1, true)];
+
+const TWO: &[Act] = &[CREATE, CREATE];
+
+const ONE_OF_TWO: &[Act] = &[CREATE, CREATE, ASK];
+
+/// The things that have happened.
+fn acts_before(alloc: Global, before: Before) -> Result<Vec<Act>, Fail> {
+    let [project, runner, _, _, _] = PATH;
+    let (file, then) = match before {
+        Before::Path(count) => {
+            let acts = PATH.get(..count).ok_or("too many")?;
+            return Ok(Vec::from_slice(alloc, acts)?);
+        }
+        Before::Variable => {
+            return Ok(vec![in alloc; project, Act::SetVariable("A", "1")]?);
+        }
+        Before::TwoJobs => (TWO_JOBS, NOTHING),
+        Before::Stages => (THREE_STAGES, GRANTED),
+        Before::ByHand => (HAND, CREATED),
+        Before::Ended => (ONE_JOB, ENDED),
+        Before::Paused => (ONE_JOB, PAUSED),
+        Before::Shipping => (SHIP, TWO),
+        Before::Shipped => (SHIP, ONE_OF_TWO),
+        Before::Redundant => (SHIP_INTERRUPTIBLE, ONE_OF_TWO),
+    };
+    let mut acts = vec![in alloc; project, runner, Act::SetFile(1, file)]?;
+    for act in then {
+        acts.push(*act)?;
+    }
+    Ok(acts)
+}
+
 /// The files of a server to which these things have happened.
 fn files_after(alloc: Global, before: Before) -> Result<Disks, Fail> {
-    let [project, runner, _, pipeline, ask] = PATH;
-    let files = empty(alloc);
-    match before {
-        Before::Path(count) => prepared(alloc, files, PATH.get(..count).ok_or("too many")?),
-        Before::Variable => prepared(alloc, files, &[project, Act::SetVariable("A", "1")]),
-        Before::TwoJobs => {
-            let file = Act::SetFile(1, TWO_JOBS);
-            prepared(alloc, files, &[project, runner, file])
-        }
-        Before::Stages => {
-            let file = Act::SetFile(1, THREE_STAGES);
-            prepared(alloc, files, &[project, runner, file, pipeline, ask])
-        }
-        Before::ByHand => {
-            let file = Act::SetFile(1, HAND);
-            prepared(alloc, files, &[project, runner, file, pipeline])
-        }
-        Before::Ended => {
-            let file = Act::SetFile(1, ONE_JOB);
-            let acts = [project, runner, file, pipeline, ask, Act::Success];
-            prepared(alloc, files, &acts)
-        }
-    }
+    let acts = acts_before(alloc, before)?;
+    prepared(alloc, empty(alloc), acts.as_slice())
 }
 
 fn outcome(alloc: Global, trial: Trial, calls: u64) -> Result<Seen, Fail> {
@@ -295,7 +366,7 @@ fn each_call_fails_as_a_variable_goes(rt: HostRuntime) -> Result<(), Fail> {
 
 #[test]
 fn each_call_fails_as_a_pipeline_is_made(rt: HostRuntime) -> Result<(), Fail> {
-    both(&rt, rt.alloc(), Before::TwoJobs, Act::CreatePipeline(1))
+    both(&rt, rt.alloc(), Before::TwoJobs, CREATE)
 }
 
 #[test]
@@ -305,7 +376,7 @@ fn each_call_fails_as_a_pipeline_is_shown(rt: HostRuntime) -> Result<(), Fail> {
 
 #[test]
 fn each_call_fails_in_a_grant(rt: HostRuntime) -> Result<(), Fail> {
-    both(&rt, rt.alloc(), Before::Path(4), Act::AskJob(RUNNER))
+    both(&rt, rt.alloc(), Before::Path(4), ASK)
 }
 
 #[test]
@@ -371,4 +442,50 @@ fn each_call_fails_as_a_job_is_tried_again(rt: HostRuntime) -> Result<(), Fail> 
 #[test]
 fn each_call_fails_as_a_pipeline_is_cancelled(rt: HostRuntime) -> Result<(), Fail> {
     both(&rt, rt.alloc(), Before::Stages, Act::CancelPipeline(1))
+}
+
+#[test]
+fn each_call_fails_as_a_runner_of_a_project_is_made(rt: HostRuntime) -> Result<(), Fail> {
+    let runner = Act::AddRunnerOf(Some(1), &["linux", "arm"], false);
+    both(&rt, rt.alloc(), Before::Path(1), runner)
+}
+
+#[test]
+fn each_call_fails_as_a_runner_is_paused(rt: HostRuntime) -> Result<(), Fail> {
+    both(&rt, rt.alloc(), Before::Path(4), Act::Pause(1, true))
+}
+
+#[test]
+fn each_call_fails_as_a_runner_goes_on(rt: HostRuntime) -> Result<(), Fail> {
+    both(&rt, rt.alloc(), Before::Paused, Act::Pause(1, false))
+}
+
+#[test]
+fn each_call_fails_in_a_grant_with_a_group(rt: HostRuntime) -> Result<(), Fail> {
+    both(&rt, rt.alloc(), Before::Shipping, ASK)
+}
+
+#[test]
+fn each_call_fails_as_a_group_is_free(rt: HostRuntime) -> Result<(), Fail> {
+    both(&rt, rt.alloc(), Before::Shipped, Act::Success)
+}
+
+#[test]
+fn each_call_fails_as_a_sweep_frees_a_group(rt: HostRuntime) -> Result<(), Fail> {
+    both(&rt, rt.alloc(), Before::Shipped, Act::Sweep)
+}
+
+#[test]
+fn each_call_fails_as_a_cancel_frees_a_group(rt: HostRuntime) -> Result<(), Fail> {
+    both(&rt, rt.alloc(), Before::Shipped, Act::CancelJob(1))
+}
+
+#[test]
+fn each_call_fails_as_a_pipeline_with_a_group_is_cancelled(rt: HostRuntime) -> Result<(), Fail> {
+    both(&rt, rt.alloc(), Before::Shipped, Act::CancelPipeline(1))
+}
+
+#[test]
+fn each_call_fails_as_a_redundant_pipeline_is_cancelled(rt: HostRuntime) -> Result<(), Fail> {
+    both(&rt, rt.alloc(), Before::Redundant, Act::Sweep)
 }

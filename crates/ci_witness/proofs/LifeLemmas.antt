@@ -54,12 +54,13 @@ use Rattle.ci_machine.specs.State.{State, empty, applied}
 use Rattle.ci_machine.specs.Statuses.{row_for, facts_in, AreBoard}
 use Rattle.ci_machine.specs.Step.{runner_with, queued, offered_variables}
 use Rattle.ci_machine.specs.Eligible.{chosen}
+use Rattle.ci_machine.specs.Holders.{holders}
 use Rattle.ci_machine.specs.History.{IsReached}
-use Rattle.ci_machine.specs.Examples.{seed, token, pipeline, with_project, with_runner, project_added, runner_added, laid_by, job}
+use Rattle.ci_machine.specs.Examples.{seed, token, pipeline, new_runner, with_project, with_runner, project_added, runner_added, laid_by, job}
 use Rattle.ci_store.specs.declared.tables.OpenFault.{OpenFault}
 use Rattle.ci_store.specs.declared.tables.OpenFault.TheVariants.{O1, O2, O3, Memory}
 use Rattle.ci_store.specs.Open.{IsFailure}
-use Rattle.ci_server.specs.Holding.{HoldsIn, LeavesIn, with_rows}
+use Rattle.ci_server.specs.Holding.{HoldsIn, LeavesIn}
 use Rattle.ci_server.specs.Handling.{Handled, answered, no_memory, look_failed, commit_failed}
 use Rattle.ci_server.specs.Server.{Handles, Creates, Opens}
 use Rattle.ci_server.specs.Lifetime.{Operation, opened}
@@ -68,16 +69,13 @@ use Rattle.ci_witness.specs.Life.{file_text, new_file, owner, configured, file_a
 
 -- ---- the server is made
 
-no_rows : AreBoard empty []
-no_rows = record { keys = refl; each = λ p. record { counted = λ i below. absurd (omega arith); settled = λ i below. absurd (omega arith) } }
-
 pub created_at : (conn : Held MemStore) (new : InMemory) → Creates over_memory conn new → IsOpenAt [] empty new
 created_at conn new made = record {
   came = (conn, inl made);
   honest = memory_is_clean new.store;
   is_open = made.is_open;
   reached = ([], refl);
-  holds = record { board = []; are_board = no_rows; kept = made.made (memory_is_clean new.store) made.was_blank };
+  holds = made.holds (memory_is_clean new.store);
 }
 
 pub uncreated : (fault : OpenFault) → (fault ≡ O1 → ⊥) → (fault ≡ O2 → ⊥) → IsFailure fault
@@ -148,7 +146,7 @@ handed_on (Err e) is so = so e is
 pub plans_project : IsPlanned empty (AddProject (codes "p")) project_added
 plans_project = record { only = λ board are p does. does; taken = refl }
 
-pub plans_runner : IsPlanned with_project (AddRunner (codes "r")) runner_added
+pub plans_runner : IsPlanned with_project (AddRunner new_runner) runner_added
 unfolding digits hex_on_literals
 plans_runner = record { only = λ board are p does. does; taken = refl }
 
@@ -253,7 +251,7 @@ module _ (one_tree : HasOneTree) (not_both : HasNotBoth) (reads : ReadsTrees) (o
       ap (λ (d : Config). laid_out d p) its ∙ ap (laid_out configured) its_plan
 
   -- its one row says that it is pending, and what the reply shows of it is no more
-  rows_so : (rows : List Row) → AreFirstRows made.jobs made.needs rows → pipeline_created 1 made rows ≡ pipeline_made
+  rows_so : (rows : List Row) → AreFirstRows made.jobs made.needs rows → pipeline_created 1 made (holders with_file) rows ≡ pipeline_made
   rows_so [] are = let bad : ◌≡◌ {A = ℕ} 0 1 = are.long in absurd (omega (arith, bad))
   rows_so (row ∷ []) are =
       let counts = are.settled.counted 0 (omega arith) in
@@ -261,14 +259,14 @@ module _ (one_tree : HasOneTree) (not_both : HasNotBoth) (reads : ReadsTrees) (o
       are.settled.settled 0 (omega arith)
       ∙ (λ i. status_of_row build.options.part no_facts (record { status = row.status; opens = counts.opens i; failed = counts.failed i; barred = counts.barred i })) in
       let same : row ≡ record no_row { status = Pending } = λ i. record { status = status i; opens = counts.opens i; failed = counts.failed i; barred = counts.barred i } in
-      ap (λ (w : Row). pipeline_created 1 made (w ∷ [])) same
+      ap (λ (w : Row). pipeline_created 1 made (holders with_file) (w ∷ [])) same
   rows_so (a ∷ b ∷ rows) are = let bad : ◌≡◌ {A = ℕ} (suc (suc (length rows))) 1 = are.long in absurd (omega (arith, bad))
 
   pub plans_pipeline : IsPlanned with_file (CreatePipeline pipeline) pipeline_made
   unfolding digits hex_on_literals
   plans_pipeline = record {
     only = λ board are p does.
-        let makes = subst (λ (r : Result Layout Detail). pipelines.Makes 1 1 pipeline given 1000 r p) (laid_so does.0 does.1) does.2 in
+        let makes = subst (λ (r : Result Layout Detail). pipelines.Makes 1 1 (holders with_file) pipeline given 1000 r p) (laid_so does.0 does.1) does.2 in
         makes.2 ∙ rows_so makes.0 makes.1;
     taken = refl;
   }
@@ -287,7 +285,7 @@ is_waiting board are =
 abbrev by_pending : Bool → Plan
 by_pending pending =
     let runner = runner_with with_pipeline token in
-    let offered = option_and_then (chosen (map (queued with_pipeline) (if pending then build ∷ [] else []))) runner in
+    let offered = option_and_then (chosen (map (queued with_pipeline) (if pending then build ∷ [] else [])) (holders with_pipeline)) runner in
     ask_job runner offered (offered_variables with_pipeline offered) with_pipeline.next.attempt 1000 seed
 
 pub plans_grant : IsPlanned with_pipeline (AskJob token) granted
@@ -302,13 +300,12 @@ plans_grant = record {
 -- over memory a closed server is what a stop leaves of it
 pub reopened_at : (ops : List Operation) (s : State) (old new : InMemory) → IsOpenAt ops s old → Opens over_memory old.store new → IsOpenAt (opened ∷ ops) s new
 reopened_at ops s old new was opens =
-    let kept = with_rows s was.holds.board in
     record {
-      came = (old, old.store, was.came, memory_is_clean old.store, record { is_open = was.holds.kept.is_open; left = refl }, opens);
+      came = (old, old.store, was.came, memory_is_clean old.store, record { is_open = was.holds.held.is_open; left = refl }, opens);
       honest = memory_is_clean new.store;
       is_open = opens.is_open;
       reached = was.reached;
-      holds = record { board = was.holds.board; are_board = was.holds.are_board; kept = opens.opened (memory_is_clean new.store) kept was.holds.kept.left };
+      holds = opens.holds (memory_is_clean new.store) s was.holds.kept was.holds.is_of was.holds.held.left;
     }
 
 -- ---- the state after the grant, computed

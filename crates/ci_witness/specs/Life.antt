@@ -26,11 +26,12 @@ use Rattle.ci_machine.specs.Reply.{refusal}
 use Rattle.ci_machine.specs.Plans.{Plan}
 use Rattle.ci_machine.specs.Files.{file_set}
 use Rattle.ci_machine.specs.Pipelines.{given_by, Creation, creation, pipeline_created}
+use Rattle.ci_machine.specs.Holders.{holders}
 use Rattle.ci_machine.specs.State.{State}
 use Rattle.ci_machine.specs.Statuses.{AreBoard}
 use Rattle.ci_machine.specs.Step.{Does, project_variables}
 use Rattle.ci_machine.specs.History.{IsReached}
-use Rattle.ci_machine.specs.Examples.{seed, pipeline, token, project_added, runner_added, with_runner, after, laid_by, asked, rows}
+use Rattle.ci_machine.specs.Examples.{seed, pipeline, token, project_added, new_runner, runner_added, with_runner, after, laid_by, asked, rows}
 use Rattle.ci_store.specs.Open.{IsFailure}
 use Rattle.ci_server.specs.declared.fail_stop.FailStop.{FailStop}
 use Rattle.ci_server.specs.Holding.{HoldsIn}
@@ -71,7 +72,7 @@ abbrev pub made : Creation
 made = creation 1 1 pipeline given 1000 (laid_by given configured)
 
 abbrev pub pipeline_made : Plan
-pipeline_made = pipeline_created 1 made (record no_row { status = Pending } ∷ [])
+pipeline_made = pipeline_created 1 made (holders with_file) (record no_row { status = Pending } ∷ [])
 
 abbrev pub with_pipeline : State
 with_pipeline = after pipeline_made with_file
@@ -97,7 +98,7 @@ abbrev pub before_grant : List Operation
 before_grant =
     planned (CreatePipeline pipeline) pipeline_made
     ∷ planned (SetFile new_file) file_added
-    ∷ planned (AddRunner (codes "r")) runner_added
+    ∷ planned (AddRunner new_runner) runner_added
     ∷ planned (AddProject (codes "p")) project_added
     ∷ []
 

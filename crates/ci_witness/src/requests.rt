@@ -2,12 +2,12 @@
 
 ghost use Rattle.std.specs.Prelude.{◌≡◌, IfOk, codes};
 ghost use Rattle.ci_machine.specs.declared.request.Request.TheVariants.{AddProject, AddRunner, SetFile, CreatePipeline, AskJob};
-ghost use Rattle.ci_machine.specs.Examples.{pipeline, token};
+ghost use Rattle.ci_machine.specs.Examples.{pipeline, token, new_runner};
 ghost use Rattle.ci_witness.specs.Life.{new_file};
 
 use ci_machine::records::{RefKind, Source};
-use ci_machine::request::{NewFile, NewPipeline, PipelineVariables, Request};
-use ci_machine::text::Text;
+use ci_machine::request::{NewFile, NewPipeline, NewRunner, PipelineVariables, Request};
+use ci_machine::text::{Text, Texts};
 use std::alloc::{AllocError, Global};
 
 /// The token of the project.
@@ -20,11 +20,16 @@ pub(crate) fn project(alloc: Global) -> Result<Request, AllocError>
     Ok(Request::AddProject(Text::copy_of(alloc, "p")?))
 }
 
-/// The runner `r` is to be made.
+/// The runner `r` of the instance is to be made, which has no tags and runs untagged jobs.
 pub(crate) fn runner(alloc: Global) -> Result<Request, AllocError>
-    ensures { IfOk result (λ request. request ≡ AddRunner (codes "r")) }
+    ensures { IfOk result (λ request. request ≡ AddRunner new_runner) }
 {
-    Ok(Request::AddRunner(Text::copy_of(alloc, "r")?))
+    Ok(Request::AddRunner(NewRunner {
+        name: Text::copy_of(alloc, "r")?,
+        project: None,
+        tags: Texts::new(Vec::new(alloc)),
+        untagged: true,
+    }))
 }
 
 /// The first project is to have a file of the job `build`.

@@ -1,18 +1,21 @@
-use Rattle.std.specs.Prelude.{IfOk}
-use Rattle.std.proofs.Common.{subst}
+use Rattle.std.specs.Prelude.{◌≡◌, Some}
+use Rattle.std.proofs.Common.{subst, sym, ◌∙◌}
+use Rattle.ci_machine.specs.declared.records.Pipeline.{Pipeline}
 use Rattle.ci_machine.specs.Cancels.{CancelsSome, cancellable_jobs}
-use Rattle.ci_machine.specs.Kept.{Kept}
-use Rattle.ci_events.specs.Acting.{AreOf}
-use Rattle.ci_events.specs.Planning.{IsKept, PlansFor}
-use Rattle.ci_events.proofs.Acting.{leads}
+use Rattle.ci_lookups.specs.Records.{IsWhole}
+use Rattle.ci_events.specs.Planning.{PlansFor}
+use Rattle.ci_events.proofs.Acting.{leads, pipeline_there}
+use Rattle.ci_events.proofs.Found.{at_ok}
 use Rattle.ci_events.proofs.acts.cancel_found.Goals as goal
 
--- what was looked up are its records
+-- what was looked up is the pipeline
 pub returns : goal.returns
 returns g c =
     let p = c.args.pipeline.now in
-    let it = c.in_ok-records.records in
-    leads g.T.Store.honest g.T.Store.holds g.T.Store.leaves _ _ _ c.records_of.result it c.cancelled.result c.in_ok-records.was c.records_of.ensures
-    (λ k y is records kept.
-    subst (λ z. IfOk z (λ q. (l : Kept) → IsKept l → AreOf l p.id it → PlansFor l (CancelsSome l.state p (cancellable_jobs l.state l.board p.id) (q.answer, q.changes)) q.changes q.rows.items)) is c.cancelled.ensures
-    k kept (records kept))
+    let w = c.in_ok-whole.whole in
+    leads g.T.Store.honest g.T.Store.holds g.T.Store.leaves _ _ _ c.whole_of.result w c.cancelled.result c.in_ok-whole.was c.whole_of.ensures
+    (λ k y is whole kept has.
+    let both : Some w.pipeline ≡ Some p = sym (whole kept).there ∙ pipeline_there k.state p kept.sound has in
+    let same : w.pipeline ≡ p = cc in
+    subst (λ (q : Pipeline). PlansFor k (CancelsSome k.state q (cancellable_jobs k.state k.board q.id) (y.answer, y.changes)) y.changes y.beside) same
+    (at_ok _ _ _ is c.cancelled.ensures k kept (subst (λ (q : Pipeline). IsWhole k q.id w) (sym same) (whole kept))))

@@ -7,7 +7,7 @@ use Rattle.ci_machine.specs.declared.reply.Code.{Code}
 use Rattle.ci_machine.specs.Files as machine
 use Rattle.ci_machine.specs.Plans.{asked_project}
 use Rattle.ci_machine.specs.Step.{project_with}
-use Rattle.ci_events.proofs.Loading.{gives}
+use Rattle.ci_lookups.proofs.Loading.{gives}
 use Rattle.ci_events.proofs.files.set_file.Goals as goal
 
 -- the project that was looked up is the one that is named, and its plan is the file's

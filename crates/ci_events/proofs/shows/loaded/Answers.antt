@@ -1,4 +1,4 @@
-use Rattle.ci_events.proofs.Loading.{carried}
+use Rattle.ci_lookups.proofs.Loading.{carried}
 use Rattle.ci_events.proofs.shows.loaded.Goals as goal
 
 -- what is so of the facts and rows that were found is so of what is handed on

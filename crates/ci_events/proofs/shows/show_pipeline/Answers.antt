@@ -5,11 +5,12 @@ use Rattle.std.proofs.Common.{sym, ap, ◌∙◌}
 use Rattle.ci_machine.specs.declared.records.Pipeline.{Pipeline}
 use Rattle.ci_machine.specs.declared.records.Project.{Project}
 use Rattle.ci_machine.specs.declared.reply.Code.{Code}
+use Rattle.ci_machine.specs.Holders.{holders}
 use Rattle.ci_machine.specs.Plans.{asked_project}
 use Rattle.ci_machine.specs.Shows as machine
 use Rattle.ci_machine.specs.Statuses.{jobs_of, facts_of, rows_of}
 use Rattle.ci_machine.specs.Step.{project_with, pipeline_at}
-use Rattle.ci_events.proofs.Loading.{goes_on}
+use Rattle.ci_lookups.proofs.Loading.{goes_on}
 use Rattle.ci_events.proofs.shows.show_pipeline.Goals as goal
 
 -- the pipeline is one of the project's, and is shown
@@ -29,4 +30,4 @@ returns-in-Ok g c =
     ∙ (ap (λ (o : Option Pipeline). machine.asked_pipeline (asked_project c.in_ok-project.project query.project) o) (sym more.0)
     ∙ (sym c.asked_pipeline.ensures ∙ ap (result_map_both (λ (p : Bor Pipeline). p.now) (λ (e : Code). e)) c.in-Ok.is)) in
     more.1 kept
-    ∙ ap (λ (found : Result Pipeline Code). machine.show_pipeline found (jobs_of k.state query.pipeline) (facts_of k.state query.pipeline) (rows_of k.state k.board query.pipeline)) (sym asked))
+    ∙ ap (λ (found : Result Pipeline Code). machine.show_pipeline found (holders k.state) (jobs_of k.state query.pipeline) (facts_of k.state query.pipeline) (rows_of k.state k.board query.pipeline)) (sym asked))

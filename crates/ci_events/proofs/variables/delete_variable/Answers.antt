@@ -7,7 +7,7 @@ use Rattle.ci_machine.specs.declared.reply.Code.{Code}
 use Rattle.ci_machine.specs.Plans.{asked_project}
 use Rattle.ci_machine.specs.Step.{project_with, variable_at}
 use Rattle.ci_machine.specs.Variables as machine
-use Rattle.ci_events.proofs.Loading.{goes_on}
+use Rattle.ci_lookups.proofs.Loading.{goes_on}
 use Rattle.ci_events.proofs.variables.delete_variable.Goals as goal
 
 -- the project that was looked up is the one that is named

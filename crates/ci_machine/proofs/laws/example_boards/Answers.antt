@@ -53,7 +53,7 @@ returns-clause-leased c =
 
 -- its lease is over, and it ends
 abbrev ended : State
-ended = after (swept leased 1120) leased
+ended = after (swept leased (rows Running) 1120) leased
 
 pub returns-clause-ended : goal.returns-clause-ended
 returns-clause-ended c =

@@ -4,8 +4,9 @@ use Rattle.ci_machine.specs.declared.reply.Answer.TheVariants as answer
 use Rattle.ci_machine.specs.declared.request.Event.TheVariants as event
 use Rattle.ci_machine.specs.Step.{Does}
 use Rattle.ci_store.specs.Store.{UnlessBroken}
-use Rattle.ci_server.specs.Holding.{with_rows}
-use Rattle.ci_events.specs.Planning.{IsKept, PlansFor}
+use Rattle.ci_lookups.specs.Keeps.{IsKept}
+use Rattle.ci_events.specs.Planning.{PlansFor}
+use Rattle.ci_server.proofs.Keeping.{is_kept}
 use Rattle.ci_server.proofs.Handling.{performed}
 use Rattle.ci_server.proofs.events.handle.Goals as goal
 
@@ -13,10 +14,10 @@ use Rattle.ci_server.proofs.events.handle.Goals as goal
 pub returns-clause-performed : goal.returns-clause-performed
 returns-clause-performed g c = λ honest s sound held.
     let looked = c.commit.ensures.was_honest honest in
-    let k = with_rows s held.board in
-    let planned = subst (λ r. IfOk r (λ p. IsKept k → PlansFor k (Does s held.board c.args.request c.args.now c.args.seed (p.answer, p.changes)) p.changes p.rows.items)) c.in_ok-planned.was
-    (c.plan_request.ensures.answered looked k held.kept) (record { sound = sound; are_board = held.are_board }) in
-    performed g.T.Store.holds g.T.Store.leaves answer.Reply (event.Request c.args.request, c.args.now, c.args.seed) s held.board held.are_board
-    c.in_ok-planned.planned.answer c.in_ok-planned.planned.changes c.in_ok-planned.planned.rows.items c.commit.new.store c.commit.result
+    let k = held.kept in
+    let planned = subst (λ r. IfOk r (λ p. IsKept k → PlansFor k (Does k.state k.board c.args.request c.args.now c.args.seed (p.answer, p.changes)) p.changes p.beside)) c.in_ok-planned.was
+    (c.plan_request.ensures.answered looked k held.held) (is_kept s k sound held.is_of) in
+    performed g.T.Store.holds g.T.Store.leaves answer.Reply (event.Request c.args.request, c.args.now, c.args.seed) s k held.is_of
+    c.in_ok-planned.planned.answer c.in_ok-planned.planned.changes c.in_ok-planned.planned.beside c.commit.new.store c.commit.result
     planned.made planned.settled c.commit.ensures.answer
-    (c.commit.ensures.ends honest k (subst (λ r. UnlessBroken r (g.T.Store.holds c.plan_request.new.store k)) c.in_ok-planned.was (c.plan_request.ensures.kept looked k held.kept)))
+    (c.commit.ensures.ends honest k (subst (λ r. UnlessBroken r (g.T.Store.holds c.plan_request.new.store k)) c.in_ok-planned.was (c.plan_request.ensures.kept looked k held.held)))

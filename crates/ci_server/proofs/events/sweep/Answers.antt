@@ -2,12 +2,11 @@ use Rattle.std.specs.Prelude.{◌≡◌, IfOk}
 use Rattle.std.proofs.Common.{subst}
 use Rattle.ci_machine.specs.declared.reply.Answer.TheVariants as answer
 use Rattle.ci_machine.specs.declared.request.Event.TheVariants as event
-use Rattle.ci_machine.specs.Leases.{first_due}
-use Rattle.ci_machine.specs.Step.{leases}
-use Rattle.ci_machine.specs.Sweeps as sweeps
+use Rattle.ci_machine.specs.Step.{sweep_in}
 use Rattle.ci_store.specs.Store.{UnlessBroken}
-use Rattle.ci_server.specs.Holding.{with_rows}
-use Rattle.ci_events.specs.Planning.{IsKept, PlansFor}
+use Rattle.ci_lookups.specs.Keeps.{IsKept}
+use Rattle.ci_events.specs.Planning.{PlansFor}
+use Rattle.ci_server.proofs.Keeping.{is_kept}
 use Rattle.ci_server.proofs.Handling.{performed}
 use Rattle.ci_server.proofs.events.sweep.Goals as goal
 
@@ -15,10 +14,10 @@ use Rattle.ci_server.proofs.events.sweep.Goals as goal
 pub returns-clause-performed : goal.returns-clause-performed
 returns-clause-performed g c = λ honest s sound held seed.
     let looked = c.commit.ensures.was_honest honest in
-    let k = with_rows s held.board in
-    let planned = subst (λ r. IfOk r (λ p. IsKept k → PlansFor k ((p.answer, p.changes) ≡ sweeps.sweep (first_due (leases s) c.args.now)) p.changes p.rows.items)) c.in_ok-planned.was
-    (c.plan_sweep.ensures.answered looked k held.kept) (record { sound = sound; are_board = held.are_board }) in
-    performed g.T.Store.holds g.T.Store.leaves answer.Swept (event.Sweep, c.args.now, seed) s held.board held.are_board
-    c.in_ok-planned.planned.answer c.in_ok-planned.planned.changes c.in_ok-planned.planned.rows.items c.commit.new.store c.commit.result
+    let k = held.kept in
+    let planned = subst (λ r. IfOk r (λ p. IsKept k → PlansFor k ((p.answer, p.changes) ≡ sweep_in k.state k.board c.args.now) p.changes p.beside)) c.in_ok-planned.was
+    (c.plan_sweep.ensures.answered looked k held.held) (is_kept s k sound held.is_of) in
+    performed g.T.Store.holds g.T.Store.leaves answer.Swept (event.Sweep, c.args.now, seed) s k held.is_of
+    c.in_ok-planned.planned.answer c.in_ok-planned.planned.changes c.in_ok-planned.planned.beside c.commit.new.store c.commit.result
     planned.made planned.settled c.commit.ensures.answer
-    (c.commit.ensures.ends honest k (subst (λ r. UnlessBroken r (g.T.Store.holds c.plan_sweep.new.store k)) c.in_ok-planned.was (c.plan_sweep.ensures.kept looked k held.kept)))
+    (c.commit.ensures.ends honest k (subst (λ r. UnlessBroken r (g.T.Store.holds c.plan_sweep.new.store k)) c.in_ok-planned.was (c.plan_sweep.ensures.kept looked k held.held)))

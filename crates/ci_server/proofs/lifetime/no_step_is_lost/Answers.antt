@@ -1,9 +1,13 @@
-use Rattle.ci_server.proofs.LifetimeLemmas.{stands, comes_of_each}
+use Rattle.ci_server.proofs.LifetimeLemmas.{stands, keeps_groups, comes_of_each}
 use Rattle.ci_server.proofs.lifetime.no_step_is_lost.Goals as goal
 
 pub returns-clause-kept : goal.returns-clause-kept
 returns-clause-kept g c ops server came honest =
     (stands g.S.Store g.met.S.Store.settled c.laws_of_each_reached_state.ensures c.a_step_is_answered.ensures ops server came honest).0
+
+pub returns-clause-groups : goal.returns-clause-groups
+returns-clause-groups g c ops server came honest =
+    keeps_groups g.S.Store g.met.S.Store.settled c.laws_of_each_reached_state.ensures c.a_step_is_answered.ensures ops server (returns-clause-kept g c ops server came honest)
 
 pub returns-clause-runs : goal.returns-clause-runs
 returns-clause-runs g c ops old new cs rs came each =

@@ -20,8 +20,8 @@ returns-clause-rows g c = λ ascend.
 pub returns-clause-board : goal.returns-clause-board
 returns-clause-board g c = λ s t board pipeline is_sound are made.
     let numbers = c.as_slice.ensures.value ∙ c.in_ok-numbers.ensures in
-    new_board s t board pipeline c.args.jobs.now c.args.needs.now (sound s is_sound) are made c.in_ok-board.board c.in_ok-all_rows.field-0.items
-    c.in_ok-all_rows.ensures.jobs c.in_ok-all_rows.ensures.rows
+    new_board s t board pipeline c.args.jobs.now c.args.needs.now (sound s is_sound) are made c.in_ok-all_rows.field-0.items c.in_ok-all_rows.ensures.jobs
+    c.in_ok-board.board c.in_ok-all_rows.ensures.rows
     (ap (λ x. x.parts) c.in_ok-board.ensures.graph ∙ c.in_ok-graph.ensures.parts)
     (ap (λ x. x.predecessors) c.in_ok-board.ensures.graph
     ∙ (c.in_ok-graph.ensures.predecessors (subst (IsStrictlySortedBy nat_cmp) (sym numbers) made.ascend)

@@ -2,7 +2,6 @@ use Rattle.std.specs.Prelude.{List, ◌++◌, map, Contains}
 use Rattle.std.proofs.Common.{sym, ap}
 use Rattle.ci_machine.specs.declared.records.Attempt.{Attempt}
 use Rattle.ci_machine.specs.declared.records.Job.{Job}
-use Rattle.ci_machine.specs.declared.change.RowChange.{RowChange}
 use Rattle.ci_machine.specs.declared.change.RowChange.TheVariants.{Put}
 use Rattle.ci_machine.specs.declared.change.Record.TheVariants as row
 use Rattle.ci_machine.specs.Retries.{retry}

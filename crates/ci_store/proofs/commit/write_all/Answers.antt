@@ -7,6 +7,9 @@ use Rattle.ci_store.proofs.commit.write_all.Goals as goal
 pub returns-clause-makes : goal.returns-clause-makes
 returns-clause-makes g c clean inside =
     let made = c.make_all.new.tx.conn.now in
-    let early : HasCleanDisk (state g.S.Store made) = omega (arith, clean, c.put_rows.ensures.survives.clean) in
-    let changed = c.in_ok-make_all.ensures.makes early inside in
-    on_ok c.put_rows.result (λ put. (put.0, λ k stands. put.1 _ (changed.1 k stands))) (c.put_rows.ensures.makes clean changed.0)
+    let placed = c.put_rows.new.tx.conn.now in
+    let early : HasCleanDisk (state g.S.Store placed) = omega (arith, clean, c.change_indexes.ensures.survives.clean) in
+    let first : HasCleanDisk (state g.S.Store made) = omega (arith, early, c.in_ok-put_rows.ensures.survives.clean) in
+    let changed = c.in_ok-make_all.ensures.makes first inside in
+    let put = c.in_ok-put_rows.ensures.makes early changed.0 in
+    on_ok c.change_indexes.result (λ last. (last.0, λ k stands. last.1 _ (put.1 _ (changed.1 k stands)))) (c.change_indexes.ensures.makes clean put.0)

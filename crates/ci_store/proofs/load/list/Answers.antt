@@ -7,4 +7,4 @@ pub returns-clause-loads : goal.returns-clause-loads
 returns-clause-loads g c =
     after_ok c.read_all.result c.in_ok-rows.ensures.loads
     (λ k at shown.
-    if_ok c.read_all.result (λ found read. record { rows = c.in_ok-rows.rows.items; shown = shown; read = subst (λ rows. AllZip g.R.Stored.is_row rows found.items) c.as_slice.ensures.value read }) c.read_all.ensures)
+    if_ok c.read_all.result (λ found read. record { rows = c.in_ok-rows.rows.items; shown = shown; read = subst (λ rows. AllZip g.R.Loaded.is_row rows found.items) c.as_slice.ensures.value read }) c.read_all.ensures)

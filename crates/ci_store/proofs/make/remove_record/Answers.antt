@@ -8,6 +8,7 @@ use Rattle.ci_store.proofs.Jobs.{job_removed, refers_to_pipeline}
 use Rattle.ci_store.proofs.JobVariables.{job_variable_removed, refers_to_job as variables_refer}
 use Rattle.ci_store.proofs.Attempts.{attempt_removed, refers_to_job as attempts_refer}
 use Rattle.ci_store.proofs.Pieces.{piece_removed, refers_to_attempt}
+use Rattle.ci_store.proofs.Holders.{holders_refer}
 use Rattle.ci_store.proofs.Needs.{need_removed, needs_refer, needed_refer}
 use Rattle.ci_store.proofs.Board.{rows_refer}
 use Rattle.ci_store.proofs.make.remove_record.Goals as goal
@@ -38,7 +39,7 @@ returns-in-JobVariable-clause-makes g c clean inside =
 
 pub returns-in-Attempt-clause-makes : goal.returns-in-Attempt-clause-makes
 returns-in-Attempt-clause-makes g c clean inside =
-    removed_by g.S.Store c.args.tx.now.conn.now c.remove_at-in-Attempt.new.tx.conn.now c.in-Attempt.is c.remove_at-in-Attempt.result (queries (refers_to_attempt ∷ [])) _ refl (attempt_removed g.S.Store c.args.tx.now.conn.now c.remove_at-in-Attempt.new.tx.conn.now _) (c.remove_at-in-Attempt.ensures.removes clean inside)
+    removed_by g.S.Store c.args.tx.now.conn.now c.remove_at-in-Attempt.new.tx.conn.now c.in-Attempt.is c.remove_at-in-Attempt.result (queries (refers_to_attempt ∷ holders_refer ∷ [])) _ refl (attempt_removed g.S.Store c.args.tx.now.conn.now c.remove_at-in-Attempt.new.tx.conn.now _) (c.remove_at-in-Attempt.ensures.removes clean inside)
 
 pub returns-in-Piece-clause-makes : goal.returns-in-Piece-clause-makes
 returns-in-Piece-clause-makes g c clean inside =

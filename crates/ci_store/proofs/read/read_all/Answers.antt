@@ -12,4 +12,4 @@ loop-row-preserved g c =
     let item : get_or rows at row ≡ row = search rules in
     let more : take (at + 1) rows ≡ take at rows ++ row ∷ [] = take_more rows at row c.loop-row-test.true ∙ ap (λ r. take at rows ++ r ∷ []) item in
     let items : c.push.new.self.items ≡ c.loop-row.found.items ++ c.in_ok-read.field-0 ∷ [] = search rules in
-    subst₂ (AllZip g.R.Stored.is_row) (sym more) (sym items) (zip_push g.R.Stored.is_row (take at rows) c.loop-row.found.items row c.in_ok-read.field-0 c.loop-row.invariant c.in_ok-read.ensures)
+    subst₂ (AllZip g.R.Loaded.is_row) (sym more) (sym items) (zip_push g.R.Loaded.is_row (take at rows) c.loop-row.found.items row c.in_ok-read.field-0 c.loop-row.invariant c.in_ok-read.ensures)

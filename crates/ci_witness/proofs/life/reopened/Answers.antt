@@ -3,7 +3,6 @@ use Rattle.sqlite.specs.Steps.{over_memory}
 use Rattle.sqlite.proofs.Callers.{memory_is_clean}
 use Rattle.ci_store.specs.Stands.{LeavesOnly}
 use Rattle.ci_server.specs.Server.{Opens}
-use Rattle.ci_server.specs.Holding.{with_rows}
 use Rattle.ci_witness.proofs.LifeLemmas.{reopened_at}
 use Rattle.ci_witness.proofs.life.reopened.Goals as goal
 
@@ -13,5 +12,5 @@ returns-in-Ok-clause-reopened c ops s was =
 
 pub returns-clause-stopped : goal.returns-clause-stopped
 returns-clause-stopped c ops s was =
-    let kept = with_rows s was.holds.board in
-    c.in-Err.ensures.own (memory_is_clean c.in-Err.field-0-1) kept (subst (LeavesOnly over_memory kept) (sym c.close.ensures.same) was.holds.kept.left)
+    let kept = was.holds.kept in
+    c.in-Err.ensures.own (memory_is_clean c.in-Err.field-0-1) kept (subst (LeavesOnly over_memory kept) (sym c.close.ensures.same) was.holds.held.left)

@@ -1,0 +1,30 @@
+-- No body has a float.
+use Rattle.std.proofs.Common.{◌≡◌, ◌||◌, ℕ, List, [], ◌∷◌, map, false, refl, ap}
+use Rattle.serde_json.specs.Data.{Data, string}
+use Rattle.serde_json.specs.View.{items_of}
+use Rattle.serde_json.specs.Written.{has_float, items_have_float}
+use Rattle.ci_machine.specs.declared.records.Pipeline.{Pipeline}
+use Rattle.ci_machine.specs.declared.records.Job.{Job}
+use Rattle.ci_machine.specs.declared.records.Holder.{Holder}
+use Rattle.ci_machine.specs.declared.records.JobVariable.{JobVariable}
+use Rattle.ci_machine.specs.declared.records.QueuedJob.{QueuedJob}
+use Rattle.ci_machine.specs.Bodies.{jobs_data, pipeline_data, variable_data, granted_variables, grant_data}
+use Rattle.ci_board.specs.declared.facts.Facts.{Facts}
+use Rattle.ci_board.specs.declared.facts.Row.{Row}
+
+-- a list whose items have none has none
+items : {A : Type 0} (data_of : A → Data) → ((x : A) → has_float (data_of x) ≡ false) → (xs : List A) → items_have_float (items_of (map data_of xs)) ≡ false
+items data_of plain [] = refl
+items data_of plain (x ∷ xs) = λ i. plain x i || items data_of plain xs i
+
+jobs_have_none : (hs : List Holder) (project : ℕ) (jobs : List Job) (rows : List Row) → items_have_float (items_of (jobs_data hs project jobs rows)) ≡ false
+jobs_have_none hs project [] rows = refl
+jobs_have_none hs project (j ∷ js) [] = refl
+jobs_have_none hs project (j ∷ js) (r ∷ rows) = jobs_have_none hs project js rows
+
+pub pipeline_has_none : (p : Pipeline) (hs : List Holder) (jobs : List Job) (facts : List Facts) (rows : List Row) → has_float (pipeline_data p hs jobs facts rows) ≡ false
+pipeline_has_none p hs jobs facts rows = ap (λ b. b || false) (jobs_have_none hs p.project jobs rows)
+
+pub grant_has_none : (attempt : ℕ) (token : List ℕ) (q : QueuedJob) (vs : List JobVariable) → has_float (grant_data attempt token q vs) ≡ false
+grant_has_none attempt token q vs =
+    λ i. items string (λ s. refl) q.job.options.script i || (items variable_data (λ v. refl) (granted_variables q.job attempt vs) i || false)

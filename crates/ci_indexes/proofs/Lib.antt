@@ -1,0 +1,10 @@
+pub mod Lists
+pub mod Rows
+pub mod Holding
+pub mod Opening
+pub mod Stays
+pub mod Grants
+pub mod Changed
+pub mod Ends
+pub mod Acts
+pub mod Creations

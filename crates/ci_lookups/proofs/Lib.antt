@@ -1,0 +1,5 @@
+pub mod Loading
+pub mod Holds
+pub mod Supersedes
+pub mod Pages
+pub mod Demands

@@ -1,0 +1,11 @@
+-- What a store keeps where the machine has written it.
+use Rattle.ci_machine.specs.Kept.{Kept}
+use Rattle.ci_machine.specs.Sound.{IsSound}
+use Rattle.ci_machine.specs.Statuses.{AreBoard}
+use Rattle.ci_machine.specs.Indexes.{AreIndexes}
+
+-- what is kept is a state that the machine may come to, with what is beside it
+pub record IsKept (k : Kept) : Type 0 where
+  pub sound : IsSound k.state
+  pub are_board : AreBoard k.state k.board
+  pub are_indexes : AreIndexes k

@@ -1,0 +1,5 @@
+pub mod Keeps
+pub mod Held
+pub mod Records
+pub mod Redundant
+pub mod Search

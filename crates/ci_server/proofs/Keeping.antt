@@ -1,0 +1,103 @@
+-- What is kept beside a state follows from it: where nothing is kept, after an event, in each file, and once a server is opened.
+use Rattle.std.specs.List.Sorted.{IsStrictlySortedBy}
+use Rattle.std.proofs.Common.{◌≡◌, false, List, [], ◌∷◌, refl, sym, subst, arith}
+use Rattle.sqlite.specs.Tree.{Trees}
+use Rattle.sqlite.specs.Store.{Ghosts}
+use Rattle.sqlite.specs.Held.{Held}
+use Rattle.ci_machine.specs.declared.change.RowChange.{RowChange}
+use Rattle.ci_machine.specs.declared.change.IndexChange.{IndexChange}
+use Rattle.ci_machine.specs.declared.change.IndexChange.TheVariants.{Hold, Free, Open, Close}
+use Rattle.ci_machine.specs.State.{State, empty, applied}
+use Rattle.ci_machine.specs.Kept.{Kept, nothing_kept, put_rows, indexed, indexed_all, written}
+use Rattle.ci_machine.specs.Sound.{IsSound}
+use Rattle.ci_machine.specs.Statuses.{AreBoard}
+use Rattle.ci_machine.specs.Holders.{AreHolders}
+use Rattle.ci_store.specs.Create.{IsBlank}
+use Rattle.ci_store.specs.Stands.{IsAt, LeavesOnly}
+use Rattle.ci_lookups.specs.Keeps.{IsKept}
+use Rattle.ci_events.specs.declared.planned.Beside.{Beside}
+use Rattle.ci_events.specs.Planning.{Settles}
+use Rattle.ci_server.specs.Holding.{IsKeptOf, StandsFor, KeepsGroups}
+use Rattle.ci_server.specs.Server.{IsHonest, Creates, Opens}
+
+-- ---- the empty state
+
+-- it has no rows
+no_rows : AreBoard empty []
+no_rows = record { keys = refl; each = λ p. record { counted = λ i below. absurd (omega arith); settled = λ i below. absurd (omega arith) } }
+
+-- no group is held
+no_holders : AreHolders empty []
+unfolding IsStrictlySortedBy
+no_holders = record { ascend = tt; held = λ i d below. absurd (omega (arith, below)); all = λ i d below. absurd (omega (arith, below)) }
+
+pub nothing_is_kept : IsKeptOf empty nothing_kept
+nothing_is_kept = record { state = refl; are_board = no_rows; are_indexes = record { held = no_holders; unfinished = refl } }
+
+-- ---- an event
+
+-- what is kept of a state that the machine may come to
+pub is_kept : (s : State) (k : Kept) → IsSound s → IsKeptOf s k → IsKept k
+is_kept s k sound of = record {
+  sound = subst IsSound (sym of.state) sound;
+  are_board = subst (λ t. AreBoard t k.board) (sym of.state) of.are_board;
+  are_indexes = of.are_indexes;
+}
+
+-- changes of what is beside the state and its rows leave both
+same_state : (cs : List IndexChange) (k : Kept) → (indexed_all cs k).state ≡ k.state
+same_state [] k = refl
+same_state (Hold h ∷ cs) k = same_state cs (indexed (Hold h) k)
+same_state (Free project group ∷ cs) k = same_state cs (indexed (Free project group) k)
+same_state (Open u ∷ cs) k = same_state cs (indexed (Open u) k)
+same_state (Close pipeline ∷ cs) k = same_state cs (indexed (Close pipeline) k)
+
+same_board : (cs : List IndexChange) (k : Kept) → (indexed_all cs k).board ≡ k.board
+same_board [] k = refl
+same_board (Hold h ∷ cs) k = same_board cs (indexed (Hold h) k)
+same_board (Free project group ∷ cs) k = same_board cs (indexed (Free project group) k)
+same_board (Open u ∷ cs) k = same_board cs (indexed (Open u) k)
+same_board (Close pipeline ∷ cs) k = same_board cs (indexed (Close pipeline) k)
+
+-- what an event leaves is of the state after its changes
+pub settled : (k : Kept) (changes : List RowChange) (beside : Beside) → Settles k changes beside
+    → IsKeptOf (applied changes k.state) (written changes beside.rows.items beside.indexes.items k)
+settled k changes beside settles =
+    let changed : Kept = record k { state = applied changes k.state; board = put_rows beside.rows.items k.board } in
+    record {
+      state = same_state beside.indexes.items changed;
+      are_board = subst (AreBoard (applied changes k.state)) (sym (same_board beside.indexes.items changed)) settles.board;
+      are_indexes = settles.indexes;
+    }
+
+-- ---- a file
+
+-- of the tables that a file has, `holder` is the twelfth
+pub groups_in : (s : State) (db : Trees) → StandsFor s db → KeepsGroups s db
+groups_in s db stands = record {
+  holders = stands.kept.holders;
+  are_holders = subst (λ t. AreHolders t stands.kept.holders) stands.is_of.state stands.is_of.are_indexes.held;
+  rows = stands.stands.tables.holds.1.1.1.1.1.1.1.1.1.1.1.0;
+}
+
+-- ---- a new server
+
+module _ {S : Type 0} (g : Ghosts S) (conn store : Held S) where
+  -- it is over tables that keep nothing
+  pub creates : (IsHonest g store → IsHonest g conn) → IsBlank g conn → (IsHonest g store → IsBlank g conn → IsAt g nothing_kept store)
+      → Creates g conn (record { store = store; closed = false })
+  creates back blank made = record {
+    is_open = refl;
+    was_honest = back;
+    was_blank = blank;
+    made = made;
+    holds = λ honest. record { kept = nothing_kept; is_of = nothing_is_kept; held = made honest blank };
+  }
+
+  -- it is over the tables that were found
+  pub opens : (IsHonest g store → (k : Kept) → LeavesOnly g k conn → IsAt g k store) → Opens g conn (record { store = store; closed = false })
+  opens found = record {
+    is_open = refl;
+    opened = found;
+    holds = λ honest s k of only. record { kept = k; is_of = of; held = found honest k only };
+  }

@@ -1,0 +1,24 @@
+use Rattle.std.proofs.Common.{[], refl}
+use Rattle.ci_machine.specs.Kept.{indexed}
+use Rattle.ci_machine.specs.declared.change.IndexChange.TheVariants.{Hold, Free, Open, Close}
+use Rattle.ci_store.proofs.Applied.{by_item}
+use Rattle.ci_store.proofs.Removals.{removed_indexed}
+use Rattle.ci_store.proofs.Holders.{holder_freed}
+use Rattle.ci_store.proofs.OpenPipelines.{unfinished_removed}
+use Rattle.ci_store.proofs.make.change_index.Goals as goal
+
+pub returns-in-Hold-clause-makes : goal.returns-in-Hold-clause-makes
+returns-in-Hold-clause-makes g c clean inside =
+    by_item g.S.Store c.args.tx.now.conn.now c.put.new.tx.conn.now indexed c.in-Hold.is c.put.result (c.put.ensures.makes clean inside)
+
+pub returns-in-Free-clause-makes : goal.returns-in-Free-clause-makes
+returns-in-Free-clause-makes g c clean inside =
+    removed_indexed g.S.Store c.args.tx.now.conn.now c.remove_named.new.tx.conn.now c.in-Free.is c.remove_named.result [] _ (holder_freed g.S.Store c.args.tx.now.conn.now c.remove_named.new.tx.conn.now _ _) (c.remove_named.ensures.removes clean inside)
+
+pub returns-in-Open-clause-makes : goal.returns-in-Open-clause-makes
+returns-in-Open-clause-makes g c clean inside =
+    by_item g.S.Store c.args.tx.now.conn.now c.put-in-Open.new.tx.conn.now indexed c.in-Open.is c.put-in-Open.result (c.put-in-Open.ensures.makes clean inside)
+
+pub returns-in-Close-clause-makes : goal.returns-in-Close-clause-makes
+returns-in-Close-clause-makes g c clean inside =
+    removed_indexed g.S.Store c.args.tx.now.conn.now c.remove_at.new.tx.conn.now c.in-Close.is c.remove_at.result [] _ (unfinished_removed g.S.Store c.args.tx.now.conn.now c.remove_at.new.tx.conn.now _) (c.remove_at.ensures.removes clean inside)
