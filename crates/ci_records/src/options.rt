@@ -101,12 +101,7 @@ pub fn read_spec(alloc: Global, text: &str, script: Texts) -> Result<JobOptions,
     spec_of(alloc, &value, script)
 }
 
-fn demand_of(
-    alloc: Global,
-    job: u64,
-    pipeline: u64,
-    value: &Value,
-) -> Result<Demand, StoreFault>
+fn demand_of(alloc: Global, job: u64, pipeline: u64, value: &Value) -> Result<Demand, StoreFault>
     ensures numbers { IfOk result (λ demand. (demand.job ≡ job) × (demand.pipeline ≡ pipeline)) }
     ensures asks { IfOk result (λ demand. (other : JobOptions) → view value.now ≡ spec_data other → (demand.tags ≡ other.tags) × (demand.resource_group ≡ other.resource_group)) }
 {
@@ -122,12 +117,7 @@ fn demand_of(
 
 /// What a job of a pipeline asks of a runner, of the JSON object of what was fixed of it. Errors: memory was refused, or the
 /// text is no object with tags and a resource group.
-pub fn read_demand(
-    alloc: Global,
-    job: u64,
-    pipeline: u64,
-    text: &str,
-) -> Result<Demand, StoreFault>
+pub fn read_demand(alloc: Global, job: u64, pipeline: u64, text: &str) -> Result<Demand, StoreFault>
     ensures numbers { IfOk result (λ demand. (demand.job ≡ job) × (demand.pipeline ≡ pipeline)) }
     ensures reads { IfOk result (ReadsDemand text.now) }
 {

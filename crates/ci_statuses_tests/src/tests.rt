@@ -136,7 +136,9 @@ fn kept_counts_are_taken_as_they_are(rt: HostRuntime) -> Result<(), Fail> {
         kept.as_slice(),
         &after,
     );
-    assert!(rt; matches!(&settled, Ok(settled) if are_same(settled.changed.as_slice(), wanted.as_slice())));
+    assert!(rt;
+        matches!(&settled, Ok(settled) if are_same(settled.changed.as_slice(), wanted.as_slice()))
+    );
     Ok(())
 }
 
