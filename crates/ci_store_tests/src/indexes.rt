@@ -1,7 +1,8 @@
 //! Resource groups that are held, pipelines that aren't finished, and the newer pipelines of a branch or a tag.
 
 use crate::plain::{
-    Loaded, filled, holder, indexed, is_removed, let_go, newer_of, reopened, unfinished,
+    Loaded, filled, holder, indexed, is_committed, is_removed, let_go, newer_of, reopened,
+    unfinished,
 };
 use crate::records::{add, attempt, hold, pipeline_for, project, text};
 use ci_machine::change::{Delta, IndexChange, Key, Record, RowChange};
@@ -26,10 +27,9 @@ fn no_change(alloc: Global) -> Result<Delta, Fail> {
     Ok(Delta::new(Vec::new(alloc)))
 }
 
-/// Three groups are held: `test` is put in the place of what another attempt held.
+/// Three groups are held, two of them of one name in two projects.
 fn three_held(alloc: Global) -> Result<Vec<IndexChange>, Fail> {
     let mut indexes = Vec::new(alloc);
-    indexes.push(hold(alloc, 1, "test", 2)?)?;
     indexes.push(hold(alloc, 1, "prod", 2)?)?;
     indexes.push(hold(alloc, 2, "prod", 3)?)?;
     indexes.push(hold(alloc, 1, "test", 3)?)?;
@@ -123,6 +123,19 @@ fn groups_are_free(rt: HostRuntime) -> Result<(), Fail> {
     shown
 }
 
+#[test]
+fn a_held_group_is_not_held_again(rt: HostRuntime) -> Result<(), Fail> {
+    let alloc = rt.alloc();
+    let mut indexes = Vec::new(alloc);
+    indexes.push(hold(alloc, 1, "prod", 3)?)?;
+    let change = no_change(alloc)?;
+    let mut tables = with_groups(alloc)?;
+    let is_held = is_committed(&mut tables, change, Vec::new(alloc), indexes);
+    let_go(tables);
+    assert!(rt; !is_held);
+    Ok(())
+}
+
 /// Attempt 2 holds a group, and so does project 2's attempt. Attempt 1 holds none.
 const REMOVALS: [(Key, bool); 3] = [
     (Key::Attempt(2), false),
@@ -181,7 +194,7 @@ fn open(alloc: Global, numbers: &[u64]) -> Result<Vec<IndexChange>, Fail> {
 }
 
 fn with_pipelines(alloc: Global) -> Result<Tables<MemStore>, Fail> {
-    let mut indexes = open(alloc, &[6, 1, 2, 4, 2])?;
+    let mut indexes = open(alloc, &[6, 1, 2, 4])?;
     indexes.push(IndexChange::Close(4))?;
     indexes.push(IndexChange::Close(5))?;
     reopened(indexed(
@@ -232,5 +245,17 @@ fn unfinished_pipelines_come_by_number(rt: HostRuntime) -> Result<(), Fail> {
     let open = are_open(&mut tables, &[1, 2, 6]);
     let_go(tables);
     assert!(rt; open == Ok(true));
+    Ok(())
+}
+
+#[test]
+fn an_open_pipeline_is_not_opened_again(rt: HostRuntime) -> Result<(), Fail> {
+    let alloc = rt.alloc();
+    let indexes = open(alloc, &[2])?;
+    let change = no_change(alloc)?;
+    let mut tables = with_pipelines(alloc)?;
+    let is_opened = is_committed(&mut tables, change, Vec::new(alloc), indexes);
+    let_go(tables);
+    assert!(rt; !is_opened);
     Ok(())
 }

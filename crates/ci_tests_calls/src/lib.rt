@@ -14,8 +14,6 @@ mod limits;
 #[cfg(test)]
 mod numbers;
 #[cfg(test)]
-mod random;
-#[cfg(test)]
 mod redundant;
 #[cfg(test)]
 mod runners;

@@ -272,9 +272,9 @@ fn many(alloc: Global, seed: u64, events: usize) -> Result<Course, Fail> {
 fn go_right(rt: &impl Abort, alloc: Global, seed: u64) -> Result<(), Fail> {
     let course = many(alloc, seed, 1000)?;
     let (attempts, refused, cancelled) = (course.attempts, course.refused, course.cancelled);
-    assert!(rt; attempts > 40, "{attempts} attempts");
-    assert!(rt; refused > 40, "{refused} refused");
-    assert!(rt; cancelled > 2, "{cancelled} cancelled");
+    assert!(rt; attempts > 20, "{attempts} attempts");
+    assert!(rt; refused > 20, "{refused} refused");
+    assert!(rt; cancelled > 0, "{cancelled} cancelled");
     Ok(())
 }
 
