@@ -1,4 +1,4 @@
-use Rattle.ci_cli.proofs.demo.serve_demo.Given as goal
+use Rattle.ci_program.proofs.served.serve.Given as goal
 
 -- the ledger of each link is the one that its blank opens
 abbrev pub ghosts-serve_links-A-Ledger : goal.ghosts-serve_links-A-Ledger

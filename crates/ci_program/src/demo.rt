@@ -1,20 +1,17 @@
 //! One job request answered over memory.
 
-ghost use Rattle.std.specs.Prelude.{◌≡◌, ◌<◌};
-
+use crate::served::serve;
+use crate::sources::Stamp;
 use ci_machine::moment::Moment;
 use ci_machine::records::{RefKind, Source};
 use ci_machine::request::{NewFile, NewPipeline, NewRunner, PipelineVariables, Request, Seed};
 use ci_machine::text::{Text, Texts};
-use ci_server::link::Link;
-use ci_server::serve::{Served, serve_one};
+use ci_server::serve::Served;
 use ci_server::server::Server;
 use ci_store::Alter;
 use sqlite::Connection;
 use std::alloc::{AllocError, Global};
 use std::io::{Read, Write};
-use std::marker::Brand;
-use std::sync::ledger::{Blank, Ledger};
 
 /// The moment at which everything happens, in seconds.
 const MOMENT: u64 = 1000;
@@ -35,23 +32,6 @@ pub fn serve_demo<R: Read + Drop, W: Write + Drop>(
     input: R,
     output: W,
 ) -> Option<Served> {
-    serve_links::<R, W, Brand, Brand>(alloc, input, output, Blank::new(1), Blank::new(1))
-}
-
-fn serve_links<R: Read + Drop, W: Write + Drop, A: Ledger, B: Ledger>(
-    alloc: Global,
-    input: R,
-    output: W,
-    reads: Blank,
-    writes: Blank,
-) -> Option<Served>
-    requires reads_name { reads.name ≡ A.name }
-    requires reads_parts { reads.parts ≡ A.parts }
-    requires reads_one { 0 < reads.parts }
-    requires writes_name { writes.name ≡ B.name }
-    requires writes_parts { writes.parts ≡ B.parts }
-    requires writes_one { 0 < writes.parts }
-{
     let moment = Moment::new(MOMENT)?;
     let Ok(conn) = Connection::open_in_memory(alloc) else {
         return None;
@@ -62,10 +42,8 @@ fn serve_links<R: Read + Drop, W: Write + Drop, A: Ledger, B: Ledger>(
     if !is_ready(alloc, &mut server, moment) {
         return None;
     }
-    let mut reader = Link::<R, A>::new(input, reads);
-    let mut writer = Link::<W, B>::new(output, writes);
-    let served = serve_one(alloc, &mut reader, &mut writer, &mut server, moment, SEED);
-    Some(served)
+    let stamp = Stamp { moment, seed: SEED };
+    Some(serve(alloc, input, output, &mut server, stamp))
 }
 
 /// Makes the project with its file, the runner and the pipeline. Did each come about?
