@@ -5,6 +5,4 @@ pub mod Readings
 pub mod Unique
 pub mod Beginnings
 pub mod Responses
-pub mod Digits
-pub mod Paths
 pub mod Codes

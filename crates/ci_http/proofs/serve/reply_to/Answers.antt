@@ -3,8 +3,8 @@ use Rattle.std.specs.Prelude.{Err}
 use Rattle.ci_machine.specs.Reply.{refusal}
 use Rattle.ci_http.specs.Reading.{request, refused}
 use Rattle.ci_http.proofs.Readings.{tells_map}
-use Rattle.ci_server.specs.Serving.{ReadsByMemory}
-use Rattle.ci_server.proofs.serve.reply_to.Goals as goal
+use Rattle.ci_http.specs.Serving.{ReadsByMemory}
+use Rattle.ci_http.proofs.serve.reply_to.Goals as goal
 
 pub returns-in-Ok-clause-reply : goal.returns-in-Ok-clause-reply
 returns-in-Ok-clause-reply g c =

@@ -1,11 +1,17 @@
--- What becomes of one request: the reply, and what handles requests before and after it.
+-- What becomes of one request: the reply, and the server before and after it.
 use Rattle.std.specs.Prelude.{◌≡◌, ◌⊎◌, ℕ, List, ◌++◌, Option, Result, Ok, Err}
 use Rattle.std.specs.Io.KnownBytes.{Appends}
+use Rattle.sqlite.specs.Store.{Ghosts}
+use Rattle.sqlite.specs.Held.{Held}
+use Rattle.ci_machine.specs.declared.reply.Answer.TheVariants as answer
 use Rattle.ci_machine.specs.declared.reply.Code.TheVariants.{M16}
 use Rattle.ci_machine.specs.declared.reply.Reply.{Reply}
+use Rattle.ci_machine.specs.declared.request.Event.TheVariants as event
 use Rattle.ci_machine.specs.declared.request.Request.{Request}
 use Rattle.ci_machine.specs.declared.request.Seed.{Seed}
 use Rattle.ci_machine.specs.Reply.{refusal}
+use Rattle.ci_server.specs.declared.fail_stop.FailStop.{FailStop}
+use Rattle.ci_server.specs.Server.{Handles}
 use Rattle.ci_http.specs.Reading.{Message, Reading, ended, refused, request, IsReading, AwaitsBody}
 use Rattle.ci_http.specs.RequestBytes.{request_in, AsksMemory}
 use Rattle.ci_http.specs.Sources.{Tells}
@@ -15,10 +21,10 @@ use Rattle.ci_http.specs.Sources.{Tells}
 abbrev pub ReadsByMemory : List ℕ → List ℕ → Type 0
 ReadsByMemory bytes rest = AwaitsBody bytes rest ⊎ ((m : Message) × IsReading bytes (request m) rest × AsksMemory m)
 
-module _ {S : Type 0} (Handles : S → Request → ℕ → Seed → S → Reply → Type 0) (moment : ℕ) (seed : Seed) (old new : S) (reply : Reply) where
-  -- a request is handled once; where there is none, nothing is handled, and the reply is the one that refuses it
+module _ {S : Type 0} (g : Ghosts S) (moment : ℕ) (seed : Seed) (old new : FailStop (Held S)) (reply : Reply) where
+  -- a request is handled once, and the reply is the server's; where there is none, nothing is handled, and the reply is the one that refuses it
   abbrev pub AnswersAsked : Result Request Reply → Type 0
-  AnswersAsked (Ok asked) = Handles old asked moment seed new reply
+  AnswersAsked (Ok asked) = Handles g old (event.Request asked, moment, seed) new (answer.Reply reply)
   AnswersAsked (Err why) = (new ≡ old) × (reply ≡ why)
 
   -- the reply is that to what was read
