@@ -1,0 +1,4 @@
+//! Numbers that a request writes in digits.
+#![tactic(auto)]
+
+pub mod number;
