@@ -1,6 +1,6 @@
 //! A pipeline that is to be made.
 
-ghost use Rattle.std.specs.Prelude.{◌≡◌, Unit, Some, IfOk, IfErr, option_map};
+ghost use Rattle.std.specs.Prelude.{◌≡◌, Some, IfOk, IfErr, option_map};
 ghost use Rattle.serde_json.specs.View.{view};
 ghost use Rattle.ci_payloads.specs.Json.{MayBeJson};
 ghost use Rattle.ci_payloads.specs.Refusals.{IsWhyNot};
