@@ -1,13 +1,13 @@
 //! The command line: what it asks for, and what is done.
 
 ghost use Rattle.std.specs.Prelude.{◌≡◌, ◌↔◌, ◌⊎◌, Some, codes};
-ghost use Rattle.ci_server.specs.declared.serve.Served.TheVariants.{Replied, ReadFailed, WriteFailed};
+ghost use Rattle.ci_http.specs.declared.serve.Served.TheVariants.{Replied, ReadFailed, WriteFailed};
 ghost use Rattle.clap.specs.Matches.{subcommand_name_of};
 ghost use Rattle.ci_cli.specs.declared.command.Task.TheVariants.{Demo};
 
 use crate::demo::serve_demo;
 use ci_check::{check_word, exit_status};
-use ci_server::serve::Served;
+use ci_http::serve::Served;
 use clap::error::ErrorKind;
 use clap::{Arg, ArgMatches, Command, Error};
 use std::alloc::{AllocError, Global};

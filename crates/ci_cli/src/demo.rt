@@ -2,12 +2,13 @@
 
 ghost use Rattle.std.specs.Prelude.{◌≡◌, ◌<◌};
 
+use ci_http::link::Link;
+use ci_http::serve::{Served, serve_one};
 use ci_machine::moment::Moment;
 use ci_machine::records::{RefKind, Source};
 use ci_machine::request::{NewFile, NewPipeline, NewRunner, PipelineVariables, Request, Seed};
 use ci_machine::text::{Text, Texts};
-use ci_server::link::Link;
-use ci_server::serve::{Served, serve_one};
+use ci_routes::paths::Paths;
 use ci_server::server::Server;
 use ci_store::Alter;
 use sqlite::Connection;
@@ -53,6 +54,9 @@ fn serve_links<R: Read + Drop, W: Write + Drop, A: Ledger, B: Ledger>(
     requires writes_one { 0 < writes.parts }
 {
     let moment = Moment::new(MOMENT)?;
+    let Ok(paths) = Paths::new(alloc) else {
+        return None;
+    };
     let Ok(conn) = Connection::open_in_memory(alloc) else {
         return None;
     };
@@ -64,7 +68,15 @@ fn serve_links<R: Read + Drop, W: Write + Drop, A: Ledger, B: Ledger>(
     }
     let mut reader = Link::<R, A>::new(input, reads);
     let mut writer = Link::<W, B>::new(output, writes);
-    let served = serve_one(alloc, &mut reader, &mut writer, &mut server, moment, SEED);
+    let served = serve_one(
+        alloc,
+        &mut reader,
+        &mut writer,
+        &mut server,
+        &paths,
+        moment,
+        SEED,
+    );
     Some(served)
 }
 
