@@ -6,3 +6,5 @@ pub mod Unique
 pub mod Beginnings
 pub mod Responses
 pub mod Codes
+pub mod Requests
+pub mod Allows

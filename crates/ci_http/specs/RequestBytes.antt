@@ -13,7 +13,7 @@ use Rattle.ci_machine.specs.declared.request.Request.TheVariants.{AskJob, Update
 use Rattle.ci_machine.specs.declared.request.JobQuery.{JobQuery}
 use Rattle.ci_machine.specs.declared.request.PipelineQuery.{PipelineQuery}
 use Rattle.ci_machine.specs.Reply.{refusal}
-use Rattle.ci_routes.specs.declared.method.Method as route
+use Rattle.ci_routes.specs.declared.method.Method.{Method as RouteMethod}
 use Rattle.ci_routes.specs.declared.method.Method.TheVariants as route
 use Rattle.ci_routes.specs.declared.operation.Operation.{Operation}
 use Rattle.ci_routes.specs.declared.operation.Operation.TheVariants as operation
@@ -99,7 +99,7 @@ abbrev pub asked_at : List ℕ → List ℕ → Asked
 asked_at method path = if is_utf8 path then asked_in method path else no_route
 
 -- a route's method, in a reply
-abbrev pub method_of : route.Method → Method
+abbrev pub method_of : RouteMethod → Method
 method_of route.Delete = Delete
 method_of route.Get = Get
 method_of route.Patch = Patch
@@ -107,13 +107,13 @@ method_of route.Post = Post
 method_of route.Put = Put
 
 -- the methods of a path, in a reply: one or two, for no path has more (`allow_names_each_method`)
-abbrev pub methods_of : List route.Method → Option Methods
+abbrev pub methods_of : List RouteMethod → Option Methods
 methods_of [] = None
 methods_of (one ∷ []) = Some (record { first = method_of one; second = None })
 methods_of (one ∷ other ∷ more) = Some (record { first = method_of one; second = Some (method_of other) })
 
 -- the reply where the path has these methods, and not the request's
-abbrev pub not_allowed : List route.Method → Reply
+abbrev pub not_allowed : List RouteMethod → Reply
 not_allowed methods = record (refusal H6) { allow = methods_of methods }
 
 abbrev pub request_as : Asked → Message → Result Request Reply

@@ -1,7 +1,7 @@
 //! Laws of the definitions that the contracts cite.
 
 ghost use Rattle.std.specs.Prelude.{◌≡◌, ◌≢◌, ◌++◌, ℕ, List, [], map, Some, option_map};
-ghost use Rattle.ci_routes.specs.declared.method.Method as route;
+ghost use Rattle.ci_routes.specs.declared.method.Method.{Method as RouteMethod};
 ghost use Rattle.ci_routes.specs.Routes.{other_methods, asked_in};
 ghost use Rattle.ci_http.specs.Reading.{Message, Reading, ended, request, IsReading};
 ghost use Rattle.ci_http.specs.ReplyText.{listed};
@@ -78,6 +78,6 @@ pub fn beginning_ends()
 
 /// The reply to another method names each method of the path's routes, in their order.
 pub fn allow_names_each_method()
-    ensures { (method path : List ℕ) (methods : List route.Method) → asked_in method path ≡ other_methods methods
+    ensures { (method path : List ℕ) (methods : List RouteMethod) → asked_in method path ≡ other_methods methods
         → option_map listed (methods_of methods) ≡ Some (map method_of methods) }
 {}

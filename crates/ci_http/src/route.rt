@@ -3,11 +3,11 @@
 ghost use Rattle.std.specs.Prelude.{◌≡◌, ◌⊎◌, ◌∷◌, None, Some, Ok, Err, IfOk, IfErr, IsSome, MatchOption};
 ghost use Rattle.std.specs.Str.{is_utf8};
 ghost use Rattle.ci_machine.specs.Reply.{refusal};
-ghost use Rattle.ci_routes.specs.Answers.{as_asked, map_key, more, wanted};
+ghost use Rattle.ci_routes.specs.Answers.{as_asked, map_key, more};
 ghost use Rattle.ci_payloads.specs.Json.{MayBeJson};
 ghost use Rattle.ci_payloads.specs.Refusals.{IsWhyNot};
-ghost use Rattle.ci_http.specs.Parts.{project_field, job_in, pipeline_in, variable_in, new_file_in, new_variable_in, new_pipeline_in, part_in};
-ghost use Rattle.ci_http.specs.RequestBytes.{field_in, text_or_empty, request_by, asked_at, method_of, methods_of, not_allowed, request_in, AsksMemoryBy, AsksMemory};
+ghost use Rattle.ci_http.specs.Parts.{project_field, job_in, pipeline_in, variable_in, new_file_in, new_variable_in, new_pipeline_in, part_in, request_at, AsksMemoryAt};
+ghost use Rattle.ci_http.specs.RequestBytes.{field_in, text_or_empty, asked_at, method_of, methods_of, not_allowed, request_in, AsksMemory};
 ghost use Rattle.ci_http.specs.Targets.{path_of};
 
 use crate::call::Call;
@@ -98,8 +98,8 @@ fn method_of(method: route::Method) -> Method
 // The request of an operation. Errors: the fields or the body of the call aren't as its route wants
 // them (H7); memory was refused (M16).
 fn requested(alloc: Global, operation: Operation<&str>, call: &Call) -> Result<Request, Code>
-    ensures ok { let w = wanted (map_key (λ key. key.now) operation.entry) in IfOk result (λ request. request_by w call.now ≡ Some request) }
-    ensures err { let w = wanted (map_key (λ key. key.now) operation.entry) in IfErr result (λ why. IsWhyNot (AsksMemoryBy w.body w call.now) why (request_by w call.now)) }
+    ensures ok { IfOk result (λ request. request_at (map_key (λ key. key.now) operation.entry) call.now ≡ Some request) }
+    ensures err { IfErr result (λ why. IsWhyNot (AsksMemoryAt (map_key (λ key. key.now) operation.entry) call.now) why (request_at (map_key (λ key. key.now) operation.entry) call.now)) }
 {
     match operation {
         Operation::AskJob => token_in(alloc, call.body()).map(Request::AskJob),
