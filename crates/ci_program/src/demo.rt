@@ -2,11 +2,12 @@
 
 use crate::served::serve;
 use crate::sources::Stamp;
+use ci_http::serve::Served;
 use ci_machine::moment::Moment;
 use ci_machine::records::{RefKind, Source};
 use ci_machine::request::{NewFile, NewPipeline, NewRunner, PipelineVariables, Request, Seed};
 use ci_machine::text::{Text, Texts};
-use ci_server::serve::Served;
+use ci_routes::paths::Paths;
 use ci_server::server::Server;
 use ci_store::Alter;
 use sqlite::Connection;
@@ -33,6 +34,9 @@ pub fn serve_demo<R: Read + Drop, W: Write + Drop>(
     output: W,
 ) -> Option<Served> {
     let moment = Moment::new(MOMENT)?;
+    let Ok(paths) = Paths::new(alloc) else {
+        return None;
+    };
     let Ok(conn) = Connection::open_in_memory(alloc) else {
         return None;
     };
@@ -43,7 +47,7 @@ pub fn serve_demo<R: Read + Drop, W: Write + Drop>(
         return None;
     }
     let stamp = Stamp { moment, seed: SEED };
-    Some(serve(alloc, input, output, &mut server, stamp))
+    Some(serve(alloc, input, output, &mut server, &paths, stamp))
 }
 
 /// Makes the project with its file, the runner and the pipeline. Did each come about?

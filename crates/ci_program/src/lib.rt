@@ -4,16 +4,16 @@
 #![tactic(auto)]
 
 mod act;
-mod command;
+mod commands;
 mod demo;
 mod file;
 mod line;
-pub mod serving;
 mod served;
+pub mod serving;
 mod sources;
 mod stream;
 mod task;
 mod words;
 
-pub use command::{command, refuse_memory};
+pub use commands::{command, refuse_memory};
 pub use sources::Sources;

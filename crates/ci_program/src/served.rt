@@ -3,8 +3,9 @@
 ghost use Rattle.std.specs.Prelude.{◌≡◌, ◌<◌};
 
 use crate::sources::Stamp;
-use ci_server::link::Link;
-use ci_server::serve::{Served, serve_one};
+use ci_http::link::Link;
+use ci_http::serve::{Served, serve_one};
+use ci_routes::paths::Paths;
 use ci_server::server::Server;
 use ci_store::Alter;
 use std::alloc::Global;
@@ -18,10 +19,20 @@ pub fn serve<R: Read + Drop, W: Write + Drop, S: Alter>(
     reader: R,
     writer: W,
     server: &mut Server<S>,
+    paths: &Paths,
     stamp: Stamp,
 ) -> Served {
     let (reads, writes) = (Blank::new(1), Blank::new(1));
-    serve_links::<R, W, S, Brand, Brand>(alloc, reader, writer, server, stamp, reads, writes)
+    serve_links::<R, W, S, Brand, Brand>(
+        alloc,
+        reader,
+        writer,
+        server,
+        paths,
+        stamp,
+        reads,
+        writes,
+    )
 }
 
 fn serve_links<R: Read + Drop, W: Write + Drop, S: Alter, A: Ledger, B: Ledger>(
@@ -29,6 +40,7 @@ fn serve_links<R: Read + Drop, W: Write + Drop, S: Alter, A: Ledger, B: Ledger>(
     input: R,
     output: W,
     server: &mut Server<S>,
+    paths: &Paths,
     stamp: Stamp,
     reads: Blank,
     writes: Blank,
@@ -42,5 +54,13 @@ fn serve_links<R: Read + Drop, W: Write + Drop, S: Alter, A: Ledger, B: Ledger>(
 {
     let mut reader = Link::<R, A>::new(input, reads);
     let mut writer = Link::<W, B>::new(output, writes);
-    serve_one(alloc, &mut reader, &mut writer, server, stamp.moment, stamp.seed)
+    serve_one(
+        alloc,
+        &mut reader,
+        &mut writer,
+        server,
+        paths,
+        stamp.moment,
+        stamp.seed,
+    )
 }

@@ -7,9 +7,10 @@ use crate::line::Line;
 use crate::served::serve;
 use crate::sources::{Sources, Stamp};
 use crate::stream::{Hasty, end_reply};
+use ci_http::serve::Served;
 use ci_machine::moment::Moment;
 use ci_machine::reply::Swept;
-use ci_server::serve::Served;
+use ci_routes::paths::Paths;
 use ci_server::server::Server;
 use ci_store::Alter;
 use std::alloc::Global;
@@ -33,13 +34,14 @@ pub fn serve_connections<C: Clock, R: RandomSource, S: Alter>(
     alloc: Global,
     listener: &TcpListener,
     server: &mut Server<S>,
+    paths: &Paths,
     sources: &Sources<'_, C, R>,
     patience: Duration,
     requests: u32,
 ) -> Result<(), Line> {
     for _ in 0..requests {
         if let Ok((stream, _)) = listener.accept() {
-            attend(alloc, &stream, server, sources, patience)?;
+            attend(alloc, &stream, server, paths, sources, patience)?;
         }
     }
     Ok(())
@@ -50,12 +52,22 @@ fn attend<C: Clock, R: RandomSource, S: Alter>(
     alloc: Global,
     stream: &TcpStream,
     server: &mut Server<S>,
+    paths: &Paths,
     sources: &Sources<'_, C, R>,
     patience: Duration,
 ) -> Result<(), Line> {
     let stamp = sources.stamp()?;
     sweep_all(alloc, server, stamp.moment);
-    if let Served::Replied = serve_stream(alloc, stream, server, sources.clock, patience, stamp) {
+    let served = serve_stream(
+        alloc,
+        stream,
+        server,
+        paths,
+        sources.clock,
+        patience,
+        stamp,
+    );
+    if served == Served::Replied {
         end_reply(stream, sources.clock);
     }
     Ok(())
@@ -88,16 +100,17 @@ fn serve_stream<C: Clock, S: Alter>(
     alloc: Global,
     stream: &TcpStream,
     server: &mut Server<S>,
+    paths: &Paths,
     clock: &C,
     patience: Duration,
     stamp: Stamp,
 ) -> Served {
     let writer = Hasty::new(stream, clock, patience);
     match BufReader::new(alloc, Hasty::new(stream, clock, patience)) {
-        Ok(reader) => serve(alloc, reader, writer, server, stamp),
+        Ok(reader) => serve(alloc, reader, writer, server, paths, stamp),
         Err(_) => {
             let reader = Hasty::new(stream, clock, patience);
-            serve(alloc, reader, writer, server, stamp)
+            serve(alloc, reader, writer, server, paths, stamp)
         }
     }
 }

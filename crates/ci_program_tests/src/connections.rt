@@ -1,7 +1,7 @@
 //! The loop over a socket: a peer sends first, the loop serves, and then the peer reads.
 
 use crate::peers::{attend, got, has_sent, listen, sends};
-use ci_test_servers::acts::{Act, PATH, TWO_JOBS};
+use ci_test_servers::acts::PATH;
 use ci_test_servers::servers::{InMemory, after, altered, is_closed};
 use std::net::TcpListener;
 use std::process::Abort;
@@ -25,7 +25,7 @@ fn exchange(rt: &HostRuntime, server: &mut InMemory, rows: &[Exchange]) -> Resul
     for (request, _) in rows {
         peers.push(has_sent(rt, &listener, request.as_bytes())?)?;
     }
-    let is_served = attend(rt, &listener, server, Some(1000), rows.len() as u32);
+    let is_served = attend(rt, &listener, server, Some(1000), rows.len() as u32)?;
     for (peer, (request, reply)) in peers.into_iter().zip(rows.iter()) {
         let bytes = got(rt, peer)?;
         if !is_served || !bytes.as_slice().starts_with(reply.as_bytes()) {
@@ -35,18 +35,26 @@ fn exchange(rt: &HostRuntime, server: &mut InMemory, rows: &[Exchange]) -> Resul
     Ok(())
 }
 
+/// From the file to the last job: each request over a connection of its own.
+const ROW: &[Exchange] = &[
+    (
+        "PUT /api/v4/projects/1/ci_file HTTP/1.1\r\nPRIVATE-TOKEN: p1-abababababababababababababababab\r\nContent-Length: 65\r\n\r\nbuild:\n  stage: build\n  script: make\nunit:\n  script: [make test]\n",
+        "HTTP/1.1 200 OK\r\nContent-Type: application/json\r\nContent-Length: 10\r\nConnection: close\r\n\r\n{\"jobs\":2}",
+    ),
+    (
+        "POST /api/v4/projects/1/pipeline HTTP/1.1\r\nPRIVATE-TOKEN: p1-abababababababababababababababab\r\nContent-Length: 14\r\n\r\n{\"ref\":\"main\"}",
+        "HTTP/1.1 201 Created\r\nContent-Type: application/json\r\nContent-Length: 180\r\nConnection: close\r\n\r\n{\"id\":1,\"jobs\":[{\"id\":1,\"name\":\"build\",\"stage\":\"build\",\"status\":\"pending\"},{\"id\":2,\"name\":\"unit\",\"stage\":\"test\",\"status\":\"created\"}],\"ref\":\"main\",\"source\":\"api\",\"status\":\"pending\"}",
+    ),
+    (ASK, "HTTP/1.1 201 Created\r\n"),
+    (SUCCESS, "HTTP/1.1 200 OK\r\nJob-Status: success\r\n"),
+    (ASK, "HTTP/1.1 201 Created\r\n"),
+    (ASK, "HTTP/1.1 204 No Content\r\n"),
+];
+
 #[test]
 fn two_jobs_are_run(rt: HostRuntime) -> Result<(), Fail> {
-    let [project, runner, _, pipeline, _] = PATH;
-    let before = [project, runner, Act::SetFile(1, TWO_JOBS), pipeline];
-    let mut server = after(rt.alloc(), &before)?;
-    let rows = [
-        (ASK, "HTTP/1.1 201 Created\r\n"),
-        (SUCCESS, "HTTP/1.1 200 OK\r\nJob-Status: success\r\n"),
-        (ASK, "HTTP/1.1 201 Created\r\n"),
-        (ASK, "HTTP/1.1 204 No Content\r\n"),
-    ];
-    exchange(&rt, &mut server, &rows)
+    let mut server = after(rt.alloc(), &PATH[..2])?;
+    exchange(&rt, &mut server, ROW)
 }
 
 /// Pieces of the first attempt's trace.
@@ -91,7 +99,7 @@ fn ends_early(
     part: &[u8],
 ) -> Result<bool, Fail> {
     let peer = has_sent(rt, listener, part)?;
-    let is_served = attend(rt, listener, server, Some(1000), 1);
+    let is_served = attend(rt, listener, server, Some(1000), 1)?;
     let bytes = got(rt, peer)?;
     Ok(is_served && bytes.is_empty())
 }
@@ -117,7 +125,7 @@ fn no_peer_holds_the_server(rt: HostRuntime) -> Result<(), Fail> {
     // This one is gone when its reply comes.
     drop(has_sent(&rt, &listener, b"GET / HTTP/1.1\r\n\r\n")?);
     let next = has_sent(&rt, &listener, ASK.as_bytes())?;
-    assert!(rt; attend(&rt, &listener, &mut server, Some(1000), 4));
+    assert!(rt; attend(&rt, &listener, &mut server, Some(1000), 4)?);
     assert!(rt; start.elapsed(&rt)? < Duration::from_secs(5));
     assert!(rt; got(&rt, next)?.as_slice().starts_with(b"HTTP/1.1 201 Created\r\n"));
     assert!(rt; got(&rt, silent)?.is_empty());
@@ -131,7 +139,7 @@ fn a_connection_that_is_not_accepted_counts(rt: HostRuntime) -> Result<(), Fail>
     let listener = listen(&rt)?;
     // Nobody waits, so that each call for the next fails at once.
     listener.set_nonblocking(true)?;
-    assert!(rt; attend(&rt, &listener, &mut server, Some(1000), 3));
+    assert!(rt; attend(&rt, &listener, &mut server, Some(1000), 3)?);
     Ok(())
 }
 
@@ -140,7 +148,7 @@ fn without_a_moment_nothing_is_served(rt: HostRuntime) -> Result<(), Fail> {
     let mut server = after(rt.alloc(), &PATH[..4])?;
     let listener = listen(&rt)?;
     let peer = has_sent(&rt, &listener, ASK.as_bytes())?;
-    assert!(rt; !attend(&rt, &listener, &mut server, None, 1));
+    assert!(rt; !attend(&rt, &listener, &mut server, None, 1)?);
     drop(peer);
     Ok(())
 }
@@ -164,7 +172,7 @@ fn a_reply_before_the_end_of_the_body_arrives(rt: HostRuntime) -> Result<(), Fai
     request.resize(100_000, b' ')?;
     let listener = listen(&rt)?;
     let peer = has_sent(&rt, &listener, request.as_slice())?;
-    assert!(rt; attend(&rt, &listener, &mut server, Some(1000), 1));
+    assert!(rt; attend(&rt, &listener, &mut server, Some(1000), 1)?);
     assert!(rt; got(&rt, peer)?.as_slice().starts_with(b"HTTP/1.1 413 Payload Too Large\r\n"));
     Ok(())
 }

@@ -2,6 +2,7 @@
 
 use ci_program::Sources;
 use ci_program::serving::serve_connections;
+use ci_routes::paths::Paths;
 use ci_server::server::Server;
 use ci_store::Alter;
 use crate::runs::Still;
@@ -54,20 +55,22 @@ pub(crate) fn attend<S: Alter>(
     server: &mut Server<S>,
     moment: Option<u64>,
     requests: u32,
-) -> bool {
+) -> Result<bool, Fail> {
+    let paths = Paths::new(rt.alloc())?;
     let still = Still { rt, moment };
     let sources = Sources {
         clock: &still,
         seeds: &still,
     };
     let patience = Duration::from_millis(PATIENCE_MILLIS);
-    serve_connections(
+    let served = serve_connections(
         rt.alloc(),
         listener,
         server,
+        &paths,
         &sources,
         patience,
         requests,
-    )
-    .is_ok()
+    );
+    Ok(served.is_ok())
 }

@@ -4,8 +4,8 @@ use Rattle.std.specs.Prelude.{◌||◌, not, if◌then◌else◌, option_and_the
 use Rattle.std.specs.Cmp.Lexicographic.{pointwise}
 use Rattle.std.proofs.lemmas.Bool.Decides.{nat_tests}
 use Rattle.std.proofs.lemmas.Slice.Eq.{bytes_eq-Decides}
+use Rattle.ci_numbers.specs.Numbers.{id_in}
 use Rattle.ci_routes.specs.declared.operation.Operation.{Operation}
-use Rattle.ci_routes.specs.Numbers.{id_in}
 use Rattle.ci_routes.specs.Patterns.{Piece, fixed, slot, pieces_fit, slot_names, slot_texts, text_at}
 use Rattle.ci_routes.specs.Routes.{Part, word, number, text, Takes, reads}
 use Rattle.ci_routes.proofs.Walks.{and-l, and-r}

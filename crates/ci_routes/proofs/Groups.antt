@@ -3,6 +3,7 @@ use Rattle.std.proofs.Common.{◌≡◌, ℕ, List, [], ◌∷◌, ◌++◌, len
 use Rattle.std.specs.Prelude.{option_map, option_and_then, codes}
 use Rattle.std.specs.Cmp.Lexicographic.{pointwise}
 use Rattle.std.proofs.lemmas.List.{append-nil}
+use Rattle.ci_numbers.specs.Numbers.{id_in}
 use Rattle.ci_routes.specs.declared.method.Method.{Method}
 use Rattle.ci_routes.specs.declared.method.Method.TheVariants.{Get}
 use Rattle.ci_routes.specs.declared.operation.Operation.{Operation}
@@ -11,7 +12,6 @@ use Rattle.ci_routes.specs.declared.place.Place.{Place}
 use Rattle.ci_routes.specs.declared.router.Pattern.{Pattern}
 use Rattle.ci_routes.specs.declared.router.Pattern.TheVariants.{Queue, Attempt, AttemptTrace, CiFile, Variable, Creation, Pipeline, PipelineCancel, Job, JobTrace, JobPlay, JobCancel, JobRetry}
 use Rattle.ci_routes.specs.Answers.{wanted}
-use Rattle.ci_routes.specs.Numbers.{id_in}
 use Rattle.ci_routes.specs.Patterns.{Piece, patterns, pieces_fit, first_of, pattern_in, slot_names, slot_texts, text_at, text_of, text_in}
 use Rattle.ci_routes.specs.Places.{number_at, with_one, with_two, with_key, routes_in, routes_by, LeadsTo}
 use Rattle.ci_routes.specs.Routes.{Body, no_body, Route, Wanted, routes, reads, with_route, routes_of, routes_at}

@@ -1,21 +1,16 @@
 -- Each route's operation names the path that asks for it.
-use Rattle.std.proofs.Common.{◌≡◌, ◌≢◌, ◌<◌, ◌≤◌, ℕ, List, [], ◌∷◌, ◌++◌, length, get_or, Option, Some, None, Bool, true, false, cond, refl, sym, ap, subst, ◌∙◌, arith, nat_eq, nat_lt, ◌==◌, ◌&&◌}
-use Rattle.std.specs.Prelude.{not, if◌then◌else◌, option_and_then, unwrap_or, decimal, map}
-use Rattle.std.specs.List.{list_all, find}
-use Rattle.std.specs.Char.{is_ascii_digit}
+use Rattle.std.proofs.Common.{◌≡◌, ℕ, List, [], ◌∷◌, ◌++◌, Option, Some, None, Bool, true, false, cond, refl, sym, ap, subst, ◌∙◌, arith, nat_eq, ◌==◌}
+use Rattle.std.specs.Prelude.{if◌then◌else◌, option_and_then, unwrap_or, decimal, map}
+use Rattle.std.specs.List.{find}
 use Rattle.std.specs.Cmp.Lexicographic.{pointwise}
-use Rattle.std.specs.Str.{all_ascii_digits}
-use Rattle.std.specs.Str.Parse.{digits_value}
 use Rattle.std.proofs.lemmas.Bool.Decides.{nat_tests}
-use Rattle.std.proofs.lemmas.Fmt.{decimal-digits_value}
-use Rattle.std.proofs.lemmas.Str.Parse.{IsNumeralModel, numerals_by_value, tells_all_ascii_digits}
 use Rattle.std.proofs.lemmas.Slice.Eq.{bytes_eq-Decides}
-use Rattle.ci_values.specs.declared.limits.TheConstants.{MAX_NUMBER}
+use Rattle.ci_numbers.specs.Numbers.{id_in}
+use Rattle.ci_numbers.proofs.Ids.{id_is}
 use Rattle.ci_routes.specs.declared.method.Method.{Method}
 use Rattle.ci_routes.specs.declared.operation.Operation.{Operation}
 use Rattle.ci_routes.specs.Laws.{path_text}
 use Rattle.ci_routes.specs.Methods.{is_text, method_text}
-use Rattle.ci_routes.specs.Numbers.{leads, is_number, within, id_in}
 use Rattle.ci_routes.specs.Routes.{Part, word, number, text, Takes, Route, Wanted, asks, routes, reads, with_route, routes_of, routes_at, asked_by, asked_of, asked_in}
 use Rattle.ci_routes.specs.Segments.{segments, onto}
 use Rattle.ci_routes.proofs.Splits.{segments-some}
@@ -23,45 +18,6 @@ use Rattle.ci_routes.proofs.Walks.{and-l, and-r}
 
 some-is : {A : Type 0} (d x y : A) → Some x ≡ Some y → x ≡ y
 some-is d x y e = ap (λ o. unwrap_or o d) e
-
--- ---- numbers
-
-same-digits : (ds : List ℕ) → list_all is_ascii_digit ds ≡ all_ascii_digits ds
-same-digits [] = refl
-same-digits (c ∷ cs) = ap (λ b. is_ascii_digit c && b) (same-digits cs)
-
-numerals : IsNumeralModel (λ ds. all_ascii_digits ds ≡ true) (digits_value 10)
-numerals = numerals_by_value (λ ds. all_ascii_digits ds ≡ true) tells_all_ascii_digits
-
-leads-some : (s : List ℕ) → leads s ≡ true → (0 < length s) × (get_or s 0 0 ≢ 48)
-leads-some [] h = cc
-leads-some (b ∷ s) h = (omega arith, λ z. by (b == 48) refl z h)
-  where
-    by : (v : Bool) → (b == 48) ≡ v → b ≡ 48 → not v ≡ true → ⊥
-    by true q z k = cc
-    by false q z k =
-        let t : (b == 48) ≡ true = grind (arith, nat_tests, z) in
-        cc
-
-value-is : (s : List ℕ) (n : ℕ) → is_number s ≡ true → n ≡ digits_value 10 s → n ≤ MAX_NUMBER → s ≡ decimal n
-value-is s n h e most =
-    let front = leads-some s (and-l (leads s) _ h) in
-    let digits : all_ascii_digits s ≡ true = sym (same-digits s) ∙ and-r (leads s) _ h in
-    let written : decimal (digits_value 10 s) ≡ s = decimal-digits_value numerals s digits front.0 (λ z. absurd (front.1 z)) (omega arith) in
-    sym written ∙ ap decimal (sym e)
-
-within-by : (s : List ℕ) (n v : ℕ) → is_number s ≡ true → v ≡ digits_value 10 s → (b : Bool) → nat_lt MAX_NUMBER v ≡ b → (if b then None else Some v) ≡ Some n → s ≡ decimal n
-within-by s n v h e true k r = cc
-within-by s n v h e false k r =
-    let same : v ≡ n = some-is 0 v n r in
-    value-is s n h (sym same ∙ e) (grind (arith, nat_tests, k, same))
-
-number-by : (s : List ℕ) (n : ℕ) (b : Bool) → is_number s ≡ b → (if b then within (digits_value 10 s) else None) ≡ Some n → s ≡ decimal n
-number-by s n true h e = within-by s n _ h refl _ refl e
-number-by s n false h e = cc
-
-pub id-decimal : (s : List ℕ) (n : ℕ) → id_in s ≡ Some n → s ≡ decimal n
-id-decimal s n e = number-by s n _ refl e
 
 -- ---- segments
 
@@ -131,7 +87,7 @@ spells (number x ∷ ps) op (s ∷ ss) o e = by (id_in s) refl e (λ n. spells p
     by None q e ih = cc
     by (Some n) q e ih =
         let h = ih n e in
-        ((n, h.0), ap (λ z. z ∷ ss) (id-decimal s n q) ∙ ap (λ z. decimal n ∷ z) h.1, h.2)
+        ((n, h.0), ap (λ z. z ∷ ss) (id_is s n q).1 ∙ ap (λ z. decimal n ∷ z) h.1, h.2)
 spells (text x ∷ ps) op ([] ∷ ss) o e = cc
 spells (text x ∷ ps) op ((b ∷ s) ∷ ss) o e =
     let h = spells ps (op (b ∷ s)) ss o e in

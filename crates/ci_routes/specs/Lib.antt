@@ -1,5 +1,4 @@
 pub mod Methods
-pub mod Numbers
 pub mod Segments
 pub mod Routes
 pub mod Answers

@@ -1,5 +1,6 @@
 -- Where a path leads: its pattern and what stands in its slots, and the routes that it has by these.
 use Rattle.std.specs.Prelude.{◌≡◌, ℕ, List, [], ◌∷◌, Option, Some, None, option_map, option_and_then, codes}
+use Rattle.ci_numbers.specs.Numbers.{id_in}
 use Rattle.ci_routes.specs.declared.method.Method.{Method}
 use Rattle.ci_routes.specs.declared.method.Method.TheVariants.{Delete, Get, Patch, Post, Put}
 use Rattle.ci_routes.specs.declared.operation.Operation.{Operation}
@@ -10,7 +11,6 @@ use Rattle.ci_routes.specs.declared.place.Place.{Place}
 use Rattle.ci_routes.specs.declared.router.Pattern.{Pattern}
 use Rattle.ci_routes.specs.declared.router.Pattern.TheVariants.{Queue, Attempt, AttemptTrace, CiFile, Variable, Creation, Pipeline, PipelineCancel, Job, JobTrace, JobPlay, JobCancel, JobRetry}
 use Rattle.ci_routes.specs.Answers.{map_key, wanted}
-use Rattle.ci_routes.specs.Numbers.{id_in}
 use Rattle.ci_routes.specs.Patterns.{patterns, pattern_in, text_in}
 use Rattle.ci_routes.specs.Routes.{Wanted}
 

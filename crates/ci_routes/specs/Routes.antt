@@ -1,12 +1,12 @@
 -- The table of routes, and what a method and a path ask for by it.
 use Rattle.std.specs.Prelude.{ℕ, List, [], ◌∷◌, map, cond, ◌==◌, if◌then◌else◌, Option, Some, None, option_and_then, codes}
 use Rattle.std.specs.List.{find}
+use Rattle.ci_numbers.specs.Numbers.{id_in}
 use Rattle.ci_routes.specs.declared.method.Method.{Method}
 use Rattle.ci_routes.specs.declared.method.Method.TheVariants.{Delete, Get, Patch, Post, Put}
 use Rattle.ci_routes.specs.declared.operation.Operation.{Operation}
 use Rattle.ci_routes.specs.declared.operation.Operation.TheVariants.{AskJob, UpdateJob, AppendTrace, SetFile, SetVariable, DeleteVariable, CreatePipeline, ShowPipeline, CancelPipeline, ShowJob, ShowTrace, Play, CancelJob, RetryJob}
 use Rattle.ci_routes.specs.Methods.{is_text, method_text}
-use Rattle.ci_routes.specs.Numbers.{id_in}
 use Rattle.ci_routes.specs.Segments.{segments}
 
 -- a segment of a route's path: a word; or a slot of this name, for the number of a record or for a text that isn't empty

@@ -4,7 +4,6 @@
 pub mod laws;
 pub mod lookup;
 pub mod method;
-mod number;
 pub mod operation;
 pub mod paths;
 mod place;

@@ -5,8 +5,8 @@ ghost use Rattle.ci_routes.specs.Patterns.{patterns, pattern_in, text_in};
 ghost use Rattle.ci_routes.specs.Table.{table};
 ghost use Rattle.ci_routes.specs.Places.{LeadsTo, number_at};
 
-use crate::number::id_in;
 use crate::router::Pattern;
+use ci_numbers::number::id_in;
 use matchit::Router;
 
 /// The pattern of a path, and what stands in its slots.
