@@ -19,6 +19,7 @@ start() {
   local port
   for _ in {1..20}; do
     port=$((20000 + RANDOM % 20000))
+    : > "$work/said"
     "$ciserver" serve --db "$db" --port "$port" --requests 1000000 > "$work/said" &
     pid=$!
     until [ -s "$work/said" ]; do sleep 0.05; done

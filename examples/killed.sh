@@ -61,6 +61,7 @@ port=
 start() {
   for _ in {1..50}; do
     local wanted=${port:-$((20000 + RANDOM % 20000))}
+    : > "$work/said"
     "$ciserver" serve --db "$db" --port "$wanted" --requests 1000000 > "$work/said" &
     server=$!
     until [ -s "$work/said" ]; do sleep 0.02; done
