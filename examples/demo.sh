@@ -22,7 +22,7 @@ start() {
     : > "$work/said"
     "$ciserver" serve --db "$db" --port "$port" --requests 1000000 > "$work/said" &
     pid=$!
-    until [ -s "$work/said" ]; do sleep 0.05; done
+    until [ -s "$work/said" ] || ! kill -0 "$pid" 2> /dev/null; do sleep 0.05; done
     if grep -q '^listening' "$work/said"; then
       url=http://127.0.0.1:$port
       return

@@ -64,7 +64,7 @@ start() {
     : > "$work/said"
     "$ciserver" serve --db "$db" --port "$wanted" --requests 1000000 > "$work/said" &
     server=$!
-    until [ -s "$work/said" ]; do sleep 0.02; done
+    until [ -s "$work/said" ] || ! kill -0 "$server" 2> /dev/null; do sleep 0.02; done
     if grep -q '^listening' "$work/said"; then port=$wanted; return; fi
     wait "$server" || server=
     sleep 0.1
