@@ -23,16 +23,7 @@ pub fn serve<R: Read + Drop, W: Write + Drop, S: Alter>(
     stamp: Stamp,
 ) -> Served {
     let (reads, writes) = (Blank::new(1), Blank::new(1));
-    serve_links::<R, W, S, Brand, Brand>(
-        alloc,
-        reader,
-        writer,
-        server,
-        paths,
-        stamp,
-        reads,
-        writes,
-    )
+    serve_links::<R, W, S, Brand, Brand>(alloc, reader, writer, server, paths, stamp, reads, writes)
 }
 
 fn serve_links<R: Read + Drop, W: Write + Drop, S: Alter, A: Ledger, B: Ledger>(

@@ -58,15 +58,7 @@ fn attend<C: Clock, R: RandomSource, S: Alter>(
 ) -> Result<(), Line> {
     let stamp = sources.stamp()?;
     sweep_all(alloc, server, stamp.moment);
-    let served = serve_stream(
-        alloc,
-        stream,
-        server,
-        paths,
-        sources.clock,
-        patience,
-        stamp,
-    );
+    let served = serve_stream(alloc, stream, server, paths, sources.clock, patience, stamp);
     if served == Served::Replied {
         end_reply(stream, sources.clock);
     }

@@ -1,8 +1,8 @@
 //! Where moments and seeds come from.
 
+use crate::line::Line;
 use ci_machine::moment::Moment;
 use ci_machine::request::Seed;
-use crate::line::Line;
 use rand::TryRng;
 use rand::rngs::SysRng;
 use std::random::RandomSource;

@@ -38,9 +38,7 @@ impl<'a, C: Clock> Hasty<'a, C> {
         let now = Instant::now(self.clock)?;
         let end = match self.end {
             Some(end) => end,
-            None => now
-                .checked_add(self.patience)
-                .ok_or(ErrorKind::TimedOut)?,
+            None => now.checked_add(self.patience).ok_or(ErrorKind::TimedOut)?,
         };
         self.end = Some(end);
         Ok(end.duration_since(now))

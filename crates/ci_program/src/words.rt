@@ -60,12 +60,10 @@ pub fn task_of<'a>(alloc: Global, words: &'a [String]) -> Result<Task<'a>, Error
     let matches = command.try_get_matches_from_mut(words)?;
     match task_named(&matches) {
         Some(task) => Ok(task),
-        None => Err(
-            command.error(
-                ErrorKind::InvalidValue,
-                "a command is wanted, whose values don't begin with '-'",
-            )?,
-        ),
+        None => Err(command.error(
+            ErrorKind::InvalidValue,
+            "a command is wanted, whose values don't begin with '-'",
+        )?),
     }
 }
 
@@ -101,9 +99,7 @@ fn check<'a>(alloc: Global) -> Result<Command<'a>, AllocError> {
 
 /// An option that has a value, as `--port N`.
 fn option<'a>(alloc: Global, name: &'a str) -> Arg<'a> {
-    Arg::new(alloc, name)
-        .long(name)
-        .action(ArgAction::Set)
+    Arg::new(alloc, name).long(name).action(ArgAction::Set)
 }
 
 /// The option of the server's file.
@@ -122,9 +118,7 @@ fn number<'a>(alloc: Global, name: &'a str, most: u64) -> Arg<'a> {
 }
 
 fn flag<'a>(alloc: Global, name: &'a str) -> Arg<'a> {
-    Arg::new(alloc, name)
-        .long(name)
-        .action(ArgAction::SetTrue)
+    Arg::new(alloc, name).long(name).action(ArgAction::SetTrue)
 }
 
 fn init<'a>(alloc: Global) -> Result<Command<'a>, AllocError> {
@@ -144,9 +138,7 @@ fn project_add<'a>(alloc: Global) -> Result<Command<'a>, AllocError> {
 }
 
 fn runner_add<'a>(alloc: Global) -> Result<Command<'a>, AllocError> {
-    let name = option(alloc, NAME)
-        .required(true)
-        .help("The runner's name");
+    let name = option(alloc, NAME).required(true).help("The runner's name");
     let project = number(alloc, PROJECT, MAX_NUMBER).help(
         "The project whose jobs it runs [default: every project]",
     );

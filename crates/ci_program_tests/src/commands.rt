@@ -21,16 +21,40 @@ const NAMELESS: &str = "{\"code\":\"M14\",\"detail\":\"K16\"}\n";
 const ROWS: &[Row<'_>] = &[
     (INIT, 0, "ok\n"),
     (INIT, 1, "refused: file exists\n"),
-    (PROJECT, 0, "{\"id\":1,\"token\":\"p1-abababababababababababababababab\"}\n"),
-    (&["project-add", "--db", "FILE", "--name", ""], 1, NAMELESS),
-    (RUNNER, 0, "{\"id\":1,\"token\":\"r1-abababababababababababababababab\"}\n"),
     (
-        &["runner-add", "--db", "FILE", "--name", "r", "--project", "001"],
+        PROJECT,
+        0,
+        "{\"id\":1,\"token\":\"p1-abababababababababababababababab\"}\n",
+    ),
+    (&["project-add", "--db", "FILE", "--name", ""], 1, NAMELESS),
+    (
+        RUNNER,
+        0,
+        "{\"id\":1,\"token\":\"r1-abababababababababababababababab\"}\n",
+    ),
+    (
+        &[
+            "runner-add",
+            "--db",
+            "FILE",
+            "--name",
+            "r",
+            "--project",
+            "001",
+        ],
         0,
         "{\"id\":2,\"token\":\"r2-abababababababababababababababab\"}\n",
     ),
     (
-        &["runner-add", "--db", "FILE", "--name", "r", "--project", "2"],
+        &[
+            "runner-add",
+            "--db",
+            "FILE",
+            "--name",
+            "r",
+            "--project",
+            "2",
+        ],
         1,
         "{\"code\":\"M2\"}\n",
     ),
@@ -39,8 +63,24 @@ const ROWS: &[Row<'_>] = &[
         0,
         "{\"id\":3,\"token\":\"r3-abababababababababababababababab\"}\n",
     ),
-    (&["runner-add", "--db", "FILE", "--name", "r", "--tags", ""], 1, NAMELESS),
-    (&["runner-add", "--db", "FILE", "--name", "r", "--tags", "a,,b"], 1, NAMELESS),
+    (
+        &["runner-add", "--db", "FILE", "--name", "r", "--tags", ""],
+        1,
+        NAMELESS,
+    ),
+    (
+        &[
+            "runner-add",
+            "--db",
+            "FILE",
+            "--name",
+            "r",
+            "--tags",
+            "a,,b",
+        ],
+        1,
+        NAMELESS,
+    ),
     (
         &["runner-add", "--db", "FILE", "--name", "r", "--untagged"],
         0,
@@ -131,7 +171,15 @@ fn a_taken_port_is_told_after_the_file(rt: HostRuntime) -> Result<(), Fail> {
     let listener = TcpListener::bind(&rt, (Ipv4Addr::LOCALHOST, 0))?;
     let taken = listener.local_addr()?.port();
     let number = format!(in rt.alloc(); "{taken}")?;
-    let words = ["serve", "--db", "FILE", "--port", number.as_str(), "--requests", "1"];
+    let words = [
+        "serve",
+        "--db",
+        "FILE",
+        "--port",
+        number.as_str(),
+        "--requests",
+        "1",
+    ];
     let output = format!(in rt.alloc(); "cannot listen on 127.0.0.1:{taken}\n")?;
     assert!(rt; ends_at(&rt, None, path, (words.as_slice(), 3, "store: O3\n"))?);
     assert!(rt; ends_at(&rt, None, path, (INIT, 0, "ok\n"))?);
@@ -146,7 +194,11 @@ fn a_broken_store_is_told(rt: HostRuntime) -> Result<(), Fail> {
     let path = file.as_str();
     let rows = [
         (INIT, 0, "ok\n"),
-        (RUNNER, 0, "{\"id\":1,\"token\":\"r1-abababababababababababababababab\"}\n"),
+        (
+            RUNNER,
+            0,
+            "{\"id\":1,\"token\":\"r1-abababababababababababababababab\"}\n",
+        ),
     ];
     follow(&rt, path, &rows)?;
     spoil(&rt, path)?;

@@ -110,7 +110,10 @@ fn a_part_of_a_request_does_nothing(rt: HostRuntime) -> Result<(), Fail> {
     let listener = listen(&rt)?;
     for size in 0..ASK.len() {
         let part = &ASK.as_bytes()[..size];
-        assert!(rt; ends_early(&rt, &listener, &mut server, part)?, "{size} bytes");
+        assert!(rt;
+            ends_early(&rt, &listener, &mut server, part)?,
+            "{size} bytes"
+        );
     }
     exchange(&rt, &mut server, &[(ASK, "HTTP/1.1 201 Created\r\n")])
 }
@@ -127,7 +130,11 @@ fn no_peer_holds_the_server(rt: HostRuntime) -> Result<(), Fail> {
     let next = has_sent(&rt, &listener, ASK.as_bytes())?;
     assert!(rt; attend(&rt, &listener, &mut server, Some(1000), 4)?);
     assert!(rt; start.elapsed(&rt)? < Duration::from_secs(5));
-    assert!(rt; got(&rt, next)?.as_slice().starts_with(b"HTTP/1.1 201 Created\r\n"));
+    assert!(rt;
+        got(&rt, next)?
+            .as_slice()
+            .starts_with(b"HTTP/1.1 201 Created\r\n")
+    );
     assert!(rt; got(&rt, silent)?.is_empty());
     drop(half);
     Ok(())
@@ -157,7 +164,8 @@ fn without_a_moment_nothing_is_served(rt: HostRuntime) -> Result<(), Fail> {
 fn a_broken_store_closes_the_server(rt: HostRuntime) -> Result<(), Fail> {
     let sound = after(rt.alloc(), &PATH[..4])?;
     let mut server = altered(sound, "UPDATE runner SET tags = 'gpu'")?;
-    let broken = "HTTP/1.1 503 Service Unavailable\r\nContent-Type: application/json\r\nContent-Length: 14\r\nConnection: close\r\n\r\n{\"code\":\"M17\"}";
+    let broken =
+        "HTTP/1.1 503 Service Unavailable\r\nContent-Type: application/json\r\nContent-Length: 14\r\nConnection: close\r\n\r\n{\"code\":\"M17\"}";
     exchange(&rt, &mut server, &[(ASK, broken), (SUCCESS, broken)])?;
     assert!(rt; is_closed(&server));
     Ok(())
@@ -168,11 +176,17 @@ fn a_broken_store_closes_the_server(rt: HostRuntime) -> Result<(), Fail> {
 fn a_reply_before_the_end_of_the_body_arrives(rt: HostRuntime) -> Result<(), Fail> {
     let mut server = after(rt.alloc(), &PATH[..4])?;
     let mut request = Vec::new(rt.alloc());
-    request.extend_from_slice(b"POST /api/v4/jobs/request HTTP/1.1\r\nContent-Length: 100000\r\n\r\n")?;
+    request.extend_from_slice(
+        b"POST /api/v4/jobs/request HTTP/1.1\r\nContent-Length: 100000\r\n\r\n",
+    )?;
     request.resize(100_000, b' ')?;
     let listener = listen(&rt)?;
     let peer = has_sent(&rt, &listener, request.as_slice())?;
     assert!(rt; attend(&rt, &listener, &mut server, Some(1000), 1)?);
-    assert!(rt; got(&rt, peer)?.as_slice().starts_with(b"HTTP/1.1 413 Payload Too Large\r\n"));
+    assert!(rt;
+        got(&rt, peer)?
+            .as_slice()
+            .starts_with(b"HTTP/1.1 413 Payload Too Large\r\n")
+    );
     Ok(())
 }

@@ -1,11 +1,11 @@
 //! Peers of a listener: what they send before they are served, and what they get.
 
+use crate::runs::Still;
 use ci_program::Sources;
 use ci_program::serving::serve_connections;
 use ci_routes::paths::Paths;
 use ci_server::server::Server;
 use ci_store::Alter;
-use crate::runs::Still;
 use std::io::{Read, Write};
 use std::net::{Ipv4Addr, Shutdown, TcpListener, TcpStream};
 use std::test::Fail;
