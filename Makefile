@@ -1,5 +1,5 @@
 # make build  proves and builds the program, and leaves it at bin/ciserver
-# make demo   the same, answers one job request with it, and has it check the stored CI files
+# make demo   the same, has it check the stored CI files and serve some requests, and runs a whole pipeline with it
 # make test   the gate: every proof from nothing, the must-fail edits, the tests, the programs' stored runs
 
 .PHONY: build demo test
@@ -17,6 +17,9 @@ demo: build
 	bin/ciserver check crates/ci_texts/data/pipeline.yml
 	bin/ciserver check crates/ci_texts/data/job_named_twice.yml; test $$? = 1
 	.ci/texts
+	.ci/program
+	@echo
+	examples/demo.sh
 
 test:
 	rt ci

@@ -8,7 +8,7 @@ use Rattle.ci_http.specs.declared.limits.TheConstants.{MAX_BODY_BYTES}
 use Rattle.ci_http.specs.BodyLength.{wants_length, length_after}
 use Rattle.ci_http.specs.Fields.{values_of}
 use Rattle.ci_http.specs.Head.{Head}
-use Rattle.ci_http.specs.Numbers.{is_number, within}
+use Rattle.ci_numbers.specs.Numbers.{is_number, within}
 use Rattle.ci_http.specs.Reading.{Refuses, IsReadingCode}
 
 abbrev RefusesSo : Result ℕ Code → Type 0

@@ -5,6 +5,6 @@ pub mod Readings
 pub mod Unique
 pub mod Beginnings
 pub mod Responses
-pub mod Digits
-pub mod Paths
 pub mod Codes
+pub mod Requests
+pub mod Allows

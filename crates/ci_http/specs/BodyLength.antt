@@ -7,7 +7,7 @@ use Rattle.ci_machine.specs.declared.reply.Code.{Code}
 use Rattle.ci_machine.specs.declared.reply.Code.TheVariants.{H1, H3, H4, H8}
 use Rattle.ci_http.specs.Fields.{values_of}
 use Rattle.ci_http.specs.Head.{Head}
-use Rattle.ci_http.specs.Numbers.{is_number, within}
+use Rattle.ci_numbers.specs.Numbers.{is_number, within}
 use Rattle.ci_http.specs.declared.limits.TheConstants.{MAX_BODY_BYTES}
 
 -- a request of this method says how long its body is

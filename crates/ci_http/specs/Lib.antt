@@ -2,13 +2,11 @@ pub mod Sources
 pub mod Opening
 pub mod Head
 pub mod Fields
-pub mod Numbers
 pub mod BodyLength
 pub mod Reading
-pub mod Paths
-pub mod Json
-pub mod Updates
-pub mod Ranges
+pub mod Targets
 pub mod RequestBytes
+pub mod Parts
 pub mod ReplyText
 pub mod Blanks
+pub mod Serving

@@ -1,27 +1,33 @@
--- The request that a message asks for, or the reply that refuses it.
-use Rattle.std.specs.Prelude.{◌≡◌, ◌⊎◌, ℕ, Bool, true, List, [], ◌∷◌, if◌then◌else◌, Option, Some, None, IsSome, option_map, option_and_then, ok_or, Result, Err, codes, length}
-use Rattle.std.specs.List.{list_any}
+-- The request that a message asks for by the table of routes, or the reply that refuses it.
+use Rattle.std.specs.Prelude.{◌≡◌, ℕ, List, [], ◌∷◌, map, length, if◌then◌else◌, Option, Some, None, IsSome, option_map, option_and_then, ok_or, Result, Err}
 use Rattle.std.specs.Str.{is_utf8}
+use Rattle.serde_json.specs.Data.{Data}
+use Rattle.serde_json.specs.Find.{get}
 use Rattle.ci_machine.specs.declared.reply.Method.{Method}
-use Rattle.ci_machine.specs.declared.reply.Method.TheVariants.{Get, Patch, Post, Put}
+use Rattle.ci_machine.specs.declared.reply.Method.TheVariants.{Delete, Get, Patch, Post, Put}
 use Rattle.ci_machine.specs.declared.reply.Methods.{Methods}
-use Rattle.ci_machine.specs.declared.reply.Code.{Code}
-use Rattle.ci_machine.specs.declared.reply.Code.TheVariants.{M16, H5, H6, H7}
+use Rattle.ci_machine.specs.declared.reply.Code.TheVariants.{H5, H6, H7}
 use Rattle.ci_machine.specs.declared.reply.Reply.{Reply}
 use Rattle.ci_machine.specs.declared.request.Request.{Request}
-use Rattle.ci_machine.specs.declared.request.Request.TheVariants.{AskJob, UpdateJob, AppendTrace, ShowJob, ShowTrace}
-use Rattle.ci_machine.specs.declared.request.TracePart.{TracePart}
+use Rattle.ci_machine.specs.declared.request.Request.TheVariants.{AskJob, UpdateJob, AppendTrace, SetFile, SetVariable, DeleteVariable, CreatePipeline, ShowPipeline, CancelPipeline, ShowJob, ShowTrace, Play, CancelJob, RetryJob}
 use Rattle.ci_machine.specs.declared.request.JobQuery.{JobQuery}
+use Rattle.ci_machine.specs.declared.request.PipelineQuery.{PipelineQuery}
 use Rattle.ci_machine.specs.Reply.{refusal}
-use Rattle.ci_http.specs.declared.path.Place.{Place}
-use Rattle.ci_http.specs.declared.path.Place.TheVariants.{Queue, Attempt, AttemptTrace, Job, JobTrace}
+use Rattle.ci_routes.specs.declared.method.Method.{Method as RouteMethod}
+use Rattle.ci_routes.specs.declared.method.Method.TheVariants as route
+use Rattle.ci_routes.specs.declared.operation.Operation.{Operation}
+use Rattle.ci_routes.specs.declared.operation.Operation.TheVariants as operation
+use Rattle.ci_routes.specs.Routes.{Body, no_body, file, bytes, json, Wanted, Asked, no_route, other_methods, asks, asked_in}
+use Rattle.ci_payloads.specs.Json.{MayBeJson, object_in}
+use Rattle.ci_payloads.specs.Texts.{token_of, value_of, file_in}
+use Rattle.ci_payloads.specs.Updates.{update_of}
+use Rattle.ci_payloads.specs.Creations.{creation_of}
+use Rattle.ci_payloads.specs.Ranges.{start_in}
 use Rattle.ci_http.specs.Fields.{values_of}
-use Rattle.ci_http.specs.Json.{MayBeJson, object_in, text_in}
-use Rattle.ci_http.specs.Paths.{is_text, path_of, place_of}
-use Rattle.ci_http.specs.Ranges.{start_in}
 use Rattle.ci_http.specs.Reading.{Message}
-use Rattle.ci_http.specs.ReplyText.{method_text, listed}
-use Rattle.ci_http.specs.Updates.{update_in}
+use Rattle.ci_http.specs.Targets.{path_of}
+
+-- ---- what a route reads
 
 -- the one value of a field; a field that is missing counts as an empty one, and one that stands twice has none
 abbrev pub single : List (List ℕ) → Option (List ℕ)
@@ -32,77 +38,100 @@ single (value ∷ other ∷ more) = None
 abbrev pub field_in : List ℕ → Message → Option (List ℕ)
 field_in name m = single (values_of name m.fields)
 
+-- the values of the fields with these names, each of which stands once, or is missing and then empty
+abbrev pub each_single : List (List ℕ) → Message → Option (List (List ℕ))
+each_single [] m = Some []
+each_single (name ∷ names) m = option_and_then (λ value. option_map (λ values. value ∷ values) (each_single names m)) (field_in name m)
+
+-- What a body carries: nothing; bytes, or a text; or the members of a JSON object, `None` where it has none of a name.
+pub data Payload : Type 0 where
+  nothing : Payload
+  content : List ℕ → Payload
+  members : List (Option Data) → Payload
+
+abbrev pub payload_in : Body → List ℕ → Option Payload
+payload_in no_body body = Some nothing
+payload_in file body = option_map content (file_in body)
+payload_in bytes body = Some (content body)
+payload_in (json names) body = option_map (λ object. members (map (λ name. get name object) names)) (object_in body)
+
+-- ---- what is asked for
+
 -- bytes that aren't UTF-8 are no token, so the empty text, which is none either, stands for them
 abbrev pub text_or_empty : List ℕ → List ℕ
-text_or_empty bytes = if is_utf8 bytes then bytes else []
+text_or_empty field = if is_utf8 field then field else []
 
--- the token in the field of this name
-abbrev pub field_token : List ℕ → Message → Option (List ℕ)
-field_token name m = option_map text_or_empty (field_in name m)
+abbrev pub job_of : ℕ → List ℕ → ℕ → JobQuery
+job_of id field n = record { project = id; token = text_or_empty field; job = n }
 
--- the token in a body
-abbrev pub token_in : List ℕ → Option (List ℕ)
-token_in body = option_and_then (text_in (codes "token")) (object_in body)
+abbrev pub pipeline_of : ℕ → List ℕ → ℕ → PipelineQuery
+pipeline_of id field n = record { project = id; token = text_or_empty field; pipeline = n }
 
--- the piece of an attempt's trace: the body, at the place that its range says
-abbrev pub part_in : ℕ → Message → Option TracePart
-part_in attempt m =
-    option_and_then (λ token. option_map (λ from. record { attempt = attempt; token = token; from = from; bytes = m.body })
-    (option_and_then (start_in (length m.body)) (field_in (codes "content-range") m))) (field_token (codes "job-token") m)
+-- the request of an operation, with the values of its fields and its payload, if these are as it wants them
+abbrev pub requested : Operation (List ℕ) → List (List ℕ) → Payload → Option Request
+requested operation.AskJob [] (members (token ∷ [])) = option_map AskJob (token_of token)
+requested (operation.UpdateJob n) [] (members (token ∷ state ∷ reason ∷ exit ∷ [])) = option_map UpdateJob (update_of n token state reason exit)
+requested (operation.AppendTrace n) (field ∷ range ∷ []) (content piece) =
+    option_map (λ from. AppendTrace (record { attempt = n; token = text_or_empty field; from = from; bytes = piece })) (start_in (length piece) range)
+requested (operation.SetFile id) (field ∷ []) (content text) = Some (SetFile (record { project = id; token = text_or_empty field; text = text }))
+requested (operation.SetVariable id key) (field ∷ []) (members (value ∷ [])) =
+    option_map (λ text. SetVariable (record { project = id; token = text_or_empty field; key = key; value = text })) (value_of value)
+requested (operation.DeleteVariable id key) (field ∷ []) nothing = Some (DeleteVariable (record { project = id; token = text_or_empty field; key = key }))
+requested (operation.CreatePipeline id) (field ∷ []) (members (git_ref ∷ tag ∷ source ∷ variables ∷ [])) =
+    option_map CreatePipeline (creation_of id (text_or_empty field) git_ref tag source variables)
+requested (operation.ShowPipeline id n) (field ∷ []) nothing = Some (ShowPipeline (pipeline_of id field n))
+requested (operation.CancelPipeline id n) (field ∷ []) nothing = Some (CancelPipeline (pipeline_of id field n))
+requested (operation.ShowJob id n) (field ∷ []) nothing = Some (ShowJob (job_of id field n))
+requested (operation.ShowTrace id n) (field ∷ []) nothing = Some (ShowTrace (job_of id field n))
+requested (operation.Play id n) (field ∷ []) nothing = Some (Play (job_of id field n))
+requested (operation.CancelJob id n) (field ∷ []) nothing = Some (CancelJob (job_of id field n))
+requested (operation.RetryJob id n) (field ∷ []) nothing = Some (RetryJob (job_of id field n))
+requested _ _ _ = None
 
-abbrev pub query_in : ℕ → ℕ → Message → Option JobQuery
-query_in project job m = option_map (λ token. record { project = project; token = token; job = job }) (field_token (codes "private-token") m)
+-- the request that a message makes of a route, by the route's fields and body, if these are as it wants them
+abbrev pub request_by : Wanted → Message → Option Request
+request_by w m = option_and_then (λ values. option_and_then (requested w.operation values) (payload_in w.body m.body)) (each_single w.fields m)
 
--- this method alone
-abbrev pub only : Method → Methods
-only method = record { first = method; second = None }
+-- ---- which route it is
 
--- the methods of a place
-abbrev pub methods_of : Place → Methods
-methods_of Queue = only Post
-methods_of (Attempt n) = only Put
-methods_of (AttemptTrace n) = only Patch
-methods_of (Job project n) = only Get
-methods_of (JobTrace project n) = only Get
+-- what a method and a path ask for; a path that isn't UTF-8 has no route
+abbrev pub asked_at : List ℕ → List ℕ → Asked
+asked_at method path = if is_utf8 path then asked_in method path else no_route
 
--- is the text the name of one of the methods?
-abbrev pub has_method : Methods → List ℕ → Bool
-has_method methods text = list_any (λ method. is_text text (method_text method)) (listed methods)
+-- a route's method, in a reply
+abbrev pub method_of : RouteMethod → Method
+method_of route.Delete = Delete
+method_of route.Get = Get
+method_of route.Patch = Patch
+method_of route.Post = Post
+method_of route.Put = Put
 
--- what a message with the right method asks for at a place, if its fields and its body are as the place wants them
-abbrev pub wanted : Place → Message → Option Request
-wanted Queue m = option_map AskJob (token_in m.body)
-wanted (Attempt n) m = option_map UpdateJob (update_in n m.body)
-wanted (AttemptTrace n) m = option_map AppendTrace (part_in n m)
-wanted (Job project n) m = option_map ShowJob (query_in project n m)
-wanted (JobTrace project n) m = option_map ShowTrace (query_in project n m)
+-- the methods of a path, in a reply: one or two, for no path has more (`allow_names_each_method`)
+abbrev pub methods_of : List RouteMethod → Option Methods
+methods_of [] = None
+methods_of (one ∷ []) = Some (record { first = method_of one; second = None })
+methods_of (one ∷ other ∷ more) = Some (record { first = method_of one; second = Some (method_of other) })
 
 -- the reply where the path has these methods, and not the request's
-abbrev pub not_allowed : Methods → Reply
-not_allowed methods = record (refusal H6) { allow = Some methods }
+abbrev pub not_allowed : List RouteMethod → Reply
+not_allowed methods = record (refusal H6) { allow = methods_of methods }
 
-abbrev pub request_at : Option Place → Message → Result Request Reply
-request_at None m = Err (refusal H5)
-request_at (Some place) m =
-    if has_method (methods_of place) m.method then ok_or (wanted place m) (refusal H7) else Err (not_allowed (methods_of place))
+abbrev pub request_as : Asked → Message → Result Request Reply
+request_as no_route m = Err (refusal H5)
+request_as (other_methods methods) m = Err (not_allowed methods)
+request_as (asks w) m = ok_or (request_by w m) (refusal H7)
 
 -- what a message asks for
 abbrev pub request_in : Message → Result Request Reply
-request_in m = request_at (place_of (path_of m.target)) m
+request_in m = request_as (asked_at m.method (path_of m.target)) m
 
--- why a part of a request wasn't read: memory was refused, which is asked for only so; or there is no such part
-abbrev pub IsWhyNot : {A : Type 0} → Type 0 → Code → Option A → Type 0
-IsWhyNot Asks why found = ((why ≡ M16) × Asks) ⊎ ((why ≡ H7) × (found ≡ None))
+-- ---- memory
 
--- what memory is asked for at a place: to read the JSON that a body may be, or to copy what the place wants
-abbrev pub AsksMemoryAt : Place → Message → Type 0
-AsksMemoryAt Queue m = MayBeJson m.body
-AsksMemoryAt (Attempt n) m = MayBeJson m.body
-AsksMemoryAt (AttemptTrace n) m = IsSome (part_in n m)
-AsksMemoryAt (Job project n) m = IsSome (query_in project n m)
-AsksMemoryAt (JobTrace project n) m = IsSome (query_in project n m)
+-- what memory is asked for at a route: its fields stand as it wants them, and its body may be the JSON that it wants; or all is as it wants it
+abbrev pub AsksMemoryBy : Body → Wanted → Message → Type 0
+AsksMemoryBy (json names) w m = IsSome (each_single w.fields m) × MayBeJson m.body
+AsksMemoryBy _ w m = IsSome (request_by w m)
 
--- memory is asked for to tell what a message asks for: its route is found, and wants it
+-- memory is asked for to tell what a message asks for: it has a route, which asks for it
 abbrev pub AsksMemory : Message → Type 0
-AsksMemory m =
-    (place : Place) × (place_of (path_of m.target) ≡ Some place) × (has_method (methods_of place) m.method ≡ true) × AsksMemoryAt place m
+AsksMemory m = (w : Wanted) × (asked_at m.method (path_of m.target) ≡ asks w) × AsksMemoryBy w.body w m

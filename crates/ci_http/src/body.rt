@@ -6,15 +6,15 @@ ghost use Rattle.std.specs.Io.KnownBytes.{Consumes};
 ghost use Rattle.ci_machine.specs.declared.reply.Code.{Code};
 ghost use Rattle.ci_http.specs.BodyLength.{length_after, wants_length};
 ghost use Rattle.ci_http.specs.Fields.{Shows};
-ghost use Rattle.ci_http.specs.Numbers.{is_number, within};
+ghost use Rattle.ci_numbers.specs.Numbers.{is_number, within};
 ghost use Rattle.ci_http.specs.Sources.{Tells, TakesFront, Fails};
 
 use crate::fault::HttpFault;
 use crate::fields::Found;
 use crate::limits::MAX_BODY_BYTES;
 use crate::link::Source;
-use crate::number::{is_number, value_within};
 use ci_machine::reply::Code;
+use ci_numbers::number::{is_number, value_within};
 use std::alloc::Global;
 
 /// How long the body of a request is, by its method and the values of `Content-Length` and

@@ -1,9 +1,11 @@
 //! Laws of the definitions that the contracts cite.
 
-ghost use Rattle.std.specs.Prelude.{◌≡◌, ◌≢◌, ◌++◌, ℕ, List, [], Some};
-ghost use Rattle.ci_http.specs.declared.path.Place.{Place};
-ghost use Rattle.ci_http.specs.Paths.{place_of, path_text, IsPlace};
+ghost use Rattle.std.specs.Prelude.{◌≡◌, ◌≢◌, ◌++◌, ℕ, List, [], map, Some, option_map};
+ghost use Rattle.ci_routes.specs.declared.method.Method.{Method as RouteMethod};
+ghost use Rattle.ci_routes.specs.Routes.{other_methods, asked_in};
 ghost use Rattle.ci_http.specs.Reading.{Message, Reading, ended, request, IsReading};
+ghost use Rattle.ci_http.specs.ReplyText.{listed};
+ghost use Rattle.ci_http.specs.RequestBytes.{method_of, methods_of};
 
 use crate::fault::HttpFault;
 use crate::head::{read_head, whole_head};
@@ -74,9 +76,8 @@ pub fn beginning_ends()
         → IsReading (front ++ back ++ rest) (request m) rest → IsReading front ended [] }
 {}
 
-/// A path names a place exactly if it is the text that the place's words and numbers make: each
-/// place has one path, and no path names two.
-pub fn a_place_has_one_path()
-    ensures named { (path : List ℕ) (place : Place) → place_of path ≡ Some place → IsPlace place × (path ≡ path_text place) }
-    ensures names { (place : Place) → IsPlace place → place_of (path_text place) ≡ Some place }
+/// The reply to another method names each method of the path's routes, in their order.
+pub fn allow_names_each_method()
+    ensures { (method path : List ℕ) (methods : List RouteMethod) → asked_in method path ≡ other_methods methods
+        → option_map listed (methods_of methods) ≡ Some (map method_of methods) }
 {}

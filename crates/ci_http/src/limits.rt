@@ -17,11 +17,5 @@ pub const MAX_BODY_BYTES: usize = MAX_FILE_BYTES;
 /// Room for the longest head of a reply, in bytes.
 pub const MAX_REPLY_HEAD_BYTES: usize = 512;
 
-/// The most digits of a place in a range.
-pub const MAX_PLACE_DIGITS: usize = 16;
-
-/// The greatest place of so many digits.
-pub const MAX_PLACE: u64 = 9_999_999_999_999_999;
-
-/// The greatest exit code.
-pub const MAX_EXIT_CODE: u64 = 4_294_967_295;
+/// The longest reply that is written by one call, in bytes: its head and its body.
+pub const MAX_JOINED_BYTES: usize = 4096;

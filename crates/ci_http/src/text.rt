@@ -173,8 +173,8 @@ fn job_status_text(status: JobStatus) -> &'static [u8]
     }
 }
 
-/// The name of a method.
-pub(crate) fn method_text(method: Method) -> &'static [u8]
+// The name of a method.
+fn method_text(method: Method) -> &'static [u8]
     ensures text { result.now ≡ method_text method }
     ensures len { length result.now ≤ 6 }
 {

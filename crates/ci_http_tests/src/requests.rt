@@ -6,10 +6,11 @@ use ci_http::fields::Found;
 use ci_http::link::{Link, Sink};
 use ci_http::route::request_of;
 use ci_http::text::reply_bytes;
-use ci_machine::records::Cause;
+use ci_machine::records::RefKind;
 use ci_machine::reply::{Body, Code, HttpStatus, JobStatus, Method, Methods, Reply};
-use ci_machine::request::{Report, Request};
+use ci_machine::request::{JobQuery, NewPipeline, PipelineQuery, Report, Request};
 use ci_machine::text::{Bytes, Text};
+use ci_routes::paths::Paths;
 use std::alloc::Global;
 use std::io::{self, ErrorKind, Read, Write};
 use std::marker::Brand;
@@ -169,376 +170,395 @@ fn fields_of_replies(rt: HostRuntime) -> Result<(), Fail> {
     Ok(())
 }
 
-fn cause_text(cause: Cause) -> &'static str {
-    match cause {
-        Cause::UnknownFailure => "unknown",
-        Cause::ScriptFailure => "script",
-        Cause::ApiFailure => "api",
-        Cause::StuckOrTimeoutFailure => "stuck",
-        Cause::RunnerSystemFailure => "system",
-        Cause::JobExecutionTimeout => "timeout",
+fn report_text(report: Report) -> &'static str {
+    match report {
+        Report::Running => "running",
+        Report::Success(_) => "success",
+        Report::Failed(_, _) => "failed",
     }
 }
 
-fn exit_text(alloc: Global, exit: Option<u32>) -> Result<String, Fail> {
-    Ok(match exit {
-        Some(n) => format!(in alloc; "{n}")?,
-        None => format!(in alloc; "-")?,
-    })
+// A job in words, behind what is to be done with it.
+fn job_text(alloc: Global, word: &str, query: &JobQuery) -> Result<String, Fail> {
+    let token = query.token.as_str();
+    Ok(format!(in alloc; "{word} {} {token} {}", query.project, query.job)?)
 }
 
-fn report_text(alloc: Global, report: Report) -> Result<String, Fail> {
-    Ok(match report {
-        Report::Running => format!(in alloc; "running")?,
-        Report::Success(exit) => format!(in alloc; "success {}", exit_text(alloc, exit)?)?,
-        Report::Failed(cause, exit) => {
-            format!(in alloc; "failed {} {}", cause_text(cause), exit_text(alloc, exit)?)?
+fn pipeline_text(alloc: Global, word: &str, query: &PipelineQuery) -> Result<String, Fail> {
+    let token = query.token.as_str();
+    Ok(format!(in alloc; "{word} {} {token} {}", query.project, query.pipeline)?)
+}
+
+// A pipeline that is to be made in words, with its variables.
+fn creation_text(alloc: Global, new: &NewPipeline) -> Result<String, Fail> {
+    let kind = match new.kind {
+        RefKind::Branch => "branch",
+        RefKind::Tag => "tag",
+    };
+    let mut text = format!(in alloc;
+        "create {} {} {kind} {} {}",
+        new.project,
+        new.token.as_str(),
+        new.git_ref.as_str(),
+        new.source.as_str()
+    )?;
+    for variable in new.variables.as_slice() {
+        text.push_str(" ")?;
+        text.push_str(variable.key.as_str())?;
+        text.push_str("=")?;
+        text.push_str(variable.value.as_str())?;
+    }
+    Ok(text)
+}
+
+// A runner's request in words.
+fn runner_text(alloc: Global, request: &Request) -> Result<String, Fail> {
+    Ok(match request {
+        Request::AskJob(token) => format!(in alloc; "ask {}", token.as_str())?,
+        Request::UpdateJob(update) => {
+            let report = report_text(update.report);
+            format!(in alloc; "update {} {} {report}", update.attempt, update.token.as_str())?
         }
+        Request::AppendTrace(part) => {
+            let text = str::from_utf8(part.bytes.as_slice()).unwrap_or("?");
+            let token = part.token.as_str();
+            format!(in alloc; "append {} {token} {} {text}", part.attempt, part.from)?
+        }
+        _ => format!(in alloc; "another request")?,
     })
 }
 
 // A request in words.
 fn request_text(alloc: Global, request: &Request) -> Result<String, Fail> {
     Ok(match request {
-        Request::AskJob(token) => format!(in alloc; "ask {}", token.as_str())?,
-        Request::UpdateJob(update) => {
-            let report = report_text(alloc, update.report)?;
-            format!(in alloc;
-                "update {} {} {report}",
-                update.attempt,
-                update.token.as_str()
-            )?
+        Request::SetFile(new) => {
+            format!(in alloc; "file {} {} {}", new.project, new.token.as_str(), new.text.as_str())?
         }
-        Request::AppendTrace(part) => {
-            let text = str::from_utf8(part.bytes.as_slice()).unwrap_or("?");
-            format!(in alloc;
-                "append {} {} {} {text}",
-                part.attempt,
-                part.token.as_str(),
-                part.from
-            )?
+        Request::SetVariable(new) => {
+            let token = new.token.as_str();
+            let key = new.key.as_str();
+            format!(in alloc; "set {} {token} {key} {}", new.project, new.value.as_str())?
         }
-        Request::ShowJob(query) => {
-            format!(in alloc;
-                "job {} {} {}",
-                query.project,
-                query.token.as_str(),
-                query.job
-            )?
+        Request::DeleteVariable(query) => {
+            let token = query.token.as_str();
+            format!(in alloc; "delete {} {token} {}", query.project, query.key.as_str())?
         }
-        Request::ShowTrace(query) => {
-            format!(in alloc;
-                "trace {} {} {}",
-                query.project,
-                query.token.as_str(),
-                query.job
-            )?
-        }
-        _ => format!(in alloc; "other")?,
+        Request::CreatePipeline(new) => creation_text(alloc, new)?,
+        Request::ShowPipeline(query) => pipeline_text(alloc, "pipeline", query)?,
+        Request::CancelPipeline(query) => pipeline_text(alloc, "cancel pipeline", query)?,
+        Request::ShowJob(query) => job_text(alloc, "job", query)?,
+        Request::ShowTrace(query) => job_text(alloc, "trace", query)?,
+        Request::Play(query) => job_text(alloc, "play", query)?,
+        Request::CancelJob(query) => job_text(alloc, "cancel", query)?,
+        Request::RetryJob(query) => job_text(alloc, "retry", query)?,
+        other => runner_text(alloc, other)?,
     })
 }
 
 // What the bytes ask for, in words, or the reply that refuses it.
-fn asked_over<L: Ledger>(alloc: Global, bytes: &[u8], blank: Blank) -> Result<Vec<u8>, Fail>
+fn asked_over<L: Ledger>(
+    alloc: Global,
+    paths: &Paths,
+    bytes: &[u8],
+    blank: Blank,
+) -> Result<Vec<u8>, Fail>
     requires { OpensWhole blank.name blank.parts L.name L.parts }
 {
     let mut reader = Link::<&[u8], L>::new(bytes, blank);
     let Ok(call) = read_request(alloc, &mut reader) else {
         return Ok(vec![in alloc; b'?']?);
     };
-    match request_of(alloc, &call) {
+    match request_of(alloc, paths, &call) {
         Ok(request) => Ok(request_text(alloc, &request)?.into_bytes()),
         Err(reply) => text_of(alloc, &reply),
     }
 }
 
-fn asked(alloc: Global, bytes: &[u8]) -> Result<Vec<u8>, Fail> {
-    asked_over::<Brand>(alloc, bytes, Blank::new(1))
+fn asked(alloc: Global, paths: &Paths, bytes: &[u8]) -> Result<Vec<u8>, Fail> {
+    asked_over::<Brand>(alloc, paths, bytes, Blank::new(1))
 }
 
-// A request of these three parts: what stands before the length of the body, and the body.
-fn with_body(alloc: Global, front: &str, body: &[u8]) -> Result<Vec<u8>, Fail> {
-    let head = format!(in alloc; "{front}Content-Length: {}\r\n\r\n", body.len())?;
-    let mut bytes = head.into_bytes();
-    bytes.extend_from_slice(body)?;
-    Ok(bytes)
-}
-
-// Requests without a body, and what they ask for.
-const ASKED: &[(&[u8], &str)] = &[
+// Each route once, and what its request asks for.
+const ROUTES: &[(&[u8], &str)] = &[
+    (
+        b"POST /api/v4/jobs/request HTTP/1.1\r\nContent-Length: 17\r\n\r\n{\"token\":\"r1-ab\"}",
+        "ask r1-ab",
+    ),
+    (
+        b"PUT /api/v4/jobs/7 HTTP/1.1\r\nContent-Length: 35\r\n\r\n{\"token\":\"j7-ab\",\"state\":\"running\"}",
+        "update 7 j7-ab running",
+    ),
+    (
+        b"PATCH /api/v4/jobs/7/trace HTTP/1.1\r\nJOB-TOKEN: j7-ab\r\nContent-Range: 5-9\r\nContent-Length: 5\r\n\r\nworld",
+        "append 7 j7-ab 5 world",
+    ),
+    (
+        b"PUT /api/v4/projects/1/ci_file HTTP/1.1\r\nPRIVATE-TOKEN: p1-ab\r\nContent-Length: 3\r\n\r\na:\n",
+        "file 1 p1-ab a:\n",
+    ),
+    (
+        b"PUT /api/v4/projects/1/variables/%41 HTTP/1.1\r\nPRIVATE-TOKEN: p1-ab\r\nContent-Length: 13\r\n\r\n{\"value\":\"v\"}",
+        "set 1 p1-ab %41 v",
+    ),
+    (
+        b"DELETE /api/v4/projects/1/variables/A HTTP/1.1\r\nPRIVATE-TOKEN: p1-ab\r\n\r\n",
+        "delete 1 p1-ab A",
+    ),
+    (
+        b"POST /api/v4/projects/1/pipeline HTTP/1.1\r\nPRIVATE-TOKEN: p1-ab\r\nContent-Length: 76\r\n\r\n{\"ref\":\"v1\",\"tag\":true,\"source\":\"web\",\"variables\":[{\"key\":\"A\",\"value\":\"1\"}]}",
+        "create 1 p1-ab tag v1 web A=1",
+    ),
+    (
+        b"GET /api/v4/projects/1/pipelines/2 HTTP/1.1\r\nPRIVATE-TOKEN: p1-ab\r\n\r\n",
+        "pipeline 1 p1-ab 2",
+    ),
+    (
+        b"POST /api/v4/projects/1/pipelines/2/cancel HTTP/1.1\r\nPRIVATE-TOKEN: p1-ab\r\nContent-Length: 0\r\n\r\n",
+        "cancel pipeline 1 p1-ab 2",
+    ),
     (
         b"GET /api/v4/projects/1/jobs/2 HTTP/1.1\r\nPRIVATE-TOKEN: p1-ab\r\n\r\n",
         "job 1 p1-ab 2",
     ),
     (
-        b"GET /api/v4/projects/12/jobs/34/trace?a=/b HTTP/1.1\r\nprivate-Token:p\r\nJOB-TOKEN: j\r\n\r\n",
+        b"GET /api/v4/projects/1/jobs/2/trace HTTP/1.1\r\nPRIVATE-TOKEN: p1-ab\r\n\r\n",
+        "trace 1 p1-ab 2",
+    ),
+    (
+        b"POST /api/v4/projects/1/jobs/2/play HTTP/1.1\r\nPRIVATE-TOKEN: p1-ab\r\nContent-Length: 0\r\n\r\n",
+        "play 1 p1-ab 2",
+    ),
+    (
+        b"POST /api/v4/projects/1/jobs/2/cancel HTTP/1.1\r\nPRIVATE-TOKEN: p1-ab\r\nContent-Length: 0\r\n\r\n",
+        "cancel 1 p1-ab 2",
+    ),
+    (
+        b"POST /api/v4/projects/1/jobs/2/retry HTTP/1.1\r\nPRIVATE-TOKEN: p1-ab\r\nContent-Length: 0\r\n\r\n",
+        "retry 1 p1-ab 2",
+    ),
+];
+
+// Queries, other fields, names in another case, missing and wrong tokens, great numbers, bodies that no route reads.
+const FORMS: &[(&[u8], &str)] = &[
+    (
+        b"GET /api/v4/projects/12/jobs/34/trace?a=/b?c HTTP/1.1\r\nprivate-Token:p\r\nJOB-TOKEN: j\r\nJOB-TOKEN: k\r\n\r\n",
         "trace 12 p 34",
     ),
     (
-        b"GET /api/v4/projects/9007199254740991/jobs/9007199254740991 HTTP/1.1\r\n\r\n",
+        b"GET /api/v4/projects/9007199254740991/jobs/9007199254740991? HTTP/1.1\r\n\r\n",
         "job 9007199254740991  9007199254740991",
     ),
     (
-        b"GET /api/v4/projects/1/jobs/2? HTTP/1.1\r\nPRIVATE-TOKEN: \xff\r\n\r\n",
+        b"GET /api/v4/projects/1/jobs/2 HTTP/1.1\r\nPRIVATE-TOKEN: \xff\r\n\r\n",
         "job 1  2",
+    ),
+    (
+        b"POST /api/v4/projects/1/jobs/2/play HTTP/1.1\r\nPRIVATE-TOKEN: p\r\nContent-Length: 1\r\n\r\n\xff",
+        "play 1 p 2",
+    ),
+    (
+        b"PUT /api/v4/jobs/7?request HTTP/1.1\r\nPRIVATE-TOKEN: p\r\nPRIVATE-TOKEN: p\r\nContent-Length: 19\r\n\r\n{\"state\":\"running\"}",
+        "update 7  running",
     ),
 ];
 
 #[test]
-fn jobs_and_traces_are_asked_for(rt: HostRuntime) -> Result<(), Fail> {
-    for (bytes, wanted) in ASKED {
+fn each_route_is_asked_for(rt: HostRuntime) -> Result<(), Fail> {
+    let paths = Paths::new(rt.alloc())?;
+    for (bytes, wanted) in ROUTES {
         assert!(&rt;
-            asked(rt.alloc(), bytes)?.as_slice() == wanted.as_bytes(),
+            asked(rt.alloc(), &paths, bytes)?.as_slice() == wanted.as_bytes(),
+            "{wanted}"
+        );
+    }
+    for (bytes, wanted) in FORMS {
+        assert!(&rt;
+            asked(rt.alloc(), &paths, bytes)?.as_slice() == wanted.as_bytes(),
             "{wanted}"
         );
     }
     Ok(())
 }
 
-// Bodies of PUT `/api/v4/jobs/7`, and what they ask for.
-const UPDATES: &[(&str, &str)] = &[
-    (
-        "{\"token\":\"j7-ab\",\"state\":\"running\"}",
-        "update 7 j7-ab running",
-    ),
-    ("{\"state\":\"running\",\"x\":[]}", "update 7  running"),
-    (
-        "{\"token\":\"t\",\"state\":\"success\"}",
-        "update 7 t success -",
-    ),
-    (
-        "{\"token\":\"t\",\"state\":\"success\",\"exit_code\":0,\"failure_reason\":\"script_failure\"}",
-        "update 7 t success 0",
-    ),
-    (
-        "{\"token\":\"t\",\"state\":\"failed\"}",
-        "update 7 t failed unknown -",
-    ),
-    (
-        "{\"token\":\"t\",\"state\":\"failed\",\"failure_reason\":\"always\"}",
-        "update 7 t failed unknown -",
-    ),
-    (
-        "{\"token\":\"t\",\"state\":\"failed\",\"failure_reason\":\"unknown_failure\"}",
-        "update 7 t failed unknown -",
-    ),
-    (
-        "{\"token\":\"t\",\"state\":\"failed\",\"failure_reason\":\"script_failure\",\"exit_code\":4294967295}",
-        "update 7 t failed script 4294967295",
-    ),
-    (
-        "{\"token\":\"t\",\"state\":\"failed\",\"failure_reason\":\"api_failure\"}",
-        "update 7 t failed api -",
-    ),
-    (
-        "{\"token\":\"t\",\"state\":\"failed\",\"failure_reason\":\"stuck_or_timeout_failure\"}",
-        "update 7 t failed stuck -",
-    ),
-    (
-        "{\"token\":\"t\",\"state\":\"failed\",\"failure_reason\":\"runner_system_failure\"}",
-        "update 7 t failed system -",
-    ),
-    (
-        "{\"token\":\"t\",\"state\":\"failed\",\"failure_reason\":\"job_execution_timeout\"}",
-        "update 7 t failed timeout -",
-    ),
+// Requests whose fields or body aren't what their route wants: each field twice, each kind of body.
+const WRONG: &[&[u8]] = &[
+    b"PATCH /api/v4/jobs/7/trace HTTP/1.1\r\nJOB-TOKEN: t\r\njob-token: t\r\nContent-Range: 5-9\r\nContent-Length: 5\r\n\r\nworld",
+    b"PATCH /api/v4/jobs/7/trace HTTP/1.1\r\nJOB-TOKEN: t\r\nContent-Range: 5-9\r\nCONTENT-range: 5-9\r\nContent-Length: 5\r\n\r\nworld",
+    b"PATCH /api/v4/jobs/7/trace HTTP/1.1\r\nJOB-TOKEN: t\r\nContent-Length: 5\r\n\r\nworld",
+    b"PATCH /api/v4/jobs/7/trace HTTP/1.1\r\nJOB-TOKEN: t\r\nContent-Range: 5-9\r\nContent-Length: 4\r\n\r\nworl",
+    b"GET /api/v4/projects/1/jobs/2 HTTP/1.1\r\nPRIVATE-TOKEN: p\r\nprivate-token: p\r\n\r\n",
+    b"GET /api/v4/projects/1/pipelines/2 HTTP/1.1\r\nPRIVATE-TOKEN: p\r\nPRIVATE-TOKEN: p\r\n\r\n",
+    b"DELETE /api/v4/projects/1/variables/A HTTP/1.1\r\nPRIVATE-TOKEN: p\r\nPRIVATE-TOKEN: p\r\n\r\n",
+    b"PUT /api/v4/projects/1/ci_file HTTP/1.1\r\nPRIVATE-TOKEN: p\r\nPRIVATE-TOKEN: p\r\nContent-Length: 0\r\n\r\n",
+    b"PUT /api/v4/projects/1/ci_file HTTP/1.1\r\nPRIVATE-TOKEN: p\r\nContent-Length: 2\r\n\r\na\xff",
+    b"PUT /api/v4/projects/1/variables/A HTTP/1.1\r\nPRIVATE-TOKEN: p\r\nPRIVATE-TOKEN: p\r\nContent-Length: 13\r\n\r\n{\"value\":\"v\"}",
+    b"PUT /api/v4/projects/1/variables/A HTTP/1.1\r\nPRIVATE-TOKEN: p\r\nContent-Length: 2\r\n\r\n{}",
+    b"PUT /api/v4/projects/1/variables/A HTTP/1.1\r\nPRIVATE-TOKEN: p\r\nContent-Length: 13\r\n\r\n{\"value\":\"\xff\"}",
+    b"POST /api/v4/projects/1/pipeline HTTP/1.1\r\nPRIVATE-TOKEN: p\r\nPRIVATE-TOKEN: p\r\nContent-Length: 11\r\n\r\n{\"ref\":\"m\"}",
+    b"POST /api/v4/projects/1/pipeline HTTP/1.1\r\nPRIVATE-TOKEN: p\r\nContent-Length: 2\r\n\r\n{}",
+    b"POST /api/v4/projects/1/pipeline HTTP/1.1\r\nPRIVATE-TOKEN: p\r\nContent-Length: 11\r\n\r\n{\"ref\":\"\xff\"}",
+    b"PUT /api/v4/jobs/7 HTTP/1.1\r\nContent-Length: 2\r\n\r\n[]",
+    b"POST /api/v4/jobs/request HTTP/1.1\r\nContent-Length: 11\r\n\r\n{\"token\":1}",
 ];
 
-#[test]
-fn updates(rt: HostRuntime) -> Result<(), Fail> {
-    for (body, wanted) in UPDATES {
-        let bytes = with_body(
-            rt.alloc(),
-            "PUT /api/v4/jobs/7?x HTTP/1.1\r\n",
-            body.as_bytes(),
-        )?;
-        assert!(&rt;
-            asked(rt.alloc(), &bytes)?.as_slice() == wanted.as_bytes(),
-            "{body}"
-        );
-    }
-    Ok(())
-}
-
-// Fields and bodies of PATCH `/api/v4/jobs/7/trace`, and what they ask for.
-const PARTS: &[(&str, &str, &str)] = &[
-    (
-        "JOB-TOKEN: t\r\nContent-Range: 5-9\r\n",
-        "world",
-        "append 7 t 5 world",
-    ),
-    ("content-RANGE: 0-0\r\n", "x", "append 7  0 x"),
-    (
-        "job-token: t\r\nContent-Range: 0000000000000005-0000000000000006\r\n",
-        "yz",
-        "append 7 t 5 yz",
-    ),
-    (
-        "job-token: t\r\nContent-Range: 9999999999999998-9999999999999999\r\n",
-        "yz",
-        "append 7 t 9999999999999998 yz",
-    ),
-];
-
-#[test]
-fn pieces_of_a_trace(rt: HostRuntime) -> Result<(), Fail> {
-    for (fields, body, wanted) in PARTS {
-        let front = format!(in rt.alloc(); "PATCH /api/v4/jobs/7/trace HTTP/1.1\r\n{fields}")?;
-        let bytes = with_body(rt.alloc(), front.as_str(), body.as_bytes())?;
-        assert!(&rt;
-            asked(rt.alloc(), &bytes)?.as_slice() == wanted.as_bytes(),
-            "{fields}"
-        );
-    }
-    Ok(())
-}
-
-const WRONG: &[u8] =
+const H7: &[u8] =
     b"HTTP/1.1 400 Bad Request\r\nContent-Type: application/json\r\nContent-Length: 13\r\nConnection: close\r\n\r\n{\"code\":\"H7\"}";
-
-const NOWHERE: &[u8] =
-    b"HTTP/1.1 404 Not Found\r\nContent-Type: application/json\r\nContent-Length: 13\r\nConnection: close\r\n\r\n{\"code\":\"H5\"}";
-
-// Bodies that PUT `/api/v4/jobs/7` doesn't take.
-const WRONG_UPDATES: &[&str] = &[
-    "",
-    "[]",
-    "{\"token\":\"t\"}",
-    "{\"token\":\"t\",\"state\":\"done\"}",
-    "{\"token\":\"t\",\"state\":\"Running\"}",
-    "{\"token\":\"t\",\"state\":null}",
-    "{\"token\":1,\"state\":\"running\"}",
-    "{\"state\":\"running\",\"failure_reason\":null}",
-    "{\"state\":\"failed\",\"failure_reason\":3}",
-    "{\"state\":\"running\",\"exit_code\":4294967296}",
-    "{\"state\":\"failed\",\"exit_code\":1e0}",
-    "{\"state\":\"failed\",\"exit_code\":1.0}",
-    "{\"state\":\"failed\",\"exit_code\":-1}",
-    "{\"state\":\"failed\",\"exit_code\":-0}",
-    "{\"state\":\"failed\",\"exit_code\":01}",
-    "{\"state\":\"failed\",\"exit_code\":\"1\"}",
-    "{\"state\":\"failed\",\"exit_code\":null}",
-];
-
-// Fields and bodies that PATCH `/api/v4/jobs/7/trace` doesn't take.
-const WRONG_PARTS: &[(&str, &str)] = &[
-    ("", "world"),
-    ("Content-Range: 10-9\r\n", ""),
-    ("Content-Range: 5-9\r\n", "worl"),
-    ("Content-Range: 5-9\r\n", "worlds"),
-    ("Content-Range: 9-5\r\n", "world"),
-    ("Content-Range: 00000000000000005-9\r\n", "world"),
-    ("Content-Range: 5-00000000000000009\r\n", "world"),
-    ("Content-Range: 5-\r\n", "world"),
-    ("Content-Range: -9\r\n", "world"),
-    ("Content-Range: 5\r\n", "world"),
-    ("Content-Range: 5-9-\r\n", "world"),
-    ("Content-Range: +5-9\r\n", "world"),
-    ("Content-Range: bytes 5-9\r\n", "world"),
-    ("Content-Range: 5-9\r\nCONTENT-range: 5-9\r\n", "world"),
-    (
-        "Content-Range: 5-9\r\nJOB-TOKEN: t\r\njob-token: t\r\n",
-        "world",
-    ),
-];
 
 #[test]
 fn wrong_bodies_and_fields(rt: HostRuntime) -> Result<(), Fail> {
-    for body in WRONG_UPDATES {
-        let bytes = with_body(
-            rt.alloc(),
-            "PUT /api/v4/jobs/7 HTTP/1.1\r\n",
-            body.as_bytes(),
-        )?;
-        assert!(&rt; asked(rt.alloc(), &bytes)?.as_slice() == WRONG, "{body}");
+    let paths = Paths::new(rt.alloc())?;
+    for bytes in WRONG {
+        let text = str::from_utf8(bytes).unwrap_or("bytes");
+        assert!(&rt; asked(rt.alloc(), &paths, bytes)?.as_slice() == H7, "{text}");
     }
-    for (fields, body) in WRONG_PARTS {
-        let front = format!(in rt.alloc(); "PATCH /api/v4/jobs/7/trace HTTP/1.1\r\n{fields}")?;
-        let bytes = with_body(rt.alloc(), front.as_str(), body.as_bytes())?;
-        assert!(&rt; asked(rt.alloc(), &bytes)?.as_slice() == WRONG, "{fields}");
-    }
-    let twice =
-        b"GET /api/v4/projects/1/jobs/2 HTTP/1.1\r\nPRIVATE-TOKEN: p\r\nprivate-token: p\r\n\r\n".as_slice();
-    assert!(&rt; asked(rt.alloc(), twice)?.as_slice() == WRONG);
     Ok(())
 }
 
-// Targets that name nothing.
-const NO_PLACES: &[&str] = &[
-    "/",
-    "*",
-    "/api/v4/jobs",
-    "/api/v4/jobs/",
-    "/api/v4/jobs/0",
-    "/api/v4/jobs/01",
-    "/api/v4/jobs/+1",
-    "/api/v4/jobs/1x",
-    "/api/v4/jobs/1/",
-    "/api/v4/jobs//1",
-    "/api/v4/jobs/9007199254740992",
-    "/api/v4/jobs/18446744073709551617",
-    "/api/v4/jobs/requests",
-    "/api/v4/jobs/request/trace",
-    "/api/v4/jobs/trace",
-    "/api/v4/jobs//trace",
-    "/api/v4/jobs/01/trace",
-    "/api/v4/jobs/1/trace/",
-    "/api/v4/jobs/1/traces",
-    "/api/v4/jobs/1%3F",
-    "/API/v4/jobs/1",
-    "/api/v4/projects/1",
-    "/api/v4/projects/1/jobs",
-    "/api/v4/projects/1/jobs/",
-    "/api/v4/projects/01/jobs/1",
-    "/api/v4/projects/1/jobs/01",
-    "/api/v4/projects/0/jobs/1",
-    "/api/v4/projects/9007199254740992/jobs/1/trace",
-    "/api/v4/projects/1/jobs/9007199254740992",
-    "/api/v4/projects//jobs/1",
-    "/api/v4/projects/1/jobs/request",
-    "/api/v4/projects/1/jobs/1/2",
-    "/api/v4/projects/1/2/jobs/1",
-    "/api/v4/projects/1?/jobs/1",
-    "x/api/v4/jobs/1",
+// Requests whose path has no route.
+const NOWHERE: &[&[u8]] = &[
+    b"PUT /api/v4/jobs/01 HTTP/1.1\r\nContent-Length: 0\r\n\r\n",
+    b"PUT /api/v4/jobs/9007199254740992 HTTP/1.1\r\nContent-Length: 0\r\n\r\n",
+    b"GET /api/v4/projects/1?/jobs/1 HTTP/1.1\r\n\r\n",
+    b"GET /api/v4/projects/1/jobs/2/ HTTP/1.1\r\n\r\n",
+    b"GET /api/v4/projects/1/jobs/%32 HTTP/1.1\r\n\r\n",
+    b"DELETE /api/v4/projects/1/variables/ HTTP/1.1\r\n\r\n",
+    b"GET * HTTP/1.1\r\n\r\n",
+    b"GET x/api/v4/projects/1/jobs/2 HTTP/1.1\r\n\r\n",
 ];
 
+const H5: &[u8] =
+    b"HTTP/1.1 404 Not Found\r\nContent-Type: application/json\r\nContent-Length: 13\r\nConnection: close\r\n\r\n{\"code\":\"H5\"}";
+
 #[test]
-fn paths_that_name_nothing(rt: HostRuntime) -> Result<(), Fail> {
-    for target in NO_PLACES {
-        let front = format!(in rt.alloc(); "PUT {target} HTTP/1.1\r\n")?;
-        let bytes = with_body(rt.alloc(), front.as_str(), b"")?;
-        assert!(&rt;
-            asked(rt.alloc(), &bytes)?.as_slice() == NOWHERE,
-            "{target}"
-        );
+fn paths_without_a_route(rt: HostRuntime) -> Result<(), Fail> {
+    let paths = Paths::new(rt.alloc())?;
+    for bytes in NOWHERE {
+        let text = str::from_utf8(bytes).unwrap_or("bytes");
+        assert!(&rt; asked(rt.alloc(), &paths, bytes)?.as_slice() == H5, "{text}");
     }
     Ok(())
 }
 
-// Methods that a path doesn't have, and the one that it has.
+// Requests with a method that their path doesn't have, and those that it has.
 const OTHER_METHODS: &[(&str, &str)] = &[
-    ("PUT /api/v4/jobs/request", "POST"),
-    ("GET /api/v4/jobs/request?x", "POST"),
-    ("DELETE /api/v4/jobs/1", "PUT"),
+    ("GET /api/v4/jobs/request", "POST"),
+    ("GET /api/v4/projects/1/variables/A", "DELETE, PUT"),
+    ("DELETE /api/v4/jobs/1?x", "PUT"),
     ("put /api/v4/jobs/1", "PUT"),
-    ("PUT /api/v4/jobs/1/trace", "PATCH"),
     ("HEAD /api/v4/jobs/9007199254740991/trace", "PATCH"),
     ("HEAD /api/v4/projects/1/jobs/2", "GET"),
-    ("POST /api/v4/projects/1/jobs/2/trace", "GET"),
+    ("GET /api/v4/projects/1/jobs/2/play", "POST"),
 ];
 
 #[test]
 fn methods_that_a_path_lacks(rt: HostRuntime) -> Result<(), Fail> {
+    let paths = Paths::new(rt.alloc())?;
     for (line, methods) in OTHER_METHODS {
-        let front = format!(in rt.alloc(); "{line} HTTP/1.1\r\n")?;
-        let bytes = with_body(rt.alloc(), front.as_str(), b"")?;
+        let bytes = format!(in rt.alloc(); "{line} HTTP/1.1\r\n\r\n")?;
         let wanted = format!(in rt.alloc();
             "HTTP/1.1 405 Method Not Allowed\r\nAllow: {methods}\r\nContent-Type: application/json\r\nContent-Length: 13\r\nConnection: close\r\n\r\n{{\"code\":\"H6\"}}"
         )?;
         assert!(&rt;
-            asked(rt.alloc(), &bytes)?.as_slice() == wanted.as_bytes(),
+            asked(rt.alloc(), &paths, bytes.as_bytes())?.as_slice() == wanted.as_bytes(),
             "{line}"
         );
+    }
+    Ok(())
+}
+
+// Requests, the code that refuses each, if any, and whether memory is asked for.
+const ROWS: &[(&[u8], Option<Code>, bool)] = &[
+    (
+        b"POST /api/v4/jobs/request HTTP/1.1\r\nContent-Length: 16\r\n\r\n{\"token\":\"nope\"}",
+        None,
+        true,
+    ),
+    (
+        b"PATCH /api/v4/jobs/7/trace HTTP/1.1\r\nJOB-TOKEN: j\r\nContent-Range: 0-1\r\nContent-Length: 2\r\n\r\nab",
+        None,
+        true,
+    ),
+    (
+        b"GET /api/v4/projects/1/jobs/2 HTTP/1.1\r\nPRIVATE-TOKEN: p1-ab\r\n\r\n",
+        None,
+        true,
+    ),
+    (
+        b"PUT /api/v4/projects/1/variables/A HTTP/1.1\r\nPRIVATE-TOKEN: p1-ab\r\nContent-Length: 13\r\n\r\n{\"value\":\"v\"}",
+        None,
+        true,
+    ),
+    (
+        b"POST /api/v4/jobs/request HTTP/1.1\r\nContent-Length: 8\r\n\r\n[\"nope\"]",
+        Some(Code::H7),
+        true,
+    ),
+    (
+        b"POST /api/v4/jobs/request HTTP/1.1\r\nContent-Length: 0\r\n\r\n",
+        Some(Code::H7),
+        false,
+    ),
+    (
+        b"GET /api/v4/projects/1/jobs/2 HTTP/1.1\r\nPRIVATE-TOKEN: p\r\nPRIVATE-TOKEN: p\r\n\r\n",
+        Some(Code::H7),
+        false,
+    ),
+    (b"GET /api/v4/jobs/0 HTTP/1.1\r\n\r\n", Some(Code::H5), false),
+    (
+        b"GET /api/v4/jobs/request HTTP/1.1\r\n\r\n",
+        Some(Code::H6),
+        false,
+    ),
+    (b"GET / HTTP/2.0\r\n\r\n", Some(Code::H1), false),
+    (b"POST /nowhere HTTP/1.1\r\n\r\n", Some(Code::H3), false),
+    (
+        b"GET / HTTP/1.1\r\nContent-Length: 65537\r\n\r\n",
+        Some(Code::H4),
+        false,
+    ),
+    (
+        b"PUT / HTTP/1.1\r\nTransfer-Encoding: chunked\r\n\r\n",
+        Some(Code::H8),
+        false,
+    ),
+];
+
+// The code that refuses the bytes, if any.
+fn code_over<L: Ledger>(alloc: Global, paths: &Paths, bytes: &[u8], blank: Blank) -> Option<Code>
+    requires { OpensWhole blank.name blank.parts L.name L.parts }
+{
+    let mut reader = Link::<&[u8], L>::new(bytes, blank);
+    match read_request(alloc, &mut reader) {
+        Ok(call) => match request_of(alloc, paths, &call) {
+            Ok(_) => None,
+            Err(reply) => reply.code,
+        },
+        Err(HttpFault::Refused(code)) => Some(code),
+        Err(_) => Some(Code::M16),
+    }
+}
+
+fn code_of(alloc: Global, paths: &Paths, bytes: &[u8]) -> Option<Code> {
+    code_over::<Brand>(alloc, paths, bytes, Blank::new(1))
+}
+
+// Once the paths are built, nothing but the reading of requests asks for memory here. Where one
+// allocation is refused, whichever it is (`rt try --test --fail-alloc N`), one answer at most is M16,
+// of a request that asks for memory, and all others are as ever.
+#[test]
+fn want_of_memory_is_told_once(rt: HostRuntime) -> Result<(), Fail> {
+    let paths = Paths::new(rt.alloc())?;
+    let mut lacked = false;
+    for (bytes, code, asks) in ROWS {
+        for _ in 0..2 {
+            let found = code_of(rt.alloc(), &paths, bytes);
+            if *asks && found == Some(Code::M16) {
+                assert!(&rt; !lacked);
+                lacked = true;
+            } else {
+                assert!(&rt; found == *code);
+            }
+        }
     }
     Ok(())
 }

@@ -1,4 +1,3 @@
-pub mod Serving
 pub mod Holding
 pub mod Handling
 pub mod Server

@@ -1,10 +1,7 @@
-//! The server: requests over the tables, served from bytes to bytes.
+//! The server: requests and sweeps over the tables.
 #![tactic(auto)]
 
 mod events;
 mod fail_stop;
 pub mod lifetime;
-pub mod serve;
 pub mod server;
-
-pub use ci_http::link;

@@ -15,7 +15,6 @@ ghost use Rattle.ci_server.specs.Server.{Handles, HandlesEach, Creates, Opens, c
 ghost use Rattle.ci_server.specs.Runs.{Runs};
 
 use crate::fail_stop::FailStop;
-use crate::serve::Handler;
 use ci_machine::laws::{a_step_is_answered, laws_of_each_reached_state};
 use ci_machine::moment::Moment;
 use ci_machine::reply::{Answer, Reply, Swept};
@@ -162,17 +161,5 @@ impl<S: Alter> Server<S> {
         laws_of_each_reached_state();
         a_step_is_answered();
         self.inner.run(alloc, calls)
-    }
-}
-
-impl<S: Alter> Handler for Server<S> {
-    ghost use Rattle.ci_machine.specs.declared.reply.Answer.TheVariants as answer;
-    ghost use Rattle.ci_machine.specs.declared.request.Event.TheVariants as event;
-    ghost use Rattle.ci_server.specs.Server.{Handles};
-
-    ghost handles = { λ old request moment seed new reply. Handles S.Store old (event.Request request, moment, seed) new (answer.Reply reply) };
-
-    fn handle(&mut self, alloc: Global, request: Request, moment: Moment, seed: Seed) -> Reply {
-        self.handle(alloc, request, moment, seed)
     }
 }

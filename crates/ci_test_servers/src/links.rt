@@ -3,9 +3,10 @@
 ghost use Rattle.std.specs.Prelude.{◌≡◌, ◌<◌};
 
 use crate::acts::SEED;
+use ci_http::link::Link;
+use ci_http::serve::{Served, serve_one};
 use ci_machine::moment::Moment;
-use ci_server::link::Link;
-use ci_server::serve::{Served, serve_one};
+use ci_routes::paths::Paths;
 use ci_server::server::Server;
 use ci_store::Alter;
 use std::alloc::Global;
@@ -16,6 +17,7 @@ use std::sync::ledger::{Blank, Ledger};
 fn serve<S: Alter, A: Ledger, B: Ledger>(
     alloc: Global,
     server: &mut Server<S>,
+    paths: &Paths,
     moment: Moment,
     bytes: &[u8],
     room: Vec<u8>,
@@ -31,7 +33,7 @@ fn serve<S: Alter, A: Ledger, B: Ledger>(
 {
     let mut reader = Link::<&[u8], A>::new(bytes, reads);
     let mut writer = Link::<Vec<u8>, B>::new(room, writes);
-    match serve_one(alloc, &mut reader, &mut writer, server, moment, SEED) {
+    match serve_one(alloc, &mut reader, &mut writer, server, paths, moment, SEED) {
         Served::Replied => Some(writer.into_inner()),
         _ => None,
     }
@@ -41,10 +43,11 @@ fn serve<S: Alter, A: Ledger, B: Ledger>(
 pub fn reply_to<S: Alter>(
     alloc: Global,
     server: &mut Server<S>,
+    paths: &Paths,
     moment: Moment,
     bytes: &[u8],
     room: Vec<u8>,
 ) -> Option<Vec<u8>> {
     let (reads, writes) = (Blank::new(1), Blank::new(1));
-    serve::<S, Brand, Brand>(alloc, server, moment, bytes, room, reads, writes)
+    serve::<S, Brand, Brand>(alloc, server, paths, moment, bytes, room, reads, writes)
 }

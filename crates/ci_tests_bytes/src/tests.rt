@@ -1,5 +1,6 @@
 //! A runner's path over bytes: what it sends, and what it gets back.
 
+use ci_routes::paths::Paths;
 use ci_server::server::Server;
 use ci_store::Alter;
 use ci_test_servers::acts::{PATH, at};
@@ -15,9 +16,11 @@ pub(crate) fn answer<S: Alter>(
     seconds: u64,
     request: &str,
 ) -> Result<Vec<u8>, Fail> {
+    let paths = Paths::new(alloc)?;
     let reply = reply_to(
         alloc,
         server,
+        &paths,
         at(seconds)?,
         request.as_bytes(),
         Vec::new(alloc),

@@ -1,0 +1,16 @@
+use Rattle.std.proofs.Common.{refl, ap, ◌∙◌, inl, inr}
+use Rattle.std.specs.Prelude.{Err}
+use Rattle.ci_machine.specs.Reply.{refusal}
+use Rattle.ci_http.specs.Reading.{request, refused}
+use Rattle.ci_http.proofs.Readings.{tells_map}
+use Rattle.ci_http.specs.Serving.{ReadsByMemory}
+use Rattle.ci_http.proofs.serve.reply_to.Goals as goal
+
+pub returns-in-Ok-clause-reply : goal.returns-in-Ok-clause-reply
+returns-in-Ok-clause-reply g c =
+    elim c.answer.ensures [ inl (lacks, asks) ↦ inl (lacks, tells_map _ ReadsByMemory _ _ (λ b r is. inr (c.in-Ok.call, is, asks)) c.in-Ok.ensures.call) | inr answers ↦ inr (request c.in-Ok.call, answers, c.in-Ok.ensures.call) ]
+
+pub returns-in-Err-Refused-clause-reply : goal.returns-in-Err-Refused-clause-reply
+returns-in-Err-Refused-clause-reply g c =
+    let fault = c.in-Err-Refused in
+    inr (refused fault.why, (refl, c.refusal.ensures ∙ ap refusal fault.why-is), c.read_request.ensures.refused fault.why (fault.is ∙ ap Err fault.field-0-is))

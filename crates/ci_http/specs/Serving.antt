@@ -1,0 +1,49 @@
+-- What becomes of one request: the reply, and the server before and after it.
+use Rattle.std.specs.Prelude.{◌≡◌, ◌⊎◌, ℕ, List, ◌++◌, Option, Result, Ok, Err}
+use Rattle.std.specs.Io.KnownBytes.{Appends}
+use Rattle.sqlite.specs.Store.{Ghosts}
+use Rattle.sqlite.specs.Held.{Held}
+use Rattle.ci_machine.specs.declared.reply.Answer.TheVariants as answer
+use Rattle.ci_machine.specs.declared.reply.Code.TheVariants.{M16}
+use Rattle.ci_machine.specs.declared.reply.Reply.{Reply}
+use Rattle.ci_machine.specs.declared.request.Event.TheVariants as event
+use Rattle.ci_machine.specs.declared.request.Request.{Request}
+use Rattle.ci_machine.specs.declared.request.Seed.{Seed}
+use Rattle.ci_machine.specs.Reply.{refusal}
+use Rattle.ci_server.specs.declared.fail_stop.FailStop.{FailStop}
+use Rattle.ci_server.specs.Server.{Handles}
+use Rattle.ci_http.specs.Reading.{Message, Reading, ended, refused, request, IsReading, AwaitsBody}
+use Rattle.ci_http.specs.RequestBytes.{request_in, AsksMemory}
+use Rattle.ci_http.specs.Sources.{Tells}
+
+-- memory is asked for while such bytes are read: their head is whole and says that a body follows, which is what is left; or they
+-- begin with a request, and its meaning takes memory
+abbrev pub ReadsByMemory : List ℕ → List ℕ → Type 0
+ReadsByMemory bytes rest = AwaitsBody bytes rest ⊎ ((m : Message) × IsReading bytes (request m) rest × AsksMemory m)
+
+module _ {S : Type 0} (g : Ghosts S) (moment : ℕ) (seed : Seed) (old new : FailStop (Held S)) (reply : Reply) where
+  -- a request is handled once, and the reply is the server's; where there is none, nothing is handled, and the reply is the one that refuses it
+  abbrev pub AnswersAsked : Result Request Reply → Type 0
+  AnswersAsked (Ok asked) = Handles g old (event.Request asked, moment, seed) new (answer.Reply reply)
+  AnswersAsked (Err why) = (new ≡ old) × (reply ≡ why)
+
+  -- the reply is that to what was read
+  abbrev pub Answers : Reading → Type 0
+  Answers ended = ⊥
+  Answers (refused why) = (new ≡ old) × (reply ≡ refusal why)
+  Answers (request m) = AnswersAsked (request_in m)
+
+  -- memory was refused before anything was handled
+  abbrev pub LacksMemory : Type 0
+  LacksMemory = (new ≡ old) × (reply ≡ refusal M16)
+
+  -- the reply is that to some reading, which is the one of the bytes where the reader tells them: one step at most; or memory was
+  -- refused, and then the bytes, where the reader tells them, are of those that ask for it
+  abbrev pub Serves : Option (List ℕ) → Option (List ℕ) → Type 0
+  Serves had left =
+      (LacksMemory × Tells had left ReadsByMemory)
+      ⊎ ((reading : Reading) × Answers reading × Tells had left (λ bytes rest. IsReading bytes reading rest))
+
+-- a beginning of the text was written, and nothing else
+abbrev pub WritesFront : Option (List ℕ) → Option (List ℕ) → List ℕ → Type 0
+WritesFront old new text = (front : List ℕ) × (back : List ℕ) × (text ≡ front ++ back) × Appends old new front

@@ -1,0 +1,198 @@
+//! One request, from the bytes that come in to the bytes that go out.
+
+ghost use Rattle.std.specs.Prelude.{◌≡◌, ◌<◌, ◌+◌, ◌++◌, ◌⊎◌, length, Err, IfOk, IfSome, IfNone, OnOk, OnErr};
+ghost use Rattle.std.specs.Io.KnownBytes.{Appends};
+ghost use Rattle.ci_machine.specs.declared.reply.Reply.{Reply};
+ghost use Rattle.ci_http.specs.Reading.{ended, IsReading};
+ghost use Rattle.ci_http.specs.ReplyText.{reply_text};
+ghost use Rattle.ci_http.specs.RequestBytes.{request_in, AsksMemory};
+ghost use Rattle.ci_http.specs.Serving.{AnswersAsked, LacksMemory, Serves, WritesFront};
+ghost use Rattle.ci_http.specs.Sources.{Tells, TakesFront, Fails};
+ghost use Rattle.ci_http.specs.declared.limits.TheConstants.{MAX_JOINED_BYTES};
+
+use crate::call::{Call, read_request};
+use crate::fault::HttpFault;
+use crate::limits::MAX_JOINED_BYTES;
+use crate::link::{Failed, Sink, Source};
+use crate::route::request_of;
+use crate::text::reply_bytes;
+use arrayvec::ArrayVec;
+use ci_machine::moment::Moment;
+use ci_machine::reply::{Code, Reply};
+use ci_machine::request::Seed;
+use ci_routes::paths::Paths;
+use ci_server::server::Server;
+use ci_store::Alter;
+use std::alloc::Global;
+
+/// What became of one request.
+#[derive(Clone, Copy, Drop, PartialEq, Eq)]
+pub enum Served {
+    /// A reply was written.
+    Replied,
+    /// The bytes ended before the request did: nothing was handled or written.
+    Ended,
+    /// A call of the reader failed: nothing was handled or written.
+    ReadFailed,
+    /// A call of the writer failed: a beginning of the reply was written, and what the request
+    /// did stands.
+    WriteFailed,
+}
+
+/// Serves one request: reads it, has the server handle it at most once, at this moment and with this
+/// seed, and writes the reply. Nothing is tried again.
+///
+/// `paths` has the table of routes; it is built once and lent to each call. A reply whose head and
+/// body have room in 4,096 bytes together is handed to the writer as one text. Nothing is
+/// allocated after the request was handled.
+pub fn serve_one<R: Source, W: Sink, S: Alter>(
+    alloc: Global,
+    reader: &mut R,
+    writer: &mut W,
+    server: &mut Server<S>,
+    paths: &Paths,
+    moment: Moment,
+    seed: Seed,
+) -> Served
+    // The bytes written are those of the reply to what was read.
+    ensures replied { result ≡ Served.Replied → (reply : Reply)
+        × Serves S.Store moment seed server.old server.new reply (R.left reader.old) (R.left reader.new)
+        × Appends (W.written writer.old) (W.written writer.new) (reply_text reply) }
+    // A beginning of these was written, and the step stands.
+    ensures write_failed { result ≡ Served.WriteFailed → (reply : Reply)
+        × Serves S.Store moment seed server.old server.new reply (R.left reader.old) (R.left reader.new)
+        × WritesFront (W.written writer.old) (W.written writer.new) (reply_text reply) }
+    // Nothing was handled and nothing written.
+    ensures ended { result ≡ Served.Ended → (server.new ≡ server.old) × (writer.new ≡ writer.old)
+        × Tells (R.left reader.old) (R.left reader.new) (λ bytes rest. IsReading bytes ended rest) }
+    ensures read_failed { result ≡ Served.ReadFailed → (server.new ≡ server.old) × (writer.new ≡ writer.old) }
+    // In any case a beginning of the reader's bytes was taken, and no others.
+    ensures took { TakesFront (R.left reader.old) (R.left reader.new) }
+    // The answer tells of each call of the reader or the writer that failed, and of no other.
+    ensures reads { Fails result Served.ReadFailed (R.failures reader.old) (R.failures reader.new) }
+    ensures writes { Fails result Served.WriteFailed (W.failures writer.old) (W.failures writer.new) }
+{
+    match reply_to(alloc, reader, server, paths, moment, seed) {
+        Ok(reply) => match send(writer, &reply) {
+            Ok(()) => Served::Replied,
+            Err(_) => Served::WriteFailed,
+        },
+        Err(Unread::Ended) => Served::Ended,
+        Err(Unread::Failed) => Served::ReadFailed,
+    }
+}
+
+// Why there is no reply.
+#[derive(Drop)]
+enum Unread {
+    Ended,
+    Failed,
+}
+
+// The reply to what the reader gives.
+fn reply_to<R: Source, S: Alter>(
+    alloc: Global,
+    reader: &mut R,
+    server: &mut Server<S>,
+    paths: &Paths,
+    moment: Moment,
+    seed: Seed,
+) -> Result<Reply, Unread>
+    ensures reply { IfOk result (λ reply.
+        Serves S.Store moment seed server.old server.new reply (R.left reader.old) (R.left reader.new)) }
+    ensures none { OnErr result (server.new ≡ server.old) }
+    ensures ended { result ≡ Err Unread.Ended → Tells (R.left reader.old) (R.left reader.new)
+        (λ bytes rest. IsReading bytes ended rest) }
+    ensures took { TakesFront (R.left reader.old) (R.left reader.new) }
+    ensures failed { Fails result (Err Unread.Failed) (R.failures reader.old) (R.failures reader.new) }
+{
+    match read_request(alloc, reader) {
+        Ok(call) => Ok(answer(alloc, &call, server, paths, moment, seed)),
+        Err(HttpFault::Refused(why)) => Ok(Reply::refusal(why)),
+        Err(HttpFault::Memory) => Ok(Reply::refusal(Code::M16)),
+        Err(HttpFault::Ended) => Err(Unread::Ended),
+        Err(HttpFault::ReadFailed) => Err(Unread::Failed),
+    }
+}
+
+// The reply to a call.
+fn answer<S: Alter>(
+    alloc: Global,
+    call: &Call,
+    server: &mut Server<S>,
+    paths: &Paths,
+    moment: Moment,
+    seed: Seed,
+) -> Reply
+    ensures { (LacksMemory S.Store moment seed server.old server.new result × AsksMemory call.now)
+        ⊎ AnswersAsked S.Store moment seed server.old server.new result (request_in call.now) }
+{
+    match request_of(alloc, paths, call) {
+        Ok(request) => server.handle(alloc, request, moment, seed),
+        Err(reply) => reply,
+    }
+}
+
+// Writes a reply. Errors: a call of the writer failed, and a beginning was written.
+fn send<W: Sink>(writer: &mut W, reply: &Reply) -> Result<(), Failed>
+    ensures ok { OnOk result (Appends (W.written writer.old) (W.written writer.new) (reply_text reply.now)) }
+    ensures err { OnErr result (WritesFront (W.written writer.old) (W.written writer.new) (reply_text reply.now)) }
+    ensures none_failed { OnOk result (W.failures writer.new ≡ W.failures writer.old) }
+    ensures failed { OnErr result (W.failures writer.new ≡ W.failures writer.old + 1) }
+{
+    let text = reply_bytes(reply);
+    put_both(writer, text.head.as_slice(), text.body)
+}
+
+// Writes the head and the body, as one text if there is room for both. Errors: a call of the writer
+// failed, and a beginning was written.
+fn put_both<W: Sink>(writer: &mut W, head: &[u8], body: &[u8]) -> Result<(), Failed>
+    ensures ok { OnOk result (Appends (W.written writer.old) (W.written writer.new) (head.now ++ body.now)) }
+    ensures err { OnErr result (WritesFront (W.written writer.old) (W.written writer.new) (head.now ++ body.now)) }
+    ensures none_failed { OnOk result (W.failures writer.new ≡ W.failures writer.old) }
+    ensures failed { OnErr result (W.failures writer.new ≡ W.failures writer.old + 1) }
+{
+    match joined(head, body) {
+        Some(whole) => put_all(writer, whole.as_slice()),
+        None => put_each(writer, head, body),
+    }
+}
+
+// The head and the body as one text, if there is room for both.
+fn joined(head: &[u8], body: &[u8]) -> Option<ArrayVec<u8, MAX_JOINED_BYTES>>
+    ensures whole { IfSome result (λ whole. whole.items ≡ head.now ++ body.now) }
+    ensures room { IfNone result (MAX_JOINED_BYTES < length head.now + length body.now) }
+{
+    let mut whole = ArrayVec::new();
+    whole.try_extend_from_slice(head).ok()?;
+    whole.try_extend_from_slice(body).ok()?;
+    Some(whole)
+}
+
+// Writes the head, and then the body. Errors: a call of the writer failed, and a beginning was written.
+fn put_each<W: Sink>(writer: &mut W, head: &[u8], body: &[u8]) -> Result<(), Failed>
+    ensures ok { OnOk result (Appends (W.written writer.old) (W.written writer.new) (head.now ++ body.now)) }
+    ensures err { OnErr result (WritesFront (W.written writer.old) (W.written writer.new) (head.now ++ body.now)) }
+    ensures none_failed { OnOk result (W.failures writer.new ≡ W.failures writer.old) }
+    ensures failed { OnErr result (W.failures writer.new ≡ W.failures writer.old + 1) }
+{
+    match put_all(writer, head) {
+        Ok(()) => put_all(writer, body),
+        Err(e) => Err(e),
+    }
+}
+
+// Writes all the bytes. Errors: a call of the writer failed, and a beginning was written.
+fn put_all<W: Sink>(writer: &mut W, bytes: &[u8]) -> Result<(), Failed>
+    ensures ok { OnOk result (Appends (W.written writer.old) (W.written writer.new) bytes.now) }
+    ensures err { OnErr result (WritesFront (W.written writer.old) (W.written writer.new) bytes.now) }
+    ensures none_failed { OnOk result (W.failures writer.new ≡ W.failures writer.old) }
+    ensures failed { OnErr result (W.failures writer.new ≡ W.failures writer.old + 1) }
+{
+    let mut rest = bytes;
+    while !rest.is_empty() {
+        let count = writer.put(rest)?;
+        rest = &rest[count..];
+    }
+    Ok(())
+}

@@ -1,0 +1,5 @@
+//! Numbers that a request writes in digits.
+#![tactic(auto)]
+
+pub mod laws;
+pub mod number;

@@ -1,0 +1,6 @@
+pub mod Refusals
+pub mod Json
+pub mod Texts
+pub mod Updates
+pub mod Creations
+pub mod Ranges

@@ -1,0 +1,19 @@
+//! The program `ciserver`: its command line, its files, and its socket.
+//!
+//! What the process has, its words, clock, source of seeds, input and outputs, is handed to `command`.
+#![tactic(auto)]
+
+mod act;
+mod commands;
+mod demo;
+mod file;
+mod line;
+mod served;
+pub mod serving;
+mod sources;
+mod stream;
+mod task;
+mod words;
+
+pub use commands::{command, refuse_memory};
+pub use sources::Sources;

@@ -1,0 +1,108 @@
+//! Connections, served one after the other.
+
+ghost use Rattle.std.specs.Prelude.{◌↔◌, IsTrue};
+ghost use Rattle.ci_program.specs.Sweeping.{DidSomething, SweepsUpTo};
+
+use crate::line::Line;
+use crate::served::serve;
+use crate::sources::{Sources, Stamp};
+use crate::stream::{Hasty, end_reply};
+use ci_http::serve::Served;
+use ci_machine::moment::Moment;
+use ci_machine::reply::Swept;
+use ci_routes::paths::Paths;
+use ci_server::server::Server;
+use ci_store::Alter;
+use std::alloc::Global;
+use std::io::BufReader;
+use std::net::{TcpListener, TcpStream};
+use std::random::RandomSource;
+use std::time::{Clock, Duration};
+
+/// How many sweeps come before a request, at most.
+const MAX_SWEEPS: u32 = 1_000;
+
+/// Serves so many connections of a listener, one after the other: of each one request. Before it, leases that are over are
+/// ended and redundant pipelines cancelled, at the moment of the connection.
+///
+/// A connection that isn't accepted, one that ends before its request does, and one on which a call fails or `patience` is over,
+/// each count as one. A whole request must come within that time, and a whole reply be taken within it again. From the first
+/// fault of the store on each request is answered M17.
+///
+/// Errors: the line that says why a connection has no moment or no seed. Those that are left are not served.
+pub fn serve_connections<C: Clock, R: RandomSource, S: Alter>(
+    alloc: Global,
+    listener: &TcpListener,
+    server: &mut Server<S>,
+    paths: &Paths,
+    sources: &Sources<'_, C, R>,
+    patience: Duration,
+    requests: u32,
+) -> Result<(), Line> {
+    for _ in 0..requests {
+        if let Ok((stream, _)) = listener.accept() {
+            attend(alloc, &stream, server, paths, sources, patience)?;
+        }
+    }
+    Ok(())
+}
+
+/// Serves the one request of a connection, after sweeping.
+fn attend<C: Clock, R: RandomSource, S: Alter>(
+    alloc: Global,
+    stream: &TcpStream,
+    server: &mut Server<S>,
+    paths: &Paths,
+    sources: &Sources<'_, C, R>,
+    patience: Duration,
+) -> Result<(), Line> {
+    let stamp = sources.stamp()?;
+    sweep_all(alloc, server, stamp.moment);
+    let served = serve_stream(alloc, stream, server, paths, sources.clock, patience, stamp);
+    if served == Served::Replied {
+        end_reply(stream, sources.clock);
+    }
+    Ok(())
+}
+
+/// Sweeps until a sweep finds nothing or is refused, but no more than a thousand times.
+pub fn sweep_all<S: Alter>(alloc: Global, server: &mut Server<S>, moment: Moment)
+    ensures { SweepsUpTo S.Store moment MAX_SWEEPS server.old server.new }
+{
+    for _ in 0..MAX_SWEEPS {
+        let swept = server.sweep(alloc, moment);
+        if !did_something(swept) {
+            return;
+        }
+    }
+}
+
+/// Did a sweep end a lease or cancel a pipeline?
+fn did_something(swept: Swept) -> bool
+    ensures { IsTrue result ↔ DidSomething swept }
+{
+    match swept {
+        Swept::Ended(_, _) | Swept::Cancelled(_) => true,
+        Swept::Nothing | Swept::Refused(_) => false,
+    }
+}
+
+/// Serves the one request of a stream. Where memory for a buffer is refused, it is read without one.
+fn serve_stream<C: Clock, S: Alter>(
+    alloc: Global,
+    stream: &TcpStream,
+    server: &mut Server<S>,
+    paths: &Paths,
+    clock: &C,
+    patience: Duration,
+    stamp: Stamp,
+) -> Served {
+    let writer = Hasty::new(stream, clock, patience);
+    match BufReader::new(alloc, Hasty::new(stream, clock, patience)) {
+        Ok(reader) => serve(alloc, reader, writer, server, paths, stamp),
+        Err(_) => {
+            let reader = Hasty::new(stream, clock, patience);
+            serve(alloc, reader, writer, server, paths, stamp)
+        }
+    }
+}

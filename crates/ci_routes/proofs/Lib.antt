@@ -1,0 +1,12 @@
+pub mod Walks
+pub mod Firsts
+pub mod Splits
+pub mod Takes
+pub mod Texts
+pub mod Slots
+pub mod Named
+pub mod Table
+pub mod Fitting
+pub mod Groups
+pub mod Orders
+pub mod Spelling
