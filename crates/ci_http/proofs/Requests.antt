@@ -1,23 +1,27 @@
 -- What an operation makes of a message by the table of routes is what the functions that read its parts make.
-use Rattle.std.proofs.Common.{◌≡◌, ℕ, List, [], ◌∷◌, length, map, refl, sym, subst}
-use Rattle.std.specs.Prelude.{Option, Some, None, IsSome, option_map, option_and_then, codes}
+use Rattle.std.proofs.Common.{◌≡◌, ℕ, List, [], ◌∷◌, length, map, refl, sym, ap, ◌∙◌, subst, inl, inr}
+use Rattle.std.specs.Prelude.{◌⊎◌, Option, Some, None, IsSome, option_map, option_and_then, ok_or, Ok, Err, codes}
 use Rattle.serde_json.specs.Data.{Data}
 use Rattle.serde_json.specs.Find.{get}
 use Rattle.ci_machine.specs.declared.request.Request.{Request}
 use Rattle.ci_machine.specs.declared.request.Request.TheVariants.{AskJob, UpdateJob, AppendTrace, SetFile, SetVariable, DeleteVariable, CreatePipeline, ShowPipeline, CancelPipeline, ShowJob, ShowTrace, Play, CancelJob, RetryJob}
-use Rattle.ci_machine.specs.declared.request.TracePart.{TracePart}
-use Rattle.ci_machine.specs.declared.request.NewVariable.{NewVariable}
+use Rattle.ci_machine.specs.declared.reply.Code.{Code}
+use Rattle.ci_machine.specs.declared.reply.Code.TheVariants.{M16, H7}
+use Rattle.ci_machine.specs.Reply.{refusal}
 use Rattle.ci_routes.specs.Answers.{body_of, wanted}
+use Rattle.ci_routes.specs.Routes.{asks}
 use Rattle.ci_routes.specs.declared.operation.Operation.{Operation}
 use Rattle.ci_routes.specs.declared.operation.Operation.TheVariants as operation
-use Rattle.ci_payloads.specs.Json.{MayBeJson, object_in}
+use Rattle.ci_payloads.specs.Json.{object_in}
+use Rattle.ci_payloads.specs.Refusals.{IsWhyNot}
 use Rattle.ci_payloads.specs.Texts.{token_of, value_of, file_in}
 use Rattle.ci_payloads.specs.Updates.{update_of}
 use Rattle.ci_payloads.specs.Creations.{creation_of}
 use Rattle.ci_payloads.specs.Ranges.{start_in}
 use Rattle.ci_http.specs.Parts.{project_field, request_at, AsksMemoryAt}
 use Rattle.ci_http.specs.Reading.{Message}
-use Rattle.ci_http.specs.RequestBytes.{Payload, nothing, content, members, field_in, text_or_empty, requested, request_by, AsksMemoryBy}
+use Rattle.ci_http.specs.RequestBytes.{Payload, nothing, content, members, field_in, text_or_empty, requested, request_by, asked_at, request_as, request_in, AsksMemoryBy, AsksMemory}
+use Rattle.ci_http.specs.Targets.{path_of}
 
 map-map : {A B C : Type 0} (f : A → B) (g : B → C) (o : Option A) → option_map (λ a. g (f a)) o ≡ option_map g (option_map f o)
 map-map f g None = refl
@@ -132,3 +136,19 @@ asks_by_parts (operation.ShowTrace id n) m h = whole (operation.ShowTrace id n) 
 asks_by_parts (operation.Play id n) m h = whole (operation.Play id n) m Play _ refl h
 asks_by_parts (operation.CancelJob id n) m h = whole (operation.CancelJob id n) m CancelJob _ refl h
 asks_by_parts (operation.RetryJob id n) m h = whole (operation.RetryJob id n) m RetryJob _ refl h
+
+-- ---- what is answered
+
+abbrev AsksFor : Operation (List ℕ) → Message → Type 0
+AsksFor op m = asked_at m.method (path_of m.target) ≡ asks (wanted op)
+
+pub asks_request : (m : Message) (op : Operation (List ℕ)) (request : Request) → AsksFor op m → request_at op m ≡ Some request → request_in m ≡ Ok request
+asks_request m op request e is = ap (λ a. request_as a m) e ∙ ap (λ o. ok_or o (refusal H7)) (by_parts op m ∙ is)
+
+pub asks_wrongly : (m : Message) (op : Operation (List ℕ)) → AsksFor op m → request_at op m ≡ None → request_in m ≡ Err (refusal H7)
+asks_wrongly m op e none = ap (λ a. request_as a m) e ∙ ap (λ o. ok_or o (refusal H7)) (by_parts op m ∙ none)
+
+pub why_not : (m : Message) (op : Operation (List ℕ)) (why : Code) → AsksFor op m → IsWhyNot (AsksMemoryAt op m) why (request_at op m)
+    → ((refusal why ≡ refusal M16) × AsksMemory m) ⊎ (request_in m ≡ Err (refusal why))
+why_not m op why e (inl (is, asks)) = inl (ap refusal is, (wanted op, e, asks_by_parts op m asks))
+why_not m op why e (inr (is, none)) = inr (asks_wrongly m op e none ∙ ap (λ w. Err (refusal w)) (sym is))
