@@ -122,9 +122,9 @@ fn each_variable(alloc: Global, entries: &[Value]) -> Result<PipelineVariables, 
     let mut variables = Vec::new(alloc);
     for entry in entries {
         let variable = variable_of(alloc, entry)?;
-        if variables.push(variable).is_err() {
+        let Ok(()) = variables.push(variable) else {
             return Err(Code::M16);
-        }
+        };
     }
     Ok(PipelineVariables::new(variables))
 }
