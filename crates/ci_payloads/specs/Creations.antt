@@ -28,7 +28,7 @@ kind_of (Some value) = option_map (λ tag. if tag then Tag else Branch) (as_bool
 
 -- the source whose text this is
 abbrev pub source_named : List ℕ → Option Source
-source_named text = find (λ source. bytes_eq (source_text source) text) (Push ∷ Web ∷ Schedule ∷ Api ∷ Trigger ∷ [])
+source_named text = find (λ source. bytes_eq text (source_text source)) (Push ∷ Web ∷ Schedule ∷ Api ∷ Trigger ∷ [])
 
 -- what made the pipeline, by the member `source`: this interface, where the member is missing
 abbrev pub source_of : Option Data → Option Source

@@ -87,17 +87,19 @@ fn source_of(member: Option<&Value>) -> Option<Source>
 fn source_named(text: &str) -> Option<Source>
     ensures { result ≡ source_named text.now }
 {
-    let sources = [
-        Source::Push,
-        Source::Web,
-        Source::Schedule,
-        Source::Api,
-        Source::Trigger,
-    ];
-    sources
-        .iter()
-        .find(|source| source.as_str() == text)
-        .copied()
+    if text == "push" {
+        Some(Source::Push)
+    } else if text == "web" {
+        Some(Source::Web)
+    } else if text == "schedule" {
+        Some(Source::Schedule)
+    } else if text == "api" {
+        Some(Source::Api)
+    } else if text == "trigger" {
+        Some(Source::Trigger)
+    } else {
+        None
+    }
 }
 
 // The variables of the pipeline. Errors: the member is something else (H7); memory was refused (M16).
