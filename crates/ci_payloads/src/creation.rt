@@ -21,7 +21,12 @@ use std::alloc::Global;
 /// missing, is a list of objects, each with a text `key` and a text `value`.
 ///
 /// Errors: the body is something else (H7); memory was refused (M16).
-pub fn creation_in(alloc: Global, project: u64, token: Text, body: &[u8]) -> Result<NewPipeline, Code>
+pub fn creation_in(
+    alloc: Global,
+    project: u64,
+    token: Text,
+    body: &[u8],
+) -> Result<NewPipeline, Code>
     ensures ok { IfOk result (λ creation. creation_in project token body.now ≡ Some creation) }
     ensures err { IfErr result (λ why. IsWhyNot (MayBeJson body.now) why (creation_in project token body.now)) }
 {
@@ -52,11 +57,7 @@ fn ref_of(member: Option<&Value>) -> Option<&str>
     ensures { option_map (λ text. text.now) result ≡ ref_of (option_map (λ value. view value.now) member.entry) }
 {
     let text = text_of(member)?;
-    if is_name(text) {
-        Some(text)
-    } else {
-        None
-    }
+    if is_name(text) { Some(text) } else { None }
 }
 
 // Whether that is a tag.

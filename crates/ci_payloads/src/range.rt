@@ -8,7 +8,7 @@ use ci_numbers::number::number_within;
 
 /// Where a piece of this length begins, by its range, `from-to`: the places of its first byte and
 /// of its last. `None` where the range is written otherwise, or isn't that of so many bytes.
-pub(crate) fn start_in(len: u64, range: &[u8]) -> Option<u64>
+pub fn start_in(len: u64, range: &[u8]) -> Option<u64>
     ensures { result ≡ start_in len range.now }
 {
     let dash = first_dash(range)?;
