@@ -1,10 +1,10 @@
 //! A pipeline that is to be made.
 
 ghost use Rattle.std.specs.Prelude.{◌≡◌, Some, IfOk, IfErr, option_map};
-ghost use Rattle.serde_json.specs.View.{view};
+ghost use Rattle.serde_json.specs.View.{view, items_view};
 ghost use Rattle.ci_payloads.specs.Json.{MayBeJson};
 ghost use Rattle.ci_payloads.specs.Refusals.{IsWhyNot};
-ghost use Rattle.ci_payloads.specs.Creations.{ref_of, kind_of, source_named, source_of, variable_of, variables_of, creation_in};
+ghost use Rattle.ci_payloads.specs.Creations.{ref_of, kind_of, source_named, source_of, variable_of, each_variable, variables_of, creation_in};
 
 use crate::json::{copy_of, object_in, text_of};
 use ci_machine::records::{RefKind, Source};
@@ -21,7 +21,12 @@ use std::alloc::Global;
 /// missing, is a list of objects, each with a text `key` and a text `value`.
 ///
 /// Errors: the body is something else (H7); memory was refused (M16).
-pub fn creation_in(alloc: Global, project: u64, token: Text, body: &[u8]) -> Result<NewPipeline, Code>
+pub fn creation_in(
+    alloc: Global,
+    project: u64,
+    token: Text,
+    body: &[u8],
+) -> Result<NewPipeline, Code>
     ensures ok { IfOk result (λ creation. creation_in project token body.now ≡ Some creation) }
     ensures err { IfErr result (λ why. IsWhyNot (MayBeJson body.now) why (creation_in project token body.now)) }
 {
@@ -83,35 +88,46 @@ fn source_of(member: Option<&Value>) -> Option<Source>
 fn source_named(text: &str) -> Option<Source>
     ensures { result ≡ source_named text.now }
 {
-    let sources = [
-        Source::Push,
-        Source::Web,
-        Source::Schedule,
-        Source::Api,
-        Source::Trigger,
-    ];
-    sources
-        .into_iter()
-        .find(|source| text == source.as_str())
+    if text == "push" {
+        Some(Source::Push)
+    } else if text == "web" {
+        Some(Source::Web)
+    } else if text == "schedule" {
+        Some(Source::Schedule)
+    } else if text == "api" {
+        Some(Source::Api)
+    } else if text == "trigger" {
+        Some(Source::Trigger)
+    } else {
+        None
+    }
 }
 
-// The variables of the pipeline, in the order of the list.
+// The variables of the pipeline. Errors: the member is something else (H7); memory was refused (M16).
 fn variables_of(alloc: Global, member: Option<&Value>) -> Result<PipelineVariables, Code>
     ensures ok { IfOk result (λ variables. variables_of (option_map (λ value. view value.now) member.entry) ≡ Some variables) }
     ensures err { IfErr result (λ why. IsWhyNot (Unit {0}) why (variables_of (option_map (λ value. view value.now) member.entry))) }
 {
-    let mut variables = Vec::new(alloc);
     let Some(value) = member else {
-        return Ok(PipelineVariables::new(variables));
+        return Ok(PipelineVariables::new(Vec::new(alloc)));
     };
-    let Some(entries) = value.as_array() else {
-        return Err(Code::H7);
-    };
+    match value.as_array() {
+        Some(entries) => each_variable(alloc, entries.as_slice()),
+        None => Err(Code::H7),
+    }
+}
+
+// The variables that the entries of the list are, in its order.
+fn each_variable(alloc: Global, entries: &[Value]) -> Result<PipelineVariables, Code>
+    ensures ok { IfOk result (λ variables. each_variable (items_view entries.now) ≡ Some variables) }
+    ensures err { IfErr result (λ why. IsWhyNot (Unit {0}) why (each_variable (items_view entries.now))) }
+{
+    let mut variables = Vec::new(alloc);
     for entry in entries {
         let variable = variable_of(alloc, entry)?;
-        if variables.push(variable).is_err() {
+        let Ok(()) = variables.push(variable) else {
             return Err(Code::M16);
-        }
+        };
     }
     Ok(PipelineVariables::new(variables))
 }

@@ -73,7 +73,10 @@ fn values(rt: HostRuntime) -> Result<(), Fail> {
 
 // Bodies, and the CI file that each is.
 const FILES: &[(&[u8], Option<&str>)] = &[
-    (b"build:\n  script: make\n", Some("build:\n  script: make\n")),
+    (
+        b"build:\n  script: make\n",
+        Some("build:\n  script: make\n"),
+    ),
     (b"", Some("")),
     (b"{\"value\":", Some("{\"value\":")),
     (b"\xc3\xbc", Some("\u{fc}")),

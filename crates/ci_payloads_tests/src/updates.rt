@@ -52,10 +52,7 @@ const UPDATES: &[(&str, &str)] = &[
         "7 j7-ab running",
     ),
     ("{\"state\":\"running\",\"x\":[]}", "7  running"),
-    (
-        "{\"token\":\"t\",\"state\":\"success\"}",
-        "7 t success -",
-    ),
+    ("{\"token\":\"t\",\"state\":\"success\"}", "7 t success -"),
     (
         "{\"token\":\"t\",\"state\":\"success\",\"exit_code\":0,\"failure_reason\":\"script_failure\"}",
         "7 t success 0",
