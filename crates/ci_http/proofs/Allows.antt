@@ -26,6 +26,7 @@ methods-in (other_methods methods) = methods
 methods-in (asks w) = []
 
 by-found : (methods ms : List RouteMethod) (found : Option (RouteMethod × Wanted)) → Lists methods → asked_by methods found ≡ other_methods ms → Lists ms
+unfolding methods-in
 by-found methods ms None h e = subst Lists (ap methods-in e) h
 by-found methods ms (Some found) h e = cc
 

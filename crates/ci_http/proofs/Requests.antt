@@ -39,23 +39,23 @@ abbrev by_names : List (List ℕ) → Option Data → Option Payload
 by_names names o = option_map (λ object. members (map (λ name. get name object) names)) o
 
 -- an operation whose one field has a token, and that has no body
-module _ {A : Type 0} (op : Operation (List ℕ)) (form : List ℕ → A) (as : A → Request)
-    (is : (f : List ℕ) → requested op (f ∷ []) nothing ≡ Some (as (form f))) where
-  by-token : (field : Option (List ℕ)) → option_and_then (λ values. option_and_then (requested op values) (Some nothing)) (one field) ≡ option_map as (option_map form field)
+module _ {A : Type 0} (op : Operation (List ℕ)) (form : List ℕ → A) (made : A → Request)
+    (is : (f : List ℕ) → requested op (f ∷ []) nothing ≡ Some (made (form f))) where
+  by-token : (field : Option (List ℕ)) → option_and_then (λ values. option_and_then (requested op values) (Some nothing)) (one field) ≡ option_map made (option_map form field)
   by-token None = refl
   by-token (Some f) = is f
 
 asks-job : (o : Option Data) → option_and_then (requested operation.AskJob []) (by_names (codes "token" ∷ []) o)
     ≡ option_map AskJob (option_and_then (λ object. token_of (get (codes "token") object)) o)
 asks-job None = refl
-asks-job (Some object) = refl
+asks-job (Some found) = refl
 
 updates-job : (n : ℕ) (o : Option Data)
     → option_and_then (requested (operation.UpdateJob n) []) (by_names (codes "token" ∷ codes "state" ∷ codes "failure_reason" ∷ codes "exit_code" ∷ []) o)
     ≡ option_map UpdateJob (option_and_then (λ object. update_of n (get (codes "token") object) (get (codes "state") object)
     (get (codes "failure_reason") object) (get (codes "exit_code") object)) o)
 updates-job n None = refl
-updates-job n (Some object) = refl
+updates-job n (Some found) = refl
 
 appends-trace : (n : ℕ) (body : List ℕ) (field range : Option (List ℕ))
     → option_and_then (λ values. option_and_then (requested (operation.AppendTrace n) values) (Some (content body))) (two field range)
@@ -78,7 +78,7 @@ sets-variable : (id : ℕ) (key : List ℕ) (field : Option (List ℕ)) (o : Opt
     (option_and_then (λ object. value_of (get (codes "value") object)) o)) field)
 sets-variable id key None o = refl
 sets-variable id key (Some f) None = refl
-sets-variable id key (Some f) (Some object) =
+sets-variable id key (Some f) (Some found) =
     map-map (λ value. record { project = id; token = text_or_empty f; key = key; value = value }) SetVariable (value_of (get (codes "value") object))
 
 creates-pipeline : (id : ℕ) (field : Option (List ℕ)) (o : Option Data)
@@ -88,7 +88,7 @@ creates-pipeline : (id : ℕ) (field : Option (List ℕ)) (o : Option Data)
     (get (codes "tag") object) (get (codes "source") object) (get (codes "variables") object)) o) field)
 creates-pipeline id None o = refl
 creates-pipeline id (Some f) None = refl
-creates-pipeline id (Some f) (Some object) = refl
+creates-pipeline id (Some f) (Some found) = refl
 
 pub by_parts : (op : Operation (List ℕ)) (m : Message) → request_by (wanted op) m ≡ request_at op m
 by_parts operation.AskJob m = asks-job (object_in m.body)
@@ -110,20 +110,20 @@ by_parts (operation.RetryJob id n) m = by-token (operation.RetryJob id n) _ Retr
 
 mapped : {A B : Type 0} (f : A → B) (o : Option A) → IsSome o → IsSome (option_map f o)
 mapped f None h = h
-mapped f (Some a) h = tt
+mapped f (Some a) h = refl
 
 -- an operation of which all is there
-whole : {A : Type 0} (op : Operation (List ℕ)) (m : Message) (as : A → Request) (o : Option A) → request_at op m ≡ option_map as o
+whole : {A : Type 0} (op : Operation (List ℕ)) (m : Message) (made : A → Request) (o : Option A) → request_at op m ≡ option_map made o
     → IsSome o → IsSome (request_by (wanted op) m)
-whole op m as o is h = subst IsSome (sym (by_parts op m)) (subst IsSome (sym is) (mapped as o h))
+whole op m made o is h = subst IsSome (sym (by_parts op m)) (subst IsSome (sym is) (mapped made o h))
 
 one-there : (field : Option (List ℕ)) → IsSome field → IsSome (one field)
 one-there None h = h
-one-there (Some f) h = tt
+one-there (Some f) h = refl
 
 pub asks_by_parts : (op : Operation (List ℕ)) (m : Message) → AsksMemoryAt op m → AsksMemoryBy (body_of op) (wanted op) m
-asks_by_parts operation.AskJob m h = (tt, h)
-asks_by_parts (operation.UpdateJob n) m h = (tt, h)
+asks_by_parts operation.AskJob m h = (refl, h)
+asks_by_parts (operation.UpdateJob n) m h = (refl, h)
 asks_by_parts (operation.AppendTrace n) m h = whole (operation.AppendTrace n) m AppendTrace _ refl h
 asks_by_parts (operation.SetFile id) m h = whole (operation.SetFile id) m SetFile _ refl h
 asks_by_parts (operation.SetVariable id key) m (field, json) = (one-there (project_field m) field, json)
@@ -150,5 +150,5 @@ asks_wrongly m op e none = ap (λ a. request_as a m) e ∙ ap (λ o. ok_or o (re
 
 pub why_not : (m : Message) (op : Operation (List ℕ)) (why : Code) → AsksFor op m → IsWhyNot (AsksMemoryAt op m) why (request_at op m)
     → ((refusal why ≡ refusal M16) × AsksMemory m) ⊎ (request_in m ≡ Err (refusal why))
-why_not m op why e (inl (is, asks)) = inl (ap refusal is, (wanted op, e, asks_by_parts op m asks))
+why_not m op why e (inl (is, memory)) = inl (ap refusal is, (wanted op, e, asks_by_parts op m memory))
 why_not m op why e (inr (is, none)) = inr (asks_wrongly m op e none ∙ ap (λ w. Err (refusal w)) (sym is))
