@@ -1,16 +1,16 @@
 //! Each call of the store fails in turn, on each of its two files; then the files are opened again. The helpers have no
 //! clause, so that a test's proof carries little.
 
+use crate::plain;
 use crate::records::{add, attempt, hold, job, pipeline, project, row_of, runner};
 use ci_board::facts::Status;
 use ci_machine::change::{Counter, Delta, IndexChange, RowChange};
 use ci_machine::records::{AttemptState, BoardRow, Unfinished};
 use ci_machine::text::Text;
 use ci_store::fault::StoreFault;
-use ci_store::store::Store;
 use ci_store::tables::{OpenFault, Tables};
 use ci_store::{Alter, Connection};
-use ci_test_disks::{closed, connected, discard, empty, fused, stopped};
+use ci_test_disks::{closed, connected, empty, fused, stopped};
 use sqlite::{FileStore, Files};
 use sqlite_disk::{Fuse, Memory};
 use std::alloc::Global;
@@ -35,14 +35,7 @@ fn renamed(alloc: Global) -> Result<Delta, Fail> {
 }
 
 fn created(alloc: Global, files: Files<Memory>) -> Option<Tables<FileStore<Memory>>> {
-    let conn = connected(alloc, files)?;
-    match Tables::create(conn) {
-        Ok(tables) => Some(tables),
-        Err((_, conn)) => {
-            discard(conn);
-            None
-        }
-    }
+    plain::found(plain::create(connected(alloc, files)?))
 }
 
 /// The row that the second commit puts.
@@ -67,13 +60,10 @@ fn made(alloc: Global) -> Result<Tables<FileStore<Memory>>, Fail> {
         let _ = delta.into_vec();
         return Err("not created")?;
     };
-    if tables
-        .commit(delta, Vec::new(alloc), Vec::new(alloc))
-        .is_ok()
-    {
+    if plain::is_committed(&mut tables, delta, Vec::new(alloc), Vec::new(alloc)) {
         return Ok(tables);
     }
-    discard(tables.close());
+    plain::let_go(tables);
     Err("not committed")?
 }
 
@@ -97,11 +87,11 @@ const COUNTERS: [Counter; 5] = [
 /// Do the tables hold the empty state, as far as loads by key show it?
 fn is_empty<S: Alter>(tables: &mut Tables<S>) -> Result<bool, StoreFault> {
     for counter in COUNTERS {
-        if tables.next(counter)? != 1 {
+        if plain::next(tables, counter)? != 1 {
             return Ok(false);
         }
     }
-    Ok(tables.project(1)?.is_none() && tables.row(1)?.is_none())
+    Ok(plain::project(tables, 1)?.is_none() && plain::row(tables, 1)?.is_none())
 }
 
 /// What a store is after a stop.
@@ -116,17 +106,14 @@ enum Remains {
 
 fn holds_nothing(mut tables: Tables<FileStore<Fuse<Memory>>>) -> bool {
     let found = is_empty(&mut tables);
-    discard(tables.close());
+    plain::let_go(tables);
     found == Ok(true)
 }
 
 fn is_blank(conn: Connection<FileStore<Fuse<Memory>>>) -> bool {
-    match Tables::create(conn) {
-        Ok(tables) => holds_nothing(tables),
-        Err((_, conn)) => {
-            discard(conn);
-            false
-        }
+    match plain::found(plain::create(conn)) {
+        Some(tables) => holds_nothing(tables),
+        None => false,
     }
 }
 
@@ -134,31 +121,21 @@ fn after_stop(alloc: Global, files: Files<Fuse<Memory>>) -> Remains {
     let Some(conn) = connected(alloc, files) else {
         return Remains::Neither;
     };
-    let (is_sound, remains) = match Tables::open(conn) {
+    let (is_sound, remains) = match plain::open(conn) {
         Ok(tables) => (holds_nothing(tables), Remains::Tables),
         Err((_, conn)) => (is_blank(conn), Remains::Blank),
     };
     if is_sound { remains } else { Remains::Neither }
 }
 
-/// Makes the tables, and gives the connection back.
-fn is_made(
-    conn: Connection<FileStore<Fuse<Memory>>>,
-) -> (bool, Connection<FileStore<Fuse<Memory>>>) {
-    match Tables::create(conn) {
-        Ok(tables) => (true, tables.close()),
-        Err((_, conn)) => (false, conn),
-    }
-}
-
 fn tried_create(alloc: Global, of_log: bool, calls: u64) -> Result<Ended, Fail> {
     let Some(conn) = connected(alloc, fused(empty(alloc), of_log, calls)) else {
         return Ok(Ended::Unopened);
     };
-    let (is_made, conn) = is_made(conn);
-    match (is_made, after_stop(alloc, stopped(conn))) {
-        (true, Remains::Tables) => Ok(Ended::Done),
-        (false, Remains::Tables | Remains::Blank) => Ok(Ended::Faulted),
+    let (fault, conn) = plain::parted(plain::create(conn));
+    match (fault, after_stop(alloc, stopped(conn))) {
+        (None, Remains::Tables) => Ok(Ended::Done),
+        (Some(_), Remains::Tables | Remains::Blank) => Ok(Ended::Faulted),
         _ => Err("torn or lost")?,
     }
 }
@@ -172,7 +149,7 @@ enum Found {
 }
 
 fn name_of<S: Alter>(tables: &mut Tables<S>, id: u64) -> Result<Option<Text>, StoreFault> {
-    match tables.project(id)? {
+    match plain::project(tables, id)? {
         Some(found) => Ok(Some(found.name)),
         None => Ok(None),
     }
@@ -190,9 +167,9 @@ fn is_renamed<S: Alter>(tables: &mut Tables<S>) -> Result<Option<bool>, StoreFau
 /// How much is there of the second commit: of the other project, the row, the group that is held and the pipeline that is open.
 fn parts_of<S: Alter>(tables: &mut Tables<S>, group: &Text) -> Result<usize, StoreFault> {
     let second = usize::from(name_of(tables, 2)?.is_some());
-    let row = usize::from(tables.row(1)?.is_some());
-    let held = usize::from(tables.holder(1, group)?.is_some());
-    let open = usize::from(!tables.unfinished()?.is_empty());
+    let row = usize::from(plain::row(tables, 1)?.is_some());
+    let held = usize::from(plain::holder(tables, 1, group)?.is_some());
+    let open = usize::from(!plain::unfinished(tables)?.is_empty());
     Ok(
         second
             .saturating_add(row)
@@ -224,36 +201,21 @@ fn reopened(alloc: Global, files: Files<Fuse<Memory>>) -> Found {
     let Some(conn) = connected(alloc, files) else {
         return Found::Neither;
     };
-    match Tables::open(conn) {
-        Ok(mut tables) => {
-            let found = outcome(alloc, &mut tables);
-            discard(tables.close());
-            found
-        }
-        Err((_, conn)) => {
-            discard(conn);
-            Found::Neither
-        }
-    }
-}
-
-/// Opens the tables, and gives the connection back.
-fn fault_of_open(
-    conn: Connection<FileStore<Fuse<Memory>>>,
-) -> (Option<OpenFault>, Connection<FileStore<Fuse<Memory>>>) {
-    match Tables::open(conn) {
-        Ok(tables) => (None, tables.close()),
-        Err((fault, conn)) => (Some(fault), conn),
-    }
+    let Some(mut tables) = plain::found(plain::open(conn)) else {
+        return Found::Neither;
+    };
+    let found = outcome(alloc, &mut tables);
+    plain::let_go(tables);
+    found
 }
 
 /// The files are those that a stop leaves, so that the log has frames.
 fn tried_open(alloc: Global, of_log: bool, calls: u64) -> Result<Ended, Fail> {
-    let files = stopped(made(alloc)?.close());
+    let files = stopped(plain::close(made(alloc)?));
     let Some(conn) = connected(alloc, fused(files, of_log, calls)) else {
         return Ok(Ended::Unopened);
     };
-    let (fault, conn) = fault_of_open(conn);
+    let (fault, conn) = plain::parted(plain::open(conn));
     match (fault, reopened(alloc, stopped(conn))) {
         (None, Found::Before) => Ok(Ended::Done),
         (Some(OpenFault::O3), Found::Before) => Ok(Ended::Faulted),
@@ -263,18 +225,11 @@ fn tried_open(alloc: Global, of_log: bool, calls: u64) -> Result<Ended, Fail> {
 
 /// The tables of files that fail, if they open.
 fn opened(alloc: Global, files: Files<Fuse<Memory>>) -> Option<Tables<FileStore<Fuse<Memory>>>> {
-    let conn = connected(alloc, files)?;
-    match Tables::open(conn) {
-        Ok(tables) => Some(tables),
-        Err((_, conn)) => {
-            discard(conn);
-            None
-        }
-    }
+    plain::found(plain::open(connected(alloc, files)?))
 }
 
 fn tried_commit(alloc: Global, of_log: bool, calls: u64) -> Result<Ended, Fail> {
-    let files = closed(made(alloc)?.close()).ok_or("not closed")?;
+    let files = closed(plain::close(made(alloc)?)).ok_or("not closed")?;
     let rows = first_row(alloc)?;
     let indexes = first_indexes(alloc)?;
     let delta = renamed(alloc)?;
@@ -282,8 +237,8 @@ fn tried_commit(alloc: Global, of_log: bool, calls: u64) -> Result<Ended, Fail> 
         let _ = delta.into_vec();
         return Ok(Ended::Unopened);
     };
-    let is_done = tables.commit(delta, rows, indexes).is_ok();
-    match (is_done, reopened(alloc, stopped(tables.close()))) {
+    let is_done = plain::is_committed(&mut tables, delta, rows, indexes);
+    match (is_done, reopened(alloc, stopped(plain::close(tables)))) {
         (true, Found::After) => Ok(Ended::Done),
         (false, Found::Before | Found::After) => Ok(Ended::Faulted),
         _ => Err("torn or lost")?,

@@ -37,16 +37,26 @@ pub fn let_go<S: Alter + Drop>(tables: Tables<S>) {
     discard(close(tables));
 }
 
-/// Tables that are wanted, or a failure.
-pub fn wanted<S: Alter + Drop>(
-    found: Result<Tables<S>, (OpenFault, Connection<S>)>,
-) -> Result<Tables<S>, Fail> {
-    match found {
-        Ok(tables) => Ok(tables),
+/// The tables, if there are any.
+pub fn found<S: Alter + Drop>(
+    tables: Result<Tables<S>, (OpenFault, Connection<S>)>,
+) -> Option<Tables<S>> {
+    match tables {
+        Ok(tables) => Some(tables),
         Err((_, conn)) => {
             discard(conn);
-            Err("no tables")?
+            None
         }
+    }
+}
+
+/// Tables that are wanted, or a failure.
+pub fn wanted<S: Alter + Drop>(
+    tables: Result<Tables<S>, (OpenFault, Connection<S>)>,
+) -> Result<Tables<S>, Fail> {
+    match found(tables) {
+        Some(tables) => Ok(tables),
+        None => Err("no tables")?,
     }
 }
 
