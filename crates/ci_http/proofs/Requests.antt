@@ -79,7 +79,7 @@ sets-variable : (id : ℕ) (key : List ℕ) (field : Option (List ℕ)) (o : Opt
 sets-variable id key None o = refl
 sets-variable id key (Some f) None = refl
 sets-variable id key (Some f) (Some found) =
-    map-map (λ value. record { project = id; token = text_or_empty f; key = key; value = value }) SetVariable (value_of (get (codes "value") object))
+    map-map (λ value. record { project = id; token = text_or_empty f; key = key; value = value }) SetVariable (value_of (get (codes "value") found))
 
 creates-pipeline : (id : ℕ) (field : Option (List ℕ)) (o : Option Data)
     → option_and_then (λ values. option_and_then (requested (operation.CreatePipeline id) values)

@@ -128,9 +128,13 @@ fn a_held_group_is_not_held_again(rt: HostRuntime) -> Result<(), Fail> {
     let alloc = rt.alloc();
     let mut indexes = Vec::new(alloc);
     indexes.push(hold(alloc, 1, "prod", 3)?)?;
-    let change = no_change(alloc)?;
     let mut tables = with_groups(alloc)?;
-    let is_held = is_committed(&mut tables, change, Vec::new(alloc), indexes);
+    let is_held = is_committed(
+        &mut tables,
+        Delta::new(Vec::new(alloc)),
+        Vec::new(alloc),
+        indexes,
+    );
     let_go(tables);
     assert!(rt; !is_held);
     Ok(())
@@ -252,9 +256,13 @@ fn unfinished_pipelines_come_by_number(rt: HostRuntime) -> Result<(), Fail> {
 fn an_open_pipeline_is_not_opened_again(rt: HostRuntime) -> Result<(), Fail> {
     let alloc = rt.alloc();
     let indexes = open(alloc, &[2])?;
-    let change = no_change(alloc)?;
     let mut tables = with_pipelines(alloc)?;
-    let is_opened = is_committed(&mut tables, change, Vec::new(alloc), indexes);
+    let is_opened = is_committed(
+        &mut tables,
+        Delta::new(Vec::new(alloc)),
+        Vec::new(alloc),
+        indexes,
+    );
     let_go(tables);
     assert!(rt; !is_opened);
     Ok(())

@@ -1,9 +1,12 @@
 use Rattle.std.proofs.Common.{◌≡◌, ℕ, List, ◌++◌, ◌∙◌, ap, subst}
-use Rattle.std.specs.Prelude.{Result, OnErr}
+use Rattle.std.specs.Prelude.{Option, Result, OnErr}
 use Rattle.ci_http.specs.Serving.{WritesFront}
 use Rattle.ci_http.proofs.serve.send.Goals as goal
 
+same-text : {T E : Type 0} (r : Result T E) (old new : Option (List ℕ)) (a b : List ℕ) → a ≡ b → OnErr r (WritesFront old new a) → OnErr r (WritesFront old new b)
+same-text r old new a b e h = subst (λ text. OnErr r (WritesFront old new text)) e h
+
 pub returns-clause-err : goal.returns-clause-err
 returns-clause-err g c =
-    subst (λ text. OnErr c.result (WritesFront (g.W.written c.args.writer.old) (g.W.written c.new.writer) text))
-    (ap (λ head. head ++ c.text.body.now) c.as_slice.ensures.value ∙ c.reply_bytes-text.ensures.text) c.put_both.ensures.err
+    let text = c.reply_bytes-text.result in
+    same-text c.put_both.result _ _ _ _ (ap (λ head. head ++ text.body.now) c.as_slice.ensures.value ∙ c.reply_bytes-text.ensures.text) c.put_both.ensures.err
