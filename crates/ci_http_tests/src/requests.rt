@@ -217,7 +217,11 @@ fn runner_text(alloc: Global, request: &Request) -> Result<String, Fail> {
         Request::AskJob(token) => format!(in alloc; "ask {}", token.as_str())?,
         Request::UpdateJob(update) => {
             let report = report_text(update.report);
-            format!(in alloc; "update {} {} {report}", update.attempt, update.token.as_str())?
+            format!(in alloc;
+                "update {} {} {report}",
+                update.attempt,
+                update.token.as_str()
+            )?
         }
         Request::AppendTrace(part) => {
             let text = str::from_utf8(part.bytes.as_slice()).unwrap_or("?");
@@ -232,7 +236,12 @@ fn runner_text(alloc: Global, request: &Request) -> Result<String, Fail> {
 fn request_text(alloc: Global, request: &Request) -> Result<String, Fail> {
     Ok(match request {
         Request::SetFile(new) => {
-            format!(in alloc; "file {} {} {}", new.project, new.token.as_str(), new.text.as_str())?
+            format!(in alloc;
+                "file {} {} {}",
+                new.project,
+                new.token.as_str(),
+                new.text.as_str()
+            )?
         }
         Request::SetVariable(new) => {
             let token = new.token.as_str();
@@ -409,7 +418,10 @@ fn wrong_bodies_and_fields(rt: HostRuntime) -> Result<(), Fail> {
     let paths = Paths::new(rt.alloc())?;
     for bytes in WRONG {
         let text = str::from_utf8(bytes).unwrap_or("bytes");
-        assert!(&rt; asked(rt.alloc(), &paths, bytes)?.as_slice() == H7, "{text}");
+        assert!(&rt;
+            asked(rt.alloc(), &paths, bytes)?.as_slice() == H7,
+            "{text}"
+        );
     }
     Ok(())
 }
@@ -434,7 +446,10 @@ fn paths_without_a_route(rt: HostRuntime) -> Result<(), Fail> {
     let paths = Paths::new(rt.alloc())?;
     for bytes in NOWHERE {
         let text = str::from_utf8(bytes).unwrap_or("bytes");
-        assert!(&rt; asked(rt.alloc(), &paths, bytes)?.as_slice() == H5, "{text}");
+        assert!(&rt;
+            asked(rt.alloc(), &paths, bytes)?.as_slice() == H5,
+            "{text}"
+        );
     }
     Ok(())
 }
@@ -503,7 +518,11 @@ const ROWS: &[(&[u8], Option<Code>, bool)] = &[
         Some(Code::H7),
         false,
     ),
-    (b"GET /api/v4/jobs/0 HTTP/1.1\r\n\r\n", Some(Code::H5), false),
+    (
+        b"GET /api/v4/jobs/0 HTTP/1.1\r\n\r\n",
+        Some(Code::H5),
+        false,
+    ),
     (
         b"GET /api/v4/jobs/request HTTP/1.1\r\n\r\n",
         Some(Code::H6),

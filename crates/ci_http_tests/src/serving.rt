@@ -90,15 +90,7 @@ fn serve_links<T: Read + Drop, W: Write + Drop, A: Ledger, B: Ledger>(
     let moment = at(1000)?;
     let mut reader = Link::<T, A>::new(reader, reads);
     let mut writer = Link::<W, B>::new(writer, writes);
-    let served = serve_one(
-        alloc,
-        &mut reader,
-        &mut writer,
-        server,
-        paths,
-        moment,
-        SEED,
-    );
+    let served = serve_one(alloc, &mut reader, &mut writer, server, paths, moment, SEED);
     Ok((served, writer.into_inner()))
 }
 

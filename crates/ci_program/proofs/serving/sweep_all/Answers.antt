@@ -9,8 +9,15 @@ loop-init g c = none
 -- a sweep did nothing
 pub returns-then-not-did_something : goal.returns-then-not-did_something
 returns-then-not-did_something g c =
-    inr (c.loop.counter, c.loop-test.true, c.loop.server, c.sweep-swept.result, c.loop.invariant, c.sweep-swept.ensures.swept,
-    (λ did. true≢false (sym (c.did_something.ensures.1 did) ∙ c.if-not-did_something.true)))
+    inr (
+      c.loop.counter,
+      c.loop-test.true,
+      c.loop.server,
+      c.sweep-swept.result,
+      c.loop.invariant,
+      c.sweep-swept.ensures.swept,
+      (λ did. true≢false (sym (c.did_something.ensures.1 did) ∙ c.if-not-did_something.true)),
+    )
 
 pub loop-preserved : goal.loop-preserved
 loop-preserved g c =
