@@ -1,6 +1,6 @@
 //! The requests that the command line sends.
 
-use crate::task::{Act, Runner};
+use ci_command_line::task::{Act, Runner};
 use ci_machine::request::{NewRunner, Request};
 use ci_machine::text::{Text, Texts};
 use std::alloc::{AllocError, Global};

@@ -6,13 +6,13 @@ ghost use Rattle.ci_http.specs.declared.serve.Served.TheVariants.{Replied, ReadF
 use crate::act::request_of;
 use crate::demo::serve_demo;
 use crate::file::{FileServer, let_go, make, open};
-use crate::line::{BROKEN_OFF, DONE, Line, REFUSED, USAGE, say, say_reply};
 use crate::serving::serve_connections;
 use crate::sources::Sources;
-use crate::task::{Act, Port, Task};
-use crate::words::task_of;
 use ci_check::{check_word, exit_status};
+use ci_command_line::task::{Act, Port, Task};
+use ci_command_line::words::task_of;
 use ci_http::serve::Served;
+use ci_lines::line::{BROKEN_OFF, DONE, Line, REFUSED, USAGE, say, say_reply};
 use ci_routes::paths::Paths;
 use ci_server::server::Server;
 use ci_store::Alter;

@@ -1,6 +1,6 @@
 //! The file of a server.
 
-use crate::line::Line;
+use ci_lines::line::Line;
 use ci_server::server::Server;
 use ci_store::tables::OpenFault;
 use sqlite::{Connection, Error, ErrorCode, File, FileStore};

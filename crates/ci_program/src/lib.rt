@@ -7,13 +7,10 @@ mod act;
 mod commands;
 mod demo;
 mod file;
-mod line;
 mod served;
 pub mod serving;
 mod sources;
 mod stream;
-mod task;
-mod words;
 
 pub use commands::{command, refuse_memory};
 pub use sources::Sources;

@@ -3,11 +3,11 @@
 ghost use Rattle.std.specs.Prelude.{◌↔◌, IsTrue};
 ghost use Rattle.ci_program.specs.Sweeping.{DidSomething, SweepsUpTo};
 
-use crate::line::Line;
 use crate::served::serve;
 use crate::sources::{Sources, Stamp};
 use crate::stream::{Hasty, end_reply};
 use ci_http::serve::Served;
+use ci_lines::line::Line;
 use ci_machine::moment::Moment;
 use ci_machine::reply::Swept;
 use ci_routes::paths::Paths;

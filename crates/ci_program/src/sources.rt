@@ -1,6 +1,6 @@
 //! Where moments and seeds come from.
 
-use crate::line::Line;
+use ci_lines::line::Line;
 use ci_machine::moment::Moment;
 use ci_machine::request::Seed;
 use rand::TryRng;

@@ -20,12 +20,15 @@ type Exchange = (&'static str, &'static str);
 
 /// Has each request sent over a connection of its own, before the first is served.
 fn exchange(rt: &HostRuntime, server: &mut InMemory, rows: &[Exchange]) -> Result<(), Fail> {
+    let Ok(connections) = u32::try_from(rows.len()) else {
+        return Err("too many requests")?;
+    };
     let listener = listen(rt)?;
     let mut peers = Vec::new(rt.alloc());
     for (request, _) in rows {
         peers.push(has_sent(rt, &listener, request.as_bytes())?)?;
     }
-    let is_served = attend(rt, &listener, server, Some(1000), rows.len() as u32)?;
+    let is_served = attend(rt, &listener, server, Some(1000), connections)?;
     for (peer, (request, reply)) in peers.into_iter().zip(rows.iter()) {
         let bytes = got(rt, peer)?;
         if !is_served || !bytes.as_slice().starts_with(reply.as_bytes()) {

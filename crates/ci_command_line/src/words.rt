@@ -2,7 +2,7 @@
 
 ghost use Rattle.std.specs.Prelude.{◌≡◌, Some, IfSome};
 ghost use Rattle.clap.specs.Matches.{subcommand_name_of};
-ghost use Rattle.ci_program.specs.Words.{name_of, act_name};
+ghost use Rattle.ci_command_line.specs.Words.{name_of, act_name};
 
 use crate::task::{Act, Port, Runner, Task};
 use ci_machine::request::RunnerPause;

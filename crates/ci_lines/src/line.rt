@@ -3,7 +3,7 @@
 ghost use Rattle.std.specs.Prelude.{◌≡◌, ◌++◌, Some, IfOk, OnOk, OnErr, codes};
 ghost use Rattle.std.specs.Io.KnownBytes.{Appends};
 ghost use Rattle.ci_machine.specs.Reply.{body_text};
-ghost use Rattle.ci_program.specs.Lines.{line_text, line_status, reply_status};
+ghost use Rattle.ci_lines.specs.Lines.{line_text, line_status, reply_status, told, Told};
 
 use ci_machine::reply::{Code, Reply};
 use ci_store::tables::OpenFault;
@@ -88,7 +88,9 @@ fn write_line<W: Write>(output: &mut W, line: Line) -> io::Result<()>
 }
 
 /// Prints a line, and gives the exit status of a run that ends with it: 3 where it can't be written.
-pub fn say<W: Write>(output: &mut W, line: Line) -> u8 {
+pub fn say<W: Write>(output: &mut W, line: Line) -> u8
+    ensures { Told (W.contents output.old) (W.contents output.new) (line_text line) (line_status line) result }
+{
     status_of(write_line(output, line), line)
 }
 
@@ -123,7 +125,9 @@ fn reply_status_of(code: Option<Code>) -> u8
 }
 
 /// Prints what a command was answered, and gives its exit status: the body of the reply, but `store: M17` where the store failed.
-pub fn say_reply<W: Write>(output: &mut W, reply: &Reply) -> u8 {
+pub fn say_reply<W: Write>(output: &mut W, reply: &Reply) -> u8
+    ensures { Told (W.contents output.old) (W.contents output.new) (told reply.now) (reply_status reply.now.code) result }
+{
     if reply.code == Some(Code::M17) {
         return say(output, Line::Closed);
     }

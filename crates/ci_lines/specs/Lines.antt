@@ -1,11 +1,14 @@
 -- The lines that the program prints, and the exit statuses that go with them.
-use Rattle.std.specs.Prelude.{ℕ, List, ◌++◌, None, Some, Option, codes, decimal}
+use Rattle.std.specs.Prelude.{ℕ, List, ◌≡◌, ◌⊎◌, ◌++◌, None, Some, Option, codes, decimal}
+use Rattle.std.specs.Io.KnownBytes.{Appends}
 use Rattle.ci_store.specs.declared.tables.OpenFault.{OpenFault}
 use Rattle.ci_store.specs.declared.tables.OpenFault.TheVariants.{O1, O2, O3, Memory}
 use Rattle.ci_machine.specs.declared.reply.Code.{Code}
 use Rattle.ci_machine.specs.declared.reply.Code.TheVariants.{M17}
-use Rattle.ci_program.specs.declared.line.Line.{Line}
-use Rattle.ci_program.specs.declared.line.Line.TheVariants as line
+use Rattle.ci_machine.specs.declared.reply.Reply.{Reply}
+use Rattle.ci_machine.specs.Reply.{body_text}
+use Rattle.ci_lines.specs.declared.line.Line.{Line}
+use Rattle.ci_lines.specs.declared.line.Line.TheVariants as line
 
 -- the text of a line, without its end
 abbrev pub said : Line → List ℕ
@@ -45,3 +48,16 @@ abbrev pub reply_status : Option Code → ℕ
 reply_status None = 0
 reply_status (Some M17) = 3
 reply_status (Some other) = 1
+
+-- what is told of a reply with this code and body: the body as a line, but the line of a closed server where the store failed
+abbrev pub told_by : Option Code → List ℕ → List ℕ
+told_by None body = body ++ codes "\n"
+told_by (Some M17) body = line_text line.Closed
+told_by (Some other) body = body ++ codes "\n"
+
+abbrev pub told : Reply → List ℕ
+told reply = told_by reply.code (body_text reply)
+
+-- The text was written and the run ends with its status, or, where it can't be written, with 3.
+abbrev pub Told : List ℕ → List ℕ → List ℕ → ℕ → ℕ → Type 0
+Told old new text status result = (Appends old new text × (result ≡ status)) ⊎ (result ≡ 3)

@@ -1,9 +1,9 @@
 -- The names of the commands.
 use Rattle.std.specs.Prelude.{ℕ, List, codes}
-use Rattle.ci_program.specs.declared.task.Act.{Act}
-use Rattle.ci_program.specs.declared.task.Act.TheVariants.{AddProject, AddRunner, PauseRunner}
-use Rattle.ci_program.specs.declared.task.Task.{Task}
-use Rattle.ci_program.specs.declared.task.Task.TheVariants.{Demo, Check, Init, Send, Serve}
+use Rattle.ci_command_line.specs.declared.task.Act.{Act}
+use Rattle.ci_command_line.specs.declared.task.Act.TheVariants.{AddProject, AddRunner, PauseRunner}
+use Rattle.ci_command_line.specs.declared.task.Task.{Task}
+use Rattle.ci_command_line.specs.declared.task.Task.TheVariants.{Demo, Check, Init, Send, Serve}
 
 abbrev pub act_name : Act → List ℕ
 act_name (AddProject name) = codes "project-add"
