@@ -59,5 +59,5 @@ abbrev pub told : Reply → List ℕ
 told reply = told_by reply.code (body_text reply)
 
 -- The text was written and the run ends with its status, or, where it can't be written, with 3.
-abbrev pub Told : List ℕ → List ℕ → List ℕ → ℕ → ℕ → Type 0
+abbrev pub Told : Option (List ℕ) → Option (List ℕ) → List ℕ → ℕ → ℕ → Type 0
 Told old new text status result = (Appends old new text × (result ≡ status)) ⊎ (result ≡ 3)
