@@ -10,21 +10,14 @@ set -eu
 here=$(realpath "$(dirname "$0")")
 ciserver=$(realpath "${1-$here/../bin/ciserver}")
 work=$(mktemp -d)
-pid=
-trap '[ -z "$pid" ] || kill "$pid" 2> /dev/null || :; rm -rf "$work"' EXIT
+server=
+trap '[ -z "$server" ] || kill "$server" 2> /dev/null || :; rm -rf "$work"' EXIT
 db=$work/ci.db
+. "$here/../examples/server.sh"
 "$ciserver" init --db "$db" > /dev/null
 project=$("$ciserver" project-add --db "$db" --name p | jq -r .token)
 runner=$("$ciserver" runner-add --db "$db" --name r --untagged | jq -r .token)
-for _ in {1..20}; do
-  port=$((20000 + RANDOM % 20000))
-  : > "$work/said"
-  "$ciserver" serve --db "$db" --port "$port" --requests 1000000 > "$work/said" &
-  pid=$!
-  until [ -s "$work/said" ] || ! kill -0 "$pid" 2> /dev/null; do sleep 0.05; done
-  if grep -q '^listening' "$work/said"; then break; fi
-  wait "$pid" || :
-done
+serve_file "$db" 1000000
 api() { curl -sS --fail-with-body -X "$1" -H 'Expect:' -H "PRIVATE-TOKEN: $project" "${@:3}" "http://127.0.0.1:$port/api/v4/projects/1$2"; }
 printf 'j:\n  script: x\n' > "$work/ci.yml"
 api PUT /ci_file --data-binary "@$work/ci.yml" > /dev/null

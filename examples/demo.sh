@@ -9,29 +9,11 @@ set -eu
 here=$(realpath "$(dirname "$0")")
 ciserver=$(realpath "${1-$here/../bin/ciserver}")
 work=$(mktemp -d)
-pid=
-trap '[ -z "$pid" ] || kill "$pid" 2> /dev/null || :; rm -rf "$work"' EXIT
+server=
+trap '[ -z "$server" ] || kill "$server" 2> /dev/null || :; rm -rf "$work"' EXIT
 trap 'exit 130' INT TERM
 db=$work/ci.db
-
-# Starts the server on a port that nobody listens on; sets $pid and $url.
-start() {
-  local port
-  for _ in {1..20}; do
-    port=$((20000 + RANDOM % 20000))
-    : > "$work/said"
-    "$ciserver" serve --db "$db" --port "$port" --requests 1000000 > "$work/said" &
-    pid=$!
-    until [ -s "$work/said" ] || ! kill -0 "$pid" 2> /dev/null; do sleep 0.05; done
-    if grep -q '^listening' "$work/said"; then
-      url=http://127.0.0.1:$port
-      return
-    fi
-    wait "$pid" || pid=
-  done
-  echo "the server doesn't start: $(< "$work/said")" >&2
-  exit 1
-}
+. "$here/server.sh"
 
 # api METHOD PATH [WORD OF CURL..]: asks the server for something of the project, and prints the body of its reply.
 api() {
@@ -41,7 +23,8 @@ api() {
 "$ciserver" init --db "$db"
 token=$("$ciserver" project-add --db "$db" --name hello | jq -r .token)
 runner=$("$ciserver" runner-add --db "$db" --name shell --untagged | jq -r .token)
-start
+serve_file "$db" 1000000
+url=http://127.0.0.1:$port
 api PUT /ci_file --data-binary "@$here/project/.gitlab-ci.yml"
 echo
 number=$(api POST /pipeline --data '{"ref":"main"}' | jq .id)

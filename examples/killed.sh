@@ -56,22 +56,7 @@ token=$("$ciserver" project-add --db "$db" --name p | jq -r .token)
 one=$("$ciserver" runner-add --db "$db" --name one --untagged | jq -r .token)
 two=$("$ciserver" runner-add --db "$db" --name two --untagged | jq -r .token)
 
-# Starts the server; the first time on a port that nobody listens on.
-port=
-start() {
-  for _ in {1..50}; do
-    local wanted=${port:-$((20000 + RANDOM % 20000))}
-    : > "$work/said"
-    "$ciserver" serve --db "$db" --port "$wanted" --requests 1000000 > "$work/said" &
-    server=$!
-    until [ -s "$work/said" ] || ! kill -0 "$server" 2> /dev/null; do sleep 0.02; done
-    if grep -q '^listening' "$work/said"; then port=$wanted; return; fi
-    wait "$server" || server=
-    sleep 0.1
-  done
-  echo "the server doesn't start: $(< "$work/said")" >&2
-  exit 1
-}
+. "$here/server.sh"
 
 # Asks the server for something of the project, again until it answers.
 api() {
@@ -80,7 +65,7 @@ api() {
   done
 }
 
-start
+serve_file "$db" 1000000
 api PUT /ci_file --data-binary "@$work/ci.yml" > /dev/null
 count=0
 create() {
@@ -96,7 +81,7 @@ for ((kill = 1; kill <= times; kill++)); do
   sleep "$(printf '0.%03d' $((RANDOM % 900 + 50)))"
   kill -KILL "$server"
   wait "$server" 2> /dev/null || :
-  start
+  serve_file "$db" 1000000 "$port"
   create
 done
 sleep 10
