@@ -13,7 +13,7 @@ set -eu
 . "$(dirname "$0")/tables.sh"
 need gcc
 gcc -O2 -shared -fPIC -o "$work/refuse.so" "$root/bench/refuse.c" || stop "bench/refuse.c was not built"
-build refused "${1:-/dev/shm}" ci_test_servers ci_server
+build refused "${1:-/dev/shm}" ci_server_fixtures ci_server
 ended=0
 
 # tried ENDS WORD..: these ends are as wanted.

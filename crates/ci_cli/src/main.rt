@@ -1,7 +1,7 @@
 //! The program `ciserver`.
 #![tactic(auto)]
 
-use ci_program::{Sources, command, refuse_memory};
+use ci_cli_commands::{Sources, command, refuse_memory};
 use std::env;
 use std::process::ExitCode;
 

@@ -2,7 +2,7 @@
 use Rattle.std.proofs.Common.{◌≡◌, ◌⊎◌, inl, inr, ℕ, Bool, true, false, cond, List, [], ◌∷◌, ◌++◌, Option, Some, None, Result, Ok, Err, not, length, refl, sym, ◌∙◌, ap, subst}
 use Rattle.std.specs.Prelude.{nat_lt}
 use Rattle.ci_values.specs.Names.{is_name}
-use Rattle.ci_words.specs.Table.{meaning_of, word_in}
+use Rattle.ci_values.specs.Table.{meaning_of, word_in}
 use Rattle.ci_yaml_lines.specs.Tree.{sequence, mapping, Value, null, boolean, number, text, node, Members, no_members, member}
 use Rattle.ci_expr.specs.declared.fault.ExprCode.{ExprCode}
 use Rattle.ci_expr.specs.declared.fault.ExprCode.TheVariants.{X8}

@@ -4,7 +4,7 @@ use Rattle.std.specs.Prelude.{nat_lt, nat_le, option_map, sum_by}
 use Rattle.std.specs.Global.{Vec}
 use Rattle.std.proofs.lemmas.List.Sums.{sum_by-cons}
 use Rattle.ci_values.specs.Names.{is_name}
-use Rattle.ci_words.specs.Table.{meaning_of, word_in}
+use Rattle.ci_values.specs.Table.{meaning_of, word_in}
 use Rattle.ci_yaml_lines.specs.Tree.{Value}
 use Rattle.ci_expr.specs.Built.{formula_of, pattern_bytes}
 use Rattle.ci_expr.specs.Computed.{expression_of}

@@ -3,10 +3,10 @@ use Rattle.std.proofs.Common.{◌≡◌, ◌≢◌, ℕ, Bool, true, false, cond
 use Rattle.std.specs.Prelude.{nat_lt, ⊤}
 use Rattle.ci_values.specs.Names.{is_name}
 use Rattle.ci_values.specs.declared.when.Causes.{Causes}
-use Rattle.ci_words.specs.Duration.{duration_of}
-use Rattle.ci_words.specs.Layers.{Variables}
-use Rattle.ci_words.specs.Name.{is_variable_name}
-use Rattle.ci_words.specs.Table.{meaning_of, word_in}
+use Rattle.ci_values.specs.Duration.{duration_of}
+use Rattle.ci_values.specs.Layers.{Variables}
+use Rattle.ci_values.specs.VariableName.{is_variable_name}
+use Rattle.ci_values.specs.Table.{meaning_of, word_in}
 use Rattle.ci_yaml_lines.specs.Tree.{sequence, mapping, Value, null, boolean, number, text, node}
 use Rattle.ci_expr.specs.declared.fault.ExprCode.{ExprCode}
 use Rattle.ci_expr.specs.declared.fault.ExprCode.TheVariants.{X1, X2, X3, X4, X5, X6, X7, X8}

@@ -3,9 +3,9 @@ use Rattle.std.proofs.Common.{◌≡◌, ℕ, ◌<◌, ◌≤◌, Bool, true, fa
 use Rattle.std.specs.Prelude.{nat_lt, filter, unwrap_or}
 use Rattle.std.proofs.lemmas.Bool.Decides.{nat_tests}
 use Rattle.ci_values.specs.Names.{is_name}
-use Rattle.ci_words.specs.Layers.{Variables}
-use Rattle.ci_words.specs.Name.{is_variable_name}
-use Rattle.ci_words.specs.Table.{meaning_of, word_in}
+use Rattle.ci_values.specs.Layers.{Variables}
+use Rattle.ci_values.specs.VariableName.{is_variable_name}
+use Rattle.ci_values.specs.Table.{meaning_of, word_in}
 use Rattle.ci_yaml_lines.specs.Tree.{Value}
 use Rattle.ci_config.specs.AllowFailures.{allow_failure_of}
 use Rattle.ci_config.specs.Config.{Text, Need, Rule, Job, Config}

@@ -4,7 +4,7 @@ use Rattle.ci_values.specs.declared.when.When.{When}
 use Rattle.ci_values.specs.declared.when.Retry.{Retry}
 use Rattle.ci_values.specs.declared.when.AllowFailure.{AllowFailure}
 use Rattle.ci_expr.specs.Formula.{Formula}
-use Rattle.ci_words.specs.Layers.{Variables}
+use Rattle.ci_values.specs.Layers.{Variables}
 use Rattle.ci_config.specs.declared.keyword.RuleWhen.{RuleWhen}
 
 abbrev pub Text : Type 0

@@ -3,8 +3,8 @@ use Rattle.std.specs.Prelude.{ℕ, Bool, false, List, [], ◌∷◌, ◌++◌, l
 use Rattle.std.specs.Str.{bytes_eq}
 use Rattle.std.specs.List.{list_any}
 use Rattle.ci_values.specs.Names.{is_name}
-use Rattle.ci_words.specs.Layers.{Variables}
-use Rattle.ci_words.specs.Table.{meaning_of, word_in}
+use Rattle.ci_values.specs.Layers.{Variables}
+use Rattle.ci_values.specs.Table.{meaning_of, word_in}
 use Rattle.ci_yaml_lines.specs.Tree.{Value}
 use Rattle.ci_config.specs.Fault.{Fault, K2, K7, K11, K16}
 use Rattle.ci_config.specs.Reading.{◌>>=◌, demand, each, entries}

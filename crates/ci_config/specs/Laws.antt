@@ -1,8 +1,8 @@
 -- What holds of each tree, and of each configuration.
 use Rattle.std.specs.Prelude.{◌≡◌, ◌≤◌, true, false, List, [], ◌∷◌, length, Ok, IfSome, ⊤}
 use Rattle.ci_values.specs.Names.{is_name}
-use Rattle.ci_words.specs.Layers.{Variables}
-use Rattle.ci_words.specs.Name.{is_variable_name}
+use Rattle.ci_values.specs.Layers.{Variables}
+use Rattle.ci_values.specs.VariableName.{is_variable_name}
 use Rattle.ci_yaml_lines.specs.Tree.{Value, null, boolean, number, text, node, Members, no_members, member}
 use Rattle.ci_expr.specs.Formula.{Formula, has_pattern}
 use Rattle.ci_config.specs.Config.{Text, Job, Config}

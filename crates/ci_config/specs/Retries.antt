@@ -3,7 +3,7 @@ use Rattle.std.specs.Prelude.{ℕ, true, false, List, Option, Some, None, Result
 use Rattle.ci_values.specs.declared.attempts.Cause.TheVariants.{UnknownFailure, ScriptFailure, ApiFailure, StuckOrTimeoutFailure, RunnerSystemFailure, JobExecutionTimeout}
 use Rattle.ci_values.specs.declared.when.Causes.{Causes}
 use Rattle.ci_values.specs.declared.when.Retry.{Retry}
-use Rattle.ci_words.specs.Table.{meaning_of}
+use Rattle.ci_values.specs.Table.{meaning_of}
 use Rattle.ci_yaml_lines.specs.Tree.{Value}
 use Rattle.ci_config.specs.Fault.{Fault, K9}
 use Rattle.ci_config.specs.Reading.{◌>>=◌, or_fault, entries, keyword_of}

@@ -2,8 +2,8 @@
 use Rattle.std.specs.Prelude.{ℕ, ℤ, pos, negsuc, Bool, true, false, List, [], ◌∷◌, length, Option, Some, None, Result, Ok, Err, nat_lt, nat_le, if◌then◌else◌}
 use Rattle.std.specs.Fmt.{signed_decimal}
 use Rattle.ci_values.specs.Names.{is_name}
-use Rattle.ci_words.specs.Name.{is_variable_name}
-use Rattle.ci_words.specs.Duration.{duration_of}
+use Rattle.ci_values.specs.VariableName.{is_variable_name}
+use Rattle.ci_values.specs.Duration.{duration_of}
 use Rattle.ci_yaml_lines.specs.Tree.{sequence, mapping, Value, boolean, number, text, node, Members, no_members, member}
 use Rattle.ci_config.specs.Fault.{Fault, K4, K10, K11, K12, K16}
 use Rattle.ci_config.specs.Reading.{◌>>=◌, demand, or_fault, each}

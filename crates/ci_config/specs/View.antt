@@ -2,7 +2,7 @@
 use Rattle.std.specs.Prelude.{ℕ, List, map, option_map}
 use Rattle.std.specs.Borrow.{Bor}
 use Rattle.std.specs.Global.{Vec}
-use Rattle.ci_words.specs.Layers.{text_view}
+use Rattle.ci_values.specs.Layers.{text_view}
 use Rattle.ci_yaml_lines.specs.Tree.{Value}
 use Rattle.ci_yaml_lines.specs.TreeView.{bytes_of, value_view, words_of}
 use Rattle.ci_yaml_lines.specs.declared.tree.Text.{Text}

@@ -1,7 +1,7 @@
 -- When a job runs.
 use Rattle.std.specs.Prelude.{Result, Ok, Err, codes}
 use Rattle.ci_values.specs.declared.when.When.{When}
-use Rattle.ci_words.specs.Table.{meaning_of}
+use Rattle.ci_values.specs.Table.{meaning_of}
 use Rattle.ci_yaml_lines.specs.Tree.{Value}
 use Rattle.ci_config.specs.Fault.{Fault, K2, K8, K14}
 use Rattle.ci_config.specs.Reading.{◌>>=◌, or_fault}

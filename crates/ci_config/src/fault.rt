@@ -1,14 +1,14 @@
 //! Why a tree configures nothing.
 
 ghost use Rattle.std.specs.Prelude.{◌≡◌, Some, Ok};
-ghost use Rattle.ci_words.specs.Table.{table_view, words_view};
+ghost use Rattle.ci_values.specs.Table.{table_view, words_view};
 ghost use Rattle.ci_config.specs.declared.fault.ConfigFault.TheVariants.{Memory};
 ghost use Rattle.ci_config.specs.Fault.{said};
 ghost use Rattle.ci_config.specs.FaultView.{code_view, Gives};
 ghost use Rattle.ci_config.specs.Reading.{other_key, keyword_of};
 
 use ci_expr::ExprCode;
-use ci_words::{meaning_of, word_in};
+use ci_values::{meaning_of, word_in};
 use std::alloc::{AllocError, AllocFailed};
 use std::fmt;
 

@@ -1,7 +1,7 @@
 //! The top level of a file.
 
 ghost use Rattle.std.specs.Prelude.{◌≡◌, Result, Ok, map, option_map, unwrap_or};
-ghost use Rattle.ci_words.specs.Table.{words_view, word_in};
+ghost use Rattle.ci_values.specs.Table.{words_view, word_in};
 ghost use Rattle.ci_yaml_lines.specs.TreeView.{value_view};
 ghost use Rattle.ci_config.specs.Answer.{Tells, fault_or};
 ghost use Rattle.ci_config.specs.Config.{Config as Meant};
@@ -11,7 +11,7 @@ ghost use Rattle.ci_config.specs.Files.{is_among, stage_in, stages_of, is_hidden
 ghost use Rattle.ci_config.specs.Tables.{file_left_out};
 ghost use Rattle.ci_config.specs.Meaning.{is_inner, all_stages, default_stages, job_judged, jobs_judged, judged, config_of, file_config};
 ghost use Rattle.ci_config.specs.View.{pairs_view, texts_view, job_view, file_parts_view, config_view};
-ghost use Rattle.ci_words.specs.Layers.{text_view};
+ghost use Rattle.ci_values.specs.Layers.{text_view};
 
 use crate::fault::{ConfigCode, ConfigFault};
 use crate::job::{JobSpec, job_from};
@@ -20,7 +20,7 @@ use crate::limits::{MAX_JOBS, MAX_STAGES};
 use crate::tree::{list_of, map_of, text_of};
 use crate::value::{Variable, variables_of};
 use ci_values::text::is_name;
-use ci_words::{meaning_of, word_in};
+use ci_values::{meaning_of, word_in};
 use ci_yaml_lines::tree::{Text, Tree};
 use std::alloc::Global;
 

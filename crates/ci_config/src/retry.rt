@@ -12,8 +12,8 @@ use crate::limits::MAX_RETRIES;
 use crate::tree::{is_number, is_text, list_of, map_of, text_of};
 use crate::value::number_up_to;
 use ci_values::attempts::Cause;
+use ci_values::meaning_of;
 use ci_values::when::{Causes, Retry};
-use ci_words::meaning_of;
 use ci_yaml_lines::tree::{Text, Tree};
 
 /// What the entries of a retry say.

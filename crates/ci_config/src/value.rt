@@ -1,7 +1,7 @@
 //! Values: names, numbers, durations, lists of texts, and variables.
 
 ghost use Rattle.std.specs.Prelude.{◌≡◌, ℕ, List, length, Ok, IfOk, IfErr};
-ghost use Rattle.ci_words.specs.Duration.{IsDuration};
+ghost use Rattle.ci_values.specs.Duration.{IsDuration};
 ghost use Rattle.ci_yaml_lines.specs.TreeView.{value_view, words_of};
 ghost use Rattle.ci_config.specs.FaultView.{code_view, Gives};
 ghost use Rattle.ci_config.specs.Values.{plain_of, name_of, up_to, number_up_to, lasting, timeout_of, text_in, name_in, variable_in, texts_of, names_of, variables_of};
@@ -12,8 +12,8 @@ ghost use Rattle.ci_config.specs.declared.fault.ConfigFault.TheVariants as fault
 use crate::fault::{ConfigCode, ConfigFault};
 use crate::limits::MAX_VARIABLES;
 use crate::tree::{list_of, map_of, number_of, text_of};
+use ci_values::is_variable_name;
 use ci_values::text::is_name;
-use ci_words::is_variable_name;
 use ci_yaml_lines::tree::{Tree, Words};
 use std::alloc::Global;
 
@@ -81,7 +81,7 @@ pub fn duration(text: &str) -> Result<u32, ConfigFault>
     // The same, computed.
     ensures value { Gives (λ n. n) result (lasting text.now) }
 {
-    match ci_words::duration(text) {
+    match ci_values::duration(text) {
         Some(seconds) => Ok(seconds),
         None => Err(ConfigFault::Fault(ConfigCode::K10)),
     }

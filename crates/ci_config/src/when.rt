@@ -8,8 +8,8 @@ ghost use Rattle.ci_config.specs.Whens.{when_word, when_of, rule_when_of};
 use crate::fault::{ConfigCode, ConfigFault};
 use crate::keyword::{RuleWhen, WHENS, WhenWord};
 use crate::tree::text_of;
+use ci_values::meaning_of;
 use ci_values::when::When;
-use ci_words::meaning_of;
 use ci_yaml_lines::tree::Tree;
 
 /// A word of `when`.

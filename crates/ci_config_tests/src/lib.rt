@@ -1,15 +1,5 @@
-//! Tests of what a CI file configures, each on rows that were worked out by hand.
+//! Tests of what is said of a CI file where a reader or a writer fails.
 #![tactic(auto)]
 
 #[cfg(test)]
-mod answer;
-#[cfg(test)]
-mod faults;
-#[cfg(test)]
-mod limits;
-#[cfg(test)]
-mod orders;
-#[cfg(test)]
-mod records;
-#[cfg(test)]
-mod words;
+mod verdicts;

@@ -12,9 +12,9 @@ use Rattle.ci_machine.specs.declared.request.Seed.{Seed}
 use Rattle.ci_machine.specs.Reply.{refusal}
 use Rattle.ci_server.specs.declared.fail_stop.FailStop.{FailStop}
 use Rattle.ci_server.specs.Server.{Handles}
-use Rattle.ci_http.specs.Reading.{Message, Reading, ended, refused, request, IsReading, AwaitsBody}
-use Rattle.ci_http.specs.RequestBytes.{request_in, AsksMemory}
-use Rattle.ci_http.specs.Sources.{Tells}
+use Rattle.ci_http_messages.specs.Reading.{Message, Reading, ended, refused, request, IsReading, AwaitsBody}
+use Rattle.ci_http_messages.specs.RequestBytes.{request_in, AsksMemory}
+use Rattle.ci_http_messages.specs.Sources.{Tells}
 
 -- memory is asked for while such bytes are read: their head is whole and says that a body follows, which is what is left; or they
 -- begin with a request, and its meaning takes memory

@@ -3,27 +3,28 @@
 ghost use Rattle.std.specs.Prelude.{◌≡◌, ◌<◌, ◌+◌, ◌++◌, ◌⊎◌, length, Err, IfOk, IfSome, IfNone, OnOk, OnErr};
 ghost use Rattle.std.specs.Io.KnownBytes.{Appends};
 ghost use Rattle.ci_machine.specs.declared.reply.Reply.{Reply};
-ghost use Rattle.ci_http.specs.Reading.{ended, IsReading};
-ghost use Rattle.ci_http.specs.ReplyText.{reply_text};
-ghost use Rattle.ci_http.specs.RequestBytes.{request_in, AsksMemory};
+ghost use Rattle.ci_http_messages.specs.Reading.{ended, IsReading};
+ghost use Rattle.ci_http_messages.specs.ReplyText.{reply_text};
+ghost use Rattle.ci_http_messages.specs.RequestBytes.{request_in, AsksMemory};
 ghost use Rattle.ci_http.specs.Serving.{AnswersAsked, LacksMemory, Serves, WritesFront};
-ghost use Rattle.ci_http.specs.Sources.{Tells, TakesFront, Fails};
-ghost use Rattle.ci_http.specs.declared.limits.TheConstants.{MAX_JOINED_BYTES};
+ghost use Rattle.ci_http_messages.specs.Sources.{Tells, TakesFront, Fails};
 
-use crate::call::{Call, read_request};
-use crate::fault::HttpFault;
-use crate::limits::MAX_JOINED_BYTES;
-use crate::link::{Failed, Sink, Source};
-use crate::route::request_of;
-use crate::text::reply_bytes;
 use arrayvec::ArrayVec;
+use ci_http_messages::call::{Call, read_request};
+use ci_http_messages::fault::HttpFault;
+use ci_http_messages::link::{Failed, Sink, Source};
+use ci_http_messages::route::request_of;
+use ci_http_messages::text::reply_bytes;
+use ci_http_routes::paths::Paths;
 use ci_machine::moment::Moment;
 use ci_machine::reply::{Code, Reply};
 use ci_machine::request::Seed;
-use ci_routes::paths::Paths;
 use ci_server::server::Server;
 use ci_store::Alter;
 use std::alloc::Global;
+
+/// The longest reply that is written by one call, in bytes: its head and its body.
+pub const MAX_JOINED_BYTES: usize = 4096;
 
 /// What became of one request.
 #[derive(Clone, Copy, Drop, PartialEq, Eq)]

@@ -1,7 +1,15 @@
-//! Tests of requests and replies over bytes: what a request means, what is written, and readers and writers that fail.
+//! Tests of the parts of a request, of readers and writers that fail, of what bodies, ranges and numbers say, and of the table of routes.
 #![tactic(auto)]
 
 #[cfg(test)]
+mod creations;
+#[cfg(test)]
+mod look_ups;
+#[cfg(test)]
+mod numbers;
+#[cfg(test)]
 mod requests;
 #[cfg(test)]
-mod serving;
+mod texts;
+#[cfg(test)]
+mod updates;

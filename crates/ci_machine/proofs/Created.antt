@@ -7,12 +7,12 @@ use Rattle.std.proofs.lemmas.Bool.{cond_both, ltb-false}
 use Rattle.ci_config.specs.Config as config
 use Rattle.ci_config.specs.Config.{Text, Config}
 use Rattle.ci_graph.specs.Pairs.{AreWithin}
-use Rattle.ci_layout.proofs.Within.{pairs_within}
-use Rattle.ci_layout.specs.Inclusion.{Given, IncludedJob, included}
-use Rattle.ci_layout.specs.Layout as layout
-use Rattle.ci_layout.specs.Layout.{all_included, is_of, by_stage, lineup, pairs}
-use Rattle.ci_layout.specs.Fault.{Plan, Plans, faulty, cyclic, planned}
-use Rattle.ci_layout.specs.declared.fault.GraphCode.{GraphCode}
+use Rattle.ci_graph_layout.proofs.Within.{pairs_within}
+use Rattle.ci_graph_layout.specs.Inclusion.{Given, IncludedJob, included}
+use Rattle.ci_graph_layout.specs.Layout as layout
+use Rattle.ci_graph_layout.specs.Layout.{all_included, is_of, by_stage, lineup, pairs}
+use Rattle.ci_graph_layout.specs.Fault.{Plan, Plans, faulty, cyclic, planned}
+use Rattle.ci_graph_layout.specs.declared.fault.GraphCode.{GraphCode}
 use Rattle.ci_machine.specs.declared.records.Job.{Job}
 use Rattle.ci_machine.specs.declared.records.JobVariable.{JobVariable}
 use Rattle.ci_machine.specs.declared.records.Need.{Need}

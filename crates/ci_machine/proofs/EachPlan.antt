@@ -20,8 +20,8 @@ use Rattle.ci_machine.specs.declared.records.QueuedJob.{QueuedJob}
 use Rattle.ci_machine.specs.declared.records.JobVariable.{JobVariable}
 use Rattle.ci_config.specs.Config.{Config}
 use Rattle.ci_config.specs.declared.limits.TheConstants.{MAX_VARIABLES, MAX_TAGS}
-use Rattle.ci_words.specs.Name.{is_variable_name}
-use Rattle.ci_layout.specs.Inclusion.{Given}
+use Rattle.ci_values.specs.VariableName.{is_variable_name}
+use Rattle.ci_graph_layout.specs.Inclusion.{Given}
 use Rattle.ci_board.specs.declared.facts.Facts.{Facts}
 use Rattle.ci_board.specs.declared.facts.Row.{Row}
 use Rattle.ci_machine.specs.declared.records.Variable.{Variable}

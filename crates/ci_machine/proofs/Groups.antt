@@ -71,7 +71,7 @@ only_one : (b : Bool) → (b || false) ≡ true → b ≡ true
 only_one true e = refl
 only_one false e = absurd (false≢true e)
 
-not_true : (b : Bool) → not b ≡ true → b ≡ false
+pub not_true : (b : Bool) → not b ≡ true → b ≡ false
 not_true true e = absurd (false≢true e)
 not_true false e = refl
 

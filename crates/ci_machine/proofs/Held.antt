@@ -30,7 +30,7 @@ use Rattle.ci_machine.specs.State.{State, empty, applied, placed, put, others, v
 use Rattle.ci_machine.specs.Statuses.{attempts_of, AreBoard}
 use Rattle.ci_machine.specs.Leases.{is_live, cause_of, is_over, first_due}
 use Rattle.ci_machine.specs.Plans.{Plan}
-use Rattle.ci_layout.specs.Inclusion.{Given}
+use Rattle.ci_graph_layout.specs.Inclusion.{Given}
 use Rattle.ci_machine.specs.Pipelines.{Layout, IsLaidOut, creation}
 use Rattle.ci_machine.specs.Sweeps.{sweep}
 use Rattle.ci_machine.specs.Traces.{grown as traces_grown}

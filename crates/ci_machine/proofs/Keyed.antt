@@ -251,3 +251,8 @@ contains_named id n xs w = contains_from_has n (map id xs) (subst (λ m. Has m (
 
 pub named_contains : {A : Type 0} (id : A → ℕ) (n : ℕ) (xs : List A) → Contains (map id xs) n → Named id n xs
 named_contains id n xs c = map_has id n xs (has_from_contains n (map id xs) c)
+
+-- tests that agree on a list's members filter it alike
+pub filter_same : {A : Type 0} (p q : A → Bool) (xs : List A) → ((x : A) → Has x xs → p x ≡ q x) → filter p xs ≡ filter q xs
+filter_same p q [] h = refl
+filter_same p q (x ∷ xs) h = λ i. cond (h x (inl refl) i) (x ∷ filter_same p q xs (λ y k. h y (inr k)) i) (filter_same p q xs (λ y k. h y (inr k)) i)

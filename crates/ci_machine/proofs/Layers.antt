@@ -12,10 +12,10 @@ use Rattle.std.proofs.lemmas.Bool.{cond_both, cond-false, both_ways, cases_Bool,
 use Rattle.std.proofs.lemmas.Cmp.{on_total, nat_list_cmp_total}
 use Rattle.std.proofs.lemmas.Map.Text.{is_eq-slice_cmp}
 use Rattle.std.proofs.lemmas.Slice.Eq.{bytes_eq-Decides}
-use Rattle.ci_words.specs.Layers.{Variables, or_else, value_in}
-use Rattle.ci_words.specs.Table.{meaning_of}
+use Rattle.ci_values.specs.Layers.{Variables, or_else, value_in}
+use Rattle.ci_values.specs.Table.{meaning_of}
 use Rattle.ci_config.specs.Config.{Config, Job}
-use Rattle.ci_layout.specs.Inclusion.{Given, layered, own_names}
+use Rattle.ci_graph_layout.specs.Inclusion.{Given, layered, own_names}
 use Rattle.ci_machine.specs.State.{placed, others, put}
 use Rattle.ci_machine.specs.Pipelines.{name_cmp, merged}
 use Rattle.ci_machine.proofs.Keyed.{Has, has_filter}

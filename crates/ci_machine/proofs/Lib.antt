@@ -1,6 +1,7 @@
 pub mod EachPlan
 pub mod Tokens
 pub mod Keyed
+pub mod Parts
 pub mod Counts
 pub mod Pieces
 pub mod Grants

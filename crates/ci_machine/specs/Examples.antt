@@ -6,12 +6,12 @@ use Rattle.ci_board.specs.declared.facts.Status.{Status}
 use Rattle.ci_board.specs.declared.facts.Status.TheVariants.{Pending}
 use Rattle.ci_board.specs.declared.facts.Row.{Row}
 use Rattle.ci_board.specs.Rows.{no_row}
-use Rattle.ci_words.specs.Layers.{Variables}
+use Rattle.ci_values.specs.Layers.{Variables}
 use Rattle.ci_config.specs.Config.{Config}
-use Rattle.ci_layout.specs.Inclusion.{Given, layered, included}
-use Rattle.ci_layout.specs.Layout.{put, lineup, pairs}
-use Rattle.ci_layout.specs.Examples as layout
-use Rattle.ci_layout.specs.Examples.{file}
+use Rattle.ci_graph_layout.specs.Inclusion.{Given, layered, included}
+use Rattle.ci_graph_layout.specs.Layout.{put, lineup, pairs}
+use Rattle.ci_graph_layout.specs.Examples as layout
+use Rattle.ci_graph_layout.specs.Examples.{file}
 use Rattle.ci_machine.specs.declared.records.BoardRow.{BoardRow}
 use Rattle.ci_machine.specs.declared.lease.Lease.{Lease}
 use Rattle.ci_machine.specs.declared.records.Project.{Project}

@@ -7,7 +7,7 @@ use Rattle.std.specs.List.Sorted.{IsStrictlySortedBy}
 use Rattle.serde_json.specs.Written.{compact_text}
 use Rattle.ci_config.specs.Config as config
 use Rattle.ci_config.specs.Config.{Config}
-use Rattle.ci_layout.specs.Inclusion.{IncludedJob, included}
+use Rattle.ci_graph_layout.specs.Inclusion.{IncludedJob, included}
 use Rattle.ci_machine.specs.declared.records.Project.{Project}
 use Rattle.ci_machine.specs.declared.records.Runner.{Runner}
 use Rattle.ci_machine.specs.declared.records.Pipeline.{Pipeline}

@@ -9,19 +9,19 @@ use Rattle.std.specs.Str.{bytes_eq}
 use Rattle.serde_json.specs.Written.{compact_text}
 use Rattle.ci_values.specs.Names.{is_name}
 use Rattle.ci_values.specs.declared.limits.TheConstants.{MAX_NUMBER}
-use Rattle.ci_words.specs.Layers.{Variables}
-use Rattle.ci_words.specs.Name.{is_variable_name}
+use Rattle.ci_values.specs.Layers.{Variables}
+use Rattle.ci_values.specs.VariableName.{is_variable_name}
 use Rattle.ci_config.specs.Config.{Config}
 use Rattle.ci_config.specs.declared.limits.TheConstants.{MAX_VARIABLES}
 use Rattle.ci_graph.specs.JobGraph.{no_part}
 use Rattle.ci_board.specs.declared.facts.Row.{Row}
 use Rattle.ci_board.specs.Rows.{AreRows, no_facts}
-use Rattle.ci_layout.specs.Inclusion.{Given, IncludedJob, layered}
-use Rattle.ci_layout.specs.Parts.{job_part}
-use Rattle.ci_layout.specs.Fault.{Plans}
-use Rattle.ci_layout.specs.Fault as layout
-use Rattle.ci_layout.specs.declared.fault.GraphCode.{GraphCode}
-use Rattle.ci_layout.specs.declared.fault.GraphCode.TheVariants.{G1, G2, G3, G4, G5}
+use Rattle.ci_graph_layout.specs.Inclusion.{Given, IncludedJob, layered}
+use Rattle.ci_graph_layout.specs.Parts.{job_part}
+use Rattle.ci_graph_layout.specs.Fault.{Plans}
+use Rattle.ci_graph_layout.specs.Fault as layout
+use Rattle.ci_graph_layout.specs.declared.fault.GraphCode.{GraphCode}
+use Rattle.ci_graph_layout.specs.declared.fault.GraphCode.TheVariants.{G1, G2, G3, G4, G5}
 use Rattle.ci_machine.specs.declared.limits.TheConstants.{DEFAULT_TIMEOUT_SECONDS}
 use Rattle.ci_machine.specs.declared.records.Project.{Project}
 use Rattle.ci_machine.specs.declared.records.Variable.{Variable}

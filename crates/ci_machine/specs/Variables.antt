@@ -1,7 +1,7 @@
 -- The variables of a project: one is to have a value, or to go.
 use Rattle.std.specs.Prelude.{ℕ, ◌+◌, not, List, [], ◌∷◌, length, filter, if◌then◌else◌, nat_lt, Option, Some, None, Result, Ok, Err}
 use Rattle.std.specs.Str.{bytes_eq}
-use Rattle.ci_words.specs.Name.{is_variable_name}
+use Rattle.ci_values.specs.VariableName.{is_variable_name}
 use Rattle.ci_config.specs.declared.limits.TheConstants.{MAX_VARIABLES}
 use Rattle.ci_machine.specs.declared.records.Project.{Project}
 use Rattle.ci_machine.specs.declared.records.Variable.{Variable}

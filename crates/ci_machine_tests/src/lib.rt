@@ -1,5 +1,13 @@
-//! Tests of the machine's public calls, each on rows that were worked out by hand.
+//! Tests of the machine and of the rows and pipelines that it works out, on rows that were worked out by hand.
 #![tactic(auto)]
 
 #[cfg(test)]
-mod tests;
+mod decisions;
+#[cfg(test)]
+mod layouts;
+#[cfg(test)]
+mod outcomes;
+#[cfg(test)]
+mod records;
+#[cfg(test)]
+mod statuses;

@@ -10,13 +10,13 @@ use Rattle.ci_machine.specs.Kept.{Kept, put_rows, written}
 use Rattle.ci_machine.specs.Sound.{IsSound}
 use Rattle.ci_machine.specs.History.{IsReached}
 use Rattle.ci_machine.specs.Step.{Happens, Step}
-use Rattle.ci_tables.specs.declared.fault.StoreFault.{StoreFault}
-use Rattle.ci_tables.specs.declared.fault.StoreFault.TheVariants.{Memory, Broken}
+use Rattle.ci_store_tables.specs.declared.fault.StoreFault.{StoreFault}
+use Rattle.ci_store_tables.specs.declared.fault.StoreFault.TheVariants.{Memory, Broken}
 use Rattle.ci_store.specs.Store.{Ends, UnlessBroken}
 use Rattle.ci_server.specs.declared.fail_stop.FailStop.{FailStop}
 use Rattle.ci_machine.specs.Reply.{outcome_of}
-use Rattle.ci_events.specs.declared.planned.Beside.{Beside}
-use Rattle.ci_events.specs.Planning.{Settles}
+use Rattle.ci_server_events.specs.declared.planned.Beside.{Beside}
+use Rattle.ci_server_events.specs.Planning.{Settles}
 use Rattle.ci_server.specs.Holding.{IsKeptOf, Holds, Leaves}
 use Rattle.ci_server.specs.Handling.{Call, answer_by, closed_by, Performs, Handled, answered, no_memory, look_failed, commit_failed}
 use Rattle.ci_server.specs.Server.{HandlesBy}

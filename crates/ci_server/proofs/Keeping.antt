@@ -14,9 +14,9 @@ use Rattle.ci_machine.specs.Statuses.{AreBoard}
 use Rattle.ci_machine.specs.Holders.{AreHolders}
 use Rattle.ci_store.specs.Create.{IsBlank}
 use Rattle.ci_store.specs.Stands.{IsAt, LeavesOnly}
-use Rattle.ci_lookups.specs.Keeps.{IsKept}
-use Rattle.ci_events.specs.declared.planned.Beside.{Beside}
-use Rattle.ci_events.specs.Planning.{Settles}
+use Rattle.ci_server_lookups.specs.Keeps.{IsKept}
+use Rattle.ci_server_events.specs.declared.planned.Beside.{Beside}
+use Rattle.ci_server_events.specs.Planning.{Settles}
 use Rattle.ci_server.specs.Holding.{IsKeptOf, StandsFor, KeepsGroups}
 use Rattle.ci_server.specs.Server.{IsHonest, Creates, Opens}
 

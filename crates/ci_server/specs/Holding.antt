@@ -10,7 +10,7 @@ use Rattle.ci_machine.specs.Kept.{Kept}
 use Rattle.ci_machine.specs.Statuses.{AreBoard}
 use Rattle.ci_machine.specs.Holders.{AreHolders}
 use Rattle.ci_machine.specs.Indexes.{AreIndexes}
-use Rattle.ci_tables.specs.Stands as tables
+use Rattle.ci_store_tables.specs.Stands as tables
 use Rattle.ci_store.specs.Schema as table
 use Rattle.ci_store.specs.Rows.{holder_row}
 use Rattle.ci_store.specs.Stands.{StandsIn, IsAt, LeavesEither}

@@ -11,12 +11,12 @@ ghost use Rattle.ci_store.specs.Store.{Ends};
 ghost use Rattle.ci_server.specs.Handling.{Performs};
 ghost use Rattle.ci_server.specs.Holding.{Holds, Leaves};
 
-use ci_events::events::plan_request;
-use ci_events::planned::{Beside, Planned};
-use ci_events::sweeps::plan_sweep;
 use ci_machine::moment::Moment;
 use ci_machine::reply::{Reply, Swept};
 use ci_machine::request::{Request, Seed};
+use ci_server_events::events::plan_request;
+use ci_server_events::planned::{Beside, Planned};
+use ci_server_events::sweeps::plan_sweep;
 use ci_store::fault::StoreFault;
 use ci_store::store::Store;
 use std::alloc::Global;

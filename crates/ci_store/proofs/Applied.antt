@@ -8,7 +8,7 @@ use Rattle.ci_machine.specs.declared.records.BoardRow.{BoardRow}
 use Rattle.ci_machine.specs.State.{State, put, applied, changed}
 use Rattle.ci_machine.specs.declared.change.RowChange.{RowChange}
 use Rattle.ci_machine.specs.declared.change.IndexChange.{IndexChange}
-use Rattle.ci_store.specs.Commit.{Makes}
+use Rattle.ci_store_rows.specs.Changes.{Makes}
 
 applied_is : (cs : List RowChange) (s : State) → applied cs s ≡ fold (λ s c. changed c s) s cs
 applied_is [] s = refl

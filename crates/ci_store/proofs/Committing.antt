@@ -10,12 +10,13 @@ use Rattle.ci_machine.specs.Kept.{Kept, nothing_kept, written}
 use Rattle.ci_machine.specs.declared.records.BoardRow.{BoardRow}
 use Rattle.ci_machine.specs.declared.change.RowChange.{RowChange}
 use Rattle.ci_machine.specs.declared.change.IndexChange.{IndexChange}
-use Rattle.ci_tables.specs.declared.fault.StoreFault.{StoreFault}
+use Rattle.ci_store_tables.specs.declared.fault.StoreFault.{StoreFault}
 use Rattle.ci_store.specs.declared.commit.Ended.{Ended}
 use Rattle.ci_store.specs.declared.commit.Ended.TheVariants.{Undone, Unknown}
-use Rattle.ci_store.specs.Commit.{is_done, Makes, CommitsAll, IsBack, IsDone}
-use Rattle.ci_store.specs.Create.{IsBlank}
-use Rattle.ci_store.specs.Stands.{Stands, StandsIn, IsAt, LeavesEither}
+use Rattle.ci_store_rows.specs.Changes.{Makes}
+use Rattle.ci_store.specs.Commit.{is_done, CommitsAll, IsBack, IsDone}
+use Rattle.ci_store_rows.specs.Create.{IsBlank}
+use Rattle.ci_store_rows.specs.Stands.{Stands, StandsIn, IsAt, LeavesEither}
 
 pub not_done : {ended : Ended} {fault : StoreFault} → (ended ≡ Undone fault) ⊎ (ended ≡ Unknown fault) → is_done ended ≡ false
 not_done (inl is) = ap is_done is

@@ -1,8 +1,9 @@
 -- How loads meet one after the other.
 use Rattle.std.proofs.Common.{◌≡◌, Result, Ok, Err, IfOk, subst}
 use Rattle.ci_machine.specs.Kept.{Kept}
-use Rattle.ci_tables.specs.declared.fault.StoreFault.{StoreFault}
-use Rattle.ci_tables.specs.declared.fault.StoreFault.TheVariants.{Memory, Broken}
+use Rattle.ci_store_tables.specs.declared.fault.StoreFault.{StoreFault}
+use Rattle.ci_store_tables.specs.declared.fault.StoreFault.TheVariants.{Memory, Broken}
+use Rattle.ci_store_rows.proofs.Reading.{if_ok}
 use Rattle.ci_store.specs.Store.{LoadsBy, UnlessBroken}
 
 pub unless_broken : {A P : Type 0} (r : Result A StoreFault) → P → UnlessBroken r P
@@ -13,15 +14,6 @@ unless_broken (Err Broken) p = tt
 same_fault : (A B P : Type 0) (fault : StoreFault) → UnlessBroken {A = A} (Err fault) P → UnlessBroken {A = B} (Err fault) P
 same_fault A B P Memory p = p
 same_fault A B P Broken p = tt
-
-pub if_ok : {A : Type 0} {P Q : A → Type 0} (r : Result A StoreFault) → ((x : A) → P x → Q x) → IfOk r P → IfOk r Q
-if_ok (Ok x) f h = f x h
-if_ok (Err e) f h = tt
-
--- what two clauses say of the answer of a call that ended well
-pub both_ok : {A : Type 0} (P Q : A → Type 0) (r : Result A StoreFault) → IfOk r P → IfOk r Q → IfOk r (λ x. P x × Q x)
-both_ok P Q (Ok x) p q = (p, q)
-both_ok P Q (Err e) p q = tt
 
 module _ {T : Type 0} {honest : T → Type 0} {holds : T → Kept → Type 0} {leaves : T → Kept → Kept → Type 0} where
   -- an answer that follows from another

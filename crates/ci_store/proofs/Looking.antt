@@ -10,11 +10,12 @@ use Rattle.sqlite.specs.Store.{Ghosts}
 use Rattle.sqlite.specs.Held.{Held, state}
 use Rattle.sqlite_trees.specs.View.{doubt}
 use Rattle.ci_machine.specs.Kept.{Kept}
-use Rattle.ci_tables.specs.declared.fault.StoreFault.{StoreFault}
-use Rattle.ci_tables.specs.declared.fault.StoreFault.TheVariants.{Memory, Broken}
-use Rattle.ci_store.specs.Schema.{the_schema}
-use Rattle.ci_store.specs.Stands.{IsAt, LeavesOnly, LeavesEither}
-use Rattle.ci_store.specs.Calls.{Loads, ShowsRecords}
+use Rattle.ci_store_tables.specs.declared.fault.StoreFault.{StoreFault}
+use Rattle.ci_store_tables.specs.declared.fault.StoreFault.TheVariants.{Memory, Broken}
+use Rattle.ci_store_rows.specs.Schema.{the_schema}
+use Rattle.ci_store_rows.specs.Stands.{IsAt, LeavesOnly, LeavesEither}
+use Rattle.ci_store_rows.specs.Found.{ShowsRecords}
+use Rattle.ci_store.specs.Calls.{Loads}
 use Rattle.ci_store.specs.Store.{Ends}
 use Rattle.ci_store.proofs.Loading.{unless_broken, without_load}
 

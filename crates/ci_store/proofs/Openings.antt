@@ -20,22 +20,22 @@ use Rattle.sqlite.specs.declared.error.Error.TheVariants.{SqlInputError}
 use Rattle.sqlite.proofs.Callers.{IsPlain, command_of, one_permutation}
 use Rattle.ci_machine.specs.Kept.{Kept}
 use Rattle.ci_machine.specs.declared.records.Numbers.{Numbers}
-use Rattle.ci_tables.specs.declared.fault.StoreFault.{StoreFault}
-use Rattle.ci_tables.specs.declared.fault.StoreFault.TheVariants.{Memory as Refused, Broken}
-use Rattle.ci_tables.specs.Stands.{has_key}
-use Rattle.ci_tables.proofs.Plain.{is_selecting, plain_under}
-use Rattle.ci_tables.proofs.Selects.{selects_of}
-use Rattle.ci_store.specs.declared.texts.TheConstants.{SELECT_META}
+use Rattle.ci_store_tables.specs.declared.fault.StoreFault.{StoreFault}
+use Rattle.ci_store_tables.specs.declared.fault.StoreFault.TheVariants.{Memory as Refused, Broken}
+use Rattle.ci_store_tables.specs.Stands.{has_key}
+use Rattle.ci_store_tables.proofs.Plain.{is_selecting, plain_under}
+use Rattle.ci_store_tables.proofs.Selects.{selects_of}
+use Rattle.ci_store_rows.specs.declared.texts.TheConstants.{SELECT_META}
 use Rattle.ci_store.specs.declared.tables.OpenFault.{OpenFault}
 use Rattle.ci_store.specs.declared.tables.OpenFault.TheVariants.{O1, O2, O3, Memory}
-use Rattle.ci_store.specs.Schema.{the_schema, meta}
-use Rattle.ci_store.specs.Create.{no_schema}
+use Rattle.ci_store_rows.specs.Schema.{the_schema, meta}
+use Rattle.ci_store_rows.specs.Create.{no_schema}
 use Rattle.ci_store.specs.Open.{SelectsMeta, HasNumber, LacksNumber, Blames, IsFailure, open_fault_of}
-use Rattle.ci_store.specs.Rows.{number}
-use Rattle.ci_store.specs.Stands.{Stands, meta_row, meta_rows}
-use Rattle.ci_store.proofs.NextLoads.{means_meta, plain_meta}
-use Rattle.ci_store.proofs.Records.{is}
-use Rattle.ci_store.proofs.Shows.{held}
+use Rattle.ci_store_rows.specs.Rows.{number}
+use Rattle.ci_store_rows.specs.Stands.{Stands, meta_row, meta_rows}
+use Rattle.ci_store_rows.proofs.NextLoads.{means_meta, plain_meta}
+use Rattle.ci_store_rows.proofs.Records.{is}
+use Rattle.ci_store_rows.proofs.Shows.{held}
 
 -- ---- the query of `meta`, whatever the schema
 

@@ -1,9 +1,8 @@
-pub mod Schema
-pub mod Rows
-pub mod Stands
+pub use Rattle.ci_store_rows.specs.Schema
+pub use Rattle.ci_store_rows.specs.Rows
+pub use Rattle.ci_store_rows.specs.Stands
+pub use Rattle.ci_store_rows.specs.Create
+pub mod Store
 pub mod Calls
 pub mod Commit
-pub mod Create
-pub mod Load
-pub mod Store
 pub mod Open

@@ -6,17 +6,18 @@ ghost use Rattle.sqlite_trees.specs.View.{doubt};
 ghost use Rattle.sqlite.specs.Held.{state};
 ghost use Rattle.ci_machine.specs.Kept.{Kept, put_rows, indexed_all, written};
 ghost use Rattle.ci_machine.specs.State.{applied};
-ghost use Rattle.ci_store.specs.Stands.{IsAt, LeavesEither};
-ghost use Rattle.ci_tables.specs.declared.fault.StoreFault.TheVariants.{Memory};
-ghost use Rattle.ci_tables.specs.Statements.{KeepsInside, CommitsNothing};
-ghost use Rattle.ci_store.specs.Commit.{in_state, in_board, MakesInside, CommitsAll, is_done, is_undone, IsBack, IsDone};
+ghost use Rattle.ci_store_rows.specs.Stands.{IsAt, LeavesEither};
+ghost use Rattle.ci_store_tables.specs.declared.fault.StoreFault.TheVariants.{Memory};
+ghost use Rattle.ci_store_tables.specs.Statements.{KeepsInside, CommitsNothing};
+ghost use Rattle.ci_store_rows.specs.Changes.{in_state, in_board, MakesInside};
+ghost use Rattle.ci_store.specs.Commit.{CommitsAll, is_done, is_undone, IsBack, IsDone};
 
 use crate::make::{change_index, make};
 use crate::probe::probe;
-use crate::read::Stored;
 use ci_machine::change::{IndexChange, RowChange};
 use ci_machine::records::BoardRow;
-use ci_tables::fault::StoreFault;
+use ci_store_rows::read::Stored;
+use ci_store_tables::fault::StoreFault;
 use sqlite::{Alter, Connection, Transaction};
 use std::alloc::Global;
 

@@ -11,26 +11,24 @@ ghost use Rattle.sqlite_trees.specs.View.{doubt};
 ghost use Rattle.ci_board.specs.Effects.{status_number};
 ghost use Rattle.ci_machine.specs.Step.{next_of};
 ghost use Rattle.ci_machine.specs.Indexes.{newer_in};
-ghost use Rattle.ci_store.specs.Schema.{the_schema};
-ghost use Rattle.ci_store.specs.Calls.{Loads, ShowsRecords, FindsNumber, listed};
-ghost use Rattle.ci_store.specs.Rows.{number};
+ghost use Rattle.ci_store_rows.specs.Schema.{the_schema};
+ghost use Rattle.ci_store_rows.specs.Found.{ShowsRecords, FindsNumber, listed};
+ghost use Rattle.ci_store.specs.Calls.{Loads};
+ghost use Rattle.ci_store_rows.specs.Rows.{number};
 
-use crate::columns::{counter_key, kind_number, text};
 use crate::probe::probe_intact;
-use crate::read::{Loaded, read_all};
-use crate::texts;
 use ci_board::facts::Status;
 use ci_machine::change::Counter;
 use ci_machine::records::Pipeline;
 use ci_machine::text::Text;
-use ci_tables::fault::StoreFault;
-use ci_tables::read::rows;
-use ci_tables::values::number;
+use ci_store_rows::columns::{LAST_INTEGER, counter_key, kind_number, text};
+use ci_store_rows::read::{Loaded, read_all};
+use ci_store_rows::texts;
+use ci_store_tables::fault::StoreFault;
+use ci_store_tables::read::rows;
+use ci_store_tables::values::number;
 use sqlite::types::{ToSql, ValueRef};
 use sqlite::{Alter, Connection, Row};
-
-/// The greatest integer of SQL.
-pub const LAST_INTEGER: u64 = 9_223_372_036_854_775_807;
 
 /// The rows of a query that writes nothing. `Memory` is answered only where the store is open still.
 pub(crate) fn look_up<S: Alter>(

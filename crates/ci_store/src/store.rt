@@ -15,7 +15,7 @@ use ci_machine::records::{
     Unfinished, Variable,
 };
 use ci_machine::text::Text;
-use ci_tables::fault::StoreFault;
+use ci_store_tables::fault::StoreFault;
 
 /// How many rows a page of pending jobs has, at most.
 pub const PAGE_ROWS: usize = 16;

@@ -7,18 +7,17 @@ ghost use Rattle.sqlite.specs.Held.{state};
 ghost use Rattle.sqlite.specs.Tree.{Trees};
 ghost use Rattle.sqlite_trees.specs.View.{doubt};
 ghost use Rattle.ci_machine.specs.Kept.{Kept, nothing_kept};
-ghost use Rattle.ci_tables.specs.Statements.{CommitsNothing};
-ghost use Rattle.ci_store.specs.Schema.{the_schema};
-ghost use Rattle.ci_store.specs.Create.{IsBlank, IsBare};
-ghost use Rattle.ci_store.specs.Stands.{Stands, StandsIn, IsAt, LeavesOnly};
+ghost use Rattle.ci_store_tables.specs.Statements.{CommitsNothing};
+ghost use Rattle.ci_store_rows.specs.Schema.{the_schema};
+ghost use Rattle.ci_store_rows.specs.Create.{IsBlank, IsBare};
+ghost use Rattle.ci_store_rows.specs.Stands.{Stands, StandsIn, IsAt, LeavesOnly};
 ghost use Rattle.ci_store.specs.Open.{HasNumber, LacksNumber, IsOurs, Blames, IsFailure, LeavesNoMore};
-ghost use Rattle.ci_store.specs.Rows.{number};
+ghost use Rattle.ci_store_rows.specs.Rows.{number};
 
-use crate::columns::{state_numbers, text};
 use crate::commit::commit;
+use crate::load;
 use crate::probe::probe_intact;
 use crate::store::{PAGE_ROWS, Store};
-use crate::{load, texts};
 use ci_board::facts::Status;
 use ci_machine::change::{Counter, Delta, IndexChange};
 use ci_machine::records::{
@@ -26,10 +25,12 @@ use ci_machine::records::{
     Project, Runner, Unfinished, Variable,
 };
 use ci_machine::text::Text;
-use ci_tables::fault::StoreFault;
-use ci_tables::read::rows;
-use ci_tables::values::number;
-use ci_tables::write::change;
+use ci_store_rows::columns::{state_numbers, text};
+use ci_store_rows::texts;
+use ci_store_tables::fault::StoreFault;
+use ci_store_tables::read::rows;
+use ci_store_tables::values::number;
+use ci_store_tables::write::change;
 use sqlite::types::{ToSql, ValueRef};
 use sqlite::{Alter, Connection, Error, ErrorCode, Row, Transaction};
 use std::marker::Model;
@@ -278,7 +279,7 @@ impl<S: Alter> Store for Tables<S> {
     ghost use Rattle.std.proofs.Common.{inl};
     ghost use Rattle.sqlite.specs.State.{HasCleanDisk};
     ghost use Rattle.sqlite.specs.Held.{state};
-    ghost use Rattle.ci_store.specs.Stands.{IsAt, LeavesEither};
+    ghost use Rattle.ci_store_rows.specs.Stands.{IsAt, LeavesEither};
 
     ghost honest = { λ t. HasCleanDisk (state S.Store t) };
 

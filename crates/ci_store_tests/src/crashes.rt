@@ -2,70 +2,69 @@
 //! clause, so that a test's proof carries little.
 
 use crate::plain;
-use crate::records::{add, attempt, hold, job, pipeline, project, row_of, runner};
+use crate::plain::Load;
+use crate::records::{Change, Made};
 use ci_board::facts::Status;
-use ci_machine::change::{Counter, Delta, IndexChange, RowChange};
-use ci_machine::records::{AttemptState, BoardRow, Unfinished};
-use ci_machine::text::Text;
-use ci_store::fault::StoreFault;
+use ci_machine::change::Counter;
+use ci_machine::records::{AttemptState, RefKind};
+use ci_store::Connection;
 use ci_store::tables::{OpenFault, Tables};
-use ci_store::{Alter, Connection};
-use ci_test_disks::{closed, connected, empty, fused, stopped};
+use ci_store_disks::{closed, connected, empty, fused, stopped};
 use sqlite::{FileStore, Files};
 use sqlite_disk::{Fuse, Memory};
 use std::alloc::Global;
 use std::process::Abort;
 use std::test::Fail;
 
-fn first(alloc: Global) -> Result<Delta, Fail> {
-    let mut changes = Vec::new(alloc);
-    add(&mut changes, project(alloc, 1, "one", "p1"))?;
-    add(&mut changes, runner(alloc))?;
-    add(&mut changes, pipeline(alloc, 1))?;
-    add(&mut changes, job(alloc, 1, 1))?;
-    add(&mut changes, attempt(alloc, 1, 1, AttemptState::Live))?;
-    Ok(Delta::new(changes))
-}
+/// Files that fail.
+type Failing = Fuse<Memory>;
 
-fn renamed(alloc: Global) -> Result<Delta, Fail> {
-    let mut changes = Vec::new(alloc);
-    changes.push(RowChange::Put(project(alloc, 1, "uno", "p1")?))?;
-    changes.push(RowChange::Add(project(alloc, 2, "two", "p2")?))?;
-    Ok(Delta::new(changes))
-}
+/// Project 1 and a job of it, of which an attempt is live.
+const FIRST: &[Change] = &[
+    Change::Add(Made::Project(1, "one", "p1")),
+    Change::Add(Made::Runner(1)),
+    Change::Add(Made::Pipeline(1, 1, "main", RefKind::Tag)),
+    Change::Add(Made::Job(1, 1)),
+    Change::Add(Made::Attempt(1, 1, AttemptState::Live)),
+];
 
-fn created(alloc: Global, files: Files<Memory>) -> Option<Tables<FileStore<Memory>>> {
-    plain::found(plain::create(connected(alloc, files)?))
-}
+/// Of the second commit: records, a row, a group that is held and a pipeline that isn't finished.
+const SECOND: &[Change] = &[
+    Change::Put(Made::Project(1, "uno", "p1")),
+    Change::Add(Made::Project(2, "two", "p2")),
+    Change::Row(1, Status::Pending),
+    Change::Hold(1, "prod", 1),
+    Change::Open(1),
+];
 
-/// The row that the second commit puts.
-fn first_row(alloc: Global) -> Result<Vec<BoardRow>, Fail> {
-    let mut rows = Vec::new(alloc);
-    rows.push(row_of(1, Status::Pending))?;
-    Ok(rows)
-}
+/// What the empty state shows.
+const NOTHING: &[(Load, &str)] = &[
+    (Load::Next(Counter::Project), "1"),
+    (Load::Next(Counter::Runner), "1"),
+    (Load::Next(Counter::Pipeline), "1"),
+    (Load::Next(Counter::Job), "1"),
+    (Load::Next(Counter::Attempt), "1"),
+    (Load::Project(1), ""),
+    (Load::Row(1), ""),
+];
 
-/// The group that the second commit holds, and the pipeline that it opens.
-fn first_indexes(alloc: Global) -> Result<Vec<IndexChange>, Fail> {
-    let mut indexes = Vec::new(alloc);
-    indexes.push(hold(alloc, 1, "prod", 1)?)?;
-    indexes.push(IndexChange::Open(Unfinished { pipeline: 1 }))?;
-    Ok(indexes)
-}
+/// What is shown before the second commit.
+const BEFORE: &[(Load, &str)] = &[
+    (Load::Project(1), "1 one p1 -"),
+    (Load::Project(2), ""),
+    (Load::Row(1), ""),
+    (Load::Holder(1, "prod"), ""),
+    (Load::Unfinished, ""),
+];
 
-/// Tables with project 1 and a job of it, of which an attempt is live.
-fn made(alloc: Global) -> Result<Tables<FileStore<Memory>>, Fail> {
-    let delta = first(alloc)?;
-    let Some(mut tables) = created(alloc, empty(alloc)) else {
-        let _ = delta.into_vec();
-        return Err("not created")?;
-    };
-    if plain::is_committed(&mut tables, delta, Vec::new(alloc), Vec::new(alloc)) {
-        return Ok(tables);
-    }
-    plain::let_go(tables);
-    Err("not committed")?
-}
+/// What is shown after it.
+const AFTER: &[(Load, &str)] = &[
+    (Load::Project(1), "1 uno p1 -"),
+    (Load::Project(2), "2 two p2 -"),
+    (Load::Row(1), "1 pending 2 1 3"),
+    (Load::Holder(1, "prod"), "1 prod 1"),
+    (Load::Unfinished, "1"),
+];
 
 /// How a call ended on a store that fails.
 #[derive(Clone, Copy, PartialEq, Eq)]
@@ -76,22 +75,21 @@ enum Ended {
     Done,
 }
 
-const COUNTERS: [Counter; 5] = [
-    Counter::Project,
-    Counter::Runner,
-    Counter::Pipeline,
-    Counter::Job,
-    Counter::Attempt,
-];
-
-/// Do the tables hold the empty state, as far as loads by key show it?
-fn is_empty<S: Alter>(tables: &mut Tables<S>) -> Result<bool, StoreFault> {
-    for counter in COUNTERS {
-        if plain::next(tables, counter)? != 1 {
-            return Ok(false);
-        }
+/// Files whose tables hold the first commit.
+fn made(alloc: Global) -> Result<Connection<FileStore<Memory>>, Fail> {
+    let conn = connected(alloc, empty(alloc)).ok_or("not opened")?;
+    let mut tables = plain::found(plain::create(conn)).ok_or("not created")?;
+    if plain::is_made(alloc, &mut tables, FIRST)? {
+        return Ok(plain::close(tables));
     }
-    Ok(plain::project(tables, 1)?.is_none() && plain::row(tables, 1)?.is_none())
+    plain::let_go(tables);
+    Err("not committed")?
+}
+
+fn holds_nothing(alloc: Global, mut tables: Tables<FileStore<Failing>>) -> Result<bool, Fail> {
+    let found = plain::are_shown(alloc, &mut tables, NOTHING);
+    plain::let_go(tables);
+    found
 }
 
 /// What a store is after a stop.
@@ -104,28 +102,20 @@ enum Remains {
     Neither,
 }
 
-fn holds_nothing(mut tables: Tables<FileStore<Fuse<Memory>>>) -> bool {
-    let found = is_empty(&mut tables);
-    plain::let_go(tables);
-    found == Ok(true)
-}
-
-fn is_blank(conn: Connection<FileStore<Fuse<Memory>>>) -> bool {
+fn is_blank(alloc: Global, conn: Connection<FileStore<Failing>>) -> Result<bool, Fail> {
     match plain::found(plain::create(conn)) {
-        Some(tables) => holds_nothing(tables),
-        None => false,
+        Some(tables) => holds_nothing(alloc, tables),
+        None => Ok(false),
     }
 }
 
-fn after_stop(alloc: Global, files: Files<Fuse<Memory>>) -> Remains {
-    let Some(conn) = connected(alloc, files) else {
-        return Remains::Neither;
-    };
+fn after_stop(alloc: Global, files: Files<Failing>) -> Result<Remains, Fail> {
+    let conn = connected(alloc, files).ok_or("not connected after the stop")?;
     let (is_sound, remains) = match plain::open(conn) {
-        Ok(tables) => (holds_nothing(tables), Remains::Tables),
-        Err((_, conn)) => (is_blank(conn), Remains::Blank),
+        Ok(tables) => (holds_nothing(alloc, tables)?, Remains::Tables),
+        Err((_, conn)) => (is_blank(alloc, conn)?, Remains::Blank),
     };
-    if is_sound { remains } else { Remains::Neither }
+    Ok(if is_sound { remains } else { Remains::Neither })
 }
 
 fn tried_create(alloc: Global, of_log: bool, calls: u64) -> Result<Ended, Fail> {
@@ -133,7 +123,7 @@ fn tried_create(alloc: Global, of_log: bool, calls: u64) -> Result<Ended, Fail> 
         return Ok(Ended::Unopened);
     };
     let (fault, conn) = plain::parted(plain::create(conn));
-    match (fault, after_stop(alloc, stopped(conn))) {
+    match (fault, after_stop(alloc, stopped(conn))?) {
         (None, Remains::Tables) => Ok(Ended::Done),
         (Some(_), Remains::Tables | Remains::Blank) => Ok(Ended::Faulted),
         _ => Err("torn or lost")?,
@@ -148,62 +138,24 @@ enum Found {
     Neither,
 }
 
-fn name_of<S: Alter>(tables: &mut Tables<S>, id: u64) -> Result<Option<Text>, StoreFault> {
-    match plain::project(tables, id)? {
-        Some(found) => Ok(Some(found.name)),
-        None => Ok(None),
+fn outcome(alloc: Global, tables: &mut Tables<FileStore<Failing>>) -> Result<Found, Fail> {
+    if plain::are_shown(alloc, tables, BEFORE)? {
+        return Ok(Found::Before);
     }
-}
-
-/// Is the first project's name the new one? Is it neither?
-fn is_renamed<S: Alter>(tables: &mut Tables<S>) -> Result<Option<bool>, StoreFault> {
-    match name_of(tables, 1)? {
-        Some(name) if name.as_str() == "one" => Ok(Some(false)),
-        Some(name) if name.as_str() == "uno" => Ok(Some(true)),
-        _ => Ok(None),
+    if plain::are_shown(alloc, tables, AFTER)? {
+        return Ok(Found::After);
     }
+    Ok(Found::Neither)
 }
 
-/// How much is there of the second commit: of the other project, the row, the group that is held and the pipeline that is open.
-fn parts_of<S: Alter>(tables: &mut Tables<S>, group: &Text) -> Result<usize, StoreFault> {
-    let second = usize::from(name_of(tables, 2)?.is_some());
-    let row = usize::from(plain::row(tables, 1)?.is_some());
-    let held = usize::from(plain::holder(tables, 1, group)?.is_some());
-    let open = usize::from(!plain::unfinished(tables)?.is_empty());
-    Ok(
-        second
-            .saturating_add(row)
-            .saturating_add(held)
-            .saturating_add(open),
-    )
-}
-
-fn judged(renamed: Option<bool>, parts: usize) -> Found {
-    match (renamed, parts) {
-        (Some(false), 0) => Found::Before,
-        (Some(true), 4) => Found::After,
-        _ => Found::Neither,
-    }
-}
-
-fn outcome<S: Alter>(alloc: Global, tables: &mut Tables<S>) -> Found {
-    let Ok(group) = Text::copy_of(alloc, "prod") else {
-        return Found::Neither;
-    };
-    let (Ok(renamed), Ok(parts)) = (is_renamed(tables), parts_of(tables, &group)) else {
-        return Found::Neither;
-    };
-    judged(renamed, parts)
+/// The tables of files that fail, if they open.
+fn opened(alloc: Global, files: Files<Failing>) -> Option<Tables<FileStore<Failing>>> {
+    plain::found(plain::open(connected(alloc, files)?))
 }
 
 /// What is found after a stop.
-fn reopened(alloc: Global, files: Files<Fuse<Memory>>) -> Found {
-    let Some(conn) = connected(alloc, files) else {
-        return Found::Neither;
-    };
-    let Some(mut tables) = plain::found(plain::open(conn)) else {
-        return Found::Neither;
-    };
+fn reopened(alloc: Global, files: Files<Failing>) -> Result<Found, Fail> {
+    let mut tables = opened(alloc, files).ok_or("not opened after the stop")?;
     let found = outcome(alloc, &mut tables);
     plain::let_go(tables);
     found
@@ -211,34 +163,25 @@ fn reopened(alloc: Global, files: Files<Fuse<Memory>>) -> Found {
 
 /// The files are those that a stop leaves, so that the log has frames.
 fn tried_open(alloc: Global, of_log: bool, calls: u64) -> Result<Ended, Fail> {
-    let files = stopped(plain::close(made(alloc)?));
+    let files = stopped(made(alloc)?);
     let Some(conn) = connected(alloc, fused(files, of_log, calls)) else {
         return Ok(Ended::Unopened);
     };
     let (fault, conn) = plain::parted(plain::open(conn));
-    match (fault, reopened(alloc, stopped(conn))) {
+    match (fault, reopened(alloc, stopped(conn))?) {
         (None, Found::Before) => Ok(Ended::Done),
         (Some(OpenFault::O3), Found::Before) => Ok(Ended::Faulted),
         _ => Err("another fault or another state")?,
     }
 }
 
-/// The tables of files that fail, if they open.
-fn opened(alloc: Global, files: Files<Fuse<Memory>>) -> Option<Tables<FileStore<Fuse<Memory>>>> {
-    plain::found(plain::open(connected(alloc, files)?))
-}
-
 fn tried_commit(alloc: Global, of_log: bool, calls: u64) -> Result<Ended, Fail> {
-    let files = closed(plain::close(made(alloc)?)).ok_or("not closed")?;
-    let rows = first_row(alloc)?;
-    let indexes = first_indexes(alloc)?;
-    let delta = renamed(alloc)?;
+    let files = closed(made(alloc)?).ok_or("not closed")?;
     let Some(mut tables) = opened(alloc, fused(files, of_log, calls)) else {
-        let _ = delta.into_vec();
         return Ok(Ended::Unopened);
     };
-    let is_done = plain::is_committed(&mut tables, delta, rows, indexes);
-    match (is_done, reopened(alloc, stopped(plain::close(tables)))) {
+    let is_done = plain::is_made(alloc, &mut tables, SECOND)?;
+    match (is_done, reopened(alloc, stopped(plain::close(tables)))?) {
         (true, Found::After) => Ok(Ended::Done),
         (false, Found::Before | Found::After) => Ok(Ended::Faulted),
         _ => Err("torn or lost")?,

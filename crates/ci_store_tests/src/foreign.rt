@@ -1,17 +1,13 @@
 //! Stores that are not ours, and rows that are no records: written through plain SQL.
 
-use crate::plain::{
-    attempt, attempts_of, close, create, demand, filled, job, jobs_of, next, open, parted,
-    pending_after, pipeline, project, row, rows_within, runner, runner_with, unfinished, wanted,
-};
-use crate::records::text;
+use crate::plain::{Load, close, create, filled, found, open, parted, shown};
 use ci_machine::change::Counter;
 use ci_store::Connection;
-use ci_store::fault::StoreFault;
-use ci_store::tables::{OpenFault, Tables};
-use ci_test_disks::discard;
+use ci_store::tables::OpenFault;
+use ci_store_disks::discard;
 use sqlite::MemStore;
 use std::alloc::Global;
+use std::process::Abort;
 use std::test::Fail;
 
 /// A store with a record of each kind, in which one statement was run.
@@ -28,89 +24,62 @@ fn noted(alloc: Global) -> Result<Connection<MemStore>, Fail> {
     Ok(conn)
 }
 
-/// A load of the first record of a kind.
-#[derive(Clone, Copy, Debug)]
-enum Load {
-    Next,
-    Runner,
-    RunnerAt,
-    Pipeline,
-    Job,
-    Demand,
-    Unfinished,
-    JobsOf,
-    Row,
-    RowsWithin,
-    PendingAfter,
-    Attempt,
-    AttemptsOf,
-}
-
-fn fault_of(
-    alloc: Global,
-    tables: &mut Tables<MemStore>,
-    load: Load,
-) -> Result<Option<StoreFault>, Fail> {
-    Ok(match load {
-        Load::Next => next(tables, Counter::Job).err(),
-        Load::Runner => runner_with(tables, &text(alloc, "r1")?).err(),
-        Load::RunnerAt => runner(tables, 1).err(),
-        Load::Pipeline => pipeline(tables, 1).err(),
-        Load::Job => job(tables, 1).err(),
-        Load::Demand => demand(tables, 1).err(),
-        Load::Unfinished => unfinished(tables).err(),
-        Load::JobsOf => jobs_of(tables, 1).err(),
-        Load::Row => row(tables, 1).err(),
-        Load::RowsWithin => rows_within(tables, 1, 2).err(),
-        Load::PendingAfter => pending_after(tables, 0).err(),
-        Load::Attempt => attempt(tables, 1).err(),
-        Load::AttemptsOf => attempts_of(tables, 1).err(),
-    })
-}
-
+/// A statement, and the load of a row that it spoils.
 const BROKEN: &[(&str, Load)] = &[
-    ("UPDATE runner SET tags = 'gpu'", Load::Runner),
-    ("UPDATE runner SET tags = '{}'", Load::Runner),
-    ("UPDATE runner SET paused = 2", Load::Runner),
-    ("UPDATE runner SET untagged = 2", Load::RunnerAt),
-    ("UPDATE pipeline SET kind = 2", Load::Pipeline),
-    ("UPDATE pipeline SET created = -1", Load::Pipeline),
-    ("UPDATE job SET spec = '[]'", Load::Job),
+    ("UPDATE runner SET tags = 'gpu'", Load::RunnerWith("r1")),
+    ("UPDATE runner SET tags = '{}'", Load::RunnerWith("r1")),
+    ("UPDATE runner SET paused = 2", Load::RunnerWith("r1")),
+    ("UPDATE runner SET untagged = 2", Load::Runner(1)),
+    ("UPDATE pipeline SET kind = 2", Load::Pipeline(1)),
+    ("UPDATE pipeline SET created = -1", Load::Pipeline(1)),
+    ("UPDATE job SET spec = '[]'", Load::Job(1)),
     (
         "UPDATE job SET spec = '{\"tags\":[\"gpu\"],\"timeout\":3600}'",
-        Load::Job,
+        Load::Job(1),
     ),
-    ("UPDATE job SET spec = '[]'", Load::Demand),
+    ("UPDATE job SET spec = '[]'", Load::Demand(1)),
     (
         "UPDATE job SET spec = '{\"tags\":[\"gpu\"],\"timeout\":3600}'",
-        Load::Demand,
+        Load::Demand(1),
     ),
     ("INSERT INTO unfinished VALUES (-1)", Load::Unfinished),
-    ("UPDATE job SET script = 'make'", Load::Job),
-    ("UPDATE job SET script = '{}'", Load::Job),
-    ("UPDATE job SET spec = '[]' WHERE id = 2", Load::JobsOf),
-    ("UPDATE board SET status = 9", Load::Row),
-    ("UPDATE board SET status = 9", Load::RowsWithin),
-    ("UPDATE board SET barred = -1", Load::Row),
-    ("UPDATE board SET status = 1, open = -1", Load::PendingAfter),
-    ("UPDATE attempt SET state = 7", Load::Attempt),
-    ("UPDATE attempt SET state = 7", Load::AttemptsOf),
-    ("UPDATE attempt SET cause = NULL", Load::Attempt),
-    ("DELETE FROM meta WHERE key = 'next_job'", Load::Next),
+    ("UPDATE job SET script = 'make'", Load::Job(1)),
+    ("UPDATE job SET script = '{}'", Load::Job(1)),
+    ("UPDATE job SET spec = '[]' WHERE id = 2", Load::JobsOf(1)),
+    ("UPDATE board SET status = 9", Load::Row(1)),
+    ("UPDATE board SET status = 9", Load::RowsWithin(1, 2)),
+    ("UPDATE board SET barred = -1", Load::Row(1)),
+    (
+        "UPDATE board SET status = 1, open = -1",
+        Load::PendingAfter(0),
+    ),
+    ("UPDATE attempt SET state = 7", Load::Attempt(1)),
+    ("UPDATE attempt SET state = 7", Load::AttemptsOf(1)),
+    ("UPDATE attempt SET cause = NULL", Load::Attempt(1)),
+    (
+        "DELETE FROM meta WHERE key = 'next_job'",
+        Load::Next(Counter::Job),
+    ),
     (
         "UPDATE meta SET num = -1 WHERE key = 'next_job'",
-        Load::Next,
+        Load::Next(Counter::Job),
     ),
 ];
 
+/// Is the load broken after the statement, while project 1 is there still?
+fn spoils(rt: &impl Abort, alloc: Global, statement: &str, load: Load) -> Result<(), Fail> {
+    let mut tables = found(open(altered(alloc, statement)?)).ok_or("not opened")?;
+    let answer = shown(alloc, &mut tables, load)?;
+    assert_eq!(rt; answer.text.as_str(), "broken", "{statement}");
+    let project = shown(alloc, &mut tables, Load::Project(1))?;
+    assert_eq!(rt; project.text.as_str(), "1 one p1 -", "{statement}");
+    Ok(())
+}
+
 #[test]
 fn a_row_that_is_no_record_is_a_fault(rt: HostRuntime) -> Result<(), Fail> {
-    let alloc = rt.alloc();
     for (statement, load) in BROKEN {
-        let mut tables = wanted(open(altered(alloc, statement)?))?;
-        let fault = fault_of(alloc, &mut tables, *load)?;
-        assert_eq!(rt; fault, Some(StoreFault::Broken), "{statement}");
-        assert!(rt; matches!(project(&mut tables, 1), Ok(Some(_))));
+        spoils(&rt, rt.alloc(), statement, *load)?;
     }
     Ok(())
 }

@@ -6,16 +6,10 @@ mod crashes;
 #[cfg(test)]
 mod foreign;
 #[cfg(test)]
-mod indexes;
+mod lines;
 #[cfg(test)]
 mod plain;
 #[cfg(test)]
 mod records;
 #[cfg(test)]
-mod statuses;
-#[cfg(test)]
 mod tests;
-#[cfg(test)]
-mod traces;
-#[cfg(test)]
-mod variables;

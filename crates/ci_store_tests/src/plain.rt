@@ -1,18 +1,13 @@
 //! The calls of the tables without their clauses, so that the proof of a test that makes many of them carries little.
 
-use crate::records::{one_of_each, removal, row_of};
-use ci_board::facts::Status;
-use ci_machine::change::{Counter, Delta, IndexChange, Key};
-use ci_machine::records::{
-    Attempt, BoardRow, Demand, Holder, Job, JobVariable, Need, Piece, Pipeline, Project, Runner,
-    Unfinished, Variable,
-};
-use ci_machine::text::Text;
+use crate::lines::Answer;
+use crate::records::{Change, ONE_OF_EACH, Work, text};
+use ci_machine::change::{Counter, Delta};
 use ci_store::fault::StoreFault;
 use ci_store::store::Store;
 use ci_store::tables::{OpenFault, Tables};
 use ci_store::{Alter, Connection};
-use ci_test_disks::discard;
+use ci_store_disks::discard;
 use sqlite::MemStore;
 use std::alloc::Global;
 use std::test::Fail;
@@ -50,16 +45,6 @@ pub fn found<S: Alter + Drop>(
     }
 }
 
-/// Tables that are wanted, or a failure.
-pub fn wanted<S: Alter + Drop>(
-    tables: Result<Tables<S>, (OpenFault, Connection<S>)>,
-) -> Result<Tables<S>, Fail> {
-    match found(tables) {
-        Some(tables) => Ok(tables),
-        None => Err("no tables")?,
-    }
-}
-
 /// The fault that came in the place of tables, and the connection.
 pub fn parted<S: Alter>(
     found: Result<Tables<S>, (OpenFault, Connection<S>)>,
@@ -70,177 +55,147 @@ pub fn parted<S: Alter>(
     }
 }
 
-/// Is the change made, with these rows, and with these groups and pipelines?
-pub fn is_committed<S: Alter>(
+/// Is this made in one commit?
+pub fn is_committed<S: Alter>(tables: &mut Tables<S>, work: Work) -> bool {
+    let Work {
+        changes,
+        rows,
+        indexes,
+    } = work;
+    tables.commit(Delta::new(changes), rows, indexes).is_ok()
+}
+
+/// Are these changes made in one commit?
+pub fn is_made<S: Alter>(
+    alloc: Global,
     tables: &mut Tables<S>,
-    delta: Delta,
-    rows: Vec<BoardRow>,
-    indexes: Vec<IndexChange>,
-) -> bool {
-    tables.commit(delta, rows, indexes).is_ok()
-}
-
-/// What a load answers.
-pub type Loaded<T> = Result<T, StoreFault>;
-
-pub fn next<S: Alter>(tables: &mut Tables<S>, counter: Counter) -> Loaded<u64> {
-    tables.next(counter)
-}
-
-pub fn project<S: Alter>(tables: &mut Tables<S>, id: u64) -> Loaded<Option<Project>> {
-    tables.project(id)
-}
-
-pub fn variables_of<S: Alter>(tables: &mut Tables<S>, project: u64) -> Loaded<Vec<Variable>> {
-    tables.variables_of(project)
-}
-
-pub fn variable<S: Alter>(
-    tables: &mut Tables<S>,
-    project: u64,
-    key: &Text,
-) -> Loaded<Option<Variable>> {
-    tables.variable(project, key)
-}
-
-pub fn runner<S: Alter>(tables: &mut Tables<S>, id: u64) -> Loaded<Option<Runner>> {
-    tables.runner(id)
-}
-
-pub fn runner_with<S: Alter>(tables: &mut Tables<S>, token: &Text) -> Loaded<Option<Runner>> {
-    tables.runner_with(token)
-}
-
-pub fn pipeline<S: Alter>(tables: &mut Tables<S>, id: u64) -> Loaded<Option<Pipeline>> {
-    tables.pipeline(id)
-}
-
-pub fn job<S: Alter>(tables: &mut Tables<S>, id: u64) -> Loaded<Option<Job>> {
-    tables.job(id)
-}
-
-pub fn demand<S: Alter>(tables: &mut Tables<S>, id: u64) -> Loaded<Option<Demand>> {
-    tables.demand(id)
-}
-
-pub fn holder<S: Alter>(
-    tables: &mut Tables<S>,
-    project: u64,
-    group: &Text,
-) -> Loaded<Option<Holder>> {
-    tables.holder(project, group)
-}
-
-pub fn unfinished<S: Alter>(tables: &mut Tables<S>) -> Loaded<Vec<Unfinished>> {
-    tables.unfinished()
-}
-
-pub fn newer_of<S: Alter>(tables: &mut Tables<S>, pipeline: &Pipeline) -> Loaded<Option<Pipeline>> {
-    tables.newer_of(pipeline)
-}
-
-pub fn jobs_of<S: Alter>(tables: &mut Tables<S>, pipeline: u64) -> Loaded<Vec<Job>> {
-    tables.jobs_of(pipeline)
-}
-
-pub fn needs_within<S: Alter>(tables: &mut Tables<S>, first: u64, last: u64) -> Loaded<Vec<Need>> {
-    tables.needs_within(first, last)
-}
-
-pub fn attempts_within<S: Alter>(
-    tables: &mut Tables<S>,
-    first: u64,
-    last: u64,
-) -> Loaded<Vec<Attempt>> {
-    tables.attempts_within(first, last)
-}
-
-pub fn rows_within<S: Alter>(
-    tables: &mut Tables<S>,
-    first: u64,
-    last: u64,
-) -> Loaded<Vec<BoardRow>> {
-    tables.rows_within(first, last)
-}
-
-pub fn row<S: Alter>(tables: &mut Tables<S>, job: u64) -> Loaded<Option<BoardRow>> {
-    tables.row(job)
-}
-
-pub fn pending_after<S: Alter>(tables: &mut Tables<S>, job: u64) -> Loaded<Vec<BoardRow>> {
-    tables.pending_after(job)
-}
-
-pub fn job_variables<S: Alter>(tables: &mut Tables<S>, job: u64) -> Loaded<Vec<JobVariable>> {
-    tables.job_variables(job)
-}
-
-pub fn attempt<S: Alter>(tables: &mut Tables<S>, id: u64) -> Loaded<Option<Attempt>> {
-    tables.attempt(id)
-}
-
-pub fn attempts_of<S: Alter>(tables: &mut Tables<S>, job: u64) -> Loaded<Vec<Attempt>> {
-    tables.attempts_of(job)
-}
-
-pub fn live_attempts<S: Alter>(tables: &mut Tables<S>) -> Loaded<Vec<Attempt>> {
-    tables.live_attempts()
-}
-
-pub fn pieces_of<S: Alter>(tables: &mut Tables<S>, attempt: u64) -> Loaded<Vec<Piece>> {
-    tables.pieces_of(attempt)
-}
-
-/// Is the row with this key removed?
-pub fn is_removed<S: Alter>(alloc: Global, tables: &mut Tables<S>, key: Key) -> Result<bool, Fail> {
-    let delta = removal(alloc, key)?;
-    Ok(is_committed(tables, delta, Vec::new(alloc), Vec::new(alloc)))
+    changes: &[Change],
+) -> Result<bool, Fail> {
+    let work = Work::of(alloc, changes)?;
+    Ok(is_committed(tables, work))
 }
 
 /// Tables closed and opened again.
 pub fn reopened<S: Alter + Drop>(tables: Tables<S>) -> Result<Tables<S>, Fail> {
-    wanted(open(close(tables)))
-}
-
-/// New tables over memory.
-fn over_memory(alloc: Global) -> Result<Tables<MemStore>, Fail> {
-    wanted(create(Connection::open_in_memory(alloc)?))
-}
-
-/// The tables once a change is made, and these rows are put.
-pub fn changed<S: Alter + Drop>(
-    alloc: Global,
-    tables: Tables<S>,
-    delta: Result<Delta, Fail>,
-    rows: Vec<BoardRow>,
-) -> Result<Tables<S>, Fail> {
-    indexed(tables, delta, rows, Vec::new(alloc))
-}
-
-/// The same, and these groups and pipelines are changed.
-pub fn indexed<S: Alter + Drop>(
-    mut tables: Tables<S>,
-    delta: Result<Delta, Fail>,
-    rows: Vec<BoardRow>,
-    indexes: Vec<IndexChange>,
-) -> Result<Tables<S>, Fail> {
-    let is_done = match delta {
-        Ok(delta) => is_committed(&mut tables, delta, rows, indexes),
-        Err(fail) => {
-            let_go(tables);
-            return Err(fail);
-        }
-    };
-    if is_done {
-        return Ok(tables);
-    }
-    let_go(tables);
-    Err("not committed")?
+    Ok(found(open(close(tables))).ok_or("not opened again")?)
 }
 
 /// Tables over memory with a record of each kind and a row of job 1, opened again.
 pub fn filled(alloc: Global) -> Result<Tables<MemStore>, Fail> {
-    let mut rows = Vec::new(alloc);
-    rows.push(row_of(1, Status::Manual))?;
-    reopened(changed(alloc, over_memory(alloc)?, one_of_each(alloc), rows)?)
+    let conn = Connection::open_in_memory(alloc)?;
+    let mut tables = found(create(conn)).ok_or("not created")?;
+    if !is_made(alloc, &mut tables, ONE_OF_EACH)? {
+        return Err("not filled")?;
+    }
+    reopened(tables)
+}
+
+/// A load, by what it is asked for.
+#[derive(Clone, Copy)]
+pub enum Load {
+    Next(Counter),
+    Project(u64),
+    ProjectWith(&'static str),
+    VariablesOf(u64),
+    Variable(u64, &'static str),
+    Runner(u64),
+    RunnerWith(&'static str),
+    Pipeline(u64),
+    /// The first newer one of the same project, ref and kind as the pipeline with a number.
+    NewerThan(u64),
+    Job(u64),
+    Demand(u64),
+    JobsOf(u64),
+    JobVariables(u64),
+    NeedsWithin(u64, u64),
+    Attempt(u64),
+    AttemptsOf(u64),
+    AttemptsWithin(u64, u64),
+    LiveAttempts,
+    PiecesOf(u64),
+    Row(u64),
+    RowsWithin(u64, u64),
+    PendingAfter(u64),
+    Holder(u64, &'static str),
+    Unfinished,
+}
+
+fn newer_than<S: Alter>(alloc: Global, tables: &mut Tables<S>, id: u64) -> Result<Answer, Fail> {
+    let pipeline = tables.pipeline(id)?.ok_or("no such pipeline")?;
+    Answer::of_one(alloc, tables.newer_of(&pipeline))
+}
+
+/// What a load of an attempt, of its trace, of statuses or of what stands beside them answers.
+fn shown_of_runs<S: Alter>(
+    alloc: Global,
+    tables: &mut Tables<S>,
+    load: Load,
+) -> Result<Answer, Fail> {
+    match load {
+        Load::Attempt(id) => Answer::of_one(alloc, tables.attempt(id)),
+        Load::AttemptsOf(job) => Answer::of_all(alloc, tables.attempts_of(job)),
+        Load::AttemptsWithin(first, last) => {
+            Answer::of_all(alloc, tables.attempts_within(first, last))
+        }
+        Load::LiveAttempts => Answer::of_all(alloc, tables.live_attempts()),
+        Load::PiecesOf(attempt) => Answer::of_all(alloc, tables.pieces_of(attempt)),
+        Load::Row(job) => Answer::of_one(alloc, tables.row(job)),
+        Load::RowsWithin(first, last) => Answer::of_all(alloc, tables.rows_within(first, last)),
+        Load::PendingAfter(job) => Answer::of_all(alloc, tables.pending_after(job)),
+        Load::Holder(project, group) => {
+            Answer::of_one(alloc, tables.holder(project, &text(alloc, group)?))
+        }
+        Load::Unfinished => Answer::of_all(alloc, tables.unfinished()),
+        _ => Err("not of a run")?,
+    }
+}
+
+/// What a load of a pipeline or of its jobs answers.
+fn shown_of_pipelines<S: Alter>(
+    alloc: Global,
+    tables: &mut Tables<S>,
+    load: Load,
+) -> Result<Answer, Fail> {
+    match load {
+        Load::Pipeline(id) => Answer::of_one(alloc, tables.pipeline(id)),
+        Load::NewerThan(id) => newer_than(alloc, tables, id),
+        Load::Job(id) => Answer::of_one(alloc, tables.job(id)),
+        Load::Demand(id) => Answer::of_one(alloc, tables.demand(id)),
+        Load::JobsOf(pipeline) => Answer::of_all(alloc, tables.jobs_of(pipeline)),
+        Load::JobVariables(job) => Answer::of_all(alloc, tables.job_variables(job)),
+        Load::NeedsWithin(first, last) => Answer::of_all(alloc, tables.needs_within(first, last)),
+        _ => shown_of_runs(alloc, tables, load),
+    }
+}
+
+/// What a load answers.
+pub fn shown<S: Alter>(alloc: Global, tables: &mut Tables<S>, load: Load) -> Result<Answer, Fail> {
+    match load {
+        Load::Next(counter) => Answer::of_next(alloc, tables.next(counter)),
+        Load::Project(id) => Answer::of_one(alloc, tables.project(id)),
+        Load::ProjectWith(token) => {
+            Answer::of_one(alloc, tables.project_with(&text(alloc, token)?))
+        }
+        Load::VariablesOf(project) => Answer::of_all(alloc, tables.variables_of(project)),
+        Load::Variable(project, key) => {
+            Answer::of_one(alloc, tables.variable(project, &text(alloc, key)?))
+        }
+        Load::Runner(id) => Answer::of_one(alloc, tables.runner(id)),
+        Load::RunnerWith(token) => Answer::of_one(alloc, tables.runner_with(&text(alloc, token)?)),
+        _ => shown_of_pipelines(alloc, tables, load),
+    }
+}
+
+/// Does each load answer this text?
+pub fn are_shown<S: Alter>(
+    alloc: Global,
+    tables: &mut Tables<S>,
+    wants: &[(Load, &str)],
+) -> Result<bool, Fail> {
+    for (load, want) in wants {
+        if shown(alloc, tables, *load)?.text.as_str() != *want {
+            return Ok(false);
+        }
+    }
+    Ok(true)
 }

@@ -1,18 +1,93 @@
-//! Records for the tests.
+//! Records for the tests, and the changes that a test makes of them, as data.
 
 use ci_board::facts::{Row, Status};
 use ci_graph::part::Part;
-use ci_machine::change::{Counter, Delta, IndexChange, Key, Record, RowChange};
+use ci_machine::change::{Counter, IndexChange, Key, Record, RowChange};
 use ci_machine::moment::Moment;
 use ci_machine::records::{
     Attempt, AttemptState, BoardRow, Cause, Holder, Job, JobOptions, JobVariable, Need, Piece,
-    Pipeline, Project, RefKind, Runner, Source, Variable,
+    Pipeline, Project, RefKind, Runner, Source, Unfinished, Variable,
 };
 use ci_machine::text::{Bytes, Text, Texts};
 use ci_values::items::Items;
 use ci_values::when::{AllowFailure, Causes, Retry, When};
 use std::alloc::Global;
 use std::test::Fail;
+
+/// A record, by what differs among those of its kind.
+#[derive(Drop)]
+pub enum Made {
+    /// Its number, name and token.
+    Project(u64, &'static str, &'static str),
+    /// Its project, key and value.
+    Variable(u64, &'static str, &'static str),
+    /// Of project 1.
+    Runner(u64),
+    /// Its number, project, ref and kind.
+    Pipeline(u64, u64, &'static str, RefKind),
+    /// Its number and pipeline.
+    Job(u64, u64),
+    /// Of job 1.
+    JobVariable(&'static str),
+    /// Its number, job and state.
+    Attempt(u64, u64, AttemptState),
+    /// A job, and the one that it waits for.
+    Need(u64, u64),
+    /// Its place in the trace of attempt 1, and its bytes.
+    Piece(u64, &'static [u8]),
+    /// At a place in the trace of attempt 1, `LONG` bytes.
+    LongPiece(u64),
+}
+
+/// The key of a row that is removed.
+#[derive(Drop)]
+pub enum Gone {
+    Project(u64),
+    Variable(u64, &'static str),
+    Pipeline(u64),
+    Job(u64),
+    JobVariable(u64, &'static str),
+    Need(u64, u64),
+    Attempt(u64),
+    Piece(u64, u64),
+}
+
+/// A change of what the tables keep.
+#[derive(Drop)]
+pub enum Change {
+    Add(Made),
+    Put(Made),
+    Remove(Gone),
+    SetNext(Counter, u64),
+    /// The row of a job is put.
+    Row(u64, Status),
+    /// A group of a project is held by an attempt.
+    Hold(u64, &'static str, u64),
+    Free(u64, &'static str),
+    Open(u64),
+    Close(u64),
+}
+
+/// What one commit makes.
+#[derive(Drop)]
+pub struct Work {
+    pub changes: Vec<RowChange>,
+    pub rows: Vec<BoardRow>,
+    pub indexes: Vec<IndexChange>,
+}
+
+/// The length of a long piece, in bytes.
+pub const LONG: usize = 65_536;
+
+/// The causes of two of the six flags.
+const CAUSES: Causes = Causes {
+    unknown_failure: false,
+    script_failure: true,
+    api_failure: false,
+    stuck_or_timeout_failure: false,
+    runner_system_failure: false,
+    job_execution_timeout: true,
+};
 
 pub fn text(alloc: Global, text: &str) -> Result<Text, Fail> {
     Ok(Text::copy_of(alloc, text)?)
@@ -30,76 +105,20 @@ fn moment(seconds: u64) -> Result<Moment, Fail> {
     Ok(Moment::new(seconds).ok_or("no moment")?)
 }
 
-pub fn project(alloc: Global, id: u64, name: &str, token: &str) -> Result<Record, Fail> {
-    Ok(Record::Project(Project {
+fn runner(alloc: Global, id: u64) -> Result<Runner, Fail> {
+    Ok(Runner {
         id,
-        name: text(alloc, name)?,
-        token: text(alloc, token)?,
-        file: None,
-    }))
-}
-
-pub fn project_variable(
-    alloc: Global,
-    project: u64,
-    key: &str,
-    value: &str,
-) -> Result<Record, Fail> {
-    Ok(Record::Variable(Variable {
-        project,
-        key: text(alloc, key)?,
-        value: text(alloc, value)?,
-    }))
-}
-
-pub fn runner(alloc: Global) -> Result<Record, Fail> {
-    Ok(Record::Runner(Runner {
-        id: 1,
         name: text(alloc, "runner")?,
         token: text(alloc, "r1")?,
         project: Some(1),
         tags: texts(alloc, &["gpu", "a \"quoted\" tag"])?,
         untagged: true,
         paused: false,
-    }))
-}
-
-/// A pipeline of a project, for a branch or a tag.
-pub fn pipeline_for(
-    alloc: Global,
-    id: u64,
-    project: u64,
-    git_ref: &str,
-    kind: RefKind,
-) -> Result<Pipeline, Fail> {
-    Ok(Pipeline {
-        id,
-        project,
-        git_ref: text(alloc, git_ref)?,
-        kind,
-        source: Source::Schedule,
-        created: moment(60)?,
     })
 }
 
-pub fn pipeline(alloc: Global, id: u64) -> Result<Record, Fail> {
-    Ok(Record::Pipeline(pipeline_for(alloc, id, 1, "main", RefKind::Tag)?))
-}
-
-/// The causes of two of the six flags.
-const CAUSES: Causes = Causes {
-    unknown_failure: false,
-    script_failure: true,
-    api_failure: false,
-    stuck_or_timeout_failure: false,
-    runner_system_failure: false,
-    job_execution_timeout: true,
-};
-
 fn part(alloc: Global) -> Result<Part, Fail> {
-    let mut codes = Vec::new(alloc);
-    codes.push(1u32)?;
-    codes.push(137u32)?;
+    let codes = Vec::from_slice(alloc, &[1u32, 137])?;
     Ok(Part {
         when: When::Always,
         allow_failure: AllowFailure::ExitCodes(Items::new(codes)),
@@ -122,8 +141,8 @@ fn options(alloc: Global) -> Result<JobOptions, Fail> {
     })
 }
 
-pub fn job(alloc: Global, id: u64, pipeline: u64) -> Result<Record, Fail> {
-    Ok(Record::Job(Job {
+fn job(alloc: Global, id: u64, pipeline: u64) -> Result<Job, Fail> {
+    Ok(Job {
         id,
         pipeline,
         position: 0,
@@ -133,19 +152,11 @@ pub fn job(alloc: Global, id: u64, pipeline: u64) -> Result<Record, Fail> {
         played: true,
         cancelled: false,
         set_aside: 2,
-    }))
+    })
 }
 
-pub fn variable(alloc: Global, key: &str) -> Result<Record, Fail> {
-    Ok(Record::JobVariable(JobVariable {
-        job: 1,
-        key: text(alloc, key)?,
-        value: text(alloc, "1")?,
-    }))
-}
-
-pub fn attempt(alloc: Global, id: u64, job: u64, state: AttemptState) -> Result<Record, Fail> {
-    Ok(Record::Attempt(Attempt {
+fn attempt(alloc: Global, id: u64, job: u64, state: AttemptState) -> Result<Attempt, Fail> {
+    Ok(Attempt {
         id,
         job,
         runner: 1,
@@ -155,11 +166,66 @@ pub fn attempt(alloc: Global, id: u64, job: u64, state: AttemptState) -> Result<
         state,
         pieces: 2,
         size: 65_542,
-    }))
+    })
 }
 
-pub fn need(job: u64, pred: u64) -> Record {
-    Record::Need(Need { job, pred })
+fn piece(seq: u64, bytes: Vec<u8>) -> Record {
+    Record::Piece(Piece {
+        attempt: 1,
+        seq,
+        bytes: Bytes::new(bytes),
+    })
+}
+
+fn record(alloc: Global, made: &Made) -> Result<Record, Fail> {
+    Ok(match made {
+        Made::Project(id, name, token) => Record::Project(Project {
+            id: *id,
+            name: text(alloc, name)?,
+            token: text(alloc, token)?,
+            file: None,
+        }),
+        Made::Variable(project, key, value) => Record::Variable(Variable {
+            project: *project,
+            key: text(alloc, key)?,
+            value: text(alloc, value)?,
+        }),
+        Made::Runner(id) => Record::Runner(runner(alloc, *id)?),
+        Made::Pipeline(id, project, git_ref, kind) => Record::Pipeline(Pipeline {
+            id: *id,
+            project: *project,
+            git_ref: text(alloc, git_ref)?,
+            kind: *kind,
+            source: Source::Schedule,
+            created: moment(60)?,
+        }),
+        Made::Job(id, pipeline) => Record::Job(job(alloc, *id, *pipeline)?),
+        Made::JobVariable(key) => Record::JobVariable(JobVariable {
+            job: 1,
+            key: text(alloc, key)?,
+            value: text(alloc, "1")?,
+        }),
+        Made::Attempt(id, job, state) => Record::Attempt(attempt(alloc, *id, *job, *state)?),
+        Made::Need(job, pred) => Record::Need(Need {
+            job: *job,
+            pred: *pred,
+        }),
+        Made::Piece(seq, bytes) => piece(*seq, Vec::from_slice(alloc, bytes)?),
+        Made::LongPiece(seq) => piece(*seq, vec![in alloc; 255u8; LONG]?),
+    })
+}
+
+fn key(alloc: Global, gone: &Gone) -> Result<Key, Fail> {
+    Ok(match gone {
+        Gone::Project(id) => Key::Project(*id),
+        Gone::Variable(project, key) => Key::Variable(*project, text(alloc, key)?),
+        Gone::Pipeline(id) => Key::Pipeline(*id),
+        Gone::Job(id) => Key::Job(*id),
+        Gone::JobVariable(job, key) => Key::JobVariable(*job, text(alloc, key)?),
+        Gone::Need(job, pred) => Key::Need(*job, *pred),
+        Gone::Attempt(id) => Key::Attempt(*id),
+        Gone::Piece(attempt, seq) => Key::Piece(*attempt, *seq),
+    })
 }
 
 /// The row of a job, whose predecessors' counts are three different numbers.
@@ -175,52 +241,63 @@ pub fn row_of(job: u64, status: Status) -> BoardRow {
     }
 }
 
-pub fn piece(attempt: u64, seq: u64, bytes: Vec<u8>) -> Record {
-    Record::Piece(Piece {
-        attempt,
-        seq,
-        bytes: Bytes::new(bytes),
-    })
+impl Work {
+    pub fn nothing(alloc: Global) -> Work {
+        Work {
+            changes: Vec::new(alloc),
+            rows: Vec::new(alloc),
+            indexes: Vec::new(alloc),
+        }
+    }
+
+    pub fn push(&mut self, alloc: Global, change: &Change) -> Result<(), Fail> {
+        match change {
+            Change::Add(made) => self.changes.push(RowChange::Add(record(alloc, made)?))?,
+            Change::Put(made) => self.changes.push(RowChange::Put(record(alloc, made)?))?,
+            Change::Remove(gone) => self.changes.push(RowChange::Remove(key(alloc, gone)?))?,
+            Change::SetNext(counter, next) => {
+                self.changes.push(RowChange::SetNext(*counter, *next))?
+            }
+            Change::Row(job, status) => self.rows.push(row_of(*job, *status))?,
+            Change::Hold(project, group, attempt) => {
+                self.indexes.push(IndexChange::Hold(Holder {
+                    project: *project,
+                    group: text(alloc, group)?,
+                    attempt: *attempt,
+                }))?
+            }
+            Change::Free(project, group) => {
+                let group = text(alloc, group)?;
+                self.indexes.push(IndexChange::Free(*project, group))?
+            }
+            Change::Open(pipeline) => self.indexes.push(IndexChange::Open(Unfinished {
+                pipeline: *pipeline,
+            }))?,
+            Change::Close(pipeline) => self.indexes.push(IndexChange::Close(*pipeline))?,
+        }
+        Ok(())
+    }
+
+    pub fn of(alloc: Global, changes: &[Change]) -> Result<Work, Fail> {
+        let mut work = Work::nothing(alloc);
+        for change in changes {
+            work.push(alloc, change)?;
+        }
+        Ok(work)
+    }
 }
 
-pub fn add(changes: &mut Vec<RowChange>, record: Result<Record, Fail>) -> Result<(), Fail> {
-    changes.push(RowChange::Add(record?))?;
-    Ok(())
-}
-
-fn attempt_with_its_job(alloc: Global, changes: &mut Vec<RowChange>) -> Result<(), Fail> {
-    add(changes, pipeline(alloc, 1))?;
-    add(changes, job(alloc, 1, 1))?;
-    add(changes, job(alloc, 2, 1))?;
-    let failed = AttemptState::Failed(Cause::ScriptFailure, Some(2));
-    add(changes, attempt(alloc, 1, 1, failed))
-}
-
-/// A change of each kind of record, with a next number.
-pub fn one_of_each(alloc: Global) -> Result<Delta, Fail> {
-    let mut changes = Vec::new(alloc);
-    add(&mut changes, project(alloc, 1, "one", "p1"))?;
-    add(&mut changes, project_variable(alloc, 1, "LEVEL", "0"))?;
-    add(&mut changes, runner(alloc))?;
-    attempt_with_its_job(alloc, &mut changes)?;
-    add(&mut changes, variable(alloc, "KEY"))?;
-    changes.push(RowChange::Put(variable(alloc, "CI")?))?;
-    changes.push(RowChange::SetNext(Counter::Job, 3))?;
-    Ok(Delta::new(changes))
-}
-
-/// An attempt holds a group of a project.
-pub fn hold(alloc: Global, project: u64, group: &str, attempt: u64) -> Result<IndexChange, Fail> {
-    Ok(IndexChange::Hold(Holder {
-        project,
-        group: text(alloc, group)?,
-        attempt,
-    }))
-}
-
-/// The removal of one row.
-pub fn removal(alloc: Global, key: Key) -> Result<Delta, Fail> {
-    let mut changes = Vec::new(alloc);
-    changes.push(RowChange::Remove(key))?;
-    Ok(Delta::new(changes))
-}
+/// A change of each kind of record, with a next number and a row.
+pub const ONE_OF_EACH: &[Change] = &[
+    Change::Add(Made::Project(1, "one", "p1")),
+    Change::Add(Made::Variable(1, "LEVEL", "0")),
+    Change::Add(Made::Runner(1)),
+    Change::Add(Made::Pipeline(1, 1, "main", RefKind::Tag)),
+    Change::Add(Made::Job(1, 1)),
+    Change::Add(Made::Job(2, 1)),
+    Change::Add(Made::Attempt(1, 1, AttemptState::Failed(Cause::ScriptFailure, Some(2)))),
+    Change::Add(Made::JobVariable("KEY")),
+    Change::Put(Made::JobVariable("CI")),
+    Change::SetNext(Counter::Job, 3),
+    Change::Row(1, Status::Manual),
+];

@@ -1,199 +1,548 @@
-//! Each kind of record is committed and loaded.
+//! What is committed is loaded back: each test is a list of steps over tables that have a record of each kind.
 
-use crate::plain::{
-    Loaded, attempt, attempts_of, demand, filled, is_removed, job, job_variables, jobs_of, let_go,
-    next, pipeline, project, runner, runner_with, variables_of,
-};
-use crate::records::text;
-use ci_graph::part::Part;
-use ci_machine::change::{Counter, Key};
-use ci_machine::records::{AttemptState, Cause, JobOptions};
-use ci_machine::text::Text;
+use crate::plain::{Load, close, filled, is_committed, is_made, let_go, reopened, shown};
+use crate::records::{Change, Gone, Made, Work, row_of};
+use ci_board::facts::Status;
+use ci_machine::change::Counter;
+use ci_machine::records::{AttemptState, RefKind};
 use ci_store::Alter;
 use ci_store::tables::Tables;
-use ci_values::when::{AllowFailure, When};
-use sqlite::MemStore;
+use ci_store_disks::discard;
 use std::alloc::Global;
 use std::process::Abort;
 use std::test::Fail;
 
-fn has_project<S: Alter>(tables: &mut Tables<S>) -> Loaded<bool> {
-    match project(tables, 1)? {
-        Some(found) => Ok(found.id == 1 && found.token.as_str() == "p1" && found.file.is_none()),
-        None => Ok(false),
-    }
+/// A step of a test.
+#[derive(Drop)]
+enum Step {
+    /// The changes are made in one commit.
+    Makes(&'static [Change]),
+    /// They are refused, all of them.
+    Refuses(&'static [Change]),
+    /// A load answers this, or nothing where the text is empty.
+    Shows(Load, &'static str),
+    /// A load answers records with these numbers.
+    Finds(Load, &'static [u64]),
 }
 
-fn has_project_variable<S: Alter>(tables: &mut Tables<S>) -> Loaded<bool> {
-    match variables_of(tables, 1)?.as_slice() {
-        [only] => {
-            Ok(only.project == 1 && only.key.as_str() == "LEVEL" && only.value.as_str() == "0")
+fn takes<S: Alter>(
+    rt: &impl Abort,
+    alloc: Global,
+    tables: &mut Tables<S>,
+    at: usize,
+    step: &Step,
+) -> Result<(), Fail> {
+    match step {
+        Step::Makes(changes) => assert!(rt; is_made(alloc, tables, changes)?, "step {at}"),
+        Step::Refuses(changes) => assert!(rt; !is_made(alloc, tables, changes)?, "step {at}"),
+        Step::Shows(load, want) => {
+            let found = shown(alloc, tables, *load)?;
+            assert_eq!(rt; found.text.as_str(), *want, "step {at}");
         }
-        _ => Ok(false),
+        Step::Finds(load, want) => {
+            let found = shown(alloc, tables, *load)?;
+            assert_eq!(rt; found.numbers.as_slice(), *want, "step {at}");
+        }
     }
+    Ok(())
 }
 
-fn has_runner<S: Alter>(alloc: Global, tables: &mut Tables<S>) -> Loaded<bool> {
-    let token = Text::copy_of(alloc, "r1")?;
-    match runner_with(tables, &token)? {
-        Some(found) => match found.tags.as_slice() {
-            [first, second] => Ok(first.as_str() == "gpu" && second.as_str() == "a \"quoted\" tag"),
-            _ => Ok(false),
-        },
-        None => Ok(false),
+fn takes_all<S: Alter>(
+    rt: &impl Abort,
+    alloc: Global,
+    tables: &mut Tables<S>,
+    steps: &[Step],
+) -> Result<(), Fail> {
+    for (at, step) in steps.iter().enumerate() {
+        takes(rt, alloc, tables, at, step)?;
     }
+    Ok(())
 }
 
-/// The runner by its number.
-fn has_runner_at<S: Alter>(tables: &mut Tables<S>) -> Loaded<bool> {
-    match runner(tables, 1)? {
-        Some(found) => Ok(
-            found.token.as_str() == "r1"
-                && found.project == Some(1)
-                && found.untagged
-                && !found.paused
-                && runner(tables, 2)?.is_none(),
-        ),
-        None => Ok(false),
-    }
+/// Takes the first steps, opens the tables again, and takes the others.
+fn tells(rt: &impl Abort, alloc: Global, first: &[Step], then: &[Step]) -> Result<(), Fail> {
+    let mut tables = filled(alloc)?;
+    takes_all(rt, alloc, &mut tables, first)?;
+    let mut tables = reopened(tables)?;
+    takes_all(rt, alloc, &mut tables, then)?;
+    let_go(tables);
+    Ok(())
 }
 
-/// What the second job asks of a runner.
-fn has_demand<S: Alter>(tables: &mut Tables<S>) -> Loaded<bool> {
-    let Some(found) = demand(tables, 2)? else {
-        return Ok(false);
-    };
-    let is_group = match &found.resource_group {
-        Some(name) => name.as_str() == "prod",
-        None => false,
-    };
-    let is_tag = matches!(found.tags.as_slice(), [tag] if tag.as_str() == "gpu");
-    Ok(is_group && is_tag && found.job == 2 && found.pipeline == 1 && demand(tables, 3)?.is_none())
-}
+// ---- records
 
-fn has_pipeline<S: Alter>(tables: &mut Tables<S>) -> Loaded<bool> {
-    match pipeline(tables, 1)? {
-        Some(found) => Ok(found.project == 1 && found.created.seconds() == 60),
-        None => Ok(false),
-    }
-}
-
-fn is_part(part: &Part) -> bool {
-    let causes = part.retry.causes;
-    let is_allowed = match &part.allow_failure {
-        AllowFailure::ExitCodes(codes) => codes.as_slice() == [1u32, 137].as_slice(),
-        _ => false,
-    };
-    is_allowed
-        && part.when == When::Always
-        && part.gives_needs
-        && part.retry.max == 2
-        && causes.script_failure
-        && causes.job_execution_timeout
-        && !causes.api_failure
-}
-
-fn are_options(options: &JobOptions) -> bool {
-    let is_group = match &options.resource_group {
-        Some(name) => name.as_str() == "prod",
-        None => false,
-    };
-    let is_tag = matches!(options.tags.as_slice(), [tag] if tag.as_str() == "gpu");
-    let is_script =
-        matches!(options.script.as_slice(), [_, second] if second.as_str() == "make check");
-    is_group && is_tag && is_script && options.timeout == 3600 && options.interruptible
-}
-
-fn has_job<S: Alter>(tables: &mut Tables<S>) -> Loaded<bool> {
-    match job(tables, 2)? {
-        Some(found) => Ok(are_options(&found.options) && is_part(&found.options.part)),
-        None => Ok(false),
-    }
-}
-
-fn has_variables<S: Alter>(tables: &mut Tables<S>) -> Loaded<bool> {
-    match job_variables(tables, 1)?.as_slice() {
-        [first, second] => Ok(first.key.as_str() == "CI" && second.key.as_str() == "KEY"),
-        _ => Ok(false),
-    }
-}
-
-fn has_attempt<S: Alter>(tables: &mut Tables<S>) -> Loaded<bool> {
-    match attempts_of(tables, 1)?.as_slice() {
-        [found] => match found.state {
-            AttemptState::Failed(Cause::ScriptFailure, Some(2)) => Ok(found.seen.seconds() == 130),
-            _ => Ok(false),
-        },
-        _ => Ok(false),
-    }
-}
-
-fn has_counts<S: Alter>(tables: &mut Tables<S>) -> Loaded<bool> {
-    let count = jobs_of(tables, 1)?.len();
-    let next = next(tables, Counter::Job)?;
-    let found = attempt(tables, 1)?;
-    Ok(count == 2 && next == 3 && found.is_some())
-}
+const RECORDS: &[Step] = &[
+    Step::Shows(Load::Project(1), "1 one p1 -"),
+    Step::Shows(Load::ProjectWith("p1"), "1 one p1 -"),
+    Step::Shows(Load::VariablesOf(1), "1 LEVEL=0"),
+    Step::Shows(
+        Load::RunnerWith("r1"),
+        "1 runner r1 Some(1) [gpu, a \"quoted\" tag] true false",
+    ),
+    Step::Shows(
+        Load::Runner(1),
+        "1 runner r1 Some(1) [gpu, a \"quoted\" tag] true false",
+    ),
+    Step::Shows(Load::Runner(2), ""),
+    Step::Shows(Load::Pipeline(1), "1 1 main tag schedule 60"),
+    Step::Shows(
+        Load::Job(2),
+        "2 1 0 build test [make, make check] 3600 s [gpu] prod true always failure [1, 137] retry 2 010001 needs true true false 2",
+    ),
+    Step::Shows(Load::Demand(2), "2 1 [gpu] prod"),
+    Step::Shows(Load::Demand(3), ""),
+    Step::Shows(Load::JobVariables(1), "1 CI=1; 1 KEY=1"),
+    Step::Shows(
+        Load::AttemptsOf(1),
+        "1 1 1 j1 100 130 script_failure Some(2) 2 65542",
+    ),
+    Step::Finds(Load::JobsOf(1), &[1, 2]),
+    Step::Shows(Load::Next(Counter::Job), "3"),
+    Step::Shows(
+        Load::Attempt(1),
+        "1 1 1 j1 100 130 script_failure Some(2) 2 65542",
+    ),
+];
 
 #[test]
 fn each_kind_of_record_is_loaded_back(rt: HostRuntime) -> Result<(), Fail> {
-    let alloc = rt.alloc();
-    let mut tables = filled(alloc)?;
-    assert!(rt; has_project(&mut tables) == Ok(true));
-    assert!(rt; has_project_variable(&mut tables) == Ok(true));
-    assert!(rt; has_runner(alloc, &mut tables) == Ok(true));
-    assert!(rt; has_runner_at(&mut tables) == Ok(true));
-    assert!(rt; has_pipeline(&mut tables) == Ok(true));
-    assert!(rt; has_job(&mut tables) == Ok(true));
-    assert!(rt; has_demand(&mut tables) == Ok(true));
-    assert!(rt; has_variables(&mut tables) == Ok(true));
-    assert!(rt; has_attempt(&mut tables) == Ok(true));
-    assert!(rt; has_counts(&mut tables) == Ok(true));
-    let_go(tables);
-    Ok(())
+    tells(&rt, rt.alloc(), &[], RECORDS)
 }
 
-/// Keys of rows, and whether each is removed: not where others name it.
-fn removals(alloc: Global) -> Result<Vec<(Key, bool)>, Fail> {
-    let mut keys = Vec::new(alloc);
-    keys.push((Key::Project(1), false))?;
-    keys.push((Key::Pipeline(1), false))?;
-    keys.push((Key::Job(1), false))?;
-    keys.push((Key::Job(2), true))?;
-    keys.push((Key::JobVariable(1, text(alloc, "CI")?), true))?;
-    Ok(keys)
-}
-
-fn remove_each(rt: &impl Abort, alloc: Global, tables: &mut Tables<MemStore>) -> Result<(), Fail> {
-    for (key, goes) in removals(alloc)? {
-        assert!(rt; is_removed(alloc, tables, key)? == goes);
-    }
-    Ok(())
-}
+const NAMED_BY_OTHERS: &[Step] = &[
+    Step::Refuses(&[Change::Remove(Gone::Project(1))]),
+    Step::Refuses(&[Change::Remove(Gone::Pipeline(1))]),
+    Step::Refuses(&[Change::Remove(Gone::Job(1))]),
+    Step::Makes(&[Change::Remove(Gone::Job(2))]),
+    Step::Makes(&[Change::Remove(Gone::JobVariable(1, "CI"))]),
+];
 
 #[test]
 fn a_row_that_others_name_is_not_removed(rt: HostRuntime) -> Result<(), Fail> {
-    let alloc = rt.alloc();
-    let mut tables = filled(alloc)?;
-    let removed = remove_each(&rt, alloc, &mut tables);
-    let_go(tables);
-    removed
+    tells(&rt, rt.alloc(), NAMED_BY_OTHERS, &[])
 }
 
-/// The first number over the greatest integer of SQL, and the greatest number of all.
-const OVER: [u64; 2] = [9_223_372_036_854_775_808, 18_446_744_073_709_551_615];
+/// The first number over the greatest integer of SQL.
+const OVER: u64 = 9_223_372_036_854_775_808;
+
+const OVER_THE_GREATEST: &[Step] = &[
+    Step::Shows(Load::Project(OVER), ""),
+    Step::Shows(Load::Pipeline(OVER), ""),
+    Step::Shows(Load::Job(OVER), ""),
+    Step::Shows(Load::Attempt(OVER), ""),
+    Step::Shows(Load::Demand(OVER), ""),
+    Step::Shows(Load::Runner(OVER), ""),
+    Step::Shows(Load::Project(u64::MAX), ""),
+    Step::Shows(Load::Pipeline(u64::MAX), ""),
+    Step::Shows(Load::Job(u64::MAX), ""),
+    Step::Shows(Load::Attempt(u64::MAX), ""),
+    Step::Shows(Load::Demand(u64::MAX), ""),
+    Step::Shows(Load::Runner(u64::MAX), ""),
+];
 
 #[test]
 fn a_number_over_the_greatest_integer_of_sql_is_no_rows(rt: HostRuntime) -> Result<(), Fail> {
-    let mut tables = filled(rt.alloc())?;
-    for id in OVER {
-        assert!(rt; matches!(project(&mut tables, id), Ok(None)));
-        assert!(rt; matches!(pipeline(&mut tables, id), Ok(None)));
-        assert!(rt; matches!(job(&mut tables, id), Ok(None)));
-        assert!(rt; matches!(attempt(&mut tables, id), Ok(None)));
-        assert!(rt; matches!(demand(&mut tables, id), Ok(None)));
-        assert!(rt; matches!(runner(&mut tables, id), Ok(None)));
+    tells(&rt, rt.alloc(), OVER_THE_GREATEST, &[])
+}
+
+// ---- variables of projects
+
+/// Three of project 1, not in the order of their keys, and one of project 2. One is put in the place of another.
+const FOUR_VARIABLES: &[Change] = &[
+    Change::Add(Made::Project(2, "two", "p2")),
+    Change::Add(Made::Variable(1, "a", "1")),
+    Change::Add(Made::Variable(1, "_", "2")),
+    Change::Add(Made::Variable(2, "a", "3")),
+    Change::Add(Made::Variable(1, "Z", "4")),
+    Change::Put(Made::Variable(1, "_", "5")),
+];
+
+/// By the bytes of their keys; and those keys are missing that are of another case, of another project or of none.
+const VARIABLES: &[Step] = &[
+    Step::Shows(Load::VariablesOf(1), "1 LEVEL=0; 1 Z=4; 1 _=5; 1 a=1"),
+    Step::Shows(Load::VariablesOf(2), "2 a=3"),
+    Step::Shows(Load::VariablesOf(3), ""),
+    Step::Shows(Load::Variable(1, "_"), "1 _=5"),
+    Step::Shows(Load::Variable(1, "a"), "1 a=1"),
+    Step::Shows(Load::Variable(2, "a"), "2 a=3"),
+    Step::Shows(Load::Variable(1, "A"), ""),
+    Step::Shows(Load::Variable(1, "z"), ""),
+    Step::Shows(Load::Variable(2, "_"), ""),
+    Step::Shows(Load::Variable(2, "LEVEL"), ""),
+    Step::Shows(Load::Variable(3, "a"), ""),
+];
+
+#[test]
+fn variables_come_by_the_bytes_of_their_keys(rt: HostRuntime) -> Result<(), Fail> {
+    tells(&rt, rt.alloc(), &[Step::Makes(FOUR_VARIABLES)], VARIABLES)
+}
+
+/// Project 2 stays as long as it has a variable, and that of project 1 with the same key goes alone.
+const VARIABLES_GO: &[Step] = &[
+    Step::Refuses(&[Change::Remove(Gone::Project(2))]),
+    Step::Makes(&[Change::Remove(Gone::Variable(1, "a"))]),
+    Step::Refuses(&[Change::Remove(Gone::Project(2))]),
+    Step::Makes(&[Change::Remove(Gone::Variable(2, "a"))]),
+    Step::Makes(&[Change::Remove(Gone::Project(2))]),
+    Step::Shows(Load::VariablesOf(1), "1 LEVEL=0; 1 Z=4; 1 _=5"),
+    Step::Shows(Load::Project(2), ""),
+];
+
+#[test]
+fn a_project_with_a_variable_is_not_removed(rt: HostRuntime) -> Result<(), Fail> {
+    tells(
+        &rt,
+        rt.alloc(),
+        &[Step::Makes(FOUR_VARIABLES)],
+        VARIABLES_GO,
+    )
+}
+
+// ---- traces
+
+/// The later piece comes first.
+const TWO_PIECES: &[Change] = &[
+    Change::Add(Made::Piece(1, b"wor\0ld")),
+    Change::Add(Made::LongPiece(0)),
+];
+
+const PIECES: &[Step] = &[
+    Step::Shows(Load::PiecesOf(1), "1 0 65536 all 255; 1 1 6 wor\0ld"),
+    Step::Refuses(&[Change::Remove(Gone::Attempt(1))]),
+    Step::Makes(&[Change::Remove(Gone::Piece(1, 0))]),
+    Step::Shows(Load::PiecesOf(1), "1 1 6 wor\0ld"),
+    Step::Shows(Load::PiecesOf(2), ""),
+    Step::Makes(&[Change::Remove(Gone::Piece(1, 1))]),
+    Step::Makes(&[Change::Remove(Gone::Attempt(1))]),
+];
+
+#[test]
+fn pieces_are_loaded_in_their_order_and_removed(rt: HostRuntime) -> Result<(), Fail> {
+    tells(&rt, rt.alloc(), &[Step::Makes(TWO_PIECES)], PIECES)
+}
+
+const TWO_LIVE: &[Change] = &[
+    Change::Add(Made::Attempt(3, 1, AttemptState::Live)),
+    Change::Add(Made::Attempt(2, 1, AttemptState::Live)),
+];
+
+const ONE_ENDS: &[Change] = &[Change::Put(Made::Attempt(2, 1, AttemptState::Succeeded(Some(0))))];
+
+const LIVE: &[Step] = &[
+    Step::Shows(Load::LiveAttempts, ""),
+    Step::Makes(TWO_LIVE),
+    Step::Shows(
+        Load::LiveAttempts,
+        "2 1 1 j1 100 130 live 2 65542; 3 1 1 j1 100 130 live 2 65542",
+    ),
+    Step::Makes(ONE_ENDS),
+];
+
+#[test]
+fn an_attempt_that_has_ended_is_not_live(rt: HostRuntime) -> Result<(), Fail> {
+    let then = [Step::Shows(Load::LiveAttempts, "3 1 1 j1 100 130 live 2 65542")];
+    tells(&rt, rt.alloc(), LIVE, &then)
+}
+
+// ---- rows of statuses
+
+/// The jobs 3 to 50 of pipeline 1, and job 51 of pipeline 2.
+fn push_jobs(alloc: Global, work: &mut Work) -> Result<(), Fail> {
+    for id in 3u64..51 {
+        work.push(alloc, &Change::Add(Made::Job(id, 1)))?;
     }
+    work.push(
+        alloc,
+        &Change::Add(Made::Pipeline(2, 1, "main", RefKind::Tag)),
+    )?;
+    work.push(alloc, &Change::Add(Made::Job(51, 2)))
+}
+
+/// Each fifth job is created, and 40 are pending. The last row comes first.
+fn push_rows(work: &mut Work) -> Result<(), Fail> {
+    for before in 0u64..50 {
+        let id = 50u64.saturating_sub(before);
+        let status = if id % 5 == 0 {
+            Status::Created
+        } else {
+            Status::Pending
+        };
+        work.rows.push(row_of(id, status))?;
+    }
+    Ok(())
+}
+
+const OF_FIFTY: &[Step] = &[
+    Step::Finds(
+        Load::PendingAfter(0),
+        &[1, 2, 3, 4, 6, 7, 8, 9, 11, 12, 13, 14, 16, 17, 18, 19],
+    ),
+    Step::Finds(
+        Load::PendingAfter(19),
+        &[
+            21, 22, 23, 24, 26, 27, 28, 29, 31, 32, 33, 34, 36, 37, 38, 39,
+        ],
+    ),
+    Step::Finds(
+        Load::PendingAfter(20),
+        &[
+            21, 22, 23, 24, 26, 27, 28, 29, 31, 32, 33, 34, 36, 37, 38, 39,
+        ],
+    ),
+    Step::Finds(Load::PendingAfter(39), &[41, 42, 43, 44, 46, 47, 48, 49]),
+    Step::Shows(Load::PendingAfter(48), "49 pending 2 1 3"),
+    Step::Shows(Load::PendingAfter(49), ""),
+    Step::Shows(
+        Load::RowsWithin(9, 11),
+        "9 pending 2 1 3; 10 created 2 1 3; 11 pending 2 1 3",
+    ),
+    Step::Shows(Load::RowsWithin(50, 60), "50 created 2 1 3"),
+    Step::Shows(Load::RowsWithin(0, 1), "1 pending 2 1 3"),
+    Step::Shows(Load::RowsWithin(51, 51), ""),
+    Step::Shows(Load::RowsWithin(11, 9), ""),
+    Step::Finds(
+        Load::JobsOf(1),
+        &[
+            1, 2, 3, 4, 5, 6, 7, 8, 9, 10, 11, 12, 13, 14, 15, 16, 17, 18, 19, 20, 21, 22, 23, 24,
+            25, 26, 27, 28, 29, 30, 31, 32, 33, 34, 35, 36, 37, 38, 39, 40, 41, 42, 43, 44, 45, 46,
+            47, 48, 49, 50,
+        ],
+    ),
+    Step::Finds(Load::JobsOf(2), &[51]),
+];
+
+#[test]
+fn rows_come_page_by_page_and_by_ranges_of_jobs(rt: HostRuntime) -> Result<(), Fail> {
+    let alloc = rt.alloc();
+    let mut fifty = Work::nothing(alloc);
+    push_jobs(alloc, &mut fifty)?;
+    push_rows(&mut fifty)?;
+    let mut tables = filled(alloc)?;
+    assert!(rt; is_committed(&mut tables, fifty));
+    let mut tables = reopened(tables)?;
+    takes_all(&rt, alloc, &mut tables, OF_FIFTY)?;
     let_go(tables);
+    Ok(())
+}
+
+/// A row is put in the place of one, and then another twice.
+const PUT_OVER: &[Step] = &[
+    Step::Shows(Load::Row(1), "1 manual 2 1 3"),
+    Step::Makes(&[
+        Change::Row(1, Status::Running),
+        Change::Row(2, Status::Pending),
+        Change::Row(2, Status::Skipped),
+    ]),
+];
+
+const OVER_ONE: &[Step] = &[
+    Step::Shows(Load::Row(1), "1 running 2 1 3"),
+    Step::Shows(Load::Row(2), "2 skipped 2 1 3"),
+    Step::Finds(Load::RowsWithin(1, 2), &[1, 2]),
+    Step::Shows(Load::Row(3), ""),
+];
+
+#[test]
+fn a_row_is_put_in_the_place_of_one(rt: HostRuntime) -> Result<(), Fail> {
+    tells(&rt, rt.alloc(), PUT_OVER, OVER_ONE)
+}
+
+// ---- pairs of graphs
+
+/// The pairs (3, 1), (3, 2), (4, 3) and (5, 3), not in their order, and two attempts.
+const FOUR_PAIRS: &[Change] = &[
+    Change::Add(Made::Job(3, 1)),
+    Change::Add(Made::Job(4, 1)),
+    Change::Add(Made::Job(5, 1)),
+    Change::Put(Made::Need(5, 3)),
+    Change::Put(Made::Need(3, 2)),
+    Change::Put(Made::Need(4, 3)),
+    Change::Put(Made::Need(3, 1)),
+    Change::Add(Made::Attempt(2, 4, AttemptState::Live)),
+    Change::Add(Made::Attempt(3, 3, AttemptState::Live)),
+];
+
+const PAIRS: &[Step] = &[
+    Step::Shows(Load::NeedsWithin(3, 4), "3 for 1; 3 for 2; 4 for 3"),
+    Step::Shows(Load::NeedsWithin(4, 9), "4 for 3; 5 for 3"),
+    Step::Shows(Load::NeedsWithin(1, 2), ""),
+    Step::Finds(Load::AttemptsWithin(1, 3), &[1, 3]),
+    Step::Finds(Load::AttemptsWithin(3, 4), &[2, 3]),
+];
+
+#[test]
+fn pairs_and_attempts_are_found_by_the_range_of_their_jobs(rt: HostRuntime) -> Result<(), Fail> {
+    tells(&rt, rt.alloc(), &[Step::Makes(FOUR_PAIRS)], PAIRS)
+}
+
+/// Job 5 waits for job 3, so neither goes before the pair; job 1 has a row, and stays.
+const PAIRS_GO: &[Step] = &[
+    Step::Makes(FOUR_PAIRS),
+    Step::Refuses(&[Change::Remove(Gone::Job(3))]),
+    Step::Refuses(&[Change::Remove(Gone::Job(5))]),
+    Step::Makes(&[Change::Remove(Gone::Need(5, 3))]),
+    Step::Makes(&[Change::Remove(Gone::Job(5))]),
+    Step::Refuses(&[Change::Remove(Gone::Job(1))]),
+];
+
+#[test]
+fn a_job_that_another_waits_for_is_not_removed(rt: HostRuntime) -> Result<(), Fail> {
+    tells(&rt, rt.alloc(), PAIRS_GO, &[])
+}
+
+// ---- groups that are held
+
+/// Another project, live attempts 2 and 3 of the jobs 1 and 2, and three groups that they hold, two of them of one name in two projects.
+const THREE_HELD: &[Change] = &[
+    Change::Add(Made::Project(2, "two", "p2")),
+    Change::Add(Made::Attempt(2, 1, AttemptState::Live)),
+    Change::Add(Made::Attempt(3, 2, AttemptState::Live)),
+    Change::Hold(1, "prod", 2),
+    Change::Hold(2, "prod", 3),
+    Change::Hold(1, "test", 3),
+];
+
+const HELD: &[Step] = &[
+    Step::Shows(Load::Holder(1, "prod"), "1 prod 2"),
+    Step::Shows(Load::Holder(1, "test"), "1 test 3"),
+    Step::Shows(Load::Holder(2, "prod"), "2 prod 3"),
+    Step::Shows(Load::Holder(2, "test"), ""),
+    Step::Shows(Load::Holder(1, "Prod"), ""),
+    Step::Shows(Load::Holder(1, "pro"), ""),
+    Step::Shows(Load::Holder(3, "prod"), ""),
+    // a held group is not held again
+    Step::Refuses(&[Change::Hold(1, "prod", 3)]),
+    // attempt 2 holds a group, and so does attempt 3; attempt 1 holds none
+    Step::Refuses(&[Change::Remove(Gone::Attempt(2))]),
+    Step::Refuses(&[Change::Remove(Gone::Attempt(3))]),
+    Step::Makes(&[Change::Remove(Gone::Attempt(1))]),
+];
+
+#[test]
+fn groups_are_held(rt: HostRuntime) -> Result<(), Fail> {
+    tells(&rt, rt.alloc(), &[Step::Makes(THREE_HELD)], HELD)
+}
+
+/// The group `prod` of project 1 is free, and one that wasn't held.
+const TWO_FREE: &[Step] = &[
+    Step::Makes(THREE_HELD),
+    Step::Makes(&[Change::Free(1, "prod"), Change::Free(2, "test")]),
+];
+
+const HELD_THEN: &[Step] = &[
+    Step::Shows(Load::Holder(1, "prod"), ""),
+    Step::Shows(Load::Holder(1, "test"), "1 test 3"),
+    Step::Shows(Load::Holder(2, "prod"), "2 prod 3"),
+    Step::Shows(Load::Holder(2, "test"), ""),
+    Step::Shows(Load::Holder(1, "Prod"), ""),
+    Step::Shows(Load::Holder(1, "pro"), ""),
+    Step::Shows(Load::Holder(3, "prod"), ""),
+];
+
+#[test]
+fn groups_are_free(rt: HostRuntime) -> Result<(), Fail> {
+    tells(&rt, rt.alloc(), TWO_FREE, HELD_THEN)
+}
+
+// ---- pipelines that aren't finished, and newer ones
+
+/// Seven more pipelines; of those that are opened, not in their order, one is closed, and one that wasn't open.
+const MANY_PIPELINES: &[Change] = &[
+    Change::Add(Made::Project(2, "two", "p2")),
+    Change::Add(Made::Pipeline(2, 1, "main", RefKind::Branch)),
+    Change::Add(Made::Pipeline(3, 1, "next", RefKind::Tag)),
+    Change::Add(Made::Pipeline(4, 2, "main", RefKind::Tag)),
+    Change::Add(Made::Pipeline(5, 1, "main", RefKind::Tag)),
+    Change::Add(Made::Pipeline(6, 1, "main", RefKind::Tag)),
+    Change::Add(Made::Pipeline(7, 1, "Main", RefKind::Tag)),
+    Change::Add(Made::Pipeline(8, 1, "main", RefKind::Branch)),
+    Change::Open(6),
+    Change::Open(1),
+    Change::Open(2),
+    Change::Open(4),
+    Change::Close(4),
+    Change::Close(5),
+];
+
+/// The first one is of a tag `main` too.
+const NEWER: &[Step] = &[
+    Step::Shows(Load::NewerThan(1), "5 1 main tag schedule 60"),
+    Step::Shows(Load::NewerThan(2), "8 1 main branch schedule 60"),
+    Step::Shows(Load::NewerThan(3), ""),
+    Step::Shows(Load::NewerThan(4), ""),
+    Step::Shows(Load::NewerThan(5), "6 1 main tag schedule 60"),
+    Step::Shows(Load::NewerThan(6), ""),
+    Step::Shows(Load::NewerThan(7), ""),
+    Step::Shows(Load::NewerThan(8), ""),
+    Step::Shows(Load::Unfinished, "1; 2; 6"),
+    // an open pipeline is not opened again
+    Step::Refuses(&[Change::Open(2)]),
+];
+
+#[test]
+fn a_newer_pipeline_is_of_the_same_ref_and_unfinished_ones_come_by_number(
+    rt: HostRuntime,
+) -> Result<(), Fail> {
+    tells(&rt, rt.alloc(), &[Step::Makes(MANY_PIPELINES)], NEWER)
+}
+
+// ---- texts in the file
+
+const TEXTS: &[(&str, &str)] = &[
+    (
+        "SELECT spec FROM job WHERE id = 1",
+        r#"{"allow_failure":[1,137],"interruptible":true,"needs":true,"resource_group":"prod","retry":{"causes":["script_failure","job_execution_timeout"],"max":2},"tags":["gpu"],"timeout":3600,"when":"always"}"#,
+    ),
+    (
+        "SELECT script FROM job WHERE id = 1",
+        r#"["make","make check"]"#,
+    ),
+    (
+        "SELECT sql FROM sqlite_schema WHERE name = 'need'",
+        "CREATE TABLE need (job INTEGER NOT NULL REFERENCES job (id) ON DELETE CASCADE, pred INTEGER NOT NULL REFERENCES job (id) ON DELETE CASCADE, PRIMARY KEY (job, pred)) STRICT",
+    ),
+    (
+        "SELECT sql FROM sqlite_schema WHERE name = 'board'",
+        "CREATE TABLE board (job INTEGER PRIMARY KEY REFERENCES job (id) ON DELETE CASCADE, status INTEGER NOT NULL, open INTEGER NOT NULL, failed INTEGER NOT NULL, barred INTEGER NOT NULL) STRICT",
+    ),
+    (
+        "SELECT sql FROM sqlite_schema WHERE name = 'board_status'",
+        "CREATE INDEX board_status ON board (status, job)",
+    ),
+    (
+        "SELECT sql FROM sqlite_schema WHERE name = 'need_pred'",
+        "CREATE INDEX need_pred ON need (pred)",
+    ),
+    (
+        "SELECT sql FROM sqlite_schema WHERE name = 'variable'",
+        "CREATE TABLE variable (project INTEGER NOT NULL REFERENCES project (id), key TEXT NOT NULL, value TEXT NOT NULL, PRIMARY KEY (project, key)) STRICT",
+    ),
+    (
+        "SELECT sql FROM sqlite_schema WHERE name = 'holder'",
+        "CREATE TABLE holder (project INTEGER NOT NULL REFERENCES project (id), grp TEXT NOT NULL, attempt INTEGER NOT NULL REFERENCES attempt (id) ON DELETE CASCADE, PRIMARY KEY (project, grp)) STRICT",
+    ),
+    (
+        "SELECT sql FROM sqlite_schema WHERE name = 'holder_attempt'",
+        "CREATE INDEX holder_attempt ON holder (attempt)",
+    ),
+    (
+        "SELECT sql FROM sqlite_schema WHERE name = 'unfinished'",
+        "CREATE TABLE unfinished (pipeline INTEGER PRIMARY KEY) STRICT",
+    ),
+    (
+        "SELECT sql FROM sqlite_schema WHERE name = 'pipeline_ref'",
+        "CREATE INDEX pipeline_ref ON pipeline (project, ref, kind, id)",
+    ),
+];
+
+#[test]
+fn texts_in_the_file_are_these(rt: HostRuntime) -> Result<(), Fail> {
+    let mut conn = close(filled(rt.alloc())?);
+    for (query, wants) in TEXTS {
+        let rows = conn.query_all(query, &[])?;
+        let found: String = rows.as_slice().first().ok_or("no row")?.get(0)?;
+        assert_eq!(rt; found.as_str(), *wants, "{query}");
+    }
+    discard(conn);
     Ok(())
 }

@@ -1,6 +1,6 @@
 use Rattle.std.proofs.Common.{◌≡◌, ◌∷◌, ◌++◌, drop}
 use Rattle.std.specs.Prelude.{filter}
-use Rattle.ci_words.specs.Table.{words_view}
+use Rattle.ci_values.specs.Table.{words_view}
 use Rattle.ci_config.specs.Meaning.{pre, is_inner}
 use Rattle.ci_config.specs.View.{texts_view}
 use Rattle.ci_config.proofs.file.all_stages.Given as goal

@@ -1,5 +1,5 @@
 use Rattle.std.proofs.Common.{◌≡◌, drop}
-use Rattle.ci_words.specs.Table.{words_view}
+use Rattle.ci_values.specs.Table.{words_view}
 use Rattle.ci_config.specs.Files.{is_among}
 use Rattle.ci_config.proofs.file.is_among.Given as goal
 

@@ -1,5 +1,5 @@
 use Rattle.std.proofs.Common.{◌+◌, drop, map, sym, ◌∙◌}
-use Rattle.ci_words.specs.Table.{words_view}
+use Rattle.ci_values.specs.Table.{words_view}
 use Rattle.ci_config.specs.Meaning.{jobs_judged}
 use Rattle.ci_config.specs.View.{job_view}
 use Rattle.ci_config.proofs.Trees.{next-job}

@@ -1,5 +1,5 @@
 use Rattle.std.proofs.Common.{◌≡◌, Result, drop, map}
-use Rattle.ci_words.specs.Table.{words_view}
+use Rattle.ci_values.specs.Table.{words_view}
 use Rattle.ci_config.specs.Config.{Config}
 use Rattle.ci_config.specs.Fault.{Fault}
 use Rattle.ci_config.specs.Meaning.{jobs_judged}

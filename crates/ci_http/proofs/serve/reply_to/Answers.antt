@@ -1,8 +1,8 @@
 use Rattle.std.proofs.Common.{refl, ap, ◌∙◌, inl, inr}
 use Rattle.std.specs.Prelude.{Err}
 use Rattle.ci_machine.specs.Reply.{refusal}
-use Rattle.ci_http.specs.Reading.{request, refused}
-use Rattle.ci_http.proofs.Readings.{tells_map}
+use Rattle.ci_http_messages.specs.Reading.{request, refused}
+use Rattle.ci_http_messages.proofs.Readings.{tells_map}
 use Rattle.ci_http.specs.Serving.{ReadsByMemory}
 use Rattle.ci_http.proofs.serve.reply_to.Goals as goal
 

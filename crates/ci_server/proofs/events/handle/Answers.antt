@@ -4,8 +4,8 @@ use Rattle.ci_machine.specs.declared.reply.Answer.TheVariants as answer
 use Rattle.ci_machine.specs.declared.request.Event.TheVariants as event
 use Rattle.ci_machine.specs.Step.{Does}
 use Rattle.ci_store.specs.Store.{UnlessBroken}
-use Rattle.ci_lookups.specs.Keeps.{IsKept}
-use Rattle.ci_events.specs.Planning.{PlansFor}
+use Rattle.ci_server_lookups.specs.Keeps.{IsKept}
+use Rattle.ci_server_events.specs.Planning.{PlansFor}
 use Rattle.ci_server.proofs.Keeping.{is_kept}
 use Rattle.ci_server.proofs.Handling.{performed}
 use Rattle.ci_server.proofs.events.handle.Goals as goal

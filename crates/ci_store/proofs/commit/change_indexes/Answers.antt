@@ -4,7 +4,7 @@ use Rattle.sqlite.specs.Held.{state}
 use Rattle.sqlite.proofs.StateLemmas.{survives_then}
 use Rattle.sqlite.proofs.InsideLemmas.{keeps_then}
 use Rattle.ci_machine.specs.Kept.{indexed, indexed_all}
-use Rattle.ci_store.specs.Stands.{Stands}
+use Rattle.ci_store_rows.specs.Stands.{Stands}
 use Rattle.std.proofs.lemmas.List.{take_all}
 use Rattle.ci_store.proofs.Committing.{survives_same}
 use Rattle.ci_store.proofs.Applied.{indexed_more}

@@ -2,7 +2,7 @@ use Rattle.std.proofs.Common.{◌≡◌, take, IsTrue}
 use Rattle.sqlite.specs.State.{HasCleanDisk, KeepsCommit, Survives}
 use Rattle.sqlite.specs.Held.{state}
 use Rattle.ci_machine.specs.Kept.{indexed_all}
-use Rattle.ci_store.specs.Commit.{Makes}
+use Rattle.ci_store_rows.specs.Changes.{Makes}
 use Rattle.ci_store.proofs.commit.change_indexes.Given as goal
 
 abbrev pub invariant-loop-change : goal.invariant-loop-change

@@ -3,7 +3,7 @@ use Rattle.sqlite.specs.State.{HasCleanDisk}
 use Rattle.sqlite.specs.Held.{state}
 use Rattle.sqlite.specs.Effect.{Database}
 use Rattle.ci_machine.specs.Kept.{written}
-use Rattle.ci_store.specs.Stands.{StandsIn}
+use Rattle.ci_store_rows.specs.Stands.{StandsIn}
 use Rattle.ci_store.proofs.Committing.{not_done, back_at, left_either}
 use Rattle.ci_store.proofs.commit.commit.Goals as goal
 

@@ -4,8 +4,8 @@ use Rattle.sqlite.specs.Held.{state}
 use Rattle.sqlite.proofs.StateLemmas.{survives_then}
 use Rattle.sqlite.proofs.InsideLemmas.{keeps_then}
 use Rattle.ci_machine.specs.State.{applied, changed}
-use Rattle.ci_store.specs.Commit.{in_state}
-use Rattle.ci_store.specs.Stands.{Stands}
+use Rattle.ci_store_rows.specs.Changes.{in_state}
+use Rattle.ci_store_rows.specs.Stands.{Stands}
 use Rattle.std.proofs.lemmas.List.{take_all}
 use Rattle.ci_store.proofs.Committing.{survives_same}
 use Rattle.ci_store.proofs.Applied.{applied_more}

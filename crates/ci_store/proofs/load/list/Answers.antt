@@ -1,6 +1,7 @@
 use Rattle.std.proofs.Common.{subst}
 use Rattle.std.specs.List.{AllZip}
-use Rattle.ci_store.proofs.Loading.{after_ok, if_ok}
+use Rattle.ci_store_rows.proofs.Reading.{if_ok}
+use Rattle.ci_store.proofs.Loading.{after_ok}
 use Rattle.ci_store.proofs.load.list.Goals as goal
 
 pub returns-clause-loads : goal.returns-clause-loads

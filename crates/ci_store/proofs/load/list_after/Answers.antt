@@ -1,6 +1,6 @@
 use Rattle.std.proofs.Common.{◌∙◌, [], ◌∷◌}
 use Rattle.sqlite.specs.Values.{bound_value}
-use Rattle.ci_store.specs.Rows.{number}
+use Rattle.ci_store_rows.specs.Rows.{number}
 use Rattle.ci_store.proofs.Loading.{answered_so}
 use Rattle.ci_store.proofs.Looking.{by_params}
 use Rattle.ci_store.proofs.load.list_after.Goals as goal

@@ -1,10 +1,10 @@
 use Rattle.std.proofs.Common.{◌∙◌, [], ◌∷◌}
 use Rattle.sqlite.specs.declared.types.Value.TheVariants.{Text}
 use Rattle.sqlite.specs.Values.{bound_value}
-use Rattle.ci_store.specs.Rows.{number}
+use Rattle.ci_store_rows.specs.Rows.{number}
 use Rattle.ci_store.proofs.Loading.{answered_so}
 use Rattle.ci_store.proofs.Looking.{by_params}
-use Rattle.ci_store.proofs.Pipelines.{plain_select_newer, newer_found}
+use Rattle.ci_store_rows.proofs.Pipelines.{plain_select_newer, newer_found}
 use Rattle.ci_store.proofs.load.newer.Goals as goal
 
 pub one-requires-clause-plain : goal.one-requires-clause-plain

@@ -1,6 +1,6 @@
 use Rattle.std.proofs.Common.{rules, ◌≡◌, ◌<◌, ◌≤◌, length, get_or}
 use Rattle.sqlite.specs.Values.{bound}
-use Rattle.ci_store.specs.Calls.{ShowsRecords, listed}
+use Rattle.ci_store_rows.specs.Found.{ShowsRecords, listed}
 use Rattle.ci_store.proofs.Loading.{after_ok}
 use Rattle.ci_store.proofs.Looking.{none_read, one_read}
 use Rattle.ci_store.proofs.load.one.Goals as goal

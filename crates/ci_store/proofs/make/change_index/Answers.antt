@@ -2,9 +2,9 @@ use Rattle.std.proofs.Common.{[], refl}
 use Rattle.ci_machine.specs.Kept.{indexed}
 use Rattle.ci_machine.specs.declared.change.IndexChange.TheVariants.{Hold, Free, Open, Close}
 use Rattle.ci_store.proofs.Applied.{by_item}
-use Rattle.ci_store.proofs.Removals.{removed_indexed}
-use Rattle.ci_store.proofs.Holders.{holder_freed}
-use Rattle.ci_store.proofs.OpenPipelines.{unfinished_removed}
+use Rattle.ci_store_rows.proofs.Removals.{removed_indexed}
+use Rattle.ci_store_rows.proofs.Holders.{holder_freed}
+use Rattle.ci_store_rows.proofs.OpenPipelines.{unfinished_removed}
 use Rattle.ci_store.proofs.make.change_index.Goals as goal
 
 pub returns-in-Hold-clause-makes : goal.returns-in-Hold-clause-makes

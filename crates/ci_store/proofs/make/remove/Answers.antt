@@ -5,8 +5,8 @@ use Rattle.sqlite.specs.Values.{bound}
 use Rattle.sqlite.specs.Held.{state}
 use Rattle.sqlite.proofs.StateLemmas.{survives_then}
 use Rattle.sqlite.proofs.InsideLemmas.{keeps_then}
-use Rattle.ci_store.specs.Commit.{ShowsNone}
-use Rattle.ci_store.proofs.Removals.{one_more}
+use Rattle.ci_store_rows.specs.Changes.{ShowsNone}
+use Rattle.ci_store_rows.proofs.Removals.{one_more}
 use Rattle.ci_store.proofs.make.remove.Goals as goal
 
 pub loop-query-preserved : goal.loop-query-preserved

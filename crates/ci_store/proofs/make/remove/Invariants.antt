@@ -2,7 +2,7 @@ use Rattle.std.proofs.Common.{◌≡◌, take, map, IsTrue}
 use Rattle.sqlite.specs.State.{HasCleanDisk, KeepsCommit, Survives}
 use Rattle.sqlite.specs.Values.{bound}
 use Rattle.sqlite.specs.Held.{state}
-use Rattle.ci_store.specs.Commit.{ShowsNone}
+use Rattle.ci_store_rows.specs.Changes.{ShowsNone}
 use Rattle.ci_store.proofs.make.remove.Given as goal
 
 abbrev pub invariant-loop-query : goal.invariant-loop-query

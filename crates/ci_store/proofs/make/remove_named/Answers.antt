@@ -1,8 +1,8 @@
 use Rattle.std.proofs.Common.{[], ◌∷◌}
 use Rattle.sqlite.specs.declared.types.Value.TheVariants.{Text}
 use Rattle.sqlite.specs.Values.{bound, bound_value}
-use Rattle.ci_store.specs.Rows.{number}
-use Rattle.ci_store.proofs.Removals.{by_key}
+use Rattle.ci_store_rows.specs.Rows.{number}
+use Rattle.ci_store_rows.proofs.Removals.{by_key}
 use Rattle.ci_store.proofs.make.remove_named.Goals as goal
 
 pub returns-clause-removes : goal.returns-clause-removes

@@ -1,16 +1,16 @@
 use Rattle.std.proofs.Common.{[], ◌∷◌, refl}
-use Rattle.ci_store.proofs.Removals.{queries, removed_by}
-use Rattle.ci_store.proofs.Projects.{project_removed}
-use Rattle.ci_store.proofs.Variables.{variable_removed}
-use Rattle.ci_store.proofs.Runners.{runner_removed}
-use Rattle.ci_store.proofs.Pipelines.{pipeline_removed}
-use Rattle.ci_store.proofs.Jobs.{job_removed, refers_to_pipeline}
-use Rattle.ci_store.proofs.JobVariables.{job_variable_removed, refers_to_job as variables_refer}
-use Rattle.ci_store.proofs.Attempts.{attempt_removed, refers_to_job as attempts_refer}
-use Rattle.ci_store.proofs.Pieces.{piece_removed, refers_to_attempt}
-use Rattle.ci_store.proofs.Holders.{holders_refer}
-use Rattle.ci_store.proofs.Needs.{need_removed, needs_refer, needed_refer}
-use Rattle.ci_store.proofs.Board.{rows_refer}
+use Rattle.ci_store_rows.proofs.Removals.{queries, removed_by}
+use Rattle.ci_store_rows.proofs.Projects.{project_removed}
+use Rattle.ci_store_rows.proofs.Variables.{variable_removed}
+use Rattle.ci_store_rows.proofs.Runners.{runner_removed}
+use Rattle.ci_store_rows.proofs.Pipelines.{pipeline_removed}
+use Rattle.ci_store_rows.proofs.Jobs.{job_removed, refers_to_pipeline}
+use Rattle.ci_store_rows.proofs.JobVariables.{job_variable_removed, refers_to_job as variables_refer}
+use Rattle.ci_store_rows.proofs.Attempts.{attempt_removed, refers_to_job as attempts_refer}
+use Rattle.ci_store_rows.proofs.Pieces.{piece_removed, refers_to_attempt}
+use Rattle.ci_store_rows.proofs.Holders.{holders_refer}
+use Rattle.ci_store_rows.proofs.Needs.{need_removed, needs_refer, needed_refer}
+use Rattle.ci_store_rows.proofs.Board.{rows_refer}
 use Rattle.ci_store.proofs.make.remove_record.Goals as goal
 
 pub returns-in-Project-clause-makes : goal.returns-in-Project-clause-makes

@@ -1,11 +1,11 @@
 use Rattle.std.proofs.Common.{rules, ◌≡◌, ◌∙◌, [], ◌∷◌, subst}
 use Rattle.sqlite.specs.declared.types.Value.TheVariants.{Text}
 use Rattle.sqlite.specs.Values.{bound_value}
-use Rattle.ci_tables.specs.Statements.{Changes}
-use Rattle.ci_store.specs.declared.texts.TheConstants.{UPDATE_META}
-use Rattle.ci_store.specs.Rows.{number}
-use Rattle.ci_store.specs.Stands.{counter_key, meta_row}
-use Rattle.ci_store.proofs.Meta.{next_sets}
+use Rattle.ci_store_tables.specs.Statements.{Changes}
+use Rattle.ci_store_rows.specs.declared.texts.TheConstants.{UPDATE_META}
+use Rattle.ci_store_rows.specs.Rows.{number}
+use Rattle.ci_store_rows.specs.Stands.{counter_key, meta_row}
+use Rattle.ci_store_rows.proofs.Meta.{next_sets}
 use Rattle.ci_store.proofs.make.set_next.Goals as goal
 
 pub returns-then-branch-eq1-clause-makes : goal.returns-then-branch-eq1-clause-makes

@@ -1,9 +1,9 @@
 use Rattle.std.proofs.Common.{◌≡◌, ◌∙◌, sym, subst, ap, ⊎_elim, not}
 use Rattle.sqlite.specs.Effect.{Database, IsDatabase}
 use Rattle.sqlite.specs.Held.{state}
-use Rattle.ci_store.specs.Stands.{StandsIn, LeavesOnly}
+use Rattle.ci_store_rows.specs.Stands.{StandsIn, LeavesOnly}
 use Rattle.ci_store.proofs.Looking.{on_ok}
-use Rattle.ci_store.proofs.Whole.{stands_whole}
+use Rattle.ci_store_rows.proofs.Whole.{stands_whole}
 use Rattle.ci_store.proofs.probe.probe_intact.Goals as goal
 
 pub returns-clause-intact : goal.returns-clause-intact

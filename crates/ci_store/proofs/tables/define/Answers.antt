@@ -2,9 +2,9 @@ use Rattle.std.proofs.Common.{inl, inr, ◌≡◌, ◌∙◌, refl, subst, arith
 use Rattle.sqlite.specs.State.{HasCleanDisk}
 use Rattle.sqlite.specs.Held.{state}
 use Rattle.sqlite.proofs.StateLemmas.{survives_then}
-use Rattle.ci_store.proofs.Creates.{runs_next, below_twenty, schema_after}
+use Rattle.ci_store_rows.proofs.Creates.{runs_next, below_twenty, schema_after}
 use Rattle.ci_store.proofs.Committing.{survives_same}
-use Rattle.ci_store.specs.Create.{IsBare}
+use Rattle.ci_store_rows.specs.Create.{IsBare}
 use Rattle.ci_store.proofs.tables.define.Goals as goal
 
 pub loop-text-preserved : goal.loop-text-preserved

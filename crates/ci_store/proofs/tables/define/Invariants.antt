@@ -1,8 +1,8 @@
 use Rattle.std.proofs.Common.{◌≡◌, IsTrue}
 use Rattle.sqlite.specs.State.{HasCleanDisk, Survives}
 use Rattle.sqlite.specs.Held.{state}
-use Rattle.ci_store.specs.Create.{IsBlank, IsBare}
-use Rattle.ci_store.proofs.Creates.{schema_after}
+use Rattle.ci_store_rows.specs.Create.{IsBlank, IsBare}
+use Rattle.ci_store_rows.proofs.Creates.{schema_after}
 use Rattle.ci_store.proofs.tables.define.Given as goal
 
 abbrev pub invariant-loop-text : goal.invariant-loop-text

@@ -3,12 +3,12 @@ use Rattle.sqlite.specs.State.{HasCleanDisk}
 use Rattle.sqlite.specs.Values.{bound_value}
 use Rattle.sqlite.specs.Held.{state}
 use Rattle.sqlite.proofs.StateLemmas.{survives_then}
-use Rattle.ci_tables.specs.Stands.{IsOf}
-use Rattle.ci_tables.specs.Statements.{Changes}
-use Rattle.ci_store.specs.declared.texts.TheConstants.{INSERT_META}
-use Rattle.ci_store.specs.Schema.{the_schema}
+use Rattle.ci_store_tables.specs.Stands.{IsOf}
+use Rattle.ci_store_tables.specs.Statements.{Changes}
+use Rattle.ci_store_rows.specs.declared.texts.TheConstants.{INSERT_META}
+use Rattle.ci_store_rows.specs.Schema.{the_schema}
 use Rattle.ci_store.proofs.Committing.{survives_same}
-use Rattle.ci_store.proofs.Fills.{rows_after, begins, ends, fills_next, below_seven}
+use Rattle.ci_store_rows.proofs.Fills.{rows_after, begins, ends, fills_next, below_seven}
 use Rattle.ci_store.proofs.tables.fill.Goals as goal
 
 pub loop-key-init : goal.loop-key-init

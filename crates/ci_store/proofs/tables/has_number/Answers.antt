@@ -2,7 +2,7 @@ use Rattle.std.proofs.Common.{rules, arith, ◌≡◌, ◌<◌, ◌≤◌, [], �
 use Rattle.sqlite.specs.Values.{bound_value}
 use Rattle.sqlite.specs.State.{Shown}
 use Rattle.sqlite.specs.Held.{state}
-use Rattle.ci_store.specs.declared.texts.TheConstants.{SELECT_META}
+use Rattle.ci_store_rows.specs.declared.texts.TheConstants.{SELECT_META}
 use Rattle.ci_store.proofs.Looking.{on_any}
 use Rattle.ci_store.proofs.Openings.{survives_query, same_after_query, selected, one_found, none_found}
 use Rattle.ci_store.proofs.tables.has_number.Goals as goal

@@ -2,8 +2,8 @@ use Rattle.std.proofs.Common.{rules, ◌≡◌, arith}
 use Rattle.sqlite.specs.State.{HasCleanDisk}
 use Rattle.sqlite.specs.Held.{state}
 use Rattle.ci_machine.specs.Kept.{nothing_kept}
-use Rattle.ci_store.specs.Create.{IsBlank}
-use Rattle.ci_store.specs.Stands.{StandsIn}
+use Rattle.ci_store_rows.specs.Create.{IsBlank}
+use Rattle.ci_store_rows.specs.Stands.{StandsIn}
 use Rattle.ci_store.proofs.Committing.{survives_all, is_at_empty, commits_empty}
 use Rattle.ci_store.proofs.tables.make_tables.Goals as goal
 

@@ -1,7 +1,7 @@
 use Rattle.std.proofs.Common.{[], sym, subst}
 use Rattle.sqlite.specs.State.{IsNotRun}
 use Rattle.sqlite.specs.Held.{state}
-use Rattle.ci_store.specs.declared.texts.TheConstants.{SELECT_META}
+use Rattle.ci_store_rows.specs.declared.texts.TheConstants.{SELECT_META}
 use Rattle.ci_store.specs.Open.{Blames}
 use Rattle.ci_store.proofs.Openings.{not_understood, blames_none}
 use Rattle.ci_store.proofs.tables.understands.Goals as goal

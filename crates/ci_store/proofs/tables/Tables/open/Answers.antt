@@ -1,7 +1,7 @@
 use Rattle.std.proofs.Common.{arith, sym, subst, ⊎_elim}
 use Rattle.sqlite.specs.State.{HasCleanDisk}
 use Rattle.sqlite.specs.Held.{state}
-use Rattle.ci_store.specs.Stands.{Stands}
+use Rattle.ci_store_rows.specs.Stands.{Stands}
 use Rattle.ci_store.proofs.Openings.{never_blamed}
 use Rattle.ci_store.proofs.tables.Tables.open.Goals as goal
 

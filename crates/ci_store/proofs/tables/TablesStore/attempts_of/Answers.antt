@@ -1,5 +1,5 @@
 use Rattle.ci_store.proofs.Loading.{answered_so, begun}
-use Rattle.ci_store.proofs.Attempts.{plain_select_of, attempts_found}
+use Rattle.ci_store_rows.proofs.Attempts.{plain_select_of, attempts_found}
 use Rattle.ci_store.proofs.tables.TablesStore.attempts_of.Goals as goal
 
 pub list_of-requires-clause-plain : goal.list_of-requires-clause-plain

@@ -1,7 +1,7 @@
 use Rattle.std.proofs.Common.{rules, ◌≡◌, sym, subst, subst₂}
 use Rattle.ci_machine.specs.Kept.{written}
 use Rattle.ci_store.specs.Store.{Ends}
-use Rattle.ci_store.specs.Stands.{IsAt, LeavesEither}
+use Rattle.ci_store_rows.specs.Stands.{IsAt, LeavesEither}
 use Rattle.ci_store.proofs.Looking.{ends}
 use Rattle.ci_store.proofs.tables.TablesStore.commit.Goals as goal
 

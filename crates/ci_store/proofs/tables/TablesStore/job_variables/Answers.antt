@@ -1,5 +1,5 @@
 use Rattle.ci_store.proofs.Loading.{answered_so, begun}
-use Rattle.ci_store.proofs.JobVariables.{plain_select_of, job_variables_found}
+use Rattle.ci_store_rows.proofs.JobVariables.{plain_select_of, job_variables_found}
 use Rattle.ci_store.proofs.tables.TablesStore.job_variables.Goals as goal
 
 pub list_of-requires-clause-plain : goal.list_of-requires-clause-plain

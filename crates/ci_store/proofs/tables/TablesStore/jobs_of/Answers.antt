@@ -1,5 +1,5 @@
 use Rattle.ci_store.proofs.Loading.{answered_so, begun}
-use Rattle.ci_store.proofs.Jobs.{plain_select_of, jobs_found}
+use Rattle.ci_store_rows.proofs.Jobs.{plain_select_of, jobs_found}
 use Rattle.ci_store.proofs.tables.TablesStore.jobs_of.Goals as goal
 
 pub list_of-requires-clause-plain : goal.list_of-requires-clause-plain

@@ -1,9 +1,9 @@
 use Rattle.std.proofs.Common.{◌∙◌, [], ◌∷◌}
 use Rattle.sqlite.specs.Values.{bound_value}
-use Rattle.ci_store.specs.Rows.{number}
+use Rattle.ci_store_rows.specs.Rows.{number}
 use Rattle.ci_store.proofs.Loading.{answered_so, begun}
 use Rattle.ci_store.proofs.Looking.{by_params}
-use Rattle.ci_store.proofs.Attempts.{plain_select_in, live_found}
+use Rattle.ci_store_rows.proofs.Attempts.{plain_select_in, live_found}
 use Rattle.ci_store.proofs.tables.TablesStore.live_attempts.Goals as goal
 
 pub list-requires-clause-plain : goal.list-requires-clause-plain

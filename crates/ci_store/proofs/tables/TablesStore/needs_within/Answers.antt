@@ -1,5 +1,5 @@
 use Rattle.ci_store.proofs.Loading.{answered_so, begun}
-use Rattle.ci_store.proofs.Needs.{plain_select_within, needs_within_found}
+use Rattle.ci_store_rows.proofs.Needs.{plain_select_within, needs_within_found}
 use Rattle.ci_store.proofs.tables.TablesStore.needs_within.Goals as goal
 
 pub list_within-requires-clause-plain : goal.list_within-requires-clause-plain

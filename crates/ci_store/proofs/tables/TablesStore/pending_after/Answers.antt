@@ -1,5 +1,5 @@
 use Rattle.ci_store.proofs.Loading.{answered_so, begun}
-use Rattle.ci_store.proofs.Board.{plain_select_after, pending_found}
+use Rattle.ci_store_rows.proofs.Board.{plain_select_after, pending_found}
 use Rattle.ci_store.proofs.tables.TablesStore.pending_after.Goals as goal
 
 pub list_after-requires-clause-plain : goal.list_after-requires-clause-plain

@@ -1,5 +1,5 @@
 use Rattle.ci_store.proofs.Loading.{answered_so, begun}
-use Rattle.ci_store.proofs.Pieces.{plain_select_of, pieces_found}
+use Rattle.ci_store_rows.proofs.Pieces.{plain_select_of, pieces_found}
 use Rattle.ci_store.proofs.tables.TablesStore.pieces_of.Goals as goal
 
 pub list_of-requires-clause-plain : goal.list_of-requires-clause-plain

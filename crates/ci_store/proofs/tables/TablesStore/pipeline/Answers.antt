@@ -1,5 +1,5 @@
 use Rattle.ci_store.proofs.Loading.{answered_so, begun}
-use Rattle.ci_store.proofs.Pipelines.{plain_select, plain_select_above, pipeline_named}
+use Rattle.ci_store_rows.proofs.Pipelines.{plain_select, plain_select_above, pipeline_named}
 use Rattle.ci_store.proofs.tables.TablesStore.pipeline.Goals as goal
 
 pub one_named-requires-clause-plain : goal.one_named-requires-clause-plain

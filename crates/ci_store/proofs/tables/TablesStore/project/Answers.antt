@@ -1,5 +1,5 @@
 use Rattle.ci_store.proofs.Loading.{answered_so, begun}
-use Rattle.ci_store.proofs.Projects.{plain_select, plain_select_above, project_named}
+use Rattle.ci_store_rows.proofs.Projects.{plain_select, plain_select_above, project_named}
 use Rattle.ci_store.proofs.tables.TablesStore.project.Goals as goal
 
 pub one_named-requires-clause-plain : goal.one_named-requires-clause-plain

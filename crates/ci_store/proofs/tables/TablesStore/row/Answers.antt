@@ -1,5 +1,5 @@
 use Rattle.ci_store.proofs.Loading.{answered_so, begun}
-use Rattle.ci_store.proofs.Board.{plain_select, row_found}
+use Rattle.ci_store_rows.proofs.Board.{plain_select, row_found}
 use Rattle.ci_store.proofs.tables.TablesStore.row.Goals as goal
 
 pub one_at-requires-clause-plain : goal.one_at-requires-clause-plain

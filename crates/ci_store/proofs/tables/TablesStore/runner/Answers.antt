@@ -1,5 +1,5 @@
 use Rattle.ci_store.proofs.Loading.{answered_so, begun}
-use Rattle.ci_store.proofs.Runners.{plain_select, plain_select_above, runner_named}
+use Rattle.ci_store_rows.proofs.Runners.{plain_select, plain_select_above, runner_named}
 use Rattle.ci_store.proofs.tables.TablesStore.runner.Goals as goal
 
 pub one_named-requires-clause-plain : goal.one_named-requires-clause-plain

@@ -2,7 +2,7 @@ use Rattle.std.proofs.Common.{[], ◌∷◌}
 use Rattle.sqlite.specs.Values.{bound_value}
 use Rattle.ci_store.proofs.Loading.{answered_so, begun}
 use Rattle.ci_store.proofs.Looking.{by_params}
-use Rattle.ci_store.proofs.Runners.{plain_select_with, runner_with_found}
+use Rattle.ci_store_rows.proofs.Runners.{plain_select_with, runner_with_found}
 use Rattle.ci_store.proofs.tables.TablesStore.runner_with.Goals as goal
 
 pub one-requires-clause-plain : goal.one-requires-clause-plain

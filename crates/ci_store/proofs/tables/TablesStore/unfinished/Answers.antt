@@ -1,5 +1,5 @@
 use Rattle.ci_store.proofs.Loading.{answered_so, begun}
-use Rattle.ci_store.proofs.OpenPipelines.{plain_select, unfinished_found}
+use Rattle.ci_store_rows.proofs.OpenPipelines.{plain_select, unfinished_found}
 use Rattle.ci_store.proofs.tables.TablesStore.unfinished.Goals as goal
 
 pub list-requires-clause-plain : goal.list-requires-clause-plain

@@ -1,5 +1,5 @@
 use Rattle.ci_store.proofs.Loading.{answered_so, begun}
-use Rattle.ci_store.proofs.Variables.{plain_select, variable_found}
+use Rattle.ci_store_rows.proofs.Variables.{plain_select, variable_found}
 use Rattle.ci_store.proofs.tables.TablesStore.variable.Goals as goal
 
 pub one_of-requires-clause-plain : goal.one_of-requires-clause-plain

@@ -1,3 +1,0 @@
-pub mod Floats
-pub mod Parts
-pub mod Bodies

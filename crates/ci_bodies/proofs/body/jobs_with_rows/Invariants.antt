@@ -1,8 +1,0 @@
-use Rattle.std.proofs.Common.{◌≡◌, ◌++◌, drop, map}
-use Rattle.serde_json.specs.View.{view}
-use Rattle.ci_machine.specs.Bodies.{jobs_data}
-use Rattle.ci_bodies.proofs.body.jobs_with_rows.Given as goal
-
--- the jobs so far, and those that are left, are all of them
-abbrev pub invariant-loop-i : goal.invariant-loop-i
-invariant-loop-i l = map view l.items.items ++ jobs_data l.holders l.project (drop l.i l.jobs) (drop l.i l.rows) ≡ jobs_data l.holders l.project l.jobs l.rows

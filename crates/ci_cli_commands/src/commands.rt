@@ -1,0 +1,191 @@
+//! The command line: what is done for it, and the exit status.
+
+ghost use Rattle.std.specs.Prelude.{◌≡◌, ◌↔◌, ◌⊎◌, Some};
+ghost use Rattle.ci_http.specs.declared.serve.Served.TheVariants.{Replied, ReadFailed, WriteFailed};
+
+use crate::admin::request_of;
+use crate::demo::serve_demo;
+use crate::file::{let_go, make, open};
+use crate::server::{ask, is_closed};
+use crate::serving::serve_connections;
+use crate::sources::Sources;
+use ci_cli_check::{check_word, exit_status};
+use ci_cli_words::line::{BROKEN_OFF, DONE, Line, REFUSED, USAGE, say, say_reply};
+use ci_cli_words::task::{AdminRequest, ServeOptions, Task};
+use ci_cli_words::words::task_of;
+use ci_http::serve::Served;
+use ci_http_routes::paths::Paths;
+use ci_server::server::Server;
+use ci_store::Alter;
+use clap::Error;
+use clap::error::ErrorKind;
+use std::alloc::Global;
+use std::io::{Read, Write};
+use std::net::{Ipv4Addr, TcpListener};
+use std::random::RandomSource;
+use std::time::{Clock, Duration};
+
+/// How long a whole request may take to come, and a whole reply to be taken, in seconds.
+const PATIENCE_SECONDS: u64 = 10;
+
+/// Does what the words of a command line ask for, of which the first is the program's name, and gives the exit status: 0 where it
+/// was done, 1 where it was refused, 2 where the words are no command line of this program, 3 where the store failed, a file or the
+/// input can't be read, nothing can be heard, or what is to be said can't be written.
+///
+/// Faults are looked for in this order: in the words, the file, its store, the port, the clock, the request. What is printed with
+/// status 2 goes to `errors`, and every other line to `output`.
+pub fn command<C: Clock, R: RandomSource, I: Read + Drop, O: Write, E: Write>(
+    rt: &HostRuntime,
+    words: &[String],
+    sources: &Sources<'_, C, R>,
+    input: I,
+    output: &mut O,
+    errors: &mut E,
+) -> u8 {
+    match task_of(rt.alloc(), words) {
+        Ok(task) => perform(rt, task, sources, input, output),
+        Err(error) if error.kind() == ErrorKind::OutOfMemory => refuse_memory(output),
+        Err(error) => print_words(&error, output, errors),
+    }
+}
+
+/// Says that memory was refused, and gives the exit status.
+pub fn refuse_memory<O: Write>(output: &mut O) -> u8 {
+    say(output, Line::NoMemory)
+}
+
+/// Prints what `clap` has to say: help or the version, which were asked for, or what is wrong with the words.
+fn print_words<O: Write, E: Write>(error: &Error, output: &mut O, errors: &mut E) -> u8 {
+    if error.use_stderr() {
+        let _ = errors.write_fmt(error);
+        return USAGE;
+    }
+    match output.write_fmt(error) {
+        Ok(()) => DONE,
+        Err(_) => BROKEN_OFF,
+    }
+}
+
+fn perform<C: Clock, R: RandomSource, I: Read + Drop, O: Write>(
+    rt: &HostRuntime,
+    task: Task<'_>,
+    sources: &Sources<'_, C, R>,
+    input: I,
+    output: &mut O,
+) -> u8 {
+    match task {
+        Task::Demo => demo_status(serve_demo(rt.alloc(), input, output)),
+        Task::Check(file) => exit_status(&check_word(rt, rt.alloc(), file, input, output)),
+        Task::Init(file) => init(rt, file, output),
+        Task::Send(file, asked) => send(rt, file, asked, sources, output),
+        Task::Serve(options) => serve(rt, options, sources, output),
+    }
+}
+
+/// The exit status of the demo, by what became of its request, if its server could be made.
+fn demo_status(served: Option<Served>) -> u8
+    ensures done { (result ≡ 0) ↔ (served ≡ Some Replied) }
+    ensures broken_off { (result ≡ 3) ↔ ((served ≡ Some ReadFailed) ⊎ (served ≡ Some WriteFailed)) }
+{
+    match served {
+        Some(Served::Replied) => DONE,
+        Some(Served::ReadFailed | Served::WriteFailed) => BROKEN_OFF,
+        Some(Served::Ended) | None => REFUSED,
+    }
+}
+
+fn init<O: Write>(rt: &HostRuntime, file: &str, output: &mut O) -> u8 {
+    match make(rt, file) {
+        Ok(server) => {
+            let_go(server);
+            say(output, Line::Fine)
+        }
+        Err(line) => say(output, line),
+    }
+}
+
+fn send<C: Clock, R: RandomSource, O: Write>(
+    rt: &HostRuntime,
+    file: &str,
+    asked: AdminRequest<'_>,
+    sources: &Sources<'_, C, R>,
+    output: &mut O,
+) -> u8 {
+    match open(rt, file) {
+        Ok(mut server) => {
+            let status = send_to(rt.alloc(), &mut server, asked, sources, output);
+            let_go(server);
+            status
+        }
+        Err(line) => say(output, line),
+    }
+}
+
+/// Sends a server a request, and prints what it answers.
+fn send_to<S: Alter, C: Clock, R: RandomSource, O: Write>(
+    alloc: Global,
+    server: &mut Server<S>,
+    asked: AdminRequest<'_>,
+    sources: &Sources<'_, C, R>,
+    output: &mut O,
+) -> u8 {
+    let stamp = match sources.stamp() {
+        Ok(stamp) => stamp,
+        Err(line) => return say(output, line),
+    };
+    let Ok(request) = request_of(alloc, asked) else {
+        return refuse_memory(output);
+    };
+    let reply = ask(alloc, server, request, stamp);
+    say_reply(output, &reply)
+}
+
+fn serve<C: Clock, R: RandomSource, O: Write>(
+    rt: &HostRuntime,
+    options: ServeOptions<'_>,
+    sources: &Sources<'_, C, R>,
+    output: &mut O,
+) -> u8 {
+    match open(rt, options.file) {
+        Ok(mut server) => {
+            let status = listen(rt, &mut server, options, sources, output);
+            let_go(server);
+            status
+        }
+        Err(line) => say(output, line),
+    }
+}
+
+/// Serves the connections of a port of 127.0.0.1.
+fn listen<S: Alter, C: Clock, R: RandomSource, O: Write>(
+    rt: &HostRuntime,
+    server: &mut Server<S>,
+    options: ServeOptions<'_>,
+    sources: &Sources<'_, C, R>,
+    output: &mut O,
+) -> u8 {
+    let Ok(listener) = TcpListener::bind(rt, (Ipv4Addr::LOCALHOST, options.port)) else {
+        return say(output, Line::CannotListen(options.port));
+    };
+    let Ok(paths) = Paths::new(rt.alloc()) else {
+        return refuse_memory(output);
+    };
+    let heard = say(output, Line::Listening(options.port));
+    if heard != DONE || output.flush().is_err() {
+        return BROKEN_OFF;
+    }
+    let served = serve_connections(
+        rt.alloc(),
+        &listener,
+        server,
+        &paths,
+        sources,
+        Duration::from_secs(PATIENCE_SECONDS),
+        options.requests,
+    );
+    match (is_closed(server), served) {
+        (true, _) => say(output, Line::Closed),
+        (false, Err(line)) => say(output, line),
+        (false, Ok(())) => DONE,
+    }
+}

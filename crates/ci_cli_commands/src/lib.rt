@@ -1,0 +1,17 @@
+//! The program `ciserver`: its command line, its files, and its socket.
+//!
+//! What the process has, its words, clock, source of seeds, input and outputs, is handed to `command`.
+#![tactic(auto)]
+
+mod admin;
+mod commands;
+mod demo;
+mod file;
+mod served;
+mod server;
+pub mod serving;
+mod sources;
+mod stream;
+
+pub use commands::{command, refuse_memory};
+pub use sources::Sources;

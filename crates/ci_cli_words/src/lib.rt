@@ -1,0 +1,6 @@
+//! The lines that `ciserver` prints, and the exit statuses that go with them.
+#![tactic(auto)]
+
+pub mod line;
+pub mod task;
+pub mod words;

@@ -1,0 +1,51 @@
+//! What a command line asks for.
+
+use ci_machine::request::RunnerPause;
+
+/// What a command line asks for.
+#[derive(Clone, Copy)]
+pub enum Task<'a> {
+    /// To answer the request on standard input, over memory.
+    Demo,
+    /// To check the CI file at a path, or on standard input for `-`.
+    Check(&'a str),
+    /// To make a file for a server.
+    Init(&'a str),
+    /// To send the server of a file a request.
+    Send(&'a str, AdminRequest<'a>),
+    /// To serve requests over a socket.
+    Serve(ServeOptions<'a>),
+}
+
+/// A request that has no route: only who may write the file can send it.
+#[derive(Clone, Copy)]
+pub enum AdminRequest<'a> {
+    /// A project of this name is to be made.
+    AddProject(&'a str),
+    /// A runner is to be made.
+    AddRunner(RunnerOptions<'a>),
+    /// A runner is to be paused, or to go on.
+    PauseRunner(RunnerPause),
+}
+
+/// A runner that is to be made.
+#[derive(Clone, Copy)]
+pub struct RunnerOptions<'a> {
+    pub name: &'a str,
+    /// The number of the project whose jobs it runs; without one it is a runner of the instance, and runs those of every project.
+    pub project: Option<u64>,
+    /// Its tags, parted by commas. An empty text is one empty tag.
+    pub tags: Option<&'a str>,
+    /// Whether it runs jobs that have no tags.
+    pub untagged: bool,
+}
+
+/// The file of a server, where it listens, and how many connections it serves.
+#[derive(Clone, Copy)]
+pub struct ServeOptions<'a> {
+    pub file: &'a str,
+    /// The port of 127.0.0.1, from 1.
+    pub port: u16,
+    /// How many connections are served before the program ends, from 1.
+    pub requests: u32,
+}

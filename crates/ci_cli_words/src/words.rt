@@ -1,0 +1,256 @@
+//! The words of the command line, which `clap` reads.
+
+ghost use Rattle.std.specs.Prelude.{◌≡◌, Some, IfSome};
+ghost use Rattle.clap.specs.Matches.{subcommand_name_of};
+ghost use Rattle.ci_cli_words.specs.Words.{name_of, admin_name};
+
+use crate::task::{AdminRequest, RunnerOptions, ServeOptions, Task};
+use ci_machine::request::RunnerPause;
+use ci_values::limits::MAX_NUMBER;
+use clap::builder::ValueParser;
+use clap::error::ErrorKind;
+use clap::{Arg, ArgAction, ArgMatches, Command, Error};
+use std::alloc::{AllocError, Global};
+
+const VERSION: &str = "0.1.0";
+
+const DEMO: &str = "demo";
+
+const CHECK: &str = "check";
+
+const INIT: &str = "init";
+
+const PROJECT_ADD: &str = "project-add";
+
+const RUNNER_ADD: &str = "runner-add";
+
+const RUNNER_PAUSE: &str = "runner-pause";
+
+const SERVE: &str = "serve";
+
+/// The name of the argument of `check`.
+const FILE: &str = "FILE";
+
+const DB: &str = "db";
+
+const NAME: &str = "name";
+
+const PROJECT: &str = "project";
+
+const TAGS: &str = "tags";
+
+const UNTAGGED: &str = "untagged";
+
+const RUNNER: &str = "runner";
+
+const RESUME: &str = "resume";
+
+const PORT: &str = "port";
+
+const REQUESTS: &str = "requests";
+
+/// Where the rules of CI files stand.
+const RULES: &str = "The profile, with examples and its codes, is described in docs/PROFILE.md.";
+
+/// What the words of a command line ask for, of which the first is the program's name.
+///
+/// Errors: they are no command line of this program, or ask for help or the version; or memory was refused.
+pub fn task_of<'a>(alloc: Global, words: &'a [String]) -> Result<Task<'a>, Error> {
+    let mut command = command_line(alloc)?;
+    let matches = command.try_get_matches_from_mut(words)?;
+    match task_named(&matches) {
+        Some(task) => Ok(task),
+        None => Err(command.error(
+            ErrorKind::InvalidValue,
+            "a command is wanted, whose values don't begin with '-'",
+        )?),
+    }
+}
+
+/// The command line that the program takes.
+fn command_line<'a>(alloc: Global) -> Result<Command<'a>, AllocError> {
+    Command::new(alloc, "ciserver")
+        .about("A continuous integration server")
+        .version(VERSION)
+        .after_help(RULES)
+        .subcommand_required(true)
+        .subcommand(demo(alloc))?
+        .subcommand(check(alloc)?)?
+        .subcommand(init(alloc)?)?
+        .subcommand(project_add(alloc)?)?
+        .subcommand(runner_add(alloc)?)?
+        .subcommand(runner_pause(alloc)?)?
+        .subcommand(serve(alloc)?)
+}
+
+fn demo<'a>(alloc: Global) -> Command<'a> {
+    Command::new(alloc, DEMO).about("Answers the request on standard input, over memory")
+}
+
+fn check<'a>(alloc: Global) -> Result<Command<'a>, AllocError> {
+    let file = Arg::new(alloc, FILE)
+        .required(true)
+        .help("The path of the CI file, or - for standard input");
+    Command::new(alloc, CHECK)
+        .about("Says how many jobs a CI file configures, or why it is refused")
+        .after_help(RULES)
+        .arg(file)
+}
+
+/// An option that has a value, as `--port N`.
+fn option<'a>(alloc: Global, name: &'a str) -> Arg<'a> {
+    Arg::new(alloc, name).long(name).action(ArgAction::Set)
+}
+
+/// The option of the server's file.
+fn file_option<'a>(alloc: Global) -> Arg<'a> {
+    option(alloc, DB)
+        .required(true)
+        .value_name("FILE")
+        .help("The server's file, an SQLite database")
+}
+
+/// An option whose value is a number from 1.
+fn number<'a>(alloc: Global, name: &'a str, most: u64) -> Arg<'a> {
+    option(alloc, name)
+        .value_name("N")
+        .value_parser(ValueParser::unsigned(1, most))
+}
+
+fn flag<'a>(alloc: Global, name: &'a str) -> Arg<'a> {
+    Arg::new(alloc, name).long(name).action(ArgAction::SetTrue)
+}
+
+fn init<'a>(alloc: Global) -> Result<Command<'a>, AllocError> {
+    Command::new(alloc, INIT)
+        .about("Makes the file of a server")
+        .arg(file_option(alloc))
+}
+
+fn project_add<'a>(alloc: Global) -> Result<Command<'a>, AllocError> {
+    let name = option(alloc, NAME)
+        .required(true)
+        .help("The project's name");
+    Command::new(alloc, PROJECT_ADD)
+        .about("Makes a project, and prints its number and its token")
+        .arg(file_option(alloc))?
+        .arg(name)
+}
+
+fn runner_add<'a>(alloc: Global) -> Result<Command<'a>, AllocError> {
+    let name = option(alloc, NAME).required(true).help("The runner's name");
+    let project = number(alloc, PROJECT, MAX_NUMBER).help(
+        "The project whose jobs it runs [default: every project]",
+    );
+    let tags = option(alloc, TAGS)
+        .value_name("A,B")
+        .help("Its tags, parted by commas");
+    let untagged = flag(alloc, UNTAGGED).help("It runs jobs that have no tags");
+    Command::new(alloc, RUNNER_ADD)
+        .about("Makes a runner, and prints its number and its token")
+        .arg(file_option(alloc))?
+        .arg(name)?
+        .arg(project)?
+        .arg(tags)?
+        .arg(untagged)
+}
+
+fn runner_pause<'a>(alloc: Global) -> Result<Command<'a>, AllocError> {
+    let runner = number(alloc, RUNNER, MAX_NUMBER)
+        .required(true)
+        .help("The runner's number");
+    let resume = flag(alloc, RESUME).help("It goes on");
+    Command::new(alloc, RUNNER_PAUSE)
+        .about("Has a runner get no jobs, or go on")
+        .arg(file_option(alloc))?
+        .arg(runner)?
+        .arg(resume)
+}
+
+fn serve<'a>(alloc: Global) -> Result<Command<'a>, AllocError> {
+    let port = number(alloc, PORT, u16::MAX as u64)
+        .required(true)
+        .help("The port of 127.0.0.1 to listen on");
+    let requests = number(alloc, REQUESTS, u32::MAX as u64)
+        .required(true)
+        .help("How many connections are served before the program ends");
+    Command::new(alloc, SERVE)
+        .about("Serves requests over HTTP, one after the other")
+        .arg(file_option(alloc))?
+        .arg(port)?
+        .arg(requests)
+}
+
+/// What the command asks for that was found among the words, by its name. None where the value of an option begins with `-`.
+fn task_named<'a>(matches: &ArgMatches<'a>) -> Option<Task<'a>>
+    ensures { IfSome result (λ task. subcommand_name_of matches.now ≡ Some (name_of task)) }
+{
+    if matches.subcommand_matches(DEMO).is_some() {
+        return Some(Task::Demo);
+    }
+    if let Some(found) = matches.subcommand_matches(CHECK) {
+        return Some(Task::Check(found.get_str(FILE)?));
+    }
+    if let Some(found) = matches.subcommand_matches(INIT) {
+        return Some(Task::Init(text_in(found, DB)?));
+    }
+    if let Some(found) = matches.subcommand_matches(SERVE) {
+        return Some(Task::Serve(serve_options_in(found)?));
+    }
+    let (file, request) = admin_named(matches)?;
+    Some(Task::Send(file, request))
+}
+
+/// The request that the command sends which was found among the words, by its name, and the server's file.
+fn admin_named<'a>(matches: &ArgMatches<'a>) -> Option<(&'a str, AdminRequest<'a>)>
+    ensures { IfSome result (λ found. subcommand_name_of matches.now ≡ Some (admin_name found.1)) }
+{
+    if let Some(found) = matches.subcommand_matches(PROJECT_ADD) {
+        let name = text_in(found, NAME)?;
+        return Some((text_in(found, DB)?, AdminRequest::AddProject(name)));
+    }
+    if let Some(found) = matches.subcommand_matches(RUNNER_ADD) {
+        let runner = runner_options_in(found)?;
+        return Some((text_in(found, DB)?, AdminRequest::AddRunner(runner)));
+    }
+    let found = matches.subcommand_matches(RUNNER_PAUSE)?;
+    let pause = pause_in(found)?;
+    Some((text_in(found, DB)?, AdminRequest::PauseRunner(pause)))
+}
+
+/// The value of an option, if it has one that doesn't begin with `-`.
+fn text_in<'a>(found: &ArgMatches<'a>, option: &str) -> Option<&'a str> {
+    let text = found.get_str(option)?;
+    if text.starts_with('-') {
+        return None;
+    }
+    Some(text)
+}
+
+fn serve_options_in<'a>(found: &ArgMatches<'a>) -> Option<ServeOptions<'a>> {
+    Some(ServeOptions {
+        file: text_in(found, DB)?,
+        port: found.get_one(PORT)?,
+        requests: found.get_one(REQUESTS)?,
+    })
+}
+
+fn runner_options_in<'a>(found: &ArgMatches<'a>) -> Option<RunnerOptions<'a>> {
+    let tags = match found.get_str(TAGS) {
+        Some(_) => Some(text_in(found, TAGS)?),
+        None => None,
+    };
+    Some(RunnerOptions {
+        name: text_in(found, NAME)?,
+        project: found.get_one(PROJECT),
+        tags,
+        untagged: found.get_flag(UNTAGGED),
+    })
+}
+
+fn pause_in(found: &ArgMatches<'_>) -> Option<RunnerPause> {
+    Some(RunnerPause {
+        runner: found.get_one(RUNNER)?,
+        paused: !found.get_flag(RESUME),
+    })
+}

@@ -1,0 +1,10 @@
+use Rattle.std.proofs.Common.{◌≡◌, ℕ, List, drop, map}
+use Rattle.std.specs.HashMap as hash
+use Rattle.std.specs.Str.{bytes_eq}
+use Rattle.ci_values.specs.Layers.{or_else}
+use Rattle.ci_graph_layout.specs.Layout.{place_from}
+use Rattle.ci_graph_layout.specs.View.{included_view}
+use Rattle.ci_graph_layout.proofs.places.places.Given as goal
+
+abbrev pub invariant-loop-i : goal.invariant-loop-i
+invariant-loop-i l = (q : List ℕ) → or_else (hash.get_by (λ k. bytes_eq q k.now) l.found) (place_from l.i (map included_view (drop l.i l.jobs)) q) ≡ place_from 0 (map included_view l.jobs) q

@@ -1,0 +1,105 @@
+-- Which jobs of a file a pipeline has: those that their rules include.
+use Rattle.std.specs.Prelude.{Bool, true, false, List, [], ◌∷◌, ◌++◌, not, ◌||◌, if◌then◌else◌, filter, Option, Some, None, option_map, unwrap_or, codes}
+use Rattle.std.specs.Str.{bytes_eq}
+use Rattle.ci_values.specs.declared.when.When.{When}
+use Rattle.ci_values.specs.declared.when.When.TheVariants.{OnSuccess, OnFailure, Always, Manual}
+use Rattle.ci_values.specs.declared.when.AllowFailure.{AllowFailure}
+use Rattle.ci_values.specs.declared.when.AllowFailure.TheVariants.{No, Yes}
+use Rattle.ci_values.specs.Layers.{Variables}
+use Rattle.ci_expr.specs.Formula.{Formula}
+use Rattle.ci_expr.specs.Truth.{truth}
+use Rattle.ci_config.specs.Config.{Text, Rule, Job, Config}
+use Rattle.ci_config.specs.declared.keyword.RuleWhen.{RuleWhen}
+use Rattle.ci_config.specs.declared.keyword.RuleWhen.TheVariants as rule
+
+-- the variables that a pipeline brings to the file: those of its request, of its project, and the predefined
+pub record Given : Type 0 where
+  pub pipeline : Variables
+  pub project : Variables
+  pub predefined : Variables
+
+-- ---- what a rule sees
+
+abbrev pub own_names : Job → Variables
+own_names j = (codes "CI_JOB_NAME", j.name) ∷ (codes "CI_JOB_STAGE", j.stage) ∷ []
+
+-- The variables of a job, the highest layer first, whose own are these: the pipeline's, the project's, its own, the file's, the predefined.
+abbrev pub layered : Given → Config → Job → Variables → Variables
+layered g c j own = g.pipeline ++ g.project ++ own ++ c.variables ++ own_names j ++ g.predefined
+
+-- what its rules see: a rule's variables aren't among them
+abbrev pub seen : Given → Config → Job → Variables
+seen g c j = layered g c j j.variables
+
+-- ---- the rule that decides
+
+-- a rule without `if` always matches
+abbrev pub holds : Variables → Option Formula → Bool
+holds vs None = true
+holds vs (Some f) = truth vs f
+
+-- the first rule that matches
+abbrev pub deciding : Variables → List Rule → Option Rule
+deciding vs [] = None
+deciding vs (r ∷ rs) = if holds vs r.condition then Some r else deciding vs rs
+
+-- ---- what is included
+
+-- A job of a pipeline: what the file says of it, when it runs, whether its pipeline goes on where it fails, and its own variables.
+pub record IncludedJob : Type 0 where
+  pub job : Job
+  pub «when» : When
+  pub allow_failure : AllowFailure
+  pub variables : Variables
+
+-- of a job without rules: a job that is started by hand may fail, if nothing else is said
+abbrev pub may_fail : When → AllowFailure
+may_fail Manual = Yes
+may_fail OnSuccess = No
+may_fail OnFailure = No
+may_fail Always = No
+
+abbrev pub allowing : Bool → AllowFailure
+allowing true = Yes
+allowing false = No
+
+abbrev pub without_rules : Job → IncludedJob
+without_rules j = record {
+  job = j;
+  «when» = unwrap_or j.«when» OnSuccess;
+  allow_failure = unwrap_or j.allow_failure (may_fail (unwrap_or j.«when» OnSuccess));
+  variables = j.variables;
+}
+
+-- a rule's variables, and those of the job that it doesn't give
+abbrev pub names : Variables → Text → Bool
+names [] name = false
+names (v ∷ vs) name = bytes_eq v.0 name || names vs name
+
+abbrev pub joined : Variables → Variables → Variables
+joined given own = given ++ filter (λ v. not (names given v.0)) own
+
+abbrev pub by_rule : Job → Rule → When → IncludedJob
+by_rule j r w = record {
+  job = j;
+  «when» = w;
+  allow_failure = unwrap_or (option_map allowing r.allow_failure) (unwrap_or j.allow_failure No);
+  variables = joined r.variables j.variables;
+}
+
+abbrev pub by_word : Job → Rule → RuleWhen → Option IncludedJob
+by_word j r (rule.Runs w) = Some (by_rule j r w)
+by_word j r rule.Never = None
+
+-- what the deciding rule says: `never` leaves the job out, and a rule without `when` leaves the job's own
+abbrev pub ruled : Job → Rule → Option IncludedJob
+ruled j r = by_word j r (unwrap_or r.«when» (rule.Runs (unwrap_or j.«when» OnSuccess)))
+
+abbrev pub by_rules : Job → Option (Option Rule) → Option IncludedJob
+by_rules j None = Some (without_rules j)
+by_rules j (Some None) = None
+by_rules j (Some (Some r)) = ruled j r
+
+-- A job without rules is included. One with rules is included where one of them matches, as the first that does says.
+abbrev pub included : Given → Config → Job → Option IncludedJob
+included g c j = by_rules j (option_map (deciding (seen g c j)) j.rules)

@@ -1,0 +1,220 @@
+//! Which jobs of a file a pipeline has.
+
+ghost use Rattle.std.specs.Prelude.{◌≡◌, ◌++◌, IfOk, OnOk, map, filter, not, option_map, unwrap_or};
+ghost use Rattle.ci_expr.specs.Built.{values_of, formula_of};
+ghost use Rattle.ci_values.specs.Layers.{layer_view};
+ghost use Rattle.ci_config.specs.View.{config_view, job_view, rule_view, variable_view};
+ghost use Rattle.ci_graph_layout.specs.Inclusion.{layered, holds, deciding, names, joined, may_fail, allowing, without_rules, by_rule, ruled, included};
+ghost use Rattle.ci_graph_layout.specs.View.{given_view, included_view};
+
+use crate::given::{Given, Variables, layered, pair_of, put_variables, seen};
+use ci_config::{Config, JobSpec, Rule, RuleWhen, Variable};
+use ci_expr::{Env, Expr};
+use ci_values::when::{AllowFailure, When};
+use std::alloc::{AllocError, Global};
+
+/// A job of a pipeline.
+#[derive(Drop)]
+pub struct IncludedJob<'a, 't> {
+    /// What the file says of it.
+    pub job: &'a JobSpec<'t>,
+    pub when: When,
+    pub allow_failure: AllowFailure,
+    /// Those of the rule that included it, and then its own that the rule doesn't give.
+    pub variables: Variables<'a>,
+}
+
+impl<'a, 't> IncludedJob<'a, 't> {
+    /// Its variables of all layers, the highest layer first: those of the pipeline, of the project, its own, those of the file, its
+    /// name and stage, and the predefined ones. Of two pairs with one name the first counts.
+    pub fn layers(
+        &self,
+        alloc: Global,
+        given: &Given<'a>,
+        config: &'a Config<'t>,
+    ) -> Result<Variables<'a>, AllocError>
+        ensures { IfOk result (λ pairs. layer_view pairs.items ≡ layered (given_view given.now) (config_view config.now) (included_view self.now).job (included_view self.now).variables) }
+    {
+        layered(alloc, given, config, self.job, &self.variables)
+    }
+}
+
+/// Whether a condition holds. A rule without one always matches.
+fn holds(condition: &Option<Expr>, alloc: Global, env: &Env) -> Result<bool, AllocError>
+    ensures { IfOk result (λ b. b ≡ holds (values_of env.now) (option_map formula_of condition.now)) }
+{
+    match condition {
+        Some(expr) => expr.value(alloc, env),
+        None => Ok(true),
+    }
+}
+
+/// The first rule that matches.
+fn deciding<'a, 't>(
+    alloc: Global,
+    env: &Env,
+    rules: &'a [Rule<'t>],
+) -> Result<Option<&'a Rule<'t>>, AllocError>
+    ensures { IfOk result (λ found. option_map (λ r. rule_view r.now) found ≡ deciding (values_of env.now) (map rule_view rules.now)) }
+{
+    for rule in rules {
+        if holds(&rule.condition, alloc, env)? {
+            return Ok(Some(rule));
+        }
+    }
+    Ok(None)
+}
+
+/// Do the pairs have the name?
+fn names(pairs: &[(&str, &str)], name: &str) -> bool
+    ensures { result ≡ names (layer_view pairs.now) name.now }
+{
+    for pair in pairs {
+        if pair.0 == name {
+            return true;
+        }
+    }
+    false
+}
+
+/// Puts those variables behind a rule's that the rule doesn't give.
+fn put_others<'a, 't>(
+    pairs: &mut Variables<'a>,
+    given: &[(&str, &str)],
+    own: &'a [Variable<'t>],
+) -> Result<(), AllocError>
+    ensures { OnOk result (layer_view pairs.new.items ≡ layer_view pairs.old.items ++ filter (λ v. not (names (layer_view given.now) v.0)) (map variable_view own.now)) }
+{
+    for variable in own {
+        if !names(given, variable.name) {
+            pairs.push(pair_of(variable))?;
+        }
+    }
+    Ok(())
+}
+
+/// A rule's variables, and those of the job that it doesn't give.
+fn joined<'a, 't>(
+    alloc: Global,
+    given: &'a [Variable<'t>],
+    own: &'a [Variable<'t>],
+) -> Result<Variables<'a>, AllocError>
+    ensures { IfOk result (λ pairs. layer_view pairs.items ≡ joined (map variable_view given.now) (map variable_view own.now)) }
+{
+    let mut of_rule = Vec::new(alloc);
+    put_variables(&mut of_rule, given)?;
+    let mut pairs = of_rule.clone()?;
+    put_others(&mut pairs, &of_rule, own)?;
+    Ok(pairs)
+}
+
+/// Whether a job without rules may fail, where the file doesn't say it: one that is started by hand may.
+fn may_fail(when: When) -> AllowFailure
+    ensures { result ≡ may_fail when }
+{
+    match when {
+        When::Manual => AllowFailure::Yes,
+        When::OnSuccess | When::OnFailure | When::Always => AllowFailure::No,
+    }
+}
+
+fn allowing(allowed: bool) -> AllowFailure
+    ensures { result ≡ allowing allowed }
+{
+    if allowed {
+        AllowFailure::Yes
+    } else {
+        AllowFailure::No
+    }
+}
+
+/// What a job says, or else this.
+fn own_or(own: &Option<AllowFailure>, other: AllowFailure) -> Result<AllowFailure, AllocError>
+    ensures { IfOk result (λ a. a ≡ unwrap_or own.now other) }
+{
+    match own {
+        Some(own) => own.clone(),
+        None => Ok(other),
+    }
+}
+
+/// A job without rules.
+fn without_rules<'a, 't>(
+    alloc: Global,
+    job: &'a JobSpec<'t>,
+) -> Result<IncludedJob<'a, 't>, AllocError>
+    ensures { IfOk result (λ i. included_view i ≡ without_rules (job_view job.now)) }
+{
+    let when = job.when.unwrap_or(When::OnSuccess);
+    let allow_failure = own_or(&job.allow_failure, may_fail(when))?;
+    let mut variables = Vec::new(alloc);
+    put_variables(&mut variables, &job.variables)?;
+    Ok(IncludedJob {
+        job,
+        when,
+        allow_failure,
+        variables,
+    })
+}
+
+/// A job as the rule that includes it says.
+fn by_rule<'a, 't>(
+    alloc: Global,
+    job: &'a JobSpec<'t>,
+    rule: &'a Rule<'t>,
+    when: When,
+) -> Result<IncludedJob<'a, 't>, AllocError>
+    ensures { IfOk result (λ i. included_view i ≡ by_rule (job_view job.now) (rule_view rule.now) when) }
+{
+    let allow_failure = match rule.allow_failure {
+        Some(allowed) => allowing(allowed),
+        None => own_or(&job.allow_failure, AllowFailure::No)?,
+    };
+    let variables = joined(alloc, &rule.variables, &job.variables)?;
+    Ok(IncludedJob {
+        job,
+        when,
+        allow_failure,
+        variables,
+    })
+}
+
+/// What the rule that decides says of a job: `never` leaves it out, and a rule without `when` leaves the job's own.
+fn ruled<'a, 't>(
+    alloc: Global,
+    job: &'a JobSpec<'t>,
+    rule: &'a Rule<'t>,
+) -> Result<Option<IncludedJob<'a, 't>>, AllocError>
+    ensures { IfOk result (λ i. option_map included_view i ≡ ruled (job_view job.now) (rule_view rule.now)) }
+{
+    match rule.when {
+        Some(RuleWhen::Never) => Ok(None),
+        Some(RuleWhen::Runs(when)) => Ok(Some(by_rule(alloc, job, rule, when)?)),
+        None => {
+            let when = job.when.unwrap_or(When::OnSuccess);
+            Ok(Some(by_rule(alloc, job, rule, when)?))
+        }
+    }
+}
+
+/// The job, where the pipeline has it. A job without rules is included; one with rules is where one of them matches, as the
+/// first that does says.
+pub fn included<'a, 't>(
+    alloc: Global,
+    given: &Given<'a>,
+    config: &'a Config<'t>,
+    job: &'a JobSpec<'t>,
+) -> Result<Option<IncludedJob<'a, 't>>, AllocError>
+    ensures { IfOk result (λ i. option_map included_view i ≡ included (given_view given.now) (config_view config.now) (job_view job.now)) }
+{
+    match &job.rules {
+        None => Ok(Some(without_rules(alloc, job)?)),
+        Some(rules) => {
+            let pairs = seen(alloc, given, config, job)?;
+            match deciding(alloc, &Env { pairs: &pairs }, rules)? {
+                Some(rule) => ruled(alloc, job, rule),
+                None => Ok(None),
+            }
+        }
+    }
+}

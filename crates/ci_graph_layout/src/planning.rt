@@ -1,0 +1,51 @@
+//! A pipeline's jobs, and which of them waits for which.
+
+ghost use Rattle.std.specs.Prelude.{IfOk};
+ghost use Rattle.ci_config.specs.View.{config_view};
+ghost use Rattle.ci_graph_layout.specs.Parts.{CanBeGraph};
+ghost use Rattle.ci_graph_layout.specs.Plans.{Gives, plan_view};
+ghost use Rattle.ci_graph_layout.specs.View.{given_view};
+
+use crate::fault::{GraphCode, PlanFault};
+use crate::given::Given;
+use crate::inclusion::IncludedJob;
+use crate::lineup::lineup;
+use crate::pairs::Pairs;
+use crate::places::Lineup;
+use ci_config::Config;
+use ci_graph::acyclic::are_acyclic;
+use std::alloc::Global;
+
+/// A pipeline's jobs, stage by stage and in each stage by the file, and the pairs of a predecessor's position and that of the
+/// job that waits for it.
+#[derive(Drop)]
+pub struct PipelinePlan<'a, 't> {
+    pub jobs: Vec<IncludedJob<'a, 't>>,
+    pub pairs: Pairs,
+}
+
+/// The plan of a pipeline: the jobs that a file includes where these variables are given, and which of them waits for which.
+///
+/// Errors: memory was refused; or the first fault: no job is included, or all are in `.pre` and `.post` (G4); one gives more than
+/// 50 needs (G5); a need that isn't optional names no included job (G1); a need names one of a later stage (G2); jobs wait for
+/// one another in a circle (G3).
+pub fn plan<'a, 't>(
+    alloc: Global,
+    given: &Given<'a>,
+    config: &'a Config<'t>,
+) -> Result<PipelinePlan<'a, 't>, PlanFault>
+    ensures plan { Gives (given_view given.now) (config_view config.now) result }
+    ensures graph { IfOk result (λ p. CanBeGraph (plan_view p)) }
+{
+    let jobs = lineup(alloc, given, config)?;
+    let lineup = Lineup::new(alloc, &config.stages, jobs)?;
+    if let Some(code) = lineup.first_fault() {
+        return Err(PlanFault::Fault(code));
+    }
+    let pairs = lineup.pairs(alloc)?;
+    if !are_acyclic(alloc, lineup.jobs.len(), &pairs)? {
+        return Err(PlanFault::Fault(GraphCode::G3));
+    }
+    let Lineup { jobs, .. } = lineup;
+    Ok(PipelinePlan { jobs, pairs })
+}

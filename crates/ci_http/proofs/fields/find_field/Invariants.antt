@@ -1,8 +1,0 @@
--- What was found so far.
-use Rattle.std.proofs.Common.{map, take}
-use Rattle.httparse.specs.Spans.{header_bytes}
-use Rattle.ci_http.specs.Fields.{values_of, Shows}
-use Rattle.ci_http.proofs.fields.find_field.Given as goal
-
-abbrev pub invariant-loop-header : goal.invariant-loop-header
-invariant-loop-header l = Shows l.found (values_of l.name (map (header_bytes l.head) (take l.header-index l.headers)))

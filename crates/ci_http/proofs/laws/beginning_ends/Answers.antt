@@ -1,5 +1,0 @@
-use Rattle.ci_http.proofs.Beginnings as beginnings
-use Rattle.ci_http.proofs.laws.beginning_ends.Goals as goal
-
-pub returns : goal.returns
-returns c = beginnings.beginning_ends

@@ -1,5 +1,0 @@
-use Rattle.ci_http.proofs.Unique as unique
-use Rattle.ci_http.proofs.laws.one_reading.Goals as goal
-
-pub returns : goal.returns
-returns c = unique.one_reading

@@ -1,5 +1,0 @@
-use Rattle.ci_http.proofs.Beginnings as beginnings
-use Rattle.ci_http.proofs.laws.rest_has_no_part.Goals as goal
-
-pub returns : goal.returns
-returns c = beginnings.rest_has_no_part

@@ -1,0 +1,35 @@
+//! Sweeping a server until there is nothing left to do.
+
+ghost use Rattle.std.specs.Prelude.{◌↔◌, IsTrue};
+ghost use Rattle.ci_http.specs.Sweeping.{DidSomething, SweepsUpTo};
+
+use ci_machine::moment::Moment;
+use ci_machine::reply::Swept;
+use ci_server::server::Server;
+use ci_store::Alter;
+use std::alloc::Global;
+
+/// How many sweeps come before a request, at most.
+const MAX_SWEEPS: u32 = 1_000;
+
+/// Sweeps until a sweep finds nothing or is refused, but no more than a thousand times.
+pub fn sweep_all<S: Alter>(alloc: Global, server: &mut Server<S>, moment: Moment)
+    ensures { SweepsUpTo S.Store moment MAX_SWEEPS server.old server.new }
+{
+    for _ in 0..MAX_SWEEPS {
+        let swept = server.sweep(alloc, moment);
+        if !did_something(swept) {
+            return;
+        }
+    }
+}
+
+/// Did a sweep end a lease or cancel a pipeline?
+fn did_something(swept: Swept) -> bool
+    ensures { IsTrue result ↔ DidSomething swept }
+{
+    match swept {
+        Swept::Ended(_, _) | Swept::Cancelled(_) => true,
+        Swept::Nothing | Swept::Refused(_) => false,
+    }
+}

@@ -1,0 +1,10 @@
+pub mod Sources
+pub mod Opening
+pub mod Head
+pub mod Fields
+pub mod BodyLength
+pub mod Reading
+pub mod Targets
+pub mod RequestBytes
+pub mod ReplyText
+pub mod Blanks

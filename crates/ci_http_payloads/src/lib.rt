@@ -1,0 +1,10 @@
+//! What the bodies and the ranges of requests say.
+#![tactic(auto)]
+
+pub mod copy;
+pub mod creation;
+mod json;
+pub mod limits;
+pub mod range;
+pub mod texts;
+pub mod update;

@@ -1,0 +1,76 @@
+-- Where a path leads: its pattern and what stands in its slots, and the routes that it has by these.
+use Rattle.std.specs.Prelude.{◌≡◌, ℕ, List, [], ◌∷◌, Option, Some, None, option_map, option_and_then, codes}
+use Rattle.ci_values.specs.Numbers.{id_in}
+use Rattle.ci_machine.specs.declared.reply.Method.{Method}
+use Rattle.ci_machine.specs.declared.reply.Method.TheVariants.{Delete, Get, Patch, Post, Put}
+use Rattle.ci_http_routes.specs.declared.operation.Operation.{Operation}
+use Rattle.ci_http_routes.specs.declared.operation.Operation.TheVariants.{AskJob, UpdateJob, AppendTrace, SetFile, SetVariable, DeleteVariable, CreatePipeline, ShowPipeline, CancelPipeline, ShowJob, ShowTrace, Play, CancelJob, RetryJob}
+use Rattle.ci_http_routes.specs.declared.lookup.Entry.{Entry}
+use Rattle.ci_http_routes.specs.declared.lookup.Entries.{Entries}
+use Rattle.ci_http_routes.specs.declared.place.Place.{Place}
+use Rattle.ci_http_routes.specs.declared.router.Pattern.{Pattern}
+use Rattle.ci_http_routes.specs.declared.router.Pattern.TheVariants.{Queue, Attempt, AttemptTrace, CiFile, Variable, Creation, Pipeline, PipelineCancel, Job, JobTrace, JobPlay, JobCancel, JobRetry}
+use Rattle.ci_http_routes.specs.Answers.{map_key, wanted}
+use Rattle.ci_http_routes.specs.Patterns.{patterns, pattern_in, text_in}
+use Rattle.ci_http_routes.specs.Routes.{Wanted}
+
+-- a method's routes in a list of them
+module _ {K : Type 0} (view : K → List ℕ) where
+  abbrev pub entry : Entry K → Method × Wanted
+  entry e = (e.method, wanted (map_key view e.operation))
+
+  abbrev pub entry_after : Option (Entry K) → List (Method × Wanted)
+  entry_after None = []
+  entry_after (Some e) = entry e ∷ []
+
+  abbrev pub listed : Entries K → List (Method × Wanted)
+  listed entries = entry entries.first ∷ entry_after entries.second
+
+-- the number that stands in a slot
+abbrev pub number_at : Option (List ℕ) → Option ℕ
+number_at slot = option_and_then id_in slot
+
+-- the one route of a place with one number, and with two
+abbrev pub with_one : Method → (ℕ → Operation (List ℕ)) → Option ℕ → List (Method × Wanted)
+with_one method op None = []
+with_one method op (Some n) = (method, wanted (op n)) ∷ []
+
+abbrev pub with_two : Method → (ℕ → ℕ → Operation (List ℕ)) → Option ℕ → Option ℕ → List (Method × Wanted)
+with_two method op None n = []
+with_two method op (Some id) n = with_one method (op id) n
+
+-- the routes of a variable
+abbrev pub with_key_at : ℕ → Option (List ℕ) → List (Method × Wanted)
+with_key_at id None = []
+with_key_at id (Some key) = (Delete, wanted (DeleteVariable id key)) ∷ (Put, wanted (SetVariable id key)) ∷ []
+
+abbrev pub with_key : Option ℕ → Option (List ℕ) → List (Method × Wanted)
+with_key None key = []
+with_key (Some id) key = with_key_at id key
+
+-- the routes of a pattern, by what stands in its slots
+abbrev pub routes_in : Pattern → Option ℕ → Option ℕ → Option (List ℕ) → List (Method × Wanted)
+routes_in Queue id n key = (Post, wanted AskJob) ∷ []
+routes_in Attempt id n key = with_one Put UpdateJob n
+routes_in AttemptTrace id n key = with_one Patch AppendTrace n
+routes_in CiFile id n key = with_one Put SetFile id
+routes_in Variable id n key = with_key id key
+routes_in Creation id n key = with_one Post CreatePipeline id
+routes_in Pipeline id n key = with_two Get ShowPipeline id n
+routes_in PipelineCancel id n key = with_two Post CancelPipeline id n
+routes_in Job id n key = with_two Get ShowJob id n
+routes_in JobTrace id n key = with_two Get ShowTrace id n
+routes_in JobPlay id n key = with_two Post Play id n
+routes_in JobCancel id n key = with_two Post CancelJob id n
+routes_in JobRetry id n key = with_two Post RetryJob id n
+
+abbrev pub routes_by : Place → List (Method × Wanted)
+routes_by place =
+    routes_in place.pattern (number_at (option_map (λ t. t.now) place.id)) (number_at (option_map (λ t. t.now) place.n)) (option_map (λ t. t.now) place.key)
+
+-- a path leads to a place
+pub record LeadsTo (path : List ℕ) (place : Place) : Type 0 where
+  pub pattern : pattern_in patterns path ≡ Some place.pattern
+  pub id : option_map (λ t. t.now) place.id ≡ text_in (codes "id") patterns path
+  pub n : option_map (λ t. t.now) place.n ≡ text_in (codes "n") patterns path
+  pub key : option_map (λ t. t.now) place.key ≡ text_in (codes "key") patterns path

@@ -1,7 +1,0 @@
-use Rattle.std.proofs.Common.{◌≡◌, drop}
-use Rattle.ci_words.specs.Layers.{layer_view}
-use Rattle.ci_layout.specs.Inclusion.{names}
-use Rattle.ci_layout.proofs.inclusion.names.Given as goal
-
-abbrev pub invariant-loop-pair : goal.invariant-loop-pair
-invariant-loop-pair l = names (layer_view (drop l.pair-index l.pairs)) l.fn.name ≡ names (layer_view l.pairs) l.fn.name

@@ -1,8 +1,0 @@
-use Rattle.std.proofs.Common.{◌≡◌, drop, map}
-use Rattle.ci_layout.specs.Fault.{any, is_work}
-use Rattle.ci_layout.specs.Places.{jobs_of}
-use Rattle.ci_layout.specs.View.{included_view}
-use Rattle.ci_layout.proofs.places.Lineup.has_work.Given as goal
-
-abbrev pub invariant-loop-job : goal.invariant-loop-job
-invariant-loop-job l = any is_work (map included_view (drop l.job-index l.self.jobs.items)) ≡ any is_work (jobs_of l.self)

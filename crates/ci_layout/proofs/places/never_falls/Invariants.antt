@@ -1,6 +1,0 @@
-use Rattle.std.proofs.Common.{◌≡◌, drop}
-use Rattle.ci_layout.specs.Places.{never_falls_from}
-use Rattle.ci_layout.proofs.places.never_falls.Given as goal
-
-abbrev pub invariant-loop-number : goal.invariant-loop-number
-invariant-loop-number l = never_falls_from l.least (drop l.number-index l.numbers) ≡ never_falls_from 0 l.numbers

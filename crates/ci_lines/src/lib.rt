@@ -1,4 +1,0 @@
-//! The lines that `ciserver` prints, and the exit statuses that go with them.
-#![tactic(auto)]
-
-pub mod line;

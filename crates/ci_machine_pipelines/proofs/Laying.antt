@@ -1,0 +1,116 @@
+-- What is answered where a pipeline is to be made of a text fits it.
+use Rattle.std.specs.Prelude.{◌≡◌, ℕ, ◌+◌, ◌-◌, ◌≤◌, Bool, true, false, ◌||◌, nat_lt, List, length, map, Option, Some, None, Result, Ok, Err, IfOk, IfSome}
+use Rattle.std.specs.Ordering.{nat_cmp}
+use Rattle.std.specs.List.Sorted.{IsStrictlySortedBy}
+use Rattle.std.proofs.Common.{refl, sym, ap, subst, ◌∙◌, arith}
+use Rattle.std.proofs.lemmas.Bool.{ltb-false, false≢true}
+use Rattle.ci_values.specs.declared.limits.TheConstants.{MAX_NUMBER}
+use Rattle.ci_yaml_lines.specs.Tree.{Value}
+use Rattle.ci_yaml.specs.Document.{HasTree}
+use Rattle.ci_yaml.specs.Stops.{RefusedBy}
+use Rattle.ci_yaml.specs.declared.fault.YamlFault.{YamlFault}
+use Rattle.ci_yaml.specs.declared.fault.YamlFault.TheVariants as yaml
+use Rattle.ci_config.specs.Answer.{Answers}
+use Rattle.ci_config.specs.Config.{Config}
+use Rattle.ci_config.specs.FaultView.{code_view}
+use Rattle.ci_config.specs.declared.fault.ConfigFault.{ConfigFault}
+use Rattle.ci_config.specs.declared.fault.ConfigFault.TheVariants as config
+use Rattle.ci_graph_layout.specs.Plans.{Gives}
+use Rattle.ci_graph_layout.specs.declared.fault.PlanFault.{PlanFault}
+use Rattle.ci_graph_layout.specs.declared.fault.PlanFault.TheVariants as plan
+use Rattle.ci_board.specs.declared.facts.Row.{Row}
+use Rattle.ci_machine.specs.declared.records.Holder.{Holder}
+use Rattle.ci_machine.specs.declared.records.Job.{Job}
+use Rattle.ci_machine.specs.declared.reply.Code.TheVariants.{M15}
+use Rattle.ci_machine.specs.declared.reply.Detail.{Detail}
+use Rattle.ci_machine.specs.Plans.{Plan, refused, faulted}
+use Rattle.ci_machine.specs.Files.{line_fault, keyword_fault, IsRead, misconfigures, lacks_tree}
+use Rattle.ci_machine.specs.Pipelines as pipelines
+use Rattle.ci_machine.specs.Pipelines.{IsLaidOut, misread, unplanned, new_jobs, lacks_numbers, AreFirstRows, pipeline_created, MakesUnless, Creates}
+use Rattle.ci_machine.proofs.Created.{new_rise, new_length}
+use Rattle.ci_machine.proofs.Sound.{ascend_from_rising}
+use Rattle.ci_machine_pipelines.specs.declared.creation.Creation.{Creation}
+use Rattle.ci_machine_pipelines.specs.declared.files.FileFault.{FileFault}
+use Rattle.ci_machine_pipelines.specs.declared.files.FileFault.TheVariants.{Memory, Fault}
+use Rattle.ci_machine_pipelines.specs.Readings.{yaml_fault, Shows}
+use Rattle.ci_machine_pipelines.specs.Creations.{Origin, creation_view, creation_of, plan_fault, LaysOut}
+
+-- ---- faults
+
+-- of the lines
+pub lacks : (text : List ℕ) (o : Origin) (fault : YamlFault) (f : FileFault) → f ≡ yaml_fault fault → RefusedBy text fault → LaysOut text o (Err f)
+lacks text o yaml.Memory f is by = subst (λ (g : FileFault). LaysOut text o (Err g)) (sym is) tt
+lacks text o (yaml.Fault code line) f is by = subst (λ (g : FileFault). LaysOut text o (Err g)) (sym is) (misread (line_fault code line) (lacks_tree line code by))
+
+-- of the keywords
+pub misconfigured : (text : List ℕ) (o : Origin) (tree : Value) (fault : ConfigFault) (f : FileFault) → HasTree text tree → Answers (Err fault) tree → Shows f fault → LaysOut text o (Err f)
+misconfigured text o tree fault Memory has answer shows = tt
+misconfigured text o tree config.Memory (Fault detail) has answer shows = absurd shows
+misconfigured text o tree (config.Fault code) (Fault detail) has answer shows =
+    subst (λ (d : Detail). IsLaidOut text o.given (Err d)) (sym shows) (misread (keyword_fault (code_view code)) (misconfigures tree (code_view code) has answer))
+
+-- of the graph
+pub not_planned : (text : List ℕ) (o : Origin) (c : Config) (fault : PlanFault) (f : FileFault) → f ≡ plan_fault fault → IsRead text (Ok c) → Gives o.given c (Err fault) → LaysOut text o (Err f)
+not_planned text o c plan.Memory f is read gives = subst (λ (g : FileFault). LaysOut text o (Err g)) (sym is) tt
+not_planned text o c (plan.Fault code) f is read gives = subst (λ (g : FileFault). LaysOut text o (Err g)) (sym is) (unplanned c code read gives)
+
+-- ---- numbers
+
+either_not : (a b : Bool) → a || b ≡ false → (a ≡ false) × (b ≡ false)
+either_not true b e = absurd (false≢true (sym e))
+either_not false b e = (refl, e)
+
+pub numbers_fit : (id first count : ℕ) → lacks_numbers id first count ≡ false → (id ≤ MAX_NUMBER) × (first + count ≤ MAX_NUMBER + 1)
+numbers_fit id first count e =
+    let w = either_not (nat_lt MAX_NUMBER id) (nat_lt MAX_NUMBER (first + count - 1)) e in
+    let last : first + count - 1 ≤ MAX_NUMBER = ltb-false MAX_NUMBER (first + count - 1) w.1 in
+    (ltb-false MAX_NUMBER id w.0, omega arith)
+
+-- ---- what is known of the records
+
+module _ (text : List ℕ) (o : Origin) where
+  pub pipeline_within : (r : Result (Option Creation) FileFault) → LaysOut text o r → IfOk r (λ made. IfSome made (λ c. c.pipeline.id ≤ MAX_NUMBER))
+  pipeline_within (Err f) l = tt
+  pipeline_within (Ok None) l = tt
+  pipeline_within (Ok (Some c)) l =
+      let (laid, is, made) = l in
+      let same : c.pipeline.id ≡ o.id = ap (λ (m : pipelines.Creation). m.pipeline.id) made.0 in
+      let fits : o.id ≤ MAX_NUMBER = (numbers_fit o.id o.first_job (length laid.plan.jobs) made.1).0 in
+      omega arith
+
+  pub jobs_within : (r : Result (Option Creation) FileFault) → LaysOut text o r → IfOk r (λ made. IfSome made (λ c. o.first_job + length c.jobs.items ≤ MAX_NUMBER + 1))
+  jobs_within (Err f) l = tt
+  jobs_within (Ok None) l = tt
+  jobs_within (Ok (Some c)) l =
+      let (laid, is, made) = l in
+      let same : length c.jobs.items ≡ length laid.plan.jobs = ap (λ (m : pipelines.Creation). length m.jobs) made.0 ∙ new_length o.id o.first_job 0 laid.plan.jobs in
+      let fits : o.first_job + length laid.plan.jobs ≤ MAX_NUMBER + 1 = (numbers_fit o.id o.first_job (length laid.plan.jobs) made.1).1 in
+      omega arith
+
+  pub jobs_ascend : (r : Result (Option Creation) FileFault) → LaysOut text o r → IfOk r (λ made. IfSome made (λ c. IsStrictlySortedBy nat_cmp (map (λ j. j.id) c.jobs.items)))
+  jobs_ascend (Err f) l = tt
+  jobs_ascend (Ok None) l = tt
+  jobs_ascend (Ok (Some c)) l =
+      let (laid, is, made) = l in
+      subst (λ (js : List Job). IsStrictlySortedBy nat_cmp (map (λ j. j.id) js)) (sym (ap (λ (m : pipelines.Creation). m.jobs) made.0))
+      (ascend_from_rising (λ (j : Job). j.id) (o.first_job + 0) (new_jobs o.id o.first_job 0 laid.plan.jobs) (new_rise o.id o.first_job 0 laid.plan.jobs))
+
+  -- ---- the plans of the definition
+
+  pub creates : (c : Creation) (holders : List Holder) (rows : List Row) (p : Plan) → LaysOut text o (Ok (Some c)) → AreFirstRows c.jobs.items c.needs.items rows → p ≡ pipeline_created o.first_job (creation_view c) holders rows
+      → Creates o.id o.first_job holders o.asked o.given o.moment (Ok text) p
+  creates c holders rows p l first is =
+      let (laid, lays, made) = l in (
+        Ok laid,
+        lays,
+        subst (λ (b : Bool). MakesUnless b o.first_job (creation_of o laid) holders p) (sym made.1)
+            (subst (λ (m : pipelines.Creation). MakesUnless false o.first_job m holders p) made.0 (rows, first, is)),
+      )
+
+  pub creates_none : (holders : List Holder) (p : Plan) → LaysOut text o (Ok None) → p ≡ refused M15 → Creates o.id o.first_job holders o.asked o.given o.moment (Ok text) p
+  creates_none holders p l is =
+      let (laid, lays, lack) = l in
+      (Ok laid, lays, subst (λ (b : Bool). MakesUnless b o.first_job (creation_of o laid) holders p) (sym lack) is)
+
+  pub creates_fault : (detail : Detail) (holders : List Holder) (p : Plan) → LaysOut text o (Err (Fault detail)) → p ≡ faulted detail → Creates o.id o.first_job holders o.asked o.given o.moment (Ok text) p
+  creates_fault detail holders p l is = (Err detail, l, is)

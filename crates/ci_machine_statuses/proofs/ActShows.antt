@@ -1,0 +1,147 @@
+-- What a user does to jobs: what its outcome shows.
+use Rattle.std.specs.Prelude.{◌≡◌, ℕ, ◌<◌, Bool, true, List, [], ◌∷◌, length, map, if◌then◌else◌, codes, Some, None, slice_index_or}
+use Rattle.std.proofs.Common.{refl, sym, ap, subst, ◌∙◌, inl}
+use Rattle.std.proofs.lemmas.Bool.{cond-true}
+use Rattle.std.proofs.lemmas.List.{get_or-map, length-map}
+use Rattle.ci_board.specs.declared.facts.Row.{Row}
+use Rattle.ci_board.specs.Rows.{row_at, statuses}
+use Rattle.ci_board.specs.declared.facts.Status.{Status}
+use Rattle.ci_board.specs.declared.facts.Status.TheVariants as status
+use Rattle.ci_machine.specs.declared.records.Pipeline.{Pipeline}
+use Rattle.ci_machine.specs.declared.records.Job.{Job}
+use Rattle.ci_machine.specs.declared.records.BoardRow.{BoardRow}
+use Rattle.ci_machine.specs.declared.records.Holder.{Holder}
+use Rattle.ci_machine.specs.State.{State}
+use Rattle.ci_machine.specs.Holders.{holders}
+use Rattle.ci_machine.specs.Eligible.{is_free}
+use Rattle.ci_machine.specs.Statuses.{jobs_of, numbers_of, place_in, facts_of, status_for}
+use Rattle.ci_machine.specs.declared.change.RowChange.{RowChange}
+use Rattle.ci_machine.specs.declared.reply.Reply.{Reply}
+use Rattle.ci_machine.specs.Bodies.{printed_status, job_data, jobs_data}
+use Rattle.ci_machine.specs.Acts.{ShowsJobAfter, ShowsPipelineAfter}
+use Rattle.ci_machine.proofs.Keyed.{Has, has_from_all}
+use Rattle.ci_machine.proofs.Sound.{Sound}
+use Rattle.ci_machine.proofs.Alike.{shown_alike}
+use Rattle.ci_machine_statuses.specs.declared.act.Act.{Act}
+use Rattle.ci_machine_statuses.specs.declared.act.Act.TheVariants.{Play, Retry, Cancel}
+use Rattle.ci_machine_statuses.specs.declared.outcome.Outcome.{Outcome}
+use Rattle.ci_machine_statuses.specs.Acts.{is_permitted, marked, act_changes, is_acted_on, acted_jobs, acted_state, shows_job_by, shows_pipeline_by, IsOutcome}
+use Rattle.ci_machine_statuses.proofs.Positions.{place_at}
+use Rattle.ci_machine_statuses.proofs.Joint.{numbers_rise}
+use Rattle.ci_machine_statuses.proofs.Puts.{cons_same}
+use Rattle.ci_machine_statuses.proofs.ActFacts.{after_is, within, of_job, jobs_after, keeps, all_keep, marked_part}
+use Rattle.ci_machine_statuses.proofs.ActPlaces.{one_acted}
+
+-- ---- one job
+
+-- the only place of a list of which one record is found
+record IsOne (js : List Job) (places : List ℕ) (job : Job) : Type 0 where
+  pub place : ℕ
+  pub only : places ≡ place ∷ []
+  pub there : place < length js
+  pub is : slice_index_or js place job ≡ job
+
+one_place : (js : List Job) (places : List ℕ) (job : Job) → ((i : ℕ) → Has i places → i < length js) → map (λ i. slice_index_or js i job) places ≡ job ∷ [] → IsOne js places job
+one_place js [] job within e = absurd (cc)
+one_place js (i ∷ []) job within e = record { place = i; only = refl; there = within i (inl refl); is = cc }
+one_place js (i ∷ (k ∷ ks)) job within e = absurd (cc)
+
+module _ (act : Act) (s : State) (board : List BoardRow) (job : Job) (o : Outcome) (sound : Sound s) (has : Has job s.jobs) (permitted : is_permitted act (status_for board job.id) ≡ true)
+    (outcome : IsOutcome act (Some job.id) s board job.pipeline o) where
+  abbrev p : ℕ
+  p = job.pipeline
+
+  abbrev test : Job → Bool
+  test = is_acted_on act (Some job.id) board
+
+  alone : acted_jobs act (Some job.id) s board p ≡ job ∷ []
+  alone = one_acted act s board job sound has ∙ cond-true (is_permitted act (status_for board job.id)) (job ∷ []) [] permitted
+
+  at : IsOne (jobs_of s p) o.places.items job
+  at = one_place (jobs_of s p) o.places.items job (λ i k. has_from_all (λ n. n < length (jobs_of s p)) i o.places.items outcome.within k) (outcome.jobs job ∙ alone)
+
+  place_is : place_in (numbers_of (acted_state act (Some job.id) s board p) p) job.id ≡ at.place
+  place_is =
+      let number : slice_index_or (numbers_of s p) at.place 0 ≡ job.id = get_or-map (λ (j : Job). j.id) (jobs_of s p) at.place job 0 at.there ∙ ap (λ (j : Job). j.id) at.is in
+      let there : at.place < length (numbers_of s p) = subst (λ n. at.place < n) (sym (length-map (jobs_of s p) (λ (j : Job). j.id))) at.there in
+      ap (λ (w : State). place_in (numbers_of w p) job.id) (after_is s act p test sound)
+      ∙ (ap (λ (ns : List ℕ). place_in ns job.id) ((within s act p test sound).its_numbers p)
+      ∙ (ap (place_in (numbers_of s p)) (sym number) ∙ place_at 0 (numbers_of s p) at.place (numbers_rise s p sound) there))
+
+  pub shows_job : (i : ℕ) × ((o.places.items ≡ i ∷ []) × ShowsJobAfter s job (act_changes act s (job ∷ [])) (shows_job_by s (act_changes act s (job ∷ [])) job (row_at o.rows.items i).status))
+  shows_job = (
+    at.place,
+    (
+      at.only,
+      subst (λ (js : List Job). ShowsJobAfter s job (act_changes act s js) (shows_job_by s (act_changes act s js) job (row_at o.rows.items at.place).status)) alone
+          (o.rows.items, outcome.rows, ap (λ n. shows_job_by s (act_changes act s (acted_jobs act (Some job.id) s board p)) job (statuses o.rows.items n)) (sym place_is)),
+    ),
+  )
+
+-- ---- a pipeline
+
+-- what is shown of a job doesn't change
+marked_shown : (act : Act) (s : State) (held : List Holder) (project : ℕ) (status : Status) (j : Job) → job_data (printed_status held project (marked act s j) status) (marked act s j) ≡ job_data (printed_status held project j status) j
+marked_shown Play s held project status.Created j = refl
+marked_shown Play s held project status.Pending j = refl
+marked_shown Play s held project status.Running j = refl
+marked_shown Play s held project status.Success j = refl
+marked_shown Play s held project status.Failed j = refl
+marked_shown Play s held project status.Canceled j = refl
+marked_shown Play s held project status.Skipped j = refl
+marked_shown Play s held project status.Manual j = refl
+marked_shown Retry s held project status.Created j = refl
+marked_shown Retry s held project status.Pending j = refl
+marked_shown Retry s held project status.Running j = refl
+marked_shown Retry s held project status.Success j = refl
+marked_shown Retry s held project status.Failed j = refl
+marked_shown Retry s held project status.Canceled j = refl
+marked_shown Retry s held project status.Skipped j = refl
+marked_shown Retry s held project status.Manual j = refl
+marked_shown Cancel s held project status.Created j = refl
+marked_shown Cancel s held project status.Pending j = refl
+marked_shown Cancel s held project status.Running j = refl
+marked_shown Cancel s held project status.Success j = refl
+marked_shown Cancel s held project status.Failed j = refl
+marked_shown Cancel s held project status.Canceled j = refl
+marked_shown Cancel s held project status.Skipped j = refl
+marked_shown Cancel s held project status.Manual j = refl
+
+pub marked_group : (act : Act) (s : State) (j : Job) → (marked act s j).options.resource_group ≡ j.options.resource_group
+marked_group Play s j = refl
+marked_group Retry s j = refl
+marked_group Cancel s j = refl
+
+same_shown : (held : List Holder) (project : ℕ) (F : Job → Job) → ((status : Status) (j : Job) → job_data (printed_status held project (F j) status) (F j) ≡ job_data (printed_status held project j status) j) → (js : List Job) (rows : List Row)
+    → jobs_data held project (map F js) rows ≡ jobs_data held project js rows
+same_shown held project F same [] rows = refl
+same_shown held project F same (j ∷ js) [] = refl
+same_shown held project F same (j ∷ js) (r ∷ rows) = cons_same (same r.status j) (same_shown held project F same js rows)
+
+module _ (act : Act) (s : State) (board : List BoardRow) (q : Pipeline) (o : Outcome) (sound : Sound s) (outcome : IsOutcome act None s board q.id o) where
+  abbrev wide : Job → Bool
+  wide = is_acted_on act None board
+
+  abbrev new : State
+  new = acted_state act None s board q.id
+
+  abbrev changes : List RowChange
+  changes = act_changes act s (acted_jobs act None s board q.id)
+
+  new_jobs : jobs_of new q.id ≡ map (of_job s act q.id wide sound) (jobs_of s q.id)
+  new_jobs = ap (λ (w : State). jobs_of w q.id) (after_is s act q.id wide sound) ∙ jobs_after s act q.id wide sound q.id
+
+  abbrev held : List Holder
+  held = holders new
+
+  shown_same : jobs_data held q.project (jobs_of new q.id) o.rows.items ≡ jobs_data held q.project (jobs_of s q.id) o.rows.items
+  shown_same =
+      ap (λ js. jobs_data held q.project js o.rows.items) new_jobs
+      ∙ same_shown held q.project (of_job s act q.id wide sound) (λ status j. keeps s act q.id wide sound (λ i. job_data (printed_status held q.project i status) i) (marked_shown act s held q.project status) j) (jobs_of s q.id) o.rows.items
+
+  parts_same : map (λ (j : Job). j.options.part) (jobs_of new q.id) ≡ map (λ (j : Job). j.options.part) (jobs_of s q.id)
+  parts_same = ap (map (λ (j : Job). j.options.part)) new_jobs ∙ all_keep s act q.id wide sound (λ (j : Job). j.options.part) (marked_part act s) (jobs_of s q.id)
+
+  pub shows_pipeline : ShowsPipelineAfter s q changes (shows_pipeline_by s changes q (jobs_of s q.id) o.facts.items o.rows.items)
+  shows_pipeline =
+      (o.rows.items, outcome.rows, ap (λ (r : Reply). (r, changes)) (shown_alike q held held (jobs_of s q.id) (jobs_of new q.id) o.facts.items (facts_of new q.id) o.rows.items (sym shown_same) (sym parts_same) outcome.facts))

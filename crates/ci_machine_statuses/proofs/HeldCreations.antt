@@ -1,0 +1,125 @@
+-- A pipeline is made: no group moves, and it is the last of the pipelines, unfinished or not.
+use Rattle.std.specs.Prelude.{◌≡◌, ℕ, ◌<◌, Bool, true, false, cond, ◌==◌, List, [], ◌∷◌, ◌++◌, length, map, filter, find, replicate, Option, Some, option_map, option_to_list, Ok}
+use Rattle.std.proofs.Common.{refl, sym, ap, subst, ◌∙◌, inl, inr, arith}
+use Rattle.std.proofs.lemmas.Bool.{cond-true, cond-false, false≢true}
+use Rattle.std.proofs.lemmas.List.{append-nil, map-append}
+use Rattle.std.proofs.lemmas.List.Elements.{filter-append}
+use Rattle.ci_graph_layout.specs.Inclusion.{Given}
+use Rattle.ci_board.specs.Rows.{no_facts}
+use Rattle.ci_board.specs.declared.facts.Status.{Status}
+use Rattle.ci_machine.specs.declared.records.Attempt.{Attempt}
+use Rattle.ci_machine.specs.declared.records.BoardRow.{BoardRow}
+use Rattle.ci_machine.specs.declared.records.Job.{Job}
+use Rattle.ci_machine.specs.declared.records.Pipeline.{Pipeline}
+use Rattle.ci_machine.specs.declared.records.Unfinished.{Unfinished}
+use Rattle.ci_machine.specs.declared.request.NewPipeline.{NewPipeline}
+use Rattle.ci_machine.specs.State.{State, applied}
+use Rattle.ci_machine.specs.Kept.{Kept, put_rows, written}
+use Rattle.ci_machine.specs.Statuses.{AreBoard}
+use Rattle.ci_machine.specs.Bodies.{status_of_jobs}
+use Rattle.ci_machine.specs.Pipelines.{Layout, IsLaidOut, Creation, creation, creation_changes}
+use Rattle.ci_machine.specs.Redundant.{is_unfinished}
+use Rattle.ci_machine.specs.Lookups.{job_at, pipeline_at, project_or_none, queued}
+use Rattle.ci_machine.specs.Holders.{queued_at, group_held, held_by}
+use Rattle.ci_machine.specs.Indexes.{is_open_in, unfinished_in, AreIndexes}
+use Rattle.ci_machine.proofs.Keyed.{Has, find_has, filter_same}
+use Rattle.ci_machine.proofs.Created.{after_creation}
+use Rattle.ci_machine.proofs.Sound.{Sound}
+use Rattle.ci_machine_statuses.specs.Changes.{IsMade}
+use Rattle.ci_machine_statuses.proofs.Creations as creations
+use Rattle.ci_machine_statuses.proofs.Made.{its_jobs, its_facts, its_rows, other_jobs, other_facts, other_rows}
+use Rattle.ci_machine_statuses.proofs.Puts.{put_last}
+use Rattle.ci_machine_statuses.specs.HolderChanges.{opened}
+use Rattle.ci_machine_statuses.proofs.HeldLists.{find_left}
+use Rattle.ci_machine_statuses.proofs.Holding.{Ends, rows_stay}
+use Rattle.ci_machine_statuses.proofs.HeldOpening.{number, passing, has_passing, turned_rows, all_turned, same_status}
+
+-- a pipeline behind all others comes last
+comes_last : (f : Pipeline → Bool) (p : Pipeline) (ps : List Pipeline) (b : Bool) → ((q : Pipeline) → Has q ps → q.id < p.id) → f p ≡ b → turned_rows p.id false b (passing f ps) ≡ passing f ps ++ map number (filter f (p ∷ []))
+comes_last f p ps true below e =
+    put_last (λ (u : Unfinished). u.pipeline) (number p) (passing f ps) (λ u h. let w = has_passing f u ps h in subst (λ (x : Unfinished). x.pipeline < p.id) w.is (below w.one w.has))
+    ∙ ap (λ (l : List Pipeline). passing f ps ++ map number l) (sym (cond-true (f p) (p ∷ []) [] e))
+comes_last f p ps false below e =
+    sym (append-nil (passing f ps)) ∙ ap (λ (l : List Pipeline). passing f ps ++ map number l) (sym (cond-false (f p) (p ∷ []) [] e))
+
+module _ (k : Kept) (sound : Sound k.state) (are : AreBoard k.state k.board) (indexes : AreIndexes k) (new : NewPipeline) (given : Given) (now : ℕ) (text : List ℕ) (laid : Layout) (lays : IsLaidOut text given (Ok laid)) where
+  abbrev s : State
+  s = k.state
+
+  abbrev c : Creation
+  c = creation s.next.pipeline s.next.job new given now laid
+
+  abbrev t : State
+  t = applied (creation_changes s.next.job c) s
+
+  abbrev n : ℕ
+  n = s.next.pipeline
+
+  made : IsMade s t n c.jobs c.needs
+  made = creations.made s new given now text laid sound lays c refl
+
+  pipelines : t.pipelines ≡ s.pipelines ++ c.pipeline ∷ []
+  pipelines = ap (λ (w : State). w.pipelines) (after_creation s.next.job c s) ∙ put_last (λ (q : Pipeline). q.id) c.pipeline s.pipelines (λ q h. sound.pipeline_below q h)
+
+  same_held : (a : Attempt) → Has a s.attempts → held_by a.id (queued_at t a.job) ≡ held_by a.id (queued_at s a.job)
+  same_held a h =
+      let w = sound.attempt_job a h in
+      let j = w.0 in
+      let v = sound.job_pipeline j w.1.0 in
+      let was : job_at s a.job ≡ Some j = subst (λ m. job_at s m ≡ Some j) w.1.1 (find_has (λ (i : Job). i.id) j 0 s.jobs sound.jobs w.1.0) in
+      let is : job_at t a.job ≡ Some j = ap (find (λ (i : Job). i.id == a.job)) made.all_jobs ∙ find_left (λ (i : Job). i.id == a.job) j s.jobs c.jobs was in
+      let p_was : pipeline_at s j.pipeline ≡ Some v.0 = subst (λ m. pipeline_at s m ≡ Some v.0) v.1.1 (find_has (λ (q : Pipeline). q.id) v.0 0 s.pipelines sound.pipelines v.1.0) in
+      let p_is : pipeline_at t j.pipeline ≡ Some v.0
+      = ap (find (λ (q : Pipeline). q.id == j.pipeline)) pipelines ∙ find_left (λ (q : Pipeline). q.id == j.pipeline) v.0 s.pipelines (c.pipeline ∷ []) p_was in
+      ap (λ (o : Option Job). held_by a.id (option_map (queued t) o)) is
+      ∙ (ap (λ (o : Option Pipeline). group_held a.id (project_or_none o) j.options.resource_group) (p_is ∙ sym p_was)
+      ∙ sym (ap (λ (o : Option Job). held_by a.id (option_map (queued s) o)) was))
+
+  ends : Ends s t (λ a. false)
+  ends = record {
+    lives = λ a e. absurd (false≢true e);
+    stay = λ a h live d. record { attempt = a; has = subst (Has a) (sym made.same_attempts) h; id = refl; job = refl; live = live };
+    were = λ b h live. record { attempt = b; has = subst (Has b) made.same_attempts h; id = refl; job = refl; live = live; left = refl };
+    held = same_held;
+  }
+
+  module _ (rows : List BoardRow) (keys : map (λ r. r.job) rows ≡ map (λ j. j.id) c.jobs) where
+    abbrev after : List BoardRow
+    after = put_rows rows k.board
+
+    abbrev its_status : Status
+    its_status = status_of_jobs c.jobs (replicate (length c.jobs) no_facts) (map (λ r. r.row) rows)
+
+    others : (q : Pipeline) → Has q s.pipelines → is_open_in t after q ≡ is_open_in s k.board q
+    others q h =
+        let d : n ≡ q.id → ⊥ = λ e. let b : q.id < n = sound.pipeline_below q h in omega arith in
+        same_status s t k.board after q
+        (ap (map (λ (j : Job). j.options.part)) (other_jobs s t k.board n c.jobs c.needs sound are made rows keys q.id d))
+        (other_facts s t k.board n c.jobs c.needs sound are made rows keys q.id d)
+        (other_rows s t k.board n c.jobs c.needs sound are made rows keys q.id d)
+
+    its : is_open_in t after c.pipeline ≡ is_unfinished its_status
+    its = λ i. is_unfinished (status_of_jobs (its_jobs s t k.board n c.jobs c.needs sound are made i) (its_facts s t k.board n c.jobs c.needs sound are made i) (its_rows s t k.board n c.jobs c.needs sound are made rows keys i))
+
+    unfinished : turned_rows n false (is_unfinished its_status) k.unfinished ≡ unfinished_in t after
+    unfinished =
+        let g = is_open_in t after in
+        let old : passing (is_open_in s k.board) s.pipelines ≡ passing g s.pipelines = ap (map number) (sym (filter_same g (is_open_in s k.board) s.pipelines others)) in
+        ap (turned_rows n false (is_unfinished its_status)) (indexes.unfinished ∙ old)
+        ∙ (comes_last g c.pipeline s.pipelines (is_unfinished its_status) (λ q h. sound.pipeline_below q h) its
+        ∙ (sym (map-append number (filter g s.pipelines) (filter g (c.pipeline ∷ [])))
+        ∙ (ap (map number) (sym (filter-append g s.pipelines (c.pipeline ∷ [])))
+        ∙ ap (λ (ps : List Pipeline). map number (filter g ps)) (sym pipelines))))
+
+    creation_kept : AreIndexes (written (creation_changes s.next.job c) rows (option_to_list (opened n its_status)) k)
+    creation_kept = subst AreIndexes (sym (all_turned n false (is_unfinished its_status) (record k { state = t; board = after }))) (record {
+      held = rows_stay s t k.holders sound.attempts ends indexes.held;
+      unfinished = unfinished;
+    })
+
+  pub creation_indexed : (d : Creation) (rows : List BoardRow) → d ≡ creation k.state.next.pipeline k.state.next.job new given now laid → map (λ r. r.job) rows ≡ map (λ j. j.id) d.jobs
+      → AreIndexes (written (creation_changes k.state.next.job d) rows (option_to_list (opened d.pipeline.id (status_of_jobs d.jobs (replicate (length d.jobs) no_facts) (map (λ r. r.row) rows)))) k)
+  creation_indexed d rows is keys =
+      subst
+      (λ (x : Creation). AreIndexes (written (creation_changes s.next.job x) rows (option_to_list (opened x.pipeline.id (status_of_jobs x.jobs (replicate (length x.jobs) no_facts) (map (λ (r : BoardRow). r.row) rows)))) k))
+      (sym is) (creation_kept rows (keys ∙ ap (λ (x : Creation). map (λ (j : Job). j.id) x.jobs) is))

@@ -1,0 +1,119 @@
+-- The end of an attempt: its group is free, and its pipeline may be finished.
+use Rattle.std.specs.Prelude.{◌≡◌, ◌<◌, Bool, true, false, ◌==◌, ◌||◌, ◌&&◌, List, [], ◌∷◌, Some}
+use Rattle.std.proofs.Common.{refl, sym, ap, subst, ◌∙◌, ⊎_elim, eqb-true, eq-eqb}
+use Rattle.std.proofs.lemmas.Bool.{cases_Bool, both_ways, and_parts}
+use Rattle.std.proofs.lemmas.List.{length-map}
+use Rattle.ci_board.specs.declared.facts.Status.{Status}
+use Rattle.ci_machine.specs.declared.records.Attempt.{Attempt}
+use Rattle.ci_machine.specs.declared.records.BoardRow.{BoardRow}
+use Rattle.ci_machine.specs.declared.records.Job.{Job}
+use Rattle.ci_machine.specs.declared.records.Need.{Need}
+use Rattle.ci_machine.specs.declared.records.Pipeline.{Pipeline}
+use Rattle.ci_machine.specs.declared.change.Record.TheVariants as row
+use Rattle.ci_machine.specs.declared.change.RowChange.TheVariants.{Put}
+use Rattle.ci_machine.specs.State.{State, attempt_cmp}
+use Rattle.ci_machine.specs.Kept.{Kept, put_rows, written}
+use Rattle.ci_machine.specs.Statuses.{jobs_of, numbers_of, AreBoard}
+use Rattle.ci_machine.specs.Bodies.{status_of_jobs}
+use Rattle.ci_machine.specs.Leases.{is_live}
+use Rattle.ci_machine.specs.Cancels.{is_lease_on}
+use Rattle.ci_machine.specs.Step.{with_status, last_attempt}
+use Rattle.ci_machine.specs.Indexes.{unfinished_in, AreIndexes}
+use Rattle.ci_machine.proofs.Keyed.{Has, filter_has, has_map, has_put_other, put_has, one_at, different, unequal, has_from_contains}
+use Rattle.ci_machine.proofs.Sound.{Sound}
+use Rattle.ci_machine_statuses.specs.Changes.{IsWithin, HasLive}
+use Rattle.ci_machine_statuses.specs.Ends.{ended_state, IsSettled}
+use Rattle.ci_machine_statuses.specs.Lookups.{AreRecords}
+use Rattle.ci_machine_statuses.specs.declared.end.Settled.{Settled}
+use Rattle.ci_machine_statuses.proofs.ActRecords.{all_leases}
+use Rattle.ci_machine_statuses.proofs.Positions.{place_of_has}
+use Rattle.ci_machine_statuses.proofs.Ends.{within}
+use Rattle.ci_machine_statuses.specs.HolderChanges.{of_pipeline}
+use Rattle.ci_machine_statuses.proofs.Holding.{Ends, rows_left}
+use Rattle.ci_machine_statuses.proofs.HeldOpening.{turned_are}
+use Rattle.ci_machine_statuses.proofs.HeldChanged.{leads_to}
+
+either_false : (b : Bool) → (b || false) ≡ true → b ≡ true
+either_false true e = refl
+either_false false e = e
+
+module _ (k : Kept) (p : Pipeline) (job : Job) (x : Attempt) (sound : Sound k.state) (are : AreBoard k.state k.board) (has : Has p k.state.pipelines) (there : Has job k.state.jobs) (inside : job.pipeline ≡ p.id)
+    (its_job : x.job ≡ job.id) (live : HasLive k.state x) (over : is_live x ≡ false) where
+  abbrev s : State
+  s = k.state
+
+  abbrev t : State
+  t = ended_state s x
+
+  abbrev gone : Attempt → Bool
+  gone = is_lease_on (job ∷ [])
+
+  abbrev a : Attempt
+  a = live.0
+
+  a_has : Has a s.attempts
+  a_has = has_from_contains a s.attempts live.1
+
+  -- the live attempt of the job is the one that ends
+  the_lease : (b : Attempt) → Has b s.attempts → gone b ≡ true → b ≡ a
+  the_lease b h e =
+      let w = and_parts (is_live b) ((job.id == b.job) || false) e in
+      let same : b.job ≡ a.job = sym (eqb-true job.id b.job (either_false (job.id == b.job) w.1)) ∙ (sym its_job ∙ sym live.3) in
+      let both : Some b ≡ Some a = sym (sound.live_last b h w.0) ∙ (ap (λ n. last_attempt s n) same ∙ sound.live_last a a_has live.4) in
+      cc
+
+  is_gone : gone a ≡ true
+  is_gone = λ i. live.4 i && (eq-eqb job.id a.job (sym its_job ∙ sym live.3) i || false)
+
+  ends : Ends s t gone
+  ends = record {
+    lives = λ b e. (and_parts (is_live b) ((job.id == b.job) || false) e).0;
+    stay = λ b h l left. record {
+      attempt = b;
+      has = put_has attempt_cmp x b s.attempts h (unequal b.id x.id (λ e.
+          both_ways (gone b) left (ap gone (one_at (λ (c : Attempt). c.id) b a 0 s.attempts sound.attempts h a_has (e ∙ sym live.2)) ∙ is_gone)));
+      id = refl;
+      job = refl;
+      live = l;
+    };
+    were = λ b h l. ⊎_elim
+        (λ e. absurd (both_ways (is_live x) over (ap is_live (sym e) ∙ l)))
+        (λ m. record {
+          attempt = b;
+          has = m.0;
+          id = refl;
+          job = refl;
+          live = l;
+          left = ⊎_elim (λ e. absurd (different b.id x.id m.1 (ap (λ (c : Attempt). c.id) (the_lease b m.0 e) ∙ live.2))) (λ e. e) (cases_Bool (gone b));
+        })
+        (has_put_other attempt_cmp x b s.attempts h);
+    held = λ b h. refl;
+  }
+
+  is_within : IsWithin s t p.id
+  is_within =
+      let numbered : Has x.job (numbers_of s p.id)
+      = subst (λ n. Has n (numbers_of s p.id)) (sym its_job) (has_map (λ (j : Job). j.id) job (jobs_of s p.id) (filter_has (λ (j : Job). j.pipeline == p.id) job s.jobs there (eq-eqb job.pipeline p.id inside))) in
+      let w = place_of_has x.job (numbers_of s p.id) numbered in
+      within s k.board p.id sound are x live w.0 (subst (λ n. w.0 < n) (length-map (jobs_of s p.id) (λ (j : Job). j.id)) w.1.0) w.1.1
+
+  pub end_indexed : (jobs : List Job) (needs : List Need) (attempts : List Attempt) (rows : List BoardRow) (v : Settled) (before after : Status) → AreIndexes k
+      → AreRecords s k.board p.id jobs needs attempts rows → IsSettled s t k.board p.id v
+      → before ≡ (with_status s k.board p).status → after ≡ status_of_jobs jobs v.facts.items v.rows.items
+      → AreIndexes (written (Put (row.Attempt x) ∷ []) v.changed.items (of_pipeline p (job ∷ []) attempts before after) k)
+  end_indexed jobs needs attempts rows v before after indexes records settled was is =
+      let chosen_there : (j : Job) → Has j (job ∷ []) → Has j jobs
+      = λ j h. ⊎_elim
+      (λ e. subst (λ (i : Job). Has i jobs) (sym e) (subst (λ (js : List Job). Has job js) (sym records.are_jobs) (filter_has (λ (i : Job). i.pipeline == p.id) job s.jobs there (eq-eqb job.pipeline p.id inside))))
+      (λ m. absurd m) h in
+      let inside_there : (j : Job) → Has j (job ∷ []) → Has j s.jobs × (j.pipeline ≡ p.id)
+      = λ j h. ⊎_elim (λ e. subst (λ (i : Job). Has i s.jobs × (i.pipeline ≡ p.id)) (sym e) (there, inside)) (λ m. absurd m) h in
+      subst AreIndexes
+      (sym (leads_to s p (job ∷ []) attempts before after (record k { state = t; board = put_rows v.changed.items k.board }) sound has inside_there
+      (all_leases s k.board p.id jobs needs attempts rows records (job ∷ []) chosen_there)))
+      (record {
+        held = rows_left s t gone sound.attempts ends k.holders indexes.held;
+        unfinished = turned_are s t k.board p sound are is_within refl has v.facts.items v.rows.items settled.facts settled.rows before after k.unfinished was
+            (is ∙ ap (λ (js : List Job). status_of_jobs js v.facts.items v.rows.items) records.are_jobs) indexes.unfinished
+            ∙ ap (λ (rs : List BoardRow). unfinished_in t (put_rows rs k.board)) (sym settled.differing);
+      })

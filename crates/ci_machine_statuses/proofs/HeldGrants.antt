@@ -1,0 +1,144 @@
+-- A grant: its group is held, and its pipeline isn't finished, as before.
+use Rattle.std.specs.Prelude.{◌≡◌, ◌⊎◌, ℕ, zero, suc, ◌<◌, Bool, true, false, ◌||◌, ◌==◌, List, [], ◌∷◌, length, map, filter, Option, Some, None, option_map}
+use Rattle.std.proofs.Common.{refl, sym, ap, subst, ◌∙◌, inl, inr, ⊎_elim, arith, eqb-true, eq-eqb}
+use Rattle.std.proofs.lemmas.Bool.{cond_both, eqb-false}
+use Rattle.std.proofs.lemmas.List.{get_or-map, length-map}
+use Rattle.ci_values.specs.declared.attempts.AttemptState.TheVariants.{Live}
+use Rattle.ci_values.specs.Attempts.{is_live_state}
+use Rattle.ci_graph.specs.declared.part.Part.{Part}
+use Rattle.ci_board.specs.declared.facts.Facts.{Facts}
+use Rattle.ci_board.specs.declared.facts.Row.{Row}
+use Rattle.ci_board.specs.declared.facts.Status.{Status}
+use Rattle.ci_board.specs.declared.facts.Status.TheVariants as status
+use Rattle.ci_board.specs.Effects.{is_status}
+use Rattle.ci_board.specs.Rows.{row_at, no_row, statuses}
+use Rattle.ci_board.specs.PipelineStatus.{some_job, has_status, pipeline_status}
+use Rattle.ci_machine.specs.declared.records.Attempt.{Attempt}
+use Rattle.ci_machine.specs.declared.records.Holder.{Holder}
+use Rattle.ci_machine.specs.declared.records.Job.{Job}
+use Rattle.ci_machine.specs.declared.records.Pipeline.{Pipeline}
+use Rattle.ci_machine.specs.declared.records.BoardRow.{BoardRow}
+use Rattle.ci_machine.specs.declared.change.Record.TheVariants as row
+use Rattle.ci_machine.specs.declared.change.Counter.TheVariants as counter
+use Rattle.ci_machine.specs.declared.change.IndexChange.TheVariants.{Hold}
+use Rattle.ci_machine.specs.State.{State, applied, put, attempt_cmp}
+use Rattle.ci_machine.specs.Kept.{Kept, row_cmp, indexed_all, written}
+use Rattle.ci_machine.specs.Plans.{numbered}
+use Rattle.ci_machine.specs.Statuses.{jobs_of, numbers_of, facts_of, rows_of, row_for, AreBoard}
+use Rattle.ci_machine.specs.Redundant.{is_unfinished}
+use Rattle.ci_machine.specs.Eligible.{resource_free}
+use Rattle.ci_machine.specs.Lookups.{job_at, queued, is_pending}
+use Rattle.ci_machine.specs.Holders.{group_held, held_by, held_of, holders, holds_group}
+use Rattle.ci_machine.specs.Indexes.{is_open_in, AreIndexes}
+use Rattle.ci_machine.proofs.Keyed.{Has, find_has, filter_has, has_map, has_put, put_has, unequal}
+use Rattle.ci_machine.proofs.Sound.{Sound}
+use Rattle.ci_machine_statuses.specs.Changes.{started_row}
+use Rattle.ci_machine_statuses.proofs.Puts.{row_put}
+use Rattle.ci_machine_statuses.proofs.Positions.{place_of_has}
+use Rattle.ci_machine_statuses.proofs.Grants.{facts_there, rows_there, pending_is}
+use Rattle.ci_machine_statuses.proofs.HeldLists.{put_here}
+use Rattle.ci_machine_statuses.proofs.HeldRows.{HoldsMore, more_rows}
+use Rattle.ci_machine_statuses.proofs.Holding.{in_holders, of_holders}
+use Rattle.ci_machine_statuses.proofs.HeldOpening.{number, same_status}
+
+-- ---- a pending or running job leaves its pipeline unfinished
+
+some_is : (n : ℕ) (test : ℕ → Bool) (i : ℕ) → i < n → test i ≡ true → some_job n test ≡ true
+some_is zero test i l e = absurd (omega arith)
+some_is (suc n) test i l e =
+    cond_both (i == n) 0 0 (λ (_ : ℕ). (test n || some_job n test) ≡ true)
+    (λ q. ap (λ b. b || some_job n test) (ap test (sym (eqb-true i n q)) ∙ e))
+    (λ q. let d : i ≡ n → ⊥ = eqb-false i n q in either (test n) (some_job n test) (some_is n test i (omega arith) e))
+  where
+    either : (a b : Bool) → b ≡ true → (a || b) ≡ true
+    either true b e = refl
+    either false b e = e
+
+module _ (parts : List Part) (facts : List Facts) (a : ℕ → Status) where
+  running_open : some_job (length parts) (has_status a status.Running) ≡ true → is_unfinished (pipeline_status parts facts a) ≡ true
+  running_open e = rw e refl
+
+  pending_open : some_job (length parts) (has_status a status.Pending) ≡ true → is_unfinished (pipeline_status parts facts a) ≡ true
+  pending_open e =
+      cond_both (some_job (length parts) (has_status a status.Running)) status.Running _ (λ x. is_unfinished x ≡ true)
+      (λ _. refl)
+      (λ _. rw e (cond_both _ status.Running status.Pending (λ x. is_unfinished x ≡ true) (λ _. refl) (λ _. refl)))
+
+open_at : (s : State) (board : List BoardRow) (q : Pipeline) (n : ℕ) → Has n (numbers_of s q.id) → (row_for board n).status ≡ status.Pending ⊎ ((row_for board n).status ≡ status.Running) → is_open_in s board q ≡ true
+open_at s board q n h way =
+    let w = place_of_has n (numbers_of s q.id) h in
+    let rows : List Row = rows_of s board q.id in
+    let its : (row_at rows w.0).status ≡ (row_for board n).status = ap (λ (r : Row). r.status) (get_or-map (row_for board) (numbers_of s q.id) w.0 0 no_row w.1.0 ∙ ap (row_for board) w.1.1) in
+    let parts : List Part = map (λ (j : Job). j.options.part) (jobs_of s q.id) in
+    let inside : w.0 < length parts
+    = subst (λ m. w.0 < m) (length-map (jobs_of s q.id) (λ (j : Job). j.id) ∙ sym (length-map (jobs_of s q.id) (λ (j : Job). j.options.part))) w.1.0 in
+    ⊎_elim
+    (λ e. pending_open parts (facts_of s q.id) (statuses rows) (some_is (length parts) (has_status (statuses rows) status.Pending) w.0 inside (ap (is_status status.Pending) (its ∙ e))))
+    (λ e. running_open parts (facts_of s q.id) (statuses rows) (some_is (length parts) (has_status (statuses rows) status.Running) w.0 inside (ap (is_status status.Running) (its ∙ e))))
+    way
+
+hold_alone : (n project : ℕ) (group : Option (List ℕ)) (k : Kept)
+    → indexed_all (map Hold (group_held n project group)) k ≡ record k { holders = (indexed_all (map Hold (group_held n project group)) k).holders }
+hold_alone n project None k = refl
+hold_alone n project (Some group) k = refl
+
+module _ (k : Kept) (j : Job) (x : Attempt) (sound : Sound k.state) (are : AreBoard k.state k.board) (indexes : AreIndexes k) (has : Has j k.state.jobs) (pending : is_pending k.board j ≡ true)
+    (free : resource_free (holders k.state) (queued k.state j) ≡ true) (at_next : x.id ≡ k.state.next.attempt) (its_job : x.job ≡ j.id) (live : x.state ≡ Live) where
+  abbrev s : State
+  s = k.state
+
+  abbrev t : State
+  t = applied (numbered (row.Attempt x) counter.Attempt s.next.attempt) s
+
+  abbrev after : List BoardRow
+  after = put row_cmp (started_row k.board j.id) k.board
+
+  abbrev then : Kept
+  then = record k { state = t; board = after }
+
+  found : job_at s x.job ≡ Some j
+  found = subst (λ n. job_at s n ≡ Some j) (sym its_job) (find_has (λ (i : Job). i.id) j 0 s.jobs sound.jobs has)
+
+  abbrev its_group : List Holder
+  its_group = group_held x.id (queued s j).project j.options.resource_group
+
+  same_group : held_of t x ≡ its_group
+  same_group = ap (λ (o : Option Job). held_by x.id (option_map (queued t) o)) found
+
+  more : HoldsMore s t x.id (queued s j).project j.options.resource_group
+  more = record {
+    stays = λ h m. let w = of_holders s h m in in_holders t h (record {
+      attempt = w.attempt;
+      has = put_has attempt_cmp x w.attempt s.attempts w.has (unequal w.attempt.id x.id (λ e. let b : w.attempt.id < s.next.attempt = sound.below w.attempt w.has in omega arith));
+      live = w.live;
+      its = w.its;
+    });
+    comes = λ h m. in_holders t h (record {
+      attempt = x;
+      has = put_here attempt_cmp x s.attempts;
+      live = ap is_live_state live;
+      its = subst (λ (l : List Holder). Has h l) (sym same_group) m;
+    });
+    no_other = λ h m. let w = of_holders t h m in ⊎_elim
+        (λ e. inr (subst (λ (l : List Holder). Has h l) (ap (held_of t) e ∙ same_group) w.its))
+        (λ z. inl (in_holders s h (record { attempt = w.attempt; has = z; live = w.live; its = w.its })))
+        (has_put attempt_cmp x w.attempt s.attempts w.has);
+  }
+
+  numbered_here : Has j.id (numbers_of s j.pipeline)
+  numbered_here = has_map (λ (i : Job). i.id) j (jobs_of s j.pipeline) (filter_has (λ (i : Job). i.pipeline == j.pipeline) j s.jobs has (eq-eqb j.pipeline j.pipeline refl))
+
+  same : (q : Pipeline) → is_open_in t after q ≡ is_open_in s k.board q
+  same q =
+      cond_both (j.pipeline == q.id) 0 0 (λ (_ : ℕ). is_open_in t after q ≡ is_open_in s k.board q)
+      (λ e. let here = subst (λ n. Has j.id (numbers_of s n)) (eqb-true j.pipeline q.id e) numbered_here in
+      open_at t after q j.id here (inr (ap (λ (r : Row). r.status) (row_put (started_row k.board j.id) k.board)))
+      ∙ sym (open_at s k.board q j.id here (inl (pending_is (row_for k.board j.id).status pending))))
+      (λ e. let d = eqb-false j.pipeline q.id e in
+      same_status s t k.board after q refl (facts_there s k.board j x sound are has pending at_next its_job live q.id d) (rows_there s k.board j x sound are has pending at_next its_job live q.id d))
+
+  pub granted : AreIndexes (written (numbered (row.Attempt x) counter.Attempt k.state.next.attempt) (started_row k.board j.id ∷ []) (holds_group x.id (queued k.state j)) k)
+  granted = subst AreIndexes (sym (hold_alone x.id (queued s j).project j.options.resource_group then)) (record {
+    held = more_rows s t x.id (queued s j).project j.options.resource_group then free more indexes.held;
+    unfinished = indexes.unfinished ∙ (λ i. map number (filter (λ q. sym (same q) i) s.pipelines));
+  })

@@ -1,0 +1,19 @@
+use Rattle.std.proofs.Common.{sym, ap, subst, ◌∙◌, map}
+use Rattle.std.specs.Ordering.{nat_cmp}
+use Rattle.std.specs.List.Sorted.{IsStrictlySortedBy}
+use Rattle.ci_machine.specs.Statuses.{row_for}
+use Rattle.ci_machine.proofs.Sound.{sound}
+use Rattle.ci_machine_statuses.proofs.Loaded.{numbers_ascend, rows_ascend, all_facts, all_rows}
+use Rattle.ci_machine_statuses.proofs.load.facts_and_rows.Goals as goal
+
+pub returns-clause-facts : goal.returns-clause-facts
+returns-clause-facts c = λ s kept pipeline needs is_sound are records.
+    c.in_ok-facts.ensures.facts
+    (subst (IsStrictlySortedBy nat_cmp) (sym (c.as_slice.ensures.value ∙ c.in_ok-numbers.ensures)) (numbers_ascend s kept pipeline c.args.jobs.now needs c.args.attempts.now c.args.rows.now (sound s is_sound) are records))
+    ∙ all_facts s kept pipeline c.args.jobs.now needs c.args.attempts.now c.args.rows.now (sound s is_sound) are records
+
+pub returns-clause-rows : goal.returns-clause-rows
+returns-clause-rows c = λ s kept pipeline needs is_sound are records.
+    c.in_ok-rows.ensures.rows (rows_ascend s kept pipeline c.args.jobs.now needs c.args.attempts.now c.args.rows.now (sound s is_sound) are records)
+    ∙ (ap (map (row_for c.args.rows.now)) (c.as_slice-2.ensures.value ∙ c.in_ok-numbers.ensures)
+    ∙ all_rows s kept pipeline c.args.jobs.now needs c.args.attempts.now c.args.rows.now (sound s is_sound) are records)

@@ -1,0 +1,127 @@
+//! How the rows stay right under the changes of a state.
+
+ghost use Rattle.std.specs.Prelude.{◌≡◌, ◌<◌, ◌++◌, ◌==◌, ℕ, Bool, true, List, [], ◌∷◌, length, map, filter, if◌then◌else◌, All, Contains, Some, None, Ok};
+ghost use Rattle.std.specs.List.{AllByRecursion};
+ghost use Rattle.ci_values.specs.declared.attempts.AttemptState.TheVariants.{Live};
+ghost use Rattle.ci_board.specs.declared.facts.Row.{Row};
+ghost use Rattle.ci_board.specs.Rows.{AreRows, row_at as row_of};
+ghost use Rattle.ci_machine.specs.declared.records.Job.{Job};
+ghost use Rattle.ci_machine.specs.declared.records.Attempt.{Attempt};
+ghost use Rattle.ci_machine.specs.declared.records.Need.{Need};
+ghost use Rattle.ci_machine.specs.declared.records.QueuedJob.{QueuedJob};
+ghost use Rattle.ci_machine.specs.declared.records.BoardRow.{BoardRow};
+ghost use Rattle.ci_machine.specs.declared.change.Record.TheVariants as row;
+ghost use Rattle.ci_machine.specs.declared.change.Counter.TheVariants as counter;
+ghost use Rattle.ci_machine.specs.declared.change.RowChange.{RowChange};
+ghost use Rattle.ci_machine.specs.declared.request.NewPipeline.{NewPipeline};
+ghost use Rattle.ci_machine.specs.State.{State, applied};
+ghost use Rattle.ci_machine.specs.Kept.{put_rows};
+ghost use Rattle.ci_machine.specs.Statuses.{jobs_of, numbers_of, attempts_of, graph_of, facts_of, rows_of, row_for, status_for, AreRowsOf, AreBoard};
+ghost use Rattle.ci_machine.specs.declared.records.Pipeline.{Pipeline};
+ghost use Rattle.ci_machine.specs.Acts.{ShowsJobAfter, ShowsPipelineAfter};
+ghost use Rattle.ci_machine.specs.Plays.{play};
+ghost use Rattle.ci_machine.specs.Retries.{retry};
+ghost use Rattle.ci_machine.specs.Cancels.{cancellable_jobs, cancel};
+ghost use Rattle.ci_machine.specs.Sound.{IsSound};
+ghost use Rattle.ci_machine.specs.Holders.{holders};
+ghost use Rattle.ci_machine.specs.Step.{is_pending, queue, queued};
+ghost use Rattle.ci_machine.specs.Ranges.{row_at, pending_after};
+ghost use Rattle.ci_machine.specs.Plans.{numbered};
+ghost use Rattle.ci_graph_layout.specs.Inclusion.{Given};
+ghost use Rattle.ci_machine.specs.Pipelines.{Layout, IsLaidOut, Creation, creation, creation_changes};
+ghost use Rattle.ci_machine_statuses.specs.Boards.{changed_rows};
+ghost use Rattle.ci_machine_statuses.specs.Lookups.{AreRecords};
+ghost use Rattle.ci_machine_statuses.specs.Changes.{IsWithin, HaveSameFacts, LeavesStatuses, IsMade, started_row};
+ghost use Rattle.ci_machine_statuses.specs.Acts.{is_permitted, act_changes, facts_acted, acted_jobs, shows_job_by, shows_pipeline_by, IsOutcome};
+ghost use Rattle.ci_machine_statuses.specs.Pages.{queue_behind, end_of_page, queued_at};
+
+use crate::act::Act;
+use crate::outcome::Outcome;
+
+/// Where nothing changes that a status depends on, the rows are right as they are.
+pub fn same_facts_keep_rows()
+    ensures { (s t : State) (board : List BoardRow) → AreBoard s board → HaveSameFacts s t → AreBoard t board }
+{}
+
+/// So they are after changes of records that have no statuses, and of what an attempt's statuses don't depend on.
+pub fn rows_stay()
+    ensures { (s : State) (board : List BoardRow) (changes : List RowChange) → IsSound s → AreBoard s board → AllByRecursion (LeavesStatuses s) changes → AreBoard (applied changes s) board }
+{}
+
+/// Where the facts of one pipeline's jobs change, the rows that differ are put, and all are right again.
+pub fn differing_rows_settle()
+    ensures { (s t : State) (board : List BoardRow) (pipeline : ℕ) (rows : List Row) → IsSound s → AreBoard s board → IsWithin s t pipeline
+        → length rows ≡ length (numbers_of s pipeline) → AreRows (graph_of s pipeline) (facts_of t pipeline) rows
+        → AreBoard t (put_rows (changed_rows (numbers_of s pipeline) (rows_of s board pipeline) rows) board) }
+{}
+
+/// A grant of a pending job puts its own row alone: it is running then.
+pub fn grant_settles()
+    ensures { (s : State) (board : List BoardRow) (job : Job) (attempt : Attempt) → IsSound s → AreBoard s board → Contains s.jobs job → is_pending board job ≡ true
+        → attempt.id ≡ s.next.attempt → attempt.job ≡ job.id → attempt.state ≡ Live
+        → AreBoard (applied (numbered (row.Attempt attempt) counter.Attempt s.next.attempt) s) (put_rows (started_row board job.id ∷ []) board) }
+{}
+
+/// A user acts on jobs of a pipeline, all at once: the rows that differ are put, and all are right again. What the machine does
+/// is such an act, on one job or on all that can be cancelled.
+pub fn acts_settle()
+    ensures settle { (act : Act) (s : State) (board : List BoardRow) (pipeline : ℕ) (test : Job → Bool) (rows : List Row) → IsSound s → AreBoard s board
+        → length rows ≡ length (numbers_of s pipeline) → AreRows (graph_of s pipeline) (facts_acted act s pipeline test) rows
+        → AreBoard (applied (act_changes act s (filter test (jobs_of s pipeline))) s) (put_rows (changed_rows (numbers_of s pipeline) (rows_of s board pipeline) rows) board) }
+    ensures rows { (act : Act) (s : State) (pipeline : ℕ) (test : Job → Bool) (rows : List Row) → IsSound s
+        → length rows ≡ length (numbers_of s pipeline) → AreRows (graph_of s pipeline) (facts_acted act s pipeline test) rows
+        → AreRowsOf (applied (act_changes act s (filter test (jobs_of s pipeline))) s) pipeline rows }
+    ensures play { (s : State) (job : Job) → act_changes Act.Play s (job ∷ []) ≡ play job }
+    ensures retry { (s : State) (job : Job) → act_changes Act.Retry s (job ∷ []) ≡ retry (attempts_of s job.id) job }
+    ensures cancel { (s : State) (jobs : List Job) → act_changes Act.Cancel s jobs ≡ cancel s.attempts jobs }
+{}
+
+/// What is looked up of a pipeline has all that the machine takes for a retry of one of its jobs, and for the end of some.
+pub fn acts_are_of_records()
+    ensures retry { (s : State) (board : List BoardRow) (pipeline : ℕ) (jobs : List Job) (needs : List Need) (attempts : List Attempt) (rows : List BoardRow) (job : Job)
+        → AreRecords s board pipeline jobs needs attempts rows → Contains jobs job
+        → act_changes Act.Retry s (job ∷ []) ≡ retry (filter (λ a. a.job == job.id) attempts) job }
+    ensures cancel { (s : State) (board : List BoardRow) (pipeline : ℕ) (jobs : List Job) (needs : List Need) (attempts : List Attempt) (rows : List BoardRow) (chosen : List Job)
+        → AreRecords s board pipeline jobs needs attempts rows → All (Contains jobs) chosen
+        → act_changes Act.Cancel s chosen ≡ cancel attempts chosen }
+{}
+
+/// What an outcome says is what the machine shows after it, where the groups are held that are held then: the job that was asked for,
+/// at its one place; and the pipeline with its jobs.
+pub fn outcomes_are_shown()
+    ensures job { (act : Act) (s : State) (board : List BoardRow) (job : Job) (o : Outcome) → IsSound s → Contains s.jobs job → is_permitted act (status_for board job.id) ≡ true → IsOutcome act (Some job.id) s board job.pipeline o
+        → (i : ℕ) × ((o.places.items ≡ i ∷ []) × ShowsJobAfter s job (act_changes act s (job ∷ [])) (shows_job_by s (act_changes act s (job ∷ [])) job (row_of o.rows.items i).status)) }
+    ensures pipeline { (act : Act) (s : State) (board : List BoardRow) (p : Pipeline) (o : Outcome) → IsSound s → IsOutcome act None s board p.id o
+        → ShowsPipelineAfter s p (act_changes act s (acted_jobs act None s board p.id)) (shows_pipeline_by s (act_changes act s (acted_jobs act None s board p.id)) p (jobs_of s p.id) o.facts.items o.rows.items) }
+{}
+
+/// Where one job is asked for, it is done to this one, or to none if its status doesn't permit it; all jobs of a pipeline that
+/// are cancelled are those that can be.
+pub fn acted_jobs_are_asked()
+    ensures one { (act : Act) (s : State) (board : List BoardRow) (job : Job) → IsSound s → Contains s.jobs job → acted_jobs act (Some job.id) s board job.pipeline ≡ (if is_permitted act (status_for board job.id) then job ∷ [] else []) }
+    ensures all { (s : State) (board : List BoardRow) (pipeline : ℕ) → acted_jobs Act.Cancel None s board pipeline ≡ cancellable_jobs s board pipeline }
+{}
+
+/// A pipeline that is created is made: its jobs are new and come behind all others, so do its needs, and none was tried.
+pub fn created_is_made()
+    ensures { (s : State) (new : NewPipeline) (given : Given) (now : ℕ) (text : List ℕ) (laid : Layout) (made : Creation) → IsSound s → IsLaidOut text given (Ok laid)
+        → made ≡ creation s.next.pipeline s.next.job new given now laid
+        → IsMade s (applied (creation_changes s.next.job made) s) s.next.pipeline made.jobs made.needs }
+{}
+
+/// Each job has one row, which is found at its number.
+pub fn each_job_has_its_row()
+    ensures row { (s : State) (board : List BoardRow) (job : Job) → AreBoard s board → Contains s.jobs job → (r : BoardRow) × (row_at job.id board ≡ Some r) × (r.row ≡ row_for board job.id) }
+    ensures found { (s : State) (board : List BoardRow) (r : BoardRow) → IsSound s → AreBoard s board → Contains board r → row_for board r.job ≡ r.row }
+{}
+
+/// The queue is the pending jobs behind 0; the pending jobs behind a number are those of a page of rows behind it, and behind
+/// these the pending jobs behind the page's end; where the page isn't full there are none there.
+pub fn the_queue_is_its_pages()
+    ensures begin { (s : State) (board : List BoardRow) → IsSound s → queue_behind s board 0 ≡ queue s board }
+    ensures page { (s : State) (board : List BoardRow) (count n : ℕ) (jobs : List QueuedJob) → IsSound s → AreBoard s board
+        → map (λ q. Some q) jobs ≡ map (queued_at s) (pending_after count n board)
+        → queue_behind s board n ≡ jobs ++ queue_behind s board (end_of_page n (pending_after count n board)) }
+    ensures end { (s : State) (board : List BoardRow) (count n : ℕ) → IsSound s → AreBoard s board → length (pending_after count n board) < count
+        → queue_behind s board (end_of_page n (pending_after count n board)) ≡ [] }
+{}

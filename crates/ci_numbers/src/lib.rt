@@ -1,5 +1,0 @@
-//! Numbers that a request writes in digits.
-#![tactic(auto)]
-
-pub mod laws;
-pub mod number;

@@ -1,9 +1,0 @@
-//! What the bodies and the ranges of requests say.
-#![tactic(auto)]
-
-pub mod creation;
-mod json;
-pub mod limits;
-pub mod range;
-pub mod texts;
-pub mod update;

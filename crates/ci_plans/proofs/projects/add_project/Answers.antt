@@ -1,9 +1,0 @@
-use Rattle.std.proofs.Common.{◌≡◌}
-use Rattle.ci_machine.specs.Projects.{made_project, add_project}
-use Rattle.ci_plans.specs.Refusals.{unmade}
-use Rattle.ci_plans.proofs.projects.add_project.Goals as goal
-
-pub returns-in-Some : goal.returns-in-Some
-returns-in-Some c =
-    let refused : unmade c.in-Some.refusal ≡ add_project c.args.next c.args.name c.args.seed = c.in-Some.ensures.plan (made_project c.args.next c.args.name c.args.seed) in
-    rw refused at c.unmade.ensures

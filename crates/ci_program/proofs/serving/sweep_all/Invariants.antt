@@ -1,6 +1,0 @@
-use Rattle.ci_program.specs.Sweeping.{Clears}
-use Rattle.ci_program.proofs.serving.sweep_all.Given as goal
-
--- each sweep so far did something
-abbrev pub invariant-loop : goal.invariant-loop
-invariant-loop g l = Clears g.S.Store l.moment l.fn.server l.counter l.server

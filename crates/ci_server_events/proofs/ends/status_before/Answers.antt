@@ -1,0 +1,23 @@
+use Rattle.std.specs.Prelude.{◌≡◌, length}
+use Rattle.std.proofs.Common.{refl, ap, ◌∙◌}
+use Rattle.ci_machine.specs.Bodies.{status_of_jobs}
+use Rattle.ci_machine.specs.Statuses.{facts_of, rows_of}
+use Rattle.ci_server_events.proofs.Settles.{of_slices}
+use Rattle.ci_server_events.proofs.Found.{at_ok}
+use Rattle.ci_server_events.proofs.ends.status_before.Goals as goal
+
+-- there are as many facts and rows as jobs
+pub status_of-requires-clause-facts : goal.status_of-requires-clause-facts
+status_of-requires-clause-facts c = ap length c.as_slice-3.ensures.value ∙ (at_ok _ _ _ c.in_ok-found.was c.loaded.ensures.long).0
+
+pub status_of-requires-clause-rows : goal.status_of-requires-clause-rows
+status_of-requires-clause-rows c = ap length c.as_slice-4.ensures.value ∙ (at_ok _ _ _ c.in_ok-found.was c.loaded.ensures.long).1
+
+-- what was found is the pipeline's
+pub returns : goal.returns
+returns c = λ k n kept records.
+    let r = c.args.records.now in
+    let are = of_slices k.state k.board n _ _ r.needs.items r.needs.items _ _ _ _ c.as_slice-jobs.ensures.value refl c.as_slice.ensures.value c.as_slice-2.ensures.value records in
+    let facts : c.as_slice-3.result.now ≡ facts_of k.state n = c.as_slice-3.ensures.value ∙ at_ok _ _ _ c.in_ok-found.was c.loaded.ensures.facts k.state k.board n r.needs.items kept.sound kept.are_board are in
+    let rows : c.as_slice-4.result.now ≡ rows_of k.state k.board n = c.as_slice-4.ensures.value ∙ at_ok _ _ _ c.in_ok-found.was c.loaded.ensures.rows k.state k.board n r.needs.items kept.sound kept.are_board are in
+    at_ok _ _ _ c.in_ok-status.was c.status_of.ensures ∙ (λ i. status_of_jobs ((c.as_slice-jobs.ensures.value ∙ records.are_jobs) i) (facts i) (rows i))

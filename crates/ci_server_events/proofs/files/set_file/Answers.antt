@@ -1,0 +1,23 @@
+use Rattle.std.specs.Prelude.{◌≡◌, Ok, IfOk, Option, Result}
+use Rattle.std.specs.Borrow.{Bor}
+use Rattle.std.specs.Result.{result_map_both}
+use Rattle.std.proofs.Common.{subst, sym, ap, ◌∙◌}
+use Rattle.ci_machine.specs.declared.records.Project.{Project}
+use Rattle.ci_machine.specs.declared.reply.Code.{Code}
+use Rattle.ci_machine.specs.Files as machine
+use Rattle.ci_machine.specs.Plans.{asked_project}
+use Rattle.ci_machine.specs.Step.{project_with}
+use Rattle.ci_server_lookups.proofs.Loading.{gives}
+use Rattle.ci_server_events.proofs.files.set_file.Goals as goal
+
+-- the project that was looked up is the one that is named, and its plan is the file's
+pub returns-in-Ok : goal.returns-in-Ok
+returns-in-Ok g c =
+    let new = c.args.new in
+    let plan = c.in_ok-plan-in-Ok.plan in
+    gives g.T.Store.honest g.T.Store.holds g.T.Store.leaves _ _ _ c.project_with.result c.in_ok-project.project plan c.in_ok-project.was c.project_with.ensures
+    (λ k project.
+    let asked : asked_project (project_with k.state new.token) new.project ≡ Ok c.in-Ok.found.now =
+    ap (λ (o : Option Project). asked_project o new.project) (sym project) ∙ (sym c.asked.ensures ∙ ap (result_map_both (λ (p : Bor Project). p.now) (λ (e : Code). e)) c.in-Ok.is) in
+    subst (λ (r : Result Project Code). machine.SetsFile r new.text plan) (sym asked)
+    (subst (λ z. IfOk z (λ p. machine.SetsFile (Ok c.in-Ok.found.now) new.text p)) c.in_ok-plan-in-Ok.was c.set_file.ensures))

@@ -1,0 +1,97 @@
+use Rattle.std.specs.Prelude.{◌≡◌, ℕ, List, Option, Some, None, Result, Ok, Err}
+use Rattle.std.proofs.Common.{subst, ap, ◌∙◌}
+use Rattle.ci_machine.specs.declared.records.Variable.{Variable}
+use Rattle.ci_machine.specs.declared.request.NewPipeline.{NewPipeline}
+use Rattle.ci_machine.specs.Holders.{holders}
+use Rattle.ci_machine.specs.Pipelines.{given_by, pipeline_created, Creates}
+use Rattle.ci_machine.specs.Plans.{Plan, faulted}
+use Rattle.ci_machine.specs.Step.{project_variables}
+use Rattle.ci_machine_pipelines.specs.declared.creation.Creation.{Creation}
+use Rattle.ci_machine_pipelines.specs.declared.files.FileFault.{FileFault}
+use Rattle.ci_machine_pipelines.specs.declared.files.FileFault.TheVariants.{Fault}
+use Rattle.ci_machine_pipelines.specs.Creations.{origin, creation_view, LaysOut}
+use Rattle.ci_server_events.specs.Creating.{rows_beside}
+use Rattle.ci_server_lookups.proofs.Loading.{ends, goes_on}
+use Rattle.ci_server_events.proofs.Creating.{creation_planned}
+use Rattle.ci_server_events.specs.Planning.{PlansFor}
+use Rattle.ci_server_events.proofs.Found.{ok_is}
+use Rattle.ci_server_events.proofs.Leaving.{nothing_changes}
+use Rattle.ci_server_events.proofs.pipelines.create_by.Goals as goal
+
+-- what a text lays out by what was looked up it lays out by what the state has
+out_with : (text read : List ℕ) (new : NewPipeline) (vs seen : List Variable) (now p first next_pipeline next_job : ℕ) (r said : Result (Option Creation) FileFault)
+    → read ≡ text → seen ≡ vs → p ≡ next_pipeline → first ≡ next_job → r ≡ said → LaysOut read (origin p first new seen now) r → LaysOut text (origin next_pipeline next_job new vs now) said
+out_with text read new vs seen now p first next_pipeline next_job r said same same_variables same_pipeline same_job is out =
+    subst (λ (t : List ℕ). LaysOut t (origin next_pipeline next_job new vs now) said) same
+    (subst (λ (ws : List Variable). LaysOut read (origin next_pipeline next_job new ws now) said) same_variables
+    (subst (λ (n : ℕ). LaysOut read (origin n next_job new seen now) said) same_pipeline
+    (subst (λ (n : ℕ). LaysOut read (origin p n new seen now) said) same_job
+    (subst (λ (z : Result (Option Creation) FileFault). LaysOut read (origin p first new seen now) z) is out))))
+
+-- what the file lays out is made
+pub returns-in-Ok-Some : goal.returns-in-Ok-Some
+returns-in-Ok-Some g c =
+    let honest = g.T.Store.honest in
+    let holds = g.T.Store.holds in
+    let leaves = g.T.Store.leaves in
+    let r = c.made.result in
+    let new = c.args.new.now in
+    let it = c.in-Ok-Some.creation in
+    goes_on honest holds leaves _ _ _ _ c.variables_of.result c.in_ok-variables.variables r c.in_ok-variables.was c.variables_of.ensures
+    (goes_on honest holds leaves (λ k y. (c.in_ok-pipeline.pipeline ≡ k.state.next.pipeline) × ((c.in_ok-job.job ≡ k.state.next.job) × _)) _ _ _ c.next.result c.in_ok-pipeline.pipeline r c.in_ok-pipeline.was c.next.ensures
+    (goes_on honest holds leaves (λ k y. (c.in_ok-job.job ≡ k.state.next.job) × _) _ _ _ c.next-2.result c.in_ok-job.job r c.in_ok-job.was c.next-2.ensures c.made.ensures
+    (λ k y is job made. (job, made)))
+    (λ k y is pipeline more. (pipeline, more)))
+    (λ k y is variables more kept.
+    let out = out_with c.args.text.now c.as_str.result.now new (project_variables k.state new.project) c.as_slice.result.now c.args.now c.in_ok-pipeline.pipeline c.in_ok-job.job k.state.next.pipeline k.state.next.job
+    c.lay_out.result (Ok (Some it)) c.as_str.ensures (c.as_slice.ensures.value ∙ variables) more.0 more.1.0 (c.in-Ok-Some.is ∙ ap (λ (o : Option Creation). Ok o) c.in-Ok-Some.field-0-is) c.lay_out.ensures.records in
+    let made = more.1.1 kept in
+    creation_planned k kept c.args.text.now new (project_variables k.state new.project) c.args.now c.laid_out_creates.ensures.made c.created_is_made.ensures c.creation_is_indexed.ensures it y.beside y.answer y.changes out made.0
+    (made.1 ∙ ap (λ (n : ℕ). pipeline_created n (creation_view it) (holders k.state) (rows_beside y.beside)) more.1.0))
+
+-- there are no numbers for what the file lays out, and nothing changes
+pub returns-in-Ok-None : goal.returns-in-Ok-None
+returns-in-Ok-None g c =
+    let honest = g.T.Store.honest in
+    let holds = g.T.Store.holds in
+    let leaves = g.T.Store.leaves in
+    let made = c.alone in
+    let new = c.args.new.now in
+    goes_on honest holds leaves _ _ _ _ c.variables_of.result c.in_ok-variables.variables (Ok made.result) c.in_ok-variables.was c.variables_of.ensures
+    (goes_on honest holds leaves (λ k y. (c.in_ok-pipeline.pipeline ≡ k.state.next.pipeline) × (c.in_ok-job.job ≡ k.state.next.job)) _ _ _ c.next.result c.in_ok-pipeline.pipeline (Ok made.result) c.in_ok-pipeline.was c.next.ensures
+    (ends honest holds leaves _ _ c.next-2.result c.in_ok-job.job (Ok made.result) c.in_ok-job.was c.next-2.ensures)
+    (λ k y is pipeline job. (pipeline, job)))
+    (λ k y is variables more kept.
+    let vs = project_variables k.state new.project in
+    let out = out_with c.args.text.now c.as_str.result.now new vs c.as_slice.result.now c.args.now c.in_ok-pipeline.pipeline c.in_ok-job.job k.state.next.pipeline k.state.next.job c.lay_out.result (Ok None)
+    c.as_str.ensures (c.as_slice.ensures.value ∙ variables) more.0 more.1 (c.in-Ok-None.is ∙ ap (λ (o : Option Creation). Ok o) c.in-Ok-None.field-0-is) c.lay_out.ensures.records in
+    subst (λ z. PlansFor k (Creates k.state.next.pipeline k.state.next.job (holders k.state) new (given_by new vs) c.args.now (Ok c.args.text.now) (z.answer, z.changes)) z.changes z.beside) (ok_is made.result y is)
+    (nothing_changes k kept (λ (p : Plan). Creates k.state.next.pipeline k.state.next.job (holders k.state) new (given_by new vs) c.args.now (Ok c.args.text.now) p)
+    c.refused.result made.result.answer made.result.changes made.result.beside made.ensures.answer made.ensures.changes made.ensures.rows made.ensures.indexes
+    (c.laid_out_creates.ensures.lacking c.args.text.now (origin k.state.next.pipeline k.state.next.job new vs c.args.now) (holders k.state) c.refused.result out c.refused.ensures)
+    (ap (λ (p : Plan). p.1) c.refused.ensures)))
+
+-- the file has a fault, and nothing changes
+pub returns-in-Err-Fault : goal.returns-in-Err-Fault
+returns-in-Err-Fault g c =
+    let honest = g.T.Store.honest in
+    let holds = g.T.Store.holds in
+    let leaves = g.T.Store.leaves in
+    let made = c.alone-in-Err-Fault in
+    let new = c.args.new.now in
+    let detail = c.in-Err-Fault.detail in
+    let plan = c.in_ok-plan-in-Err-Fault.plan in
+    goes_on honest holds leaves _ _ _ _ c.variables_of.result c.in_ok-variables.variables (Ok made.result) c.in_ok-variables.was c.variables_of.ensures
+    (goes_on honest holds leaves (λ k y. (c.in_ok-pipeline.pipeline ≡ k.state.next.pipeline) × (c.in_ok-job.job ≡ k.state.next.job)) _ _ _ c.next.result c.in_ok-pipeline.pipeline (Ok made.result) c.in_ok-pipeline.was c.next.ensures
+    (ends honest holds leaves _ _ c.next-2.result c.in_ok-job.job (Ok made.result) c.in_ok-job.was c.next-2.ensures)
+    (λ k y is pipeline job. (pipeline, job)))
+    (λ k y is variables more kept.
+    let vs = project_variables k.state new.project in
+    let out = out_with c.args.text.now c.as_str.result.now new vs c.as_slice.result.now c.args.now c.in_ok-pipeline.pipeline c.in_ok-job.job k.state.next.pipeline k.state.next.job c.lay_out.result (Err (Fault detail))
+    c.as_str.ensures (c.as_slice.ensures.value ∙ variables) more.0 more.1 (c.in-Err-Fault.is ∙ ap (λ (f : FileFault). Err f) c.in-Err-Fault.field-0-is) c.lay_out.ensures.records in
+    let told : plan ≡ faulted detail = c.in_ok-plan-in-Err-Fault.ensures in
+    subst (λ z. PlansFor k (Creates k.state.next.pipeline k.state.next.job (holders k.state) new (given_by new vs) c.args.now (Ok c.args.text.now) (z.answer, z.changes)) z.changes z.beside) (ok_is made.result y is)
+    (nothing_changes k kept (λ (p : Plan). Creates k.state.next.pipeline k.state.next.job (holders k.state) new (given_by new vs) c.args.now (Ok c.args.text.now) p)
+    plan made.result.answer made.result.changes made.result.beside made.ensures.answer made.ensures.changes made.ensures.rows made.ensures.indexes
+    (c.laid_out_creates.ensures.faulty c.args.text.now (origin k.state.next.pipeline k.state.next.job new vs c.args.now) detail (holders k.state) plan out told)
+    (ap (λ (p : Plan). p.1) told)))

@@ -1,0 +1,33 @@
+use Rattle.std.specs.Prelude.{◌≡◌, Ok, Option, Result}
+use Rattle.std.specs.Borrow.{Bor}
+use Rattle.std.specs.Result.{result_map_both}
+use Rattle.std.proofs.Common.{sym, ap, ◌∙◌}
+use Rattle.ci_machine.specs.declared.records.Pipeline.{Pipeline}
+use Rattle.ci_machine.specs.declared.records.Project.{Project}
+use Rattle.ci_machine.specs.declared.reply.Code.{Code}
+use Rattle.ci_machine.specs.Holders.{holders}
+use Rattle.ci_machine.specs.Plans.{asked_project}
+use Rattle.ci_machine.specs.Shows as machine
+use Rattle.ci_machine.specs.Statuses.{jobs_of, facts_of, rows_of}
+use Rattle.ci_machine.specs.Step.{project_with, pipeline_at}
+use Rattle.ci_server_lookups.proofs.Loading.{goes_on}
+use Rattle.ci_server_events.proofs.shows.show_pipeline.Goals as goal
+
+-- the pipeline is one of the project's, and is shown
+pub returns-in-Ok : goal.returns-in-Ok
+returns-in-Ok g c =
+    let honest = g.T.Store.honest in
+    let holds = g.T.Store.holds in
+    let leaves = g.T.Store.leaves in
+    let r = c.pipeline_shown.result in
+    let query = c.args.query.now in
+    goes_on honest holds leaves _ _ _ _ c.project_with.result c.in_ok-project.project r c.in_ok-project.was c.project_with.ensures
+    (goes_on honest holds leaves (λ k y. (c.in_ok-pipeline.pipeline ≡ pipeline_at k.state query.pipeline) × _) _ _ _ c.pipeline.result c.in_ok-pipeline.pipeline r c.in_ok-pipeline.was c.pipeline.ensures c.pipeline_shown.ensures
+    (λ k y is pipeline shown. (pipeline, shown)))
+    (λ k y is project more kept.
+    let asked : machine.asked_pipeline (asked_project (project_with k.state query.token) query.project) (pipeline_at k.state query.pipeline) ≡ Ok c.in-Ok.found.now =
+    ap (λ (o : Option Project). machine.asked_pipeline (asked_project o query.project) (pipeline_at k.state query.pipeline)) (sym project)
+    ∙ (ap (λ (o : Option Pipeline). machine.asked_pipeline (asked_project c.in_ok-project.project query.project) o) (sym more.0)
+    ∙ (sym c.asked_pipeline.ensures ∙ ap (result_map_both (λ (p : Bor Pipeline). p.now) (λ (e : Code). e)) c.in-Ok.is)) in
+    more.1 kept
+    ∙ ap (λ (found : Result Pipeline Code). machine.show_pipeline found (holders k.state) (jobs_of k.state query.pipeline) (facts_of k.state query.pipeline) (rows_of k.state k.board query.pipeline)) (sym asked))

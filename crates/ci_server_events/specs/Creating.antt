@@ -1,0 +1,34 @@
+-- What changes beside the records of a new pipeline.
+use Rattle.std.specs.Prelude.{◌≡◌, ℕ, List, length, map, replicate, option_to_list}
+use Rattle.std.specs.Ordering.{nat_cmp}
+use Rattle.std.specs.List.Sorted.{IsStrictlySortedBy}
+use Rattle.ci_board.specs.Rows.{no_facts}
+use Rattle.ci_board.specs.declared.facts.Row.{Row}
+use Rattle.ci_machine.specs.declared.records.BoardRow.{BoardRow}
+use Rattle.ci_machine.specs.declared.records.Job.{Job}
+use Rattle.ci_machine.specs.declared.records.Need.{Need}
+use Rattle.ci_machine.specs.Bodies.{status_of_jobs}
+use Rattle.ci_machine.specs.Kept.{put_rows}
+use Rattle.ci_machine.specs.Pipelines.{AreFirstRows}
+use Rattle.ci_machine.specs.Sound.{IsSound}
+use Rattle.ci_machine.specs.State.{State}
+use Rattle.ci_machine.specs.Statuses.{AreBoard}
+use Rattle.ci_machine_statuses.specs.Changes.{IsMade}
+use Rattle.ci_machine_statuses.specs.HolderChanges.{opened}
+use Rattle.ci_machine_pipelines.specs.declared.creation.Creation.{Creation}
+use Rattle.ci_server_events.specs.declared.planned.Beside.{Beside}
+
+-- the rows make those of any state after a pipeline was made with these jobs and needs
+abbrev pub RowsMade : List Job → List Need → List BoardRow → Type 0
+RowsMade jobs needs rows = (s t : State) (board : List BoardRow) (pipeline : ℕ) → IsSound s → AreBoard s board → IsMade s t pipeline jobs needs → AreBoard t (put_rows rows board)
+
+-- the rows that are put, without the numbers of their jobs
+abbrev pub rows_beside : Beside → List Row
+rows_beside b = map (λ r. r.row) b.rows.items
+
+-- The rows of its jobs are put, of which none was tried, and it is unfinished if its status by them is.
+pub record IsMadeBeside (c : Creation) (b : Beside) : Type 0 where
+  pub keys : map (λ r. r.job) b.rows.items ≡ map (λ j. j.id) c.jobs.items
+  pub first : IsStrictlySortedBy nat_cmp (map (λ j. j.id) c.jobs.items) → AreFirstRows c.jobs.items c.needs.items (rows_beside b)
+  pub board : RowsMade c.jobs.items c.needs.items b.rows.items
+  pub indexes : b.indexes.items ≡ option_to_list (opened c.pipeline.id (status_of_jobs c.jobs.items (replicate (length c.jobs.items) no_facts) (rows_beside b)))

@@ -1,0 +1,32 @@
+-- What is planned of an event over what a store keeps: changes of records, and what changes beside them.
+use Rattle.std.specs.Prelude.{◌≡◌, ◌⊎◌, List, [], ◌∷◌, if◌then◌else◌, Option, Some, None}
+use Rattle.ci_machine.specs.declared.records.Attempt.{Attempt}
+use Rattle.ci_machine.specs.declared.change.Record.TheVariants as row
+use Rattle.ci_machine.specs.declared.change.RowChange.{RowChange}
+use Rattle.ci_machine.specs.declared.change.RowChange.TheVariants.{Put}
+use Rattle.ci_machine.specs.Leases.{is_live}
+use Rattle.ci_machine.specs.State.{State, applied}
+use Rattle.ci_machine.specs.Kept.{Kept, put_rows, written}
+use Rattle.ci_machine.specs.Statuses.{AreBoard}
+use Rattle.ci_machine.specs.Indexes.{AreIndexes}
+use Rattle.ci_machine_statuses.specs.Changes.{HasLive}
+use Rattle.ci_server_events.specs.declared.planned.Beside.{Beside}
+
+-- the rows that are put make the rows of the state after the changes, and with the changes of indexes all beside it is right
+pub record Settles (k : Kept) (changes : List RowChange) (beside : Beside) : Type 0 where
+  pub board : AreBoard (applied changes k.state) (put_rows beside.rows.items k.board)
+  pub indexes : AreIndexes (written changes beside.rows.items beside.indexes.items k)
+
+-- The plan is one that the machine makes, and what changes beside its records settles it.
+pub record PlansFor (k : Kept) (Makes : Type 0) (changes : List RowChange) (beside : Beside) : Type 0 where
+  pub made : Makes
+  pub settled : Settles k changes beside
+
+-- the changes are none, or they put a live attempt of the state as it stands then
+abbrev pub MovesOne : State → List RowChange → Type 0
+MovesOne s changes = (changes ≡ []) ⊎ ((after : Attempt) × HasLive s after × (changes ≡ Put (row.Attempt after) ∷ []))
+
+-- the attempt that the changes end, where they put it alone
+abbrev pub attempt_ended : List RowChange → Option Attempt
+attempt_ended (Put (row.Attempt after) ∷ []) = if is_live after then None else Some after
+attempt_ended _ = None

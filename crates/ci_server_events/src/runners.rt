@@ -1,0 +1,51 @@
+//! What a request for a new runner does, or one that pauses a runner, from what the store holds.
+
+ghost use Rattle.std.specs.Prelude.{◌≡◌};
+ghost use Rattle.ci_machine.specs.Runners as machine;
+ghost use Rattle.ci_machine.specs.Step.{project_named, runner_at};
+ghost use Rattle.ci_store.specs.Store.{LoadsBy};
+
+use ci_machine::change::{Counter, Delta};
+use ci_machine::records::Project;
+use ci_machine::reply::Reply;
+use ci_machine::request::{NewRunner, RunnerPause, Seed};
+use ci_machine_plans::runners;
+use ci_store::fault::StoreFault;
+use ci_store::store::Store;
+use std::alloc::Global;
+
+/// A runner is to be made.
+pub(crate) fn add_runner<T: Store>(
+    alloc: Global,
+    store: &mut T,
+    new: NewRunner,
+    seed: Seed,
+) -> Result<(Reply, Delta), StoreFault>
+    ensures { LoadsBy T.honest T.holds T.leaves store.old store.new result (λ k plan. plan ≡ machine.add_runner k.state.next.runner (project_named k.state new.project) new seed) }
+{
+    let project = named(store, new.project)?;
+    let next = store.next(Counter::Runner)?;
+    Ok(runners::add_runner(alloc, next, project.as_ref(), new, seed)?)
+}
+
+/// The project that a runner is to be of, if it is to be of one and that is there.
+fn named<T: Store>(store: &mut T, number: Option<u64>) -> Result<Option<Project>, StoreFault>
+    ensures { LoadsBy T.honest T.holds T.leaves store.old store.new result (λ k p. p ≡ project_named k.state number) }
+{
+    match number {
+        None => Ok(None),
+        Some(number) => store.project(number),
+    }
+}
+
+/// A runner is to be paused, or to go on.
+pub(crate) fn pause_runner<T: Store>(
+    alloc: Global,
+    store: &mut T,
+    pause: RunnerPause,
+) -> Result<(Reply, Delta), StoreFault>
+    ensures { LoadsBy T.honest T.holds T.leaves store.old store.new result (λ k plan. plan ≡ machine.pause_runner (runner_at k.state pause.runner) pause.paused) }
+{
+    let runner = store.runner(pause.runner)?;
+    Ok(runners::pause_runner(alloc, runner, pause.paused)?)
+}

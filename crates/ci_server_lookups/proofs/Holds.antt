@@ -1,0 +1,184 @@
+-- Resource groups, by the holders that are looked up and by those of the state.
+use Rattle.std.specs.Prelude.{◌≡◌, ◌⊎◌, ℕ, ◌+◌, ◌<◌, ◌||◌, cond, not, Bool, true, false, List, [], ◌∷◌, ◌++◌, length, take, find, flat_map, Contains, Option, Some, None, is_some, option_to_list, slice_index_or}
+use Rattle.std.specs.List.{list_any}
+use Rattle.std.proofs.Common.{refl, sym, ap, subst, ◌∙◌, inl, inr, ⊎_elim}
+use Rattle.std.proofs.lemmas.Bool.{cases_Bool, both_ways, false≢true}
+use Rattle.std.proofs.lemmas.List.{take_more, flat_map_more, append-nil}
+use Rattle.std.proofs.lemmas.List.Elements.{filter_more}
+use Rattle.ci_machine.specs.declared.records.Holder.{Holder}
+use Rattle.ci_machine.specs.declared.records.Job.{Job}
+use Rattle.ci_machine.specs.State.{State}
+use Rattle.ci_machine.specs.Eligible.{holds, is_free}
+use Rattle.ci_machine.specs.Holders.{holders, holder_at, AreHolders}
+use Rattle.ci_machine.proofs.Keyed.{Has, has_find, has_from_all, has_from_contains, All-from_has}
+use Rattle.ci_machine.specs.declared.change.IndexChange.{IndexChange}
+use Rattle.ci_server_lookups.specs.Held.{HoldAlike, holder_for, frees, still_held}
+
+-- ---- lists
+
+pub any_has : {A : Type 0} (p : A → Bool) (xs : List A) → list_any p xs ≡ true → (x : A) × (Has x xs × (p x ≡ true))
+any_has p [] e = absurd (false≢true e)
+any_has p (x ∷ xs) e =
+    ⊎_elim (λ t. (x, (inl refl, t))) (λ f. let w = any_has p xs (sym (ap (λ b. b || list_any p xs) f) ∙ e) in (w.0, (inr w.1.0, w.1.1))) (cases_Bool (p x))
+
+pub has_any : {A : Type 0} (p : A → Bool) (x : A) (xs : List A) → Has x xs → p x ≡ true → list_any p xs ≡ true
+has_any p x [] h e = absurd h
+has_any p x (y ∷ ys) h e =
+    ⊎_elim (λ s. ap (λ b. b || list_any p ys) (ap p (sym s) ∙ e))
+    (λ m. ⊎_elim (λ t. ap (λ b. b || list_any p ys) t) (λ f. ap (λ b. b || list_any p ys) f ∙ has_any p x ys m e) (cases_Bool (p y))) h
+
+one_way : {A : Type 0} (p : A → Bool) (xs ys : List A) → ((x : A) → Has x xs → p x ≡ true → Has x ys) → list_any p xs ≡ true → list_any p ys ≡ true
+one_way p xs ys f e = let w = any_has p xs e in has_any p w.0 ys (f w.0 w.1.0 w.1.1) w.1.1
+
+-- some element passes in the one list where one does in the other
+pub same_any : {A : Type 0} (p : A → Bool) (xs ys : List A) → (list_any p xs ≡ true → list_any p ys ≡ true) → (list_any p ys ≡ true → list_any p xs ≡ true) → list_any p xs ≡ list_any p ys
+same_any p xs ys f g =
+    ⊎_elim (λ t. t ∙ sym (f t)) (λ n. n ∙ ⊎_elim (λ t. absurd (both_ways (list_any p xs) n (g t))) (λ m. sym m) (cases_Bool (list_any p ys))) (cases_Bool (list_any p xs))
+
+has_left : {A : Type 0} (x : A) (xs ys : List A) → Has x xs → Has x (xs ++ ys)
+has_left x [] ys h = absurd h
+has_left x (y ∷ xs) ys h = ⊎_elim (λ e. inl e) (λ m. inr (has_left x xs ys m)) h
+
+has_right : {A : Type 0} (x : A) (xs ys : List A) → Has x ys → Has x (xs ++ ys)
+has_right x [] ys h = h
+has_right x (y ∷ xs) ys h = inr (has_right x xs ys h)
+
+either_side : {A : Type 0} (x : A) (xs ys : List A) → Has x (xs ++ ys) → Has x xs ⊎ Has x ys
+either_side x [] ys h = inr h
+either_side x (y ∷ xs) ys h = ⊎_elim (λ e. inl (inl e)) (λ m. ⊎_elim (λ k. inl (inr k)) (λ k. inr k) (either_side x xs ys m)) h
+
+has_flat : {A B : Type 0} (f : A → List B) (y : B) (x : A) (xs : List A) → Has x xs → Has y (f x) → Has y (flat_map f xs)
+has_flat f y x [] h k = absurd h
+has_flat f y x (z ∷ zs) h k =
+    ⊎_elim (λ e. has_left y (f z) (flat_map f zs) (subst (λ (w : _). Has y (f w)) e k)) (λ m. has_right y (f z) (flat_map f zs) (has_flat f y x zs m k)) h
+
+flat_has : {A B : Type 0} (f : A → List B) (y : B) (xs : List A) → Has y (flat_map f xs) → (x : A) × (Has x xs × Has y (f x))
+flat_has f y [] h = absurd h
+flat_has f y (z ∷ zs) h =
+    ⊎_elim (λ k. (z, (inl refl, k))) (λ m. let w = flat_has f y zs m in (w.0, (inr w.1.0, w.1.1))) (either_side y (f z) (flat_map f zs) h)
+
+-- ---- the rows, and the holders of the state
+
+-- the rows that are kept hold the same groups as the state's live attempts
+pub kept_alike : (s : State) (rows : List Holder) → AreHolders s rows → (project : ℕ) (group : Option (List ℕ)) → is_free rows project group ≡ is_free (holders s) project group
+kept_alike s rows are project None = refl
+kept_alike s rows are project (Some group) =
+    let p = holds project group in
+    ap not (same_any p rows (holders s)
+    (one_way p rows (holders s) (λ h k _. has_from_contains h (holders s) (has_from_all (Contains (holders s)) h rows are.held k)))
+    (one_way p (holders s) rows (λ h k _. has_from_contains h rows (has_from_all (Contains rows) h (holders s) are.all k))))
+
+found_any : {A : Type 0} (p : A → Bool) (x : A) (xs : List A) → find p xs ≡ Some x → list_any p xs ≡ true
+found_any p x xs e = let w = has_find p x xs e in has_any p x xs w.0 w.1
+
+none_any : {A : Type 0} (p : A → Bool) (xs : List A) → find p xs ≡ None → list_any p xs ≡ false
+none_any p [] e = refl
+none_any p (x ∷ xs) e =
+    ⊎_elim (λ t. absurd (let bad : ◌≡◌ {A = Option _} (Some x) None = sym (ap (λ b. cond b (Some x) (find p xs)) t) ∙ e in cc))
+    (λ f. ap (λ b. b || list_any p xs) f ∙ none_any p xs (sym (ap (λ b. cond b (Some x) (find p xs)) f) ∙ e)) (cases_Bool (p x))
+
+-- a group is free where no row of it is found
+pub free_if_none : (rows : List Holder) (project : ℕ) (group : List ℕ) → holder_at project group rows ≡ None → is_free rows project (Some group) ≡ true
+free_if_none rows project group e = ap not (none_any (holds project group) rows e)
+
+pub held_if_some : (rows : List Holder) (project : ℕ) (group : List ℕ) (h : Holder) → holder_at project group rows ≡ Some h → is_free rows project (Some group) ≡ false
+held_if_some rows project group h e = ap not (found_any (holds project group) h rows e)
+
+-- what is looked up is there where one passes
+pub any_if_some : {A : Type 0} (p : A → Bool) (xs : List A) (o : Option A) → o ≡ find p xs → is_some o ≡ list_any p xs
+any_if_some p xs None e = sym (none_any p xs (sym e))
+any_if_some p xs (Some x) e = sym (found_any p x xs (sym e))
+
+-- a group is free where there is no row of it
+pub free_by_row : (s : State) (rows : List Holder) → AreHolders s rows → (project : ℕ) (group : List ℕ) (o : Option Holder) (b : Bool) → o ≡ holder_at project group rows → is_some o ≡ not b
+    → b ≡ is_free (holders s) project (Some group)
+free_by_row s rows are project group o b its is = turned b (list_any (holds project group) rows) (sym is ∙ any_if_some (holds project group) rows o its) ∙ kept_alike s rows are project (Some group)
+  where
+    turned : (b c : Bool) → not b ≡ c → b ≡ not c
+    turned true c e = ap not e
+    turned false c e = ap not e
+
+-- ---- the holders of jobs' groups
+
+listed_has : (o : Option Holder) (h : Holder) → o ≡ Some h → Has h (option_to_list o)
+listed_has None h e = absurd (cc)
+listed_has (Some g) h e = let same : g ≡ h = cc in inl (sym same)
+
+has_listed : (o : Option Holder) (h : Holder) → Has h (option_to_list o) → o ≡ Some h
+has_listed None h k = absurd k
+has_listed (Some g) h k = ⊎_elim (λ e. ap Some (sym e)) (λ m. absurd m) k
+
+-- what is found for a group is one of those that there are
+found_there : (project : ℕ) (rows : List Holder) (group : Option (List ℕ)) (h : Holder) → Has h (holder_for project rows group) → Has h rows
+found_there project rows None h k = absurd k
+found_there project rows (Some group) h k = (has_find (holds project group) h rows (has_listed (holder_at project group rows) h k)).0
+
+module _ (project : ℕ) (rows : List Holder) (jobs : List Job) where
+  abbrev for_job : Job → List Holder
+  for_job j = holder_for project rows j.options.resource_group
+
+  abbrev gathered : List Holder
+  gathered = flat_map for_job jobs
+
+  back : (j : Job) (group : List ℕ) → Has j jobs → j.options.resource_group ≡ Some group → list_any (holds project group) rows ≡ true → list_any (holds project group) gathered ≡ true
+  back j group k its e = go (holder_at project group rows) refl
+    where
+      go : (o : Option Holder) → holder_at project group rows ≡ o → list_any (holds project group) gathered ≡ true
+      go None is = absurd (both_ways (list_any (holds project group) rows) (none_any (holds project group) rows is) e)
+      go (Some h) is =
+          let there = has_find (holds project group) h rows is in
+          has_any (holds project group) h gathered
+          (has_flat for_job h j jobs k (subst (λ (o : Option (List ℕ)). Has h (holder_for project rows o)) (sym its) (listed_has (holder_at project group rows) h is)))
+          there.1
+
+  alike_for : (j : Job) (group : Option (List ℕ)) → Has j jobs → j.options.resource_group ≡ group → is_free gathered project group ≡ is_free rows project group
+  alike_for j None k its = refl
+  alike_for j (Some group) k its =
+      ap not (same_any (holds project group) gathered rows
+      (one_way (holds project group) gathered rows (λ h m _. let w = flat_has for_job h jobs m in found_there project rows w.0.options.resource_group h w.1.1))
+      (back j group k its))
+
+  -- by those that are found for jobs the same groups of theirs are free as by all
+  pub gathered_alike : HoldAlike gathered rows project jobs
+  gathered_alike = All-from_has _ jobs (λ j k. alike_for j j.options.resource_group k refl)
+
+-- the holders that are found for jobs, one after the other
+abbrev pub gathered_in : ℕ → List Holder → List Job → List Holder
+gathered_in project rows jobs = flat_map (λ j. holder_for project rows j.options.resource_group) jobs
+
+pub gathered_more : (project : ℕ) (rows : List Holder) (jobs : List Job) (i : ℕ) (j : Job) (found next : List Holder) → i < length jobs → j ≡ slice_index_or jobs i j
+    → found ≡ gathered_in project rows (take i jobs) → next ≡ found ++ holder_for project rows j.options.resource_group → next ≡ gathered_in project rows (take (i + 1) jobs)
+gathered_more project rows jobs i j found next within at before more =
+    let f : Job → List Holder = λ j. holder_for project rows j.options.resource_group in
+    more
+    ∙ (ap (λ (hs : List Holder). hs ++ f j) before
+    ∙ (flat_map_more f [] (take i jobs) j
+    ∙ ap (flat_map f) (ap (λ (x : Job). take i jobs ++ x ∷ []) at ∙ sym (take_more jobs i j within))))
+
+-- by them the same groups of the jobs are free as by the state's
+pub found_alike : (s : State) (rows : List Holder) → AreHolders s rows → (project : ℕ) (jobs : List Job) (found : List Holder) → found ≡ gathered_in project rows jobs → HoldAlike found (holders s) project jobs
+found_alike s rows are project jobs found same =
+    All-from_has _ jobs
+    (λ j k. ap (λ (hs : List Holder). is_free hs project j.options.resource_group) same
+    ∙ (alike_for project rows jobs j j.options.resource_group k refl ∙ kept_alike s rows are project j.options.resource_group))
+
+-- ---- those that still hold what they held
+
+module _ (changes : List IndexChange) (held : List Holder) (i : ℕ) (h : Holder) (within : i < length held) (at : h ≡ slice_index_or held i h) where
+  abbrev one_more : Bool → List Holder
+  one_more still = cond still (h ∷ []) []
+
+  next_is : still_held changes (take (i + 1) held) ≡ still_held changes (take i held) ++ one_more (not (list_any (frees h) changes))
+  next_is =
+      filter_more (λ g. not (list_any (frees g) changes)) held i h within
+      ∙ ap (λ (g : Holder). still_held changes (take i held) ++ cond (not (list_any (frees g) changes)) (g ∷ []) []) (sym at)
+
+  -- the next one still holds what it held
+  pub still_with : (still next : List Holder) (copy : Holder) → list_any (frees h) changes ≡ false → copy ≡ h → still ≡ still_held changes (take i held) → next ≡ still ++ copy ∷ [] → next ≡ still_held changes (take (i + 1) held)
+  still_with still next copy keeps same before pushed =
+      pushed ∙ ((λ k. before k ++ same k ∷ []) ∙ sym (next_is ∙ ap (λ b. still_held changes (take i held) ++ one_more (not b)) keeps))
+
+  -- it is freed
+  pub still_without : (still : List Holder) → list_any (frees h) changes ≡ true → still ≡ still_held changes (take i held) → still ≡ still_held changes (take (i + 1) held)
+  still_without still gone before =
+      before ∙ sym (next_is ∙ (ap (λ b. still_held changes (take i held) ++ one_more (not b)) gone ∙ append-nil (still_held changes (take i held))))

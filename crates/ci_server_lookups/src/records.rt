@@ -1,0 +1,64 @@
+//! A pipeline's jobs with what a board takes of them, from what the store holds.
+
+ghost use Rattle.ci_store.specs.Store.{LoadsBy};
+ghost use Rattle.ci_server_lookups.specs.Records.{AreOf, IsWhole};
+ghost use Rattle.ci_server_lookups.specs.Keeps.{IsKept};
+
+use crate::holders::holders_of;
+use ci_machine::records::{Attempt, BoardRow, Holder, Job, Need, Pipeline};
+use ci_machine_statuses::load::range_of;
+use ci_store::fault::StoreFault;
+use ci_store::store::Store;
+use std::alloc::Global;
+
+/// The jobs of a pipeline, and at least their needs, attempts and rows.
+#[derive(Drop)]
+pub struct Records {
+    pub jobs: Vec<Job>,
+    pub needs: Vec<Need>,
+    pub attempts: Vec<Attempt>,
+    pub rows: Vec<BoardRow>,
+}
+
+/// The records of a pipeline, by four look-ups. Errors: the store's.
+pub fn records_of<T: Store>(store: &mut T, pipeline: u64) -> Result<Records, StoreFault>
+    ensures { LoadsBy T.honest T.holds T.leaves store.old store.new result (λ k r. IsKept k → AreOf k pipeline r) }
+{
+    let jobs = store.jobs_of(pipeline)?;
+    let Some((first, last)) = range_of(jobs.as_slice()) else {
+        return Err(StoreFault::Broken);
+    };
+    let needs = store.needs_within(first, last)?;
+    let attempts = store.attempts_within(first, last)?;
+    let rows = store.rows_within(first, last)?;
+    Ok(Records {
+        jobs,
+        needs,
+        attempts,
+        rows,
+    })
+}
+
+/// A pipeline with its records, and with who holds the resource groups of its jobs.
+#[derive(Drop)]
+pub struct Whole {
+    pub pipeline: Pipeline,
+    pub records: Records,
+    pub held: Vec<Holder>,
+}
+
+/// The pipeline with a number that a record has. Errors: the store's.
+pub fn whole_of<T: Store>(alloc: Global, store: &mut T, pipeline: u64) -> Result<Whole, StoreFault>
+    ensures { LoadsBy T.honest T.holds T.leaves store.old store.new result (λ k w. IsKept k → IsWhole k pipeline w) }
+{
+    let records = records_of(store, pipeline)?;
+    let Some(pipeline) = store.pipeline(pipeline)? else {
+        return Err(StoreFault::Broken);
+    };
+    let held = holders_of(alloc, store, pipeline.project, records.jobs.as_slice())?;
+    Ok(Whole {
+        pipeline,
+        records,
+        held,
+    })
+}

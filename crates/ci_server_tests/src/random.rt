@@ -1,0 +1,289 @@
+//! Thousands of random events. After each one the rows that the store keeps beside its records are those that the records give: of
+//! statuses, of groups that are held, and of pipelines that aren't finished. Each runner is given the job that a rule of the tests' own
+//! chooses, and each sweep does what that rule says.
+
+use crate::choices::{offer, sweep};
+use ci_machine::records::{Cause, Holder, RefKind};
+use ci_machine::reply::{Answer, Code, HttpStatus, Reply, Swept};
+use ci_machine::request::Report;
+use ci_scenarios_steps::rows::rightly_whole;
+use ci_scenarios_steps::whole::Whole;
+use ci_server_fixtures::acts::{Act, PATH};
+use ci_server_fixtures::servers::{InMemory, after, left, let_go, over, tell};
+use std::alloc::Global;
+use std::process::Abort;
+use std::test::Fail;
+
+/// Jobs of each kind, eight in a pipeline: tried again by themselves, started by hand, waiting for a failure, for any end, for named jobs,
+/// and some that may fail; with tags, with a group that they share, with a limit of a minute, and some that are interruptible.
+const MIXED: &str =
+    "a:\n  stage: build\n  script: x\n  interruptible: true\n  retry:\n    max: 1\n    when: script_failure\nhand:\n  stage: build\n  when: manual\n  resource_group: prod\n  script: x\nf:\n  needs: [a]\n  when: on_failure\n  tags: [linux]\n  script: x\nw:\n  needs: [a]\n  when: always\n  resource_group: prod\n  interruptible: true\n  script: x\ns:\n  needs: [a, hand]\n  timeout: 1 minute\n  allow_failure:\n    exit_codes: [3]\n  script: x\ngate:\n  when: manual\n  allow_failure: false\n  tags: [arm, linux]\n  script: x\nship:\n  stage: deploy\n  resource_group: prod\n  script: x\ng:\n  stage: deploy\n  needs: [s]\n  resource_group: test\n  interruptible: true\n  script: x\n";
+
+/// Three jobs of the other project, two of them with groups of the same names.
+const OTHER: &str =
+    "ship:\n  resource_group: prod\n  interruptible: true\n  script: x\npack:\n  tags: [linux]\n  interruptible: true\n  script: x\ntry:\n  resource_group: test\n  timeout: 1 minute\n  interruptible: true\n  script: x\n";
+
+/// Runners of the instance, with and without tags, and one of each project.
+const RUNNERS: [Act; 4] = [
+    Act::AddRunnerOf(None, &[], true),
+    Act::AddRunnerOf(None, &["linux", "arm"], false),
+    Act::AddRunnerOf(Some(1), &["linux"], true),
+    Act::AddRunnerOf(Some(2), &[], true),
+];
+
+/// How many jobs a pipeline has at most, and how many pipelines are made at most.
+const JOBS: u64 = 8;
+
+const PIPELINES: u64 = 12;
+
+/// Random numbers, and what has come of the events so far.
+#[derive(Clone, Copy)]
+struct Course {
+    seed: u64,
+    pipelines: u64,
+    attempts: u64,
+    /// So often a runner that asked was given none.
+    refused: u64,
+    /// So many pipelines did sweeps cancel.
+    cancelled: u64,
+}
+
+impl Course {
+    /// The next random number below a bound.
+    fn below(&mut self, bound: u64) -> u64 {
+        self.seed = self
+            .seed
+            .wrapping_mul(6_364_136_223_846_793_005)
+            .wrapping_add(1_442_695_040_888_963_407);
+        let high = self.seed >> 33;
+        high.checked_rem(bound).unwrap_or(0)
+    }
+
+    /// The number of a job, mostly of one that is there.
+    fn job(&mut self) -> u64 {
+        let jobs = self.pipelines.saturating_mul(JOBS).saturating_add(2);
+        self.below(jobs)
+    }
+
+    /// The number of one of the last attempts.
+    fn attempt(&mut self) -> u64 {
+        let back = self.below(8);
+        self.attempts.saturating_sub(back)
+    }
+
+    fn report(&mut self) -> Report {
+        match self.below(6) {
+            0 => Report::Running,
+            1 => Report::Failed(Cause::ScriptFailure, None),
+            2 => Report::Failed(Cause::ScriptFailure, Some(3)),
+            3 => Report::Failed(Cause::RunnerSystemFailure, Some(4)),
+            _ => Report::Success(None),
+        }
+    }
+
+    fn creation(&mut self) -> Act {
+        match self.below(5) {
+            0 | 1 => Act::CreatePipeline(1),
+            2 => Act::CreateFor(1, "v1", RefKind::Tag),
+            3 => Act::CreateFor(1, "v1", RefKind::Branch),
+            _ => Act::CreatePipeline(2),
+        }
+    }
+
+    /// What a user or the owner of a runner does.
+    fn act_of_user(&mut self) -> Act {
+        match self.below(9) {
+            0 | 1 => Act::Play(self.job()),
+            2 => Act::CancelJob(self.job()),
+            3 | 4 => Act::RetryJob(self.job()),
+            5 => Act::CancelPipeline(self.below(PIPELINES.saturating_add(2))),
+            6 => Act::Pause(self.below(6), true),
+            _ => Act::Pause(self.below(6), false),
+        }
+    }
+
+    fn act(&mut self) -> Act {
+        match self.below(22) {
+            0 if self.pipelines < PIPELINES => self.creation(),
+            0..=7 => Act::AskAs(self.below(6)),
+            8..=12 => Act::Tell(self.attempt(), self.report()),
+            13..=18 => self.act_of_user(),
+            19 => Act::Append(self.below(2).saturating_mul(5), "hello"),
+            _ => Act::Sweep,
+        }
+    }
+
+    /// When it comes: moments go back too.
+    fn moment(&mut self) -> u64 {
+        self.below(150).saturating_add(1000)
+    }
+
+    /// What the reply tells: an attempt was made, or none, or a pipeline.
+    fn learn_reply(&mut self, act: Act, reply: &Reply) {
+        if reply.code.is_some() {
+            return;
+        }
+        match act {
+            Act::AskAs(_) if reply.body().is_empty() => {
+                self.refused = self.refused.saturating_add(1);
+            }
+            Act::AskAs(_) => self.attempts = self.attempts.saturating_add(1),
+            Act::CreatePipeline(_) | Act::CreateFor(_, _, _) => {
+                self.pipelines = self.pipelines.saturating_add(1);
+            }
+            _ => {}
+        }
+    }
+
+    /// What the answer tells.
+    fn learn(&mut self, act: Act, answer: &Answer) {
+        match answer {
+            Answer::Reply(reply) => self.learn_reply(act, reply),
+            Answer::Swept(Swept::Cancelled(_)) => {
+                self.cancelled = self.cancelled.saturating_add(1);
+            }
+            Answer::Swept(_) => {}
+        }
+    }
+}
+
+/// Is a runner that asks answered as the rule of the tests' own has it? The attempt that it is given would have this number.
+fn is_asked(
+    before: &Whole,
+    held: &[Holder],
+    after: &Whole,
+    reply: &Reply,
+    number: u64,
+    attempt: u64,
+) -> bool {
+    let Some(runner) = before.runner(number) else {
+        return reply.code == Some(Code::M4);
+    };
+    match (offer(before, held, runner), after.attempt(attempt)) {
+        (None, None) => reply.status == HttpStatus::NoContent,
+        (Some(job), Some(made)) => {
+            reply.status == HttpStatus::Created && made.job == job && made.runner == number
+        }
+        _ => false,
+    }
+}
+
+fn is_swept(found: &Swept, wanted: &Swept) -> bool {
+    match (found, wanted) {
+        (Swept::Ended(a, why), Swept::Ended(b, cause)) => a == b && why == cause,
+        (Swept::Cancelled(a), Swept::Cancelled(b)) => a == b,
+        (Swept::Nothing, Swept::Nothing) => true,
+        _ => false,
+    }
+}
+
+/// Is the event answered as the rule has it? Only requests for jobs and sweeps are looked at.
+fn is_foretold(
+    alloc: Global,
+    before: &Whole,
+    after: &Whole,
+    (seconds, act): (u64, Act),
+    answer: &Answer,
+    attempt: u64,
+) -> Result<bool, Fail> {
+    match (act, answer) {
+        (Act::AskAs(number), Answer::Reply(reply)) => {
+            let held = before.held(alloc)?;
+            Ok(is_asked(before, held.as_slice(), after, reply, number, attempt))
+        }
+        (Act::Sweep, Answer::Swept(found)) => Ok(is_swept(found, &sweep(before, seconds))),
+        _ => Ok(true),
+    }
+}
+
+/// One random event, and then a reopening. Errors: a row isn't the one that the records give, or the answer isn't as foretold.
+fn one_more(
+    alloc: Global,
+    mut server: InMemory,
+    before: &Whole,
+    course: &mut Course,
+) -> Result<(InMemory, Whole), Fail> {
+    let act = course.act();
+    let moment = course.moment();
+    let attempt = course.attempts.saturating_add(1);
+    let answer = match tell(alloc, &mut server, moment, act) {
+        Ok(answer) => answer,
+        Err(fail) => {
+            let_go(server);
+            return Err(fail);
+        }
+    };
+    course.learn(act, &answer);
+    let (conn, after) = rightly_whole(alloc, left(server))?;
+    let server = over(conn)?;
+    match is_foretold(alloc, before, &after, (moment, act), &answer, attempt) {
+        Ok(true) => Ok((server, after)),
+        Ok(false) => {
+            let_go(server);
+            Err("another answer than foretold")?
+        }
+        Err(fail) => {
+            let_go(server);
+            Err(fail)
+        }
+    }
+}
+
+/// A server with the runners and a pipeline of each project, and all that it keeps.
+fn begun(alloc: Global) -> Result<(InMemory, Whole), Fail> {
+    let [project, _, _, pipeline, _] = PATH;
+    let [first, second, third, fourth] = RUNNERS;
+    let before = [
+        project,
+        project,
+        first,
+        second,
+        third,
+        fourth,
+        Act::SetFile(1, MIXED),
+        Act::SetFile(2, OTHER),
+        pipeline,
+        Act::CreatePipeline(2),
+    ];
+    let (conn, whole) = rightly_whole(alloc, left(after(alloc, &before)?))?;
+    Ok((over(conn)?, whole))
+}
+
+/// So many random events. What came of them?
+fn many(alloc: Global, seed: u64, events: usize) -> Result<Course, Fail> {
+    let (mut server, mut whole) = begun(alloc)?;
+    let mut course = Course {
+        seed,
+        pipelines: 2,
+        attempts: 0,
+        refused: 0,
+        cancelled: 0,
+    };
+    for _ in 0..events {
+        let (next, after) = one_more(alloc, server, &whole, &mut course)?;
+        server = next;
+        whole = after;
+    }
+    let_go(server);
+    Ok(course)
+}
+
+/// Random events of this seed are answered rightly, and of each kind there are some.
+fn go_right(rt: &impl Abort, alloc: Global, seed: u64) -> Result<(), Fail> {
+    let course = many(alloc, seed, 1000)?;
+    let (attempts, refused, cancelled) = (course.attempts, course.refused, course.cancelled);
+    assert!(rt; attempts > 20, "{attempts} attempts");
+    assert!(rt; refused > 20, "{refused} refused");
+    assert!(rt; cancelled > 0, "{cancelled} cancelled");
+    Ok(())
+}
+
+#[test]
+fn random_events(rt: HostRuntime) -> Result<(), Fail> {
+    go_right(&rt, rt.alloc(), 17)
+}
+
+#[test]
+fn other_random_events(rt: HostRuntime) -> Result<(), Fail> {
+    go_right(&rt, rt.alloc(), 71)
+}

@@ -1,0 +1,326 @@
+-- A life with one operation more.
+use Rattle.std.specs.Prelude.{ℕ, suc, Bool, true, false, map, length, if◌then◌else◌, Option, Some, None, codes, option_and_then, Result, Ok, Err, IfErr}
+use Rattle.std.specs.Str.Lines.{lines}
+use Rattle.std.specs.Result.{IsErrAnd}
+use Rattle.std.proofs.Common.{◌≡◌, ◌⊎◌, inl, inr, List, [], ◌∷◌, refl, sym, ap, subst, ◌∙◌, arith}
+use Rattle.std.specs.Fmt.{digits}
+use Rattle.hex.proofs.OnLiterals.{hex_on_literals}
+use Rattle.sqlite.specs.Held.{Held}
+use Rattle.sqlite.specs.Steps.{over_memory}
+use Rattle.sqlite.proofs.Callers.{memory_is_clean}
+use Rattle.sqlite_trees.specs.declared.memory.MemStore.{MemStore}
+use Rattle.ci_values.specs.declared.attempts.AttemptState.TheVariants.{Live}
+use Rattle.ci_board.specs.declared.facts.Status.{Status}
+use Rattle.ci_board.specs.declared.facts.Status.TheVariants.{Pending}
+use Rattle.ci_board.specs.declared.facts.Row.{Row}
+use Rattle.ci_board.specs.Effects.{status_of_row, is_status}
+use Rattle.ci_board.specs.Rows.{no_row, no_facts}
+use Rattle.ci_yaml_lines.specs.declared.code.Code.{Code}
+use Rattle.ci_yaml_lines.specs.Tree.{Value, null}
+use Rattle.ci_yaml_lines.specs.Entry.{Entry}
+use Rattle.ci_yaml_lines.specs.Line.{Line}
+use Rattle.ci_yaml.specs.Document.{Ending, Parses, HasTree, IsFault}
+use Rattle.ci_yaml.specs.Node.{IsDocument}
+use Rattle.ci_yaml.specs.Reading.{finished}
+use Rattle.ci_yaml.specs.ReadLines.{Reader, read_lines, beginning}
+use Rattle.ci_expr.specs.declared.fault.ExprCode.TheVariants.{X2}
+use Rattle.ci_expr.specs.Computed.{expression_of}
+use Rattle.ci_config.specs.Config.{Config}
+use Rattle.ci_config.specs.Expressions.{built}
+use Rattle.ci_config.specs.Fault.{Fault}
+use Rattle.ci_config.specs.Laws.{LacksPatterns, HasNoPattern}
+use Rattle.ci_config.specs.Meaning.{meaning, Means}
+use Rattle.ci_graph.specs.Pairs.{IsWalk, HasCycle}
+use Rattle.ci_graph_layout.specs.Fault as layout
+use Rattle.ci_graph_layout.specs.Fault.{Plans, faulty, cyclic}
+use Rattle.ci_graph_layout.specs.declared.fault.GraphCode.{GraphCode}
+use Rattle.ci_machine.specs.declared.reply.Detail.{Detail}
+use Rattle.ci_machine.specs.Files.{set_file, IsRead, configures, misconfigures, lacks_tree}
+use Rattle.ci_machine.specs.Pipelines.{Layout, IsLaidOut, misread, unplanned, AreFirstRows, pipeline_created}
+use Rattle.ci_machine.specs.Pipelines as pipelines
+use Rattle.ci_machine.specs.declared.records.BoardRow.{BoardRow}
+use Rattle.ci_machine.specs.declared.records.Job.{Job}
+use Rattle.ci_machine.specs.declared.request.Request.{Request}
+use Rattle.ci_machine.specs.declared.request.Request.TheVariants.{AddProject, AddRunner, SetFile, CreatePipeline, AskJob}
+use Rattle.ci_machine.specs.declared.request.Event.TheVariants as event
+use Rattle.ci_machine.specs.declared.reply.Answer.{Answer}
+use Rattle.ci_machine.specs.declared.reply.Answer.TheVariants as answer
+use Rattle.ci_machine.specs.declared.reply.Code.TheVariants.{M16, M17}
+use Rattle.ci_machine.specs.declared.reply.Reply.{Reply}
+use Rattle.ci_machine.specs.Reply.{refusal}
+use Rattle.ci_machine.specs.Plans.{Plan, token_of}
+use Rattle.ci_machine.specs.Grants.{ask_job}
+use Rattle.ci_machine.specs.State.{State, empty, applied}
+use Rattle.ci_machine.specs.Statuses.{row_for, facts_in, AreBoard}
+use Rattle.ci_machine.specs.Step.{runner_with, queued, offered_variables}
+use Rattle.ci_machine.specs.Eligible.{chosen}
+use Rattle.ci_machine.specs.Holders.{holders}
+use Rattle.ci_machine.specs.History.{IsReached}
+use Rattle.ci_machine.specs.Examples.{seed, token, pipeline, new_runner, with_project, with_runner, project_added, runner_added, laid_by, job}
+use Rattle.ci_store.specs.declared.tables.OpenFault.{OpenFault}
+use Rattle.ci_store.specs.declared.tables.OpenFault.TheVariants.{O1, O2, O3, Memory}
+use Rattle.ci_store.specs.Open.{IsFailure}
+use Rattle.ci_server.specs.Holding.{HoldsIn, LeavesIn}
+use Rattle.ci_server.specs.Handling.{Handled, answered, no_memory, look_failed, commit_failed}
+use Rattle.ci_server.specs.Server.{Handles, Creates, Opens}
+use Rattle.ci_server.specs.Lifetime.{Operation, opened}
+use Rattle.ci_server_witness.specs.declared.life.Stop.TheVariants as stop
+use Rattle.ci_server_witness.specs.Life.{file_text, new_file, owner, configured, file_added, with_file, given, made, pipeline_made, with_pipeline, granted, with_attempt, at_1000, planned, InMemory, IsOpenAt, IsPlanned, IsCause, IsLeased}
+
+-- ---- the server is made
+
+pub created_at : (conn : Held MemStore) (new : InMemory) → Creates over_memory conn new → IsOpenAt [] empty new
+created_at conn new made = record {
+  came = (conn, inl made);
+  honest = memory_is_clean new.store;
+  is_open = made.is_open;
+  reached = ([], refl);
+  holds = made.holds (memory_is_clean new.store);
+}
+
+pub uncreated : (fault : OpenFault) → (fault ≡ O1 → ⊥) → (fault ≡ O2 → ⊥) → IsFailure fault
+uncreated O1 listed unversioned = absurd (listed refl)
+uncreated O2 listed unversioned = absurd (unversioned refl)
+uncreated O3 listed unversioned = tt
+uncreated Memory listed unversioned = tt
+
+-- ---- a request is handled
+
+abbrev reply_in : Answer → Reply
+reply_in (answer.Reply reply) = reply
+reply_in (answer.Swept swept) = refusal M16
+
+module _ (ops : List Operation) (s : State) (request : Request) (plan : Plan) (old new : InMemory) (reply : Reply) (was : IsOpenAt ops s old) (is : IsPlanned s request plan)
+    (handled : Handles over_memory old (at_1000 request) new (answer.Reply reply)) where
+  abbrev Ended : Type 0
+  Ended = Handled (λ (h : Held MemStore) t. HoldsIn over_memory t h) (λ (h : Held MemStore) t u. LeavesIn over_memory t u h) (at_1000 request) s new.store new.closed (answer.Reply reply)
+
+  ended : Ended
+  ended = handled.while_open was.is_open (memory_is_clean new.store) s was.reached was.holds
+
+  goes_on : Ended → reply.code ≡ None → IsOpenAt (planned request plan ∷ ops) (applied plan.1 s) new
+  goes_on (answered t step held is_open) made =
+      let same : (reply, step.changes) ≡ plan = is.only step.before step.are_before (reply, step.changes) step.happens in
+      let to : t ≡ applied plan.1 s = step.state ∙ ap (λ (p : Plan). applied p.1 s) same in
+      record {
+        came = (old, was.came, subst (λ (p : Plan). Handles over_memory old (at_1000 request) new (answer.Reply p.0)) same handled);
+        honest = memory_is_clean new.store;
+        is_open = is_open;
+        reached = subst IsReached to ((record { before = s; event = event.Request request; now = 1000; seed = seed; answer = answer.Reply reply }) ∷ was.reached.0, (was.reached.1, step));
+        holds = subst (λ (u : State). HoldsIn over_memory u new.store) to held;
+      }
+  goes_on (no_memory refuses held is_open) made = let same : reply ≡ refusal M16 = ap reply_in refuses in absurd (cc)
+  goes_on (look_failed refuses left closed) made = let same : reply ≡ refusal M17 = ap reply_in refuses in absurd (cc)
+  goes_on (commit_failed b t step refuses left closed) made = let same : reply ≡ refusal M17 = ap reply_in refuses in absurd (cc)
+
+  stops : Ended → (reply.code ≡ None → ⊥) → (reply ≡ refusal M16) ⊎ (reply ≡ refusal M17)
+  stops (answered t step held is_open) unmade =
+      let same : (reply, step.changes) ≡ plan = is.only step.before step.are_before (reply, step.changes) step.happens in
+      absurd (unmade (ap (λ (p : Plan). p.0.code) same ∙ is.taken))
+  stops (no_memory refuses held is_open) unmade = inl (ap reply_in refuses)
+  stops (look_failed refuses left closed) unmade = inr (ap reply_in refuses)
+  stops (commit_failed b t step refuses left closed) unmade = inr (ap reply_in refuses)
+
+  pub made_at : reply.code ≡ None → IsOpenAt (planned request plan ∷ ops) (applied plan.1 s) new
+  made_at = goes_on ended
+
+  pub unmade : (reply.code ≡ None → ⊥) → IsCause (stop.Refused reply)
+  unmade = stops ended
+
+-- the request is the one that was meant
+pub asked : {s : State} {request meant : Request} {plan : Plan} → request ≡ meant → IsPlanned s meant plan → IsPlanned s request plan
+asked {s = s} {plan = plan} same is = subst (λ r. IsPlanned s r plan) (sym same) is
+
+pub next : {ops : List Operation} {s : State} {request meant : Request} {plan : Plan} {old new : InMemory} → request ≡ meant → IsPlanned s meant plan
+    → ((ops : List Operation) (s : State) (plan : Plan) → IsOpenAt ops s old → IsPlanned s request plan → IsOpenAt (planned request plan ∷ ops) (applied plan.1 s) new) → IsOpenAt ops s old
+    → IsOpenAt (planned meant plan ∷ ops) (applied plan.1 s) new
+next {ops = ops} {s = s} {plan = plan} {new = new} same is made was = subst (λ r. IsOpenAt (planned r plan ∷ ops) (applied plan.1 s) new) same (made ops s plan was (asked same is))
+
+-- an error is handed on as it came
+pub handed_on : {A E : Type 0} {Same P : E → Type 0} (r : Result A E) → IsErrAnd r Same → ((e : E) → Same e → P e) → IfErr r P
+handed_on (Ok x) is so = tt
+handed_on (Err e) is so = so e is
+
+-- ---- the plans of the requests
+
+pub plans_project : IsPlanned empty (AddProject (codes "p")) project_added
+plans_project = record { only = λ board are p does. does; taken = refl }
+
+pub plans_runner : IsPlanned with_project (AddRunner new_runner) runner_added
+unfolding digits hex_on_literals
+plans_runner = record { only = λ board are p does. does; taken = refl }
+
+-- the one job of the pipeline
+abbrev first_of : List Job → Job
+first_of [] = job
+first_of (j ∷ js) = j
+
+abbrev build : Job
+build = first_of made.jobs
+
+-- ---- the file is read
+
+abbrev pub HasOneTree : Type 0
+HasOneTree = (bytes : List ℕ) (v w : Value) → HasTree bytes v → HasTree bytes w → v ≡ w
+
+abbrev pub HasNotBoth : Type 0
+HasNotBoth = (bytes : List ℕ) (v : Value) (at : ℕ) (code : Code) → HasTree bytes v → IsFault bytes at code → ⊥
+
+abbrev pub ReadsTrees : Type 0
+ReadsTrees = (ls : List Line) (r : Reader) (v : Value) → read_lines beginning ls ≡ Ok r → finished r.state ≡ Some v → (es : List Entry) × (end : Ending) × Parses ls es end × IsDocument v es
+
+abbrev pub AnswersOnce : Type 0
+AnswersOnce = (v : Value) (r : Result Config Fault) → LacksPatterns v → Means v r → r ≡ meaning built v
+
+-- what its lines are read to, computed
+abbrev reader_of : Result Reader Code → Reader
+reader_of (Ok r) = r
+reader_of (Err code) = beginning
+
+abbrev reader : Reader
+reader = reader_of (read_lines beginning (lines file_text))
+
+abbrev value_of : Option Value → Value
+value_of (Some v) = v
+value_of None = null
+
+abbrev tree : Value
+tree = value_of (finished reader.state)
+
+-- no expression stands in its texts, and so none with a pattern
+no_expression : (bs : List ℕ) → expression_of bs ≡ Err X2 → HasNoPattern bs
+no_expression bs none f e = let bad : Err X2 ≡ Ok f = sym none ∙ e in absurd (cc)
+
+no_patterns : LacksPatterns tree
+no_patterns = ((no_expression (codes "build") refl, (no_expression (codes "make") refl, tt)), tt)
+
+-- no walk goes along no pairs
+no_walk : (i : ℕ) (ks : List ℕ) (j : ℕ) → IsWalk [] i ks j → ⊥
+no_walk i [] j h = absurd (omega (arith, h.1))
+no_walk i (k ∷ ks) j h = absurd (omega (arith, h.0.1))
+
+no_cycle : HasCycle [] → ⊥
+no_cycle h = no_walk h.0 h.1.0 h.0 h.1.1
+
+module _ (one_tree : HasOneTree) (not_both : HasNotBoth) (reads : ReadsTrees) (once : AnswersOnce) where
+  has : HasTree file_text tree
+  has = let read = reads (lines file_text) reader tree refl refl in record { size = omega arith; entries = read.0; end = read.1; parses = read.2; document = read.3 }
+
+  -- any tree of it means this, and nothing else
+  means_so : (v : Value) (r : Result Config Fault) → HasTree file_text v → Means v r → r ≡ Ok configured
+  means_so v r h m = once tree r no_patterns (subst (λ (w : Value). Means w r) (one_tree file_text v tree h has) m)
+
+  read_so : (said : Result Config Detail) → IsRead file_text said → said ≡ Ok configured
+  read_so _ (configures v c h m) =
+      let same : Ok c ≡ Ok configured = means_so v (Ok c) h m in
+      let its : c ≡ configured = cc in
+      ap (λ (d : Config). Ok d) its
+  read_so _ (misconfigures v fault h m) = let same : Err fault ≡ Ok configured = means_so v (Err fault) h m in absurd (cc)
+  read_so _ (lacks_tree line code fault) = absurd (not_both file_text tree line code has fault)
+
+  pub plans_file : IsPlanned with_runner (SetFile new_file) file_added
+  unfolding digits hex_on_literals
+  plans_file = record {
+    only = λ board are p does. does.2 ∙ ap (λ (said : Result Config Detail). set_file owner file_text said) (read_so does.0 does.1);
+    taken = refl;
+  }
+
+  -- ---- a pipeline is made of it
+
+  abbrev laid_out : Config → layout.Plan → Result Layout Detail
+  laid_out c p = Ok (record { config = c; plan = p })
+
+  -- it lays out one job, and no pair
+  plan_so : (r : Result layout.Plan GraphCode) → Plans given configured r → r ≡ Ok (laid_by given configured).plan
+  plan_so _ (faulty code e) = let bad : None ≡ Some code = e in absurd (cc)
+  plan_so _ (cyclic e h) = absurd (no_cycle h)
+  plan_so _ (layout.planned e a) = refl
+
+  laid_so : (r : Result Layout Detail) → IsLaidOut file_text given r → r ≡ Ok (laid_by given configured)
+  laid_so _ (misread fault is) = let same : Err fault ≡ Ok configured = read_so (Err fault) is in absurd (cc)
+  laid_so _ (unplanned c code is plan) =
+      let same : Ok c ≡ Ok configured = read_so (Ok c) is in
+      let its : c ≡ configured = cc in
+      let bad : Err code ≡ Ok (laid_by given configured).plan = plan_so (Err code) (subst (λ (d : Config). Plans given d (Err code)) its plan) in
+      absurd (cc)
+  laid_so _ (pipelines.planned c p is plan) =
+      let same : Ok c ≡ Ok configured = read_so (Ok c) is in
+      let its : c ≡ configured = cc in
+      let so : Ok p ≡ Ok (laid_by given configured).plan = plan_so (Ok p) (subst (λ (d : Config). Plans given d (Ok p)) its plan) in
+      let its_plan : p ≡ (laid_by given configured).plan = cc in
+      ap (λ (d : Config). laid_out d p) its ∙ ap (laid_out configured) its_plan
+
+  -- its one row says that it is pending, and what the reply shows of it is no more
+  rows_so : (rows : List Row) → AreFirstRows made.jobs made.needs rows → pipeline_created 1 made (holders with_file) rows ≡ pipeline_made
+  rows_so [] are = let bad : ◌≡◌ {A = ℕ} 0 1 = are.long in absurd (omega (arith, bad))
+  rows_so (row ∷ []) are =
+      let counts = are.settled.counted 0 (omega arith) in
+      let status : row.status ≡ Pending =
+      are.settled.settled 0 (omega arith)
+      ∙ (λ i. status_of_row build.options.part no_facts (record { status = row.status; opens = counts.opens i; failed = counts.failed i; barred = counts.barred i })) in
+      let same : row ≡ record no_row { status = Pending } = λ i. record { status = status i; opens = counts.opens i; failed = counts.failed i; barred = counts.barred i } in
+      ap (λ (w : Row). pipeline_created 1 made (holders with_file) (w ∷ [])) same
+  rows_so (a ∷ b ∷ rows) are = let bad : ◌≡◌ {A = ℕ} (suc (suc (length rows))) 1 = are.long in absurd (omega (arith, bad))
+
+  pub plans_pipeline : IsPlanned with_file (CreatePipeline pipeline) pipeline_made
+  unfolding digits hex_on_literals
+  plans_pipeline = record {
+    only = λ board are p does.
+        let makes = subst (λ (r : Result Layout Detail). pipelines.Makes 1 1 (holders with_file) pipeline given 1000 r p) (laid_so does.0 does.1) does.2 in
+        makes.2 ∙ rows_so makes.0 makes.1;
+    taken = refl;
+  }
+
+-- its row says that it is pending: it waits for no other, and was never tried
+is_waiting : (board : List BoardRow) → AreBoard with_pipeline board → (row_for board 1).status ≡ Pending
+unfolding digits hex_on_literals
+is_waiting board are =
+    let row : Row = row_for board 1 in
+    let rows = are.each 1 in
+    let counts = rows.counted 0 (omega arith) in
+    rows.settled 0 (omega arith)
+    ∙ (λ i. status_of_row build.options.part (facts_in with_pipeline build) (record { status = row.status; opens = counts.opens i; failed = counts.failed i; barred = counts.barred i }))
+
+-- what the runner's request comes to, by whether the job is pending
+abbrev by_pending : Bool → Plan
+by_pending pending =
+    let runner = runner_with with_pipeline token in
+    let offered = option_and_then (chosen (map (queued with_pipeline) (if pending then build ∷ [] else [])) (holders with_pipeline)) runner in
+    ask_job runner offered (offered_variables with_pipeline offered) with_pipeline.next.attempt 1000 seed
+
+pub plans_grant : IsPlanned with_pipeline (AskJob token) granted
+unfolding digits hex_on_literals
+plans_grant = record {
+  only = λ board are p does. does ∙ ap (λ (s : Status). by_pending (is_status s Pending)) (is_waiting board are);
+  taken = refl;
+}
+
+-- ---- the server is opened again
+
+-- over memory a closed server is what a stop leaves of it
+pub reopened_at : (ops : List Operation) (s : State) (old new : InMemory) → IsOpenAt ops s old → Opens over_memory old.store new → IsOpenAt (opened ∷ ops) s new
+reopened_at ops s old new was opens =
+    record {
+      came = (old, old.store, was.came, memory_is_clean old.store, record { is_open = was.holds.held.is_open; left = refl }, opens);
+      honest = memory_is_clean new.store;
+      is_open = opens.is_open;
+      reached = was.reached;
+      holds = opens.holds (memory_is_clean new.store) s was.holds.kept was.holds.is_of was.holds.held.left;
+    }
+
+-- ---- the state after the grant, computed
+
+pub leased : IsLeased with_attempt token
+unfolding digits hex_on_literals
+leased = record {
+  runner = record { id = 1; name = codes "r"; token = token; project = None; tags = []; untagged = true; paused = false };
+  job = build;
+  attempt = record { id = 1; job = 1; runner = 1; token = token_of (codes "j") 1 seed; granted = 1000; seen = 1000; state = Live; pieces = 0; size = 0 };
+  one_runner = refl;
+  one_job = refl;
+  one_attempt = refl;
+  is_live = refl;
+  its_job = refl;
+  its_runner = refl;
+  its_token = refl;
+}

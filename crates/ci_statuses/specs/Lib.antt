@@ -1,6 +1,0 @@
-pub mod Lookups
-pub mod Boards
-pub mod Changes
-pub mod Pages
-pub mod Acts
-pub mod Ends

@@ -1,0 +1,142 @@
+-- The statements that write `board`.
+use Rattle.std.proofs.Common.{◌≡◌, ◌∙◌, ◌==◌, ◌&&◌, ℕ, pos, List, [], ◌∷◌, map, take, drop, true, if◌then◌else◌, Option, refl, sym, ap}
+use Rattle.sqlite.specs.Collation.TheVariants.{Binary}
+use Rattle.sqlite.specs.declared.types.Value.TheVariants.{Null}
+use Rattle.sqlite.specs.Order.{column}
+use Rattle.sqlite.specs.Term.{Term, lit, col}
+use Rattle.sqlite_sql.specs.declared.ops.CompareOp.TheVariants.{Le, Gt, Ge}
+use Rattle.sqlite_schema.specs.Rules.{equal}
+use Rattle.sqlite_tied.specs.Compute.{everything}
+use Rattle.sqlite.specs.Listing.{understood}
+use Rattle.sqlite.specs.Store.{Ghosts}
+use Rattle.sqlite.specs.Held.{Held, state}
+use Rattle.sqlite.proofs.Callers.{IsPlain}
+use Rattle.ci_board.specs.declared.facts.Status.{Status}
+use Rattle.ci_board.specs.declared.facts.Status.TheVariants as status
+use Rattle.ci_board.specs.Effects.{status_number}
+use Rattle.ci_machine.specs.Kept.{Kept, row_cmp}
+use Rattle.ci_machine.specs.State.{put}
+use Rattle.ci_machine.specs.Ranges.{is_within, rows_within, row_at, is_pending_after, pending_after}
+use Rattle.ci_machine.specs.declared.records.BoardRow.{BoardRow}
+use Rattle.ci_store_tables.specs.Stands.{image, places}
+use Rattle.ci_store_tables.specs.Statements.{HasPut}
+use Rattle.ci_store_tables.proofs.Puts.{MeansPut, GivesRecord}
+use Rattle.ci_store_tables.proofs.Absent.{absent_rowid}
+use Rattle.ci_store_tables.proofs.Scalars.{cast_int, compares}
+use Rattle.ci_store_tables.proofs.Selects.{MeansSelect, MeansSelectTo}
+use Rattle.ci_store_rows.specs.declared.texts.TheConstants.{UPDATE_ROW, INSERT_ROW, SELECT_ROW, SELECT_ROWS_WITHIN, SELECT_ROWS_AFTER}
+use Rattle.ci_store_rows.specs.Schema.{the_schema, board}
+use Rattle.ci_store_rows.specs.Rows.{number, board_row}
+use Rattle.ci_store_rows.specs.Stands.{rows_by_tree, rows_of, Stands, IsAt}
+use Rattle.ci_store_rows.specs.Found.{ShowsRecords, listed}
+use Rattle.ci_store_rows.specs.Changes.{in_board}
+use Rattle.ci_store_rows.proofs.OneList.{IsAlike, alike_but, regular_with_board}
+use Rattle.ci_store_rows.proofs.Lists.{put_rises, by_number}
+use Rattle.ci_store_rows.proofs.Records.{is, at_least, at_most, above, put_stands, same_number, finds_number, finds_within, finds_above, numbered}
+use Rattle.ci_store_rows.proofs.Removals.{Referring}
+use Rattle.ci_store_rows.proofs.Shows.{columns_of, names_of, pair, by, by_total, shows_passing, shows_sorted, shows_ordered, found_one, found_first, found_all, rising_numbers}
+
+abbrev sets : List Term
+sets = col 0 0 ∷ lit Null ∷ col 0 1 ∷ col 0 2 ∷ col 0 3 ∷ col 0 4 ∷ []
+
+means : MeansPut the_schema 9 board UPDATE_ROW.now INSERT_ROW.now (is 0 0 ∷ []) sets sets
+unfolding understood everything
+means = record { there = refl; apart = refl; update_is = refl; update_plain = (refl, refl); insert_is = refl; insert_plain = (refl, refl); uncounted = refl; unstamped = refl; idle = refl; alone = λ olds a. refl }
+
+gives : (b : BoardRow) → GivesRecord the_schema board (is 0 0 ∷ []) sets sets (number b.job ∷ []) (board_row b)
+gives b = record {
+  tested = λ r. refl;
+  updated = λ old. λ i. cast_int (pos b.job) i ∷ cast_int (pos (status_number b.row.status)) i ∷ cast_int (pos b.row.opens) i ∷ cast_int (pos b.row.failed) i ∷ cast_int (pos b.row.barred) i ∷ [];
+  source = refl;
+  inserted = λ rows. ap (image (places board)) (numbered rows (pos b.job) _) ∙ (λ i. number b.job ∷ cast_int (pos (status_number b.row.status)) i ∷ cast_int (pos b.row.opens) i ∷ cast_int (pos b.row.failed) i ∷ cast_int (pos b.row.barred) i ∷ []);
+  absent = λ rows new_row db shaped is keyed fresh put sound. absent_rowid rows new_row (pos b.job) _ (λ r. refl) shaped (ap (λ image. column image 0) is) fresh;
+}
+
+-- the other tables have the rows that they had
+alike : (k : Kept) (xs : List BoardRow) → IsAlike (rows_of k) (rows_of (record k { board = xs })) board
+alike k xs = alike_but (take 9 (rows_by_tree k)) (drop 10 (rows_by_tree k)) board (map board_row k.board) (map board_row xs)
+
+pub row_puts : {S : Type 0} (ghosts : Ghosts S) (before after : Held S) (b : BoardRow) (k : Kept) → Stands k (state ghosts before).now → HasPut ghosts UPDATE_ROW.now INSERT_ROW.now (board_row b) before after
+    → Stands (in_board (put row_cmp b) k) (state ghosts after).now
+row_puts ghosts before after b k stands h =
+    put_stands board_row k.board k (in_board (put row_cmp b) k) board refl (alike k _) (regular_with_board k _ (put_rises row_cmp (by_number (λ (q : BoardRow). q.job)) b k.board stands.inside.regular.board) stands.inside.regular)
+    9 UPDATE_ROW.now INSERT_ROW.now (is 0 0 ∷ []) sets sets means row_cmp (number b.job ∷ []) b (gives b) (λ q. same_number q.job b.job) refl ghosts before after stands h
+
+-- ---- two rows of statuses with the same row
+
+abbrev status_back : ℕ → Status
+status_back n =
+    if n == 0 then status.Created else (if n == 1 then status.Pending else (if n == 2 then status.Running else (if n == 3 then status.Success else (if n == 4 then status.Failed else (if n == 5 then status.Canceled else (if n == 6 then status.Skipped else status.Manual))))))
+
+status_is : (s : Status) → status_back (status_number s) ≡ s
+status_is status.Created = refl
+status_is status.Pending = refl
+status_is status.Running = refl
+status_is status.Success = refl
+status_is status.Failed = refl
+status_is status.Canceled = refl
+status_is status.Skipped = refl
+status_is status.Manual = refl
+
+same_row : (p q : BoardRow) → board_row p ≡ board_row q → p ≡ q
+same_row p q h =
+    let a : p.job ≡ q.job = cc in
+    let n : status_number p.row.status ≡ status_number q.row.status = cc in
+    let b : p.row.opens ≡ q.row.opens = cc in
+    let c : p.row.failed ≡ q.row.failed = cc in
+    let d : p.row.barred ≡ q.row.barred = cc in
+    let status = sym (status_is p.row.status) ∙ ap status_back n ∙ status_is q.row.status in
+    λ i. record { job = a i; row = record { status = status i; opens = b i; failed = c i; barred = d i } }
+
+-- ---- the queries that load
+
+pub means_select : MeansSelect the_schema board SELECT_ROW.now (is 0 0 ∷ []) (columns_of board) [] (names_of board)
+unfolding understood everything
+means_select = record { is = refl; unlisted = refl; plain = (refl, refl) }
+
+abbrev pub rows_refer : Referring
+rows_refer = record { child = board; at = 9; there = refl; place = 0; text = SELECT_ROW.now; columns = columns_of board; order = []; names = names_of board; means = means_select }
+
+pub plain_select : IsPlain (understood the_schema SELECT_ROW.now)
+plain_select = means_select.plain
+
+pub row_found : {S : Type 0} (g : Ghosts S) (old new : Held S) (k : Kept) → IsAt g k old → (job : ℕ) (found : Option BoardRow) → ShowsRecords (λ row x. row ≡ board_row x) g SELECT_ROW.now (number job ∷ []) old new (listed found) → found ≡ row_at job k.board
+row_found g old new k at job found h =
+    found_one (λ row x. row ≡ board_row x) board_row (λ x. x.job == job) k.board (λ x y _ same. sym (same_row y x same)) h.rows
+    (shows_passing board_row 9 board refl SELECT_ROW.now (is 0 0 ∷ []) (number job ∷ []) (λ im. equal Binary (column im 0) (number job) && true) (λ r. refl) (λ x. x.job == job) (λ x. finds_number x.job job) k k.board refl h.rows
+    (λ r. refl) means_select (state g old) (state g new) at.now h.shown)
+    found h.read
+
+means_select_within : MeansSelect the_schema board SELECT_ROWS_WITHIN.now (at_least 0 0 ∷ at_most 0 1 ∷ []) (columns_of board) (by 0) (names_of board)
+unfolding understood everything
+means_select_within = record { is = refl; unlisted = refl; plain = (refl, refl) }
+
+pub plain_select_within : IsPlain (understood the_schema SELECT_ROWS_WITHIN.now)
+plain_select_within = means_select_within.plain
+
+pub rows_within_found : {S : Type 0} (g : Ghosts S) (old new : Held S) (k : Kept) → IsAt g k old → (first last : ℕ) (found : List BoardRow)
+    → ShowsRecords (λ row x. row ≡ board_row x) g SELECT_ROWS_WITHIN.now (number first ∷ number last ∷ []) old new found → found ≡ rows_within first last k.board
+rows_within_found g old new k at first last found h =
+    found_all (λ row x. row ≡ board_row x) board_row (λ x. is_within first last x.job) k.board (λ x y _ same. sym (same_row y x same)) h.rows
+    (shows_sorted board_row 9 board refl SELECT_ROWS_WITHIN.now (at_least 0 0 ∷ at_most 0 1 ∷ []) (number first ∷ number last ∷ []) (λ im. compares Ge (column im 0) (number first) && (compares Le (column im 0) (number last) && true)) (λ r. refl)
+    (λ x. is_within first last x.job) (λ x. finds_within first last x.job) k k.board refl h.rows 0 0 (λ r. refl) means_select_within
+    (rising_numbers (λ (x : BoardRow). x.job) (λ x. is_within first last x.job) k.board at.now.inside.regular.board) (state g old) (state g new) at.now h.shown)
+    found h.read
+
+-- the third value is how many rows are shown at most
+means_select_after : MeansSelectTo (col 0 2) the_schema board SELECT_ROWS_AFTER.now (is 2 0 ∷ above 0 1 ∷ []) (columns_of board) (by 0) (names_of board)
+unfolding understood everything
+means_select_after = record { is = refl; unlisted = refl; plain = (refl, refl) }
+
+pub plain_select_after : IsPlain (understood the_schema SELECT_ROWS_AFTER.now)
+plain_select_after = means_select_after.plain
+
+pub pending_found : {S : Type 0} (g : Ghosts S) (old new : Held S) (k : Kept) → IsAt g k old → (job count : ℕ) (found : List BoardRow)
+    → ShowsRecords (λ row x. row ≡ board_row x) g SELECT_ROWS_AFTER.now (number (status_number status.Pending) ∷ number job ∷ number count ∷ []) old new found → found ≡ pending_after count job k.board
+pending_found g old new k at job count found h =
+    found_first (λ row x. row ≡ board_row x) board_row (is_pending_after job) k.board (λ x y _ same. sym (same_row y x same)) count h.rows
+    (shows_ordered board_row 9 board refl SELECT_ROWS_AFTER.now (is 2 0 ∷ above 0 1 ∷ []) (number (status_number status.Pending) ∷ number job ∷ number count ∷ [])
+    (λ im. equal Binary (column im 1) (number (status_number status.Pending)) && (compares Gt (column im 0) (number job) && true)) (λ r. refl)
+    (is_pending_after job) (λ x. finds_above (status_number status.Pending) job (status_number x.row.status) x.job) k k.board refl h.rows (col 0 2) (by 0) (by_total (is 2 0 ∷ above 0 1 ∷ []) (columns_of board) board.tree 0) (pair 0) (λ im. refl) (λ r. refl) means_select_after
+    (rising_numbers (λ (x : BoardRow). x.job) (is_pending_after job) k.board at.now.inside.regular.board) (state g old) (state g new) at.now h.shown)
+    found h.read

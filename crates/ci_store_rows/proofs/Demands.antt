@@ -1,0 +1,89 @@
+-- The queries that load what jobs ask of runners.
+use Rattle.std.proofs.Common.{◌≡◌, ◌∙◌, ◌==◌, ◌&&◌, ℕ, List, [], ◌∷◌, true, Option, Some, option_map, codes, refl, sym, ap, inl, inr, nat_lt}
+use Rattle.sqlite.specs.declared.types.Value.TheVariants.{Text}
+use Rattle.sqlite.specs.Order.{Row, column}
+use Rattle.sqlite.specs.Term.{Term, col}
+use Rattle.sqlite.specs.Collation.TheVariants.{Binary}
+use Rattle.sqlite.specs.Listing.{understood}
+use Rattle.sqlite.specs.Store.{Ghosts}
+use Rattle.sqlite.specs.Held.{Held, state}
+use Rattle.sqlite.proofs.Callers.{IsPlain}
+use Rattle.sqlite_tied.specs.Compute.{everything}
+use Rattle.sqlite_schema.specs.Rules.{equal}
+use Rattle.sqlite_sql.specs.declared.ops.CompareOp.TheVariants.{Gt}
+use Rattle.sqlite_rules.specs.Lists.{Has}
+use Rattle.sqlite_rules.proofs.ListLemmas.{all_has}
+use Rattle.serde_json.specs.Read.{read}
+use Rattle.ci_machine.specs.Kept.{Kept}
+use Rattle.ci_machine.specs.Step.{demand_of, demand_at}
+use Rattle.ci_machine.specs.declared.records.Job.{Job}
+use Rattle.ci_machine.specs.declared.records.Demand.{Demand}
+use Rattle.ci_store_tables.proofs.Selects.{MeansSelect}
+use Rattle.ci_store_tables.proofs.Scalars.{compares}
+use Rattle.ci_store_records.specs.JsonText.{spec_text, spec_data}
+use Rattle.ci_store_records.specs.Reads.{ReadsDemand}
+use Rattle.ci_store_rows.specs.declared.texts.TheConstants.{SELECT_DEMAND, SELECT_DEMANDS_ABOVE}
+use Rattle.ci_store_rows.specs.declared.columns.TheConstants.{LAST_INTEGER}
+use Rattle.ci_store_rows.specs.Schema.{the_schema, job}
+use Rattle.ci_store_rows.specs.Rows.{number, job_row}
+use Rattle.ci_store_rows.specs.Stands.{IsRegular, IsAt}
+use Rattle.ci_store_rows.specs.Found.{ShowsRecords, listed, FindsNumber}
+use Rattle.ci_store_rows.specs.Load.{demand_cells, IsDemandRow}
+use Rattle.ci_store_rows.proofs.Records.{is, above, finds_number, finds_beyond}
+use Rattle.ci_store_rows.proofs.Shows.{shows_columns, found_as, found_none}
+
+-- the columns that tell it, of those of a job, and their names
+abbrev columns : List Term
+columns = col 1 0 ∷ col 1 2 ∷ col 1 6 ∷ []
+
+abbrev names : List (List ℕ)
+names = codes "id" ∷ codes "pipeline" ∷ codes "spec" ∷ []
+
+abbrev part : Row → Row
+part row = column row 0 ∷ column row 1 ∷ column row 5 ∷ []
+
+-- their values in the row of a job
+abbrev demand_row : Job → Row
+demand_row j = number j.id ∷ number j.pipeline ∷ Text (spec_text j.options) ∷ []
+
+-- what they are read as is what the job asks
+same_demand : (d : Demand) (j : Job) (text : List ℕ) → ReadsDemand text d → read (spec_text j.options) ≡ Some (spec_data j.options) → demand_cells d text ≡ demand_row j → d ≡ demand_of j
+same_demand d j text reads back h =
+    let a : d.job ≡ j.id = cc in
+    let b : d.pipeline ≡ j.pipeline = cc in
+    let t : text ≡ spec_text j.options = cc in
+    let asks = reads j.options (ap read t ∙ back) in
+    λ i. record { job = a i; pipeline = b i; tags = asks.0 i; resource_group = asks.1 i }
+
+one_demand : (k : Kept) → IsRegular k → (d : Demand) (j : Job) → Has k.state.jobs j → IsDemandRow (demand_row j) d → d ≡ demand_of j
+one_demand k o d j there same = same_demand d j same.0 same.2 (all_has _ k.state.jobs j o.specs there) (sym same.1)
+
+means_select : MeansSelect the_schema job SELECT_DEMAND.now (is 0 0 ∷ []) columns [] names
+unfolding understood everything
+means_select = record { is = refl; unlisted = refl; plain = (refl, refl) }
+
+pub plain_select : IsPlain (understood the_schema SELECT_DEMAND.now)
+plain_select = means_select.plain
+
+demand_found : {S : Type 0} (g : Ghosts S) (old new : Held S) (k : Kept) → IsAt g k old → (id : ℕ) (found : Option Demand) → ShowsRecords IsDemandRow g SELECT_DEMAND.now (number id ∷ []) old new (listed found) → found ≡ demand_at k.state id
+demand_found g old new k at id found h =
+    found_as demand_of IsDemandRow demand_row (λ j. j.id == id) k.state.jobs (one_demand k at.now.inside.regular) h.rows
+    (shows_columns job_row 4 job refl SELECT_DEMAND.now (is 0 0 ∷ []) (number id ∷ []) (λ im. equal Binary (column im 0) (number id) && true) (λ r. refl) (λ j. j.id == id) (λ j. finds_number j.id id) k k.state.jobs refl h.rows
+    columns names part (λ r. refl) means_select (state g old) (state g new) at.now h.shown)
+    found h.read
+
+means_select_above : MeansSelect the_schema job SELECT_DEMANDS_ABOVE.now (above 0 0 ∷ []) columns [] names
+unfolding understood everything
+means_select_above = record { is = refl; unlisted = refl; plain = (refl, refl) }
+
+pub plain_select_above : IsPlain (understood the_schema SELECT_DEMANDS_ABOVE.now)
+plain_select_above = means_select_above.plain
+
+pub demand_named : {S : Type 0} (g : Ghosts S) (old new : Held S) (k : Kept) → IsAt g k old → (id : ℕ) (found : Option Demand) → FindsNumber IsDemandRow g SELECT_DEMAND.now SELECT_DEMANDS_ABOVE.now id old new found → found ≡ demand_at k.state id
+demand_named g old new k at id found (inl h) = demand_found g old new k at id found h
+demand_named g old new k at id found (inr h) =
+    h.0
+    ∙ sym (ap (option_map demand_of) (found_none (λ (j : Job). j.id) LAST_INTEGER id h.1 IsDemandRow demand_row k.state.jobs h.2.rows
+    (shows_columns job_row 4 job refl SELECT_DEMANDS_ABOVE.now (above 0 0 ∷ []) (number LAST_INTEGER ∷ []) (λ im. compares Gt (column im 0) (number LAST_INTEGER) && true) (λ r. refl) (λ j. nat_lt LAST_INTEGER j.id) (λ j. finds_beyond LAST_INTEGER j.id) k k.state.jobs refl h.2.rows
+    columns names part (λ r. refl) means_select_above (state g old) (state g new) at.now h.2.shown)
+    h.2.read))

@@ -1,0 +1,121 @@
+-- The statements that write `holder`.
+use Rattle.std.proofs.Common.{◌≡◌, ◌∙◌, ◌==◌, ℕ, pos, List, [], ◌∷◌, true, is_eq, refl, sym, Option, ◌&&◌, map, take, drop}
+use Rattle.std.specs.Ordering.{nat_cmp, ordering_then}
+use Rattle.std.specs.Str.{bytes_eq}
+use Rattle.std.specs.Cmp.Lexicographic.{slice_cmp}
+use Rattle.sqlite_value.specs.declared.keys.Collation.TheVariants.{Binary}
+use Rattle.sqlite_sql.specs.Ops.{is_null}
+use Rattle.sqlite_schema.specs.Rules.{equal}
+use Rattle.sqlite.specs.Cast.{cast}
+use Rattle.sqlite.specs.Kind.TheVariants.{Integer}
+use Rattle.sqlite.specs.declared.types.Value.TheVariants.{Null, Text}
+use Rattle.sqlite.specs.Order.{Row, column}
+use Rattle.sqlite.specs.Tree.{Trees}
+use Rattle.sqlite_tied.specs.Compute.{everything}
+use Rattle.sqlite.specs.Listing.{understood}
+use Rattle.sqlite.specs.Store.{Ghosts}
+use Rattle.sqlite.specs.Held.{Held, state}
+use Rattle.sqlite_keyed.proofs.ListLemmas.{ascending-filter}
+use Rattle.sqlite_rules.proofs.ListLemmas.{has_got}
+use Rattle.ci_machine.specs.Kept.{Kept, indexed}
+use Rattle.ci_machine.specs.State.{put}
+use Rattle.ci_machine.specs.Eligible.{holds}
+use Rattle.ci_machine.specs.Holders.{holder_cmp, holder_at}
+use Rattle.ci_machine.specs.declared.records.Holder.{Holder}
+use Rattle.ci_machine.specs.declared.change.IndexChange.TheVariants.{Free}
+use Rattle.ci_store_tables.specs.Statements.{HasPut}
+use Rattle.ci_store_tables.proofs.Writes.{IsWholeStep, whole_if_alone}
+use Rattle.ci_store_tables.proofs.Puts.{MeansPut, MeansRemove, GivesRecord}
+use Rattle.ci_store_tables.proofs.Absent.{absent_unique}
+use Rattle.ci_store_tables.proofs.Scalars.{cast_int}
+use Rattle.ci_store_rows.specs.declared.texts.TheConstants.{UPDATE_HOLDER, INSERT_HOLDER, DELETE_HOLDER, SELECT_HOLDER, SELECT_HOLDERS_OF}
+use Rattle.ci_store_rows.specs.Schema.{the_schema, holder, holder_index_1}
+use Rattle.ci_store_rows.specs.Rows.{number, holder_row}
+use Rattle.ci_store_rows.specs.Stands.{rows_by_tree, rows_of, Stands, IsAt}
+use Rattle.ci_store_rows.proofs.OneList.{IsAlike, alike_but, regular_with_holders}
+use Rattle.ci_store_rows.proofs.Lists.{put_rises, by_both}
+use Rattle.ci_store_rows.proofs.Records.{is, put_stands, same_number, finds_named}
+use Rattle.sqlite.proofs.Callers.{IsPlain}
+use Rattle.ci_store_tables.proofs.Selects.{MeansSelect}
+use Rattle.ci_store_rows.specs.Found.{ShowsRecords, listed}
+use Rattle.ci_store_rows.proofs.Owned.{tests, sets, terms, named, same_named, unnumbered, agrees, removed_owned}
+use Rattle.ci_store_rows.proofs.Shows.{columns_of, names_of, shows_passing, found_one}
+use Rattle.ci_store_rows.specs.Changes.{in_holders, RemovesUnreferred}
+use Rattle.ci_store_rows.proofs.Removals.{Referring}
+
+means : MeansPut the_schema 11 holder UPDATE_HOLDER.now INSERT_HOLDER.now tests sets terms
+unfolding understood everything
+means = record { there = refl; apart = refl; update_is = refl; update_plain = (refl, refl); insert_is = refl; insert_plain = (refl, refl); uncounted = refl; unstamped = refl; idle = refl; alone = λ olds a. refl }
+
+gives : (h : Holder) → GivesRecord the_schema holder tests sets terms (named h.project h.group) (holder_row h)
+gives h = record {
+  tested = λ r. refl;
+  updated = λ old. λ i. cast_int (pos h.project) i ∷ Text h.group ∷ cast_int (pos h.attempt) i ∷ [];
+  source = refl;
+  inserted = λ rows. unnumbered (is_null (cast Integer Null)) _ _ _ _ _ ∙ (λ i. cast_int (pos h.project) i ∷ Text h.group ∷ cast_int (pos h.attempt) i ∷ []);
+  absent = λ rows new_row db shaped is keyed fresh put sound.
+      absent_unique the_schema holder holder_index_1 (has_got the_schema.tables 11 holder refl) (has_got the_schema.indexes 12 holder_index_1 refl) refl rows new_row db _ (λ r. agrees r new_row _ _ _ is) shaped keyed fresh put sound;
+}
+
+-- the other tables have the rows that they had
+alike : (k : Kept) (xs : List Holder) → IsAlike (rows_of k) (rows_of (record k { holders = xs })) holder
+alike k xs = alike_but (take 11 (rows_by_tree k)) (drop 12 (rows_by_tree k)) holder (map holder_row k.holders) (map holder_row xs)
+
+pub holder_puts : {S : Type 0} (ghosts : Ghosts S) (before after : Held S) (h : Holder) (k : Kept) → Stands k (state ghosts before).now → HasPut ghosts UPDATE_HOLDER.now INSERT_HOLDER.now (holder_row h) before after
+    → Stands (in_holders (put holder_cmp h) k) (state ghosts after).now
+holder_puts ghosts before after h k stands it =
+    put_stands holder_row k.holders k (in_holders (put holder_cmp h) k) holder refl (alike k _) (regular_with_holders k _ (put_rises holder_cmp (by_both (λ (q : Holder). q.project) (λ q. q.group)) h k.holders stands.inside.regular.holders) stands.inside.regular)
+    11 UPDATE_HOLDER.now INSERT_HOLDER.now tests sets terms means holder_cmp (named h.project h.group) h (gives h) (λ q. same_named h.project h.group q.project q.group) refl ghosts before after stands it
+
+means_remove : MeansRemove the_schema 11 holder DELETE_HOLDER.now tests
+unfolding understood everything
+means_remove = record { there = refl; apart = refl; delete_is = refl; delete_plain = (refl, refl) }
+
+whole : (params : Row) (db : Trees) → IsWholeStep the_schema holder tests params db
+unfolding everything
+whole params db = whole_if_alone the_schema holder tests params db (λ olds. refl)
+
+-- a test of numbers and one of texts say what their orders say
+holds_is : (project : ℕ) (group : List ℕ) (h : Holder) → (equal Binary (number h.project) (number project) && (equal Binary (Text h.group) (Text group) && true)) ≡ holds project group h
+holds_is project group h = finds_named h.project project h.group group
+
+pub holder_freed : {S : Type 0} (g : Ghosts S) (old new : Held S) (project : ℕ) (group : List ℕ) (k : Kept) → Stands k (state g old).now → RemovesUnreferred g [] DELETE_HOLDER.now (named project group) old new → Stands (indexed (Free project group) k) (state g new).now
+holder_freed g old new project group k =
+    removed_owned g old new holder_row 11 holder (holds project group) k.holders (named project group) k (indexed (Free project group) k) refl refl (alike k _) (λ o. regular_with_holders k _ (ascending-filter _ _ k.holders o.holders) o) (holds_is project group) (λ r. refl)
+    DELETE_HOLDER.now means_remove whole
+
+-- ---- two records with the same row
+
+same_holder : (p q : Holder) → holder_row p ≡ holder_row q → p ≡ q
+same_holder p q h =
+    let a : p.project ≡ q.project = cc in
+    let b : p.group ≡ q.group = cc in
+    let c : p.attempt ≡ q.attempt = cc in
+    λ i. record { project = a i; group = b i; attempt = c i }
+
+-- ---- the queries that load
+
+means_select : MeansSelect the_schema holder SELECT_HOLDER.now tests (columns_of holder) [] (names_of holder)
+unfolding understood everything
+means_select = record { is = refl; unlisted = refl; plain = (refl, refl) }
+
+pub plain_select : IsPlain (understood the_schema SELECT_HOLDER.now)
+plain_select = means_select.plain
+
+pub holder_found : {S : Type 0} (g : Ghosts S) (old new : Held S) (k : Kept) → IsAt g k old → (project : ℕ) (group : List ℕ) (found : Option Holder) → ShowsRecords (λ row x. row ≡ holder_row x) g SELECT_HOLDER.now (number project ∷ Text group ∷ []) old new (listed found)
+    → found ≡ holder_at project group k.holders
+holder_found g old new k at project group found h =
+    found_one (λ row x. row ≡ holder_row x) holder_row (holds project group) k.holders (λ x y _ same. sym (same_holder y x same)) h.rows
+    (shows_passing holder_row 11 holder refl SELECT_HOLDER.now tests (number project ∷ Text group ∷ []) (λ im. equal Binary (column im 0) (number project) && (equal Binary (column im 1) (Text group) && true)) (λ r. refl)
+    (holds project group) (holds_is project group) k k.holders refl h.rows
+    (λ r. refl) means_select (state g old) (state g new) at.now h.shown)
+    found h.read
+
+-- ---- the groups that an attempt holds
+
+pub means_select_of : MeansSelect the_schema holder SELECT_HOLDERS_OF.now (is 3 0 ∷ []) (columns_of holder) [] (names_of holder)
+unfolding understood everything
+means_select_of = record { is = refl; unlisted = refl; plain = (refl, refl) }
+
+abbrev pub holders_refer : Referring
+holders_refer = record { child = holder; at = 11; there = refl; place = 3; text = SELECT_HOLDERS_OF.now; columns = columns_of holder; order = []; names = names_of holder; means = means_select_of }

@@ -1,0 +1,84 @@
+-- The statements that write `meta`.
+use Rattle.std.proofs.Common.{◌≡◌, ◌∙◌, ℕ, pos, List, [], ◌∷◌, codes, Bool, true, false, ◌&&◌, cond, refl, sym, inl, IsPermutation, drop}
+use Rattle.std.proofs.lemmas.List.Sorted.{IsPermutation-sym, IsPermutation-middle}
+use Rattle.sqlite.specs.declared.types.Value.{Value}
+use Rattle.sqlite.specs.declared.types.Value.TheVariants.{Null, Text}
+use Rattle.sqlite_value.specs.declared.keys.Collation.TheVariants.{Binary}
+use Rattle.sqlite_value.specs.Keys.{plain}
+use Rattle.sqlite_value.proofs.KeyLemmas.{first_key-plain}
+use Rattle.sqlite_sql.specs.Ops.{is_null, binary}
+use Rattle.sqlite_value.specs.Order.{value_cmp}
+use Rattle.sqlite_schema.specs.Rules.{equal, agree}
+use Rattle.sqlite.specs.Order.{Row, column}
+use Rattle.sqlite.specs.Term.{Term, lit, col}
+use Rattle.sqlite.specs.Cast.{cast}
+use Rattle.sqlite.specs.Kind.TheVariants.{Integer}
+use Rattle.sqlite_tied.specs.Compute.{everything}
+use Rattle.sqlite.specs.Listing.{understood}
+use Rattle.sqlite.specs.Store.{Ghosts}
+use Rattle.sqlite.specs.Held.{Held, state}
+use Rattle.ci_machine.specs.Kept.{Kept}
+use Rattle.ci_machine.specs.State.{with_next}
+use Rattle.ci_machine.specs.declared.records.Numbers.{Numbers}
+use Rattle.ci_machine.specs.declared.change.Counter.{Counter}
+use Rattle.ci_machine.specs.declared.change.Counter.TheVariants as counter
+use Rattle.ci_store_tables.specs.Stands.{image, places, without}
+use Rattle.ci_store_tables.specs.Statements.{Changes}
+use Rattle.ci_store_tables.proofs.Puts.{MeansPut, GivesRecord, updates_one}
+use Rattle.ci_store_tables.proofs.Absent.{absent_unique}
+use Rattle.ci_store_tables.proofs.Scalars.{cast_int}
+use Rattle.ci_store_rows.specs.declared.texts.TheConstants.{UPDATE_META, INSERT_META}
+use Rattle.ci_store_rows.specs.Schema.{the_schema, meta, meta_index_1}
+use Rattle.ci_store_rows.specs.Stands.{meta_row, meta_rows, counter_key, rows_by_tree, rows_of, Stands}
+use Rattle.ci_store_rows.proofs.OneList.{alike_but, regular_with_next}
+use Rattle.ci_store_rows.proofs.Records.{is, before_it, after_it}
+
+abbrev pub sets : List Term
+sets = col 1 0 ∷ col 0 0 ∷ col 0 1 ∷ []
+
+abbrev pub terms : List Term
+terms = lit Null ∷ col 0 0 ∷ col 0 1 ∷ []
+
+pub means : MeansPut the_schema 0 meta UPDATE_META.now INSERT_META.now (is 1 0 ∷ []) sets terms
+unfolding understood everything
+means = record { there = refl; apart = refl; update_is = refl; update_plain = (refl, refl); insert_is = refl; insert_plain = (refl, refl); uncounted = refl; unstamped = refl; idle = refl; alone = λ olds a. refl }
+
+-- a rowid that is chosen changes no column
+unnumbered : (b : Bool) (n v x y : Value) → image (places meta) (cond b (n ∷ x ∷ y ∷ []) (v ∷ x ∷ y ∷ [])) ≡ x ∷ y ∷ []
+unnumbered true n v x y = refl
+unnumbered false n v x y = refl
+
+agrees : (r new_row : Row) (key : List ℕ) (num : ℕ) → image (places meta) new_row ≡ meta_row key num → (equal Binary (column r 1) (Text key) && true) ≡ agree plain (1 ∷ []) r (1 ∷ []) new_row
+agrees r new_row key num is = sym (λ i. equal (first_key-plain i).collation (column r 1) (column (is i) 0) && true)
+
+pub gives : (key : List ℕ) (num : ℕ) → GivesRecord the_schema meta (is 1 0 ∷ []) sets terms (Text key ∷ []) (meta_row key num)
+gives key num = record {
+  tested = λ r. refl;
+  updated = λ old. λ i. Text key ∷ cast_int (pos num) i ∷ [];
+  source = refl;
+  inserted = λ rows. unnumbered (is_null (cast Integer Null)) _ _ _ _ ∙ (λ i. Text key ∷ cast_int (pos num) i ∷ []);
+  absent = λ rows new_row db shaped is keyed fresh put sound. absent_unique the_schema meta meta_index_1 (inl refl) (inl refl) refl rows new_row db _ (λ r. agrees r new_row key num is) shaped keyed fresh put sound;
+}
+
+moved : (c : Counter) (n : ℕ) (next : Numbers) → IsPermutation (meta_row (counter_key c) n ∷ without (Text (counter_key c) ∷ []) (meta_rows next)) (meta_rows (with_next c n next))
+unfolding binary value_cmp lib.Ieee.is_nan lib.Ieee.lt
+moved counter.Project n next = IsPermutation-sym _ _ (IsPermutation-middle (meta_row (codes "format") 1128878163 ∷ meta_row (codes "version") 1 ∷ []) _ _)
+moved counter.Runner n next = IsPermutation-sym _ _ (IsPermutation-middle (meta_row (codes "format") 1128878163 ∷ meta_row (codes "version") 1 ∷ meta_row (codes "next_project") next.project ∷ []) _ _)
+moved counter.Pipeline n next =
+    IsPermutation-sym _ _ (IsPermutation-middle (meta_row (codes "format") 1128878163 ∷ meta_row (codes "version") 1 ∷ meta_row (codes "next_project") next.project ∷ meta_row (codes "next_runner") next.runner ∷ []) _ _)
+moved counter.Job n next =
+    IsPermutation-sym _ _
+    (IsPermutation-middle (meta_row (codes "format") 1128878163 ∷ meta_row (codes "version") 1 ∷ meta_row (codes "next_project") next.project ∷ meta_row (codes "next_runner") next.runner ∷ meta_row (codes "next_pipeline") next.pipeline ∷ []) _ _)
+moved counter.Attempt n next =
+    IsPermutation-sym _ _
+    (IsPermutation-middle
+    (meta_row (codes "format") 1128878163 ∷ meta_row (codes "version") 1 ∷ meta_row (codes "next_project") next.project ∷ meta_row (codes "next_runner") next.runner ∷ meta_row (codes "next_pipeline") next.pipeline
+    ∷ meta_row (codes "next_job") next.job ∷ []) _ _)
+
+pub next_sets : {S : Type 0} (ghosts : Ghosts S) (before after : Held S) (c : Counter) (n : ℕ) (k : Kept) → Stands k (state ghosts before).now → Changes ghosts UPDATE_META.now (meta_row (counter_key c) n) 1 before after
+    → Stands (record k { state = record k.state { next = with_next c n k.state.next } }) (state ghosts after).now
+next_sets ghosts before after c n k stands h =
+    let next = record k { state = record k.state { next = with_next c n k.state.next } } in
+    after_it ghosts next after (regular_with_next k (with_next c n k.state.next) stands.inside.regular)
+    (updates_one the_schema 0 meta UPDATE_META.now INSERT_META.now (is 1 0 ∷ []) sets terms means (Text (counter_key c) ∷ []) (meta_row (counter_key c) n) (gives (counter_key c) n) (rows_of k) (rows_of next)
+    (alike_but [] (drop 1 (rows_by_tree k)) meta (meta_rows k.state.next) (meta_rows (with_next c n k.state.next))) (moved c n k.state.next) (state ghosts before) (state ghosts after) (before_it ghosts k before stands) h)

@@ -1,0 +1,46 @@
+-- The loads of next numbers.
+use Rattle.std.proofs.Common.{◌≡◌, ◌∙◌, ℕ, pos, List, [], ◌∷◌, filter, refl, ap, subst, IsPermutation}
+use Rattle.sqlite.specs.declared.types.Value.TheVariants.{Int, Text}
+use Rattle.sqlite_sql.specs.Ops.{binary}
+use Rattle.sqlite_value.specs.Order.{value_cmp}
+use Rattle.sqlite.specs.Order.{Row, column}
+use Rattle.sqlite.specs.State.{State as Seen, Shown}
+use Rattle.sqlite.specs.Listing.{understood}
+use Rattle.sqlite_tied.specs.Compute.{everything}
+use Rattle.sqlite.proofs.Callers.{IsPlain, one_permutation}
+use Rattle.ci_machine.specs.Kept.{Kept}
+use Rattle.ci_machine.specs.declared.records.Numbers.{Numbers}
+use Rattle.ci_machine.specs.declared.change.Counter.{Counter}
+use Rattle.ci_machine.specs.declared.change.Counter.TheVariants as counter
+use Rattle.ci_store_tables.specs.Stands.{has_key}
+use Rattle.ci_store_tables.proofs.Selects.{MeansSelect, selects}
+use Rattle.ci_store_rows.specs.declared.texts.TheConstants.{SELECT_META}
+use Rattle.ci_store_rows.specs.Schema.{the_schema, meta}
+use Rattle.ci_store_rows.specs.Stands.{Stands, counter_key, meta_row, meta_rows, rows_of}
+use Rattle.ci_machine.specs.Step.{next_of}
+use Rattle.ci_store_rows.proofs.Records.{is}
+use Rattle.ci_store_rows.proofs.Shows.{columns_of, names_of, held}
+
+pub means_meta : MeansSelect the_schema meta SELECT_META.now (is 1 0 ∷ []) (columns_of meta) [] (names_of meta)
+unfolding understood everything
+means_meta = record { is = refl; unlisted = refl; plain = (refl, refl) }
+
+pub plain_meta : IsPlain (understood the_schema SELECT_META.now)
+plain_meta = means_meta.plain
+
+one_row : (c : Counter) (next : Numbers) → filter (has_key (Text (counter_key c) ∷ [])) (meta_rows next) ≡ meta_row (counter_key c) (next_of c next) ∷ []
+unfolding binary value_cmp lib.Ieee.is_nan lib.Ieee.lt
+one_row counter.Project next = refl
+one_row counter.Runner next = refl
+one_row counter.Pipeline next = refl
+one_row counter.Job next = refl
+one_row counter.Attempt next = refl
+
+pub next_found : (old new : Seen) (k : Kept) → Stands k old.now → (c : Counter) (rows : List Row) → Shown SELECT_META.now (Text (counter_key c) ∷ []) old new rows → rows ≡ meta_row (counter_key c) (next_of c k.state.next) ∷ []
+next_found old new k stands c rows h =
+    one_permutation (meta_row (counter_key c) (next_of c k.state.next)) rows
+    (subst (λ l. IsPermutation l rows) (one_row c k.state.next)
+    (selects the_schema meta SELECT_META.now (is 1 0 ∷ []) _ [] _ means_meta (Text (counter_key c) ∷ []) (has_key (Text (counter_key c) ∷ [])) (λ r. refl) (λ r. refl) old new (rows_of k meta.tree) rows stands.listed (held k old.now stands 0 meta refl) h))
+
+pub number_read : (key : List ℕ) (m n : ℕ) (row : Row) → meta_row key n ≡ row → column row 1 ≡ Int (pos m) → m ≡ n
+number_read key m n row is read = let e : Int (pos n) ≡ Int (pos m) = ap (λ r. column r 1) is ∙ read in cc

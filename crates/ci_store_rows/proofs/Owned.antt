@@ -1,0 +1,85 @@
+-- A table of three columns, whose key is the number of an owner and the second column, which may be a name.
+use Rattle.std.proofs.Common.{◌≡◌, ◌∙◌, ◌==◌, ℕ, List, [], ◌∷◌, map, filter, Bool, true, false, ◌&&◌, not, cond, is_eq, Ordering, Less, Some, slice_get, refl, sym, subst}
+use Rattle.std.specs.Ordering.{nat_cmp, ordering_then}
+use Rattle.std.specs.Cmp.Lexicographic.{slice_cmp}
+use Rattle.sqlite.specs.declared.types.Value.{Value}
+use Rattle.sqlite.specs.declared.types.Value.TheVariants.{Null, Text}
+use Rattle.sqlite_value.specs.declared.keys.Collation.TheVariants.{Binary}
+use Rattle.sqlite_value.specs.Keys.{plain}
+use Rattle.sqlite_value.proofs.KeyLemmas.{first_key-plain}
+use Rattle.sqlite_schema.specs.Rules.{equal, agree}
+use Rattle.sqlite.specs.Order.{Row, column}
+use Rattle.sqlite.specs.Term.{Term, lit, col}
+use Rattle.sqlite.specs.Table.{Table}
+use Rattle.sqlite.specs.Tree.{Trees}
+use Rattle.sqlite.specs.Query.{output, output_cmp}
+use Rattle.sqlite.specs.Store.{Ghosts}
+use Rattle.sqlite.specs.Held.{Held, state}
+use Rattle.sqlite_keyed.proofs.ListLemmas.{filter_same}
+use Rattle.ci_machine.specs.Kept.{Kept}
+use Rattle.ci_store_tables.specs.Stands.{has_key, image, places}
+use Rattle.ci_store_tables.proofs.Queries.{query, picks}
+use Rattle.ci_store_tables.proofs.Writes.{IsWholeStep}
+use Rattle.ci_store_tables.proofs.Puts.{MeansRemove}
+use Rattle.ci_store_tables.proofs.Selects.{MeansSelect}
+use Rattle.ci_store_tables.proofs.Scalars.{equal_int, equal_text}
+use Rattle.ci_store_rows.specs.Schema.{the_schema}
+use Rattle.ci_store_rows.specs.Rows.{number}
+use Rattle.ci_store_rows.specs.Stands.{rows_of, Rises, IsRegular, Stands, IsAt}
+use Rattle.ci_store_rows.specs.Found.{ShowsRecords}
+use Rattle.ci_store_rows.specs.Changes.{RemovesUnreferred}
+use Rattle.ci_store_rows.proofs.OneList.{IsAlike}
+use Rattle.ci_store_rows.proofs.Records.{is, is_number, both_equal, remove_stands}
+use Rattle.ci_store_rows.proofs.Shows.{columns_of, names_of, by, pair, shows_sorted, found_all, rise_within}
+
+abbrev pub tests : List Term
+tests = is 1 0 ∷ is 2 1 ∷ []
+
+abbrev pub sets : List Term
+sets = col 1 0 ∷ col 0 0 ∷ col 0 1 ∷ col 0 2 ∷ []
+
+abbrev pub terms : List Term
+terms = lit Null ∷ col 0 0 ∷ col 0 1 ∷ col 0 2 ∷ []
+
+-- the key whose second column is a name
+abbrev pub named : ℕ → List ℕ → Row
+named owner name = number owner ∷ Text name ∷ []
+
+-- what tests for such a key say of a record with an owner and a name
+pub same_named : (owner : ℕ) (name : List ℕ) (n : ℕ) (text : List ℕ) → (equal Binary (number n) (number owner) && (equal Binary (Text text) (Text name) && true)) ≡ is_eq (ordering_then (nat_cmp n owner) (slice_cmp nat_cmp text name))
+same_named owner name n text = (λ i. equal_int n owner i && (equal_text text name i && true)) ∙ both_equal (nat_cmp n owner) (slice_cmp nat_cmp text name)
+
+-- a rowid that is chosen changes no column
+pub unnumbered : (b : Bool) (n v x y z : Value) → image (1 ∷ 2 ∷ 3 ∷ []) (cond b (n ∷ x ∷ y ∷ z ∷ []) (v ∷ x ∷ y ∷ z ∷ [])) ≡ x ∷ y ∷ z ∷ []
+unnumbered true n v x y z = refl
+unnumbered false n v x y z = refl
+
+-- rows agree on the key where both columns are equal
+pub agrees : (r new_row : Row) (x y z : Value) → image (1 ∷ 2 ∷ 3 ∷ []) new_row ≡ x ∷ y ∷ z ∷ [] → (equal Binary (column r 1) x && (equal Binary (column r 2) y && true)) ≡ agree plain (1 ∷ 2 ∷ []) r (1 ∷ 2 ∷ []) new_row
+agrees r new_row x y z is =
+    sym (λ i. equal (first_key-plain i).collation (column r 1) (column (is i) 0) && (equal (first_key-plain i).collation (column r 2) (column (is i) 1) && true))
+
+module _ {S : Type 0} (g : Ghosts S) (old new : Held S) {A : Type 0} (values : A → Row) (at : ℕ) (table : Table) where
+  -- the removal of a record by its key, where no table refers to it
+  pub removed_owned : (test : A → Bool) (xs : List A) (key : Row) (k next : Kept) → rows_of k table.tree ≡ map values xs → rows_of next table.tree ≡ map values (filter (λ x. not (test x)) xs) → IsAlike (rows_of k) (rows_of next) table
+      → (IsRegular k → IsRegular next) → ((x : A) → has_key key (values x) ≡ test x) → ((r : Row) → picks tests key r ≡ has_key key (image (places table) r))
+      → (delete : List ℕ) → MeansRemove the_schema at table delete tests → ((params : Row) (db : Trees) → IsWholeStep the_schema table tests params db)
+      → Stands k (state g old).now → RemovesUnreferred g [] delete key old new → Stands next (state g new).now
+  removed_owned test xs key k next was gone alike regular keyed tested delete means whole stands h =
+      remove_stands values xs k next table was alike (regular stands.inside.regular) at delete tests means key tested test keyed gone g h.mid new h.count (subst (λ h. Stands k (state g h).now) h.none stands) (whole key (state g h.mid).now.trees) h.removed
+
+  -- the records of an owner, which a query shows in the order of the second column
+  pub owned_found : (owner : A → ℕ) (second : A → A → Ordering) → ((x y : A) → values x ≡ values y → x ≡ y) → slice_get the_schema.tables at ≡ Some table
+      → (text : List ℕ) → MeansSelect the_schema table text (is 1 0 ∷ []) (columns_of table) (by 2) (names_of table)
+      → ((n : ℕ) (r : Row) → picks (is 1 0 ∷ []) (number n ∷ []) r ≡ (equal Binary (column (image (places table) r) 0) (number n) && true))
+      → ((n : ℕ) (x : A) → (equal Binary (column (values x) 0) (number n) && true) ≡ is_eq (nat_cmp (owner x) n))
+      → ((n : ℕ) (r : Row) → output (query table.tree (is 1 0 ∷ []) (columns_of table) (by 2)) ((number n ∷ []) ∷ r ∷ []) ≡ pair 1 (image (places table) r))
+      → ((x y : A) → second x y ≡ Less → output_cmp (query table.tree (is 1 0 ∷ []) (columns_of table) (by 2)) (pair 1 (values x)) (pair 1 (values y)) ≡ Less)
+      → (k : Kept) (xs : List A) → rows_of k table.tree ≡ map values xs → IsAt g k old → Rises (λ x y. ordering_then (nat_cmp (owner x) (owner y)) (second x y)) xs
+      → (n : ℕ) (found : List A) → ShowsRecords (λ row x. row ≡ values x) g text (number n ∷ []) old new found → found ≡ filter (λ x. owner x == n) xs
+  owned_found owner second same there text means tested owned paired lower k xs was at_s rises n found h =
+      found_all (λ row x. row ≡ values x) values (λ x. is_eq (nat_cmp (owner x) n)) xs (λ x y _ is. sym (same y x is)) h.rows
+      (shows_sorted values at table there text (is 1 0 ∷ []) (number n ∷ []) (λ im. equal Binary (column im 0) (number n) && true) (tested n) (λ x. is_eq (nat_cmp (owner x) n)) (owned n) k xs was h.rows 2 1 (paired n) means
+      (rise_within owner second (λ x y. output_cmp (query table.tree (is 1 0 ∷ []) (columns_of table) (by 2)) (pair 1 (values x)) (pair 1 (values y)) ≡ Less) lower n xs rises) (state g old) (state g new) at_s.now h.shown)
+      found h.read
+      ∙ filter_same _ _ (λ x. is_number (owner x) n) xs

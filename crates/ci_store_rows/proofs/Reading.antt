@@ -1,0 +1,80 @@
+-- The records that rows are read as.
+use Rattle.std.proofs.Common.{◌≡◌, ℕ, [], ◌∷◌, length, Option, Some, None, Result, Ok, Err, IfOk, ◌≢◌, MatchOption, refl, arith}
+use Rattle.sqlite.specs.declared.types.Value.{Value}
+use Rattle.sqlite.specs.declared.types.Value.TheVariants.{Null}
+use Rattle.sqlite.specs.Values.{or_null}
+use Rattle.sqlite.specs.Order.{Row, column}
+use Rattle.ci_store_tables.specs.declared.fault.StoreFault.{StoreFault}
+use Rattle.ci_store_rows.specs.Rows.{number}
+
+pub row2 : (row : Row) → length row ≡ 2 → row ≡ column row 0 ∷ column row 1 ∷ []
+row2 [] is = cc
+row2 (a ∷ []) is = cc
+row2 (a ∷ b ∷ []) is = refl
+row2 (a ∷ b ∷ x ∷ more) is = absurd (omega (arith, is))
+
+pub row3 : (row : Row) → length row ≡ 3 → row ≡ column row 0 ∷ column row 1 ∷ column row 2 ∷ []
+row3 [] is = cc
+row3 (a ∷ []) is = cc
+row3 (a ∷ b ∷ []) is = cc
+row3 (a ∷ b ∷ c ∷ []) is = refl
+row3 (a ∷ b ∷ c ∷ x ∷ more) is = absurd (omega (arith, is))
+
+pub row5 : (row : Row) → length row ≡ 5 → row ≡ column row 0 ∷ column row 1 ∷ column row 2 ∷ column row 3 ∷ column row 4 ∷ []
+row5 [] is = cc
+row5 (a ∷ []) is = cc
+row5 (a ∷ b ∷ []) is = cc
+row5 (a ∷ b ∷ c ∷ []) is = cc
+row5 (a ∷ b ∷ c ∷ d ∷ []) is = cc
+row5 (a ∷ b ∷ c ∷ d ∷ e ∷ []) is = refl
+row5 (a ∷ b ∷ c ∷ d ∷ e ∷ x ∷ more) is = absurd (omega (arith, is))
+
+pub row7 : (row : Row) → length row ≡ 7 → row ≡ column row 0 ∷ column row 1 ∷ column row 2 ∷ column row 3 ∷ column row 4 ∷ column row 5 ∷ column row 6 ∷ []
+row7 [] is = cc
+row7 (a ∷ []) is = cc
+row7 (a ∷ b ∷ []) is = cc
+row7 (a ∷ b ∷ c ∷ []) is = cc
+row7 (a ∷ b ∷ c ∷ d ∷ []) is = cc
+row7 (a ∷ b ∷ c ∷ d ∷ e ∷ []) is = cc
+row7 (a ∷ b ∷ c ∷ d ∷ e ∷ f ∷ []) is = cc
+row7 (a ∷ b ∷ c ∷ d ∷ e ∷ f ∷ g ∷ []) is = refl
+row7 (a ∷ b ∷ c ∷ d ∷ e ∷ f ∷ g ∷ x ∷ more) is = absurd (omega (arith, is))
+
+pub row9 : (row : Row) → length row ≡ 9 → row ≡ column row 0 ∷ column row 1 ∷ column row 2 ∷ column row 3 ∷ column row 4 ∷ column row 5 ∷ column row 6 ∷ column row 7 ∷ column row 8 ∷ []
+row9 [] is = cc
+row9 (a ∷ []) is = cc
+row9 (a ∷ b ∷ []) is = cc
+row9 (a ∷ b ∷ c ∷ []) is = cc
+row9 (a ∷ b ∷ c ∷ d ∷ []) is = cc
+row9 (a ∷ b ∷ c ∷ d ∷ e ∷ []) is = cc
+row9 (a ∷ b ∷ c ∷ d ∷ e ∷ f ∷ []) is = cc
+row9 (a ∷ b ∷ c ∷ d ∷ e ∷ f ∷ g ∷ []) is = cc
+row9 (a ∷ b ∷ c ∷ d ∷ e ∷ f ∷ g ∷ h ∷ []) is = cc
+row9 (a ∷ b ∷ c ∷ d ∷ e ∷ f ∷ g ∷ h ∷ i ∷ []) is = refl
+row9 (a ∷ b ∷ c ∷ d ∷ e ∷ f ∷ g ∷ h ∷ i ∷ x ∷ more) is = absurd (omega (arith, is))
+
+pub row10 : (row : Row) → length row ≡ 10
+    → row ≡ column row 0 ∷ column row 1 ∷ column row 2 ∷ column row 3 ∷ column row 4 ∷ column row 5 ∷ column row 6 ∷ column row 7 ∷ column row 8 ∷ column row 9 ∷ []
+row10 [] is = cc
+row10 (a ∷ row) is = let short : length row ≡ 9 = omega (arith, is) in λ i. a ∷ row9 row short i
+
+pub row11 : (row : Row) → length row ≡ 11
+    → row ≡ column row 0 ∷ column row 1 ∷ column row 2 ∷ column row 3 ∷ column row 4 ∷ column row 5 ∷ column row 6 ∷ column row 7 ∷ column row 8 ∷ column row 9 ∷ column row 10 ∷ []
+row11 [] is = cc
+row11 (a ∷ []) is = cc
+row11 (a ∷ b ∷ row) is = let short : length row ≡ 9 = omega (arith, is) in λ i. a ∷ b ∷ row9 row short i
+
+pub option_cell : (v : Value) (o : Option ℕ) → MatchOption o (v ≡ Null) (λ n. (v ≢ Null) × (v ≡ number n)) → v ≡ or_null number o
+option_cell v None h = h
+option_cell v (Some n) h = h.1
+
+-- ---- what is said of a call that ended well
+
+pub if_ok : {A : Type 0} {P Q : A → Type 0} (r : Result A StoreFault) → ((x : A) → P x → Q x) → IfOk r P → IfOk r Q
+if_ok (Ok x) f h = f x h
+if_ok (Err e) f h = tt
+
+-- what two clauses say of one answer
+pub both_ok : {A : Type 0} (P Q : A → Type 0) (r : Result A StoreFault) → IfOk r P → IfOk r Q → IfOk r (λ x. P x × Q x)
+both_ok P Q (Ok x) p q = (p, q)
+both_ok P Q (Err e) p q = tt

@@ -1,0 +1,152 @@
+-- The statements that write `runner`.
+use Rattle.std.proofs.Common.{◌≡◌, ◌∙◌, ◌==◌, inl, inr, nat_lt, ℕ, pos, List, [], ◌∷◌, if◌then◌else◌, Some, refl, ap, ◌&&◌, true, Option, sym, map, take, drop, codes}
+use Rattle.sqlite.specs.declared.types.Value.TheVariants.{Null, Text}
+use Rattle.sqlite.specs.Order.{Row, column}
+use Rattle.sqlite.specs.Term.{Term, lit, col}
+use Rattle.sqlite_tied.specs.Compute.{everything}
+use Rattle.sqlite.specs.Listing.{understood}
+use Rattle.sqlite.specs.Store.{Ghosts}
+use Rattle.sqlite.specs.Held.{Held, state}
+use Rattle.sqlite_keyed.proofs.ListLemmas.{ascending-filter, all-filter}
+use Rattle.ci_machine.specs.Kept.{Kept}
+use Rattle.ci_machine.specs.State.{with_record, without_record, runner_cmp}
+use Rattle.ci_machine.specs.declared.records.Runner.{Runner}
+use Rattle.ci_machine.specs.declared.change.Record.TheVariants as row
+use Rattle.ci_machine.specs.declared.change.Key.TheVariants as key
+use Rattle.ci_store_tables.specs.Stands.{image, places}
+use Rattle.ci_store_tables.specs.Statements.{HasPut}
+use Rattle.ci_store_tables.proofs.Puts.{MeansPut, MeansRemove, GivesRecord}
+use Rattle.ci_store_tables.proofs.Absent.{absent_rowid}
+use Rattle.ci_store_tables.proofs.Scalars.{cast_int, compares}
+use Rattle.ci_store_rows.specs.declared.texts.TheConstants.{UPDATE_RUNNER, INSERT_RUNNER, DELETE_RUNNER, SELECT_RUNNER, SELECT_RUNNERS_ABOVE, SELECT_RUNNER_WITH}
+use Rattle.ci_store_rows.specs.declared.columns.TheConstants.{LAST_INTEGER}
+use Rattle.sqlite_sql.specs.declared.ops.CompareOp.TheVariants.{Gt}
+use Rattle.ci_store_rows.specs.Schema.{the_schema, runner}
+use Rattle.ci_store_records.specs.JsonText.{list_text, list_data}
+use Rattle.serde_json.specs.Read.{read}
+use Rattle.ci_store_rows.specs.Rows.{number, runner_row}
+use Rattle.ci_store_rows.specs.Stands.{rows_by_tree, rows_of, Stands, IsAt}
+use Rattle.ci_store_rows.proofs.OneList.{IsAlike, alike_but, regular_with_runners}
+use Rattle.ci_store_rows.proofs.Lists.{put_rises, by_number, all_put}
+use Rattle.ci_store_rows.proofs.Records.{is, put_stands, same_number, finds_number, finds_text, numbered, above, finds_beyond, cast_option}
+use Rattle.sqlite.specs.Collation.TheVariants.{Binary}
+use Rattle.sqlite_schema.specs.Rules.{equal}
+use Rattle.sqlite.proofs.Callers.{IsPlain}
+use Rattle.ci_store_tables.proofs.Selects.{MeansSelect}
+use Rattle.ci_store_rows.specs.Found.{ShowsRecords, listed, FindsNumber}
+use Rattle.std.specs.Str.{bytes_eq}
+use Rattle.sqlite_rules.proofs.ListLemmas.{all_has}
+use Rattle.ci_machine.specs.Step.{runner_at, runner_with}
+use Rattle.ci_store_rows.specs.Load.{IsRunnerRow}
+use Rattle.ci_store_rows.proofs.Shows.{columns_of, names_of, shows_passing, found_one, found_none}
+use Rattle.std.specs.List.{list_any}
+use Rattle.sqlite_value.specs.Keys.{plain}
+use Rattle.sqlite_schema.specs.declared.schema.Keys.TheVariants.{Enforced}
+use Rattle.sqlite_rules.specs.Action.{works, pairs, loses}
+use Rattle.ci_store_rows.specs.Changes.{in_state, RemovesUnreferred}
+use Rattle.ci_store_rows.proofs.Removals.{cascades, removed_numbered}
+use Rattle.sqlite.specs.Values.{or_null}
+use Rattle.ci_store_rows.specs.Rows.{flag}
+use Rattle.ci_store_rows.specs.Load.{runner_cells}
+use Rattle.ci_store_records.specs.Reads.{ReadsList}
+use Rattle.ci_store_rows.proofs.Same.{same_option, same_flag}
+
+abbrev sets : List Term
+sets = col 0 0 ∷ lit Null ∷ col 0 1 ∷ col 0 2 ∷ col 0 3 ∷ col 0 4 ∷ col 0 5 ∷ col 0 6 ∷ []
+
+means : MeansPut the_schema 2 runner UPDATE_RUNNER.now INSERT_RUNNER.now (is 0 0 ∷ []) sets sets
+unfolding understood everything
+means = record { there = refl; apart = refl; update_is = refl; update_plain = (refl, refl); insert_is = refl; insert_plain = (refl, refl); uncounted = refl; unstamped = refl; idle = refl; alone = λ olds a. refl }
+
+gives : (r : Runner) → GivesRecord the_schema runner (is 0 0 ∷ []) sets sets (number r.id ∷ []) (runner_row r)
+gives r = record {
+  tested = λ r. refl;
+  updated = λ old. λ i. cast_int (pos r.id) i ∷ Text r.name ∷ Text r.token ∷ cast_option r.project i ∷ Text (list_text r.tags) ∷ cast_int (if r.untagged then pos 1 else pos 0) i ∷ cast_int (if r.paused then pos 1 else pos 0) i ∷ [];
+  source = refl;
+  inserted = λ rows. ap (image (places runner)) (numbered rows (pos r.id) _) ∙ (λ i. number r.id ∷ Text r.name ∷ Text r.token ∷ cast_option r.project i ∷ Text (list_text r.tags) ∷ cast_int (if r.untagged then pos 1 else pos 0) i ∷ cast_int (if r.paused then pos 1 else pos 0) i ∷ []);
+  absent = λ rows new_row db shaped is keyed fresh put sound. absent_rowid rows new_row (pos r.id) _ (λ r. refl) shaped (ap (λ image. column image 0) is) fresh;
+}
+
+-- the other tables have the rows that they had
+alike : (k : Kept) (xs : List Runner) → IsAlike (rows_of k) (rows_of (record k { state = record k.state { runners = xs } })) runner
+alike k xs = alike_but (take 2 (rows_by_tree k)) (drop 3 (rows_by_tree k)) runner (map runner_row k.state.runners) (map runner_row xs)
+
+pub runner_puts : {S : Type 0} (ghosts : Ghosts S) (before after : Held S) (r : Runner) (k : Kept) → read (list_text r.tags) ≡ Some (list_data r.tags) → Stands k (state ghosts before).now → HasPut ghosts UPDATE_RUNNER.now INSERT_RUNNER.now (runner_row r) before after
+    → Stands (in_state (with_record (row.Runner r)) k) (state ghosts after).now
+runner_puts ghosts before after r k read_back stands h =
+    put_stands runner_row k.state.runners k (in_state (with_record (row.Runner r)) k) runner refl (alike k _) (regular_with_runners k _ (put_rises runner_cmp (by_number (λ (q : Runner). q.id)) r k.state.runners stands.inside.regular.runners) (all_put runner_cmp _ r k.state.runners read_back stands.inside.regular.tags) stands.inside.regular)
+    2 UPDATE_RUNNER.now INSERT_RUNNER.now (is 0 0 ∷ []) sets sets means runner_cmp (number r.id ∷ []) r (gives r) (λ q. same_number q.id r.id) refl ghosts before after stands h
+
+means_remove : MeansRemove the_schema 2 runner DELETE_RUNNER.now (is 0 0 ∷ [])
+unfolding understood everything
+means_remove = record { there = refl; apart = refl; delete_is = refl; delete_plain = (refl, refl) }
+
+-- what its removal sets off
+works_are : (olds : List Row) → works the_schema Enforced 0 runner.tree olds [] ≡ cascades (list_any (loses plain (0 ∷ [])) (pairs olds [])) [] (codes "runner") olds
+unfolding everything
+works_are olds = refl
+
+pub runner_removed : {S : Type 0} (g : Ghosts S) (old new : Held S) (id : ℕ) (k : Kept) → Stands k (state g old).now → RemovesUnreferred g [] DELETE_RUNNER.now (number id ∷ []) old new → Stands (in_state (without_record (key.Runner id)) k) (state g new).now
+runner_removed g old new id k =
+    removed_numbered g old new runner_row (λ q. q.id) k.state.runners id k (in_state (without_record (key.Runner id)) k) 2 runner refl refl refl (alike k _) (λ o. regular_with_runners k _ (ascending-filter _ _ k.state.runners o.runners) (all-filter _ _ k.state.runners o.tags) o) (λ q. same_number q.id id) (λ r. refl)
+    DELETE_RUNNER.now means_remove (codes "runner") [] works_are tt
+
+-- ---- two records with the same row
+
+same_runner : (r q : Runner) (text : List ℕ) → ReadsList text r.tags → read (list_text q.tags) ≡ Some (list_data q.tags) → runner_cells r text ≡ runner_row q → r ≡ q
+same_runner r q text reads back h =
+    let a : r.id ≡ q.id = cc in
+    let b : r.name ≡ q.name = cc in
+    let c : r.token ≡ q.token = cc in
+    let d : or_null number r.project ≡ or_null number q.project = cc in
+    let t : text ≡ list_text q.tags = cc in
+    let u : flag r.untagged ≡ flag q.untagged = cc in
+    let p : flag r.paused ≡ flag q.paused = cc in
+    let tags = reads q.tags (ap read t ∙ back) in
+    λ i. record { id = a i; name = b i; token = c i; project = same_option r.project q.project d i; tags = tags i; untagged = same_flag r.untagged q.untagged u i; paused = same_flag r.paused q.paused p i }
+
+-- ---- the queries that load
+
+means_select : MeansSelect the_schema runner SELECT_RUNNER.now (is 0 0 ∷ []) (columns_of runner) [] (names_of runner)
+unfolding understood everything
+means_select = record { is = refl; unlisted = refl; plain = (refl, refl) }
+
+pub plain_select : IsPlain (understood the_schema SELECT_RUNNER.now)
+plain_select = means_select.plain
+
+runner_found : {S : Type 0} (g : Ghosts S) (old new : Held S) (k : Kept) → IsAt g k old → (id : ℕ) (found : Option Runner) → ShowsRecords IsRunnerRow g SELECT_RUNNER.now (number id ∷ []) old new (listed found) → found ≡ runner_at k.state id
+runner_found g old new k at id found h =
+    found_one IsRunnerRow runner_row (λ x. x.id == id) k.state.runners (λ x y there same. same_runner x y same.0 same.2 (all_has _ k.state.runners y at.now.inside.regular.tags there) (sym same.1)) h.rows
+    (shows_passing runner_row 2 runner refl SELECT_RUNNER.now (is 0 0 ∷ []) (number id ∷ []) (λ im. equal Binary (column im 0) (number id) && true) (λ r. refl) (λ x. x.id == id) (λ x. finds_number x.id id) k k.state.runners refl h.rows
+    (λ r. refl) means_select (state g old) (state g new) at.now h.shown)
+    found h.read
+
+means_select_above : MeansSelect the_schema runner SELECT_RUNNERS_ABOVE.now (above 0 0 ∷ []) (columns_of runner) [] (names_of runner)
+unfolding understood everything
+means_select_above = record { is = refl; unlisted = refl; plain = (refl, refl) }
+
+pub plain_select_above : IsPlain (understood the_schema SELECT_RUNNERS_ABOVE.now)
+plain_select_above = means_select_above.plain
+
+pub runner_named : {S : Type 0} (g : Ghosts S) (old new : Held S) (k : Kept) → IsAt g k old → (id : ℕ) (found : Option Runner) → FindsNumber IsRunnerRow g SELECT_RUNNER.now SELECT_RUNNERS_ABOVE.now id old new found → found ≡ runner_at k.state id
+runner_named g old new k at id found (inl h) = runner_found g old new k at id found h
+runner_named g old new k at id found (inr h) =
+    h.0
+    ∙ sym (found_none (λ (x : Runner). x.id) LAST_INTEGER id h.1 IsRunnerRow runner_row k.state.runners h.2.rows
+    (shows_passing runner_row 2 runner refl SELECT_RUNNERS_ABOVE.now (above 0 0 ∷ []) (number LAST_INTEGER ∷ []) (λ im. compares Gt (column im 0) (number LAST_INTEGER) && true) (λ r. refl) (λ x. nat_lt LAST_INTEGER x.id) (λ x. finds_beyond LAST_INTEGER x.id) k k.state.runners refl h.2.rows
+    (λ r. refl) means_select_above (state g old) (state g new) at.now h.2.shown)
+    h.2.read)
+
+means_select_with : MeansSelect the_schema runner SELECT_RUNNER_WITH.now (is 3 0 ∷ []) (columns_of runner) [] (names_of runner)
+unfolding understood everything
+means_select_with = record { is = refl; unlisted = refl; plain = (refl, refl) }
+
+pub plain_select_with : IsPlain (understood the_schema SELECT_RUNNER_WITH.now)
+plain_select_with = means_select_with.plain
+
+pub runner_with_found : {S : Type 0} (g : Ghosts S) (old new : Held S) (k : Kept) → IsAt g k old → (token : List ℕ) (found : Option Runner) → ShowsRecords IsRunnerRow g SELECT_RUNNER_WITH.now (Text token ∷ []) old new (listed found) → found ≡ runner_with k.state token
+runner_with_found g old new k at token found h =
+    found_one IsRunnerRow runner_row (λ x. bytes_eq x.token token) k.state.runners (λ x y there same. same_runner x y same.0 same.2 (all_has _ k.state.runners y at.now.inside.regular.tags there) (sym same.1)) h.rows
+    (shows_passing runner_row 2 runner refl SELECT_RUNNER_WITH.now (is 3 0 ∷ []) (Text token ∷ []) (λ im. equal Binary (column im 2) (Text token) && true) (λ r. refl) (λ x. bytes_eq x.token token) (λ x. finds_text x.token token) k k.state.runners refl h.rows
+    (λ r. refl) means_select_with (state g old) (state g new) at.now h.shown)
+    found h.read

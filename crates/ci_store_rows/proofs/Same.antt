@@ -1,0 +1,30 @@
+-- Cells that are the same, and lists that are read one by one.
+use Rattle.std.proofs.Common.{◌≡◌, ℕ, List, [], ◌∷◌, ◌++◌, Bool, true, false, Option, Some, None, refl}
+use Rattle.std.specs.List.{AllZip}
+use Rattle.sqlite.specs.declared.types.Value.TheVariants.{Text}
+use Rattle.sqlite.specs.Values.{or_null}
+use Rattle.ci_store_rows.specs.Rows.{number, flag}
+
+pub same_words : (a b : Option (List ℕ)) → or_null Text a ≡ or_null Text b → a ≡ b
+same_words None None h = refl
+same_words None (Some y) h = cc
+same_words (Some x) None h = cc
+same_words (Some x) (Some y) h = cc
+
+pub same_option : (a b : Option ℕ) → or_null number a ≡ or_null number b → a ≡ b
+same_option None None h = refl
+same_option None (Some y) h = cc
+same_option (Some x) None h = cc
+same_option (Some x) (Some y) h = cc
+
+pub same_flag : (a b : Bool) → flag a ≡ flag b → a ≡ b
+same_flag true true h = refl
+same_flag true false h = cc
+same_flag false true h = cc
+same_flag false false h = refl
+
+pub zip_push : {A B : Type 0} (R : A → B → Type 0) (xs : List A) (ys : List B) (x : A) (y : B) → AllZip R xs ys → R x y → AllZip R (xs ++ x ∷ []) (ys ++ y ∷ [])
+zip_push R [] [] x y all h = (h, tt)
+zip_push R [] (b ∷ ys) x y all h = absurd all
+zip_push R (a ∷ xs) [] x y all h = absurd all
+zip_push R (a ∷ xs) (b ∷ ys) x y all h = (all.0, zip_push R xs ys x y all.1 h)

@@ -1,0 +1,253 @@
+-- What a query over one table shows of a state, and the records that its rows are read as.
+use Rattle.std.proofs.Common.{◌≡◌, ◌∙◌, ℕ, pos, List, [], ◌∷◌, map, filter, find, take, drop, slice_get, Bool, true, false, is_eq, Ordering, Less, Equal, Greater, Option, Some, None, option_map, refl, sym, ap, subst, cond, inl, inr, IsPermutation, ◌<◌, ◌≤◌, ◌==◌, nat_lt, ltb-false, ne_eqb, arith}
+use Rattle.std.proofs.lemmas.Bool.{cond_both}
+use Rattle.std.specs.List.{AllByRecursion, AllZip}
+use Rattle.std.specs.Ordering.{nat_cmp, ordering_then}
+use Rattle.std.specs.Cmp.{IsTotalOrder}
+use Rattle.std.specs.Cmp.Lexicographic.{slice_cmp}
+use Rattle.std.proofs.lemmas.List.{take-append-drop, take-map}
+use Rattle.std.proofs.lemmas.Cmp.{on_total, then_total, nat_cmp_total, tied_back}
+use Rattle.std.proofs.lemmas.List.Sorted.{IsPermutation-sym, IsPermutation-trans, IsPermutation-map}
+use Rattle.sqlite_trees.proofs.ListLemmas.{IsPermutation-filter}
+use Rattle.sqlite.specs.Collation.TheVariants.{Binary}
+use Rattle.sqlite_value.specs.declared.keys.Key.{Key}
+use Rattle.sqlite_value.specs.Keys.{ascending, by_key}
+use Rattle.sqlite_value.proofs.KeyLemmas.{by_key_total}
+use Rattle.sqlite_value.proofs.OrderLemmas.{value_cmp-Int, value_cmp-Text, then-Equal}
+use Rattle.sqlite.specs.declared.types.Value.TheVariants.{Text}
+use Rattle.sqlite.specs.Order.{Row, column}
+use Rattle.sqlite.specs.Term.{Term, col, eval_all}
+use Rattle.sqlite.specs.Query.{Output, output, output_cmp, key_cmp, limited}
+use Rattle.sqlite.specs.Table.{Table}
+use Rattle.sqlite.specs.Effect.{Database}
+use Rattle.sqlite.specs.State.{State as Seen, Shown}
+use Rattle.sqlite_trees.specs.Tree.{IsAscending}
+use Rattle.sqlite.proofs.Callers.{one_permutation, reads_as}
+use Rattle.sqlite_keyed.proofs.ListLemmas.{filter-map, filter_same, slice_get-filter, ascending-map, ascending_weaker, ascending-filter}
+use Rattle.sqlite_rules.specs.Lists.{Has}
+use Rattle.sqlite_rules.proofs.ListLemmas.{all_has, has_got, has_filtered, has_left}
+use Rattle.ci_machine.specs.Kept.{Kept}
+use Rattle.ci_store_tables.specs.Stands.{Holds, image, places}
+use Rattle.ci_store_tables.proofs.Writes.{perm_nil, map_nil, map_one}
+use Rattle.ci_store_tables.proofs.Queries.{query, picks, no_limit, count_of, shows, answered, map_map}
+use Rattle.ci_store_tables.proofs.Selects.{MeansSelect, MeansSelectTo, selects}
+use Rattle.ci_store_tables.proofs.Ordered.{no_key_total, selects_sorted}
+use Rattle.ci_store_tables.proofs.Scalars.{int_nat}
+use Rattle.ci_store_rows.specs.Schema.{the_schema}
+use Rattle.ci_store_rows.specs.Rows.{number}
+use Rattle.ci_store_rows.specs.Stands.{Stands, rows_of}
+use Rattle.ci_store_rows.specs.Found.{listed}
+
+-- the columns of a row, in their order, and their names
+abbrev pub columns_of : Table → List Term
+columns_of table = map (λ at. col 1 at) (places table)
+
+abbrev pub names_of : Table → List (List ℕ)
+names_of table = map (λ c. c.name) table.columns
+
+pub held : (k : Kept) (db : Database) → Stands k db → (at : ℕ) (t : Table) → slice_get the_schema.tables at ≡ Some t → Holds t (rows_of k t.tree) db.trees
+held k db stands at t there = all_has (λ (t : Table). Holds t (rows_of k t.tree) db.trees) the_schema.tables t stands.inside.tables.holds (has_got the_schema.tables at t there)
+
+-- the order of what is shown, by the column at a place of the row
+abbrev pub pair : ℕ → Row → Output
+pair at im = (column im at ∷ [], im)
+
+abbrev pub by : ℕ → List (Term × Key)
+by place = (col 1 place, ascending Binary) ∷ []
+
+pub by_total : (tests columns : List Term) (tree place : ℕ) → IsTotalOrder (output_cmp (query tree tests columns (by place)))
+by_total tests columns tree place = on_total (λ (o : Output). o.0) (then_total (on_total (λ (r : Row). column r 0) (by_key_total (ascending Binary))) no_key_total)
+
+-- and by those at two places
+abbrev pub pair_of_two : ℕ → ℕ → Row → Output
+pair_of_two first second im = (column im first ∷ column im second ∷ [], im)
+
+abbrev pub by_two : ℕ → ℕ → List (Term × Key)
+by_two first second = (col 1 first, ascending Binary) ∷ (col 1 second, ascending Binary) ∷ []
+
+pub by_two_total : (tests columns : List Term) (tree first second : ℕ) → IsTotalOrder (output_cmp (query tree tests columns (by_two first second)))
+by_two_total tests columns tree first second =
+    on_total (λ (o : Output). o.0) (then_total (on_total (λ (r : Row). column r 0) (by_key_total (ascending Binary))) (then_total (on_total (λ (r : Row). column r 1) (by_key_total (ascending Binary))) no_more_total))
+  where
+    no_more_total : IsTotalOrder (key_cmp 2 [])
+    no_more_total = record { antisymm = λ x y. refl; trans = λ x y z p q. p; congr = λ x y z p. refl }
+
+-- what a query of a part of the columns shows of the records of its table
+shows_part : (t : Table) (text : List ℕ) (tests columns : List Term) (names : List (List ℕ)) → MeansSelect the_schema t text tests columns [] names → (key : Row) (p : Row → Bool) → ((r : Row) → picks tests key r ≡ p (image (places t) r))
+    → (part : Row → Row) → ((r : Row) → eval_all columns (key ∷ r ∷ []) ≡ part (image (places t) r)) → (old new : Seen) (records rows : List Row) → old.now.schema ≡ the_schema → Holds t records old.now.trees → Shown text key old new rows
+    → IsPermutation (map part (filter p records)) rows
+shows_part t text tests columns names means key p tested part showed old new records rows has held shown =
+    let there = old.now.trees t.tree in
+    let read = reads_as text key old new the_schema has _ means.is means.plain means.unlisted rows shown in
+    let answer = shows t.tree tests columns [] old.now.trees key rows (answered old.now.schema old.now.trees t.tree tests columns [] key rows read) in
+    let images : map (λ r. eval_all columns (key ∷ r ∷ [])) (filter (picks tests key) there) ≡ map part (filter p (map (image (places t)) there)) =
+    (λ i. map (λ r. showed r i) (filter (picks tests key) there))
+    ∙ sym (map_map part (image (places t)) (filter (picks tests key) there))
+    ∙ ap (λ l. map part (map (image (places t)) l)) (filter_same _ _ tested there)
+    ∙ ap (map part) (sym (filter-map p (image (places t)) there)) in
+    IsPermutation-trans _ _ _ (IsPermutation-map part _ _ (IsPermutation-sym _ _ (IsPermutation-filter p _ _ held.same))) (subst (λ l. IsPermutation l rows) images answer)
+
+module _ {A : Type 0} (values : A → Row) (at : ℕ) (t : Table) (there : slice_get the_schema.tables at ≡ Some t) (text : List ℕ) (tests : List Term) (key : Row) (p : Row → Bool)
+    (tested : (r : Row) → picks tests key r ≡ p (image (places t) r)) (passes : A → Bool) (same : (x : A) → p (values x) ≡ passes x)
+    (k : Kept) (xs : List A) (is : rows_of k t.tree ≡ map values xs) (rows : List Row) where
+  filtered : filter p (map values xs) ≡ map values (filter passes xs)
+  filtered = filter-map p values xs ∙ ap (map values) (filter_same _ _ same xs)
+
+  -- the rows of the records that pass the tests, in some order
+  pub shows_passing : (showed : (r : Row) → eval_all (columns_of t) (key ∷ r ∷ []) ≡ image (places t) r) → MeansSelect the_schema t text tests (columns_of t) [] (names_of t)
+      → (old new : Seen) → Stands k old.now → Shown text key old new rows → IsPermutation (map values (filter passes xs)) rows
+  shows_passing showed means old new stands h =
+      subst (λ l. IsPermutation l rows) (ap (filter p) is ∙ filtered)
+      (selects the_schema t text tests (columns_of t) [] (names_of t) means key p tested showed old new (rows_of k t.tree) rows stands.listed (held k old.now stands at t there) h)
+
+  -- a part of the columns of each
+  pub shows_columns : (columns : List Term) (names : List (List ℕ)) (part : Row → Row) (showed : (r : Row) → eval_all columns (key ∷ r ∷ []) ≡ part (image (places t) r)) → MeansSelect the_schema t text tests columns [] names
+      → (old new : Seen) → Stands k old.now → Shown text key old new rows → IsPermutation (map (λ x. part (values x)) (filter passes xs)) rows
+  shows_columns columns names part showed means old new stands h =
+      subst (λ l. IsPermutation l rows) (ap (λ l. map part (filter p l)) is ∙ ap (map part) filtered ∙ map_map part values (filter passes xs))
+      (shows_part t text tests columns names means key p tested part showed old new (rows_of k t.tree) rows stands.listed (held k old.now stands at t there) h)
+
+  -- and in an order, of them the first ones that a limit lets through
+  pub shows_ordered : (limit : Term) (order : List (Term × Key)) (total : IsTotalOrder (output_cmp (query t.tree tests (columns_of t) order))) (pair : Row → Output) (second : (im : Row) → (pair im).1 ≡ im)
+      → (paired : (r : Row) → output (query t.tree tests (columns_of t) order) (key ∷ r ∷ []) ≡ pair (image (places t) r)) → MeansSelectTo limit the_schema t text tests (columns_of t) order (names_of t)
+      → IsAscending (λ x y. output_cmp (query t.tree tests (columns_of t) order) (pair (values x)) (pair (values y)) ≡ Less) (filter passes xs)
+      → (old new : Seen) → Stands k old.now → Shown text key old new rows → rows ≡ limited (count_of limit key) (map values (filter passes xs))
+  shows_ordered limit order total pair second paired means up old new stands h =
+      let Up = λ (a b : Output). output_cmp (query t.tree tests (columns_of t) order) a b ≡ Less in
+      let up' = ascending-map Up pair _ (ascending-map (λ a b. Up (pair a) (pair b)) values _ up) in
+      selects_sorted limit the_schema t text tests (columns_of t) order (names_of t) means key p tested pair paired second total old new (map values xs) rows stands.listed
+      (subst (λ l. Holds t l old.now.trees) is (held k old.now stands at t there)) h (subst (λ l. IsAscending Up (map pair l)) (sym filtered) up')
+      ∙ ap (limited (count_of limit key)) filtered
+
+  -- all of them, in the order of a column
+  pub shows_sorted : (place shown_at : ℕ) (paired : (r : Row) → output (query t.tree tests (columns_of t) (by place)) (key ∷ r ∷ []) ≡ pair shown_at (image (places t) r)) → MeansSelect the_schema t text tests (columns_of t) (by place) (names_of t)
+      → IsAscending (λ x y. output_cmp (query t.tree tests (columns_of t) (by place)) (pair shown_at (values x)) (pair shown_at (values y)) ≡ Less) (filter passes xs)
+      → (old new : Seen) → Stands k old.now → Shown text key old new rows → rows ≡ map values (filter passes xs)
+  shows_sorted place shown_at = shows_ordered no_limit (by place) (by_total tests (columns_of t) t.tree place) (pair shown_at) (λ im. refl)
+
+-- ---- the records that the rows are read as
+
+-- what is made of the one record that passes, if one does
+pub found_as : {A B : Type 0} (of : A → B) (is_row : Row → B → Type 0) (values : A → Row) (passes : A → Bool) (xs : List A) → ((x : B) (y : A) → Has xs y → is_row (values y) x → x ≡ of y)
+    → (rows : List Row) → IsPermutation (map values (filter passes xs)) rows → (found : Option B) → AllZip is_row rows (listed found) → found ≡ option_map of (find passes xs)
+found_as {A = A} {B = B} of is_row values passes xs one = go
+  where
+    first : find passes xs ≡ slice_get (filter passes xs) 0
+    first = sym (slice_get-filter passes xs)
+
+    made : (l : List A) → filter passes xs ≡ l → option_map of (find passes xs) ≡ option_map of (slice_get l 0)
+    made l is = ap (option_map of) (first ∙ ap (λ l. slice_get l 0) is)
+
+    go : (rows : List Row) → IsPermutation (map values (filter passes xs)) rows → (found : Option B) → AllZip is_row rows (listed found) → found ≡ option_map of (find passes xs)
+    go [] same None read = sym (made [] (map_nil _ _ (perm_nil _ same)))
+    go [] same (Some x) read = absurd read
+    go (r ∷ rows) same None read = absurd read
+    go (r ∷ []) same (Some x) read =
+        let only = map_one values _ r (one_permutation r _ (IsPermutation-sym _ _ same)) in
+        let there : Has (filter passes xs) only.0 = subst (λ l. Has l only.0) (sym only.1) (inl refl) in
+        ap Some (one x only.0 (has_filtered passes xs only.0 there).0 (subst (λ row. is_row row x) only.2 read.0)) ∙ sym (made (only.0 ∷ []) only.1)
+    go (r ∷ t ∷ rows) same (Some x) read = absurd read.1
+
+as_it_is : {A : Type 0} (o : Option A) → option_map (λ x. x) o ≡ o
+as_it_is None = refl
+as_it_is (Some x) = refl
+
+module _ {A : Type 0} (is_row : Row → A → Type 0) (values : A → Row) (passes : A → Bool) (xs : List A) (one : (x y : A) → Has xs y → is_row (values y) x → x ≡ y) where
+  pub found_one : (rows : List Row) → IsPermutation (map values (filter passes xs)) rows → (found : Option A) → AllZip is_row rows (listed found) → found ≡ find passes xs
+  found_one rows same found read = found_as (λ x. x) is_row values passes xs one rows same found read ∙ as_it_is (find passes xs)
+
+  each : (ys : List A) → ((y : A) → Has ys y → Has xs y) → (found : List A) → AllZip is_row (map values ys) found → found ≡ ys
+  each [] sub [] read = refl
+  each [] sub (x ∷ found) read = absurd read
+  each (y ∷ ys) sub [] read = absurd read
+  each (y ∷ ys) sub (x ∷ found) read =
+      let same = one x y (sub y (inl refl)) read.0 in
+      let more = each ys (λ z h. sub z (inr h)) found read.1 in
+      λ i. same i ∷ more i
+
+  -- the first so many of them
+  pub found_first : (n : ℕ) (rows : List Row) → rows ≡ take n (map values (filter passes xs)) → (found : List A) → AllZip is_row rows found → found ≡ take n (filter passes xs)
+  found_first n rows is found read =
+      each (take n (filter passes xs)) (λ y h. (has_filtered passes xs y (has_taken n (filter passes xs) y h)).0) found (subst (λ l. AllZip is_row l found) (is ∙ take-map values n (filter passes xs)) read)
+    where
+      has_taken : (n : ℕ) (ys : List A) (y : A) → Has (take n ys) y → Has ys y
+      has_taken n ys y h = subst (λ l. Has l y) (take-append-drop n ys) (has_left (take n ys) (drop n ys) y h)
+
+  pub found_all : (rows : List Row) → rows ≡ map values (filter passes xs) → (found : List A) → AllZip is_row rows found → found ≡ filter passes xs
+  found_all rows is found read = each (filter passes xs) (λ y h. (has_filtered passes xs y h).0) found (subst (λ l. AllZip is_row l found) is read)
+
+-- ---- a number above which no record is shown
+
+module _ {A : Type 0} (id : A → ℕ) (last n : ℕ) (over : last < n) where
+  none_among : (xs : List A) → filter (λ x. nat_lt last (id x)) xs ≡ [] → find (λ x. id x == n) xs ≡ None
+  none_among [] e = refl
+  none_among (x ∷ xs) e =
+      cond_both (nat_lt last (id x)) (x ∷ filter (λ y. nat_lt last (id y)) xs) (filter (λ y. nat_lt last (id y)) xs) (λ l. l ≡ [] → find (λ y. id y == n) (x ∷ xs) ≡ None)
+      (λ _ some. absurd (cc))
+      (λ low rest.
+      let other : (id x == n) ≡ false = ne_eqb (id x) n (λ same. let le : id x ≤ last = ltb-false last (id x) low in omega arith) in
+      subst (λ b. cond b (Some x) (find (λ y. id y == n) xs) ≡ None) (sym other) (none_among xs rest))
+      e
+
+  pub found_none : {B : Type 0} (is_row : Row → B → Type 0) (values : A → Row) (xs : List A) (rows : List Row) → IsPermutation (map values (filter (λ x. nat_lt last (id x)) xs)) rows → AllZip is_row rows [] → find (λ x. id x == n) xs ≡ None
+  found_none is_row values xs [] same read = none_among xs (map_nil _ _ (perm_nil _ same))
+  found_none is_row values xs (r ∷ rows) same read = absurd read
+
+-- ---- the records of one owner, which rise by the second part of their key
+
+-- what is equal to a number leaves the order to the second part
+second_is : (a b n : ℕ) (o : Ordering) → is_eq (nat_cmp a n) ≡ true → is_eq (nat_cmp b n) ≡ true → ordering_then (nat_cmp a b) o ≡ Less → o ≡ Less
+second_is a b n o ha hb h = subst (λ first. ordering_then first o ≡ Less) (tied a b n (equal_is _ ha) (equal_is _ hb)) h
+  where
+    equal_is : (o : Ordering) → is_eq o ≡ true → o ≡ Equal
+    equal_is Less h = cc
+    equal_is Equal h = refl
+    equal_is Greater h = cc
+
+    tied : (a b n : ℕ) → nat_cmp a n ≡ Equal → nat_cmp b n ≡ Equal → nat_cmp a b ≡ Equal
+    tied a b n p q = nat_cmp_total.congr a n b p ∙ tied_back nat_cmp_total b n q
+
+module _ {X : Type 0} (owner : X → ℕ) (second : X → X → Ordering) (Up : X → X → Type 0) (lower : (x y : X) → second x y ≡ Less → Up x y) (n : ℕ) where
+  abbrev is_own : X → Bool
+  is_own x = is_eq (nat_cmp (owner x) n)
+
+  abbrev IsBelow : X → X → Type 0
+  IsBelow x y = ordering_then (nat_cmp (owner x) (owner y)) (second x y) ≡ Less
+
+  above : (x : X) (ys : List X) → is_own x ≡ true → AllByRecursion (IsBelow x) ys → AllByRecursion (Up x) (filter is_own ys)
+  above x [] h all = tt
+  above x (y ∷ ys) h all = step (is_own y) refl (above x ys h all.1)
+    where
+      step : (b : Bool) → is_own y ≡ b → AllByRecursion (Up x) (filter is_own ys) → AllByRecursion (Up x) (cond b (y ∷ filter is_own ys) (filter is_own ys))
+      step true is more = (lower x y (second_is (owner x) (owner y) n (second x y) h is all.0), more)
+      step false is more = more
+
+  pub rise_within : (xs : List X) → IsAscending IsBelow xs → IsAscending Up (filter is_own xs)
+  rise_within [] up = tt
+  rise_within (x ∷ xs) up = go (is_own x) refl (rise_within xs up.1)
+    where
+      go : (b : Bool) → is_own x ≡ b → IsAscending Up (filter is_own xs) → IsAscending Up (cond b (x ∷ filter is_own xs) (filter is_own xs))
+      go true is more = (above x xs is up.0, more)
+      go false is more = more
+
+-- ---- rows that rise by a column
+
+pub rising_number : (a b : ℕ) → nat_cmp a b ≡ Less → ordering_then (by_key (ascending Binary) (number a) (number b)) Equal ≡ Less
+rising_number a b h = then-Equal _ ∙ value_cmp-Int (pos a) (pos b) ∙ int_nat a b ∙ h
+
+-- what is in order by two numbers is so by the columns
+pub rising_two : (a b c d : ℕ) → ordering_then (nat_cmp a b) (nat_cmp c d) ≡ Less → ordering_then (by_key (ascending Binary) (number a) (number b)) (ordering_then (by_key (ascending Binary) (number c) (number d)) Equal) ≡ Less
+rising_two a b c d h = (λ i. ordering_then (first i) (second i)) ∙ h
+  where
+    first : by_key (ascending Binary) (number a) (number b) ≡ nat_cmp a b
+    first = value_cmp-Int (pos a) (pos b) ∙ int_nat a b
+
+    second : ordering_then (by_key (ascending Binary) (number c) (number d)) Equal ≡ nat_cmp c d
+    second = then-Equal _ ∙ value_cmp-Int (pos c) (pos d) ∙ int_nat c d
+
+pub rising_text : (a b : List ℕ) → slice_cmp nat_cmp a b ≡ Less → ordering_then (by_key (ascending Binary) (Text a) (Text b)) Equal ≡ Less
+rising_text a b h = then-Equal _ ∙ value_cmp-Text a b ∙ h
+
+pub rising_numbers : {X : Type 0} (id : X → ℕ) (passes : X → Bool) (xs : List X) → IsAscending (λ x y. nat_cmp (id x) (id y) ≡ Less) xs
+    → IsAscending (λ x y. ordering_then (by_key (ascending Binary) (number (id x)) (number (id y))) Equal ≡ Less) (filter passes xs)
+rising_numbers id passes xs up = ascending_weaker _ _ (λ x y h. rising_number (id x) (id y) h) (filter passes xs) (ascending-filter _ passes xs up)

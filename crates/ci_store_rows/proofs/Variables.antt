@@ -1,0 +1,118 @@
+-- The statements that write `variable`.
+use Rattle.std.proofs.Common.{◌≡◌, ◌∙◌, ◌==◌, ℕ, pos, List, [], ◌∷◌, true, is_eq, refl, sym, Option, ◌&&◌, map, take, drop}
+use Rattle.std.specs.Ordering.{nat_cmp, ordering_then}
+use Rattle.std.specs.Str.{bytes_eq}
+use Rattle.std.specs.Cmp.Lexicographic.{slice_cmp}
+use Rattle.sqlite_value.specs.declared.keys.Collation.TheVariants.{Binary}
+use Rattle.sqlite_sql.specs.Ops.{is_null}
+use Rattle.sqlite_schema.specs.Rules.{equal}
+use Rattle.sqlite.specs.Cast.{cast}
+use Rattle.sqlite.specs.Kind.TheVariants.{Integer}
+use Rattle.sqlite.specs.declared.types.Value.TheVariants.{Null, Text}
+use Rattle.sqlite.specs.Order.{Row, column}
+use Rattle.sqlite.specs.Tree.{Trees}
+use Rattle.sqlite_tied.specs.Compute.{everything}
+use Rattle.sqlite.specs.Listing.{understood}
+use Rattle.sqlite.specs.Store.{Ghosts}
+use Rattle.sqlite.specs.Held.{Held, state}
+use Rattle.sqlite_keyed.proofs.ListLemmas.{ascending-filter}
+use Rattle.sqlite_rules.proofs.ListLemmas.{has_got}
+use Rattle.ci_machine.specs.Kept.{Kept}
+use Rattle.ci_machine.specs.State.{with_record, without_record, variable_cmp}
+use Rattle.ci_machine.specs.declared.records.Variable.{Variable}
+use Rattle.ci_machine.specs.declared.change.Record.TheVariants as row
+use Rattle.ci_machine.specs.declared.change.Key.TheVariants as key
+use Rattle.ci_store_tables.specs.Statements.{HasPut}
+use Rattle.ci_store_tables.proofs.Writes.{IsWholeStep, whole_if_alone}
+use Rattle.ci_store_tables.proofs.Puts.{MeansPut, MeansRemove, GivesRecord}
+use Rattle.ci_store_tables.proofs.Absent.{absent_unique}
+use Rattle.ci_store_tables.proofs.Scalars.{cast_int}
+use Rattle.ci_store_rows.specs.declared.texts.TheConstants.{UPDATE_VARIABLE, INSERT_VARIABLE, DELETE_VARIABLE, SELECT_VARIABLE, SELECT_VARIABLES}
+use Rattle.ci_store_rows.specs.Schema.{the_schema, variable, variable_index_1}
+use Rattle.ci_store_rows.specs.Rows.{number, variable_row}
+use Rattle.ci_store_rows.specs.Stands.{rows_by_tree, rows_of, Stands, IsAt}
+use Rattle.ci_store_rows.proofs.OneList.{IsAlike, alike_but, regular_with_variables}
+use Rattle.ci_store_rows.proofs.Lists.{put_rises, by_both}
+use Rattle.ci_store_rows.proofs.Records.{is, put_stands, same_number, finds_named}
+use Rattle.sqlite.proofs.Callers.{IsPlain}
+use Rattle.ci_store_tables.proofs.Selects.{MeansSelect}
+use Rattle.ci_store_rows.specs.Found.{ShowsRecords, listed}
+use Rattle.ci_store_rows.proofs.Owned.{tests, sets, terms, named, same_named, unnumbered, agrees, removed_owned, owned_found}
+use Rattle.ci_store_rows.proofs.Shows.{columns_of, names_of, by, rising_text, shows_passing, found_one}
+use Rattle.ci_machine.specs.Step.{project_variables, variable_at}
+use Rattle.ci_store_rows.specs.Changes.{in_state, RemovesUnreferred}
+
+means : MeansPut the_schema 10 variable UPDATE_VARIABLE.now INSERT_VARIABLE.now tests sets terms
+unfolding understood everything
+means = record { there = refl; apart = refl; update_is = refl; update_plain = (refl, refl); insert_is = refl; insert_plain = (refl, refl); uncounted = refl; unstamped = refl; idle = refl; alone = λ olds a. refl }
+
+gives : (v : Variable) → GivesRecord the_schema variable tests sets terms (named v.project v.key) (variable_row v)
+gives v = record {
+  tested = λ r. refl;
+  updated = λ old. λ i. cast_int (pos v.project) i ∷ Text v.key ∷ Text v.value ∷ [];
+  source = refl;
+  inserted = λ rows. unnumbered (is_null (cast Integer Null)) _ _ _ _ _ ∙ (λ i. cast_int (pos v.project) i ∷ Text v.key ∷ Text v.value ∷ []);
+  absent = λ rows new_row db shaped is keyed fresh put sound.
+      absent_unique the_schema variable variable_index_1 (has_got the_schema.tables 10 variable refl) (has_got the_schema.indexes 11 variable_index_1 refl) refl rows new_row db _ (λ r. agrees r new_row _ _ _ is) shaped keyed fresh put sound;
+}
+
+-- the other tables have the rows that they had
+alike : (k : Kept) (xs : List Variable) → IsAlike (rows_of k) (rows_of (record k { state = record k.state { variables = xs } })) variable
+alike k xs = alike_but (take 10 (rows_by_tree k)) (drop 11 (rows_by_tree k)) variable (map variable_row k.state.variables) (map variable_row xs)
+
+pub variable_puts : {S : Type 0} (ghosts : Ghosts S) (before after : Held S) (v : Variable) (k : Kept) → Stands k (state ghosts before).now → HasPut ghosts UPDATE_VARIABLE.now INSERT_VARIABLE.now (variable_row v) before after
+    → Stands (in_state (with_record (row.Variable v)) k) (state ghosts after).now
+variable_puts ghosts before after v k stands h =
+    put_stands variable_row k.state.variables k (in_state (with_record (row.Variable v)) k) variable refl (alike k _) (regular_with_variables k _ (put_rises variable_cmp (by_both (λ (q : Variable). q.project) (λ q. q.key)) v k.state.variables stands.inside.regular.variables) stands.inside.regular)
+    10 UPDATE_VARIABLE.now INSERT_VARIABLE.now tests sets terms means variable_cmp (named v.project v.key) v (gives v) (λ q. same_named v.project v.key q.project q.key) refl ghosts before after stands h
+
+means_remove : MeansRemove the_schema 10 variable DELETE_VARIABLE.now tests
+unfolding understood everything
+means_remove = record { there = refl; apart = refl; delete_is = refl; delete_plain = (refl, refl) }
+
+whole : (params : Row) (db : Trees) → IsWholeStep the_schema variable tests params db
+unfolding everything
+whole params db = whole_if_alone the_schema variable tests params db (λ olds. refl)
+
+pub variable_removed : {S : Type 0} (g : Ghosts S) (old new : Held S) (owner : ℕ) (name : List ℕ) (k : Kept) → Stands k (state g old).now → RemovesUnreferred g [] DELETE_VARIABLE.now (named owner name) old new → Stands (in_state (without_record (key.Variable owner name)) k) (state g new).now
+variable_removed g old new owner name k =
+    removed_owned g old new variable_row 10 variable (λ q. is_eq (ordering_then (nat_cmp q.project owner) (slice_cmp nat_cmp q.key name))) k.state.variables (named owner name) k (in_state (without_record (key.Variable owner name)) k) refl refl (alike k _) (λ o. regular_with_variables k _ (ascending-filter _ _ k.state.variables o.variables) o) (λ q. same_named owner name q.project q.key) (λ r. refl)
+    DELETE_VARIABLE.now means_remove whole
+
+-- ---- two records with the same row
+
+same_variable : (p q : Variable) → variable_row p ≡ variable_row q → p ≡ q
+same_variable p q h =
+    let a : p.project ≡ q.project = cc in
+    let b : p.key ≡ q.key = cc in
+    let c : p.value ≡ q.value = cc in
+    λ i. record { project = a i; key = b i; value = c i }
+
+-- ---- the queries that load
+
+means_select_of : MeansSelect the_schema variable SELECT_VARIABLES.now (is 1 0 ∷ []) (columns_of variable) (by 2) (names_of variable)
+unfolding understood everything
+means_select_of = record { is = refl; unlisted = refl; plain = (refl, refl) }
+
+pub plain_select_of : IsPlain (understood the_schema SELECT_VARIABLES.now)
+plain_select_of = means_select_of.plain
+
+pub variables_found : {S : Type 0} (g : Ghosts S) (old new : Held S) (k : Kept) → IsAt g k old → (owner : ℕ) (found : List Variable) → ShowsRecords (λ row x. row ≡ variable_row x) g SELECT_VARIABLES.now (number owner ∷ []) old new found → found ≡ project_variables k.state owner
+variables_found g old new k at =
+    owned_found g old new variable_row 10 variable (λ x. x.project) (λ x y. slice_cmp nat_cmp x.key y.key) same_variable refl SELECT_VARIABLES.now means_select_of (λ n r. refl) (λ n x. same_number x.project n) (λ n r. refl) (λ x y low. rising_text x.key y.key low) k k.state.variables refl at at.now.inside.regular.variables
+
+means_select : MeansSelect the_schema variable SELECT_VARIABLE.now tests (columns_of variable) [] (names_of variable)
+unfolding understood everything
+means_select = record { is = refl; unlisted = refl; plain = (refl, refl) }
+
+pub plain_select : IsPlain (understood the_schema SELECT_VARIABLE.now)
+plain_select = means_select.plain
+
+pub variable_found : {S : Type 0} (g : Ghosts S) (old new : Held S) (k : Kept) → IsAt g k old → (owner : ℕ) (name : List ℕ) (found : Option Variable) → ShowsRecords (λ row x. row ≡ variable_row x) g SELECT_VARIABLE.now (number owner ∷ Text name ∷ []) old new (listed found)
+    → found ≡ variable_at k.state owner name
+variable_found g old new k at owner name found h =
+    found_one (λ row x. row ≡ variable_row x) variable_row (λ x. (x.project == owner) && bytes_eq x.key name) k.state.variables (λ x y _ same. sym (same_variable y x same)) h.rows
+    (shows_passing variable_row 10 variable refl SELECT_VARIABLE.now tests (number owner ∷ Text name ∷ []) (λ im. equal Binary (column im 0) (number owner) && (equal Binary (column im 1) (Text name) && true)) (λ r. refl)
+    (λ x. (x.project == owner) && bytes_eq x.key name) (λ x. finds_named x.project owner x.key name) k k.state.variables refl h.rows
+    (λ r. refl) means_select (state g old) (state g new) at.now h.shown)
+    found h.read

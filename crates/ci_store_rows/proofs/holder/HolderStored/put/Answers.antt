@@ -1,0 +1,17 @@
+use Rattle.std.proofs.Common.{[], ◌∷◌, subst, ◌∙◌}
+use Rattle.sqlite.specs.declared.types.Value.TheVariants.{Text}
+use Rattle.sqlite.specs.Values.{bound_value}
+use Rattle.ci_store_tables.specs.Statements.{HasPut}
+use Rattle.ci_store_tables.proofs.Scalars.{on_ok}
+use Rattle.ci_store_rows.specs.declared.texts.TheConstants.{UPDATE_HOLDER, INSERT_HOLDER}
+use Rattle.ci_store_rows.specs.Rows.{number}
+use Rattle.ci_store_rows.proofs.Holders.{holder_puts}
+use Rattle.ci_store_rows.proofs.holder.HolderStored.put.Goals as goal
+
+pub returns-clause-makes : goal.returns-clause-makes
+returns-clause-makes g c clean inside =
+    let old = c.args.tx.now.conn.now in
+    let new = c.put.new.tx.conn.now in
+    let x = c.args.self.now in
+    let row = (λ i. bound_value (c.in_ok-project.ensures i) ∷ bound_value (c.text.ensures i) ∷ bound_value (c.in_ok-attempt.ensures i) ∷ []) ∙ (λ i. number x.project ∷ Text x.group ∷ number x.attempt ∷ []) in
+    on_ok c.put.result (λ ran. (ran.0, λ k stands. holder_puts g.S.Store old new x k stands (subst (λ row. HasPut g.S.Store UPDATE_HOLDER.now INSERT_HOLDER.now row old new) row ran.1))) (c.put.ensures.put clean inside)

@@ -1,0 +1,14 @@
+use Rattle.std.proofs.Common.{[], ◌∷◌, subst}
+use Rattle.sqlite.specs.Values.{bound_value}
+use Rattle.ci_store_tables.specs.Statements.{HasPut}
+use Rattle.ci_store_tables.proofs.Scalars.{on_ok}
+use Rattle.ci_store_rows.specs.declared.texts.TheConstants.{UPDATE_NEED, INSERT_NEED}
+use Rattle.ci_store_rows.proofs.Needs.{need_puts}
+use Rattle.ci_store_rows.proofs.need.NeedStored.put.Goals as goal
+
+pub returns-clause-makes : goal.returns-clause-makes
+returns-clause-makes g c clean inside =
+    let old = c.args.tx.now.conn.now in
+    let new = c.put.new.tx.conn.now in
+    let x = c.args.self.now in
+    on_ok c.put.result (λ ran. (ran.0, λ k stands. need_puts g.S.Store old new x k stands (subst (λ row. HasPut g.S.Store UPDATE_NEED.now INSERT_NEED.now row old new) (λ i. bound_value (c.in_ok-job.ensures i) ∷ bound_value (c.in_ok-pred.ensures i) ∷ []) ran.1))) (c.put.ensures.put clean inside)

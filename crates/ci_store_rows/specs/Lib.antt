@@ -1,0 +1,7 @@
+pub mod Schema
+pub mod Rows
+pub mod Stands
+pub mod Create
+pub mod Load
+pub mod Found
+pub mod Changes

@@ -1,0 +1,105 @@
+-- The row of each record: its values in the order of the table's columns.
+use Rattle.std.specs.Prelude.{ℕ, pos, Bool, if◌then◌else◌, [], ◌∷◌, Option, Some, None}
+use Rattle.sqlite.specs.declared.types.Value.{Value}
+use Rattle.sqlite.specs.declared.types.Value.TheVariants.{Int, Text, Blob}
+use Rattle.sqlite.specs.Values.{or_null}
+use Rattle.sqlite.specs.Order.{Row}
+use Rattle.ci_machine.specs.declared.records.Project.{Project}
+use Rattle.ci_machine.specs.declared.records.Variable.{Variable}
+use Rattle.ci_machine.specs.declared.records.Runner.{Runner}
+use Rattle.ci_machine.specs.declared.records.Pipeline.{Pipeline}
+use Rattle.ci_machine.specs.declared.records.Job.{Job}
+use Rattle.ci_machine.specs.declared.records.JobVariable.{JobVariable}
+use Rattle.ci_machine.specs.declared.records.Need.{Need}
+use Rattle.ci_machine.specs.declared.records.Attempt.{Attempt}
+use Rattle.ci_machine.specs.declared.records.Piece.{Piece}
+use Rattle.ci_machine.specs.declared.records.BoardRow.{BoardRow}
+use Rattle.ci_machine.specs.declared.records.Holder.{Holder}
+use Rattle.ci_machine.specs.declared.records.Unfinished.{Unfinished}
+use Rattle.ci_board.specs.Effects.{status_number}
+use Rattle.ci_machine.specs.declared.records.RefKind.{RefKind}
+use Rattle.ci_machine.specs.declared.records.RefKind.TheVariants.{Branch, Tag}
+use Rattle.ci_machine.specs.declared.records.Source.{Source}
+use Rattle.ci_machine.specs.declared.records.Source.TheVariants.{Push, Web, Schedule, Api, Trigger}
+use Rattle.ci_values.specs.declared.attempts.Cause.{Cause}
+use Rattle.ci_values.specs.declared.attempts.Cause.TheVariants.{UnknownFailure, ScriptFailure, ApiFailure, StuckOrTimeoutFailure, RunnerSystemFailure, JobExecutionTimeout}
+use Rattle.ci_values.specs.declared.attempts.AttemptState.{AttemptState}
+use Rattle.ci_values.specs.declared.attempts.AttemptState.TheVariants.{Live, Succeeded, Failed, Cancelled}
+use Rattle.ci_store_records.specs.JsonText.{list_text, spec_text}
+
+abbrev pub number : ℕ → Value
+number n = Int (pos n)
+
+abbrev pub flag : Bool → Value
+flag b = Int (if b then pos 1 else pos 0)
+
+abbrev pub kind_number : RefKind → ℕ
+kind_number Branch = 0
+kind_number Tag = 1
+
+abbrev pub source_number : Source → ℕ
+source_number Push = 0
+source_number Web = 1
+source_number Schedule = 2
+source_number Api = 3
+source_number Trigger = 4
+
+abbrev pub cause_number : Cause → ℕ
+cause_number UnknownFailure = 0
+cause_number ScriptFailure = 1
+cause_number ApiFailure = 2
+cause_number StuckOrTimeoutFailure = 3
+cause_number RunnerSystemFailure = 4
+cause_number JobExecutionTimeout = 5
+
+abbrev pub state_number : AttemptState → ℕ
+state_number Live = 0
+state_number (Succeeded exit) = 1
+state_number (Failed cause exit) = 2
+state_number Cancelled = 3
+
+abbrev pub cause_in : AttemptState → Option ℕ
+cause_in (Failed cause exit) = Some (cause_number cause)
+cause_in _ = None
+
+abbrev pub exit_in : AttemptState → Option ℕ
+exit_in (Succeeded exit) = exit
+exit_in (Failed cause exit) = exit
+exit_in _ = None
+
+abbrev pub project_row : Project → Row
+project_row p = number p.id ∷ Text p.name ∷ Text p.token ∷ or_null Text p.file ∷ []
+
+abbrev pub variable_row : Variable → Row
+variable_row v = number v.project ∷ Text v.key ∷ Text v.value ∷ []
+
+abbrev pub runner_row : Runner → Row
+runner_row r = number r.id ∷ Text r.name ∷ Text r.token ∷ or_null number r.project ∷ Text (list_text r.tags) ∷ flag r.untagged ∷ flag r.paused ∷ []
+
+abbrev pub pipeline_row : Pipeline → Row
+pipeline_row p = number p.id ∷ number p.project ∷ Text p.git_ref ∷ number (kind_number p.kind) ∷ number (source_number p.source) ∷ number p.created ∷ []
+
+abbrev pub job_row : Job → Row
+job_row j = number j.id ∷ number j.pipeline ∷ number j.position ∷ Text j.name ∷ Text j.stage ∷ Text (spec_text j.options) ∷ Text (list_text j.options.script) ∷ flag j.played ∷ flag j.cancelled ∷ number j.set_aside ∷ []
+
+abbrev pub job_variable_row : JobVariable → Row
+job_variable_row v = number v.job ∷ Text v.key ∷ Text v.value ∷ []
+
+abbrev pub attempt_row : Attempt → Row
+attempt_row a =
+    number a.id ∷ number a.job ∷ number a.runner ∷ Text a.token ∷ number a.granted ∷ number a.seen ∷ number (state_number a.state) ∷ or_null number (cause_in a.state) ∷ or_null number (exit_in a.state) ∷ number a.pieces ∷ number a.size ∷ []
+
+abbrev pub piece_row : Piece → Row
+piece_row p = number p.attempt ∷ number p.seq ∷ Blob p.bytes ∷ []
+
+abbrev pub need_row : Need → Row
+need_row n = number n.job ∷ number n.pred ∷ []
+
+abbrev pub board_row : BoardRow → Row
+board_row r = number r.job ∷ number (status_number r.row.status) ∷ number r.row.opens ∷ number r.row.failed ∷ number r.row.barred ∷ []
+
+abbrev pub holder_row : Holder → Row
+holder_row h = number h.project ∷ Text h.group ∷ number h.attempt ∷ []
+
+abbrev pub unfinished_row : Unfinished → Row
+unfinished_row u = number u.pipeline ∷ []

@@ -1,0 +1,20 @@
+//! Each record of the machine as a row of its table: the tables, the texts of all statements, how a record is put and read back,
+//! and laws of what each statement makes of what the tables keep.
+#![tactic(auto)]
+
+mod attempt;
+mod board_row;
+pub mod columns;
+mod demand;
+mod holder;
+mod job;
+mod job_variable;
+mod need;
+mod piece;
+mod pipeline;
+mod project;
+pub mod read;
+mod runner;
+pub mod texts;
+mod unfinished;
+mod variable;

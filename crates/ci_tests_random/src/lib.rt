@@ -1,5 +1,0 @@
-//! Tests of a server over memory with thousands of random events.
-#![tactic(auto)]
-
-#[cfg(test)]
-mod random;

@@ -1,4 +1,0 @@
-pub mod Runs
-pub mod Units
-pub mod Sums
-pub mod Lasting

@@ -1,5 +1,0 @@
-pub mod Table
-pub mod Name
-pub mod Run
-pub mod Duration
-pub mod Layers
