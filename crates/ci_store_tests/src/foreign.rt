@@ -1,13 +1,12 @@
 //! Stores that are not ours, and rows that are no records: written through plain SQL.
 
-use crate::plain::{Load, close, create, filled, found, open, parted, shown};
+use crate::plain::{Load, are_shown, close, create, filled, found, open, parted};
 use ci_machine::change::Counter;
 use ci_store::Connection;
 use ci_store::tables::OpenFault;
 use ci_store_disks::discard;
 use sqlite::MemStore;
 use std::alloc::Global;
-use std::process::Abort;
 use std::test::Fail;
 
 /// A store with a record of each kind, in which one statement was run.
@@ -67,19 +66,16 @@ const BROKEN: &[(&str, Load)] = &[
 ];
 
 /// Is the load broken after the statement, while project 1 is there still?
-fn spoils(rt: &impl Abort, alloc: Global, statement: &str, load: Load) -> Result<(), Fail> {
+fn is_spoilt(alloc: Global, statement: &str, load: Load) -> Result<bool, Fail> {
     let mut tables = found(open(altered(alloc, statement)?)).ok_or("not opened")?;
-    let answer = shown(alloc, &mut tables, load)?;
-    assert_eq!(rt; answer.text.as_str(), "broken", "{statement}");
-    let project = shown(alloc, &mut tables, Load::Project(1))?;
-    assert_eq!(rt; project.text.as_str(), "1 one p1 -", "{statement}");
-    Ok(())
+    let wants = [(load, "broken"), (Load::Project(1), "1 one p1 -")];
+    are_shown(alloc, &mut tables, &wants)
 }
 
 #[test]
 fn a_row_that_is_no_record_is_a_fault(rt: HostRuntime) -> Result<(), Fail> {
     for (statement, load) in BROKEN {
-        spoils(&rt, rt.alloc(), statement, *load)?;
+        assert!(rt; is_spoilt(rt.alloc(), statement, *load)?, "{statement}");
     }
     Ok(())
 }
