@@ -1,6 +1,10 @@
 -- What is said of a file's bytes.
-use Rattle.std.specs.Prelude.{◌≡◌, ◌<◌, ◌≤◌, ◌⊎◌, ℕ, List, ◌++◌, length, Ok, Err, ⊤, codes, decimal}
+use Rattle.std.specs.Prelude.{◌≡◌, ◌≢◌, ◌<◌, ◌≤◌, ◌⊎◌, ℕ, List, ◌++◌, length, Option, Result, Ok, Err, IfSome, ⊤, codes, decimal}
+use Rattle.std.specs.IoError.{error_kind}
 use Rattle.std.specs.Str.{IsUtf8}
+use Rattle.std.specs.declared.io.Error.{Error}
+use Rattle.std.specs.declared.io.ErrorKind.{ErrorKind}
+use Rattle.std.specs.declared.io.ErrorKind.TheVariants.{OutOfMemory}
 use Rattle.ci_values.specs.declared.limits.TheConstants.{MAX_FILE_BYTES}
 use Rattle.ci_yaml_lines.specs.Tree.{Value}
 use Rattle.ci_yaml_lines.specs.declared.code.Code.{Code}
@@ -53,6 +57,16 @@ Fits bs (Refused yaml.Memory) = ⊤
 Fits bs (Misconfigured fault) = IsUtf8 bs × FitsText bs (Misconfigured fault)
 Fits bs NotText = (length bs ≤ MAX_FILE_BYTES) × (IsUtf8 bs → ⊥)
 Fits bs Unread = ⊤
+
+-- what is said where a file could not be opened or read: that memory was refused, where that is the fault, and else that it
+-- could not be read
+abbrev pub TellsUnread : ErrorKind → Verdict → Type 0
+TellsUnread kind verdict = (kind ≡ OutOfMemory → verdict ≡ Refused yaml.Memory) × (kind ≢ OutOfMemory → verdict ≡ Unread)
+
+-- what is said of a file that was opened fits all its bytes, where its reader tells them; of another, why it wasn't opened
+abbrev pub IsSaidOf : {R : Type 0} → (R → Option (List ℕ)) → Result R Error → Verdict → Type 0
+IsSaidOf remaining (Ok reader) verdict = IfSome (remaining reader) (λ bytes. Fits bytes verdict)
+IsSaidOf remaining (Err fault) verdict = TellsUnread (error_kind fault) verdict
 
 abbrev pub status : Verdict → ℕ
 status (Configures n) = 0

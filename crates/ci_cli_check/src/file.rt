@@ -1,11 +1,12 @@
 //! A file that is read, judged and reported.
 
-ghost use Rattle.std.specs.Prelude.{◌≡◌, ◌+◌, ◌⊎◌, take, IfOk, OnErr, IfSome, Some, codes};
+ghost use Rattle.std.specs.Prelude.{◌≡◌, ◌≢◌, ◌+◌, take, Result, IfOk, IfErr, IfSome, Some, codes};
 ghost use Rattle.std.specs.Io.KnownBytes.{Appends};
-ghost use Rattle.ci_yaml.specs.declared.fault.YamlFault.TheVariants.{Memory};
+ghost use Rattle.std.specs.IoError.{error_kind};
+ghost use Rattle.std.specs.declared.io.Error.{Error};
+ghost use Rattle.std.specs.declared.io.ErrorKind.TheVariants.{Interrupted};
 ghost use Rattle.ci_values.specs.declared.limits.TheConstants.{MAX_FILE_BYTES};
-ghost use Rattle.ci_cli_check.specs.Verdicts.{Fits, report_line};
-ghost use Rattle.ci_cli_check.specs.declared.verdict.Verdict.TheVariants.{Unread, Refused};
+ghost use Rattle.ci_cli_check.specs.Verdicts.{Fits, TellsUnread, IsSaidOf, report_line};
 
 use crate::verdict::{Verdict, verdict_of};
 use ci_config::ConfigFault;
@@ -24,9 +25,10 @@ const INPUT: &str = "-";
 
 /// The first bytes of a reader: all of them, or 65,537 where it has more.
 ///
-/// Errors: a read failed, or memory was refused.
+/// Errors: a read failed, and not only because it was interrupted; or memory was refused.
 pub fn first_bytes<R: Read + Drop>(alloc: Global, reader: R) -> io::Result<Vec<u8>>
-    ensures { IfOk result (λ read. IfSome (R.remaining reader) (λ bytes. read.items ≡ take (MAX_FILE_BYTES + 1) bytes)) }
+    ensures bytes { IfOk result (λ read. IfSome (R.remaining reader) (λ bytes. read.items ≡ take (MAX_FILE_BYTES + 1) bytes)) }
+    ensures retried { IfErr result (λ fault. error_kind fault ≢ Interrupted) }
 {
     let mut bytes = Vec::new(alloc);
     reader.take(READ_LIMIT).read_to_end(&mut bytes)?;
@@ -68,9 +70,10 @@ fn judge<R: Read + Drop>(alloc: Global, reader: R) -> Verdict
     }
 }
 
-/// What is said of a file that could not be opened or read.
+/// What is said of a file that could not be opened or read: that memory was refused where the fault is that, and else that it
+/// could not be read.
 fn unread(fault: &io::Error) -> Verdict
-    ensures { (result ≡ Unread) ⊎ (result ≡ Refused Memory) }
+    ensures { TellsUnread (error_kind fault.now) result }
 {
     if fault.kind() == ErrorKind::OutOfMemory {
         Verdict::Refused(YamlFault::Memory)
@@ -89,7 +92,7 @@ pub fn check<R: Read + Drop, W: Write>(
     out: &mut W,
 ) -> io::Result<Verdict>
     ensures fits { IfOk result (λ verdict. IfOk file (λ reader. IfSome (R.remaining reader) (λ bytes. Fits bytes verdict))) }
-    ensures unread { OnErr file (IfOk result (λ verdict. (verdict ≡ Unread) ⊎ (verdict ≡ Refused Memory))) }
+    ensures unread { IfErr file (λ fault. IfOk result (TellsUnread (error_kind fault))) }
     ensures printed { IfOk result (λ verdict. Appends (W.contents out.old) (W.contents out.new) (report_line word.now verdict)) }
 {
     let verdict = match file {
@@ -104,7 +107,8 @@ pub fn check<R: Read + Drop, W: Write>(
     Ok(verdict)
 }
 
-/// Opens the file at a path, judges it, and prints what is said of it.
+/// Opens the file at a path, judges it, and prints what is said of it: of the bytes that the file's reader tells, or why it wasn't
+/// opened.
 ///
 /// Errors: a write failed.
 pub fn check_path<F: Files, W: Write>(
@@ -113,6 +117,7 @@ pub fn check_path<F: Files, W: Write>(
     path: &str,
     out: &mut W,
 ) -> io::Result<Verdict>
+    ensures read { IfOk result (λ verdict. (file : Result F.File Error) × IsSaidOf F.File.remaining file verdict) }
     ensures printed { IfOk result (λ verdict. Appends (W.contents out.old) (W.contents out.new) (report_line path.now verdict)) }
 {
     check(alloc, path, fs::open(files, path), out)
@@ -130,6 +135,7 @@ pub fn check_word<F: Files, R: Read + Drop, W: Write>(
     out: &mut W,
 ) -> io::Result<Verdict>
     ensures input { word.now ≡ codes "-" → IfOk result (λ verdict. IfSome (R.remaining input) (λ bytes. Fits bytes verdict)) }
+    ensures read { word.now ≢ codes "-" → IfOk result (λ verdict. (file : Result F.File Error) × IsSaidOf F.File.remaining file verdict) }
     ensures printed { IfOk result (λ verdict. Appends (W.contents out.old) (W.contents out.new) (report_line word.now verdict)) }
 {
     if word == INPUT {
