@@ -1,7 +1,12 @@
 //! Worked examples of the definitions. These functions do nothing: what they ensure is what the checker computes.
 
-ghost use Rattle.std.specs.Prelude.{◌≡◌, Some, None, codes};
+ghost use Rattle.std.specs.Prelude.{◌≡◌, true, false, [], Some, None, codes, replicate};
 ghost use Rattle.ci_values.specs.Duration.{duration_of};
+ghost use Rattle.ci_values.specs.Names.{is_name};
+ghost use Rattle.ci_values.specs.Numbers.{id_in};
+ghost use Rattle.ci_values.specs.VariableName.{is_variable_name};
+
+use crate::limits::{MAX_FILE_BYTES, MAX_MOMENT};
 
 /// What texts last.
 pub fn lasts()
@@ -25,4 +30,19 @@ pub fn lasts_not()
     ensures space_behind { duration_of (codes "60s ") ≡ None }
     ensures ten_digits { duration_of (codes "0000000060s") ≡ None }
     ensures weeks { duration_of (codes "1week") ≡ None }
+{}
+
+/// The limits of names, of numbers of records, of moments and of files: the last that is within each, and the first past it.
+pub fn has_these_limits()
+    ensures empty_name { is_name [] ≡ false }
+    ensures longest_name { is_name (replicate 255 97) ≡ true }
+    ensures long_name { is_name (replicate 256 97) ≡ false }
+    ensures longest_variable { is_variable_name (replicate 255 97) ≡ true }
+    ensures long_variable { is_variable_name (replicate 256 97) ≡ false }
+    ensures zero { id_in (codes "0") ≡ None }
+    ensures first_number { id_in (codes "1") ≡ Some 1 }
+    ensures last_number { id_in (codes "9007199254740991") ≡ Some 9007199254740991 }
+    ensures past_last_number { id_in (codes "9007199254740992") ≡ None }
+    ensures last_moment { MAX_MOMENT ≡ 253402300799 }
+    ensures file_bytes { MAX_FILE_BYTES ≡ 65536 }
 {}
