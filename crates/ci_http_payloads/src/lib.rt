@@ -3,6 +3,7 @@
 
 pub mod copy;
 pub mod creation;
+pub mod examples;
 mod json;
 pub mod limits;
 pub mod range;
