@@ -1,5 +1,5 @@
 -- Trees of small files, for worked examples.
-use Rattle.std.specs.Prelude.{ℕ, zero, suc, pos, negsuc, true, false, List, [], ◌∷◌, map, Some, None, Result, Err, codes}
+use Rattle.std.specs.Prelude.{ℕ, zero, suc, ◌+◌, pos, negsuc, Bool, true, false, List, [], ◌∷◌, map, replicate, Some, None, Result, Err, is_ok, codes}
 use Rattle.std.specs.Fmt.{signed_decimal}
 use Rattle.ci_values.specs.declared.when.AllowFailure.TheVariants.{ExitCodes}
 use Rattle.ci_values.specs.declared.when.When.TheVariants.{Manual}
@@ -37,6 +37,50 @@ with_entry key v = a_map ((codes "a", a_map ((codes "script", text (codes "x")) 
 abbrev pub jobs : ℕ → List (Text × Value)
 jobs zero = []
 jobs (suc n) = (codes "a", plain_job) ∷ jobs n
+
+-- ---- files up to a limit
+
+-- the tree configures something
+abbrev pub configures : Value → Bool
+configures v = is_ok (meaning built v)
+
+-- so many texts, each another one
+abbrev pub names : ℕ → List Value
+names zero = []
+names (suc n) = text ((n + 65) ∷ []) ∷ names n
+
+-- a file that lists so many stages
+abbrev pub with_stages : ℕ → Value
+with_stages n = a_map ((codes "stages", a_list (names n)) ∷ (codes "a", a_map ((codes "stage", text (codes ".pre")) ∷ (codes "script", text (codes "x")) ∷ [])) ∷ [])
+
+-- a file with so many jobs, and a hidden one
+abbrev pub with_jobs : ℕ → Value
+with_jobs n = a_map ((codes ".hidden", null) ∷ jobs n)
+
+-- a job with a script of so many texts
+abbrev pub with_script : ℕ → Value
+with_script n = a_map ((codes "a", a_map ((codes "script", a_list (replicate n (text (codes "x")))) ∷ [])) ∷ [])
+
+-- so many variables; a file with them, and a job with them
+abbrev pub variables : ℕ → Value
+variables n = a_map (replicate n (codes "A", text (codes "x")))
+
+abbrev pub with_variables : ℕ → Value
+with_variables n = a_map ((codes "variables", variables n) ∷ (codes "a", plain_job) ∷ [])
+
+abbrev pub with_own_variables : ℕ → Value
+with_own_variables n = with_entry (codes "variables") (variables n)
+
+-- a job with so many rules, and one with so many tags
+abbrev pub with_rules : ℕ → Value
+with_rules n = with_entry (codes "rules") (a_list (replicate n (a_map ((codes "when", text (codes "never")) ∷ []))))
+
+abbrev pub with_tags : ℕ → Value
+with_tags n = with_entry (codes "tags") (a_list (replicate n (text (codes "t"))))
+
+-- a job that may fail with these exit codes
+abbrev pub with_exit_codes : List ℕ → Value
+with_exit_codes codes_taken = with_entry (codes "allow_failure") (a_map ((codes "exit_codes", a_list (map (λ n. number (pos n)) codes_taken)) ∷ []))
 
 -- ---- names that are left out
 

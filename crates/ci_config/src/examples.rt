@@ -1,11 +1,11 @@
 //! Worked examples of the definition, and its numbers. These functions do nothing: what they ensure is what the checker computes.
 
-ghost use Rattle.std.specs.Prelude.{◌≡◌, pos, negsuc, true, [], ◌∷◌, length, Result, Ok, Err, codes};
+ghost use Rattle.std.specs.Prelude.{◌≡◌, pos, negsuc, true, [], ◌∷◌, length, replicate, Result, Ok, Err, codes};
 ghost use Rattle.ci_expr.specs.declared.fault.ExprCode.TheVariants.{X2};
 ghost use Rattle.ci_yaml_lines.specs.Tree.{boolean, number, text};
 ghost use Rattle.ci_values.specs.declared.attempts.Cause.TheVariants as cause;
 ghost use Rattle.ci_values.specs.declared.when.When.TheVariants as when;
-ghost use Rattle.ci_config.specs.Examples.{a_map, a_list, with_entry, jobs, left_out_of_files, left_out_of_jobs, left_out_of_rules, left_out_of_needs, file_with, job_with, rule_with, need_with, retry_with, meanings, all_left_out, whole_file, whole_config};
+ghost use Rattle.ci_config.specs.Examples.{a_map, a_list, with_entry, jobs, left_out_of_files, left_out_of_jobs, left_out_of_rules, left_out_of_needs, file_with, job_with, rule_with, need_with, retry_with, meanings, all_left_out, whole_file, whole_config, configures, with_jobs, with_stages, with_variables, with_own_variables, with_rules, with_script, with_tags, with_exit_codes};
 ghost use Rattle.ci_config.specs.Retries.{cause_of};
 ghost use Rattle.ci_config.specs.Whens.{when_of};
 ghost use Rattle.ci_config.specs.declared.keyword.CauseWord.TheVariants.{Always, One};
@@ -29,6 +29,29 @@ pub fn has_these_limits()
     ensures exit_codes { MAX_EXIT_CODES ≡ 32 }
     ensures exit_code { MAX_EXIT_CODE ≡ 4294967295 }
     ensures retries { MAX_RETRIES ≡ 2 }
+{}
+
+/// What is taken up to each limit, and refused one past it. A hidden job isn't counted.
+pub fn takes_up_to_these_limits()
+    ensures jobs { configures (with_jobs 100) ≡ true }
+    ensures many_jobs { meaning built (with_jobs 101) ≡ Err K11 }
+    ensures stages { configures (with_stages 32) ≡ true }
+    ensures many_stages { meaning built (with_stages 33) ≡ Err K11 }
+    ensures variables { configures (with_variables 100) ≡ true }
+    ensures many_variables { meaning built (with_variables 101) ≡ Err K11 }
+    ensures own_variables { configures (with_own_variables 100) ≡ true }
+    ensures many_own_variables { meaning built (with_own_variables 101) ≡ Err K11 }
+    ensures rules { configures (with_rules 64) ≡ true }
+    ensures many_rules { meaning built (with_rules 65) ≡ Err K11 }
+    ensures script_items { configures (with_script 256) ≡ true }
+    ensures many_script_items { meaning built (with_script 257) ≡ Err K11 }
+    ensures tags { configures (with_tags 32) ≡ true }
+    ensures many_tags { meaning built (with_tags 33) ≡ Err K11 }
+    ensures exit_codes { configures (with_exit_codes (replicate 32 1)) ≡ true }
+    ensures many_exit_codes { meaning built (with_exit_codes (replicate 33 1)) ≡ Err K11 }
+    ensures exit_code { configures (with_exit_codes (4294967295 ∷ [])) ≡ true }
+    ensures great_exit_code { meaning built (with_exit_codes (4294967296 ∷ [])) ≡ Err K4 }
+    ensures retries { configures (with_entry (codes "retry") (number (pos 2))) ≡ true }
 {}
 
 /// Files whose top level is wrong.
