@@ -11,3 +11,4 @@ pub mod Stops
 pub mod FaultText
 pub mod Block
 pub mod Blocks
+pub mod Examples

@@ -1,13 +1,16 @@
 //! Laws of the definitions. These functions do nothing: what they ensure is what the checker proves.
 
-ghost use Rattle.std.specs.Prelude.{◌≡◌, ℕ, ◌≤◌, ◌⊎◌, List, [], ◌∷◌, ◌++◌, Some, Ok, Err};
+ghost use Rattle.std.specs.Prelude.{◌≡◌, ℕ, ◌≤◌, ◌⊎◌, true, false, List, [], ◌∷◌, ◌++◌, length, Some, Ok, Err};
 ghost use Rattle.std.specs.Str.Lines.{lines};
 ghost use Rattle.ci_yaml_lines.specs.declared.code.Code.{Code};
+ghost use Rattle.ci_yaml_lines.specs.declared.code.Code.TheVariants.{Y1};
 ghost use Rattle.ci_yaml_lines.specs.Tree.{Value};
 ghost use Rattle.ci_yaml_lines.specs.Entry.{Entry};
 ghost use Rattle.ci_yaml.specs.Node.{IsDocument};
 ghost use Rattle.ci_yaml_lines.specs.Line.{Line};
 ghost use Rattle.ci_yaml.specs.Document.{Ending, Parses, HasTree, IsGood, IsLeast, IsFault};
+ghost use Rattle.ci_yaml.specs.Codes.{holds_Y10};
+ghost use Rattle.ci_yaml.specs.Examples.{key_at, list_at, nested};
 ghost use Rattle.ci_yaml.specs.Shape.{KeysDiffer, depth};
 ghost use Rattle.ci_yaml.specs.TextSpans.{HaveSpans};
 ghost use Rattle.ci_yaml_lines.specs.declared.tree.Span.{Span};
@@ -33,6 +36,17 @@ pub fn has_one_fault()
 /// In each map of a text's tree the keys differ, and at most `MAX_DEPTH` maps and lists lie within one another.
 pub fn fits()
     ensures { (bytes : List ℕ) (v : Value) → HasTree bytes v → KeysDiffer v × (depth v ≤ MAX_DEPTH) }
+{}
+
+/// A text of 65,536 bytes has the tree of its lines, and one of 65,537 is too long, whatever it holds. A tenth map or list may lie
+/// within nine others, and no eleventh within ten.
+pub fn keeps_these_limits()
+    ensures longest { (bytes : List ℕ) (es : List Entry) (end : Ending) (v : Value) → length bytes ≡ 65536 → Parses (lines bytes) es end → IsDocument v es → HasTree bytes v }
+    ensures too_long { (bytes : List ℕ) → length bytes ≡ 65537 → IsFault bytes 1 Y1 }
+    ensures deepest { holds_Y10 (nested 9) (key_at 9) ≡ false }
+    ensures too_deep { holds_Y10 (nested 10) (key_at 10) ≡ true }
+    ensures deepest_list { holds_Y10 (nested 8) (list_at 8) ≡ false }
+    ensures too_deep_list { holds_Y10 (nested 9) (list_at 9) ≡ true }
 {}
 
 /// Lines say one list of entries at most, and end in one way.
