@@ -8,3 +8,4 @@ pub mod Targets
 pub mod RequestBytes
 pub mod ReplyText
 pub mod Blanks
+pub mod Examples
