@@ -1,6 +1,6 @@
 //! What changes beside the records where an attempt ends.
 
-ghost use Rattle.std.specs.Prelude.{◌≡◌, ◌==◌, ℕ, ◌∷◌, [], false, find, Ok, Some, IfOk};
+ghost use Rattle.std.specs.Prelude.{◌≡◌, ◌==◌, ℕ, ◌∷◌, [], false, find, Ok, Err, Some, IfOk, IfErr};
 ghost use Rattle.std.specs.Option.{option_copied};
 ghost use Rattle.ci_machine.specs.declared.change.Record.TheVariants as row;
 ghost use Rattle.ci_machine.specs.declared.change.RowChange.TheVariants.{Put};
@@ -13,7 +13,7 @@ ghost use Rattle.ci_machine_statuses.specs.Changes.{HasLive};
 ghost use Rattle.ci_store.specs.Store.{LoadsBy};
 ghost use Rattle.ci_server_lookups.specs.Records.{AreOf};
 ghost use Rattle.ci_server_lookups.specs.Keeps.{IsKept};
-ghost use Rattle.ci_server_events.specs.Planning.{Settles, MovesOne, attempt_ended};
+ghost use Rattle.ci_server_events.specs.Planning.{Settles, MovesOne, attempt_ended, as_store_fault};
 
 use crate::planned::Beside;
 use crate::shows::loaded;
@@ -147,9 +147,10 @@ pub(crate) fn status_before(alloc: Global, records: &Records) -> Result<Status, 
     Ok(status)
 }
 
-/// Records that don't fit together are a fault of the store.
+/// Records that don't fit together are a fault of the store, and want of memory stays that.
 pub(crate) fn or_store_fault<A>(settled: Result<A, StatusFault>) -> Result<A, StoreFault>
-    ensures { IfOk result (λ a. settled ≡ Ok a) }
+    ensures answer { IfOk result (λ a. settled ≡ Ok a) }
+    ensures cause { IfErr settled (λ fault. result ≡ Err (as_store_fault fault)) }
 {
     match settled {
         Ok(a) => Ok(a),

@@ -15,7 +15,7 @@ returns c = λ k kept there records live over.
     let p = c.args.pipeline.now in
     let r = c.args.records.now in
     let v = c.in_ok-settled.settled in
-    let settled = at_ok _ _ _ c.in_ok-settled.ensures c.end_of.ensures.settled k.state k.board p.id kept.sound kept.are_board
+    let settled = at_ok _ _ _ c.in_ok-settled.ensures.answer c.end_of.ensures.settled k.state k.board p.id kept.sound kept.are_board
     (of_slices k.state k.board p.id _ _ _ _ _ _ _ _ c.as_slice-jobs.ensures.value c.as_slice.ensures.value c.as_slice-attempts.ensures.value c.as_slice-2.ensures.value records) live in
     let before = c.in_ok-before.ensures k p.id kept records in
     let after = c.in_ok-then.ensures ∙ (λ i. status_of_jobs (c.as_slice-jobs.ensures.value i) (c.as_slice-3.ensures.value i) (c.as_slice-4.ensures.value i)) in

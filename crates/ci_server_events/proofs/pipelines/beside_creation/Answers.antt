@@ -18,7 +18,7 @@ use Rattle.ci_server_events.proofs.pipelines.beside_creation.Goals as goal
 pub status-requires : goal.status-requires
 status-requires c =
     let rows = c.in_ok-rows.rows.items in
-    let keys = subst (λ z. IfOk z (λ v. map (λ r. r.job) v.items ≡ map (λ j. j.id) c.as_slice-jobs.result.now)) c.in_ok-rows.ensures c.rows_of_creation.ensures.jobs in
+    let keys = subst (λ z. IfOk z (λ v. map (λ r. r.job) v.items ≡ map (λ j. j.id) c.as_slice-jobs.result.now)) c.in_ok-rows.ensures.answer c.rows_of_creation.ensures.jobs in
     ap length c.as_slice-2.ensures.value
     ∙ (sym (length-map rows (λ (r : BoardRow). r.job)) ∙ (ap length keys ∙ (length-map c.as_slice-jobs.result.now (λ (j : Job). j.id) ∙ ap length c.as_slice-jobs.ensures.value)))
 
@@ -28,9 +28,9 @@ returns c =
     let it = c.args.creation.now in
     let jobs = c.as_slice-jobs in
     let needs = c.as_slice in
-    let keys = subst (λ z. IfOk z (λ v. map (λ r. r.job) v.items ≡ map (λ j. j.id) jobs.result.now)) c.in_ok-rows.ensures c.rows_of_creation.ensures.jobs in
-    let first = subst (λ z. IfOk z (λ v. IsStrictlySortedBy nat_cmp (map (λ j. j.id) jobs.result.now) → AreFirstRows jobs.result.now needs.result.now (map (λ r. r.row) v.items))) c.in_ok-rows.ensures c.rows_of_creation.ensures.rows in
-    let board = subst (λ z. IfOk z (λ v. RowsMade jobs.result.now needs.result.now v.items)) c.in_ok-rows.ensures c.rows_of_creation.ensures.board in
+    let keys = subst (λ z. IfOk z (λ v. map (λ r. r.job) v.items ≡ map (λ j. j.id) jobs.result.now)) c.in_ok-rows.ensures.answer c.rows_of_creation.ensures.jobs in
+    let first = subst (λ z. IfOk z (λ v. IsStrictlySortedBy nat_cmp (map (λ j. j.id) jobs.result.now) → AreFirstRows jobs.result.now needs.result.now (map (λ r. r.row) v.items))) c.in_ok-rows.ensures.answer c.rows_of_creation.ensures.rows in
+    let board = subst (λ z. IfOk z (λ v. RowsMade jobs.result.now needs.result.now v.items)) c.in_ok-rows.ensures.answer c.rows_of_creation.ensures.board in
     let rows = c.in_ok-rows.rows.items in
     record {
       keys = keys ∙ ap (map (λ (j : Job). j.id)) jobs.ensures.value;
