@@ -23,4 +23,7 @@ pub mod Groups
 pub mod AllLaws
 pub mod Sound
 pub mod Numbers
+pub mod Joined
+pub mod Bounded
+pub mod OneBoard
 pub mod Alike

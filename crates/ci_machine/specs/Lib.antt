@@ -29,6 +29,7 @@ pub mod Ranges
 pub mod History
 pub mod Laws
 pub mod Sound
+pub mod OneBoard
 pub mod Examples
 pub mod ActExamples
 pub mod WaitingExamples

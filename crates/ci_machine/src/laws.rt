@@ -1,6 +1,6 @@
 //! What holds of every step and of every token, whatever happens.
 
-ghost use Rattle.std.specs.Prelude.{List, [], ◌∷◌, ◌++◌, ℕ, ◌<◌, ◌^◌, ◌≡◌, map, codes, replicate, true, false, Some, None, Ok, Err};
+ghost use Rattle.std.specs.Prelude.{List, [], ◌∷◌, ◌++◌, ℕ, ◌<◌, ◌^◌, ◌≡◌, map, codes, replicate, All, true, false, Some, None, Ok, Err};
 ghost use Rattle.ci_machine.specs.declared.request.Event.{Event};
 ghost use Rattle.ci_machine.specs.declared.request.Seed.{Seed};
 ghost use Rattle.ci_machine.specs.declared.reply.Answer.{Answer};
@@ -32,6 +32,7 @@ ghost use Rattle.ci_machine.specs.Reply.{Stepped, outcome_of, detail_text};
 ghost use Rattle.ci_machine.specs.Laws.{IsRefusal, Laws};
 ghost use Rattle.ci_machine.specs.History.{Past, Leads, IsReached};
 ghost use Rattle.ci_machine.specs.Sound.{IsSound};
+ghost use Rattle.ci_machine.specs.OneBoard.{HasNoCircle, HasOneBoard, WasPending};
 ghost use Rattle.ci_machine.specs.Examples.{reply_text, project_added, with_project, new_runner, runner_added, pipeline, made, given, configured, laid_by, first_rows, pipeline_made, granted, with_pipeline, with_attempt, token, two_rows, rows, asked, project_of, pair, with_variables, set_to, stage_by, new_variable, old_variable, hundred, put_variable, seed, attempt, lease, leased, after, sent, said, swept, query, job_shown, trace_shown, hello, hello_world};
 ghost use Rattle.ci_machine.specs.ActExamples.{pipeline_query, board_from, pipeline_after, four, four_board, all_cancelled, cancelled_rows, cancel_marks, run_cancelled, run_cancelled_rows, five, five_board, first_retried, retried_rows, two, two_board, hand_played, played_rows, succeeded, succeeded_board, hand_retried};
 ghost use Rattle.ci_machine.specs.WaitingExamples.{some_runner, tagged, waits, pause, both, answer_of, with_tags, for_project, of_a_minute, heard_at, replies_at, moments, ships, shipping, after_asking};
@@ -44,6 +45,7 @@ use crate::records::{AttemptState, Cause};
 use crate::reply::{Code, Detail, FaultCode, HttpStatus, JobStatus, Swept};
 use crate::request::{Report, Request};
 use ci_board::facts::Status;
+use ci_board::laws::one_assignment;
 use ci_yaml::YamlFault;
 
 /// A step that refuses leaves the state as it was.
@@ -316,3 +318,14 @@ pub fn laws_of_each_reached_state()
 pub fn sound_of_each_reached_state()
     ensures { (s : State) → IsReached s → IsSound s }
 {}
+
+/// In each state that a history leads to, each job that waits for another is of the other's pipeline, and no job waits for
+/// itself, by way of whatever others. So the statuses of its jobs are one assignment, and there is one list of rows of them: what is
+/// said of some board is said of this one. In the state before the grant of an attempt its job had the status pending.
+pub fn one_board_of_each_reached_state()
+    ensures circles { (h : List Past) (s : State) → Leads h s → HasNoCircle s }
+    ensures board { (h : List Past) (s : State) → Leads h s → HasOneBoard s }
+    ensures pending { (h : List Past) (s : State) → Leads h s → All (WasPending h) s.attempts }
+{
+    one_assignment();
+}
