@@ -2,3 +2,4 @@ pub mod Keeping
 pub mod Handling
 pub mod Runs
 pub mod LifetimeLemmas
+pub mod Settled

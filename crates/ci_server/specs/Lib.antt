@@ -3,3 +3,4 @@ pub mod Handling
 pub mod Server
 pub mod Runs
 pub mod Lifetime
+pub mod Settled

@@ -7,6 +7,7 @@ ghost use Rattle.ci_server.specs.declared.fail_stop.FailStop.{FailStop};
 ghost use Rattle.ci_server.specs.Handling.{Call};
 ghost use Rattle.ci_server.specs.Server.{IsHonest, HandlesEach};
 ghost use Rattle.ci_server.specs.Lifetime.{Operation, ComesOf, called_each, LosesNoStep, KeepsItsGroups};
+ghost use Rattle.ci_server.specs.Settled.{HasOneHistory};
 
 use ci_machine::laws::{a_step_is_answered, laws_of_each_reached_state};
 use ci_store::Alter;
@@ -14,12 +15,17 @@ use ci_store::Alter;
 /// No step is lost. A server was made in a store that listed nothing (`Server::create`), or opened over the empty state that
 /// a failed creation left; then came requests and sweeps (`Server::handle`, `Server::sweep`, `Server::run`) in any order,
 /// with whatever moments and seeds; and as often as one likes it was stopped, within a call or after it, and opened
-/// (`Server::open`) over what the stop left, where an opening may also fail. While the disk returns what was written: the
-/// history has each step that was answered, and no other but, for each opening, that of the one call in which the store
-/// had failed. An open server holds the state that the history leads to, each file that a stop may leave stands for such a
-/// state, and its laws hold. In each such file the table `holder` has rows for just the live attempts of jobs with a resource
-/// group; a group of a project has one of these at most.
+/// (`Server::open`) over what the stop left, where an opening may also fail. While the disk returns what was written each
+/// such life has one history (`settled`): a call that was answered adds its line; an opening settles whether the one call in which the
+/// store had failed took place, and adds its line if it did; and what is settled stays, whatever happens later. An
+/// open server holds the state that its history leads to, and its laws hold. A stop leaves files of that state alone, or besides it of the
+/// one after the one unanswered call. In each such file the table `holder` has rows for just the live attempts of jobs with a
+/// resource group; a group of a project has one of these at most.
+///
+/// `kept` and `groups` say so of a server by its operations alone: what it holds, and each file that a stop may leave, is of a state that
+/// some history of them leads to.
 pub fn no_step_is_lost<S: Alter>()
+    ensures settled { HasOneHistory S.Store }
     ensures kept { (operations : List Operation) (server : FailStop (Held S)) → ComesOf S.Store operations server → IsHonest S.Store server.store → LosesNoStep S.Store operations server }
     ensures groups { (operations : List Operation) (server : FailStop (Held S)) → ComesOf S.Store operations server → IsHonest S.Store server.store → KeepsItsGroups S.Store operations server }
     ensures runs { (operations : List Operation) (old new : FailStop (Held S)) (cs : List Call) (rs : List Answer) → ComesOf S.Store operations old → HandlesEach S.Store old cs rs new → ComesOf S.Store (called_each cs rs operations) new }

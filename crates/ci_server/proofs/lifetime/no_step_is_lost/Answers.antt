@@ -1,5 +1,9 @@
 use Rattle.ci_server.proofs.LifetimeLemmas.{stands, keeps_groups, comes_of_each}
+use Rattle.ci_server.proofs.Settled.{one_history}
 use Rattle.ci_server.proofs.lifetime.no_step_is_lost.Goals as goal
+
+pub returns-clause-settled : goal.returns-clause-settled
+returns-clause-settled g c = one_history g.S.Store g.met.S.Store.settled c.laws_of_each_reached_state.ensures c.a_step_is_answered.ensures
 
 pub returns-clause-kept : goal.returns-clause-kept
 returns-clause-kept g c ops server came honest =

@@ -1,0 +1,211 @@
+-- The one history of each life.
+use Rattle.std.proofs.Common.{◌≡◌, ◌⊎◌, inl, inr, ⊎_elim, Bool, true, false, List, [], ◌∷◌, IsTrue, Some, refl, sym, ap, subst, ◌∙◌}
+use Rattle.std.proofs.lemmas.Bool.{false≢true}
+use Rattle.sqlite.specs.Tree.{Trees}
+use Rattle.sqlite.specs.Store.{Ghosts}
+use Rattle.sqlite.specs.Held.{Held, state}
+use Rattle.ci_machine.specs.declared.reply.Answer.{Answer}
+use Rattle.ci_machine.specs.Reply.{Outcome, LackedMemory, StoreFailed, outcome_of}
+use Rattle.ci_machine.specs.State.{State, empty}
+use Rattle.ci_machine.specs.Kept.{nothing_kept}
+use Rattle.ci_machine.specs.History.{Past, Leads}
+use Rattle.ci_store.specs.Open.{LeavesNoMore}
+use Rattle.ci_store.specs.Stands.{StandsIn, LeavesOnly}
+use Rattle.ci_server.specs.declared.fail_stop.FailStop.{FailStop}
+use Rattle.ci_server.specs.Holding.{HoldsIn, LeavesIn, StandsFor}
+use Rattle.ci_server.specs.Handling.{Call, Handled, answered, no_memory, look_failed, commit_failed}
+use Rattle.ci_server.specs.Server.{IsHonest, Handles, Opens}
+use Rattle.ci_server.specs.Runs.{line, by_outcome, GoesOn}
+use Rattle.ci_server.specs.Lifetime.{Operation, called, opened, unopened, Recovers, ComesOf, has_failed}
+use Rattle.ci_server.specs.Settled.{first_failed, unanswered, AddsUnanswered, IsFileOf, LeavesOne, LeavesTwo, StandsBy, HasOneHistory}
+use Rattle.ci_server.proofs.Keeping.{nothing_is_kept, groups_in}
+use Rattle.ci_server.proofs.LifetimeLemmas.{stands}
+use Rattle.ci_server.proofs.Runs.{AllLaws, AllStep, outcome-M16, outcome-M17}
+
+-- how the history goes on by a call with this outcome
+abbrev GoesOnBy : Outcome → List Past → Call → Answer → List Past → Type 0
+GoesOnBy o h c a k = by_outcome o ((s : State) × (k ≡ line s c a ∷ h)) (k ≡ h) (k ≡ h)
+
+is_file : (s : State) (db : Trees) → StandsFor s db → IsFileOf s db
+is_file s db stands = (stands, groups_in s db stands)
+
+module _ {S : Type 0} (g : Ghosts S) (settled : (s : S) (db : Trees) → IsTrue (g.view s).is_open → g.recovers s db → db ≡ (g.view s).committed) (laws : AllLaws) (steps : AllStep) where
+  -- tables that hold the state
+  holding : (ops : List Operation) (server : FailStop (Held S)) (h : List Past) (s : State) → Leads h s → HoldsIn g s server.store → StandsBy g ops server h
+  holding ops server h s leads at = record {
+    state = s;
+    leads = leads;
+    laws = laws h s leads;
+    held = λ _. at;
+    left = inl (λ db may. is_file s db (record { kept = at.kept; is_of = at.is_of; stands = at.held.left db may }));
+  }
+
+  -- a server that is closed
+  shut : (ops : List Operation) (server : FailStop (Held S)) (h : List Past) (s : State) → Leads h s → server.closed ≡ true → LeavesOne g s server ⊎ LeavesTwo g ops h s server
+      → StandsBy g ops server h
+  shut ops server h s leads is_closed left = record {
+    state = s;
+    leads = leads;
+    laws = laws h s leads;
+    held = λ o. absurd (false≢true (sym o ∙ is_closed));
+    left = left;
+  }
+
+  -- ---- a call
+
+  -- the history after a call, by the one before it
+  abbrev Next : List Operation → Call → Answer → List Past → FailStop (Held S) → Type 0
+  Next ops c a h new = (k : List Past) × GoesOn h (c ∷ []) (a ∷ []) k × StandsBy g (called c a ∷ ops) new k
+
+  called_open : (ops : List Operation) (new : FailStop (Held S)) (c : Call) (a : Answer) (h : List Past) (s : State) → has_failed ops ≡ false → Leads h s
+      → Handled (λ (x : Held S) t. HoldsIn g t x) (λ (x : Held S) t u. LeavesIn g t u x) c s new.store new.closed a → Next ops c a h new
+  called_open ops new c a h s none leads (answered t step held is_open) =
+      let is = steps s t c.0 c.1 c.2 a step in
+      (line s c a ∷ h, subst (λ o. GoesOnBy o h c a (line s c a ∷ h)) (sym is) (s, refl), holding (called c a ∷ ops) new (line s c a ∷ h) t (leads, step) held)
+  called_open ops new c a h s none leads (no_memory refuses held is_open) =
+      let is : outcome_of a ≡ LackedMemory = ap outcome_of refuses ∙ outcome-M16 c.0 in
+      (h, subst (λ o. GoesOnBy o h c a h) (sym is) refl, holding (called c a ∷ ops) new h s leads held)
+  called_open ops new c a h s none leads (look_failed refuses left is_closed) =
+      let is : outcome_of a ≡ StoreFailed = ap outcome_of refuses ∙ outcome-M17 c.0 in (
+        h,
+        subst (λ o. GoesOnBy o h c a h) (sym is) refl,
+        shut (called c a ∷ ops) new h s leads is_closed (inl (λ db may. is_file s db
+            (⊎_elim
+            (λ x. record { kept = left.before; is_of = left.is_before; stands = x })
+            (λ x. record { kept = left.after; is_of = left.is_after; stands = x })
+            (left.left db may)))),
+      )
+  called_open ops new c a h s none leads (commit_failed b t step refuses left is_closed) =
+      let is : outcome_of a ≡ StoreFailed = ap outcome_of refuses ∙ outcome-M17 c.0 in
+      let one : unanswered (called c a ∷ ops) ≡ Some c = λ i. first_failed (none i) (is i) c (unanswered ops) in
+      let more : Leads (line s c b ∷ h) t = (leads, step) in (
+        h,
+        subst (λ o. GoesOnBy o h c a h) (sym is) refl,
+        shut (called c a ∷ ops) new h s leads is_closed (inr (record {
+          after = t;
+          is_after = record { call = c; before = s; answer = b; is = one; leads = more; laws = laws _ t more };
+          each = λ db may. ⊎_elim
+              (λ x. inl (is_file s db (record { kept = left.before; is_of = left.is_before; stands = x })))
+              (λ x. inr (is_file t db (record { kept = left.after; is_of = left.is_after; stands = x })))
+              (left.left db may);
+        })),
+      )
+
+  -- a closed server refuses the call, and nothing changes
+  called_closed : (ops : List Operation) (old new : FailStop (Held S)) (c : Call) (a : Answer) (h : List Past) → StandsBy g ops old h → has_failed ops ≡ true → outcome_of a ≡ StoreFailed → new ≡ old
+      → Next ops c a h new
+  called_closed ops old new c a h was failed is same =
+      let one : unanswered (called c a ∷ ops) ≡ unanswered ops = ap (λ b. first_failed b (outcome_of a) c (unanswered ops)) failed in
+      let now : StandsBy g (called c a ∷ ops) old h = record {
+        state = was.state;
+        leads = was.leads;
+        laws = was.laws;
+        held = was.held;
+        left = ⊎_elim (λ l. inl l) (λ l. inr (record {
+          after = l.after;
+          is_after = record {
+            call = l.is_after.call;
+            before = l.is_after.before;
+            answer = l.is_after.answer;
+            is = one ∙ l.is_after.is;
+            leads = l.is_after.leads;
+            laws = l.is_after.laws;
+          };
+          each = l.each;
+        })) was.left;
+      } in
+      (h, subst (λ o. GoesOnBy o h c a h) (sym is) refl, subst (λ (o : FailStop (Held S)). StandsBy g (called c a ∷ ops) o h) (sym same) now)
+
+  called_once : (ops : List Operation) (old new : FailStop (Held S)) (c : Call) (a : Answer) (h : List Past) (closed : Bool) → old.closed ≡ closed → old.closed ≡ has_failed ops → StandsBy g ops old h
+      → Handles g old c new a → IsHonest g new.store → Next ops c a h new
+  called_once ops old new c a h true is_closed as_failed was one honest =
+      let w = one.once_closed is_closed in called_closed ops old new c a h was (sym as_failed ∙ is_closed) (ap outcome_of w.0 ∙ outcome-M17 c.0) w.1
+  called_once ops old new c a h false is_open as_failed was one honest =
+      called_open ops new c a h was.state (sym as_failed ∙ is_open) was.leads (one.while_open is_open honest was.state (h, was.leads) (was.held is_open))
+
+  -- ---- an opening
+
+  -- the history of what is found in a file that a stop left, by the one before it
+  record Found (ops : List Operation) (h : List Past) (db : Trees) : Type 0 where
+    history : List Past
+    adds : AddsUnanswered ops h history
+    state : State
+    leads : Leads history state
+    file : IsFileOf state db
+
+  found : (ops : List Operation) (old : FailStop (Held S)) (h : List Past) → StandsBy g ops old h → (db : Trees) → (state g old.store).may_leave db → Found ops h db
+  found ops old h was db may =
+      let without : IsFileOf was.state db → Found ops h db = λ file. record { history = h; adds = inl refl; state = was.state; leads = was.leads; file = file } in
+      ⊎_elim
+      (λ one. without (one db may))
+      (λ two. ⊎_elim without (λ file. let l = two.is_after in record {
+        history = line l.before l.call l.answer ∷ h;
+        adds = inr (l.call, l.before, l.answer, l.is, refl);
+        state = two.after;
+        leads = l.leads;
+        file = file;
+      }) (two.each db may))
+      was.left
+
+  -- the history after an opening
+  abbrev After : List Operation → Operation → List Past → FailStop (Held S) → Type 0
+  After ops operation h new = (k : List Past) × AddsUnanswered ops h k × StandsBy g (operation ∷ ops) new k
+
+  opened_again : (ops : List Operation) (old new : FailStop (Held S)) (conn : Held S) (h : List Past) → StandsBy g ops old h → Recovers g old.store conn → Opens g conn new → IsHonest g new.store
+      → After ops opened h new
+  opened_again ops old new conn h was recovers opens honest =
+      let f = found ops old h was (state g conn).committed.trees recovers.left in
+      let kept = f.file.0.kept in
+      let only : LeavesOnly g kept conn = λ db may. subst (StandsIn kept) (sym (settled conn.store db recovers.is_open may)) f.file.0.stands in
+      (f.history, f.adds, holding (opened ∷ ops) new f.history f.state f.leads (opens.holds honest f.state kept f.file.0.is_of only))
+
+  not_opened : (ops : List Operation) (old new : FailStop (Held S)) (conn : Held S) (h : List Past) → StandsBy g ops old h → Recovers g old.store conn → LeavesNoMore g conn new.store → new.closed ≡ true
+      → IsHonest g new.store → After ops unopened h new
+  not_opened ops old new conn h was recovers less is_closed honest =
+      let f = found ops old h was (state g conn).committed.trees recovers.left in (
+        f.history,
+        f.adds,
+        shut (unopened ∷ ops) new f.history f.state f.leads is_closed (inl (λ db may. subst (IsFileOf f.state) (sym (settled conn.store db recovers.is_open (less honest db may))) f.file)),
+      )
+
+  -- ---- a life
+
+  -- the history of a server that came of these operations
+  abbrev Told : List Operation → FailStop (Held S) → Type 0
+  Told ops server = (h : List Past) × StandsBy g ops server h
+
+  after_call : (c : Call) (a : Answer) (before : List Operation) (server : FailStop (Held S)) (came : ComesOf g (called c a ∷ before) server) → IsHonest g server.store → (was : Told before came.0)
+      → Next before c a was.0 server
+  after_call c a before server came honest was =
+      called_once before came.0 server c a was.0 came.0.closed refl (stands g settled laws steps before came.0 came.1 (came.2.was_honest honest)).1 was.1 came.2 honest
+
+  after_opening : (before : List Operation) (server : FailStop (Held S)) (came : ComesOf g (opened ∷ before) server) → IsHonest g server.store → (was : Told before came.0) → After before opened was.0 server
+  after_opening before server came honest was = opened_again before came.0 server came.1 was.0 was.1 came.4 came.5 honest
+
+  after_failure : (before : List Operation) (server : FailStop (Held S)) (came : ComesOf g (unopened ∷ before) server) → IsHonest g server.store → (was : Told before came.0) → After before unopened was.0 server
+  after_failure before server came honest was = not_opened before came.0 server came.1 was.0 was.1 came.4 came.5 came.6 honest
+
+  settle : (ops : List Operation) (server : FailStop (Held S)) → ComesOf g ops server → IsHonest g server.store → Told ops server
+  settle [] server came honest = (
+    [],
+    ⊎_elim
+        (λ made. holding [] server [] empty refl (made.holds honest))
+        (λ tables. holding [] server [] empty refl (tables.1.holds honest empty nothing_kept nothing_is_kept tables.0))
+        came.1,
+  )
+  settle (called c a ∷ before) server came honest = let n = after_call c a before server came honest (settle before came.0 came.1 (came.2.was_honest honest)) in (n.0, n.2)
+  settle (opened ∷ before) server came honest = let n = after_opening before server came honest (settle before came.0 came.2 came.3) in (n.0, n.2)
+  settle (unopened ∷ before) server came honest = let n = after_failure before server came honest (settle before came.0 came.2 came.3) in (n.0, n.2)
+
+  pub one_history : HasOneHistory g
+  unfolding settle
+  one_history = (
+    λ ops server came honest. (settle ops server came honest).0,
+    record {
+      new = λ server came honest. refl;
+      call = λ c a before server came honest. (after_call c a before server came honest (settle before came.0 came.1 (came.2.was_honest honest))).1;
+      opening = λ before server came honest. (after_opening before server came honest (settle before came.0 came.2 came.3)).1;
+      failed_opening = λ before server came honest. (after_failure before server came honest (settle before came.0 came.2 came.3)).1;
+      stands = λ ops server came honest. (settle ops server came honest).1;
+    },
+  )

@@ -1,0 +1,93 @@
+-- The one history of a life: what is settled of a server by each operation, and never chosen again.
+use Rattle.std.specs.Prelude.{◌≡◌, ◌⊎◌, Bool, true, false, List, [], ◌∷◌, Option, Some, None}
+use Rattle.sqlite.specs.Tree.{Trees}
+use Rattle.sqlite.specs.Store.{Ghosts}
+use Rattle.sqlite.specs.Held.{Held, state}
+use Rattle.ci_machine.specs.declared.reply.Answer.{Answer}
+use Rattle.ci_machine.specs.Reply.{Outcome, Stepped, LackedMemory, StoreFailed, outcome_of}
+use Rattle.ci_machine.specs.State.{State}
+use Rattle.ci_machine.specs.History.{Past, Leads}
+use Rattle.ci_machine.specs.Laws.{Laws}
+use Rattle.ci_server.specs.declared.fail_stop.FailStop.{FailStop}
+use Rattle.ci_server.specs.Holding.{HoldsIn, StandsFor, KeepsGroups}
+use Rattle.ci_server.specs.Handling.{Call}
+use Rattle.ci_server.specs.Server.{IsHonest}
+use Rattle.ci_server.specs.Runs.{line, GoesOn}
+use Rattle.ci_server.specs.Lifetime.{Operation, called, opened, unopened, ComesOf, has_failed}
+
+-- ---- the one unanswered call
+
+-- the call in which the store failed, if it hadn't failed before
+abbrev pub first_failed : Bool → Outcome → Call → Option Call → Option Call
+first_failed true outcome c earlier = earlier
+first_failed false Stepped c earlier = None
+first_failed false LackedMemory c earlier = None
+first_failed false StoreFailed c earlier = Some c
+
+-- the call in which the store has failed since the last opening, if it has
+abbrev pub unanswered : List Operation → Option Call
+unanswered [] = None
+unanswered (called c a ∷ before) = first_failed (has_failed before) (outcome_of a) c (unanswered before)
+unanswered (opened ∷ before) = None
+unanswered (unopened ∷ before) = None
+
+-- the history g is h, or h with one line more, which is of the one unanswered call
+abbrev pub AddsUnanswered : List Operation → List Past → List Past → Type 0
+AddsUnanswered operations h g = (g ≡ h) ⊎ ((c : Call) × (s : State) × (a : Answer) × (unanswered operations ≡ Some c) × (g ≡ line s c a ∷ h))
+
+-- ---- what stands by a history
+
+-- the file stands for the state, and its table `holder` has rows for just the live attempts of jobs with a resource group
+abbrev pub IsFileOf : State → Trees → Type 0
+IsFileOf s db = StandsFor s db × KeepsGroups s db
+
+-- the state after the history and one step more, which is that of the one unanswered call
+pub record IsAfterUnanswered (operations : List Operation) (h : List Past) (t : State) : Type 0 where
+  pub call : Call
+  pub before : State
+  pub answer : Answer
+  pub is : unanswered operations ≡ Some call
+  pub leads : Leads (line before call answer ∷ h) t
+  pub laws : Laws (line before call answer ∷ h) t
+
+-- each file that a stop may leave of the server stands for the state
+abbrev pub LeavesOne : {S : Type 0} → Ghosts S → State → FailStop (Held S) → Type 0
+LeavesOne g s server = (db : Trees) → (state g server.store).may_leave db → IsFileOf s db
+
+-- each of them stands for the state, or for the one after the one unanswered call
+pub record LeavesTwo {S : Type 0} (g : Ghosts S) (operations : List Operation) (h : List Past) (s : State) (server : FailStop (Held S)) : Type 0 where
+  pub after : State
+  pub is_after : IsAfterUnanswered operations h after
+  pub each : (db : Trees) → (state g server.store).may_leave db → IsFileOf s db ⊎ IsFileOf after db
+
+-- The history is that of a server which came of these operations: it leads to one state, whose laws hold. An open server holds this state,
+-- with what follows from it; and a stop leaves this state alone, or besides it the one after the one unanswered call.
+pub record StandsBy {S : Type 0} (g : Ghosts S) (operations : List Operation) (server : FailStop (Held S)) (h : List Past) : Type 0 where
+  pub state : State
+  pub leads : Leads h state
+  pub laws : Laws h state
+  pub held : server.closed ≡ false → HoldsIn g state server.store
+  pub left : LeavesOne g state server ⊎ LeavesTwo g operations h state server
+
+-- ---- over a life
+
+-- a history of each life: of operations, a server that came of them, and its disk, which has given back what was written to it
+abbrev pub Histories : {S : Type 0} → Ghosts S → Type 0
+Histories {S} g = (operations : List Operation) (server : FailStop (Held S)) → ComesOf g operations server → IsHonest g server.store → List Past
+
+-- Each life has the one history that its beginning had, gone on by its last operation. A new server has none. A call adds its line where it
+-- was answered, and else nothing. An opening, also one that fails, settles whether the one unanswered call since the opening before it took
+-- place, and adds its line if so: from then on that line is in the history, or it never is. And each server stands by its history.
+pub record AreSettled {S : Type 0} (g : Ghosts S) (history : Histories g) : Type 0 where
+  pub new : (server : FailStop (Held S)) (came : ComesOf g [] server) (honest : IsHonest g server.store) → history [] server came honest ≡ []
+  pub call : (c : Call) (a : Answer) (before : List Operation) (server : FailStop (Held S)) (came : ComesOf g (called c a ∷ before) server) (honest : IsHonest g server.store)
+      → GoesOn (history before came.0 came.1 (came.2.was_honest honest)) (c ∷ []) (a ∷ []) (history (called c a ∷ before) server came honest)
+  pub opening : (before : List Operation) (server : FailStop (Held S)) (came : ComesOf g (opened ∷ before) server) (honest : IsHonest g server.store)
+      → AddsUnanswered before (history before came.0 came.2 came.3) (history (opened ∷ before) server came honest)
+  pub failed_opening : (before : List Operation) (server : FailStop (Held S)) (came : ComesOf g (unopened ∷ before) server) (honest : IsHonest g server.store)
+      → AddsUnanswered before (history before came.0 came.2 came.3) (history (unopened ∷ before) server came honest)
+  pub stands : (operations : List Operation) (server : FailStop (Held S)) (came : ComesOf g operations server) (honest : IsHonest g server.store) → StandsBy g operations server (history operations server came honest)
+
+-- there is such a history of each life
+abbrev pub HasOneHistory : {S : Type 0} → Ghosts S → Type 0
+HasOneHistory g = (history : Histories g) × AreSettled g history
