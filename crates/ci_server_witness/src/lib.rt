@@ -3,3 +3,4 @@
 
 pub mod life;
 mod requests;
+pub mod stopped;
