@@ -6,8 +6,8 @@
 set -eu
 . "$(dirname "$0")/tables.sh"
 build create "${1:-/dev/shm}" ci_server
-# What a creation writes: a statement for each record, one for each of two next numbers, and two for each row of a status, an UPDATE
-# that finds none and an INSERT.
+# What a creation runs in its commit: a look-up of the next job, an UPDATE that finds no pipeline, and a statement for each record, for each
+# of two next numbers and for each row of a status.
 counted() {
   local rows
   rows=$(sqlite3 "$1" 'SELECT count(*) FROM job WHERE pipeline = 1;
@@ -15,7 +15,7 @@ counted() {
     SELECT count(*) FROM need WHERE job IN (SELECT id FROM job WHERE pipeline = 1);
     SELECT count(*) FROM board WHERE job IN (SELECT id FROM job WHERE pipeline = 1);' | tr '\n' ' ')
   set -- "$1" $rows
-  echo "$1: $2 jobs, $3 variables of jobs, $4 needs, $5 rows of statuses; $(($2 + $3 + $4 + 2 * $5 + 3)) statements"
+  echo "$1: $2 jobs, $3 variables of jobs, $4 needs, $5 rows of statuses; $(($2 + $3 + $4 + $5 + 5)) statements"
 }
 for turn in 1 2 3; do
   rm -f ./*.db*

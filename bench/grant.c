@@ -1,5 +1,5 @@
-/* The same commits through the C library: an attempt is added, the next number set and the row of the job put, in one
-   transaction each. */
+/* The same commits through the C library: an attempt is put, by an UPDATE that finds none and an INSERT, the next number and the row of
+   the job are put, in one transaction each. */
 #include <sqlite3.h>
 #include <stdio.h>
 #include <stdlib.h>
@@ -25,6 +25,19 @@ static void run(sqlite3 *db, sqlite3_stmt *statement) {
     sqlite3_reset(statement);
 }
 
+static void put(sqlite3 *db, sqlite3_stmt *attempt, int id) {
+    sqlite3_bind_int64(attempt, 1, id);
+    sqlite3_bind_int64(attempt, 2, id);
+    sqlite3_bind_int64(attempt, 3, 1);
+    sqlite3_bind_text(attempt, 4, "j1-abababababababababababababababab", -1, SQLITE_STATIC);
+    sqlite3_bind_int64(attempt, 5, 1000);
+    sqlite3_bind_int64(attempt, 6, 1000);
+    sqlite3_bind_int64(attempt, 7, 0);
+    sqlite3_bind_null(attempt, 8);
+    sqlite3_bind_null(attempt, 9);
+    run(db, attempt);
+}
+
 int main(int count, char **words) {
     sqlite3 *db;
     if (count != 2) return 2;
@@ -33,6 +46,7 @@ int main(int count, char **words) {
                         "DELETE FROM attempt; UPDATE meta SET num = 1 WHERE key = 'next_attempt'; UPDATE board SET status = 1", 0, 0, 0), db);
     sqlite3_stmt *begin = prepared(db, "BEGIN IMMEDIATE");
     sqlite3_stmt *commit = prepared(db, "COMMIT");
+    sqlite3_stmt *there = prepared(db, "UPDATE attempt SET id = ?1, job = ?2, runner = ?3, token = ?4, granted = ?5, seen = ?6, state = ?7, cause = ?8, exit = ?9, pieces = 0, size = 0 WHERE id = ?1");
     sqlite3_stmt *add = prepared(db, "INSERT INTO attempt (id, job, runner, token, granted, seen, state, cause, exit, pieces, size) VALUES (?1, ?2, ?3, ?4, ?5, ?6, ?7, ?8, ?9, 0, 0)");
     sqlite3_stmt *next = prepared(db, "UPDATE meta SET key = ?1, num = ?2 WHERE key = ?1");
     sqlite3_stmt *row = prepared(db, "UPDATE board SET job = ?1, status = ?2, open = ?3, failed = ?4, barred = ?5 WHERE job = ?1");
@@ -40,16 +54,8 @@ int main(int count, char **words) {
     clock_gettime(CLOCK_MONOTONIC, &from);
     for (int id = 1; id <= GRANTS; id++) {
         run(db, begin);
-        sqlite3_bind_int64(add, 1, id);
-        sqlite3_bind_int64(add, 2, id);
-        sqlite3_bind_int64(add, 3, 1);
-        sqlite3_bind_text(add, 4, "j1-abababababababababababababababab", -1, SQLITE_STATIC);
-        sqlite3_bind_int64(add, 5, 1000);
-        sqlite3_bind_int64(add, 6, 1000);
-        sqlite3_bind_int64(add, 7, 0);
-        sqlite3_bind_null(add, 8);
-        sqlite3_bind_null(add, 9);
-        run(db, add);
+        put(db, there, id);
+        put(db, add, id);
         sqlite3_bind_text(next, 1, "next_attempt", -1, SQLITE_STATIC);
         sqlite3_bind_int64(next, 2, id + 1);
         run(db, next);

@@ -1,19 +1,18 @@
 #!/usr/bin/env bash
-# Times what the patterns of a CI file cost, and the most memory that each takes: the greatest files of patterns, read whole and,
-# where they aren't refused, evaluated rule by rule on a short value; files of as many patterns as one may have, evaluated on a value
-# of 65,536 bytes; and single evaluations on such a value. Wants python3. Takes a few minutes: the program is proved before it is
-# built.
+# Times what the patterns of a CI file cost, and the most memory that each run takes: files of as many rules as one may have, read
+# and, where they aren't refused, planned; and files that are planned on the longest value that their patterns may be looked for in.
+# Wants python3. Takes a few minutes: the program is proved before it is built.
 set -eu
 . "$(dirname "$0")/tables.sh"
 need rt python3
 crate=$work/crates/bench_patterns
 mkdir -p "$crate/src" "$crate/specs"
-for low in $(for top in ci_config ci_yaml ci_expr; do below "$top"; done | sort -u); do
+for low in $(for top in ci_graph_layout ci_config ci_yaml ci_expr; do below "$top"; done | sort -u); do
   [ -d "$root/crates/$low" ] || continue
   cp -r "$root/crates/$low" "$work/crates/"
   grep "^$low:" "$root/crates.txt" >> "$work/crates.txt"
 done
-echo "bench_patterns: ci_config ci_expr ci_yaml anyhow" >> "$work/crates.txt"
+echo "bench_patterns: ci_config ci_expr ci_graph_layout ci_yaml anyhow" >> "$work/crates.txt"
 cp "$root/bench/patterns.rt.txt" "$crate/src/main.rt"
 : > "$crate/specs/Lib.antt"
 cd "$crate"
@@ -27,9 +26,7 @@ said = subprocess.run(sys.argv[1:], capture_output=True, text=True)
 used = resource.getrusage(resource.RUSAGE_CHILDREN)
 print((said.stdout + said.stderr).strip(), f"- {used.ru_utime + used.ru_stime:.2f} s, {used.ru_maxrss // 1024} MiB")' out/bench_patterns "$1"
 }
-echo "files of 65,536 bytes"
-for kind in many large words folds unicode; do row "$kind"; done
-echo "all rules of a file on 65,536 bytes"
-for kind in short long turns edges; do row "$kind"; done
-echo "one evaluation on 65,536 bytes"
-for kind in repeat classes mixed empty optional looks groups; do row "$kind"; done
+echo "files of at most 65,536 bytes"
+for kind in many versions names hundred large sets letters folds; do row "$kind"; done
+echo "creations that cost as much as they may"
+for kind in optional looks repeat words anew checked both; do row "$kind"; done

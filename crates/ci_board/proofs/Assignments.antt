@@ -15,16 +15,18 @@ use Rattle.ci_board.specs.declared.facts.Status.TheVariants as status
 use Rattle.ci_board.specs.declared.facts.Effect.{Effect}
 use Rattle.ci_board.specs.declared.facts.Facts.{Facts}
 use Rattle.ci_board.specs.declared.facts.Row.{Row}
-use Rattle.ci_board.specs.Effects.{effect, is_open, is_fail, is_bar, is_met_by_counts, is_met, idle_by_counts, idle_status, status_by, status_of_row, status_of_effects, waits_for_play}
+use Rattle.ci_board.specs.Effects.{effect, is_open, is_fail, is_bar, is_met, idle_status, status_by, status_of_effects, waits_for_play}
+use Rattle.ci_board.specs.Pass.{is_met_by_counts, idle_by_counts, status_of_row}
 use Rattle.ci_board.specs.Standing.{standing}
-use Rattle.ci_board.specs.Rows.{AreCounted, AreRows, facts_at, row_at, statuses, no_row, effect_at}
+use Rattle.ci_board.specs.Rows.{AreRows, AreNumbered, facts_at, row_at, statuses, no_row}
+use Rattle.ci_board.proofs.Counted.{AreCounted, effect_at, AreCountedRows}
 use Rattle.ci_board.specs.Statuses.{effects_of, IsAssignment, IsStatusOf, HaveAssignment}
 use Rattle.ci_board.specs.PipelineStatus.{pipeline_status}
 use Rattle.ci_board.specs.Pass.{first_row}
 use Rattle.ci_board.specs.Pass.{PassState, passed}
 use Rattle.ci_board.proofs.Orders.{ComeInOrder, HasCome, in_order, all_come}
 use Rattle.ci_board.proofs.Whole.{final_rows, final_facts}
-use Rattle.ci_board.proofs.Unique.{tally_members}
+use Rattle.ci_board.proofs.Unique.{tally_members, one_counted}
 
 -- tallies over positions are counts over their effects
 counted_step : (b : Bool) (n m : ℕ) → n ≡ m → cond b (suc n) n ≡ cond b 1 0 + m
@@ -74,8 +76,17 @@ idle_is part facts es =
     idle_step (count_by is_open es == 0) (list_any is_open es) (is_met_by_counts part.«when» (count_by is_fail es) (count_by is_bar es)) (is_met part.«when» es)
     (cond (waits_for_play part.«when» facts) status.Manual status.Pending) (any_is is_open es) (met_is part.«when» es)
 
--- rows have an assignment
-pub assignment_of : (g : JobGraph) (facts : List Facts) (rows : List Row) → AreRows g facts rows → HaveAssignment g facts rows (statuses rows)
+-- the numbers that are counted are those of the statuses
+pub numbered_of : (g : JobGraph) (facts : List Facts) (rows : List Row) → AreCounted g facts rows → AreNumbered g facts rows
+numbered_of g facts rows c j l =
+    let f : ℕ → Effect = λ (p : ℕ). effect (part_at g p) (facts_at facts p) (part_at g j).gives_needs (row_at rows p).status in
+    let o : (row_at rows j).opens ≡ count_by is_open (map f (predecessors_of g j)) = (c j l).opens ∙ counted is_open f (predecessors_of g j) in
+    let b : (row_at rows j).failed ≡ count_by is_fail (map f (predecessors_of g j)) = (c j l).failed ∙ counted is_fail f (predecessors_of g j) in
+    let w : (row_at rows j).barred ≡ count_by is_bar (map f (predecessors_of g j)) = (c j l).barred ∙ counted is_bar f (predecessors_of g j) in
+    λ i. record { status = (row_at rows j).status; opens = o i; failed = b i; barred = w i }
+
+-- rows as the code keeps them are those of the one assignment
+pub assignment_of : (g : JobGraph) (facts : List Facts) (rows : List Row) → AreCountedRows g facts rows → AreRows g facts rows
 assignment_of g facts rows r = record {
   is = λ j l.
       let f : ℕ → Effect = λ (p : ℕ). effect (part_at g p) (facts_at facts p) (part_at g j).gives_needs (row_at rows p).status in
@@ -85,12 +96,7 @@ assignment_of g facts rows r = record {
       let moved : status_of_row (part_at g j) (facts_at facts j) (row_at rows j) ≡ status_by (standing (part_at g j) (facts_at facts j)) (idle_by_counts (part_at g j) (facts_at facts j) (count_by is_open (map f (predecessors_of g j))) (count_by is_fail (map f (predecessors_of g j))) (count_by is_bar (map f (predecessors_of g j))))
       = λ i. status_by (standing (part_at g j) (facts_at facts j)) (idle_by_counts (part_at g j) (facts_at facts j) (o i) (b i) (w i)) in
       r.settled j l ∙ (moved ∙ ap (λ (s : Status). status_by (standing (part_at g j) (facts_at facts j)) s) (idle_is (part_at g j) (facts_at facts j) (map f (predecessors_of g j))));
-  each = λ j l.
-      let f : ℕ → Effect = λ (p : ℕ). effect (part_at g p) (facts_at facts p) (part_at g j).gives_needs (row_at rows p).status in
-      let o : (row_at rows j).opens ≡ count_by is_open (map f (predecessors_of g j)) = (r.counted j l).opens ∙ counted is_open f (predecessors_of g j) in
-      let b : (row_at rows j).failed ≡ count_by is_fail (map f (predecessors_of g j)) = (r.counted j l).failed ∙ counted is_fail f (predecessors_of g j) in
-      let w : (row_at rows j).barred ≡ count_by is_bar (map f (predecessors_of g j)) = (r.counted j l).barred ∙ counted is_bar f (predecessors_of g j) in
-      λ i. record { status = (row_at rows j).status; opens = o i; failed = b i; barred = w i };
+  each = numbered_of g facts rows r.counted;
 }
 
 pred_low : (g : JobGraph) → IsJobGraph g → (j x : ℕ) → j < length g.parts → 0 < times x (predecessors_of g j) → x < length g.parts
@@ -107,9 +113,9 @@ number_of g net facts rows a h p j l =
     ∙ tally_members _ _ (predecessors_of g j) (λ x m.
     ap (λ (s : Status). p (effect (part_at g x) (facts_at facts x) (part_at g j).gives_needs s)) (sym (ap (λ (r : Row). r.status) (h.each x (pred_low g net j x l m)))))
 
--- the rows of an assignment are the rows
-pub rows_of : (g : JobGraph) → IsJobGraph g → (facts : List Facts) (rows : List Row) (a : ℕ → Status) → HaveAssignment g facts rows a → AreRows g facts rows
-rows_of g net facts rows a h = record {
+-- the rows of any assignment are as the code keeps them
+counted_of_any : (g : JobGraph) → IsJobGraph g → (facts : List Facts) (rows : List Row) (a : ℕ → Status) → HaveAssignment g facts rows a → AreCountedRows g facts rows
+counted_of_any g net facts rows a h = record {
   counted = λ j l. record {
     opens = ap (λ (r : Row). r.opens) (h.each j l) ∙ number_of g net facts rows a h is_open j l;
     failed = ap (λ (r : Row). r.failed) (h.each j l) ∙ number_of g net facts rows a h is_fail j l;
@@ -120,6 +126,26 @@ rows_of g net facts rows a h = record {
       ∙ (h.is j l
       ∙ (sym (ap (λ (s : Status). status_by (standing (part_at g j) (facts_at facts j)) s) (idle_is (part_at g j) (facts_at facts j) (effects_of g facts a j)))
       ∙ sym (ap (λ (r : Row). status_of_row (part_at g j) (facts_at facts j) r) (h.each j l))));
+}
+
+pub rows_of : (g : JobGraph) → IsJobGraph g → (facts : List Facts) (rows : List Row) (a : ℕ → Status) → HaveAssignment g facts rows a → AreRows g facts rows
+rows_of g net facts rows a h = assignment_of g facts rows (counted_of_any g net facts rows a h)
+
+-- and so are right rows
+pub counted_by : (g : JobGraph) (facts : List Facts) (rows : List Row) → AreNumbered g facts rows → AreCounted g facts rows
+counted_by g facts rows n j l = record {
+  opens = ap (λ (r : Row). r.opens) (n j l) ∙ sym (counted is_open (λ (x : ℕ). effect_at g facts rows (part_at g j).gives_needs x) (predecessors_of g j));
+  failed = ap (λ (r : Row). r.failed) (n j l) ∙ sym (counted is_fail (λ (x : ℕ). effect_at g facts rows (part_at g j).gives_needs x) (predecessors_of g j));
+  barred = ap (λ (r : Row). r.barred) (n j l) ∙ sym (counted is_bar (λ (x : ℕ). effect_at g facts rows (part_at g j).gives_needs x) (predecessors_of g j));
+}
+
+pub counted_of : (g : JobGraph) (facts : List Facts) (rows : List Row) → AreRows g facts rows → AreCountedRows g facts rows
+counted_of g facts rows h = record {
+  counted = counted_by g facts rows h.each;
+  settled = λ j l.
+      h.is j l
+      ∙ (sym (ap (λ (s : Status). status_by (standing (part_at g j) (facts_at facts j)) s) (idle_is (part_at g j) (facts_at facts j) (effects_of g facts (statuses rows) j)))
+      ∙ sym (ap (λ (r : Row). status_of_row (part_at g j) (facts_at facts j) r) (h.each j l)));
 }
 
 map_members : (f h : ℕ → Effect) (xs : List ℕ) → ((x : ℕ) → 0 < times x xs → f x ≡ h x) → map f xs ≡ map h xs
@@ -166,8 +192,8 @@ first_counted g net facts i l =
       barred = ap (λ (r : Row). r.barred) row ∙ sym (tally_no _ (predecessors_of g i) (λ x. at is_bar x));
     }
 
-pub counted_first : (g : JobGraph) → IsJobGraph g → (facts : List Facts) (rows : List Row) → rows ≡ map first_row g.predecessors → AreCounted g facts rows
-counted_first g net facts rows e = rw e (first_counted g net facts)
+pub numbered_first : (g : JobGraph) → IsJobGraph g → (facts : List Facts) (rows : List Row) → rows ≡ map first_row g.predecessors → AreNumbered g facts rows
+numbered_first g net facts rows e = rw e (numbered_of g facts (map first_row g.predecessors) (first_counted g net facts))
 
 pub rows_exist : (g : JobGraph) → IsJobGraph g → (facts : List Facts) → length facts ≡ length g.parts → (rows : List Row) × AreRows g facts rows
 rows_exist g net facts l =
@@ -175,15 +201,12 @@ rows_exist g net facts l =
     let after : PassState = passed g facts g.order h in
     let long : length (map first_row g.predecessors) ≡ length g.parts = length-map g.predecessors first_row ∙ net.predecessors_long in
     let same : after.facts ≡ facts = final_facts g net facts h after l long l refl (first_counted g net facts) in
-    (after.rows, rw same at (final_rows g net facts h after long l refl (first_counted g net facts)))
+    (after.rows, rw same at (assignment_of g after.facts after.rows (final_rows g net facts h after long l refl (first_counted g net facts))))
 
 -- of the graph, the rows depend on parts and predecessors alone
 rows_like : (h : JobGraph) (successors : List (List ℕ)) (order : List ℕ) (meter : ℕ) (facts : List Facts) (rows : List Row)
     → AreRows (record { parts = h.parts; predecessors = h.predecessors; successors = successors; order = order; meter = meter }) facts rows → AreRows h facts rows
-rows_like h successors order meter facts rows r = record {
-  counted = λ i l. record { opens = (r.counted i l).opens; failed = (r.counted i l).failed; barred = (r.counted i l).barred };
-  settled = λ i l. r.settled i l;
-}
+rows_like h successors order meter facts rows r = record { is = λ j l. r.is j l; each = λ j l. r.each j l }
 
 pub same_graph : (g h : JobGraph) → h.parts ≡ g.parts → h.predecessors ≡ g.predecessors → (facts : List Facts) (rows : List Row) → AreRows g facts rows → AreRows h facts rows
 same_graph g h p q facts rows r = rows_like h g.successors g.order g.meter facts rows (rw (p, q) r)
@@ -196,13 +219,16 @@ net_back g h e = sym (ap (λ (x : JobGraph). record x { meter = g.meter }) e)
 
 pub status_worked : (g h : JobGraph) (facts fresh : List Facts) (rows : List Row) (j : ℕ) → h ≡ record g { meter = h.meter } → fresh ≡ facts → AreRows h facts rows → IsStatusOf g fresh j (row_at rows j).status
 status_worked g h facts fresh rows j e f r =
-    (statuses rows, (assignment_of g fresh rows (rows_moved h g facts fresh rows (net_back g h e) (sym f) r)).is, refl)
+    (statuses rows, (rows_moved h g facts fresh rows (net_back g h e) (sym f) r).is, refl)
 
 pub pipeline_same : (ps qs : List Part) (fs gs : List Facts) (rs ss : List Row) → ps ≡ qs → fs ≡ gs → rs ≡ ss → pipeline_status ps fs (statuses rs) ≡ pipeline_status qs gs (statuses ss)
 pipeline_same ps qs fs gs rs ss e f r = λ i. pipeline_status (e i) (f i) (statuses (r i))
 
-pub both_ways : (g : JobGraph) → IsJobGraph g → (facts : List Facts) (rows : List Row) → AreRows g facts rows ↔ HaveAssignment g facts rows (statuses rows)
-both_ways g net facts rows = (assignment_of g facts rows, λ h. rows_of g net facts rows (statuses rows) h)
+pub both_ways : (g : JobGraph) → IsJobGraph g → (facts : List Facts) (rows : List Row) → AreRows g facts rows ↔ ((a : ℕ → Status) × HaveAssignment g facts rows a)
+both_ways g net facts rows = ((λ h. (statuses rows, h)), λ h. rows_of g net facts rows h.0 h.1)
+
+pub one_list : (g : JobGraph) → IsJobGraph g → (facts : List Facts) (r s : List Row) → AreRows g facts r → AreRows g facts s → (i : ℕ) → i < length g.parts → row_at r i ≡ row_at s i
+one_list g net facts r s a b = one_counted g net facts r s (counted_of g facts r a) (counted_of g facts s b)
 
 pub one_and_only : (g : JobGraph) → IsJobGraph g → (facts : List Facts) → length facts ≡ length g.parts
     → ((rows : List Row) × AreRows g facts rows) × ((a b : ℕ → Status) → IsAssignment g facts a → IsAssignment g facts b → (i : ℕ) → i < length g.parts → a i ≡ b i)

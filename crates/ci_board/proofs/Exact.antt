@@ -1,8 +1,7 @@
 -- The answer is exact.
 use Rattle.std.proofs.Common.{◌≡◌, ◌↔◌, ℕ, zero, suc, ◌+◌, ◌<◌, ◌≤◌, ◌==◌, Bool, true, false, not, ◌&&◌, List, [], ◌∷◌, length, refl, sym, ap, ◌∙◌, arith, eqb-true, ⊎_elim}
 use Rattle.std.proofs.lemmas.Bool.{cond_both, eqb-false, eq-eqb, and_parts, and_from}
-use Rattle.ci_graph.specs.Lists.{times, number_at}
-use Rattle.ci_graph.specs.Steps.{once}
+use Rattle.ci_graph.specs.Lists.{times, number_at, once}
 use Rattle.ci_graph.proofs.Counts.{times_same, times_cases, at_times}
 use Rattle.ci_board.specs.declared.facts.Row.{Row}
 use Rattle.ci_board.specs.Effects.{status_number, is_status}

@@ -1,3 +1,5 @@
+pub mod Counted
+pub mod Computed
 pub mod Orders
 pub mod Passes
 pub mod Tallies

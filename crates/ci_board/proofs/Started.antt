@@ -10,15 +10,19 @@ use Rattle.ci_board.specs.declared.facts.Row.{Row}
 use Rattle.ci_board.specs.declared.facts.Status.{Status}
 use Rattle.ci_board.specs.declared.facts.Status.TheVariants as status
 use Rattle.ci_board.specs.Standing.{is_live}
-use Rattle.ci_board.specs.Effects.{effect, is_open, is_fail, is_bar, status_of_row, status_by, idle_by_counts}
-use Rattle.ci_board.specs.Rows.{AreRows, facts_at, row_at, effect_at, no_facts, no_row}
+use Rattle.ci_board.specs.Effects.{effect, is_open, is_fail, is_bar, status_by}
+use Rattle.ci_board.specs.Pass.{status_of_row, idle_by_counts}
+use Rattle.ci_board.specs.Rows.{facts_at, row_at, no_facts, no_row}
+use Rattle.ci_board.proofs.Counted.{effect_at, AreCountedRows}
+use Rattle.ci_board.specs.Rows.{AreRows}
+use Rattle.ci_board.proofs.Assignments.{assignment_of, counted_of}
 use Rattle.ci_board.proofs.Unique.{tally_members}
 
 abbrev running : Row → Row
 running r = record r { status = status.Running }
 
 module _ (g : JobGraph) (facts : List Facts) (rows : List Row) (j : ℕ) (fresh : Facts) (facts_long : j < length facts) (rows_long : j < length rows)
-    (pending : (row_at rows j).status ≡ status.Pending) (live : is_live fresh.last ≡ true) (are : AreRows g facts rows) where
+    (pending : (row_at rows j).status ≡ status.Pending) (live : is_live fresh.last ≡ true) (are : AreCountedRows g facts rows) where
   abbrev now_facts : List Facts
   now_facts = slice_set facts j fresh
 
@@ -59,8 +63,8 @@ module _ (g : JobGraph) (facts : List Facts) (rows : List Row) (j : ℕ) (fresh 
       ∙ ap (λ o. status_by o (idle_by_counts (part_at g j) fresh (row_at now_rows j).opens (row_at now_rows j).failed (row_at now_rows j).barred))
       (cond-true (is_live fresh.last) (Some status.Running) _ live))
 
-  pub started_rows : AreRows g now_facts now_rows
-  started_rows = record {
+  started_counted : AreCountedRows g now_facts now_rows
+  started_counted = record {
     counted = λ i l. let c = are.counted i l in record {
       opens = (numbers i).0 ∙ (c.opens ∙ counts is_open i);
       failed = (numbers i).1.0 ∙ (c.failed ∙ counts is_fail i);
@@ -73,3 +77,8 @@ module _ (g : JobGraph) (facts : List Facts) (rows : List Row) (j : ℕ) (fresh 
         ap (λ (w : Row). w.status) r ∙ (are.settled i l
         ∙ sym (ap (λ (w : Row). status_of_row (part_at g i) (facts_at now_facts i) w) r ∙ ap (λ (w : Facts). status_of_row (part_at g i) w (row_at rows i)) f)));
   }
+
+pub started_rows : (g : JobGraph) (facts : List Facts) (rows : List Row) (j : ℕ) (fresh : Facts) → j < length facts → j < length rows → (row_at rows j).status ≡ status.Pending → is_live fresh.last ≡ true
+    → AreRows g facts rows → AreRows g (slice_set facts j fresh) (slice_set rows j (running (row_at rows j)))
+started_rows g facts rows j fresh fl rl pending live are =
+    assignment_of g _ _ (started_counted g facts rows j fresh fl rl pending live (counted_of g facts rows are))

@@ -11,7 +11,8 @@ use Rattle.ci_board.specs.declared.facts.Status.{Status}
 use Rattle.ci_board.specs.Effects.{effect}
 use Rattle.ci_graph.specs.Lists.{tally, times}
 use Rattle.ci_graph.specs.JobGraph.{JobGraph, IsJobGraph, part_at, predecessors_of, successors_of}
-use Rattle.ci_board.specs.Rows.{facts_at, row_at, no_row, no_facts, effect_at}
+use Rattle.ci_board.specs.Rows.{facts_at, row_at, no_row, no_facts}
+use Rattle.ci_board.proofs.Counted.{effect_at}
 use Rattle.ci_board.specs.Pass.{PassState, moved, moved_row, side, corrected, both, differs, same_effect, was, is, put, stepped, next_status}
 use Rattle.ci_board.proofs.Tallies.{part_for, tally-le, tally_moved}
 use Rattle.ci_board.proofs.Corrects.{corrected_long, corrected_status, corrected_number}

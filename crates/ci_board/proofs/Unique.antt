@@ -4,10 +4,12 @@ use Rattle.std.proofs.lemmas.Bool.{cond_both, eqb-false}
 use Rattle.ci_board.specs.declared.facts.Effect.{Effect}
 use Rattle.ci_board.specs.declared.facts.Facts.{Facts}
 use Rattle.ci_board.specs.declared.facts.Row.{Row}
-use Rattle.ci_board.specs.Effects.{effect, is_open, is_fail, is_bar, status_of_row}
+use Rattle.ci_board.specs.Effects.{effect, is_open, is_fail, is_bar}
+use Rattle.ci_board.specs.Pass.{status_of_row}
 use Rattle.ci_graph.specs.Lists.{tally, times}
 use Rattle.ci_graph.specs.JobGraph.{JobGraph, IsJobGraph, part_at, predecessors_of}
-use Rattle.ci_board.specs.Rows.{AreRows, facts_at, row_at, effect_at}
+use Rattle.ci_board.specs.Rows.{facts_at, row_at}
+use Rattle.ci_board.proofs.Counted.{effect_at, AreCountedRows}
 use Rattle.ci_board.proofs.Orders.{ComeInOrder, HasCome, in_order, all_come}
 
 pub tally_members : (p q : ℕ → Bool) (xs : List ℕ) → ((x : ℕ) → 0 < times x xs → p x ≡ q x) → tally p xs ≡ tally q xs
@@ -26,7 +28,7 @@ number_same : (g : JobGraph) (facts : List Facts) (r s : List Row) (f : Effect �
 number_same g facts r s f j h =
     tally_members _ _ (predecessors_of g j) (λ x l. ap (λ (w : Row). f (effect (part_at g x) (facts_at facts x) (part_at g j).gives_needs w.status)) (h x l))
 
-row_same : (g : JobGraph) (facts : List Facts) (r s : List Row) → AreRows g facts r → AreRows g facts s → (j : ℕ) → j < length g.parts
+row_same : (g : JobGraph) (facts : List Facts) (r s : List Row) → AreCountedRows g facts r → AreCountedRows g facts s → (j : ℕ) → j < length g.parts
     → ((i : ℕ) → 0 < times i (predecessors_of g j) → row_at r i ≡ row_at s i) → row_at r j ≡ row_at s j
 row_same g facts r s a b j l h =
     let o : (row_at r j).opens ≡ (row_at s j).opens = (a.counted j l).opens ∙ (number_same g facts r s is_open j h ∙ sym (b.counted j l).opens) in
@@ -36,7 +38,7 @@ row_same g facts r s a b j l h =
     = λ i. status_of_row (part_at g j) (facts_at facts j) (record { status = (row_at r j).status; opens = o i; failed = f i; barred = w i }) in
     same_rows (row_at r j) (row_at s j) (a.settled j l ∙ (same ∙ sym (b.settled j l))) o f w
 
-along : (g : JobGraph) (facts : List Facts) (r s : List Row) → AreRows g facts r → AreRows g facts s → (js : List ℕ) (done : ℕ → Type 0) → ComeInOrder g done js
+along : (g : JobGraph) (facts : List Facts) (r s : List Row) → AreCountedRows g facts r → AreCountedRows g facts s → (js : List ℕ) (done : ℕ → Type 0) → ComeInOrder g done js
     → ((i : ℕ) → done i → row_at r i ≡ row_at s i) → (i : ℕ) → HasCome done js i → row_at r i ≡ row_at s i
 along g facts r s a b [] done o h i k = h i k
 along g facts r s a b (j ∷ js) done o h i k =
@@ -44,5 +46,5 @@ along g facts r s a b (j ∷ js) done o h i k =
     (λ m d. ⊎_elim (λ q. ap (λ (n : ℕ). row_at r n) q ∙ (row_same g facts r s a b j o.2 (λ x l. h x (o.0 x l)) ∙ ap (λ (n : ℕ). row_at s n) (sym q))) (λ e. h m e) d)
     i k
 
-pub one_list : (g : JobGraph) → IsJobGraph g → (facts : List Facts) (r s : List Row) → AreRows g facts r → AreRows g facts s → (i : ℕ) → i < length g.parts → row_at r i ≡ row_at s i
-one_list g net facts r s a b i l = along g facts r s a b g.order (λ _. ⊥) (in_order g net) (λ m d. absurd d) i (all_come g net i l)
+pub one_counted : (g : JobGraph) → IsJobGraph g → (facts : List Facts) (r s : List Row) → AreCountedRows g facts r → AreCountedRows g facts s → (i : ℕ) → i < length g.parts → row_at r i ≡ row_at s i
+one_counted g net facts r s a b i l = along g facts r s a b g.order (λ _. ⊥) (in_order g net) (λ m d. absurd d) i (all_come g net i l)

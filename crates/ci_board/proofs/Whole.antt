@@ -5,11 +5,13 @@ use Rattle.std.proofs.lemmas.Bool.{cond_both, eqb-false, and_parts}
 use Rattle.std.proofs.lemmas.List.{get_or-set_same, get_or-set_other, ext_get_or}
 use Rattle.ci_board.specs.declared.facts.Facts.{Facts}
 use Rattle.ci_board.specs.declared.facts.Row.{Row}
-use Rattle.ci_board.specs.Effects.{is_open, is_fail, is_bar, status_of_row}
+use Rattle.ci_board.specs.Effects.{is_open, is_fail, is_bar}
+use Rattle.ci_board.specs.Pass.{status_of_row}
 use Rattle.ci_board.specs.declared.facts.Effect.{Effect}
 use Rattle.ci_graph.specs.Lists.{times}
 use Rattle.ci_graph.specs.JobGraph.{JobGraph, IsJobGraph, part_at, predecessors_of, successors_of}
-use Rattle.ci_board.specs.Rows.{AreCounted, AreRows, facts_at, row_at, no_row, no_facts}
+use Rattle.ci_board.specs.Rows.{facts_at, row_at, no_row, no_facts}
+use Rattle.ci_board.proofs.Counted.{AreCounted, AreCountedRows}
 use Rattle.ci_board.proofs.Orders.{ComeInOrder, HasCome, in_order, all_come}
 use Rattle.ci_board.specs.Pass.{PassState, corrected, differs, same_test, same_effect, was, is, put, stepped, passed, next_status}
 use Rattle.ci_board.proofs.Corrects.{corrected_status, corrected_other}
@@ -119,7 +121,7 @@ final_facts g net fresh h after ll rl fl e c =
     ext_get_or no_facts after.facts fresh (omega arith) (λ i b. s.facts_done i (all_come g net i (omega arith)))
 
 pub final_rows : (g : JobGraph) → IsJobGraph g → (fresh : List Facts) (h after : PassState) → length h.rows ≡ length g.parts → length h.facts ≡ length g.parts
-    → after ≡ passed g fresh g.order h → AreCounted g h.facts h.rows → AreRows g after.facts after.rows
+    → after ≡ passed g fresh g.order h → AreCounted g h.facts h.rows → AreCountedRows g after.facts after.rows
 final_rows g net fresh h after rl fl e c =
     let s : Sound g fresh (λ (i : ℕ). HasCome (λ _. ⊥) g.order i) after = final_sound g net fresh h after rl fl c e in
     record {

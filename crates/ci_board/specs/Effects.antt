@@ -11,7 +11,6 @@ use Rattle.ci_graph.specs.declared.part.Part.{Part}
 use Rattle.ci_board.specs.declared.facts.Status.{Status}
 use Rattle.ci_board.specs.declared.facts.Status.TheVariants as status
 use Rattle.ci_board.specs.declared.facts.Facts.{Facts}
-use Rattle.ci_board.specs.declared.facts.Row.{Row}
 use Rattle.ci_board.specs.declared.facts.Effect.{Effect}
 use Rattle.ci_board.specs.declared.facts.Effect.TheVariants.{Good, Fails, Bars, Open}
 use Rattle.ci_board.specs.Standing.{standing}
@@ -99,18 +98,3 @@ status_by None idle = idle
 -- the status of a job: its standing, or where it is idle what its predecessors' effects make of it
 abbrev pub status_of_effects : Part → Facts → List Effect → Status
 status_of_effects part facts effects = status_by (standing part facts) (idle_status part facts effects)
-
--- the same by the numbers of open, failed and barred predecessors, as rows keep them
-abbrev pub is_met_by_counts : When → ℕ → ℕ → Bool
-is_met_by_counts «when».OnSuccess failed barred = (failed == 0) && (barred == 0)
-is_met_by_counts «when».Manual failed barred = (failed == 0) && (barred == 0)
-is_met_by_counts «when».OnFailure failed barred = not (failed == 0)
-is_met_by_counts «when».Always failed barred = true
-
-abbrev pub idle_by_counts : Part → Facts → ℕ → ℕ → ℕ → Status
-idle_by_counts part facts opens failed barred =
-    if opens == 0 then (if is_met_by_counts part.«when» failed barred then (if waits_for_play part.«when» facts then status.Manual else status.Pending) else status.Skipped)
-    else status.Created
-
-abbrev pub status_of_row : Part → Facts → Row → Status
-status_of_row part facts row = status_by (standing part facts) (idle_by_counts part facts row.opens row.failed row.barred)

@@ -1,5 +1,5 @@
 -- Pipelines for worked examples.
-use Rattle.std.specs.Prelude.{ℕ, zero, suc, ◌+◌, ◌-◌, true, false, List, [], ◌∷◌, ◌++◌, map, Some, None}
+use Rattle.std.specs.Prelude.{ℕ, zero, suc, ◌+◌, ◌-◌, true, false, List, [], ◌∷◌, ◌++◌, map, Some, None, slice_index_or}
 use Rattle.ci_values.specs.declared.attempts.AttemptState.TheVariants as attempt
 use Rattle.ci_values.specs.declared.attempts.Cause.TheVariants as cause
 use Rattle.ci_values.specs.declared.when.When.{When}
@@ -8,10 +8,10 @@ use Rattle.ci_values.specs.declared.when.AllowFailure.TheVariants as allow
 use Rattle.ci_graph.specs.JobGraph.{JobGraph, no_causes}
 use Rattle.ci_graph.specs.declared.part.Part.{Part}
 use Rattle.ci_board.specs.declared.facts.Facts.{Facts}
-use Rattle.ci_board.specs.declared.facts.Row.{Row}
 use Rattle.ci_board.specs.declared.facts.Status.{Status}
+use Rattle.ci_board.specs.declared.facts.Status.TheVariants as status
 use Rattle.ci_board.specs.Rows.{no_facts, degrees, is_touched}
-use Rattle.ci_board.specs.Pass.{passed, first_row}
+use Rattle.ci_board.specs.Statuses.{IsAssignment}
 
 -- a job that runs at this time; it gives needs
 abbrev pub job : When → Part
@@ -69,9 +69,9 @@ retried f = record f { attempts = 0 }
 
 -- ---- what comes of them
 
--- the statuses of these facts
-abbrev pub statuses_of : JobGraph → List Facts → List Status
-statuses_of g facts = map (λ (r : Row). r.status) (passed g facts g.order (record { facts = facts; rows = map first_row g.predecessors; meter = 0 })).rows
+-- these are the statuses of the jobs, in order
+abbrev pub AreStatuses : JobGraph → List Facts → List Status → Type 0
+AreStatuses g facts given = IsAssignment g facts (λ j. slice_index_or given j status.Created)
 
 -- how many edges may be looked at where this job's facts change and these rows differ afterwards
 abbrev pub edges : JobGraph → ℕ → List ℕ → ℕ

@@ -1,5 +1,6 @@
--- One pass over the order that corrects rows.
-use Rattle.std.specs.Prelude.{ℕ, ◌+◌, ◌-◌, Bool, true, false, ◌&&◌, not, List, [], ◌∷◌, length, if◌then◌else◌, nat_lt, slice_set}
+-- How the code does it, and not what is meant: one pass over the order that corrects rows, by the numbers that they keep. Only contracts of
+-- functions that the crate keeps to itself speak of these; that they come to the one assignment is proved.
+use Rattle.std.specs.Prelude.{ℕ, ◌+◌, ◌-◌, Bool, true, false, ◌&&◌, not, List, [], ◌∷◌, length, if◌then◌else◌, ◌==◌, nat_lt, slice_set}
 use Rattle.ci_board.specs.declared.facts.Status.{Status}
 use Rattle.ci_board.specs.declared.facts.Status.TheVariants as status
 use Rattle.ci_board.specs.declared.facts.Effect.{Effect}
@@ -7,9 +8,27 @@ use Rattle.ci_board.specs.declared.facts.Facts.{Facts}
 use Rattle.ci_board.specs.declared.facts.Row.{Row}
 use Rattle.ci_graph.specs.declared.part.Part.{Part}
 use Rattle.ci_board.specs.declared.pass.Effects.{Effects}
-use Rattle.ci_board.specs.Effects.{effect, is_open, is_fail, is_bar, status_of_row}
+use Rattle.ci_board.specs.Effects.{effect, is_open, is_fail, is_bar, waits_for_play, status_by}
+use Rattle.ci_board.specs.Standing.{standing}
+use Rattle.ci_values.specs.declared.when.When.{When}
+use Rattle.ci_values.specs.declared.when.When.TheVariants as «when»
 use Rattle.ci_graph.specs.JobGraph.{JobGraph, part_at, part_of, successors_of}
 use Rattle.ci_board.specs.Rows.{facts_at, row_at}
+
+-- the status of an idle job by the numbers of its open, failed and barred predecessors, as rows keep them
+abbrev pub is_met_by_counts : When → ℕ → ℕ → Bool
+is_met_by_counts «when».OnSuccess failed barred = (failed == 0) && (barred == 0)
+is_met_by_counts «when».Manual failed barred = (failed == 0) && (barred == 0)
+is_met_by_counts «when».OnFailure failed barred = not (failed == 0)
+is_met_by_counts «when».Always failed barred = true
+
+abbrev pub idle_by_counts : Part → Facts → ℕ → ℕ → ℕ → Status
+idle_by_counts part facts opens failed barred =
+    if opens == 0 then (if is_met_by_counts part.«when» failed barred then (if waits_for_play part.«when» facts then status.Manual else status.Pending) else status.Skipped)
+    else status.Created
+
+abbrev pub status_of_row : Part → Facts → Row → Status
+status_of_row part facts row = status_by (standing part facts) (idle_by_counts part facts row.opens row.failed row.barred)
 
 abbrev pub same_test : Bool → Bool → Bool
 same_test true true = true

@@ -1,12 +1,27 @@
 -- The one assignment of statuses to the jobs of a graph, and the rows that belong to it.
-use Rattle.std.specs.Prelude.{◌≡◌, ℕ, ◌<◌, List, map, length, count_by}
+use Rattle.std.specs.Prelude.{◌≡◌, ℕ, ◌<◌, false, List, map, length, count_by, slice_index_or, None}
 use Rattle.ci_graph.specs.JobGraph.{JobGraph, part_at, predecessors_of}
 use Rattle.ci_board.specs.declared.facts.Status.{Status}
+use Rattle.ci_board.specs.declared.facts.Status.TheVariants as status
 use Rattle.ci_board.specs.declared.facts.Effect.{Effect}
 use Rattle.ci_board.specs.declared.facts.Facts.{Facts}
 use Rattle.ci_board.specs.declared.facts.Row.{Row}
 use Rattle.ci_board.specs.Effects.{effect, is_open, is_fail, is_bar, status_of_effects}
-use Rattle.ci_board.specs.Rows.{facts_at, row_at}
+
+abbrev pub no_facts : Facts
+no_facts = record { last = None; attempts = 0; cancelled = false; played = false }
+
+abbrev pub no_row : Row
+no_row = record { status = status.Created; opens = 0; failed = 0; barred = 0 }
+
+abbrev pub facts_at : List Facts → ℕ → Facts
+facts_at facts j = slice_index_or facts j no_facts
+
+abbrev pub row_at : List Row → ℕ → Row
+row_at rows j = slice_index_or rows j no_row
+
+abbrev pub statuses : List Row → ℕ → Status
+statuses rows j = (row_at rows j).status
 
 -- the effects of j's predecessors, where the statuses are a
 abbrev pub effects_of : JobGraph → List Facts → (ℕ → Status) → ℕ → List Effect

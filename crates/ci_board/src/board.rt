@@ -2,7 +2,7 @@
 
 ghost use Rattle.std.specs.Prelude.{◌≡◌, ◌+◌, ◌<◌, ◌≤◌, length, IfOk, OnErr, OnOk, All};
 ghost use Rattle.ci_board.specs.Rows.{facts_at, row_at, statuses, AreRows, IsAnswer, degrees, replaced, is_touched, differing};
-ghost use Rattle.ci_board.specs.Statuses.{IsStatusOf};
+ghost use Rattle.ci_board.specs.Statuses.{IsStatusOf, row_of};
 ghost use Rattle.ci_board.specs.PipelineStatus.{pipeline_status};
 
 use crate::changes::change;
@@ -147,7 +147,8 @@ impl<L: Ledger> Board<L> {
     /// The row of the job at a position.
     pub fn row(&self, j: usize) -> Row
         requires { j < length self.now.rows }
-        ensures { result ≡ row_at self.now.rows j }
+        ensures row { result ≡ row_at self.now.rows j }
+        ensures assigned { AreRows self.now.graph self.now.facts self.now.rows → result ≡ row_of self.now.graph self.now.facts (statuses self.now.rows) j }
     {
         self.rows[j]
     }
@@ -155,7 +156,8 @@ impl<L: Ledger> Board<L> {
     /// The status of the job at a position.
     pub fn status(&self, j: usize) -> Status
         requires { j < length self.now.rows }
-        ensures { result ≡ (row_at self.now.rows j).status }
+        ensures status { result ≡ (row_at self.now.rows j).status }
+        ensures assigned { AreRows self.now.graph self.now.facts self.now.rows → IsStatusOf self.now.graph self.now.facts j result }
     {
         self.rows[j].status
     }

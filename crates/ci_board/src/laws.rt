@@ -7,7 +7,7 @@ ghost use Rattle.ci_board.specs.declared.facts.Status.{Status};
 ghost use Rattle.ci_board.specs.declared.facts.Status.TheVariants as status;
 ghost use Rattle.ci_board.specs.Standing.{is_live};
 ghost use Rattle.ci_graph.specs.JobGraph.{JobGraph, IsJobGraph};
-ghost use Rattle.ci_board.specs.Rows.{AreRows, IsAnswer, facts_at, row_at, statuses, same_row, differing};
+ghost use Rattle.ci_board.specs.Rows.{AreRows, IsAnswer, facts_at, row_at, same_row, differing};
 ghost use Rattle.ci_board.specs.Statuses.{IsAssignment, HaveAssignment};
 
 /// The rows of the same facts are the same.
@@ -15,9 +15,9 @@ pub fn one_list_of_rows()
     ensures { (g : JobGraph) → IsJobGraph g → (facts : List Facts) (r s : List Row) → AreRows g facts r → AreRows g facts s → (i : ℕ) → i < length g.parts → row_at r i ≡ row_at s i }
 {}
 
-/// Rows are right exactly where they are those of an assignment.
+/// Rows are right exactly where they are those of some assignment.
 pub fn rows_are_assigned()
-    ensures { (g : JobGraph) → IsJobGraph g → (facts : List Facts) (rows : List Row) → AreRows g facts rows ↔ HaveAssignment g facts rows (statuses rows) }
+    ensures { (g : JobGraph) → IsJobGraph g → (facts : List Facts) (rows : List Row) → AreRows g facts rows ↔ ((a : ℕ → Status) × HaveAssignment g facts rows a) }
 {}
 
 /// There is an assignment, and only one.

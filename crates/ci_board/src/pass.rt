@@ -3,7 +3,7 @@
 ghost use Rattle.std.specs.Prelude.{◌≡◌, true, false, ◌+◌, ◌<◌, ◌≤◌, ℕ, Bool, length};
 ghost use Rattle.ci_board.specs.Effects as spec;
 ghost use Rattle.ci_graph.specs.JobGraph.{IsJobGraph, successors_of};
-ghost use Rattle.ci_board.specs.Rows.{row_at, facts_at, AreCounted, AreRows, degrees};
+ghost use Rattle.ci_board.specs.Rows.{row_at, facts_at, AreNumbered, AreRows, degrees};
 ghost use Rattle.ci_board.specs.Pass as pass;
 
 use crate::effect::{effect, is_bar, is_fail, is_open};
@@ -152,8 +152,8 @@ pub fn settle<L: Ledger>(
     requires long { length rows.old ≡ length graph.old.parts }
     requires facts { length facts.old ≡ length graph.old.parts }
     requires fresh { length fresh.now ≡ length graph.old.parts }
-    ensures facts { AreCounted graph.old facts.old rows.old → facts.new ≡ fresh.now }
-    ensures rows { AreCounted graph.old facts.old rows.old → AreRows graph.old facts.new rows.new }
+    ensures facts { AreNumbered graph.old facts.old rows.old → facts.new ≡ fresh.now }
+    ensures rows { AreNumbered graph.old facts.old rows.old → AreRows graph.old facts.new rows.new }
     ensures meter { (t : ℕ → Bool) → ((i : ℕ) → t i ≡ false → facts_at fresh.now i ≡ facts_at facts.old i) → ((i : ℕ) → t i ≡ false → (row_at rows.new i).status ≡ (row_at rows.old i).status) → graph.new.meter ≤ graph.old.meter + degrees graph.old t graph.old.order }
     ensures graph { graph.new ≡ record graph.old { meter = graph.new.meter } }
 {

@@ -2,6 +2,7 @@
 
 ghost use Rattle.std.specs.Prelude.{◌≡◌};
 ghost use Rattle.ci_board.specs.Effects as spec;
+ghost use Rattle.ci_board.specs.Pass as pass;
 
 use crate::facts::{Facts, Row, Status};
 use crate::standing::standing;
@@ -9,7 +10,7 @@ use ci_graph::part::Part;
 use ci_values::when::When;
 
 fn is_met(when: When, failed: usize, barred: usize) -> bool
-    ensures { result ≡ spec.is_met_by_counts when failed barred }
+    ensures { result ≡ pass.is_met_by_counts when failed barred }
 {
     match when {
         When::OnSuccess | When::Manual => failed == 0 && barred == 0,
@@ -28,7 +29,7 @@ fn waits_for_play(when: When, facts: Facts) -> bool
 }
 
 fn idle_status(part: &Part, facts: Facts, row: Row) -> Status
-    ensures { result ≡ spec.idle_by_counts part.now facts row.opens row.failed row.barred }
+    ensures { result ≡ pass.idle_by_counts part.now facts row.opens row.failed row.barred }
 {
     if row.opens != 0 {
         Status::Created
@@ -45,7 +46,7 @@ fn idle_status(part: &Part, facts: Facts, row: Row) -> Status
 
 /// The status that the job's facts and its row's numbers give it.
 pub fn status_of(part: &Part, facts: Facts, row: Row) -> Status
-    ensures { result ≡ spec.status_of_row part.now facts row }
+    ensures { result ≡ pass.status_of_row part.now facts row }
 {
     match standing(part, facts) {
         Some(status) => status,

@@ -1,21 +1,21 @@
--- Where every pattern is refused, a tree is read as where every pattern is built, or X8 comes of a pattern.
-use Rattle.std.proofs.Common.{◌≡◌, ◌⊎◌, inl, inr, ℕ, Bool, true, false, cond, List, [], ◌∷◌, ◌++◌, Option, Some, None, Result, Ok, Err, not, length, refl, sym, ◌∙◌, ap, subst}
+-- With any choice of the patterns that are built a tree is read as with each, or X8 comes of a pattern.
+use Rattle.std.proofs.Common.{◌≡◌, ◌⊎◌, inl, inr, ℕ, Bool, true, false, cond, List, [], ◌∷◌, ◌++◌, Option, Some, None, Result, Ok, Err, not, ◌&&◌, ◌||◌, length, refl, sym, ◌∙◌, ap, subst}
 use Rattle.std.specs.Prelude.{nat_lt}
 use Rattle.ci_values.specs.Names.{is_name}
 use Rattle.ci_values.specs.Table.{meaning_of, word_in}
 use Rattle.ci_yaml_lines.specs.Tree.{sequence, mapping, Value, null, boolean, number, text, node, Members, no_members, member}
 use Rattle.ci_expr.specs.declared.fault.ExprCode.{ExprCode}
 use Rattle.ci_expr.specs.declared.fault.ExprCode.TheVariants.{X8}
-use Rattle.ci_expr.specs.Formula.{Formula, has_pattern}
+use Rattle.ci_expr.specs.Formula.{Formula, joined, group, present, equal, found, has_pattern}
 use Rattle.ci_config.specs.Config.{Text, Rule, Job, Config}
 use Rattle.ci_expr.specs.Computed.{expression_of}
-use Rattle.ci_config.specs.Expressions.{Patterns, built, refused, condition_by, condition_of}
+use Rattle.ci_config.specs.Expressions.{Patterns, built, refused, are_built, condition_by, condition_of}
 use Rattle.ci_config.specs.Fault.{Fault, K1, K11, K13, K16}
 use Rattle.ci_config.specs.Files.{FileSaid, job_of, with_job, job_value, is_hidden, other_value, file_value, file_entry, blank_file, file_from}
 use Rattle.ci_config.specs.Jobs as job
 use Rattle.ci_config.specs.Jobs.{rules_value, job_entry, blank_job, job_from}
 use Rattle.ci_config.specs.Laws.{HasNoPattern, LacksPatterns, AllLackPatterns, Each}
-use Rattle.ci_config.specs.Meaning.{Means, meant, no_pattern, judged, config_of, file_config, meaning}
+use Rattle.ci_config.specs.Meaning.{Means, judged, config_of, file_config, meaning}
 use Rattle.ci_config.specs.Reading.{◌>>=◌, demand, each, entries, keyword_of}
 use Rattle.ci_config.specs.Rules.{condition_value, rule_value, rule_entry, blank_rule, rule_from, rule_of, rules_from, rules_of}
 use Rattle.ci_config.specs.Tables.{rule_keywords, rule_left_out, job_keywords, job_left_out, file_keywords, file_left_out}
@@ -27,50 +27,64 @@ use Rattle.ci_config.specs.declared.keyword.RuleKeyword.{RuleKeyword}
 use Rattle.ci_config.specs.declared.keyword.RuleKeyword.TheVariants as of_rule
 use Rattle.ci_config.specs.declared.limits.TheConstants.{MAX_RULES, MAX_JOBS}
 
--- Both are the same; or X8 comes where every pattern is refused, and then it isn't so that there is no pattern.
+-- With any choice of the patterns that are built it is read as with each; or it is X8, and with none built too, and then it
+-- isn't so that there is no pattern.
+abbrev pub ReadsBy : {A : Type 0} → Type 0 → (Patterns → Result A Fault) → Patterns → Type 0
+ReadsBy Lacks m p = (m p ≡ m built) ⊎ ((Lacks → ⊥) × (m p ≡ Err (K13 X8)) × (m refused ≡ Err (K13 X8)))
+
 abbrev pub Alike : {A : Type 0} → Type 0 → (Patterns → Result A Fault) → Type 0
-Alike Lacks m = (m refused ≡ m built) ⊎ ((Lacks → ⊥) × (m refused ≡ Err (K13 X8)))
+Alike Lacks m = (p : Patterns) → ReadsBy Lacks m p
 
 weaken : {A : Type 0} {P Q : Type 0} (m : Patterns → Result A Fault) → (Q → P) → Alike P m → Alike Q m
-weaken m f (inl e) = inl e
-weaken m f (inr (some, e)) = inr (λ q. some (f q), e)
+weaken {P = P} {Q = Q} m f h p = either (h p)
+  where
+    either : ReadsBy P m p → ReadsBy Q m p
+    either (inl e) = inl e
+    either (inr (some, e, g)) = inr (λ q. some (f q), e, g)
 
 alike-then : {A B : Type 0} {P : Type 0} (m : Patterns → Result A Fault) (k : A → Patterns → Result B Fault) → Alike P m → ((x : A) → Alike P (k x)) → Alike P (λ p. m p >>= λ x. k x p)
-alike-then m k (inr (some, e)) h = inr (some, ap (λ r. r >>= λ x. k x refused) e)
-alike-then {A = A} {P = P} m k (inl e) h = by-value (m built) refl
+alike-then {A = A} {P = P} m k h next p = either (h p)
   where
-    either : (x : A) → m built ≡ Ok x → Alike P (k x) → Alike P (λ p. m p >>= λ x. k x p)
-    either x is (inl g) = inl (ap (λ r. r >>= λ x. k x refused) (e ∙ is) ∙ g ∙ sym (ap (λ r. r >>= λ x. k x built) is))
-    either x is (inr (some, g)) = inr (some, ap (λ r. r >>= λ x. k x refused) (e ∙ is) ∙ g)
+    none : (x : A) → m built ≡ Ok x → k x refused ≡ Err (K13 X8) → ReadsBy P m refused → (m refused >>= λ x. k x refused) ≡ Err (K13 X8)
+    none x is g (inl e) = ap (λ r. r >>= λ y. k y refused) (e ∙ is) ∙ g
+    none x is g (inr (some, e, same)) = ap (λ r. r >>= λ y. k y refused) e
 
-    by-value : (r : Result A Fault) → m built ≡ r → Alike P (λ p. m p >>= λ x. k x p)
-    by-value (Err f) is = inl (ap (λ r. r >>= λ x. k x refused) (e ∙ is) ∙ sym (ap (λ r. r >>= λ x. k x built) is))
-    by-value (Ok x) is = either x is (h x)
+    onward : (x : A) → m p ≡ m built → m built ≡ Ok x → ReadsBy P (k x) p → ReadsBy P (λ p. m p >>= λ x. k x p) p
+    onward x e is (inl g) = inl (ap (λ r. r >>= λ y. k y p) (e ∙ is) ∙ g ∙ sym (ap (λ r. r >>= λ y. k y built) is))
+    onward x e is (inr (some, g, n)) = inr (some, ap (λ r. r >>= λ y. k y p) (e ∙ is) ∙ g, none x is n (h refused))
+
+    by-value : m p ≡ m built → (r : Result A Fault) → m built ≡ r → ReadsBy P (λ p. m p >>= λ x. k x p) p
+    by-value e (Err f) is = inl (ap (λ r. r >>= λ y. k y p) (e ∙ is) ∙ sym (ap (λ r. r >>= λ y. k y built) is))
+    by-value e (Ok x) is = onward x e is (next x p)
+
+    either : ReadsBy P m p → ReadsBy P (λ p. m p >>= λ x. k x p) p
+    either (inl e) = by-value e (m built) refl
+    either (inr (some, e, g)) = inr (some, ap (λ r. r >>= λ y. k y p) e, ap (λ r. r >>= λ y. k y refused) g)
 
 alike-read : {A B : Type 0} {P : Type 0} (m : Result A Fault) (k : A → Patterns → Result B Fault) → ((x : A) → m ≡ Ok x → Alike P (k x)) → Alike P (λ p. m >>= λ x. k x p)
 alike-read (Ok x) k h = h x refl
-alike-read (Err f) k h = inl refl
+alike-read (Err f) k h = λ p. inl refl
 
 alike-demand : {A : Type 0} {P : Type 0} (holds : Bool) (f : Fault) (m : Patterns → Result A Fault) → Alike P m → Alike P (λ p. demand holds f (m p))
 alike-demand true f m h = h
-alike-demand false f m h = inl refl
+alike-demand false f m h = λ p. inl refl
 
 alike-each : {A B : Type 0} (P : A → Type 0) (read : Patterns → List B → A → Result B Fault) → ((done : List B) (x : A) → Alike (P x) (λ p. read p done x))
     → (done : List B) (xs : List A) → Alike (Each P xs) (λ p. each (read p) done xs)
-alike-each P read h done [] = inl refl
+alike-each P read h done [] = λ p. inl refl
 alike-each P read h done (x ∷ xs) =
     alike-then (λ p. read p done x) (λ y p. each (read p) (done ++ y ∷ []) xs) (weaken (λ p. read p done x) (λ q. q.0) (h done x))
     (λ y. weaken (λ p. each (read p) (done ++ y ∷ []) xs) (λ q. q.1) (alike-each P read h (done ++ y ∷ []) xs))
 
 alike-entries : {A S : Type 0} (P : A → Type 0) (set : Patterns → A → S → Result S Fault) → ((x : A) (s : S) → Alike (P x) (λ p. set p x s))
     → (s : S) (xs : List A) → Alike (Each P xs) (λ p. entries (set p) s xs)
-alike-entries P set h s [] = inl refl
+alike-entries P set h s [] = λ p. inl refl
 alike-entries P set h s (x ∷ xs) =
     alike-then (λ p. set p x s) (λ next p. entries (set p) next xs) (weaken (λ p. set p x s) (λ q. q.0) (h x s))
     (λ next. weaken (λ p. entries (set p) next xs) (λ q. q.1) (alike-entries P set h next xs))
 
 -- ---- what lies within a tree without a pattern
-abbrev LackPatterns : List (Text × Value) → Type 0
+abbrev pub LackPatterns : List (Text × Value) → Type 0
 LackPatterns ms = Each (λ m. LacksPatterns m.1) ms
 
 text-lacks : (v : Value) (bs : Text) → text_of v ≡ Ok bs → LacksPatterns v → HasNoPattern bs
@@ -105,34 +119,81 @@ map-lacks (node sequence ms) vs e h = absurd cc
 map-lacks (node mapping ms) vs e h = let same : pairs_in ms ≡ vs = cc in subst LackPatterns same (pairs-lack ms h)
 
 -- ---- rules
-alike-condition : (bs : Text) → Alike (HasNoPattern bs) (condition_of bs)
-alike-condition bs = by-value (expression_of bs) refl
-  where
-    by-test : (f : Formula) (b : Bool) → expression_of bs ≡ Ok f → has_pattern f ≡ b
-        → (demand (not b) (K13 X8) (Ok f) ≡ Ok f) ⊎ ((HasNoPattern bs → ⊥) × (demand (not b) (K13 X8) (Ok f) ≡ Err (K13 X8)))
-    by-test f true is has = inr (λ none. let no : has_pattern f ≡ false = none f is in absurd cc, refl)
-    by-test f false is has = inl refl
+-- with each pattern built; with none; and where there is none
+and-true : (a b : Bool) → a ≡ true → b ≡ true → a && b ≡ true
+and-true a b e f = ap (λ x. x && b) e ∙ f
 
-    by-value : (r : Result Formula ExprCode) → expression_of bs ≡ r → Alike (HasNoPattern bs) (λ p. condition_by p r)
+pub each-built : (f : Formula) → are_built built f ≡ true
+each-built (joined j f g) = and-true (are_built built f) (are_built built g) (each-built f) (each-built g)
+each-built (group f) = each-built f
+each-built (present name) = refl
+each-built (equal negated name operand) = refl
+each-built (found negated name source insensitive) = refl
+
+neither : (a b : Bool) → not a && not b ≡ not (a || b)
+neither true b = refl
+neither false b = refl
+
+pub none-built : (f : Formula) → are_built refused f ≡ not (has_pattern f)
+none-built (joined j f g) =
+    ap (λ b. b && are_built refused g) (none-built f) ∙ ap (λ b. not (has_pattern f) && b) (none-built g) ∙ neither (has_pattern f) (has_pattern g)
+none-built (group f) = none-built f
+none-built (present name) = refl
+none-built (equal negated name operand) = refl
+none-built (found negated name source insensitive) = refl
+
+none-of-two : (a b : Bool) → a || b ≡ false → (a ≡ false) × (b ≡ false)
+none-of-two true b e = absurd cc
+none-of-two false b e = (refl, e)
+
+lacking-built : (p : Patterns) (f : Formula) → has_pattern f ≡ false → are_built p f ≡ true
+lacking-built p (joined j f g) e =
+    let two = none-of-two (has_pattern f) (has_pattern g) e in
+    and-true (are_built p f) (are_built p g) (lacking-built p f two.0) (lacking-built p g two.1)
+lacking-built p (group f) e = lacking-built p f e
+lacking-built p (present name) e = refl
+lacking-built p (equal negated name operand) e = refl
+lacking-built p (found negated name source insensitive) e = absurd cc
+
+-- a formula, where its patterns are built
+abbrev pub taken : Formula → Bool → Result Formula Fault
+taken f b = demand b (K13 X8) (Ok f)
+
+alike-condition : (bs : Text) → Alike (HasNoPattern bs) (condition_of bs)
+alike-condition bs p = by-value (expression_of bs) refl
+  where
+    has-some : (f : Formula) (b : Bool) → has_pattern f ≡ b → are_built p f ≡ false → b ≡ true
+    has-some f true is e = refl
+    has-some f false is e = let all : are_built p f ≡ true = lacking-built p f is in absurd cc
+
+    by-test : (f : Formula) (b : Bool) → expression_of bs ≡ Ok f → are_built p f ≡ b
+        → (taken f (are_built p f) ≡ taken f (are_built built f)) ⊎ ((HasNoPattern bs → ⊥) × (taken f (are_built p f) ≡ Err (K13 X8)) × (taken f (are_built refused f) ≡ Err (K13 X8)))
+    by-test f true is e = inl (ap (taken f) (e ∙ sym (each-built f)))
+    by-test f false is e =
+        let has : has_pattern f ≡ true = has-some f (has_pattern f) refl e in
+        inr (λ none. let no : has_pattern f ≡ false = none f is in absurd cc, ap (taken f) e, ap (taken f) (none-built f ∙ ap not has))
+
+    by-value : (r : Result Formula ExprCode) → expression_of bs ≡ r
+        → (condition_by p r ≡ condition_by built r) ⊎ ((HasNoPattern bs → ⊥) × (condition_by p r ≡ Err (K13 X8)) × (condition_by refused r ≡ Err (K13 X8)))
     by-value (Err x) is = inl refl
-    by-value (Ok f) is = by-test f (has_pattern f) is refl
+    by-value (Ok f) is = by-test f (are_built p f) is refl
 
 alike-condition_value : (v : Value) (r : Rule) → Alike (LacksPatterns v) (condition_value v r)
 alike-condition_value v r =
     alike-read (text_of v) (λ bs p. condition_of bs p >>= λ f. Ok (record r { condition = Some f }))
-    (λ bs e. alike-then (condition_of bs) (λ f p. Ok (record r { condition = Some f })) (weaken (condition_of bs) (text-lacks v bs e) (alike-condition bs)) (λ f. inl refl))
+    (λ bs e. alike-then (condition_of bs) (λ f p. Ok (record r { condition = Some f })) (weaken (condition_of bs) (text-lacks v bs e) (alike-condition bs)) (λ f p. inl refl))
 
 alike-rule_value : (k : RuleKeyword) (v : Value) (r : Rule) → Alike (LacksPatterns v) (rule_value k v r)
 alike-rule_value of_rule.If v r = alike-condition_value v r
-alike-rule_value (of_rule.Plain k) v r = inl refl
+alike-rule_value (of_rule.Plain k) v r = λ p. inl refl
 
-alike-rule_entry : (m : Text × Value) (r : Rule) → Alike (LacksPatterns m.1) (λ p. rule_entry p m r)
+pub alike-rule_entry : (m : Text × Value) (r : Rule) → Alike (LacksPatterns m.1) (λ p. rule_entry p m r)
 alike-rule_entry m r = alike-read (keyword_of rule_keywords rule_left_out m.0) (λ k. rule_value k m.1 r) (λ k e. alike-rule_value k m.1 r)
 
 alike-rule_from : (ms : List (Text × Value)) → Alike (LackPatterns ms) (λ p. rule_from p ms)
 alike-rule_from ms = alike-entries (λ m. LacksPatterns m.1) rule_entry alike-rule_entry blank_rule ms
 
-alike-rule_of : (before : List Rule) (v : Value) → Alike (LacksPatterns v) (λ p. rule_of p before v)
+pub alike-rule_of : (before : List Rule) (v : Value) → Alike (LacksPatterns v) (λ p. rule_of p before v)
 alike-rule_of before v =
     alike-read (map_of v) (λ ms p. demand (nat_lt (length before) MAX_RULES) K11 (rule_from p ms))
     (λ ms e. alike-demand (nat_lt (length before) MAX_RULES) K11 (λ p. rule_from p ms) (weaken (λ p. rule_from p ms) (map-lacks v ms e) (alike-rule_from ms)))
@@ -143,13 +204,13 @@ alike-rules_of v =
 
 -- ---- jobs
 alike-rules_value : (v : Value) (j : Job) → Alike (LacksPatterns v) (rules_value v j)
-alike-rules_value v j = alike-then (rules_of v) (λ rs p. Ok (record j { rules = Some rs })) (alike-rules_of v) (λ rs. inl refl)
+alike-rules_value v j = alike-then (rules_of v) (λ rs p. Ok (record j { rules = Some rs })) (alike-rules_of v) (λ rs p. inl refl)
 
 alike-job_value : (k : JobKeyword) (v : Value) (j : Job) → Alike (LacksPatterns v) (job.job_value k v j)
 alike-job_value of_job.Rules v j = alike-rules_value v j
-alike-job_value (of_job.Plain k) v j = inl refl
+alike-job_value (of_job.Plain k) v j = λ p. inl refl
 
-alike-job_entry : (m : Text × Value) (j : Job) → Alike (LacksPatterns m.1) (λ p. job_entry p m j)
+pub alike-job_entry : (m : Text × Value) (j : Job) → Alike (LacksPatterns m.1) (λ p. job_entry p m j)
 alike-job_entry m j = alike-read (keyword_of job_keywords job_left_out m.0) (λ k. job.job_value k m.1 j) (λ k e. alike-job_value k m.1 j)
 
 alike-job_from : (name : Text) (ms : List (Text × Value)) → Alike (LackPatterns ms) (λ p. job_from p name ms)
@@ -163,25 +224,28 @@ alike-job_of before name v =
     (alike-demand (is_name name) K16 (λ p. job_from p name ms) (weaken (λ p. job_from p name ms) (map-lacks v ms e) (alike-job_from name ms))))
 
 alike-file_job : (name : Text) (v : Value) (f : FileSaid) → Alike (LacksPatterns v) (job_value name v f)
-alike-file_job name v f = alike-then (job_of (length f.jobs) name v) (λ j p. Ok (with_job f j)) (alike-job_of (length f.jobs) name v) (λ j. inl refl)
+alike-file_job name v f = alike-then (job_of (length f.jobs) name v) (λ j p. Ok (with_job f j)) (alike-job_of (length f.jobs) name v) (λ j p. inl refl)
 
 alike-other_value : (o : Option Text) (key : Text) (v : Value) (f : FileSaid) → Alike (LacksPatterns v) (other_value o key v f)
-alike-other_value (Some name) key v f = inl refl
+alike-other_value (Some name) key v f = λ p. inl refl
 alike-other_value None key v f = by-test (is_hidden key)
   where
     by-test : (b : Bool) → Alike (LacksPatterns v) (λ p. cond b (Ok f) (job_value key v f p))
-    by-test true = inl refl
+    by-test true = λ p. inl refl
     by-test false = alike-file_job key v f
 
 alike-file_value : (o : Option FileKeyword) (key : Text) (v : Value) (f : FileSaid) → Alike (LacksPatterns v) (file_value o key v f)
-alike-file_value (Some k) key v f = inl refl
+alike-file_value (Some k) key v f = λ p. inl refl
 alike-file_value None key v f = alike-other_value (word_in file_left_out key) key v f
 
-alike-file_entry : (m : Text × Value) (f : FileSaid) → Alike (LacksPatterns m.1) (λ p. file_entry p m f)
+pub alike-file_entry : (m : Text × Value) (f : FileSaid) → Alike (LacksPatterns m.1) (λ p. file_entry p m f)
 alike-file_entry m f = alike-file_value (meaning_of file_keywords m.0) m.0 m.1 f
 
+pub alike-file_from : (ms : List (Text × Value)) → Alike (LackPatterns ms) (file_from ms)
+alike-file_from ms = alike-entries (λ m. LacksPatterns m.1) file_entry alike-file_entry blank_file ms
+
 alike-file_config : (ms : List (Text × Value)) → Alike (LackPatterns ms) (file_config ms)
-alike-file_config ms = alike-then (file_from ms) (λ f p. judged (config_of f)) (alike-entries (λ m. LacksPatterns m.1) file_entry alike-file_entry blank_file ms) (λ f. inl refl)
+alike-file_config ms = alike-then (file_from ms) (λ f p. judged (config_of f)) (alike-file_from ms) (λ f p. inl refl)
 
 pub alike : (v : Value) → Alike (LacksPatterns v) (λ p. meaning p v)
 alike v =
@@ -190,14 +254,16 @@ alike v =
 
 -- ---- the answers of a tree
 pub one-answer : (v : Value) (r s : Result Config Fault) → Means v r → Means v s → (r ≡ s) ⊎ ((r ≡ Err (K13 X8)) ⊎ (s ≡ Err (K13 X8)))
-one-answer v r s (meant a) (meant b) = inl (a ∙ sym b)
-one-answer v r s (no_pattern a c) h = inr (inl a)
-one-answer v r s (meant a) (no_pattern b c) = inr (inr b)
+one-answer v r s (p, a) (q, b) = by-readings (alike v p) (alike v q)
+  where
+    by-readings : ReadsBy (LacksPatterns v) (λ p. meaning p v) p → ReadsBy (LacksPatterns v) (λ p. meaning p v) q → (r ≡ s) ⊎ ((r ≡ Err (K13 X8)) ⊎ (s ≡ Err (K13 X8)))
+    by-readings (inl e) (inl f) = inl (sym a ∙ e ∙ sym f ∙ b)
+    by-readings (inr (some, e, none)) h = inr (inl (sym a ∙ e))
+    by-readings (inl e) (inr (some, f, none)) = inr (inr (sym b ∙ f))
 
 pub once : (v : Value) (r : Result Config Fault) → LacksPatterns v → Means v r → r ≡ meaning built v
-once v r none (meant a) = a
-once v r none (no_pattern a c) = by-reading (alike v)
+once v r none (p, a) = by-reading (alike v p)
   where
-    by-reading : Alike (LacksPatterns v) (λ p. meaning p v) → r ≡ meaning built v
-    by-reading (inl e) = a ∙ sym c ∙ e
-    by-reading (inr (some, e)) = absurd (some none)
+    by-reading : ReadsBy (LacksPatterns v) (λ p. meaning p v) p → r ≡ meaning built v
+    by-reading (inl e) = sym a ∙ e
+    by-reading (inr (some, e, refuses)) = absurd (some none)

@@ -1,17 +1,18 @@
 -- The condition of a rule: what `ci_expr` answers is what is read.
-use Rattle.std.proofs.Common.{◌≡◌, ◌⊎◌, inl, inr, ℕ, Bool, true, false, not, List, Result, Ok, Err, refl, ◌∙◌, ap}
+use Rattle.std.proofs.Common.{◌≡◌, ℕ, not, List, Result, Ok, Err, refl, sym, ◌∙◌, ap, subst}
 use Rattle.ci_expr.specs.declared.expr.Expr.{Expr}
 use Rattle.ci_expr.specs.declared.fault.ExprCode.{ExprCode}
-use Rattle.ci_expr.specs.declared.fault.ExprCode.TheVariants.{X8}
 use Rattle.ci_expr.specs.declared.fault.ExprFault.TheVariants as errors
 use Rattle.ci_expr.specs.Built.{formula_of}
-use Rattle.ci_expr.specs.Formula.{Formula, has_pattern}
+use Rattle.ci_expr.specs.Formula.{Formula}
 use Rattle.ci_expr.specs.Meaning.{Allows, IsOwn, IsMeaning}
-use Rattle.ci_config.specs.Answer.{Finds, Stops}
+use Rattle.ci_config.specs.Answer.{builds_for}
 use Rattle.ci_expr.specs.Computed.{expression_of}
 use Rattle.ci_config.specs.Expressions.{built, refused, condition_by, condition_of}
 use Rattle.ci_config.specs.Fault.{Fault, K13}
-use Rattle.ci_config.specs.Reading.{demand}
+use Rattle.ci_config.specs.declared.fault.ConfigCode.TheVariants as code
+use Rattle.ci_config.specs.declared.fault.ConfigFault.TheVariants as faults
+use Rattle.ci_config.proofs.Alike.{each-built, none-built, taken}
 
 abbrev Read : Type 0
 Read = Result Formula ExprCode
@@ -28,30 +29,20 @@ found-by : (text : List ℕ) (e : Expr) (r : Read) → expression_of text ≡ r 
 found-by text e (Ok f) is own h = is ∙ ap okay h
 found-by text e (Err x) is own h = absurd (own h.0)
 
-refused-or : (f : Formula) (b : Bool) → (demand (not b) (K13 X8) (Ok f) ≡ Ok f) ⊎ (demand (not b) (K13 X8) (Ok f) ≡ Err (K13 X8))
-refused-or f true = inr refl
-refused-or f false = inl refl
+pub condition-found : ReadsMeaning → (text : List ℕ) (e : Expr) → Allows formula_of (Ok e) (expression_of text) → condition_of text built ≡ Ok (formula_of e)
+condition-found law text e h =
+    ap (condition_by built) (found-by text e (expression_of text) refl (law text).0 h) ∙ ap (taken (formula_of e)) (each-built (formula_of e))
 
-pub condition-found : ReadsMeaning → (text : List ℕ) (e : Expr) → Allows formula_of (Ok e) (expression_of text) → Finds (condition_of text) (formula_of e)
-condition-found law text e h = (ap (condition_by built) is, either (refused-or (formula_of e) (has_pattern (formula_of e))))
-  where
-    is : expression_of text ≡ Ok (formula_of e)
-    is = found-by text e (expression_of text) refl (law text).0 h
+-- the fault X.. of an expression
+abbrev Stops : List ℕ → ExprCode → Type 0
+Stops text x = condition_of text (builds_for {X = Expr} (Err (faults.Fault (code.K13 x)))) ≡ Err (K13 x)
 
-    either : (demand (not (has_pattern (formula_of e))) (K13 X8) (Ok (formula_of e)) ≡ Ok (formula_of e)) ⊎ (demand (not (has_pattern (formula_of e))) (K13 X8) (Ok (formula_of e)) ≡ Err (K13 X8))
-        → (condition_of text refused ≡ Ok (formula_of e)) ⊎ (condition_of text refused ≡ Err (K13 X8))
-    either (inl g) = inl (ap (condition_by refused) is ∙ g)
-    either (inr g) = inr (ap (condition_by refused) is ∙ g)
-
-stops-by : (text : List ℕ) (x : ExprCode) (r : Read) → expression_of text ≡ r → Allows formula_of (Err (errors.Fault x)) r → Stops (condition_of text) (K13 x)
-stops-by text x (Ok f) is (eight, has) = inr (ap (λ y. K13 y) eight, ap (condition_by refused) is ∙ ap (λ b. by-test b) has)
-  where
-    by-test : Bool → Result Formula Fault
-    by-test b = demand (not b) (K13 X8) (Ok f)
-stops-by text x (Err y) is h = inl (ap (condition_by built) is ∙ ap (λ z. failed z) h)
+stops-by : (text : List ℕ) (x : ExprCode) (r : Read) → expression_of text ≡ r → Allows formula_of (Err (errors.Fault x)) r → Stops text x
+stops-by text x (Ok f) is (eight, has) = subst (Stops text) (sym eight) (ap (condition_by refused) is ∙ ap (taken f) (none-built f ∙ ap not has))
+stops-by text x (Err y) is h = ap (condition_by (builds_for {X = Expr} (Err (faults.Fault (code.K13 x))))) is ∙ ap (λ z. failed z) h
   where
     failed : ExprCode → Result Formula Fault
     failed z = Err (K13 z)
 
-pub condition-stops : (text : List ℕ) (x : ExprCode) → Allows formula_of (Err (errors.Fault x)) (expression_of text) → Stops (condition_of text) (K13 x)
+pub condition-stops : (text : List ℕ) (x : ExprCode) → Allows formula_of (Err (errors.Fault x)) (expression_of text) → Stops text x
 condition-stops text x h = stops-by text x (expression_of text) refl h

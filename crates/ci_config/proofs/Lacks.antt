@@ -1,29 +1,28 @@
--- What is read with every pattern refused holds no pattern, and so takes no bytes of tables.
-use Rattle.std.proofs.Common.{◌≡◌, ℕ, Bool, true, false, cond, not, List, [], ◌∷◌, map, Option, Some, None, Result, Ok, Err, IfSome, length, refl, subst, arith, inl, inr}
+-- What is read with every pattern refused holds no pattern, and so none costs anything to build.
+use Rattle.std.proofs.Common.{◌≡◌, ◌⊎◌, sym, ◌∙◌, ℕ, Bool, true, false, cond, not, List, [], ◌∷◌, map, Option, Some, None, Result, Ok, Err, IfSome, length, refl, subst, arith, inl, inr}
 use Rattle.std.specs.Prelude.{nat_lt, nat_le, option_map, sum_by}
 use Rattle.std.specs.Global.{Vec}
 use Rattle.std.proofs.lemmas.List.Sums.{sum_by-cons}
 use Rattle.ci_values.specs.Names.{is_name}
 use Rattle.ci_values.specs.Table.{meaning_of, word_in}
 use Rattle.ci_yaml_lines.specs.Tree.{Value}
-use Rattle.ci_expr.specs.Built.{formula_of, pattern_bytes}
+use Rattle.ci_expr.specs.Built.{formula_of, building_cost}
 use Rattle.ci_expr.specs.Computed.{expression_of}
 use Rattle.ci_expr.specs.Formula.{Formula, has_pattern}
 use Rattle.ci_expr.specs.declared.expr.Expr.{Expr}
 use Rattle.ci_expr.specs.declared.fault.ExprCode.{ExprCode}
 use Rattle.ci_expr.specs.declared.fault.ExprCode.TheVariants.{X8}
 use Rattle.ci_config.specs.AllowFailures.{allow_failure_of}
-use Rattle.ci_config.specs.Answer.{Finds}
-use Rattle.ci_config.specs.Budget.{condition_bytes, rule_bytes, rules_bytes, job_bytes, config_bytes}
+use Rattle.ci_config.specs.Budget.{condition_cost, rule_cost, rules_cost, job_cost, config_cost}
 use Rattle.ci_config.specs.Config as config
 use Rattle.ci_config.specs.Config.{Text, Rule, Job}
-use Rattle.ci_config.specs.Expressions.{refused, condition_by, condition_of}
+use Rattle.ci_config.specs.Expressions.{built, refused, are_built, condition_by, condition_of}
 use Rattle.ci_config.specs.Fault.{Fault, K1, K11, K13, K15, K16}
 use Rattle.ci_config.specs.Files.{FileSaid, stages_of, is_hidden, job_of, with_job, job_value, other_value, keyword_value, file_value, file_entry, blank_file, file_from}
 use Rattle.ci_config.specs.Jobs as job
 use Rattle.ci_config.specs.Jobs.{script_of, plain_job_value, job_entry, blank_job, job_from}
-use Rattle.ci_config.specs.Laws.{Each}
-use Rattle.ci_config.specs.Meaning.{Means, no_pattern, config_of, is_nil, judged, file_config, meaning}
+use Rattle.ci_config.specs.Laws.{LacksPatterns, Each, RuleLacksPattern, JobLacksPatterns, ConfigLacksPatterns}
+use Rattle.ci_config.specs.Meaning.{Means, config_of, is_nil, judged, file_config, meaning}
 use Rattle.ci_config.specs.Needs.{needs_of}
 use Rattle.ci_config.specs.Reading.{◌>>=◌, demand, keyword_of}
 use Rattle.ci_config.specs.Retries.{retry_of}
@@ -44,7 +43,8 @@ use Rattle.ci_config.specs.declared.keyword.PlainRuleKeyword.{PlainRuleKeyword}
 use Rattle.ci_config.specs.declared.keyword.PlainRuleKeyword.TheVariants as of_rule
 use Rattle.ci_config.specs.declared.keyword.RuleKeyword.{RuleKeyword}
 use Rattle.ci_config.specs.declared.keyword.RuleKeyword.TheVariants as of_rules
-use Rattle.ci_config.specs.declared.limits.TheConstants.{MAX_JOBS, MAX_PATTERNS_BYTES, MAX_RULES, MAX_TAGS}
+use Rattle.ci_config.specs.declared.limits.TheConstants.{MAX_JOBS, MAX_BUILDING_COST, MAX_RULES, MAX_TAGS}
+use Rattle.ci_config.proofs.Alike.{ReadsBy, none-built, alike}
 use Rattle.ci_config.proofs.Wholes.{bound, demanded, same-ok, each-append, each-read, entries-read, not-true, jobs-judged}
 
 -- where whatever is set keeps a property
@@ -58,7 +58,7 @@ abbrev Lacks : Formula → Type 0
 Lacks f = has_pattern f ≡ false
 
 abbrev RuleLacks : Rule → Type 0
-RuleLacks r = IfSome r.condition Lacks
+RuleLacks = RuleLacksPattern
 
 condition-lacks : (bs : Text) (f : Formula) → condition_of bs refused ≡ Ok f → Lacks f
 condition-lacks bs f e = by-value (expression_of bs) e
@@ -66,8 +66,8 @@ condition-lacks bs f e = by-value (expression_of bs) e
     by-value : (r : Result Formula ExprCode) → condition_by refused r ≡ Ok f → Lacks f
     by-value (Err x) e = absurd cc
     by-value (Ok g) e =
-        let d = demanded (not (has_pattern g)) (K13 X8) (Ok g) f e in
-        subst Lacks (same-ok g f d.1) (not-true (has_pattern g) d.0)
+        let d = demanded (are_built refused g) (K13 X8) (Ok g) f e in
+        subst Lacks (same-ok g f d.1) (not-true (has_pattern g) (sym (none-built g) ∙ d.0))
 
 plain-rule-lacks : (k : PlainRuleKeyword) (v : Value) (r s : Rule) → RuleLacks r → plain_rule_value k v r ≡ Ok s → RuleLacks s
 plain-rule-lacks of_rule.When v r s h e = sets RuleLacks (rule_when_of v) (λ w. record r { when = Some w }) s (λ w. h) e
@@ -99,7 +99,7 @@ rules-lack v rs e =
 
 -- ---- jobs
 abbrev JobLacks : Job → Type 0
-JobLacks j = IfSome j.rules (Each RuleLacks)
+JobLacks = JobLacksPatterns
 
 plain-value-lacks : (k : PlainJobKeyword) (v : Value) (j i : Job) → JobLacks j → plain_job_value k v j ≡ Ok i → JobLacks i
 plain-value-lacks of_job.Script v j i h e = sets JobLacks (script_of v) (λ x. record j { script = x }) i (λ x. h) e
@@ -162,7 +162,7 @@ file-entry-lacks : (m : Text × Value) (f g : FileSaid) → JobsLack f → file_
 file-entry-lacks m f g h e = file-value-lacks (meaning_of file_keywords m.0) m.0 m.1 f g h e
 
 abbrev ConfigLacks : config.Config → Type 0
-ConfigLacks c = Each JobLacks c.jobs
+ConfigLacks = ConfigLacksPatterns
 
 judged-lacks : (f : FileSaid) (c : config.Config) → JobsLack f → judged (config_of f) ≡ Ok c → ConfigLacks c
 judged-lacks f c h e =
@@ -178,10 +178,10 @@ lacks v c e =
     let d = bound (file_from b.value refused) (λ f. judged (config_of f)) c b.next in
     judged-lacks d.value c (entries-read JobsLack (file_entry refused) file-entry-lacks blank_file b.value d.value tt d.first) d.next
 
--- ---- bytes
--- nothing but a pattern takes any, as `ci_expr` says
-abbrev NoBytes : Type 0
-NoBytes = (e : Expr) → has_pattern (formula_of e) ≡ false → pattern_bytes e ≡ 0
+-- ---- what building costs
+-- nothing but a pattern costs anything, as `ci_expr` says
+abbrev CostsNothing : Type 0
+CostsNothing = (e : Expr) → has_pattern (formula_of e) ≡ false → building_cost e ≡ 0
 
 sum-none : {A B : Type 0} (view : A → B) (P : B → Type 0) (f : A → ℕ) → ((x : A) → P (view x) → f x ≡ 0) → (xs : List A) → Each P (map view xs) → sum_by f xs ≡ 0
 sum-none view P f none [] h = refl
@@ -191,21 +191,33 @@ sum-none view P f none (x ∷ xs) h =
     let others = sum-none view P f none xs h.1 in
     omega (arith, whole, one, others)
 
-condition-none : NoBytes → (o : Option Expr) → IfSome (option_map formula_of o) Lacks → condition_bytes o ≡ 0
+condition-none : CostsNothing → (o : Option Expr) → IfSome (option_map formula_of o) Lacks → condition_cost o ≡ 0
 condition-none law None h = refl
 condition-none law (Some e) h = law e h
 
-rules-none : NoBytes → (o : Option (Vec rust.Rule)) → IfSome (option_map rules_view o) (Each RuleLacks) → rules_bytes o ≡ 0
+rules-none : CostsNothing → (o : Option (Vec rust.Rule)) → IfSome (option_map rules_view o) (Each RuleLacks) → rules_cost o ≡ 0
 rules-none law None h = refl
-rules-none law (Some rs) h = sum-none rule_view RuleLacks rule_bytes (λ r. condition-none law r.condition) rs.items h
+rules-none law (Some rs) h = sum-none rule_view RuleLacks rule_cost (λ r. condition-none law r.condition) rs.items h
 
-config-none : NoBytes → (c : Config) → ConfigLacks (config_view c) → config_bytes c ≡ 0
-config-none law c h = sum-none job_view JobLacks job_bytes (λ j. rules-none law j.rules) c.jobs.items h
+config-none : CostsNothing → (c : Config) → ConfigLacks (config_view c) → config_cost c ≡ 0
+config-none law c h = sum-none job_view JobLacks job_cost (λ j. rules-none law j.rules) c.jobs.items h
 
 -- so more than there may be comes of a pattern
-pub over-budget : NoBytes → (v : Value) (c : Config) → Finds (λ p. meaning p v) (config_view c) → nat_le (config_bytes c) MAX_PATTERNS_BYTES ≡ false → Means v (Err (K13 X8))
-over-budget law v c (is, inr e) over = no_pattern refl e
-over-budget law v c (is, inl e) over =
-    let none = config-none law c (lacks v (config_view c) e) in
-    let no : nat_le 0 MAX_PATTERNS_BYTES ≡ false = subst (λ n. nat_le n MAX_PATTERNS_BYTES ≡ false) none over in
-    absurd cc
+pub over-budget : CostsNothing → (v : Value) (c : Config) → meaning built v ≡ Ok (config_view c) → nat_le (config_cost c) MAX_BUILDING_COST ≡ false → Means v (Err (K13 X8))
+over-budget law v c is over = by-reading (alike v refused)
+  where
+    by-reading : ReadsBy (LacksPatterns v) (λ p. meaning p v) refused → Means v (Err (K13 X8))
+    by-reading (inr (has, e, same)) = (refused, e)
+    by-reading (inl e) =
+        let none = config-none law c (lacks v (config_view c) (e ∙ is)) in
+        let no : nat_le 0 MAX_BUILDING_COST ≡ false = subst (λ n. nat_le n MAX_BUILDING_COST ≡ false) none over in
+        absurd cc
+
+-- a tree that may mean a configuration with a pattern may be refused for it
+pub none-or-refused : (v : Value) (c : config.Config) → Means v (Ok c) → ConfigLacksPatterns c ⊎ Means v (Err (K13 X8))
+none-or-refused v c (p, is) = by-readings (alike v p) (alike v refused)
+  where
+    by-readings : ReadsBy (LacksPatterns v) (λ p. meaning p v) p → ReadsBy (LacksPatterns v) (λ p. meaning p v) refused → ConfigLacksPatterns c ⊎ Means v (Err (K13 X8))
+    by-readings h (inr (has, e, same)) = inr (refused, e)
+    by-readings (inl e) (inl f) = inl (lacks v c (f ∙ sym e ∙ is))
+    by-readings (inr (has, e, none)) (inl f) = inr (refused, none)

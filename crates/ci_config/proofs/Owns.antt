@@ -1,5 +1,5 @@
 -- The meaning of a tree is never X8: that is the fault of a pattern that was refused.
-use Rattle.std.proofs.Common.{◌≡◌, ◌≢◌, ℕ, Bool, true, false, cond, not, List, [], ◌∷◌, ◌++◌, Option, Some, None, Result, Ok, Err, length, refl, sym, ◌∙◌, ap}
+use Rattle.std.proofs.Common.{◌≡◌, ◌≢◌, ℕ, Bool, true, false, cond, not, List, [], ◌∷◌, ◌++◌, Option, Some, None, Result, Ok, Err, length, refl, sym, ◌∙◌, ap, subst}
 use Rattle.std.specs.Prelude.{nat_lt, ⊤}
 use Rattle.ci_values.specs.Names.{is_name}
 use Rattle.ci_values.specs.declared.when.Causes.{Causes}
@@ -46,6 +46,7 @@ use Rattle.ci_config.specs.declared.keyword.RuleKeyword.TheVariants as of_rules
 use Rattle.ci_config.specs.declared.keyword.WhenWord.{WhenWord}
 use Rattle.ci_config.specs.declared.keyword.WhenWord.TheVariants.{Runs, Never, Delayed}
 use Rattle.ci_config.specs.declared.limits.TheConstants.{MAX_STAGES, MAX_JOBS, MAX_VARIABLES, MAX_TAGS, MAX_RULES, MAX_SCRIPT_ITEMS, MAX_EXIT_CODE, MAX_EXIT_CODES, MAX_RETRIES}
+use Rattle.ci_config.proofs.Alike.{each-built, taken}
 
 -- no expression has X8 as a fault of its own
 abbrev ExpressionsOwn : Type 0
@@ -284,7 +285,7 @@ own-condition : ExpressionsOwn → (bs : Text) → Own (condition_of bs built)
 own-condition law bs = by-value (expression_of bs) (law bs)
   where
     by-value : (r : Result Formula ExprCode) → IsOwn r → Own (condition_by built r)
-    by-value (Ok f) h = tt
+    by-value (Ok f) h = subst (λ b. Own (taken f b)) (sym (each-built f)) tt
     by-value (Err x) h = own-code x h
 
 own-rule_value : ExpressionsOwn → (k : RuleKeyword) (v : Value) (r : Rule) → Own (rule_value k v r built)

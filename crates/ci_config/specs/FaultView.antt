@@ -25,10 +25,7 @@ code_view code.K15 = K15
 code_view code.K16 = K16
 
 -- What a call answers is what is read, unless memory ran out.
-abbrev pub Fails : {Y : Type 0} → ConfigFault → Result Y Fault → Type 0
-Fails faults.Memory read = ⊤
-Fails (faults.Fault f) read = read ≡ Err (code_view f)
-
 abbrev pub Gives : {X Y : Type 0} → (X → Y) → Result X ConfigFault → Result Y Fault → Type 0
 Gives view (Ok x) read = read ≡ Ok (view x)
-Gives view (Err e) read = Fails e read
+Gives view (Err faults.Memory) read = ⊤
+Gives view (Err (faults.Fault f)) read = read ≡ Err (code_view f)

@@ -5,7 +5,7 @@ use Rattle.ci_values.specs.Layers.{Variables}
 use Rattle.ci_values.specs.VariableName.{is_variable_name}
 use Rattle.ci_yaml_lines.specs.Tree.{Value, null, boolean, number, text, node, Members, no_members, member}
 use Rattle.ci_expr.specs.Formula.{Formula, has_pattern}
-use Rattle.ci_config.specs.Config.{Text, Job, Config}
+use Rattle.ci_config.specs.Config.{Text, Rule, Job, Config}
 use Rattle.ci_expr.specs.Computed.{expression_of}
 use Rattle.ci_config.specs.Files.{is_among}
 use Rattle.ci_config.specs.Meaning.{is_nil}
@@ -36,6 +36,16 @@ abbrev mutual
 abbrev pub Each : {A : Type 0} → (A → Type 0) → List A → Type 0
 Each P [] = ⊤
 Each P (x ∷ xs) = P x × Each P xs
+
+-- no condition of a rule has a pattern
+abbrev pub RuleLacksPattern : Rule → Type 0
+RuleLacksPattern r = IfSome r.condition (λ f. has_pattern f ≡ false)
+
+abbrev pub JobLacksPatterns : Job → Type 0
+JobLacksPatterns j = IfSome j.rules (Each RuleLacksPattern)
+
+abbrev pub ConfigLacksPatterns : Config → Type 0
+ConfigLacksPatterns c = Each JobLacksPatterns c.jobs
 
 abbrev pub IsName : Text → Type 0
 IsName name = is_name name ≡ true

@@ -1,12 +1,11 @@
 -- What a tree configures: the entries of the file are read in their order, and then the jobs are judged.
-use Rattle.std.specs.Prelude.{◌≡◌, Bool, true, false, List, [], ◌∷◌, ◌++◌, Result, Ok, Err, unwrap_or, not, ◌||◌, filter, codes}
+use Rattle.std.specs.Prelude.{◌≡◌, Bool, true, false, List, [], ◌∷◌, ◌++◌, Result, Ok, unwrap_or, not, ◌||◌, filter, codes}
 use Rattle.std.specs.Str.{bytes_eq}
 use Rattle.ci_yaml_lines.specs.Tree.{Value}
-use Rattle.ci_expr.specs.declared.fault.ExprCode.TheVariants.{X8}
-use Rattle.ci_config.specs.Fault.{Fault, K1, K5, K6, K13, K15}
+use Rattle.ci_config.specs.Fault.{Fault, K1, K5, K6, K15}
 use Rattle.ci_config.specs.Reading.{◌>>=◌, demand}
 use Rattle.ci_config.specs.Config.{Text, Job, Config}
-use Rattle.ci_config.specs.Expressions.{Patterns, built, refused}
+use Rattle.ci_config.specs.Expressions.{Patterns}
 use Rattle.ci_config.specs.Files.{FileSaid, is_among, file_from}
 use Rattle.ci_config.specs.Values.{is_map, map_of}
 
@@ -51,12 +50,10 @@ judged c = jobs_judged c.stages c.jobs (demand (not (is_nil c.jobs)) K15 (Ok c))
 abbrev pub file_config : List (Text × Value) → Patterns → Result Config Fault
 file_config ms p = file_from ms p >>= λ f. judged (config_of f)
 
+-- what a tree configures, or its first fault, where these patterns are built
 abbrev pub meaning : Patterns → Value → Result Config Fault
-meaning p v = demand (is_map v) K1 (map_of v >>= λ ms. file_config ms p)
+meaning builds v = demand (is_map v) K1 (map_of v >>= λ ms. file_config ms builds)
 
--- ---- what may be answered
-
--- The meaning of the tree; or K13 X8 where that is its first fault if `regex` refuses every pattern.
-pub data Means (v : Value) (r : Result Config Fault) : Type 0 where
-  meant : r ≡ meaning built v → Means v r
-  no_pattern : r ≡ Err (K13 X8) → meaning refused v ≡ Err (K13 X8) → Means v r
+-- Which patterns are built isn't said: some choice of them gives this.
+abbrev pub Means : Value → Result Config Fault → Type 0
+Means v r = (builds : Patterns) × (meaning builds v ≡ r)

@@ -14,8 +14,8 @@ ghost use Rattle.ci_config.specs.Fault.{K1, K2, K3, K4, K5, K6, K7, K8, K9, K10,
 ghost use Rattle.ci_config.specs.Meaning.{meaning};
 
 use crate::limits::{
-    MAX_EXIT_CODE, MAX_EXIT_CODES, MAX_JOBS, MAX_RETRIES, MAX_RULES, MAX_SCRIPT_ITEMS, MAX_STAGES,
-    MAX_TAGS, MAX_VARIABLES,
+    MAX_BUILDING_COST, MAX_EXIT_CODE, MAX_EXIT_CODES, MAX_JOBS, MAX_RETRIES, MAX_RULES,
+    MAX_SCRIPT_ITEMS, MAX_STAGES, MAX_TAGS, MAX_VARIABLES,
 };
 
 /// The limits of the profile.
@@ -29,6 +29,7 @@ pub fn has_these_limits()
     ensures exit_codes { MAX_EXIT_CODES ≡ 32 }
     ensures exit_code { MAX_EXIT_CODE ≡ 4294967295 }
     ensures retries { MAX_RETRIES ≡ 2 }
+    ensures building_cost { MAX_BUILDING_COST ≡ 1000000 }
 {}
 
 /// What is taken up to each limit, and refused one past it. A hidden job isn't counted.

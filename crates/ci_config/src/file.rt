@@ -3,7 +3,7 @@
 ghost use Rattle.std.specs.Prelude.{◌≡◌, Result, Ok, map, option_map, unwrap_or};
 ghost use Rattle.ci_values.specs.Table.{words_view, word_in};
 ghost use Rattle.ci_yaml_lines.specs.TreeView.{value_view};
-ghost use Rattle.ci_config.specs.Answer.{Tells, fault_or};
+ghost use Rattle.ci_config.specs.Answer.{builds_for, fault_or};
 ghost use Rattle.ci_config.specs.Config.{Config as Meant};
 ghost use Rattle.ci_config.specs.Fault.{Fault as Found};
 ghost use Rattle.ci_config.specs.FaultView.{code_view, Gives};
@@ -16,7 +16,7 @@ ghost use Rattle.ci_values.specs.Layers.{text_view};
 use crate::fault::{ConfigCode, ConfigFault};
 use crate::job::{JobSpec, job_from};
 use crate::keyword::{FILE_KEYWORDS, FILE_LEFT_OUT, FileKeyword};
-use crate::limits::{MAX_JOBS, MAX_STAGES};
+use crate::limits::{MAX_BUILDING_COST, MAX_JOBS, MAX_STAGES};
 use crate::tree::{list_of, map_of, text_of};
 use crate::value::{Variable, variables_of};
 use ci_values::text::is_name;
@@ -101,8 +101,9 @@ fn job_of<'t>(
     before: usize,
     name: &'t str,
     tree: &'t Tree,
+    left: &mut usize,
 ) -> Result<JobSpec<'t>, ConfigFault>
-    ensures { Tells job_view result (job_of before name.now (value_view tree.now)) }
+    ensures { Gives job_view result (job_of before name.now (value_view tree.now) (builds_for result)) }
 {
     match map_of(tree) {
         Ok(pairs) => {
@@ -112,17 +113,23 @@ fn job_of<'t>(
             if !is_name(name) {
                 return Err(ConfigFault::Fault(ConfigCode::K16));
             }
-            job_from(alloc, name, pairs)
+            job_from(alloc, name, pairs, left)
         }
         Err(fault) => Err(fault),
     }
 }
 
 impl<'t> FileParts<'t> {
-    fn set_job(&mut self, alloc: Global, name: &'t str, tree: &'t Tree) -> Result<(), ConfigFault>
-        ensures { Tells (λ _. file_parts_view self.new) result (job_value name.now (value_view tree.now) (file_parts_view self.old)) }
+    fn set_job(
+        &mut self,
+        alloc: Global,
+        name: &'t str,
+        tree: &'t Tree,
+        left: &mut usize,
+    ) -> Result<(), ConfigFault>
+        ensures { Gives (λ _. file_parts_view self.new) result (job_value name.now (value_view tree.now) (file_parts_view self.old) (builds_for result)) }
     {
-        match job_of(alloc, self.jobs.len(), name, tree) {
+        match job_of(alloc, self.jobs.len(), name, tree, left) {
             Ok(job) => {
                 self.jobs.push(job)?;
                 Ok(())
@@ -132,8 +139,14 @@ impl<'t> FileParts<'t> {
     }
 
     /// Sets what an entry says whose key is no keyword.
-    fn set_other(&mut self, alloc: Global, key: &'t str, tree: &'t Tree) -> Result<(), ConfigFault>
-        ensures { Tells (λ _. file_parts_view self.new) result (other_value (word_in file_left_out key.now) key.now (value_view tree.now) (file_parts_view self.old)) }
+    fn set_other(
+        &mut self,
+        alloc: Global,
+        key: &'t str,
+        tree: &'t Tree,
+        left: &mut usize,
+    ) -> Result<(), ConfigFault>
+        ensures { Gives (λ _. file_parts_view self.new) result (other_value (word_in file_left_out key.now) key.now (value_view tree.now) (file_parts_view self.old) (builds_for result)) }
     {
         if let Some(name) = word_in(&FILE_LEFT_OUT, key) {
             return Err(ConfigFault::Fault(ConfigCode::K2(name)));
@@ -141,7 +154,7 @@ impl<'t> FileParts<'t> {
         if is_hidden(key) {
             return Ok(());
         }
-        self.set_job(alloc, key, tree)
+        self.set_job(alloc, key, tree, left)
     }
 
     fn set(
@@ -160,27 +173,35 @@ impl<'t> FileParts<'t> {
     }
 
     /// Sets what an entry says.
-    fn enter(&mut self, alloc: Global, key: &'t str, tree: &'t Tree) -> Result<(), ConfigFault>
-        ensures { Tells (λ _. file_parts_view self.new) result (λ p. file_entry p (key.now, value_view tree.now) (file_parts_view self.old)) }
+    fn enter(
+        &mut self,
+        alloc: Global,
+        key: &'t str,
+        tree: &'t Tree,
+        left: &mut usize,
+    ) -> Result<(), ConfigFault>
+        ensures { Gives (λ _. file_parts_view self.new) result (file_entry (builds_for result) (key.now, value_view tree.now) (file_parts_view self.old)) }
     {
         match meaning_of(&FILE_KEYWORDS, key) {
             Some(keyword) => self.set(alloc, keyword, tree),
-            None => self.set_other(alloc, key, tree),
+            None => self.set_other(alloc, key, tree, left),
         }
     }
 }
 
-/// What the entries of a file say.
+/// What the entries of a file say, where building its patterns costs no more than `MAX_BUILDING_COST`: else X8 at the expression in
+/// which it costs more.
 fn file_from<'t>(alloc: Global, pairs: &'t [(Text, Tree)]) -> Result<FileParts<'t>, ConfigFault>
-    ensures { Tells file_parts_view result (file_from (pairs_view pairs.now)) }
+    ensures { Gives file_parts_view result (file_from (pairs_view pairs.now) (builds_for result)) }
 {
     let mut parts = FileParts {
         stages: None,
         variables: Vec::new(alloc),
         jobs: Vec::new(alloc),
     };
+    let mut left = MAX_BUILDING_COST;
     for pair in pairs {
-        match parts.enter(alloc, pair.0.as_str(), &pair.1) {
+        match parts.enter(alloc, pair.0.as_str(), &pair.1, &mut left) {
             Ok(()) => {}
             Err(fault) => return Err(fault),
         }
@@ -295,7 +316,7 @@ fn configured<'t>(alloc: Global, parts: FileParts<'t>) -> Result<Config<'t>, Con
 
 /// What the pairs of a file configure.
 pub fn file_config<'t>(alloc: Global, pairs: &'t [(Text, Tree)]) -> Result<Config<'t>, ConfigFault>
-    ensures { Tells config_view result (file_config (pairs_view pairs.now)) }
+    ensures { Gives config_view result (file_config (pairs_view pairs.now) (builds_for result)) }
 {
     match file_from(alloc, pairs) {
         Ok(parts) => configured(alloc, parts),

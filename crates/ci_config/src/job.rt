@@ -2,7 +2,7 @@
 
 ghost use Rattle.std.specs.Prelude.{◌≡◌, Ok};
 ghost use Rattle.ci_yaml_lines.specs.TreeView.{value_view};
-ghost use Rattle.ci_config.specs.Answer.{Tells};
+ghost use Rattle.ci_config.specs.Answer.{builds_for};
 ghost use Rattle.ci_config.specs.FaultView.{Gives};
 ghost use Rattle.ci_config.specs.Jobs.{lines_of, script_of, plain_job_value, rules_value, job_value, job_entry, blank_job, job_from};
 ghost use Rattle.ci_config.specs.View.{pairs_view, texts_view, job_view};
@@ -112,10 +112,15 @@ impl<'t> JobSpec<'t> {
         Ok(())
     }
 
-    fn set_rules(&mut self, alloc: Global, tree: &'t Tree) -> Result<(), ConfigFault>
-        ensures { Tells (λ _. job_view self.new) result (rules_value (value_view tree.now) (job_view self.old)) }
+    fn set_rules(
+        &mut self,
+        alloc: Global,
+        tree: &'t Tree,
+        left: &mut usize,
+    ) -> Result<(), ConfigFault>
+        ensures { Gives (λ _. job_view self.new) result (rules_value (value_view tree.now) (job_view self.old) (builds_for result)) }
     {
-        match rules_of(alloc, tree) {
+        match rules_of(alloc, tree, left) {
             Ok(rules) => {
                 self.rules = Some(rules);
                 Ok(())
@@ -124,37 +129,50 @@ impl<'t> JobSpec<'t> {
         }
     }
 
-    fn set(&mut self, alloc: Global, keyword: JobKeyword, tree: &'t Tree) -> Result<(), ConfigFault>
-        ensures { Tells (λ _. job_view self.new) result (job_value keyword (value_view tree.now) (job_view self.old)) }
+    fn set(
+        &mut self,
+        alloc: Global,
+        keyword: JobKeyword,
+        tree: &'t Tree,
+        left: &mut usize,
+    ) -> Result<(), ConfigFault>
+        ensures { Gives (λ _. job_view self.new) result (job_value keyword (value_view tree.now) (job_view self.old) (builds_for result)) }
     {
         match keyword {
-            JobKeyword::Rules => self.set_rules(alloc, tree),
+            JobKeyword::Rules => self.set_rules(alloc, tree, left),
             JobKeyword::Plain(keyword) => self.set_plain(alloc, keyword, tree),
         }
     }
 
     /// Sets what an entry says.
-    fn enter(&mut self, alloc: Global, key: &str, tree: &'t Tree) -> Result<(), ConfigFault>
-        ensures { Tells (λ _. job_view self.new) result (λ p. job_entry p (key.now, value_view tree.now) (job_view self.old)) }
+    fn enter(
+        &mut self,
+        alloc: Global,
+        key: &str,
+        tree: &'t Tree,
+        left: &mut usize,
+    ) -> Result<(), ConfigFault>
+        ensures { Gives (λ _. job_view self.new) result (job_entry (builds_for result) (key.now, value_view tree.now) (job_view self.old)) }
     {
         match keyword_of(&JOB_KEYWORDS, &JOB_LEFT_OUT, key) {
-            Ok(keyword) => self.set(alloc, keyword, tree),
+            Ok(keyword) => self.set(alloc, keyword, tree, left),
             Err(fault) => Err(fault),
         }
     }
 }
 
-/// The job of a name that a map describes.
+/// The job of a name that a map describes, where building its patterns costs no more than is left.
 pub fn job_from<'t>(
     alloc: Global,
     name: &'t str,
     pairs: &'t [(Text, Tree)],
+    left: &mut usize,
 ) -> Result<JobSpec<'t>, ConfigFault>
-    ensures { Tells job_view result (λ p. job_from p name.now (pairs_view pairs.now)) }
+    ensures { Gives job_view result (job_from (builds_for result) name.now (pairs_view pairs.now)) }
 {
     let mut job = blank_job(alloc, name);
     for pair in pairs {
-        match job.enter(alloc, pair.0.as_str(), &pair.1) {
+        match job.enter(alloc, pair.0.as_str(), &pair.1, left) {
             Ok(()) => {}
             Err(fault) => return Err(fault),
         }

@@ -1,14 +1,17 @@
 //! Laws of the definitions. These functions do nothing: what they ensure is what the checker proves.
 
-ghost use Rattle.std.specs.Prelude.{◌≡◌, ◌≢◌, ◌⊎◌, ℕ, List, Result, Ok, Err};
+ghost use Rattle.std.specs.Prelude.{◌≡◌, ◌≢◌, ◌⊎◌, ℕ, List, [], ◌∷◌, Result, Ok, Err};
+ghost use Rattle.ci_values.specs.Layers.{Variables, value_in};
+ghost use Rattle.ci_values.specs.Table.{meaning_of};
 ghost use Rattle.ci_yaml_lines.specs.Tree.{Value};
 ghost use Rattle.ci_expr.specs.declared.fault.ExprCode.TheVariants.{X8};
 ghost use Rattle.ci_expr.specs.Meaning.{IsMeaning};
 ghost use Rattle.ci_config.specs.Config.{Config};
 ghost use Rattle.ci_expr.specs.Computed.{expression_of};
-ghost use Rattle.ci_config.specs.Expressions.{built, refused};
+ghost use Rattle.ci_expr.specs.Truth.{value_of};
+ghost use Rattle.ci_config.specs.Expressions.{Patterns, built, refused};
 ghost use Rattle.ci_config.specs.Fault.{Fault, K13};
-ghost use Rattle.ci_config.specs.Laws.{LacksPatterns, IsWhole};
+ghost use Rattle.ci_config.specs.Laws.{LacksPatterns, IsWhole, ConfigLacksPatterns};
 ghost use Rattle.ci_config.specs.Meaning.{meaning, Means};
 
 use ci_expr::laws::computes_the_meaning;
@@ -25,9 +28,15 @@ pub fn means_no_x8()
     computes_the_meaning();
 }
 
-/// Where every pattern is refused a tree has the same meaning; or X8, and then it has a pattern.
+/// With any choice of the patterns that are built a tree means the same as with each of them; or X8, with none of them too, and
+/// then it has a pattern.
 pub fn reads_alike()
-    ensures { (v : Value) → (meaning refused v ≡ meaning built v) ⊎ ((LacksPatterns v → ⊥) × (meaning refused v ≡ Err (K13 X8))) }
+    ensures { (v : Value) (builds : Patterns) → (meaning builds v ≡ meaning built v) ⊎ ((LacksPatterns v → ⊥) × (meaning builds v ≡ Err (K13 X8)) × (meaning refused v ≡ Err (K13 X8))) }
+{}
+
+/// What a tree may configure has no pattern, or the tree may be answered with X8 too.
+pub fn may_refuse_patterns()
+    ensures { (v : Value) (c : Config) → Means v (Ok c) → ConfigLacksPatterns c ⊎ Means v (Err (K13 X8)) }
 {}
 
 /// A tree without a pattern has one answer.
@@ -41,6 +50,12 @@ pub fn reads_expressions()
 {
     computes_the_meaning();
 }
+
+/// What an expression sees of a name in a list of variables is its value in the list as the one layer of a look-up.
+pub fn looks_up_alike()
+    ensures one { (vs : Variables) (name : List ℕ) → value_of vs name ≡ meaning_of vs name }
+    ensures layer { (vs : Variables) (name : List ℕ) → value_of vs name ≡ value_in (vs ∷ []) name }
+{}
 
 /// In a configuration there are 1 to 100 jobs, each with a script and a stage that is one of the stages, and names are names.
 pub fn configures_whole_jobs()

@@ -20,12 +20,13 @@ mod tree;
 mod value;
 mod when;
 
+pub use ci_values::{Layers, lookup};
 pub use fault::{ConfigCode, ConfigFault};
 pub use file::Config;
 pub use job::JobSpec;
 pub use keyword::RuleWhen;
 pub use limits::{
-    MAX_EXIT_CODE, MAX_EXIT_CODES, MAX_JOBS, MAX_PATTERNS_BYTES, MAX_RETRIES, MAX_RULES,
+    MAX_BUILDING_COST, MAX_EXIT_CODE, MAX_EXIT_CODES, MAX_JOBS, MAX_RETRIES, MAX_RULES,
     MAX_SCRIPT_ITEMS, MAX_STAGES, MAX_TAGS, MAX_VARIABLES,
 };
 pub use need::Need;

@@ -27,5 +27,5 @@ pub const MAX_EXIT_CODE: u32 = 4_294_967_295;
 /// How often a job is tried again, at most.
 pub const MAX_RETRIES: u32 = 2;
 
-/// The most bytes that all patterns of a file take, each counted where it stands, with its text and the tables of its automaton.
-pub const MAX_PATTERNS_BYTES: usize = 98_304;
+/// What building all patterns of a file may cost, each counted where it stands. A unit is about a microsecond.
+pub const MAX_BUILDING_COST: usize = 1_000_000;

@@ -2,23 +2,25 @@
 
 ghost use Rattle.std.specs.Prelude.{◌≤◌, IfOk};
 ghost use Rattle.ci_yaml_lines.specs.TreeView.{value_view};
-ghost use Rattle.ci_config.specs.Answer.{Tells, Answers};
-ghost use Rattle.ci_config.specs.Budget.{config_bytes};
+ghost use Rattle.ci_config.specs.Answer.{builds_for};
+ghost use Rattle.ci_config.specs.Budget.{config_cost, IsMeasured};
+ghost use Rattle.ci_config.specs.Expressions.{Patterns};
+ghost use Rattle.ci_config.specs.FaultView.{Gives};
 ghost use Rattle.ci_config.specs.Meaning.{meaning};
 ghost use Rattle.ci_config.specs.View.{config_view};
 
 use crate::budget::is_within;
 use crate::fault::{ConfigCode, ConfigFault};
 use crate::file::{Config, file_config};
-use crate::limits::MAX_PATTERNS_BYTES;
+use crate::limits::MAX_BUILDING_COST;
 use crate::tree::{is_map, map_of};
 use ci_expr::ExprCode;
-use ci_expr::laws::takes_no_bytes_without_patterns;
+use ci_expr::laws::{costs_nothing_without_patterns, measures_each_pattern};
 use ci_yaml_lines::tree::Tree;
 use std::alloc::Global;
 
 fn meaning<'t>(alloc: Global, tree: &'t Tree) -> Result<Config<'t>, ConfigFault>
-    ensures { Tells config_view result (λ p. meaning p (value_view tree.now)) }
+    ensures { Gives config_view result (meaning (builds_for result) (value_view tree.now)) }
 {
     if !is_map(tree) {
         return Err(ConfigFault::Fault(ConfigCode::K1));
@@ -32,17 +34,22 @@ fn meaning<'t>(alloc: Global, tree: &'t Tree) -> Result<Config<'t>, ConfigFault>
 /// What a tree configures.
 ///
 /// Errors: memory was refused; or the first fault of the tree, in the order of the definition: the document's own kind; the
-/// entries in their order, each one's inside before the next; then the jobs, their scripts and stages; then that there is one;
-/// then that all patterns together take no more than `MAX_PATTERNS_BYTES`, and else X8.
+/// entries in their order, each one's inside before the next; then the jobs, their scripts and stages; then that there is one.
+/// Building all patterns together may cost `MAX_BUILDING_COST`: at the expression in which they cost more the fault is X8, and nothing
+/// behind it is built.
 pub fn config<'t>(alloc: Global, tree: &'t Tree) -> Result<Config<'t>, ConfigFault>
-    // What is answered is what the tree may mean.
-    ensures answer { Answers result (value_view tree.now) }
-    // The patterns of what is answered take no more together than they may.
-    ensures budget { IfOk result (λ c. config_bytes c ≤ MAX_PATTERNS_BYTES) }
+    // What is answered is what the tree means with some choice of the patterns that are built, unless memory was refused.
+    ensures answer { (builds : Patterns) × Gives config_view result (meaning builds (value_view tree.now)) }
+    // Building the patterns of what is answered costs no more together than it may.
+    ensures budget { IfOk result (λ c. config_cost c ≤ MAX_BUILDING_COST) }
+    // Each of them is counted with the bytes that the tables of its automaton take.
+    ensures measured { IfOk result IsMeasured }
 {
-    takes_no_bytes_without_patterns();
+    costs_nothing_without_patterns();
+    measures_each_pattern();
     match meaning(alloc, tree) {
         Ok(config) => {
+            // It is, since the reading would have stopped: no clause of its functions says it.
             if is_within(&config) {
                 Ok(config)
             } else {

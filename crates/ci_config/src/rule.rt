@@ -3,7 +3,7 @@
 ghost use Rattle.std.specs.Prelude.{◌≡◌, ℕ, List, length};
 ghost use Rattle.ci_yaml_lines.specs.TreeView.{value_view};
 ghost use Rattle.ci_expr.specs.Built.{formula_of};
-ghost use Rattle.ci_config.specs.Answer.{Tells};
+ghost use Rattle.ci_config.specs.Answer.{builds_for};
 ghost use Rattle.ci_config.specs.Config.{Rule as Meant};
 ghost use Rattle.ci_config.specs.Expressions.{condition_of};
 ghost use Rattle.ci_config.specs.FaultView.{Gives};
@@ -17,7 +17,7 @@ use crate::tree::{bool_of, list_of, map_of, text_of};
 use crate::value::{Variable, variables_of};
 use crate::when::rule_when_of;
 use ci_expr::laws::computes_the_meaning;
-use ci_expr::{Expr, ExprFault, parse};
+use ci_expr::{Expr, ExprFault, parse_within};
 use ci_yaml_lines::tree::{Text, Tree};
 use std::alloc::Global;
 
@@ -30,12 +30,12 @@ pub struct Rule<'t> {
     pub variables: Vec<Variable<'t>>,
 }
 
-/// The condition that a text is.
-fn condition_of(alloc: Global, text: &str) -> Result<Expr, ConfigFault>
-    ensures { Tells formula_of result (condition_of text.now) }
+/// The condition that a text is, where building its patterns costs no more than is left.
+fn condition_of(alloc: Global, text: &str, left: &mut usize) -> Result<Expr, ConfigFault>
+    ensures { Gives formula_of result (condition_of text.now (builds_for result)) }
 {
     computes_the_meaning();
-    match parse(alloc, text) {
+    match parse_within(alloc, text, left) {
         Ok(expr) => Ok(expr),
         Err(ExprFault::Memory) => Err(ConfigFault::Memory),
         Err(ExprFault::Fault(code)) => Err(ConfigFault::Fault(ConfigCode::K13(code))),
@@ -44,11 +44,16 @@ fn condition_of(alloc: Global, text: &str) -> Result<Expr, ConfigFault>
 
 impl<'t> Rule<'t> {
     /// Sets the condition.
-    fn set_condition(&mut self, alloc: Global, tree: &Tree) -> Result<(), ConfigFault>
-        ensures { Tells (λ _. rule_view self.new) result (condition_value (value_view tree.now) (rule_view self.old)) }
+    fn set_condition(
+        &mut self,
+        alloc: Global,
+        tree: &Tree,
+        left: &mut usize,
+    ) -> Result<(), ConfigFault>
+        ensures { Gives (λ _. rule_view self.new) result (condition_value (value_view tree.now) (rule_view self.old) (builds_for result)) }
     {
         match text_of(tree) {
-            Ok(text) => match condition_of(alloc, text) {
+            Ok(text) => match condition_of(alloc, text, left) {
                 Ok(condition) => {
                     self.condition = Some(condition);
                     Ok(())
@@ -81,28 +86,39 @@ impl<'t> Rule<'t> {
         alloc: Global,
         keyword: RuleKeyword,
         tree: &'t Tree,
+        left: &mut usize,
     ) -> Result<(), ConfigFault>
-        ensures { Tells (λ _. rule_view self.new) result (rule_value keyword (value_view tree.now) (rule_view self.old)) }
+        ensures { Gives (λ _. rule_view self.new) result (rule_value keyword (value_view tree.now) (rule_view self.old) (builds_for result)) }
     {
         match keyword {
-            RuleKeyword::If => self.set_condition(alloc, tree),
+            RuleKeyword::If => self.set_condition(alloc, tree, left),
             RuleKeyword::Plain(keyword) => self.set_plain(alloc, keyword, tree),
         }
     }
 
     /// Sets what an entry says.
-    fn enter(&mut self, alloc: Global, key: &str, tree: &'t Tree) -> Result<(), ConfigFault>
-        ensures { Tells (λ _. rule_view self.new) result (λ p. rule_entry p (key.now, value_view tree.now) (rule_view self.old)) }
+    fn enter(
+        &mut self,
+        alloc: Global,
+        key: &str,
+        tree: &'t Tree,
+        left: &mut usize,
+    ) -> Result<(), ConfigFault>
+        ensures { Gives (λ _. rule_view self.new) result (rule_entry (builds_for result) (key.now, value_view tree.now) (rule_view self.old)) }
     {
         match keyword_of(&RULE_KEYWORDS, &RULE_LEFT_OUT, key) {
-            Ok(keyword) => self.set(alloc, keyword, tree),
+            Ok(keyword) => self.set(alloc, keyword, tree, left),
             Err(fault) => Err(fault),
         }
     }
 }
 
-fn rule_from<'t>(alloc: Global, pairs: &'t [(Text, Tree)]) -> Result<Rule<'t>, ConfigFault>
-    ensures { Tells rule_view result (λ p. rule_from p (pairs_view pairs.now)) }
+fn rule_from<'t>(
+    alloc: Global,
+    pairs: &'t [(Text, Tree)],
+    left: &mut usize,
+) -> Result<Rule<'t>, ConfigFault>
+    ensures { Gives rule_view result (rule_from (builds_for result) (pairs_view pairs.now)) }
 {
     let mut rule = Rule {
         condition: None,
@@ -111,7 +127,7 @@ fn rule_from<'t>(alloc: Global, pairs: &'t [(Text, Tree)]) -> Result<Rule<'t>, C
         variables: Vec::new(alloc),
     };
     for pair in pairs {
-        match rule.enter(alloc, pair.0.as_str(), &pair.1) {
+        match rule.enter(alloc, pair.0.as_str(), &pair.1, left) {
             Ok(()) => {}
             Err(fault) => return Err(fault),
         }
@@ -120,26 +136,35 @@ fn rule_from<'t>(alloc: Global, pairs: &'t [(Text, Tree)]) -> Result<Rule<'t>, C
 }
 
 /// A rule, behind so many.
-fn rule_of<'t>(alloc: Global, before: usize, tree: &'t Tree) -> Result<Rule<'t>, ConfigFault>
-    ensures { (rs : List Meant) → length rs ≡ before → Tells rule_view result (λ p. rule_of p rs (value_view tree.now)) }
+fn rule_of<'t>(
+    alloc: Global,
+    before: usize,
+    tree: &'t Tree,
+    left: &mut usize,
+) -> Result<Rule<'t>, ConfigFault>
+    ensures { (rs : List Meant) → length rs ≡ before → Gives rule_view result (rule_of (builds_for result) rs (value_view tree.now)) }
 {
     match map_of(tree) {
         Ok(pairs) => {
             if MAX_RULES <= before {
                 return Err(ConfigFault::Fault(ConfigCode::K11));
             }
-            rule_from(alloc, pairs)
+            rule_from(alloc, pairs, left)
         }
         Err(fault) => Err(fault),
     }
 }
 
-fn rules_from<'t>(alloc: Global, values: &'t [Tree]) -> Result<Vec<Rule<'t>>, ConfigFault>
-    ensures { Tells rules_view result (λ p. rules_from p (values_view values.now)) }
+fn rules_from<'t>(
+    alloc: Global,
+    values: &'t [Tree],
+    left: &mut usize,
+) -> Result<Vec<Rule<'t>>, ConfigFault>
+    ensures { Gives rules_view result (rules_from (builds_for result) (values_view values.now)) }
 {
     let mut rules = Vec::new(alloc);
     for value in values {
-        match rule_of(alloc, rules.len(), value) {
+        match rule_of(alloc, rules.len(), value, left) {
             Ok(rule) => rules.push(rule)?,
             Err(fault) => return Err(fault),
         }
@@ -147,12 +172,16 @@ fn rules_from<'t>(alloc: Global, values: &'t [Tree]) -> Result<Vec<Rule<'t>>, Co
     Ok(rules)
 }
 
-/// The rules of a job.
-pub fn rules_of<'t>(alloc: Global, tree: &'t Tree) -> Result<Vec<Rule<'t>>, ConfigFault>
-    ensures { Tells rules_view result (rules_of (value_view tree.now)) }
+/// The rules of a job, where building their patterns costs no more than is left.
+pub fn rules_of<'t>(
+    alloc: Global,
+    tree: &'t Tree,
+    left: &mut usize,
+) -> Result<Vec<Rule<'t>>, ConfigFault>
+    ensures { Gives rules_view result (rules_of (value_view tree.now) (builds_for result)) }
 {
     match list_of(tree) {
-        Ok(values) => rules_from(alloc, values),
+        Ok(values) => rules_from(alloc, values, left),
         Err(fault) => Err(fault),
     }
 }

@@ -2,9 +2,12 @@
 
 use crate::begun::begun;
 use crate::lists::{first_text, variables};
-use ci_config::{ConfigFault, config};
+use ci_config::{ConfigCode, ConfigFault, config};
 use ci_config_rows::{Part, RowFault};
-use ci_graph_layout::{Given, GraphCode, IncludedJob, PipelinePlan, PlanFault, plan};
+use ci_expr::ExprCode;
+use ci_graph_layout::{
+    Given, GraphCode, IncludedJob, PipelinePlan, PlanFault, is_affordable, plan,
+};
 use ci_values::when::{AllowFailure, When};
 use ci_yaml::{YamlFault, read};
 use std::alloc::{AllocError, Global};
@@ -69,7 +72,8 @@ enum Tell {
     Statuses,
 }
 
-/// What is told of a file's text where a pipeline brings these variables.
+/// What is told of a file's text where a pipeline brings these variables: as where one is made, the rules mayn't cost more to decide than
+/// they may.
 fn told(alloc: Global, tell: Tell, parts: &[Part]) -> Result<String, RowFault> {
     let (text, others) = first_text(parts)?;
     let pipeline = variables(alloc, others)?;
@@ -88,6 +92,10 @@ fn told(alloc: Global, tell: Tell, parts: &[Part]) -> Result<String, RowFault> {
         project: &[],
         predefined: &[("CI", "true")],
     };
+    if !is_affordable(alloc, &given, &config)? {
+        let code = ConfigCode::K13(ExprCode::X8);
+        return Ok(format!(in alloc; "{code}")?);
+    }
     match plan(alloc, &given, &config) {
         Ok(plan) => match tell {
             Tell::Plan => Ok(plan_text(alloc, &plan)?),

@@ -1,9 +1,8 @@
 //! Durations, and the values of variables.
 
 use crate::lists::{only_text, variables};
-use ci_config::{ConfigFault, duration};
+use ci_config::{ConfigFault, Layers, duration, lookup};
 use ci_config_rows::{Part, RowFault};
-use ci_values::{Layers, lookup};
 use std::alloc::Global;
 
 /// How many seconds a duration has, or the code of its fault.

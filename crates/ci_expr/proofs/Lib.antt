@@ -2,7 +2,6 @@ pub mod Lexing
 pub mod Fronts
 pub mod Sound
 pub mod FoundLemmas
-pub mod Sources
 pub mod Descending
 pub mod KindLemmas
 pub mod Parts
@@ -15,4 +14,4 @@ pub mod TokenLemmas
 pub mod OrderLemmas
 pub mod OneMeaning
 pub mod Computing
-pub mod Bytes
+pub mod Costs

@@ -6,7 +6,6 @@ use Rattle.ci_expr.specs.declared.fault.ExprCode.{ExprCode}
 use Rattle.ci_expr.specs.declared.fault.ExprCode.TheVariants.{X8}
 use Rattle.ci_expr.specs.declared.fault.ExprFault.{ExprFault}
 use Rattle.ci_expr.specs.declared.fault.ExprFault.TheVariants as errors
-use Rattle.ci_expr.specs.declared.piece.Piece as pieces
 use Rattle.ci_expr.specs.declared.token.Token as rust
 use Rattle.ci_expr.specs.declared.tree.Operand as operands
 use Rattle.ci_expr.specs.declared.tree.Operand.TheVariants as operand
@@ -14,7 +13,7 @@ use Rattle.ci_expr.specs.declared.tree.Tree as trees
 use Rattle.ci_expr.specs.declared.tree.Tree.TheVariants.{Joined', Group', Present, Equal, Found}
 use Rattle.ci_expr.specs.Token.{Token}
 use Rattle.ci_expr.specs.Formula.{Operand, null, text, variable, Formula, joined, group, present, equal, found, Level, has_pattern}
-use Rattle.ci_expr.specs.Source.{Piece, source_of}
+use Rattle.ci_expr.specs.Source.{source_of}
 use Rattle.ci_expr.specs.Descent.{descend, reach}
 
 abbrev pub token_view : rust.Token → Token
@@ -22,9 +21,6 @@ token_view t = record { kind = t.kind; slice = t.slice.now; start = t.start; end
 
 abbrev pub tokens_view : Vec rust.Token → List Token
 tokens_view v = map token_view v.items
-
-abbrev pub piece_view : pieces.Piece → Piece
-piece_view p = record { count = p.count; lead = p.lead.now; kept = p.kept.now; next = p.next }
 
 abbrev pub operand_view : operands.Operand → Operand
 operand_view operand.Null = null

@@ -1,14 +1,15 @@
 //! Formulas with texts of their own, and their truth.
 
-ghost use Rattle.std.specs.Prelude.{◌≡◌, List, chars, string_bytes, IfOk, IfErr, option_map};
+ghost use Rattle.std.specs.Prelude.{◌≡◌, ◌+◌, List, [], chars, string_bytes, IfOk, IfErr, option_map, unwrap_or};
 ghost use Rattle.ci_expr.specs.Source.{source_of};
 ghost use Rattle.ci_expr.specs.Truth.{same_value, negated_by, value_of, operand_value, truth};
 ghost use Rattle.ci_expr.specs.View.{tree_view, operand_view, IsOfPattern, RefusesPattern};
-ghost use Rattle.ci_expr.specs.Budget.{Leaves};
-ghost use Rattle.ci_expr.specs.Found.{HasTables, IsPattern};
+ghost use Rattle.ci_expr.specs.Budget.{pattern_cost, Leaves};
+ghost use Rattle.ci_expr.specs.Found.{IsPattern};
 ghost use Rattle.ci_expr.specs.Meaning.{ArePatterns};
-ghost use Rattle.ci_expr.specs.Built.{subject_view, formula_view, formula_bytes, values_of, AreMeasured};
+ghost use Rattle.ci_expr.specs.Built.{subject_view, formula_view, formula_cost, formula_search_cost, values_of};
 
+use crate::cost::{left_by_pattern, left_by_text};
 use crate::fault::{ExprCode, ExprFault};
 use crate::pattern::{Pattern, Refusal, checked, is_found};
 use crate::source::source_of;
@@ -60,38 +61,49 @@ fn subject_of(alloc: Global, operand: &Operand) -> Result<Subject, AllocError>
     }
 }
 
-/// The pattern of a body.
-fn pattern_from(alloc: Global, body: &str, insensitive: bool) -> Result<Pattern, ExprFault>
+/// The pattern of a body, where building it costs no more than is left of a budget.
+fn pattern_from(
+    alloc: Global,
+    body: &str,
+    insensitive: bool,
+    left: &mut usize,
+) -> Result<Pattern, ExprFault>
     ensures source { IfOk result (λ p. chars (string_bytes p.source) ≡ source_of (chars body.now)) }
     ensures flag { IfOk result (λ p. p.insensitive ≡ insensitive) }
-    ensures tables { IfOk result (λ p. HasTables p.insensitive (chars (string_bytes p.source)) p.bytes) }
     ensures pattern { IfOk result (λ p. IsPattern insensitive (source_of (chars body.now))) }
+    ensures left { IfOk result (λ p. left.new + pattern_cost p.insensitive (string_bytes p.source) p.bytes ≡ left.old) }
     ensures refused { IfErr result IsOfPattern }
 {
     let source = source_of(alloc, body)?;
     match checked(alloc, source, insensitive) {
-        Ok(pattern) => Ok(pattern),
+        Ok(pattern) => match left_by_pattern(&pattern, *left) {
+            Some(rest) => {
+                *left = rest;
+                Ok(pattern)
+            }
+            None => Err(ExprFault::Fault(ExprCode::X8)),
+        },
         Err(Refusal::Memory) => Err(ExprFault::Memory),
         Err(Refusal::Syntax | Refusal::Size) => Err(ExprFault::Fault(ExprCode::X8)),
     }
 }
 
-/// The formula with texts of its own, where `regex` builds each of its patterns.
-pub fn build(alloc: Global, tree: &Tree) -> Result<Formula, ExprFault>
+/// The formula with texts of its own, where `regex` builds each of its patterns, and that costs no more than is left of a budget.
+pub fn build(alloc: Global, tree: &Tree, left: &mut usize) -> Result<Formula, ExprFault>
     ensures built { IfOk result (λ f. formula_view f ≡ tree_view tree.now) }
     ensures patterns { IfOk result (λ f. ArePatterns (tree_view tree.now)) }
-    ensures measured { IfOk result AreMeasured }
+    ensures left { IfOk result (λ f. left.new + formula_cost f ≡ left.old) }
     ensures refused { IfErr result (λ e. RefusesPattern e (tree_view tree.now)) }
 {
     match tree {
         Tree::Joined(join, a, b) => {
-            let a = build(alloc, a)?;
-            let b = build(alloc, b)?;
+            let a = build(alloc, a, left)?;
+            let b = build(alloc, b, left)?;
             let a = Box::new(alloc, a)?;
             Ok(Formula::Joined(*join, a, Box::new(alloc, b)?))
         }
         Tree::Group(a) => {
-            let a = build(alloc, a)?;
+            let a = build(alloc, a, left)?;
             Ok(Formula::Group(Box::new(alloc, a)?))
         }
         Tree::Present(name) => Ok(Formula::Present(String::from_str(alloc, name)?)),
@@ -102,7 +114,7 @@ pub fn build(alloc: Global, tree: &Tree) -> Result<Formula, ExprFault>
         }
         Tree::Found(negated, name, body, insensitive) => {
             let name = String::from_str(alloc, name)?;
-            let pattern = pattern_from(alloc, body, *insensitive)?;
+            let pattern = pattern_from(alloc, body, *insensitive, left)?;
             Ok(Formula::Found(*negated, name, Box::new(alloc, pattern)?))
         }
     }
@@ -143,9 +155,9 @@ fn subject_value<'a>(env: &Env<'a>, subject: &'a Subject) -> Option<&'a str>
     }
 }
 
-/// What is left of a budget of bytes behind a formula's patterns, each with its text and its tables, or nothing where they take more.
+/// What is left of a budget behind what building a formula's patterns costs, or nothing where it costs more.
 pub fn left_of(formula: &Formula, budget: usize) -> Option<usize>
-    ensures { Leaves budget (formula_bytes formula.now) result }
+    ensures { Leaves budget (formula_cost formula.now) result }
 {
     match formula {
         Formula::Joined(_, a, b) => match left_of(a, budget) {
@@ -154,9 +166,35 @@ pub fn left_of(formula: &Formula, budget: usize) -> Option<usize>
         },
         Formula::Group(a) => left_of(a, budget),
         Formula::Present(_) | Formula::Equal(..) => Some(budget),
-        Formula::Found(_, _, pattern) => budget
-            .checked_sub(pattern.source.len())?
-            .checked_sub(pattern.bytes),
+        Formula::Found(_, _, pattern) => left_by_pattern(pattern, budget),
+    }
+}
+
+/// What is left of a budget behind what looking for a formula's patterns in these values costs, each of them once, or nothing where
+/// it costs more.
+pub fn left_by_search(formula: &Formula, env: &Env, budget: usize) -> Option<usize>
+    ensures { Leaves budget (formula_search_cost (values_of env.now) formula.now) result }
+{
+    match formula {
+        Formula::Joined(_, a, b) => match left_by_search(a, env, budget) {
+            Some(left) => left_by_search(b, env, left),
+            None => None,
+        },
+        Formula::Group(a) => left_by_search(a, env, budget),
+        Formula::Present(_) | Formula::Equal(..) => Some(budget),
+        Formula::Found(_, name, pattern) => {
+            left_by_text(pattern, text_of(env, name.as_str()), budget)
+        }
+    }
+}
+
+/// The value of a variable in which a pattern is looked for: the empty text where it is undefined.
+fn text_of<'a>(env: &Env<'a>, name: &str) -> &'a str
+    ensures { result.now ≡ unwrap_or (value_of (values_of env.now) name.now) [] }
+{
+    match value_of(env, name) {
+        Some(text) => text,
+        None => "",
     }
 }
 
@@ -187,11 +225,7 @@ pub fn truth(formula: &Formula, alloc: Global, env: &Env) -> Result<bool, AllocE
             if *negated { Ok(!same) } else { Ok(same) }
         }
         Formula::Found(negated, name, pattern) => {
-            let text = match value_of(env, name.as_str()) {
-                Some(text) => text,
-                None => "",
-            };
-            let found = is_found(pattern, alloc, text)?;
+            let found = is_found(pattern, alloc, text_of(env, name.as_str()))?;
             if *negated { Ok(!found) } else { Ok(found) }
         }
     }

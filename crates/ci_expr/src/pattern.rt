@@ -1,10 +1,12 @@
 //! Patterns, kept as their texts and built when they are asked.
 
-ghost use Rattle.std.specs.Prelude.{◌≡◌, ◌≢◌, ◌≤◌, ◌+◌, chars, string_bytes, IfOk, IfErr};
+ghost use Rattle.std.specs.Prelude.{◌≡◌, ◌≢◌, ◌≤◌, ◌+◌, ◌*◌, ◌^◌, is_some, not, chars, string_bytes, vec_len, IfOk, IfErr};
+ghost use Rattle.regex.specs.Patterns.{Re, find_str};
 ghost use Rattle.regex_hir.specs.Meaning.{meaning};
+ghost use Rattle.regex_hir.specs.Text.{is_boundary};
 ghost use Rattle.regex_nfa.specs.Sizes.{table_bytes};
 ghost use Rattle.regex_compile.specs.Implements.{Implements};
-ghost use Rattle.ci_expr.specs.Found.{config_of, is_found_in, Finds, HasTables, IsPattern, IsRefused};
+ghost use Rattle.ci_expr.specs.Found.{config_of, is_found_in, IsAutomatonOf, HasTables, IsPattern, IsRefused};
 
 use regex_compile::{Error, compile};
 use regex_nfa::Nfa;
@@ -12,19 +14,19 @@ use regex_syntax::{Config, ErrorKind, Parsed, parse};
 use regex_vm::PikeVm;
 use std::alloc::{AllocError, Global};
 
-/// The most bytes that the states of a built pattern may take. A search follows each of them at each byte of a text at
-/// most, so this bounds its time too.
-pub const MAX_PATTERN_BYTES: usize = 6_144;
+/// The most bytes that the tables of a built pattern may take, by `regex`'s own limit: 2 MiB.
+pub const MAX_PATTERN_BYTES: usize = 2_097_152;
 
 /// A pattern that was built once.
 #[derive(Drop)]
 pub struct Pattern {
-    /// Its text, in the syntax of `regex`.
+    /// Its text, as `regex` reads it.
     pub source: String,
     /// Letters match in either case.
     pub insensitive: bool,
     /// What the tables of its automaton take, in bytes.
     pub bytes: usize,
+    pub ghost measured: { HasTables insensitive (string_bytes source) bytes },
 }
 
 /// Why a pattern was not built.
@@ -50,7 +52,7 @@ fn options(insensitive: bool) -> Config
 /// The automaton of what was read.
 fn automaton(alloc: Global, parsed: &Parsed) -> Result<Nfa, Refusal>
     ensures implements { IfOk result (λ nfa. Implements nfa (meaning parsed.now.hir)) }
-    ensures small { IfOk result (λ nfa. table_bytes nfa ≤ 6144 + 24) }
+    ensures small { IfOk result (λ nfa. table_bytes nfa ≤ MAX_PATTERN_BYTES + 24) }
     ensures refused { IfErr result (λ e. e ≢ Refusal.Syntax) }
 {
     let Ok(groups) = u32::try_from(parsed.names.len()) else {
@@ -66,9 +68,9 @@ fn automaton(alloc: Global, parsed: &Parsed) -> Result<Nfa, Refusal>
 
 /// Builds the automaton of a pattern, where `insensitive` says that letters match in either case.
 fn build_pattern(alloc: Global, source: &str, insensitive: bool) -> Result<Nfa, Refusal>
-    ensures finds { IfOk result (λ nfa. Finds nfa insensitive (chars source.now)) }
+    ensures automaton { IfOk result (IsAutomatonOf insensitive source.now) }
     ensures pattern { IfOk result (λ nfa. IsPattern insensitive (chars source.now)) }
-    ensures small { IfOk result (λ nfa. table_bytes nfa ≤ 6144 + 24) }
+    ensures small { IfOk result (λ nfa. table_bytes nfa ≤ MAX_PATTERN_BYTES + 24) }
     ensures refused { IfErr result (IsRefused insensitive (chars source.now)) }
 {
     match parse(alloc, source, &options(insensitive)) {
@@ -80,7 +82,7 @@ fn build_pattern(alloc: Global, source: &str, insensitive: bool) -> Result<Nfa, 
 
 /// What the tables of an automaton take, in bytes: 12 for a state, and 8 for a range of a state that has several.
 fn bytes_of(nfa: &Nfa) -> usize
-    requires { table_bytes nfa.now ≤ 6144 + 24 }
+    requires { table_bytes nfa.now ≤ MAX_PATTERN_BYTES + 24 }
     ensures { result ≡ table_bytes nfa.now }
 {
     12 * nfa.states.len() + 8 * nfa.transitions.len()
@@ -90,7 +92,6 @@ fn bytes_of(nfa: &Nfa) -> usize
 pub fn checked(alloc: Global, source: String, insensitive: bool) -> Result<Pattern, Refusal>
     ensures source { IfOk result (λ p. p.source ≡ source) }
     ensures flag { IfOk result (λ p. p.insensitive ≡ insensitive) }
-    ensures tables { IfOk result (λ p. HasTables p.insensitive (chars (string_bytes p.source)) p.bytes) }
     ensures pattern { IfOk result (λ p. IsPattern insensitive (chars (string_bytes source))) }
     ensures refused { IfErr result (IsRefused insensitive (chars (string_bytes source))) }
 {
@@ -101,6 +102,35 @@ pub fn checked(alloc: Global, source: String, insensitive: bool) -> Result<Patte
             bytes: bytes_of(&nfa),
         }),
         Err(refusal) => Err(refusal),
+    }
+}
+
+/// Whether no character goes on at a place.
+fn is_cut(text: &[u8], at: usize) -> bool
+    ensures { result ≡ is_boundary text.now at }
+{
+    if at >= text.len() {
+        return true;
+    }
+    (text[at] < 0x80) | (text[at] > 0xBF)
+}
+
+/// Whether an automaton finds a match somewhere in a text. An empty match inside a character is none.
+fn finds(search: &mut PikeVm, nfa: &Nfa, text: &str) -> bool
+    requires { search.old.states ≡ vec_len nfa.now.states }
+    ensures { (re : Re) → Implements nfa.now re → result ≡ is_some (find_str re text.now 0) }
+{
+    let bytes = text.as_bytes();
+    let end = bytes.len();
+    let mut at = 0;
+    loop {
+        let Some((from, _)) = search.find(nfa, bytes, at, end, end, &mut []) else {
+            return false;
+        };
+        if is_cut(bytes, from) {
+            return true;
+        }
+        at = from + 1;
     }
 }
 
@@ -116,6 +146,5 @@ pub fn is_found(pattern: &Pattern, alloc: Global, text: &str) -> Result<bool, Al
         return Err(AllocError);
     };
     let mut search = PikeVm::new(alloc, &nfa)?;
-    let end = text.len();
-    Ok(search.is_match(&nfa, text.as_bytes(), 0, end, end))
+    Ok(finds(&mut search, &nfa, text))
 }

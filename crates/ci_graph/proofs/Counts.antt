@@ -1,8 +1,7 @@
 -- How often numbers stand in lists.
 use Rattle.std.proofs.Common.{◌≡◌, ◌⊎◌, ℕ, zero, suc, ◌+◌, ◌<◌, ◌≤◌, ◌==◌, Bool, true, false, cond, ◌||◌, List, [], ◌∷◌, ◌++◌, length, take, drop, refl, sym, ap, ◌∙◌, arith, eqb-true, ⊎_elim, inl, inr}
 use Rattle.std.proofs.lemmas.Bool.{cond_both, eqb-false, eq-eqb}
-use Rattle.ci_graph.specs.Lists.{tally, times, is_among, number_at}
-use Rattle.ci_graph.specs.Steps.{once}
+use Rattle.ci_graph.specs.Lists.{tally, times, is_among, number_at, once}
 
 joined_one : (b : Bool) (x y z : ℕ) → x ≡ y + z → cond b (suc x) x ≡ cond b (suc y) y + z
 joined_one true x y z e = omega arith

@@ -1,9 +1,9 @@
 -- Walks that return, and orders.
 use Rattle.std.proofs.Common.{◌≡◌, ◌⊎◌, ◌↔◌, ℕ, zero, suc, ◌+◌, ◌<◌, ◌≤◌, ◌==◌, List, [], ◌∷◌, length, take, map, refl, sym, ap, ◌∙◌, arith, eqb-true, ⊎_elim, inl, inr, Contains}
 use Rattle.std.proofs.lemmas.Bool.{cond_both, cases_lt}
-use Rattle.ci_graph.specs.Lists.{list_at, times, number_at, IsOrder}
+use Rattle.ci_graph.specs.Lists.{list_at, times, number_at, IsOrder, IsStuck}
 use Rattle.ci_graph.specs.Pairs.{AreWithin, IsWalk, HasWalk, HasCycle, IsAcyclic, IsRanked, has_pair}
-use Rattle.ci_graph.specs.Steps.{Neighbours, AreNeighbours, Progress, sources, released, IsReady, IsStuck}
+use Rattle.ci_graph.proofs.Steps.{Neighbours, AreNeighbours, Progress, sources, released, IsReady}
 use Rattle.ci_graph.proofs.Counts.{times_cases, times_at, times_or_none, times_take, times_after, few_below, once_yes}
 use Rattle.ci_graph.proofs.Groups.{has_yes, contains_has, within_of, neighbours_by, neighbours_are}
 use Rattle.ci_graph.proofs.Queues.{ready_first, ready_more, ready_end, ready_stuck}

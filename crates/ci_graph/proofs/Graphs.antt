@@ -1,11 +1,11 @@
 -- Graphs made of pairs.
-use Rattle.std.proofs.Common.{◌≡◌, ℕ, ◌<◌, ◌≤◌, ◌^◌, List, length, sym, ap, ◌∙◌, arith, Option, Some, None, IfSome, IfNone}
-use Rattle.ci_graph.specs.Lists.{times, number_at, distinct, IsOrder}
+use Rattle.std.proofs.Common.{◌≡◌, ℕ, ◌<◌, ◌≤◌, ◌^◌, List, length, sym, ap, ◌∙◌, arith, Option, Some, None, IfSome, IfNone, Contains}
+use Rattle.ci_graph.specs.Lists.{times, number_at, IsOrder, once, IsStuck}
 use Rattle.ci_graph.specs.JobGraph.{JobGraph, IsJobGraph, HasPairs, predecessors_of, successors_of}
-use Rattle.ci_graph.specs.Pairs.{AreWithin, HasCycle, IsAcyclic, has_pair, firsts_of}
-use Rattle.ci_graph.specs.Steps.{once, Neighbours, AreNeighbours, IsStuck}
+use Rattle.ci_graph.specs.Pairs.{AreWithin, GiveNeighbours, HasCycle, IsAcyclic, has_pair, firsts_of}
+use Rattle.ci_graph.proofs.Steps.{Neighbours, AreNeighbours}
 use Rattle.ci_graph.proofs.Counts.{at_times, few_below, once_yes, once_few}
-use Rattle.ci_graph.proofs.Groups.{contains_has, has_yes, within_of}
+use Rattle.ci_graph.proofs.Groups.{contains_has, has_yes, within_of, times_distinct, among_firsts}
 use Rattle.ci_graph.proofs.Cycles.{are_predecessors, cycle_of, ranked_of, ranked_acyclic}
 
 -- by number and list, so that the number may be given in another form
@@ -35,17 +35,29 @@ graph_of g pairs w few h o =
       ordered = o;
     }
 
-pub pairs_of : (g : JobGraph) (pairs : List (ℕ × ℕ)) → AreWithin (length g.parts) pairs → ((j : ℕ) → j < length g.parts → predecessors_of g j ≡ distinct (firsts_of pairs j)) → AreNeighbours (length g.parts) pairs (record { predecessors = g.predecessors; successors = g.successors }) → HasPairs g pairs
-pairs_of g pairs w exact h = record {
-  predecessors = exact;
-  pred = λ i j c. h.pred i j (within_of (length g.parts) pairs w i j c).1 ∙ ap once (contains_has pairs i j c);
-  succ = λ i j c. h.succ i j (within_of (length g.parts) pairs w i j c).0 ∙ ap once (contains_has pairs i j c);
-  pred_alone = λ i j l m. has_yes pairs i j (once_yes (has_pair pairs i j) (rw (← h.pred i j l) m));
-  succ_alone = λ i j l m. has_yes pairs i j (once_yes (has_pair pairs i j) (rw (← h.succ i j l) m));
-}
+pub pairs_of : (g : JobGraph) (pairs : List (ℕ × ℕ)) → GiveNeighbours (length g.parts) pairs g.predecessors g.successors → IsOrder (length g.parts) g.predecessors g.order → HasPairs g pairs
+pairs_of g pairs h o = record { predecessors = h.predecessors; successors = h.successors; ordered = o }
 
-pub neighbours_same : (n : ℕ) (pairs : List (ℕ × ℕ)) (ps qs ss ts : List (List ℕ)) → ps ≡ qs → ss ≡ ts → AreNeighbours n pairs (record { predecessors = qs; successors = ts }) → AreNeighbours n pairs (record { predecessors = ps; successors = ss })
-neighbours_same n pairs ps qs ss ts e f h = rw (e, f) h
+-- what the pairs of a graph say of its neighbours: a pair's first is once among the second's predecessors, and the second once among the first's
+-- successors; and nothing else is
+pub pred_once : (g : JobGraph) (pairs : List (ℕ × ℕ)) → HasPairs g pairs → AreWithin (length g.parts) pairs → (i j : ℕ) → Contains pairs (i, j) → times i (predecessors_of g j) ≡ 1
+pred_once g pairs h w i j c =
+    ap (λ (xs : List ℕ). times i xs) (h.predecessors j (within_of (length g.parts) pairs w i j c).1)
+    ∙ (times_distinct i (firsts_of pairs j) ∙ (ap once (among_firsts pairs i j) ∙ ap once (contains_has pairs i j c)))
+
+pub succ_once : (g : JobGraph) (pairs : List (ℕ × ℕ)) → HasPairs g pairs → AreWithin (length g.parts) pairs → (i j : ℕ) → Contains pairs (i, j) → times j (successors_of g i) ≡ 1
+succ_once g pairs h w i j c = h.successors i j (within_of (length g.parts) pairs w i j c).0 ∙ ap once (contains_has pairs i j c)
+
+pub pred_alone : (g : JobGraph) (pairs : List (ℕ × ℕ)) → HasPairs g pairs → (i j : ℕ) → j < length g.parts → 0 < times i (predecessors_of g j) → Contains pairs (i, j)
+pred_alone g pairs h i j l m =
+    let counted : times i (predecessors_of g j) ≡ once (has_pair pairs i j)
+    = ap (λ (xs : List ℕ). times i xs) (h.predecessors j l) ∙ (times_distinct i (firsts_of pairs j) ∙ ap once (among_firsts pairs i j)) in
+    has_yes pairs i j (once_yes (has_pair pairs i j) (omega arith))
+
+pub succ_alone : (g : JobGraph) (pairs : List (ℕ × ℕ)) → HasPairs g pairs → (i j : ℕ) → i < length g.parts → 0 < times j (successors_of g i) → Contains pairs (i, j)
+succ_alone g pairs h i j l m =
+    let counted : times j (successors_of g i) ≡ once (has_pair pairs i j) = h.successors i j l in
+    has_yes pairs i j (once_yes (has_pair pairs i j) (omega arith))
 
 pub order_same : (m n : ℕ) (ps qs : List (List ℕ)) (order : List ℕ) → m ≡ n → ps ≡ qs → IsOrder m ps order → IsOrder n qs order
 order_same m n ps qs order e f h = rw (← e, ← f) h
@@ -53,8 +65,12 @@ order_same m n ps qs order e f h = rw (← e, ← f) h
 pub stuck_same : (m n : ℕ) (ps qs : List (List ℕ)) (taken : List ℕ) → m ≡ n → ps ≡ qs → IsStuck m ps taken → IsStuck n qs taken
 stuck_same m n ps qs taken e f h = rw (← e, ← f) h
 
-pub neighbours_at : (m n : ℕ) (pairs : List (ℕ × ℕ)) (s : Neighbours) → m ≡ n → AreNeighbours m pairs s → AreNeighbours n pairs s
-neighbours_at m n pairs s e h = rw (← e) h
+-- the same, by a number and lists in another form
+pub neighbours_at : (m n : ℕ) (pairs : List (ℕ × ℕ)) (ps qs ss ts : List (List ℕ)) → m ≡ n → ps ≡ qs → ss ≡ ts → GiveNeighbours n pairs qs ts → GiveNeighbours m pairs ps ss
+neighbours_at m n pairs ps qs ss ts l e f h = rw (l, e, f) h
+
+pub within_at : (m n : ℕ) (pairs : List (ℕ × ℕ)) → m ≡ n → AreWithin n pairs → AreWithin m pairs
+within_at m n pairs e h = rw e h
 
 pub some_says : {T : Type 0} (P : T → Type 0) (o : Option T) (x : T) → o ≡ Some x → IfSome o P → P x
 some_says P o x e h = rw e at h

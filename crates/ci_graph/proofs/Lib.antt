@@ -1,3 +1,4 @@
+pub mod Steps
 pub mod Counts
 pub mod Groups
 pub mod Queues

@@ -1,11 +1,11 @@
 -- The queue: what taking the next position keeps, and what its end gives.
-use Rattle.std.proofs.Common.{◌≡◌, ℕ, zero, suc, ◌+◌, ◌-◌, ◌<◌, ◌≤◌, ◌==◌, Bool, true, false, cond, not, ◌||◌, List, [], ◌∷◌, ◌++◌, length, take, map, refl, sym, ap, ◌∙◌, arith, eqb-true, ⊎_elim, slice_set, append_assoc, length-append}
+use Rattle.std.proofs.Common.{◌≡◌, ℕ, zero, suc, ◌+◌, ◌-◌, ◌<◌, ◌≤◌, ◌==◌, Bool, true, false, cond, not, ◌||◌, List, [], ◌∷◌, ◌++◌, length, take, map, refl, sym, ap, ◌∙◌, arith, eqb-true, ⊎_elim, slice_set, filter, append_assoc, length-append}
 use Rattle.std.proofs.Math.ListN.{length-set}
 use Rattle.std.proofs.lemmas.Bool.{cond_both, eqb-false, eq-eqb, ne_eqb}
-use Rattle.std.proofs.lemmas.List.{get_or-set_same, get_or-set_other, get_or-map, length-map, get_or_append_left, take-append-le, take_more, take_all, append-nil}
-use Rattle.ci_graph.specs.Lists.{list_at, tally, times, is_among, number_at, IsOrder}
+use Rattle.std.proofs.lemmas.List.{get_or-set_same, get_or-set_other, get_or-map, length-map, get_or_append_left, take-append-le, take_more, take_all, append-nil, ext_get_or}
+use Rattle.ci_graph.specs.Lists.{list_at, tally, times, is_among, number_at, IsOrder, once, IsStuck}
 use Rattle.ci_graph.specs.Pairs.{has_pair}
-use Rattle.ci_graph.specs.Steps.{once, Neighbours, AreNeighbours, Progress, sources, released_one, released, IsReady, IsStuck}
+use Rattle.ci_graph.proofs.Steps.{Neighbours, AreNeighbours, Progress, sources, released_one, released, IsReady}
 use Rattle.ci_graph.proofs.Counts.{times_push, times_here, times_more, times_same, times_cases, at_times, among_yes, among_no, yes_among, no_among, times_or_none, once_few, once_yes, once_no, tally_none, tally_some, times_after, times_below, below_length, below_few, below_full, below_missing}
 
 -- while the successors ss of the position that was taken are still to be released
@@ -66,6 +66,72 @@ releasing_all n wanted base [] t b h = h
 releasing_all n wanted base (s ∷ ss) t b h =
     releasing_all n wanted base ss (released_one s t) (λ x l. b x (let m : times x ss ≤ times x (s ∷ ss) = times_more x s ss in omega arith))
     (releasing_one n wanted base s ss t (b s (times_here s ss)) h)
+
+-- what releasing leaves of the numbers, and whom it puts into the queue
+released_long : (ss : List ℕ) (t : Progress) → length (released ss t).left ≡ length t.left
+released_long [] t = refl
+released_long (s ∷ ss) t = released_long ss (released_one s t) ∙ length-set t.left s (number_at t.left s - 1)
+
+released_left : (ss : List ℕ) (t : Progress) → ((k : ℕ) → k < length ss → number_at ss k < length t.left) → (i : ℕ) → number_at (released ss t).left i ≡ number_at t.left i - times i ss
+released_left [] t inside i = omega arith
+released_left (s ∷ ss) t inside i =
+    let v : ℕ = number_at t.left s - 1 in
+    let long : length (slice_set t.left s v) ≡ length t.left = length-set t.left s v in
+    let rest : number_at (released ss (released_one s t)).left i ≡ number_at (slice_set t.left s v) i - times i ss
+    = released_left ss (released_one s t) (λ k l. let b : number_at ss k < length t.left = inside (suc k) (omega arith) in omega arith) i in
+    cond_both (s == i) (suc (times i ss)) (times i ss) (λ (m : ℕ). number_at (released ss (released_one s t)).left i ≡ number_at t.left i - m)
+    (λ c. let q : s ≡ i = eqb-true s i c in
+    let here : number_at (slice_set t.left s v) i ≡ v = ap (λ (k : ℕ). number_at (slice_set t.left s v) k) (sym q) ∙ get_or-set_same t.left s v 0 (inside 0 (omega arith)) in
+    let same : number_at t.left s ≡ number_at t.left i = ap (λ (k : ℕ). number_at t.left k) q in
+    omega arith)
+    (λ c. let other : number_at (slice_set t.left s v) i ≡ number_at t.left i = get_or-set_other t.left s i v 0 (λ (q : i ≡ s). eqb-false s i c (sym q)) in omega arith)
+
+-- whether a number goes down to none
+abbrev empties : List ℕ → ℕ → Bool
+empties left s = number_at left s - 1 == 0
+
+filter_members : (f g : ℕ → Bool) (xs : List ℕ) → ((x : ℕ) → 0 < times x xs → f x ≡ g x) → filter f xs ≡ filter g xs
+filter_members f g [] h = refl
+filter_members f g (x ∷ xs) h = both (f x) (g x) (h x (times_here x xs)) (filter_members f g xs (λ y l. h y (let m : times y xs ≤ times y (x ∷ xs) = times_more y x xs in omega arith)))
+  where
+    both : (a b : Bool) → a ≡ b → filter f xs ≡ filter g xs → cond a (x ∷ filter f xs) (filter f xs) ≡ cond b (x ∷ filter g xs) (filter g xs)
+    both a b e r = λ i. cond (e i) (x ∷ r i) (r i)
+
+released_queue : (ss : List ℕ) (t : Progress) → ((k : ℕ) → k < length ss → number_at ss k < length t.left) → ((i : ℕ) → times i ss ≤ 1) → (released ss t).queue ≡ t.queue ++ filter (empties t.left) ss
+released_queue [] t inside few = sym (append-nil t.queue)
+released_queue (s ∷ ss) t inside few =
+    let v : ℕ = number_at t.left s - 1 in
+    let long : length (slice_set t.left s v) ≡ length t.left = length-set t.left s v in
+    let here : 0 < times s (s ∷ ss) = times_here s ss in
+    let none : times s ss ≡ 0 = alone (few s) in
+    let rest : (released ss (released_one s t)).queue ≡ (released_one s t).queue ++ filter (empties (slice_set t.left s v)) ss
+    = released_queue ss (released_one s t) (λ k l. let b : number_at ss k < length t.left = inside (suc k) (omega arith) in omega arith)
+    (λ i. let m : times i ss ≤ times i (s ∷ ss) = times_more i s ss in let f : times i (s ∷ ss) ≤ 1 = few i in omega arith) in
+    let same : filter (empties (slice_set t.left s v)) ss ≡ filter (empties t.left) ss
+    = filter_members _ _ ss (λ x m. ap (λ (k : ℕ). k - 1 == 0) (get_or-set_other t.left s x v 0 (λ (q : x ≡ s). let z : times x ss ≡ times s ss = ap (λ (k : ℕ). times k ss) q in omega arith))) in
+    rest ∙ (ap (λ (ys : List ℕ). (released_one s t).queue ++ ys) same
+    ∙ cond_both (v == 0) (t.queue ++ s ∷ []) t.queue (λ (qs : List ℕ). qs ++ filter (empties t.left) ss ≡ t.queue ++ cond (v == 0) (s ∷ filter (empties t.left) ss) (filter (empties t.left) ss))
+    (λ e. append_assoc t.queue (s ∷ []) (filter (empties t.left) ss) ∙ ap (λ (b : Bool). t.queue ++ cond b (s ∷ filter (empties t.left) ss) (filter (empties t.left) ss)) (sym e))
+    (λ e. ap (λ (b : Bool). t.queue ++ cond b (s ∷ filter (empties t.left) ss) (filter (empties t.left) ss)) (sym e)))
+  where
+    alone : times s (s ∷ ss) ≤ 1 → times s ss ≡ 0
+    alone = cond_both (s == s) (suc (times s ss)) (times s ss) (λ (m : ℕ). m ≤ 1 → times s ss ≡ 0) (λ c l. omega arith) (λ c l. absurd (eqb-false s s c refl))
+
+-- both ways, where no successor is named twice
+pub released_gives : (ss : List ℕ) (t after : Progress) → ((k : ℕ) → k < length ss → number_at ss k < length t.left) → ((i : ℕ) → times i ss ≤ 1) → after ≡ released ss t
+    → ((i : ℕ) → number_at after.left i ≡ number_at t.left i - times i ss) × (after.queue ≡ t.queue ++ filter (λ s. number_at t.left s - 1 == 0) ss)
+released_gives ss t after inside few e = ((λ i. ap (λ (p : Progress). number_at p.left i) e ∙ released_left ss t inside i), ap (λ (p : Progress). p.queue) e ∙ released_queue ss t inside few)
+
+pub released_is : (ss : List ℕ) (t after : Progress) → length after.left ≡ length t.left → ((k : ℕ) → k < length ss → number_at ss k < length t.left) → ((i : ℕ) → times i ss ≤ 1)
+    → ((i : ℕ) → number_at after.left i ≡ number_at t.left i - times i ss) → after.queue ≡ t.queue ++ filter (λ s. number_at t.left s - 1 == 0) ss → after ≡ released ss t
+released_is ss t after long inside few left queue =
+    let same_left : after.left ≡ (released ss t).left = ext_get_or 0 after.left (released ss t).left (long ∙ sym (released_long ss t)) (λ i _. left i ∙ sym (released_left ss t inside i)) in
+    let same_queue : after.queue ≡ (released ss t).queue = queue ∙ sym (released_queue ss t inside few) in
+    λ i. record { queue = same_queue i; left = same_left i }
+
+-- each successor stands once
+pub succ_few : (n : ℕ) (pairs : List (ℕ × ℕ)) (s : Neighbours) → AreNeighbours n pairs s → (j i : ℕ) → j < n → times i (list_at s.successors j) ≤ 1
+succ_few n pairs s h j i l = rw (h.succ j i l) (once_few (has_pair pairs j i))
 
 -- how many of the predecessors aren't among the first k
 abbrev still : List ℕ → ℕ → List ℕ → ℕ
@@ -219,17 +285,27 @@ tally_all : (ps : List ℕ) → length ps ≡ tally (λ p. not (is_among [] p)) 
 tally_all [] = refl
 tally_all (p ∷ ps) = ap suc (tally_all ps)
 
-pub ready_first : (n : ℕ) (predecessors : List (List ℕ)) (t : Progress) → length predecessors ≡ n → t.left ≡ map length predecessors → t.queue ≡ sources 0 t.left → IsReady n predecessors 0 t
-ready_first n predecessors t e el eq =
+pub starts_each : (xs queue : List ℕ) → queue ≡ sources 0 xs → (i : ℕ) → i < length xs → times i queue ≡ once (number_at xs i == 0)
+starts_each xs queue e i l = ap (λ (qs : List ℕ). times i qs) e ∙ sources_times xs 0 i i (omega arith) l
+
+pub starts_inside : (xs queue : List ℕ) → queue ≡ sources 0 xs → (i : ℕ) → 0 < times i queue → i < length xs
+starts_inside xs queue e i l = let r : i < 0 + length xs = sources_inside xs 0 i (rw (← e) l) in omega arith
+
+pub ready_start : (n : ℕ) (predecessors : List (List ℕ)) (t : Progress) → length predecessors ≡ n → t.left ≡ map length predecessors
+    → ((i : ℕ) → i < length t.left → times i t.queue ≡ once (number_at t.left i == 0)) → ((i : ℕ) → 0 < times i t.queue → i < length t.left) → IsReady n predecessors 0 t
+ready_start n predecessors t e el each inside =
     let long : length t.left ≡ n = ap length el ∙ (length-map predecessors length ∙ e) in
     record {
       long = long;
       taken = omega arith;
-      inside = λ x l. let r : x < 0 + length t.left = sources_inside t.left 0 x (rw (← eq) l) in omega arith;
+      inside = λ x l. let r : x < length t.left = inside x l in omega arith;
       numbers = λ i l. ap (λ (xs : List ℕ). number_at xs i) el ∙ (get_or-map length predecessors i [] 0 (omega arith) ∙ tally_all (list_at predecessors i));
-      queued = λ i l. ap (λ (qs : List ℕ). times i qs) eq ∙ sources_times t.left 0 i i (omega arith) (omega arith);
+      queued = λ i l. each i (omega arith);
       before = λ m i l. absurd (omega arith);
     }
+
+pub ready_first : (n : ℕ) (predecessors : List (List ℕ)) (t : Progress) → length predecessors ≡ n → t.left ≡ map length predecessors → t.queue ≡ sources 0 t.left → IsReady n predecessors 0 t
+ready_first n predecessors t e el eq = ready_start n predecessors t e el (starts_each t.left t.queue eq) (starts_inside t.left t.queue eq)
 
 -- all are taken
 pub ready_end : (n : ℕ) (predecessors : List (List ℕ)) (k : ℕ) (t : Progress) → n ≤ k → IsReady n predecessors k t → IsOrder n predecessors t.queue

@@ -1,7 +1,7 @@
 -- The graph of a pipeline's jobs, as contracts see it.
-use Rattle.std.specs.Prelude.{◌≡◌, ℕ, ◌<◌, ◌≤◌, ◌^◌, false, List, length, slice_index_or, Contains}
-use Rattle.ci_graph.specs.Lists.{list_at, number_at, times, distinct, IsOrder}
-use Rattle.ci_graph.specs.Pairs.{HasCycle, firsts_of}
+use Rattle.std.specs.Prelude.{◌≡◌, ℕ, ◌<◌, ◌≤◌, ◌^◌, false, List, length, slice_index_or}
+use Rattle.ci_graph.specs.Lists.{list_at, number_at, times, once, distinct, IsOrder}
+use Rattle.ci_graph.specs.Pairs.{HasCycle, firsts_of, has_pair}
 use Rattle.ci_graph.specs.declared.part.Part.{Part}
 use Rattle.ci_graph.specs.declared.part.GraphFault.{GraphFault}
 use Rattle.ci_graph.specs.declared.part.GraphFault.TheVariants as fault
@@ -42,13 +42,12 @@ predecessors_of g j = list_at g.predecessors j
 abbrev pub successors_of : JobGraph → ℕ → List ℕ
 successors_of g j = list_at g.successors j
 
--- a job's predecessors are those of its pairs in the pairs' order, a repeat once; its successors are those of its pairs, each once
+-- a job's predecessors are the distinct first halves of its pairs; it stands among another's successors once exactly where the pair is; and the
+-- order has each job once, behind its predecessors
 pub record HasPairs (g : JobGraph) (pairs : List (ℕ × ℕ)) : Type 0 where
   pub predecessors : (j : ℕ) → j < length g.parts → predecessors_of g j ≡ distinct (firsts_of pairs j)
-  pub pred : (i j : ℕ) → Contains pairs (i, j) → times i (predecessors_of g j) ≡ 1
-  pub succ : (i j : ℕ) → Contains pairs (i, j) → times j (successors_of g i) ≡ 1
-  pub pred_alone : (i j : ℕ) → j < length g.parts → 0 < times i (predecessors_of g j) → Contains pairs (i, j)
-  pub succ_alone : (i j : ℕ) → i < length g.parts → 0 < times j (successors_of g i) → Contains pairs (i, j)
+  pub successors : (i j : ℕ) → i < length g.parts → times j (successors_of g i) ≡ once (has_pair pairs i j)
+  pub ordered : IsOrder (length g.parts) g.predecessors g.order
 
 -- what a fault says of the pairs
 abbrev pub IsFaultOf : List (ℕ × ℕ) → GraphFault → Type 0

@@ -1,4 +1,3 @@
 pub mod Lists
 pub mod Pairs
 pub mod JobGraph
-pub mod Steps

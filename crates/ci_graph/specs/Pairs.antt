@@ -1,6 +1,6 @@
 -- Pairs of a predecessor and a job, and walks along them.
 use Rattle.std.specs.Prelude.{◌≡◌, ℕ, ◌<◌, Bool, false, ◌&&◌, ◌||◌, List, [], ◌∷◌, map, filter, length, take, ◌==◌, Contains, All}
-use Rattle.ci_graph.specs.Lists.{times, number_at}
+use Rattle.ci_graph.specs.Lists.{list_at, number_at, times, once, distinct}
 
 -- both are positions of n jobs
 abbrev pub AreWithin : ℕ → List (ℕ × ℕ) → Type 0
@@ -34,3 +34,11 @@ firsts_of pairs j = map (λ p. p.0) (filter (λ p. p.1 == j) pairs)
 abbrev pub has_pair : List (ℕ × ℕ) → ℕ → ℕ → Bool
 has_pair [] i j = false
 has_pair (p ∷ ps) i j = ((p.0 == i) && (p.1 == j)) || has_pair ps i j
+
+-- The neighbours that the pairs give to n positions: a position's predecessors are the distinct first halves of its pairs, and it stands among
+-- another's successors once where the pair is there, and else not.
+pub record GiveNeighbours (n : ℕ) (pairs : List (ℕ × ℕ)) (before behind : List (List ℕ)) : Type 0 where
+  pub predecessors_long : length before ≡ n
+  pub successors_long : length behind ≡ n
+  pub predecessors : (j : ℕ) → j < n → list_at before j ≡ distinct (firsts_of pairs j)
+  pub successors : (i j : ℕ) → i < n → times j (list_at behind i) ≡ once (has_pair pairs i j)

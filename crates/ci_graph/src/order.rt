@@ -1,8 +1,8 @@
 //! An order of the positions, predecessors first.
 
-ghost use Rattle.std.specs.Prelude.{◌≡◌, ◌<◌, ℕ, List, map, length, IfOk, OnOk, IfSome, IfNone, true, false};
-ghost use Rattle.ci_graph.specs.Lists.{list_at, number_at, IsOrder};
-ghost use Rattle.ci_graph.specs.Steps.{sources, released, AreNeighbours, IsReady, IsStuck};
+ghost use Rattle.std.specs.Prelude.{◌≡◌, ◌<◌, ◌≤◌, ◌-◌, ◌==◌, ◌++◌, ℕ, List, map, filter, length, IfOk, OnOk, IfSome, IfNone, true, false};
+ghost use Rattle.ci_graph.specs.Lists.{list_at, number_at, times, once, IsOrder, IsStuck};
+ghost use Rattle.ci_graph.specs.Pairs.{AreWithin, GiveNeighbours};
 
 use crate::positions::Positions;
 use std::alloc::{AllocError, Global};
@@ -20,7 +20,8 @@ fn counts(alloc: Global, predecessors: &[Positions]) -> Result<Vec<usize>, Alloc
 
 /// The positions that have none left.
 fn starts(alloc: Global, left: &[usize]) -> Result<Vec<usize>, AllocError>
-    ensures { IfOk result (λ v. v.items ≡ sources 0 left.now) }
+    ensures each { IfOk result (λ v. (i : ℕ) → i < length left.now → times i v.items ≡ once (number_at left.now i == 0)) }
+    ensures inside { IfOk result (λ v. (i : ℕ) → 0 < times i v.items → i < length left.now) }
 {
     let mut queue = Vec::with_capacity(alloc, left.len())?;
     for j in 0..left.len() {
@@ -31,14 +32,16 @@ fn starts(alloc: Global, left: &[usize]) -> Result<Vec<usize>, AllocError>
     Ok(queue)
 }
 
-/// Takes one from the numbers of these successors, and puts those with none left into the queue.
+/// Takes one from the numbers of these successors, none of which is named twice, and puts those with none left into the queue.
 fn release(
     successors: &Positions,
     queue: &mut Vec<usize>,
     left: &mut [usize],
 ) -> Result<(), AllocError>
     requires inside { (k : ℕ) → k < length successors.now → number_at successors.now k < length left.old }
-    ensures released { OnOk result (record { queue = queue.new.items; left = left.new } ≡ released successors.now (record { queue = queue.old.items; left = left.old })) }
+    requires each_once { (i : ℕ) → times i successors.now ≤ 1 }
+    ensures left { OnOk result ((i : ℕ) → number_at left.new i ≡ number_at left.old i - times i successors.now) }
+    ensures queue { OnOk result (queue.new.items ≡ queue.old.items ++ filter (λ s. number_at left.old s - 1 == 0) successors.now) }
 {
     for k in 0..successors.len() {
         let s = successors.at(k);
@@ -60,7 +63,9 @@ fn take_one(
 ) -> Result<(), AllocError>
     requires job { j < length successors.now }
     requires inside { (k : ℕ) → k < length (list_at successors.now j) → number_at (list_at successors.now j) k < length left.old }
-    ensures released { OnOk result (record { queue = queue.new.items; left = left.new } ≡ released (list_at successors.now j) (record { queue = queue.old.items; left = left.old })) }
+    requires each_once { (i : ℕ) → times i (list_at successors.now j) ≤ 1 }
+    ensures left { OnOk result ((i : ℕ) → number_at left.new i ≡ number_at left.old i - times i (list_at successors.now j)) }
+    ensures queue { OnOk result (queue.new.items ≡ queue.old.items ++ filter (λ s. number_at left.old s - 1 == 0) (list_at successors.now j)) }
 {
     release(&successors[j], queue, left)
 }
@@ -72,8 +77,10 @@ fn take_all(
     queue: &mut Vec<usize>,
     left: &mut [usize],
 ) -> Result<bool, AllocError>
-    requires pairs { (pairs : List (ℕ × ℕ)) × AreNeighbours (length predecessors.now) pairs (record { predecessors = predecessors.now; successors = successors.now }) }
-    requires ready { IsReady (length predecessors.now) predecessors.now 0 (record { queue = queue.old.items; left = left.old }) }
+    requires pairs { (pairs : List (ℕ × ℕ)) × AreWithin (length predecessors.now) pairs × GiveNeighbours (length predecessors.now) pairs predecessors.now successors.now }
+    requires left { left.old ≡ map length predecessors.now }
+    requires each { (i : ℕ) → i < length left.old → times i queue.old.items ≡ once (number_at left.old i == 0) }
+    requires inside { (i : ℕ) → 0 < times i queue.old.items → i < length left.old }
     ensures order { IfOk result (λ b. b ≡ true → IsOrder (length predecessors.now) predecessors.now queue.new.items) }
     ensures stuck { IfOk result (λ b. b ≡ false → IsStuck (length predecessors.now) predecessors.now queue.new.items) }
 {
@@ -93,7 +100,7 @@ pub fn order_of(
     predecessors: &[Positions],
     successors: &[Positions],
 ) -> Result<Option<Vec<usize>>, AllocError>
-    requires pairs { (pairs : List (ℕ × ℕ)) × AreNeighbours (length predecessors.now) pairs (record { predecessors = predecessors.now; successors = successors.now }) }
+    requires pairs { (pairs : List (ℕ × ℕ)) × AreWithin (length predecessors.now) pairs × GiveNeighbours (length predecessors.now) pairs predecessors.now successors.now }
     ensures order { IfOk result (λ o. IfSome o (λ v. IsOrder (length predecessors.now) predecessors.now v.items)) }
     ensures stuck { IfOk result (λ o. IfNone o ((taken : List ℕ) × IsStuck (length predecessors.now) predecessors.now taken)) }
 {

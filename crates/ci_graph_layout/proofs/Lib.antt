@@ -2,3 +2,5 @@ pub mod Placing
 pub mod Within
 pub mod Planned
 pub mod Rising
+pub mod Searching
+pub mod FirstLayers

@@ -38,10 +38,15 @@ abbrev pub holds : Variables → Option Formula → Bool
 holds vs None = true
 holds vs (Some f) = truth vs f
 
--- the first rule that matches
-abbrev pub deciding : Variables → List Rule → Option Rule
-deciding vs [] = None
-deciding vs (r ∷ rs) = if holds vs r.condition then Some r else deciding vs rs
+-- what decides whether a pipeline has a job: that it has no rules; a rule, the first that matches; or that none of its rules does
+pub data Decision : Type 0 where
+  NoRules : Decision
+  ByRule : (r : Rule) → Decision
+  NoneMatches : Decision
+
+abbrev pub deciding : Variables → List Rule → Decision
+deciding vs [] = NoneMatches
+deciding vs (r ∷ rs) = if holds vs r.condition then ByRule r else deciding vs rs
 
 -- ---- what is included
 
@@ -95,11 +100,11 @@ by_word j r rule.Never = None
 abbrev pub ruled : Job → Rule → Option IncludedJob
 ruled j r = by_word j r (unwrap_or r.«when» (rule.Runs (unwrap_or j.«when» OnSuccess)))
 
-abbrev pub by_rules : Job → Option (Option Rule) → Option IncludedJob
-by_rules j None = Some (without_rules j)
-by_rules j (Some None) = None
-by_rules j (Some (Some r)) = ruled j r
+-- a job without rules is included; one that a rule decides, as the rule says; and one whose rules none matches is left out
+abbrev pub by_rules : Job → Decision → Option IncludedJob
+by_rules j NoRules = Some (without_rules j)
+by_rules j (ByRule r) = ruled j r
+by_rules j NoneMatches = None
 
--- A job without rules is included. One with rules is included where one of them matches, as the first that does says.
 abbrev pub included : Given → Config → Job → Option IncludedJob
-included g c j = by_rules j (option_map (deciding (seen g c j)) j.rules)
+included g c j = by_rules j (unwrap_or (option_map (deciding (seen g c j)) j.rules) NoRules)

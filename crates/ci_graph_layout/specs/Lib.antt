@@ -1,4 +1,6 @@
 pub mod Inclusion
+pub mod Layering
+pub mod Searches
 pub mod Layout
 pub mod Fault
 pub mod View

@@ -4,6 +4,13 @@ ghost use Rattle.std.specs.Prelude.{◌≡◌, [], ◌∷◌, Some, None, codes,
 ghost use Rattle.ci_graph_layout.specs.Examples.{bare, job, need, optional_need, needing, ruled_by, if_a, never, file, names_of, pairs_of, fault_of};
 ghost use Rattle.ci_graph_layout.specs.declared.fault.GraphCode.TheVariants.{G1, G2, G4, G5};
 
+use crate::limits::MAX_SEARCH_COST;
+
+/// What looking for a file's patterns may cost.
+pub fn has_this_limit()
+    ensures { MAX_SEARCH_COST ≡ 500000000 }
+{}
+
 /// Jobs stand by stage and then by the file; one that gives `needs`, be it an empty list, waits for those alone.
 pub fn order_examples()
     ensures by_stage { names_of bare (file (job (codes "lint") (codes "deploy") ∷ job (codes "slow") (codes "build") ∷ job (codes "pack") (codes "test") ∷ [])) ≡ codes "slow" ∷ codes "pack" ∷ codes "lint" ∷ [] }

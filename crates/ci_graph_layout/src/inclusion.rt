@@ -4,7 +4,7 @@ ghost use Rattle.std.specs.Prelude.{◌≡◌, ◌++◌, IfOk, OnOk, map, filter
 ghost use Rattle.ci_expr.specs.Built.{values_of, formula_of};
 ghost use Rattle.ci_values.specs.Layers.{layer_view};
 ghost use Rattle.ci_config.specs.View.{config_view, job_view, rule_view, variable_view};
-ghost use Rattle.ci_graph_layout.specs.Inclusion.{layered, holds, deciding, names, joined, may_fail, allowing, without_rules, by_rule, ruled, included};
+ghost use Rattle.ci_graph_layout.specs.Inclusion.{ByRule, NoneMatches, layered, holds, deciding, names, joined, may_fail, allowing, without_rules, by_rule, ruled, included};
 ghost use Rattle.ci_graph_layout.specs.View.{given_view, included_view};
 
 use crate::given::{Given, Variables, layered, pair_of, put_variables, seen};
@@ -55,7 +55,7 @@ fn deciding<'a, 't>(
     env: &Env,
     rules: &'a [Rule<'t>],
 ) -> Result<Option<&'a Rule<'t>>, AllocError>
-    ensures { IfOk result (λ found. option_map (λ r. rule_view r.now) found ≡ deciding (values_of env.now) (map rule_view rules.now)) }
+    ensures { IfOk result (λ found. unwrap_or (option_map (λ r. ByRule (rule_view r.now)) found) NoneMatches ≡ deciding (values_of env.now) (map rule_view rules.now)) }
 {
     for rule in rules {
         if holds(&rule.condition, alloc, env)? {

@@ -11,6 +11,10 @@ use Rattle.std.specs.declared.cmp.Ordering.{Ordering}
 use Rattle.std.specs.declared.cmp.Ordering.TheVariants.{Less, Equal, Greater}
 use Rattle.ci_machine.specs.State.{placed, others, put}
 
+pub not_true : (b : Bool) → not b ≡ true → b ≡ false
+not_true true e = absurd (false≢true e)
+not_true false e = refl
+
 -- x is an element of the list
 abbrev pub Has : {A : Type 0} → A → List A → Type 0
 Has x [] = ⊥

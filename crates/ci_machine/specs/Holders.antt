@@ -8,6 +8,7 @@ use Rattle.std.specs.List.Sorted.{IsStrictlySortedBy}
 use Rattle.ci_machine.specs.declared.records.Holder.{Holder}
 use Rattle.ci_machine.specs.declared.records.QueuedJob.{QueuedJob}
 use Rattle.ci_machine.specs.declared.records.Attempt.{Attempt}
+use Rattle.ci_machine.specs.declared.records.AttemptWithJob.{AttemptWithJob}
 use Rattle.ci_machine.specs.declared.change.IndexChange.{IndexChange}
 use Rattle.ci_machine.specs.declared.change.IndexChange.TheVariants.{Hold, Free}
 use Rattle.ci_machine.specs.State.{State, put}
@@ -40,6 +41,12 @@ holders s = flat_map (held_of s) (live_attempts s)
 -- the attempt's job has this resource group, and is of this project
 abbrev pub is_in_group : State → ℕ → List ℕ → Attempt → Bool
 is_in_group s project group a = list_any (holds project group) (held_of s a)
+
+-- ---- of attempts with their jobs
+
+-- what these attempts hold, which are live
+abbrev pub held_among : List AttemptWithJob → List Holder
+held_among live = flat_map (λ a. held_by a.attempt.id (Some a.queued)) live
 
 -- ---- as rows
 

@@ -1,5 +1,6 @@
 -- Leases: when a runner was last heard of, when its lease is over, what of it is accepted, and how an attempt ends.
 use Rattle.std.specs.Prelude.{ℕ, ◌+◌, Bool, true, false, List, find, if◌then◌else◌, nat_le, ◌==◌, min, max, Option, Some, None, Result, Ok, Err}
+use Rattle.std.specs.Result.{result_map_both}
 use Rattle.ci_machine.specs.declared.records.Attempt.{Attempt}
 use Rattle.ci_values.specs.declared.attempts.AttemptState.{AttemptState}
 use Rattle.ci_values.specs.declared.attempts.AttemptState.TheVariants.{Live, Succeeded, Failed, Cancelled}
@@ -70,6 +71,10 @@ is_same_end (Failed c x) Cancelled = false
 -- the state of an attempt after its runner sent a final one: a repeat changes nothing
 abbrev pub finished : Attempt → ℕ → ℕ → AttemptState → Result AttemptState LeaseFault
 finished a limit now final = if is_same_end a.state final then Ok a.state else while_leased a.state (is_over a limit now) final
+
+-- the attempt after that: all but its state is as it was
+abbrev pub after_final : Attempt → ℕ → ℕ → AttemptState → Result Attempt LeaseFault
+after_final a limit now final = result_map_both (λ state. record a { state = state }) (λ fault. fault) (finished a limit now final)
 
 -- why a lease that is over ends: by its job's time limit, where that comes no later than the runner's silence
 abbrev pub cause_of : Lease → Cause

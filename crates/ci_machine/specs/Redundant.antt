@@ -1,5 +1,5 @@
 -- Which pipeline a newer one makes redundant.
-use Rattle.std.specs.Prelude.{Bool, true, false, ◌&&◌, not, List, find, nat_lt, ◌==◌, Option}
+use Rattle.std.specs.Prelude.{Bool, true, false, ◌&&◌, not, List, map, find, nat_lt, ◌==◌, Option}
 use Rattle.std.specs.List.{list_any}
 use Rattle.std.specs.Str.{bytes_eq}
 use Rattle.ci_board.specs.declared.facts.Status.{Status}
@@ -9,6 +9,7 @@ use Rattle.ci_machine.specs.declared.records.RefKind.TheVariants.{Branch, Tag}
 use Rattle.ci_machine.specs.declared.records.Pipeline.{Pipeline}
 use Rattle.ci_machine.specs.declared.records.PipelineWithStatus.{PipelineWithStatus}
 use Rattle.ci_machine.specs.declared.records.Job.{Job}
+use Rattle.ci_machine.specs.declared.records.AttemptWithJob.{AttemptWithJob}
 
 -- a pipeline of this status isn't finished
 abbrev pub is_unfinished : Status → Bool
@@ -30,6 +31,10 @@ is_newer_of p q = nat_lt p.id q.id && (q.project == p.project) && bytes_eq q.git
 -- the job is one of the pipeline's, and isn't interruptible
 abbrev pub is_bound_to : Pipeline → Job → Bool
 is_bound_to p j = (j.pipeline == p.id) && not j.options.interruptible
+
+-- the jobs of which these are the attempts
+abbrev pub tried_in : List AttemptWithJob → List Job
+tried_in attempts = map (λ a. a.queued.job) attempts
 
 -- The pipeline isn't finished, a newer one of its project, ref and kind is among the others, and each of its jobs that was tried is
 -- interruptible: these are the jobs of which there is an attempt, be it one that has ended or is set aside.

@@ -20,7 +20,7 @@ use Rattle.ci_machine.specs.declared.change.Key.TheVariants as key
 use Rattle.ci_machine.specs.declared.change.Counter.{Counter}
 use Rattle.ci_machine.specs.declared.change.Counter.TheVariants as counter
 use Rattle.ci_machine.specs.declared.change.RowChange.{RowChange}
-use Rattle.ci_machine.specs.declared.change.RowChange.TheVariants.{Add, Put, Remove, SetNext}
+use Rattle.ci_machine.specs.declared.change.RowChange.TheVariants.{Put, Remove}
 
 pub record State : Type 0 where
   pub projects : List Project
@@ -87,6 +87,13 @@ put cmp x xs = placed cmp x (others cmp x xs)
 abbrev pub without : {A : Type 0} → (A → ℕ) → ℕ → List A → List A
 without id n xs = filter (λ y. not (is_eq (nat_cmp (id y) n))) xs
 
+abbrev pub with_next : Counter → ℕ → Numbers → Numbers
+with_next counter.Project n next = record next { project = n }
+with_next counter.Runner n next = record next { runner = n }
+with_next counter.Pipeline n next = record next { pipeline = n }
+with_next counter.Job n next = record next { job = n }
+with_next counter.Attempt n next = record next { attempt = n }
+
 abbrev pub with_record : Record → State → State
 with_record (row.Project p) s = record s { projects = put project_cmp p s.projects }
 with_record (row.Variable v) s = record s { variables = put variable_cmp v s.variables }
@@ -97,6 +104,7 @@ with_record (row.JobVariable v) s = record s { job_variables = put job_variable_
 with_record (row.Need n) s = record s { needs = put need_cmp n s.needs }
 with_record (row.Attempt a) s = record s { attempts = put attempt_cmp a s.attempts }
 with_record (row.Piece p) s = record s { pieces = put piece_cmp p s.pieces }
+with_record (row.Next c n) s = record s { next = with_next c n s.next }
 
 abbrev pub without_record : Key → State → State
 without_record (key.Project n) s = record s { projects = without (λ p. p.id) n s.projects }
@@ -109,19 +117,10 @@ without_record (key.Need n pred) s = record s { needs = filter (λ w. not (is_eq
 without_record (key.Attempt n) s = record s { attempts = without (λ a. a.id) n s.attempts }
 without_record (key.Piece n seq) s = record s { pieces = filter (λ p. not (is_eq (ordering_then (nat_cmp p.attempt n) (nat_cmp p.seq seq)))) s.pieces }
 
-abbrev pub with_next : Counter → ℕ → Numbers → Numbers
-with_next counter.Project n next = record next { project = n }
-with_next counter.Runner n next = record next { runner = n }
-with_next counter.Pipeline n next = record next { pipeline = n }
-with_next counter.Job n next = record next { job = n }
-with_next counter.Attempt n next = record next { attempt = n }
-
 -- the state after one change
 abbrev pub changed : RowChange → State → State
-changed (Add r) s = with_record r s
 changed (Put r) s = with_record r s
 changed (Remove k) s = without_record k s
-changed (SetNext c n) s = record s { next = with_next c n s.next }
 
 -- the state after changes, the first of them first
 abbrev pub applied : List RowChange → State → State

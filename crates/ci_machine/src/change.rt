@@ -20,9 +20,11 @@ pub enum Record {
     Need(Need),
     Attempt(Attempt),
     Piece(Piece),
+    /// The next number of a kind.
+    Next(Counter, u64),
 }
 
-/// The key of a record of any table.
+/// The key of a record of any table but that of the next numbers, which stay.
 #[derive(Drop)]
 pub enum Key {
     Project(u64),
@@ -52,14 +54,10 @@ pub enum Counter {
 /// A change of one row.
 #[derive(Drop)]
 pub enum RowChange {
-    /// A record whose key is new.
-    Add(Record),
     /// A record in place of the one with its key, or a new one.
     Put(Record),
     /// The record with the key goes.
     Remove(Key),
-    /// The next number of a kind.
-    SetNext(Counter, u64),
 }
 
 /// A change of what is kept beside the state for look-ups: which resource groups are held, and which pipelines aren't finished.
@@ -75,12 +73,13 @@ pub enum IndexChange {
     Close(u64),
 }
 
-/// A list of changes, which one transaction makes. It has to be spent: it can't be dropped.
-pub struct Delta {
+/// A list of changes of records: what a plan makes of the state.
+#[derive(Drop)]
+pub struct Changes {
     changes: Vec<RowChange>,
 }
 
-impl Model for Delta {
+impl Model for Changes {
     ghost use Rattle.std.specs.Prelude.{List};
     ghost use Rattle.ci_machine.specs.declared.change.RowChange.{RowChange};
 
@@ -89,12 +88,12 @@ impl Model for Delta {
     ghost view = { λ d. d.changes.items };
 }
 
-impl Delta {
+impl Changes {
     /// The changes of a list, the first of them first.
-    pub fn new(changes: Vec<RowChange>) -> Delta
+    pub fn new(changes: Vec<RowChange>) -> Changes
         ensures { result ≡ changes.items }
     {
-        Delta { changes }
+        Changes { changes }
     }
 
     /// Are there none?
@@ -111,11 +110,11 @@ impl Delta {
         self.changes.as_slice()
     }
 
-    /// Spends the delta, and gives its changes.
+    /// The changes, as a list.
     pub fn into_vec(self) -> Vec<RowChange>
         ensures { result.items ≡ self }
     {
-        let Delta { changes } = self;
+        let Changes { changes } = self;
         changes
     }
 }

@@ -1,33 +1,34 @@
 //! Which waiting job a runner is given.
 
-ghost use Rattle.std.specs.Prelude.{◌≡◌};
+ghost use Rattle.std.specs.Prelude.{◌≡◌, Some};
 ghost use Rattle.std.specs.Option.{option_copied};
 ghost use Rattle.std.specs.List.{list_any, list_all};
 ghost use Rattle.ci_machine.specs.Eligible.{is_open_to, has_tag, takes, may_run, holds, is_free, resource_free, is_eligible, chosen};
+ghost use Rattle.ci_machine.specs.Holders.{held_by, held_among};
 
-use crate::records::{Holder, QueuedJob, Runner};
+use crate::records::{AttemptWithJob, Holder, QueuedJob, Runner};
 use crate::text::Text;
 
-/// The job that the runner is given, of waiting jobs by number: the first that it may run and whose resource group, if it has one, no
-/// live attempt holds. The holders are those of all groups, or at least those of the jobs' groups.
+/// The job that the runner is given, of waiting jobs by number: the first that it may run and whose resource group, if it has one, none
+/// of the live attempts holds. These are all live attempts, or at least those whose jobs are in a group of the waiting ones.
 pub fn choose<'a>(
     queue: &'a [QueuedJob],
-    holders: &[Holder],
+    live: &[AttemptWithJob],
     runner: &Runner,
 ) -> Option<&'a QueuedJob>
-    ensures { option_copied result ≡ chosen queue.now holders.now runner.now }
+    ensures { option_copied result ≡ chosen queue.now (held_among live.now) runner.now }
 {
     queue
         .iter()
-        .find(|queued| is_eligible(queued, holders, runner))
+        .find(|queued| is_eligible(queued, live, runner))
 }
 
-/// May the runner be given the job, which waits for a runner? The holders are at least those of the job's group.
-pub fn is_eligible(queued: &QueuedJob, holders: &[Holder], runner: &Runner) -> bool
-    ensures { result ≡ is_eligible runner.now holders.now queued.now }
+/// May the runner be given the job, which waits for a runner? The live attempts are at least those whose jobs are in its group.
+pub fn is_eligible(queued: &QueuedJob, live: &[AttemptWithJob], runner: &Runner) -> bool
+    ensures { result ≡ is_eligible runner.now (held_among live.now) queued.now }
 {
     may_run(runner, queued.project, queued.job.options.tags.as_slice())
-        && resource_free(queued, holders)
+        && resource_free(queued, live)
 }
 
 /// May the runner run a job of the project that has these tags, when no group holds the job back?
@@ -68,11 +69,38 @@ fn has_tag(runner: &Runner, tag: &Text) -> bool
     runner.tags.as_slice().iter().any(|own| own.is_same(tag))
 }
 
-/// Does no live attempt hold the resource group of the job, if it has one? The holders are at least those of the group.
-pub fn resource_free(queued: &QueuedJob, holders: &[Holder]) -> bool
-    ensures { result ≡ resource_free holders.now queued.now }
+/// Does no live attempt hold the resource group of the job, if it has one? The live attempts are at least those whose jobs are in the
+/// group.
+pub fn resource_free(queued: &QueuedJob, live: &[AttemptWithJob]) -> bool
+    ensures { result ≡ resource_free (held_among live.now) queued.now }
 {
-    is_free(holders, queued.project, &queued.job.options.resource_group)
+    match &queued.job.options.resource_group {
+        None => true,
+        Some(group) => !is_held_among(live, queued.project, group),
+    }
+}
+
+fn is_held_among(live: &[AttemptWithJob], project: u64, group: &Text) -> bool
+    ensures { result ≡ list_any (holds project group.now) (held_among live.now) }
+{
+    has_one(live, project, group)
+}
+
+/// Does one of the live attempts hold this resource group of the project?
+fn has_one(live: &[AttemptWithJob], project: u64, group: &Text) -> bool
+    ensures { result ≡ list_any (λ a. list_any (holds project group.now) (held_by a.attempt.id (Some a.queued))) live.now }
+{
+    live.iter().any(|one| has_group(one, project, group))
+}
+
+/// Does the live attempt hold this resource group of the project?
+fn has_group(one: &AttemptWithJob, project: u64, group: &Text) -> bool
+    ensures { result ≡ list_any (holds project group.now) (held_by one.now.attempt.id (Some one.now.queued)) }
+{
+    match &one.queued.job.options.resource_group {
+        None => false,
+        Some(own) => one.queued.project == project && own.is_same(group),
+    }
 }
 
 /// Does no live attempt hold this resource group, if it is one, of the project? The holders are at least those of the group.

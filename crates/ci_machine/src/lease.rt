@@ -1,8 +1,7 @@
 //! Leases: when a runner was last heard of, when its lease is over, what of it is accepted, and how an attempt ends.
 
-ghost use Rattle.std.specs.Prelude.{◌≡◌};
-ghost use Rattle.std.specs.Option.{option_copied};
-ghost use Rattle.ci_machine.specs.Leases.{is_over, renewed, accepted, is_same_end, finished, cause_of, first_due};
+ghost use Rattle.std.specs.Prelude.{◌≡◌, option_map, option_copied, IfSome};
+ghost use Rattle.ci_machine.specs.Leases.{is_over, renewed, accepted, is_same_end, after_final, cause_of, first_due};
 
 use crate::limits::{LEASE_SECONDS, MAX_TRACE_BYTES};
 use crate::moment::Moment;
@@ -93,23 +92,31 @@ fn is_same_end(old: AttemptState, new: AttemptState) -> bool
     }
 }
 
-/// The state of an attempt after its runner sent a final one. The same final state with the same exit code, or the same
-/// lack of one, changes nothing.
+/// The attempt after its runner sent a final state. The same final state with the same exit code, or the same lack of
+/// one, changes nothing.
 pub fn finish(
-    attempt: &Attempt,
+    attempt: Attempt,
     limit: u32,
     now: Moment,
     last: AttemptState,
-) -> Result<AttemptState, LeaseFault>
-    ensures { result ≡ finished attempt.now limit now last }
+) -> Result<Attempt, LeaseFault>
+    ensures { result ≡ after_final attempt limit now last }
 {
     if is_same_end(attempt.state, last) {
-        return Ok(attempt.state);
+        return Ok(attempt);
     }
-    match renew(attempt, limit, now) {
-        Ok(_) => Ok(last),
+    match renew(&attempt, limit, now) {
+        Ok(_) => Ok(in_state(attempt, last)),
         Err(fault) => Err(fault),
     }
+}
+
+fn in_state(attempt: Attempt, state: AttemptState) -> Attempt
+    ensures { result ≡ record attempt { state = state } }
+{
+    let mut attempt = attempt;
+    attempt.state = state;
+    attempt
 }
 
 /// Why a lease that is over ends.
@@ -124,8 +131,18 @@ pub fn cause(lease: &Lease) -> Cause
     }
 }
 
-/// The first lease that is over, of leases by number.
-pub fn due(leases: &[Lease], now: Moment) -> Option<&Lease>
+/// The first lease that is over, of leases by number, and why it ends.
+pub fn due(leases: &[Lease], now: Moment) -> Option<(&Lease, Cause)>
+    ensures lease { option_map (λ p. p.0.now) result ≡ first_due leases.now now }
+    ensures cause { IfSome result (λ p. p.1 ≡ cause_of p.0.now) }
+{
+    match first_due(leases, now) {
+        Some(lease) => Some((lease, cause(lease))),
+        None => None,
+    }
+}
+
+fn first_due(leases: &[Lease], now: Moment) -> Option<&Lease>
     ensures { option_copied result ≡ first_due leases.now now }
 {
     leases

@@ -2,7 +2,7 @@
 
 ghost use Rattle.std.specs.Prelude.{◌≡◌, IfOk};
 ghost use Rattle.ci_machine.specs.Bodies.{source_text};
-ghost use Rattle.ci_machine.specs.Pipelines.{plain_options};
+ghost use Rattle.ci_machine.specs.Options.{plain_options};
 
 use crate::limits::DEFAULT_TIMEOUT_SECONDS;
 use crate::moment::Moment;
@@ -175,7 +175,7 @@ pub struct PipelineWithStatus {
     pub status: Status,
 }
 
-/// A job that waits for a runner, with the project of its pipeline.
+/// A job that waits for a runner, or was given to one, with the project of its pipeline.
 #[derive(Clone, Drop)]
 pub struct QueuedJob {
     pub job: Job,
@@ -247,6 +247,13 @@ pub struct Attempt {
     pub pieces: u64,
     /// The size of its trace, in bytes.
     pub size: u64,
+}
+
+/// An attempt with its job.
+#[derive(Clone, Drop)]
+pub struct AttemptWithJob {
+    pub attempt: Attempt,
+    pub queued: QueuedJob,
 }
 
 /// A resource group of a project that a live attempt holds. It is kept beside the state, which has no such record: which groups are

@@ -3,38 +3,51 @@
 ghost use Rattle.std.specs.Prelude.{◌≡◌};
 ghost use Rattle.std.specs.List.{list_any};
 ghost use Rattle.std.specs.Option.{option_copied};
-ghost use Rattle.ci_machine.specs.Redundant.{is_unfinished, same_kind, is_newer_of, is_bound_to, is_redundant, first_redundant};
+ghost use Rattle.ci_machine.specs.Redundant.{is_unfinished, same_kind, is_newer_of, is_bound_to, is_redundant, first_redundant, tried_in};
 
-use crate::records::{Job, Pipeline, PipelineWithStatus, RefKind};
+use crate::records::{AttemptWithJob, Job, Pipeline, PipelineWithStatus, RefKind};
 use ci_board::facts::Status;
 
-/// The first redundant pipeline, of pipelines by number, if there is one. The jobs are those of which an attempt was made, be it one that
-/// has ended or is set aside.
+/// The first redundant pipeline, of pipelines by number, if there is one. The attempts are all of their jobs, those that have ended and
+/// those that are set aside among them.
 pub fn redundant<'a>(
     pipelines: &'a [PipelineWithStatus],
-    tried: &[Job],
+    attempts: &[AttemptWithJob],
 ) -> Option<&'a PipelineWithStatus>
-    ensures { option_copied result ≡ first_redundant pipelines.now tried.now }
+    ensures { option_copied result ≡ first_redundant pipelines.now (tried_in attempts.now) }
 {
     pipelines
         .iter()
-        .find(|one| is_redundant(one, pipelines, tried))
+        .find(|one| is_redundant(one, pipelines, attempts))
 }
 
 /// Is the pipeline redundant: isn't it finished, is a newer one of its project, ref and kind among the others, and are all of its jobs
-/// that were tried interruptible?
-pub fn is_redundant(one: &PipelineWithStatus, others: &[PipelineWithStatus], tried: &[Job]) -> bool
-    ensures { result ≡ is_redundant others.now tried.now one.now }
+/// that were tried interruptible? The attempts are at least those of its jobs.
+pub fn is_redundant(
+    one: &PipelineWithStatus,
+    others: &[PipelineWithStatus],
+    attempts: &[AttemptWithJob],
+) -> bool
+    ensures { result ≡ is_redundant others.now (tried_in attempts.now) one.now }
 {
     is_unfinished(one.status)
         && has_newer(others, &one.pipeline)
-        && !is_held_back(&one.pipeline, tried)
+        && !is_held_back(&one.pipeline, attempts)
 }
 
-fn is_held_back(pipeline: &Pipeline, tried: &[Job]) -> bool
-    ensures { result ≡ list_any (is_bound_to pipeline.now) tried.now }
+fn is_held_back(pipeline: &Pipeline, attempts: &[AttemptWithJob]) -> bool
+    ensures { result ≡ list_any (is_bound_to pipeline.now) (tried_in attempts.now) }
 {
-    tried.iter().any(|job| is_bound_to(pipeline, job))
+    has_bound(attempts, pipeline)
+}
+
+/// Is one of the attempts of a job of the pipeline that isn't interruptible?
+fn has_bound(attempts: &[AttemptWithJob], pipeline: &Pipeline) -> bool
+    ensures { result ≡ list_any (λ a. is_bound_to pipeline.now a.queued.job) attempts.now }
+{
+    attempts
+        .iter()
+        .any(|one| is_bound_to(pipeline, &one.queued.job))
 }
 
 fn has_newer(others: &[PipelineWithStatus], pipeline: &Pipeline) -> bool

@@ -1,8 +1,8 @@
 -- What is answered where a pipeline is to be made of a text fits it.
-use Rattle.std.specs.Prelude.{◌≡◌, ℕ, ◌+◌, ◌-◌, ◌≤◌, Bool, true, false, ◌||◌, nat_lt, List, length, map, Option, Some, None, Result, Ok, Err, IfOk, IfSome}
+use Rattle.std.specs.Prelude.{◌≡◌, ◌⊎◌, ℕ, ◌+◌, ◌-◌, ◌≤◌, Bool, true, false, ◌||◌, nat_lt, nat_le, List, length, map, Option, Some, None, Result, Ok, Err, IfOk, IfSome}
 use Rattle.std.specs.Ordering.{nat_cmp}
 use Rattle.std.specs.List.Sorted.{IsStrictlySortedBy}
-use Rattle.std.proofs.Common.{refl, sym, ap, subst, ◌∙◌, arith}
+use Rattle.std.proofs.Common.{inl, inr, refl, sym, ap, subst, ◌∙◌, arith}
 use Rattle.std.proofs.lemmas.Bool.{ltb-false, false≢true}
 use Rattle.ci_values.specs.declared.limits.TheConstants.{MAX_NUMBER}
 use Rattle.ci_yaml_lines.specs.Tree.{Value}
@@ -10,8 +10,17 @@ use Rattle.ci_yaml.specs.Document.{HasTree}
 use Rattle.ci_yaml.specs.Stops.{RefusedBy}
 use Rattle.ci_yaml.specs.declared.fault.YamlFault.{YamlFault}
 use Rattle.ci_yaml.specs.declared.fault.YamlFault.TheVariants as yaml
-use Rattle.ci_config.specs.Answer.{Answers}
 use Rattle.ci_config.specs.Config.{Config}
+use Rattle.ci_config.specs.Expressions.{Patterns}
+use Rattle.ci_config.specs.Fault.{K13}
+use Rattle.ci_config.specs.Laws.{ConfigLacksPatterns}
+use Rattle.ci_config.specs.Meaning.{meaning, Means}
+use Rattle.ci_config.specs.View.{config_view}
+use Rattle.ci_config.specs.declared.file.Config as rust
+use Rattle.ci_config.specs.declared.fault.ConfigCode.TheVariants as code
+use Rattle.ci_expr.specs.declared.fault.ExprCode.TheVariants.{X8}
+use Rattle.ci_graph_layout.specs.declared.limits.TheConstants.{MAX_SEARCH_COST}
+use Rattle.ci_config.specs.FaultView as keywords
 use Rattle.ci_config.specs.FaultView.{code_view}
 use Rattle.ci_config.specs.declared.fault.ConfigFault.{ConfigFault}
 use Rattle.ci_config.specs.declared.fault.ConfigFault.TheVariants as config
@@ -23,12 +32,12 @@ use Rattle.ci_machine.specs.declared.records.Holder.{Holder}
 use Rattle.ci_machine.specs.declared.records.Job.{Job}
 use Rattle.ci_machine.specs.declared.reply.Code.TheVariants.{M15}
 use Rattle.ci_machine.specs.declared.reply.Detail.{Detail}
-use Rattle.ci_machine.specs.Plans.{Plan, refused, faulted}
-use Rattle.ci_machine.specs.Files.{line_fault, keyword_fault, IsRead, misconfigures, lacks_tree}
-use Rattle.ci_machine.specs.Pipelines as pipelines
-use Rattle.ci_machine.specs.Pipelines.{IsLaidOut, misread, unplanned, new_jobs, lacks_numbers, AreFirstRows, pipeline_created, MakesUnless, Creates}
-use Rattle.ci_machine.proofs.Created.{new_rise, new_length}
-use Rattle.ci_machine.proofs.Sound.{ascend_from_rising}
+use Rattle.ci_machine_steps.specs.Plans.{Plan, refused, faulted}
+use Rattle.ci_machine_steps.specs.Files.{line_fault, keyword_fault, IsRead, misconfigures, lacks_tree}
+use Rattle.ci_machine_steps.specs.Pipelines as pipelines
+use Rattle.ci_machine_steps.specs.Pipelines.{IsLaidOut, misread, unplanned, new_jobs, lacks_numbers, AreFirstRows, pipeline_created, MakesUnless, Creates}
+use Rattle.ci_machine_steps.proofs.Created.{new_rise, new_length}
+use Rattle.ci_machine_steps.proofs.Sound.{ascend_from_rising}
 use Rattle.ci_machine_pipelines.specs.declared.creation.Creation.{Creation}
 use Rattle.ci_machine_pipelines.specs.declared.files.FileFault.{FileFault}
 use Rattle.ci_machine_pipelines.specs.declared.files.FileFault.TheVariants.{Memory, Fault}
@@ -43,11 +52,23 @@ lacks text o yaml.Memory f is by = subst (λ (g : FileFault). LaysOut text o (Er
 lacks text o (yaml.Fault code line) f is by = subst (λ (g : FileFault). LaysOut text o (Err g)) (sym is) (misread (line_fault code line) (lacks_tree line code by))
 
 -- of the keywords
-pub misconfigured : (text : List ℕ) (o : Origin) (tree : Value) (fault : ConfigFault) (f : FileFault) → HasTree text tree → Answers (Err fault) tree → Shows f fault → LaysOut text o (Err f)
+pub misconfigured : (text : List ℕ) (o : Origin) (tree : Value) (fault : ConfigFault) (f : FileFault) → HasTree text tree → ((builds : Patterns) × keywords.Gives config_view (Err fault) (meaning builds tree)) → Shows f fault → LaysOut text o (Err f)
 misconfigured text o tree fault Memory has answer shows = tt
 misconfigured text o tree config.Memory (Fault detail) has answer shows = absurd shows
 misconfigured text o tree (config.Fault code) (Fault detail) has answer shows =
     subst (λ (d : Detail). IsLaidOut text o.given (Err d)) (sym shows) (misread (keyword_fault (code_view code)) (misconfigures tree (code_view code) has answer))
+
+-- of rules that cost too much to decide: then there is a pattern, and X8 may be answered
+pub unaffordable : (text : List ℕ) (o : Origin) (tree : Value) (c : rust.Config) (f : FileFault) (cost : ℕ) → HasTree text tree → Means tree (Ok (config_view c))
+    → ((v : Value) (k : Config) → Means v (Ok k) → ConfigLacksPatterns k ⊎ Means v (Err (K13 X8))) → (ConfigLacksPatterns (config_view c) → cost ≡ 0) → nat_le cost MAX_SEARCH_COST ≡ false
+    → Shows f (config.Fault (code.K13 X8)) → LaysOut text o (Err f)
+unaffordable text o tree c f cost has answer refuse none over shows = misconfigured text o tree (config.Fault (code.K13 X8)) f has (refused-by (refuse tree (config_view c) answer)) shows
+  where
+    refused-by : ConfigLacksPatterns (config_view c) ⊎ Means tree (Err (K13 X8)) → Means tree (Err (K13 X8))
+    refused-by (inr m) = m
+    refused-by (inl h) =
+        let no : nat_le 0 MAX_SEARCH_COST ≡ false = subst (λ n. nat_le n MAX_SEARCH_COST ≡ false) (none h) over in
+        absurd cc
 
 -- of the graph
 pub not_planned : (text : List ℕ) (o : Origin) (c : Config) (fault : PlanFault) (f : FileFault) → f ≡ plan_fault fault → IsRead text (Ok c) → Gives o.given c (Err fault) → LaysOut text o (Err f)

@@ -19,7 +19,7 @@ use Rattle.std.proofs.lemmas.Slice.Eq.{bytes_eq-Decides}
 use Rattle.ci_values.specs.Layers.{Variables, layer_view}
 use Rattle.ci_machine.specs.declared.records.Need.{Need}
 use Rattle.ci_machine.specs.State.{placed, others, put, need_cmp}
-use Rattle.ci_machine.specs.Pipelines.{name_cmp, merged}
+use Rattle.ci_machine_steps.specs.Pipelines.{name_cmp, merged}
 use Rattle.ci_machine.proofs.Keyed.{same}
 use Rattle.ci_machine_pipelines.specs.Creations.{need_of_key}
 

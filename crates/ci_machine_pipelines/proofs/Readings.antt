@@ -5,11 +5,13 @@ use Rattle.ci_yaml.specs.Document.{HasTree}
 use Rattle.ci_yaml.specs.Stops.{RefusedBy}
 use Rattle.ci_yaml.specs.declared.fault.YamlFault.{YamlFault}
 use Rattle.ci_yaml.specs.declared.fault.YamlFault.TheVariants as yaml
-use Rattle.ci_config.specs.Answer.{Answers}
-use Rattle.ci_config.specs.FaultView.{code_view}
+use Rattle.ci_config.specs.Expressions.{Patterns}
+use Rattle.ci_config.specs.FaultView.{code_view, Gives}
+use Rattle.ci_config.specs.Meaning.{meaning}
+use Rattle.ci_config.specs.View.{config_view}
 use Rattle.ci_config.specs.declared.fault.ConfigFault.{ConfigFault}
 use Rattle.ci_config.specs.declared.fault.ConfigFault.TheVariants as config
-use Rattle.ci_machine.specs.Files.{IsRead, configures, misconfigures, lacks_tree}
+use Rattle.ci_machine_steps.specs.Files.{IsRead, configures, misconfigures, lacks_tree}
 use Rattle.ci_machine_pipelines.specs.declared.files.FileFault.{FileFault}
 use Rattle.ci_machine_pipelines.specs.declared.files.FileFault.TheVariants.{Memory, Fault}
 use Rattle.ci_machine_pipelines.specs.Readings.{yaml_fault, Shows, Counts, CountsTree}
@@ -23,7 +25,7 @@ pub of_fault : (text : List ℕ) (fault : YamlFault) (f : FileFault) → f ≡ y
 of_fault text yaml.Memory f is by = subst (λ g. Counts text (Err g)) (sym is) tt
 of_fault text (yaml.Fault code line) f is by = subst (λ g. Counts text (Err g)) (sym is) (lacks_tree line code by)
 
-pub of_keywords : (tree : Value) (fault : ConfigFault) (f : FileFault) → Answers (Err fault) tree → Shows f fault → CountsTree tree (Err f)
+pub of_keywords : (tree : Value) (fault : ConfigFault) (f : FileFault) → ((builds : Patterns) × Gives config_view (Err fault) (meaning builds tree)) → Shows f fault → CountsTree tree (Err f)
 of_keywords tree fault Memory answer shows = tt
 of_keywords tree config.Memory (Fault detail) answer shows = absurd shows
 of_keywords tree (config.Fault code) (Fault detail) answer shows = (code_view code, answer, shows)

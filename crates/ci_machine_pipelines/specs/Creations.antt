@@ -17,8 +17,8 @@ use Rattle.ci_machine.specs.declared.records.Need.{Need}
 use Rattle.ci_machine.specs.declared.records.Variable.{Variable}
 use Rattle.ci_machine.specs.declared.request.NewPipeline.{NewPipeline}
 use Rattle.ci_machine.specs.Bodies.{pipeline_data}
-use Rattle.ci_machine.specs.Pipelines as pipelines
-use Rattle.ci_machine.specs.Pipelines.{Layout, IsLaidOut, graph_fault, lacks_numbers}
+use Rattle.ci_machine_steps.specs.Pipelines as pipelines
+use Rattle.ci_machine_steps.specs.Pipelines.{Layout, IsLaidOut, graph_fault, lacks_numbers}
 use Rattle.ci_machine_pipelines.specs.declared.creation.Creation.{Creation}
 use Rattle.ci_machine_pipelines.specs.declared.files.FileFault.{FileFault}
 use Rattle.ci_machine_pipelines.specs.declared.files.FileFault.TheVariants.{Memory, Fault}

@@ -9,7 +9,7 @@ use Rattle.ci_config.specs.FaultView.{code_view}
 use Rattle.ci_config.specs.Meaning.{Means}
 use Rattle.ci_config.specs.declared.fault.ConfigFault.{ConfigFault}
 use Rattle.ci_config.specs.declared.fault.ConfigFault.TheVariants as config
-use Rattle.ci_machine.specs.Files.{line_fault, keyword_fault, IsRead}
+use Rattle.ci_machine_steps.specs.Files.{line_fault, keyword_fault, IsRead}
 use Rattle.ci_machine_pipelines.specs.declared.files.FileFault.{FileFault}
 use Rattle.ci_machine_pipelines.specs.declared.files.FileFault.TheVariants.{Memory, Fault}
 

@@ -9,7 +9,7 @@ ghost use Rattle.ci_graph_layout.specs.Plans.{plan_view};
 ghost use Rattle.ci_graph_layout.specs.View.{given_view, included_view};
 ghost use Rattle.ci_machine.specs.Bodies.{status_of_jobs};
 ghost use Rattle.ci_machine.specs.State.{put, need_cmp};
-ghost use Rattle.ci_machine.specs.Pipelines as pipelines;
+ghost use Rattle.ci_machine_steps.specs.Pipelines as pipelines;
 ghost use Rattle.ci_machine.specs.declared.change.RowChange.TheVariants as change;
 ghost use Rattle.ci_machine.specs.declared.change.Record.TheVariants as row;
 ghost use Rattle.ci_machine_pipelines.specs.Creations.{creation_view, layout_view, need_of_key, origin_view, creation_of, IsMadeOf, created_text};
@@ -19,7 +19,7 @@ use crate::layouts::Start;
 use ci_board::facts::{Facts, Row, Status};
 use ci_config::Config;
 use ci_graph_layout::{Given, IncludedJob, PipelinePlan};
-use ci_machine::change::{Counter, Delta, Record, RowChange};
+use ci_machine::change::{Changes, Counter, Record, RowChange};
 use ci_machine::limits::DEFAULT_TIMEOUT_SECONDS;
 use ci_machine::records::{
     BoardRow, Holder, Job, JobOptions, JobVariable, MAX_NUMBER, Need, Pipeline,
@@ -245,10 +245,10 @@ pub(crate) fn records_of<'a, 't>(
 
 /// Puts the jobs behind the changes that are there.
 fn put_jobs(changes: &mut Vec<RowChange>, jobs: Vec<Job>) -> Result<(), AllocError>
-    ensures { OnOk result (changes.new.items ≡ changes.old.items ++ map (λ j. change.Add (row.Job j)) jobs.items) }
+    ensures { OnOk result (changes.new.items ≡ changes.old.items ++ map (λ j. change.Put (row.Job j)) jobs.items) }
 {
     for job in jobs {
-        changes.push(RowChange::Add(Record::Job(job)))?;
+        changes.push(RowChange::Put(Record::Job(job)))?;
     }
     Ok(())
 }
@@ -258,20 +258,20 @@ fn put_variables(
     changes: &mut Vec<RowChange>,
     variables: Vec<JobVariable>,
 ) -> Result<(), AllocError>
-    ensures { OnOk result (changes.new.items ≡ changes.old.items ++ map (λ v. change.Add (row.JobVariable v)) variables.items) }
+    ensures { OnOk result (changes.new.items ≡ changes.old.items ++ map (λ v. change.Put (row.JobVariable v)) variables.items) }
 {
     for variable in variables {
-        changes.push(RowChange::Add(Record::JobVariable(variable)))?;
+        changes.push(RowChange::Put(Record::JobVariable(variable)))?;
     }
     Ok(())
 }
 
 /// Puts the needs behind the changes that are there.
 fn put_needs(changes: &mut Vec<RowChange>, needs: Vec<Need>) -> Result<(), AllocError>
-    ensures { OnOk result (changes.new.items ≡ changes.old.items ++ map (λ w. change.Add (row.Need w)) needs.items) }
+    ensures { OnOk result (changes.new.items ≡ changes.old.items ++ map (λ w. change.Put (row.Need w)) needs.items) }
 {
     for need in needs {
-        changes.push(RowChange::Add(Record::Need(need)))?;
+        changes.push(RowChange::Put(Record::Need(need)))?;
     }
     Ok(())
 }
@@ -328,7 +328,7 @@ impl Creation {
     }
 
     /// The records are added; and the numbers that come next, where the first job has this number.
-    fn into_changes(self, alloc: Global, first_job: u64) -> Result<Delta, AllocError>
+    fn into_changes(self, alloc: Global, first_job: u64) -> Result<Changes, AllocError>
         requires pipeline { self.pipeline.id ≤ MAX_NUMBER }
         requires jobs { first_job + length self.jobs.items ≤ MAX_NUMBER + 1 }
         ensures { IfOk result (λ changes. changes ≡ pipelines.creation_changes first_job (creation_view self)) }
@@ -342,13 +342,13 @@ impl Creation {
         let next_pipeline = pipeline.id + 1;
         let next_job = first_job + jobs.len() as u64;
         let mut changes = Vec::new(alloc);
-        changes.push(RowChange::Add(Record::Pipeline(pipeline)))?;
-        changes.push(RowChange::SetNext(Counter::Pipeline, next_pipeline))?;
-        changes.push(RowChange::SetNext(Counter::Job, next_job))?;
+        changes.push(RowChange::Put(Record::Pipeline(pipeline)))?;
+        changes.push(RowChange::Put(Record::Next(Counter::Pipeline, next_pipeline)))?;
+        changes.push(RowChange::Put(Record::Next(Counter::Job, next_job)))?;
         put_jobs(&mut changes, jobs)?;
         put_variables(&mut changes, variables)?;
         put_needs(&mut changes, needs)?;
-        Ok(Delta::new(changes))
+        Ok(Changes::new(changes))
     }
 
     /// The pipeline is made, and shown with the statuses of its jobs, which have these rows (201). Its first job has this number. The holders
@@ -359,7 +359,7 @@ impl Creation {
         first_job: u64,
         holders: &[Holder],
         rows: &[BoardRow],
-    ) -> Result<(Reply, Delta), AllocError>
+    ) -> Result<(Reply, Changes), AllocError>
         requires rows { length rows.now ≡ length self.jobs.items }
         requires pipeline { self.pipeline.id ≤ MAX_NUMBER }
         requires jobs { first_job + length self.jobs.items ≤ MAX_NUMBER + 1 }

@@ -4,12 +4,12 @@ ghost use Rattle.std.specs.Prelude.{◌≡◌, IfOk, Ok, length};
 ghost use Rattle.ci_yaml_lines.specs.TreeView.{value_view};
 ghost use Rattle.ci_config.specs.Config.{Config};
 ghost use Rattle.ci_config.specs.FaultView.{code_view};
-ghost use Rattle.ci_machine.specs.Files as files;
+ghost use Rattle.ci_machine_steps.specs.Files as files;
 ghost use Rattle.ci_machine_pipelines.specs.Readings.{yaml_fault, Shows, Counts, CountsTree};
 
 use ci_config::{ConfigCode, ConfigFault, config};
 use ci_expr::ExprCode;
-use ci_machine::change::{Delta, Record, RowChange};
+use ci_machine::change::{Changes, Record, RowChange};
 use ci_machine::records::Project;
 use ci_machine::reply::{Body, Detail, FaultCode, Reply};
 use ci_machine::text::Text;
@@ -136,7 +136,11 @@ fn jobs_of_tree(alloc: Global, tree: &Tree) -> Result<usize, FileFault>
 /// The file of the project that was asked for is to be this text. The reply (200) tells how many of its jobs aren't hidden.
 ///
 /// Refusals: M14 with the first fault of the text, of its lines or its keywords.
-pub fn set_file(alloc: Global, project: &Project, text: Text) -> Result<(Reply, Delta), AllocError>
+pub fn set_file(
+    alloc: Global,
+    project: &Project,
+    text: Text,
+) -> Result<(Reply, Changes), AllocError>
     ensures { IfOk result (λ plan. files.SetsFile (Ok project.now) text plan) }
 {
     match jobs_in(alloc, text.as_str()) {
@@ -152,7 +156,7 @@ fn put_file(
     project: &Project,
     text: Text,
     count: usize,
-) -> Result<(Reply, Delta), AllocError>
+) -> Result<(Reply, Changes), AllocError>
     ensures { (c : Config) → count ≡ length c.jobs → IfOk result (λ plan. plan ≡ files.file_set project.now text c) }
 {
     let reply = fine(Body::Json(body::file(alloc, count)?));

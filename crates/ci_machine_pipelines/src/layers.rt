@@ -6,8 +6,8 @@ ghost use Rattle.ci_values.specs.Layers.{layer_view};
 ghost use Rattle.ci_config.specs.View.{config_view};
 ghost use Rattle.ci_graph_layout.specs.View.{given_view, included_view};
 ghost use Rattle.ci_machine.specs.State.{put};
-ghost use Rattle.ci_machine.specs.Pipelines as pipelines;
-ghost use Rattle.ci_machine.specs.Pipelines.{ref_name, predefined, name_cmp, merged};
+ghost use Rattle.ci_machine_steps.specs.Pipelines as pipelines;
+ghost use Rattle.ci_machine_steps.specs.Pipelines.{ref_name, predefined, name_cmp, merged};
 ghost use Rattle.ci_machine_pipelines.specs.Creations.{brought_view};
 
 use ci_config::Config;

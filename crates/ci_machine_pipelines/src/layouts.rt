@@ -10,16 +10,19 @@ ghost use Rattle.ci_config.specs.View.{config_view};
 ghost use Rattle.ci_graph.specs.Pairs.{AreWithin};
 ghost use Rattle.ci_graph_layout.specs.Plans.{plan_view};
 ghost use Rattle.ci_graph_layout.specs.View.{given_view};
-ghost use Rattle.ci_machine.specs.Files.{IsRead};
-ghost use Rattle.ci_machine.specs.Pipelines as pipelines;
-ghost use Rattle.ci_machine.specs.Pipelines.{IsLaidOut};
+ghost use Rattle.ci_machine_steps.specs.Files.{IsRead};
+ghost use Rattle.ci_machine_steps.specs.Pipelines as pipelines;
+ghost use Rattle.ci_machine_steps.specs.Pipelines.{IsLaidOut};
 ghost use Rattle.ci_machine_pipelines.specs.Creations.{layout_view, origin, origin_view, plan_fault, LaysOut};
 
 use crate::creation::{Creation, records_of};
 use crate::files::{FileFault, config_fault, yaml_fault};
 use crate::layers::Brought;
-use ci_config::{Config, config};
-use ci_graph_layout::{Given, GraphCode, PipelinePlan, PlanFault, plan};
+use ci_config::laws::may_refuse_patterns;
+use ci_config::{Config, ConfigCode, ConfigFault, config};
+use ci_expr::ExprCode;
+use ci_graph_layout::laws::searches_for_patterns_alone;
+use ci_graph_layout::{Given, GraphCode, PipelinePlan, PlanFault, is_affordable, plan};
 use ci_machine::moment::Moment;
 use ci_machine::records::{MAX_NUMBER, Variable};
 use ci_machine::reply::{Detail, FaultCode};
@@ -101,6 +104,8 @@ fn lay_out_config<'a, 't>(
 fn lay_out_tree(alloc: Global, tree: &Tree, start: &Start) -> Result<Option<Creation>, FileFault>
     ensures { (text : List ℕ) → HasTree text (value_view tree.now) → LaysOut text (origin_view start.now) result }
 {
+    may_refuse_patterns();
+    searches_for_patterns_alone();
     match config(alloc, tree) {
         Ok(config) => {
             let given = Given {
@@ -108,6 +113,10 @@ fn lay_out_tree(alloc: Global, tree: &Tree, start: &Start) -> Result<Option<Crea
                 project: start.given.project,
                 predefined: start.given.predefined,
             };
+            if !is_affordable(alloc, &given, &config)? {
+                let fault = ConfigFault::Fault(ConfigCode::K13(ExprCode::X8));
+                return Err(config_fault(alloc, fault));
+            }
             lay_out_config(alloc, &config, &given, start)
         }
         Err(fault) => Err(config_fault(alloc, fault)),
@@ -135,7 +144,8 @@ fn number_text(alloc: Global, number: u64) -> Result<Text, AllocError>
 /// project has these variables.
 ///
 /// Errors: memory was refused; or the first fault of the text: of its lines (Y), of its keywords (K), where an expression with a
-/// pattern may always be refused (`K13 X8`), and then of the graph of its jobs (G).
+/// pattern may always be refused (`K13 X8`); then that deciding its rules costs no more than `MAX_SEARCH_COST`, and else `K13 X8`; and then
+/// of the graph of its jobs (G).
 pub fn lay_out(
     alloc: Global,
     text: &str,

@@ -4,7 +4,7 @@ ghost use Rattle.std.specs.Prelude.{◌≡◌};
 ghost use Rattle.std.specs.List.{list_any};
 ghost use Rattle.std.specs.Result.{result_map_both};
 ghost use Rattle.std.specs.Str.{bytes_eq};
-ghost use Rattle.ci_machine.specs.Pipelines as pipelines;
+ghost use Rattle.ci_machine_steps.specs.Pipelines as pipelines;
 ghost use Rattle.ci_machine_plans.specs.Refusals as refusals;
 
 use ci_config::MAX_VARIABLES;

@@ -8,8 +8,8 @@ use Rattle.ci_machine.specs.declared.reply.Detail.TheVariants as detail
 use Rattle.ci_config.specs.declared.limits.TheConstants.{MAX_TAGS}
 use Rattle.ci_machine.specs.declared.records.Project.{Project}
 use Rattle.ci_machine.specs.declared.request.NewRunner.{NewRunner}
-use Rattle.ci_machine.specs.Plans.{Plan, refused, faulted}
-use Rattle.ci_machine.specs.Runners.{are_names, lacks_project}
+use Rattle.ci_machine_steps.specs.Plans.{Plan, refused, faulted}
+use Rattle.ci_machine_steps.specs.Runners.{are_names, lacks_project}
 use Rattle.ci_machine_plans.specs.declared.replies.Refusal.{Refusal}
 use Rattle.ci_machine_plans.specs.declared.replies.Refusal.TheVariants.{Code, Fault}
 

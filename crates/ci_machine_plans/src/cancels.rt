@@ -4,12 +4,12 @@ ghost use Rattle.std.specs.Prelude.{◌≡◌, ◌==◌, ◌++◌, ◌∷◌, []
 ghost use Rattle.std.specs.List.{list_any};
 ghost use Rattle.ci_machine.specs.declared.change.RowChange.TheVariants as change;
 ghost use Rattle.ci_machine.specs.declared.change.Record.TheVariants as row;
-ghost use Rattle.ci_machine.specs.Cancels as cancels;
-ghost use Rattle.ci_machine.specs.Shows as shows;
+ghost use Rattle.ci_machine_steps.specs.Cancels as cancels;
+ghost use Rattle.ci_machine_steps.specs.Shows as shows;
 
 use crate::shows::{job_reply, pipeline_reply};
 use ci_board::facts::{Facts, Row, Status};
-use ci_machine::change::{Delta, Record, RowChange};
+use ci_machine::change::{Changes, Record, RowChange};
 use ci_machine::records::{Attempt, AttemptState, Holder, Job, Pipeline};
 use ci_machine::reply::Reply;
 use std::alloc::{AllocError, Global};
@@ -24,7 +24,7 @@ pub fn cancel_job(
     project: u64,
     job: &Job,
     after: Status,
-) -> Result<(Reply, Delta), AllocError>
+) -> Result<(Reply, Changes), AllocError>
     ensures { IfOk result (λ plan. plan ≡ ((shows.job_shown holders.now project job.now after).0, cancels.cancel attempts.now (job.now ∷ []))) }
 {
     let reply = job_reply(alloc, holders, project, job, after)?;
@@ -44,7 +44,7 @@ pub fn cancel_jobs(
     jobs: &[Job],
     facts: &[Facts],
     rows: &[Row],
-) -> Result<(Reply, Delta), AllocError>
+) -> Result<(Reply, Changes), AllocError>
     requires facts { length facts.now ≡ length jobs.now }
     requires rows { length rows.now ≡ length jobs.now }
     ensures { IfOk result (λ plan. plan ≡ ((shows.pipeline_shown pipeline.now holders.now jobs.now facts.now rows.now).0, cancels.cancel attempts.now cancelled.now)) }
@@ -55,12 +55,16 @@ pub fn cancel_jobs(
 }
 
 /// Each of the jobs is marked as cancelled, and each lease on one of them, of these attempts, ends as cancelled.
-pub(crate) fn cancel(alloc: Global, attempts: &[Attempt], jobs: &[Job]) -> Result<Delta, AllocError>
+pub(crate) fn cancel(
+    alloc: Global,
+    attempts: &[Attempt],
+    jobs: &[Job],
+) -> Result<Changes, AllocError>
     ensures { IfOk result (λ changes. changes ≡ cancels.cancel attempts.now jobs.now) }
 {
     let marks = marks(alloc, jobs)?;
     let changes = with_ends(marks, attempts, jobs)?;
-    Ok(Delta::new(changes))
+    Ok(Changes::new(changes))
 }
 
 /// The jobs are marked as cancelled.

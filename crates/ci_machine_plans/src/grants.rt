@@ -2,11 +2,11 @@
 //! it may run, or it is offered a job.
 
 ghost use Rattle.std.specs.Prelude.{◌≡◌, IfOk};
-ghost use Rattle.ci_machine.specs.Grants as grants;
+ghost use Rattle.ci_machine_steps.specs.Grants as grants;
 
 use crate::body;
 use crate::replies::{made, refused, token, unchanged};
-use ci_machine::change::{Counter, Delta, Record};
+use ci_machine::change::{Changes, Counter, Record};
 use ci_machine::moment::Moment;
 use ci_machine::records::{Attempt, AttemptState, JobVariable, MAX_NUMBER, QueuedJob, Runner};
 use ci_machine::reply::{Code, HttpStatus, Reply};
@@ -14,14 +14,14 @@ use ci_machine::request::Seed;
 use std::alloc::{AllocError, Global};
 
 /// No runner has the token that was sent: M4.
-pub fn unknown_runner(alloc: Global) -> (Reply, Delta)
+pub fn unknown_runner(alloc: Global) -> (Reply, Changes)
     ensures { result ≡ grants.unknown_runner }
 {
     refused(alloc, Code::M4)
 }
 
 /// No waiting job is one that the runner may run: 204.
-pub fn nothing_to_run(alloc: Global) -> (Reply, Delta)
+pub fn nothing_to_run(alloc: Global) -> (Reply, Changes)
     ensures { result ≡ grants.nothing_to_run }
 {
     unchanged(alloc, Reply::plain(HttpStatus::NoContent))
@@ -39,7 +39,7 @@ pub fn grant(
     next: u64,
     now: Moment,
     seed: Seed,
-) -> Result<(Reply, Delta), AllocError>
+) -> Result<(Reply, Changes), AllocError>
     ensures { IfOk result (λ plan. plan ≡ grants.grant runner.now queued.now variables.now next now seed) }
 {
     if next > MAX_NUMBER {

@@ -1,13 +1,13 @@
 //! A manual job is played.
 
 ghost use Rattle.std.specs.Prelude.{◌≡◌, IfOk};
-ghost use Rattle.ci_machine.specs.Plays as plays;
-ghost use Rattle.ci_machine.specs.Shows.{job_shown};
+ghost use Rattle.ci_machine_steps.specs.Plays as plays;
+ghost use Rattle.ci_machine_steps.specs.Shows.{job_shown};
 
 use crate::replies::only;
 use crate::shows::job_reply;
 use ci_board::facts::Status;
-use ci_machine::change::{Delta, Record, RowChange};
+use ci_machine::change::{Changes, Record, RowChange};
 use ci_machine::records::{Holder, Job};
 use ci_machine::reply::Reply;
 use std::alloc::{AllocError, Global};
@@ -20,7 +20,7 @@ pub fn play(
     project: u64,
     job: &Job,
     after: Status,
-) -> Result<(Reply, Delta), AllocError>
+) -> Result<(Reply, Changes), AllocError>
     ensures { IfOk result (λ plan. plan ≡ ((job_shown holders.now project job.now after).0, plays.play job.now)) }
 {
     let reply = job_reply(alloc, holders, project, job, after)?;

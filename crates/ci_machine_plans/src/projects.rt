@@ -3,11 +3,11 @@
 ghost use Rattle.std.specs.Prelude.{◌≡◌, IfOk};
 ghost use Rattle.std.specs.Option.{option_copied};
 ghost use Rattle.std.specs.Result.{result_map_both};
-ghost use Rattle.ci_machine.specs.Plans as plans;
-ghost use Rattle.ci_machine.specs.Projects as projects;
+ghost use Rattle.ci_machine_steps.specs.Plans as plans;
+ghost use Rattle.ci_machine_steps.specs.Projects as projects;
 
 use crate::replies::{identity, made, refusal_of_named, unmade};
-use ci_machine::change::{Counter, Delta, Record};
+use ci_machine::change::{Changes, Counter, Record};
 use ci_machine::records::Project;
 use ci_machine::reply::{Code, Reply};
 use ci_machine::request::Seed;
@@ -22,7 +22,7 @@ pub fn add_project(
     next: u64,
     name: Text,
     seed: Seed,
-) -> Result<(Reply, Delta), AllocError>
+) -> Result<(Reply, Changes), AllocError>
     ensures { IfOk result (λ plan. plan ≡ projects.add_project next name seed) }
 {
     if let Some(refusal) = refusal_of_named(&name, next) {

@@ -6,11 +6,11 @@ ghost use Rattle.ci_machine.specs.declared.change.Record.TheVariants as row;
 ghost use Rattle.ci_machine.specs.declared.reply.Detail.TheVariants as detail;
 ghost use Rattle.serde_json.specs.Written.{compact_text};
 ghost use Rattle.ci_machine.specs.Bodies.{created_data};
-ghost use Rattle.ci_machine.specs.Plans as plans;
+ghost use Rattle.ci_machine_steps.specs.Plans as plans;
 ghost use Rattle.ci_machine_plans.specs.Refusals as refusals;
 
 use crate::body;
-use ci_machine::change::{Counter, Delta, Record, RowChange};
+use ci_machine::change::{Changes, Counter, Record, RowChange};
 use ci_machine::records::{Attempt, MAX_NUMBER};
 use ci_machine::reply::{Body, Code, Detail, FaultCode, HttpStatus, Reply};
 use ci_machine::request::Seed;
@@ -18,7 +18,7 @@ use ci_machine::text::Text;
 use std::alloc::{AllocError, Global};
 
 /// The plan that refuses an event: it changes nothing, and takes no memory.
-pub fn refused(alloc: Global, code: Code) -> (Reply, Delta)
+pub fn refused(alloc: Global, code: Code) -> (Reply, Changes)
     ensures { result ≡ plans.refused code }
 {
     unchanged(alloc, Reply::refusal(code))
@@ -33,7 +33,7 @@ pub enum Refusal {
 }
 
 /// The plan that refuses what was to be made.
-pub fn unmade(alloc: Global, refusal: Refusal) -> Result<(Reply, Delta), AllocError>
+pub fn unmade(alloc: Global, refusal: Refusal) -> Result<(Reply, Changes), AllocError>
     ensures { IfOk result (λ plan. plan ≡ refusals.unmade refusal) }
 {
     match refusal {
@@ -43,7 +43,7 @@ pub fn unmade(alloc: Global, refusal: Refusal) -> Result<(Reply, Delta), AllocEr
 }
 
 /// The plan that refuses what has a fault: M14 with its detail.
-pub fn faulted(alloc: Global, detail: &Detail) -> Result<(Reply, Delta), AllocError>
+pub fn faulted(alloc: Global, detail: &Detail) -> Result<(Reply, Changes), AllocError>
     ensures { IfOk result (λ plan. plan ≡ plans.faulted detail.now) }
 {
     let text = body::fault(alloc, detail)?;
@@ -68,10 +68,10 @@ pub(crate) fn refusal_of_named(name: &Text, next: u64) -> Option<Refusal>
 }
 
 /// A reply with no changes.
-pub(crate) fn unchanged(alloc: Global, reply: Reply) -> (Reply, Delta)
+pub(crate) fn unchanged(alloc: Global, reply: Reply) -> (Reply, Changes)
     ensures { result ≡ (reply, []) }
 {
-    (reply, Delta::new(Vec::new(alloc)))
+    (reply, Changes::new(Vec::new(alloc)))
 }
 
 /// The token of a record: a letter, its number, a dash and the seed in hex.
@@ -116,17 +116,17 @@ pub(crate) fn and(
 }
 
 /// A new record with this number, and the number that comes next.
-fn numbered(alloc: Global, new: Record, counter: Counter, id: u64) -> Result<Delta, AllocError>
+fn numbered(alloc: Global, new: Record, counter: Counter, id: u64) -> Result<Changes, AllocError>
     requires { id ≤ MAX_NUMBER }
     ensures { IfOk result (λ changes. changes ≡ plans.numbered new counter id) }
 {
-    let changes = and(Vec::new(alloc), RowChange::Add(new))?;
-    let changes = and(changes, RowChange::SetNext(counter, id + 1))?;
-    Ok(Delta::new(changes))
+    let changes = and(Vec::new(alloc), RowChange::Put(new))?;
+    let changes = and(changes, RowChange::Put(Record::Next(counter, id + 1)))?;
+    Ok(Changes::new(changes))
 }
 
 /// What was made is told with this body (201), and these are the changes.
-pub fn created(text: Text, changes: Delta) -> (Reply, Delta)
+pub fn created(text: Text, changes: Changes) -> (Reply, Changes)
     ensures { result ≡ (plans.created text, changes) }
 {
     let mut reply = Reply::plain(HttpStatus::Created);
@@ -141,7 +141,7 @@ pub(crate) fn made(
     new: Record,
     counter: Counter,
     id: u64,
-) -> Result<(Reply, Delta), AllocError>
+) -> Result<(Reply, Changes), AllocError>
     requires { id ≤ MAX_NUMBER }
     ensures { IfOk result (λ plan. plan ≡ (plans.created text, plans.numbered new counter id)) }
 {
@@ -159,17 +159,17 @@ pub fn fine(body: Body) -> Reply
 }
 
 /// One change.
-pub fn only(alloc: Global, change: RowChange) -> Result<Delta, AllocError>
+pub fn only(alloc: Global, change: RowChange) -> Result<Changes, AllocError>
     ensures { IfOk result (λ changes. changes ≡ change ∷ []) }
 {
     let changes = and(Vec::new(alloc), change)?;
-    Ok(Delta::new(changes))
+    Ok(Changes::new(changes))
 }
 
 /// An attempt in place of the one with its number.
-pub(crate) fn put(alloc: Global, attempt: Attempt) -> Result<Delta, AllocError>
+pub(crate) fn put(alloc: Global, attempt: Attempt) -> Result<Changes, AllocError>
     ensures { IfOk result (λ changes. changes ≡ change.Put (row.Attempt attempt) ∷ []) }
 {
     let changes = and(Vec::new(alloc), RowChange::Put(Record::Attempt(attempt)))?;
-    Ok(Delta::new(changes))
+    Ok(Changes::new(changes))
 }

@@ -2,10 +2,11 @@
 
 ghost use Rattle.std.specs.Prelude.{◌≡◌, IfOk};
 ghost use Rattle.std.specs.Option.{option_copied};
-ghost use Rattle.ci_machine.specs.Reports as reports;
+ghost use Rattle.ci_machine.specs.Leases.{finished};
+ghost use Rattle.ci_machine_steps.specs.Reports as reports;
 
 use crate::replies::{put, refused, unchanged};
-use ci_machine::change::Delta;
+use ci_machine::change::Changes;
 use ci_machine::lease::{Lease, LeaseFault, finish, renew};
 use ci_machine::moment::Moment;
 use ci_machine::records::{Attempt, AttemptState};
@@ -40,7 +41,7 @@ fn heard(
     alloc: Global,
     attempt: &Attempt,
     seen: Result<Moment, LeaseFault>,
-) -> Result<(Reply, Delta), AllocError>
+) -> Result<(Reply, Changes), AllocError>
     ensures { IfOk result (λ plan. plan ≡ reports.heard attempt.now seen) }
 {
     match seen {
@@ -53,28 +54,32 @@ fn heard(
     }
 }
 
-/// The changes by which an attempt comes into a final state: none, where it has ended.
-fn ending(alloc: Global, attempt: &Attempt, state: AttemptState) -> Result<Delta, AllocError>
-    ensures { IfOk result (λ changes. changes ≡ reports.ending attempt.now state) }
+/// The changes by which an attempt comes into a final state, as it is after: none, where it has ended.
+fn ending(alloc: Global, attempt: &Attempt, after: Attempt) -> Result<Changes, AllocError>
+    ensures { (state : AttemptState) → after ≡ record attempt.now { state = state } → IfOk result (λ changes. changes ≡ reports.ending attempt.now state) }
 {
     if !attempt.state.is_live() {
-        return Ok(Delta::new(Vec::new(alloc)));
+        return Ok(Changes::new(Vec::new(alloc)));
     }
-    let mut attempt = attempt.clone()?;
-    attempt.state = state;
-    put(alloc, attempt)
+    put(alloc, after)
 }
 
-/// The attempt has this final state, if one of the runner is accepted.
+/// The attempt comes into this final state, if one of the runner is accepted.
 fn ended(
     alloc: Global,
     attempt: &Attempt,
-    state: Result<AttemptState, LeaseFault>,
-) -> Result<(Reply, Delta), AllocError>
-    ensures { IfOk result (λ plan. plan ≡ reports.ended attempt.now state) }
+    limit: u32,
+    now: Moment,
+    last: AttemptState,
+) -> Result<(Reply, Changes), AllocError>
+    ensures { IfOk result (λ plan. plan ≡ reports.ended attempt.now (finished attempt.now limit now last)) }
 {
-    match state {
-        Ok(state) => Ok((told(JobStatus::of(state)), ending(alloc, attempt, state)?)),
+    match finish(attempt.clone()?, limit, now, last) {
+        Ok(after) => {
+            let reply = told(JobStatus::of(after.state));
+            let changes = ending(alloc, attempt, after)?;
+            Ok((reply, changes))
+        }
         Err(fault) => Ok(unchanged(alloc, unleased(fault))),
     }
 }
@@ -84,7 +89,7 @@ fn reported(
     lease: &Lease,
     report: Report,
     now: Moment,
-) -> Result<(Reply, Delta), AllocError>
+) -> Result<(Reply, Changes), AllocError>
     ensures { IfOk result (λ plan. plan ≡ reports.reported lease.now report now) }
 {
     let Lease { attempt, limit } = lease;
@@ -92,11 +97,11 @@ fn reported(
         Report::Running => heard(alloc, attempt, renew(attempt, *limit, now)),
         Report::Success(exit) => {
             let state = AttemptState::Succeeded(exit);
-            ended(alloc, attempt, finish(attempt, *limit, now, state))
+            ended(alloc, attempt, *limit, now, state)
         }
         Report::Failed(cause, exit) => {
             let state = AttemptState::Failed(cause, exit);
-            ended(alloc, attempt, finish(attempt, *limit, now, state))
+            ended(alloc, attempt, *limit, now, state)
         }
     }
 }
@@ -111,7 +116,7 @@ pub fn update_job(
     lease: Option<&Lease>,
     update: &JobUpdate,
     now: Moment,
-) -> Result<(Reply, Delta), AllocError>
+) -> Result<(Reply, Changes), AllocError>
     ensures { IfOk result (λ plan. plan ≡ reports.update_job (option_copied lease.entry) update.now now) }
 {
     let Some(lease) = lease else {

@@ -1,13 +1,13 @@
 //! A job is to be tried again.
 
 ghost use Rattle.std.specs.Prelude.{◌≡◌, ◌==◌, IfOk, filter, length, count_by};
-ghost use Rattle.ci_machine.specs.Retries as retries;
-ghost use Rattle.ci_machine.specs.Shows.{job_shown};
+ghost use Rattle.ci_machine_steps.specs.Retries as retries;
+ghost use Rattle.ci_machine_steps.specs.Shows.{job_shown};
 
 use crate::replies::only;
 use crate::shows::job_reply;
 use ci_board::facts::Status;
-use ci_machine::change::{Delta, Record, RowChange};
+use ci_machine::change::{Changes, Record, RowChange};
 use ci_machine::records::{Attempt, Holder, Job};
 use ci_machine::reply::Reply;
 use std::alloc::{AllocError, Global};
@@ -35,7 +35,7 @@ pub fn retry(
     project: u64,
     job: &Job,
     after: Status,
-) -> Result<(Reply, Delta), AllocError>
+) -> Result<(Reply, Changes), AllocError>
     ensures { IfOk result (λ plan. plan ≡ ((job_shown holders.now project job.now after).0, retries.retry (filter (λ a. a.job == job.now.id) attempts.now) job.now)) }
 {
     let reply = job_reply(alloc, holders, project, job, after)?;

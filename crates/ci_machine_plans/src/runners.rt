@@ -4,14 +4,14 @@ ghost use Rattle.std.specs.Prelude.{◌≡◌, ◌≤◌, None, IfOk};
 ghost use Rattle.std.specs.List.{list_all};
 ghost use Rattle.std.specs.Option.{option_copied};
 ghost use Rattle.ci_values.specs.Names.{is_name};
-ghost use Rattle.ci_machine.specs.Plans as plans;
-ghost use Rattle.ci_machine.specs.Runners as runners;
+ghost use Rattle.ci_machine_steps.specs.Plans as plans;
+ghost use Rattle.ci_machine_steps.specs.Runners as runners;
 ghost use Rattle.ci_machine_plans.specs.Refusals as refusals;
 
 use crate::body;
 use crate::replies::{Refusal, fine, identity, made, only, refused, unmade};
 use ci_config::MAX_TAGS;
-use ci_machine::change::{Counter, Delta, Record, RowChange};
+use ci_machine::change::{Changes, Counter, Record, RowChange};
 use ci_machine::records::{MAX_NUMBER, Project, Runner};
 use ci_machine::reply::{Body, Code, FaultCode, Reply};
 use ci_machine::request::{NewRunner, Seed};
@@ -28,7 +28,7 @@ pub fn add_runner(
     project: Option<&Project>,
     new: NewRunner,
     seed: Seed,
-) -> Result<(Reply, Delta), AllocError>
+) -> Result<(Reply, Changes), AllocError>
     ensures { IfOk result (λ plan. plan ≡ runners.add_runner next (option_copied project.entry) new seed) }
 {
     if let Some(refusal) = refusal_of_runner(&new, project, next) {
@@ -84,7 +84,7 @@ fn make_runner(
     id: u64,
     new: NewRunner,
     seed: Seed,
-) -> Result<(Reply, Delta), AllocError>
+) -> Result<(Reply, Changes), AllocError>
     requires { id ≤ MAX_NUMBER }
     ensures { IfOk result (λ plan. plan ≡ runners.made_runner id new seed) }
 {
@@ -114,7 +114,7 @@ pub fn pause_runner(
     alloc: Global,
     runner: Option<Runner>,
     paused: bool,
-) -> Result<(Reply, Delta), AllocError>
+) -> Result<(Reply, Changes), AllocError>
     ensures { IfOk result (λ plan. plan ≡ runners.pause_runner runner paused) }
 {
     match runner {
@@ -123,7 +123,7 @@ pub fn pause_runner(
     }
 }
 
-fn pause(alloc: Global, runner: Runner, paused: bool) -> Result<(Reply, Delta), AllocError>
+fn pause(alloc: Global, runner: Runner, paused: bool) -> Result<(Reply, Changes), AllocError>
     ensures { IfOk result (λ plan. plan ≡ runners.runner_paused runner paused) }
 {
     let text = body::paused(alloc, runner.id, paused)?;

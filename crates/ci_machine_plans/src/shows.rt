@@ -3,12 +3,12 @@
 ghost use Rattle.std.specs.Prelude.{◌≡◌, IfOk, length};
 ghost use Rattle.std.specs.Option.{option_copied};
 ghost use Rattle.std.specs.Result.{result_map_both};
-ghost use Rattle.ci_machine.specs.Shows as shows;
+ghost use Rattle.ci_machine_steps.specs.Shows as shows;
 
 use crate::body;
 use crate::replies::{fine, unchanged};
 use ci_board::facts::{Facts, Row, Status};
-use ci_machine::change::Delta;
+use ci_machine::change::Changes;
 use ci_machine::records::{Holder, Job, Piece, Pipeline, Project};
 use ci_machine::reply::{Body, Code, Reply};
 use ci_machine::request::JobQuery;
@@ -55,7 +55,7 @@ pub fn job_shown(
     project: u64,
     job: &Job,
     status: Status,
-) -> Result<(Reply, Delta), AllocError>
+) -> Result<(Reply, Changes), AllocError>
     ensures { IfOk result (λ plan. plan ≡ shows.job_shown holders.now project job.now status) }
 {
     let reply = job_reply(alloc, holders, project, job, status)?;
@@ -89,7 +89,7 @@ fn joined(alloc: Global, pieces: &[Piece]) -> Result<Bytes, AllocError>
 
 /// The trace of the last attempt of the job that `asked_job` gives is shown (200), by its pieces: it is empty where there
 /// is no attempt.
-pub fn trace_shown(alloc: Global, pieces: &[Piece]) -> Result<(Reply, Delta), AllocError>
+pub fn trace_shown(alloc: Global, pieces: &[Piece]) -> Result<(Reply, Changes), AllocError>
     ensures { IfOk result (λ plan. plan ≡ shows.trace_shown pieces.now) }
 {
     let bytes = joined(alloc, pieces)?;
@@ -124,7 +124,7 @@ pub fn pipeline_shown(
     jobs: &[Job],
     facts: &[Facts],
     rows: &[Row],
-) -> Result<(Reply, Delta), AllocError>
+) -> Result<(Reply, Changes), AllocError>
     requires facts { length facts.now ≡ length jobs.now }
     requires rows { length rows.now ≡ length jobs.now }
     ensures { IfOk result (λ plan. plan ≡ shows.pipeline_shown pipeline.now holders.now jobs.now facts.now rows.now) }

@@ -2,21 +2,22 @@
 
 ghost use Rattle.std.specs.Prelude.{◌≡◌, [], None, IfOk};
 ghost use Rattle.std.specs.Option.{option_copied};
-ghost use Rattle.ci_machine.specs.Sweeps as sweeps;
+ghost use Rattle.ci_machine.specs.Leases.{cause_of};
+ghost use Rattle.ci_machine_steps.specs.Sweeps as sweeps;
 
 use crate::cancels::cancel;
 use crate::replies::put;
-use ci_machine::change::Delta;
-use ci_machine::lease::{Lease, cause};
-use ci_machine::records::{Attempt, AttemptState, Job, Pipeline};
+use ci_machine::change::Changes;
+use ci_machine::lease::Lease;
+use ci_machine::records::{Attempt, AttemptState, Cause, Job, Pipeline};
 use ci_machine::reply::Swept;
 use std::alloc::{AllocError, Global};
 
-/// The lease that is over ends, as failed: that which `due` gives of the live attempts.
-pub fn end(alloc: Global, lease: &Lease) -> Result<(Swept, Delta), AllocError>
+/// The lease that is over ends, as failed: that which `due` gives of the live attempts, for the cause that it gives.
+pub fn end(alloc: Global, lease: &Lease, cause: Cause) -> Result<(Swept, Changes), AllocError>
+    requires { cause ≡ cause_of lease.now }
     ensures { IfOk result (λ plan. plan ≡ sweeps.ends lease.now) }
 {
-    let cause = cause(lease);
     let mut attempt = lease.attempt.clone()?;
     attempt.state = AttemptState::Failed(cause, None);
     let swept = Swept::Ended(attempt.id, cause);
@@ -29,7 +30,7 @@ pub fn cancel_redundant(
     pipeline: &Pipeline,
     attempts: &[Attempt],
     jobs: &[Job],
-) -> Result<(Swept, Delta), AllocError>
+) -> Result<(Swept, Changes), AllocError>
     ensures { IfOk result (λ plan. plan ≡ sweeps.sweep None (Some pipeline.now) attempts.now jobs.now) }
 {
     let changes = cancel(alloc, attempts, jobs)?;
@@ -37,8 +38,8 @@ pub fn cancel_redundant(
 }
 
 /// No lease is over, and no pipeline is redundant.
-pub fn nothing(alloc: Global) -> (Swept, Delta)
+pub fn nothing(alloc: Global) -> (Swept, Changes)
     ensures { result ≡ (Swept.Nothing, []) }
 {
-    (Swept::Nothing, Delta::new(Vec::new(alloc)))
+    (Swept::Nothing, Changes::new(Vec::new(alloc)))
 }

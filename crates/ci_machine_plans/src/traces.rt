@@ -3,11 +3,11 @@
 ghost use Rattle.std.specs.Prelude.{◌≡◌, ◌+◌, ◌≤◌, IfOk, Ok, length, max};
 ghost use Rattle.std.specs.Option.{option_copied};
 ghost use Rattle.ci_machine.specs.Leases.{accepted};
-ghost use Rattle.ci_machine.specs.Traces as traces;
+ghost use Rattle.ci_machine_steps.specs.Traces as traces;
 
 use crate::replies::{and, refused, unchanged};
 use crate::reports::unleased;
-use ci_machine::change::{Delta, Record, RowChange};
+use ci_machine::change::{Changes, Record, RowChange};
 use ci_machine::lease::{Lease, PieceFault, accept_piece};
 use ci_machine::moment::Moment;
 use ci_machine::records::{Attempt, MAX_NUMBER, Piece};
@@ -58,7 +58,7 @@ fn grow(
     bytes: Bytes,
     now: Moment,
     size: u64,
-) -> Result<(Reply, Delta), AllocError>
+) -> Result<(Reply, Changes), AllocError>
     ensures { IfOk result (λ plan. plan ≡ traces.appended attempt.now bytes now (Ok size)) }
 {
     if attempt.pieces > MAX_NUMBER {
@@ -69,10 +69,10 @@ fn grow(
         seq: attempt.pieces,
         bytes,
     });
-    let changes = and(Vec::new(alloc), RowChange::Add(piece))?;
+    let changes = and(Vec::new(alloc), RowChange::Put(piece))?;
     let attempt = Record::Attempt(grown(attempt, now, size)?);
     let changes = and(changes, RowChange::Put(attempt))?;
-    Ok((accepted_to(size), Delta::new(changes)))
+    Ok((accepted_to(size), Changes::new(changes)))
 }
 
 /// The bytes come from an offset of the trace of the attempt, whose time limit is in seconds.
@@ -82,7 +82,7 @@ fn append(
     from: u64,
     bytes: Bytes,
     now: Moment,
-) -> Result<(Reply, Delta), AllocError>
+) -> Result<(Reply, Changes), AllocError>
     ensures { IfOk result (λ plan. plan ≡ traces.appended lease.now.attempt bytes now (accepted lease.now.attempt lease.now.limit now lease.now.attempt.size from (length bytes))) }
 {
     let Lease { attempt, limit } = lease;
@@ -104,7 +104,7 @@ pub fn append_trace(
     lease: Option<&Lease>,
     part: TracePart,
     now: Moment,
-) -> Result<(Reply, Delta), AllocError>
+) -> Result<(Reply, Changes), AllocError>
     ensures { IfOk result (λ plan. plan ≡ traces.append_trace (option_copied lease.entry) part now) }
 {
     let Some(lease) = lease else {

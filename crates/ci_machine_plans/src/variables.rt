@@ -5,11 +5,11 @@ ghost use Rattle.std.specs.Str.{bytes_eq};
 ghost use Rattle.std.specs.Option.{option_copied};
 ghost use Rattle.std.specs.Result.{result_map_both};
 ghost use Rattle.ci_machine.specs.declared.records.Project.{Project};
-ghost use Rattle.ci_machine.specs.Variables as settings;
+ghost use Rattle.ci_machine_steps.specs.Variables as settings;
 
 use crate::replies::{Refusal, only, refused, unmade};
 use ci_config::MAX_VARIABLES;
-use ci_machine::change::{Delta, Key, Record, RowChange};
+use ci_machine::change::{Changes, Key, Record, RowChange};
 use ci_machine::records::{Project, Variable};
 use ci_machine::reply::{Code, FaultCode, HttpStatus, Reply};
 use ci_machine::request::NewVariable;
@@ -43,7 +43,7 @@ pub fn set_variable(
     project: Result<&Project, Code>,
     variables: &[Variable],
     new: NewVariable,
-) -> Result<(Reply, Delta), AllocError>
+) -> Result<(Reply, Changes), AllocError>
     ensures { IfOk result (λ plan. plan ≡ settings.set_variable (result_map_both (λ p. p.now) (λ c. c) project.entry) variables.now new) }
 {
     let project = match project {
@@ -59,7 +59,11 @@ pub fn set_variable(
     put_variable(alloc, project.id, new)
 }
 
-fn put_variable(alloc: Global, project: u64, new: NewVariable) -> Result<(Reply, Delta), AllocError>
+fn put_variable(
+    alloc: Global,
+    project: u64,
+    new: NewVariable,
+) -> Result<(Reply, Changes), AllocError>
     ensures { (p : Project) → p.id ≡ project → IfOk result (λ plan. plan ≡ settings.variable_set p new) }
 {
     let NewVariable { key, value, .. } = new;
@@ -79,7 +83,7 @@ pub fn delete_variable(
     alloc: Global,
     project: Result<&Project, Code>,
     found: Option<&Variable>,
-) -> Result<(Reply, Delta), AllocError>
+) -> Result<(Reply, Changes), AllocError>
     ensures { IfOk result (λ plan. plan ≡ settings.delete_variable (result_map_both (λ p. p.now) (λ c. c) project.entry) (option_copied found.entry)) }
 {
     if let Err(code) = project {

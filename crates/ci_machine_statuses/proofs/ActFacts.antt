@@ -15,11 +15,11 @@ use Rattle.ci_machine.specs.declared.change.Record.TheVariants as row
 use Rattle.ci_machine.specs.State.{State, job_cmp, attempt_cmp, put, applied}
 use Rattle.ci_machine.specs.Statuses.{jobs_of, numbers_of, attempts_of, pairs_among, predecessors_by, graph_of, facts_in, facts_of}
 use Rattle.ci_machine.specs.Leases.{is_live}
-use Rattle.ci_machine.specs.Cancels.{is_lease_on, cancelled_attempt}
+use Rattle.ci_machine_steps.specs.Cancels.{is_lease_on, cancelled_attempt}
 use Rattle.ci_machine.proofs.Keyed.{Has, Rising, rising_filter, has_filter, filter_has, has_map, one_at}
-use Rattle.ci_machine.proofs.Behind.{put_all}
-use Rattle.ci_machine.proofs.Created.{applied_append}
-use Rattle.ci_machine.proofs.Sound.{Sound}
+use Rattle.ci_machine_steps.proofs.Behind.{put_all}
+use Rattle.ci_machine_steps.proofs.Created.{applied_append}
+use Rattle.ci_machine_steps.proofs.Sound.{Sound}
 use Rattle.ci_machine_statuses.specs.declared.act.Act.{Act}
 use Rattle.ci_machine_statuses.specs.declared.act.Act.TheVariants.{Play, Retry, Cancel}
 use Rattle.ci_machine_statuses.specs.Acts.{marked, ended_leases, act_changes, cancelled_last, acted, facts_acted}

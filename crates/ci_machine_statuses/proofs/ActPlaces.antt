@@ -15,10 +15,10 @@ use Rattle.ci_machine.specs.declared.records.BoardRow.{BoardRow}
 use Rattle.ci_machine.specs.State.{State, applied}
 use Rattle.ci_machine.specs.Kept.{put_rows}
 use Rattle.ci_machine.specs.Statuses.{jobs_of, numbers_of, graph_of, facts_in, facts_of, rows_of, row_for, status_for, AreRowsOf, AreBoard}
-use Rattle.ci_machine.specs.Pipelines.{plain_options}
+use Rattle.ci_machine.specs.Options.{plain_options}
 use Rattle.ci_machine.proofs.Keyed.{Has, Rising, rising_from, rising_filter, has_filter, filter_has, filter_none, map_has, All-from_has}
-use Rattle.ci_machine.proofs.Pieces.{range_more}
-use Rattle.ci_machine.proofs.Sound.{Sound}
+use Rattle.ci_machine_steps.proofs.Pieces.{range_more}
+use Rattle.ci_machine_steps.proofs.Sound.{Sound}
 use Rattle.ci_machine_statuses.specs.declared.act.Act.{Act}
 use Rattle.ci_machine_statuses.specs.declared.outcome.Outcome.{Outcome}
 use Rattle.ci_machine_statuses.specs.Acts.{is_permitted, act_changes, acted, facts_acted, is_asked, is_acted_on, acted_jobs, acted_state, is_acted_at, facts_change, IsOutcome}

@@ -11,7 +11,7 @@ use Rattle.ci_machine.specs.State.{State}
 use Rattle.ci_machine.specs.Ranges.{is_within}
 use Rattle.ci_machine.specs.Statuses.{attempts_of}
 use Rattle.ci_machine.specs.Leases.{is_live}
-use Rattle.ci_machine.specs.Cancels.{is_lease_on}
+use Rattle.ci_machine_steps.specs.Cancels.{is_lease_on}
 use Rattle.ci_machine.proofs.Keyed.{Has, has_from_all}
 use Rattle.ci_machine_statuses.specs.Lookups.{AreRecords}
 use Rattle.ci_machine_statuses.proofs.Loaded.{filter_implied}

@@ -18,10 +18,10 @@ use Rattle.ci_machine.specs.Statuses.{jobs_of, numbers_of, place_in, facts_of, s
 use Rattle.ci_machine.specs.declared.change.RowChange.{RowChange}
 use Rattle.ci_machine.specs.declared.reply.Reply.{Reply}
 use Rattle.ci_machine.specs.Bodies.{printed_status, job_data, jobs_data}
-use Rattle.ci_machine.specs.Acts.{ShowsJobAfter, ShowsPipelineAfter}
+use Rattle.ci_machine_steps.specs.Acts.{ShowsJobAfter, ShowsPipelineAfter}
 use Rattle.ci_machine.proofs.Keyed.{Has, has_from_all}
-use Rattle.ci_machine.proofs.Sound.{Sound}
-use Rattle.ci_machine.proofs.Alike.{shown_alike}
+use Rattle.ci_machine_steps.proofs.Sound.{Sound}
+use Rattle.ci_machine_steps.proofs.Alike.{shown_alike}
 use Rattle.ci_machine_statuses.specs.declared.act.Act.{Act}
 use Rattle.ci_machine_statuses.specs.declared.act.Act.TheVariants.{Play, Retry, Cancel}
 use Rattle.ci_machine_statuses.specs.declared.outcome.Outcome.{Outcome}

@@ -7,11 +7,11 @@ use Rattle.ci_machine.specs.declared.records.Job.{Job}
 use Rattle.ci_machine.specs.declared.records.Need.{Need}
 use Rattle.ci_machine.specs.declared.request.NewPipeline.{NewPipeline}
 use Rattle.ci_machine.specs.State.{State, need_cmp, applied}
-use Rattle.ci_machine.specs.Pipelines.{Layout, IsLaidOut, need_of, Creation, creation, creation_changes}
+use Rattle.ci_machine_steps.specs.Pipelines.{Layout, IsLaidOut, need_of, Creation, creation, creation_changes}
 use Rattle.ci_machine.proofs.Keyed.{Has, Rising, rising_from, All-from_has, contains_named}
-use Rattle.ci_machine.proofs.Behind.{put_all, all_behind, nat_less}
-use Rattle.ci_machine.proofs.Created.{after_creation, new_rise, new_are, new_numbered, needs_ordered, needs_are, pairs_inside, jobs_behind}
-use Rattle.ci_machine.proofs.Sound.{Sound, ascend_from_rising}
+use Rattle.ci_machine_steps.proofs.Behind.{put_all, all_behind, nat_less}
+use Rattle.ci_machine_steps.proofs.Created.{after_creation, new_rise, new_are, new_numbered, needs_ordered, needs_are, pairs_inside, jobs_behind}
+use Rattle.ci_machine_steps.proofs.Sound.{Sound, ascend_from_rising}
 use Rattle.ci_machine_statuses.specs.Changes.{IsMade}
 
 abbrev number : Job → ℕ

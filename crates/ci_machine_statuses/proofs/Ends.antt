@@ -16,7 +16,7 @@ use Rattle.ci_machine.specs.State.{State, applied}
 use Rattle.ci_machine.specs.Kept.{put_rows}
 use Rattle.ci_machine.specs.Statuses.{jobs_of, numbers_of, graph_of, facts_in, facts_of, rows_of, row_for, AreBoard}
 use Rattle.ci_machine.proofs.Keyed.{Has, rising_filter, has_map, has_from_contains}
-use Rattle.ci_machine.proofs.Sound.{Sound}
+use Rattle.ci_machine_steps.proofs.Sound.{Sound}
 use Rattle.ci_machine_statuses.specs.Boards.{IsBoardOf, changed_rows}
 use Rattle.ci_machine_statuses.specs.Changes.{IsWithin, HasLive}
 use Rattle.ci_machine_statuses.specs.Ends.{IsSettled}

@@ -12,7 +12,7 @@ use Rattle.ci_machine.specs.declared.records.Job.{Job}
 use Rattle.ci_machine.specs.State.{State, attempt_cmp, put}
 use Rattle.ci_machine.specs.Statuses.{jobs_of, attempts_of, facts_in}
 use Rattle.ci_machine.proofs.Keyed.{Has, Rising, rising_from, rising_filter, has_filter, filter_has, one_at, last_greatest}
-use Rattle.ci_machine.proofs.Sound.{Sound}
+use Rattle.ci_machine_steps.proofs.Sound.{Sound}
 use Rattle.ci_machine_statuses.proofs.Puts.{cons_same, map_same, map_id, swap, put_replace, put_last}
 
 -- ---- of one record of a list the value is another, and those of the rest stay

@@ -9,7 +9,7 @@ use Rattle.ci_board.specs.declared.facts.Row.{Row}
 use Rattle.ci_machine.specs.declared.records.BoardRow.{BoardRow}
 use Rattle.ci_machine.specs.Statuses.{row_for}
 use Rattle.ci_machine.proofs.Keyed.{has_from_contains}
-use Rattle.ci_machine.proofs.Sound.{rising_from_ascend}
+use Rattle.ci_machine_steps.proofs.Sound.{rising_from_ascend}
 use Rattle.ci_machine_statuses.specs.Lookups.{place_of}
 use Rattle.ci_machine_statuses.proofs.Positions.{numbers_ascend, place_some}
 use Rattle.ci_machine_statuses.proofs.RowPuts.{its_row}

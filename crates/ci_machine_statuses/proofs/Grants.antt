@@ -19,11 +19,11 @@ use Rattle.ci_machine.specs.declared.change.Record.TheVariants as row
 use Rattle.ci_machine.specs.declared.change.Counter.TheVariants as counter
 use Rattle.ci_machine.specs.State.{State, applied, put}
 use Rattle.ci_machine.specs.Kept.{row_cmp}
-use Rattle.ci_machine.specs.Plans.{numbered}
+use Rattle.ci_machine_steps.specs.Plans.{numbered}
 use Rattle.ci_machine.specs.Statuses.{jobs_of, numbers_of, graph_of, facts_in, facts_of, rows_of, row_for, AreBoard}
-use Rattle.ci_machine.specs.Step.{is_pending}
+use Rattle.ci_machine_steps.specs.Step.{is_pending}
 use Rattle.ci_machine.proofs.Keyed.{Has, Rising, rising_from, rising_filter, has_map, filter_has}
-use Rattle.ci_machine.proofs.Sound.{Sound}
+use Rattle.ci_machine_steps.proofs.Sound.{Sound}
 use Rattle.ci_machine_statuses.specs.Changes.{started_row}
 use Rattle.ci_machine_statuses.proofs.Puts.{cons_same, map_same, row_put, row_other}
 use Rattle.ci_machine_statuses.proofs.RowPuts.{put_keys}

@@ -17,12 +17,12 @@ use Rattle.ci_machine.specs.Statuses.{jobs_of, AreBoard}
 use Rattle.ci_machine.specs.Bodies.{status_of_jobs}
 use Rattle.ci_machine.specs.Leases.{is_live}
 use Rattle.ci_machine.specs.Lookups.{job_at, pipeline_at, project_or_none, queued}
-use Rattle.ci_machine.specs.Cancels.{is_lease_on, cancelled_attempt}
+use Rattle.ci_machine_steps.specs.Cancels.{is_lease_on, cancelled_attempt}
 use Rattle.ci_machine.specs.Holders.{group_held, held_by, held_of, AreHolders}
-use Rattle.ci_machine.specs.Step.{with_status}
+use Rattle.ci_machine_steps.specs.Step.{with_status}
 use Rattle.ci_machine.specs.Indexes.{unfinished_in, AreIndexes}
 use Rattle.ci_machine.proofs.Keyed.{Has, has_filter, filter_has, filter_none, has_map, map_has, one_at}
-use Rattle.ci_machine.proofs.Sound.{Sound}
+use Rattle.ci_machine_steps.proofs.Sound.{Sound}
 use Rattle.ci_machine_statuses.specs.declared.act.Act.{Act}
 use Rattle.ci_machine_statuses.specs.declared.act.Act.TheVariants.{Play, Retry, Cancel}
 use Rattle.ci_machine_statuses.specs.declared.outcome.Outcome.{Outcome}

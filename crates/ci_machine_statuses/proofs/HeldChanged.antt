@@ -9,12 +9,12 @@ use Rattle.ci_machine.specs.declared.records.Pipeline.{Pipeline}
 use Rattle.ci_machine.specs.declared.change.IndexChange.{IndexChange}
 use Rattle.ci_machine.specs.State.{State}
 use Rattle.ci_machine.specs.Kept.{Kept, indexed, indexed_all}
-use Rattle.ci_machine.specs.Cancels.{is_lease_on}
+use Rattle.ci_machine_steps.specs.Cancels.{is_lease_on}
 use Rattle.ci_machine.specs.Redundant.{is_unfinished}
 use Rattle.ci_machine.specs.Holders as holders
 use Rattle.ci_machine.specs.Holders.{held_of}
 use Rattle.ci_machine.proofs.Keyed.{Has, has_filter}
-use Rattle.ci_machine.proofs.Sound.{Sound}
+use Rattle.ci_machine_steps.proofs.Sound.{Sound}
 use Rattle.ci_machine_statuses.specs.HolderChanges.{turned, held_among, freed, of_pipeline}
 use Rattle.ci_machine_statuses.proofs.HeldLists.{flat_same}
 use Rattle.ci_machine_statuses.proofs.HeldRows.{without_all, all_freed}

@@ -17,14 +17,14 @@ use Rattle.ci_machine.specs.State.{State, applied}
 use Rattle.ci_machine.specs.Kept.{Kept, put_rows, written}
 use Rattle.ci_machine.specs.Statuses.{AreBoard}
 use Rattle.ci_machine.specs.Bodies.{status_of_jobs}
-use Rattle.ci_machine.specs.Pipelines.{Layout, IsLaidOut, Creation, creation, creation_changes}
+use Rattle.ci_machine_steps.specs.Pipelines.{Layout, IsLaidOut, Creation, creation, creation_changes}
 use Rattle.ci_machine.specs.Redundant.{is_unfinished}
 use Rattle.ci_machine.specs.Lookups.{job_at, pipeline_at, project_or_none, queued}
 use Rattle.ci_machine.specs.Holders.{queued_at, group_held, held_by}
 use Rattle.ci_machine.specs.Indexes.{is_open_in, unfinished_in, AreIndexes}
 use Rattle.ci_machine.proofs.Keyed.{Has, find_has, filter_same}
-use Rattle.ci_machine.proofs.Created.{after_creation}
-use Rattle.ci_machine.proofs.Sound.{Sound}
+use Rattle.ci_machine_steps.proofs.Created.{after_creation}
+use Rattle.ci_machine_steps.proofs.Sound.{Sound}
 use Rattle.ci_machine_statuses.specs.Changes.{IsMade}
 use Rattle.ci_machine_statuses.proofs.Creations as creations
 use Rattle.ci_machine_statuses.proofs.Made.{its_jobs, its_facts, its_rows, other_jobs, other_facts, other_rows}

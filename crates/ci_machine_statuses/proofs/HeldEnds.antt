@@ -16,11 +16,11 @@ use Rattle.ci_machine.specs.Kept.{Kept, put_rows, written}
 use Rattle.ci_machine.specs.Statuses.{jobs_of, numbers_of, AreBoard}
 use Rattle.ci_machine.specs.Bodies.{status_of_jobs}
 use Rattle.ci_machine.specs.Leases.{is_live}
-use Rattle.ci_machine.specs.Cancels.{is_lease_on}
-use Rattle.ci_machine.specs.Step.{with_status, last_attempt}
+use Rattle.ci_machine_steps.specs.Cancels.{is_lease_on}
+use Rattle.ci_machine_steps.specs.Step.{with_status, last_attempt}
 use Rattle.ci_machine.specs.Indexes.{unfinished_in, AreIndexes}
 use Rattle.ci_machine.proofs.Keyed.{Has, filter_has, has_map, has_put_other, put_has, one_at, different, unequal, has_from_contains}
-use Rattle.ci_machine.proofs.Sound.{Sound}
+use Rattle.ci_machine_steps.proofs.Sound.{Sound}
 use Rattle.ci_machine_statuses.specs.Changes.{IsWithin, HasLive}
 use Rattle.ci_machine_statuses.specs.Ends.{ended_state, IsSettled}
 use Rattle.ci_machine_statuses.specs.Lookups.{AreRecords}

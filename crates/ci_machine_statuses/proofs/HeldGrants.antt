@@ -23,7 +23,7 @@ use Rattle.ci_machine.specs.declared.change.Counter.TheVariants as counter
 use Rattle.ci_machine.specs.declared.change.IndexChange.TheVariants.{Hold}
 use Rattle.ci_machine.specs.State.{State, applied, put, attempt_cmp}
 use Rattle.ci_machine.specs.Kept.{Kept, row_cmp, indexed_all, written}
-use Rattle.ci_machine.specs.Plans.{numbered}
+use Rattle.ci_machine_steps.specs.Plans.{numbered}
 use Rattle.ci_machine.specs.Statuses.{jobs_of, numbers_of, facts_of, rows_of, row_for, AreBoard}
 use Rattle.ci_machine.specs.Redundant.{is_unfinished}
 use Rattle.ci_machine.specs.Eligible.{resource_free}
@@ -31,7 +31,7 @@ use Rattle.ci_machine.specs.Lookups.{job_at, queued, is_pending}
 use Rattle.ci_machine.specs.Holders.{group_held, held_by, held_of, holders, holds_group}
 use Rattle.ci_machine.specs.Indexes.{is_open_in, AreIndexes}
 use Rattle.ci_machine.proofs.Keyed.{Has, find_has, filter_has, has_map, has_put, put_has, unequal}
-use Rattle.ci_machine.proofs.Sound.{Sound}
+use Rattle.ci_machine_steps.proofs.Sound.{Sound}
 use Rattle.ci_machine_statuses.specs.Changes.{started_row}
 use Rattle.ci_machine_statuses.proofs.Puts.{row_put}
 use Rattle.ci_machine_statuses.proofs.Positions.{place_of_has}

@@ -9,8 +9,8 @@ use Rattle.std.proofs.Common.{refl, sym, ap, subst, ◌∙◌, inl, inr, ⊎_eli
 use Rattle.std.proofs.lemmas.Bool.{cond_both, cond-true, cond-false, cases_Bool, false≢true}
 use Rattle.ci_machine.specs.State.{placed, others, put}
 use Rattle.ci_machine.proofs.Keyed.{Has, Rising, rising_from}
-use Rattle.ci_machine.proofs.Behind.{in_either, has_left, has_right}
-use Rattle.ci_machine.proofs.Variables.{Ordered}
+use Rattle.ci_machine_steps.proofs.Behind.{in_either, has_left, has_right}
+use Rattle.ci_machine_steps.proofs.Variables.{Ordered}
 use Rattle.ci_machine_statuses.proofs.Puts.{cons_same}
 
 -- ---- joined lists

@@ -19,10 +19,10 @@ use Rattle.ci_machine.specs.Kept.{Kept, put_rows, with_open, without_open, unfin
 use Rattle.ci_machine.specs.Statuses.{jobs_of, numbers_of, graph_of, facts_of, rows_of, AreBoard, AreRowsOf}
 use Rattle.ci_machine.specs.Bodies.{status_of_jobs}
 use Rattle.ci_machine.specs.Redundant.{is_unfinished}
-use Rattle.ci_machine.specs.Step.{with_status}
+use Rattle.ci_machine_steps.specs.Step.{with_status}
 use Rattle.ci_machine.specs.Indexes.{is_open_in, unfinished_in}
 use Rattle.ci_machine.proofs.Keyed.{Has, Rising, rising_filter, rising_put, has_filter, filter_has, has_map, map_has, has_put, put_has, unequal, one_at}
-use Rattle.ci_machine.proofs.Sound.{Sound}
+use Rattle.ci_machine_steps.proofs.Sound.{Sound}
 use Rattle.ci_machine_statuses.specs.Boards.{changed_rows}
 use Rattle.ci_machine_statuses.specs.Changes.{IsWithin}
 use Rattle.ci_machine_statuses.proofs.Joint.{own_rows, rows_elsewhere}

@@ -19,8 +19,8 @@ use Rattle.ci_machine.specs.Kept.{Kept, indexed, indexed_all}
 use Rattle.ci_machine.specs.Eligible.{holds, is_free}
 use Rattle.ci_machine.specs.Holders.{group_held, holders, holder_cmp, AreHolders, without_holder, freed}
 use Rattle.ci_machine.proofs.Keyed.{Has, has_filter, filter_has, has_put, put_has, equal, same, has_from_all, All-from_has, has_from_contains, contains_from_has}
-use Rattle.ci_machine.proofs.Groups.{not_true}
-use Rattle.ci_machine.proofs.Variables.{Ordered, filter_ordered, put_ordered}
+use Rattle.ci_machine.proofs.Keyed.{not_true}
+use Rattle.ci_machine_steps.proofs.Variables.{Ordered, filter_ordered, put_ordered}
 use Rattle.ci_machine_statuses.proofs.HeldLists.{none_any, put_here, ordered, ascends, one_of}
 
 -- ---- keys

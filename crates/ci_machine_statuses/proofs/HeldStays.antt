@@ -12,8 +12,8 @@ use Rattle.ci_machine.specs.Kept.{Kept, written}
 use Rattle.ci_machine.specs.Statuses.{row_for}
 use Rattle.ci_machine.specs.Holders.{queued_at, held_by}
 use Rattle.ci_machine.specs.Indexes.{is_open_in, AreIndexes}
-use Rattle.ci_machine.specs.Sound.{IsSound}
-use Rattle.ci_machine.proofs.Sound.{Sound, sound}
+use Rattle.ci_machine_steps.specs.Sound.{IsSound}
+use Rattle.ci_machine_steps.proofs.Sound.{Sound, sound}
 use Rattle.ci_machine_statuses.specs.Changes.{LeavesStatuses, HaveSameFacts}
 use Rattle.ci_machine_statuses.proofs.Stays.{IsLike, like, same_from_like}
 use Rattle.ci_machine_statuses.proofs.Holding.{Ends, rows_stay}

@@ -12,11 +12,11 @@ use Rattle.ci_machine.specs.State.{State}
 use Rattle.ci_machine.specs.Leases.{is_live}
 use Rattle.ci_machine.specs.Lookups.{job_at, pipeline_at, project_or_none, queued, live_attempts}
 use Rattle.ci_machine.specs.Eligible.{holds}
-use Rattle.ci_machine.specs.Cancels.{is_lease_on}
+use Rattle.ci_machine_steps.specs.Cancels.{is_lease_on}
 use Rattle.ci_machine.specs.Holders.{queued_at, group_held, held_by, held_of, holders, holder_cmp, AreHolders}
 use Rattle.ci_machine.proofs.Keyed.{Has, Rising, has_filter, filter_has, filter_none, has_find, find_has, one_at, has_from_all, All-from_has, has_from_contains, contains_from_has}
-use Rattle.ci_machine.proofs.Variables.{Ordered}
-use Rattle.ci_machine.proofs.Sound.{Sound}
+use Rattle.ci_machine_steps.proofs.Variables.{Ordered}
+use Rattle.ci_machine_steps.proofs.Sound.{Sound}
 use Rattle.ci_machine_statuses.specs.HolderChanges.{held_among}
 use Rattle.ci_machine_statuses.proofs.HeldLists.{flat_has, has_flat, find_any, ordered, ascends}
 use Rattle.ci_machine_statuses.proofs.HeldRows.{holds_own, one_row, without_all, without_ordered, in_without, has_without}

@@ -11,7 +11,7 @@ use Rattle.ci_machine.specs.State.{State}
 use Rattle.ci_machine.specs.Kept.{put_rows}
 use Rattle.ci_machine.specs.Statuses.{jobs_of, numbers_of, graph_of, facts_of, rows_of, row_for, AreBoard}
 use Rattle.ci_machine.proofs.Keyed.{Has, Rising, rising_filter, has_map, map_has}
-use Rattle.ci_machine.proofs.Sound.{Sound, sound}
+use Rattle.ci_machine_steps.proofs.Sound.{Sound, sound}
 use Rattle.ci_machine_statuses.specs.Boards.{changed_rows}
 use Rattle.ci_machine_statuses.specs.Changes.{IsWithin, HaveSameFacts}
 use Rattle.ci_machine_statuses.proofs.Puts.{map_same}

@@ -15,7 +15,7 @@ use Rattle.ci_machine.specs.State.{State}
 use Rattle.ci_machine.specs.Ranges.{is_within}
 use Rattle.ci_machine.specs.Statuses.{pair_of, jobs_of, numbers_of, graph_of, facts_in, facts_of, rows_of, row_for, row_or_none, AreBoard}
 use Rattle.ci_machine.proofs.Keyed.{Has, Rising, rising_filter, map_has, has_from_all}
-use Rattle.ci_machine.proofs.Sound.{Sound, ascend_from_rising}
+use Rattle.ci_machine_steps.proofs.Sound.{Sound, ascend_from_rising}
 use Rattle.ci_machine_statuses.specs.Lookups.{AreRecords, tally_of, facts_by}
 use Rattle.ci_machine.specs.Statuses.{pairs_among, predecessors_by}
 use Rattle.ci_machine_statuses.specs.Boards.{IsBoardOf}

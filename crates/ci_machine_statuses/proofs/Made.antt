@@ -18,9 +18,9 @@ use Rattle.ci_machine.specs.State.{State, put}
 use Rattle.ci_machine.specs.Kept.{row_cmp, put_rows}
 use Rattle.ci_machine.specs.Statuses.{pair_of, jobs_of, numbers_of, pairs_of, graph_of, attempts_of, facts_in, facts_of, rows_of, row_for, AreBoard}
 use Rattle.ci_machine.specs.Statuses.{graph_by}
-use Rattle.ci_machine.specs.Pipelines.{AreFirstRows}
+use Rattle.ci_machine_steps.specs.Pipelines.{AreFirstRows}
 use Rattle.ci_machine.proofs.Keyed.{Has, Rising, rising_from, filter_none, map_has, has_map, has_from_all, named_contains}
-use Rattle.ci_machine.proofs.Sound.{Sound, rising_from_ascend}
+use Rattle.ci_machine_steps.proofs.Sound.{Sound, rising_from_ascend}
 use Rattle.ci_machine.specs.Statuses.{pairs_among, predecessors_by}
 use Rattle.ci_machine_statuses.specs.Changes.{IsMade}
 use Rattle.ci_machine_statuses.proofs.Puts.{cons_same, map_same, row_other}

@@ -6,7 +6,7 @@ use Rattle.std.specs.Ordering.{nat_cmp}
 use Rattle.ci_graph.specs.Lists.{is_among}
 use Rattle.ci_machine.specs.State.{put}
 use Rattle.ci_machine.proofs.Keyed.{Has, Rising, rising_from, one_at}
-use Rattle.ci_machine.proofs.Behind.{put_all}
+use Rattle.ci_machine_steps.proofs.Behind.{put_all}
 use Rattle.ci_machine_statuses.proofs.Puts.{map_same, map_id, swap, put_replace}
 
 -- f of the records whose numbers are those of some of xs

@@ -10,10 +10,10 @@ use Rattle.ci_machine.specs.declared.records.QueuedJob.{QueuedJob}
 use Rattle.ci_machine.specs.declared.records.BoardRow.{BoardRow}
 use Rattle.ci_machine.specs.State.{State}
 use Rattle.ci_machine.specs.Statuses.{row_for, row_or_none, AreBoard}
-use Rattle.ci_machine.specs.Step.{is_pending, queued, queue, job_at}
+use Rattle.ci_machine_steps.specs.Step.{is_pending, queued, queue, job_at}
 use Rattle.ci_machine.specs.Ranges.{row_at, is_pending_after, pending_after}
 use Rattle.ci_machine.proofs.Keyed.{Has, Rising, rising_from, find_has, has_filter, has_map, filter_same}
-use Rattle.ci_machine.proofs.Sound.{Sound}
+use Rattle.ci_machine_steps.proofs.Sound.{Sound}
 use Rattle.ci_machine_statuses.specs.Pages.{queue_behind, end_of_page, queued_at}
 use Rattle.ci_machine_statuses.proofs.Puts.{cons_same}
 use Rattle.ci_machine_statuses.proofs.RowPuts.{its_row}

@@ -11,7 +11,7 @@ use Rattle.std.proofs.lemmas.List.Sums.{sum_by-cons}
 use Rattle.ci_graph.specs.Lists.{is_among}
 use Rattle.ci_machine.specs.Statuses.{place_in}
 use Rattle.ci_machine.proofs.Keyed.{Has, Rising, rising_from}
-use Rattle.ci_machine.proofs.Sound.{rising_from_ascend}
+use Rattle.ci_machine_steps.proofs.Sound.{rising_from_ascend}
 use Rattle.ci_machine_statuses.specs.Lookups.{place_of}
 
 pub numbers_ascend : (xs : List ℕ) → IsStrictlySortedBy nat_cmp xs → Rising (λ n. n) 0 xs

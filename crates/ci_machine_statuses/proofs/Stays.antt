@@ -12,12 +12,12 @@ use Rattle.ci_machine.specs.declared.change.Record.TheVariants as row
 use Rattle.ci_machine.specs.declared.change.Key.{Key}
 use Rattle.ci_machine.specs.declared.change.Key.TheVariants as key
 use Rattle.ci_machine.specs.declared.change.RowChange.{RowChange}
-use Rattle.ci_machine.specs.declared.change.RowChange.TheVariants.{Add, Put, Remove, SetNext}
+use Rattle.ci_machine.specs.declared.change.RowChange.TheVariants.{Put, Remove}
 use Rattle.ci_machine.specs.State.{State, attempt_cmp, placed, others, put, with_record, without_record, changed, applied}
 use Rattle.ci_machine.specs.Statuses.{jobs_of, graph_of, facts_in, AreBoard}
-use Rattle.ci_machine.specs.Sound.{IsSound}
+use Rattle.ci_machine_steps.specs.Sound.{IsSound}
 use Rattle.ci_machine.proofs.Keyed.{Has, Rising, rising_put, has_put, has_from_contains, put_has, one_at, unequal}
-use Rattle.ci_machine.proofs.Sound.{Sound, sound}
+use Rattle.ci_machine_steps.proofs.Sound.{Sound, sound}
 use Rattle.ci_machine_statuses.specs.Changes.{HaveSameFacts, IsNoStatus, IsNoStatusKey, LeavesStatuses}
 use Rattle.ci_machine_statuses.proofs.Puts.{map_same}
 use Rattle.ci_machine_statuses.proofs.Facts.{same_state}
@@ -76,6 +76,7 @@ module _ (s : State) (ascend : Rising (λ a. a.id) 0 s.attempts) where
   record_put t (row.Need w) n k = absurd n
   record_put t (row.Attempt a) n k = attempt_put t a n.0 (has_from_contains n.0 s.attempts n.1) n.2 n.3 n.4 k
   record_put t (row.Piece p) n k = record { pipelines = k.pipelines; jobs = k.jobs; needs = k.needs; rise = k.rise; attempts = k.attempts; before = k.before; facts = k.facts }
+  record_put t (row.Next counter m) n k = record { pipelines = k.pipelines; jobs = k.jobs; needs = k.needs; rise = k.rise; attempts = k.attempts; before = k.before; facts = k.facts }
 
   record_gone : (t : State) (x : Key) → IsNoStatusKey x → IsLike s t → IsLike s (without_record x t)
   record_gone t (key.Variable n name) u k = record { pipelines = k.pipelines; jobs = k.jobs; needs = k.needs; rise = k.rise; attempts = k.attempts; before = k.before; facts = k.facts }
@@ -89,10 +90,8 @@ module _ (s : State) (ascend : Rising (λ a. a.id) 0 s.attempts) where
   record_gone t (key.Piece n seq) u k = absurd u
 
   one_change : (t : State) (c : RowChange) → LeavesStatuses s c → IsLike s t → IsLike s (changed c t)
-  one_change t (Add r) n k = record_put t r n k
   one_change t (Put r) n k = record_put t r n k
   one_change t (Remove x) n k = record_gone t x n k
-  one_change t (SetNext counter n) u k = record { pipelines = k.pipelines; jobs = k.jobs; needs = k.needs; rise = k.rise; attempts = k.attempts; before = k.before; facts = k.facts }
 
   all_changes : (t : State) (cs : List RowChange) → AllByRecursion (LeavesStatuses s) cs → IsLike s t → IsLike s (applied cs t)
   all_changes t [] n k = k

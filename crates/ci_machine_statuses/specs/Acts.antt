@@ -20,11 +20,11 @@ use Rattle.ci_machine.specs.Statuses.{jobs_of, numbers_of, attempts_of, facts_in
 use Rattle.ci_machine.specs.declared.records.Pipeline.{Pipeline}
 use Rattle.ci_machine.specs.Lookups.{queued}
 use Rattle.ci_machine.specs.Holders.{holders}
-use Rattle.ci_machine.specs.Plans.{Plan}
-use Rattle.ci_machine.specs.Shows.{job_shown, pipeline_shown}
-use Rattle.ci_machine.specs.Plays.{is_playable}
-use Rattle.ci_machine.specs.Retries.{is_retryable}
-use Rattle.ci_machine.specs.Cancels.{is_cancellable, is_lease_on, cancelled_job, cancelled_attempt}
+use Rattle.ci_machine_steps.specs.Plans.{Plan}
+use Rattle.ci_machine_steps.specs.Shows.{job_shown, pipeline_shown}
+use Rattle.ci_machine_steps.specs.Plays.{is_playable}
+use Rattle.ci_machine_steps.specs.Retries.{is_retryable}
+use Rattle.ci_machine_steps.specs.Cancels.{is_cancellable, is_lease_on, cancelled_job, cancelled_attempt}
 use Rattle.ci_machine_statuses.specs.declared.act.Act.{Act}
 use Rattle.ci_machine_statuses.specs.declared.act.Act.TheVariants.{Play, Retry, Cancel}
 use Rattle.ci_machine_statuses.specs.declared.outcome.Outcome.{Outcome}

@@ -12,7 +12,7 @@ use Rattle.ci_machine.specs.declared.change.Record.TheVariants as row
 use Rattle.ci_machine.specs.declared.change.Key.{Key}
 use Rattle.ci_machine.specs.declared.change.Key.TheVariants as key
 use Rattle.ci_machine.specs.declared.change.RowChange.{RowChange}
-use Rattle.ci_machine.specs.declared.change.RowChange.TheVariants.{Add, Put, Remove, SetNext}
+use Rattle.ci_machine.specs.declared.change.RowChange.TheVariants.{Put, Remove}
 use Rattle.ci_machine.specs.Leases.{is_live}
 use Rattle.ci_machine.specs.State.{State}
 use Rattle.ci_machine.specs.Statuses.{numbers_of, graph_of, facts_of, row_for}
@@ -50,6 +50,7 @@ IsNoStatus s (row.JobVariable v) = Unit {0}
 IsNoStatus s (row.Need w) = ⊥
 IsNoStatus s (row.Attempt a) = HasLike s a
 IsNoStatus s (row.Piece p) = Unit {0}
+IsNoStatus s (row.Next counter n) = Unit {0}
 
 -- no status depends on the record with the key: it is a project's variable
 abbrev pub IsNoStatusKey : Key → Type 0
@@ -58,10 +59,8 @@ IsNoStatusKey _ = ⊥
 
 -- the change leaves all statuses of the state
 abbrev pub LeavesStatuses : State → RowChange → Type 0
-LeavesStatuses s (Add r) = IsNoStatus s r
 LeavesStatuses s (Put r) = IsNoStatus s r
 LeavesStatuses s (Remove k) = IsNoStatusKey k
-LeavesStatuses s (SetNext counter n) = Unit {0}
 
 -- the row of a pending job that is started
 abbrev pub started_row : List BoardRow → ℕ → BoardRow

@@ -11,7 +11,7 @@ use Rattle.ci_machine.specs.declared.change.IndexChange.TheVariants.{Open, Close
 use Rattle.ci_machine.specs.Holders as holders
 use Rattle.ci_machine.specs.Holders.{held_by}
 use Rattle.ci_machine.specs.Redundant.{is_unfinished}
-use Rattle.ci_machine.specs.Cancels.{is_lease_on}
+use Rattle.ci_machine_steps.specs.Cancels.{is_lease_on}
 use Rattle.ci_machine_statuses.specs.declared.act.Act.{Act}
 use Rattle.ci_machine_statuses.specs.declared.act.Act.TheVariants.{Play, Retry, Cancel}
 

@@ -3,7 +3,7 @@ use Rattle.std.specs.Prelude.{ℕ, ◌&&◌, List, [], ◌∷◌, map, filter, n
 use Rattle.ci_machine.specs.declared.records.QueuedJob.{QueuedJob}
 use Rattle.ci_machine.specs.declared.records.BoardRow.{BoardRow}
 use Rattle.ci_machine.specs.State.{State}
-use Rattle.ci_machine.specs.Step.{is_pending, queued, job_at}
+use Rattle.ci_machine_steps.specs.Step.{is_pending, queued, job_at}
 
 -- the pending jobs behind a number, with their projects
 abbrev pub queue_behind : State → List BoardRow → ℕ → List QueuedJob

@@ -4,7 +4,7 @@ ghost use Rattle.std.specs.Prelude.{◌≡◌, ◌<◌, ℕ, List, length, IfOk}
 ghost use Rattle.ci_machine.specs.declared.records.BoardRow.{BoardRow};
 ghost use Rattle.ci_machine.specs.State.{State};
 ghost use Rattle.ci_machine.specs.Statuses.{AreBoard};
-ghost use Rattle.ci_machine.specs.Sound.{IsSound};
+ghost use Rattle.ci_machine_steps.specs.Sound.{IsSound};
 ghost use Rattle.ci_machine_statuses.specs.Lookups.{AreRecords};
 ghost use Rattle.ci_machine_statuses.specs.Changes.{HasLive};
 ghost use Rattle.ci_machine_statuses.specs.Ends.{ended_state, IsSettled};

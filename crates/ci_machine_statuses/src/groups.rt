@@ -3,7 +3,7 @@
 ghost use Rattle.std.specs.Prelude.{◌≡◌, ◌∷◌, [], ◌++◌, ◌==◌, map, find, option_to_list, IfOk, OnOk};
 ghost use Rattle.std.specs.List.{list_any};
 ghost use Rattle.std.specs.Option.{option_copied};
-ghost use Rattle.ci_machine.specs.Cancels.{is_lease_on};
+ghost use Rattle.ci_machine_steps.specs.Cancels.{is_lease_on};
 ghost use Rattle.ci_machine.specs.Holders as holders;
 ghost use Rattle.ci_machine.specs.Holders.{holds_group, group_held};
 ghost use Rattle.ci_machine_statuses.specs.HolderChanges.{freed};

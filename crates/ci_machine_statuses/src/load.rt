@@ -8,7 +8,7 @@ ghost use Rattle.ci_machine.specs.State.{State};
 ghost use Rattle.ci_machine.specs.declared.records.Need.{Need};
 ghost use Rattle.ci_machine.specs.Statuses as statuses;
 ghost use Rattle.ci_machine.specs.Statuses.{jobs_of, row_for, AreBoard};
-ghost use Rattle.ci_machine.specs.Sound.{IsSound};
+ghost use Rattle.ci_machine_steps.specs.Sound.{IsSound};
 ghost use Rattle.ci_machine.specs.Ranges.{is_within};
 ghost use Rattle.ci_machine_statuses.specs.Lookups.{tally_of, facts_by, AreRecords};
 ghost use Rattle.ci_machine.specs.Statuses.{pairs_among, predecessors_by};

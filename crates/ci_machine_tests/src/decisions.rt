@@ -1,13 +1,13 @@
 //! Each public call of the machine on its happy path, with what it answers worked out by hand.
 
 use ci_board::facts::Status;
-use ci_machine::change::{Counter, Delta, RowChange};
+use ci_machine::change::{Changes, Counter, Record, RowChange};
 use ci_machine::choose::{choose, is_eligible, is_free, may_run, resource_free};
 use ci_machine::lease::{Lease, accept_piece, cause, due, finish, is_over, renew};
 use ci_machine::moment::Moment;
 use ci_machine::records::{
-    Attempt, AttemptState, Cause, Holder, Job, JobOptions, Pipeline, PipelineWithStatus, QueuedJob,
-    RefKind, Runner, Source,
+    Attempt, AttemptState, AttemptWithJob, Cause, Holder, Job, JobOptions, Pipeline,
+    PipelineWithStatus, QueuedJob, RefKind, Runner, Source,
 };
 use ci_machine::redundant::{is_bound_to, is_newer_of, is_redundant, is_unfinished, redundant};
 use ci_machine::reply::{Body, Code, Detail, FaultCode, HttpStatus, Reply};
@@ -91,7 +91,33 @@ fn an_attempt_ends_once(rt: HostRuntime) -> Result<(), Fail> {
     let now = at(9000)?;
     for (exit, is_repeat) in EXITS {
         let last = AttemptState::Failed(Cause::UnknownFailure, *exit);
-        assert!(rt; finish(&ended, 3600, now, last).is_ok() == *is_repeat);
+        let after = finish(ended.clone()?, 3600, now, last).ok();
+        assert!(rt; after.is_some() == *is_repeat);
+        if let Some(after) = after {
+            let is_as_it_was = matches!(
+                after.state,
+                AttemptState::Failed(Cause::ScriptFailure, Some(3))
+            );
+            assert!(rt; after.id == 2 && is_as_it_was);
+        }
+    }
+    Ok(())
+}
+
+/// A moment, and whether a success is accepted then of an attempt last heard of at 1050.
+const ENDS: &[(u64, bool)] = &[(1169, true), (1170, false)];
+
+#[test]
+fn a_live_attempt_ends(rt: HostRuntime) -> Result<(), Fail> {
+    let live = attempt(rt.alloc(), 3, 1050, AttemptState::Live)?;
+    let last = AttemptState::Succeeded(Some(0));
+    for (seconds, accepted) in ENDS {
+        let after = finish(live.clone()?, 3600, at(*seconds)?, last).ok();
+        assert!(rt; after.is_some() == *accepted, "{seconds}");
+        if let Some(after) = after {
+            let has_ended = matches!(after.state, AttemptState::Succeeded(Some(0)));
+            assert!(rt; after.id == 3 && after.seen.seconds() == 1050 && has_ended);
+        }
     }
     Ok(())
 }
@@ -118,18 +144,23 @@ fn live_leases(alloc: Global) -> Result<Vec<Lease>, Fail> {
     Ok(leases)
 }
 
-/// A moment, and the number of the attempt that is due, or 0.
-const MOMENTS: &[(u64, u64)] = &[(1059, 0), (1060, 9), (1170, 7), (1220, 4)];
+/// A moment, and the number of the attempt that is due, or 0, and why it ends.
+const MOMENTS: &[(u64, u64, Option<Cause>)] = &[
+    (1059, 0, None),
+    (1060, 9, Some(Cause::JobExecutionTimeout)),
+    (1170, 7, Some(Cause::StuckOrTimeoutFailure)),
+    (1220, 4, Some(Cause::StuckOrTimeoutFailure)),
+];
 
 #[test]
 fn what_is_due(rt: HostRuntime) -> Result<(), Fail> {
     let leases = live_leases(rt.alloc())?;
-    for (seconds, number) in MOMENTS {
-        let found = match due(leases.as_slice(), at(*seconds)?) {
-            Some(lease) => lease.attempt.id,
-            None => 0,
+    for (seconds, number, cause) in MOMENTS {
+        let (found, why) = match due(leases.as_slice(), at(*seconds)?) {
+            Some((lease, why)) => (lease.attempt.id, Some(why)),
+            None => (0, None),
         };
-        assert!(rt; found == *number, "{seconds}");
+        assert!(rt; found == *number && why == *cause, "{seconds}");
     }
     Ok(())
 }
@@ -254,6 +285,33 @@ fn who_has_the_tags(rt: HostRuntime) -> Result<(), Fail> {
     Ok(())
 }
 
+/// An attempt that is made of a job in this resource group, if it is one, of a project.
+fn made_of(
+    alloc: Global,
+    id: u64,
+    project: u64,
+    group: Option<&'static str>,
+    state: AttemptState,
+) -> Result<AttemptWithJob, Fail> {
+    let queued = grouped(alloc, 3, project, group)?;
+    let attempt = attempt(alloc, id, 1050, state)?;
+    Ok(AttemptWithJob { attempt, queued })
+}
+
+fn grouped(
+    alloc: Global,
+    id: u64,
+    project: u64,
+    group: Option<&'static str>,
+) -> Result<QueuedJob, AllocError> {
+    let mut queued = queued(alloc, id, project)?;
+    queued.job.options.resource_group = match group {
+        Some(group) => Some(text(alloc, group)?),
+        None => None,
+    };
+    Ok(queued)
+}
+
 /// The project and the resource group of a job, and whether it is free while an attempt holds `prod` of project 1.
 const GROUPS: &[(u64, Option<&'static str>, bool)] = &[
     (1, Some("prod"), false),
@@ -272,16 +330,18 @@ fn which_group_is_free(rt: HostRuntime) -> Result<(), Fail> {
         group,
         attempt: 7,
     }];
+    let live = &[
+        made_of(alloc, 6, 1, None, AttemptState::Live)?,
+        made_of(alloc, 7, 1, Some("prod"), AttemptState::Live)?,
+    ];
     for (project, group, free) in GROUPS {
-        let mut queued = queued(alloc, 3, *project)?;
-        queued.job.options.resource_group = match group {
-            Some(group) => Some(text(alloc, group)?),
-            None => None,
-        };
+        let queue = &[grouped(alloc, 3, *project, *group)?];
+        let [queued] = queue;
         let group = &queued.job.options.resource_group;
         assert!(rt; is_free(holders, *project, group) == *free);
-        assert!(rt; resource_free(&queued, holders) == *free);
-        assert!(rt; is_eligible(&queued, holders, &runner) == *free);
+        assert!(rt; resource_free(queued, live) == *free);
+        assert!(rt; is_eligible(queued, live, &runner) == *free);
+        assert!(rt; choose(queue, live, &runner).is_some() == *free);
     }
     Ok(())
 }
@@ -345,10 +405,10 @@ fn what_was_tried_keeps_a_pipeline(rt: HostRuntime) -> Result<(), Fail> {
     assert!(rt; is_newer_of(&older, &newer) && !is_newer_of(&newer, &older));
     assert!(rt; is_unfinished(Status::Manual) && !is_unfinished(Status::Skipped));
     for (interruptible, number) in TRIED {
-        let mut job = queued(alloc, 3, 1)?.job;
-        job.options.interruptible = *interruptible;
-        assert!(rt; is_bound_to(&older, &job) != *interruptible);
-        let found = match redundant(all.as_slice(), &[job]) {
+        let mut tried = made_of(alloc, 4, 1, None, AttemptState::Cancelled)?;
+        tried.queued.job.options.interruptible = *interruptible;
+        assert!(rt; is_bound_to(&older, &tried.queued.job) != *interruptible);
+        let found = match redundant(all.as_slice(), &[tried]) {
             Some(one) => one.pipeline.id,
             None => 0,
         };
@@ -388,10 +448,10 @@ fn texts_and_moments(rt: HostRuntime) -> Result<(), Fail> {
 fn changes_and_replies(rt: HostRuntime) -> Result<(), Fail> {
     let alloc = rt.alloc();
     let mut changes = Vec::new(alloc);
-    changes.push(RowChange::SetNext(Counter::Job, 2))?;
-    let delta = Delta::new(changes);
-    assert!(rt; !delta.is_empty() && delta.as_slice().len() == 1);
-    assert!(rt; delta.into_vec().len() == 1);
+    changes.push(RowChange::Put(Record::Next(Counter::Job, 2)))?;
+    let changes = Changes::new(changes);
+    assert!(rt; !changes.is_empty() && changes.as_slice().len() == 1);
+    assert!(rt; changes.into_vec().len() == 1);
     let mut reply = Reply::refusal(Code::M4);
     assert!(rt;
         reply.status == HttpStatus::Forbidden && reply.body() == b"{\"code\":\"M4\"}".as_slice()

@@ -7,9 +7,9 @@ use Rattle.ci_machine.specs.declared.change.RowChange.{RowChange}
 use Rattle.ci_machine.specs.declared.request.Event.{Event}
 use Rattle.ci_machine.specs.State.{State, applied}
 use Rattle.ci_machine.specs.Kept.{Kept, put_rows, written}
-use Rattle.ci_machine.specs.Sound.{IsSound}
-use Rattle.ci_machine.specs.History.{IsReached}
-use Rattle.ci_machine.specs.Step.{Happens, Step}
+use Rattle.ci_machine_steps.specs.Sound.{IsSound}
+use Rattle.ci_machine_steps.specs.History.{IsReached}
+use Rattle.ci_machine_steps.specs.Step.{Happens, Step}
 use Rattle.ci_store_tables.specs.declared.fault.StoreFault.{StoreFault}
 use Rattle.ci_store_tables.specs.declared.fault.StoreFault.TheVariants.{Memory, Broken}
 use Rattle.ci_store.specs.Store.{Ends, UnlessBroken}

@@ -9,7 +9,7 @@ use Rattle.ci_machine.specs.declared.change.IndexChange.{IndexChange}
 use Rattle.ci_machine.specs.declared.change.IndexChange.TheVariants.{Hold, Free, Open, Close}
 use Rattle.ci_machine.specs.State.{State, empty, applied}
 use Rattle.ci_machine.specs.Kept.{Kept, nothing_kept, put_rows, indexed, indexed_all, written}
-use Rattle.ci_machine.specs.Sound.{IsSound}
+use Rattle.ci_machine_steps.specs.Sound.{IsSound}
 use Rattle.ci_machine.specs.Statuses.{AreBoard}
 use Rattle.ci_machine.specs.Holders.{AreHolders}
 use Rattle.ci_store.specs.Create.{IsBlank}
@@ -24,7 +24,7 @@ use Rattle.ci_server.specs.Server.{IsHonest, Creates, Opens}
 
 -- it has no rows
 no_rows : AreBoard empty []
-no_rows = record { keys = refl; each = λ p. record { counted = λ i below. absurd (omega arith); settled = λ i below. absurd (omega arith) } }
+no_rows = record { keys = refl; each = λ p. record { is = λ i below. absurd (omega arith); each = λ i below. absurd (omega arith) } }
 
 -- no group is held
 no_holders : AreHolders empty []

@@ -7,7 +7,7 @@ use Rattle.sqlite.specs.Held.{Held, state}
 use Rattle.ci_machine.specs.declared.reply.Answer.{Answer}
 use Rattle.ci_machine.specs.Reply.{Outcome, LackedMemory, StoreFailed, outcome_of}
 use Rattle.ci_machine.specs.State.{State, empty}
-use Rattle.ci_machine.specs.History.{Past, Leads}
+use Rattle.ci_machine_steps.specs.History.{Past, Leads}
 use Rattle.ci_store.specs.Open.{LeavesNoMore}
 use Rattle.ci_machine.specs.Kept.{nothing_kept}
 use Rattle.ci_store.specs.Stands.{StandsIn, LeavesOnly}

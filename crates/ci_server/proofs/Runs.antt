@@ -9,9 +9,9 @@ use Rattle.ci_machine.specs.declared.request.Seed.{Seed}
 use Rattle.ci_machine.specs.declared.reply.Code.TheVariants.{M16, M17}
 use Rattle.ci_machine.specs.Reply.{Outcome, Stepped, LackedMemory, StoreFailed, outcome_of}
 use Rattle.ci_machine.specs.State.{State}
-use Rattle.ci_machine.specs.Step.{Step}
-use Rattle.ci_machine.specs.History.{Past, Leads, IsReached}
-use Rattle.ci_machine.specs.Laws.{Laws}
+use Rattle.ci_machine_steps.specs.Step.{Step}
+use Rattle.ci_machine_steps.specs.History.{Past, Leads, IsReached}
+use Rattle.ci_machine_steps.specs.Laws.{Laws}
 use Rattle.ci_server.specs.Handling.{Call, refused, Handled, answered, no_memory, look_failed, commit_failed}
 use Rattle.sqlite.specs.Store.{Ghosts}
 use Rattle.sqlite.specs.Held.{Held}

@@ -10,7 +10,7 @@ use Rattle.ci_machine.specs.declared.reply.Answer.{Answer}
 use Rattle.ci_machine.specs.declared.reply.Code.TheVariants.{M17}
 use Rattle.ci_machine.specs.State.{State, empty}
 use Rattle.ci_machine.specs.Kept.{Kept, nothing_kept}
-use Rattle.ci_machine.specs.History.{IsReached}
+use Rattle.ci_machine_steps.specs.History.{IsReached}
 use Rattle.ci_store.specs.Create.{IsBlank}
 use Rattle.ci_store.specs.Stands.{IsAt, LeavesOnly}
 use Rattle.ci_server.specs.declared.fail_stop.FailStop.{FailStop}

@@ -6,8 +6,8 @@ use Rattle.sqlite.specs.Held.{Held, state}
 use Rattle.ci_machine.specs.declared.reply.Answer.{Answer}
 use Rattle.ci_machine.specs.Reply.{Outcome, Stepped, LackedMemory, StoreFailed, outcome_of}
 use Rattle.ci_machine.specs.State.{State}
-use Rattle.ci_machine.specs.History.{Past, Leads}
-use Rattle.ci_machine.specs.Laws.{Laws}
+use Rattle.ci_machine_steps.specs.History.{Past, Leads}
+use Rattle.ci_machine_steps.specs.Laws.{Laws}
 use Rattle.ci_server.specs.declared.fail_stop.FailStop.{FailStop}
 use Rattle.ci_server.specs.Holding.{HoldsIn, StandsFor, KeepsGroups}
 use Rattle.ci_server.specs.Handling.{Call}

@@ -6,7 +6,7 @@ ghost use Rattle.ci_machine.specs.declared.request.Event.TheVariants as event;
 ghost use Rattle.ci_machine.specs.declared.request.Seed.{Seed};
 ghost use Rattle.ci_machine.specs.State.{State};
 ghost use Rattle.ci_machine.specs.Kept.{Kept, written};
-ghost use Rattle.ci_machine.specs.Sound.{IsSound};
+ghost use Rattle.ci_machine_steps.specs.Sound.{IsSound};
 ghost use Rattle.ci_store.specs.Store.{Ends};
 ghost use Rattle.ci_server.specs.Handling.{Performs};
 ghost use Rattle.ci_server.specs.Holding.{Holds, Leaves};
@@ -17,6 +17,7 @@ use ci_machine::request::{Request, Seed};
 use ci_server_events::events::plan_request;
 use ci_server_events::planned::{Beside, Planned};
 use ci_server_events::sweeps::plan_sweep;
+use ci_store::delta::Delta;
 use ci_store::fault::StoreFault;
 use ci_store::store::Store;
 use std::alloc::Global;
@@ -65,9 +66,8 @@ fn commit<T: Store, A: Drop>(store: &mut T, planned: Planned<A>) -> Result<A, St
     } = planned;
     let Beside { rows, indexes } = beside;
     if changes.is_empty() && rows.is_empty() && indexes.is_empty() {
-        let _ = changes.into_vec();
         return Ok(answer);
     }
-    store.commit(changes, rows, indexes)?;
+    store.commit(Delta::new(changes.into_vec(), rows, indexes))?;
     Ok(answer)
 }

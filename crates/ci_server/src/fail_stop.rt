@@ -11,10 +11,10 @@ ghost use Rattle.ci_server.specs.Holding.{Holds, Leaves};
 ghost use Rattle.ci_server.specs.Server.{HandlesBy, HandlesEachBy};
 
 use crate::events;
-use ci_machine::laws::{a_step_is_answered, sound_of_each_reached_state};
 use ci_machine::moment::Moment;
 use ci_machine::reply::{Answer, Code, Reply, Swept};
 use ci_machine::request::{Event, Request, Seed};
+use ci_machine_laws::laws::{a_step_is_answered, sound_of_each_reached_state};
 use ci_store::fault::StoreFault;
 use ci_store::store::Store;
 use std::alloc::{AllocError, Global};

@@ -9,7 +9,7 @@ ghost use Rattle.ci_server.specs.Server.{IsHonest, HandlesEach};
 ghost use Rattle.ci_server.specs.Lifetime.{Operation, ComesOf, called_each, LosesNoStep, KeepsItsGroups};
 ghost use Rattle.ci_server.specs.Settled.{HasOneHistory};
 
-use ci_machine::laws::{a_step_is_answered, laws_of_each_reached_state};
+use ci_machine_laws::laws::{a_step_is_answered, laws_of_each_reached_state};
 use ci_store::Alter;
 
 /// No step is lost. A server was made in a store that listed nothing (`Server::create`), or opened over the empty state that

@@ -15,10 +15,10 @@ ghost use Rattle.ci_server.specs.Server.{Handles, HandlesEach, Creates, Opens, c
 ghost use Rattle.ci_server.specs.Runs.{Runs};
 
 use crate::fail_stop::FailStop;
-use ci_machine::laws::{a_step_is_answered, laws_of_each_reached_state};
 use ci_machine::moment::Moment;
 use ci_machine::reply::{Answer, Reply, Swept};
 use ci_machine::request::{Event, Request, Seed};
+use ci_machine_laws::laws::{a_step_is_answered, laws_of_each_reached_state};
 use ci_store::tables::{OpenFault, Tables};
 use ci_store::{Alter, Connection};
 use std::alloc::{AllocError, Global};

@@ -28,23 +28,23 @@ use Rattle.ci_machine.specs.declared.reply.Reply.{Reply}
 use Rattle.ci_machine.specs.declared.reply.Swept.{Swept}
 use Rattle.ci_machine.specs.State.{State, applied, changed}
 use Rattle.ci_machine.specs.Kept.{Kept, put_rows, indexed_all, written}
-use Rattle.ci_machine.specs.Sound.{IsSound}
+use Rattle.ci_machine_steps.specs.Sound.{IsSound}
 use Rattle.ci_machine.specs.Indexes.{AreIndexes}
 use Rattle.ci_machine.specs.Eligible.{is_free}
 use Rattle.ci_machine.specs.Holders.{holders, AreHolders}
 use Rattle.ci_machine.specs.Bodies.{status_of_jobs}
 use Rattle.ci_machine.specs.Statuses.{jobs_of, facts_of, rows_of, status_for, AreBoard}
-use Rattle.ci_machine.specs.Plans.{Plan, refused, asked_project}
-use Rattle.ci_machine.specs.Shows.{job_shown, pipeline_shown, job_within, asked_job, asked_pipeline}
-use Rattle.ci_machine.specs.Pipelines.{plain_options}
-use Rattle.ci_machine.specs.Step.{project_with, pipeline_at, job_at, pipeline_of, project_or_none, queued, with_status, found_job, found_pipeline}
-use Rattle.ci_machine.specs.Sweeps.{sweep}
-use Rattle.ci_machine.specs.Acts.{ActsOn, ShowsJobAfter, ShowsPipelineAfter}
-use Rattle.ci_machine.specs.Plays.{play}
-use Rattle.ci_machine.specs.Retries.{retry}
-use Rattle.ci_machine.specs.Cancels.{cancel, cancelled_attempt, cancellable_jobs, CancelsSome}
+use Rattle.ci_machine_steps.specs.Plans.{Plan, refused, asked_project}
+use Rattle.ci_machine_steps.specs.Shows.{job_shown, pipeline_shown, job_within, asked_job, asked_pipeline}
+use Rattle.ci_machine.specs.Options.{plain_options}
+use Rattle.ci_machine_steps.specs.Step.{project_with, pipeline_at, job_at, pipeline_of, project_or_none, queued, with_status, found_job, found_pipeline}
+use Rattle.ci_machine_steps.specs.Sweeps.{sweep}
+use Rattle.ci_machine_steps.specs.Acts.{ActsOn, ShowsJobAfter, ShowsPipelineAfter}
+use Rattle.ci_machine_steps.specs.Plays.{play}
+use Rattle.ci_machine_steps.specs.Retries.{retry}
+use Rattle.ci_machine_steps.specs.Cancels.{cancel, cancelled_attempt, cancellable_jobs, CancelsSome}
 use Rattle.ci_machine.proofs.Keyed.{Has, All-from_has, filter_has, has_from_contains, contains_from_has, has_from_all, find_has}
-use Rattle.ci_machine.proofs.Sound.{sound}
+use Rattle.ci_machine_steps.proofs.Sound.{sound}
 use Rattle.ci_machine_statuses.specs.declared.act.Act.{Act}
 use Rattle.ci_machine_statuses.specs.declared.act.Act.TheVariants.{Play, Retry, Cancel}
 use Rattle.ci_machine_statuses.specs.declared.outcome.Outcome.{Outcome}

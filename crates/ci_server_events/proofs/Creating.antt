@@ -15,10 +15,10 @@ use Rattle.ci_machine.specs.Bodies.{status_of_jobs}
 use Rattle.ci_machine.specs.Holders.{holders}
 use Rattle.ci_machine.specs.Indexes.{AreIndexes}
 use Rattle.ci_machine.specs.Kept.{Kept, written}
-use Rattle.ci_machine.specs.Pipelines as pipelines
-use Rattle.ci_machine.specs.Pipelines.{Layout, IsLaidOut, creation, creation_changes, given_by, AreFirstRows, pipeline_created, Creates}
-use Rattle.ci_machine.specs.Plans.{Plan}
-use Rattle.ci_machine.specs.Sound.{IsSound}
+use Rattle.ci_machine_steps.specs.Pipelines as pipelines
+use Rattle.ci_machine_steps.specs.Pipelines.{Layout, IsLaidOut, creation, creation_changes, given_by, AreFirstRows, pipeline_created, Creates}
+use Rattle.ci_machine_steps.specs.Plans.{Plan}
+use Rattle.ci_machine_steps.specs.Sound.{IsSound}
 use Rattle.ci_machine.specs.State.{State, applied}
 use Rattle.ci_machine.specs.Statuses.{AreBoard}
 use Rattle.ci_machine_statuses.specs.Changes.{IsMade}

@@ -19,15 +19,15 @@ use Rattle.ci_machine.specs.declared.records.Runner.{Runner}
 use Rattle.ci_machine.specs.declared.reply.Code.TheVariants.{M15}
 use Rattle.ci_machine.specs.declared.request.Seed.{Seed}
 use Rattle.ci_machine.specs.Eligible.{may_run, resource_free, is_eligible}
-use Rattle.ci_machine.specs.Grants.{grant, granted}
+use Rattle.ci_machine_steps.specs.Grants.{grant, granted}
 use Rattle.ci_machine.specs.Holders.{holders, holds_group}
 use Rattle.ci_machine.specs.Indexes.{AreIndexes}
 use Rattle.ci_machine.specs.Kept.{Kept, put_rows, written}
-use Rattle.ci_machine.specs.Plans.{Plan, refused, numbered}
-use Rattle.ci_machine.specs.Sound.{IsSound}
+use Rattle.ci_machine_steps.specs.Plans.{Plan, refused, numbered}
+use Rattle.ci_machine_steps.specs.Sound.{IsSound}
 use Rattle.ci_machine.specs.State.{State, applied}
 use Rattle.ci_machine.specs.Statuses.{AreBoard}
-use Rattle.ci_machine.specs.Step.{offer, queue, queued, is_pending, pending_jobs}
+use Rattle.ci_machine_steps.specs.Step.{offer, queue, queued, is_pending, pending_jobs}
 use Rattle.ci_machine_statuses.specs.Changes.{started_row}
 use Rattle.ci_server_lookups.specs.declared.search.Offer.{Offer}
 use Rattle.ci_server_lookups.specs.Keeps.{IsKept}

@@ -37,21 +37,21 @@ use Rattle.ci_machine.specs.declared.request.Request.{Request}
 use Rattle.ci_machine.specs.declared.request.Request.TheVariants.{AddProject, AddRunner, PauseRunner, SetFile, SetVariable, DeleteVariable, CreatePipeline, ShowPipeline, AskJob, UpdateJob, AppendTrace, ShowJob, ShowTrace, Play, CancelJob, RetryJob, CancelPipeline}
 use Rattle.ci_machine.specs.declared.request.Seed.{Seed}
 use Rattle.ci_machine.specs.declared.request.TracePart.{TracePart}
-use Rattle.ci_machine.specs.Files.{SetsFile, set_file}
+use Rattle.ci_machine_steps.specs.Files.{SetsFile, set_file}
 use Rattle.ci_machine.specs.Holders.{holders}
 use Rattle.ci_machine.specs.Indexes.{AreIndexes}
 use Rattle.ci_machine.specs.Kept.{Kept, put_rows, written}
 use Rattle.ci_machine.specs.Leases.{accepted}
-use Rattle.ci_machine.specs.Plans.{Plan, asked_project, refused, faulted}
-use Rattle.ci_machine.specs.Projects.{add_project, made_project}
-use Rattle.ci_machine.specs.Runners.{are_names, lacks_project, add_runner, made_runner, pause_runner}
-use Rattle.ci_machine.specs.Shows.{asked_pipeline, shown, show_pipeline, traced}
-use Rattle.ci_machine.specs.Sound.{IsSound}
+use Rattle.ci_machine_steps.specs.Plans.{Plan, asked_project, refused, faulted}
+use Rattle.ci_machine_steps.specs.Projects.{add_project, made_project}
+use Rattle.ci_machine_steps.specs.Runners.{are_names, lacks_project, add_runner, made_runner, pause_runner}
+use Rattle.ci_machine_steps.specs.Shows.{asked_pipeline, shown, show_pipeline, traced}
+use Rattle.ci_machine_steps.specs.Sound.{IsSound}
 use Rattle.ci_machine.specs.State.{State, applied}
 use Rattle.ci_machine.specs.Statuses.{jobs_of, facts_of, rows_of, status_for, AreBoard}
-use Rattle.ci_machine.specs.Step.{Does, project_with, project_named, project_variables, variable_at, runner_at, pipeline_at, lease_at, last_attempt, pieces_in, found_job}
-use Rattle.ci_machine.specs.Traces.{append_trace, appended, grown}
-use Rattle.ci_machine.specs.Variables.{set_variable, variable_set, delete_variable, count_with}
+use Rattle.ci_machine_steps.specs.Step.{Does, project_with, project_named, project_variables, variable_at, runner_at, pipeline_at, lease_at, last_attempt, pieces_in, found_job}
+use Rattle.ci_machine_steps.specs.Traces.{append_trace, appended, grown}
+use Rattle.ci_machine_steps.specs.Variables.{set_variable, variable_set, delete_variable, count_with}
 use Rattle.ci_machine_plans.specs.Refusals.{unmade}
 use Rattle.ci_machine_plans.specs.declared.replies.Refusal.{Refusal}
 use Rattle.ci_machine_plans.specs.declared.replies.Refusal.TheVariants as refusal

@@ -28,13 +28,13 @@ use Rattle.ci_machine.specs.Bodies.{status_of_jobs}
 use Rattle.ci_machine.specs.Indexes.{AreIndexes}
 use Rattle.ci_machine.specs.Kept.{Kept, put_rows, written}
 use Rattle.ci_machine.specs.Leases.{is_live, is_over, while_leased, renewed, first_due, cause_of}
-use Rattle.ci_machine.specs.Plans.{Plan, refused}
-use Rattle.ci_machine.specs.Reports.{update_job, reported, heard, ended}
-use Rattle.ci_machine.specs.Sound.{IsSound}
+use Rattle.ci_machine_steps.specs.Plans.{Plan, refused}
+use Rattle.ci_machine_steps.specs.Reports.{update_job, reported, heard, ended}
+use Rattle.ci_machine_steps.specs.Sound.{IsSound}
 use Rattle.ci_machine.specs.State.{State, applied}
 use Rattle.ci_machine.specs.Statuses.{AreBoard}
-use Rattle.ci_machine.specs.Step.{lease_of, leases, live_attempts, pipeline_at, with_status}
-use Rattle.ci_machine.specs.Sweeps.{ends}
+use Rattle.ci_machine_steps.specs.Step.{lease_of, leases, live_attempts, pipeline_at, with_status}
+use Rattle.ci_machine_steps.specs.Sweeps.{ends}
 use Rattle.ci_machine_statuses.specs.declared.end.Settled.{Settled}
 use Rattle.ci_machine_statuses.specs.Changes.{HasLive, LeavesStatuses}
 use Rattle.ci_machine_statuses.specs.Ends.{ended_state, IsSettled}

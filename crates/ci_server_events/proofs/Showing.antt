@@ -16,9 +16,9 @@ use Rattle.ci_machine.specs.declared.records.Pipeline.{Pipeline}
 use Rattle.ci_machine.specs.declared.reply.Body.TheVariants.{Json}
 use Rattle.ci_machine.specs.Bodies.{source_text, printed_status, job_data, jobs_data, status_of_jobs, pipeline_data}
 use Rattle.ci_machine.specs.Eligible.{is_free}
-use Rattle.ci_machine.specs.Pipelines.{Creation, creation_changes, pipeline_created}
-use Rattle.ci_machine.specs.Plans.{created, fine}
-use Rattle.ci_machine.specs.Shows.{job_shown, pipeline_shown}
+use Rattle.ci_machine_steps.specs.Pipelines.{Creation, creation_changes, pipeline_created}
+use Rattle.ci_machine_steps.specs.Plans.{created, fine}
+use Rattle.ci_machine_steps.specs.Shows.{job_shown, pipeline_shown}
 use Rattle.ci_machine.proofs.Keyed.{Has, has_from_all}
 use Rattle.ci_server_lookups.specs.Held.{HoldAlike}
 

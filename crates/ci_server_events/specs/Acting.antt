@@ -12,11 +12,11 @@ use Rattle.ci_machine.specs.State.{State}
 use Rattle.ci_machine.specs.Kept.{Kept, written}
 use Rattle.ci_machine.specs.Indexes.{AreIndexes}
 use Rattle.ci_machine.specs.Holders.{holders}
-use Rattle.ci_machine.specs.Plans.{Plan}
-use Rattle.ci_machine.specs.Acts.{permitted, ActsOn}
-use Rattle.ci_machine.specs.Plays.{play}
-use Rattle.ci_machine.specs.Retries.{retry}
-use Rattle.ci_machine.specs.Cancels.{cancel}
+use Rattle.ci_machine_steps.specs.Plans.{Plan}
+use Rattle.ci_machine_steps.specs.Acts.{permitted, ActsOn}
+use Rattle.ci_machine_steps.specs.Plays.{play}
+use Rattle.ci_machine_steps.specs.Retries.{retry}
+use Rattle.ci_machine_steps.specs.Cancels.{cancel}
 use Rattle.ci_machine_statuses.specs.declared.act.Act.{Act}
 use Rattle.ci_machine_statuses.specs.declared.act.Act.TheVariants.{Play, Retry, Cancel}
 use Rattle.ci_machine_statuses.specs.declared.outcome.Outcome.{Outcome}

@@ -3,14 +3,14 @@
 ghost use Rattle.std.specs.Prelude.{◌≡◌, ◌<◌, ℕ, List, length, map, All, Contains, Some, None, Ok, IfOk, slice_index_or};
 ghost use Rattle.ci_machine.specs.declared.records.Job.{Job};
 ghost use Rattle.ci_machine.specs.declared.records.BoardRow.{BoardRow};
-ghost use Rattle.ci_machine.specs.Cancels.{CancelsPipeline, CancelsSome, cancellable_jobs};
+ghost use Rattle.ci_machine_steps.specs.Cancels.{CancelsPipeline, CancelsSome, cancellable_jobs};
 ghost use Rattle.ci_machine.specs.Kept.{Kept};
-ghost use Rattle.ci_machine.specs.Shows.{job_shown};
-ghost use Rattle.ci_machine.specs.Sound.{IsSound};
+ghost use Rattle.ci_machine_steps.specs.Shows.{job_shown};
+ghost use Rattle.ci_machine_steps.specs.Sound.{IsSound};
 ghost use Rattle.ci_machine.specs.State.{State};
 ghost use Rattle.ci_machine.specs.Statuses.{AreBoard};
-ghost use Rattle.ci_machine.specs.Step.{found_job, found_pipeline};
-ghost use Rattle.ci_machine.specs.Sweeps.{sweep};
+ghost use Rattle.ci_machine_steps.specs.Step.{found_job, found_pipeline};
+ghost use Rattle.ci_machine_steps.specs.Sweeps.{sweep};
 ghost use Rattle.ci_machine_statuses.specs.Acts.{IsOutcome};
 ghost use Rattle.ci_machine_statuses.specs.Lookups.{AreRecords};
 ghost use Rattle.ci_store.specs.Store.{LoadsBy};
@@ -24,7 +24,7 @@ use crate::ends::{or_store_fault, status_before};
 use crate::planned::{Beside, Planned};
 use crate::shows::{asked, asked_pipeline, load_named};
 use ci_board::facts::Status;
-use ci_machine::change::{Delta, IndexChange};
+use ci_machine::change::{Changes, IndexChange};
 use ci_machine::records::{Holder, Job, Pipeline};
 use ci_machine::reply::{Code, Reply, Swept};
 use ci_machine::request::{JobQuery, PipelineQuery};
@@ -116,7 +116,7 @@ fn plan_of(
     held: &[Holder],
     job: &Job,
     after: Status,
-) -> Result<(Reply, Delta), AllocError>
+) -> Result<(Reply, Changes), AllocError>
     ensures { IfOk result (λ plan. plan ≡ ((job_shown held.now whole.now.pipeline.project job.now after).0, changes_by act whole.now.records.attempts.items job.now)) }
 {
     let project = whole.pipeline.project;

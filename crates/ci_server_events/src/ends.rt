@@ -8,7 +8,7 @@ ghost use Rattle.ci_machine.specs.Bodies.{status_of_jobs};
 ghost use Rattle.ci_machine.specs.Kept.{Kept};
 ghost use Rattle.ci_machine.specs.Leases.{is_live};
 ghost use Rattle.ci_machine.specs.Statuses.{jobs_of, facts_of, rows_of};
-ghost use Rattle.ci_machine.specs.Step.{pipeline_at};
+ghost use Rattle.ci_machine_steps.specs.Step.{pipeline_at};
 ghost use Rattle.ci_machine_statuses.specs.Changes.{HasLive};
 ghost use Rattle.ci_store.specs.Store.{LoadsBy};
 ghost use Rattle.ci_server_lookups.specs.Records.{AreOf};
@@ -18,7 +18,7 @@ ghost use Rattle.ci_server_events.specs.Planning.{Settles, MovesOne, attempt_end
 use crate::planned::Beside;
 use crate::shows::loaded;
 use ci_board::facts::Status;
-use ci_machine::change::{Delta, Record, RowChange};
+use ci_machine::change::{Changes, Record, RowChange};
 use ci_machine::records::{Attempt, Job, Pipeline};
 use ci_machine_plans::body::status_of;
 use ci_machine_statuses::end::end_of;
@@ -39,7 +39,7 @@ pub(crate) fn beside_changes<T: Store>(
     alloc: Global,
     store: &mut T,
     pipeline: u64,
-    changes: &Delta,
+    changes: &Changes,
 ) -> Result<Beside, StoreFault>
     ensures { LoadsBy T.honest T.holds T.leaves store.old store.new result
         (λ k b. IsKept k → MovesOne k.state changes.now → Settles k changes.now b) }
@@ -53,7 +53,7 @@ pub(crate) fn beside_changes<T: Store>(
 }
 
 /// The attempt that changes end, where they put it alone.
-fn attempt_ended(changes: &Delta) -> Option<&Attempt>
+fn attempt_ended(changes: &Changes) -> Option<&Attempt>
     ensures { option_copied result ≡ attempt_ended changes.now }
 {
     match changes.as_slice() {

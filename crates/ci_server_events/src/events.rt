@@ -1,7 +1,7 @@
 //! What a request does, from what a store holds: what it needs is looked up, and its plan is made. The store stays as it is.
 
 ghost use Rattle.std.specs.Prelude.{◌≡◌};
-ghost use Rattle.ci_machine.specs.Step.{Does};
+ghost use Rattle.ci_machine_steps.specs.Step.{Does};
 ghost use Rattle.ci_store.specs.Store.{LoadsBy};
 ghost use Rattle.ci_server_lookups.specs.Keeps.{IsKept};
 ghost use Rattle.ci_server_events.specs.Planning.{PlansFor};

@@ -1,12 +1,12 @@
 //! What a request that sets a project's file does, from what the store holds.
 
-ghost use Rattle.ci_machine.specs.Files as machine;
-ghost use Rattle.ci_machine.specs.Plans.{asked_project};
-ghost use Rattle.ci_machine.specs.Step.{project_with};
+ghost use Rattle.ci_machine_steps.specs.Files as machine;
+ghost use Rattle.ci_machine_steps.specs.Plans.{asked_project};
+ghost use Rattle.ci_machine_steps.specs.Step.{project_with};
 ghost use Rattle.ci_store.specs.Store.{LoadsBy};
 
 use crate::projects::asked;
-use ci_machine::change::Delta;
+use ci_machine::change::Changes;
 use ci_machine::reply::Reply;
 use ci_machine::request::NewFile;
 use ci_machine_pipelines::files;
@@ -20,7 +20,7 @@ pub(crate) fn set_file<T: Store>(
     alloc: Global,
     store: &mut T,
     new: NewFile,
-) -> Result<(Reply, Delta), StoreFault>
+) -> Result<(Reply, Changes), StoreFault>
     ensures { LoadsBy T.honest T.holds T.leaves store.old store.new result
         (λ k plan. machine.SetsFile (asked_project (project_with k.state new.token) new.project) new.text plan) }
 {

@@ -1,9 +1,9 @@
 //! What a runner's request for a job does, from what the store holds: the least pending job that the runner may be given is granted.
 
 ghost use Rattle.std.specs.Prelude.{◌≡◌, ◌∷◌, [], Some, IfOk, IfErr, if◌then◌else◌};
-ghost use Rattle.ci_machine.specs.Grants as machine;
+ghost use Rattle.ci_machine_steps.specs.Grants as machine;
 ghost use Rattle.ci_machine.specs.Holders.{holds_group};
-ghost use Rattle.ci_machine.specs.Step as step;
+ghost use Rattle.ci_machine_steps.specs.Step as step;
 ghost use Rattle.ci_machine.specs.declared.request.Request.TheVariants as asked;
 ghost use Rattle.ci_store.specs.Store.{LoadsBy};
 ghost use Rattle.ci_board.specs.declared.facts.Status.TheVariants as status;

@@ -4,9 +4,9 @@
 ghost use Rattle.std.specs.Prelude.{◌≡◌, ◌≤◌, ◌+◌, length, Ok, IfOk};
 ghost use Rattle.std.specs.Result.{result_map_both};
 ghost use Rattle.ci_machine.specs.Holders.{holders};
-ghost use Rattle.ci_machine.specs.Pipelines as machine;
-ghost use Rattle.ci_machine.specs.Plans.{asked_project};
-ghost use Rattle.ci_machine.specs.Step.{project_with, project_variables};
+ghost use Rattle.ci_machine_steps.specs.Pipelines as machine;
+ghost use Rattle.ci_machine_steps.specs.Plans.{asked_project};
+ghost use Rattle.ci_machine_steps.specs.Step.{project_with, project_variables};
 ghost use Rattle.ci_machine_plans.specs.Refusals as refusals;
 ghost use Rattle.ci_machine_pipelines.specs.Creations.{creation_view};
 ghost use Rattle.ci_store.specs.Store.{LoadsBy};

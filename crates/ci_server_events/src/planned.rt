@@ -2,7 +2,7 @@
 
 ghost use Rattle.std.specs.Prelude.{◌≡◌, [], option_to_list, Ok, IfOk, IfErr, Err};
 
-use ci_machine::change::{Delta, IndexChange};
+use ci_machine::change::{Changes, IndexChange};
 use ci_machine::records::BoardRow;
 use ci_store::fault::StoreFault;
 use std::alloc::{AllocError, Global};
@@ -12,7 +12,7 @@ pub struct Planned<A> {
     /// What is answered once it is committed.
     pub answer: A,
     /// The records that are put and removed.
-    pub changes: Delta,
+    pub changes: Changes,
     /// What changes beside them.
     pub beside: Beside,
 }
@@ -55,7 +55,7 @@ pub(crate) fn listed(
 
 impl<A: Drop> Planned<A> {
     /// A plan beside whose records nothing changes.
-    pub(crate) fn alone(alloc: Global, plan: (A, Delta)) -> Planned<A>
+    pub(crate) fn alone(alloc: Global, plan: (A, Changes)) -> Planned<A>
         ensures answer { result.answer ≡ plan.0 }
         ensures changes { result.changes ≡ plan.1 }
         ensures rows { result.beside.rows.items ≡ [] }
@@ -71,7 +71,7 @@ impl<A: Drop> Planned<A> {
 
     /// The plan with what changes beside its records. Errors: that wasn't found, for this fault, and the plan is given up.
     pub(crate) fn with(
-        plan: (A, Delta),
+        plan: (A, Changes),
         beside: Result<Beside, StoreFault>,
     ) -> Result<Planned<A>, StoreFault>
         ensures planned { IfOk result (λ p. (p.answer ≡ plan.0) × (p.changes ≡ plan.1) × (beside ≡ Ok p.beside)) }
@@ -84,10 +84,7 @@ impl<A: Drop> Planned<A> {
                 changes,
                 beside,
             }),
-            Err(fault) => {
-                let _ = changes.into_vec();
-                Err(fault)
-            }
+            Err(fault) => Err(fault),
         }
     }
 }

@@ -2,11 +2,11 @@
 
 ghost use Rattle.std.specs.Prelude.{◌≡◌};
 ghost use Rattle.std.specs.Result.{result_map_both};
-ghost use Rattle.ci_machine.specs.Plans.{asked_project};
-ghost use Rattle.ci_machine.specs.Projects as machine;
+ghost use Rattle.ci_machine_steps.specs.Plans.{asked_project};
+ghost use Rattle.ci_machine_steps.specs.Projects as machine;
 ghost use Rattle.ci_store.specs.Store.{LoadsBy};
 
-use ci_machine::change::{Counter, Delta};
+use ci_machine::change::{Changes, Counter};
 use ci_machine::records::Project;
 use ci_machine::reply::{Code, Reply};
 use ci_machine::request::Seed;
@@ -22,7 +22,7 @@ pub(crate) fn add_project<T: Store>(
     store: &mut T,
     name: Text,
     seed: Seed,
-) -> Result<(Reply, Delta), StoreFault>
+) -> Result<(Reply, Changes), StoreFault>
     ensures { LoadsBy T.honest T.holds T.leaves store.old store.new result (λ k plan. plan ≡ machine.add_project k.state.next.project name seed) }
 {
     let next = store.next(Counter::Project)?;

@@ -1,8 +1,8 @@
 //! What a runner's report on an attempt does, from what the store holds.
 
 ghost use Rattle.std.specs.Prelude.{◌≡◌};
-ghost use Rattle.ci_machine.specs.Reports as machine;
-ghost use Rattle.ci_machine.specs.Step.{lease_at};
+ghost use Rattle.ci_machine_steps.specs.Reports as machine;
+ghost use Rattle.ci_machine_steps.specs.Step.{lease_at};
 ghost use Rattle.ci_store.specs.Store.{LoadsBy};
 ghost use Rattle.ci_server_lookups.specs.Keeps.{IsKept};
 ghost use Rattle.ci_server_events.specs.Planning.{PlansFor};

@@ -1,11 +1,11 @@
 //! What a request for a new runner does, or one that pauses a runner, from what the store holds.
 
 ghost use Rattle.std.specs.Prelude.{◌≡◌};
-ghost use Rattle.ci_machine.specs.Runners as machine;
-ghost use Rattle.ci_machine.specs.Step.{project_named, runner_at};
+ghost use Rattle.ci_machine_steps.specs.Runners as machine;
+ghost use Rattle.ci_machine_steps.specs.Step.{project_named, runner_at};
 ghost use Rattle.ci_store.specs.Store.{LoadsBy};
 
-use ci_machine::change::{Counter, Delta};
+use ci_machine::change::{Changes, Counter};
 use ci_machine::records::Project;
 use ci_machine::reply::Reply;
 use ci_machine::request::{NewRunner, RunnerPause, Seed};
@@ -20,7 +20,7 @@ pub(crate) fn add_runner<T: Store>(
     store: &mut T,
     new: NewRunner,
     seed: Seed,
-) -> Result<(Reply, Delta), StoreFault>
+) -> Result<(Reply, Changes), StoreFault>
     ensures { LoadsBy T.honest T.holds T.leaves store.old store.new result (λ k plan. plan ≡ machine.add_runner k.state.next.runner (project_named k.state new.project) new seed) }
 {
     let project = named(store, new.project)?;
@@ -43,7 +43,7 @@ pub(crate) fn pause_runner<T: Store>(
     alloc: Global,
     store: &mut T,
     pause: RunnerPause,
-) -> Result<(Reply, Delta), StoreFault>
+) -> Result<(Reply, Changes), StoreFault>
     ensures { LoadsBy T.honest T.holds T.leaves store.old store.new result (λ k plan. plan ≡ machine.pause_runner (runner_at k.state pause.runner) pause.paused) }
 {
     let runner = store.runner(pause.runner)?;

@@ -9,11 +9,11 @@ ghost use Rattle.ci_machine.specs.declared.records.Need.{Need};
 ghost use Rattle.ci_machine.specs.Holders.{holders};
 ghost use Rattle.ci_machine.specs.State.{State};
 ghost use Rattle.ci_machine.specs.Kept.{Kept};
-ghost use Rattle.ci_machine.specs.Plans.{asked_project};
-ghost use Rattle.ci_machine.specs.Shows as machine;
-ghost use Rattle.ci_machine.specs.Sound.{IsSound};
+ghost use Rattle.ci_machine_steps.specs.Plans.{asked_project};
+ghost use Rattle.ci_machine_steps.specs.Shows as machine;
+ghost use Rattle.ci_machine_steps.specs.Sound.{IsSound};
 ghost use Rattle.ci_machine.specs.Statuses.{jobs_of, facts_of, rows_of, status_for, AreBoard};
-ghost use Rattle.ci_machine.specs.Step as step;
+ghost use Rattle.ci_machine_steps.specs.Step as step;
 ghost use Rattle.ci_machine_statuses.specs.Lookups.{AreRecords};
 ghost use Rattle.ci_store.specs.Store.{LoadsBy};
 ghost use Rattle.ci_server_lookups.specs.Keeps.{IsKept};
@@ -21,7 +21,7 @@ ghost use Rattle.ci_server_lookups.specs.Keeps.{IsKept};
 use crate::ends::or_store_fault;
 use crate::projects;
 use ci_board::facts::{Facts, Row};
-use ci_machine::change::Delta;
+use ci_machine::change::Changes;
 use ci_machine::records::{Attempt, BoardRow, Holder, Job, Piece, Pipeline, Project};
 use ci_machine::reply::{Code, Reply};
 use ci_machine::request::{JobQuery, PipelineQuery};
@@ -84,7 +84,7 @@ pub(crate) fn show_job<T: Store>(
     alloc: Global,
     store: &mut T,
     query: &JobQuery,
-) -> Result<(Reply, Delta), StoreFault>
+) -> Result<(Reply, Changes), StoreFault>
     ensures { LoadsBy T.honest T.holds T.leaves store.old store.new result
         (λ k plan. let job = step.job_at k.state query.now.job in
         IsKept k → plan ≡ machine.show_job (step.project_with k.state query.now.token) job (step.pipeline_of k.state job) (holders k.state) (status_for k.board query.now.job) query.now) }
@@ -106,7 +106,7 @@ pub(crate) fn show_trace<T: Store>(
     alloc: Global,
     store: &mut T,
     query: &JobQuery,
-) -> Result<(Reply, Delta), StoreFault>
+) -> Result<(Reply, Changes), StoreFault>
     ensures { LoadsBy T.honest T.holds T.leaves store.old store.new result
         (λ k plan. let job = step.job_at k.state query.now.job in
         plan ≡ machine.show_trace (step.project_with k.state query.now.token) job (step.pipeline_of k.state job) (step.pieces_in k.state (step.last_attempt k.state query.now.job)) query.now) }
@@ -152,7 +152,7 @@ pub(crate) fn show_pipeline<T: Store>(
     alloc: Global,
     store: &mut T,
     query: &PipelineQuery,
-) -> Result<(Reply, Delta), StoreFault>
+) -> Result<(Reply, Changes), StoreFault>
     ensures { LoadsBy T.honest T.holds T.leaves store.old store.new result
         (λ k plan. IsKept k → let n = query.now.pipeline in
         plan ≡ machine.show_pipeline (machine.asked_pipeline (asked_project (step.project_with k.state query.now.token) query.now.project) (step.pipeline_at k.state n)) (holders k.state) (jobs_of k.state n) (facts_of k.state n) (rows_of k.state k.board n)) }
@@ -182,7 +182,7 @@ fn pipeline_shown<T: Store>(
     store: &mut T,
     pipeline: &Pipeline,
     number: u64,
-) -> Result<(Reply, Delta), StoreFault>
+) -> Result<(Reply, Changes), StoreFault>
     ensures { LoadsBy T.honest T.holds T.leaves store.old store.new result
         (λ k plan. IsKept k → plan ≡ machine.pipeline_shown pipeline.now (holders k.state) (jobs_of k.state number) (facts_of k.state number) (rows_of k.state k.board number)) }
 {
@@ -211,7 +211,7 @@ fn jobs_shown(
     jobs: &[Job],
     attempts: &[Attempt],
     rows: &[BoardRow],
-) -> Result<(Reply, Delta), StoreFault>
+) -> Result<(Reply, Changes), StoreFault>
     ensures { IfOk result (λ plan. (k : Kept) (number : ℕ) (needs : List Need) → IsKept k → AreRecords k.state k.board number jobs.now needs attempts.now rows.now
         → plan ≡ machine.pipeline_shown pipeline.now held.now jobs.now (facts_of k.state number) (rows_of k.state k.board number)) }
 {

@@ -1,8 +1,9 @@
 //! What a sweep does, from what the store holds.
 
 ghost use Rattle.std.specs.Prelude.{◌≡◌, ◌++◌, ◌∷◌, [], map, None};
-ghost use Rattle.ci_machine.specs.Sweeps.{ends, sweep};
-ghost use Rattle.ci_machine.specs.Step as step;
+ghost use Rattle.ci_machine.specs.Leases.{cause_of};
+ghost use Rattle.ci_machine_steps.specs.Sweeps.{ends, sweep};
+ghost use Rattle.ci_machine_steps.specs.Step as step;
 ghost use Rattle.ci_machine_statuses.specs.Changes.{HasLive};
 ghost use Rattle.ci_store.specs.Store.{LoadsBy};
 ghost use Rattle.ci_server_lookups.specs.Keeps.{IsKept};
@@ -13,7 +14,7 @@ use crate::ends::beside_changes;
 use crate::planned::Planned;
 use ci_machine::lease::{Lease, due};
 use ci_machine::moment::Moment;
-use ci_machine::records::Attempt;
+use ci_machine::records::{Attempt, Cause};
 use ci_machine::reply::Swept;
 use ci_machine_plans::sweeps;
 use ci_server_lookups::leases::lease_of;
@@ -35,20 +36,26 @@ pub fn plan_sweep<T: Store>(
     let attempts = store.live_attempts()?;
     let leases = leases(alloc, store, attempts)?;
     match due(leases.as_slice(), now) {
-        Some(lease) => end(alloc, store, lease),
+        Some((lease, cause)) => end(alloc, store, lease, cause),
         None => sweep_pipelines(alloc, store),
     }
 }
 
-/// The lease ends.
-fn end<T: Store>(alloc: Global, store: &mut T, lease: &Lease) -> Result<Planned<Swept>, StoreFault>
+/// The lease ends, for this cause.
+fn end<T: Store>(
+    alloc: Global,
+    store: &mut T,
+    lease: &Lease,
+    cause: Cause,
+) -> Result<Planned<Swept>, StoreFault>
+    requires { cause ≡ cause_of lease.now }
     ensures { LoadsBy T.honest T.holds T.leaves store.old store.new result
         (λ k p. IsKept k → HasLive k.state lease.now.attempt → PlansFor k ((p.answer, p.changes) ≡ ends lease.now) p.changes p.beside) }
 {
     let Some(job) = store.job(lease.attempt.job)? else {
         return Err(StoreFault::Broken);
     };
-    let plan = sweeps::end(alloc, lease)?;
+    let plan = sweeps::end(alloc, lease, cause)?;
     let beside = beside_changes(alloc, store, job.pipeline, &plan.1);
     Planned::with(plan, beside)
 }

@@ -1,11 +1,11 @@
 //! What a piece of a trace does, from what the store holds.
 
 ghost use Rattle.std.specs.Prelude.{◌≡◌};
-ghost use Rattle.ci_machine.specs.Traces as machine;
-ghost use Rattle.ci_machine.specs.Step.{lease_at};
+ghost use Rattle.ci_machine_steps.specs.Traces as machine;
+ghost use Rattle.ci_machine_steps.specs.Step.{lease_at};
 ghost use Rattle.ci_store.specs.Store.{LoadsBy};
 
-use ci_machine::change::Delta;
+use ci_machine::change::Changes;
 use ci_machine::moment::Moment;
 use ci_machine::reply::Reply;
 use ci_machine::request::TracePart;
@@ -21,7 +21,7 @@ pub(crate) fn append_trace<T: Store>(
     store: &mut T,
     part: TracePart,
     now: Moment,
-) -> Result<(Reply, Delta), StoreFault>
+) -> Result<(Reply, Changes), StoreFault>
     ensures { LoadsBy T.honest T.holds T.leaves store.old store.new result
         (λ k plan. plan ≡ machine.append_trace (lease_at k.state part.attempt) part now) }
 {

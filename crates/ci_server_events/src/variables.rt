@@ -1,13 +1,13 @@
 //! What a request that sets a project's variable does, or one by which it goes, from what the store holds.
 
 ghost use Rattle.std.specs.Prelude.{◌≡◌, Ok};
-ghost use Rattle.ci_machine.specs.Plans.{asked_project};
-ghost use Rattle.ci_machine.specs.Step.{project_with, project_variables, variable_at};
-ghost use Rattle.ci_machine.specs.Variables as machine;
+ghost use Rattle.ci_machine_steps.specs.Plans.{asked_project};
+ghost use Rattle.ci_machine_steps.specs.Step.{project_with, project_variables, variable_at};
+ghost use Rattle.ci_machine_steps.specs.Variables as machine;
 ghost use Rattle.ci_store.specs.Store.{LoadsBy};
 
 use crate::projects::asked;
-use ci_machine::change::Delta;
+use ci_machine::change::Changes;
 use ci_machine::records::Project;
 use ci_machine::reply::Reply;
 use ci_machine::request::{NewVariable, VariableQuery};
@@ -22,7 +22,7 @@ pub(crate) fn set_variable<T: Store>(
     alloc: Global,
     store: &mut T,
     new: NewVariable,
-) -> Result<(Reply, Delta), StoreFault>
+) -> Result<(Reply, Changes), StoreFault>
     ensures { LoadsBy T.honest T.holds T.leaves store.old store.new result
         (λ k plan. plan ≡ machine.set_variable (asked_project (project_with k.state new.token) new.project) (project_variables k.state new.project) new) }
 {
@@ -39,7 +39,7 @@ fn set_in<T: Store>(
     store: &mut T,
     project: &Project,
     new: NewVariable,
-) -> Result<(Reply, Delta), StoreFault>
+) -> Result<(Reply, Changes), StoreFault>
     ensures { LoadsBy T.honest T.holds T.leaves store.old store.new result
         (λ k plan. plan ≡ machine.set_variable (Ok project.now) (project_variables k.state new.project) new) }
 {
@@ -52,7 +52,7 @@ pub(crate) fn delete_variable<T: Store>(
     alloc: Global,
     store: &mut T,
     query: &VariableQuery,
-) -> Result<(Reply, Delta), StoreFault>
+) -> Result<(Reply, Changes), StoreFault>
     ensures { LoadsBy T.honest T.holds T.leaves store.old store.new result
         (λ k plan. plan ≡ machine.delete_variable (asked_project (project_with k.state query.now.token) query.now.project) (variable_at k.state query.now.project query.now.key)) }
 {
@@ -69,7 +69,7 @@ fn delete_from<T: Store>(
     store: &mut T,
     project: &Project,
     query: &VariableQuery,
-) -> Result<(Reply, Delta), StoreFault>
+) -> Result<(Reply, Changes), StoreFault>
     ensures { LoadsBy T.honest T.holds T.leaves store.old store.new result
         (λ k plan. plan ≡ machine.delete_variable (Ok project.now) (variable_at k.state query.now.project query.now.key)) }
 {

@@ -8,7 +8,7 @@ use Rattle.ci_machine.specs.declared.records.Runner.{Runner}
 use Rattle.ci_machine.specs.Eligible.{may_run, is_free}
 use Rattle.ci_machine.specs.Holders.{holders}
 use Rattle.ci_machine.specs.State.{State}
-use Rattle.ci_machine.specs.Step.{demand_of, demand_at, job_at, pipeline_at, project_or_none, queued}
+use Rattle.ci_machine_steps.specs.Step.{demand_of, demand_at, job_at, pipeline_at, project_or_none, queued}
 use Rattle.ci_server_lookups.specs.Search.{is_found_eligible}
 
 -- what the runner must meet, of the demand of a job and the project of its pipeline

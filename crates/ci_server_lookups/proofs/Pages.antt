@@ -14,11 +14,11 @@ use Rattle.ci_machine.specs.Holders.{holders}
 use Rattle.ci_machine.specs.State.{State}
 use Rattle.ci_machine.specs.Kept.{Kept}
 use Rattle.ci_machine.specs.Statuses.{row_for, AreBoard}
-use Rattle.ci_machine.specs.Sound.{IsSound}
-use Rattle.ci_machine.specs.Step.{queue, queued, job_at}
+use Rattle.ci_machine_steps.specs.Sound.{IsSound}
+use Rattle.ci_machine_steps.specs.Step.{queue, queued, job_at}
 use Rattle.ci_machine.specs.Ranges.{is_pending_after, pending_after}
 use Rattle.ci_machine.proofs.Keyed.{Has, has_find, has_filter, contains_from_has}
-use Rattle.ci_machine.proofs.Sound.{sound}
+use Rattle.ci_machine_steps.proofs.Sound.{sound}
 use Rattle.ci_machine_statuses.specs.Pages.{queued_at, queue_behind, end_of_page}
 use Rattle.ci_machine_statuses.proofs.Pages.{rows_queue}
 use Rattle.ci_store_tables.specs.declared.fault.StoreFault.{StoreFault}

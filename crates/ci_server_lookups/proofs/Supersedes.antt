@@ -15,7 +15,7 @@ use Rattle.ci_machine.specs.Statuses.{jobs_of}
 use Rattle.ci_machine.specs.Ranges.{is_within, attempts_within}
 use Rattle.ci_machine.specs.Redundant.{is_newer_of, is_bound_to, is_redundant}
 use Rattle.ci_machine.specs.Indexes.{is_open_in, unfinished_in}
-use Rattle.ci_machine.specs.Step.{pipeline_at, with_status, was_tried, redundant_in}
+use Rattle.ci_machine_steps.specs.Step.{pipeline_at, with_status, was_tried, redundant_in}
 use Rattle.ci_machine.proofs.Keyed.{Has, Rising, find_has}
 use Rattle.ci_server_lookups.specs.Redundant.{is_superseded, if_superseded, superseded_at}
 

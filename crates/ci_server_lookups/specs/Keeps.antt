@@ -1,6 +1,6 @@
 -- What a store keeps where the machine has written it.
 use Rattle.ci_machine.specs.Kept.{Kept}
-use Rattle.ci_machine.specs.Sound.{IsSound}
+use Rattle.ci_machine_steps.specs.Sound.{IsSound}
 use Rattle.ci_machine.specs.Statuses.{AreBoard}
 use Rattle.ci_machine.specs.Indexes.{AreIndexes}
 

@@ -2,7 +2,7 @@
 use Rattle.std.specs.Prelude.{◌≡◌, ℕ, Some}
 use Rattle.ci_machine.specs.Kept.{Kept}
 use Rattle.ci_machine.specs.Holders.{holders}
-use Rattle.ci_machine.specs.Step.{pipeline_at}
+use Rattle.ci_machine_steps.specs.Step.{pipeline_at}
 use Rattle.ci_machine_statuses.specs.Lookups.{AreRecords}
 use Rattle.ci_server_lookups.specs.declared.records.Records.{Records}
 use Rattle.ci_server_lookups.specs.declared.records.Whole.{Whole}

@@ -4,7 +4,7 @@ use Rattle.std.specs.List.{list_any}
 use Rattle.ci_machine.specs.declared.records.Pipeline.{Pipeline}
 use Rattle.ci_machine.specs.State.{State}
 use Rattle.ci_machine.specs.Redundant.{is_newer_of, is_bound_to}
-use Rattle.ci_machine.specs.Step.{pipeline_at, was_tried}
+use Rattle.ci_machine_steps.specs.Step.{pipeline_at, was_tried}
 
 -- there is a newer pipeline of its project, ref and kind, and each of its jobs that was tried is interruptible
 abbrev pub is_superseded : State → Pipeline → Bool

@@ -9,7 +9,7 @@ use Rattle.ci_machine.specs.Holders.{holders}
 use Rattle.ci_machine.specs.State.{State}
 use Rattle.ci_machine.specs.Kept.{Kept}
 use Rattle.ci_machine.specs.Statuses.{row_for}
-use Rattle.ci_machine.specs.Step.{offer}
+use Rattle.ci_machine_steps.specs.Step.{offer}
 use Rattle.ci_machine_statuses.specs.Pages.{queued_at, end_of_page}
 use Rattle.ci_store.specs.declared.store.TheConstants.{PAGE_ROWS}
 use Rattle.ci_server_lookups.specs.declared.search.Offer.{Offer}

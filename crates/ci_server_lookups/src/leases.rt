@@ -1,7 +1,7 @@
 //! Attempts with the time limits of their jobs, from what the store holds.
 
 ghost use Rattle.std.specs.Prelude.{◌≡◌, Some, option_map};
-ghost use Rattle.ci_machine.specs.Step as step;
+ghost use Rattle.ci_machine_steps.specs.Step as step;
 ghost use Rattle.ci_store.specs.Store.{LoadsBy};
 
 use ci_machine::lease::Lease;

@@ -3,7 +3,7 @@
 ghost use Rattle.std.specs.Prelude.{◌≡◌, ◌&&◌, ◌==◌};
 ghost use Rattle.std.specs.List.{list_any};
 ghost use Rattle.ci_machine.specs.Redundant.{is_bound_to};
-ghost use Rattle.ci_machine.specs.Step.{redundant_in, was_tried};
+ghost use Rattle.ci_machine_steps.specs.Step.{redundant_in, was_tried};
 ghost use Rattle.ci_store.specs.Store.{LoadsBy};
 ghost use Rattle.ci_server_lookups.specs.Keeps.{IsKept};
 ghost use Rattle.ci_server_lookups.specs.Redundant.{superseded_at};

@@ -3,7 +3,7 @@
 
 ghost use Rattle.std.specs.Prelude.{◌≡◌, Some, IfOk, IfSome, option_map};
 ghost use Rattle.ci_machine.specs.Holders.{holders};
-ghost use Rattle.ci_machine.specs.Step as step;
+ghost use Rattle.ci_machine_steps.specs.Step as step;
 ghost use Rattle.ci_machine_statuses.specs.Pages.{queued_at};
 ghost use Rattle.ci_store.specs.Store.{LoadsBy};
 ghost use Rattle.ci_server_lookups.specs.Keeps.{IsKept};

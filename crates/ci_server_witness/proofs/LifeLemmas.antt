@@ -13,7 +13,7 @@ use Rattle.ci_values.specs.declared.attempts.AttemptState.TheVariants.{Live}
 use Rattle.ci_board.specs.declared.facts.Status.{Status}
 use Rattle.ci_board.specs.declared.facts.Status.TheVariants.{Pending}
 use Rattle.ci_board.specs.declared.facts.Row.{Row}
-use Rattle.ci_board.specs.Effects.{status_of_row, is_status}
+use Rattle.ci_board.specs.Effects.{is_status}
 use Rattle.ci_board.specs.Rows.{no_row, no_facts}
 use Rattle.ci_yaml_lines.specs.declared.code.Code.{Code}
 use Rattle.ci_yaml_lines.specs.Tree.{Value, null}
@@ -35,9 +35,9 @@ use Rattle.ci_graph_layout.specs.Fault as layout
 use Rattle.ci_graph_layout.specs.Fault.{Plans, faulty, cyclic}
 use Rattle.ci_graph_layout.specs.declared.fault.GraphCode.{GraphCode}
 use Rattle.ci_machine.specs.declared.reply.Detail.{Detail}
-use Rattle.ci_machine.specs.Files.{set_file, IsRead, configures, misconfigures, lacks_tree}
-use Rattle.ci_machine.specs.Pipelines.{Layout, IsLaidOut, misread, unplanned, AreFirstRows, pipeline_created}
-use Rattle.ci_machine.specs.Pipelines as pipelines
+use Rattle.ci_machine_steps.specs.Files.{set_file, IsRead, configures, misconfigures, lacks_tree}
+use Rattle.ci_machine_steps.specs.Pipelines.{Layout, IsLaidOut, misread, unplanned, AreFirstRows, pipeline_created}
+use Rattle.ci_machine_steps.specs.Pipelines as pipelines
 use Rattle.ci_machine.specs.declared.records.BoardRow.{BoardRow}
 use Rattle.ci_machine.specs.declared.records.Job.{Job}
 use Rattle.ci_machine.specs.declared.request.Request.{Request}
@@ -48,15 +48,15 @@ use Rattle.ci_machine.specs.declared.reply.Answer.TheVariants as answer
 use Rattle.ci_machine.specs.declared.reply.Code.TheVariants.{M16, M17}
 use Rattle.ci_machine.specs.declared.reply.Reply.{Reply}
 use Rattle.ci_machine.specs.Reply.{refusal}
-use Rattle.ci_machine.specs.Plans.{Plan, token_of}
-use Rattle.ci_machine.specs.Grants.{ask_job}
+use Rattle.ci_machine_steps.specs.Plans.{Plan, token_of}
+use Rattle.ci_machine_steps.specs.Grants.{ask_job}
 use Rattle.ci_machine.specs.State.{State, empty, applied}
 use Rattle.ci_machine.specs.Statuses.{row_for, facts_in, AreBoard}
-use Rattle.ci_machine.specs.Step.{runner_with, queued, offered_variables}
+use Rattle.ci_machine_steps.specs.Step.{runner_with, queued, offered_variables}
 use Rattle.ci_machine.specs.Eligible.{chosen}
 use Rattle.ci_machine.specs.Holders.{holders}
-use Rattle.ci_machine.specs.History.{IsReached}
-use Rattle.ci_machine.specs.Examples.{seed, token, pipeline, new_runner, with_project, with_runner, project_added, runner_added, laid_by, job}
+use Rattle.ci_machine_steps.specs.History.{IsReached}
+use Rattle.ci_machine_laws.specs.Examples.{seed, token, pipeline, new_runner, with_project, with_runner, project_added, runner_added, laid_by, job}
 use Rattle.ci_store.specs.declared.tables.OpenFault.{OpenFault}
 use Rattle.ci_store.specs.declared.tables.OpenFault.TheVariants.{O1, O2, O3, Memory}
 use Rattle.ci_store.specs.Open.{IsFailure}
@@ -254,11 +254,8 @@ module _ (one_tree : HasOneTree) (not_both : HasNotBoth) (reads : ReadsTrees) (o
   rows_so : (rows : List Row) → AreFirstRows made.jobs made.needs rows → pipeline_created 1 made (holders with_file) rows ≡ pipeline_made
   rows_so [] are = let bad : ◌≡◌ {A = ℕ} 0 1 = are.long in absurd (omega (arith, bad))
   rows_so (row ∷ []) are =
-      let counts = are.settled.counted 0 (omega arith) in
-      let status : row.status ≡ Pending =
-      are.settled.settled 0 (omega arith)
-      ∙ (λ i. status_of_row build.options.part no_facts (record { status = row.status; opens = counts.opens i; failed = counts.failed i; barred = counts.barred i })) in
-      let same : row ≡ record no_row { status = Pending } = λ i. record { status = status i; opens = counts.opens i; failed = counts.failed i; barred = counts.barred i } in
+      let status : row.status ≡ Pending = are.settled.is 0 (omega arith) in
+      let same : row ≡ record no_row { status = Pending } = are.settled.each 0 (omega arith) ∙ ap (λ (s : Status). record no_row { status = s }) status in
       ap (λ (w : Row). pipeline_created 1 made (holders with_file) (w ∷ [])) same
   rows_so (a ∷ b ∷ rows) are = let bad : ◌≡◌ {A = ℕ} (suc (suc (length rows))) 1 = are.long in absurd (omega (arith, bad))
 
@@ -275,11 +272,7 @@ module _ (one_tree : HasOneTree) (not_both : HasNotBoth) (reads : ReadsTrees) (o
 is_waiting : (board : List BoardRow) → AreBoard with_pipeline board → (row_for board 1).status ≡ Pending
 unfolding digits hex_on_literals
 is_waiting board are =
-    let row : Row = row_for board 1 in
-    let rows = are.each 1 in
-    let counts = rows.counted 0 (omega arith) in
-    rows.settled 0 (omega arith)
-    ∙ (λ i. status_of_row build.options.part (facts_in with_pipeline build) (record { status = row.status; opens = counts.opens i; failed = counts.failed i; barred = counts.barred i }))
+    (are.each 1).is 0 (omega arith)
 
 -- what the runner's request comes to, by whether the job is pending
 abbrev by_pending : Bool → Plan

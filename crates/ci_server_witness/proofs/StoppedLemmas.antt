@@ -11,11 +11,11 @@ use Rattle.ci_machine.specs.declared.reply.Answer.{Answer}
 use Rattle.ci_machine.specs.declared.reply.Answer.TheVariants as answer
 use Rattle.ci_machine.specs.declared.reply.Code.TheVariants.{M17}
 use Rattle.ci_machine.specs.Reply.{refusal, Outcome, Stepped, outcome_of, outcome_by}
-use Rattle.ci_machine.specs.Plans.{Plan}
+use Rattle.ci_machine_steps.specs.Plans.{Plan}
 use Rattle.ci_machine.specs.State.{State, empty, applied}
-use Rattle.ci_machine.specs.Step.{Step}
-use Rattle.ci_machine.specs.History.{Past, Leads}
-use Rattle.ci_machine.specs.Examples.{seed, token, pipeline, new_runner, with_runner, with_project, project_added, runner_added}
+use Rattle.ci_machine_steps.specs.Step.{Step}
+use Rattle.ci_machine_steps.specs.History.{Past, Leads}
+use Rattle.ci_machine_laws.specs.Examples.{seed, token, pipeline, new_runner, with_runner, with_project, project_added, runner_added}
 use Rattle.ci_store.specs.Stands.{StandsIn, LeavesOnly}
 use Rattle.ci_server.specs.declared.fail_stop.FailStop.{FailStop}
 use Rattle.ci_server.specs.Holding.{HoldsIn}

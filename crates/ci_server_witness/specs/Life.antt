@@ -23,15 +23,15 @@ use Rattle.ci_machine.specs.declared.request.Request.TheVariants.{AddProject, Ad
 use Rattle.ci_machine.specs.declared.reply.Answer.TheVariants as answer
 use Rattle.ci_machine.specs.declared.reply.Code.TheVariants.{M16, M17}
 use Rattle.ci_machine.specs.Reply.{refusal}
-use Rattle.ci_machine.specs.Plans.{Plan}
-use Rattle.ci_machine.specs.Files.{file_set}
-use Rattle.ci_machine.specs.Pipelines.{given_by, Creation, creation, pipeline_created}
+use Rattle.ci_machine_steps.specs.Plans.{Plan}
+use Rattle.ci_machine_steps.specs.Files.{file_set}
+use Rattle.ci_machine_steps.specs.Pipelines.{given_by, Creation, creation, pipeline_created}
 use Rattle.ci_machine.specs.Holders.{holders}
 use Rattle.ci_machine.specs.State.{State}
 use Rattle.ci_machine.specs.Statuses.{AreBoard}
-use Rattle.ci_machine.specs.Step.{Does, project_variables}
-use Rattle.ci_machine.specs.History.{IsReached}
-use Rattle.ci_machine.specs.Examples.{seed, pipeline, token, project_added, new_runner, runner_added, with_runner, after, laid_by, asked, rows}
+use Rattle.ci_machine_steps.specs.Step.{Does, project_variables}
+use Rattle.ci_machine_steps.specs.History.{IsReached}
+use Rattle.ci_machine_laws.specs.Examples.{seed, pipeline, token, project_added, new_runner, runner_added, with_runner, after, laid_by, asked, rows}
 use Rattle.ci_store.specs.Open.{IsFailure}
 use Rattle.ci_server.specs.declared.fail_stop.FailStop.{FailStop}
 use Rattle.ci_server.specs.Holding.{HoldsIn}

@@ -7,8 +7,8 @@ use Rattle.ci_machine.specs.declared.request.Request.TheVariants.{AskJob}
 use Rattle.ci_machine.specs.declared.reply.Answer.TheVariants as answer
 use Rattle.ci_machine.specs.declared.reply.Code.TheVariants.{M17}
 use Rattle.ci_machine.specs.Reply.{refusal}
-use Rattle.ci_machine.specs.History.{Past}
-use Rattle.ci_machine.specs.Examples.{token}
+use Rattle.ci_machine_steps.specs.History.{Past}
+use Rattle.ci_machine_laws.specs.Examples.{token}
 use Rattle.ci_server.specs.declared.fail_stop.FailStop.{FailStop}
 use Rattle.ci_server.specs.Holding.{HoldsIn, StandsFor}
 use Rattle.ci_server.specs.Server.{IsHonest}

@@ -23,6 +23,15 @@ use Rattle.ci_store.proofs.Loading.{unless_broken, without_load}
 pub no_look : {S A : Type 0} (g : Ghosts S) (h : Held S) (fault : StoreFault) (Q : Kept → A → Type 0) → Loads g h h (Err fault) Q
 no_look g h fault Q = without_load h fault (λ k at db may. inl (at.left db may))
 
+-- a call that needn't look
+pub unasked : {S A : Type 0} (g : Ghosts S) (h : Held S) (x : A) (Q : Kept → A → Type 0) → ((k : Kept) → Q k x) → Loads g h h (Ok x) Q
+unasked g h x Q so = record {
+  was_honest = λ clean. clean;
+  kept = λ clean k at. at;
+  left = λ clean k at db may. inl (at.left db may);
+  answered = λ clean k at. so k;
+}
+
 module _ {S : Type 0} (g : Ghosts S) (old mid : Held S) (sql : List ℕ) (plain : IsPlain (understood the_schema sql))
     (survives : HasCleanDisk (state g mid) → IsPlain (understood (state g old).now.schema sql) → Survives (state g old) (state g mid) (λ _. ⊥)) where
   -- a query leaves what a stop may leave
@@ -82,3 +91,11 @@ pub ends : {S A : Type 0} (g : Ghosts S) (old new : Held S) (result : Result A S
 ends g old new (Ok x) after k at done kept left = done k at
 ends g old new (Err Memory) after k at done kept left = kept refl
 ends g old new (Err Broken) after k at done kept left = left
+
+-- a look-up before it failed
+pub ends_unbegun : {S A B : Type 0} (g : Ghosts S) (old new : Held S) (fault : StoreFault) (Q : Kept → A → Type 0) (after : Kept → Kept) (k : Kept) (result : Result B StoreFault) → result ≡ Err fault → Loads g old new (Err fault) Q
+    → HasCleanDisk (state g new) → IsAt g k old → Ends result (IsAt g (after k) new) (IsAt g k new) (LeavesEither g k (after k) new)
+ends_unbegun g old new fault Q after k (Ok x) same load clean at = absurd (let e = same in cc)
+ends_unbegun g old new Memory Q after k (Err Memory) same load clean at = load.kept clean k at
+ends_unbegun g old new Broken Q after k (Err Memory) same load clean at = absurd (let e = same in cc)
+ends_unbegun g old new fault Q after k (Err Broken) same load clean at = λ db may. inl (⊎_elim (λ was. was) (λ was. was) (load.left clean k at db may))

@@ -1,15 +1,28 @@
 -- What a transaction of changes makes of the tables.
-use Rattle.std.specs.Prelude.{◌≡◌, Bool, true, false, List, IsTrue}
+use Rattle.std.specs.Prelude.{◌≡◌, ℕ, Bool, true, false, List, IsTrue, if◌then◌else◌}
+use Rattle.std.specs.List.{list_any}
 use Rattle.sqlite.specs.Tree.{Trees}
 use Rattle.sqlite.specs.Store.{Ghosts}
 use Rattle.sqlite.specs.Held.{Held, state}
 use Rattle.ci_machine.specs.Kept.{Kept, written}
 use Rattle.ci_machine.specs.declared.change.RowChange.{RowChange}
+use Rattle.ci_machine.specs.declared.change.RowChange.TheVariants.{Put}
+use Rattle.ci_machine.specs.declared.change.Record.TheVariants as row
+use Rattle.ci_machine.specs.declared.change.Counter.TheVariants as counter
 use Rattle.ci_machine.specs.declared.records.BoardRow.{BoardRow}
 use Rattle.ci_machine.specs.declared.change.IndexChange.{IndexChange}
 use Rattle.ci_store.specs.declared.commit.Ended.{Ended}
 use Rattle.ci_store.specs.declared.commit.Ended.TheVariants.{Done, Undone}
 use Rattle.ci_store_rows.specs.Stands.{Stands, StandsIn}
+
+-- a change puts the next number of jobs
+abbrev pub is_next_job : RowChange → Bool
+is_next_job (Put (row.Next counter.Job n)) = true
+is_next_job _ = false
+
+-- the number from which on jobs are new, where this one is next: that one, where the changes put the next; else the greatest of 64 bits
+abbrev pub first_new_job : List RowChange → ℕ → ℕ
+first_new_job changes next = if list_any is_next_job changes then next else 18446744073709551615
 
 -- what is committed stands for what is kept after the changes, the puts of rows and the changes of indexes
 abbrev pub CommitsAll : {S : Type 0} → Ghosts S → List RowChange → List BoardRow → List IndexChange → Held S → Trees → Type 0

@@ -1,6 +1,7 @@
 //! Many changes in one transaction.
 
 ghost use Rattle.std.specs.Prelude.{◌≡◌, ◌≤◌, true, false, Err, OnOk};
+ghost use Rattle.std.specs.List.{list_any};
 ghost use Rattle.sqlite.specs.State.{HasCleanDisk, Survives};
 ghost use Rattle.sqlite_trees.specs.View.{doubt};
 ghost use Rattle.sqlite.specs.Held.{state};
@@ -10,21 +11,24 @@ ghost use Rattle.ci_store_rows.specs.Stands.{IsAt, LeavesEither};
 ghost use Rattle.ci_store_tables.specs.declared.fault.StoreFault.TheVariants.{Memory};
 ghost use Rattle.ci_store_tables.specs.Statements.{KeepsInside, CommitsNothing};
 ghost use Rattle.ci_store_rows.specs.Changes.{in_state, in_board, MakesInside};
-ghost use Rattle.ci_store.specs.Commit.{CommitsAll, is_done, is_undone, IsBack, IsDone};
+ghost use Rattle.ci_store.specs.Calls.{Loads};
+ghost use Rattle.ci_store.specs.Commit.{CommitsAll, is_done, is_undone, IsBack, IsDone, is_next_job, first_new_job};
 
+use crate::load::next;
 use crate::make::{change_index, make};
 use crate::probe::probe;
-use ci_machine::change::{IndexChange, RowChange};
+use ci_machine::change::{Counter, IndexChange, Record, RowChange};
 use ci_machine::records::BoardRow;
 use ci_store_rows::read::Stored;
 use ci_store_tables::fault::StoreFault;
 use sqlite::{Alter, Connection, Transaction};
 use std::alloc::Global;
 
-/// Makes the changes in turn.
+/// Makes the changes in turn, where jobs from the number `first_new` on aren't there yet.
 fn make_all<S: Alter>(
     tx: &mut Transaction<'_, S>,
     alloc: Global,
+    first_new: u64,
     changes: &[RowChange],
 ) -> Result<(), StoreFault>
     ensures same_reference { tx.new.conn.ghost_name ≡ tx.old.conn.ghost_name }
@@ -33,15 +37,16 @@ fn make_all<S: Alter>(
     ensures survives { CommitsNothing S.Store tx.old.conn.now tx.new.conn.now }
 {
     for change in changes {
-        make(tx, alloc, change)?;
+        make(tx, alloc, first_new, change)?;
     }
     Ok(())
 }
 
-/// Puts the rows of statuses in turn.
+/// Puts the rows of statuses in turn; those of jobs from the number `first_new` on aren't there yet.
 fn put_rows<S: Alter>(
     tx: &mut Transaction<'_, S>,
     alloc: Global,
+    first_new: u64,
     rows: &[BoardRow],
 ) -> Result<(), StoreFault>
     ensures same_reference { tx.new.conn.ghost_name ≡ tx.old.conn.ghost_name }
@@ -50,7 +55,7 @@ fn put_rows<S: Alter>(
     ensures survives { CommitsNothing S.Store tx.old.conn.now tx.new.conn.now }
 {
     for row in rows {
-        row.put(tx, alloc, false)?;
+        row.put(tx, alloc, row.job >= first_new)?;
     }
     Ok(())
 }
@@ -76,6 +81,7 @@ fn change_indexes<S: Alter>(
 fn write_all<S: Alter>(
     tx: &mut Transaction<'_, S>,
     alloc: Global,
+    first_new: u64,
     changes: &[RowChange],
     rows: &[BoardRow],
     indexes: &[IndexChange],
@@ -85,8 +91,8 @@ fn write_all<S: Alter>(
     ensures kept { KeepsInside S.Store tx.old.conn.now tx.new.conn.now }
     ensures survives { CommitsNothing S.Store tx.old.conn.now tx.new.conn.now }
 {
-    make_all(tx, alloc, changes)?;
-    put_rows(tx, alloc, rows)?;
+    make_all(tx, alloc, first_new, changes)?;
+    put_rows(tx, alloc, first_new, rows)?;
     change_indexes(tx, alloc, indexes)
 }
 
@@ -103,6 +109,7 @@ enum Ended {
 fn attempt<S: Alter>(
     conn: &mut Connection<S>,
     alloc: Global,
+    first_new: u64,
     changes: &[RowChange],
     rows: &[BoardRow],
     indexes: &[IndexChange],
@@ -115,7 +122,7 @@ fn attempt<S: Alter>(
     ensures quiet { is_undone result ≡ true → Survives (state S.Store conn.old) (state S.Store conn.new) (λ _. ⊥) }
 {
     let mut tx = conn.transaction();
-    if let Err(fault) = write_all(&mut tx, alloc, changes, rows, indexes) {
+    if let Err(fault) = write_all(&mut tx, alloc, first_new, changes, rows, indexes) {
         return Ended::Undone(fault);
     }
     match tx.commit() {
@@ -124,10 +131,35 @@ fn attempt<S: Alter>(
     }
 }
 
+/// Do the changes put the next number of jobs?
+fn puts_next_job(changes: &[RowChange]) -> bool
+    ensures { result ≡ list_any is_next_job changes.now }
+{
+    changes.iter().any(|change| matches!(change, RowChange::Put(Record::Next(Counter::Job, _))))
+}
+
+/// The number from which on jobs are new: where the changes put the next number of jobs, what that is before them. A put of such a job, of its row,
+/// or of what names it needs no look for what is in its place. Where they don't, none is known to be new.
+pub(crate) fn first_new_job<S: Alter>(
+    conn: &mut Connection<S>,
+    changes: &[RowChange],
+) -> Result<u64, StoreFault>
+    requires { conn.old.in_transaction ≡ false }
+    ensures idle { conn.new.in_transaction ≡ false }
+    ensures loads { Loads S.Store conn.old conn.new result (λ k n. n ≡ first_new_job changes.now k.state.next.job) }
+{
+    if puts_next_job(changes) {
+        next(conn, Counter::Job)
+    } else {
+        Ok(u64::MAX)
+    }
+}
+
 /// Makes the changes, puts the rows and changes the indexes in one transaction, or none of it.
 pub(crate) fn commit<S: Alter>(
     conn: &mut Connection<S>,
     alloc: Global,
+    first_new: u64,
     changes: &[RowChange],
     rows: &[BoardRow],
     indexes: &[IndexChange],
@@ -141,7 +173,7 @@ pub(crate) fn commit<S: Alter>(
 {
     // With no transaction open, what is seen is what is committed.
     let _is_idle = conn.is_autocommit();
-    match attempt(conn, alloc, changes, rows, indexes) {
+    match attempt(conn, alloc, first_new, changes, rows, indexes) {
         Ended::Done => Ok(()),
         Ended::Undone(fault) | Ended::Unknown(fault) => match probe(conn) {
             Ok(()) => Err(fault),

@@ -2,6 +2,7 @@
 #![tactic(auto)]
 
 pub mod commit;
+pub mod delta;
 pub mod load;
 pub mod make;
 mod probe;

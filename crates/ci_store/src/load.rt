@@ -9,7 +9,7 @@ ghost use Rattle.sqlite.specs.State.{Shown};
 ghost use Rattle.sqlite.specs.Held.{state};
 ghost use Rattle.sqlite_trees.specs.View.{doubt};
 ghost use Rattle.ci_board.specs.Effects.{status_number};
-ghost use Rattle.ci_machine.specs.Step.{next_of};
+ghost use Rattle.ci_machine.specs.Lookups.{next_of};
 ghost use Rattle.ci_machine.specs.Indexes.{newer_in};
 ghost use Rattle.ci_store_rows.specs.Schema.{the_schema};
 ghost use Rattle.ci_store_rows.specs.Found.{ShowsRecords, FindsNumber, listed};

@@ -24,10 +24,31 @@ use sqlite::types::{ToSql, ValueRef};
 use sqlite::{Alter, Transaction};
 use std::alloc::Global;
 
+/// Sets a next number, whose row is always there. Errors: it isn't.
+fn set_next<S: Alter>(
+    tx: &mut Transaction<'_, S>,
+    counter: Counter,
+    next: u64,
+) -> Result<(), StoreFault>
+    ensures same_reference { tx.new.conn.ghost_name ≡ tx.old.conn.ghost_name }
+    ensures makes { MakesInside S.Store (in_state (λ s. record s { next = with_next counter next s.next })) tx.old.conn.now tx.new.conn.now result }
+    ensures kept { KeepsInside S.Store tx.old.conn.now tx.new.conn.now }
+    ensures survives { CommitsNothing S.Store tx.old.conn.now tx.new.conn.now }
+{
+    let row = [counter_key(counter).to_sql(), number(next)?];
+    if change(tx, texts::UPDATE_META, &row)? == 1 {
+        Ok(())
+    } else {
+        Err(StoreFault::Broken)
+    }
+}
+
+/// Puts a record. Jobs from the number `first_new` on aren't there yet, nor is what names them, so that these rows are inserted at
+/// once.
 fn put_record<S: Alter>(
     tx: &mut Transaction<'_, S>,
     alloc: Global,
-    is_new: bool,
+    first_new: u64,
     item: &Record,
 ) -> Result<(), StoreFault>
     ensures same_reference { tx.new.conn.ghost_name ≡ tx.old.conn.ghost_name }
@@ -36,15 +57,16 @@ fn put_record<S: Alter>(
     ensures survives { CommitsNothing S.Store tx.old.conn.now tx.new.conn.now }
 {
     match item {
-        Record::Project(project) => project.put(tx, alloc, is_new),
-        Record::Variable(variable) => variable.put(tx, alloc, is_new),
-        Record::Runner(runner) => runner.put(tx, alloc, is_new),
-        Record::Pipeline(pipeline) => pipeline.put(tx, alloc, is_new),
-        Record::Job(job) => job.put(tx, alloc, is_new),
-        Record::JobVariable(variable) => variable.put(tx, alloc, is_new),
-        Record::Need(need) => need.put(tx, alloc, is_new),
-        Record::Attempt(attempt) => attempt.put(tx, alloc, is_new),
-        Record::Piece(piece) => piece.put(tx, alloc, is_new),
+        Record::Project(project) => project.put(tx, alloc, false),
+        Record::Variable(variable) => variable.put(tx, alloc, false),
+        Record::Runner(runner) => runner.put(tx, alloc, false),
+        Record::Pipeline(pipeline) => pipeline.put(tx, alloc, false),
+        Record::Job(job) => job.put(tx, alloc, job.id >= first_new),
+        Record::JobVariable(variable) => variable.put(tx, alloc, variable.job >= first_new),
+        Record::Need(need) => need.put(tx, alloc, need.job >= first_new),
+        Record::Attempt(attempt) => attempt.put(tx, alloc, false),
+        Record::Piece(piece) => piece.put(tx, alloc, false),
+        Record::Next(counter, next) => set_next(tx, *counter, *next),
     }
 }
 
@@ -175,28 +197,11 @@ fn remove_record<S: Alter>(tx: &mut Transaction<'_, S>, key: &Key) -> Result<(),
     }
 }
 
-fn set_next<S: Alter>(
-    tx: &mut Transaction<'_, S>,
-    counter: Counter,
-    next: u64,
-) -> Result<(), StoreFault>
-    ensures same_reference { tx.new.conn.ghost_name ≡ tx.old.conn.ghost_name }
-    ensures makes { MakesInside S.Store (in_state (λ s. record s { next = with_next counter next s.next })) tx.old.conn.now tx.new.conn.now result }
-    ensures kept { KeepsInside S.Store tx.old.conn.now tx.new.conn.now }
-    ensures survives { CommitsNothing S.Store tx.old.conn.now tx.new.conn.now }
-{
-    let row = [counter_key(counter).to_sql(), number(next)?];
-    if change(tx, texts::UPDATE_META, &row)? == 1 {
-        Ok(())
-    } else {
-        Err(StoreFault::Broken)
-    }
-}
-
-/// Makes one change.
+/// Makes one change, where jobs from the number `first_new` on aren't there yet.
 pub(crate) fn make<S: Alter>(
     tx: &mut Transaction<'_, S>,
     alloc: Global,
+    first_new: u64,
     change: &RowChange,
 ) -> Result<(), StoreFault>
     ensures same_reference { tx.new.conn.ghost_name ≡ tx.old.conn.ghost_name }
@@ -205,10 +210,8 @@ pub(crate) fn make<S: Alter>(
     ensures survives { CommitsNothing S.Store tx.old.conn.now tx.new.conn.now }
 {
     match change {
-        RowChange::Add(record) => put_record(tx, alloc, true, record),
-        RowChange::Put(record) => put_record(tx, alloc, false, record),
+        RowChange::Put(record) => put_record(tx, alloc, first_new, record),
         RowChange::Remove(key) => remove_record(tx, key),
-        RowChange::SetNext(counter, next) => set_next(tx, *counter, *next),
     }
 }
 

@@ -3,13 +3,14 @@
 ghost use Rattle.std.specs.Prelude.{◌≡◌};
 ghost use Rattle.ci_machine.specs.Kept.{Kept, written};
 ghost use Rattle.ci_machine.specs.Statuses.{attempts_of, jobs_of};
-ghost use Rattle.ci_machine.specs.Step.{project_at, project_with, project_variables, variable_at, runner_at, runner_with, pipeline_at, job_at, demand_at, variables_of, attempt_at, live_attempts, pieces_of, next_of};
+ghost use Rattle.ci_machine.specs.Lookups.{project_at, project_with, project_variables, variable_at, runner_at, runner_with, pipeline_at, job_at, demand_at, variables_of, attempt_at, live_attempts, pieces_of, next_of};
 ghost use Rattle.ci_machine.specs.Ranges.{needs_within, attempts_within, rows_within, row_at, pending_after};
 ghost use Rattle.ci_machine.specs.Holders.{holder_at};
 ghost use Rattle.ci_machine.specs.Indexes.{newer_in};
 ghost use Rattle.ci_store.specs.Store.{LoadsBy, Ends};
 
-use ci_machine::change::{Counter, Delta, IndexChange};
+use crate::delta::Delta;
+use ci_machine::change::Counter;
 use ci_machine::records::{
     Attempt, BoardRow, Demand, Holder, Job, JobVariable, Need, Piece, Pipeline, Project, Runner,
     Unfinished, Variable,
@@ -128,16 +129,11 @@ pub trait Store {
     fn newer_of(&mut self, pipeline: &Pipeline) -> Result<Option<Pipeline>, StoreFault>
         ensures { LoadsBy honest holds leaves self.old self.new result (λ k p. p ≡ newer_in k.state pipeline.now) };
 
-    /// Makes the changes of records, then puts the rows, and then changes the groups that are held and the pipelines that
-    /// aren't finished, all of it or nothing.
-    fn commit(
-        &mut self,
-        delta: Delta,
-        rows: Vec<BoardRow>,
-        indexes: Vec<IndexChange>,
-    ) -> Result<(), StoreFault>
+    /// Spends a delta: makes its changes of records, then puts its rows, and then changes the groups that are held and the pipelines
+    /// that aren't finished, all of it or nothing.
+    fn commit(&mut self, delta: Delta) -> Result<(), StoreFault>
         ensures was_honest { honest self.new → honest self.old }
-        ensures ends { honest self.new → (k : Kept) → holds self.old k → Ends result (holds self.new (written delta rows.items indexes.items k)) (holds self.new k) (leaves self.new k (written delta rows.items indexes.items k)) };
+        ensures ends { honest self.new → (k : Kept) → holds self.old k → Ends result (holds self.new (written delta.changes delta.rows delta.indexes k)) (holds self.new k) (leaves self.new k (written delta.changes delta.rows delta.indexes k)) };
 
     // What it keeps is what a stop leaves.
     ghost held_is_left: { (store : Self) (k : Kept) → holds store k → leaves store k k };

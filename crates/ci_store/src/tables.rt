@@ -14,12 +14,13 @@ ghost use Rattle.ci_store_rows.specs.Stands.{Stands, StandsIn, IsAt, LeavesOnly}
 ghost use Rattle.ci_store.specs.Open.{HasNumber, LacksNumber, IsOurs, Blames, IsFailure, LeavesNoMore};
 ghost use Rattle.ci_store_rows.specs.Rows.{number};
 
-use crate::commit::commit;
+use crate::commit::{commit, first_new_job};
+use crate::delta::Delta;
 use crate::load;
 use crate::probe::probe_intact;
 use crate::store::{PAGE_ROWS, Store};
 use ci_board::facts::Status;
-use ci_machine::change::{Counter, Delta, IndexChange};
+use ci_machine::change::Counter;
 use ci_machine::records::{
     Attempt, AttemptState, BoardRow, Demand, Holder, Job, JobVariable, Need, Piece, Pipeline,
     Project, Runner, Unfinished, Variable,
@@ -422,17 +423,14 @@ impl<S: Alter> Store for Tables<S> {
         load::newer(&mut self.conn, pipeline)
     }
 
-    fn commit(
-        &mut self,
-        delta: Delta,
-        rows: Vec<BoardRow>,
-        indexes: Vec<IndexChange>,
-    ) -> Result<(), StoreFault> {
-        let changes = delta.into_vec();
+    fn commit(&mut self, delta: Delta) -> Result<(), StoreFault> {
+        let (changes, rows, indexes) = delta.into_parts();
         let alloc = *changes.allocator();
+        let first_new = first_new_job(&mut self.conn, changes.as_slice())?;
         commit(
             &mut self.conn,
             alloc,
+            first_new,
             changes.as_slice(),
             rows.as_slice(),
             indexes.as_slice(),

@@ -36,7 +36,7 @@ use Rattle.ci_machine.specs.Leases.{is_live}
 use Rattle.sqlite_sql.specs.declared.ops.CompareOp.TheVariants.{Le, Ge, Gt}
 use Rattle.ci_machine.specs.Statuses.{attempts_of}
 use Rattle.ci_machine.specs.Ranges.{is_within, attempts_within}
-use Rattle.ci_machine.specs.Step.{attempt_at, live_attempts}
+use Rattle.ci_machine.specs.Lookups.{attempt_at, live_attempts}
 use Rattle.ci_values.specs.declared.attempts.AttemptState.{AttemptState}
 use Rattle.ci_values.specs.declared.attempts.AttemptState.TheVariants.{Live, Succeeded, Failed, Cancelled}
 use Rattle.ci_store_rows.proofs.Shows.{columns_of, names_of, by, shows_passing, shows_sorted, found_one, found_all, rising_numbers, found_none}

@@ -15,7 +15,7 @@ use Rattle.sqlite_rules.specs.Lists.{Has}
 use Rattle.sqlite_rules.proofs.ListLemmas.{all_has}
 use Rattle.serde_json.specs.Read.{read}
 use Rattle.ci_machine.specs.Kept.{Kept}
-use Rattle.ci_machine.specs.Step.{demand_of, demand_at}
+use Rattle.ci_machine.specs.Lookups.{demand_of, demand_at}
 use Rattle.ci_machine.specs.declared.records.Job.{Job}
 use Rattle.ci_machine.specs.declared.records.Demand.{Demand}
 use Rattle.ci_store_tables.proofs.Selects.{MeansSelect}

@@ -37,7 +37,7 @@ use Rattle.ci_store_tables.proofs.Selects.{MeansSelect}
 use Rattle.ci_store_rows.specs.Found.{ShowsRecords}
 use Rattle.ci_store_rows.proofs.Owned.{tests, sets, terms, named, same_named, unnumbered, agrees, removed_owned, owned_found}
 use Rattle.ci_store_rows.proofs.Shows.{columns_of, names_of, by, rising_text}
-use Rattle.ci_machine.specs.Step.{variables_of}
+use Rattle.ci_machine.specs.Lookups.{variables_of}
 use Rattle.ci_store_rows.proofs.Removals.{Referring}
 use Rattle.ci_store_rows.specs.Changes.{in_state, RemovesUnreferred}
 

@@ -38,7 +38,7 @@ use Rattle.ci_store_rows.specs.Found.{ShowsRecords, listed, FindsNumber}
 use Rattle.sqlite_rules.specs.Lists.{Has}
 use Rattle.sqlite_rules.proofs.ListLemmas.{all_has}
 use Rattle.ci_machine.specs.Statuses.{jobs_of}
-use Rattle.ci_machine.specs.Step.{job_at}
+use Rattle.ci_machine.specs.Lookups.{job_at}
 use Rattle.ci_store_rows.specs.Load.{IsJobRow}
 use Rattle.ci_store_rows.proofs.Shows.{columns_of, names_of, by, shows_passing, shows_sorted, found_one, found_all, rising_numbers, found_none}
 use Rattle.std.specs.List.{list_any, cons_option}

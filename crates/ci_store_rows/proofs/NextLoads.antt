@@ -17,7 +17,7 @@ use Rattle.ci_store_tables.proofs.Selects.{MeansSelect, selects}
 use Rattle.ci_store_rows.specs.declared.texts.TheConstants.{SELECT_META}
 use Rattle.ci_store_rows.specs.Schema.{the_schema, meta}
 use Rattle.ci_store_rows.specs.Stands.{Stands, counter_key, meta_row, meta_rows, rows_of}
-use Rattle.ci_machine.specs.Step.{next_of}
+use Rattle.ci_machine.specs.Lookups.{next_of}
 use Rattle.ci_store_rows.proofs.Records.{is}
 use Rattle.ci_store_rows.proofs.Shows.{columns_of, names_of, held}
 

@@ -36,7 +36,7 @@ use Rattle.ci_store_tables.proofs.Selects.{MeansSelect}
 use Rattle.ci_store_rows.specs.Found.{ShowsRecords}
 use Rattle.ci_store_rows.proofs.Owned.{tests, sets, terms, unnumbered, agrees, removed_owned, owned_found}
 use Rattle.ci_store_rows.proofs.Shows.{columns_of, names_of, by, rising_number}
-use Rattle.ci_machine.specs.Step.{pieces_of}
+use Rattle.ci_machine.specs.Lookups.{pieces_of}
 use Rattle.ci_store_rows.proofs.Removals.{Referring}
 use Rattle.ci_store_rows.specs.Changes.{in_state, RemovesUnreferred}
 

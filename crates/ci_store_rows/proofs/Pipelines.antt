@@ -34,7 +34,7 @@ use Rattle.sqlite.proofs.Callers.{IsPlain}
 use Rattle.ci_store_tables.proofs.Selects.{MeansSelect, MeansSelectTo}
 use Rattle.ci_store_rows.specs.Found.{ShowsRecords, listed, FindsNumber}
 use Rattle.std.specs.Str.{bytes_eq}
-use Rattle.ci_machine.specs.Step.{pipeline_at}
+use Rattle.ci_machine.specs.Lookups.{pipeline_at}
 use Rattle.ci_machine.specs.Indexes.{newer_in}
 use Rattle.ci_machine.specs.Redundant.{same_kind, is_newer_of}
 use Rattle.ci_store_rows.proofs.Shows.{columns_of, names_of, pair, by, by_total, shows_passing, shows_ordered, found_one, found_first, found_none, rising_numbers}

@@ -33,7 +33,7 @@ use Rattle.sqlite.proofs.Callers.{IsPlain}
 use Rattle.ci_store_tables.proofs.Selects.{MeansSelect}
 use Rattle.ci_store_rows.specs.Found.{ShowsRecords, listed, FindsNumber}
 use Rattle.std.specs.Str.{bytes_eq}
-use Rattle.ci_machine.specs.Step.{project_at, project_with}
+use Rattle.ci_machine.specs.Lookups.{project_at, project_with}
 use Rattle.ci_store_rows.proofs.Shows.{columns_of, names_of, shows_passing, found_one, found_none}
 use Rattle.std.specs.List.{list_any}
 use Rattle.sqlite_value.specs.Keys.{plain}

@@ -36,7 +36,7 @@ use Rattle.ci_store_tables.proofs.Selects.{MeansSelect}
 use Rattle.ci_store_rows.specs.Found.{ShowsRecords, listed, FindsNumber}
 use Rattle.std.specs.Str.{bytes_eq}
 use Rattle.sqlite_rules.proofs.ListLemmas.{all_has}
-use Rattle.ci_machine.specs.Step.{runner_at, runner_with}
+use Rattle.ci_machine.specs.Lookups.{runner_at, runner_with}
 use Rattle.ci_store_rows.specs.Load.{IsRunnerRow}
 use Rattle.ci_store_rows.proofs.Shows.{columns_of, names_of, shows_passing, found_one, found_none}
 use Rattle.std.specs.List.{list_any}

@@ -39,7 +39,7 @@ use Rattle.ci_store_tables.proofs.Selects.{MeansSelect}
 use Rattle.ci_store_rows.specs.Found.{ShowsRecords, listed}
 use Rattle.ci_store_rows.proofs.Owned.{tests, sets, terms, named, same_named, unnumbered, agrees, removed_owned, owned_found}
 use Rattle.ci_store_rows.proofs.Shows.{columns_of, names_of, by, rising_text, shows_passing, found_one}
-use Rattle.ci_machine.specs.Step.{project_variables, variable_at}
+use Rattle.ci_machine.specs.Lookups.{project_variables, variable_at}
 use Rattle.ci_store_rows.specs.Changes.{in_state, RemovesUnreferred}
 
 means : MeansPut the_schema 10 variable UPDATE_VARIABLE.now INSERT_VARIABLE.now tests sets terms

@@ -21,17 +21,17 @@ type Failing = Fuse<Memory>;
 
 /// Project 1 and a job of it, of which an attempt is live.
 const FIRST: &[Change] = &[
-    Change::Add(Made::Project(1, "one", "p1")),
-    Change::Add(Made::Runner(1)),
-    Change::Add(Made::Pipeline(1, 1, "main", RefKind::Tag)),
-    Change::Add(Made::Job(1, 1)),
-    Change::Add(Made::Attempt(1, 1, AttemptState::Live)),
+    Change::Put(Made::Project(1, "one", "p1")),
+    Change::Put(Made::Runner(1)),
+    Change::Put(Made::Pipeline(1, 1, "main", RefKind::Tag)),
+    Change::Put(Made::Job(1, 1)),
+    Change::Put(Made::Attempt(1, 1, AttemptState::Live)),
 ];
 
 /// Of the second commit: records, a row, a group that is held and a pipeline that isn't finished.
 const SECOND: &[Change] = &[
     Change::Put(Made::Project(1, "uno", "p1")),
-    Change::Add(Made::Project(2, "two", "p2")),
+    Change::Put(Made::Project(2, "two", "p2")),
     Change::Row(1, Status::Pending),
     Change::Hold(1, "prod", 1),
     Change::Open(1),

@@ -2,7 +2,8 @@
 
 use crate::lines::Answer;
 use crate::records::{Change, ONE_OF_EACH, Work, text};
-use ci_machine::change::{Counter, Delta};
+use ci_machine::change::Counter;
+use ci_store::delta::Delta;
 use ci_store::fault::StoreFault;
 use ci_store::store::Store;
 use ci_store::tables::{OpenFault, Tables};
@@ -62,7 +63,7 @@ pub fn is_committed<S: Alter>(tables: &mut Tables<S>, work: Work) -> bool {
         rows,
         indexes,
     } = work;
-    tables.commit(Delta::new(changes), rows, indexes).is_ok()
+    tables.commit(Delta::new(changes, rows, indexes)).is_ok()
 }
 
 /// Are these changes made in one commit?

@@ -55,7 +55,6 @@ pub enum Gone {
 /// A change of what the tables keep.
 #[derive(Drop)]
 pub enum Change {
-    Add(Made),
     Put(Made),
     Remove(Gone),
     SetNext(Counter, u64),
@@ -252,12 +251,11 @@ impl Work {
 
     pub fn push(&mut self, alloc: Global, change: &Change) -> Result<(), Fail> {
         match change {
-            Change::Add(made) => self.changes.push(RowChange::Add(record(alloc, made)?))?,
             Change::Put(made) => self.changes.push(RowChange::Put(record(alloc, made)?))?,
             Change::Remove(gone) => self.changes.push(RowChange::Remove(key(alloc, gone)?))?,
-            Change::SetNext(counter, next) => {
-                self.changes.push(RowChange::SetNext(*counter, *next))?
-            }
+            Change::SetNext(counter, next) => self
+                .changes
+                .push(RowChange::Put(Record::Next(*counter, *next)))?,
             Change::Row(job, status) => self.rows.push(row_of(*job, *status))?,
             Change::Hold(project, group, attempt) => {
                 self.indexes.push(IndexChange::Hold(Holder {
@@ -289,14 +287,14 @@ impl Work {
 
 /// A change of each kind of record, with a next number and a row.
 pub const ONE_OF_EACH: &[Change] = &[
-    Change::Add(Made::Project(1, "one", "p1")),
-    Change::Add(Made::Variable(1, "LEVEL", "0")),
-    Change::Add(Made::Runner(1)),
-    Change::Add(Made::Pipeline(1, 1, "main", RefKind::Tag)),
-    Change::Add(Made::Job(1, 1)),
-    Change::Add(Made::Job(2, 1)),
-    Change::Add(Made::Attempt(1, 1, AttemptState::Failed(Cause::ScriptFailure, Some(2)))),
-    Change::Add(Made::JobVariable("KEY")),
+    Change::Put(Made::Project(1, "one", "p1")),
+    Change::Put(Made::Variable(1, "LEVEL", "0")),
+    Change::Put(Made::Runner(1)),
+    Change::Put(Made::Pipeline(1, 1, "main", RefKind::Tag)),
+    Change::Put(Made::Job(1, 1)),
+    Change::Put(Made::Job(2, 1)),
+    Change::Put(Made::Attempt(1, 1, AttemptState::Failed(Cause::ScriptFailure, Some(2)))),
+    Change::Put(Made::JobVariable("KEY")),
     Change::Put(Made::JobVariable("CI")),
     Change::SetNext(Counter::Job, 3),
     Change::Row(1, Status::Manual),

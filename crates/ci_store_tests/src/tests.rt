@@ -149,11 +149,11 @@ fn a_number_over_the_greatest_integer_of_sql_is_no_rows(rt: HostRuntime) -> Resu
 
 /// Three of project 1, not in the order of their keys, and one of project 2. One is put in the place of another.
 const FOUR_VARIABLES: &[Change] = &[
-    Change::Add(Made::Project(2, "two", "p2")),
-    Change::Add(Made::Variable(1, "a", "1")),
-    Change::Add(Made::Variable(1, "_", "2")),
-    Change::Add(Made::Variable(2, "a", "3")),
-    Change::Add(Made::Variable(1, "Z", "4")),
+    Change::Put(Made::Project(2, "two", "p2")),
+    Change::Put(Made::Variable(1, "a", "1")),
+    Change::Put(Made::Variable(1, "_", "2")),
+    Change::Put(Made::Variable(2, "a", "3")),
+    Change::Put(Made::Variable(1, "Z", "4")),
     Change::Put(Made::Variable(1, "_", "5")),
 ];
 
@@ -202,8 +202,8 @@ fn a_project_with_a_variable_is_not_removed(rt: HostRuntime) -> Result<(), Fail>
 
 /// The later piece comes first.
 const TWO_PIECES: &[Change] = &[
-    Change::Add(Made::Piece(1, b"wor\0ld")),
-    Change::Add(Made::LongPiece(0)),
+    Change::Put(Made::Piece(1, b"wor\0ld")),
+    Change::Put(Made::LongPiece(0)),
 ];
 
 const PIECES: &[Step] = &[
@@ -222,8 +222,8 @@ fn pieces_are_loaded_in_their_order_and_removed(rt: HostRuntime) -> Result<(), F
 }
 
 const TWO_LIVE: &[Change] = &[
-    Change::Add(Made::Attempt(3, 1, AttemptState::Live)),
-    Change::Add(Made::Attempt(2, 1, AttemptState::Live)),
+    Change::Put(Made::Attempt(3, 1, AttemptState::Live)),
+    Change::Put(Made::Attempt(2, 1, AttemptState::Live)),
 ];
 
 const ONE_ENDS: &[Change] = &[Change::Put(Made::Attempt(2, 1, AttemptState::Succeeded(Some(0))))];
@@ -249,13 +249,13 @@ fn an_attempt_that_has_ended_is_not_live(rt: HostRuntime) -> Result<(), Fail> {
 /// The jobs 3 to 50 of pipeline 1, and job 51 of pipeline 2.
 fn push_jobs(alloc: Global, work: &mut Work) -> Result<(), Fail> {
     for id in 3u64..51 {
-        work.push(alloc, &Change::Add(Made::Job(id, 1)))?;
+        work.push(alloc, &Change::Put(Made::Job(id, 1)))?;
     }
     work.push(
         alloc,
-        &Change::Add(Made::Pipeline(2, 1, "main", RefKind::Tag)),
+        &Change::Put(Made::Pipeline(2, 1, "main", RefKind::Tag)),
     )?;
-    work.push(alloc, &Change::Add(Made::Job(51, 2)))
+    work.push(alloc, &Change::Put(Made::Job(51, 2)))
 }
 
 /// Each fifth job is created, and 40 are pending. The last row comes first.
@@ -347,19 +347,55 @@ fn a_row_is_put_in_the_place_of_one(rt: HostRuntime) -> Result<(), Fail> {
     tells(&rt, rt.alloc(), PUT_OVER, OVER_ONE)
 }
 
+// ---- new jobs
+
+/// Where the next number of jobs is put, jobs from the one before on are new, with what names them, and others are put in their places.
+const NEW_BESIDE_OLD: &[Step] = &[
+    Step::Makes(&[
+        Change::SetNext(Counter::Job, 4),
+        Change::Put(Made::Job(3, 1)),
+        Change::Put(Made::Job(2, 1)),
+        Change::Put(Made::JobVariable("KEY")),
+        Change::Put(Made::Need(3, 2)),
+        Change::Put(Made::Need(2, 1)),
+        Change::Row(3, Status::Created),
+        Change::Row(1, Status::Running),
+    ]),
+    Step::Finds(Load::JobsOf(1), &[1, 2, 3]),
+    Step::Makes(&[
+        Change::SetNext(Counter::Job, 5),
+        Change::Put(Made::Need(3, 2)),
+        Change::Put(Made::Job(3, 1)),
+        Change::Row(3, Status::Pending),
+    ]),
+];
+
+const NEW_AND_OLD: &[Step] = &[
+    Step::Shows(Load::Next(Counter::Job), "5"),
+    Step::Finds(Load::JobsOf(1), &[1, 2, 3]),
+    Step::Shows(Load::NeedsWithin(1, 9), "2 for 1; 3 for 2"),
+    Step::Shows(Load::Row(1), "1 running 2 1 3"),
+    Step::Shows(Load::Row(3), "3 pending 2 1 3"),
+];
+
+#[test]
+fn new_jobs_are_put_beside_others(rt: HostRuntime) -> Result<(), Fail> {
+    tells(&rt, rt.alloc(), NEW_BESIDE_OLD, NEW_AND_OLD)
+}
+
 // ---- pairs of graphs
 
 /// The pairs (3, 1), (3, 2), (4, 3) and (5, 3), not in their order, and two attempts.
 const FOUR_PAIRS: &[Change] = &[
-    Change::Add(Made::Job(3, 1)),
-    Change::Add(Made::Job(4, 1)),
-    Change::Add(Made::Job(5, 1)),
+    Change::Put(Made::Job(3, 1)),
+    Change::Put(Made::Job(4, 1)),
+    Change::Put(Made::Job(5, 1)),
     Change::Put(Made::Need(5, 3)),
     Change::Put(Made::Need(3, 2)),
     Change::Put(Made::Need(4, 3)),
     Change::Put(Made::Need(3, 1)),
-    Change::Add(Made::Attempt(2, 4, AttemptState::Live)),
-    Change::Add(Made::Attempt(3, 3, AttemptState::Live)),
+    Change::Put(Made::Attempt(2, 4, AttemptState::Live)),
+    Change::Put(Made::Attempt(3, 3, AttemptState::Live)),
 ];
 
 const PAIRS: &[Step] = &[
@@ -394,9 +430,9 @@ fn a_job_that_another_waits_for_is_not_removed(rt: HostRuntime) -> Result<(), Fa
 
 /// Another project, live attempts 2 and 3 of the jobs 1 and 2, and three groups that they hold, two of them of one name in two projects.
 const THREE_HELD: &[Change] = &[
-    Change::Add(Made::Project(2, "two", "p2")),
-    Change::Add(Made::Attempt(2, 1, AttemptState::Live)),
-    Change::Add(Made::Attempt(3, 2, AttemptState::Live)),
+    Change::Put(Made::Project(2, "two", "p2")),
+    Change::Put(Made::Attempt(2, 1, AttemptState::Live)),
+    Change::Put(Made::Attempt(3, 2, AttemptState::Live)),
     Change::Hold(1, "prod", 2),
     Change::Hold(2, "prod", 3),
     Change::Hold(1, "test", 3),
@@ -448,14 +484,14 @@ fn groups_are_free(rt: HostRuntime) -> Result<(), Fail> {
 
 /// Seven more pipelines; of those that are opened, not in their order, one is closed, and one that wasn't open.
 const MANY_PIPELINES: &[Change] = &[
-    Change::Add(Made::Project(2, "two", "p2")),
-    Change::Add(Made::Pipeline(2, 1, "main", RefKind::Branch)),
-    Change::Add(Made::Pipeline(3, 1, "next", RefKind::Tag)),
-    Change::Add(Made::Pipeline(4, 2, "main", RefKind::Tag)),
-    Change::Add(Made::Pipeline(5, 1, "main", RefKind::Tag)),
-    Change::Add(Made::Pipeline(6, 1, "main", RefKind::Tag)),
-    Change::Add(Made::Pipeline(7, 1, "Main", RefKind::Tag)),
-    Change::Add(Made::Pipeline(8, 1, "main", RefKind::Branch)),
+    Change::Put(Made::Project(2, "two", "p2")),
+    Change::Put(Made::Pipeline(2, 1, "main", RefKind::Branch)),
+    Change::Put(Made::Pipeline(3, 1, "next", RefKind::Tag)),
+    Change::Put(Made::Pipeline(4, 2, "main", RefKind::Tag)),
+    Change::Put(Made::Pipeline(5, 1, "main", RefKind::Tag)),
+    Change::Put(Made::Pipeline(6, 1, "main", RefKind::Tag)),
+    Change::Put(Made::Pipeline(7, 1, "Main", RefKind::Tag)),
+    Change::Put(Made::Pipeline(8, 1, "main", RefKind::Branch)),
     Change::Open(6),
     Change::Open(1),
     Change::Open(2),

@@ -7,7 +7,7 @@ use Rattle.ci_board.proofs.changes.change.Goals as goal
 
 pub returns-clause-rows : goal.returns-clause-rows
 returns-clause-rows g c = λ k.
-    rows_moved c.args.graph.now c.settle.new.graph c.settle.new.facts c.settle.new.facts c.settle.new.rows c.settle.ensures.graph refl (c.settle.ensures.rows k.counted)
+    rows_moved c.args.graph.now c.settle.new.graph c.settle.new.facts c.settle.new.facts c.settle.new.rows c.settle.ensures.graph refl (c.settle.ensures.rows k.each)
 
 pub returns-clause-meter : goal.returns-clause-meter
 returns-clause-meter g c =

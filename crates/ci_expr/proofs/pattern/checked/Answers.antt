@@ -1,8 +1,8 @@
 use Rattle.std.proofs.Common.{subst}
-use Rattle.std.specs.Prelude.{chars}
-use Rattle.ci_expr.specs.Found.{Finds}
+use Rattle.ci_expr.specs.Found.{IsAutomatonOf}
 use Rattle.ci_expr.proofs.pattern.checked.Goals as goal
 
-pub returns-in-Ok-clause-tables : goal.returns-in-Ok-clause-tables
-returns-in-Ok-clause-tables c =
-    (c.in-Ok.nfa, subst (λ bs. Finds c.in-Ok.nfa c.args.insensitive (chars bs)) c.as_str.ensures.value c.in-Ok.ensures.finds, c.bytes_of.ensures)
+pub invariant_of-result : goal.invariant_of-result
+invariant_of-result c = record {
+  measured = ∣ (c.in-Ok.nfa, subst (λ bs. IsAutomatonOf c.args.insensitive bs c.in-Ok.nfa) c.as_str.ensures.value c.in-Ok.ensures.automaton, c.bytes_of.ensures) ∣₁;
+}

@@ -1,5 +1,5 @@
 use Rattle.std.proofs.Common.{◌≡◌, drop}
-use Rattle.ci_graph.specs.Steps.{released}
+use Rattle.ci_graph.proofs.Steps.{released}
 use Rattle.ci_graph.proofs.order.release.Given as goal
 
 abbrev pub invariant-loop-k : goal.invariant-loop-k

@@ -1,5 +1,5 @@
 use Rattle.std.proofs.Common.{◌≡◌, ◌++◌, drop}
-use Rattle.ci_graph.specs.Steps.{sources}
+use Rattle.ci_graph.proofs.Steps.{sources}
 use Rattle.ci_graph.proofs.order.starts.Given as goal
 
 abbrev pub invariant-loop-j : goal.invariant-loop-j

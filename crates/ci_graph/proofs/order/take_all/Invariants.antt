@@ -1,5 +1,5 @@
 use Rattle.std.proofs.Common.{length}
-use Rattle.ci_graph.specs.Steps.{IsReady}
+use Rattle.ci_graph.proofs.Steps.{IsReady}
 use Rattle.ci_graph.proofs.order.take_all.Given as goal
 
 abbrev pub invariant-loop-k : goal.invariant-loop-k

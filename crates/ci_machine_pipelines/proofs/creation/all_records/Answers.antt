@@ -5,7 +5,7 @@ use Rattle.ci_graph.specs.Pairs.{AreWithin}
 use Rattle.ci_graph_layout.specs.Inclusion.{Given}
 use Rattle.ci_graph_layout.specs.View.{given_view, included_view}
 use Rattle.ci_graph_layout.specs.declared.inclusion.IncludedJob.{IncludedJob}
-use Rattle.ci_machine.specs.Pipelines.{new_jobs, variables_from, put_needs}
+use Rattle.ci_machine_steps.specs.Pipelines.{new_jobs, variables_from, put_needs}
 use Rattle.ci_machine_pipelines.proofs.creation.all_records.Goals as goal
 
 pub need_keys-requires-clause-within : goal.need_keys-requires-clause-within

@@ -1,13 +1,25 @@
+use Rattle.std.proofs.Common.{◌≡◌, false, rules}
+use Rattle.std.specs.Prelude.{nat_le}
 use Rattle.ci_yaml_lines.specs.TreeView.{value_view}
 use Rattle.ci_config.specs.View.{config_view}
-use Rattle.ci_machine.specs.Files.{configures}
+use Rattle.ci_graph_layout.specs.Searches.{search_cost}
+use Rattle.ci_graph_layout.specs.View.{given_view}
+use Rattle.ci_graph_layout.specs.declared.limits.TheConstants.{MAX_SEARCH_COST}
+use Rattle.ci_machine_steps.specs.Files.{configures}
 use Rattle.ci_machine_pipelines.specs.Creations.{origin_view}
-use Rattle.ci_machine_pipelines.proofs.Laying.{misconfigured}
+use Rattle.ci_machine_pipelines.proofs.Laying.{misconfigured, unaffordable}
 use Rattle.ci_machine_pipelines.proofs.layouts.lay_out_tree.Goals as goal
 
-pub returns-in-Ok : goal.returns-in-Ok
-returns-in-Ok c = λ text has. c.lay_out_config.ensures text (configures (value_view c.args.tree.now) (config_view c.in-Ok.config) has c.in-Ok.ensures.answer)
+pub returns-else-not-branch : goal.returns-else-not-branch
+returns-else-not-branch c = λ text has. c.lay_out_config.ensures text (configures (value_view c.args.tree.now) (config_view c.in-Ok.config) has c.in-Ok.ensures.answer)
 
 pub returns-in-Err : goal.returns-in-Err
 returns-in-Err c = λ text has.
-    misconfigured text (origin_view c.args.start.now) (value_view c.args.tree.now) c.in-Err.fault c.config_fault.result has c.in-Err.ensures.answer c.config_fault.ensures
+    misconfigured text (origin_view c.args.start.now) (value_view c.args.tree.now) c.in-Err.fault c.config_fault-in-Err.result has c.in-Err.ensures.answer c.config_fault-in-Err.ensures
+
+pub returns-then-not-branch : goal.returns-then-not-branch
+returns-then-not-branch c = λ text has.
+    let given = given_view c.args.start.now.given in
+    let over : nat_le (search_cost given c.in-Ok.config) MAX_SEARCH_COST ≡ false = search rules in
+    unaffordable text (origin_view c.args.start.now) (value_view c.args.tree.now) c.in-Ok.config c.config_fault.result (search_cost given c.in-Ok.config) has c.in-Ok.ensures.answer
+    c.may_refuse_patterns.ensures (c.searches_for_patterns_alone.ensures given c.in-Ok.config) over c.config_fault.ensures

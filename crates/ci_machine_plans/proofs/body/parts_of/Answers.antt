@@ -1,5 +1,5 @@
 use Rattle.std.proofs.Common.{arith}
-use Rattle.ci_machine.proofs.Parts.{part_pushed}
+use Rattle.ci_machine_steps.proofs.Parts.{part_pushed}
 use Rattle.ci_machine_plans.proofs.body.parts_of.Goals as goal
 
 pub loop-job-preserved : goal.loop-job-preserved

@@ -1,7 +1,7 @@
 use Rattle.std.proofs.Common.{◌≡◌, ◌++◌, map, filter, take}
 use Rattle.ci_machine.specs.declared.change.RowChange.TheVariants as change
 use Rattle.ci_machine.specs.declared.change.Record.TheVariants as row
-use Rattle.ci_machine.specs.Cancels as cancels
+use Rattle.ci_machine_steps.specs.Cancels as cancels
 use Rattle.ci_machine_plans.proofs.cancels.with_ends.Given as goal
 
 -- the ends so far

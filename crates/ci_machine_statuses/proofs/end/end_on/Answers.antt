@@ -1,6 +1,6 @@
 use Rattle.std.proofs.Common.{refl, subst, ap, ◌∙◌, ◌<◌, length, map, sym, slice_index_or, [], ◌∷◌}
 use Rattle.ci_board.specs.Rows.{AreRows, replaced}
-use Rattle.ci_machine.proofs.Sound.{sound}
+use Rattle.ci_machine_steps.proofs.Sound.{sound}
 use Rattle.ci_machine_statuses.specs.Boards.{changed_rows}
 use Rattle.ci_machine_statuses.proofs.Ends.{ends}
 use Rattle.ci_machine_statuses.proofs.end.end_on.Goals as goal

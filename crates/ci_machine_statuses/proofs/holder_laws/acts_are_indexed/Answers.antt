@@ -1,5 +1,5 @@
 use Rattle.ci_machine.proofs.Keyed.{has_from_contains}
-use Rattle.ci_machine.proofs.Sound.{sound}
+use Rattle.ci_machine_steps.proofs.Sound.{sound}
 use Rattle.ci_machine_statuses.proofs.HeldActs.{act_indexed}
 use Rattle.ci_machine_statuses.proofs.holder_laws.acts_are_indexed.Goals as goal
 

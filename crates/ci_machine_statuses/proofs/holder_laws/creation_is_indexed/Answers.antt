@@ -1,4 +1,4 @@
-use Rattle.ci_machine.proofs.Sound.{sound}
+use Rattle.ci_machine_steps.proofs.Sound.{sound}
 use Rattle.ci_machine_statuses.proofs.HeldCreations.{creation_indexed}
 use Rattle.ci_machine_statuses.proofs.holder_laws.creation_is_indexed.Goals as goal
 

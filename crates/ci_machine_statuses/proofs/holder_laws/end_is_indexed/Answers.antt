@@ -1,6 +1,6 @@
 use Rattle.std.proofs.Common.{subst}
 use Rattle.ci_machine.proofs.Keyed.{Has, has_from_contains}
-use Rattle.ci_machine.proofs.Sound.{sound}
+use Rattle.ci_machine_steps.proofs.Sound.{sound}
 use Rattle.ci_machine_statuses.proofs.Facts.{in_pipeline}
 use Rattle.ci_machine_statuses.proofs.HeldEnds.{end_indexed}
 use Rattle.ci_machine_statuses.proofs.holder_laws.end_is_indexed.Goals as goal

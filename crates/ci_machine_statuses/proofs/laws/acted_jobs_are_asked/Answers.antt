@@ -1,5 +1,5 @@
 use Rattle.ci_machine.proofs.Keyed.{has_from_contains}
-use Rattle.ci_machine.proofs.Sound.{sound}
+use Rattle.ci_machine_steps.proofs.Sound.{sound}
 use Rattle.ci_machine_statuses.proofs.ActPlaces.{one_acted}
 use Rattle.ci_machine_statuses.proofs.laws.acted_jobs_are_asked.Goals as goal
 

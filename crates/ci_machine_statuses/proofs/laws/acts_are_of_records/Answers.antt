@@ -4,8 +4,8 @@ use Rattle.ci_machine.specs.declared.records.Attempt.{Attempt}
 use Rattle.ci_machine.specs.declared.records.Job.{Job}
 use Rattle.ci_machine.specs.declared.change.RowChange.TheVariants.{Put}
 use Rattle.ci_machine.specs.declared.change.Record.TheVariants as row
-use Rattle.ci_machine.specs.Retries.{retry}
-use Rattle.ci_machine.specs.Cancels.{cancelled_job, cancelled_attempt}
+use Rattle.ci_machine_steps.specs.Retries.{retry}
+use Rattle.ci_machine_steps.specs.Cancels.{cancelled_job, cancelled_attempt}
 use Rattle.ci_machine.proofs.Keyed.{has_from_contains, has_from_all}
 use Rattle.ci_machine_statuses.proofs.ActRecords.{all_attempts, all_leases}
 use Rattle.ci_machine_statuses.proofs.laws.acts_are_of_records.Goals as goal

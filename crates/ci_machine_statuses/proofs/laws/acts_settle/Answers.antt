@@ -1,4 +1,4 @@
-use Rattle.ci_machine.proofs.Sound.{sound}
+use Rattle.ci_machine_steps.proofs.Sound.{sound}
 use Rattle.ci_machine_statuses.proofs.ActPlaces.{act_board, act_rows}
 use Rattle.ci_machine_statuses.proofs.laws.acts_settle.Goals as goal
 

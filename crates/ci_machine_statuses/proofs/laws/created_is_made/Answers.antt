@@ -1,4 +1,4 @@
-use Rattle.ci_machine.proofs.Sound.{sound}
+use Rattle.ci_machine_steps.proofs.Sound.{sound}
 use Rattle.ci_machine_statuses.proofs.Creations.{made}
 use Rattle.ci_machine_statuses.proofs.laws.created_is_made.Goals as goal
 

@@ -1,4 +1,4 @@
-use Rattle.ci_machine.proofs.Sound.{sound}
+use Rattle.ci_machine_steps.proofs.Sound.{sound}
 use Rattle.ci_machine_statuses.proofs.Joint.{settled}
 use Rattle.ci_machine_statuses.proofs.laws.differing_rows_settle.Goals as goal
 

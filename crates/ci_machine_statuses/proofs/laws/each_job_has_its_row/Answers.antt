@@ -1,5 +1,5 @@
 use Rattle.ci_machine.proofs.Keyed.{has_from_contains}
-use Rattle.ci_machine.proofs.Sound.{sound}
+use Rattle.ci_machine_steps.proofs.Sound.{sound}
 use Rattle.ci_machine_statuses.proofs.RowPuts.{its_row}
 use Rattle.ci_machine_statuses.proofs.Joint.{board_rises}
 use Rattle.ci_machine_statuses.proofs.Pages.{its_row_found}

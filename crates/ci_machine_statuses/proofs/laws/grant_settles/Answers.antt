@@ -1,5 +1,5 @@
 use Rattle.ci_machine.proofs.Keyed.{has_from_contains}
-use Rattle.ci_machine.proofs.Sound.{sound}
+use Rattle.ci_machine_steps.proofs.Sound.{sound}
 use Rattle.ci_machine_statuses.proofs.Grants.{granted}
 use Rattle.ci_machine_statuses.proofs.laws.grant_settles.Goals as goal
 

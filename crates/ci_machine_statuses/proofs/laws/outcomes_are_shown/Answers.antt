@@ -1,5 +1,5 @@
 use Rattle.ci_machine.proofs.Keyed.{has_from_contains}
-use Rattle.ci_machine.proofs.Sound.{sound}
+use Rattle.ci_machine_steps.proofs.Sound.{sound}
 use Rattle.ci_machine_statuses.proofs.ActShows.{shows_job, shows_pipeline}
 use Rattle.ci_machine_statuses.proofs.laws.outcomes_are_shown.Goals as goal
 

@@ -1,4 +1,4 @@
-use Rattle.ci_machine.proofs.Sound.{sound}
+use Rattle.ci_machine_steps.proofs.Sound.{sound}
 use Rattle.ci_machine_statuses.proofs.Pages.{begins, one_page, last_page}
 use Rattle.ci_machine_statuses.proofs.laws.the_queue_is_its_pages.Goals as goal
 

@@ -1,4 +1,4 @@
-use Rattle.ci_machine.proofs.Sound.{sound}
+use Rattle.ci_machine_steps.proofs.Sound.{sound}
 use Rattle.ci_machine_statuses.proofs.Loaded.{in_between}
 use Rattle.ci_machine_statuses.proofs.load.range_of.Goals as goal
 

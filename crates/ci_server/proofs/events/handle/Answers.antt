@@ -2,7 +2,7 @@ use Rattle.std.specs.Prelude.{IfOk}
 use Rattle.std.proofs.Common.{subst}
 use Rattle.ci_machine.specs.declared.reply.Answer.TheVariants as answer
 use Rattle.ci_machine.specs.declared.request.Event.TheVariants as event
-use Rattle.ci_machine.specs.Step.{Does}
+use Rattle.ci_machine_steps.specs.Step.{Does}
 use Rattle.ci_store.specs.Store.{UnlessBroken}
 use Rattle.ci_server_lookups.specs.Keeps.{IsKept}
 use Rattle.ci_server_events.specs.Planning.{PlansFor}

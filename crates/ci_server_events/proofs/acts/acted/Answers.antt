@@ -2,8 +2,8 @@ use Rattle.std.specs.Prelude.{◌≡◌, Ok, [], ◌∷◌, slice_index_or}
 use Rattle.std.proofs.Common.{ap, ◌∙◌}
 use Rattle.ci_board.specs.declared.facts.Row.{Row}
 use Rattle.ci_board.specs.Rows.{row_at}
-use Rattle.ci_machine.specs.Plans.{Plan, refused}
-use Rattle.ci_machine.specs.Shows.{job_shown}
+use Rattle.ci_machine_steps.specs.Plans.{Plan, refused}
+use Rattle.ci_machine_steps.specs.Shows.{job_shown}
 use Rattle.ci_machine_statuses.specs.Acts.{act_changes}
 use Rattle.ci_server_events.specs.declared.planned.Beside.{Beside}
 use Rattle.ci_server_events.specs.Acting.{refusal_of, ActsAs, changes_by}

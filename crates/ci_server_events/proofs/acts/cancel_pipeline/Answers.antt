@@ -5,10 +5,10 @@ use Rattle.std.proofs.Common.{subst, sym, ap, ◌∙◌}
 use Rattle.ci_machine.specs.declared.records.Pipeline.{Pipeline}
 use Rattle.ci_machine.specs.declared.records.Project.{Project}
 use Rattle.ci_machine.specs.declared.reply.Code.{Code}
-use Rattle.ci_machine.specs.Cancels.{CancelsPipeline}
-use Rattle.ci_machine.specs.Plans.{Plan, asked_project}
-use Rattle.ci_machine.specs.Shows.{asked_pipeline}
-use Rattle.ci_machine.specs.Step.{pipeline_at, found_pipeline}
+use Rattle.ci_machine_steps.specs.Cancels.{CancelsPipeline}
+use Rattle.ci_machine_steps.specs.Plans.{Plan, asked_project}
+use Rattle.ci_machine_steps.specs.Shows.{asked_pipeline}
+use Rattle.ci_machine_steps.specs.Step.{pipeline_at, found_pipeline}
 use Rattle.ci_server_events.specs.Planning.{PlansFor}
 use Rattle.ci_server_lookups.proofs.Loading.{goes_on, so}
 use Rattle.ci_server_events.proofs.Acting.{pipeline_has}

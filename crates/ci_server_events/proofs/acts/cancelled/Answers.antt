@@ -1,8 +1,8 @@
 use Rattle.std.specs.Prelude.{length}
 use Rattle.std.proofs.Common.{refl, sym, ap, ◌∙◌}
-use Rattle.ci_machine.specs.Cancels.{cancel, cancellable_jobs, CancelsSome}
-use Rattle.ci_machine.specs.Plans.{Plan}
-use Rattle.ci_machine.specs.Shows.{pipeline_shown}
+use Rattle.ci_machine_steps.specs.Cancels.{cancel, cancellable_jobs, CancelsSome}
+use Rattle.ci_machine_steps.specs.Plans.{Plan}
+use Rattle.ci_machine_steps.specs.Shows.{pipeline_shown}
 use Rattle.ci_server_events.specs.declared.planned.Beside.{Beside}
 use Rattle.ci_server_lookups.proofs.Loading.{on_ok}
 use Rattle.ci_server_events.proofs.Acting.{pipeline_planned, pipeline_refused, not_empty, is_empty, ok_same}

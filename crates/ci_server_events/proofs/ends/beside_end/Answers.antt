@@ -1,6 +1,6 @@
 use Rattle.std.specs.Prelude.{◌≡◌, ℕ, Some}
 use Rattle.std.proofs.Common.{subst, sym, ◌∙◌}
-use Rattle.ci_machine.specs.Step.{pipeline_at}
+use Rattle.ci_machine_steps.specs.Step.{pipeline_at}
 use Rattle.ci_server_lookups.specs.Records.{AreOf}
 use Rattle.ci_server_lookups.proofs.Loading.{ends, goes_on}
 use Rattle.ci_server_events.proofs.Found.{at_ok}

@@ -4,9 +4,9 @@ use Rattle.std.specs.Result.{result_map_both}
 use Rattle.std.proofs.Common.{subst, sym, ap, ◌∙◌}
 use Rattle.ci_machine.specs.declared.records.Project.{Project}
 use Rattle.ci_machine.specs.declared.reply.Code.{Code}
-use Rattle.ci_machine.specs.Files as machine
-use Rattle.ci_machine.specs.Plans.{asked_project}
-use Rattle.ci_machine.specs.Step.{project_with}
+use Rattle.ci_machine_steps.specs.Files as machine
+use Rattle.ci_machine_steps.specs.Plans.{asked_project}
+use Rattle.ci_machine_steps.specs.Step.{project_with}
 use Rattle.ci_server_lookups.proofs.Loading.{gives}
 use Rattle.ci_server_events.proofs.files.set_file.Goals as goal
 

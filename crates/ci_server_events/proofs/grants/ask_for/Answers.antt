@@ -1,9 +1,9 @@
 use Rattle.std.specs.Prelude.{◌≡◌, Some, None, Option}
 use Rattle.std.proofs.Common.{subst, sym, ap, ◌∙◌}
 use Rattle.ci_machine.specs.declared.records.QueuedJob.{QueuedJob}
-use Rattle.ci_machine.specs.Grants.{ask_job}
-use Rattle.ci_machine.specs.Plans.{Plan}
-use Rattle.ci_machine.specs.Step.{offer, offered_variables}
+use Rattle.ci_machine_steps.specs.Grants.{ask_job}
+use Rattle.ci_machine_steps.specs.Plans.{Plan}
+use Rattle.ci_machine_steps.specs.Step.{offer, offered_variables}
 use Rattle.ci_server_lookups.specs.declared.search.Offer.{Offer}
 use Rattle.ci_server_lookups.specs.Search.{IsOffered}
 use Rattle.ci_server_lookups.proofs.Loading.{gives, goes_on}

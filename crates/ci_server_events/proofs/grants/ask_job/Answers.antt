@@ -1,9 +1,9 @@
 use Rattle.std.specs.Prelude.{◌≡◌, Some, None, Option}
 use Rattle.std.proofs.Common.{subst, sym, ap, ◌∙◌}
 use Rattle.ci_machine.specs.declared.records.Runner.{Runner}
-use Rattle.ci_machine.specs.Grants as machine
-use Rattle.ci_machine.specs.Plans.{Plan}
-use Rattle.ci_machine.specs.Step.{offer, offered_variables, runner_with}
+use Rattle.ci_machine_steps.specs.Grants as machine
+use Rattle.ci_machine_steps.specs.Plans.{Plan}
+use Rattle.ci_machine_steps.specs.Step.{offer, offered_variables, runner_with}
 use Rattle.ci_server_lookups.proofs.Loading.{gives, goes_on}
 use Rattle.ci_server_events.specs.Planning.{PlansFor}
 use Rattle.ci_server_events.proofs.Leaving.{nothing_changes}

@@ -2,9 +2,9 @@ use Rattle.std.specs.Prelude.{◌≡◌, ◌↔◌, true, Ok, IfOk, List, []}
 use Rattle.std.proofs.Common.{subst, sym, ap, ◌∙◌}
 use Rattle.ci_machine.specs.declared.records.JobVariable.{JobVariable}
 use Rattle.ci_machine.specs.declared.change.RowChange.{RowChange}
-use Rattle.ci_machine.specs.Plans.{Plan}
-use Rattle.ci_machine.specs.Grants as machine
-use Rattle.ci_machine.specs.Step.{variables_of}
+use Rattle.ci_machine_steps.specs.Plans.{Plan}
+use Rattle.ci_machine_steps.specs.Grants as machine
+use Rattle.ci_machine_steps.specs.Step.{variables_of}
 use Rattle.ci_server_events.specs.Planning.{Settles}
 use Rattle.ci_server_lookups.proofs.Loading.{ends, goes_on}
 use Rattle.ci_server_events.proofs.Found.{pair_is}

@@ -9,7 +9,7 @@ use Rattle.ci_machine.specs.declared.records.BoardRow.{BoardRow}
 use Rattle.ci_machine.specs.declared.records.Job.{Job}
 use Rattle.ci_machine.specs.declared.records.Need.{Need}
 use Rattle.ci_machine.specs.Bodies.{status_of_jobs}
-use Rattle.ci_machine.specs.Pipelines.{AreFirstRows}
+use Rattle.ci_machine_steps.specs.Pipelines.{AreFirstRows}
 use Rattle.ci_machine_statuses.specs.HolderChanges.{opened}
 use Rattle.ci_server_events.specs.Creating.{RowsMade}
 use Rattle.ci_server_events.proofs.pipelines.beside_creation.Goals as goal

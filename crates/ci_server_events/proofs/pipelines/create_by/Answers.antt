@@ -3,9 +3,9 @@ use Rattle.std.proofs.Common.{subst, ap, ◌∙◌}
 use Rattle.ci_machine.specs.declared.records.Variable.{Variable}
 use Rattle.ci_machine.specs.declared.request.NewPipeline.{NewPipeline}
 use Rattle.ci_machine.specs.Holders.{holders}
-use Rattle.ci_machine.specs.Pipelines.{given_by, pipeline_created, Creates}
-use Rattle.ci_machine.specs.Plans.{Plan, faulted}
-use Rattle.ci_machine.specs.Step.{project_variables}
+use Rattle.ci_machine_steps.specs.Pipelines.{given_by, pipeline_created, Creates}
+use Rattle.ci_machine_steps.specs.Plans.{Plan, faulted}
+use Rattle.ci_machine_steps.specs.Step.{project_variables}
 use Rattle.ci_machine_pipelines.specs.declared.creation.Creation.{Creation}
 use Rattle.ci_machine_pipelines.specs.declared.files.FileFault.{FileFault}
 use Rattle.ci_machine_pipelines.specs.declared.files.FileFault.TheVariants.{Fault}

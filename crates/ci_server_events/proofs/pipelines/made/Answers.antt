@@ -5,7 +5,7 @@ use Rattle.ci_machine.specs.declared.records.BoardRow.{BoardRow}
 use Rattle.ci_machine.specs.declared.records.Holder.{Holder}
 use Rattle.ci_machine.specs.declared.records.Job.{Job}
 use Rattle.ci_machine.specs.Holders.{holders}
-use Rattle.ci_machine.specs.Pipelines.{pipeline_created}
+use Rattle.ci_machine_steps.specs.Pipelines.{pipeline_created}
 use Rattle.ci_machine_pipelines.specs.Creations.{creation_view}
 use Rattle.ci_store_tables.specs.declared.fault.StoreFault.{StoreFault}
 use Rattle.ci_server_lookups.specs.Held.{HoldAlike}

@@ -2,9 +2,9 @@ use Rattle.std.specs.Prelude.{◌≡◌, Ok, Some, None, IfOk, Option, List, opt
 use Rattle.std.proofs.Common.{subst, sym, ap, ◌∙◌}
 use Rattle.ci_machine.specs.declared.lease.Lease.{Lease}
 use Rattle.ci_machine.specs.declared.change.RowChange.{RowChange}
-use Rattle.ci_machine.specs.Plans.{Plan}
-use Rattle.ci_machine.specs.Reports as machine
-use Rattle.ci_machine.specs.Step.{lease_at}
+use Rattle.ci_machine_steps.specs.Plans.{Plan}
+use Rattle.ci_machine_steps.specs.Reports as machine
+use Rattle.ci_machine_steps.specs.Step.{lease_at}
 use Rattle.ci_server_events.specs.Planning.{Settles, MovesOne}
 use Rattle.ci_server_lookups.proofs.Loading.{gives, goes_on, carries, third}
 use Rattle.ci_server_events.proofs.Found.{leased, pair_is}

@@ -4,8 +4,8 @@ use Rattle.ci_board.specs.declared.facts.Facts.{Facts}
 use Rattle.ci_board.specs.declared.facts.Row.{Row}
 use Rattle.ci_machine.specs.declared.records.BoardRow.{BoardRow}
 use Rattle.ci_machine.specs.declared.records.Need.{Need}
-use Rattle.ci_machine.specs.Shows as machine
-use Rattle.ci_machine.specs.Sound.{IsSound}
+use Rattle.ci_machine_steps.specs.Shows as machine
+use Rattle.ci_machine_steps.specs.Sound.{IsSound}
 use Rattle.ci_machine.specs.State.{State}
 use Rattle.ci_machine.specs.Statuses.{facts_of, rows_of, AreBoard}
 use Rattle.ci_machine_statuses.specs.Lookups.{AreRecords}

@@ -6,8 +6,8 @@ use Rattle.ci_machine.specs.declared.records.Need.{Need}
 use Rattle.ci_machine.specs.Holders.{holders}
 use Rattle.ci_machine.specs.Kept.{Kept}
 use Rattle.ci_machine.specs.Ranges.{is_within, needs_within}
-use Rattle.ci_machine.specs.Shows as machine
-use Rattle.ci_machine.specs.Sound.{IsSound}
+use Rattle.ci_machine_steps.specs.Shows as machine
+use Rattle.ci_machine_steps.specs.Sound.{IsSound}
 use Rattle.ci_machine.specs.State.{State}
 use Rattle.ci_machine.specs.Statuses.{jobs_of, facts_of, rows_of}
 use Rattle.ci_machine_statuses.specs.Lookups.{AreRecords}

@@ -9,9 +9,9 @@ use Rattle.ci_machine.specs.declared.records.Job.{Job}
 use Rattle.ci_machine.specs.declared.reply.Code.{Code}
 use Rattle.ci_machine.specs.Holders.{holders}
 use Rattle.ci_machine.specs.Ranges.{row_at}
-use Rattle.ci_machine.specs.Shows.{asked_job, job_shown, shown}
+use Rattle.ci_machine_steps.specs.Shows.{asked_job, job_shown, shown}
 use Rattle.ci_machine.specs.Statuses.{row_or_none, status_for}
-use Rattle.ci_machine.specs.Step.{found_job}
+use Rattle.ci_machine_steps.specs.Step.{found_job}
 use Rattle.ci_server_lookups.specs.Held.{HoldAlike}
 use Rattle.ci_server_lookups.proofs.Loading.{ends, goes_on}
 use Rattle.ci_server_events.specs.declared.shows.Named.{Named}

@@ -6,10 +6,10 @@ use Rattle.ci_machine.specs.declared.records.Pipeline.{Pipeline}
 use Rattle.ci_machine.specs.declared.records.Project.{Project}
 use Rattle.ci_machine.specs.declared.reply.Code.{Code}
 use Rattle.ci_machine.specs.Holders.{holders}
-use Rattle.ci_machine.specs.Plans.{asked_project}
-use Rattle.ci_machine.specs.Shows as machine
+use Rattle.ci_machine_steps.specs.Plans.{asked_project}
+use Rattle.ci_machine_steps.specs.Shows as machine
 use Rattle.ci_machine.specs.Statuses.{jobs_of, facts_of, rows_of}
-use Rattle.ci_machine.specs.Step.{project_with, pipeline_at}
+use Rattle.ci_machine_steps.specs.Step.{project_with, pipeline_at}
 use Rattle.ci_server_lookups.proofs.Loading.{goes_on}
 use Rattle.ci_server_events.proofs.shows.show_pipeline.Goals as goal
 

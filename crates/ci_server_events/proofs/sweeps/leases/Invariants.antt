@@ -1,7 +1,7 @@
 use Rattle.std.proofs.Common.{◌≡◌, ◌++◌, map, length}
 use Rattle.std.specs.Prelude.{Ok}
 use Rattle.std.specs.Vec.Iter.{into_iter_items, into_iter_len}
-use Rattle.ci_machine.specs.Step.{lease_of}
+use Rattle.ci_machine_steps.specs.Step.{lease_of}
 use Rattle.ci_store.specs.Store.{LoadsBy}
 use Rattle.ci_server_events.proofs.sweeps.leases.Given as goal
 

@@ -1,10 +1,9 @@
-use Rattle.std.specs.Prelude.{◌≡◌, List, map, Option, Some, None}
-use Rattle.std.specs.Option.{option_copied}
+use Rattle.std.specs.Prelude.{◌≡◌, List, map, Option, Some, None, option_map}
 use Rattle.std.proofs.Common.{sym, ap, ◌∙◌}
 use Rattle.ci_machine.specs.declared.lease.Lease.{Lease}
 use Rattle.ci_machine.specs.Leases.{first_due}
-use Rattle.ci_machine.specs.Step.{leases, lease_of, redundant_in, cancellable_in}
-use Rattle.ci_machine.specs.Sweeps.{sweep}
+use Rattle.ci_machine_steps.specs.Step.{leases, lease_of, redundant_in, cancellable_in}
+use Rattle.ci_machine_steps.specs.Sweeps.{sweep}
 use Rattle.ci_server_lookups.proofs.Loading.{goes_on}
 use Rattle.ci_server_events.proofs.Settles.{due_is_live}
 use Rattle.ci_server_events.proofs.sweeps.plan_sweep.Goals as goal
@@ -22,7 +21,7 @@ returns-in-Some g c =
     (λ k y is attempts more kept.
     let s = k.state in
     let all : c.as_slice.result.now ≡ leases s = c.as_slice.ensures.value ∙ (more.0 ∙ ap (map (lease_of s)) attempts) in
-    let due : first_due (leases s) c.args.now ≡ Some c.in-Some.lease.now = ap (λ (ls : List Lease). first_due ls c.args.now) (sym all) ∙ (sym c.due.ensures ∙ ap option_copied c.in-Some.is) in
+    let due : first_due (leases s) c.args.now ≡ Some c.in-Some.lease.now = ap (λ (ls : List Lease). first_due ls c.args.now) (sym all) ∙ (sym c.due.ensures.lease ∙ ap (option_map (λ p. p.0.now)) c.in-Some.is) in
     let plan = more.1 kept (due_is_live s c.args.now c.in-Some.lease.now due) in
     let redundant = redundant_in s k.board in
     record {
@@ -43,7 +42,7 @@ returns g c =
     (λ k y is attempts more kept.
     let s = k.state in
     let all : c.as_slice.result.now ≡ leases s = c.as_slice.ensures.value ∙ (more.0 ∙ ap (map (lease_of s)) attempts) in
-    let none : first_due (leases s) c.args.now ≡ None = ap (λ (ls : List Lease). first_due ls c.args.now) (sym all) ∙ (sym c.due.ensures ∙ ap option_copied c.in-None.is) in
+    let none : first_due (leases s) c.args.now ≡ None = ap (λ (ls : List Lease). first_due ls c.args.now) (sym all) ∙ (sym c.due.ensures.lease ∙ ap (option_map (λ p. p.0.now)) c.in-None.is) in
     let plan = more.1 kept in
     let redundant = redundant_in s k.board in
     record {

@@ -1,8 +1,8 @@
 use Rattle.std.specs.Prelude.{◌≡◌, [], Option, Some, None}
 use Rattle.std.proofs.Common.{sym, ap, ◌∙◌}
 use Rattle.ci_machine.specs.declared.records.Pipeline.{Pipeline}
-use Rattle.ci_machine.specs.Step.{redundant_in, cancellable_in}
-use Rattle.ci_machine.specs.Sweeps.{sweep}
+use Rattle.ci_machine_steps.specs.Step.{redundant_in, cancellable_in}
+use Rattle.ci_machine_steps.specs.Sweeps.{sweep}
 use Rattle.ci_server_lookups.proofs.Loading.{goes_on, gives}
 use Rattle.ci_server_events.proofs.Found.{pair_is}
 use Rattle.ci_server_events.proofs.Settles.{nothing_settles}

@@ -4,9 +4,9 @@ use Rattle.std.specs.Result.{result_map_both}
 use Rattle.std.proofs.Common.{sym, ap, ◌∙◌}
 use Rattle.ci_machine.specs.declared.records.Project.{Project}
 use Rattle.ci_machine.specs.declared.reply.Code.{Code}
-use Rattle.ci_machine.specs.Plans.{asked_project}
-use Rattle.ci_machine.specs.Step.{project_with, variable_at}
-use Rattle.ci_machine.specs.Variables as machine
+use Rattle.ci_machine_steps.specs.Plans.{asked_project}
+use Rattle.ci_machine_steps.specs.Step.{project_with, variable_at}
+use Rattle.ci_machine_steps.specs.Variables as machine
 use Rattle.ci_server_lookups.proofs.Loading.{goes_on}
 use Rattle.ci_server_events.proofs.variables.delete_variable.Goals as goal
 

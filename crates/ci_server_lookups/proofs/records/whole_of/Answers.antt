@@ -1,7 +1,7 @@
 use Rattle.std.specs.Prelude.{◌≡◌, Ok, Some}
 use Rattle.std.proofs.Common.{refl, sym, subst, ◌∙◌}
 use Rattle.ci_machine.specs.Holders.{holders}
-use Rattle.ci_machine.specs.Step.{pipeline_at}
+use Rattle.ci_machine_steps.specs.Step.{pipeline_at}
 use Rattle.ci_server_lookups.specs.Keeps.{IsKept}
 use Rattle.ci_server_lookups.specs.Held.{HoldAlike}
 use Rattle.ci_server_lookups.specs.Records.{AreOf}

@@ -1,7 +1,7 @@
 use Rattle.std.specs.Prelude.{Ok}
 use Rattle.std.proofs.Common.{refl, sym, ap, ◌∙◌}
 use Rattle.std.proofs.lemmas.List.{at_drop_all}
-use Rattle.ci_machine.proofs.Sound.{sound}
+use Rattle.ci_machine_steps.proofs.Sound.{sound}
 use Rattle.ci_server_lookups.proofs.Loading.{so, gives}
 use Rattle.ci_server_lookups.proofs.Supersedes.{first_found, first_is_redundant, first_is_next, first_is_behind}
 use Rattle.ci_server_lookups.proofs.redundant.first_redundant.Goals as goal

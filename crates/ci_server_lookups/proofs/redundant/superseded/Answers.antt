@@ -2,7 +2,7 @@ use Rattle.std.specs.Prelude.{◌≡◌, Ok, Some, true, false, not}
 use Rattle.std.specs.List.{list_any}
 use Rattle.std.proofs.Common.{refl, sym, ap, ◌∙◌}
 use Rattle.ci_machine.specs.Redundant.{is_newer_of}
-use Rattle.ci_machine.specs.Step.{pipeline_at}
+use Rattle.ci_machine_steps.specs.Step.{pipeline_at}
 use Rattle.ci_server_lookups.proofs.Loading.{so}
 use Rattle.ci_server_lookups.proofs.Holds.{any_if_some}
 use Rattle.ci_server_lookups.proofs.Supersedes.{superseded_by}

@@ -2,7 +2,7 @@ use Rattle.std.proofs.Common.{◌≡◌, ◌-◌, ◌^◌}
 use Rattle.std.specs.Prelude.{Ok}
 use Rattle.ci_machine.specs.Eligible.{chosen}
 use Rattle.ci_machine.specs.Holders.{holders}
-use Rattle.ci_machine.specs.Step.{queue}
+use Rattle.ci_machine_steps.specs.Step.{queue}
 use Rattle.ci_machine_statuses.specs.Pages.{queue_behind}
 use Rattle.ci_store.specs.Store.{LoadsBy}
 use Rattle.ci_server_lookups.specs.Keeps.{IsKept}

@@ -2,7 +2,7 @@ use Rattle.std.specs.Prelude.{◌≡◌, ◌&&◌, Some, Ok}
 use Rattle.std.proofs.Common.{refl, sym, ap, ◌∙◌}
 use Rattle.ci_machine.specs.Eligible.{may_run, is_free}
 use Rattle.ci_machine.specs.Holders.{holders}
-use Rattle.ci_machine.specs.Step.{demand_at, pipeline_at}
+use Rattle.ci_machine_steps.specs.Step.{demand_at, pipeline_at}
 use Rattle.ci_server_lookups.proofs.Loading.{goes_on, so}
 use Rattle.ci_server_lookups.proofs.Demands.{eligible_by}
 use Rattle.ci_server_lookups.proofs.search.is_eligible.Goals as goal

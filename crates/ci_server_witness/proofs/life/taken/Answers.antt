@@ -3,7 +3,7 @@ use Rattle.std.specs.Prelude.{None}
 use Rattle.sqlite.specs.Steps.{over_memory}
 use Rattle.ci_machine.specs.declared.request.Event.TheVariants as event
 use Rattle.ci_machine.specs.declared.reply.Answer.TheVariants as answer
-use Rattle.ci_machine.specs.Examples.{seed}
+use Rattle.ci_machine_laws.specs.Examples.{seed}
 use Rattle.ci_server.specs.Server.{Handles}
 use Rattle.ci_server_witness.proofs.LifeLemmas.{made_at, unmade}
 use Rattle.ci_server_witness.proofs.life.taken.Goals as goal

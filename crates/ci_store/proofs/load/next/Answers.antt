@@ -5,7 +5,7 @@ use Rattle.sqlite.specs.State.{Shown}
 use Rattle.sqlite.specs.Held.{state}
 use Rattle.ci_store_rows.specs.declared.texts.TheConstants.{SELECT_META}
 use Rattle.ci_store_rows.specs.Stands.{counter_key, meta_row}
-use Rattle.ci_machine.specs.Step.{next_of}
+use Rattle.ci_machine.specs.Lookups.{next_of}
 use Rattle.ci_store.proofs.Loading.{after_ok}
 use Rattle.ci_store_rows.proofs.NextLoads.{plain_meta, next_found, number_read}
 use Rattle.ci_store.proofs.load.next.Goals as goal

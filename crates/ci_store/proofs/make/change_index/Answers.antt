@@ -1,6 +1,5 @@
-use Rattle.std.proofs.Common.{[], refl}
+use Rattle.std.proofs.Common.{[]}
 use Rattle.ci_machine.specs.Kept.{indexed}
-use Rattle.ci_machine.specs.declared.change.IndexChange.TheVariants.{Hold, Free, Open, Close}
 use Rattle.ci_store.proofs.Applied.{by_item}
 use Rattle.ci_store_rows.proofs.Removals.{removed_indexed}
 use Rattle.ci_store_rows.proofs.Holders.{holder_freed}

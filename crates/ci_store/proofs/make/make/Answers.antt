@@ -3,14 +3,8 @@ use Rattle.ci_store_rows.specs.Changes.{in_state}
 use Rattle.ci_store.proofs.Applied.{by_item}
 use Rattle.ci_store.proofs.make.make.Goals as goal
 
-pub returns-in-Add-clause-makes : goal.returns-in-Add-clause-makes
-returns-in-Add-clause-makes g c clean inside = by_item g.S.Store c.args.tx.now.conn.now c.put_record.new.tx.conn.now (λ change. in_state (changed change)) c.in-Add.is c.put_record.result (c.put_record.ensures.makes clean inside)
-
 pub returns-in-Put-clause-makes : goal.returns-in-Put-clause-makes
-returns-in-Put-clause-makes g c clean inside = by_item g.S.Store c.args.tx.now.conn.now c.put_record-in-Put.new.tx.conn.now (λ change. in_state (changed change)) c.in-Put.is c.put_record-in-Put.result (c.put_record-in-Put.ensures.makes clean inside)
+returns-in-Put-clause-makes g c clean inside = by_item g.S.Store c.args.tx.now.conn.now c.put_record.new.tx.conn.now (λ change. in_state (changed change)) c.in-Put.is c.put_record.result (c.put_record.ensures.makes clean inside)
 
 pub returns-in-Remove-clause-makes : goal.returns-in-Remove-clause-makes
 returns-in-Remove-clause-makes g c clean inside = by_item g.S.Store c.args.tx.now.conn.now c.remove_record.new.tx.conn.now (λ change. in_state (changed change)) c.in-Remove.is c.remove_record.result (c.remove_record.ensures.makes clean inside)
-
-pub returns-in-SetNext-clause-makes : goal.returns-in-SetNext-clause-makes
-returns-in-SetNext-clause-makes g c clean inside = by_item g.S.Store c.args.tx.now.conn.now c.set_next.new.tx.conn.now (λ change. in_state (changed change)) c.in-SetNext.is c.set_next.result (c.set_next.ensures.makes clean inside)

@@ -1,0 +1,74 @@
+-- All that holds of every state that a history leads to.
+use Rattle.std.specs.Prelude.{◌≡◌, true, false, List, [], ◌∷◌, map, Contains}
+use Rattle.std.proofs.Common.{refl, sym, subst, inl, arith}
+use Rattle.ci_machine.specs.declared.records.BoardRow.{BoardRow}
+use Rattle.ci_machine.specs.declared.records.Attempt.{Attempt}
+use Rattle.ci_machine.specs.State.{State, empty}
+use Rattle.ci_machine.specs.Statuses.{AreBoard}
+use Rattle.ci_machine.specs.Leases.{is_live}
+use Rattle.ci_machine_steps.specs.History.{Past, Leads}
+use Rattle.ci_machine_steps.specs.Laws.{grants, WasGranted, IsTraced, EndsStay, Stay, project_for_good, runner_for_good, job_for_good, attempt_for_good, Stays, IsSweptBy, is_grant, GivesInOrder, Laws}
+use Rattle.ci_machine.proofs.Keyed.{Has, has_filter, All-from_has, contains_from_has, has_from_contains, has_map}
+use Rattle.ci_machine_laws.proofs.Included.{was_included}
+use Rattle.ci_machine_laws.proofs.Grants.{WasGiven, one_lease}
+use Rattle.ci_machine_laws.proofs.Reached.{reached}
+use Rattle.ci_machine_laws.proofs.Held.{Kept, Later, is_linked, held}
+use Rattle.ci_machine_laws.proofs.Groups.{one_in_group}
+
+stay : {A : Type 0} (f : A → A) (xs ys : List A) → Kept f xs ys → Stay f xs ys
+stay f xs ys k =
+    All-from_has _ xs (λ x m. let y = k x m in contains_from_has (f x) (map f ys) (subst (λ w. Has w (map f ys)) y.1.1 (has_map f y.0 ys y.1.0)))
+
+stays_from : (s t : State) → Later s t → Stays s t
+stays_from s t l = record {
+  projects = stay project_for_good s.projects t.projects l.projects;
+  runners = stay runner_for_good s.runners t.runners l.runners;
+  pipelines = stay (λ p. p) s.pipelines t.pipelines l.pipelines;
+  jobs = stay job_for_good s.jobs t.jobs l.jobs;
+  attempts = stay attempt_for_good s.attempts t.attempts l.attempts;
+}
+
+-- the rows of nothing
+no_rows : AreBoard empty []
+no_rows = record {
+  keys = refl;
+  each = λ pipeline. record { is = λ i l. absurd (omega arith); each = λ i l. absurd (omega arith) };
+}
+
+settled : (h : List Past) (s : State) → Leads h s → (board : List BoardRow) × AreBoard s board
+settled [] s l = subst (λ (w : State). (board : List BoardRow) × AreBoard w board) (sym l) ([], no_rows)
+settled (p ∷ h) s l = (l.1.after, l.1.are_after)
+
+-- each attempt was granted to the least eligible job, which its rules had included
+granted : (h : List Past) (s : State) → Leads h s → (a : Attempt) → WasGiven h a → WasGranted h a
+granted h s leads a w = record {
+  line = w.line;
+  once = w.once;
+  runner = w.runner;
+  job = w.job;
+  its_runner = w.its_runner;
+  its_job = w.its_job;
+  eligible = w.eligible;
+  asked = w.asked;
+  was_included = was_included h s leads w.line
+      (has_filter (grants a.id) w.line h (subst (Has w.line) (sym w.once) (inl refl))).0
+      w.job (has_from_contains w.job w.line.before.jobs w.eligible.is_job);
+}
+
+-- all the laws
+pub laws : (h : List Past) (s : State) → Leads h s → Laws h s
+laws h s leads =
+    let i = reached h s leads in
+    let held = held h s leads in
+    record {
+      one_lease = one_lease h s i.grants;
+      one_in_group = one_in_group h s leads;
+      was_granted = All-from_has (WasGranted h) s.attempts (λ a k. granted h s leads a (i.grants.granted a k));
+      traced = All-from_has (IsTraced h s) s.attempts i.traces.traced;
+      ends_stay = All-from_has (λ (p : Past). EndsStay p.before s) h (λ p k. All-from_has (λ (a : Attempt). is_live a ≡ false → Contains s.attempts a) p.before.attempts (λ a m l. contains_from_has a s.attempts (i.ends p k a m l)));
+      stays = All-from_has (λ (p : Past). Stays p.before s) h (λ p k. stays_from p.before s (held.stays p k));
+      linked = is_linked s held.linked;
+      settled = settled h s leads;
+      swept = All-from_has (λ (p : Past). IsSweptBy p.before p.now p.event p.answer) h held.swept;
+      in_order = All-from_has (λ (p : Past). is_grant p.event p.answer ≡ true → GivesInOrder p.before p.answer) h held.in_order;
+    }

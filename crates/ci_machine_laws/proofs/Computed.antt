@@ -1,0 +1,70 @@
+-- Boards that are computed: of a state with one pipeline, whose rows are given.
+use Rattle.std.specs.Prelude.{◌≡◌, ◌⊎◌, ℕ, ◌+◌, ◌<◌, ◌≤◌, ◌==◌, nat_lt, Bool, true, List, [], ◌∷◌, length, map, filter}
+use Rattle.std.specs.List.{AllByRecursion}
+use Rattle.std.proofs.Common.{refl, sym, ap, subst, ◌∙◌, inl, inr, ⊎_elim, arith, ltb-true}
+use Rattle.std.proofs.lemmas.Bool.{cond_both, cases_Bool, ltb-false}
+use Rattle.ci_graph.specs.JobGraph.{JobGraph, part_at}
+use Rattle.ci_board.specs.declared.facts.Facts.{Facts}
+use Rattle.ci_board.specs.declared.facts.Row.{Row}
+use Rattle.ci_board.specs.Pass.{status_of_row}
+use Rattle.ci_board.specs.Rows.{AreRows, row_at, facts_at}
+use Rattle.ci_board.proofs.Counted.{HasCounts}
+use Rattle.ci_board.proofs.Assignments.{assignment_of}
+use Rattle.ci_machine.specs.declared.records.Job.{Job}
+use Rattle.ci_machine.specs.declared.records.BoardRow.{BoardRow}
+use Rattle.ci_machine.specs.State.{State}
+use Rattle.ci_machine.specs.Statuses.{graph_by, facts_in, row_for, AreBoard}
+use Rattle.ci_machine.proofs.Keyed.{Has, filter_none}
+
+-- ---- rows
+
+-- what holds of each place from k on, of as many as the list has
+abbrev pub Places : {A : Type 0} → (ℕ → Type 0) → ℕ → List A → Type 0
+Places P k [] = Unit {0}
+Places P k (x ∷ xs) = P k × Places P (k + 1) xs
+
+equal_or_more : (p q : ℕ) → p ≤ q → (p ≡ q) ⊎ (p + 1 ≤ q)
+equal_or_more p q le =
+    cond_both (nat_lt p q) 0 0 (λ (_ : ℕ). (p ≡ q) ⊎ (p + 1 ≤ q)) (λ e. inr (let z : p < q = ltb-true p q e in omega arith)) (λ e. inl (let z : q ≤ p = ltb-false p q e in omega arith))
+
+at_place : {A : Type 0} (P : ℕ → Type 0) (k : ℕ) (xs : List A) → Places P k xs → (i : ℕ) → k ≤ i → i < k + length xs → P i
+at_place P k [] all i l m = absurd (omega arith)
+at_place P k (x ∷ xs) all i l m = ⊎_elim (λ e. subst P e all.0) (λ d. at_place P (k + 1) xs all.1 i d (omega arith)) (equal_or_more k i l)
+
+-- the numbers of each row are counted, and each status is that of its row
+pub computed_rows : (g : JobGraph) (facts : List Facts) (rows : List Row) → Places (HasCounts g facts rows) 0 g.parts
+    → Places (λ i. (row_at rows i).status ≡ status_of_row (part_at g i) (facts_at facts i) (row_at rows i)) 0 g.parts → AreRows g facts rows
+computed_rows g facts rows counted settled = assignment_of g facts rows (record {
+  counted = λ i l. at_place (HasCounts g facts rows) 0 g.parts counted i (omega arith) (omega arith);
+  settled = λ i l. at_place (λ k. (row_at rows k).status ≡ status_of_row (part_at g k) (facts_at facts k) (row_at rows k)) 0 g.parts settled i (omega arith) (omega arith);
+})
+
+-- ---- a board
+
+all_has : {A : Type 0} (P : A → Type 0) (x : A) (xs : List A) → AllByRecursion P xs → Has x xs → P x
+all_has P x [] all k = absurd k
+all_has P x (y ∷ ys) all k = ⊎_elim (λ e. subst P (sym e) all.0) (λ m. all_has P x ys all.1 m) k
+
+filter_all : {A : Type 0} (p : A → Bool) (xs : List A) → ((x : A) → Has x xs → p x ≡ true) → filter p xs ≡ xs
+filter_all p [] h = refl
+filter_all p (x ∷ xs) h = rw (h x (inl refl)) (ap (λ l. x ∷ l) (filter_all p xs (λ y k. h y (inr k))))
+
+module _ (s : State) (board : List BoardRow) where
+  -- the rows of some of its jobs
+  abbrev pub AreTheirs : List Job → Type 0
+  AreTheirs js = AreRows (graph_by js s.needs) (map (facts_in s) js) (map (row_for board) (map (λ j. j.id) js))
+
+  none : AreTheirs []
+  none = record { is = λ i l. absurd (omega arith); each = λ i l. absurd (omega arith) }
+
+  -- where all jobs are of one pipeline, the board is right if their rows are
+  pub one_pipeline : (p : ℕ) → AllByRecursion (λ j. j.pipeline ≡ p) s.jobs → map (λ r. r.job) board ≡ map (λ j. j.id) s.jobs → AreTheirs s.jobs → AreBoard s board
+  one_pipeline p of keys rows = record {
+    keys = keys;
+    each = λ q.
+        let its : (j : Job) → Has j s.jobs → j.pipeline ≡ p = λ j k. all_has (λ (w : Job). w.pipeline ≡ p) j s.jobs of k in
+        ⊎_elim
+        (λ e. subst AreTheirs (sym (filter_all (λ (j : Job). j.pipeline == q) s.jobs (λ j k. ap (λ n. n == q) (its j k) ∙ e))) rows)
+        (λ e. subst AreTheirs (sym (filter_none (λ (j : Job). j.pipeline == q) s.jobs (λ j k. ap (λ n. n == q) (its j k) ∙ e))) none)
+        (cases_Bool (p == q));
+  }

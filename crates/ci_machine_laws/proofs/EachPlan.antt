@@ -1,0 +1,533 @@
+-- What holds of each plan: a refusal changes nothing, and the machine answers neither M16 nor M17.
+use Rattle.std.proofs.Common.{◌≡◌, ℕ, ◌==◌, Bool, List, [], length, not, nat_lt, true, false, Option, None, Some, option_map, Result, Ok, Err, ◌∷◌, refl, sym, ap, subst, ◌∙◌, ⊎_elim, eqb-true}
+use Rattle.std.specs.Str.{bytes_eq}
+use Rattle.std.proofs.lemmas.Bool.{cond_both, and_parts, false≢true}
+use Rattle.ci_board.specs.declared.facts.Status.{Status}
+use Rattle.ci_machine.specs.declared.records.BoardRow.{BoardRow}
+use Rattle.ci_machine.specs.declared.records.Project.{Project}
+use Rattle.ci_machine.specs.declared.records.Pipeline.{Pipeline}
+use Rattle.ci_machine.specs.declared.records.Job.{Job}
+use Rattle.ci_machine.specs.declared.records.Attempt.{Attempt}
+use Rattle.ci_values.specs.declared.attempts.AttemptState.{AttemptState}
+use Rattle.ci_machine.specs.declared.records.Piece.{Piece}
+use Rattle.ci_machine.specs.declared.lease.Lease.{Lease}
+use Rattle.ci_machine.specs.declared.lease.LeaseFault.{LeaseFault}
+use Rattle.ci_machine.specs.declared.lease.LeaseFault.TheVariants.{NotLive, LeaseOver}
+use Rattle.ci_machine.specs.declared.lease.PieceFault.{PieceFault}
+use Rattle.ci_machine.specs.declared.lease.PieceFault.TheVariants.{Unleased, WrongOffset, TraceFull}
+use Rattle.ci_machine.specs.declared.records.Runner.{Runner}
+use Rattle.ci_machine.specs.declared.records.QueuedJob.{QueuedJob}
+use Rattle.ci_machine.specs.declared.records.JobVariable.{JobVariable}
+use Rattle.ci_config.specs.Config.{Config}
+use Rattle.ci_config.specs.declared.limits.TheConstants.{MAX_VARIABLES, MAX_TAGS}
+use Rattle.ci_values.specs.VariableName.{is_variable_name}
+use Rattle.ci_graph_layout.specs.Inclusion.{Given}
+use Rattle.ci_board.specs.declared.facts.Facts.{Facts}
+use Rattle.ci_board.specs.declared.facts.Row.{Row}
+use Rattle.ci_machine.specs.declared.records.Variable.{Variable}
+use Rattle.ci_machine.specs.declared.records.Holder.{Holder}
+use Rattle.ci_machine.specs.declared.request.NewRunner.{NewRunner}
+use Rattle.ci_machine.specs.declared.request.NewFile.{NewFile}
+use Rattle.ci_machine.specs.declared.request.NewVariable.{NewVariable}
+use Rattle.ci_machine.specs.declared.request.VariableQuery.{VariableQuery}
+use Rattle.ci_machine.specs.declared.request.NewPipeline.{NewPipeline}
+use Rattle.ci_machine.specs.declared.request.PipelineQuery.{PipelineQuery}
+use Rattle.ci_machine.specs.declared.request.Event.{Event}
+use Rattle.ci_machine.specs.declared.request.Event.TheVariants as event
+use Rattle.ci_machine.specs.declared.request.Request.{Request}
+use Rattle.ci_machine.specs.declared.request.Request.TheVariants.{AddProject, AddRunner, PauseRunner, SetFile, SetVariable, DeleteVariable, CreatePipeline, ShowPipeline, AskJob, UpdateJob, AppendTrace, ShowJob, ShowTrace, Play, CancelJob, CancelPipeline, RetryJob}
+use Rattle.ci_machine.specs.declared.request.Report.{Report}
+use Rattle.ci_machine.specs.declared.request.Report.TheVariants as report
+use Rattle.ci_machine.specs.declared.request.JobUpdate.{JobUpdate}
+use Rattle.ci_machine.specs.declared.request.TracePart.{TracePart}
+use Rattle.ci_machine.specs.declared.request.JobQuery.{JobQuery}
+use Rattle.ci_machine.specs.declared.request.Seed.{Seed}
+use Rattle.ci_machine.specs.declared.reply.Code.{Code}
+use Rattle.ci_machine.specs.declared.reply.Code.TheVariants.{M1, M2, M3, M4, M5, M6, M7, M8, M9, M10, M11, M12, M13, M14, M15, M16, M17, H1, H2, H3, H4, H5, H6, H7, H8}
+use Rattle.ci_machine.specs.declared.reply.Detail.{Detail}
+use Rattle.ci_machine.specs.declared.reply.Detail.TheVariants as detail
+use Rattle.ci_machine.specs.declared.reply.FaultCode.TheVariants.{K}
+use Rattle.ci_machine.specs.declared.reply.Body.TheVariants.{Json}
+use Rattle.ci_machine.specs.declared.reply.Answer.{Answer}
+use Rattle.ci_machine.specs.declared.reply.Answer.TheVariants as answer
+use Rattle.ci_machine.specs.declared.reply.Swept.{Swept}
+use Rattle.ci_machine.specs.declared.change.RowChange.{RowChange}
+use Rattle.ci_values.specs.Names.{is_name}
+use Rattle.ci_machine.specs.State.{State, applied}
+use Rattle.ci_machine.specs.Statuses.{jobs_of, attempts_of, facts_of, rows_of, status_for}
+use Rattle.ci_values.specs.declared.limits.TheConstants.{MAX_NUMBER}
+use Rattle.serde_json.specs.Written.{compact_text}
+use Rattle.ci_machine.specs.Bodies.{printed_status, job_data, pipeline_data}
+use Rattle.ci_machine_steps.specs.Plans.{Plan, refused, faulted, fine, asked_project}
+use Rattle.ci_machine_steps.specs.Projects.{made_project, add_project}
+use Rattle.ci_machine_steps.specs.Runners.{made_runner, are_names, lacks_project, add_runner, runner_paused, pause_runner}
+use Rattle.ci_machine_steps.specs.Files.{file_set, set_file, SetsFile}
+use Rattle.ci_machine_steps.specs.Variables.{count_with, variable_set, set_variable, variable_gone, delete_variable}
+use Rattle.ci_machine_steps.specs.Pipelines.{have_names, file_or_none, may_create, given_by, Layout, IsLaidOut, lacks_numbers, creation, pipeline_created, MakesUnless, Makes, Creates}
+use Rattle.ci_machine_steps.specs.Grants.{nothing_to_run, granted, ask_job}
+use Rattle.ci_machine_steps.specs.Reports.{unleased, heard, ended, reported, update_job}
+use Rattle.ci_machine_steps.specs.Traces.{not_accepted, grown, appended, append_trace}
+use Rattle.ci_machine_steps.specs.Shows.{asked_pipeline, pipeline_shown, show_pipeline, job_shown, trace_shown, job_within, asked_job, shown, traced}
+use Rattle.ci_machine_steps.specs.Acts.{permitted, status_among, ActsOn}
+use Rattle.ci_machine_steps.specs.Plays.{is_playable, play}
+use Rattle.ci_machine_steps.specs.Retries.{is_retryable, retry}
+use Rattle.ci_machine_steps.specs.Cancels.{is_cancellable, cancellable_jobs, cancel, CancelsSome, CancelsPipeline}
+use Rattle.ci_machine_steps.specs.Sweeps.{sweep}
+use Rattle.ci_machine.specs.Leases.{accepted, first_due}
+use Rattle.ci_machine.specs.Eligible.{may_run, resource_free, is_eligible, chosen}
+use Rattle.ci_machine.specs.Holders.{holders}
+use Rattle.ci_machine_steps.specs.Step.{Does, Happens, Step, project_with, project_named, runner_at, redundant_in, cancellable_in, project_variables, variable_at, pipeline_at, runner_with, attempt_at, pipeline_of, job_at, found_job, found_pipeline, last_attempt, pieces_in, lease_of, leases, is_pending, pending_jobs, queued, queue, offer, offered_variables}
+use Rattle.ci_machine_steps.specs.Laws.{IsRefusal}
+use Rattle.ci_machine.specs.Reply.{Stepped, outcome_of}
+use Rattle.ci_machine.proofs.Keyed.{Has, has_filter, has_find, find-map}
+use Rattle.ci_machine_laws.proofs.Acts.{IsAct, plays, retries, cancels, cancellable_within}
+
+-- the codes with which the machine refuses
+abbrev pub IsMachineCode : Code → Type 0
+IsMachineCode M1 = Unit {0}
+IsMachineCode M2 = Unit {0}
+IsMachineCode M3 = Unit {0}
+IsMachineCode M4 = Unit {0}
+IsMachineCode M5 = Unit {0}
+IsMachineCode M10 = Unit {0}
+IsMachineCode M11 = Unit {0}
+IsMachineCode M12 = Unit {0}
+IsMachineCode M13 = Unit {0}
+IsMachineCode M14 = Unit {0}
+IsMachineCode M15 = Unit {0}
+IsMachineCode _ = ⊥
+
+-- ---- a project that is asked for, its file, its variables and its pipelines
+
+-- a project that was asked for is there and has the number; and else the request is refused
+abbrev pub Asked : State → ℕ → Result Project Code → Type 0
+Asked s named (Ok project) = Has project s.projects × (project.id ≡ named)
+Asked s named (Err code) = IsMachineCode code
+
+asked_is : (s : State) (token : List ℕ) (named : ℕ) (o : Option Project) → project_with s token ≡ o → Asked s named (asked_project o named)
+asked_is s token named None found = tt
+asked_is s token named (Some project) found =
+    cond_both (project.id == named) (Ok project) (Err M2) (Asked s named)
+    (λ e. ((has_find (λ (p : Project). bytes_eq p.token token) project s.projects found).0, eqb-true project.id named e))
+    (λ _. tt)
+
+-- the project that was asked for
+abbrev pub of_asked : State → List ℕ → ℕ → Result Project Code
+of_asked s token named = asked_project (project_with s token) named
+
+pub is_asked : (s : State) (token : List ℕ) (named : ℕ) → Asked s named (of_asked s token named)
+is_asked s token named = asked_is s token named (project_with s token) refl
+
+abbrev pub given_in : State → NewPipeline → Given
+given_in s new = given_by new (project_variables s new.project)
+
+-- a fact of each plan by which a pipeline is made
+abbrev pub OfCreation : State → (Plan → Type 0) → NewPipeline → ℕ → Type 0
+OfCreation s P new now =
+    (project : Project) (text : List ℕ) (laid : Layout) (rows : List Row) → of_asked s new.token new.project ≡ Ok project → Has project s.projects → project.id ≡ new.project → project.file ≡ Some text
+    → IsLaidOut text (given_in s new) (Ok laid) → P (pipeline_created s.next.job (creation s.next.pipeline s.next.job new (given_in s new) now laid) (holders s) rows)
+
+module _ (s : State) (P : Plan → Type 0) (of_code : (c : Code) → IsMachineCode c → P (refused c)) (of_fault : (d : Detail) → P (faulted d)) where
+  file_said : (project : Project) (text : List ℕ) → ((c : Config) → P (file_set project text c)) → (said : Result Config Detail) → P (set_file project text said)
+  file_said project text h (Ok c) = h c
+  file_said project text h (Err d) = of_fault d
+
+  sets : (named : ℕ) (text : List ℕ) (plan : Plan) → ((project : Project) (c : Config) → Has project s.projects → P (file_set project text c)) → (r : Result Project Code) → Asked s named r → SetsFile r text plan → P plan
+  sets named text plan h (Err code) asked is = subst P (sym is) (of_code code asked)
+  sets named text plan h (Ok project) asked is = subst P (sym is.2) (file_said project text (λ c. h project c asked.0) is.0)
+
+  -- a project's file is to be a text
+  pub of_file : (new : NewFile) (plan : Plan) → ((project : Project) (c : Config) → Has project s.projects → P (file_set project new.text c)) → SetsFile (of_asked s new.token new.project) new.text plan → P plan
+  of_file new plan h = sets new.project new.text plan h (of_asked s new.token new.project) (is_asked s new.token new.project)
+
+  puts : (named : ℕ) (vs : List Variable) (new : NewVariable) → ((project : Project) → P (variable_set project new)) → (r : Result Project Code) → Asked s named r → P (set_variable r vs new)
+  puts named vs new h (Err code) asked = of_code code asked
+  puts named vs new h (Ok project) asked =
+      cond_both (nat_lt MAX_VARIABLES (count_with new.key vs)) (faulted (detail.Code (K 11))) _ P (λ _. of_fault (detail.Code (K 11))) (λ _.
+      cond_both (not (is_variable_name new.key)) (faulted (detail.Code (K 12))) (variable_set project new) P (λ _. of_fault (detail.Code (K 12))) (λ _. h project))
+
+  -- a variable is to have a value
+  pub of_variable : (new : NewVariable) → ((project : Project) → P (variable_set project new)) → P (set_variable (of_asked s new.token new.project) (project_variables s new.project) new)
+  of_variable new h = puts new.project (project_variables s new.project) new h (of_asked s new.token new.project) (is_asked s new.token new.project)
+
+  removes : (named : ℕ) → ((v : Variable) → P (variable_gone v)) → (found : Option Variable) (r : Result Project Code) → Asked s named r → P (delete_variable r found)
+  removes named h found (Err code) asked = of_code code asked
+  removes named h None (Ok project) asked = of_code M3 tt
+  removes named h (Some v) (Ok project) asked = h v
+
+  -- a variable is to go
+  pub of_removal : (query : VariableQuery) → ((v : Variable) → P (variable_gone v)) → P (delete_variable (of_asked s query.token query.project) (variable_at s query.project query.key))
+  of_removal query h = removes query.project h (variable_at s query.project query.key) (of_asked s query.token query.project) (is_asked s query.token query.project)
+
+  -- ---- a pipeline is to be made
+
+  unless : (new : NewPipeline) (now : ℕ) (plan : Plan) (laid : Layout) → ((rows : List Row) → P (pipeline_created s.next.job (creation s.next.pipeline s.next.job new (given_in s new) now laid) (holders s) rows)) → (lacks : Bool)
+      → MakesUnless lacks s.next.job (creation s.next.pipeline s.next.job new (given_in s new) now laid) (holders s) plan → P plan
+  unless new now plan laid h true is = subst P (sym is) (of_code M15 tt)
+  unless new now plan laid h false is = subst P (sym is.2) (h is.0)
+
+  makes : (new : NewPipeline) (now : ℕ) (plan : Plan) → OfCreation s P new now → (project : Project) → of_asked s new.token new.project ≡ Ok project → Asked s new.project (Ok project)
+      → (text : List ℕ) → project.file ≡ Some text → (laid : Result Layout Detail) → IsLaidOut text (given_in s new) laid → Makes s.next.pipeline s.next.job (holders s) new (given_in s new) now laid plan → P plan
+  makes new now plan h project is_project asked text file (Err fault) lays is = subst P (sym is) (of_fault fault)
+  makes new now plan h project is_project asked text file (Ok laid) lays is =
+      unless new now plan laid (λ rows. h project text laid rows is_project asked.0 asked.1 file lays) (lacks_numbers s.next.pipeline s.next.job (length laid.plan.jobs)) is
+
+  reads : (new : NewPipeline) (now : ℕ) (plan : Plan) → OfCreation s P new now → (project : Project) → of_asked s new.token new.project ≡ Ok project → Asked s new.project (Ok project)
+      → (file : Option (List ℕ)) → project.file ≡ file → Creates s.next.pipeline s.next.job (holders s) new (given_in s new) now (file_or_none file) plan → P plan
+  reads new now plan h project is_project asked None file is = subst P (sym is) (of_code M13 tt)
+  reads new now plan h project is_project asked (Some text) file is = makes new now plan h project is_project asked text file is.0 is.1 is.2
+
+  creates : (new : NewPipeline) (now : ℕ) (plan : Plan) → OfCreation s P new now → (r : Result Project Code) → of_asked s new.token new.project ≡ r → Asked s new.project r
+      → Creates s.next.pipeline s.next.job (holders s) new (given_in s new) now (may_create r new) plan → P plan
+  creates new now plan h (Err code) is asked made = subst P (sym made) (of_code code asked)
+  creates new now plan h (Ok project) is asked made =
+      let C : Result (List ℕ) Plan → Type 0 = λ t. Creates s.next.pipeline s.next.job (holders s) new (given_in s new) now t plan → P plan in
+      cond_both (not (is_name new.git_ref)) (Err (faulted (detail.Code (K 16)))) _ C (λ _ k. subst P (sym k) (of_fault (detail.Code (K 16)))) (λ _.
+      cond_both (nat_lt MAX_VARIABLES (length new.variables)) (Err (faulted (detail.Code (K 11)))) _ C (λ _ k. subst P (sym k) (of_fault (detail.Code (K 11)))) (λ _.
+      cond_both (not (have_names new.variables)) (Err (faulted (detail.Code (K 12)))) (file_or_none project.file) C (λ _ k. subst P (sym k) (of_fault (detail.Code (K 12))))
+      (λ _. reads new now plan h project is asked project.file refl))) made
+
+  pub of_creation : (new : NewPipeline) (now : ℕ) (plan : Plan) → OfCreation s P new now
+      → Creates s.next.pipeline s.next.job (holders s) new (given_in s new) now (may_create (of_asked s new.token new.project) new) plan → P plan
+  of_creation new now plan h = creates new now plan h (of_asked s new.token new.project) refl (is_asked s new.token new.project)
+
+  -- ---- a pipeline is shown
+
+  shows : (held : List Holder) (jobs : List Job) (facts : List Facts) (rows : List Row) → ((p : Pipeline) → P (pipeline_shown p held jobs facts rows)) → (named : ℕ) (found : Option Pipeline) (r : Result Project Code) → Asked s named r
+      → P (show_pipeline (asked_pipeline r found) held jobs facts rows)
+  shows held jobs facts rows h named found (Err code) asked = of_code code asked
+  shows held jobs facts rows h named None (Ok project) asked = of_code M3 tt
+  shows held jobs facts rows h named (Some p) (Ok project) asked =
+      cond_both (p.project == project.id) (Ok p) (Err M3) (λ r. P (show_pipeline r held jobs facts rows)) (λ _. h p) (λ _. of_code M3 tt)
+
+  pub of_pipeline : (query : PipelineQuery) (held : List Holder) (jobs : List Job) (facts : List Facts) (rows : List Row) → ((p : Pipeline) → P (pipeline_shown p held jobs facts rows))
+      → P (show_pipeline (asked_pipeline (of_asked s query.token query.project) (pipeline_at s query.pipeline)) held jobs facts rows)
+  of_pipeline query held jobs facts rows h = shows held jobs facts rows h query.project (pipeline_at s query.pipeline) (of_asked s query.token query.project) (is_asked s query.token query.project)
+
+-- ---- what a user does to jobs
+
+-- a job that was asked for is there, and else the request is refused
+abbrev Found : State → Result Job Code → Type 0
+Found s (Ok job) = Has job s.jobs
+Found s (Err code) = IsMachineCode code
+
+found_within : (s : State) (job : Option Job) → ((j : Job) → job ≡ Some j → Has j s.jobs) → (pipeline : Option Pipeline) (project : ℕ) → Found s (job_within job pipeline project)
+found_within s None has pipeline project = tt
+found_within s (Some job) has None project = tt
+found_within s (Some job) has (Some pipeline) project = cond_both (pipeline.project == project) (Ok job) (Err M3) (Found s) (λ _. has job refl) (λ _. tt)
+
+found_by : (s : State) (query : JobQuery) (project : Option Project) → Found s (asked_job project (job_at s query.job) (pipeline_of s (job_at s query.job)) query)
+found_by s query None = tt
+found_by s query (Some project) =
+    let job = job_at s query.job in
+    cond_both (project.id == query.project) (job_within job (pipeline_of s job) project.id) (Err M2) (Found s)
+    (λ _. found_within s job (λ j e. (has_find (λ (w : Job). w.id == query.job) j s.jobs e).0) (pipeline_of s job) project.id)
+    (λ _. tt)
+
+-- a pipeline that was asked for, or a code that refuses the request
+abbrev IsPipeline : Result Pipeline Code → Type 0
+IsPipeline (Ok p) = Unit {0}
+IsPipeline (Err code) = IsMachineCode code
+
+pipeline_by : (s : State) (named : ℕ) (found : Option Pipeline) (r : Result Project Code) → Asked s named r → IsPipeline (asked_pipeline r found)
+pipeline_by s named found (Err code) asked = asked
+pipeline_by s named None (Ok project) asked = tt
+pipeline_by s named (Some p) (Ok project) asked = cond_both (p.project == project.id) (Ok p) (Err M3) IsPipeline (λ _. tt) (λ _. tt)
+
+module _ (s : State) (board : List BoardRow) (P : Plan → Type 0) (of_code : (c : Code) → IsMachineCode c → P (refused c))
+    (of_act : (text : List ℕ) (changes : List RowChange) → IsAct s changes → P (fine (Json text), changes)) where
+  permits : (test : Status → Bool) (code : Code) → IsMachineCode code → (r : Result Job Code) → Found s r → Found s (permitted board test code r)
+  permits test code m (Err refusal) found = found
+  permits test code m (Ok job) found = cond_both (test (status_for board job.id)) (Ok job) (Err code) (Found s) (λ _. found) (λ _. m)
+
+  acts : (act : Job → List RowChange) → ((j : Job) → Has j s.jobs → IsAct s (act j)) → (plan : Plan) (r : Result Job Code) → Found s r → ActsOn s act r plan → P plan
+  acts act are plan (Err code) found is = subst P (sym is) (of_code code found)
+  acts act are plan (Ok job) found is =
+      let t = applied (act job) s in
+      subst P (sym is.2) (of_act (compact_text (job_data (printed_status (holders t) (queued t job).project job (status_among t is.0 job)) job)) (act job) (are job found))
+
+  acts_on : (act : Job → List RowChange) → ((j : Job) → Has j s.jobs → IsAct s (act j)) → (test : Status → Bool) (code : Code) → IsMachineCode code → (query : JobQuery) (plan : Plan)
+      → ActsOn s act (permitted board test code (found_job s query)) plan → P plan
+  acts_on act are test code m query plan is =
+      acts act are plan (permitted board test code (found_job s query)) (permits test code m (found_job s query) (found_by s query (project_with s query.token))) is
+
+  -- a job is to be played
+  pub of_play : (query : JobQuery) (plan : Plan) → ActsOn s play (permitted board is_playable M10 (found_job s query)) plan → P plan
+  of_play query plan is = acts_on play (plays s) is_playable M10 tt query plan is
+
+  -- a job is to be tried again
+  pub of_retry : (query : JobQuery) (plan : Plan) → ActsOn s (λ j. retry (attempts_of s j.id) j) (permitted board is_retryable M11 (found_job s query)) plan → P plan
+  of_retry query plan is = acts_on (λ j. retry (attempts_of s j.id) j) (retries s) is_retryable M11 tt query plan is
+
+  -- a job is to be cancelled
+  pub of_job_cancel : (query : JobQuery) (plan : Plan) → ActsOn s (λ j. cancel s.attempts (j ∷ [])) (permitted board is_cancellable M12 (found_job s query)) plan → P plan
+  of_job_cancel query plan is =
+      acts_on (λ j. cancel s.attempts (j ∷ [])) (λ j has. cancels s (j ∷ []) (λ w k. ⊎_elim (λ e. subst (λ (v : Job). Has v s.jobs) (sym e) has) (λ m. absurd m) k)) is_cancellable M12 tt query plan is
+
+  cancels_some : (plan : Plan) (p : Pipeline) (jobs : List Job) → ((j : Job) → Has j jobs → Has j s.jobs) → CancelsSome s p jobs plan → P plan
+  cancels_some plan p [] within is = subst P (sym is) (of_code M12 tt)
+  cancels_some plan p (j ∷ js) within is =
+      let changes = cancel s.attempts (j ∷ js) in
+      let t = applied changes s in
+      subst P (sym is.2) (of_act (compact_text (pipeline_data p (holders t) (jobs_of t p.id) (facts_of t p.id) is.0)) changes (cancels s (j ∷ js) within))
+
+  cancels_by : (plan : Plan) (r : Result Pipeline Code) → IsPipeline r → CancelsPipeline s board r plan → P plan
+  cancels_by plan (Err code) found is = subst P (sym is) (of_code code found)
+  cancels_by plan (Ok p) found is =
+      cancels_some plan p (cancellable_jobs s board p.id) (cancellable_within s board p.id) is
+
+  -- the jobs of a pipeline are to be cancelled
+  pub of_cancel : (query : PipelineQuery) (plan : Plan) → CancelsPipeline s board (found_pipeline s query) plan → P plan
+  of_cancel query plan is =
+      cancels_by plan (found_pipeline s query) (pipeline_by s query.project (pipeline_at s query.pipeline) (of_asked s query.token query.project) (is_asked s query.token query.project)) is
+
+-- ---- every request
+
+-- a fact of each plan that the request may have in a state whose jobs have these rows
+pub record Each (s : State) (board : List BoardRow) (request : Request) (P : Plan → Type 0) : Type 0 where
+  pub refused : (c : Code) → IsMachineCode c → P (refused c)
+  pub faulted : (d : Detail) → P (faulted d)
+  pub project : (name : List ℕ) (seed : Seed) → P (made_project s.next.project name seed)
+  pub runner : (new : NewRunner) (seed : Seed) → P (made_runner s.next.runner new seed)
+  pub paused : (runner : Runner) (paused : Bool) → Has runner s.runners → P (runner_paused runner paused)
+  pub file : (project : Project) (text : List ℕ) (c : Config) → Has project s.projects → P (file_set project text c)
+  pub variable : (project : Project) (new : NewVariable) → P (variable_set project new)
+  pub gone : (v : Variable) → P (variable_gone v)
+  pub pipeline : (new : NewPipeline) (now : ℕ) → request ≡ CreatePipeline new → OfCreation s P new now
+  pub nothing : P nothing_to_run
+  pub granted : (runner : Runner) (job : Job) (q : QueuedJob) (variables : List JobVariable) (now : ℕ) (seed : Seed)
+      → Has runner s.runners → Has job s.jobs → is_pending board job ≡ true → queued s job ≡ q → resource_free (holders s) q ≡ true → P (granted runner q variables s.next.attempt now seed)
+  pub turned_away : (fault : LeaseFault) → P (unleased fault, [])
+  pub heard : (a : Attempt) (seen : ℕ) → Has a s.attempts → P (heard a (Ok seen))
+  pub ended : (a : Attempt) (state : AttemptState) → Has a s.attempts → P (ended a (Ok state))
+  pub misplaced : (fault : PieceFault) → P (not_accepted fault, [])
+  pub grown : (a : Attempt) (bytes : List ℕ) (now size : ℕ) → Has a s.attempts → P (grown a bytes now size)
+  pub pipeline_shown : (p : Pipeline) (held : List Holder) (jobs : List Job) (facts : List Facts) (rows : List Row) → P (pipeline_shown p held jobs facts rows)
+  pub shown : (held : List Holder) (project : ℕ) (job : Job) (status : Status) → P (job_shown held project job status)
+  pub traced : (pieces : List Piece) → P (trace_shown pieces)
+  pub acted : (text : List ℕ) (changes : List RowChange) → IsAct s changes → P (fine (Json text), changes)
+
+module _ (s : State) (board : List BoardRow) (request : Request) (P : Plan → Type 0) (each : Each s board request P) where
+  projects : (name : List ℕ) (seed : Seed) → P (add_project s.next.project name seed)
+  projects name seed =
+      cond_both (not (is_name name)) (faulted (detail.Code (K 16))) _ P (λ _. each.faulted (detail.Code (K 16))) (λ _.
+      cond_both (nat_lt MAX_NUMBER s.next.project) (refused M15) (made_project s.next.project name seed) P (λ _. each.refused M15 tt) (λ _. each.project name seed))
+
+  runners : (project : Option Project) (new : NewRunner) (seed : Seed) → P (add_runner s.next.runner project new seed)
+  runners project new seed =
+      cond_both (nat_lt MAX_TAGS (length new.tags)) (faulted (detail.Code (K 11))) _ P (λ _. each.faulted (detail.Code (K 11))) (λ _.
+      cond_both (not (are_names new)) (faulted (detail.Code (K 16))) _ P (λ _. each.faulted (detail.Code (K 16))) (λ _.
+      cond_both (lacks_project new.project project) (refused M2) _ P (λ _. each.refused M2 tt) (λ _.
+      cond_both (nat_lt MAX_NUMBER s.next.runner) (refused M15) (made_runner s.next.runner new seed) P (λ _. each.refused M15 tt) (λ _. each.runner new seed))))
+
+  pauses : (n : ℕ) (paused : Bool) (found : Option Runner) → runner_at s n ≡ found → P (pause_runner found paused)
+  pauses n paused None is = each.refused M3 tt
+  pauses n paused (Some r) is = each.paused r paused (has_find (λ (w : Runner). w.id == n) r s.runners is).0
+
+  offers : (now : ℕ) (seed : Seed) (runner : Runner) → Has runner s.runners → (q : Option QueuedJob) → chosen (queue s board) (holders s) runner ≡ q → (variables : List JobVariable)
+      → P (ask_job (Some runner) q variables s.next.attempt now seed)
+  offers now seed runner has None offered variables = each.nothing
+  offers now seed runner has (Some q) offered variables =
+      let at = find-map (queued s) (is_eligible runner (holders s)) q (pending_jobs s board) offered in
+      let first = has_find (λ (j : Job). is_eligible runner (holders s) (queued s j)) at.0 (pending_jobs s board) at.1.1 in
+      let is_job = has_filter (is_pending board) at.0 s.jobs first.0 in
+      let both = and_parts (may_run runner (queued s at.0).project at.0.options.tags) (resource_free (holders s) (queued s at.0)) first.1 in
+      cond_both (nat_lt MAX_NUMBER s.next.attempt) (refused M15) (granted runner q variables s.next.attempt now seed) P (λ _. each.refused M15 tt)
+      (λ _. each.granted runner at.0 q variables now seed has is_job.0 is_job.1 at.1.0 (subst (λ (w : QueuedJob). resource_free (holders s) w ≡ true) at.1.0 both.1))
+
+  asks : (token : List ℕ) (now : ℕ) (seed : Seed) (runner : Option Runner) → runner_with s token ≡ runner
+      → P (ask_job runner (offer s board runner) (offered_variables s (offer s board runner)) s.next.attempt now seed)
+  asks token now seed None found = each.refused M4 tt
+  asks token now seed (Some runner) found =
+      offers now seed runner (has_find (λ (r : Runner). bytes_eq r.token token) runner s.runners found).0 (chosen (queue s board) (holders s) runner) refl _
+
+  hears : (a : Attempt) → Has a s.attempts → (seen : Result ℕ LeaseFault) → P (heard a seen)
+  hears a has (Ok seen) = each.heard a seen has
+  hears a has (Err fault) = each.turned_away fault
+
+  ends : (a : Attempt) → Has a s.attempts → (state : Result AttemptState LeaseFault) → P (ended a state)
+  ends a has (Ok state) = each.ended a state has
+  ends a has (Err fault) = each.turned_away fault
+
+  reports : (l : Lease) → Has l.attempt s.attempts → (r : Report) (now : ℕ) → P (reported l r now)
+  reports l has report.Running now = hears l.attempt has _
+  reports l has (report.Success exit) now = ends l.attempt has _
+  reports l has (report.Failed cause exit) now = ends l.attempt has _
+
+  updates : (update : JobUpdate) (now : ℕ) (a : Option Attempt) → attempt_at s update.attempt ≡ a → P (update_job (option_map (lease_of s) a) update now)
+  updates update now None found = each.refused M5 tt
+  updates update now (Some a) found =
+      let has = has_find (λ (b : Attempt). b.id == update.attempt) a s.attempts found in
+      cond_both (bytes_eq a.token update.token) (reported (lease_of s a) update.report now) (refused M5) P (λ _. reports (lease_of s a) has.0 update.report now) (λ _. each.refused M5 tt)
+
+  grows : (a : Attempt) → Has a s.attempts → (bytes : List ℕ) (now : ℕ) (size : Result ℕ PieceFault) → P (appended a bytes now size)
+  grows a has bytes now (Ok size) = cond_both (nat_lt MAX_NUMBER a.pieces) (refused M15) (grown a bytes now size) P (λ _. each.refused M15 tt) (λ _. each.grown a bytes now size has)
+  grows a has bytes now (Err fault) = each.misplaced fault
+
+  appends : (part : TracePart) (now : ℕ) (a : Option Attempt) → attempt_at s part.attempt ≡ a → P (append_trace (option_map (lease_of s) a) part now)
+  appends part now None found = each.refused M5 tt
+  appends part now (Some a) found =
+      let l = lease_of s a in
+      let has = has_find (λ (b : Attempt). b.id == part.attempt) a s.attempts found in
+      cond_both (bytes_eq a.token part.token) _ (refused M5) P (λ _. grows a has.0 part.bytes now (accepted a l.limit now a.size part.from (length part.bytes))) (λ _. each.refused M5 tt)
+
+-- a query names a job, or is refused
+within : (Q : Result Job Code → Type 0) → ((j : Job) → Q (Ok j)) → ((c : Code) → IsMachineCode c → Q (Err c)) → (job : Option Job) (pipeline : Option Pipeline) (project : ℕ) → Q (job_within job pipeline project)
+within Q fine refused None pipeline project = refused M3 tt
+within Q fine refused (Some job) None project = refused M3 tt
+within Q fine refused (Some job) (Some pipeline) project = cond_both (pipeline.project == project) (Ok job) (Err M3) Q (λ _. fine job) (λ _. refused M3 tt)
+
+asked : (Q : Result Job Code → Type 0) → ((j : Job) → Q (Ok j)) → ((c : Code) → IsMachineCode c → Q (Err c)) → (project : Option Project) (job : Option Job) (pipeline : Option Pipeline) (query : JobQuery)
+    → Q (asked_job project job pipeline query)
+asked Q fine refused None job pipeline query = refused M1 tt
+asked Q fine refused (Some project) job pipeline query =
+    cond_both (project.id == query.project) (job_within job pipeline project.id) (Err M2) Q (λ _. within Q fine refused job pipeline project.id) (λ _. refused M2 tt)
+
+pub does : (s : State) (board : List BoardRow) (P : Plan → Type 0) (request : Request) → Each s board request P → (now : ℕ) (seed : Seed) (plan : Plan) → Does s board request now seed plan → P plan
+does s board P (AddProject name) each now seed plan is = subst P (sym is) (projects s board (AddProject name) P each name seed)
+does s board P (AddRunner new) each now seed plan is = subst P (sym is) (runners s board (AddRunner new) P each (project_named s new.project) new seed)
+does s board P (PauseRunner pause) each now seed plan is = subst P (sym is) (pauses s board (PauseRunner pause) P each pause.runner pause.paused (runner_at s pause.runner) refl)
+does s board P (SetFile new) each now seed plan is = of_file s P each.refused each.faulted new plan (λ project c has. each.file project new.text c has) is
+does s board P (SetVariable new) each now seed plan is = subst P (sym is) (of_variable s P each.refused each.faulted new (λ project. each.variable project new))
+does s board P (DeleteVariable query) each now seed plan is = subst P (sym is) (of_removal s P each.refused each.faulted query each.gone)
+does s board P (CreatePipeline new) each now seed plan is = of_creation s P each.refused each.faulted new now plan (each.pipeline new now refl) is
+does s board P (ShowPipeline query) each now seed plan is =
+    let n = query.pipeline in
+    subst P (sym is) (of_pipeline s P each.refused each.faulted query (holders s) (jobs_of s n) (facts_of s n) (rows_of s board n) (λ p. each.pipeline_shown p (holders s) (jobs_of s n) (facts_of s n) (rows_of s board n)))
+does s board P (AskJob token) each now seed plan is = subst P (sym is) (asks s board (AskJob token) P each token now seed (runner_with s token) refl)
+does s board P (UpdateJob update) each now seed plan is = subst P (sym is) (updates s board (UpdateJob update) P each update now (attempt_at s update.attempt) refl)
+does s board P (AppendTrace part) each now seed plan is = subst P (sym is) (appends s board (AppendTrace part) P each part now (attempt_at s part.attempt) refl)
+does s board P (ShowJob query) each now seed plan is =
+    let job = job_at s query.job in
+    let status = status_for board query.job in
+    subst P (sym is) (asked (λ r. P (shown (holders s) query.project r status)) (λ j. each.shown (holders s) query.project j status) (λ c m. each.refused c m) (project_with s query.token) job (pipeline_of s job) query)
+does s board P (ShowTrace query) each now seed plan is =
+    let job = job_at s query.job in
+    let pieces = pieces_in s (last_attempt s query.job) in
+    subst P (sym is) (asked (λ r. P (traced r pieces)) (λ j. each.traced pieces) (λ c m. each.refused c m) (project_with s query.token) job (pipeline_of s job) query)
+does s board P (Play query) each now seed plan is = of_play s board P each.refused each.acted query plan is
+does s board P (CancelJob query) each now seed plan is = of_job_cancel s board P each.refused each.acted query plan is
+does s board P (RetryJob query) each now seed plan is = of_retry s board P each.refused each.acted query plan is
+does s board P (CancelPipeline query) each now seed plan is = of_cancel s board P each.refused each.acted query plan is
+
+-- where the plan is a refusal, it changes nothing
+abbrev Keeps : Plan → Type 0
+Keeps plan = IsRefusal (answer.Reply plan.0) → plan.1 ≡ []
+
+keeps : (s : State) (board : List BoardRow) (request : Request) → Each s board request Keeps
+keeps s board request = record {
+  refused = λ c _ _. refl;
+  faulted = λ d _. refl;
+  project = λ name seed refused. absurd (false≢true refused);
+  runner = λ new seed refused. absurd (false≢true refused);
+  paused = λ runner paused has refused. absurd (false≢true refused);
+  file = λ project text c has refused. absurd (false≢true refused);
+  variable = λ project new refused. absurd (false≢true refused);
+  gone = λ v refused. absurd (false≢true refused);
+  pipeline = λ new now is project text laid rows asked has named file lays refused. absurd (false≢true refused);
+  nothing = λ _. refl;
+  granted = λ runner job q variables now seed h k m e f refused. absurd (false≢true refused);
+  turned_away = λ fault _. refl;
+  heard = λ a seen has refused. absurd (false≢true refused);
+  ended = λ a state has refused. absurd (false≢true refused);
+  misplaced = λ fault _. refl;
+  grown = λ a bytes now size has refused. absurd (false≢true refused);
+  pipeline_shown = λ p held jobs facts rows _. refl;
+  shown = λ held project job status _. refl;
+  traced = λ pieces _. refl;
+  acted = λ text changes act refused. absurd (false≢true refused);
+}
+
+-- a sweep that ends and cancels nothing changes nothing, and it refuses nothing
+swept_keeps : (due : Option Lease) (redundant : Option Pipeline) (attempts : List Attempt) (jobs : List Job) → IsRefusal (answer.Swept (sweep due redundant attempts jobs).0) → (sweep due redundant attempts jobs).1 ≡ []
+swept_keeps (Some l) redundant attempts jobs refused = absurd refused
+swept_keeps None (Some p) attempts jobs refused = absurd refused
+swept_keeps None None attempts jobs refused = refl
+
+refused_keeps : (s : State) (board : List BoardRow) (e : Event) (now : ℕ) (seed : Seed) (a : Answer) (changes : List RowChange) → Happens s board e now seed a changes → IsRefusal a → changes ≡ []
+refused_keeps s board (event.Request request) now seed (answer.Reply reply) changes is refused = does s board Keeps request (keeps s board request) now seed (reply, changes) is refused
+refused_keeps s board event.Sweep now seed (answer.Swept swept) changes is refused =
+    let P : Swept × List RowChange → Type 0 = λ plan. IsRefusal (answer.Swept plan.0) → plan.1 ≡ [] in
+    subst P (sym is) (swept_keeps (first_due (leases s) now) (redundant_in s board) s.attempts (cancellable_in s board (redundant_in s board))) refused
+refused_keeps s board (event.Request request) now seed (answer.Swept swept) changes is refused = absurd is
+refused_keeps s board event.Sweep now seed (answer.Reply reply) changes is refused = absurd is
+
+pub unchanged : (s t : State) (e : Event) (now : ℕ) (seed : Seed) (a : Answer) → Step s e now seed a t → IsRefusal a → t ≡ s
+unchanged s t e now seed a step refused = step.state ∙ ap (λ cs. applied cs s) (refused_keeps s step.before e now seed a step.changes step.happens refused)
+
+-- the machine answers neither M16 nor M17
+abbrev IsStep : Plan → Type 0
+IsStep plan = outcome_of (answer.Reply plan.0) ≡ Stepped
+
+steps : (s : State) (board : List BoardRow) (request : Request) → Each s board request IsStep
+steps s board request = record {
+  refused = stepped;
+  faulted = λ d. refl;
+  project = λ name seed. refl;
+  runner = λ new seed. refl;
+  paused = λ runner paused has. refl;
+  file = λ project text c has. refl;
+  variable = λ project new. refl;
+  gone = λ v. refl;
+  pipeline = λ new now is project text laid rows asked has named file lays. refl;
+  nothing = refl;
+  granted = λ runner job q variables now seed h k m e f. refl;
+  turned_away = away;
+  heard = λ a seen has. refl;
+  ended = λ a state has. refl;
+  misplaced = misplaces;
+  grown = λ a bytes now size has. refl;
+  pipeline_shown = λ p held jobs facts rows. refl;
+  shown = λ held project job status. refl;
+  traced = λ pieces. refl;
+  acted = λ text changes act. refl;
+} where
+  away : (fault : LeaseFault) → IsStep (unleased fault, [])
+  away (NotLive state) = refl
+  away LeaseOver = refl
+
+  misplaces : (fault : PieceFault) → IsStep (not_accepted fault, [])
+  misplaces (Unleased fault) = away fault
+  misplaces (WrongOffset size) = refl
+  misplaces TraceFull = refl
+
+  stepped : (c : Code) → IsMachineCode c → IsStep (refused c)
+  stepped M1 m = refl
+  stepped M2 m = refl
+  stepped M3 m = refl
+  stepped M4 m = refl
+  stepped M5 m = refl
+  stepped M6 m = refl
+  stepped M7 m = refl
+  stepped M8 m = refl
+  stepped M9 m = refl
+  stepped M10 m = refl
+  stepped M11 m = refl
+  stepped M12 m = refl
+  stepped M13 m = refl
+  stepped M14 m = refl
+  stepped M15 m = refl
+  stepped M16 m = absurd m
+  stepped M17 m = absurd m
+  stepped H1 m = absurd m
+  stepped H2 m = absurd m
+  stepped H3 m = absurd m
+  stepped H4 m = absurd m
+  stepped H5 m = absurd m
+  stepped H6 m = absurd m
+  stepped H7 m = absurd m
+  stepped H8 m = absurd m
+
+swept_steps : (due : Option Lease) (redundant : Option Pipeline) (attempts : List Attempt) (jobs : List Job) → outcome_of (answer.Swept (sweep due redundant attempts jobs).0) ≡ Stepped
+swept_steps (Some l) redundant attempts jobs = refl
+swept_steps None (Some p) attempts jobs = refl
+swept_steps None None attempts jobs = refl
+
+all_step : (s : State) (board : List BoardRow) (e : Event) (now : ℕ) (seed : Seed) (a : Answer) (changes : List RowChange) → Happens s board e now seed a changes → outcome_of a ≡ Stepped
+all_step s board (event.Request request) now seed (answer.Reply reply) changes is = does s board IsStep request (steps s board request) now seed (reply, changes) is
+all_step s board event.Sweep now seed (answer.Swept swept) changes is = ap (λ plan. outcome_of (answer.Swept plan.0)) is ∙ swept_steps (first_due (leases s) now) (redundant_in s board) s.attempts (cancellable_in s board (redundant_in s board))
+all_step s board (event.Request request) now seed (answer.Swept swept) changes is = absurd is
+all_step s board event.Sweep now seed (answer.Reply reply) changes is = absurd is
+
+pub answered : (s t : State) (e : Event) (now : ℕ) (seed : Seed) (a : Answer) → Step s e now seed a t → outcome_of a ≡ Stepped
+answered s t e now seed a step = all_step s step.before e now seed a step.changes step.happens

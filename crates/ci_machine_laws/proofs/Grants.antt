@@ -1,0 +1,198 @@
+-- Attempts in every state that a history leads to: which are live, and how each was granted.
+use Rattle.std.specs.Prelude.{◌≡◌, ◌⊎◌, ℕ, ◌+◌, ◌<◌, ◌≤◌, true, false, ◌==◌, ◌&&◌, List, [], ◌∷◌, filter, Some, None}
+use Rattle.std.proofs.Common.{refl, sym, ap, subst, ◌∙◌, ⊎_elim, arith, eqb-true, eq-eqb}
+use Rattle.std.proofs.lemmas.Bool.{cond-true, cond-false, and_parts, ne_eqb}
+use Rattle.ci_machine.specs.declared.records.Runner.{Runner}
+use Rattle.ci_machine.specs.declared.records.Job.{Job}
+use Rattle.ci_machine.specs.declared.records.Attempt.{Attempt}
+use Rattle.ci_machine.specs.declared.request.Event.TheVariants as event
+use Rattle.ci_machine.specs.declared.request.Request.TheVariants.{AskJob}
+use Rattle.ci_machine.specs.State.{State, empty, attempt_cmp, put}
+use Rattle.ci_machine.specs.Statuses.{attempts_of}
+use Rattle.ci_machine.specs.Leases.{is_live}
+use Rattle.ci_machine_steps.specs.Step.{last_attempt}
+use Rattle.ci_machine_steps.specs.History.{Past}
+use Rattle.ci_machine_steps.specs.Laws.{grants, IsLeastEligible, OneLease}
+use Rattle.ci_machine.proofs.Keyed.{Has, Rising, has_put, rising_put, rising_filter, has_filter, filter_has, last_greatest, count_one}
+
+-- just one line granted the attempt, to the least eligible job: as the law says, but for how the job came into its pipeline
+pub record WasGiven (h : List Past) (a : Attempt) : Type 0 where
+  pub line : Past
+  pub once : filter (grants a.id) h ≡ line ∷ []
+  pub runner : Runner
+  pub job : Job
+  pub its_runner : runner.id ≡ a.runner
+  pub its_job : job.id ≡ a.job
+  pub eligible : IsLeastEligible line.before runner job
+  pub asked : line.event ≡ event.Request (AskJob runner.token)
+
+-- what the attempts are, besides their traces
+pub record Grants (h : List Past) (s : State) : Type 0 where
+  pub jobs_rise : Rising (λ (j : Job). j.id) 0 s.jobs
+  pub rise : Rising (λ (a : Attempt). a.id) 0 s.attempts
+  pub below : (a : Attempt) → Has a s.attempts → a.id < s.next.attempt
+  -- a live attempt is the last of its job
+  pub is_last : (a b : Attempt) → Has a s.attempts → Has b s.attempts → is_live a ≡ true → a.job ≡ b.job → b.id ≤ a.id
+  pub granted : (a : Attempt) → Has a s.attempts → WasGiven h a
+  -- no line grants a number that is still to come
+  pub fresh : (n : ℕ) → s.next.attempt ≤ n → filter (grants n) h ≡ []
+
+-- so each job has at most one live attempt
+pub one_lease : (h : List Past) (s : State) → Grants h s → OneLease s
+one_lease h s i job = count_one (λ a. a.id) (λ a. is_live a && (a.job == job)) 0 s.attempts i.rise (λ a b k l p q.
+    let x = and_parts (is_live a) (a.job == job) p in
+    let y = and_parts (is_live b) (b.job == job) q in
+    let same : a.job ≡ b.job = eqb-true a.job job x.1 ∙ sym (eqb-true b.job job y.1) in
+    let ba : b.id ≤ a.id = i.is_last a b k l x.0 same in
+    let ab : a.id ≤ b.id = i.is_last b a l k y.0 (sym same) in
+    omega arith)
+
+-- and a live attempt stands last among those of its job
+pub live_last : (h : List Past) (s : State) → Grants h s → (a : Attempt) → Has a s.attempts → is_live a ≡ true → last_attempt s a.job ≡ Some a
+live_last h s i a k live =
+    let its = λ (b : Attempt). b.job == a.job in
+    last_greatest (λ (b : Attempt). b.id) a None 0 (attempts_of s a.job) (rising_filter (λ (b : Attempt). b.id) its 0 s.attempts i.rise) (filter_has its a s.attempts k (eq-eqb a.job a.job refl))
+    (λ b m. let w = has_filter its b s.attempts m in i.is_last a b k w.0 live (sym (eqb-true b.job a.job w.1)))
+
+pub grants_empty : Grants [] empty
+grants_empty = record {
+  jobs_rise = tt;
+  rise = tt;
+  below = λ a k. absurd k;
+  is_last = λ a b k. absurd k;
+  granted = λ a k. absurd k;
+  fresh = λ n l. refl;
+}
+
+-- a line that grants another number
+longer : (p : Past) (h : List Past) (a : Attempt) → grants a.id p ≡ false → WasGiven h a → WasGiven (p ∷ h) a
+longer p h a isnt w = record {
+  line = w.line;
+  once = cond-false (grants a.id p) (p ∷ filter (grants a.id) h) (filter (grants a.id) h) isnt ∙ w.once;
+  runner = w.runner;
+  job = w.job;
+  its_runner = w.its_runner;
+  its_job = w.its_job;
+  eligible = w.eligible;
+  asked = w.asked;
+}
+
+-- a step that leaves the attempts
+pub keeps : (h : List Past) (s t : State) (p : Past) → Grants h s → ((n : ℕ) → grants n p ≡ false)
+    → t.attempts ≡ s.attempts → t.next.attempt ≡ s.next.attempt → Rising (λ (j : Job). j.id) 0 t.jobs → Grants (p ∷ h) t
+keeps h s t p i isnt e f r = record {
+  jobs_rise = r;
+  rise = subst (λ l. Rising (λ (a : Attempt). a.id) 0 l) (sym e) i.rise;
+  below = λ a k. subst (λ n. a.id < n) (sym f) (i.below a (subst (Has a) e k));
+  is_last = λ a b k l. i.is_last a b (subst (Has a) e k) (subst (Has b) e l);
+  granted = λ a k. longer p h a (isnt a.id) (i.granted a (subst (Has a) e k));
+  fresh = λ n l. cond-false (grants n p) (p ∷ filter (grants n) h) (filter (grants n) h) (isnt n) ∙ i.fresh n (subst (λ m. m ≤ n) f l);
+}
+
+-- a step that puts x in place of an attempt of its number, job and runner, and makes none live
+pub alters : (h : List Past) (s t : State) (p : Past) (a x : Attempt) → Grants h s → Has a s.attempts → x.id ≡ a.id → x.job ≡ a.job → x.runner ≡ a.runner → (is_live x ≡ true → is_live a ≡ true)
+    → ((n : ℕ) → grants n p ≡ false) → t.attempts ≡ put attempt_cmp x s.attempts → t.next.attempt ≡ s.next.attempt → t.jobs ≡ s.jobs → Grants (p ∷ h) t
+alters h s t p a x i has same_id same_job same_runner live isnt e f r =
+    let cases : (b : Attempt) → Has b t.attempts → (b ≡ x) ⊎ Has b s.attempts = λ b k. has_put attempt_cmp x b s.attempts (subst (Has b) e k) in
+    record {
+      jobs_rise = subst (λ l. Rising (λ (j : Job). j.id) 0 l) (sym r) i.jobs_rise;
+      rise = subst (λ l. Rising (λ (b : Attempt). b.id) 0 l) (sym e) (rising_put (λ (b : Attempt). b.id) x 0 s.attempts i.rise (omega arith));
+      below = λ b k. subst (λ n. b.id < n) (sym f) (⊎_elim (λ q. let m : b.id ≡ x.id = ap (λ (c : Attempt). c.id) q in let z : a.id < s.next.attempt = i.below a has in omega arith) (λ m. i.below b m) (cases b k));
+      is_last = λ b c k l lv j.
+          ⊎_elim
+          (λ q. let bl : is_live a ≡ true = live (ap is_live (sym q) ∙ lv) in
+          let bj : a.job ≡ c.job = sym same_job ∙ (ap (λ (w : Attempt). w.job) (sym q) ∙ j) in
+          let bi : b.id ≡ a.id = ap (λ (w : Attempt). w.id) q ∙ same_id in
+          ⊎_elim (λ u. let ci : c.id ≡ a.id = ap (λ (w : Attempt). w.id) u ∙ same_id in omega arith)
+          (λ m. let z : c.id ≤ a.id = i.is_last a c has m bl bj in omega arith) (cases c l))
+          (λ m. ⊎_elim (λ u. let ci : c.id ≡ a.id = ap (λ (w : Attempt). w.id) u ∙ same_id in
+          let cj : b.job ≡ a.job = j ∙ (ap (λ (w : Attempt). w.job) u ∙ same_job) in
+          let z : a.id ≤ b.id = i.is_last b a m has lv cj in omega arith)
+          (λ w. i.is_last b c m w lv j) (cases c l))
+          (cases b k);
+      granted = λ b k. longer p h b (isnt b.id) (⊎_elim
+          (λ q. subst (WasGiven h) (sym q) (let w = i.granted a has in record {
+            line = w.line;
+            once = subst (λ n. filter (grants n) h ≡ w.line ∷ []) (sym same_id) w.once;
+            runner = w.runner;
+            job = w.job;
+            its_runner = w.its_runner ∙ sym same_runner;
+            its_job = w.its_job ∙ sym same_job;
+            eligible = w.eligible;
+            asked = w.asked;
+          }))
+          (λ m. i.granted b m) (cases b k));
+      fresh = λ n l. cond-false (grants n p) (p ∷ filter (grants n) h) (filter (grants n) h) (isnt n) ∙ i.fresh n (subst (λ m. m ≤ n) f l);
+    }
+
+-- the attempt was there, with its number, job and runner, and was live if it is
+pub record Stood (s : State) (b : Attempt) : Type 0 where
+  pub old : Attempt
+  pub has : Has old s.attempts
+  pub id : old.id ≡ b.id
+  pub job : old.job ≡ b.job
+  pub runner : old.runner ≡ b.runner
+  pub live : is_live b ≡ true → is_live old ≡ true
+
+-- a step with no attempts but those that were there
+pub stand : (h : List Past) (s t : State) (p : Past) → Grants h s → ((n : ℕ) → grants n p ≡ false) → ((b : Attempt) → Has b t.attempts → Stood s b)
+    → Rising (λ (b : Attempt). b.id) 0 t.attempts → t.next.attempt ≡ s.next.attempt → Rising (λ (j : Job). j.id) 0 t.jobs → Grants (p ∷ h) t
+stand h s t p i isnt stood rise f r = record {
+  jobs_rise = r;
+  rise = rise;
+  below = λ b k. let w = stood b k in subst (λ n. n < t.next.attempt) w.id (subst (λ n. w.old.id < n) (sym f) (i.below w.old w.has));
+  is_last = λ b c k l lv j.
+      let v = stood b k in
+      let w = stood c l in
+      subst (λ n. n ≤ b.id) w.id (subst (λ n. w.old.id ≤ n) v.id (i.is_last v.old w.old v.has w.has (v.live lv) (v.job ∙ (j ∙ sym w.job))));
+  granted = λ b k. let w = stood b k in let g = i.granted w.old w.has in longer p h b (isnt b.id) (record {
+    line = g.line;
+    once = subst (λ n. filter (grants n) h ≡ g.line ∷ []) w.id g.once;
+    runner = g.runner;
+    job = g.job;
+    its_runner = g.its_runner ∙ w.runner;
+    its_job = g.its_job ∙ w.job;
+    eligible = g.eligible;
+    asked = g.asked;
+  });
+  fresh = λ n l. cond-false (grants n p) (p ∷ filter (grants n) h) (filter (grants n) h) (isnt n) ∙ i.fresh n (subst (λ m. m ≤ n) f l);
+}
+
+-- a step that grants the next number, where its job has no live attempt
+pub gives : (h : List Past) (s t : State) (p : Past) (x : Attempt) → Grants h s → x.id ≡ s.next.attempt
+    → ((a : Attempt) → Has a s.attempts → is_live a ≡ true → a.job ≡ x.job → ⊥)
+    → ((n : ℕ) → grants n p ≡ (x.id == n))
+    → (runner : Runner) (job : Job) → runner.id ≡ x.runner → job.id ≡ x.job → IsLeastEligible p.before runner job
+    → p.event ≡ event.Request (AskJob runner.token) → t.attempts ≡ put attempt_cmp x s.attempts → t.next.attempt ≡ s.next.attempt + 1 → t.jobs ≡ s.jobs → Grants (p ∷ h) t
+gives h s t p x i at_next free grant_of runner job its_runner its_job eligible asked e f r =
+    let cases : (b : Attempt) → Has b t.attempts → (b ≡ x) ⊎ Has b s.attempts = λ b k. has_put attempt_cmp x b s.attempts (subst (Has b) e k) in
+    record {
+      jobs_rise = subst (λ l. Rising (λ (j : Job). j.id) 0 l) (sym r) i.jobs_rise;
+      rise = subst (λ l. Rising (λ (b : Attempt). b.id) 0 l) (sym e) (rising_put (λ (b : Attempt). b.id) x 0 s.attempts i.rise (omega arith));
+      below = λ b k. ⊎_elim (λ q. let m : b.id ≡ x.id = ap (λ (c : Attempt). c.id) q in omega arith) (λ m. let z : b.id < s.next.attempt = i.below b m in omega arith) (cases b k);
+      is_last = λ b c k l lv j.
+          ⊎_elim
+          (λ q. let bi : b.id ≡ x.id = ap (λ (w : Attempt). w.id) q in
+          ⊎_elim (λ u. let ci : c.id ≡ x.id = ap (λ (w : Attempt). w.id) u in omega arith)
+          (λ m. let z : c.id < s.next.attempt = i.below c m in omega arith) (cases c l))
+          (λ m. ⊎_elim (λ u. absurd (free b m lv (j ∙ ap (λ (w : Attempt). w.job) u)))
+          (λ w. i.is_last b c m w lv j) (cases c l))
+          (cases b k);
+      granted = λ b k. ⊎_elim
+          (λ q. subst (WasGiven (p ∷ h)) (sym q) (record {
+            line = p;
+            once = cond-true (grants x.id p) (p ∷ filter (grants x.id) h) (filter (grants x.id) h) (grant_of x.id ∙ eq-eqb x.id x.id refl)
+                ∙ ap (λ l. p ∷ l) (i.fresh x.id (let z : s.next.attempt ≤ x.id = omega arith in z));
+            runner = runner;
+            job = job;
+            its_runner = its_runner;
+            its_job = its_job;
+            eligible = eligible;
+            asked = asked;
+          }))
+          (λ m. longer p h b (grant_of b.id ∙ ne_eqb x.id b.id (λ u. let z : b.id < s.next.attempt = i.below b m in absurd (omega arith))) (i.granted b m))
+          (cases b k);
+      fresh = λ n l. let m : s.next.attempt + 1 ≤ n = subst (λ w. w ≤ n) f l in
+          cond-false (grants n p) (p ∷ filter (grants n) h) (filter (grants n) h) (grant_of n ∙ ne_eqb x.id n (λ u. absurd (omega arith)))
+          ∙ i.fresh n (let z : s.next.attempt ≤ n = omega arith in z);
+    }

@@ -1,0 +1,275 @@
+-- Each resource group of a project is held by at most one live attempt, in every state that a history leads to.
+use Rattle.std.specs.Prelude.{◌≡◌, ◌⊎◌, ℕ, ◌+◌, max, ◌==◌, ◌&&◌, ◌||◌, not, Bool, true, false, List, [], ◌∷◌, ◌++◌, flat_map, Option, Some, None, Ok, option_map}
+use Rattle.std.specs.List.{list_any}
+use Rattle.std.specs.Str.{bytes_eq}
+use Rattle.std.proofs.Common.{refl, sym, ap, subst, ◌∙◌, inl, inr, ⊎_elim, eqb-true}
+use Rattle.std.proofs.lemmas.Bool.{cond_both, cases_Bool, both_ways, false≢true, and_parts}
+use Rattle.std.proofs.lemmas.Slice.Eq.{bytes_eq-Decides}
+use Rattle.ci_machine.specs.declared.records.BoardRow.{BoardRow}
+use Rattle.ci_machine.specs.declared.records.Holder.{Holder}
+use Rattle.ci_machine.specs.declared.records.Pipeline.{Pipeline}
+use Rattle.ci_machine.specs.declared.records.Job.{Job}
+use Rattle.ci_machine.specs.declared.records.Attempt.{Attempt}
+use Rattle.ci_values.specs.declared.attempts.AttemptState.{AttemptState}
+use Rattle.ci_values.specs.declared.attempts.AttemptState.TheVariants.{Failed}
+use Rattle.ci_machine.specs.declared.lease.Lease.{Lease}
+use Rattle.ci_machine.specs.declared.change.RowChange.{RowChange}
+use Rattle.ci_machine.specs.declared.change.RowChange.TheVariants.{Put}
+use Rattle.ci_machine.specs.declared.change.Record.TheVariants as row
+use Rattle.ci_machine.specs.declared.request.Request.{Request}
+use Rattle.ci_machine.specs.declared.request.Event.{Event}
+use Rattle.ci_machine.specs.declared.request.Event.TheVariants as event
+use Rattle.ci_machine.specs.declared.request.Seed.{Seed}
+use Rattle.ci_machine.specs.declared.reply.Answer.{Answer}
+use Rattle.ci_machine.specs.declared.reply.Answer.TheVariants as answer
+use Rattle.ci_machine.specs.declared.reply.Swept.{Swept}
+use Rattle.ci_machine.specs.State.{State, applied, put, attempt_cmp}
+use Rattle.ci_machine.specs.Leases.{is_live, is_over, cause_of, first_due}
+use Rattle.ci_machine.specs.Eligible.{holds, is_free, resource_free}
+use Rattle.ci_machine_steps.specs.Cancels.{cancellable_jobs, cancel}
+use Rattle.ci_machine_steps.specs.Plans.{Plan}
+use Rattle.ci_machine_steps.specs.Projects.{made_project}
+use Rattle.ci_machine_steps.specs.Runners.{made_runner, runner_paused}
+use Rattle.ci_machine_steps.specs.Files.{file_set}
+use Rattle.ci_machine_steps.specs.Variables.{variable_set, variable_gone}
+use Rattle.ci_machine_steps.specs.Pipelines.{creation, creation_changes}
+use Rattle.ci_machine_steps.specs.Reports.{ended}
+use Rattle.ci_machine_steps.specs.Traces.{grown}
+use Rattle.ci_machine_steps.specs.Sweeps.{sweep}
+use Rattle.ci_machine.specs.Holders.{queued_at, group_held, held_by, held_of, holders, is_in_group}
+use Rattle.ci_machine_steps.specs.Step.{Happens, job_at, pipeline_at, project_or_none, queued, lease_of, leases, live_attempts, redundant_in, cancellable_in}
+use Rattle.ci_machine_steps.specs.History.{Past, Leads}
+use Rattle.ci_machine_steps.specs.Laws.{job_for_good, OneLeaseInGroup}
+use Rattle.ci_machine.proofs.Keyed.{not_true, Has, Rising, has_put, has_filter, filter_has, has_find, find_has, find-map, count_one, Named}
+use Rattle.ci_machine_steps.proofs.Created.{after_creation}
+use Rattle.ci_machine_laws.proofs.Acts.{IsAct, cancels, cancellable_within, after_act, came}
+use Rattle.ci_machine_laws.proofs.Grants.{Stood}
+use Rattle.ci_machine_laws.proofs.EachPlan.{Each, does, given_in}
+use Rattle.ci_machine_laws.proofs.Reached.{reached}
+use Rattle.ci_machine_laws.proofs.Held.{Later, Linked, held}
+
+abbrev job_id : Job → ℕ
+job_id j = j.id
+
+-- ---- lists
+
+any_left : {A : Type 0} (p : A → Bool) (xs ys : List A) → list_any p xs ≡ true → list_any p (xs ++ ys) ≡ true
+any_left p [] ys e = absurd (false≢true e)
+any_left p (x ∷ xs) ys e =
+    ⊎_elim (λ t. ap (λ b. b || list_any p (xs ++ ys)) t) (λ f. ap (λ b. b || list_any p (xs ++ ys)) f ∙ any_left p xs ys (sym (ap (λ b. b || list_any p xs) f) ∙ e)) (cases_Bool (p x))
+
+any_right : {A : Type 0} (p : A → Bool) (xs ys : List A) → list_any p ys ≡ true → list_any p (xs ++ ys) ≡ true
+any_right p [] ys e = e
+any_right p (x ∷ xs) ys e = ⊎_elim (λ t. ap (λ b. b || list_any p (xs ++ ys)) t) (λ f. ap (λ b. b || list_any p (xs ++ ys)) f ∙ any_right p xs ys e) (cases_Bool (p x))
+
+any_flat : {A B : Type 0} (p : B → Bool) (f : A → List B) (x : A) (xs : List A) → Has x xs → list_any p (f x) ≡ true → list_any p (flat_map f xs) ≡ true
+any_flat p f x [] k e = absurd k
+any_flat p f x (y ∷ ys) k e =
+    ⊎_elim (λ q. any_left p (f y) (flat_map f ys) (subst (λ (z : _). list_any p (f z) ≡ true) q e)) (λ m. any_right p (f y) (flat_map f ys) (any_flat p f x ys m e)) k
+
+only_one : (b : Bool) → (b || false) ≡ true → b ≡ true
+only_one true e = refl
+only_one false e = absurd (false≢true e)
+
+-- ---- what is free isn't held
+
+-- what an attempt of a job would hold whose group is free, none holds
+free_none : (hs : List Holder) (n project : ℕ) (group : Option (List ℕ)) → is_free hs project group ≡ true → (p : ℕ) (g : List ℕ) → list_any (holds p g) (group_held n project group) ≡ true → list_any (holds p g) hs ≡ false
+free_none hs n project None free p g e = absurd (false≢true e)
+free_none hs n project (Some group) free p g e =
+    let both = and_parts (project == p) (bytes_eq group g) (only_one ((project == p) && bytes_eq group g) e) in
+    let same_project : project ≡ p = eqb-true project p both.0 in
+    let same_group : group ≡ g = (bytes_eq-Decides group g).0 both.1 in
+    subst (λ m. list_any (holds m g) hs ≡ false) same_project (subst (λ (w : List ℕ). list_any (holds project w) hs ≡ false) same_group (not_true (list_any (holds project group) hs) free))
+
+-- what a live attempt is in, is held
+in_holders : (s : State) (a : Attempt) → Has a s.attempts → is_live a ≡ true → (p : ℕ) (g : List ℕ) → is_in_group s p g a ≡ true → list_any (holds p g) (holders s) ≡ true
+in_holders s a k live p g e = any_flat (holds p g) (held_of s) a (live_attempts s) (filter_has is_live a s.attempts k live) e
+
+-- ---- a job is found as it was
+
+job_found : (s : State) (j : Job) (n : ℕ) → Rising job_id 0 s.jobs → Has j s.jobs → j.id ≡ n → job_at s n ≡ Some j
+job_found s j n r k e = subst (λ m. job_at s m ≡ Some j) e (find_has job_id j 0 s.jobs r k)
+
+pipeline_found : (s : State) (p : Pipeline) (n : ℕ) → Rising (λ (q : Pipeline). q.id) 0 s.pipelines → Has p s.pipelines → p.id ≡ n → pipeline_at s n ≡ Some p
+pipeline_found s p n r k e = subst (λ m. pipeline_at s m ≡ Some p) e (find_has (λ (q : Pipeline). q.id) p 0 s.pipelines r k)
+
+module _ (s t : State) (linked : Linked s) (next : Linked t) (later : Later s t) (jr : Rising job_id 0 s.jobs) (kr : Rising job_id 0 t.jobs) where
+  same_held : (n job : ℕ) → Named job_id job s.jobs → held_by n (queued_at t job) ≡ held_by n (queued_at s job)
+  same_held n job w =
+      let j = w.0 in
+      let k = later.jobs j w.1.0 in
+      let i = k.0 in
+      let good : job_for_good i ≡ job_for_good j = k.1.1 in
+      let p = linked.job_pipeline j w.1.0 in
+      let q = later.pipelines p.0 p.1.0 in
+      let was : pipeline_at s j.pipeline ≡ Some p.0 = pipeline_found s p.0 j.pipeline linked.pipelines_rise p.1.0 p.1.1 in
+      let is : pipeline_at t j.pipeline ≡ Some p.0 = pipeline_found t p.0 j.pipeline next.pipelines_rise (subst (λ (v : Pipeline). Has v t.pipelines) q.1.1 q.1.0) p.1.1 in
+      ap (λ (o : Option Job). held_by n (option_map (queued t) o)) (job_found t i job kr k.1.0 (ap job_id good ∙ w.1.1))
+      ∙ (ap (λ (v : Job). group_held n (project_or_none (pipeline_at t v.pipeline)) v.options.resource_group) good
+      ∙ (ap (λ (o : Option Pipeline). group_held n (project_or_none o) j.options.resource_group) (is ∙ sym was)
+      ∙ sym (ap (λ (o : Option Job). held_by n (option_map (queued s) o)) (job_found s j job jr w.1.0 w.1.1))))
+
+-- ---- what a step leaves of the attempts
+
+-- the attempt is a new one, of a job whose group is free
+record IsNew (s : State) (b : Attempt) : Type 0 where
+  job : Job
+  has : Has job s.jobs
+  its : job.id ≡ b.job
+  free : resource_free (holders s) (queued s job) ≡ true
+  id : b.id ≡ s.next.attempt
+
+abbrev Come : State → State → Type 0
+Come s t = (b : Attempt) → Has b t.attempts → Stood s b ⊎ IsNew s b
+
+there : (s : State) (b : Attempt) → Has b s.attempts → Stood s b
+there s b k = record { old = b; has = k; id = refl; job = refl; runner = refl; live = λ l. l }
+
+stays : (s t : State) → t.attempts ≡ s.attempts → Come s t
+stays s t e b k = inl (there s b (subst (Has b) e k))
+
+-- x in place of an attempt of its number, job and runner
+alters : (s t : State) (x a : Attempt) → Has a s.attempts → x.id ≡ a.id → x.job ≡ a.job → x.runner ≡ a.runner → (is_live x ≡ true → is_live a ≡ true) → t.attempts ≡ put attempt_cmp x s.attempts → Come s t
+alters s t x a has same_id same_job same_runner live e b k =
+    ⊎_elim
+    (λ q. inl (record {
+      old = a;
+      has = has;
+      id = sym (ap (λ (c : Attempt). c.id) q ∙ same_id);
+      job = sym (ap (λ (c : Attempt). c.job) q ∙ same_job);
+      runner = sym (ap (λ (c : Attempt). c.runner) q ∙ same_runner);
+      live = λ l. live (sym (ap is_live q) ∙ l);
+    }))
+    (λ m. inl (there s b m))
+    (has_put attempt_cmp x b s.attempts (subst (Has b) e k))
+
+acted : (s : State) (changes : List RowChange) → IsAct s changes → Come s (applied changes s)
+acted s changes act b k =
+    ⊎_elim
+    (λ m. inl (there s b m))
+    (λ w. inl (record {
+      old = w.old;
+      has = w.has;
+      id = sym (ap (λ (c : Attempt). c.id) w.is);
+      job = sym (ap (λ (c : Attempt). c.job) w.is);
+      runner = sym (ap (λ (c : Attempt). c.runner) w.is);
+      live = λ l. w.live;
+    }))
+    (came s changes act b (subst (λ (t : State). Has b t.attempts) (after_act s changes act) k))
+
+module _ (s : State) (board : List BoardRow) (request : Request) where
+  abbrev Comes : Plan → Type 0
+  Comes plan = Come s (applied plan.1 s)
+
+  ends : (a : Attempt) (state : AttemptState) → Has a s.attempts → Comes (ended a (Ok state))
+  ends a state has =
+      let x = record a { state = state } in
+      let t : State = record s { attempts = put attempt_cmp x s.attempts } in
+      cond_both (is_live a) (Put (row.Attempt x) ∷ []) [] (λ cs. Come s (applied cs s)) (λ live. alters s t x a has refl refl refl (λ l. live) refl) (λ _. stays s s refl)
+
+  grows : (a : Attempt) (bytes : List ℕ) (now size : ℕ) → Has a s.attempts → Comes (grown a bytes now size)
+  grows a bytes now size has =
+      let x = record a { seen = max a.seen now; pieces = a.pieces + 1; size = size } in
+      alters s (applied (grown a bytes now size).1 s) x a has refl refl refl (λ l. l) refl
+
+  each : Each s board request Comes
+  each = record {
+    refused = λ c m. stays s s refl;
+    faulted = λ d. stays s s refl;
+    project = λ name seed. stays s (applied (made_project s.next.project name seed).1 s) refl;
+    runner = λ new seed. stays s (applied (made_runner s.next.runner new seed).1 s) refl;
+    paused = λ runner paused has. stays s (applied (runner_paused runner paused).1 s) refl;
+    file = λ project text c has. stays s (applied (file_set project text c).1 s) refl;
+    variable = λ project new. stays s (applied (variable_set project new).1 s) refl;
+    gone = λ v. stays s (applied (variable_gone v).1 s) refl;
+    pipeline = λ new now is project text laid rows asked has named file lays.
+        stays s (applied (creation_changes s.next.job (creation s.next.pipeline s.next.job new (given_in s new) now laid)) s) (ap (λ (t : State). t.attempts) (after_creation s.next.job (creation s.next.pipeline s.next.job new (given_in s new) now laid) s));
+    nothing = stays s s refl;
+    granted = λ runner job q variables now seed has_runner has_job pending is_queued free b k. ⊎_elim
+        (λ e. inr (record {
+          job = job;
+          has = has_job;
+          its = ap (λ w. w.job.id) is_queued ∙ sym (ap (λ (c : Attempt). c.job) e);
+          free = subst (λ w. resource_free (holders s) w ≡ true) (sym is_queued) free;
+          id = ap (λ (c : Attempt). c.id) e;
+        }))
+        (λ m. inl (there s b m)) (has_put attempt_cmp _ b s.attempts k);
+    turned_away = λ fault. stays s s refl;
+    heard = λ a seen has. alters s (record s { attempts = put attempt_cmp (record a { seen = seen }) s.attempts }) (record a { seen = seen }) a has refl refl refl (λ l. l) refl;
+    ended = ends;
+    misplaced = λ fault. stays s s refl;
+    grown = grows;
+    pipeline_shown = λ p held jobs facts rows. stays s s refl;
+    shown = λ held project job status. stays s s refl;
+    traced = λ pieces. stays s s refl;
+    acted = λ text changes act. acted s changes act;
+  }
+
+swept : (s : State) (board : List BoardRow) (now : ℕ) (o : Option Lease) → first_due (leases s) now ≡ o → (redundant : Option Pipeline) → Come s (applied (sweep o redundant s.attempts (cancellable_in s board redundant)).1 s)
+swept s board now None found None = stays s s refl
+swept s board now None found (Some p) = acted s (cancel s.attempts (cancellable_jobs s board p.id)) (cancels s (cancellable_jobs s board p.id) (cancellable_within s board p.id))
+swept s board now (Some l) found redundant =
+    let at = find-map (lease_of s) (λ (w : Lease). is_over w.attempt w.limit now) l (live_attempts s) found in
+    let is : at.0 ≡ l.attempt = ap (λ (w : Lease). w.attempt) at.1.0 in
+    let first = has_find (λ (b : Attempt). is_over b (lease_of s b).limit now) at.0 (live_attempts s) at.1.1 in
+    let has = has_filter is_live at.0 s.attempts first.0 in
+    let x = record l.attempt { state = Failed (cause_of l) None } in
+    alters s (record s { attempts = put attempt_cmp x s.attempts }) x l.attempt (subst (λ (b : Attempt). Has b s.attempts) is has.0) refl refl refl (λ _. subst (λ (b : Attempt). is_live b ≡ true) is has.1) refl
+
+comes : (s : State) (board : List BoardRow) (e : Event) (now : ℕ) (seed : Seed) (a : Answer) (changes : List RowChange) → Happens s board e now seed a changes → Come s (applied changes s)
+comes s board (event.Request r) now seed (answer.Reply reply) changes is = does s board (Comes s board r) r (each s board r) now seed (reply, changes) is
+comes s board event.Sweep now seed (answer.Swept out) changes is =
+    let P : Swept × List RowChange → Type 0 = λ f. Come s (applied f.1 s) in
+    subst P (sym is) (swept s board now (first_due (leases s) now) refl (redundant_in s board))
+comes s board (event.Request r) now seed (answer.Swept out) changes is = absurd is
+comes s board event.Sweep now seed (answer.Reply reply) changes is = absurd is
+
+-- ---- every state that a history leads to
+
+-- live attempts that hold one group of a project are one
+abbrev pub Apart : State → Type 0
+Apart s =
+    (a b : Attempt) → Has a s.attempts → Has b s.attempts → is_live a ≡ true → is_live b ≡ true → (p : ℕ) (g : List ℕ) → is_in_group s p g a ≡ true → is_in_group s p g b ≡ true → a.id ≡ b.id
+
+module _ (s t : State) (linked : Linked s) (next : Linked t) (later : Later s t) (jr : Rising job_id 0 s.jobs) (kr : Rising job_id 0 t.jobs) (i : Apart s) where
+  -- what stood was in the group
+  was_in : (b : Attempt) (w : Stood s b) (p : ℕ) (g : List ℕ) → is_in_group t p g b ≡ true → is_in_group s p g w.old ≡ true
+  was_in b w p g e =
+      let named : Named job_id b.job s.jobs = subst (λ n. Named job_id n s.jobs) w.job (linked.attempt_job w.old w.has) in
+      let same : held_of s w.old ≡ held_of t b = (λ k. held_by (w.id k) (queued_at s (w.job k))) ∙ sym (same_held s t linked next later jr kr b.id b.job named) in
+      ap (list_any (holds p g)) same ∙ e
+
+  -- what is new is in no group that was held
+  new_in : (b : Attempt) → IsNew s b → (p : ℕ) (g : List ℕ) → is_in_group t p g b ≡ true → list_any (holds p g) (holders s) ≡ false
+  new_in b w p g e =
+      let same : held_of t b ≡ held_by b.id (Some (queued s w.job))
+      = same_held s t linked next later jr kr b.id b.job (w.job, (w.has, w.its)) ∙ ap (λ (o : Option Job). held_by b.id (option_map (queued s) o)) (job_found s w.job b.job jr w.has w.its) in
+      free_none (holders s) b.id (queued s w.job).project w.job.options.resource_group w.free p g (sym (ap (list_any (holds p g)) same) ∙ e)
+
+  apart_on : Come s t → Apart t
+  apart_on come a b k l live lives p g e f =
+      ⊎_elim
+      (λ v. let old = was_in a v p g e in
+      ⊎_elim
+      (λ w. sym v.id ∙ (i v.old w.old v.has w.has (v.live live) (w.live lives) p g old (was_in b w p g f) ∙ w.id))
+      (λ n. absurd (both_ways (list_any (holds p g) (holders s)) (new_in b n p g f) (in_holders s v.old v.has (v.live live) p g old)))
+      (come b l))
+      (λ n. ⊎_elim
+      (λ w. absurd (both_ways (list_any (holds p g) (holders s)) (new_in a n p g e) (in_holders s w.old w.has (w.live lives) p g (was_in b w p g f))))
+      (λ m. n.id ∙ sym m.id)
+      (come b l))
+      (come a k)
+
+apart : (h : List Past) (s : State) → Leads h s → Apart s
+apart [] s l = subst Apart (sym l) (λ a b k. absurd k)
+apart (p ∷ h) s l =
+    let now = held (p ∷ h) s l in
+    apart_on p.before s (held h p.before l.0).linked now.linked (now.stays p (inl refl)) (reached h p.before l.0).grants.jobs_rise (reached (p ∷ h) s l).grants.jobs_rise (apart h p.before l.0)
+    (subst (Come p.before) (sym l.1.state) (comes p.before l.1.before p.event p.now p.seed p.answer l.1.changes l.1.happens))
+
+pub one_in_group : (h : List Past) (s : State) → Leads h s → OneLeaseInGroup s
+one_in_group h s l p g = count_one (λ a. a.id) (λ a. is_live a && is_in_group s p g a) 0 s.attempts (reached h s l).grants.rise (λ a b k m e f.
+    let x = and_parts (is_live a) (is_in_group s p g a) e in
+    let y = and_parts (is_live b) (is_in_group s p g b) f in
+    apart h s l a b k m x.0 y.0 p g x.1 y.1)

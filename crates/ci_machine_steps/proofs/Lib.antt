@@ -1,0 +1,10 @@
+pub mod Tokens
+pub mod Parts
+pub mod Pieces
+pub mod Variables
+pub mod Layers
+pub mod Details
+pub mod Behind
+pub mod Created
+pub mod Sound
+pub mod Alike

@@ -1,0 +1,76 @@
+-- A pipeline of a project is asked for, a job of one, or the trace of a job's last attempt.
+use Rattle.std.specs.Prelude.{ℕ, List, [], if◌then◌else◌, ◌==◌, Option, Some, None, Result, Ok, Err}
+use Rattle.std.specs.List.{flat_map}
+use Rattle.serde_json.specs.Written.{compact_text}
+use Rattle.ci_machine.specs.declared.records.Project.{Project}
+use Rattle.ci_machine.specs.declared.records.Pipeline.{Pipeline}
+use Rattle.ci_machine.specs.declared.records.Job.{Job}
+use Rattle.ci_machine.specs.declared.records.Piece.{Piece}
+use Rattle.ci_machine.specs.declared.records.Holder.{Holder}
+use Rattle.ci_machine.specs.declared.request.JobQuery.{JobQuery}
+use Rattle.ci_machine.specs.declared.reply.Code.{Code}
+use Rattle.ci_machine.specs.declared.reply.Code.TheVariants.{M1, M2, M3}
+use Rattle.ci_machine.specs.declared.reply.Body.TheVariants.{Json, Plain}
+use Rattle.ci_board.specs.declared.facts.Facts.{Facts}
+use Rattle.ci_board.specs.declared.facts.Row.{Row}
+use Rattle.ci_board.specs.declared.facts.Status.{Status}
+use Rattle.ci_machine.specs.Bodies.{printed_status, job_data, pipeline_data}
+use Rattle.ci_machine_steps.specs.Plans.{Plan, refused, fine}
+
+-- the job, where its pipeline is the project's
+abbrev pub job_within : Option Job → Option Pipeline → ℕ → Result Job Code
+job_within (Some job) (Some pipeline) project = if pipeline.project == project then Ok job else Err M3
+job_within (Some job) None project = Err M3
+job_within None pipeline project = Err M3
+
+-- the job that a query names: the project with the query's token, the job with its number, and that job's pipeline
+abbrev pub asked_job : Option Project → Option Job → Option Pipeline → JobQuery → Result Job Code
+asked_job None job pipeline query = Err M1
+asked_job (Some project) job pipeline query = if project.id == query.project then job_within job pipeline project.id else Err M2
+
+-- the job of a project with its status, where these resource groups are held
+abbrev pub job_shown : List Holder → ℕ → Job → Status → Plan
+job_shown holders project job status = (fine (Json (compact_text (job_data (printed_status holders project job status) job))), [])
+
+abbrev pub shown : List Holder → ℕ → Result Job Code → Status → Plan
+shown holders project (Ok job) status = job_shown holders project job status
+shown holders project (Err code) status = refused code
+
+-- a job of a project, and its status, where these resource groups are held
+abbrev pub show_job : Option Project → Option Job → Option Pipeline → List Holder → Status → JobQuery → Plan
+show_job project job pipeline holders status query = shown holders query.project (asked_job project job pipeline query) status
+
+-- the pieces of a trace, joined in their order
+abbrev pub joined : List Piece → List ℕ
+joined pieces = flat_map (λ p. p.bytes) pieces
+
+abbrev pub trace_shown : List Piece → Plan
+trace_shown pieces = (fine (Plain (joined pieces)), [])
+
+abbrev pub traced : Result Job Code → List Piece → Plan
+traced (Ok job) pieces = trace_shown pieces
+traced (Err code) pieces = refused code
+
+-- a job of a project, and the pieces of the trace of its last attempt
+abbrev pub show_trace : Option Project → Option Job → Option Pipeline → List Piece → JobQuery → Plan
+show_trace project job pipeline pieces query = traced (asked_job project job pipeline query) pieces
+
+-- ---- a pipeline
+
+-- the pipeline, where it is the project's
+abbrev pub pipeline_within : Option Pipeline → ℕ → Result Pipeline Code
+pipeline_within None project = Err M3
+pipeline_within (Some pipeline) project = if pipeline.project == project then Ok pipeline else Err M3
+
+-- the pipeline that was found, of the project that was asked for
+abbrev pub asked_pipeline : Result Project Code → Option Pipeline → Result Pipeline Code
+asked_pipeline (Err code) pipeline = Err code
+asked_pipeline (Ok project) pipeline = pipeline_within pipeline project.id
+
+abbrev pub pipeline_shown : Pipeline → List Holder → List Job → List Facts → List Row → Plan
+pipeline_shown p holders jobs facts rows = (fine (Json (compact_text (pipeline_data p holders jobs facts rows))), [])
+
+-- a pipeline, and its jobs with their facts and rows, where these resource groups are held
+abbrev pub show_pipeline : Result Pipeline Code → List Holder → List Job → List Facts → List Row → Plan
+show_pipeline (Ok p) holders jobs facts rows = pipeline_shown p holders jobs facts rows
+show_pipeline (Err code) holders jobs facts rows = refused code
