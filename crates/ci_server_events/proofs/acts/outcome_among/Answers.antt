@@ -29,6 +29,6 @@ returns-clause-outcome c =
     let given = c.outcome_of.result in
     handed_on (IsOutcomeOf act only records.jobs.items records.needs.items records.attempts.items records.rows.items) c.or_store_fault.result given c.or_store_fault.ensures.answer
     (subst (λ jobs. IfOk given (IsOutcomeOf act only jobs records.needs.items records.attempts.items records.rows.items)) c.as_slice.ensures.value
-        (subst (λ needs. IfOk given (IsOutcomeOf act only c.as_slice.result.now needs records.attempts.items records.rows.items)) c.as_slice-2.ensures.value
-            (subst (λ attempts. IfOk given (IsOutcomeOf act only c.as_slice.result.now c.as_slice-2.result.now attempts records.rows.items)) c.as_slice-3.ensures.value
-                (subst (λ rows. IfOk given (IsOutcomeOf act only c.as_slice.result.now c.as_slice-2.result.now c.as_slice-3.result.now rows)) c.as_slice-4.ensures.value c.outcome_of.ensures.outcome))))
+    (subst (λ needs. IfOk given (IsOutcomeOf act only c.as_slice.result.now needs records.attempts.items records.rows.items)) c.as_slice-2.ensures.value
+    (subst (λ attempts. IfOk given (IsOutcomeOf act only c.as_slice.result.now c.as_slice-2.result.now attempts records.rows.items)) c.as_slice-3.ensures.value
+    (subst (λ rows. IfOk given (IsOutcomeOf act only c.as_slice.result.now c.as_slice-2.result.now c.as_slice-3.result.now rows)) c.as_slice-4.ensures.value c.outcome_of.ensures.outcome))))
