@@ -1,6 +1,6 @@
 #!/usr/bin/env bash
-# Times what the patterns of a CI file cost, and the most memory that each run takes: files of as many rules as one may have, read
-# and, where they aren't refused, planned; and files that are planned on the longest value that their patterns may be looked for in.
+# Times what the patterns of a CI file cost, and the most memory that each run takes: files of as many rules as one may have, no two with
+# the same pattern or all with one, read and, where they aren't refused, planned; and files that are planned on the longest value that their patterns may be looked for in.
 # Wants python3. Takes a few minutes: the program is proved before it is built.
 set -eu
 . "$(dirname "$0")/tables.sh"
@@ -27,6 +27,6 @@ used = resource.getrusage(resource.RUSAGE_CHILDREN)
 print((said.stdout + said.stderr).strip(), f"- {used.ru_utime + used.ru_stime:.2f} s, {used.ru_maxrss // 1024} MiB")' out/bench_patterns "$1"
 }
 echo "files of at most 65,536 bytes"
-for kind in many versions names hundred large sets letters folds; do row "$kind"; done
+for kind in many versions names equal hundred large sets letters folds; do row "$kind"; done
 echo "creations that cost as much as they may"
 for kind in optional looks repeat words anew checked both; do row "$kind"; done

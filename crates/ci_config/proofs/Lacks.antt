@@ -1,19 +1,19 @@
 -- What is read with every pattern refused holds no pattern, and so none costs anything to build.
-use Rattle.std.proofs.Common.{◌≡◌, ◌⊎◌, sym, ◌∙◌, ℕ, Bool, true, false, cond, not, List, [], ◌∷◌, map, Option, Some, None, Result, Ok, Err, IfSome, length, refl, subst, arith, inl, inr}
-use Rattle.std.specs.Prelude.{nat_lt, nat_le, option_map, sum_by}
+use Rattle.std.proofs.Common.{◌≡◌, ◌⊎◌, ◌++◌, ap, ap₂, sym, ◌∙◌, ℕ, Bool, true, false, cond, not, List, [], ◌∷◌, map, Option, Some, None, Result, Ok, Err, IfSome, length, refl, subst, inl, inr}
+use Rattle.std.specs.Prelude.{nat_lt, nat_le, option_map, sum_by, flat_map}
 use Rattle.std.specs.Global.{Vec}
-use Rattle.std.proofs.lemmas.List.Sums.{sum_by-cons}
 use Rattle.ci_values.specs.Names.{is_name}
 use Rattle.ci_values.specs.Table.{meaning_of, word_in}
 use Rattle.ci_yaml_lines.specs.Tree.{Value}
-use Rattle.ci_expr.specs.Built.{formula_of, building_cost}
+use Rattle.ci_expr.specs.Built.{formula_of, patterns_of, same_pattern, cost_of}
+use Rattle.ci_expr.specs.Distinct.{distinct}
 use Rattle.ci_expr.specs.Computed.{expression_of}
 use Rattle.ci_expr.specs.Formula.{Formula, has_pattern}
 use Rattle.ci_expr.specs.declared.expr.Expr.{Expr}
 use Rattle.ci_expr.specs.declared.fault.ExprCode.{ExprCode}
 use Rattle.ci_expr.specs.declared.fault.ExprCode.TheVariants.{X8}
 use Rattle.ci_config.specs.AllowFailures.{allow_failure_of}
-use Rattle.ci_config.specs.Budget.{condition_cost, rule_cost, rules_cost, job_cost, config_cost}
+use Rattle.ci_config.specs.Budget.{condition_patterns, rule_patterns, rules_patterns, job_patterns, config_cost}
 use Rattle.ci_config.specs.Config as config
 use Rattle.ci_config.specs.Config.{Text, Rule, Job}
 use Rattle.ci_config.specs.Expressions.{built, refused, are_built, condition_by, condition_of}
@@ -179,31 +179,28 @@ lacks v c e =
     judged-lacks d.value c (entries-read JobsLack (file_entry refused) file-entry-lacks blank_file b.value d.value tt d.first) d.next
 
 -- ---- what building costs
--- nothing but a pattern costs anything, as `ci_expr` says
-abbrev CostsNothing : Type 0
-CostsNothing = (e : Expr) → has_pattern (formula_of e) ≡ false → building_cost e ≡ 0
+-- an expression without a pattern has none to build, as `ci_expr` says
+abbrev BuildsNothing : Type 0
+BuildsNothing = (e : Expr) → has_pattern (formula_of e) ≡ false → patterns_of e ≡ []
 
-sum-none : {A B : Type 0} (view : A → B) (P : B → Type 0) (f : A → ℕ) → ((x : A) → P (view x) → f x ≡ 0) → (xs : List A) → Each P (map view xs) → sum_by f xs ≡ 0
-sum-none view P f none [] h = refl
-sum-none view P f none (x ∷ xs) h =
-    let whole = sum_by-cons f x xs in
-    let one = none x h.0 in
-    let others = sum-none view P f none xs h.1 in
-    omega (arith, whole, one, others)
+-- where each of a list has no part of another, that is empty
+pub none-of : {A B C : Type 0} (view : A → B) (P : B → Type 0) (part : A → List C) → ((x : A) → P (view x) → part x ≡ []) → (xs : List A) → Each P (map view xs) → flat_map part xs ≡ []
+none-of view P part none [] h = refl
+none-of view P part none (x ∷ xs) h = ap₂ (λ ys zs. ys ++ zs) (none x h.0) (none-of view P part none xs h.1)
 
-condition-none : CostsNothing → (o : Option Expr) → IfSome (option_map formula_of o) Lacks → condition_cost o ≡ 0
+condition-none : BuildsNothing → (o : Option Expr) → IfSome (option_map formula_of o) Lacks → condition_patterns o ≡ []
 condition-none law None h = refl
 condition-none law (Some e) h = law e h
 
-rules-none : CostsNothing → (o : Option (Vec rust.Rule)) → IfSome (option_map rules_view o) (Each RuleLacks) → rules_cost o ≡ 0
+rules-none : BuildsNothing → (o : Option (Vec rust.Rule)) → IfSome (option_map rules_view o) (Each RuleLacks) → rules_patterns o ≡ []
 rules-none law None h = refl
-rules-none law (Some rs) h = sum-none rule_view RuleLacks rule_cost (λ r. condition-none law r.condition) rs.items h
+rules-none law (Some rs) h = none-of rule_view RuleLacks rule_patterns (λ r. condition-none law r.condition) rs.items h
 
-config-none : CostsNothing → (c : Config) → ConfigLacks (config_view c) → config_cost c ≡ 0
-config-none law c h = sum-none job_view JobLacks job_cost (λ j. rules-none law j.rules) c.jobs.items h
+config-none : BuildsNothing → (c : Config) → ConfigLacks (config_view c) → config_cost c ≡ 0
+config-none law c h = ap (λ ps. sum_by cost_of (distinct same_pattern ps)) (none-of job_view JobLacks job_patterns (λ j. rules-none law j.rules) c.jobs.items h)
 
 -- so more than there may be comes of a pattern
-pub over-budget : CostsNothing → (v : Value) (c : Config) → meaning built v ≡ Ok (config_view c) → nat_le (config_cost c) MAX_BUILDING_COST ≡ false → Means v (Err (K13 X8))
+pub over-budget : BuildsNothing → (v : Value) (c : Config) → meaning built v ≡ Ok (config_view c) → nat_le (config_cost c) MAX_BUILDING_COST ≡ false → Means v (Err (K13 X8))
 over-budget law v c is over = by-reading (alike v refused)
   where
     by-reading : ReadsBy (LacksPatterns v) (λ p. meaning p v) refused → Means v (Err (K13 X8))

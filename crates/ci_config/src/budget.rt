@@ -1,65 +1,62 @@
 //! What building the patterns of a file may cost together.
 
-ghost use Rattle.std.specs.Prelude.{◌≡◌, nat_le, sum_by};
-ghost use Rattle.ci_expr.specs.Budget.{Leaves};
-ghost use Rattle.ci_config.specs.Budget.{rule_cost, job_cost, config_cost};
+ghost use Rattle.std.specs.Prelude.{◌≡◌, nat_le, IfOk, OnOk, flat_map};
+ghost use Rattle.ci_expr.specs.Built.{patterns_view, same_pattern};
+ghost use Rattle.ci_expr.specs.Distinct.{with_each};
+ghost use Rattle.ci_config.specs.Budget.{rule_patterns, job_patterns, config_cost};
 
 use crate::file::Config;
 use crate::job::JobSpec;
 use crate::limits::MAX_BUILDING_COST;
 use crate::rule::Rule;
+use ci_expr::{Pattern, left_by_patterns};
+use std::alloc::{AllocError, Global};
 
-/// What is left of a budget behind what building the patterns of a rule costs, or nothing where it costs more.
-fn left_by_rule(budget: usize, rule: &Rule) -> Option<usize>
-    ensures { Leaves budget (rule_cost rule.now) result }
+/// Puts the patterns of a rule behind others, each once.
+fn put_of_rule<'a>(patterns: &mut Vec<&'a Pattern>, rule: &'a Rule) -> Result<(), AllocError>
+    ensures { OnOk result (patterns_view patterns.new.items ≡ with_each same_pattern (patterns_view patterns.old.items) (rule_patterns rule.now)) }
 {
     match &rule.condition {
-        Some(expr) => expr.left_of(budget),
-        None => Some(budget),
+        Some(expr) => expr.put_patterns(patterns),
+        None => Ok(()),
     }
 }
 
 /// The same of rules.
-fn left_by_rules(budget: usize, rules: &[Rule]) -> Option<usize>
-    ensures { Leaves budget (sum_by rule_cost rules.now) result }
+fn put_of_rules<'a>(patterns: &mut Vec<&'a Pattern>, rules: &'a [Rule]) -> Result<(), AllocError>
+    ensures { OnOk result (patterns_view patterns.new.items ≡ with_each same_pattern (patterns_view patterns.old.items) (flat_map rule_patterns rules.now)) }
 {
-    let mut left = budget;
     for rule in rules {
-        match left_by_rule(left, rule) {
-            Some(next) => left = next,
-            None => return None,
-        }
+        put_of_rule(patterns, rule)?;
     }
-    Some(left)
+    Ok(())
 }
 
 /// The same of a job.
-fn left_by_job(budget: usize, job: &JobSpec) -> Option<usize>
-    ensures { Leaves budget (job_cost job.now) result }
+fn put_of_job<'a>(patterns: &mut Vec<&'a Pattern>, job: &'a JobSpec) -> Result<(), AllocError>
+    ensures { OnOk result (patterns_view patterns.new.items ≡ with_each same_pattern (patterns_view patterns.old.items) (job_patterns job.now)) }
 {
     match &job.rules {
-        Some(rules) => left_by_rules(budget, rules.as_slice()),
-        None => Some(budget),
+        Some(rules) => put_of_rules(patterns, rules.as_slice()),
+        None => Ok(()),
     }
 }
 
 /// The same of jobs.
-fn left_by_jobs(budget: usize, jobs: &[JobSpec]) -> Option<usize>
-    ensures { Leaves budget (sum_by job_cost jobs.now) result }
+fn put_of_jobs<'a>(patterns: &mut Vec<&'a Pattern>, jobs: &'a [JobSpec]) -> Result<(), AllocError>
+    ensures { OnOk result (patterns_view patterns.new.items ≡ with_each same_pattern (patterns_view patterns.old.items) (flat_map job_patterns jobs.now)) }
 {
-    let mut left = budget;
     for job in jobs {
-        match left_by_job(left, job) {
-            Some(rest) => left = rest,
-            None => return None,
-        }
+        put_of_job(patterns, job)?;
     }
-    Some(left)
+    Ok(())
 }
 
-/// Whether building all patterns costs no more than it may.
-pub fn is_within(config: &Config) -> bool
-    ensures { result ≡ nat_le (config_cost config.now) MAX_BUILDING_COST }
+/// Whether building all patterns, each once, costs no more than it may.
+pub fn is_within(alloc: Global, config: &Config) -> Result<bool, AllocError>
+    ensures { IfOk result (λ b. b ≡ nat_le (config_cost config.now) MAX_BUILDING_COST) }
 {
-    left_by_jobs(MAX_BUILDING_COST, config.jobs.as_slice()).is_some()
+    let mut patterns = Vec::new(alloc);
+    put_of_jobs(&mut patterns, config.jobs.as_slice())?;
+    Ok(left_by_patterns(&patterns, MAX_BUILDING_COST).is_some())
 }

@@ -19,6 +19,7 @@ use crate::keyword::{FILE_KEYWORDS, FILE_LEFT_OUT, FileKeyword};
 use crate::limits::{MAX_BUILDING_COST, MAX_JOBS, MAX_STAGES};
 use crate::tree::{list_of, map_of, text_of};
 use crate::value::{Variable, variables_of};
+use ci_expr::PatternBudget;
 use ci_values::text::is_name;
 use ci_values::{meaning_of, word_in};
 use ci_yaml_lines::tree::{Text, Tree};
@@ -101,7 +102,7 @@ fn job_of<'t>(
     before: usize,
     name: &'t str,
     tree: &'t Tree,
-    left: &mut usize,
+    budget: &mut PatternBudget,
 ) -> Result<JobSpec<'t>, ConfigFault>
     ensures { Gives job_view result (job_of before name.now (value_view tree.now) (builds_for result)) }
 {
@@ -113,7 +114,7 @@ fn job_of<'t>(
             if !is_name(name) {
                 return Err(ConfigFault::Fault(ConfigCode::K16));
             }
-            job_from(alloc, name, pairs, left)
+            job_from(alloc, name, pairs, budget)
         }
         Err(fault) => Err(fault),
     }
@@ -125,11 +126,11 @@ impl<'t> FileParts<'t> {
         alloc: Global,
         name: &'t str,
         tree: &'t Tree,
-        left: &mut usize,
+        budget: &mut PatternBudget,
     ) -> Result<(), ConfigFault>
         ensures { Gives (λ _. file_parts_view self.new) result (job_value name.now (value_view tree.now) (file_parts_view self.old) (builds_for result)) }
     {
-        match job_of(alloc, self.jobs.len(), name, tree, left) {
+        match job_of(alloc, self.jobs.len(), name, tree, budget) {
             Ok(job) => {
                 self.jobs.push(job)?;
                 Ok(())
@@ -144,7 +145,7 @@ impl<'t> FileParts<'t> {
         alloc: Global,
         key: &'t str,
         tree: &'t Tree,
-        left: &mut usize,
+        budget: &mut PatternBudget,
     ) -> Result<(), ConfigFault>
         ensures { Gives (λ _. file_parts_view self.new) result (other_value (word_in file_left_out key.now) key.now (value_view tree.now) (file_parts_view self.old) (builds_for result)) }
     {
@@ -154,7 +155,7 @@ impl<'t> FileParts<'t> {
         if is_hidden(key) {
             return Ok(());
         }
-        self.set_job(alloc, key, tree, left)
+        self.set_job(alloc, key, tree, budget)
     }
 
     fn set(
@@ -178,13 +179,13 @@ impl<'t> FileParts<'t> {
         alloc: Global,
         key: &'t str,
         tree: &'t Tree,
-        left: &mut usize,
+        budget: &mut PatternBudget,
     ) -> Result<(), ConfigFault>
         ensures { Gives (λ _. file_parts_view self.new) result (file_entry (builds_for result) (key.now, value_view tree.now) (file_parts_view self.old)) }
     {
         match meaning_of(&FILE_KEYWORDS, key) {
             Some(keyword) => self.set(alloc, keyword, tree),
-            None => self.set_other(alloc, key, tree, left),
+            None => self.set_other(alloc, key, tree, budget),
         }
     }
 }
@@ -199,9 +200,9 @@ fn file_from<'t>(alloc: Global, pairs: &'t [(Text, Tree)]) -> Result<FileParts<'
         variables: Vec::new(alloc),
         jobs: Vec::new(alloc),
     };
-    let mut left = MAX_BUILDING_COST;
+    let mut budget = PatternBudget::new(alloc, MAX_BUILDING_COST);
     for pair in pairs {
-        match parts.enter(alloc, pair.0.as_str(), &pair.1, &mut left) {
+        match parts.enter(alloc, pair.0.as_str(), &pair.1, &mut budget) {
             Ok(()) => {}
             Err(fault) => return Err(fault),
         }

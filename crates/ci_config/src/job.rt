@@ -17,6 +17,7 @@ use crate::rule::{Rule, rules_of};
 use crate::tree::{bool_of, is_text, text_of};
 use crate::value::{Variable, name_of, names_of, texts_of, timeout_of, variables_of};
 use crate::when::when_of;
+use ci_expr::PatternBudget;
 use ci_values::when::{AllowFailure, Retry, When};
 use ci_yaml_lines::tree::{Text, Tree};
 use std::alloc::Global;
@@ -116,11 +117,11 @@ impl<'t> JobSpec<'t> {
         &mut self,
         alloc: Global,
         tree: &'t Tree,
-        left: &mut usize,
+        budget: &mut PatternBudget,
     ) -> Result<(), ConfigFault>
         ensures { Gives (λ _. job_view self.new) result (rules_value (value_view tree.now) (job_view self.old) (builds_for result)) }
     {
-        match rules_of(alloc, tree, left) {
+        match rules_of(alloc, tree, budget) {
             Ok(rules) => {
                 self.rules = Some(rules);
                 Ok(())
@@ -134,12 +135,12 @@ impl<'t> JobSpec<'t> {
         alloc: Global,
         keyword: JobKeyword,
         tree: &'t Tree,
-        left: &mut usize,
+        budget: &mut PatternBudget,
     ) -> Result<(), ConfigFault>
         ensures { Gives (λ _. job_view self.new) result (job_value keyword (value_view tree.now) (job_view self.old) (builds_for result)) }
     {
         match keyword {
-            JobKeyword::Rules => self.set_rules(alloc, tree, left),
+            JobKeyword::Rules => self.set_rules(alloc, tree, budget),
             JobKeyword::Plain(keyword) => self.set_plain(alloc, keyword, tree),
         }
     }
@@ -150,29 +151,29 @@ impl<'t> JobSpec<'t> {
         alloc: Global,
         key: &str,
         tree: &'t Tree,
-        left: &mut usize,
+        budget: &mut PatternBudget,
     ) -> Result<(), ConfigFault>
         ensures { Gives (λ _. job_view self.new) result (job_entry (builds_for result) (key.now, value_view tree.now) (job_view self.old)) }
     {
         match keyword_of(&JOB_KEYWORDS, &JOB_LEFT_OUT, key) {
-            Ok(keyword) => self.set(alloc, keyword, tree, left),
+            Ok(keyword) => self.set(alloc, keyword, tree, budget),
             Err(fault) => Err(fault),
         }
     }
 }
 
-/// The job of a name that a map describes, where building its patterns costs no more than is left.
+/// The job of a name that a map describes, where building the patterns that are new in it costs no more than is left of a budget.
 pub fn job_from<'t>(
     alloc: Global,
     name: &'t str,
     pairs: &'t [(Text, Tree)],
-    left: &mut usize,
+    budget: &mut PatternBudget,
 ) -> Result<JobSpec<'t>, ConfigFault>
     ensures { Gives job_view result (job_from (builds_for result) name.now (pairs_view pairs.now)) }
 {
     let mut job = blank_job(alloc, name);
     for pair in pairs {
-        match job.enter(alloc, pair.0.as_str(), &pair.1, left) {
+        match job.enter(alloc, pair.0.as_str(), &pair.1, budget) {
             Ok(()) => {}
             Err(fault) => return Err(fault),
         }

@@ -50,10 +50,10 @@ pub fn config<'t>(alloc: Global, tree: &'t Tree) -> Result<Config<'t>, ConfigFau
     match meaning(alloc, tree) {
         Ok(config) => {
             // It is, since the reading would have stopped: no clause of its functions says it.
-            if is_within(&config) {
-                Ok(config)
-            } else {
-                Err(ConfigFault::Fault(ConfigCode::K13(ExprCode::X8)))
+            match is_within(alloc, &config) {
+                Ok(true) => Ok(config),
+                Ok(false) => Err(ConfigFault::Fault(ConfigCode::K13(ExprCode::X8))),
+                Err(_) => Err(ConfigFault::Memory),
             }
         }
         Err(fault) => Err(fault),

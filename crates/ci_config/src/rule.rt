@@ -17,7 +17,7 @@ use crate::tree::{bool_of, list_of, map_of, text_of};
 use crate::value::{Variable, variables_of};
 use crate::when::rule_when_of;
 use ci_expr::laws::computes_the_meaning;
-use ci_expr::{Expr, ExprFault, parse_within};
+use ci_expr::{Expr, ExprFault, PatternBudget, parse_within};
 use ci_yaml_lines::tree::{Text, Tree};
 use std::alloc::Global;
 
@@ -30,12 +30,12 @@ pub struct Rule<'t> {
     pub variables: Vec<Variable<'t>>,
 }
 
-/// The condition that a text is, where building its patterns costs no more than is left.
-fn condition_of(alloc: Global, text: &str, left: &mut usize) -> Result<Expr, ConfigFault>
+/// The condition that a text is, where building the patterns that are new in it costs no more than is left of a budget.
+fn condition_of(alloc: Global, text: &str, budget: &mut PatternBudget) -> Result<Expr, ConfigFault>
     ensures { Gives formula_of result (condition_of text.now (builds_for result)) }
 {
     computes_the_meaning();
-    match parse_within(alloc, text, left) {
+    match parse_within(alloc, text, budget) {
         Ok(expr) => Ok(expr),
         Err(ExprFault::Memory) => Err(ConfigFault::Memory),
         Err(ExprFault::Fault(code)) => Err(ConfigFault::Fault(ConfigCode::K13(code))),
@@ -48,12 +48,12 @@ impl<'t> Rule<'t> {
         &mut self,
         alloc: Global,
         tree: &Tree,
-        left: &mut usize,
+        budget: &mut PatternBudget,
     ) -> Result<(), ConfigFault>
         ensures { Gives (λ _. rule_view self.new) result (condition_value (value_view tree.now) (rule_view self.old) (builds_for result)) }
     {
         match text_of(tree) {
-            Ok(text) => match condition_of(alloc, text, left) {
+            Ok(text) => match condition_of(alloc, text, budget) {
                 Ok(condition) => {
                     self.condition = Some(condition);
                     Ok(())
@@ -86,12 +86,12 @@ impl<'t> Rule<'t> {
         alloc: Global,
         keyword: RuleKeyword,
         tree: &'t Tree,
-        left: &mut usize,
+        budget: &mut PatternBudget,
     ) -> Result<(), ConfigFault>
         ensures { Gives (λ _. rule_view self.new) result (rule_value keyword (value_view tree.now) (rule_view self.old) (builds_for result)) }
     {
         match keyword {
-            RuleKeyword::If => self.set_condition(alloc, tree, left),
+            RuleKeyword::If => self.set_condition(alloc, tree, budget),
             RuleKeyword::Plain(keyword) => self.set_plain(alloc, keyword, tree),
         }
     }
@@ -102,12 +102,12 @@ impl<'t> Rule<'t> {
         alloc: Global,
         key: &str,
         tree: &'t Tree,
-        left: &mut usize,
+        budget: &mut PatternBudget,
     ) -> Result<(), ConfigFault>
         ensures { Gives (λ _. rule_view self.new) result (rule_entry (builds_for result) (key.now, value_view tree.now) (rule_view self.old)) }
     {
         match keyword_of(&RULE_KEYWORDS, &RULE_LEFT_OUT, key) {
-            Ok(keyword) => self.set(alloc, keyword, tree, left),
+            Ok(keyword) => self.set(alloc, keyword, tree, budget),
             Err(fault) => Err(fault),
         }
     }
@@ -116,7 +116,7 @@ impl<'t> Rule<'t> {
 fn rule_from<'t>(
     alloc: Global,
     pairs: &'t [(Text, Tree)],
-    left: &mut usize,
+    budget: &mut PatternBudget,
 ) -> Result<Rule<'t>, ConfigFault>
     ensures { Gives rule_view result (rule_from (builds_for result) (pairs_view pairs.now)) }
 {
@@ -127,7 +127,7 @@ fn rule_from<'t>(
         variables: Vec::new(alloc),
     };
     for pair in pairs {
-        match rule.enter(alloc, pair.0.as_str(), &pair.1, left) {
+        match rule.enter(alloc, pair.0.as_str(), &pair.1, budget) {
             Ok(()) => {}
             Err(fault) => return Err(fault),
         }
@@ -140,7 +140,7 @@ fn rule_of<'t>(
     alloc: Global,
     before: usize,
     tree: &'t Tree,
-    left: &mut usize,
+    budget: &mut PatternBudget,
 ) -> Result<Rule<'t>, ConfigFault>
     ensures { (rs : List Meant) → length rs ≡ before → Gives rule_view result (rule_of (builds_for result) rs (value_view tree.now)) }
 {
@@ -149,7 +149,7 @@ fn rule_of<'t>(
             if MAX_RULES <= before {
                 return Err(ConfigFault::Fault(ConfigCode::K11));
             }
-            rule_from(alloc, pairs, left)
+            rule_from(alloc, pairs, budget)
         }
         Err(fault) => Err(fault),
     }
@@ -158,13 +158,13 @@ fn rule_of<'t>(
 fn rules_from<'t>(
     alloc: Global,
     values: &'t [Tree],
-    left: &mut usize,
+    budget: &mut PatternBudget,
 ) -> Result<Vec<Rule<'t>>, ConfigFault>
     ensures { Gives rules_view result (rules_from (builds_for result) (values_view values.now)) }
 {
     let mut rules = Vec::new(alloc);
     for value in values {
-        match rule_of(alloc, rules.len(), value, left) {
+        match rule_of(alloc, rules.len(), value, budget) {
             Ok(rule) => rules.push(rule)?,
             Err(fault) => return Err(fault),
         }
@@ -172,16 +172,16 @@ fn rules_from<'t>(
     Ok(rules)
 }
 
-/// The rules of a job, where building their patterns costs no more than is left.
+/// The rules of a job, where building the patterns that are new in them costs no more than is left of a budget.
 pub fn rules_of<'t>(
     alloc: Global,
     tree: &'t Tree,
-    left: &mut usize,
+    budget: &mut PatternBudget,
 ) -> Result<Vec<Rule<'t>>, ConfigFault>
     ensures { Gives rules_view result (rules_of (value_view tree.now) (builds_for result)) }
 {
     match list_of(tree) {
-        Ok(values) => rules_from(alloc, values, left),
+        Ok(values) => rules_from(alloc, values, budget),
         Err(fault) => Err(fault),
     }
 }

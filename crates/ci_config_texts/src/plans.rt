@@ -6,7 +6,7 @@ use ci_config::{ConfigCode, ConfigFault, config};
 use ci_config_rows::{Part, RowFault};
 use ci_expr::ExprCode;
 use ci_graph_layout::{
-    Given, GraphCode, IncludedJob, PipelinePlan, PlanFault, is_affordable, plan,
+    Given, GraphCode, IncludedJob, PipelinePlan, PlanFault, is_affordable, looks, plan,
 };
 use ci_values::when::{AllowFailure, When};
 use ci_yaml::{YamlFault, read};
@@ -92,7 +92,7 @@ fn told(alloc: Global, tell: Tell, parts: &[Part]) -> Result<String, RowFault> {
         project: &[],
         predefined: &[("CI", "true")],
     };
-    if !is_affordable(alloc, &given, &config)? {
+    if !is_affordable(&looks(alloc, &given, &config)?) {
         let code = ConfigCode::K13(ExprCode::X8);
         return Ok(format!(in alloc; "{code}")?);
     }

@@ -1,34 +1,30 @@
--- What building patterns costs.
-use Rattle.std.proofs.Common.{◌≡◌, false, refl, arith}
+-- What building patterns costs, and looking for them.
+use Rattle.std.proofs.Common.{◌≡◌, ◌++◌, false, [], refl, ap₂}
 use Rattle.std.proofs.lemmas.Bool.{or_parts}
 use Rattle.ci_expr.specs.declared.formula.Formula as formulas
 use Rattle.ci_expr.specs.declared.formula.Formula.TheVariants.{Joined', Group', Present, Equal, Found}
-use Rattle.ci_expr.specs.Built.{formula_view, formula_cost, formula_search_cost, AreMeasured}
+use Rattle.ci_expr.specs.Built.{formula_view, patterns_in, looks_in, AreMeasured}
 use Rattle.ci_expr.specs.Truth.{Values}
 use Rattle.ci_expr.specs.Formula.{has_pattern}
 
--- without a pattern it is nothing
-pub no-cost : (f : formulas.Formula) → has_pattern (formula_view f) ≡ false → formula_cost f ≡ 0
-no-cost (Joined' j p a q b) h =
+-- without a pattern there is none
+pub no-patterns : (f : formulas.Formula) → has_pattern (formula_view f) ≡ false → patterns_in f ≡ []
+no-patterns (Joined' j p a q b) h =
     let both = or_parts (has_pattern (formula_view a)) (has_pattern (formula_view b)) h in
-    let left = no-cost a both.0 in
-    let right = no-cost b both.1 in
-    omega (arith, left, right)
-no-cost (Group' p a) h = no-cost a h
-no-cost (Present name) h = refl
-no-cost (Equal negated name subject) h = refl
-no-cost (Found negated name pattern) h = absurd cc
+    ap₂ (λ xs ys. xs ++ ys) (no-patterns a both.0) (no-patterns b both.1)
+no-patterns (Group' p a) h = no-patterns a h
+no-patterns (Present name) h = refl
+no-patterns (Equal negated name subject) h = refl
+no-patterns (Found negated name pattern) h = absurd cc
 
-pub no-search : (vs : Values) (f : formulas.Formula) → has_pattern (formula_view f) ≡ false → formula_search_cost vs f ≡ 0
-no-search vs (Joined' j p a q b) h =
+pub no-looks : (vs : Values) (f : formulas.Formula) → has_pattern (formula_view f) ≡ false → looks_in vs f ≡ []
+no-looks vs (Joined' j p a q b) h =
     let both = or_parts (has_pattern (formula_view a)) (has_pattern (formula_view b)) h in
-    let left = no-search vs a both.0 in
-    let right = no-search vs b both.1 in
-    omega (arith, left, right)
-no-search vs (Group' p a) h = no-search vs a h
-no-search vs (Present name) h = refl
-no-search vs (Equal negated name subject) h = refl
-no-search vs (Found negated name pattern) h = absurd cc
+    ap₂ (λ xs ys. xs ++ ys) (no-looks vs a both.0) (no-looks vs b both.1)
+no-looks vs (Group' p a) h = no-looks vs a h
+no-looks vs (Present name) h = refl
+no-looks vs (Equal negated name subject) h = refl
+no-looks vs (Found negated name pattern) h = absurd cc
 
 pub measured : (f : formulas.Formula) → AreMeasured f
 measured (Joined' j p a q b) = (measured a, measured b)

@@ -1,4 +1,6 @@
 -- An automaton finds what its pattern's characters say, and why one was not built.
+use denote.Struct.Props.{props}
+use Rattle.std.proofs.Math.Logic.{∥∥₁_elim}
 use Rattle.std.proofs.Common.{◌≡◌, ℕ, ◌+◌, ◌<◌, ◌≤◌, Bool, true, false, option_map, List, All, length, Option, None, Some, IsSomeAnd, is_some, Result, Ok, Err, refl, ap, subst, sym, ◌∙◌, inl, inr}
 use Rattle.std.specs.Prelude.{◌≢◌, IfSome, IfOk, IfErr, chars}
 use Rattle.regex_hir.specs.Re.{Re}
@@ -8,7 +10,7 @@ use Rattle.regex_hir.specs.declared.hir.Hir.{Hir}
 use Rattle.regex_hir.proofs.FindLemmas.{first_between_cong}
 use Rattle.regex_syntax.specs.Brackets.{Nested}
 use Rattle.regex_syntax.specs.Captures.{SameCaptures}
-use Rattle.regex_syntax.specs.Grammar.{Names, group_count}
+use Rattle.regex_syntax.specs.Grammar.{Names, group_count, read}
 use Rattle.regex_syntax.specs.Verdict.{Reads, Refuses}
 use Rattle.regex_syntax.specs.declared.Config.{Config}
 use Rattle.regex_syntax.specs.declared.error.ErrorKind.{ErrorKind}
@@ -22,7 +24,7 @@ use Rattle.regex_hir.specs.Text.{is_boundary}
 use Rattle.regex.proofs.SearchLemmas.{leftmost_none, leftmost_here, leftmost_retry}
 use Rattle.ci_expr.specs.declared.pattern.Refusal.{Refusal}
 use Rattle.ci_expr.specs.declared.pattern.Refusal.TheVariants as refusals
-use Rattle.ci_expr.specs.Found.{config_of, found_by, is_found_in, IsAutomatonOf, IsPattern, IsNoPattern, IsRefused}
+use Rattle.ci_expr.specs.Found.{config_of, found_by, is_found_in, IsAutomatonOf, HasTables, IsPattern, IsNoPattern, IsRefused}
 
 abbrev Grammar : Type 0
 Grammar = Option (Nested Re × Names)
@@ -54,6 +56,15 @@ shallow-by (Some x) most a names h = h.0
 pub read-pattern : (insensitive : Bool) (text : List ℕ) (hir : Hir) (names : Names) → Reads (config_of insensitive) text hir names → IsPattern insensitive (chars text)
 unfolding Reads
 read-pattern insensitive text hir names h = shallow-by _ _ _ _ h
+
+-- an automaton's tables were measured of a pattern alone
+shallow-prop : (o : Grammar) → IsProp (IsSomeAnd o (λ (re, names). re.depth ≤ 250))
+shallow-prop None = λ x y. absurd x
+shallow-prop (Some x) = search props
+
+pub measured-pattern : (insensitive : Bool) (source : List ℕ) (bytes : ℕ) → HasTables insensitive source bytes → IsPattern insensitive (chars source)
+measured-pattern insensitive source bytes h =
+    ∥∥₁_elim h (shallow-prop (read (config_of insensitive) (chars source))) (λ m. read-pattern insensitive source m.1.0 m.1.1 m.1.2)
 
 abbrev Built : Type 0
 Built = Result Nfa Refusal

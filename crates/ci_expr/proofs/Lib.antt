@@ -14,4 +14,7 @@ pub mod TokenLemmas
 pub mod OrderLemmas
 pub mod OneMeaning
 pub mod Computing
+pub mod Budgets
+pub mod Writing
+pub mod Gathering
 pub mod Costs

@@ -1,5 +1,5 @@
 -- When a pattern is found in a text, in the words of `regex`.
-use Rattle.std.specs.Prelude.{◌≡◌, ℕ, ◌<◌, ◌≤◌, Bool, false, List, Option, Some, None, IsSomeAnd, IfSome, is_some, chars, ⊤}
+use Rattle.std.specs.Prelude.{◌≡◌, ℕ, ◌<◌, ◌≤◌, Bool, false, List, Option, Some, None, IsSomeAnd, IfSome, is_some, ⊤}
 use Rattle.regex.specs.Patterns.{Re, find_str, Config, default_config, Reads}
 use Rattle.regex_hir.specs.Meaning.{meaning}
 use Rattle.regex_hir.specs.declared.hir.Hir.{Hir}

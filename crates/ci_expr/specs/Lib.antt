@@ -11,6 +11,7 @@ pub mod Found
 pub mod Faults
 pub mod Order
 pub mod Descent
+pub mod Distinct
 pub mod Meaning
 pub mod Built
 pub mod Budget

@@ -1,9 +1,11 @@
 //! What building a pattern costs, and looking for it.
 
-ghost use Rattle.std.specs.Prelude.{◌≡◌, ◌≤◌, ◌+◌, length, string_bytes};
-ghost use Rattle.ci_expr.specs.Budget.{is_class_mark, class_marks, class_cost, pattern_cost, Leaves};
-ghost use Rattle.ci_expr.specs.Budget.{is_flag, names_unicode, drops_unicode, may_drop_unicode, text_cost};
+ghost use Rattle.std.specs.Prelude.{◌≡◌, ◌≤◌, ◌+◌, length, string_bytes, sum_by};
+ghost use Rattle.ci_expr.specs.Budget.{is_class_mark, class_marks, class_cost, Leaves};
+ghost use Rattle.ci_expr.specs.Built.{pattern_view, patterns_view, cost_of, look_view, looks_view, look_cost};
+ghost use Rattle.ci_expr.specs.Budget.{is_flag, names_unicode, drops_unicode, may_drop_unicode};
 
+use crate::looks::Look;
 use crate::pattern::Pattern;
 
 /// A byte where a class may begin or a range may be.
@@ -36,7 +38,7 @@ fn class_cost(insensitive: bool) -> usize
 
 /// What is left of a budget behind what building a pattern costs, or nothing where it costs more.
 pub fn left_by_pattern(pattern: &Pattern, budget: usize) -> Option<usize>
-    ensures { Leaves budget (pattern_cost pattern.now.insensitive (string_bytes pattern.now.source) pattern.now.bytes) result }
+    ensures { Leaves budget (cost_of (pattern_view pattern.now)) result }
 {
     let marks = class_marks(pattern.source.as_bytes());
     let classes = class_cost(pattern.insensitive).checked_mul(marks)?;
@@ -106,15 +108,44 @@ fn may_drop_unicode(bytes: &[u8]) -> bool
     false
 }
 
-/// What is left of a budget behind what looking for a pattern in a text costs, or nothing where it costs more.
-pub fn left_by_text(pattern: &Pattern, text: &str, budget: usize) -> Option<usize>
-    ensures { Leaves budget (text_cost (string_bytes pattern.now.source) pattern.now.bytes (length text.now + 1)) result }
+/// What is left of a budget behind what building patterns costs, or nothing where it costs more. A unit is about a microsecond.
+pub fn left_by_patterns(patterns: &[&Pattern], budget: usize) -> Option<usize>
+    ensures { Leaves budget (sum_by cost_of (patterns_view patterns.now)) result }
 {
-    let places = text.len().checked_add(1)?;
-    let once = pattern.bytes.checked_mul(places)?;
-    if may_drop_unicode(pattern.source.as_bytes()) {
+    let mut left = budget;
+    for pattern in patterns {
+        match left_by_pattern(pattern, left) {
+            Some(next) => left = next,
+            None => return None,
+        }
+    }
+    Some(left)
+}
+
+/// What is left of a budget behind what a look costs, or nothing where it costs more.
+fn left_by_look(look: &Look, budget: usize) -> Option<usize>
+    ensures { Leaves budget (look_cost (look_view look.now)) result }
+{
+    let places = look.text.len().checked_add(1)?;
+    let once = look.pattern.bytes.checked_mul(places)?;
+    if may_drop_unicode(look.pattern.source.as_bytes()) {
         budget.checked_sub(once.checked_mul(places)?)
     } else {
         budget.checked_sub(once)
     }
+}
+
+/// What is left of a budget behind what looks cost, or nothing where they cost more. A unit is a byte of a pattern's tables at one place of
+/// a text, about a nanosecond.
+pub fn left_by_looks(looks: &[Look], budget: usize) -> Option<usize>
+    ensures { Leaves budget (sum_by look_cost (looks_view looks.now)) result }
+{
+    let mut left = budget;
+    for look in looks {
+        match left_by_look(look, left) {
+            Some(next) => left = next,
+            None => return None,
+        }
+    }
+    Some(left)
 }

@@ -1,18 +1,22 @@
 //! Expressions that were read.
 
-ghost use Rattle.std.specs.Prelude.{◌≡◌, ◌+◌, List, Result, IfOk, map};
+ghost use Rattle.std.specs.Prelude.{◌≡◌, ◌+◌, List, Result, IfOk, OnOk, map};
 ghost use Rattle.ci_expr.specs.Formula.{Formula as Meant};
 ghost use Rattle.ci_expr.specs.declared.fault.ExprCode.{ExprCode as Code};
-ghost use Rattle.ci_expr.specs.Budget.{Leaves};
+ghost use Rattle.ci_expr.specs.Distinct.{with_each};
 ghost use Rattle.ci_expr.specs.Truth.{truth};
 ghost use Rattle.ci_expr.specs.View.{token_view};
-ghost use Rattle.ci_expr.specs.Meaning.{Means, Answers, Allows, AtMostOneFormula, MeansOneThing, ArePatterns, parse_of, IsBuilt};
-ghost use Rattle.ci_expr.specs.Built.{values_of, formula_of, building_cost, search_cost};
+ghost use Rattle.ci_expr.specs.Meaning.{Means, Answers as Answered, Allows, AtMostOneFormula, MeansOneThing, ArePatterns, parse_of, IsBuilt};
+ghost use Rattle.ci_expr.specs.Built.{values_of, formula_of, patterns_view, patterns_of, same_pattern, built_of, spent, looks_view, looks_of, same_look};
 
+use crate::answers::Answers;
+use crate::budget::PatternBudget;
 use crate::descent::formula_from;
 use crate::fault::ExprFault;
-use crate::formula::{Env, Formula, build, left_by_search, left_of, truth};
+use crate::formula::{Env, Formula, build, put_looks, put_patterns, truth};
+use crate::looks::Look;
 use crate::order::list_fault;
+use crate::pattern::Pattern;
 use crate::token::{Token, tokens};
 use std::alloc::{AllocError, Global};
 
@@ -27,58 +31,80 @@ impl Expr {
     pub fn value(&self, alloc: Global, env: &Env) -> Result<bool, AllocError>
         ensures { IfOk result (λ b. b ≡ truth (values_of env.now) (formula_of self.now)) }
     {
-        truth(&self.root, alloc, env)
+        let answers = Answers::none(alloc);
+        self.value_by(alloc, env, &answers)
     }
 
-    /// What is left of a budget behind what building the expression's patterns costs, or nothing where it costs more. A unit is
-    /// about a microsecond.
-    pub fn left_of(&self, budget: usize) -> Option<usize>
-        ensures { Leaves budget (building_cost self.now) result }
+    /// The same, where some of what it looks for was looked for before: that isn't looked for again.
+    pub fn value_by(&self, alloc: Global, env: &Env, answers: &Answers) -> Result<bool, AllocError>
+        ensures { IfOk result (λ b. b ≡ truth (values_of env.now) (formula_of self.now)) }
     {
-        left_of(&self.root, budget)
+        truth(&self.root, alloc, env, answers)
     }
 
-    /// What is left of a budget behind what looking for the expression's patterns in the values of these variables costs, each of
-    /// them once, or nothing where it costs more. A unit is a byte of a pattern's tables at one place of a value.
-    pub fn left_by_search(&self, env: &Env, budget: usize) -> Option<usize>
-        ensures { Leaves budget (search_cost (values_of env.now) self.now) result }
+    /// Puts the expression's patterns behind others, each once. Errors: memory was refused.
+    pub fn put_patterns<'a>(&'a self, patterns: &mut Vec<&'a Pattern>) -> Result<(), AllocError>
+        ensures { OnOk result (patterns_view patterns.new.items ≡ with_each same_pattern (patterns_view patterns.old.items) (patterns_of self.now)) }
     {
-        left_by_search(&self.root, env, budget)
+        put_patterns(&self.root, patterns)
+    }
+
+    /// Puts what the expression looks for where variables have these values behind others, each look once: each pattern, come to or not, in
+    /// the value of its variable. Errors: memory was refused.
+    pub fn put_looks<'a>(
+        &'a self,
+        env: &Env<'_, 'a>,
+        looks: &mut Vec<Look<'a>>,
+    ) -> Result<(), AllocError>
+        ensures { OnOk result (looks_view looks.new.items ≡ with_each same_look (looks_view looks.old.items) (looks_of (values_of env.now) self.now)) }
+    {
+        put_looks(&self.root, env, looks)
     }
 }
 
 /// The expression of a list of tokens.
-fn parse_tokens(alloc: Global, tokens: &[Token], left: &mut usize) -> Result<Expr, ExprFault>
-    ensures built { IsBuilt formula_of result (parse_of (map token_view tokens.now)) }
+fn parse_tokens(
+    alloc: Global,
+    tokens: &[Token],
+    budget: &mut PatternBudget,
+) -> Result<Expr, ExprFault>
+    ensures read { IsBuilt formula_of result (parse_of (map token_view tokens.now)) }
     ensures patterns { IfOk result (λ e. ArePatterns (formula_of e)) }
-    ensures left { IfOk result (λ e. left.new + building_cost e ≡ left.old) }
+    ensures built { IfOk result (λ e. built_of budget.new ≡ with_each same_pattern (built_of budget.old) (patterns_of e)) }
+    ensures left { IfOk result (λ e. budget.new.left + spent budget.new ≡ budget.old.left + spent budget.old) }
 {
     if let Some(fault) = list_fault(tokens) {
         return Err(ExprFault::Fault(fault));
     }
     let tree = formula_from(alloc, tokens)?;
-    let root = build(alloc, &tree, left)?;
+    let root = build(alloc, &tree, budget)?;
     Ok(Expr { root })
 }
 
-/// The same as `parse`, where building the patterns costs no more than is left of a budget: else X8 at the first that costs more. What
-/// is left behind them is left then.
-pub fn parse_within(alloc: Global, text: &str, left: &mut usize) -> Result<Expr, ExprFault>
+/// The same as `parse`, where building the patterns that weren't built before costs no more than is left of a budget: else X8 at the first
+/// that costs more. What is left behind them is left then.
+pub fn parse_within(
+    alloc: Global,
+    text: &str,
+    budget: &mut PatternBudget,
+) -> Result<Expr, ExprFault>
     // What is answered is the formula of the text, or its first fault.
-    ensures answer { Answers formula_of result (Means text.now) }
+    ensures answer { Answered formula_of result (Means text.now) }
     // Where the text has a formula, it is answered, or X8 where it holds a pattern; where the text has a fault, that.
     ensures only { (r : Result Meant Code) → Means text.now r → Allows formula_of result r }
     // An expression that is answered holds no pattern but such as the grammar of `regex` reads.
     ensures patterns { IfOk result (λ e. ArePatterns (formula_of e)) }
-    // Building its patterns was paid.
-    ensures left { IfOk result (λ e. left.new + building_cost e ≡ left.old) }
+    // Its patterns are among those that were built, each once,
+    ensures built { IfOk result (λ e. built_of budget.new ≡ with_each same_pattern (built_of budget.old) (patterns_of e)) }
+    // and paid.
+    ensures left { IfOk result (λ e. budget.new.left + spent budget.new ≡ budget.old.left + spent budget.old) }
     // The grammar leaves no choice.
     ensures one { AtMostOneFormula }
     // Nor does the text.
     ensures single { MeansOneThing }
 {
     let found = tokens(alloc, text)?;
-    parse_tokens(alloc, &found, left)
+    parse_tokens(alloc, &found, budget)
 }
 
 /// The expression of a text. Each pattern is built here, to see that it can be, and let go.
@@ -89,7 +115,7 @@ pub fn parse_within(alloc: Global, text: &str, left: &mut usize) -> Result<Expr,
 /// more than `MAX_PATTERN_BYTES` for it (X8).
 pub fn parse(alloc: Global, text: &str) -> Result<Expr, ExprFault>
     // What is answered is the formula of the text, or its first fault.
-    ensures answer { Answers formula_of result (Means text.now) }
+    ensures answer { Answered formula_of result (Means text.now) }
     // Where the text has a formula, it is answered, or X8 where it holds a pattern; where the text has a fault, that.
     ensures only { (r : Result Meant Code) → Means text.now r → Allows formula_of result r }
     // An expression that is answered holds no pattern but such as the grammar of `regex` reads.
@@ -99,6 +125,6 @@ pub fn parse(alloc: Global, text: &str) -> Result<Expr, ExprFault>
     // Nor does the text.
     ensures single { MeansOneThing }
 {
-    let mut left = usize::MAX;
-    parse_within(alloc, text, &mut left)
+    let mut budget = PatternBudget::new(alloc, usize::MAX);
+    parse_within(alloc, text, &mut budget)
 }

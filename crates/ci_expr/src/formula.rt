@@ -1,17 +1,17 @@
 //! Formulas with texts of their own, and their truth.
 
-ghost use Rattle.std.specs.Prelude.{◌≡◌, ◌+◌, List, [], chars, string_bytes, IfOk, IfErr, option_map, unwrap_or};
-ghost use Rattle.ci_expr.specs.Source.{source_of};
+ghost use Rattle.std.specs.Prelude.{◌≡◌, ◌+◌, List, [], IfOk, IfErr, OnOk, option_map, unwrap_or};
 ghost use Rattle.ci_expr.specs.Truth.{same_value, negated_by, value_of, operand_value, truth};
-ghost use Rattle.ci_expr.specs.View.{tree_view, operand_view, IsOfPattern, RefusesPattern};
-ghost use Rattle.ci_expr.specs.Budget.{pattern_cost, Leaves};
-ghost use Rattle.ci_expr.specs.Found.{IsPattern};
+ghost use Rattle.ci_expr.specs.View.{tree_view, operand_view, RefusesPattern};
 ghost use Rattle.ci_expr.specs.Meaning.{ArePatterns};
-ghost use Rattle.ci_expr.specs.Built.{subject_view, formula_view, formula_cost, formula_search_cost, values_of};
+ghost use Rattle.ci_expr.specs.Distinct.{with_each};
+ghost use Rattle.ci_expr.specs.Built.{subject_view, formula_view, values_of, patterns_view, patterns_in, same_pattern, built_of, spent, looks_view, looks_in, same_look};
 
-use crate::cost::{left_by_pattern, left_by_text};
-use crate::fault::{ExprCode, ExprFault};
-use crate::pattern::{Pattern, Refusal, checked, is_found};
+use crate::answers::Answers;
+use crate::budget::PatternBudget;
+use crate::fault::ExprFault;
+use crate::looks::{Look, put_look, put_pattern};
+use crate::pattern::Pattern;
 use crate::source::source_of;
 use crate::tree::{Join, Operand, Tree};
 use std::alloc::{AllocError, Global};
@@ -19,9 +19,9 @@ use std::alloc::{AllocError, Global};
 /// The variables that an expression sees: names with their values. Of two pairs with one name the first counts, and a
 /// variable without a pair is undefined.
 #[derive(Clone, Copy)]
-pub struct Env<'a> {
+pub struct Env<'p, 'a> {
     /// The pairs, name and value.
-    pub pairs: &'a [(&'a str, &'a str)],
+    pub pairs: &'p [(&'a str, &'a str)],
 }
 
 /// What a variable is compared with.
@@ -61,49 +61,23 @@ fn subject_of(alloc: Global, operand: &Operand) -> Result<Subject, AllocError>
     }
 }
 
-/// The pattern of a body, where building it costs no more than is left of a budget.
-fn pattern_from(
-    alloc: Global,
-    body: &str,
-    insensitive: bool,
-    left: &mut usize,
-) -> Result<Pattern, ExprFault>
-    ensures source { IfOk result (λ p. chars (string_bytes p.source) ≡ source_of (chars body.now)) }
-    ensures flag { IfOk result (λ p. p.insensitive ≡ insensitive) }
-    ensures pattern { IfOk result (λ p. IsPattern insensitive (source_of (chars body.now))) }
-    ensures left { IfOk result (λ p. left.new + pattern_cost p.insensitive (string_bytes p.source) p.bytes ≡ left.old) }
-    ensures refused { IfErr result IsOfPattern }
-{
-    let source = source_of(alloc, body)?;
-    match checked(alloc, source, insensitive) {
-        Ok(pattern) => match left_by_pattern(&pattern, *left) {
-            Some(rest) => {
-                *left = rest;
-                Ok(pattern)
-            }
-            None => Err(ExprFault::Fault(ExprCode::X8)),
-        },
-        Err(Refusal::Memory) => Err(ExprFault::Memory),
-        Err(Refusal::Syntax | Refusal::Size) => Err(ExprFault::Fault(ExprCode::X8)),
-    }
-}
-
 /// The formula with texts of its own, where `regex` builds each of its patterns, and that costs no more than is left of a budget.
-pub fn build(alloc: Global, tree: &Tree, left: &mut usize) -> Result<Formula, ExprFault>
-    ensures built { IfOk result (λ f. formula_view f ≡ tree_view tree.now) }
+pub fn build(alloc: Global, tree: &Tree, budget: &mut PatternBudget) -> Result<Formula, ExprFault>
+    ensures view { IfOk result (λ f. formula_view f ≡ tree_view tree.now) }
     ensures patterns { IfOk result (λ f. ArePatterns (tree_view tree.now)) }
-    ensures left { IfOk result (λ f. left.new + formula_cost f ≡ left.old) }
+    ensures built { IfOk result (λ f. built_of budget.new ≡ with_each same_pattern (built_of budget.old) (patterns_in f)) }
+    ensures left { IfOk result (λ f. budget.new.left + spent budget.new ≡ budget.old.left + spent budget.old) }
     ensures refused { IfErr result (λ e. RefusesPattern e (tree_view tree.now)) }
 {
     match tree {
         Tree::Joined(join, a, b) => {
-            let a = build(alloc, a, left)?;
-            let b = build(alloc, b, left)?;
+            let a = build(alloc, a, budget)?;
+            let b = build(alloc, b, budget)?;
             let a = Box::new(alloc, a)?;
             Ok(Formula::Joined(*join, a, Box::new(alloc, b)?))
         }
         Tree::Group(a) => {
-            let a = build(alloc, a, left)?;
+            let a = build(alloc, a, budget)?;
             Ok(Formula::Group(Box::new(alloc, a)?))
         }
         Tree::Present(name) => Ok(Formula::Present(String::from_str(alloc, name)?)),
@@ -114,14 +88,14 @@ pub fn build(alloc: Global, tree: &Tree, left: &mut usize) -> Result<Formula, Ex
         }
         Tree::Found(negated, name, body, insensitive) => {
             let name = String::from_str(alloc, name)?;
-            let pattern = pattern_from(alloc, body, *insensitive, left)?;
+            let pattern = budget.pattern(alloc, source_of(alloc, body)?, *insensitive)?;
             Ok(Formula::Found(*negated, name, Box::new(alloc, pattern)?))
         }
     }
 }
 
 /// The first value with a name, or none where the variable is undefined.
-fn value_of<'a>(env: &Env<'a>, name: &str) -> Option<&'a str>
+fn value_of<'a>(env: &Env<'_, 'a>, name: &str) -> Option<&'a str>
     ensures { option_map (λ v. v.now) result ≡ value_of (values_of env.now) name.now }
 {
     let pairs = env.pairs;
@@ -145,7 +119,7 @@ fn same_value(a: Option<&str>, b: Option<&str>) -> bool
 }
 
 /// The value of what a variable is compared with.
-fn subject_value<'a>(env: &Env<'a>, subject: &'a Subject) -> Option<&'a str>
+fn subject_value<'a>(env: &Env<'_, 'a>, subject: &'a Subject) -> Option<&'a str>
     ensures { option_map (λ v. v.now) result ≡ operand_value (values_of env.now) (subject_view subject.now) }
 {
     match subject {
@@ -155,41 +129,8 @@ fn subject_value<'a>(env: &Env<'a>, subject: &'a Subject) -> Option<&'a str>
     }
 }
 
-/// What is left of a budget behind what building a formula's patterns costs, or nothing where it costs more.
-pub fn left_of(formula: &Formula, budget: usize) -> Option<usize>
-    ensures { Leaves budget (formula_cost formula.now) result }
-{
-    match formula {
-        Formula::Joined(_, a, b) => match left_of(a, budget) {
-            Some(left) => left_of(b, left),
-            None => None,
-        },
-        Formula::Group(a) => left_of(a, budget),
-        Formula::Present(_) | Formula::Equal(..) => Some(budget),
-        Formula::Found(_, _, pattern) => left_by_pattern(pattern, budget),
-    }
-}
-
-/// What is left of a budget behind what looking for a formula's patterns in these values costs, each of them once, or nothing where
-/// it costs more.
-pub fn left_by_search(formula: &Formula, env: &Env, budget: usize) -> Option<usize>
-    ensures { Leaves budget (formula_search_cost (values_of env.now) formula.now) result }
-{
-    match formula {
-        Formula::Joined(_, a, b) => match left_by_search(a, env, budget) {
-            Some(left) => left_by_search(b, env, left),
-            None => None,
-        },
-        Formula::Group(a) => left_by_search(a, env, budget),
-        Formula::Present(_) | Formula::Equal(..) => Some(budget),
-        Formula::Found(_, name, pattern) => {
-            left_by_text(pattern, text_of(env, name.as_str()), budget)
-        }
-    }
-}
-
 /// The value of a variable in which a pattern is looked for: the empty text where it is undefined.
-fn text_of<'a>(env: &Env<'a>, name: &str) -> &'a str
+fn text_of<'a>(env: &Env<'_, 'a>, name: &str) -> &'a str
     ensures { result.now ≡ unwrap_or (value_of (values_of env.now) name.now) [] }
 {
     match value_of(env, name) {
@@ -198,24 +139,66 @@ fn text_of<'a>(env: &Env<'a>, name: &str) -> &'a str
     }
 }
 
-/// The truth of a formula.
-pub fn truth(formula: &Formula, alloc: Global, env: &Env) -> Result<bool, AllocError>
+/// Puts a formula's patterns behind others, each once.
+pub fn put_patterns<'a>(
+    formula: &'a Formula,
+    patterns: &mut Vec<&'a Pattern>,
+) -> Result<(), AllocError>
+    ensures { OnOk result (patterns_view patterns.new.items ≡ with_each same_pattern (patterns_view patterns.old.items) (patterns_in formula.now)) }
+{
+    match formula {
+        Formula::Joined(_, a, b) => {
+            put_patterns(a, patterns)?;
+            put_patterns(b, patterns)
+        }
+        Formula::Group(a) => put_patterns(a, patterns),
+        Formula::Present(_) | Formula::Equal(..) => Ok(()),
+        Formula::Found(_, _, pattern) => put_pattern(patterns, pattern),
+    }
+}
+
+/// Puts what a formula looks for in these values behind others, each look once.
+pub fn put_looks<'a>(
+    formula: &'a Formula,
+    env: &Env<'_, 'a>,
+    looks: &mut Vec<Look<'a>>,
+) -> Result<(), AllocError>
+    ensures { OnOk result (looks_view looks.new.items ≡ with_each same_look (looks_view looks.old.items) (looks_in (values_of env.now) formula.now)) }
+{
+    match formula {
+        Formula::Joined(_, a, b) => {
+            put_looks(a, env, looks)?;
+            put_looks(b, env, looks)
+        }
+        Formula::Group(a) => put_looks(a, env, looks),
+        Formula::Present(_) | Formula::Equal(..) => Ok(()),
+        Formula::Found(_, name, pattern) => put_look(looks, pattern, text_of(env, name.as_str())),
+    }
+}
+
+/// The truth of a formula, with the answers of looks that were made before.
+pub fn truth(
+    formula: &Formula,
+    alloc: Global,
+    env: &Env,
+    answers: &Answers,
+) -> Result<bool, AllocError>
     ensures { IfOk result (λ b. b ≡ truth (values_of env.now) (formula_view formula.now)) }
 {
     match formula {
         Formula::Joined(Join::Or, a, b) => {
-            if truth(a, alloc, env)? {
+            if truth(a, alloc, env, answers)? {
                 return Ok(true);
             }
-            truth(b, alloc, env)
+            truth(b, alloc, env, answers)
         }
         Formula::Joined(Join::And, a, b) => {
-            if !truth(a, alloc, env)? {
+            if !truth(a, alloc, env, answers)? {
                 return Ok(false);
             }
-            truth(b, alloc, env)
+            truth(b, alloc, env, answers)
         }
-        Formula::Group(a) => truth(a, alloc, env),
+        Formula::Group(a) => truth(a, alloc, env, answers),
         Formula::Present(name) => match value_of(env, name.as_str()) {
             Some(text) => Ok(!text.is_empty()),
             None => Ok(false),
@@ -225,7 +208,7 @@ pub fn truth(formula: &Formula, alloc: Global, env: &Env) -> Result<bool, AllocE
             if *negated { Ok(!same) } else { Ok(same) }
         }
         Formula::Found(negated, name, pattern) => {
-            let found = is_found(pattern, alloc, text_of(env, name.as_str()))?;
+            let found = answers.is_found(alloc, pattern, text_of(env, name.as_str()))?;
             if *negated { Ok(!found) } else { Ok(found) }
         }
     }

@@ -1,7 +1,7 @@
 //! Laws of the definitions. These functions do nothing: what they ensure is what the checker proves.
 
-ghost use Rattle.std.specs.Prelude.{◌≡◌, ℕ, List, false};
-ghost use Rattle.ci_expr.specs.Built.{formula_of, building_cost, search_cost, IsMeasured};
+ghost use Rattle.std.specs.Prelude.{◌≡◌, ℕ, List, [], false};
+ghost use Rattle.ci_expr.specs.Built.{formula_of, patterns_of, looks_of, IsMeasured};
 ghost use Rattle.ci_expr.specs.Computed.{expression_of};
 ghost use Rattle.ci_expr.specs.Formula.{has_pattern};
 ghost use Rattle.ci_expr.specs.Meaning.{IsMeaning};
@@ -13,10 +13,10 @@ pub fn computes_the_meaning()
     ensures { (text : List ℕ) → IsMeaning text (expression_of text) }
 {}
 
-/// Nothing but a pattern costs anything to build, or to look for.
+/// An expression without a pattern has none to build, and looks for none.
 pub fn costs_nothing_without_patterns()
-    ensures building { (e : Read) → has_pattern (formula_of e) ≡ false → building_cost e ≡ 0 }
-    ensures search { (vs : Values) (e : Read) → has_pattern (formula_of e) ≡ false → search_cost vs e ≡ 0 }
+    ensures building { (e : Read) → has_pattern (formula_of e) ≡ false → patterns_of e ≡ [] }
+    ensures search { (vs : Values) (e : Read) → has_pattern (formula_of e) ≡ false → looks_of vs e ≡ [] }
 {}
 
 /// Each pattern of an expression is kept with the bytes that the tables of its automaton take.

@@ -118,7 +118,8 @@ fn is_cut(text: &[u8], at: usize) -> bool
 /// Whether an automaton finds a match somewhere in a text. An empty match inside a character is none.
 fn finds(search: &mut PikeVm, nfa: &Nfa, text: &str) -> bool
     requires { search.old.states ≡ vec_len nfa.now.states }
-    ensures { (re : Re) → Implements nfa.now re → result ≡ is_some (find_str re text.now 0) }
+    ensures found { (re : Re) → Implements nfa.now re → result ≡ is_some (find_str re text.now 0) }
+    ensures states { search.new.states ≡ vec_len nfa.now.states }
 {
     let bytes = text.as_bytes();
     let end = bytes.len();
@@ -134,17 +135,36 @@ fn finds(search: &mut PikeVm, nfa: &Nfa, text: &str) -> bool
     }
 }
 
-/// Whether the pattern is found somewhere in a text. It is built for this one call.
+/// The automaton of a pattern.
+pub fn automaton_of(alloc: Global, pattern: &Pattern) -> Result<Nfa, AllocError>
+    ensures { IfOk result (IsAutomatonOf pattern.now.insensitive (string_bytes pattern.now.source)) }
+{
+    match build_pattern(alloc, pattern.source.as_str(), pattern.insensitive) {
+        Ok(nfa) => Ok(nfa),
+        // The same text was built before, within the same bytes: what is refused now is memory.
+        Err(_) => Err(AllocError),
+    }
+}
+
+/// Whether a pattern is found somewhere in a text, by its automaton.
 ///
 /// A search takes time by the automaton's states and the text's bytes, and memory by the states alone.
+pub fn is_found_by(search: &mut PikeVm, nfa: &Nfa, pattern: &Pattern, text: &str) -> bool
+    requires states { search.old.states ≡ vec_len nfa.now.states }
+    requires automaton { IsAutomatonOf pattern.now.insensitive (string_bytes pattern.now.source) nfa.now }
+    ensures found { result ≡
+        is_found_in (config_of pattern.now.insensitive) (chars (string_bytes pattern.now.source)) text.now }
+    ensures states { search.new.states ≡ vec_len nfa.now.states }
+{
+    finds(search, nfa, text)
+}
+
+/// Whether a pattern is found somewhere in a text. It is built for this one call.
 pub fn is_found(pattern: &Pattern, alloc: Global, text: &str) -> Result<bool, AllocError>
     ensures { IfOk result (λ found. found ≡
         is_found_in (config_of pattern.now.insensitive) (chars (string_bytes pattern.now.source)) text.now) }
 {
-    let Ok(nfa) = build_pattern(alloc, pattern.source.as_str(), pattern.insensitive) else {
-        // The same text was built before, within the same bytes: what is refused now is memory.
-        return Err(AllocError);
-    };
+    let nfa = automaton_of(alloc, pattern)?;
     let mut search = PikeVm::new(alloc, &nfa)?;
-    Ok(finds(&mut search, &nfa, text))
+    Ok(is_found_by(&mut search, &nfa, pattern, text))
 }

@@ -1,7 +1,8 @@
--- What deciding the rules of a file costs, where each pattern is looked for once.
-use Rattle.std.specs.Prelude.{ℕ, Option, Some, None, sum_by}
+-- What deciding the rules of a file looks for, and what that costs, where each look is made once.
+use Rattle.std.specs.Prelude.{ℕ, List, [], Option, Some, None, sum_by, flat_map}
 use Rattle.std.specs.Global.{Vec}
-use Rattle.ci_expr.specs.Built as expr
+use Rattle.ci_expr.specs.Built.{Look, looks_of, same_look, look_cost}
+use Rattle.ci_expr.specs.Distinct.{distinct}
 use Rattle.ci_expr.specs.declared.expr.Expr.{Expr}
 use Rattle.ci_values.specs.Layers.{Variables}
 use Rattle.ci_config.specs.View.{config_view, job_view}
@@ -10,17 +11,24 @@ use Rattle.ci_config.specs.declared.job.JobSpec.{JobSpec}
 use Rattle.ci_config.specs.declared.file.Config.{Config}
 use Rattle.ci_graph_layout.specs.Inclusion.{Given, seen}
 
-abbrev pub condition_search_cost : Variables → Option Expr → ℕ
-condition_search_cost vs None = 0
-condition_search_cost vs (Some e) = expr.search_cost vs e
+abbrev pub condition_looks : Variables → Option Expr → List Look
+condition_looks vs None = []
+condition_looks vs (Some e) = looks_of vs e
 
-abbrev pub rules_search_cost : Variables → Option (Vec Rule) → ℕ
-rules_search_cost vs None = 0
-rules_search_cost vs (Some rs) = sum_by (λ r. condition_search_cost vs r.condition) rs.items
+abbrev pub rule_looks : Variables → Rule → List Look
+rule_looks vs r = condition_looks vs r.condition
+
+abbrev pub rules_looks : Variables → Option (Vec Rule) → List Look
+rules_looks vs None = []
+rules_looks vs (Some rs) = flat_map (rule_looks vs) rs.items
 
 -- of a job, whose rules see these variables
-abbrev pub job_search_cost : Given → Config → JobSpec → ℕ
-job_search_cost g c j = rules_search_cost (seen g (config_view c) (job_view j)) j.rules
+abbrev pub job_looks : Given → Config → JobSpec → List Look
+job_looks g c j = rules_looks (seen g (config_view c) (job_view j)) j.rules
+
+-- what all rules look for, each once, whether they are come to or not
+abbrev pub all_looks : Given → Config → List Look
+all_looks g c = distinct same_look (flat_map (job_looks g c) c.jobs.items)
 
 abbrev pub search_cost : Given → Config → ℕ
-search_cost g c = sum_by (job_search_cost g c) c.jobs.items
+search_cost g c = sum_by look_cost (all_looks g c)

@@ -8,7 +8,7 @@ use crate::limits::MAX_SEARCH_COST;
 
 /// What looking for a file's patterns may cost.
 pub fn has_this_limit()
-    ensures { MAX_SEARCH_COST ≡ 500000000 }
+    ensures { MAX_SEARCH_COST ≡ 1500000000 }
 {}
 
 /// Jobs stand by stage and then by the file; one that gives `needs`, be it an empty list, waits for those alone.

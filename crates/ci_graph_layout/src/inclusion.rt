@@ -9,7 +9,7 @@ ghost use Rattle.ci_graph_layout.specs.View.{given_view, included_view};
 
 use crate::given::{Given, Variables, layered, pair_of, put_variables, seen};
 use ci_config::{Config, JobSpec, Rule, RuleWhen, Variable};
-use ci_expr::{Env, Expr};
+use ci_expr::{Answers, Env, Expr};
 use ci_values::when::{AllowFailure, When};
 use std::alloc::{AllocError, Global};
 
@@ -40,11 +40,16 @@ impl<'a, 't> IncludedJob<'a, 't> {
 }
 
 /// Whether a condition holds. A rule without one always matches.
-fn holds(condition: &Option<Expr>, alloc: Global, env: &Env) -> Result<bool, AllocError>
+fn holds(
+    condition: &Option<Expr>,
+    alloc: Global,
+    env: &Env,
+    answers: &Answers,
+) -> Result<bool, AllocError>
     ensures { IfOk result (λ b. b ≡ holds (values_of env.now) (option_map formula_of condition.now)) }
 {
     match condition {
-        Some(expr) => expr.value(alloc, env),
+        Some(expr) => expr.value_by(alloc, env, answers),
         None => Ok(true),
     }
 }
@@ -53,12 +58,13 @@ fn holds(condition: &Option<Expr>, alloc: Global, env: &Env) -> Result<bool, All
 fn deciding<'a, 't>(
     alloc: Global,
     env: &Env,
+    answers: &Answers,
     rules: &'a [Rule<'t>],
 ) -> Result<Option<&'a Rule<'t>>, AllocError>
     ensures { IfOk result (λ found. unwrap_or (option_map (λ r. ByRule (rule_view r.now)) found) NoneMatches ≡ deciding (values_of env.now) (map rule_view rules.now)) }
 {
     for rule in rules {
-        if holds(&rule.condition, alloc, env)? {
+        if holds(&rule.condition, alloc, env, answers)? {
             return Ok(Some(rule));
         }
     }
@@ -198,12 +204,13 @@ fn ruled<'a, 't>(
 }
 
 /// The job, where the pipeline has it. A job without rules is included; one with rules is where one of them matches, as the
-/// first that does says.
+/// first that does says. What was looked for before is among the answers.
 pub fn included<'a, 't>(
     alloc: Global,
     given: &Given<'a>,
     config: &'a Config<'t>,
     job: &'a JobSpec<'t>,
+    answers: &Answers,
 ) -> Result<Option<IncludedJob<'a, 't>>, AllocError>
     ensures { IfOk result (λ i. option_map included_view i ≡ included (given_view given.now) (config_view config.now) (job_view job.now)) }
 {
@@ -211,7 +218,7 @@ pub fn included<'a, 't>(
         None => Ok(Some(without_rules(alloc, job)?)),
         Some(rules) => {
             let pairs = seen(alloc, given, config, job)?;
-            match deciding(alloc, &Env { pairs: &pairs }, rules)? {
+            match deciding(alloc, &Env { pairs: &pairs }, answers, rules)? {
                 Some(rule) => ruled(alloc, job, rule),
                 None => Ok(None),
             }

@@ -21,5 +21,5 @@ pub use given::{Given, Variables};
 pub use inclusion::IncludedJob;
 pub use limits::{MAX_NEEDS, MAX_SEARCH_COST};
 pub use pairs::Pairs;
-pub use planning::{PipelinePlan, plan};
-pub use searches::is_affordable;
+pub use planning::{PipelinePlan, plan, plan_by};
+pub use searches::{is_affordable, looks};

@@ -12,7 +12,9 @@ use crate::inclusion::IncludedJob;
 use crate::lineup::lineup;
 use crate::pairs::Pairs;
 use crate::places::Lineup;
+use crate::searches::looks;
 use ci_config::Config;
+use ci_expr::Answers;
 use ci_graph::acyclic::are_acyclic;
 use std::alloc::Global;
 
@@ -24,7 +26,8 @@ pub struct PipelinePlan<'a, 't> {
     pub pairs: Pairs,
 }
 
-/// The plan of a pipeline: the jobs that a file includes where these variables are given, and which of them waits for which.
+/// The plan of a pipeline: the jobs that a file includes where these variables are given, and which of them waits for which. What its rules
+/// look for is looked for once, each pattern built once.
 ///
 /// Errors: memory was refused; or the first fault: no job is included, or all are in `.pre` and `.post` (G4); one gives more than
 /// 50 needs (G5); a need that isn't optional names no included job (G1); a need names one of a later stage (G2); jobs wait for
@@ -37,7 +40,22 @@ pub fn plan<'a, 't>(
     ensures plan { Gives (given_view given.now) (config_view config.now) result }
     ensures graph { IfOk result (λ p. CanBeGraph (plan_view p)) }
 {
-    let jobs = lineup(alloc, given, config)?;
+    let looks = looks(alloc, given, config)?;
+    let answers = Answers::of(alloc, &looks)?;
+    plan_by(alloc, given, config, &answers)
+}
+
+/// The same, where what the rules look for was looked for before: what isn't among the answers is looked for now.
+pub fn plan_by<'a, 't>(
+    alloc: Global,
+    given: &Given<'a>,
+    config: &'a Config<'t>,
+    answers: &Answers,
+) -> Result<PipelinePlan<'a, 't>, PlanFault>
+    ensures plan { Gives (given_view given.now) (config_view config.now) result }
+    ensures graph { IfOk result (λ p. CanBeGraph (plan_view p)) }
+{
+    let jobs = lineup(alloc, given, config, answers)?;
     let lineup = Lineup::new(alloc, &config.stages, jobs)?;
     if let Some(code) = lineup.first_fault() {
         return Err(PlanFault::Fault(code));

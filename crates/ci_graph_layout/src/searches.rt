@@ -1,75 +1,83 @@
-//! What the rules of a file may cost to decide.
+//! What the rules of a file look for, and what that may cost.
 
-ghost use Rattle.std.specs.Prelude.{◌≡◌, nat_le, sum_by, IfOk};
-ghost use Rattle.ci_expr.specs.Budget.{Leaves};
-ghost use Rattle.ci_expr.specs.Built.{values_of};
-ghost use Rattle.ci_graph_layout.specs.Searches.{condition_search_cost, job_search_cost, search_cost};
+ghost use Rattle.std.specs.Prelude.{◌≡◌, nat_le, sum_by, flat_map, IfOk, OnOk};
+ghost use Rattle.ci_expr.specs.Built.{values_of, looks_view, same_look, look_cost};
+ghost use Rattle.ci_expr.specs.Distinct.{with_each};
+ghost use Rattle.ci_graph_layout.specs.Searches.{rule_looks, job_looks, all_looks};
 ghost use Rattle.ci_graph_layout.specs.View.{given_view};
 
 use crate::given::{Given, seen};
 use crate::limits::MAX_SEARCH_COST;
 use ci_config::{Config, JobSpec, Rule};
-use ci_expr::{Env, Expr};
+use ci_expr::{Env, Look, left_by_looks};
 use std::alloc::{AllocError, Global};
 
-/// What is left of a budget behind a condition.
-fn left_by_condition(condition: &Option<Expr>, env: &Env, budget: usize) -> Option<usize>
-    ensures { Leaves budget (condition_search_cost (values_of env.now) condition.now) result }
+/// Puts what a rule looks for behind other looks, each once.
+fn put_of_rule<'a, 't>(
+    looks: &mut Vec<Look<'a>>,
+    env: &Env<'_, 'a>,
+    rule: &'a Rule<'t>,
+) -> Result<(), AllocError>
+    ensures { OnOk result (looks_view looks.new.items ≡ with_each same_look (looks_view looks.old.items) (rule_looks (values_of env.now) rule.now)) }
 {
-    match condition {
-        Some(expr) => expr.left_by_search(env, budget),
-        None => Some(budget),
+    match &rule.condition {
+        Some(expr) => expr.put_looks(env, looks),
+        None => Ok(()),
     }
 }
 
 /// The same of rules.
-fn left_by_rules(rules: &[Rule], env: &Env, budget: usize) -> Option<usize>
-    ensures { Leaves budget (sum_by (λ r. condition_search_cost (values_of env.now) r.condition) rules.now) result }
+fn put_of_rules<'a, 't>(
+    looks: &mut Vec<Look<'a>>,
+    env: &Env<'_, 'a>,
+    rules: &'a [Rule<'t>],
+) -> Result<(), AllocError>
+    ensures { OnOk result (looks_view looks.new.items ≡ with_each same_look (looks_view looks.old.items) (flat_map (rule_looks (values_of env.now)) rules.now)) }
 {
-    let mut left = budget;
     for rule in rules {
-        match left_by_condition(&rule.condition, env, left) {
-            Some(next) => left = next,
-            None => return None,
-        }
+        put_of_rule(looks, env, rule)?;
     }
-    Some(left)
+    Ok(())
 }
 
 /// The same of a job.
-fn left_by_job<'a, 't>(
+fn put_of_job<'a, 't>(
     alloc: Global,
+    looks: &mut Vec<Look<'a>>,
     given: &Given<'a>,
     config: &'a Config<'t>,
     job: &'a JobSpec<'t>,
-    budget: usize,
-) -> Result<Option<usize>, AllocError>
-    ensures { IfOk result (λ left. Leaves budget (job_search_cost (given_view given.now) config.now job.now) left) }
+) -> Result<(), AllocError>
+    ensures { OnOk result (looks_view looks.new.items ≡ with_each same_look (looks_view looks.old.items) (job_looks (given_view given.now) config.now job.now)) }
 {
     match &job.rules {
         Some(rules) => {
             let pairs = seen(alloc, given, config, job)?;
-            Ok(left_by_rules(rules.as_slice(), &Env { pairs: &pairs }, budget))
+            put_of_rules(looks, &Env { pairs: &pairs }, rules.as_slice())
         }
-        None => Ok(Some(budget)),
+        None => Ok(()),
     }
 }
 
-/// Whether deciding all rules of a file costs no more than it may, where these variables are given: for each pattern of each rule
-/// the bytes that it takes, times one more than the bytes of the value that it is looked for in.
-pub fn is_affordable<'a, 't>(
+/// What all rules of a file look for where these variables are given, each look once, whether the rules are come to or not.
+pub fn looks<'a, 't>(
     alloc: Global,
     given: &Given<'a>,
     config: &'a Config<'t>,
-) -> Result<bool, AllocError>
-    ensures { IfOk result (λ b. b ≡ nat_le (search_cost (given_view given.now) config.now) MAX_SEARCH_COST) }
+) -> Result<Vec<Look<'a>>, AllocError>
+    ensures { IfOk result (λ looks. looks_view looks.items ≡ all_looks (given_view given.now) config.now) }
 {
-    let mut left = MAX_SEARCH_COST;
+    let mut looks = Vec::new(alloc);
     for job in &config.jobs {
-        match left_by_job(alloc, given, config, job, left)? {
-            Some(next) => left = next,
-            None => return Ok(false),
-        }
+        put_of_job(alloc, &mut looks, given, config, job)?;
     }
-    Ok(true)
+    Ok(looks)
+}
+
+/// Whether these looks cost no more than a pipeline may: for each the bytes that the pattern takes, times one more than the bytes of the value
+/// that it is looked for in.
+pub fn is_affordable(looks: &[Look]) -> bool
+    ensures { result ≡ nat_le (sum_by look_cost (looks_view looks.now)) MAX_SEARCH_COST }
+{
+    left_by_looks(looks, MAX_SEARCH_COST).is_some()
 }

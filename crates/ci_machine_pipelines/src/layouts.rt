@@ -20,9 +20,9 @@ use crate::files::{FileFault, config_fault, yaml_fault};
 use crate::layers::Brought;
 use ci_config::laws::may_refuse_patterns;
 use ci_config::{Config, ConfigCode, ConfigFault, config};
-use ci_expr::ExprCode;
+use ci_expr::{Answers, ExprCode};
 use ci_graph_layout::laws::searches_for_patterns_alone;
-use ci_graph_layout::{Given, GraphCode, PipelinePlan, PlanFault, is_affordable, plan};
+use ci_graph_layout::{Given, GraphCode, PipelinePlan, PlanFault, is_affordable, looks, plan_by};
 use ci_machine::moment::Moment;
 use ci_machine::records::{MAX_NUMBER, Variable};
 use ci_machine::reply::{Detail, FaultCode};
@@ -89,12 +89,13 @@ fn lay_out_config<'a, 't>(
     alloc: Global,
     config: &'a Config<'t>,
     given: &Given<'a>,
+    answers: &Answers,
     start: &Start,
 ) -> Result<Option<Creation>, FileFault>
     requires { given_view given.now ≡ given_view start.now.given }
     ensures { (text : List ℕ) → IsRead text (Ok (config_view config.now)) → LaysOut text (origin_view start.now) result }
 {
-    match plan(alloc, given, config) {
+    match plan_by(alloc, given, config, answers) {
         Ok(plan) => lay_out_plan(alloc, config, given, &plan, start),
         Err(fault) => Err(plan_fault(fault)),
     }
@@ -113,11 +114,13 @@ fn lay_out_tree(alloc: Global, tree: &Tree, start: &Start) -> Result<Option<Crea
                 project: start.given.project,
                 predefined: start.given.predefined,
             };
-            if !is_affordable(alloc, &given, &config)? {
+            let looks = looks(alloc, &given, &config)?;
+            if !is_affordable(&looks) {
                 let fault = ConfigFault::Fault(ConfigCode::K13(ExprCode::X8));
                 return Err(config_fault(alloc, fault));
             }
-            lay_out_config(alloc, &config, &given, start)
+            let answers = Answers::of(alloc, &looks)?;
+            lay_out_config(alloc, &config, &given, &answers, start)
         }
         Err(fault) => Err(config_fault(alloc, fault)),
     }
@@ -144,7 +147,8 @@ fn number_text(alloc: Global, number: u64) -> Result<Text, AllocError>
 /// project has these variables.
 ///
 /// Errors: memory was refused; or the first fault of the text: of its lines (Y), of its keywords (K), where an expression with a
-/// pattern may always be refused (`K13 X8`); then that deciding its rules costs no more than `MAX_SEARCH_COST`, and else `K13 X8`; and then
+/// pattern may always be refused (`K13 X8`); then that what its rules look for, each look once, costs no more than `MAX_SEARCH_COST`, and else
+/// `K13 X8`; and then
 /// of the graph of its jobs (G).
 pub fn lay_out(
     alloc: Global,

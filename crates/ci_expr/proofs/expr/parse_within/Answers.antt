@@ -18,12 +18,12 @@ returns-in_err-found-clause-one c = one-formula
 pub returns-clause-answer : goal.returns-clause-answer
 returns-clause-answer c =
     parse-answer formula_of c.args.text.now (tokens_view c.in_ok-found.found) c.parse_tokens.result c.in_ok-found.ensures.answer
-    (subst (λ xs. IsBuilt formula_of c.parse_tokens.result (parse_of (map token_view xs))) c.deref.ensures.value c.parse_tokens.ensures.built)
+    (subst (λ xs. IsBuilt formula_of c.parse_tokens.result (parse_of (map token_view xs))) c.deref.ensures.value c.parse_tokens.ensures.read)
 
 pub returns-clause-only : goal.returns-clause-only
 returns-clause-only c =
     parse-only formula_of c.args.text.now (tokens_view c.in_ok-found.found) c.parse_tokens.result c.in_ok-found.ensures.only
-    (subst (λ xs. IsBuilt formula_of c.parse_tokens.result (parse_of (map token_view xs))) c.deref.ensures.value c.parse_tokens.ensures.built)
+    (subst (λ xs. IsBuilt formula_of c.parse_tokens.result (parse_of (map token_view xs))) c.deref.ensures.value c.parse_tokens.ensures.read)
 
 pub returns-clause-one : goal.returns-clause-one
 returns-clause-one c = one-formula

@@ -1,17 +1,16 @@
-use Rattle.std.proofs.Common.{rules, ◌+◌, length, is_some, true, Some, refl, sym, ap, ◌∙◌, subst, arith}
-use Rattle.regex_hir.specs.Text.{is_boundary}
+use Rattle.std.proofs.Common.{is_some, sym, ap, ◌∙◌, arith}
 use Rattle.regex.proofs.SearchLemmas.{inside_char}
 use Rattle.regex.specs.Patterns.{find_str, empty}
 use Rattle.ci_expr.proofs.FoundLemmas.{nothing-found, found-here, found-inside}
 use Rattle.ci_expr.proofs.pattern.finds.Goals as goal
 
-pub returns-in_default : goal.returns-in_default
-returns-in_default c = λ re h.
+pub returns-in_default-clause-found : goal.returns-in_default-clause-found
+returns-in_default-clause-found c = λ re h.
     let none = nothing-found c.args.nfa.now re h c.as_bytes-bytes.result.now c.loop-from.at c.in_default.ensures.span in
     sym (ap (λ bs. is_some (find_str re bs 0)) (sym c.as_bytes-bytes.ensures.value) ∙ ap is_some (c.loop-from.invariant.2 re h ∙ none))
 
-pub returns-then-is_cut : goal.returns-then-is_cut
-returns-then-is_cut c = λ re h.
+pub returns-then-is_cut-clause-found : goal.returns-then-is_cut-clause-found
+returns-then-is_cut-clause-found c = λ re h.
     let here = found-here c.args.nfa.now re h c.as_bytes-bytes.result.now c.loop-from.at c.in-Some.from c.in-Some.field-0-1 c.in-Some.ensures.span (sym c.is_cut.ensures ∙ c.if-is_cut.true) in
     sym (ap (λ bs. is_some (find_str re bs 0)) (sym c.as_bytes-bytes.ensures.value) ∙ ap is_some (c.loop-from.invariant.2 re h) ∙ here)
 

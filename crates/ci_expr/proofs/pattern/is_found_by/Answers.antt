@@ -1,15 +1,14 @@
-use Rattle.std.proofs.Common.{◌<◌, ◌∙◌, subst, arith, All}
+use Rattle.std.proofs.Common.{◌<◌, ◌∙◌, arith}
 use Rattle.std.specs.Prelude.{string_bytes}
 use Rattle.std.proofs.lemmas.List.Elements.{All-from_get_or}
 use Rattle.regex_hir.specs.Meaning.{meaning}
-use Rattle.ci_expr.specs.Found.{IsAutomatonOf}
 use Rattle.ci_expr.proofs.FoundLemmas.{found}
-use Rattle.ci_expr.proofs.pattern.is_found.Goals as goal
+use Rattle.ci_expr.proofs.pattern.is_found_by.Goals as goal
 
-pub returns : goal.returns
-returns c =
+pub returns-clause-found : goal.returns-clause-found
+returns-clause-found c =
     let pattern = c.args.pattern.now in
     let text = c.args.text.now in
-    let (hir, names, reads, implements) = subst (λ bs. IsAutomatonOf pattern.insensitive bs c.in-Ok.nfa) c.as_str.ensures.value c.in-Ok.ensures.automaton in
-    c.finds.ensures (meaning hir) implements
+    let (hir, names, reads, implements) = c.requires.automaton in
+    c.finds.ensures.found (meaning hir) implements
     ∙ found pattern.insensitive (string_bytes pattern.source) hir names reads text (All-from_get_or (λ b. b < 256) text 0 (λ i _. omega (arith, c.type_inv.text i)))

@@ -8,7 +8,7 @@ use Rattle.ci_graph_layout.specs.Layout.{lineup, pairs}
 use Rattle.ci_graph_layout.specs.Places.{stages_of, jobs_of}
 use Rattle.ci_graph_layout.specs.View.{given_view, lineup_view}
 use Rattle.ci_graph_layout.proofs.Planned.{plans_fault, plans_cycle, plans_jobs, pairs_found}
-use Rattle.ci_graph_layout.proofs.planning.plan.Goals as goal
+use Rattle.ci_graph_layout.proofs.planning.plan_by.Goals as goal
 
 pub returns-in-Some-clause-plan : goal.returns-in-Some-clause-plan
 returns-in-Some-clause-plan c =
