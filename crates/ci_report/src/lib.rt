@@ -1,0 +1,10 @@
+//! Reports for an operator: what waits, how a pipeline stands, and what runners do, as tables of text.
+#![tactic(auto)]
+
+pub mod moment;
+pub mod pipeline;
+pub mod queue;
+pub mod runner;
+pub mod status;
+#[cfg(test)]
+mod tests;
