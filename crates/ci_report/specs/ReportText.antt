@@ -11,7 +11,8 @@ use Rattle.ci_report.specs.declared.pipeline.JobRow.{JobRow}
 use Rattle.ci_report.specs.declared.runner.RunnerRow.{RunnerRow}
 use Rattle.ci_report.specs.Dates.{moment_text}
 
--- ---- columns, in std's words: spaces fill what is narrower, and what is wider stands whole
+-- ---- columns, in std's words for the options of a format: spaces fill what is narrower, and what is wider stands whole; the function
+-- `fills_columns` says it without those words
 
 -- a number at the right of a column
 abbrev pub right : ℕ → ℕ → List ℕ
