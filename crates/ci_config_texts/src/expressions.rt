@@ -39,8 +39,11 @@ pub fn value_of(alloc: Global, parts: &[Part]) -> Result<String, RowFault> {
         Err(ExprFault::Fault(_)) => return Ok(String::from_str(alloc, "no expression")?),
     };
     let env = Env { pairs: &pairs };
-    let holds = expr.value(alloc, &env)?;
-    Ok(format!(in alloc; "{holds}")?)
+    match expr.value(alloc, &env) {
+        Ok(holds) => Ok(format!(in alloc; "{holds}")?),
+        Err(ExprFault::Memory) => Err(RowFault::Memory),
+        Err(ExprFault::Fault(code)) => Ok(format!(in alloc; "{code}")?),
+    }
 }
 
 /// The tokens of an expression, each with its place, or the code of its fault.

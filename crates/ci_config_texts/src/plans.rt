@@ -101,6 +101,7 @@ fn told(alloc: Global, tell: Tell, parts: &[Part]) -> Result<String, RowFault> {
             Tell::Plan => Ok(plan_text(alloc, &plan)?),
             Tell::Statuses => Ok(begun(alloc, &plan)?),
         },
+        Err(PlanFault::Pattern) => Ok(String::from_str(alloc, "K13 X8")?),
         Err(PlanFault::Memory) => Err(RowFault::Memory),
         Err(PlanFault::Fault(code)) => Ok(String::from_str(alloc, code_text(code))?),
     }

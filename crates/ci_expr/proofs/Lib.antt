@@ -18,3 +18,4 @@ pub mod Budgets
 pub mod Writing
 pub mod Gathering
 pub mod Costs
+pub mod Answering

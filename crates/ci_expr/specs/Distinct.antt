@@ -1,10 +1,15 @@
 -- Each of a list once.
-use Rattle.std.specs.Prelude.{Bool, false, List, [], ◌∷◌, ◌++◌, ◌||◌, fold, if◌then◌else◌}
+use Rattle.std.specs.Prelude.{◌≡◌, Bool, true, false, List, [], ◌∷◌, ◌++◌, ◌||◌, fold, if◌then◌else◌, ⊤}
 
 -- one of the list is the same
 abbrev pub is_among : {A : Type 0} → (A → A → Bool) → A → List A → Bool
 is_among same x [] = false
 is_among same x (y ∷ ys) = same x y || is_among same x ys
+
+-- for each of these there is one
+abbrev pub AreAmong : {A : Type 0} → (A → A → Bool) → List A → List A → Type 0
+AreAmong same [] ys = ⊤
+AreAmong same (x ∷ xs) ys = (is_among same x ys ≡ true) × AreAmong same xs ys
 
 -- with this one too, where none is the same
 abbrev pub with_one : {A : Type 0} → (A → A → Bool) → List A → A → List A

@@ -16,3 +16,4 @@ pub mod Meaning
 pub mod Built
 pub mod Budget
 pub mod Computed
+pub mod Answered

@@ -1,11 +1,12 @@
 //! Expressions that were read.
 
-ghost use Rattle.std.specs.Prelude.{◌≡◌, ◌+◌, List, Result, IfOk, OnOk, map};
+ghost use Rattle.std.specs.Prelude.{◌≡◌, ◌+◌, List, Result, IfOk, IfErr, OnOk, map};
+ghost use Rattle.ci_expr.specs.Answered.{AreAnswered};
 ghost use Rattle.ci_expr.specs.Formula.{Formula as Meant};
 ghost use Rattle.ci_expr.specs.declared.fault.ExprCode.{ExprCode as Code};
 ghost use Rattle.ci_expr.specs.Distinct.{with_each};
 ghost use Rattle.ci_expr.specs.Truth.{truth};
-ghost use Rattle.ci_expr.specs.View.{token_view};
+ghost use Rattle.ci_expr.specs.View.{token_view, RefusesPattern};
 ghost use Rattle.ci_expr.specs.Meaning.{Means, Answers as Answered, Allows, AtMostOneFormula, MeansOneThing, ArePatterns, parse_of, IsBuilt};
 ghost use Rattle.ci_expr.specs.Built.{values_of, formula_of, patterns_view, patterns_of, same_pattern, built_of, spent, looks_view, looks_of, same_look};
 
@@ -27,19 +28,25 @@ pub struct Expr {
 }
 
 impl Expr {
-    /// Whether the expression is true where variables have these values. Errors: memory was refused.
-    pub fn value(&self, alloc: Global, env: &Env) -> Result<bool, AllocError>
-        ensures { IfOk result (λ b. b ≡ truth (values_of env.now) (formula_of self.now)) }
+    /// Whether the expression is true where variables have these values. Each look for a pattern is made, come to or not, and once.
+    ///
+    /// Errors: memory was refused; or `regex`, which has built each pattern before, now refuses one (X8).
+    pub fn value<'a>(&'a self, alloc: Global, env: &Env<'_, 'a>) -> Result<bool, ExprFault>
+        ensures value { IfOk result (λ b. b ≡ truth (values_of env.now) (formula_of self.now)) }
+        ensures refused { IfErr result (λ e. RefusesPattern e (formula_of self.now)) }
     {
-        let answers = Answers::none(alloc);
-        self.value_by(alloc, env, &answers)
+        let mut looks = Vec::new(alloc);
+        self.put_looks(env, &mut looks)?;
+        let answers = Answers::of(alloc, &looks)?;
+        Ok(self.value_by(env, &answers))
     }
 
-    /// The same, where some of what it looks for was looked for before: that isn't looked for again.
-    pub fn value_by(&self, alloc: Global, env: &Env, answers: &Answers) -> Result<bool, AllocError>
-        ensures { IfOk result (λ b. b ≡ truth (values_of env.now) (formula_of self.now)) }
+    /// The same, where what it looks for was looked for before.
+    pub fn value_by<'a>(&'a self, env: &Env<'_, 'a>, answers: &Answers) -> bool
+        requires { AreAnswered answers.now (looks_of (values_of env.now) self.now) }
+        ensures { result ≡ truth (values_of env.now) (formula_of self.now) }
     {
-        truth(&self.root, alloc, env, answers)
+        truth(&self.root, env, answers)
     }
 
     /// Puts the expression's patterns behind others, each once. Errors: memory was refused.

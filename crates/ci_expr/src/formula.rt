@@ -4,6 +4,7 @@ ghost use Rattle.std.specs.Prelude.{◌≡◌, ◌+◌, List, [], IfOk, IfErr, O
 ghost use Rattle.ci_expr.specs.Truth.{same_value, negated_by, value_of, operand_value, truth};
 ghost use Rattle.ci_expr.specs.View.{tree_view, operand_view, RefusesPattern};
 ghost use Rattle.ci_expr.specs.Meaning.{ArePatterns};
+ghost use Rattle.ci_expr.specs.Answered.{AreAnswered};
 ghost use Rattle.ci_expr.specs.Distinct.{with_each};
 ghost use Rattle.ci_expr.specs.Built.{subject_view, formula_view, values_of, patterns_view, patterns_in, same_pattern, built_of, spent, looks_view, looks_in, same_look};
 
@@ -176,40 +177,24 @@ pub fn put_looks<'a>(
     }
 }
 
-/// The truth of a formula, with the answers of looks that were made before.
-pub fn truth(
-    formula: &Formula,
-    alloc: Global,
-    env: &Env,
-    answers: &Answers,
-) -> Result<bool, AllocError>
-    ensures { IfOk result (λ b. b ≡ truth (values_of env.now) (formula_view formula.now)) }
+/// The truth of a formula, where what it looks for was looked for before.
+pub fn truth<'a>(formula: &'a Formula, env: &Env<'_, 'a>, answers: &Answers) -> bool
+    ensures { AreAnswered answers.now (looks_in (values_of env.now) formula.now) → result ≡ truth (values_of env.now) (formula_view formula.now) }
 {
     match formula {
-        Formula::Joined(Join::Or, a, b) => {
-            if truth(a, alloc, env, answers)? {
-                return Ok(true);
-            }
-            truth(b, alloc, env, answers)
-        }
-        Formula::Joined(Join::And, a, b) => {
-            if !truth(a, alloc, env, answers)? {
-                return Ok(false);
-            }
-            truth(b, alloc, env, answers)
-        }
-        Formula::Group(a) => truth(a, alloc, env, answers),
+        Formula::Joined(Join::Or, a, b) => truth(a, env, answers) || truth(b, env, answers),
+        Formula::Joined(Join::And, a, b) => truth(a, env, answers) && truth(b, env, answers),
+        Formula::Group(a) => truth(a, env, answers),
         Formula::Present(name) => match value_of(env, name.as_str()) {
-            Some(text) => Ok(!text.is_empty()),
-            None => Ok(false),
+            Some(text) => !text.is_empty(),
+            None => false,
         },
         Formula::Equal(negated, name, subject) => {
             let same = same_value(value_of(env, name.as_str()), subject_value(env, subject));
-            if *negated { Ok(!same) } else { Ok(same) }
+            same != *negated
         }
         Formula::Found(negated, name, pattern) => {
-            let found = answers.is_found(alloc, pattern, text_of(env, name.as_str()))?;
-            if *negated { Ok(!found) } else { Ok(found) }
+            answers.is_found(pattern, text_of(env, name.as_str())) != *negated
         }
     }
 }

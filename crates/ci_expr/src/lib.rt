@@ -1,6 +1,7 @@
 //! Expressions of rules: their tokens, their grammar and their value.
 #![tactic(auto)]
 
+mod answer;
 mod answers;
 mod budget;
 mod cost;

@@ -46,12 +46,19 @@ pub fn put_pattern<'a>(
     Ok(())
 }
 
+/// Whether this look is for a pattern in a text.
+pub fn is_look(look: &Look, pattern: &Pattern, text: &str) -> bool
+    ensures { result ≡ same_look (record { pattern = pattern_view pattern.now; text = text.now }) (look_view look.now) }
+{
+    same_pattern(pattern, look.pattern) && text == look.text
+}
+
 /// Whether a pattern is looked for in a text by one of these.
 fn has_look(looks: &[Look], pattern: &Pattern, text: &str) -> bool
     ensures { result ≡ is_among same_look (record { pattern = pattern_view pattern.now; text = text.now }) (looks_view looks.now) }
 {
     for look in looks {
-        if same_pattern(pattern, look.pattern) && text == look.text {
+        if is_look(look, pattern, text) {
             return true;
         }
     }

@@ -7,12 +7,14 @@ ghost use Rattle.regex_hir.specs.Text.{is_boundary};
 ghost use Rattle.regex_nfa.specs.Sizes.{table_bytes};
 ghost use Rattle.regex_compile.specs.Implements.{Implements};
 ghost use Rattle.ci_expr.specs.Found.{config_of, is_found_in, IsAutomatonOf, HasTables, IsPattern, IsRefused};
+ghost use Rattle.ci_expr.specs.View.{IsOfPattern};
 
+use crate::fault::{ExprCode, ExprFault};
 use regex_compile::{Error, compile};
 use regex_nfa::Nfa;
 use regex_syntax::{Config, ErrorKind, Parsed, parse};
 use regex_vm::PikeVm;
-use std::alloc::{AllocError, Global};
+use std::alloc::Global;
 
 /// The most bytes that the tables of a built pattern may take, by `regex`'s own limit: 2 MiB.
 pub const MAX_PATTERN_BYTES: usize = 2_097_152;
@@ -135,14 +137,15 @@ fn finds(search: &mut PikeVm, nfa: &Nfa, text: &str) -> bool
     }
 }
 
-/// The automaton of a pattern.
-pub fn automaton_of(alloc: Global, pattern: &Pattern) -> Result<Nfa, AllocError>
-    ensures { IfOk result (IsAutomatonOf pattern.now.insensitive (string_bytes pattern.now.source)) }
+/// The automaton of a pattern. Errors: memory was refused; or `regex`, which has built it before, refuses it now (X8).
+pub fn automaton_of(alloc: Global, pattern: &Pattern) -> Result<Nfa, ExprFault>
+    ensures automaton { IfOk result (IsAutomatonOf pattern.now.insensitive (string_bytes pattern.now.source)) }
+    ensures refused { IfErr result IsOfPattern }
 {
     match build_pattern(alloc, pattern.source.as_str(), pattern.insensitive) {
         Ok(nfa) => Ok(nfa),
-        // The same text was built before, within the same bytes: what is refused now is memory.
-        Err(_) => Err(AllocError),
+        Err(Refusal::Memory) => Err(ExprFault::Memory),
+        Err(Refusal::Syntax | Refusal::Size) => Err(ExprFault::Fault(ExprCode::X8)),
     }
 }
 
@@ -157,14 +160,4 @@ pub fn is_found_by(search: &mut PikeVm, nfa: &Nfa, pattern: &Pattern, text: &str
     ensures states { search.new.states ≡ vec_len nfa.now.states }
 {
     finds(search, nfa, text)
-}
-
-/// Whether a pattern is found somewhere in a text. It is built for this one call.
-pub fn is_found(pattern: &Pattern, alloc: Global, text: &str) -> Result<bool, AllocError>
-    ensures { IfOk result (λ found. found ≡
-        is_found_in (config_of pattern.now.insensitive) (chars (string_bytes pattern.now.source)) text.now) }
-{
-    let nfa = automaton_of(alloc, pattern)?;
-    let mut search = PikeVm::new(alloc, &nfa)?;
-    Ok(is_found_by(&mut search, &nfa, pattern, text))
 }

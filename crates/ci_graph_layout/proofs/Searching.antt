@@ -1,9 +1,11 @@
 -- What deciding rules looks for.
 use Rattle.std.proofs.Common.{◌≡◌, false, List, [], Option, Some, None, IfSome, refl, sym, subst, ap}
-use Rattle.std.specs.Prelude.{option_map, sum_by, flat_map}
+use Rattle.std.specs.Prelude.{option_map, flat_map}
 use Rattle.std.specs.Global.{Vec}
 use Rattle.ci_values.specs.Layers.{Variables}
-use Rattle.ci_expr.specs.Built.{Look, formula_of, looks_of, same_look, look_cost}
+use Rattle.ci_expr.specs.Answered.{AreAnswered}
+use Rattle.ci_expr.specs.declared.answers.Answers.{Answers}
+use Rattle.ci_expr.specs.Built.{Look, formula_of, looks_of, same_look}
 use Rattle.ci_expr.specs.Distinct.{distinct, with_each}
 use Rattle.ci_expr.specs.Formula.{has_pattern}
 use Rattle.ci_expr.specs.declared.expr.Expr.{Expr}
@@ -13,7 +15,7 @@ use Rattle.ci_config.specs.declared.file.Config.{Config}
 use Rattle.ci_config.specs.declared.rule.Rule.{Rule}
 use Rattle.ci_config.proofs.Lacks.{none-of}
 use Rattle.ci_graph_layout.specs.Inclusion.{Given, seen}
-use Rattle.ci_graph_layout.specs.Searches.{condition_looks, rule_looks, rules_looks, job_looks, search_cost}
+use Rattle.ci_graph_layout.specs.Searches.{condition_looks, rule_looks, rules_looks, job_looks, all_looks}
 
 abbrev LooksForNothing : Type 0
 LooksForNothing = (vs : Variables) (e : Expr) → has_pattern (formula_of e) ≡ false → looks_of vs e ≡ []
@@ -27,8 +29,8 @@ module _ (law : LooksForNothing) where
   rules-none vs None h = refl
   rules-none vs (Some rs) h = none-of rule_view RuleLacksPattern (rule_looks vs) (λ r. condition-none vs r.condition) rs.items h
 
-  pub no-search : (g : Given) (c : Config) → ConfigLacksPatterns (config_view c) → search_cost g c ≡ 0
-  no-search g c h = ap (λ ls. sum_by look_cost (distinct same_look ls))
+  pub no-search : (g : Given) (c : Config) → ConfigLacksPatterns (config_view c) → all_looks g c ≡ []
+  no-search g c h = ap (λ ls. distinct same_look ls)
       (none-of job_view JobLacksPatterns (job_looks g c) (λ j. rules-none (seen g (config_view c) (job_view j)) j.rules) c.jobs.items h)
 
 -- of a job with rules, where what they see is the same
@@ -38,3 +40,11 @@ looks-of-job before after vs ws o rules rs is items same h =
     subst (λ p. after ≡ with_each same_look before (rules_looks ws p)) (sym is)
     (subst (λ qs. after ≡ with_each same_look before (flat_map (rule_looks ws) qs)) items
     (subst (λ us. after ≡ with_each same_look before (flat_map (rule_looks us) rs)) same h))
+
+-- what its rules look for was looked for, where that of the job was
+pub answered-of-job : (a : Answers) (vs ws : Variables) (o : Option (Vec Rule)) (rules : Vec Rule) (rs : List Rule) → o ≡ Some rules → rs ≡ rules.items → vs ≡ ws
+    → AreAnswered a (rules_looks ws o) → AreAnswered a (flat_map (rule_looks vs) rs)
+answered-of-job a vs ws o rules rs is items same h =
+    subst (λ us. AreAnswered a (flat_map (rule_looks us) rs)) (sym same)
+    (subst (λ qs. AreAnswered a (flat_map (rule_looks ws) qs)) (sym items)
+    (subst (λ p. AreAnswered a (rules_looks ws p)) is h))

@@ -8,3 +8,4 @@ pub mod Places
 pub mod Parts
 pub mod Plans
 pub mod Examples
+pub mod Unmade

@@ -1,5 +1,10 @@
 //! Why a file gives no pipeline.
 
+ghost use Rattle.std.specs.Prelude.{◌≡◌};
+ghost use Rattle.ci_graph_layout.specs.Unmade.{unmade};
+ghost use Rattle.ci_graph_layout.specs.declared.fault.PlanFault.TheVariants.{Memory};
+
+use ci_expr::ExprFault;
 use std::alloc::AllocError;
 
 /// The codes of the faults, looked for in the order G4, G5, G1, G2, G3, each over all jobs.
@@ -21,17 +26,27 @@ pub enum GraphCode {
 #[derive(Clone, Copy, Debug, PartialEq, Eq)]
 pub enum PlanFault {
     Fault(GraphCode),
+    /// `regex`, which has built each pattern before, now refuses one.
+    Pattern,
     /// Memory was refused.
     Memory,
 }
 
 impl From<AllocError> for PlanFault {
-    ghost use Rattle.std.specs.Prelude.{◌≡◌};
-    ghost use Rattle.ci_graph_layout.specs.declared.fault.PlanFault.TheVariants.{Memory};
-
     ghost from_gives = { λ _ fault. fault ≡ Memory };
 
     fn from(_: AllocError) -> PlanFault {
         PlanFault::Memory
+    }
+}
+
+impl From<ExprFault> for PlanFault {
+    ghost from_gives = { λ refused fault. fault ≡ unmade refused };
+
+    fn from(refused: ExprFault) -> PlanFault {
+        match refused {
+            ExprFault::Memory => PlanFault::Memory,
+            ExprFault::Fault(_) => PlanFault::Pattern,
+        }
     }
 }

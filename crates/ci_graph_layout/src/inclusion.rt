@@ -1,10 +1,12 @@
 //! Which jobs of a file a pipeline has.
 
-ghost use Rattle.std.specs.Prelude.{◌≡◌, ◌++◌, IfOk, OnOk, map, filter, not, option_map, unwrap_or};
+ghost use Rattle.std.specs.Prelude.{◌≡◌, ◌++◌, IfOk, OnOk, map, filter, flat_map, not, option_map, unwrap_or};
+ghost use Rattle.ci_expr.specs.Answered.{AreAnswered};
 ghost use Rattle.ci_expr.specs.Built.{values_of, formula_of};
 ghost use Rattle.ci_values.specs.Layers.{layer_view};
 ghost use Rattle.ci_config.specs.View.{config_view, job_view, rule_view, variable_view};
 ghost use Rattle.ci_graph_layout.specs.Inclusion.{ByRule, NoneMatches, layered, holds, deciding, names, joined, may_fail, allowing, without_rules, by_rule, ruled, included};
+ghost use Rattle.ci_graph_layout.specs.Searches.{condition_looks, rule_looks, job_looks};
 ghost use Rattle.ci_graph_layout.specs.View.{given_view, included_view};
 
 use crate::given::{Given, Variables, layered, pair_of, put_variables, seen};
@@ -40,35 +42,27 @@ impl<'a, 't> IncludedJob<'a, 't> {
 }
 
 /// Whether a condition holds. A rule without one always matches.
-fn holds(
-    condition: &Option<Expr>,
-    alloc: Global,
-    env: &Env,
-    answers: &Answers,
-) -> Result<bool, AllocError>
-    ensures { IfOk result (λ b. b ≡ holds (values_of env.now) (option_map formula_of condition.now)) }
+fn holds(condition: &Option<Expr>, env: &Env, answers: &Answers) -> bool
+    requires { AreAnswered answers.now (condition_looks (values_of env.now) condition.now) }
+    ensures { result ≡ holds (values_of env.now) (option_map formula_of condition.now) }
 {
     match condition {
-        Some(expr) => expr.value_by(alloc, env, answers),
-        None => Ok(true),
+        Some(expr) => expr.value_by(env, answers),
+        None => true,
     }
 }
 
 /// The first rule that matches.
-fn deciding<'a, 't>(
-    alloc: Global,
-    env: &Env,
-    answers: &Answers,
-    rules: &'a [Rule<'t>],
-) -> Result<Option<&'a Rule<'t>>, AllocError>
-    ensures { IfOk result (λ found. unwrap_or (option_map (λ r. ByRule (rule_view r.now)) found) NoneMatches ≡ deciding (values_of env.now) (map rule_view rules.now)) }
+fn deciding<'a, 't>(env: &Env, answers: &Answers, rules: &'a [Rule<'t>]) -> Option<&'a Rule<'t>>
+    requires { AreAnswered answers.now (flat_map (rule_looks (values_of env.now)) rules.now) }
+    ensures { unwrap_or (option_map (λ r. ByRule (rule_view r.now)) result) NoneMatches ≡ deciding (values_of env.now) (map rule_view rules.now) }
 {
     for rule in rules {
-        if holds(&rule.condition, alloc, env, answers)? {
-            return Ok(Some(rule));
+        if holds(&rule.condition, env, answers) {
+            return Some(rule);
         }
     }
-    Ok(None)
+    None
 }
 
 /// Do the pairs have the name?
@@ -204,7 +198,7 @@ fn ruled<'a, 't>(
 }
 
 /// The job, where the pipeline has it. A job without rules is included; one with rules is where one of them matches, as the
-/// first that does says. What was looked for before is among the answers.
+/// first that does says. What they look for was looked for before. Errors: memory was refused.
 pub fn included<'a, 't>(
     alloc: Global,
     given: &Given<'a>,
@@ -212,13 +206,14 @@ pub fn included<'a, 't>(
     job: &'a JobSpec<'t>,
     answers: &Answers,
 ) -> Result<Option<IncludedJob<'a, 't>>, AllocError>
+    requires { AreAnswered answers.now (job_looks (given_view given.now) config.now job.now) }
     ensures { IfOk result (λ i. option_map included_view i ≡ included (given_view given.now) (config_view config.now) (job_view job.now)) }
 {
     match &job.rules {
         None => Ok(Some(without_rules(alloc, job)?)),
         Some(rules) => {
             let pairs = seen(alloc, given, config, job)?;
-            match deciding(alloc, &Env { pairs: &pairs }, answers, rules)? {
+            match deciding(&Env { pairs: &pairs }, answers, rules) {
                 Some(rule) => ruled(alloc, job, rule),
                 None => Ok(None),
             }

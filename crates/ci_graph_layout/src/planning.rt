@@ -1,14 +1,17 @@
 //! A pipeline's jobs, and which of them waits for which.
 
 ghost use Rattle.std.specs.Prelude.{IfOk};
+ghost use Rattle.ci_expr.specs.Answered.{AreAnswered};
 ghost use Rattle.ci_config.specs.View.{config_view};
 ghost use Rattle.ci_graph_layout.specs.Parts.{CanBeGraph};
 ghost use Rattle.ci_graph_layout.specs.Plans.{Gives, plan_view};
+ghost use Rattle.ci_graph_layout.specs.Searches.{all_looks};
 ghost use Rattle.ci_graph_layout.specs.View.{given_view};
 
 use crate::fault::{GraphCode, PlanFault};
 use crate::given::Given;
 use crate::inclusion::IncludedJob;
+use crate::laws::searches_for_patterns_alone;
 use crate::lineup::lineup;
 use crate::pairs::Pairs;
 use crate::places::Lineup;
@@ -29,9 +32,9 @@ pub struct PipelinePlan<'a, 't> {
 /// The plan of a pipeline: the jobs that a file includes where these variables are given, and which of them waits for which. What its rules
 /// look for is looked for once, each pattern built once.
 ///
-/// Errors: memory was refused; or the first fault: no job is included, or all are in `.pre` and `.post` (G4); one gives more than
-/// 50 needs (G5); a need that isn't optional names no included job (G1); a need names one of a later stage (G2); jobs wait for
-/// one another in a circle (G3).
+/// Errors: memory was refused; or `regex`, which has built each pattern before, now refuses one; or the first fault: no job is included, or
+/// all are in `.pre` and `.post` (G4); one gives more than 50 needs (G5); a need that isn't optional names no included job (G1); a need names
+/// one of a later stage (G2); jobs wait for one another in a circle (G3).
 pub fn plan<'a, 't>(
     alloc: Global,
     given: &Given<'a>,
@@ -40,18 +43,20 @@ pub fn plan<'a, 't>(
     ensures plan { Gives (given_view given.now) (config_view config.now) result }
     ensures graph { IfOk result (λ p. CanBeGraph (plan_view p)) }
 {
+    searches_for_patterns_alone();
     let looks = looks(alloc, given, config)?;
     let answers = Answers::of(alloc, &looks)?;
     plan_by(alloc, given, config, &answers)
 }
 
-/// The same, where what the rules look for was looked for before: what isn't among the answers is looked for now.
+/// The same, where what the rules look for was looked for before.
 pub fn plan_by<'a, 't>(
     alloc: Global,
     given: &Given<'a>,
     config: &'a Config<'t>,
     answers: &Answers,
 ) -> Result<PipelinePlan<'a, 't>, PlanFault>
+    requires { AreAnswered answers.now (all_looks (given_view given.now) config.now) }
     ensures plan { Gives (given_view given.now) (config_view config.now) result }
     ensures graph { IfOk result (λ p. CanBeGraph (plan_view p)) }
 {

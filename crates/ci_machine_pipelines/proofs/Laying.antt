@@ -1,5 +1,5 @@
 -- What is answered where a pipeline is to be made of a text fits it.
-use Rattle.std.specs.Prelude.{◌≡◌, ◌⊎◌, ℕ, ◌+◌, ◌-◌, ◌≤◌, Bool, true, false, ◌||◌, nat_lt, nat_le, List, length, map, Option, Some, None, Result, Ok, Err, IfOk, IfSome}
+use Rattle.std.specs.Prelude.{◌≡◌, ◌⊎◌, ℕ, ◌+◌, ◌-◌, ◌≤◌, Bool, true, false, ◌||◌, nat_lt, nat_le, List, [], length, map, sum_by, Option, Some, None, Result, Ok, Err, IfOk, IfSome}
 use Rattle.std.specs.Ordering.{nat_cmp}
 use Rattle.std.specs.List.Sorted.{IsStrictlySortedBy}
 use Rattle.std.proofs.Common.{inl, inr, refl, sym, ap, subst, ◌∙◌, arith}
@@ -18,13 +18,18 @@ use Rattle.ci_config.specs.Meaning.{meaning, Means}
 use Rattle.ci_config.specs.View.{config_view}
 use Rattle.ci_config.specs.declared.file.Config as rust
 use Rattle.ci_config.specs.declared.fault.ConfigCode.TheVariants as code
+use Rattle.ci_expr.specs.Answered.{RefusesLooks}
+use Rattle.ci_expr.specs.Built.{Look, look_cost}
 use Rattle.ci_expr.specs.declared.fault.ExprCode.TheVariants.{X8}
+use Rattle.ci_expr.specs.declared.fault.ExprFault.{ExprFault}
+use Rattle.ci_expr.specs.declared.fault.ExprFault.TheVariants as looks
 use Rattle.ci_graph_layout.specs.declared.limits.TheConstants.{MAX_SEARCH_COST}
 use Rattle.ci_config.specs.FaultView as keywords
 use Rattle.ci_config.specs.FaultView.{code_view}
 use Rattle.ci_config.specs.declared.fault.ConfigFault.{ConfigFault}
 use Rattle.ci_config.specs.declared.fault.ConfigFault.TheVariants as config
 use Rattle.ci_graph_layout.specs.Plans.{Gives}
+use Rattle.ci_graph_layout.specs.Unmade.{unmade}
 use Rattle.ci_graph_layout.specs.declared.fault.PlanFault.{PlanFault}
 use Rattle.ci_graph_layout.specs.declared.fault.PlanFault.TheVariants as plan
 use Rattle.ci_board.specs.declared.facts.Row.{Row}
@@ -33,7 +38,7 @@ use Rattle.ci_machine.specs.declared.records.Job.{Job}
 use Rattle.ci_machine.specs.declared.reply.Code.TheVariants.{M15}
 use Rattle.ci_machine.specs.declared.reply.Detail.{Detail}
 use Rattle.ci_machine_steps.specs.Plans.{Plan, refused, faulted}
-use Rattle.ci_machine_steps.specs.Files.{line_fault, keyword_fault, IsRead, misconfigures, lacks_tree}
+use Rattle.ci_machine_steps.specs.Files.{line_fault, keyword_fault, IsRead, configures, misconfigures, lacks_tree}
 use Rattle.ci_machine_steps.specs.Pipelines as pipelines
 use Rattle.ci_machine_steps.specs.Pipelines.{IsLaidOut, misread, unplanned, new_jobs, lacks_numbers, AreFirstRows, pipeline_created, MakesUnless, Creates}
 use Rattle.ci_machine_steps.proofs.Created.{new_rise, new_length}
@@ -58,22 +63,37 @@ misconfigured text o tree config.Memory (Fault detail) has answer shows = absurd
 misconfigured text o tree (config.Fault code) (Fault detail) has answer shows =
     subst (λ (d : Detail). IsLaidOut text o.given (Err d)) (sym shows) (misread (keyword_fault (code_view code)) (misconfigures tree (code_view code) has answer))
 
--- of rules that cost too much to decide: then there is a pattern, and X8 may be answered
-pub unaffordable : (text : List ℕ) (o : Origin) (tree : Value) (c : rust.Config) (f : FileFault) (cost : ℕ) → HasTree text tree → Means tree (Ok (config_view c))
-    → ((v : Value) (k : Config) → Means v (Ok k) → ConfigLacksPatterns k ⊎ Means v (Err (K13 X8))) → (ConfigLacksPatterns (config_view c) → cost ≡ 0) → nat_le cost MAX_SEARCH_COST ≡ false
-    → Shows f (config.Fault (code.K13 X8)) → LaysOut text o (Err f)
-unaffordable text o tree c f cost has answer refuse none over shows = misconfigured text o tree (config.Fault (code.K13 X8)) f has (refused-by (refuse tree (config_view c) answer)) shows
-  where
-    refused-by : ConfigLacksPatterns (config_view c) ⊎ Means tree (Err (K13 X8)) → Means tree (Err (K13 X8))
-    refused-by (inr m) = m
-    refused-by (inl h) =
-        let no : nat_le 0 MAX_SEARCH_COST ≡ false = subst (λ n. nat_le n MAX_SEARCH_COST ≡ false) (none h) over in
-        absurd cc
+-- where there is a pattern, X8 may be answered
+abbrev MayRefuse : Type 0
+MayRefuse = (v : Value) (k : Config) → Means v (Ok k) → ConfigLacksPatterns k ⊎ Means v (Err (K13 X8))
+
+refused-by : (tree : Value) (c : Config) → ConfigLacksPatterns c ⊎ Means tree (Err (K13 X8)) → (ConfigLacksPatterns c → ⊥) → Means tree (Err (K13 X8))
+refused-by tree c (inr m) some = m
+refused-by tree c (inl h) some = absurd (some h)
+
+-- of rules that cost too much to decide
+pub unaffordable : (text : List ℕ) (o : Origin) (tree : Value) (c : rust.Config) (f : FileFault) (looks : List Look) → HasTree text tree → Means tree (Ok (config_view c)) → MayRefuse
+    → (ConfigLacksPatterns (config_view c) → looks ≡ []) → nat_le (sum_by look_cost looks) MAX_SEARCH_COST ≡ false → Shows f (config.Fault (code.K13 X8)) → LaysOut text o (Err f)
+unaffordable text o tree c f looks has answer refuse none over shows =
+    misconfigured text o tree (config.Fault (code.K13 X8)) f has (refused-by tree (config_view c) (refuse tree (config_view c) answer) (λ h.
+    let no : nat_le 0 MAX_SEARCH_COST ≡ false = subst (λ ls. nat_le (sum_by look_cost ls) MAX_SEARCH_COST ≡ false) (none h) over in
+    absurd cc)) shows
+
+-- of a pattern that isn't built again
+pub not_built : (text : List ℕ) (o : Origin) (c : Config) → IsRead text (Ok c) → MayRefuse → (ConfigLacksPatterns c → ⊥) → IsLaidOut text o.given (Err (keyword_fault (K13 X8)))
+not_built text o c (configures tree k has answer) refuse some = misread (keyword_fault (K13 X8)) (misconfigures tree (K13 X8) has (refused-by tree c (refuse tree c answer) some))
+
+pub not_looked_for : (text : List ℕ) (o : Origin) (c : Config) (e : ExprFault) (looks : List Look) (f : FileFault) → f ≡ plan_fault (unmade e) → IsRead text (Ok c) → MayRefuse
+    → (ConfigLacksPatterns c → looks ≡ []) → RefusesLooks e looks → LaysOut text o (Err f)
+not_looked_for text o c looks.Memory ls f is read refuse none by = subst (λ (g : FileFault). LaysOut text o (Err g)) (sym is) tt
+not_looked_for text o c (looks.Fault x) ls f is read refuse none by =
+    subst (λ (g : FileFault). LaysOut text o (Err g)) (sym is) (not_built text o c read refuse (λ h. by.1 (none h)))
 
 -- of the graph
-pub not_planned : (text : List ℕ) (o : Origin) (c : Config) (fault : PlanFault) (f : FileFault) → f ≡ plan_fault fault → IsRead text (Ok c) → Gives o.given c (Err fault) → LaysOut text o (Err f)
-not_planned text o c plan.Memory f is read gives = subst (λ (g : FileFault). LaysOut text o (Err g)) (sym is) tt
-not_planned text o c (plan.Fault code) f is read gives = subst (λ (g : FileFault). LaysOut text o (Err g)) (sym is) (unplanned c code read gives)
+pub not_planned : (text : List ℕ) (o : Origin) (c : Config) (fault : PlanFault) (f : FileFault) → f ≡ plan_fault fault → IsRead text (Ok c) → MayRefuse → Gives o.given c (Err fault) → LaysOut text o (Err f)
+not_planned text o c plan.Pattern f is read refuse gives = subst (λ (g : FileFault). LaysOut text o (Err g)) (sym is) (not_built text o c read refuse gives)
+not_planned text o c plan.Memory f is read refuse gives = subst (λ (g : FileFault). LaysOut text o (Err g)) (sym is) tt
+not_planned text o c (plan.Fault code) f is read refuse gives = subst (λ (g : FileFault). LaysOut text o (Err g)) (sym is) (unplanned c code read gives)
 
 -- ---- numbers
 

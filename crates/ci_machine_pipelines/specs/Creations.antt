@@ -4,6 +4,8 @@ use Rattle.serde_json.specs.Written.{compact_text}
 use Rattle.ci_board.specs.declared.facts.Row.{Row}
 use Rattle.ci_board.specs.Rows.{no_facts}
 use Rattle.ci_values.specs.Layers.{layer_view}
+use Rattle.ci_expr.specs.declared.fault.ExprCode.TheVariants.{X8}
+use Rattle.ci_config.specs.Fault.{K13}
 use Rattle.ci_config.specs.declared.file.Config.{Config}
 use Rattle.ci_config.specs.View.{config_view}
 use Rattle.ci_graph_layout.specs.Inclusion as inclusion
@@ -17,6 +19,7 @@ use Rattle.ci_machine.specs.declared.records.Need.{Need}
 use Rattle.ci_machine.specs.declared.records.Variable.{Variable}
 use Rattle.ci_machine.specs.declared.request.NewPipeline.{NewPipeline}
 use Rattle.ci_machine.specs.Bodies.{pipeline_data}
+use Rattle.ci_machine_steps.specs.Files.{keyword_fault}
 use Rattle.ci_machine_steps.specs.Pipelines as pipelines
 use Rattle.ci_machine_steps.specs.Pipelines.{Layout, IsLaidOut, graph_fault, lacks_numbers}
 use Rattle.ci_machine_pipelines.specs.declared.creation.Creation.{Creation}
@@ -62,6 +65,7 @@ origin id first_job asked vs moment = record { id = id; first_job = first_job; a
 abbrev pub plan_fault : PlanFault → FileFault
 plan_fault plan.Memory = Memory
 plan_fault (plan.Fault code) = Fault (graph_fault code)
+plan_fault plan.Pattern = Fault (keyword_fault (K13 X8))
 
 -- the body that shows the pipeline, of whose jobs none was tried, with these rows, where these resource groups are held
 abbrev pub created_text : Creation → List Holder → List Row → List ℕ

@@ -8,7 +8,9 @@ ghost use Rattle.ci_yaml_lines.specs.TreeView.{value_view};
 ghost use Rattle.ci_yaml.specs.Document.{HasTree};
 ghost use Rattle.ci_config.specs.View.{config_view};
 ghost use Rattle.ci_graph.specs.Pairs.{AreWithin};
+ghost use Rattle.ci_expr.specs.Answered.{AreAnswered};
 ghost use Rattle.ci_graph_layout.specs.Plans.{plan_view};
+ghost use Rattle.ci_graph_layout.specs.Searches.{all_looks};
 ghost use Rattle.ci_graph_layout.specs.View.{given_view};
 ghost use Rattle.ci_machine_steps.specs.Files.{IsRead};
 ghost use Rattle.ci_machine_steps.specs.Pipelines as pipelines;
@@ -64,6 +66,9 @@ fn plan_fault(fault: PlanFault) -> FileFault
 {
     match fault {
         PlanFault::Fault(code) => FileFault::Fault(graph_detail(code)),
+        PlanFault::Pattern => {
+            FileFault::Fault(Detail::Expression(FaultCode::K(13), FaultCode::X(8)))
+        }
         PlanFault::Memory => FileFault::Memory,
     }
 }
@@ -92,9 +97,11 @@ fn lay_out_config<'a, 't>(
     answers: &Answers,
     start: &Start,
 ) -> Result<Option<Creation>, FileFault>
-    requires { given_view given.now ≡ given_view start.now.given }
+    requires given { given_view given.now ≡ given_view start.now.given }
+    requires answered { AreAnswered answers.now (all_looks (given_view given.now) config.now) }
     ensures { (text : List ℕ) → IsRead text (Ok (config_view config.now)) → LaysOut text (origin_view start.now) result }
 {
+    may_refuse_patterns();
     match plan_by(alloc, given, config, answers) {
         Ok(plan) => lay_out_plan(alloc, config, given, &plan, start),
         Err(fault) => Err(plan_fault(fault)),
@@ -119,8 +126,10 @@ fn lay_out_tree(alloc: Global, tree: &Tree, start: &Start) -> Result<Option<Crea
                 let fault = ConfigFault::Fault(ConfigCode::K13(ExprCode::X8));
                 return Err(config_fault(alloc, fault));
             }
-            let answers = Answers::of(alloc, &looks)?;
-            lay_out_config(alloc, &config, &given, &answers, start)
+            match Answers::of(alloc, &looks) {
+                Ok(answers) => lay_out_config(alloc, &config, &given, &answers, start),
+                Err(refused) => Err(plan_fault(PlanFault::from(refused))),
+            }
         }
         Err(fault) => Err(config_fault(alloc, fault)),
     }
@@ -148,8 +157,7 @@ fn number_text(alloc: Global, number: u64) -> Result<Text, AllocError>
 ///
 /// Errors: memory was refused; or the first fault of the text: of its lines (Y), of its keywords (K), where an expression with a
 /// pattern may always be refused (`K13 X8`); then that what its rules look for, each look once, costs no more than `MAX_SEARCH_COST`, and else
-/// `K13 X8`; and then
-/// of the graph of its jobs (G).
+/// `K13 X8`, as where a pattern that was built before isn't built again; and then of the graph of its jobs (G).
 pub fn lay_out(
     alloc: Global,
     text: &str,

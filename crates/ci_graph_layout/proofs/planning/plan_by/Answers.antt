@@ -1,11 +1,14 @@
 use Rattle.std.proofs.Common.{◌≡◌, None, length, ap, sym, subst, ◌∙◌, rules}
 use Rattle.std.proofs.lemmas.List.{length-map}
+use Rattle.std.specs.Prelude.{flat_map}
+use Rattle.ci_expr.proofs.Answering.{answered_each}
 use Rattle.ci_values.specs.Table.{words_view}
 use Rattle.ci_config.specs.View.{config_view}
 use Rattle.ci_graph.specs.Pairs.{AreWithin, IsAcyclic}
 use Rattle.ci_graph_layout.specs.Fault.{first_fault}
 use Rattle.ci_graph_layout.specs.Layout.{lineup, pairs}
 use Rattle.ci_graph_layout.specs.Places.{stages_of, jobs_of}
+use Rattle.ci_graph_layout.specs.Searches.{job_looks}
 use Rattle.ci_graph_layout.specs.View.{given_view, lineup_view}
 use Rattle.ci_graph_layout.proofs.Planned.{plans_fault, plans_cycle, plans_jobs, pairs_found}
 use Rattle.ci_graph_layout.proofs.planning.plan_by.Goals as goal
@@ -44,3 +47,6 @@ returns-clause-graph c =
     let within : AreWithin (length (jobs_of c.in_ok-lineup.lineup)) c.in_ok-pairs.pairs.items = pairs_found (stages_of c.in_ok-lineup.lineup) (jobs_of c.in_ok-lineup.lineup) c.in_ok-pairs.pairs.items c.in_ok-pairs.ensures in
     let acyclic : IsAcyclic c.in_ok-pairs.pairs.items = subst (λ ps. IsAcyclic ps) c.deref-2.ensures.value (c.in_ok-are_acyclic.ensures.acyclic (search rules)) in
     record { within = within; acyclic = acyclic }
+
+pub lineup-requires : goal.lineup-requires
+lineup-requires c = answered_each c.args.answers.now (flat_map (job_looks (given_view c.args.given.now) c.args.config.now) c.args.config.now.jobs.items) c.requires

@@ -12,8 +12,8 @@ pub lay_out_plan-requires-clause-within : goal.lay_out_plan-requires-clause-with
 lay_out_plan-requires-clause-within c = c.in-Ok.ensures.graph.within
 
 pub returns-in-Ok : goal.returns-in-Ok
-returns-in-Ok c = λ text read. c.lay_out_plan.ensures text (planned (config_view c.args.config.now) (plan_view c.in-Ok.plan) read (subst (λ (g : Given). Gives g (config_view c.args.config.now) (Ok c.in-Ok.plan)) c.requires c.in-Ok.ensures.plan))
+returns-in-Ok c = λ text read. c.lay_out_plan.ensures text (planned (config_view c.args.config.now) (plan_view c.in-Ok.plan) read (subst (λ (g : Given). Gives g (config_view c.args.config.now) (Ok c.in-Ok.plan)) c.requires.given c.in-Ok.ensures.plan))
 
 pub returns-in-Err : goal.returns-in-Err
 returns-in-Err c = λ text read.
-    not_planned text (origin_view c.args.start.now) (config_view c.args.config.now) c.in-Err.fault c.plan_fault.result c.plan_fault.ensures read (subst (λ (g : Given). Gives g (config_view c.args.config.now) (Err c.in-Err.fault)) c.requires c.in-Err.ensures.plan)
+    not_planned text (origin_view c.args.start.now) (config_view c.args.config.now) c.in-Err.fault c.plan_fault.result c.plan_fault.ensures read c.may_refuse_patterns.ensures (subst (λ (g : Given). Gives g (config_view c.args.config.now) (Err c.in-Err.fault)) c.requires.given c.in-Err.ensures.plan)

@@ -1,0 +1,9 @@
+use Rattle.ci_expr.specs.Answered.{answered}
+use Rattle.ci_expr.specs.Built.{values_of, same_look}
+use Rattle.ci_expr.proofs.Answering.{among-part}
+use Rattle.ci_graph_layout.specs.Searches.{rule_looks}
+use Rattle.ci_graph_layout.proofs.inclusion.deciding.Goals as goal
+
+pub holds-requires : goal.holds-requires
+holds-requires c =
+    among-part same_look (rule_looks (values_of c.args.env.now)) c.args.rules.now c.loop-rule.rule-index c.rule-item.result (answered c.args.answers.now) c.loop-rule-test.true c.rule-item.is c.requires
