@@ -1,5 +1,5 @@
 # make build  proves the crates below the program side by side, builds it, and leaves it at bin/ciserver
-# make demo   the same, has it check the stored CI files and serve some requests, and runs a whole pipeline with it
+# make demo   the same, has it check the stored CI files and serve requests, and runs a whole pipeline with it
 # make test   the gate: every proof from nothing, the must-fail edits, the tests, the programs' stored runs
 
 .PHONY: build demo test
@@ -8,8 +8,6 @@ build:
 	.ci/build
 
 demo: build
-	@echo
-	bin/ciserver demo < crates/ci_cli/stdin
 	@echo
 	bin/ciserver check crates/ci_config_texts/data/pipeline.yml
 	bin/ciserver check crates/ci_config_texts/data/job_named_twice.yml; test $$? = 1

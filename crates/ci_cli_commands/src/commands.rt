@@ -1,19 +1,14 @@
 //! The command line: what is done for it, and the exit status.
 
-ghost use Rattle.std.specs.Prelude.{◌≡◌, ◌↔◌, ◌⊎◌, Some};
-ghost use Rattle.ci_http.specs.declared.serve.Served.TheVariants.{Replied, ReadFailed, WriteFailed};
-
 use crate::admin::request_of;
-use crate::demo::serve_demo;
 use crate::file::{let_go, make, open};
 use crate::server::{ask, is_closed};
 use crate::serving::serve_connections;
 use crate::sources::Sources;
 use ci_cli_check::{check_word, exit_status};
-use ci_cli_words::line::{BROKEN_OFF, DONE, Line, REFUSED, USAGE, say, say_reply};
+use ci_cli_words::line::{BROKEN_OFF, DONE, Line, USAGE, say, say_reply};
 use ci_cli_words::task::{AdminRequest, ServeOptions, Task};
 use ci_cli_words::words::task_of;
-use ci_http::serve::Served;
 use ci_http_routes::paths::Paths;
 use ci_server::server::Server;
 use ci_store::Alter;
@@ -74,7 +69,6 @@ fn perform<C: Clock, R: RandomSource, I: Read + Drop, O: Write>(
     output: &mut O,
 ) -> u8 {
     match task {
-        Task::Demo => demo_status(serve_demo(rt.alloc(), input, output)),
         Task::Check(file) => exit_status(&check_word(rt, rt.alloc(), file, input, output)),
         Task::Init(file) => init(rt, file, output),
         Task::Send(file, asked) => send(rt, file, asked, sources, output),
@@ -82,24 +76,9 @@ fn perform<C: Clock, R: RandomSource, I: Read + Drop, O: Write>(
     }
 }
 
-/// The exit status of the demo, by what became of its request, if its server could be made.
-fn demo_status(served: Option<Served>) -> u8
-    ensures done { (result ≡ 0) ↔ (served ≡ Some Replied) }
-    ensures broken_off { (result ≡ 3) ↔ ((served ≡ Some ReadFailed) ⊎ (served ≡ Some WriteFailed)) }
-{
-    match served {
-        Some(Served::Replied) => DONE,
-        Some(Served::ReadFailed | Served::WriteFailed) => BROKEN_OFF,
-        Some(Served::Ended) | None => REFUSED,
-    }
-}
-
 fn init<O: Write>(rt: &HostRuntime, file: &str, output: &mut O) -> u8 {
     match make(rt, file) {
-        Ok(server) => {
-            let_go(server);
-            say(output, Line::Fine)
-        }
+        Ok(()) => say(output, Line::Fine),
         Err(line) => say(output, line),
     }
 }

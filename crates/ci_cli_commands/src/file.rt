@@ -4,21 +4,92 @@ use ci_cli_words::line::Line;
 use ci_server::server::Server;
 use ci_store::tables::OpenFault;
 use sqlite::{Connection, Error, ErrorCode, File, FileStore};
-use std::fs;
+use std::alloc::{AllocError, Global};
+use std::fs::{self, OpenOptions};
+use std::io;
+use std::os::unix::fs::OpenOptionsExt;
+
+/// The access of a file that its owner alone may read and write.
+const OWNER_ALONE: u32 = 0o600;
 
 /// A server over a file.
 pub type FileServer = Server<FileStore<File>>;
 
-/// Makes a server's file at a path. Errors: the line that says why it isn't made; a file that is there stays as it is.
-pub fn make(rt: &HostRuntime, path: &str) -> Result<FileServer, Line> {
-    match fs::exists(rt, path) {
-        Ok(false) => {}
-        Ok(true) => return Err(Line::FileExists),
-        Err(_) => return Err(Line::NotOpened(OpenFault::O3)),
+/// Makes a server's file at a path. It is made whole under another name, and then given its own: so what a failure or a stop leaves is no file
+/// that the next call would refuse. Errors: the line that says why it isn't made; a file that is there, or the log of one that was, stays as it is.
+pub fn make(rt: &HostRuntime, path: &str) -> Result<(), Line> {
+    let Ok(making) = Making::of(rt.alloc(), path) else {
+        return Err(Line::NoMemory);
+    };
+    if is_there(rt, path)? || is_there(rt, making.log.as_str())? {
+        return Err(Line::FileExists);
     }
-    match Server::create(connect(rt, path)?) {
-        Ok(server) => Ok(server),
-        Err((fault, _)) => Err(Line::NotOpened(fault)),
+    // What a call that was stopped left.
+    making.remove(rt);
+    let made = making.make(rt, path);
+    making.remove(rt);
+    made
+}
+
+/// Is there a file of this name? Errors: the line for what can't be told.
+fn is_there(rt: &HostRuntime, path: &str) -> Result<bool, Line> {
+    match fs::exists(rt, path) {
+        Ok(found) => Ok(found),
+        Err(_) => Err(Line::NotOpened(OpenFault::O3)),
+    }
+}
+
+/// The names that a file has while it is made.
+#[derive(Drop)]
+struct Making {
+    /// That of its log, once it is made.
+    log: String,
+    /// Its own, until it is made.
+    unfinished: String,
+    /// That of its log until then.
+    unfinished_log: String,
+}
+
+impl Making {
+    /// Errors: memory was refused.
+    fn of(alloc: Global, path: &str) -> Result<Making, AllocError> {
+        Ok(Making {
+            log: format!(in alloc; "{path}-wal")?,
+            unfinished: format!(in alloc; "{path}.new")?,
+            unfinished_log: format!(in alloc; "{path}.new-wal")?,
+        })
+    }
+
+    /// Makes it, and gives it its name once its log holds nothing. It has the tokens, so none but its owner may read it. Errors: the line that
+    /// says why it isn't made.
+    fn make(&self, rt: &HostRuntime, path: &str) -> Result<(), Line> {
+        if self.claim(rt).is_err() {
+            return Err(Line::NotOpened(OpenFault::O3));
+        }
+        let server = match Server::create(connect(rt, self.unfinished.as_str())?) {
+            Ok(server) => server,
+            Err((fault, _)) => return Err(Line::NotOpened(fault)),
+        };
+        if server.close().close().is_err()
+            || fs::rename(rt, self.unfinished.as_str(), path).is_err()
+        {
+            return Err(Line::NotOpened(OpenFault::O3));
+        }
+        Ok(())
+    }
+
+    /// Makes a file that holds nothing, which its owner alone may read and write.
+    fn claim(&self, rt: &HostRuntime) -> io::Result<()> {
+        let mut options = OpenOptions::new();
+        options.write(true).create_new(true).mode(OWNER_ALONE);
+        options.open(rt, self.unfinished.as_str())?;
+        Ok(())
+    }
+
+    /// Removes what there is of an unfinished one.
+    fn remove(&self, rt: &HostRuntime) {
+        let _ = fs::remove_file(rt, self.unfinished.as_str());
+        let _ = fs::remove_file(rt, self.unfinished_log.as_str());
     }
 }
 

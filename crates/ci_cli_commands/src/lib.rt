@@ -5,7 +5,6 @@
 
 mod admin;
 mod commands;
-mod demo;
 mod file;
 mod served;
 mod server;

@@ -5,8 +5,6 @@ use ci_machine::request::RunnerPause;
 /// What a command line asks for.
 #[derive(Clone, Copy)]
 pub enum Task<'a> {
-    /// To answer the request on standard input, over memory.
-    Demo,
     /// To check the CI file at a path, or on standard input for `-`.
     Check(&'a str),
     /// To make a file for a server.

@@ -14,8 +14,6 @@ use std::alloc::{AllocError, Global};
 
 const VERSION: &str = "0.1.0";
 
-const DEMO: &str = "demo";
-
 const CHECK: &str = "check";
 
 const INIT: &str = "init";
@@ -74,17 +72,12 @@ fn command_line<'a>(alloc: Global) -> Result<Command<'a>, AllocError> {
         .version(VERSION)
         .after_help(RULES)
         .subcommand_required(true)
-        .subcommand(demo(alloc))?
         .subcommand(check(alloc)?)?
         .subcommand(init(alloc)?)?
         .subcommand(project_add(alloc)?)?
         .subcommand(runner_add(alloc)?)?
         .subcommand(runner_pause(alloc)?)?
         .subcommand(serve(alloc)?)
-}
-
-fn demo<'a>(alloc: Global) -> Command<'a> {
-    Command::new(alloc, DEMO).about("Answers the request on standard input, over memory")
 }
 
 fn check<'a>(alloc: Global) -> Result<Command<'a>, AllocError> {
@@ -185,9 +178,6 @@ fn serve<'a>(alloc: Global) -> Result<Command<'a>, AllocError> {
 fn task_named<'a>(matches: &ArgMatches<'a>) -> Option<Task<'a>>
     ensures { IfSome result (λ task. subcommand_name_of matches.now ≡ Some (name_of task)) }
 {
-    if matches.subcommand_matches(DEMO).is_some() {
-        return Some(Task::Demo);
-    }
     if let Some(found) = matches.subcommand_matches(CHECK) {
         return Some(Task::Check(found.get_str(FILE)?));
     }
