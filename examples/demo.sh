@@ -13,6 +13,7 @@ server=
 trap '[ -z "$server" ] || kill "$server" 2> /dev/null || :; rm -rf "$work"' EXIT
 trap 'exit 130' INT TERM
 db=$work/ci.db
+# shellcheck source=examples/server.sh
 . "$here/server.sh"
 
 # api METHOD PATH [WORD OF CURL..]: asks the server for something of the project, and prints the body of its reply.
@@ -28,11 +29,11 @@ url=http://127.0.0.1:$port
 api PUT /ci_file --data-binary "@$here/project/.gitlab-ci.yml"
 echo
 number=$(api POST /pipeline --data '{"ref":"main"}' | jq .id)
-"$here/runner.sh" --once "$url" "$runner" "$here/project"
+RUNNER_TOKEN=$runner "$here/runner.sh" --once "$url" "$here/project"
 job=$(api GET "/pipelines/$number" | jq '.jobs[] | select(.status == "manual") | .id')
 echo "job $job is played"
 api POST "/jobs/$job/play" --data '' > "$work/played"
-"$here/runner.sh" --once "$url" "$runner" "$here/project"
+RUNNER_TOKEN=$runner "$here/runner.sh" --once "$url" "$here/project"
 echo
 api GET "/pipelines/$number" | tee "$work/pipeline" | jq -r '
   "pipeline \(.id) of \(.ref): \(.status)", (.jobs[] | "  \(.id) \(.stage) \(.name): \(.status)")'

@@ -1,3 +1,4 @@
+# shellcheck shell=bash disable=SC2154,SC2034
 # For the scripts that source it, which have $ciserver, the program, and $work, a folder of their own.
 
 # serve_file FILE REQUESTS [PORT]: serves the server's file, on a port that nobody listens on, or on this one; sets $server, the
