@@ -104,7 +104,8 @@ run_job() {
 }
 
 TOKEN=$runner jq -nc '{token: env.TOKEN}' > "$work/ask"
-while asked=$SECONDS; :; do
+while :; do
+    asked=$SECONDS
     # It waits as long as it takes: a grant whose reply nobody reads is lost to its job.
     call POST /jobs/request 0 --data-binary "@$work/ask" || { echo "a poll was given up" >&2; continue; }
     case $code in
