@@ -2,6 +2,7 @@
 
 use crate::admin::request_of;
 use crate::file::{let_go, make, open};
+use crate::report::report;
 use crate::server::{ask, is_closed};
 use crate::serving::serve_connections;
 use crate::sources::Sources;
@@ -72,6 +73,7 @@ fn perform<C: Clock, R: RandomSource, I: Read + Drop, O: Write>(
         Task::Check(file) => exit_status(&check_word(rt, rt.alloc(), file, input, output)),
         Task::Init(file) => init(rt, file, output),
         Task::Send(file, asked) => send(rt, file, asked, sources, output),
+        Task::Report(file, kind) => report(rt, file, kind, output),
         Task::Serve(options) => serve(rt, options, sources, output),
     }
 }

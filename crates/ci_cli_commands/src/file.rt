@@ -95,9 +95,8 @@ impl Making {
 
 /// Opens the server's file at a path. Errors: the line that says why it isn't opened; a file that isn't there isn't made.
 pub fn open(rt: &HostRuntime, path: &str) -> Result<FileServer, Line> {
-    match fs::exists(rt, path) {
-        Ok(true) => {}
-        _ => return Err(Line::NotOpened(OpenFault::O3)),
+    if !is_there(rt, path)? {
+        return Err(Line::NotOpened(OpenFault::O3));
     }
     match Server::open(connect(rt, path)?) {
         Ok(server) => Ok(server),

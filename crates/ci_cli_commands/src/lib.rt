@@ -6,6 +6,7 @@
 mod admin;
 mod commands;
 mod file;
+mod report;
 mod served;
 mod server;
 pub mod serving;

@@ -37,6 +37,8 @@ pub enum Line {
     NoSeed,
     /// Memory was refused.
     NoMemory,
+    /// There is no such pipeline.
+    NoPipeline,
     /// The file wasn't opened as a store, for this fault.
     NotOpened(OpenFault),
     /// The store failed, and the server is closed.
@@ -52,7 +54,8 @@ impl Line {
     {
         match self {
             Line::Fine | Line::Listening(_) => DONE,
-            Line::FileExists | Line::NoClock | Line::NoSeed | Line::NoMemory => REFUSED,
+            Line::FileExists | Line::NoClock | Line::NoSeed | Line::NoMemory | Line::NoPipeline =>
+                REFUSED,
             Line::NotOpened(OpenFault::Memory) => REFUSED,
             Line::NotOpened(OpenFault::O1 | OpenFault::O2 | OpenFault::O3) => BROKEN_OFF,
             Line::Closed | Line::CannotListen(_) => BROKEN_OFF,
@@ -71,6 +74,7 @@ impl fmt::Display for Line {
             Line::NoClock => writeln!(f, "refused: clock"),
             Line::NoSeed => writeln!(f, "refused: seed"),
             Line::NoMemory | Line::NotOpened(OpenFault::Memory) => writeln!(f, "refused: M16"),
+            Line::NoPipeline => writeln!(f, "refused: M3"),
             Line::NotOpened(OpenFault::O1) => writeln!(f, "store: O1"),
             Line::NotOpened(OpenFault::O2) => writeln!(f, "store: O2"),
             Line::NotOpened(OpenFault::O3) => writeln!(f, "store: O3"),
@@ -133,6 +137,16 @@ pub fn say_reply<W: Write>(output: &mut W, reply: &Reply) -> u8
     }
     match write_body(output, reply) {
         Ok(()) => reply_status_of(reply.code),
+        Err(_) => BROKEN_OFF,
+    }
+}
+
+/// Prints a report, and gives the exit status: 3 where it can't be written.
+pub fn say_report<W: Write>(output: &mut W, text: &str) -> u8
+    ensures { Told (W.contents output.old) (W.contents output.new) text.now 0 result }
+{
+    match output.write_all(text.as_bytes()) {
+        Ok(()) => DONE,
         Err(_) => BROKEN_OFF,
     }
 }

@@ -11,8 +11,21 @@ pub enum Task<'a> {
     Init(&'a str),
     /// To send the server of a file a request.
     Send(&'a str, AdminRequest<'a>),
+    /// To tell what the server of a file has.
+    Report(&'a str, ReportKind),
     /// To serve requests over a socket.
     Serve(ServeOptions<'a>),
+}
+
+/// What is to be told of a server.
+#[derive(Clone, Copy)]
+pub enum ReportKind {
+    /// The pending jobs.
+    Queue,
+    /// The pipeline with this number, with its jobs.
+    Pipeline(u64),
+    /// The runners.
+    Runners,
 }
 
 /// A request that has no route: only who may write the file can send it.

@@ -4,7 +4,7 @@ ghost use Rattle.std.specs.Prelude.{◌≡◌, Some, IfSome};
 ghost use Rattle.clap.specs.Matches.{subcommand_name_of};
 ghost use Rattle.ci_cli_words.specs.Words.{name_of, admin_name};
 
-use crate::task::{AdminRequest, RunnerOptions, ServeOptions, Task};
+use crate::task::{AdminRequest, ReportKind, RunnerOptions, ServeOptions, Task};
 use ci_machine::request::RunnerPause;
 use ci_values::limits::MAX_NUMBER;
 use clap::builder::ValueParser;
@@ -23,6 +23,8 @@ const PROJECT_ADD: &str = "project-add";
 const RUNNER_ADD: &str = "runner-add";
 
 const RUNNER_PAUSE: &str = "runner-pause";
+
+const REPORT: &str = "report";
 
 const SERVE: &str = "serve";
 
@@ -43,6 +45,10 @@ const RUNNER: &str = "runner";
 
 const RESUME: &str = "resume";
 
+const KIND: &str = "kind";
+
+const PIPELINE: &str = "pipeline";
+
 const PORT: &str = "port";
 
 const REQUESTS: &str = "requests";
@@ -60,7 +66,7 @@ pub fn task_of<'a>(alloc: Global, words: &'a [String]) -> Result<Task<'a>, Error
         Some(task) => Ok(task),
         None => Err(command.error(
             ErrorKind::InvalidValue,
-            "a command is wanted, whose values don't begin with '-'",
+            "a command is wanted, whose values don't begin with '-'; a report is of the kind queue, pipeline or runners, and of a pipeline alone --pipeline is given",
         )?),
     }
 }
@@ -77,6 +83,7 @@ fn command_line<'a>(alloc: Global) -> Result<Command<'a>, AllocError> {
         .subcommand(project_add(alloc)?)?
         .subcommand(runner_add(alloc)?)?
         .subcommand(runner_pause(alloc)?)?
+        .subcommand(report(alloc)?)?
         .subcommand(serve(alloc)?)
 }
 
@@ -160,6 +167,18 @@ fn runner_pause<'a>(alloc: Global) -> Result<Command<'a>, AllocError> {
         .arg(resume)
 }
 
+fn report<'a>(alloc: Global) -> Result<Command<'a>, AllocError> {
+    let kind = option(alloc, KIND).required(true).value_name("KIND").help(
+        "queue, the pending jobs; pipeline, one with its jobs; or runners",
+    );
+    let pipeline = number(alloc, PIPELINE, MAX_NUMBER).help("The pipeline's number");
+    Command::new(alloc, REPORT)
+        .about("Prints what the server of a file has, as a table")
+        .arg(file_option(alloc))?
+        .arg(kind)?
+        .arg(pipeline)
+}
+
 fn serve<'a>(alloc: Global) -> Result<Command<'a>, AllocError> {
     let port = number(alloc, PORT, u16::MAX as u64)
         .required(true)
@@ -174,7 +193,8 @@ fn serve<'a>(alloc: Global) -> Result<Command<'a>, AllocError> {
         .arg(requests)
 }
 
-/// What the command asks for that was found among the words, by its name. None where the value of an option begins with `-`.
+/// What the command asks for that was found among the words, by its name. None where the value of an option begins with `-`, or where
+/// there is no such report.
 fn task_named<'a>(matches: &ArgMatches<'a>) -> Option<Task<'a>>
     ensures { IfSome result (λ task. subcommand_name_of matches.now ≡ Some (name_of task)) }
 {
@@ -183,6 +203,10 @@ fn task_named<'a>(matches: &ArgMatches<'a>) -> Option<Task<'a>>
     }
     if let Some(found) = matches.subcommand_matches(INIT) {
         return Some(Task::Init(text_in(found, DB)?));
+    }
+    if let Some(found) = matches.subcommand_matches(REPORT) {
+        let kind = report_kind_in(found)?;
+        return Some(Task::Report(text_in(found, DB)?, kind));
     }
     if let Some(found) = matches.subcommand_matches(SERVE) {
         return Some(Task::Serve(serve_options_in(found)?));
@@ -215,6 +239,17 @@ fn text_in<'a>(found: &ArgMatches<'a>, option: &str) -> Option<&'a str> {
         return None;
     }
     Some(text)
+}
+
+/// The kind of a report. None where there is no such kind, or where a pipeline's number is missing or too much.
+fn report_kind_in(found: &ArgMatches<'_>) -> Option<ReportKind> {
+    let pipeline: Option<u64> = found.get_one(PIPELINE);
+    match (found.get_str(KIND)?, pipeline) {
+        ("queue", None) => Some(ReportKind::Queue),
+        ("pipeline", Some(pipeline)) => Some(ReportKind::Pipeline(pipeline)),
+        ("runners", None) => Some(ReportKind::Runners),
+        _ => None,
+    }
 }
 
 fn serve_options_in<'a>(found: &ArgMatches<'a>) -> Option<ServeOptions<'a>> {

@@ -3,8 +3,6 @@ use Rattle.std.proofs.Common.{◌≡◌, false, List, [], Option, Some, None, If
 use Rattle.std.specs.Prelude.{option_map, flat_map}
 use Rattle.std.specs.Global.{Vec}
 use Rattle.ci_values.specs.Layers.{Variables}
-use Rattle.ci_expr.specs.Answered.{AreAnswered}
-use Rattle.ci_expr.specs.declared.answers.Answers.{Answers}
 use Rattle.ci_expr.specs.Built.{Look, formula_of, looks_of, same_look}
 use Rattle.ci_expr.specs.Distinct.{distinct, with_each}
 use Rattle.ci_expr.specs.Formula.{has_pattern}
@@ -40,11 +38,3 @@ looks-of-job before after vs ws o rules rs is items same h =
     subst (λ p. after ≡ with_each same_look before (rules_looks ws p)) (sym is)
     (subst (λ qs. after ≡ with_each same_look before (flat_map (rule_looks ws) qs)) items
     (subst (λ us. after ≡ with_each same_look before (flat_map (rule_looks us) rs)) same h))
-
--- what its rules look for was looked for, where that of the job was
-pub answered-of-job : (a : Answers) (vs ws : Variables) (o : Option (Vec Rule)) (rules : Vec Rule) (rs : List Rule) → o ≡ Some rules → rs ≡ rules.items → vs ≡ ws
-    → AreAnswered a (rules_looks ws o) → AreAnswered a (flat_map (rule_looks vs) rs)
-answered-of-job a vs ws o rules rs is items same h =
-    subst (λ us. AreAnswered a (flat_map (rule_looks us) rs)) (sym same)
-    (subst (λ qs. AreAnswered a (flat_map (rule_looks ws) qs)) (sym items)
-    (subst (λ p. AreAnswered a (rules_looks ws p)) is h))

@@ -1,7 +1,7 @@
--- What deciding the rules of a file looks for, and what that costs, where each look is made once.
-use Rattle.std.specs.Prelude.{ℕ, List, [], Option, Some, None, sum_by, flat_map}
+-- What deciding the rules of a file looks for, each look once.
+use Rattle.std.specs.Prelude.{List, [], Option, Some, None, flat_map}
 use Rattle.std.specs.Global.{Vec}
-use Rattle.ci_expr.specs.Built.{Look, looks_of, same_look, look_cost}
+use Rattle.ci_expr.specs.Built.{Look, looks_of, same_look}
 use Rattle.ci_expr.specs.Distinct.{distinct}
 use Rattle.ci_expr.specs.declared.expr.Expr.{Expr}
 use Rattle.ci_values.specs.Layers.{Variables}
@@ -29,6 +29,3 @@ job_looks g c j = rules_looks (seen g (config_view c) (job_view j)) j.rules
 -- what all rules look for, each once, whether they are come to or not
 abbrev pub all_looks : Given → Config → List Look
 all_looks g c = distinct same_look (flat_map (job_looks g c) c.jobs.items)
-
-abbrev pub search_cost : Given → Config → ℕ
-search_cost g c = sum_by look_cost (all_looks g c)

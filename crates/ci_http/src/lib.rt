@@ -4,4 +4,4 @@
 pub mod serve;
 pub mod sweep;
 
-pub use ci_http_messages::{call, fault, fields, link, route, text};
+pub use ci_http_messages::{call, due, fault, fields, link, route, text};

@@ -11,3 +11,4 @@ pub mod Redundant
 pub mod Leases
 pub mod Indexes
 pub mod Ranges
+pub mod ReportRows

@@ -65,6 +65,13 @@ variables_of s job = filter (λ v. v.job == job) s.job_variables
 abbrev pub last_attempt : State → ℕ → Option Attempt
 last_attempt s job = last_or None (attempts_of s job)
 
+-- the attempts of a runner, by number
+abbrev pub attempts_by : State → ℕ → List Attempt
+attempts_by s runner = filter (λ a. a.runner == runner) s.attempts
+
+abbrev pub last_attempt_by : State → ℕ → Option Attempt
+last_attempt_by s runner = last_or None (attempts_by s runner)
+
 -- the pieces of the trace of an attempt, in order
 abbrev pub pieces_of : State → ℕ → List Piece
 pieces_of s attempt = filter (λ p. p.attempt == attempt) s.pieces

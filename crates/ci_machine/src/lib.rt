@@ -10,5 +10,6 @@ pub mod moment;
 pub mod records;
 pub mod redundant;
 pub mod reply;
+pub mod report;
 pub mod request;
 pub mod text;

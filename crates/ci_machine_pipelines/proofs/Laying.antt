@@ -16,8 +16,6 @@ use Rattle.ci_config.specs.Fault.{K13}
 use Rattle.ci_config.specs.Laws.{ConfigLacksPatterns}
 use Rattle.ci_config.specs.Meaning.{meaning, Means}
 use Rattle.ci_config.specs.View.{config_view}
-use Rattle.ci_config.specs.declared.file.Config as rust
-use Rattle.ci_config.specs.declared.fault.ConfigCode.TheVariants as code
 use Rattle.ci_expr.specs.Answered.{RefusesLooks}
 use Rattle.ci_expr.specs.Built.{Look, look_cost}
 use Rattle.ci_expr.specs.declared.fault.ExprCode.TheVariants.{X8}
@@ -71,18 +69,19 @@ refused-by : (tree : Value) (c : Config) → ConfigLacksPatterns c ⊎ Means tre
 refused-by tree c (inr m) some = m
 refused-by tree c (inl h) some = absurd (some h)
 
--- of rules that cost too much to decide
-pub unaffordable : (text : List ℕ) (o : Origin) (tree : Value) (c : rust.Config) (f : FileFault) (looks : List Look) → HasTree text tree → Means tree (Ok (config_view c)) → MayRefuse
-    → (ConfigLacksPatterns (config_view c) → looks ≡ []) → nat_le (sum_by look_cost looks) MAX_SEARCH_COST ≡ false → Shows f (config.Fault (code.K13 X8)) → LaysOut text o (Err f)
-unaffordable text o tree c f looks has answer refuse none over shows =
-    misconfigured text o tree (config.Fault (code.K13 X8)) f has (refused-by tree (config_view c) (refuse tree (config_view c) answer) (λ h.
-    let no : nat_le 0 MAX_SEARCH_COST ≡ false = subst (λ ls. nat_le (sum_by look_cost ls) MAX_SEARCH_COST ≡ false) (none h) over in
-    absurd cc)) shows
-
 -- of a pattern that isn't built again
 pub not_built : (text : List ℕ) (o : Origin) (c : Config) → IsRead text (Ok c) → MayRefuse → (ConfigLacksPatterns c → ⊥) → IsLaidOut text o.given (Err (keyword_fault (K13 X8)))
 not_built text o c (configures tree k has answer) refuse some = misread (keyword_fault (K13 X8)) (misconfigures tree (K13 X8) has (refused-by tree c (refuse tree c answer) some))
 
+-- of rules that cost too much to decide
+pub unaffordable : (text : List ℕ) (o : Origin) (c : Config) (looks : List Look) (f : FileFault) → f ≡ plan_fault plan.Pattern → IsRead text (Ok c) → MayRefuse
+    → (ConfigLacksPatterns c → looks ≡ []) → nat_le (sum_by look_cost looks) MAX_SEARCH_COST ≡ false → LaysOut text o (Err f)
+unaffordable text o c looks f is read refuse none over =
+    subst (λ (g : FileFault). LaysOut text o (Err g)) (sym is) (not_built text o c read refuse (λ h.
+    let no : nat_le 0 MAX_SEARCH_COST ≡ false = subst (λ ls. nat_le (sum_by look_cost ls) MAX_SEARCH_COST ≡ false) (none h) over in
+    absurd cc))
+
+-- of looks that aren't made
 pub not_looked_for : (text : List ℕ) (o : Origin) (c : Config) (e : ExprFault) (looks : List Look) (f : FileFault) → f ≡ plan_fault (unmade e) → IsRead text (Ok c) → MayRefuse
     → (ConfigLacksPatterns c → looks ≡ []) → RefusesLooks e looks → LaysOut text o (Err f)
 not_looked_for text o c looks.Memory ls f is read refuse none by = subst (λ (g : FileFault). LaysOut text o (Err g)) (sym is) tt

@@ -21,8 +21,8 @@ use crate::creation::{Creation, records_of};
 use crate::files::{FileFault, config_fault, yaml_fault};
 use crate::layers::Brought;
 use ci_config::laws::may_refuse_patterns;
-use ci_config::{Config, ConfigCode, ConfigFault, config};
-use ci_expr::{Answers, ExprCode};
+use ci_config::{Config, config};
+use ci_expr::Answers;
 use ci_graph_layout::laws::searches_for_patterns_alone;
 use ci_graph_layout::{Given, GraphCode, PipelinePlan, PlanFault, is_affordable, looks, plan_by};
 use ci_machine::moment::Moment;
@@ -123,8 +123,7 @@ fn lay_out_tree(alloc: Global, tree: &Tree, start: &Start) -> Result<Option<Crea
             };
             let looks = looks(alloc, &given, &config)?;
             if !is_affordable(&looks) {
-                let fault = ConfigFault::Fault(ConfigCode::K13(ExprCode::X8));
-                return Err(config_fault(alloc, fault));
+                return Err(plan_fault(PlanFault::Pattern));
             }
             match Answers::of(alloc, &looks) {
                 Ok(answers) => lay_out_config(alloc, &config, &given, &answers, start),

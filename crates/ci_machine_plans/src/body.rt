@@ -1,6 +1,6 @@
 //! The bodies of replies: compact JSON, the members of each object in the order of their bytes.
 
-ghost use Rattle.std.specs.Prelude.{◌≡◌, ◌≤◌, map, codes, length, count_by, if◌then◌else◌, IfOk, OnOk};
+ghost use Rattle.std.specs.Prelude.{◌≡◌, ◌≤◌, map, codes, length, count_by, IfOk, OnOk};
 ghost use Rattle.std.specs.List.{list_any};
 ghost use Rattle.std.specs.Ordering.{nat_cmp, is_lt};
 ghost use Rattle.std.specs.Cmp.Lexicographic.{slice_cmp};
@@ -9,16 +9,16 @@ ghost use Rattle.std.specs.Fmt.{decimal};
 ghost use Rattle.serde_json.specs.Data.{array, object, string};
 ghost use Rattle.serde_json.specs.View.{view, items_of};
 ghost use Rattle.serde_json.specs.Written.{compact_text};
-ghost use Rattle.ci_machine.specs.Bodies.{fault_data, created_data, paused_data, printed_status, job_data, file_data, jobs_data, status_of_jobs, pipeline_data, variable_data, with_default, granted_variables, grant_data};
+ghost use Rattle.ci_machine.specs.Bodies.{fault_data, created_data, paused_data, job_data, file_data, jobs_data, status_of_jobs, pipeline_data, variable_data, with_default, granted_variables, grant_data};
 ghost use Rattle.ci_machine_plans.specs.Objects.{members_of, job_info_data};
 
 use crate::object::Object;
 use ci_board::facts::{Facts, Row, Status};
 use ci_board::pipeline::pipeline_status;
 use ci_graph::part::Part;
-use ci_machine::choose::is_free;
 use ci_machine::records::{Holder, Job, JobVariable, Pipeline, QueuedJob};
 use ci_machine::reply::Detail;
+use ci_machine::report::ShownStatus;
 use ci_machine::text::Text;
 use serde_json::Value;
 use std::alloc::{AllocError, Global};
@@ -49,33 +49,6 @@ pub fn paused(alloc: Global, id: u64, paused: bool) -> Result<Text, AllocError>
     let body = Object::new(alloc).with_number(alloc, "id", id)?;
     let body = body.with_flag(alloc, "paused", paused)?;
     body.into_text(alloc)
-}
-
-/// The status of a job of a project as it is printed: one that is pending waits for its resource group while a live attempt holds that. The
-/// holders are at least those of the group.
-pub fn printed(holders: &[Holder], project: u64, job: &Job, status: Status) -> &'static str
-    ensures { result.now ≡ printed_status holders.now project job.now status }
-{
-    match status {
-        Status::Pending => waiting(is_free(holders, project, &job.options.resource_group)),
-        Status::Created => "created",
-        Status::Running => "running",
-        Status::Success => "success",
-        Status::Failed => "failed",
-        Status::Canceled => "canceled",
-        Status::Skipped => "skipped",
-        Status::Manual => "manual",
-    }
-}
-
-fn waiting(is_free: bool) -> &'static str
-    ensures { result.now ≡ (if is_free then codes "pending" else codes "waiting_for_resource") }
-{
-    if is_free {
-        "pending"
-    } else {
-        "waiting_for_resource"
-    }
 }
 
 /// The body that shows a job with its status.
@@ -116,7 +89,7 @@ fn jobs_with_rows(
     let mut items = Vec::new(alloc);
     for i in 0..jobs.len() {
         let job = &jobs[i];
-        let status = printed(holders, project, job, rows[i].status);
+        let status = ShownStatus::of(holders, project, job, rows[i].status).as_str();
         let shown = job_object(alloc, status, job)?;
         items.push(shown.into_value())?;
     }

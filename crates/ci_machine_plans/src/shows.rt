@@ -11,6 +11,7 @@ use ci_board::facts::{Facts, Row, Status};
 use ci_machine::change::Changes;
 use ci_machine::records::{Holder, Job, Piece, Pipeline, Project};
 use ci_machine::reply::{Body, Code, Reply};
+use ci_machine::report::ShownStatus;
 use ci_machine::request::JobQuery;
 use ci_machine::text::Bytes;
 use std::alloc::{AllocError, Global};
@@ -72,7 +73,8 @@ pub(crate) fn job_reply(
 ) -> Result<Reply, AllocError>
     ensures { IfOk result (λ reply. reply ≡ (shows.job_shown holders.now project job.now status).0) }
 {
-    let text = body::job(alloc, body::printed(holders, project, job, status), job)?;
+    let status = ShownStatus::of(holders, project, job, status).as_str();
+    let text = body::job(alloc, status, job)?;
     Ok(fine(Body::Json(text)))
 }
 

@@ -11,6 +11,7 @@ use ci_machine::records::{
 };
 use ci_machine::redundant::{is_bound_to, is_newer_of, is_redundant, is_unfinished, redundant};
 use ci_machine::reply::{Body, Code, Detail, FaultCode, HttpStatus, Reply};
+use ci_machine::report::ShownStatus;
 use ci_machine::text::{Bytes, Text, Texts};
 use std::alloc::{AllocError, Global};
 use std::test::Fail;
@@ -458,5 +459,40 @@ fn changes_and_replies(rt: HostRuntime) -> Result<(), Fail> {
     );
     reply.body = Some(Body::Plain(Bytes::new(Vec::from_slice(alloc, b"hi")?)));
     assert!(rt; reply.body() == b"hi".as_slice());
+    Ok(())
+}
+
+/// A job in the group `disk`.
+fn grouped_job(alloc: Global) -> Result<Job, AllocError> {
+    let mut options = JobOptions::plain(alloc, Texts::new(Vec::new(alloc)));
+    options.resource_group = Some(text(alloc, "disk")?);
+    Ok(Job {
+        id: 1,
+        pipeline: 1,
+        position: 0,
+        name: text(alloc, "slow")?,
+        stage: text(alloc, "test")?,
+        options,
+        played: false,
+        cancelled: false,
+        set_aside: 0,
+    })
+}
+
+#[test]
+fn a_held_group_is_waited_for(rt: HostRuntime) -> Result<(), Fail> {
+    let job = grouped_job(rt.alloc())?;
+    let holder = Holder {
+        project: 1,
+        group: text(rt.alloc(), "disk")?,
+        attempt: 7,
+    };
+    let holders = [holder];
+    let held = ShownStatus::of(&holders, 1, &job, Status::Pending);
+    assert!(rt; held.as_str() == "waiting_for_resource");
+    let elsewhere = ShownStatus::of(&holders, 2, &job, Status::Pending);
+    assert!(rt; elsewhere.as_str() == "pending");
+    let ended = ShownStatus::of(&holders, 1, &job, Status::Canceled);
+    assert!(rt; ended.as_str() == "canceled");
     Ok(())
 }

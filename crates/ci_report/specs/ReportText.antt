@@ -4,11 +4,11 @@ use Rattle.std.specs.Fmt.{styled_text, styled_decimal, format_spec}
 use Rattle.ci_board.specs.Texts.{status_text}
 use Rattle.ci_machine.specs.declared.records.PipelineWithStatus.{PipelineWithStatus}
 use Rattle.ci_machine.specs.Bodies.{source_text}
-use Rattle.ci_report.specs.declared.status.ShownStatus.{ShownStatus}
-use Rattle.ci_report.specs.declared.status.ShownStatus.TheVariants.{Plain, WaitsForResource}
-use Rattle.ci_report.specs.declared.queue.QueueRow.{QueueRow}
-use Rattle.ci_report.specs.declared.pipeline.JobRow.{JobRow}
-use Rattle.ci_report.specs.declared.runner.RunnerRow.{RunnerRow}
+use Rattle.ci_machine.specs.ReportRows.{shown_text}
+use Rattle.ci_machine.specs.declared.report.QueueRow.{QueueRow}
+use Rattle.ci_machine.specs.declared.report.JobRow.{JobRow}
+use Rattle.ci_machine.specs.declared.report.PipelineRows.{PipelineRows}
+use Rattle.ci_machine.specs.declared.report.RunnerRow.{RunnerRow}
 use Rattle.ci_report.specs.Dates.{moment_text}
 
 -- ---- columns, in std's words for the options of a format: spaces fill what is narrower, and what is wider stands whole; the function
@@ -24,13 +24,8 @@ left width text = styled_text (format_spec 32 1 0 width (2 ^ 64 - 1)) text
 
 -- ---- the report of the queue
 
--- the status of a job as users are told it
-abbrev pub shown_text : ShownStatus → List ℕ
-shown_text (Plain status) = status_text status
-shown_text WaitsForResource = codes "waiting_for_resource"
-
 unfoldable pub queue_line : QueueRow → List ℕ
-queue_line row = right 8 row.job ++ codes " " ++ right 7 row.project ++ codes " " ++ left 20 (shown_text row.status) ++ codes " " ++ row.name.now ++ codes "\n"
+queue_line row = right 8 row.job ++ codes " " ++ right 7 row.project ++ codes " " ++ left 20 (shown_text row.status) ++ codes " " ++ row.name ++ codes "\n"
 
 abbrev pub queue_report : List QueueRow → List ℕ
 queue_report rows =
@@ -46,13 +41,13 @@ head_line head =
     ++ codes " source " ++ source_text head.pipeline.source ++ codes " status " ++ status_text head.status ++ codes " created " ++ moment_text head.pipeline.created ++ codes "\n"
 
 unfoldable pub job_line : JobRow → List ℕ
-job_line row = right 8 row.job ++ codes " " ++ left 20 (shown_text row.status) ++ codes " " ++ right 5 row.tries ++ codes " " ++ row.name.now ++ codes "\n"
+job_line row = right 8 row.job ++ codes " " ++ left 20 (shown_text row.status) ++ codes " " ++ right 5 row.tries ++ codes " " ++ row.name ++ codes "\n"
 
-abbrev pub pipeline_report : PipelineWithStatus → List JobRow → List ℕ
-pipeline_report head rows =
-    head_line head
+abbrev pub pipeline_report : PipelineRows → List ℕ
+pipeline_report p =
+    head_line p.head
     ++ codes "     JOB STATUS               TRIES NAME\n"
-    ++ flat_map job_line rows
+    ++ flat_map job_line p.jobs.items
 
 -- ---- the report of the runners
 
@@ -65,7 +60,7 @@ grant_text (Some moment) = moment_text moment
 grant_text None = codes "-"
 
 unfoldable pub runner_line : RunnerRow → List ℕ
-runner_line row = right 8 row.runner ++ codes " " ++ left 6 (yes_or_no row.paused) ++ codes " " ++ right 4 row.live ++ codes " " ++ left 19 (grant_text row.last_grant) ++ codes " " ++ row.name.now ++ codes "\n"
+runner_line row = right 8 row.runner ++ codes " " ++ left 6 (yes_or_no row.paused) ++ codes " " ++ right 4 row.live ++ codes " " ++ left 19 (grant_text row.last_grant) ++ codes " " ++ row.name ++ codes "\n"
 
 abbrev pub runner_report : List RunnerRow → List ℕ
 runner_report rows = codes "  RUNNER PAUSED LIVE LAST GRANT          NAME\n" ++ flat_map runner_line rows

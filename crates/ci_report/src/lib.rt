@@ -6,6 +6,5 @@ pub mod moment;
 pub mod pipeline;
 pub mod queue;
 pub mod runner;
-pub mod status;
 #[cfg(test)]
 mod tests;

@@ -4,21 +4,9 @@ ghost use Rattle.std.specs.Prelude.{◌≡◌, ◌++◌, flat_map, IfOk, OnOk, s
 ghost use Rattle.ci_report.specs.ReportText.{head_line, job_line, pipeline_report};
 
 use crate::moment::moment_text;
-use crate::status::ShownStatus;
 use ci_machine::records::PipelineWithStatus;
-use ci_machine::text::Text;
+use ci_machine::report::{JobRow, PipelineRows};
 use std::alloc::{AllocError, Global};
-
-/// A job of a pipeline, as the pipeline's report shows it.
-#[derive(Clone, Copy)]
-pub struct JobRow<'a> {
-    /// The job's number.
-    pub job: u64,
-    pub status: ShownStatus,
-    /// How many attempts it has in all.
-    pub tries: u64,
-    pub name: &'a Text,
-}
 
 const HEADER: &str = "     JOB STATUS               TRIES NAME\n";
 
@@ -40,7 +28,7 @@ fn put_head(alloc: Global, text: &mut String, head: &PipelineWithStatus) -> Resu
 
 /// Puts the line of a job behind a text.
 #[tactic(auto, unfolding(crate::specs::ReportText::job_line))]
-fn put_row(text: &mut String, row: &JobRow<'_>) -> Result<(), AllocError>
+fn put_row(text: &mut String, row: &JobRow) -> Result<(), AllocError>
     ensures { OnOk result (string_bytes text.new ≡ string_bytes text.old ++ job_line row.now) }
 {
     let job = row.job;
@@ -51,7 +39,7 @@ fn put_row(text: &mut String, row: &JobRow<'_>) -> Result<(), AllocError>
 }
 
 /// Puts the lines of jobs behind a text.
-fn put_rows(text: &mut String, rows: &[JobRow<'_>]) -> Result<(), AllocError>
+fn put_rows(text: &mut String, rows: &[JobRow]) -> Result<(), AllocError>
     ensures { OnOk result (string_bytes text.new ≡ string_bytes text.old ++ flat_map job_line rows.now) }
 {
     for row in rows {
@@ -62,16 +50,12 @@ fn put_rows(text: &mut String, rows: &[JobRow<'_>]) -> Result<(), AllocError>
 
 /// The report of a pipeline with its jobs, in the order of their rows: a line for the pipeline, and a line for each job. Errors: memory
 /// was refused.
-pub fn pipeline_report(
-    alloc: Global,
-    head: &PipelineWithStatus,
-    rows: &[JobRow<'_>],
-) -> Result<String, AllocError>
-    ensures { IfOk result (λ text. string_bytes text ≡ pipeline_report head.now rows.now) }
+pub fn pipeline_report(alloc: Global, pipeline: &PipelineRows) -> Result<String, AllocError>
+    ensures { IfOk result (λ text. string_bytes text ≡ pipeline_report pipeline.now) }
 {
     let mut text = String::new(alloc);
-    put_head(alloc, &mut text, head)?;
+    put_head(alloc, &mut text, &pipeline.head)?;
     text.push_str(HEADER)?;
-    put_rows(&mut text, rows)?;
+    put_rows(&mut text, pipeline.jobs.as_slice())?;
     Ok(text)
 }

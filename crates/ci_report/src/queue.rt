@@ -3,26 +3,14 @@
 ghost use Rattle.std.specs.Prelude.{◌≡◌, ◌++◌, flat_map, IfOk, OnOk, string_bytes};
 ghost use Rattle.ci_report.specs.ReportText.{queue_line, queue_report};
 
-use crate::status::ShownStatus;
-use ci_machine::text::Text;
+use ci_machine::report::QueueRow;
 use std::alloc::{AllocError, Global};
-
-/// A pending job, as the queue's report shows it.
-#[derive(Clone, Copy)]
-pub struct QueueRow<'a> {
-    /// The job's number.
-    pub job: u64,
-    /// The number of its project.
-    pub project: u64,
-    pub status: ShownStatus,
-    pub name: &'a Text,
-}
 
 const HEADER: &str = "     JOB PROJECT STATUS               NAME\n";
 
 /// Puts the line of a job behind a text.
 #[tactic(auto, unfolding(crate::specs::ReportText::queue_line))]
-fn put_row(text: &mut String, row: &QueueRow<'_>) -> Result<(), AllocError>
+fn put_row(text: &mut String, row: &QueueRow) -> Result<(), AllocError>
     ensures { OnOk result (string_bytes text.new ≡ string_bytes text.old ++ queue_line row.now) }
 {
     let job = row.job;
@@ -33,7 +21,7 @@ fn put_row(text: &mut String, row: &QueueRow<'_>) -> Result<(), AllocError>
 }
 
 /// Puts the lines of jobs behind a text.
-fn put_rows(text: &mut String, rows: &[QueueRow<'_>]) -> Result<(), AllocError>
+fn put_rows(text: &mut String, rows: &[QueueRow]) -> Result<(), AllocError>
     ensures { OnOk result (string_bytes text.new ≡ string_bytes text.old ++ flat_map queue_line rows.now) }
 {
     for row in rows {
@@ -43,7 +31,7 @@ fn put_rows(text: &mut String, rows: &[QueueRow<'_>]) -> Result<(), AllocError>
 }
 
 /// The report of pending jobs, in the order of their rows: a line each, and how many they are. Errors: memory was refused.
-pub fn queue_report(alloc: Global, rows: &[QueueRow<'_>]) -> Result<String, AllocError>
+pub fn queue_report(alloc: Global, rows: &[QueueRow]) -> Result<String, AllocError>
     ensures { IfOk result (λ text. string_bytes text ≡ queue_report rows.now) }
 {
     let mut text = String::from_str(alloc, HEADER)?;

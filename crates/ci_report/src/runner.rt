@@ -5,22 +5,8 @@ ghost use Rattle.ci_report.specs.ReportText.{yes_or_no, grant_text, runner_line,
 
 use crate::moment::moment_text;
 use ci_machine::moment::Moment;
-use ci_machine::text::Text;
+use ci_machine::report::RunnerRow;
 use std::alloc::{AllocError, Global};
-
-/// A runner, as the runners' report shows it.
-#[derive(Clone, Copy)]
-pub struct RunnerRow<'a> {
-    /// The runner's number.
-    pub runner: u64,
-    /// It is given no job while it is paused.
-    pub paused: bool,
-    /// How many live attempts it has.
-    pub live: u64,
-    /// When it was last given a job, if it ever was.
-    pub last_grant: Option<Moment>,
-    pub name: &'a Text,
-}
 
 const HEADER: &str = "  RUNNER PAUSED LIVE LAST GRANT          NAME\n";
 
@@ -42,7 +28,7 @@ fn grant_text(alloc: Global, last_grant: Option<Moment>) -> Result<String, Alloc
 
 /// Puts the line of a runner behind a text.
 #[tactic(auto, unfolding(crate::specs::ReportText::runner_line))]
-fn put_row(alloc: Global, text: &mut String, row: &RunnerRow<'_>) -> Result<(), AllocError>
+fn put_row(alloc: Global, text: &mut String, row: &RunnerRow) -> Result<(), AllocError>
     ensures { OnOk result (string_bytes text.new ≡ string_bytes text.old ++ runner_line row.now) }
 {
     let runner = row.runner;
@@ -56,7 +42,7 @@ fn put_row(alloc: Global, text: &mut String, row: &RunnerRow<'_>) -> Result<(), 
 }
 
 /// Puts the lines of runners behind a text.
-fn put_rows(alloc: Global, text: &mut String, rows: &[RunnerRow<'_>]) -> Result<(), AllocError>
+fn put_rows(alloc: Global, text: &mut String, rows: &[RunnerRow]) -> Result<(), AllocError>
     ensures { OnOk result (string_bytes text.new ≡ string_bytes text.old ++ flat_map runner_line rows.now) }
 {
     for row in rows {
@@ -66,7 +52,7 @@ fn put_rows(alloc: Global, text: &mut String, rows: &[RunnerRow<'_>]) -> Result<
 }
 
 /// The report of runners, in the order of their rows: a line each. Errors: memory was refused.
-pub fn runner_report(alloc: Global, rows: &[RunnerRow<'_>]) -> Result<String, AllocError>
+pub fn runner_report(alloc: Global, rows: &[RunnerRow]) -> Result<String, AllocError>
     ensures { IfOk result (λ text. string_bytes text ≡ runner_report rows.now) }
 {
     let mut text = String::from_str(alloc, HEADER)?;

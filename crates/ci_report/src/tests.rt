@@ -1,16 +1,14 @@
 //! Each public function once, and texts of reports that were laid out by hand.
 
 use crate::moment::moment_text;
-use crate::pipeline::{JobRow, pipeline_report};
-use crate::queue::{QueueRow, queue_report};
-use crate::runner::{RunnerRow, runner_report};
-use crate::status::ShownStatus;
+use crate::pipeline::pipeline_report;
+use crate::queue::queue_report;
+use crate::runner::runner_report;
 use ci_board::facts::Status;
 use ci_machine::moment::Moment;
-use ci_machine::records::{
-    Holder, Job, JobOptions, MAX_NUMBER, Pipeline, PipelineWithStatus, RefKind, Source,
-};
-use ci_machine::text::{Text, Texts};
+use ci_machine::records::{MAX_NUMBER, Pipeline, PipelineWithStatus, RefKind, Source};
+use ci_machine::report::{JobRow, PipelineRows, QueueRow, RunnerRow, ShownStatus};
+use ci_machine::text::Text;
 use std::alloc::{AllocError, Global};
 use std::test::Fail;
 
@@ -54,27 +52,25 @@ const EMPTY_QUEUE: &str = "     JOB PROJECT STATUS               NAME
 jobs: 0
 ";
 
+/// A pending job of the project 1, which waits for no group.
+fn pending_job(alloc: Global, job: u64, name: &str) -> Result<QueueRow, Fail> {
+    Ok(QueueRow {
+        job,
+        project: 1,
+        status: ShownStatus::Plain(Status::Pending),
+        name: Text::copy_of(alloc, name)?,
+    })
+}
+
 #[test]
 fn the_queue_is_told(rt: HostRuntime) -> Result<(), Fail> {
-    let slow = Text::copy_of(rt.alloc(), "slow")?;
-    let lint = Text::copy_of(rt.alloc(), "lint")?;
-    let first = QueueRow {
-        job: 1,
-        project: 1,
-        status: ShownStatus::Plain(Status::Pending),
-        name: &slow,
-    };
-    let second = QueueRow {
-        job: 3,
-        project: 1,
-        status: ShownStatus::Plain(Status::Pending),
-        name: &lint,
-    };
+    let first = pending_job(rt.alloc(), 1, "slow")?;
+    let second = pending_job(rt.alloc(), 3, "lint")?;
     let wide = QueueRow {
         job: 123_456_789,
         project: 12_345_678,
         status: ShownStatus::WaitsForResource,
-        name: &lint,
+        name: Text::copy_of(rt.alloc(), "lint")?,
     };
     let text = queue_report(rt.alloc(), &[first, second])?;
     assert!(rt; text.as_str() == QUEUE);
@@ -100,13 +96,19 @@ fn pending_pipeline(alloc: Global) -> Result<PipelineWithStatus, Fail> {
     })
 }
 
-fn job_row<'a>(job: u64, status: Status, tries: u64, name: &'a Text) -> JobRow<'a> {
-    JobRow {
+fn job_row(
+    alloc: Global,
+    job: u64,
+    status: Status,
+    tries: u64,
+    name: &str,
+) -> Result<JobRow, Fail> {
+    Ok(JobRow {
         job,
         status: ShownStatus::Plain(status),
         tries,
-        name,
-    }
+        name: Text::copy_of(alloc, name)?,
+    })
 }
 
 const PIPELINE: &str =
@@ -125,17 +127,18 @@ const WIDE_PIPELINE: &str =
 
 #[test]
 fn a_pipeline_is_told(rt: HostRuntime) -> Result<(), Fail> {
-    let head = pending_pipeline(rt.alloc())?;
-    let slow = Text::copy_of(rt.alloc(), "slow")?;
-    let pack = Text::copy_of(rt.alloc(), "pack")?;
-    let lint = Text::copy_of(rt.alloc(), "lint")?;
-    let first = job_row(1, Status::Pending, 0, &slow);
-    let second = job_row(2, Status::Created, 0, &pack);
-    let third = job_row(3, Status::Pending, 0, &lint);
-    let text = pipeline_report(rt.alloc(), &head, &[first, second, third])?;
+    let alloc = rt.alloc();
+    let mut jobs = Vec::new(alloc);
+    jobs.push(job_row(alloc, 1, Status::Pending, 0, "slow")?)?;
+    jobs.push(job_row(alloc, 2, Status::Created, 0, "pack")?)?;
+    jobs.push(job_row(alloc, 3, Status::Pending, 0, "lint")?)?;
+    let head = pending_pipeline(alloc)?;
+    let text = pipeline_report(alloc, &PipelineRows { head, jobs })?;
     assert!(rt; text.as_str() == PIPELINE);
-    let wide = job_row(MAX_NUMBER, Status::Canceled, 100_000, &slow);
-    let text = pipeline_report(rt.alloc(), &head, &[wide])?;
+    let mut jobs = Vec::new(alloc);
+    jobs.push(job_row(alloc, MAX_NUMBER, Status::Canceled, 100_000, "slow")?)?;
+    let head = pending_pipeline(alloc)?;
+    let text = pipeline_report(alloc, &PipelineRows { head, jobs })?;
     assert!(rt; text.as_str() == WIDE_PIPELINE);
     Ok(())
 }
@@ -150,60 +153,23 @@ const NO_RUNNERS: &str = "  RUNNER PAUSED LIVE LAST GRANT          NAME
 
 #[test]
 fn runners_are_told(rt: HostRuntime) -> Result<(), Fail> {
-    let r = Text::copy_of(rt.alloc(), "r")?;
-    let s = Text::copy_of(rt.alloc(), "s")?;
     let first = RunnerRow {
         runner: 1,
         paused: false,
         live: 2,
         last_grant: Some(at(1000)?),
-        name: &r,
+        name: Text::copy_of(rt.alloc(), "r")?,
     };
     let second = RunnerRow {
         runner: 2,
         paused: true,
         live: 0,
         last_grant: None,
-        name: &s,
+        name: Text::copy_of(rt.alloc(), "s")?,
     };
     let text = runner_report(rt.alloc(), &[first, second])?;
     assert!(rt; text.as_str() == RUNNERS);
     let text = runner_report(rt.alloc(), &[])?;
     assert!(rt; text.as_str() == NO_RUNNERS);
-    Ok(())
-}
-
-/// A job in the group `disk`.
-fn grouped_job(alloc: Global) -> Result<Job, AllocError> {
-    let mut options = JobOptions::plain(alloc, Texts::new(Vec::new(alloc)));
-    options.resource_group = Some(Text::copy_of(alloc, "disk")?);
-    Ok(Job {
-        id: 1,
-        pipeline: 1,
-        position: 0,
-        name: Text::copy_of(alloc, "slow")?,
-        stage: Text::copy_of(alloc, "test")?,
-        options,
-        played: false,
-        cancelled: false,
-        set_aside: 0,
-    })
-}
-
-#[test]
-fn a_held_group_is_waited_for(rt: HostRuntime) -> Result<(), Fail> {
-    let job = grouped_job(rt.alloc())?;
-    let holder = Holder {
-        project: 1,
-        group: Text::copy_of(rt.alloc(), "disk")?,
-        attempt: 7,
-    };
-    let holders = [holder];
-    let held = ShownStatus::of(&holders, 1, &job, Status::Pending);
-    assert!(rt; held.as_str() == "waiting_for_resource");
-    let elsewhere = ShownStatus::of(&holders, 2, &job, Status::Pending);
-    assert!(rt; elsewhere.as_str() == "pending");
-    let ended = ShownStatus::of(&holders, 1, &job, Status::Canceled);
-    assert!(rt; ended.as_str() == "canceled");
     Ok(())
 }

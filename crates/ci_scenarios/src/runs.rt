@@ -60,8 +60,8 @@ fn perform(rt: &HostRuntime, folder: &str, lines: &[Line]) -> Result<(), Place> 
         let fault = Fault::Failed("a scenario without runs, or no folder for them");
         return Err(Place { line: 0, fault });
     }
-    for line in lines {
-        if let Err(fault) = stage.step(line) {
+    for (place, line) in lines.iter().enumerate() {
+        if let Err(fault) = stage.step(line, &lines[place + 1..]) {
             let line = line.number;
             return Err(Place { line, fault });
         }
@@ -75,11 +75,14 @@ impl<'a> Stage<'a> {
         self.rt.alloc()
     }
 
-    fn step(&mut self, line: &Line) -> Result<(), Fault> {
+    /// A line, and those behind it.
+    fn step(&mut self, line: &Line, behind: &[Line]) -> Result<(), Fault> {
         let text = line.text.as_str();
         let (kind, rest) = text.split_once(' ').unwrap_or((text, ""));
         match kind {
-            "run" => self.run(rest, line.number),
+            "run" => self.run(rest, line.number, behind),
+            // It was a part of what the run before it prints.
+            "|" => Ok(()),
             "at" => self.set_moment(Some(number(rest)?)),
             "no-clock" => self.set_moment(None),
             "file" => self.write(rest),
@@ -164,15 +167,16 @@ impl<'a> Stage<'a> {
         }
     }
 
-    /// `run WORDS = STATUS LINE`: the program ends so, and prints this line on standard output, or nothing; with status 2 it prints on
-    /// standard error, and else nothing there.
-    fn run(&self, text: &str, line: usize) -> Result<(), Fault> {
+    /// `run WORDS = STATUS LINE`: the program ends so, and prints this line on standard output, and those behind a bar that follow; or
+    /// nothing. With status 2 it prints on standard error, and else nothing there.
+    fn run(&self, text: &str, line: usize, behind: &[Line]) -> Result<(), Fault> {
         let (words, wanted) = text
             .split_once(" = ")
             .ok_or(Fault::Unread("a run without what is wanted"))?;
         let words = self.words(words)?;
         let ended = self.ended(words.as_slice());
-        let wanted = self.wanted(wanted)?;
+        let mut wanted = self.wanted(wanted)?;
+        push_lines(&mut wanted, behind)?;
         let came = told(self.alloc(), &ended)?;
         if came.as_str() == wanted.as_str() {
             return Ok(());
@@ -191,6 +195,19 @@ impl<'a> Stage<'a> {
         }
         Ok(wanted)
     }
+}
+
+/// Adds the lines behind a bar with which these begin.
+fn push_lines(wanted: &mut String, lines: &[Line]) -> Result<(), Fault> {
+    for line in lines {
+        let Some(text) = line.text.as_str().strip_prefix("| ") else {
+            return Ok(());
+        };
+        let is_first = !wanted.as_str().contains(' ');
+        wanted.push_str(if is_first { " " } else { "\n" })?;
+        wanted.push_str(text)?;
+    }
+    Ok(())
 }
 
 /// The exit status, and what was printed on standard output without its last line feed.

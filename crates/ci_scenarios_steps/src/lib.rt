@@ -8,6 +8,7 @@ mod exchanges;
 pub mod fault;
 pub mod files;
 pub mod lines;
+mod reports;
 pub mod rows;
 mod rule;
 pub mod scenarios;

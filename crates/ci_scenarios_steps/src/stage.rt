@@ -4,6 +4,7 @@ use crate::asks::Ask;
 use crate::exchanges::carry_out;
 use crate::fault::{Fault, Place};
 use crate::lines::Line;
+use crate::reports::report_of;
 use crate::rows::{rightly, slowly_so};
 use crate::servers::{
     Disked, Image, OnDisks, created, follow, image_left, is_closed, left, over, run,
@@ -81,6 +82,7 @@ impl Stage {
             Action::StopEach(stop) => self.stop_each(stop),
             Action::Exchange(of) => carry_out(alloc, self.server()?, of),
             Action::Rows(query, rows) => self.rows(step.line, query.as_str(), rows.as_str()),
+            Action::Report(kind, lines) => self.report(step.line, kind.as_str(), lines.as_str()),
             Action::Statement(statement) => self.alter(statement.as_str()),
             Action::Reopen => {
                 let _ = self.reopened()?;
@@ -129,7 +131,16 @@ impl Stage {
         let mut conn = left(self.leave()?);
         let rows = shown(self.alloc, &mut conn, query);
         self.enter(conn)?;
-        let came = rows?;
+        self.are_same(line, wanted, rows?)
+    }
+
+    fn report(&mut self, line: usize, kind: &str, wanted: &str) -> Result<(), Fault> {
+        let alloc = self.alloc;
+        let came = report_of(alloc, self.server()?, kind)?;
+        self.are_same(line, wanted, came)
+    }
+
+    fn are_same(&self, line: usize, wanted: &str, came: String) -> Result<(), Fault> {
         if came.as_str() == wanted {
             return Ok(());
         }

@@ -23,6 +23,8 @@ pub enum Action {
     Exchange(Exchange),
     /// The rows of a query, each on a line.
     Rows(String, String),
+    /// The lines of a report of this kind.
+    Report(String, String),
     Statement(String),
     Reopen,
     /// The statuses of a pipeline, by the slow rule.
@@ -56,6 +58,7 @@ enum Keyword {
     Served,
     Only,
     Rows,
+    Report,
     Statement,
     Reopen,
     Slow,
@@ -79,6 +82,7 @@ const KEYWORDS: &[(&str, Keyword)] = &[
     ("served", Keyword::Served),
     ("only", Keyword::Only),
     ("rows", Keyword::Rows),
+    ("report", Keyword::Report),
     ("sql", Keyword::Statement),
     ("reopen", Keyword::Reopen),
     ("slow", Keyword::Slow),
@@ -178,7 +182,7 @@ impl Reader {
                 Bar::Rows,
                 Some(
                     Step {
-                        action: Action::Rows(_, rows),
+                        action: Action::Rows(_, rows) | Action::Report(_, rows),
                         ..
                     },
                 ),
@@ -215,6 +219,11 @@ impl Reader {
                 self.bar = Bar::Rows;
                 let query = String::from_str(self.alloc, rest)?;
                 self.push(line, Action::Rows(query, String::new(self.alloc)))
+            }
+            Keyword::Report => {
+                self.bar = Bar::Rows;
+                let kind = String::from_str(self.alloc, rest)?;
+                self.push(line, Action::Report(kind, String::new(self.alloc)))
             }
             Keyword::Statement => {
                 let statement = String::from_str(self.alloc, rest)?;

@@ -3,3 +3,4 @@ pub mod Handling
 pub mod Runs
 pub mod LifetimeLemmas
 pub mod Settled
+pub mod Reports

@@ -4,3 +4,4 @@ pub mod Server
 pub mod Runs
 pub mod Lifetime
 pub mod Settled
+pub mod Reports

@@ -8,13 +8,18 @@ ghost use Rattle.ci_machine.specs.declared.request.Request.{Request};
 ghost use Rattle.ci_machine.specs.Reply.{outcome_by, outcome_of};
 ghost use Rattle.ci_server.specs.Handling.{refused, code_of, answer_by, closed_by};
 ghost use Rattle.ci_server.specs.Holding.{Holds, Leaves};
+ghost use Rattle.ci_server.specs.Reports.{ReportsBy, TellsQueue, TellsPipelineAt, TellsRunners, report_of, closed_after};
 ghost use Rattle.ci_server.specs.Server.{HandlesBy, HandlesEachBy};
 
 use crate::events;
 use ci_machine::moment::Moment;
 use ci_machine::reply::{Answer, Code, Reply, Swept};
+use ci_machine::report::{PipelineRows, QueueRow, RunnerRow};
 use ci_machine::request::{Event, Request, Seed};
 use ci_machine_laws::laws::{a_step_is_answered, sound_of_each_reached_state};
+use ci_server_reports::pipeline::pipeline_rows;
+use ci_server_reports::queue::queue_rows;
+use ci_server_reports::runners::runner_rows;
 use ci_store::fault::StoreFault;
 use ci_store::store::Store;
 use std::alloc::{AllocError, Global};
@@ -60,6 +65,45 @@ impl<T: Store> FailStop<T> {
         let swept = swept_by(events::sweep(alloc, &mut self.store, now));
         self.closed = is_swept_fault(&swept);
         swept
+    }
+
+    /// The pending jobs. Errors: M16, memory was refused; M17, the store failed, now or before.
+    pub(crate) fn queue(&mut self, alloc: Global) -> Result<Vec<QueueRow>, Code>
+        ensures { ReportsBy T.honest (Holds T.holds) (Leaves T.leaves) self.old self.new TellsQueue result }
+    {
+        sound_of_each_reached_state();
+        if self.closed {
+            return Err(Code::M17);
+        }
+        let told = report_of(queue_rows(alloc, &mut self.store));
+        self.closed = is_report_fault(&told);
+        told
+    }
+
+    /// The pipeline with a number and its jobs, if it is there. Errors: as `queue`.
+    pub(crate) fn pipeline(&mut self, alloc: Global, id: u64) -> Result<Option<PipelineRows>, Code>
+        ensures { ReportsBy T.honest (Holds T.holds) (Leaves T.leaves) self.old self.new (TellsPipelineAt id) result }
+    {
+        sound_of_each_reached_state();
+        if self.closed {
+            return Err(Code::M17);
+        }
+        let told = report_of(pipeline_rows(alloc, &mut self.store, id));
+        self.closed = is_report_fault(&told);
+        told
+    }
+
+    /// The runners. Errors: as `queue`.
+    pub(crate) fn runners(&mut self, alloc: Global) -> Result<Vec<RunnerRow>, Code>
+        ensures { ReportsBy T.honest (Holds T.holds) (Leaves T.leaves) self.old self.new TellsRunners result }
+    {
+        sound_of_each_reached_state();
+        if self.closed {
+            return Err(Code::M17);
+        }
+        let told = report_of(runner_rows(alloc, &mut self.store));
+        self.closed = is_report_fault(&told);
+        told
     }
 
     /// Handles events one after the other. Errors: there is no memory for the answers, and nothing was handled.
@@ -131,6 +175,26 @@ fn swept_by(done: Result<Swept, StoreFault>) -> Swept
     match done {
         Ok(swept) => swept,
         Err(fault) => Swept::Refused(code_of(fault)),
+    }
+}
+
+/// The answer of a report, by what its look-ups found.
+fn report_of<A: Drop>(told: Result<A, StoreFault>) -> Result<A, Code>
+    ensures { result ≡ report_of told }
+{
+    match told {
+        Ok(told) => Ok(told),
+        Err(fault) => Err(code_of(fault)),
+    }
+}
+
+/// Did a report fail at the store?
+fn is_report_fault<A>(answer: &Result<A, Code>) -> bool
+    ensures { result ≡ closed_after answer.now false }
+{
+    match answer {
+        Ok(_) => false,
+        Err(code) => *code == Code::M17,
     }
 }
 

@@ -11,12 +11,14 @@ ghost use Rattle.ci_machine.specs.Kept.{Kept, nothing_kept};
 ghost use Rattle.ci_store.specs.Create.{IsBlank};
 ghost use Rattle.ci_store.specs.Open.{Blames, IsFailure, LeavesNoMore};
 ghost use Rattle.ci_store.specs.Stands.{StandsIn, LeavesOnly};
+ghost use Rattle.ci_server.specs.Reports.{Reports, TellsQueue, TellsPipelineAt, TellsRunners};
 ghost use Rattle.ci_server.specs.Server.{Handles, HandlesEach, Creates, Opens, closed_by_each, each_refused};
 ghost use Rattle.ci_server.specs.Runs.{Runs};
 
 use crate::fail_stop::FailStop;
 use ci_machine::moment::Moment;
-use ci_machine::reply::{Answer, Reply, Swept};
+use ci_machine::reply::{Answer, Code, Reply, Swept};
+use ci_machine::report::{PipelineRows, QueueRow, RunnerRow};
 use ci_machine::request::{Event, Request, Seed};
 use ci_machine_laws::laws::{a_step_is_answered, laws_of_each_reached_state};
 use ci_store::tables::{OpenFault, Tables};
@@ -134,6 +136,30 @@ impl<S: Alter> Server<S> {
         laws_of_each_reached_state();
         a_step_is_answered();
         self.inner.sweep(alloc, moment)
+    }
+
+    /// The pending jobs, by number, as a report for an operator tells them. It changes nothing.
+    ///
+    /// Errors: M16, memory was refused; M17, the store failed in this call or an earlier one, and the server is closed.
+    pub fn queue(&mut self, alloc: Global) -> Result<Vec<QueueRow>, Code>
+        ensures told { Reports S.Store self.old self.new TellsQueue result }
+    {
+        self.inner.queue(alloc)
+    }
+
+    /// The pipeline with a number and its jobs, by number, as a report tells them; none where there is no such pipeline. It changes
+    /// nothing. Errors: as `queue`.
+    pub fn pipeline(&mut self, alloc: Global, id: u64) -> Result<Option<PipelineRows>, Code>
+        ensures told { Reports S.Store self.old self.new (TellsPipelineAt id) result }
+    {
+        self.inner.pipeline(alloc, id)
+    }
+
+    /// The runners, by number, as a report tells them. It changes nothing. Errors: as `queue`.
+    pub fn runners(&mut self, alloc: Global) -> Result<Vec<RunnerRow>, Code>
+        ensures told { Reports S.Store self.old self.new TellsRunners result }
+    {
+        self.inner.runners(alloc)
     }
 
     /// Handles events one after the other, each at its moment and with its seed.

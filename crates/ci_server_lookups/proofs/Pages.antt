@@ -96,14 +96,14 @@ module _ (s : State) (runner : Runner) (rows : List BoardRow) (i : ℕ) (d : Boa
 -- ---- page by page
 
 -- the pending jobs behind a number whose rows are on the page
-abbrev jobs_on : Kept → ℕ → List QueuedJob
+abbrev pub jobs_on : Kept → ℕ → List QueuedJob
 jobs_on k n = take PAGE_ROWS (queue_behind k.state k.board n)
 
 -- the jobs behind the page
 abbrev jobs_after : Kept → ℕ → List QueuedJob
 jobs_after k n = queue_behind k.state k.board (end_of_page n (pending_after PAGE_ROWS n k.board))
 
-page_has_jobs : (k : Kept) (n : ℕ) → IsKept k → map (λ q. Some q) (jobs_on k n) ≡ map (queued_at k.state) (pending_after PAGE_ROWS n k.board)
+pub page_has_jobs : (k : Kept) (n : ℕ) → IsKept k → map (λ q. Some q) (jobs_on k n) ≡ map (queued_at k.state) (pending_after PAGE_ROWS n k.board)
 page_has_jobs k n kept =
     sym (take-map (λ (q : QueuedJob). Some q) PAGE_ROWS (queue_behind k.state k.board n))
     ∙ (ap (take PAGE_ROWS) (sym (rows_queue k.state k.board n (sound k.state kept.sound) kept.are_board))

@@ -45,7 +45,7 @@ pub fn first_offer<T: Store>(store: &mut T, runner: &Runner) -> Result<Option<Of
 }
 
 /// The job behind which the next page begins, where this one is full. Errors: the page doesn't lead on.
-fn next_page(behind: u64, page: &[BoardRow]) -> Result<Option<u64>, StoreFault>
+pub fn next_page(behind: u64, page: &[BoardRow]) -> Result<Option<u64>, StoreFault>
     ensures { IfOk result (LeadsOn behind page.now) }
 {
     match page {

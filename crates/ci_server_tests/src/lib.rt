@@ -7,3 +7,5 @@ mod choices;
 mod life;
 #[cfg(test)]
 mod random;
+#[cfg(test)]
+mod reports;

@@ -9,7 +9,7 @@ ghost use Rattle.sqlite.specs.State.{Shown};
 ghost use Rattle.sqlite.specs.Held.{state};
 ghost use Rattle.sqlite_trees.specs.View.{doubt};
 ghost use Rattle.ci_board.specs.Effects.{status_number};
-ghost use Rattle.ci_machine.specs.Lookups.{next_of};
+ghost use Rattle.ci_machine.specs.Lookups.{last_attempt_by, next_of};
 ghost use Rattle.ci_machine.specs.Indexes.{newer_in};
 ghost use Rattle.ci_store_rows.specs.Schema.{the_schema};
 ghost use Rattle.ci_store_rows.specs.Found.{ShowsRecords, FindsNumber, listed};
@@ -19,7 +19,7 @@ ghost use Rattle.ci_store_rows.specs.Rows.{number};
 use crate::probe::probe_intact;
 use ci_board::facts::Status;
 use ci_machine::change::Counter;
-use ci_machine::records::Pipeline;
+use ci_machine::records::{Attempt, Pipeline};
 use ci_machine::text::Text;
 use ci_store_rows::columns::{LAST_INTEGER, counter_key, kind_number, text};
 use ci_store_rows::read::{Loaded, read_all};
@@ -221,4 +221,18 @@ pub(crate) fn newer<S: Alter>(
         texts::SELECT_NEWER_PIPELINES,
         &[project, text(&pipeline.git_ref), kind.to_sql(), id, only],
     )
+}
+
+/// The last attempt of a runner, as a query by these shows it.
+pub(crate) fn last_by<S: Alter>(
+    conn: &mut Connection<S>,
+    runner: u64,
+) -> Result<Option<Attempt>, StoreFault>
+    requires { conn.old.in_transaction ≡ false }
+    ensures idle { conn.new.in_transaction ≡ false }
+    ensures loads { Loads S.Store conn.old conn.new result (λ k found. found ≡ last_attempt_by k.state runner) }
+{
+    let runner = number(runner)?;
+    let only = number(1)?;
+    one(conn, texts::SELECT_ATTEMPTS_BY, &[runner, only])
 }

@@ -3,7 +3,7 @@
 ghost use Rattle.std.specs.Prelude.{◌≡◌};
 ghost use Rattle.ci_machine.specs.Kept.{Kept, written};
 ghost use Rattle.ci_machine.specs.Statuses.{attempts_of, jobs_of};
-ghost use Rattle.ci_machine.specs.Lookups.{project_at, project_with, project_variables, variable_at, runner_at, runner_with, pipeline_at, job_at, demand_at, variables_of, attempt_at, live_attempts, pieces_of, next_of};
+ghost use Rattle.ci_machine.specs.Lookups.{project_at, project_with, project_variables, variable_at, runner_at, runner_with, pipeline_at, job_at, demand_at, variables_of, attempt_at, last_attempt_by, live_attempts, pieces_of, next_of};
 ghost use Rattle.ci_machine.specs.Ranges.{needs_within, attempts_within, rows_within, row_at, pending_after};
 ghost use Rattle.ci_machine.specs.Holders.{holder_at};
 ghost use Rattle.ci_machine.specs.Indexes.{newer_in};
@@ -61,6 +61,10 @@ pub trait Store {
     fn runner_with(&mut self, token: &Text) -> Result<Option<Runner>, StoreFault>
         ensures { LoadsBy honest holds leaves self.old self.new result (λ k r. r ≡ runner_with k.state token.now) };
 
+    /// All runners, by number.
+    fn runners(&mut self) -> Result<Vec<Runner>, StoreFault>
+        ensures { LoadsBy honest holds leaves self.old self.new result (λ k runners. runners.items ≡ k.state.runners) };
+
     /// The pipeline with a number.
     fn pipeline(&mut self, id: u64) -> Result<Option<Pipeline>, StoreFault>
         ensures { LoadsBy honest holds leaves self.old self.new result (λ k p. p ≡ pipeline_at k.state id) };
@@ -84,6 +88,10 @@ pub trait Store {
     /// The attempts of a job, by number.
     fn attempts_of(&mut self, job: u64) -> Result<Vec<Attempt>, StoreFault>
         ensures { LoadsBy honest holds leaves self.old self.new result (λ k attempts. attempts.items ≡ attempts_of k.state job) };
+
+    /// The last attempt of a runner that was found: the one of the greatest number.
+    fn last_attempt_by(&mut self, runner: u64) -> Result<Option<Attempt>, StoreFault>
+        ensures { LoadsBy honest holds leaves self.old self.new result (λ k a. a ≡ last_attempt_by k.state runner) };
 
     /// The attempts that have not ended, by number.
     fn live_attempts(&mut self) -> Result<Vec<Attempt>, StoreFault>

@@ -328,6 +328,10 @@ impl<S: Alter> Store for Tables<S> {
         load::one(&mut self.conn, texts::SELECT_RUNNER_WITH, &[text(token)])
     }
 
+    fn runners(&mut self) -> Result<Vec<Runner>, StoreFault> {
+        load::list(&mut self.conn, texts::SELECT_RUNNERS, &[])
+    }
+
     fn pipeline(&mut self, id: u64) -> Result<Option<Pipeline>, StoreFault> {
         load::one_named(
             &mut self.conn,
@@ -370,6 +374,10 @@ impl<S: Alter> Store for Tables<S> {
 
     fn attempts_of(&mut self, job: u64) -> Result<Vec<Attempt>, StoreFault> {
         load::list_of(&mut self.conn, texts::SELECT_ATTEMPTS_OF, job)
+    }
+
+    fn last_attempt_by(&mut self, runner: u64) -> Result<Option<Attempt>, StoreFault> {
+        load::last_by(&mut self.conn, runner)
     }
 
     fn live_attempts(&mut self) -> Result<Vec<Attempt>, StoreFault> {

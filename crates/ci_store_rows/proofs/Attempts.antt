@@ -1,5 +1,5 @@
 -- The statements that write `attempt`.
-use Rattle.std.proofs.Common.{◌∙◌, ℕ, pos, List, [], ◌∷◌, refl, ap, ◌≡◌, ◌==◌, ◌&&◌, true, Option, sym, map, take, drop, codes, if◌then◌else◌, None, Some, inl, inr, nat_lt}
+use Rattle.std.proofs.Common.{◌∙◌, ℕ, Bool, pos, List, [], ◌∷◌, filter, reverse, refl, ap, ◌≡◌, ◌==◌, ◌&&◌, true, Option, sym, map, take, drop, codes, if◌then◌else◌, None, Some, inl, inr, nat_lt}
 use Rattle.sqlite.specs.declared.types.Value.TheVariants.{Null, Text}
 use Rattle.sqlite.specs.Order.{Row, column}
 use Rattle.sqlite.specs.Term.{Term, lit, col}
@@ -18,7 +18,7 @@ use Rattle.ci_store_tables.specs.Statements.{HasPut}
 use Rattle.ci_store_tables.proofs.Puts.{MeansPut, MeansRemove, GivesRecord}
 use Rattle.ci_store_tables.proofs.Absent.{absent_rowid}
 use Rattle.ci_store_tables.proofs.Scalars.{cast_int, compares}
-use Rattle.ci_store_rows.specs.declared.texts.TheConstants.{UPDATE_ATTEMPT, INSERT_ATTEMPT, DELETE_ATTEMPT, SELECT_ATTEMPT, SELECT_ATTEMPTS_OF, SELECT_ATTEMPTS_IN, SELECT_ATTEMPTS_WITHIN, SELECT_ATTEMPTS_ABOVE}
+use Rattle.ci_store_rows.specs.declared.texts.TheConstants.{UPDATE_ATTEMPT, INSERT_ATTEMPT, DELETE_ATTEMPT, SELECT_ATTEMPT, SELECT_ATTEMPTS_OF, SELECT_ATTEMPTS_IN, SELECT_ATTEMPTS_WITHIN, SELECT_ATTEMPTS_ABOVE, SELECT_ATTEMPTS_BY}
 use Rattle.ci_store_rows.specs.declared.columns.TheConstants.{LAST_INTEGER}
 use Rattle.ci_store_rows.specs.Schema.{the_schema, attempt}
 use Rattle.ci_store_rows.specs.Rows.{number, attempt_row, state_number, cause_in, exit_in}
@@ -29,17 +29,17 @@ use Rattle.ci_store_rows.proofs.Records.{is, at_least, at_most, put_stands, same
 use Rattle.sqlite.specs.Collation.TheVariants.{Binary}
 use Rattle.sqlite_schema.specs.Rules.{equal}
 use Rattle.sqlite.proofs.Callers.{IsPlain}
-use Rattle.ci_store_tables.proofs.Selects.{MeansSelect}
+use Rattle.ci_store_tables.proofs.Selects.{MeansSelect, MeansSelectTo}
 use Rattle.ci_store_rows.specs.Found.{ShowsRecords, listed, FindsNumber}
 use Rattle.ci_values.specs.Attempts.{is_live_state}
 use Rattle.ci_machine.specs.Leases.{is_live}
 use Rattle.sqlite_sql.specs.declared.ops.CompareOp.TheVariants.{Le, Ge, Gt}
 use Rattle.ci_machine.specs.Statuses.{attempts_of}
 use Rattle.ci_machine.specs.Ranges.{is_within, attempts_within}
-use Rattle.ci_machine.specs.Lookups.{attempt_at, live_attempts}
+use Rattle.ci_machine.specs.Lookups.{attempt_at, live_attempts, last_attempt_by}
 use Rattle.ci_values.specs.declared.attempts.AttemptState.{AttemptState}
 use Rattle.ci_values.specs.declared.attempts.AttemptState.TheVariants.{Live, Succeeded, Failed, Cancelled}
-use Rattle.ci_store_rows.proofs.Shows.{columns_of, names_of, by, shows_passing, shows_sorted, found_one, found_all, rising_numbers, found_none}
+use Rattle.ci_store_rows.proofs.Shows.{columns_of, names_of, by, backward, shows_passing, shows_sorted, shows_backward, found_one, found_all, found_first, first_of_one, last_of_those, rising_numbers, falling_numbers, found_none}
 use Rattle.std.specs.List.{list_any}
 use Rattle.sqlite_value.specs.Keys.{plain, joined}
 use Rattle.sqlite_schema.specs.declared.schema.Keys.TheVariants.{Enforced}
@@ -221,3 +221,23 @@ attempts_within_found g old new k at first last found h =
     (λ x. is_within first last x.job) (λ x. finds_within first last x.job) k k.state.attempts refl h.rows 0 0 (λ r. refl) means_select_within
     (rising_numbers (λ (x : Attempt). x.id) (λ x. is_within first last x.job) k.state.attempts at.now.inside.regular.attempts) (state g old) (state g new) at.now h.shown)
     found h.read
+
+-- the second value is how many rows are shown at most
+means_select_by : MeansSelectTo (col 0 1) the_schema attempt SELECT_ATTEMPTS_BY.now (is 3 0 ∷ []) (columns_of attempt) (backward 0) (names_of attempt)
+unfolding understood everything
+means_select_by = record { is = refl; unlisted = refl; plain = (refl, refl) }
+
+pub plain_select_by : IsPlain (understood the_schema SELECT_ATTEMPTS_BY.now)
+plain_select_by = means_select_by.plain
+
+-- the last attempt of a runner
+pub last_found : {S : Type 0} (g : Ghosts S) (old new : Held S) (k : Kept) → IsAt g k old → (runner : ℕ) (found : Option Attempt) → ShowsRecords (λ row x. row ≡ attempt_row x) g SELECT_ATTEMPTS_BY.now (number runner ∷ number 1 ∷ []) old new (listed found)
+    → found ≡ last_attempt_by k.state runner
+last_found g old new k at runner found h =
+    let own : Attempt → Bool = λ x. x.runner == runner in
+    first_of_one (filter own (reverse k.state.attempts)) found
+    (found_first (λ row x. row ≡ attempt_row x) attempt_row own (reverse k.state.attempts) (λ x y _ same. sym (same_attempt y x same)) 1 h.rows
+    (shows_backward attempt_row 6 attempt refl SELECT_ATTEMPTS_BY.now (is 3 0 ∷ []) (number runner ∷ number 1 ∷ []) (λ im. equal Binary (column im 2) (number runner) && true) (λ r. refl) own (λ x. finds_number x.runner runner) k k.state.attempts refl h.rows
+    (col 0 1) 0 0 (λ r. refl) means_select_by (falling_numbers (λ (x : Attempt). x.id) own k.state.attempts at.now.inside.regular.attempts) (state g old) (state g new) at.now h.shown)
+    (listed found) h.read)
+    ∙ last_of_those own k.state.attempts

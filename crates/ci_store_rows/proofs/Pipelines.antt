@@ -37,7 +37,7 @@ use Rattle.std.specs.Str.{bytes_eq}
 use Rattle.ci_machine.specs.Lookups.{pipeline_at}
 use Rattle.ci_machine.specs.Indexes.{newer_in}
 use Rattle.ci_machine.specs.Redundant.{same_kind, is_newer_of}
-use Rattle.ci_store_rows.proofs.Shows.{columns_of, names_of, pair, by, by_total, shows_passing, shows_ordered, found_one, found_first, found_none, rising_numbers}
+use Rattle.ci_store_rows.proofs.Shows.{columns_of, names_of, pair, by, by_total, shows_passing, shows_ordered, found_one, found_first, found_none, first_of_one, rising_numbers}
 use Rattle.std.specs.List.{list_any}
 use Rattle.sqlite_value.specs.Keys.{plain, joined}
 use Rattle.sqlite_schema.specs.declared.schema.Keys.TheVariants.{Enforced}
@@ -191,12 +191,6 @@ plain_select_newer = means_select_newer.plain
 
 abbrev newer_key : Pipeline → Row
 newer_key p = number p.project ∷ Text p.git_ref ∷ number (kind_number p.kind) ∷ number p.id ∷ number 1 ∷ []
-
-first_of_one : (xs : List Pipeline) (found : Option Pipeline) → listed found ≡ take 1 xs → found ≡ slice_get xs 0
-first_of_one [] None h = refl
-first_of_one [] (Some x) h = absurd cc
-first_of_one (x ∷ xs) None h = absurd cc
-first_of_one (x ∷ xs) (Some y) h = let same : y ≡ x = cc in ap Some same
 
 pub newer_found : {S : Type 0} (g : Ghosts S) (old new : Held S) (k : Kept) → IsAt g k old → (p : Pipeline) (found : Option Pipeline) → ShowsRecords (λ row x. row ≡ pipeline_row x) g SELECT_NEWER_PIPELINES.now (newer_key p) old new (listed found)
     → found ≡ newer_in k.state p

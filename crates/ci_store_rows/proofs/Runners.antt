@@ -1,5 +1,5 @@
 -- The statements that write `runner`.
-use Rattle.std.proofs.Common.{◌≡◌, ◌∙◌, ◌==◌, inl, inr, nat_lt, ℕ, pos, List, [], ◌∷◌, if◌then◌else◌, Some, refl, ap, ◌&&◌, true, Option, sym, map, take, drop, codes}
+use Rattle.std.proofs.Common.{◌≡◌, ◌∙◌, ◌==◌, inl, inr, nat_lt, ℕ, pos, List, [], ◌∷◌, filter, if◌then◌else◌, Some, refl, ap, ◌&&◌, true, Option, sym, map, take, drop, codes}
 use Rattle.sqlite.specs.declared.types.Value.TheVariants.{Null, Text}
 use Rattle.sqlite.specs.Order.{Row, column}
 use Rattle.sqlite.specs.Term.{Term, lit, col}
@@ -18,7 +18,7 @@ use Rattle.ci_store_tables.specs.Statements.{HasPut}
 use Rattle.ci_store_tables.proofs.Puts.{MeansPut, MeansRemove, GivesRecord}
 use Rattle.ci_store_tables.proofs.Absent.{absent_rowid}
 use Rattle.ci_store_tables.proofs.Scalars.{cast_int, compares}
-use Rattle.ci_store_rows.specs.declared.texts.TheConstants.{UPDATE_RUNNER, INSERT_RUNNER, DELETE_RUNNER, SELECT_RUNNER, SELECT_RUNNERS_ABOVE, SELECT_RUNNER_WITH}
+use Rattle.ci_store_rows.specs.declared.texts.TheConstants.{UPDATE_RUNNER, INSERT_RUNNER, DELETE_RUNNER, SELECT_RUNNER, SELECT_RUNNERS, SELECT_RUNNERS_ABOVE, SELECT_RUNNER_WITH}
 use Rattle.ci_store_rows.specs.declared.columns.TheConstants.{LAST_INTEGER}
 use Rattle.sqlite_sql.specs.declared.ops.CompareOp.TheVariants.{Gt}
 use Rattle.ci_store_rows.specs.Schema.{the_schema, runner}
@@ -38,7 +38,7 @@ use Rattle.std.specs.Str.{bytes_eq}
 use Rattle.sqlite_rules.proofs.ListLemmas.{all_has}
 use Rattle.ci_machine.specs.Lookups.{runner_at, runner_with}
 use Rattle.ci_store_rows.specs.Load.{IsRunnerRow}
-use Rattle.ci_store_rows.proofs.Shows.{columns_of, names_of, shows_passing, found_one, found_none}
+use Rattle.ci_store_rows.proofs.Shows.{columns_of, names_of, by, shows_passing, shows_sorted, found_one, found_all, found_none, rising_numbers}
 use Rattle.std.specs.List.{list_any}
 use Rattle.sqlite_value.specs.Keys.{plain}
 use Rattle.sqlite_schema.specs.declared.schema.Keys.TheVariants.{Enforced}
@@ -150,3 +150,23 @@ runner_with_found g old new k at token found h =
     (shows_passing runner_row 2 runner refl SELECT_RUNNER_WITH.now (is 3 0 ∷ []) (Text token ∷ []) (λ im. equal Binary (column im 2) (Text token) && true) (λ r. refl) (λ x. bytes_eq x.token token) (λ x. finds_text x.token token) k k.state.runners refl h.rows
     (λ r. refl) means_select_with (state g old) (state g new) at.now h.shown)
     found h.read
+
+means_select_all : MeansSelect the_schema runner SELECT_RUNNERS.now [] (columns_of runner) (by 0) (names_of runner)
+unfolding understood everything
+means_select_all = record { is = refl; unlisted = refl; plain = (refl, refl) }
+
+pub plain_select_all : IsPlain (understood the_schema SELECT_RUNNERS.now)
+plain_select_all = means_select_all.plain
+
+every : (xs : List Runner) → filter (λ x. true) xs ≡ xs
+every [] = refl
+every (x ∷ xs) = ap (λ l. x ∷ l) (every xs)
+
+pub runners_found : {S : Type 0} (g : Ghosts S) (old new : Held S) (k : Kept) → IsAt g k old → (found : List Runner) → ShowsRecords IsRunnerRow g SELECT_RUNNERS.now [] old new found → found ≡ k.state.runners
+runners_found g old new k at found h =
+    found_all IsRunnerRow runner_row (λ x. true) k.state.runners (λ x y there same. same_runner x y same.0 same.2 (all_has _ k.state.runners y at.now.inside.regular.tags there) (sym same.1)) h.rows
+    (shows_sorted runner_row 2 runner refl SELECT_RUNNERS.now [] [] (λ im. true) (λ r. refl)
+    (λ x. true) (λ x. refl) k k.state.runners refl h.rows 0 0 (λ r. refl) means_select_all
+    (rising_numbers (λ (x : Runner). x.id) (λ x. true) k.state.runners at.now.inside.regular.runners) (state g old) (state g new) at.now h.shown)
+    found h.read
+    ∙ every k.state.runners

@@ -1,13 +1,15 @@
 -- What a query over one table shows of a state, and the records that its rows are read as.
-use Rattle.std.proofs.Common.{◌≡◌, ◌∙◌, ℕ, pos, List, [], ◌∷◌, map, filter, find, take, drop, slice_get, Bool, true, false, is_eq, Ordering, Less, Equal, Greater, Option, Some, None, option_map, refl, sym, ap, subst, cond, inl, inr, IsPermutation, ◌<◌, ◌≤◌, ◌==◌, nat_lt, ltb-false, ne_eqb, arith}
+use Rattle.std.proofs.Common.{◌≡◌, ◌∙◌, ℕ, pos, List, [], ◌∷◌, ◌++◌, map, filter, reverse, find, take, drop, slice_get, Bool, true, false, is_eq, Ordering, Less, Equal, Greater, Option, Some, None, option_map, refl, sym, ap, subst, cond, inl, inr, IsPermutation, ◌<◌, ◌≤◌, ◌==◌, nat_lt, ltb-false, ne_eqb, arith}
 use Rattle.std.proofs.lemmas.Bool.{cond_both}
-use Rattle.std.specs.List.{AllByRecursion, AllZip}
+use Rattle.std.specs.List.{AllByRecursion, AllZip, last_or}
 use Rattle.std.specs.Ordering.{nat_cmp, ordering_then}
 use Rattle.std.specs.Cmp.{IsTotalOrder}
 use Rattle.std.specs.Cmp.Lexicographic.{slice_cmp}
-use Rattle.std.proofs.lemmas.List.{take-append-drop, take-map}
+use Rattle.std.proofs.lemmas.List.{take-append-drop, take-map, append-nil, append_assoc}
+use Rattle.std.proofs.lemmas.List.Elements.{filter-append}
+use mathlib.Core.List.{reverse-cons}
 use Rattle.std.proofs.lemmas.Cmp.{on_total, then_total, nat_cmp_total, tied_back}
-use Rattle.std.proofs.lemmas.List.Sorted.{IsPermutation-sym, IsPermutation-trans, IsPermutation-map}
+use Rattle.std.proofs.lemmas.List.Sorted.{IsPermutation-sym, IsPermutation-trans, IsPermutation-map, IsPermutation-reverse}
 use Rattle.sqlite_trees.proofs.ListLemmas.{IsPermutation-filter}
 use Rattle.sqlite.specs.Collation.TheVariants.{Binary}
 use Rattle.sqlite_value.specs.declared.keys.Key.{Key}
@@ -72,6 +74,13 @@ by_two_total tests columns tree first second =
     no_more_total : IsTotalOrder (key_cmp 2 [])
     no_more_total = record { antisymm = λ x y. refl; trans = λ x y z p q. p; congr = λ x y z p. refl }
 
+-- the order turned round, by the column at a place of the row
+abbrev pub backward : ℕ → List (Term × Key)
+backward place = (col 1 place, record { collation = Binary; descending = true }) ∷ []
+
+pub backward_total : (tests columns : List Term) (tree place : ℕ) → IsTotalOrder (output_cmp (query tree tests columns (backward place)))
+backward_total tests columns tree place = on_total (λ (o : Output). o.0) (then_total (on_total (λ (r : Row). column r 0) (by_key_total (record { collation = Binary; descending = true }))) no_key_total)
+
 -- what a query of a part of the columns shows of the records of its table
 shows_part : (t : Table) (text : List ℕ) (tests columns : List Term) (names : List (List ℕ)) → MeansSelect the_schema t text tests columns [] names → (key : Row) (p : Row → Bool) → ((r : Row) → picks tests key r ≡ p (image (places t) r))
     → (part : Row → Row) → ((r : Row) → eval_all columns (key ∷ r ∷ []) ≡ part (image (places t) r)) → (old new : Seen) (records rows : List Row) → old.now.schema ≡ the_schema → Holds t records old.now.trees → Shown text key old new rows
@@ -90,34 +99,53 @@ shows_part t text tests columns names means key p tested part showed old new rec
 module _ {A : Type 0} (values : A → Row) (at : ℕ) (t : Table) (there : slice_get the_schema.tables at ≡ Some t) (text : List ℕ) (tests : List Term) (key : Row) (p : Row → Bool)
     (tested : (r : Row) → picks tests key r ≡ p (image (places t) r)) (passes : A → Bool) (same : (x : A) → p (values x) ≡ passes x)
     (k : Kept) (xs : List A) (is : rows_of k t.tree ≡ map values xs) (rows : List Row) where
-  filtered : filter p (map values xs) ≡ map values (filter passes xs)
-  filtered = filter-map p values xs ∙ ap (map values) (filter_same _ _ same xs)
+  filtered : (ys : List A) → filter p (map values ys) ≡ map values (filter passes ys)
+  filtered ys = filter-map p values ys ∙ ap (map values) (filter_same _ _ same ys)
 
   -- the rows of the records that pass the tests, in some order
   pub shows_passing : (showed : (r : Row) → eval_all (columns_of t) (key ∷ r ∷ []) ≡ image (places t) r) → MeansSelect the_schema t text tests (columns_of t) [] (names_of t)
       → (old new : Seen) → Stands k old.now → Shown text key old new rows → IsPermutation (map values (filter passes xs)) rows
   shows_passing showed means old new stands h =
-      subst (λ l. IsPermutation l rows) (ap (filter p) is ∙ filtered)
+      subst (λ l. IsPermutation l rows) (ap (filter p) is ∙ filtered xs)
       (selects the_schema t text tests (columns_of t) [] (names_of t) means key p tested showed old new (rows_of k t.tree) rows stands.listed (held k old.now stands at t there) h)
 
   -- a part of the columns of each
   pub shows_columns : (columns : List Term) (names : List (List ℕ)) (part : Row → Row) (showed : (r : Row) → eval_all columns (key ∷ r ∷ []) ≡ part (image (places t) r)) → MeansSelect the_schema t text tests columns [] names
       → (old new : Seen) → Stands k old.now → Shown text key old new rows → IsPermutation (map (λ x. part (values x)) (filter passes xs)) rows
   shows_columns columns names part showed means old new stands h =
-      subst (λ l. IsPermutation l rows) (ap (λ l. map part (filter p l)) is ∙ ap (map part) filtered ∙ map_map part values (filter passes xs))
+      subst (λ l. IsPermutation l rows) (ap (λ l. map part (filter p l)) is ∙ ap (map part) (filtered xs) ∙ map_map part values (filter passes xs))
       (shows_part t text tests columns names means key p tested part showed old new (rows_of k t.tree) rows stands.listed (held k old.now stands at t there) h)
+
+  -- of records that the table has, and that stand in an order, the first ones that a limit lets through
+  shows_in_order : (limit : Term) (order : List (Term × Key)) (total : IsTotalOrder (output_cmp (query t.tree tests (columns_of t) order))) (pair : Row → Output) (second : (im : Row) → (pair im).1 ≡ im)
+      → (paired : (r : Row) → output (query t.tree tests (columns_of t) order) (key ∷ r ∷ []) ≡ pair (image (places t) r)) → MeansSelectTo limit the_schema t text tests (columns_of t) order (names_of t)
+      → (ys : List A) → IsAscending (λ x y. output_cmp (query t.tree tests (columns_of t) order) (pair (values x)) (pair (values y)) ≡ Less) (filter passes ys)
+      → (old new : Seen) → Stands k old.now → Holds t (map values ys) old.now.trees → Shown text key old new rows → rows ≡ limited (count_of limit key) (map values (filter passes ys))
+  shows_in_order limit order total pair second paired means ys up old new stands has h =
+      let Up = λ (a b : Output). output_cmp (query t.tree tests (columns_of t) order) a b ≡ Less in
+      let up' = ascending-map Up pair _ (ascending-map (λ a b. Up (pair a) (pair b)) values _ up) in
+      selects_sorted limit the_schema t text tests (columns_of t) order (names_of t) means key p tested pair paired second total old new (map values ys) rows stands.listed
+      has h (subst (λ l. IsAscending Up (map pair l)) (sym (filtered ys)) up')
+      ∙ ap (limited (count_of limit key)) (filtered ys)
+
+  has_all : (old : Seen) → Stands k old.now → Holds t (map values xs) old.now.trees
+  has_all old stands = subst (λ l. Holds t l old.now.trees) is (held k old.now stands at t there)
 
   -- and in an order, of them the first ones that a limit lets through
   pub shows_ordered : (limit : Term) (order : List (Term × Key)) (total : IsTotalOrder (output_cmp (query t.tree tests (columns_of t) order))) (pair : Row → Output) (second : (im : Row) → (pair im).1 ≡ im)
       → (paired : (r : Row) → output (query t.tree tests (columns_of t) order) (key ∷ r ∷ []) ≡ pair (image (places t) r)) → MeansSelectTo limit the_schema t text tests (columns_of t) order (names_of t)
       → IsAscending (λ x y. output_cmp (query t.tree tests (columns_of t) order) (pair (values x)) (pair (values y)) ≡ Less) (filter passes xs)
       → (old new : Seen) → Stands k old.now → Shown text key old new rows → rows ≡ limited (count_of limit key) (map values (filter passes xs))
-  shows_ordered limit order total pair second paired means up old new stands h =
-      let Up = λ (a b : Output). output_cmp (query t.tree tests (columns_of t) order) a b ≡ Less in
-      let up' = ascending-map Up pair _ (ascending-map (λ a b. Up (pair a) (pair b)) values _ up) in
-      selects_sorted limit the_schema t text tests (columns_of t) order (names_of t) means key p tested pair paired second total old new (map values xs) rows stands.listed
-      (subst (λ l. Holds t l old.now.trees) is (held k old.now stands at t there)) h (subst (λ l. IsAscending Up (map pair l)) (sym filtered) up')
-      ∙ ap (limited (count_of limit key)) filtered
+  shows_ordered limit order total pair second paired means up old new stands h = shows_in_order limit order total pair second paired means xs up old new stands (has_all old stands) h
+
+  -- and in the order turned round, by a column
+  pub shows_backward : (limit : Term) (place shown_at : ℕ) (paired : (r : Row) → output (query t.tree tests (columns_of t) (backward place)) (key ∷ r ∷ []) ≡ pair shown_at (image (places t) r)) → MeansSelectTo limit the_schema t text tests (columns_of t) (backward place) (names_of t)
+      → IsAscending (λ x y. output_cmp (query t.tree tests (columns_of t) (backward place)) (pair shown_at (values x)) (pair shown_at (values y)) ≡ Less) (filter passes (reverse xs))
+      → (old new : Seen) → Stands k old.now → Shown text key old new rows → rows ≡ limited (count_of limit key) (map values (filter passes (reverse xs)))
+  shows_backward limit place shown_at paired means up old new stands h =
+      let has = has_all old stands in
+      shows_in_order limit (backward place) (backward_total tests (columns_of t) t.tree place) (pair shown_at) (λ im. refl) paired means (reverse xs) up old new stands
+      (record { shaped = has.shaped; same = IsPermutation-trans _ _ _ has.same (IsPermutation-map values _ _ (IsPermutation-reverse xs)) }) h
 
   -- all of them, in the order of a column
   pub shows_sorted : (place shown_at : ℕ) (paired : (r : Row) → output (query t.tree tests (columns_of t) (by place)) (key ∷ r ∷ []) ≡ pair shown_at (image (places t) r)) → MeansSelect the_schema t text tests (columns_of t) (by place) (names_of t)
@@ -175,6 +203,29 @@ module _ {A : Type 0} (is_row : Row → A → Type 0) (values : A → Row) (pass
 
   pub found_all : (rows : List Row) → rows ≡ map values (filter passes xs) → (found : List A) → AllZip is_row rows found → found ≡ filter passes xs
   found_all rows is found read = each (filter passes xs) (λ y h. (has_filtered passes xs y h).0) found (subst (λ l. AllZip is_row l found) is read)
+
+-- the one that a query of one row shows
+pub first_of_one : {A : Type 0} (xs : List A) (found : Option A) → listed found ≡ take 1 xs → found ≡ slice_get xs 0
+first_of_one [] None h = refl
+first_of_one [] (Some x) h = absurd cc
+first_of_one (x ∷ xs) None h = absurd cc
+first_of_one (x ∷ xs) (Some y) h = let same : y ≡ x = cc in ap Some same
+
+-- the first of those that pass, where the list is turned round, is the last of them
+last_is_first : {A : Type 0} (p : A → Bool) (xs zs : List A) → slice_get (filter p (reverse xs) ++ zs) 0 ≡ last_or (slice_get zs 0) (filter p xs)
+last_is_first p [] zs = refl
+last_is_first p (x ∷ xs) zs =
+    ap (λ l. slice_get (l ++ zs) 0) (ap (filter p) (reverse-cons x xs) ∙ filter-append p (reverse xs) (x ∷ []))
+    ∙ ap (λ l. slice_get l 0) (append_assoc (filter p (reverse xs)) (filter p (x ∷ [])) zs)
+    ∙ last_is_first p xs (filter p (x ∷ []) ++ zs)
+    ∙ one (p x)
+  where
+    one : (b : Bool) → last_or (slice_get (cond b (x ∷ []) [] ++ zs) 0) (filter p xs) ≡ last_or (slice_get zs 0) (cond b (x ∷ filter p xs) (filter p xs))
+    one true = refl
+    one false = refl
+
+pub last_of_those : {A : Type 0} (p : A → Bool) (xs : List A) → slice_get (filter p (reverse xs)) 0 ≡ last_or None (filter p xs)
+last_of_those p xs = ap (λ l. slice_get l 0) (sym (append-nil (filter p (reverse xs)))) ∙ last_is_first p xs []
 
 -- ---- a number above which no record is shown
 
@@ -251,3 +302,28 @@ rising_text a b h = then-Equal _ ∙ value_cmp-Text a b ∙ h
 pub rising_numbers : {X : Type 0} (id : X → ℕ) (passes : X → Bool) (xs : List X) → IsAscending (λ x y. nat_cmp (id x) (id y) ≡ Less) xs
     → IsAscending (λ x y. ordering_then (by_key (ascending Binary) (number (id x)) (number (id y))) Equal ≡ Less) (filter passes xs)
 rising_numbers id passes xs up = ascending_weaker _ _ (λ x y h. rising_number (id x) (id y) h) (filter passes xs) (ascending-filter _ passes xs up)
+
+-- ---- rows that fall by a column, where their list is turned round
+
+module _ {X : Type 0} (P : X → Type 0) where
+  all_behind : (ys : List X) (x : X) → AllByRecursion P ys → P x → AllByRecursion P (ys ++ x ∷ [])
+  all_behind [] x all last = (last, tt)
+  all_behind (y ∷ ys) x all last = (all.0, all_behind ys x all.1 last)
+
+  all_turned : (xs : List X) → AllByRecursion P xs → AllByRecursion P (reverse xs)
+  all_turned [] all = tt
+  all_turned (x ∷ xs) all = subst (AllByRecursion P) (sym (reverse-cons x xs)) (all_behind (reverse xs) x (all_turned xs all.1) all.0)
+
+module _ {X : Type 0} (Up : X → X → Type 0) where
+  ascend_behind : (ys : List X) (x : X) → IsAscending Up ys → AllByRecursion (λ y. Up y x) ys → IsAscending Up (ys ++ x ∷ [])
+  ascend_behind [] x up all = (tt, tt)
+  ascend_behind (y ∷ ys) x up all = (all_behind (Up y) ys x up.0 all.0, ascend_behind ys x up.1 all.1)
+
+ascend_turned : {X : Type 0} (Up : X → X → Type 0) (xs : List X) → IsAscending Up xs → IsAscending (λ x y. Up y x) (reverse xs)
+ascend_turned Up [] up = tt
+ascend_turned Up (x ∷ xs) up =
+    subst (IsAscending (λ a b. Up b a)) (sym (reverse-cons x xs)) (ascend_behind (λ a b. Up b a) (reverse xs) x (ascend_turned Up xs up.1) (all_turned (Up x) xs up.0))
+
+pub falling_numbers : {X : Type 0} (id : X → ℕ) (passes : X → Bool) (xs : List X) → IsAscending (λ x y. nat_cmp (id x) (id y) ≡ Less) xs
+    → IsAscending (λ x y. ordering_then (by_key (record { collation = Binary; descending = true }) (number (id x)) (number (id y))) Equal ≡ Less) (filter passes (reverse xs))
+falling_numbers id passes xs up = ascending_weaker _ _ (λ x y h. rising_number (id y) (id x) h) (filter passes (reverse xs)) (ascending-filter _ passes (reverse xs) (ascend_turned _ xs up))

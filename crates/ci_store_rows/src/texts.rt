@@ -1,6 +1,6 @@
 //! The texts of all statements. A connection keeps the plans of 64 texts; those that the machine's events run are fewer.
 
-pub const SCHEMA: [&str; 20] = [
+pub const SCHEMA: [&str; 21] = [
     "CREATE TABLE meta (key TEXT NOT NULL PRIMARY KEY, num INTEGER NOT NULL) STRICT",
     "CREATE TABLE project (id INTEGER PRIMARY KEY, name TEXT NOT NULL, token TEXT NOT NULL UNIQUE, file TEXT) STRICT",
     "CREATE TABLE runner (id INTEGER PRIMARY KEY, name TEXT NOT NULL, token TEXT NOT NULL UNIQUE, project INTEGER REFERENCES project (id), tags TEXT NOT NULL, untagged INTEGER NOT NULL, paused INTEGER NOT NULL) STRICT",
@@ -21,6 +21,7 @@ pub const SCHEMA: [&str; 20] = [
     "CREATE INDEX holder_attempt ON holder (attempt)",
     "CREATE TABLE unfinished (pipeline INTEGER PRIMARY KEY) STRICT",
     "CREATE INDEX pipeline_ref ON pipeline (project, ref, kind, id)",
+    "CREATE INDEX attempt_runner ON attempt (runner, id)",
 ];
 
 pub const INSERT_META: &str = "INSERT INTO meta (key, num) VALUES (?1, ?2)";
@@ -72,6 +73,9 @@ pub const SELECT_RUNNERS_ABOVE: &str =
 
 pub const SELECT_RUNNER_WITH: &str =
     "SELECT id, name, token, project, tags, untagged, paused FROM runner WHERE token = ?1";
+
+pub const SELECT_RUNNERS: &str =
+    "SELECT id, name, token, project, tags, untagged, paused FROM runner ORDER BY id";
 
 pub const INSERT_PIPELINE: &str =
     "INSERT INTO pipeline (id, project, ref, kind, source, created) VALUES (?1, ?2, ?3, ?4, ?5, ?6)";
@@ -143,6 +147,9 @@ pub const SELECT_ATTEMPTS_IN: &str =
 
 pub const SELECT_ATTEMPTS_WITHIN: &str =
     "SELECT id, job, runner, token, granted, seen, state, cause, exit, pieces, size FROM attempt WHERE job >= ?1 AND job <= ?2 ORDER BY id";
+
+pub const SELECT_ATTEMPTS_BY: &str =
+    "SELECT id, job, runner, token, granted, seen, state, cause, exit, pieces, size FROM attempt WHERE runner = ?1 ORDER BY id DESC LIMIT ?2";
 
 pub const INSERT_PIECE: &str = "INSERT INTO piece (attempt, seq, bytes) VALUES (?1, ?2, ?3)";
 

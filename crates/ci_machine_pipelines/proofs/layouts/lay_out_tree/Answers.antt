@@ -24,13 +24,13 @@ returns-in-Ok c = λ text has.
     let given = given_view c.args.start.now.given in
     let by : RefusesLooks c.in-Err-of.refused (all_looks given c.in-Ok.config) =
     subst (λ ls. RefusesLooks c.in-Err-of.refused ls) (ap looks_view c.deref-in-Ok.ensures.value ∙ c.in_ok-looks-in-Ok.ensures) c.in-Err-of.ensures.refused in
-    not_looked_for text (origin_view c.args.start.now) (config_view c.in-Ok.config) c.in-Err-of.refused (all_looks given c.in-Ok.config) c.plan_fault.result
-    (c.plan_fault.ensures ∙ ap plan_fault c.from.ensures) (configures (value_view c.args.tree.now) (config_view c.in-Ok.config) has c.in-Ok.ensures.answer)
+    not_looked_for text (origin_view c.args.start.now) (config_view c.in-Ok.config) c.in-Err-of.refused (all_looks given c.in-Ok.config) c.plan_fault-in-Err-of.result
+    (c.plan_fault-in-Err-of.ensures ∙ ap plan_fault c.from.ensures) (configures (value_view c.args.tree.now) (config_view c.in-Ok.config) has c.in-Ok.ensures.answer)
     c.may_refuse_patterns.ensures (c.searches_for_patterns_alone.ensures given c.in-Ok.config) by
 
 pub returns : goal.returns
 returns c = λ text has.
-    misconfigured text (origin_view c.args.start.now) (value_view c.args.tree.now) c.in-Err.fault c.config_fault-in-Err.result has c.in-Err.ensures.answer c.config_fault-in-Err.ensures
+    misconfigured text (origin_view c.args.start.now) (value_view c.args.tree.now) c.in-Err.fault c.config_fault.result has c.in-Err.ensures.answer c.config_fault.ensures
 
 pub returns-then-not-is_affordable : goal.returns-then-not-is_affordable
 returns-then-not-is_affordable c = λ text has.
@@ -38,5 +38,6 @@ returns-then-not-is_affordable c = λ text has.
     let refused : c.is_affordable.result ≡ false = search rules in
     let over : nat_le (sum_by look_cost (all_looks given c.in-Ok.config)) MAX_SEARCH_COST ≡ false =
     ap (λ ls. nat_le (sum_by look_cost ls) MAX_SEARCH_COST) (sym (ap looks_view c.deref.ensures.value ∙ c.in_ok-looks-in-Ok.ensures)) ∙ sym c.is_affordable.ensures ∙ refused in
-    unaffordable text (origin_view c.args.start.now) (value_view c.args.tree.now) c.in-Ok.config c.config_fault.result (all_looks given c.in-Ok.config) has c.in-Ok.ensures.answer
-    c.may_refuse_patterns.ensures (c.searches_for_patterns_alone.ensures given c.in-Ok.config) over c.config_fault.ensures
+    unaffordable text (origin_view c.args.start.now) (config_view c.in-Ok.config) (all_looks given c.in-Ok.config) c.plan_fault.result
+    c.plan_fault.ensures (configures (value_view c.args.tree.now) (config_view c.in-Ok.config) has c.in-Ok.ensures.answer)
+    c.may_refuse_patterns.ensures (c.searches_for_patterns_alone.ensures given c.in-Ok.config) over

@@ -10,7 +10,7 @@ pub loop-i-preserved : goal.loop-i-preserved
 loop-i-preserved c =
     jobs_further c.args.holders.now c.args.project c.args.jobs.now c.args.rows.now c.loop-i.i c.index-jobs-i.result _ (map view c.loop-i.items.items) (map view c.push.new.self.items) (omega arith) (omega arith) c.index-jobs-i.is
     (pushed_as view c.loop-i.items.items c.push.new.self.items c.into_value.result _ c.in_ok-push.ensures.items
-    (c.into_value.ensures ∙ (c.in_ok-shown.ensures ∙ ap (λ (s : List ℕ). job_data s c.index-jobs-i.result) c.printed-status.ensures)))
+    (c.into_value.ensures ∙ (c.in_ok-shown.ensures ∙ ap (λ (s : List ℕ). job_data s c.index-jobs-i.result) (c.as_str-status.ensures ∙ c.of.ensures.printed))))
     c.loop-i.invariant
 
 pub returns : goal.returns

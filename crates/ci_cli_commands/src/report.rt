@@ -1,0 +1,71 @@
+//! What an operator is told of the server of a file.
+
+use crate::file::{let_go, open};
+use ci_cli_words::line::{Line, say, say_report};
+use ci_cli_words::task::ReportKind;
+use ci_machine::reply::Code;
+use ci_report::pipeline::pipeline_report;
+use ci_report::queue::queue_report;
+use ci_report::runner::runner_report;
+use ci_server::server::Server;
+use ci_store::Alter;
+use std::alloc::{AllocError, Global};
+use std::io::Write;
+
+/// Prints a report of the server of a file, and gives the exit status. Nothing changes in the file.
+pub fn report<O: Write>(rt: &HostRuntime, file: &str, kind: ReportKind, output: &mut O) -> u8 {
+    match open(rt, file) {
+        Ok(mut server) => {
+            let told = text_of(rt.alloc(), &mut server, kind);
+            let_go(server);
+            print(told, output)
+        }
+        Err(line) => say(output, line),
+    }
+}
+
+fn print<O: Write>(told: Result<String, Line>, output: &mut O) -> u8 {
+    match told {
+        Ok(text) => say_report(output, text.as_str()),
+        Err(line) => say(output, line),
+    }
+}
+
+/// The text of a report. Errors: the line that says why there is none.
+fn text_of<S: Alter>(
+    alloc: Global,
+    server: &mut Server<S>,
+    kind: ReportKind,
+) -> Result<String, Line> {
+    match kind {
+        ReportKind::Queue => match server.queue(alloc) {
+            Ok(rows) => made(queue_report(alloc, rows.as_slice())),
+            Err(code) => Err(refusal(code)),
+        },
+        ReportKind::Pipeline(id) => match server.pipeline(alloc, id) {
+            Ok(Some(rows)) => made(pipeline_report(alloc, &rows)),
+            Ok(None) => Err(Line::NoPipeline),
+            Err(code) => Err(refusal(code)),
+        },
+        ReportKind::Runners => match server.runners(alloc) {
+            Ok(rows) => made(runner_report(alloc, rows.as_slice())),
+            Err(code) => Err(refusal(code)),
+        },
+    }
+}
+
+/// A text, if there was memory for it.
+fn made(text: Result<String, AllocError>) -> Result<String, Line> {
+    match text {
+        Ok(text) => Ok(text),
+        Err(_) => Err(Line::NoMemory),
+    }
+}
+
+/// Why a server tells nothing: memory was refused, or its store failed.
+fn refusal(code: Code) -> Line {
+    match code {
+        Code::M16 => Line::NoMemory,
+        _ => Line::Closed,
+    }
+}

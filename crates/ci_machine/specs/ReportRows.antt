@@ -1,0 +1,75 @@
+-- The rows that reports have of a state.
+use Rattle.std.specs.Prelude.{ℕ, Bool, List, length, map, filter, codes, ◌==◌, Option, option_map, if◌then◌else◌}
+use Rattle.ci_board.specs.declared.facts.Status.{Status}
+use Rattle.ci_board.specs.declared.facts.Status.TheVariants as status
+use Rattle.ci_board.specs.Texts.{status_text}
+use Rattle.ci_machine.specs.declared.records.Holder.{Holder}
+use Rattle.ci_machine.specs.declared.records.Pipeline.{Pipeline}
+use Rattle.ci_machine.specs.declared.records.Job.{Job}
+use Rattle.ci_machine.specs.declared.records.QueuedJob.{QueuedJob}
+use Rattle.ci_machine.specs.declared.records.Runner.{Runner}
+use Rattle.ci_machine.specs.declared.records.BoardRow.{BoardRow}
+use Rattle.ci_machine.specs.declared.report.ShownStatus.{ShownStatus}
+use Rattle.ci_machine.specs.declared.report.ShownStatus.TheVariants.{Plain, WaitsForResource}
+use Rattle.ci_machine.specs.declared.report.QueueRow.{QueueRow}
+use Rattle.ci_machine.specs.declared.report.JobRow.{JobRow}
+use Rattle.ci_machine.specs.declared.report.RunnerRow.{RunnerRow}
+use Rattle.ci_machine.specs.State.{State}
+use Rattle.ci_machine.specs.Statuses.{jobs_of, attempts_of, status_for}
+use Rattle.ci_machine.specs.Lookups.{queue, live_attempts, last_attempt_by}
+use Rattle.ci_machine.specs.Eligible.{is_free}
+use Rattle.ci_machine.specs.Holders.{holders}
+
+-- ---- the status of a job as users are told it
+
+-- of a pending job, by whether its resource group is free
+abbrev pub pending_status : Bool → ShownStatus
+pending_status free = if free then Plain status.Pending else WaitsForResource
+
+abbrev pub shown_status : List Holder → ℕ → Job → Status → ShownStatus
+shown_status holders project j status.Pending = pending_status (is_free holders project j.options.resource_group)
+shown_status holders project j s = Plain s
+
+abbrev pub shown_text : ShownStatus → List ℕ
+shown_text (Plain s) = status_text s
+shown_text WaitsForResource = codes "waiting_for_resource"
+
+-- ---- the queue: the pending jobs, by number
+
+abbrev pub queue_row : List Holder → QueuedJob → QueueRow
+queue_row holders q = record {
+  job = q.job.id;
+  project = q.project;
+  status = pending_status (is_free holders q.project q.job.options.resource_group);
+  name = q.job.name;
+}
+
+abbrev pub queue_rows : State → List BoardRow → List QueueRow
+queue_rows s board = map (queue_row (holders s)) (queue s board)
+
+-- ---- the jobs of a pipeline, by number
+
+abbrev pub job_row : State → List BoardRow → ℕ → Job → JobRow
+job_row s board project j = record {
+  job = j.id;
+  status = shown_status (holders s) project j (status_for board j.id);
+  tries = length (attempts_of s j.id);
+  name = j.name;
+}
+
+abbrev pub job_rows : State → List BoardRow → Pipeline → List JobRow
+job_rows s board p = map (job_row s board p.project) (jobs_of s p.id)
+
+-- ---- the runners, by number
+
+abbrev pub runner_row : State → Runner → RunnerRow
+runner_row s r = record {
+  runner = r.id;
+  paused = r.paused;
+  live = length (filter (λ a. a.runner == r.id) (live_attempts s));
+  last_grant = option_map (λ a. a.granted) (last_attempt_by s r.id);
+  name = r.name;
+}
+
+abbrev pub runner_rows : State → List RunnerRow
+runner_rows s = map (runner_row s) s.runners

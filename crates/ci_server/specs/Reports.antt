@@ -1,0 +1,69 @@
+-- What a report does to a server: it tells what the server holds, and changes nothing.
+use Rattle.std.specs.Prelude.{◌≡◌, ℕ, Bool, true, false, List, Option, Result, Ok, Err}
+use Rattle.std.specs.Global.{Vec}
+use Rattle.sqlite.specs.Store.{Ghosts}
+use Rattle.sqlite.specs.Held.{Held}
+use Rattle.ci_machine.specs.declared.records.BoardRow.{BoardRow}
+use Rattle.ci_machine.specs.declared.reply.Code.{Code}
+use Rattle.ci_machine.specs.declared.reply.Code.TheVariants.{M16, M17}
+use Rattle.ci_machine.specs.declared.report.QueueRow.{QueueRow}
+use Rattle.ci_machine.specs.declared.report.PipelineRows.{PipelineRows}
+use Rattle.ci_machine.specs.declared.report.RunnerRow.{RunnerRow}
+use Rattle.ci_machine.specs.Lookups.{pipeline_at}
+use Rattle.ci_machine.specs.ReportRows.{queue_rows, runner_rows}
+use Rattle.ci_machine.specs.State.{State}
+use Rattle.ci_machine.specs.Statuses.{AreBoard}
+use Rattle.ci_machine_steps.specs.History.{IsReached}
+use Rattle.ci_store_tables.specs.declared.fault.StoreFault.{StoreFault}
+use Rattle.ci_server_reports.specs.Told.{TellsPipeline}
+use Rattle.ci_server.specs.declared.fail_stop.FailStop.{FailStop}
+use Rattle.ci_server.specs.Handling.{code_of}
+use Rattle.ci_server.specs.Holding.{HoldsIn, LeavesIn}
+use Rattle.ci_server.specs.Server.{IsHonest}
+
+-- ---- what is told of a state: by the rows of its jobs' statuses
+
+-- the pending jobs, by number
+abbrev pub TellsQueue : State → Vec QueueRow → Type 0
+TellsQueue s told = (board : List BoardRow) × AreBoard s board × (told.items ≡ queue_rows s board)
+
+-- the pipeline with this number and its jobs, or that there is none
+abbrev pub TellsPipelineAt : ℕ → State → Option PipelineRows → Type 0
+TellsPipelineAt id s told = (board : List BoardRow) × AreBoard s board × TellsPipeline s board (pipeline_at s id) told
+
+-- the runners, by number
+abbrev pub TellsRunners : State → Vec RunnerRow → Type 0
+TellsRunners s told = told.items ≡ runner_rows s
+
+-- ---- the answer
+
+-- what is answered, by what the look-ups found
+abbrev pub report_of : {A : Type 0} → Result A StoreFault → Result A Code
+report_of (Ok told) = Ok told
+report_of (Err fault) = Err (code_of fault)
+
+-- whether a server is closed after a report with this answer, which was so before
+abbrev pub closed_after : {A : Type 0} → Result A Code → Bool → Bool
+closed_after (Err M17) before = true
+closed_after _ before = before
+
+module _ {T : Type 0} (holds : T → State → Type 0) (leaves : T → State → State → Type 0) where
+  -- How a report of an open server ended, whose store held this state. It is told, and the store holds the state still, alone; so it does where memory was
+  -- refused. Where the store failed the server is closed, and a stop leaves that state alone.
+  abbrev pub Reported : {A : Type 0} → (State → A → Type 0) → State → T → Bool → Result A Code → Type 0
+  Reported Tells s new closed (Ok told) = Tells s told × holds new s × (closed ≡ false)
+  Reported Tells s new closed (Err M16) = holds new s × (closed ≡ false)
+  Reported Tells s new closed (Err M17) = leaves new s s × (closed ≡ true)
+  Reported Tells s new closed (Err _) = ⊥
+
+-- What a report does: on an open server that holds a state which a history leads to, what `Reported` says; on a closed one nothing, and the answer is
+-- M17. Over any disk it closes the server exactly where its answer is M17.
+pub record ReportsBy {T A : Type 0} (honest : T → Type 0) (holds : T → State → Type 0) (leaves : T → State → State → Type 0) (old new : FailStop T) (Tells : State → A → Type 0) (answer : Result A Code) : Type 0 where
+  pub was_honest : honest new.store → honest old.store
+  pub while_open : old.closed ≡ false → honest new.store → (s : State) → IsReached s → holds old.store s → Reported holds leaves Tells s new.store new.closed answer
+  pub once_closed : old.closed ≡ true → (answer ≡ Err M17) × (new ≡ old)
+  pub closes : new.closed ≡ closed_after answer old.closed
+
+-- over tables
+abbrev pub Reports : {S A : Type 0} → Ghosts S → FailStop (Held S) → FailStop (Held S) → (State → A → Type 0) → Result A Code → Type 0
+Reports g old new Tells answer = ReportsBy (IsHonest g) (λ h s. HoldsIn g s h) (λ h s t. LeavesIn g s t h) old new Tells answer

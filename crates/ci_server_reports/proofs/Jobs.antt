@@ -1,0 +1,90 @@
+-- The jobs of a pipeline, as what was looked up tells them.
+use Rattle.std.specs.Prelude.{◌≡◌, ℕ, Bool, true, false, cond, List, [], ◌∷◌, length, map, filter, ◌==◌}
+use Rattle.std.proofs.Common.{refl, sym, ap, subst, ◌∙◌, eqb-true}
+use Rattle.std.proofs.lemmas.Bool.{cond_both, cond-false, both_ways}
+use Rattle.ci_board.specs.declared.facts.Facts.{Facts}
+use Rattle.ci_board.specs.declared.facts.Row.{Row}
+use Rattle.ci_board.specs.declared.facts.Status.{Status}
+use Rattle.ci_board.specs.declared.facts.Status.TheVariants as status
+use Rattle.ci_machine.specs.declared.records.Attempt.{Attempt}
+use Rattle.ci_machine.specs.declared.records.Holder.{Holder}
+use Rattle.ci_machine.specs.declared.records.Job.{Job}
+use Rattle.ci_machine.specs.declared.records.Pipeline.{Pipeline}
+use Rattle.ci_machine.specs.declared.records.PipelineWithStatus.{PipelineWithStatus}
+use Rattle.ci_machine.specs.Bodies.{status_of_jobs}
+use Rattle.ci_machine.specs.Eligible.{is_free}
+use Rattle.ci_machine.specs.Holders.{holders}
+use Rattle.ci_machine.specs.Indexes.{with_status}
+use Rattle.ci_machine.specs.Kept.{Kept}
+use Rattle.ci_machine.specs.Ranges.{is_within}
+use Rattle.ci_machine.specs.ReportRows.{pending_status, shown_status, job_row, job_rows}
+use Rattle.ci_machine.specs.Statuses.{jobs_of, attempts_of, facts_of, rows_of, row_for, status_for}
+use Rattle.ci_machine.proofs.Keyed.{Has, has_find, has_from_all}
+use Rattle.ci_machine_statuses.proofs.Puts.{map_same}
+use Rattle.ci_server_lookups.specs.Records.{IsWhole}
+use Rattle.ci_server_lookups.specs.declared.records.Whole.{Whole}
+use Rattle.ci_server_reports.specs.Told.{job_told}
+
+map_map : {A B C : Type 0} (g : B → C) (f : A → B) (xs : List A) → map g (map f xs) ≡ map (λ x. g (f x)) xs
+map_map g f [] = refl
+map_map g f (x ∷ xs) = ap (λ l. g (f x) ∷ l) (map_map g f xs)
+
+-- those that pass the one test, where all that pass it pass the other
+filter_implied : {A : Type 0} (p q : A → Bool) (xs : List A) → ((x : A) → p x ≡ true → q x ≡ true) → filter p (filter q xs) ≡ filter p xs
+filter_implied p q [] h = refl
+filter_implied p q (x ∷ xs) h =
+    cond_both (q x) (x ∷ filter q xs) (filter q xs) (λ l. filter p l ≡ filter p (x ∷ xs))
+    (λ e. ap (λ l. cond (p x) (x ∷ l) l) (filter_implied p q xs h))
+    (λ e. filter_implied p q xs h ∙ sym (cond-false (p x) (x ∷ filter p xs) (filter p xs) (fails (p x) (λ t. both_ways (q x) e (h x t)))))
+  where
+    fails : (b : Bool) → (b ≡ true → ⊥) → b ≡ false
+    fails true d = absurd (d refl)
+    fails false d = refl
+
+-- by holders that hold alike a job is told alike
+shown_alike : (hs gs : List Holder) (project : ℕ) (j : Job) (s : Status) → is_free hs project j.options.resource_group ≡ is_free gs project j.options.resource_group → shown_status hs project j s ≡ shown_status gs project j s
+shown_alike hs gs project j status.Created same = refl
+shown_alike hs gs project j status.Pending same = ap pending_status same
+shown_alike hs gs project j status.Running same = refl
+shown_alike hs gs project j status.Success same = refl
+shown_alike hs gs project j status.Failed same = refl
+shown_alike hs gs project j status.Canceled same = refl
+shown_alike hs gs project j status.Skipped same = refl
+shown_alike hs gs project j status.Manual same = refl
+
+module _ (k : Kept) (id : ℕ) (w : Whole) (whole : IsWhole k id w) where
+  number : w.pipeline.id ≡ id
+  number = eqb-true w.pipeline.id id (has_find (λ (p : Pipeline). p.id == id) w.pipeline k.state.pipelines whole.there).1
+
+  tries : (j : Job) → Has j w.records.jobs.items → length (filter (λ a. a.job == j.id) w.records.attempts.items) ≡ length (attempts_of k.state j.id)
+  tries j h =
+      let first = whole.records.first in
+      let last = whole.records.last in
+      let own : Attempt → Bool = λ a. a.job == j.id in
+      ap (λ (l : List Attempt). length (filter own l)) whole.records.are_attempts
+      ∙ ap length (filter_implied own (λ a. is_within first last a.job) k.state.attempts
+      (λ a e. subst (λ m. is_within first last m ≡ true) (sym (eqb-true a.job j.id e)) (has_from_all (λ (i : Job). is_within first last i.id ≡ true) j w.records.jobs.items whole.records.inside h)))
+
+  one_told : (j : Job) → Has j w.records.jobs.items → job_told w.held.items w.pipeline.project w.records.attempts.items k.board j ≡ job_row k.state k.board w.pipeline.project j
+  one_told j h =
+      let free = has_from_all (λ (i : Job). is_free w.held.items w.pipeline.project i.options.resource_group ≡ is_free (holders k.state) w.pipeline.project i.options.resource_group) j w.records.jobs.items whole.held h in
+      let shown = shown_alike w.held.items (holders k.state) w.pipeline.project j (status_for k.board j.id) free in
+      let count = tries j h in
+      λ i. record { job = j.id; status = shown i; tries = count i; name = j.name }
+
+  -- its jobs are told as they are
+  pub jobs_told : map (job_told w.held.items w.pipeline.project w.records.attempts.items k.board) w.records.jobs.items ≡ job_rows k.state k.board w.pipeline
+  jobs_told =
+      map_same (job_told w.held.items w.pipeline.project w.records.attempts.items k.board) (job_row k.state k.board w.pipeline.project) w.records.jobs.items one_told
+      ∙ ap (map (job_row k.state k.board w.pipeline.project)) (whole.records.are_jobs ∙ ap (jobs_of k.state) (sym number))
+
+  -- with these rows of their statuses
+  pub rows_told : (rows : List Row) → rows ≡ rows_of k.state k.board id → rows ≡ map (λ j. row_for k.board j.id) w.records.jobs.items
+  rows_told rows is = is ∙ map_map (row_for k.board) (λ (j : Job). j.id) (jobs_of k.state id) ∙ ap (map (λ (j : Job). row_for k.board j.id)) (sym whole.records.are_jobs)
+
+  -- and the pipeline with its status
+  pub head_told : (st : Status) (facts : List Facts) (rows : List Row) → facts ≡ facts_of k.state id → rows ≡ rows_of k.state k.board id → st ≡ status_of_jobs w.records.jobs.items facts rows
+      → ◌≡◌ {A = PipelineWithStatus} (record { pipeline = w.pipeline; status = st }) (with_status k.state k.board w.pipeline)
+  head_told st facts rows are_facts are_rows is =
+      let its = is ∙ (λ i. status_of_jobs (whole.records.are_jobs i) (are_facts i) (are_rows i)) ∙ ap (λ n. status_of_jobs (jobs_of k.state n) (facts_of k.state n) (rows_of k.state k.board n)) (sym number) in
+      ap (λ (s : Status). record { pipeline = w.pipeline; status = s }) its
