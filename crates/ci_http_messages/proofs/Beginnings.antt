@@ -14,12 +14,12 @@ use Rattle.ci_http_messages.proofs.Readings.{after_body, by_few, by_enough, read
 use Rattle.ci_http_messages.specs.declared.limits.TheConstants.{MAX_HEAD_BYTES, MAX_HEAD_LINES}
 
 -- the text has a front that opens it alike, whatever follows
-abbrev Cuts : List ℕ → (List ℕ → Opening) → Type 0
+abbrev pub Cuts : List ℕ → (List ℕ → Opening) → Type 0
 Cuts bytes opening =
     (front : List ℕ) × (rest : List ℕ) × (bytes ≡ front ++ rest)
     × ((other : List ℕ) → opening_of (front ++ other) ≡ (opening front, other))
 
-abbrev Opens : List ℕ → Type 0
+abbrev pub Opens : List ℕ → Type 0
 Opens bytes = (opening_of bytes ≡ (short, [])) ⊎ (Cuts bytes (λ front. too_large) ⊎ Cuts bytes opened)
 
 opens_none : (bytes : List ℕ) (s : Bool) → head_len (take MAX_HEAD_BYTES bytes) ≡ None → nat_lt (length bytes) MAX_HEAD_BYTES ≡ s → Opens bytes
@@ -50,7 +50,7 @@ opens_by bytes (Some n) e =
     let found = front ∙ ap Some (sym (length-take-le n bytes fits)) in
     opens_some bytes n (nat_lt MAX_HEAD_LINES (count_by is_line_feed (take n bytes))) e refl less fits found
 
-opens : (bytes : List ℕ) → Opens bytes
+pub opens : (bytes : List ℕ) → Opens bytes
 opens bytes = opens_by bytes (head_len (take MAX_HEAD_BYTES bytes)) refl
 
 -- what a reading took of the bytes after the head

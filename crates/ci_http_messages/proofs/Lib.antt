@@ -4,6 +4,7 @@ pub mod Values
 pub mod Readings
 pub mod Unique
 pub mod Beginnings
+pub mod Dues
 pub mod Responses
 pub mod Codes
 pub mod Requests

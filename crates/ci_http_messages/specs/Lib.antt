@@ -4,6 +4,7 @@ pub mod Head
 pub mod Fields
 pub mod BodyLength
 pub mod Reading
+pub mod Dues
 pub mod Targets
 pub mod RequestBytes
 pub mod ReplyText

@@ -107,7 +107,7 @@ pub fn read_request<R: Source>(alloc: Global, reader: &mut R) -> Result<Call, Ht
 }
 
 // The parts of a head, and how long the body is that follows it.
-fn frame(bytes: &[u8], headers: &mut [HeaderSpan]) -> Result<(RequestSpans, usize), Code>
+pub(crate) fn frame(bytes: &[u8], headers: &mut [HeaderSpan]) -> Result<(RequestSpans, usize), Code>
     requires room { length headers.old ≡ MAX_HEAD_FIELDS }
     requires lines { count_by is_line_feed bytes.now ≤ MAX_HEAD_LINES }
     ensures within { IfOk result (λ p. IsRequestWithin bytes.now headers.new p.0) }

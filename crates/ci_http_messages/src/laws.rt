@@ -15,8 +15,8 @@ use httparse::spans::EMPTY_HEADER_SPAN;
 
 // Bytes as a reader whose calls never fail.
 #[derive(Drop)]
-struct Lent<'b> {
-    rest: &'b [u8],
+pub(crate) struct Lent<'b> {
+    pub(crate) rest: &'b [u8],
 }
 
 impl<'b> Source for Lent<'b> {

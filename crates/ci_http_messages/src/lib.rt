@@ -3,6 +3,7 @@
 
 mod body;
 pub mod call;
+pub mod due;
 pub mod examples;
 pub mod fault;
 pub mod fields;

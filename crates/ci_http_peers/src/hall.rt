@@ -1,0 +1,201 @@
+//! All peers: whose turn it is is said from outside, and what becomes of each here.
+
+use crate::answerer::Answerer;
+use crate::chair::{Chair, Step};
+use crate::peer::{Peer, Stage};
+use crate::peers::{MAX_PEERS, end_late, make_room, next_deadline, next_place, places, put};
+use crate::wire::Wire;
+use std::alloc::{AllocError, Global};
+
+/// The most bytes of a read.
+const READ_BYTES: usize = 16_384;
+
+/// A table of peers, each with its connection.
+#[derive(Drop)]
+pub(crate) struct Hall<W> {
+    alloc: Global,
+    peers: Vec<Option<Peer>>,
+    chairs: Vec<Option<Chair<W>>>,
+    scratch: Vec<u8>,
+    /// How long a whole request may take to come, and a whole reply to be taken, in milliseconds.
+    patience: u64,
+}
+
+impl<W: Wire + Drop> Hall<W> {
+    /// A table at which nobody sits. Errors: memory was refused.
+    pub(crate) fn new(alloc: Global, patience: u64) -> Result<Hall<W>, AllocError> {
+        let mut chairs = Vec::with_capacity(alloc, MAX_PEERS)?;
+        for _ in 0..MAX_PEERS {
+            chairs.push(None)?;
+        }
+        Ok(Hall {
+            alloc,
+            peers: places(alloc)?,
+            chairs,
+            scratch: Vec::from_elem(alloc, 0, READ_BYTES)?,
+            patience,
+        })
+    }
+
+    /// When something is to be done though no connection is ready, in milliseconds. None where nobody sits.
+    pub(crate) fn next_deadline(&self) -> Option<u64> {
+        next_deadline(self.peers.as_slice())
+    }
+
+    /// Takes one more peer, and goes on with it. Where the table is full another gives way, once it was seen whether its request has
+    /// come meanwhile.
+    ///
+    /// Errors: no request can be answered any more.
+    pub(crate) fn admit<T, E, A: Answerer<T, E>>(
+        &mut self,
+        wire: W,
+        answerer: &A,
+        subject: &mut T,
+        now: u64,
+    ) -> Result<(), E> {
+        if let Some(place) = next_place(self.peers.as_slice()) {
+            self.go_on(place, answerer, subject, now)?;
+        }
+        let Some(place) = next_place(self.peers.as_slice()) else {
+            return Ok(());
+        };
+        let chair = Chair::new(self.alloc, wire);
+        self.seat(place, Peer::reading(now, self.patience), chair);
+        self.go_on(place, answerer, subject, now)
+    }
+
+    /// Ends the peers whose time is over.
+    pub(crate) fn end_late(&mut self, now: u64) {
+        end_late(&mut self.peers, now);
+        self.clear();
+    }
+
+    /// Goes on with the peer of a place until its connection isn't ready or is over.
+    ///
+    /// Errors: no request can be answered any more.
+    pub(crate) fn go_on<T, E, A: Answerer<T, E>>(
+        &mut self,
+        place: usize,
+        answerer: &A,
+        subject: &mut T,
+        now: u64,
+    ) -> Result<(), E> {
+        for _ in 0..u64::MAX {
+            match self.step(place, answerer, subject, now)? {
+                Step::Waits => {
+                    self.listen(place);
+                    return Ok(());
+                }
+                Step::Over => {
+                    self.leave(place);
+                    return Ok(());
+                }
+                Step::Again | Step::Whole | Step::Went => {}
+            }
+        }
+        Ok(())
+    }
+
+    /// One call on the connection of a place, and what follows where with it a request is whole or a reply went.
+    fn step<T, E, A: Answerer<T, E>>(
+        &mut self,
+        place: usize,
+        answerer: &A,
+        subject: &mut T,
+        now: u64,
+    ) -> Result<Step, E> {
+        match self.call(place, answerer) {
+            Step::Whole => {
+                self.answer(place, answerer, subject, now)?;
+                Ok(Step::Again)
+            }
+            Step::Went => Ok(self.end_reply(place, now)),
+            step => Ok(step),
+        }
+    }
+
+    /// One call on the connection of a place, by what its peer is at.
+    fn call<T, E, A: Answerer<T, E>>(&mut self, place: usize, answerer: &A) -> Step {
+        let Some(Some(peer)) = self.peers.get(place) else {
+            return Step::Over;
+        };
+        let stage = peer.stage;
+        let Some(Some(chair)) = self.chairs.get_mut(place) else {
+            return Step::Over;
+        };
+        match stage {
+            Stage::Reading => chair.read(&mut self.scratch, answerer),
+            Stage::Writing(_) => chair.write(),
+            Stage::Ending => chair.drain(&mut self.scratch),
+        }
+    }
+
+    /// Has the request of a place answered, and begins its reply, or ends the peer where there is none. Where the replies are too
+    /// many bytes in all now, those give way that have been going longest.
+    fn answer<T, E, A: Answerer<T, E>>(
+        &mut self,
+        place: usize,
+        answerer: &A,
+        subject: &mut T,
+        now: u64,
+    ) -> Result<(), E> {
+        let Some(Some(chair)) = self.chairs.get_mut(place) else {
+            return Ok(());
+        };
+        let Some(reply) = answerer.answer(subject, chair.request())? else {
+            self.leave(place);
+            return Ok(());
+        };
+        let peer = Peer::writing(reply.len(), now, self.patience);
+        chair.reply(reply);
+        put(&mut self.peers, place, Some(peer));
+        make_room(&mut self.peers);
+        self.clear();
+        Ok(())
+    }
+
+    /// Ends the connections of the places where nobody sits.
+    fn clear(&mut self) {
+        for (peer, chair) in self.peers.iter().zip(self.chairs.iter_mut()) {
+            if peer.is_none() {
+                *chair = None;
+            }
+        }
+    }
+
+    /// The reply of a place went as a whole.
+    fn end_reply(&mut self, place: usize, now: u64) -> Step {
+        let Some(Some(chair)) = self.chairs.get_mut(place) else {
+            return Step::Over;
+        };
+        put(&mut self.peers, place, Some(Peer::ending(now)));
+        chair.end()
+    }
+
+    /// Has the loop hear of the connection of a place, or ends it where the system refuses.
+    fn listen(&mut self, place: usize) {
+        let is_heard = match self.chairs.get_mut(place) {
+            Some(Some(chair)) => chair.listen(place).is_ok(),
+            _ => false,
+        };
+        if !is_heard {
+            self.leave(place);
+        }
+    }
+
+    /// A peer sits down at a place; who sat there is gone.
+    fn seat(&mut self, place: usize, peer: Peer, chair: Chair<W>) {
+        put(&mut self.peers, place, Some(peer));
+        if let Some(sat) = self.chairs.get_mut(place) {
+            *sat = Some(chair);
+        }
+    }
+
+    /// The peer of a place goes, and its connection is over.
+    fn leave(&mut self, place: usize) {
+        put(&mut self.peers, place, None);
+        if let Some(sat) = self.chairs.get_mut(place) {
+            *sat = None;
+        }
+    }
+}

@@ -1,0 +1,136 @@
+//! One request that is whole, from its bytes to those of its reply.
+
+ghost use Rattle.std.specs.Prelude.{◌≡◌, ◌<◌, ◌⊎◌, ℕ, Option, List, [], Some, Ok, Err, IfOk, IfSome, IfNone};
+ghost use Rattle.ci_machine.specs.declared.reply.Reply.{Reply};
+ghost use Rattle.ci_machine.specs.declared.request.Seed.{Seed as SeedOf};
+ghost use Rattle.ci_http.specs.ReplyText.{reply_text};
+ghost use Rattle.ci_http.specs.Serving.{Serves};
+ghost use Rattle.ci_http.specs.Sweeping.{SweepsUpTo};
+ghost use Rattle.ci_http_service.specs.declared.stamps.Unstamped.{Unstamped as WhyNone};
+ghost use Rattle.ci_http_service.specs.Attending.{ServesSwept, LeavesSwept};
+
+use crate::stamps::{Stamps, Unstamped};
+use ci_http::link::Link;
+use ci_http::serve::{Served, serve_one};
+use ci_http::sweep::sweep_all;
+use ci_http_routes::paths::Paths;
+use ci_machine::moment::Moment;
+use ci_machine::request::Seed;
+use ci_server::server::Server;
+use ci_store::Alter;
+use std::alloc::Global;
+use std::marker::Brand;
+use std::sync::ledger::{Blank, Ledger};
+
+/// For how many bytes of a reply memory is asked for before its request is handled.
+const ROOM_BYTES: usize = 4_096;
+
+/// Why a request gets no reply.
+#[derive(Clone, Copy, Drop, PartialEq, Eq)]
+pub enum Unanswered {
+    /// There is no moment or no seed for it: nothing was done.
+    NoStamp(Unstamped),
+    /// Its bytes end before it does, or memory for its reply was refused.
+    NoReply,
+}
+
+/// Serves the request of these bytes: one stamp is made for it, the server is swept at its moment, and then it is handled at that
+/// moment and with that seed, once.
+///
+/// Memory for a reply of 4,096 bytes is asked for before the request is handled; for what is longer after that.
+///
+/// Errors: there is no stamp; the bytes end before the request, or memory for the reply was refused.
+pub fn attend<T: Stamps, S: Alter>(
+    alloc: Global,
+    bytes: &[u8],
+    server: &mut Server<S>,
+    paths: &Paths,
+    stamps: &mut T,
+) -> Result<Vec<u8>, Unanswered>
+    // One stamp was made, and with it the server was swept and served these bytes. The bytes of that reply are answered.
+    ensures replied { IfOk result (λ text. (stamp : ℕ × SeedOf) × (reply : Reply)
+        × T.gives stamps.old stamps.new (Ok stamp)
+        × ServesSwept S.Store 1000 stamp server.old server.new bytes.now reply
+        × (text.items ≡ reply_text reply)) }
+    // One stamp was made, and with it the server was swept; the request was handled once, or not at all.
+    ensures no_reply { result ≡ Err Unanswered.NoReply → (stamp : ℕ × SeedOf)
+        × T.gives stamps.old stamps.new (Ok stamp)
+        × LeavesSwept S.Store 1000 stamp server.old server.new bytes.now }
+    // Nothing was done.
+    ensures no_stamp { (why : WhyNone) → result ≡ Err (Unanswered.NoStamp why) → (server.new ≡ server.old)
+        × T.gives stamps.old stamps.new (Err why) }
+{
+    match stamps.next() {
+        Ok((moment, seed)) => match serve_swept(alloc, bytes, server, paths, moment, seed) {
+            Some(text) => Ok(text),
+            None => Err(Unanswered::NoReply),
+        },
+        Err(why) => Err(Unanswered::NoStamp(why)),
+    }
+}
+
+// Sweeps, and serves the request of these bytes. None where the bytes end before it, or memory for its reply was refused.
+fn serve_swept<S: Alter>(
+    alloc: Global,
+    bytes: &[u8],
+    server: &mut Server<S>,
+    paths: &Paths,
+    moment: Moment,
+    seed: Seed,
+) -> Option<Vec<u8>>
+    ensures some { IfSome result (λ text. (reply : Reply)
+        × ServesSwept S.Store 1000 (moment, seed) server.old server.new bytes.now reply
+        × (text.items ≡ reply_text reply)) }
+    ensures none { IfNone result (LeavesSwept S.Store 1000 (moment, seed) server.old server.new bytes.now) }
+{
+    sweep_before(alloc, server, moment);
+    let Ok(room) = Vec::with_capacity(alloc, ROOM_BYTES) else {
+        return None;
+    };
+    let (reads, writes) = (Blank::new(1), Blank::new(1));
+    serve_by::<S, Brand, Brand>(
+        alloc, bytes, room, server, paths, moment, seed, reads, writes,
+    )
+}
+
+// Sweeps before a request: until a sweep finds nothing or is refused, but no more than a thousand times.
+fn sweep_before<S: Alter>(alloc: Global, server: &mut Server<S>, moment: Moment)
+    ensures { SweepsUpTo S.Store moment 1000 server.old server.new }
+{
+    sweep_all(alloc, server, moment);
+}
+
+// Serves the request of these bytes into an empty room. None as above.
+fn serve_by<S: Alter, A: Ledger, B: Ledger>(
+    alloc: Global,
+    bytes: &[u8],
+    room: Vec<u8>,
+    server: &mut Server<S>,
+    paths: &Paths,
+    moment: Moment,
+    seed: Seed,
+    reads: Blank,
+    writes: Blank,
+) -> Option<Vec<u8>>
+    requires empty { room.items ≡ [] }
+    requires reads_name { reads.name ≡ A.name }
+    requires reads_parts { reads.parts ≡ A.parts }
+    requires reads_one { 0 < reads.parts }
+    requires writes_name { writes.name ≡ B.name }
+    requires writes_parts { writes.parts ≡ B.parts }
+    requires writes_one { 0 < writes.parts }
+    ensures some { IfSome result (λ text. (reply : Reply) × (rest : Option (List ℕ))
+        × Serves S.Store moment seed server.old server.new reply (Some bytes.now) rest
+        × (text.items ≡ reply_text reply)) }
+    ensures none { IfNone result ((server.new ≡ server.old) ⊎ ((reply : Reply) × (rest : Option (List ℕ))
+        × Serves S.Store moment seed server.old server.new reply (Some bytes.now) rest)) }
+{
+    let mut reader = Link::<&[u8], A>::new(bytes, reads);
+    let mut writer = Link::<Vec<u8>, B>::new(room, writes);
+    match serve_one(alloc, &mut reader, &mut writer, server, paths, moment, seed) {
+        Served::Replied => Some(writer.into_inner()),
+        Served::Ended => None,
+        Served::ReadFailed => None,
+        Served::WriteFailed => None,
+    }
+}
