@@ -15,9 +15,10 @@ use ci_server::server::Server;
 use ci_store::Alter;
 use clap::Error;
 use clap::error::ErrorKind;
+use mio::net::TcpListener;
 use std::alloc::Global;
 use std::io::{Read, Write};
-use std::net::{Ipv4Addr, TcpListener};
+use std::net::{Ipv4Addr, SocketAddr};
 use std::random::RandomSource;
 use std::time::{Clock, Duration};
 
@@ -145,7 +146,8 @@ fn listen<S: Alter, C: Clock, R: RandomSource, O: Write>(
     sources: &Sources<'_, C, R>,
     output: &mut O,
 ) -> u8 {
-    let Ok(listener) = TcpListener::bind(rt, (Ipv4Addr::LOCALHOST, options.port)) else {
+    let address = SocketAddr::from((Ipv4Addr::LOCALHOST, options.port));
+    let Ok(mut listener) = TcpListener::bind(rt, address) else {
         return say(output, Line::CannotListen(options.port));
     };
     let Ok(paths) = Paths::new(rt.alloc()) else {
@@ -156,8 +158,10 @@ fn listen<S: Alter, C: Clock, R: RandomSource, O: Write>(
         return BROKEN_OFF;
     }
     let served = serve_connections(
+        rt,
         rt.alloc(),
-        &listener,
+        &mut listener,
+        options.port,
         server,
         &paths,
         sources,

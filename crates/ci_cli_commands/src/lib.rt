@@ -7,11 +7,9 @@ mod admin;
 mod commands;
 mod file;
 mod report;
-mod served;
 mod server;
 pub mod serving;
 mod sources;
-mod stream;
 
 pub use commands::{command, refuse_memory};
 pub use sources::Sources;

@@ -1,17 +1,18 @@
-//! Calls of a server that say nothing of it. What they do is said by the contracts of `ci_server` and `ci_http`; here nothing is
+//! Calls of a server that say nothing of it. What they do is said by the contracts of `ci_server` and `ci_http_service`; here nothing is
 //! promised of it, and so no proof of a caller carries it.
 
-use crate::sources::Stamp;
-use ci_http::link::{Sink, Source};
-use ci_http::serve::{Served, serve_one};
-use ci_http::sweep::sweep_all;
+use crate::sources::{Sources, Stamp};
+use ci_cli_words::line::Line;
 use ci_http_routes::paths::Paths;
-use ci_machine::moment::Moment;
+use ci_http_service::attend::{Unanswered, attend};
+use ci_http_service::stamps::Unstamped;
 use ci_machine::reply::Reply;
 use ci_machine::request::Request;
 use ci_server::server::Server;
 use ci_store::Alter;
 use std::alloc::Global;
+use std::random::RandomSource;
+use std::time::Clock;
 
 /// Has a server handle a request.
 pub fn ask<S: Alter>(
@@ -23,32 +24,30 @@ pub fn ask<S: Alter>(
     server.handle(alloc, request, stamp.moment, stamp.seed)
 }
 
-/// Sweeps a server until a sweep finds nothing or is refused, but no more than a thousand times.
-pub fn sweep<S: Alter>(alloc: Global, server: &mut Server<S>, moment: Moment) {
-    sweep_all(alloc, server, moment);
-}
-
 /// Has the store of a server failed?
 pub fn is_closed<S: Alter>(server: &Server<S>) -> bool {
     server.closed()
 }
 
-/// Serves one request, from a reader to a writer.
-pub fn answer<R: Source, W: Sink, S: Alter>(
+/// The bytes of the reply to the request of these: it gets a moment and a seed of its own, the server is swept, and it is handled. None
+/// where there is no reply.
+///
+/// Errors: the line that says why there is no moment or no seed.
+pub fn answer<S: Alter, C: Clock, R: RandomSource>(
     alloc: Global,
-    reader: &mut R,
-    writer: &mut W,
+    bytes: &[u8],
     server: &mut Server<S>,
     paths: &Paths,
-    stamp: Stamp,
-) -> Served {
-    serve_one(
-        alloc,
-        reader,
-        writer,
-        server,
-        paths,
-        stamp.moment,
-        stamp.seed,
-    )
+    sources: &Sources<'_, C, R>,
+) -> Result<Option<Vec<u8>>, Line> {
+    let mut stamps = Sources {
+        clock: sources.clock,
+        seeds: sources.seeds,
+    };
+    match attend(alloc, bytes, server, paths, &mut stamps) {
+        Ok(reply) => Ok(Some(reply)),
+        Err(Unanswered::NoReply) => Ok(None),
+        Err(Unanswered::NoStamp(Unstamped::NoClock)) => Err(Line::NoClock),
+        Err(Unanswered::NoStamp(Unstamped::NoSeed)) => Err(Line::NoSeed),
+    }
 }

@@ -1,79 +1,70 @@
-//! Connections, served one after the other.
+//! Connections, served side by side.
 
-use crate::served::serve;
-use crate::server::sweep;
-use crate::sources::{Sources, Stamp};
-use crate::stream::{Hasty, end_reply};
+use crate::server::answer;
+use crate::sources::Sources;
 use ci_cli_words::line::Line;
-use ci_http::serve::Served;
+use ci_http::due::bytes_due;
+use ci_http_peers::answerer::Answerer;
+use ci_http_peers::serve::{Terms, Unserved, serve_peers};
 use ci_http_routes::paths::Paths;
 use ci_server::server::Server;
 use ci_store::Alter;
+use mio::net::TcpListener;
 use std::alloc::Global;
-use std::io::BufReader;
-use std::net::{TcpListener, TcpStream};
+use std::net::Net;
 use std::random::RandomSource;
 use std::time::{Clock, Duration};
 
-/// Serves so many connections of a listener, one after the other: of each one request. Before it, leases that are over are
-/// ended and redundant pipelines cancelled, at the moment of the connection.
-///
-/// A connection that isn't accepted, one that ends before its request does, and one on which a call fails or `patience` is over,
-/// each count as one. A whole request must come within that time, and a whole reply be taken within it again. From the first
-/// fault of the store on each request is answered M17.
-///
-/// Errors: the line that says why a connection has no moment or no seed. Those that are left are not served.
-pub fn serve_connections<C: Clock, R: RandomSource, S: Alter>(
+/// What requests to a server are answered by: the table of routes, and where their moments and seeds come from.
+#[derive(Drop)]
+struct Desk<'a, 'b, C, R> {
     alloc: Global,
-    listener: &TcpListener,
+    paths: &'a Paths,
+    sources: &'a Sources<'b, C, R>,
+}
+
+impl<'a, 'b, S: Alter, C: Clock, R: RandomSource> Answerer<Server<S>, Line> for Desk<'a, 'b, C, R> {
+    fn bytes_due(&self, bytes: &[u8]) -> Option<usize> {
+        bytes_due(bytes)
+    }
+
+    fn answer(&self, server: &mut Server<S>, bytes: &[u8]) -> Result<Option<Vec<u8>>, Line> {
+        answer(self.alloc, bytes, server, self.paths, self.sources)
+    }
+}
+
+/// Serves so many connections of a listener of this port: of each one request, once it is whole. Only then does it get a moment and
+/// a seed, and before it is handled leases that are over by then are ended and redundant pipelines cancelled.
+///
+/// A connection counts once it is over, however it ends; one that isn't accepted counts too. A whole request must come within
+/// `patience`, and a whole reply be taken within it again. From the first fault of the store on each request is answered M17.
+///
+/// Errors: the line that says why a request has no moment or no seed, or that nothing can be heard. Those that are left are not
+/// served.
+pub fn serve_connections<N: Net, C: Clock, R: RandomSource, S: Alter>(
+    net: &N,
+    alloc: Global,
+    listener: &mut TcpListener,
+    port: u16,
     server: &mut Server<S>,
     paths: &Paths,
     sources: &Sources<'_, C, R>,
     patience: Duration,
     requests: u32,
 ) -> Result<(), Line> {
-    for _ in 0..requests {
-        if let Ok((stream, _)) = listener.accept() {
-            attend(alloc, &stream, server, paths, sources, patience)?;
-        }
-    }
-    Ok(())
-}
-
-/// Serves the one request of a connection, after sweeping.
-fn attend<C: Clock, R: RandomSource, S: Alter>(
-    alloc: Global,
-    stream: &TcpStream,
-    server: &mut Server<S>,
-    paths: &Paths,
-    sources: &Sources<'_, C, R>,
-    patience: Duration,
-) -> Result<(), Line> {
-    let stamp = sources.stamp()?;
-    sweep(alloc, server, stamp.moment);
-    let served = serve_stream(alloc, stream, server, paths, sources.clock, patience, stamp);
-    if served == Served::Replied {
-        end_reply(stream, sources.clock);
-    }
-    Ok(())
-}
-
-/// Serves the one request of a stream. Where memory for a buffer is refused, it is read without one.
-fn serve_stream<C: Clock, S: Alter>(
-    alloc: Global,
-    stream: &TcpStream,
-    server: &mut Server<S>,
-    paths: &Paths,
-    clock: &C,
-    patience: Duration,
-    stamp: Stamp,
-) -> Served {
-    let writer = Hasty::new(stream, clock, patience);
-    match BufReader::new(alloc, Hasty::new(stream, clock, patience)) {
-        Ok(reader) => serve(alloc, reader, writer, server, paths, stamp),
-        Err(_) => {
-            let reader = Hasty::new(stream, clock, patience);
-            serve(alloc, reader, writer, server, paths, stamp)
-        }
+    let desk = Desk {
+        alloc,
+        paths,
+        sources,
+    };
+    let terms = Terms {
+        patience: u64::try_from(patience.as_millis()).unwrap_or(u64::MAX),
+        connections: requests,
+    };
+    match serve_peers(net, alloc, sources.clock, listener, terms, &desk, server) {
+        Ok(()) => Ok(()),
+        Err(Unserved::Unanswered(line)) => Err(line),
+        Err(Unserved::NoClock) => Err(Line::NoClock),
+        Err(Unserved::NoWait) => Err(Line::CannotListen(port)),
     }
 }

@@ -1,6 +1,7 @@
 //! Where moments and seeds come from.
 
 use ci_cli_words::line::Line;
+use ci_http_service::stamps::{Stamps, Unstamped};
 use ci_machine::moment::Moment;
 use ci_machine::request::Seed;
 use rand::TryRng;
@@ -46,5 +47,18 @@ impl<'a, C: Clock, R: RandomSource> Sources<'a, C, R> {
         let moment = moment_now(self.clock).ok_or(Line::NoClock)?;
         let seed = seed_of(self.seeds).ok_or(Line::NoSeed)?;
         Ok(Stamp { moment, seed })
+    }
+}
+
+impl<'a, C: Clock, R: RandomSource> Stamps for Sources<'a, C, R> {
+    ghost use Rattle.std.specs.Prelude.{⊤};
+
+    // Nothing is known of what a clock tells, or a source of random bytes gives.
+    ghost gives = { λ _ _ _. ⊤ };
+
+    fn next(&mut self) -> Result<(Moment, Seed), Unstamped> {
+        let moment = moment_now(self.clock).ok_or(Unstamped::NoClock)?;
+        let seed = seed_of(self.seeds).ok_or(Unstamped::NoSeed)?;
+        Ok((moment, seed))
     }
 }

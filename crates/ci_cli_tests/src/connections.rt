@@ -3,7 +3,7 @@
 use crate::peers::{attend, got, has_sent, listen, sends};
 use ci_server_fixtures::acts::PATH;
 use ci_server_fixtures::servers::{InMemory, after, altered, is_closed};
-use std::net::TcpListener;
+use mio::net::TcpListener;
 use std::process::Abort;
 use std::test::Fail;
 use std::time::{Duration, Instant};
@@ -23,12 +23,12 @@ fn exchange(rt: &HostRuntime, server: &mut InMemory, rows: &[Exchange]) -> Resul
     let Ok(connections) = u32::try_from(rows.len()) else {
         return Err("too many requests")?;
     };
-    let listener = listen(rt)?;
+    let mut listener = listen(rt)?;
     let mut peers = Vec::new(rt.alloc());
     for (request, _) in rows {
         peers.push(has_sent(rt, &listener, request.as_bytes())?)?;
     }
-    let is_served = attend(rt, &listener, server, Some(1000), connections)?;
+    let is_served = attend(rt, &mut listener, server, Some(1000), connections)?;
     for (peer, (request, reply)) in peers.into_iter().zip(rows.iter()) {
         let bytes = got(rt, peer)?;
         if !is_served || !bytes.as_slice().starts_with(reply.as_bytes()) {
@@ -97,7 +97,7 @@ fn a_trace_is_sent_in_pieces(rt: HostRuntime) -> Result<(), Fail> {
 /// Serves a peer that ends after a part of a request. Does it get nothing?
 fn ends_early(
     rt: &HostRuntime,
-    listener: &TcpListener,
+    listener: &mut TcpListener,
     server: &mut InMemory,
     part: &[u8],
 ) -> Result<bool, Fail> {
@@ -110,11 +110,11 @@ fn ends_early(
 #[test]
 fn a_part_of_a_request_does_nothing(rt: HostRuntime) -> Result<(), Fail> {
     let mut server = after(rt.alloc(), &PATH[..4])?;
-    let listener = listen(&rt)?;
+    let mut listener = listen(&rt)?;
     for size in 0..ASK.len() {
         let part = &ASK.as_bytes()[..size];
         assert!(rt;
-            ends_early(&rt, &listener, &mut server, part)?,
+            ends_early(&rt, &mut listener, &mut server, part)?,
             "{size} bytes"
         );
     }
@@ -124,14 +124,14 @@ fn a_part_of_a_request_does_nothing(rt: HostRuntime) -> Result<(), Fail> {
 #[test]
 fn no_peer_holds_the_server(rt: HostRuntime) -> Result<(), Fail> {
     let mut server = after(rt.alloc(), &PATH[..4])?;
-    let listener = listen(&rt)?;
+    let mut listener = listen(&rt)?;
     let start = Instant::now(&rt)?;
     let silent = sends(&rt, &listener, b"")?;
     let half = sends(&rt, &listener, &ASK.as_bytes()[..40])?;
     // This one is gone when its reply comes.
     drop(has_sent(&rt, &listener, b"GET / HTTP/1.1\r\n\r\n")?);
     let next = has_sent(&rt, &listener, ASK.as_bytes())?;
-    assert!(rt; attend(&rt, &listener, &mut server, Some(1000), 4)?);
+    assert!(rt; attend(&rt, &mut listener, &mut server, Some(1000), 4)?);
     assert!(rt; start.elapsed(&rt)? < Duration::from_secs(5));
     assert!(rt;
         got(&rt, next)?
@@ -144,21 +144,11 @@ fn no_peer_holds_the_server(rt: HostRuntime) -> Result<(), Fail> {
 }
 
 #[test]
-fn a_connection_that_is_not_accepted_counts(rt: HostRuntime) -> Result<(), Fail> {
-    let mut server = after(rt.alloc(), &PATH[..4])?;
-    let listener = listen(&rt)?;
-    // Nobody waits, so that each call for the next fails at once.
-    listener.set_nonblocking(true)?;
-    assert!(rt; attend(&rt, &listener, &mut server, Some(1000), 3)?);
-    Ok(())
-}
-
-#[test]
 fn without_a_moment_nothing_is_served(rt: HostRuntime) -> Result<(), Fail> {
     let mut server = after(rt.alloc(), &PATH[..4])?;
-    let listener = listen(&rt)?;
+    let mut listener = listen(&rt)?;
     let peer = has_sent(&rt, &listener, ASK.as_bytes())?;
-    assert!(rt; !attend(&rt, &listener, &mut server, None, 1)?);
+    assert!(rt; !attend(&rt, &mut listener, &mut server, None, 1)?);
     drop(peer);
     Ok(())
 }
@@ -183,9 +173,9 @@ fn a_reply_before_the_end_of_the_body_arrives(rt: HostRuntime) -> Result<(), Fai
         b"POST /api/v4/jobs/request HTTP/1.1\r\nContent-Length: 100000\r\n\r\n",
     )?;
     request.resize(100_000, b' ')?;
-    let listener = listen(&rt)?;
+    let mut listener = listen(&rt)?;
     let peer = has_sent(&rt, &listener, request.as_slice())?;
-    assert!(rt; attend(&rt, &listener, &mut server, Some(1000), 1)?);
+    assert!(rt; attend(&rt, &mut listener, &mut server, Some(1000), 1)?);
     assert!(rt;
         got(&rt, peer)?
             .as_slice()

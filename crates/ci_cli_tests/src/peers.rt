@@ -6,17 +6,19 @@ use ci_http_routes::paths::Paths;
 use ci_server::server::Server;
 use ci_server_fixtures::clock::Still;
 use ci_store::Alter;
+use mio::net::TcpListener;
 use std::io::{Read, Write};
-use std::net::{Ipv4Addr, Shutdown, TcpListener, TcpStream};
+use std::net::{Ipv4Addr, Shutdown, SocketAddr, TcpStream};
+use std::random::RandomSource;
 use std::test::Fail;
-use std::time::Duration;
+use std::time::{Clock, Duration};
 
 /// How long a peer has in the tests, in milliseconds.
 const PATIENCE_MILLIS: u64 = 300;
 
 /// A listener on a free port.
 pub(crate) fn listen(rt: &HostRuntime) -> Result<TcpListener, Fail> {
-    Ok(TcpListener::bind(rt, (Ipv4Addr::LOCALHOST, 0))?)
+    Ok(TcpListener::bind(rt, SocketAddr::from((Ipv4Addr::LOCALHOST, 0)))?)
 }
 
 /// A peer that has sent bytes, and may send more.
@@ -51,24 +53,37 @@ pub(crate) fn got(rt: &HostRuntime, mut peer: TcpStream) -> Result<Vec<u8>, Fail
 /// Serves so many connections at a moment. Had each a moment?
 pub(crate) fn attend<S: Alter>(
     rt: &HostRuntime,
-    listener: &TcpListener,
+    listener: &mut TcpListener,
     server: &mut Server<S>,
     moment: Option<u64>,
     requests: u32,
 ) -> Result<bool, Fail> {
-    let paths = Paths::new(rt.alloc())?;
     let still = Still { rt, moment };
     let sources = Sources {
         clock: &still,
         seeds: &still,
     };
+    attend_by(rt, listener, server, &sources, requests)
+}
+
+/// Serves so many connections by these sources. Had each request a moment and a seed?
+pub(crate) fn attend_by<S: Alter, C: Clock, R: RandomSource>(
+    rt: &HostRuntime,
+    listener: &mut TcpListener,
+    server: &mut Server<S>,
+    sources: &Sources<'_, C, R>,
+    requests: u32,
+) -> Result<bool, Fail> {
+    let paths = Paths::new(rt.alloc())?;
     let patience = Duration::from_millis(PATIENCE_MILLIS);
     let served = serve_connections(
+        rt,
         rt.alloc(),
         listener,
+        1,
         server,
         &paths,
-        &sources,
+        sources,
         patience,
         requests,
     );
