@@ -137,6 +137,13 @@ fn head_of(text: &str) -> (&str, &str) {
     (head, rest.trim())
 }
 
+/// Adds a line, without blanks at its end.
+fn put_line(lines: &mut String, line: &str) -> Result<(), Fault> {
+    lines.push_str(line.trim_end())?;
+    lines.push_str("\n")?;
+    Ok(())
+}
+
 /// A line behind its mark, without the blank between.
 fn behind(rest: &str) -> &str {
     rest.strip_prefix(' ').unwrap_or(rest)
@@ -182,15 +189,20 @@ impl Reader {
                 Bar::Rows,
                 Some(
                     Step {
-                        action: Action::Rows(_, rows) | Action::Report(_, rows),
+                        action: Action::Rows(_, rows),
                         ..
                     },
                 ),
-            ) => {
-                rows.push_str(rest.trim_end())?;
-                rows.push_str("\n")?;
-                Ok(())
-            }
+            ) => put_line(rows, rest),
+            (
+                Bar::Rows,
+                Some(
+                    Step {
+                        action: Action::Report(_, lines),
+                        ..
+                    },
+                ),
+            ) => put_line(lines, rest),
             _ => Err(Fault::Unread("a line of no text and no rows")),
         }
     }
