@@ -138,7 +138,7 @@ fn head_of(text: &str) -> (&str, &str) {
 }
 
 /// Adds a line, without blanks at its end.
-fn put_line(lines: &mut String, line: &str) -> Result<(), Fault> {
+fn put_behind_bar(lines: &mut String, line: &str) -> Result<(), Fault> {
     lines.push_str(line.trim_end())?;
     lines.push_str("\n")?;
     Ok(())
@@ -193,7 +193,7 @@ impl Reader {
                         ..
                     },
                 ),
-            ) => put_line(rows, rest),
+            ) => put_behind_bar(rows, rest),
             (
                 Bar::Rows,
                 Some(
@@ -202,7 +202,7 @@ impl Reader {
                         ..
                     },
                 ),
-            ) => put_line(lines, rest),
+            ) => put_behind_bar(lines, rest),
             _ => Err(Fault::Unread("a line of no text and no rows")),
         }
     }
