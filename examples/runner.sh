@@ -4,11 +4,13 @@
 #   RUNNER_TOKEN=r1-.. examples/runner.sh [--once] URL [PROJECT]        as in: examples/runner.sh http://127.0.0.1:8080 examples/project
 #
 # Each job runs in a copy of the folder PROJECT (else of the current one), in one shell that stops at the first line of the script that
-# fails. What its script leaves running is killed when it ends. The job itself is killed at its timeout, and where the server took no report
-# of it for 120 seconds: from then on it may run elsewhere. With --once the runner ends when the server has no job for it. A signal ends
+# fails. What its script leaves running is killed when it ends. The job itself is killed at its timeout, and before the server has heard
+# nothing of it for 120 seconds: from then on it may run elsewhere. With --once the runner ends when the server has no job for it. A signal ends
 # it, and the server is told. It needs bash, curl, jq and setsid.
 set -u
 umask 077
+# So long the runner holds a job on to what it last heard: a call takes a second more than it may, and a clock tells whole seconds.
+held=117
 once=; [[ ${1-} != --once ]] || { once=1; shift; }
 [[ $# -ge 1 && ${RUNNER_TOKEN-} ]] || { echo "usage: RUNNER_TOKEN=.. runner.sh [--once] URL [PROJECT]" >&2; exit 2; }
 api=$1/api/v4 project=$(realpath "${2-.}") work=$(mktemp -d) runner=$RUNNER_TOKEN id='' pid=''
@@ -35,7 +37,7 @@ report() {
         is_late
         [[ -z $pid || $reason ]] || ((limit - begun >= left)) || left=$((limit - begun))
         if call "$1" "$2" $((left < 30 ? left : 30)) "${@:3}"; then
-            [[ $code != 20[02] ]] || lease=$((begun + 120)) heard=$begun
+            [[ $code != 20[02] ]] || lease=$((begun + held)) heard=$begun
             return
         fi
     done
@@ -86,7 +88,7 @@ begin_job() {
 run_job() {
     local name result sent=0 full='' running=1
     IFS=$'\t' read -r id token timeout name < <(jq -r '[.id, .token, .timeout, .job_info.name] | @tsv' "$work/reply")
-    lease=$(($1 + 120)) limit=$(($1 + timeout)) heard=$1 reason='' room=$work/$id
+    lease=$(($1 + held)) limit=$(($1 + timeout)) heard=$1 reason='' room=$work/$id
     mkdir "$room"
     begin_job || { put_state failed runner_system_failure; echo "attempt $id of $name: no copy of $project" >&2; return; }
     while sleep 0.2; [[ $running ]]; do
