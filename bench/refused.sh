@@ -13,7 +13,7 @@ set -eu
 . "$(dirname "$0")/tables.sh"
 need gcc
 gcc -O2 -shared -fPIC -o "$work/refuse.so" "$root/bench/refuse.c" || stop "bench/refuse.c was not built"
-build refused "${1:-/dev/shm}" ci_server_fixtures ci_server
+build refused "${1:-/dev/shm}" ci_server_fixtures ci_server ci_http_routes
 ended=0
 
 # tried ENDS WORD..: these ends are as wanted.
@@ -25,11 +25,11 @@ tried() {
 }
 
 loads="next project project-with variables-of variable runner runner-with pipeline newer-of job demand job-variables attempt attempts-of
-  live-attempts holder unfinished
+  live-attempts holder unfinished pipelines-before some-before
   pieces-of jobs-of needs-within attempts-within rows-within row pending-after"
 events="add-project add-runner set-file set-file-again set-file-fault set-variable delete-variable create-pipeline create-with
   create-stages create-circle create-no-file ask-job ask-job-none ask-job-unknown running success success-stages append show-job
-  show-trace show-pipeline play play-none retry cancel-job cancel-job-stages cancel-pipeline cancel-stages sweep sweep-stages
+  show-trace show-pipeline play play-none retry prune prune-none cancel-job cancel-job-stages cancel-pipeline cancel-stages sweep sweep-stages
   sweep-none add-runner-of pause-runner pause-none ask-ship ask-ship-held success-ship cancel-ship sweep-ship sweep-redundant"
 for look in rows again; do
   for call in $loads commit $events sweep-hundreds sweep-hundreds-none; do tried "0 10" "$call" memory "$look"; done

@@ -2,6 +2,7 @@
 
 use crate::admin::request_of;
 use crate::file::{let_go, make, open};
+use crate::prune::{Progress, prune};
 use crate::report::report;
 use crate::server::{ask, is_closed};
 use crate::serving::serve_connections;
@@ -17,7 +18,7 @@ use clap::Error;
 use clap::error::ErrorKind;
 use mio::net::TcpListener;
 use std::alloc::Global;
-use std::io::{Read, Write};
+use std::io::{IsTerminal, Read, Write};
 use std::net::{Ipv4Addr, SocketAddr};
 use std::random::RandomSource;
 use std::time::{Clock, Duration};
@@ -30,7 +31,7 @@ const PATIENCE_SECONDS: u64 = 10;
 /// input can't be read, nothing can be heard, or what is to be said can't be written.
 ///
 /// Faults are looked for in this order: in the words, the file, its store, the port, the clock, the request. What is printed with
-/// status 2 goes to `errors`, and every other line to `output`.
+/// status 2 goes to `errors`, and so does how far a long command is, where a terminal shows it; every other line goes to `output`.
 pub fn command<C: Clock, R: RandomSource, I: Read + Drop, O: Write, E: Write>(
     rt: &HostRuntime,
     words: &[String],
@@ -40,7 +41,7 @@ pub fn command<C: Clock, R: RandomSource, I: Read + Drop, O: Write, E: Write>(
     errors: &mut E,
 ) -> u8 {
     match task_of(rt.alloc(), words) {
-        Ok(task) => perform(rt, task, sources, input, output),
+        Ok(task) => perform(rt, task, sources, input, output, errors),
         Err(error) if error.kind() == ErrorKind::OutOfMemory => refuse_memory(output),
         Err(error) => print_words(&error, output, errors),
     }
@@ -63,18 +64,26 @@ fn print_words<O: Write, E: Write>(error: &Error, output: &mut O, errors: &mut E
     }
 }
 
-fn perform<C: Clock, R: RandomSource, I: Read + Drop, O: Write>(
+fn perform<C: Clock, R: RandomSource, I: Read + Drop, O: Write, E: Write>(
     rt: &HostRuntime,
     task: Task<'_>,
     sources: &Sources<'_, C, R>,
     input: I,
     output: &mut O,
+    errors: &mut E,
 ) -> u8 {
     match task {
         Task::Check(file) => exit_status(&check_word(rt, rt.alloc(), file, input, output)),
         Task::Init(file) => init(rt, file, output),
         Task::Send(file, asked) => send(rt, file, asked, sources, output),
         Task::Report(file, kind) => report(rt, file, kind, output),
+        Task::Prune(file, before) => {
+            let progress = Progress {
+                to: errors,
+                is_shown: rt.stderr().is_terminal(),
+            };
+            prune(rt, file, before, sources, output, progress)
+        }
         Task::Serve(options) => serve(rt, options, sources, output),
     }
 }

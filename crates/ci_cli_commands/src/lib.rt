@@ -6,6 +6,7 @@
 mod admin;
 mod commands;
 mod file;
+mod prune;
 mod report;
 mod server;
 pub mod serving;

@@ -1,11 +1,10 @@
 //! Calls of a server that say nothing of it. What they do is said by the contracts of `ci_server` and `ci_http_service`; here nothing is
 //! promised of it, and so no proof of a caller carries it.
 
-use crate::sources::{Sources, Stamp};
+use crate::sources::{Sources, Stamp, line_of};
 use ci_cli_words::line::Line;
 use ci_http_routes::paths::Paths;
 use ci_http_service::attend::{Unanswered, attend};
-use ci_http_service::stamps::Unstamped;
 use ci_machine::reply::Reply;
 use ci_machine::request::Request;
 use ci_server::server::Server;
@@ -47,7 +46,6 @@ pub fn answer<S: Alter, C: Clock, R: RandomSource>(
     match attend(alloc, bytes, server, paths, &mut stamps) {
         Ok(reply) => Ok(Some(reply)),
         Err(Unanswered::NoReply) => Ok(None),
-        Err(Unanswered::NoStamp(Unstamped::NoClock)) => Err(Line::NoClock),
-        Err(Unanswered::NoStamp(Unstamped::NoSeed)) => Err(Line::NoSeed),
+        Err(Unanswered::NoStamp(unstamped)) => Err(line_of(unstamped)),
     }
 }

@@ -25,6 +25,14 @@ pub struct Stamp {
     pub seed: Seed,
 }
 
+/// The line that says why an event has no moment or no seed.
+pub fn line_of(unstamped: Unstamped) -> Line {
+    match unstamped {
+        Unstamped::NoClock => Line::NoClock,
+        Unstamped::NoSeed => Line::NoSeed,
+    }
+}
+
 /// The moment that a clock tells, in whole seconds since 1970. None where it can't be read, or where it is out of the limits.
 pub fn moment_now<C: Clock>(clock: &C) -> Option<Moment> {
     let now = SystemTime::now(clock).ok()?;
@@ -42,11 +50,21 @@ pub fn seed_of<R: RandomSource>(source: &R) -> Option<Seed> {
 impl<'a, C: Clock, R: RandomSource> Sources<'a, C, R> {
     /// The moment and the seed of an event that happens now. The clock is looked at first.
     ///
+    /// Errors: why there is none.
+    fn draw(&self) -> Result<(Moment, Seed), Unstamped> {
+        let moment = moment_now(self.clock).ok_or(Unstamped::NoClock)?;
+        let seed = seed_of(self.seeds).ok_or(Unstamped::NoSeed)?;
+        Ok((moment, seed))
+    }
+
+    /// The same, for a command that sends a request.
+    ///
     /// Errors: the line that says why there is none.
     pub fn stamp(&self) -> Result<Stamp, Line> {
-        let moment = moment_now(self.clock).ok_or(Line::NoClock)?;
-        let seed = seed_of(self.seeds).ok_or(Line::NoSeed)?;
-        Ok(Stamp { moment, seed })
+        match self.draw() {
+            Ok((moment, seed)) => Ok(Stamp { moment, seed }),
+            Err(unstamped) => Err(line_of(unstamped)),
+        }
     }
 }
 
@@ -57,8 +75,6 @@ impl<'a, C: Clock, R: RandomSource> Stamps for Sources<'a, C, R> {
     ghost gives = { λ _ _ _. ⊤ };
 
     fn next(&mut self) -> Result<(Moment, Seed), Unstamped> {
-        let moment = moment_now(self.clock).ok_or(Unstamped::NoClock)?;
-        let seed = seed_of(self.seeds).ok_or(Unstamped::NoSeed)?;
-        Ok((moment, seed))
+        self.draw()
     }
 }

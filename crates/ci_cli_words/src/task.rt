@@ -1,5 +1,6 @@
 //! What a command line asks for.
 
+use ci_machine::moment::Moment;
 use ci_machine::request::RunnerPause;
 
 /// What a command line asks for.
@@ -13,6 +14,8 @@ pub enum Task<'a> {
     Send(&'a str, AdminRequest<'a>),
     /// To tell what the server of a file has.
     Report(&'a str, ReportKind),
+    /// To prune the finished pipelines of the server of a file that were made before a moment.
+    Prune(&'a str, Moment),
     /// To serve requests over a socket.
     Serve(ServeOptions<'a>),
 }

@@ -4,6 +4,7 @@ ghost use Rattle.std.specs.Prelude.{◌≡◌, Some, IfSome};
 ghost use Rattle.clap.specs.Matches.{subcommand_name_of};
 ghost use Rattle.ci_cli_words.specs.Words.{name_of, admin_name};
 
+use crate::date::midnight_of;
 use crate::task::{AdminRequest, ReportKind, RunnerOptions, ServeOptions, Task};
 use ci_machine::request::RunnerPause;
 use ci_values::limits::MAX_NUMBER;
@@ -25,6 +26,8 @@ const RUNNER_ADD: &str = "runner-add";
 const RUNNER_PAUSE: &str = "runner-pause";
 
 const REPORT: &str = "report";
+
+const PRUNE: &str = "prune";
 
 const SERVE: &str = "serve";
 
@@ -49,6 +52,8 @@ const KIND: &str = "kind";
 
 const PIPELINE: &str = "pipeline";
 
+const BEFORE: &str = "before";
+
 const PORT: &str = "port";
 
 const REQUESTS: &str = "requests";
@@ -66,7 +71,7 @@ pub fn task_of<'a>(alloc: Global, words: &'a [String]) -> Result<Task<'a>, Error
         Some(task) => Ok(task),
         None => Err(command.error(
             ErrorKind::InvalidValue,
-            "a command is wanted, whose values don't begin with '-'; a report is of the kind queue, pipeline or runners, and of a pipeline alone --pipeline is given",
+            "a command is wanted, whose values don't begin with '-'; a report is of the kind queue, pipeline or runners, and of a pipeline alone --pipeline is given; --before is a date from 1970 on, as 2026-01-31",
         )?),
     }
 }
@@ -84,6 +89,7 @@ fn command_line<'a>(alloc: Global) -> Result<Command<'a>, AllocError> {
         .subcommand(runner_add(alloc)?)?
         .subcommand(runner_pause(alloc)?)?
         .subcommand(report(alloc)?)?
+        .subcommand(prune(alloc)?)?
         .subcommand(serve(alloc)?)
 }
 
@@ -179,6 +185,17 @@ fn report<'a>(alloc: Global) -> Result<Command<'a>, AllocError> {
         .arg(pipeline)
 }
 
+fn prune<'a>(alloc: Global) -> Result<Command<'a>, AllocError> {
+    let before = option(alloc, BEFORE)
+        .required(true)
+        .value_name("YYYY-MM-DD")
+        .help("The day, in UTC; what was made on it stays");
+    Command::new(alloc, PRUNE)
+        .about("Removes the finished pipelines that were made before a day")
+        .arg(file_option(alloc))?
+        .arg(before)
+}
+
 fn serve<'a>(alloc: Global) -> Result<Command<'a>, AllocError> {
     let port = number(alloc, PORT, u16::MAX as u64)
         .required(true)
@@ -194,7 +211,7 @@ fn serve<'a>(alloc: Global) -> Result<Command<'a>, AllocError> {
 }
 
 /// What the command asks for that was found among the words, by its name. None where the value of an option begins with `-`, or where
-/// there is no such report.
+/// there is no such report, or no such day.
 fn task_named<'a>(matches: &ArgMatches<'a>) -> Option<Task<'a>>
     ensures { IfSome result (λ task. subcommand_name_of matches.now ≡ Some (name_of task)) }
 {
@@ -207,6 +224,10 @@ fn task_named<'a>(matches: &ArgMatches<'a>) -> Option<Task<'a>>
     if let Some(found) = matches.subcommand_matches(REPORT) {
         let kind = report_kind_in(found)?;
         return Some(Task::Report(text_in(found, DB)?, kind));
+    }
+    if let Some(found) = matches.subcommand_matches(PRUNE) {
+        let before = midnight_of(found.get_str(BEFORE)?)?;
+        return Some(Task::Prune(text_in(found, DB)?, before));
     }
     if let Some(found) = matches.subcommand_matches(SERVE) {
         return Some(Task::Serve(serve_options_in(found)?));

@@ -44,6 +44,10 @@ created_data id token = object (member (codes "id") (number (unsigned id)) (memb
 abbrev pub paused_data : ℕ → Bool → Data
 paused_data id paused = object (member (codes "id") (number (unsigned id)) (member (codes "paused") (boolean paused) no_members))
 
+-- a pipeline that was pruned: {"pruned":..}
+abbrev pub pruned_data : ℕ → Data
+pruned_data pipeline = object (member (codes "pruned") (number (unsigned pipeline)) no_members)
+
 -- the status of a job of a project as it is printed: one that is pending waits for its resource group while a live attempt holds that
 abbrev pub printed_status : List Holder → ℕ → Job → Status → List ℕ
 printed_status holders project j status.Pending = if is_free holders project j.options.resource_group then status_text status.Pending else codes "waiting_for_resource"

@@ -9,7 +9,7 @@ use Rattle.ci_machine.specs.declared.records.Unfinished.{Unfinished}
 use Rattle.ci_machine.specs.declared.change.RowChange.{RowChange}
 use Rattle.ci_machine.specs.declared.change.IndexChange.{IndexChange}
 use Rattle.ci_machine.specs.declared.change.IndexChange.TheVariants.{Hold, Free, Open, Close}
-use Rattle.ci_machine.specs.State.{State, empty, put, applied}
+use Rattle.ci_machine.specs.State.{State, empty, put, without_all, applied}
 use Rattle.ci_machine.specs.Holders.{with_holder, without_holder}
 
 pub record Kept : Type 0 where
@@ -51,6 +51,10 @@ indexed (Close pipeline) k = record k { unfinished = without_open pipeline k.unf
 abbrev pub indexed_all : List IndexChange → Kept → Kept
 indexed_all [] k = k
 indexed_all (c ∷ cs) k = indexed_all cs (indexed c k)
+
+-- what is kept without the rows of these jobs
+abbrev pub cleared : List ℕ → Kept → Kept
+cleared jobs k = record k { board = without_all (λ r. r.job) jobs k.board }
 
 -- what is kept after changes of records, puts of rows, and changes of what else is beside the state
 abbrev pub written : List RowChange → List BoardRow → List IndexChange → Kept → Kept

@@ -87,6 +87,11 @@ put cmp x xs = placed cmp x (others cmp x xs)
 abbrev pub without : {A : Type 0} → (A → ℕ) → ℕ → List A → List A
 without id n xs = filter (λ y. not (is_eq (nat_cmp (id y) n))) xs
 
+-- the list without the records that have one of these numbers
+abbrev pub without_all : {A : Type 0} → (A → ℕ) → List ℕ → List A → List A
+without_all id [] xs = xs
+without_all id (n ∷ ns) xs = without_all id ns (without id n xs)
+
 abbrev pub with_next : Counter → ℕ → Numbers → Numbers
 with_next counter.Project n next = record next { project = n }
 with_next counter.Runner n next = record next { runner = n }
@@ -113,9 +118,12 @@ without_record (key.Runner n) s = record s { runners = without (λ r. r.id) n s.
 without_record (key.Pipeline n) s = record s { pipelines = without (λ p. p.id) n s.pipelines }
 without_record (key.Job n) s = record s { jobs = without (λ j. j.id) n s.jobs }
 without_record (key.JobVariable n name) s = record s { job_variables = filter (λ v. not (is_eq (ordering_then (nat_cmp v.job n) (slice_cmp nat_cmp v.key name)))) s.job_variables }
+without_record (key.JobVariables n) s = record s { job_variables = without (λ v. v.job) n s.job_variables }
 without_record (key.Need n pred) s = record s { needs = filter (λ w. not (is_eq (ordering_then (nat_cmp w.job n) (nat_cmp w.pred pred)))) s.needs }
+without_record (key.Needs n) s = record s { needs = without (λ w. w.job) n s.needs }
 without_record (key.Attempt n) s = record s { attempts = without (λ a. a.id) n s.attempts }
 without_record (key.Piece n seq) s = record s { pieces = filter (λ p. not (is_eq (ordering_then (nat_cmp p.attempt n) (nat_cmp p.seq seq)))) s.pieces }
+without_record (key.Pieces n) s = record s { pieces = without (λ p. p.attempt) n s.pieces }
 
 -- the state after one change
 abbrev pub changed : RowChange → State → State

@@ -24,7 +24,7 @@ pub enum Record {
     Next(Counter, u64),
 }
 
-/// The key of a record of any table but that of the next numbers, which stay.
+/// The key of a record of any table but that of the next numbers, which stay; or of all that belong to one.
 #[derive(Drop)]
 pub enum Key {
     Project(u64),
@@ -34,11 +34,17 @@ pub enum Key {
     Pipeline(u64),
     Job(u64),
     JobVariable(u64, Text),
+    /// All variables of a job.
+    JobVariables(u64),
     /// Of a job, and of the one that it waits for.
     Need(u64, u64),
+    /// All that a job waits for.
+    Needs(u64),
     Attempt(u64),
     /// Of an attempt, at a place of its trace.
     Piece(u64, u64),
+    /// The whole trace of an attempt.
+    Pieces(u64),
 }
 
 /// One of the next numbers.
@@ -56,7 +62,7 @@ pub enum Counter {
 pub enum RowChange {
     /// A record in place of the one with its key, or a new one.
     Put(Record),
-    /// The record with the key goes.
+    /// The record with the key goes, or all that have it.
     Remove(Key),
 }
 

@@ -2,6 +2,7 @@
 
 ghost use Rattle.std.specs.Prelude.{◌≡◌};
 
+use crate::moment::Moment;
 use crate::records::{Cause, RefKind, Source};
 use crate::text::{Bytes, Text, Texts};
 use ci_values::items::Items;
@@ -151,6 +152,8 @@ pub enum Request {
     CancelPipeline(PipelineQuery),
     /// A job that has ended is to be tried again.
     RetryJob(JobQuery),
+    /// A finished pipeline that was made before this moment is to go, the one of least number.
+    PruneOne(Moment),
 }
 
 impl Clone for Request {
@@ -175,6 +178,7 @@ impl Clone for Request {
             Request::CancelJob(query) => Request::CancelJob(query.clone()?),
             Request::CancelPipeline(query) => Request::CancelPipeline(query.clone()?),
             Request::RetryJob(query) => Request::RetryJob(query.clone()?),
+            Request::PruneOne(before) => Request::PruneOne(*before),
         })
     }
 }

@@ -1,31 +1,36 @@
 -- All that holds of every state that a history leads to.
-use Rattle.std.specs.Prelude.{◌≡◌, true, false, List, [], ◌∷◌, map, Contains}
-use Rattle.std.proofs.Common.{refl, sym, subst, inl, arith}
+use Rattle.std.specs.Prelude.{◌≡◌, ◌⊎◌, true, false, List, [], ◌∷◌, map, Contains}
+use Rattle.std.proofs.Common.{refl, sym, subst, inl, inr, ⊎_elim, arith}
 use Rattle.ci_machine.specs.declared.records.BoardRow.{BoardRow}
+use Rattle.ci_machine.specs.declared.records.Pipeline.{Pipeline}
+use Rattle.ci_machine.specs.declared.records.Job.{Job}
 use Rattle.ci_machine.specs.declared.records.Attempt.{Attempt}
 use Rattle.ci_machine.specs.State.{State, empty}
 use Rattle.ci_machine.specs.Statuses.{AreBoard}
 use Rattle.ci_machine.specs.Leases.{is_live}
 use Rattle.ci_machine_steps.specs.History.{Past, Leads}
-use Rattle.ci_machine_steps.specs.Laws.{grants, WasGranted, IsTraced, EndsStay, Stay, project_for_good, runner_for_good, job_for_good, attempt_for_good, Stays, IsSweptBy, is_grant, GivesInOrder, Laws}
+use Rattle.ci_machine_steps.specs.Laws.{grants, WasGranted, IsTraced, WasPruned, WentWithItsJob, EndsStay, Stay, project_for_good, runner_for_good, job_for_good, attempt_for_good, Stays, IsSweptBy, IsPrunedBy, is_grant, GivesInOrder, Laws}
 use Rattle.ci_machine.proofs.Keyed.{Has, has_filter, All-from_has, contains_from_has, has_from_contains, has_map}
 use Rattle.ci_machine_laws.proofs.Included.{was_included}
 use Rattle.ci_machine_laws.proofs.Grants.{WasGiven, one_lease}
 use Rattle.ci_machine_laws.proofs.Reached.{reached}
-use Rattle.ci_machine_laws.proofs.Held.{Kept, Later, is_linked, held}
+use Rattle.ci_machine_laws.proofs.Left.{KeptOr, Since}
+use Rattle.ci_machine_laws.proofs.Held.{is_linked, held}
 use Rattle.ci_machine_laws.proofs.Groups.{one_in_group}
 
-stay : {A : Type 0} (f : A → A) (xs ys : List A) → Kept f xs ys → Stay f xs ys
-stay f xs ys k =
-    All-from_has _ xs (λ x m. let y = k x m in contains_from_has (f x) (map f ys) (subst (λ w. Has w (map f ys)) y.1.1 (has_map f y.0 ys y.1.0)))
+stay : {A : Type 0} (f : A → A) (HasGone : A → Type 0) (xs ys : List A) → KeptOr f HasGone xs ys → Stay f HasGone xs ys
+stay f HasGone xs ys k = All-from_has _ xs (λ x m. ⊎_elim
+    (λ y. inl (contains_from_has (f x) (map f ys) (subst (λ w. Has w (map f ys)) y.1.1 (has_map f y.0 ys y.1.0))))
+    (λ g. inr g)
+    (k x m))
 
-stays_from : (s t : State) → Later s t → Stays s t
-stays_from s t l = record {
-  projects = stay project_for_good s.projects t.projects l.projects;
-  runners = stay runner_for_good s.runners t.runners l.runners;
-  pipelines = stay (λ p. p) s.pipelines t.pipelines l.pipelines;
-  jobs = stay job_for_good s.jobs t.jobs l.jobs;
-  attempts = stay attempt_for_good s.attempts t.attempts l.attempts;
+stays_from : (h : List Past) (s t : State) → Since h s t → Stays h s t
+stays_from h s t l = record {
+  projects = stay project_for_good (λ _. ⊥) s.projects t.projects (λ x k. inl (l.projects x k));
+  runners = stay runner_for_good (λ _. ⊥) s.runners t.runners (λ x k. inl (l.runners x k));
+  pipelines = stay (λ p. p) (λ (p : Pipeline). WasPruned h p.id) s.pipelines t.pipelines l.pipelines;
+  jobs = stay job_for_good (λ (j : Job). WasPruned h j.pipeline) s.jobs t.jobs l.jobs;
+  attempts = stay attempt_for_good (WentWithItsJob h) s.attempts t.attempts l.attempts;
 }
 
 -- the rows of nothing
@@ -65,10 +70,12 @@ laws h s leads =
       one_in_group = one_in_group h s leads;
       was_granted = All-from_has (WasGranted h) s.attempts (λ a k. granted h s leads a (i.grants.granted a k));
       traced = All-from_has (IsTraced h s) s.attempts i.traces.traced;
-      ends_stay = All-from_has (λ (p : Past). EndsStay p.before s) h (λ p k. All-from_has (λ (a : Attempt). is_live a ≡ false → Contains s.attempts a) p.before.attempts (λ a m l. contains_from_has a s.attempts (i.ends p k a m l)));
-      stays = All-from_has (λ (p : Past). Stays p.before s) h (λ p k. stays_from p.before s (held.stays p k));
+      ends_stay = All-from_has (λ (p : Past). EndsStay h p.before s) h (λ p k. All-from_has (λ (a : Attempt). is_live a ≡ false → Contains s.attempts a ⊎ WentWithItsJob h a) p.before.attempts
+          (λ a m l. ⊎_elim (λ n. inl (contains_from_has a s.attempts n)) (λ w. inr w) (i.ends p k a m l)));
+      stays = All-from_has (λ (p : Past). Stays h p.before s) h (λ p k. stays_from h p.before s (held.stays p k));
       linked = is_linked s held.linked;
       settled = settled h s leads;
       swept = All-from_has (λ (p : Past). IsSweptBy p.before p.now p.event p.answer) h held.swept;
+      pruned = All-from_has (λ (p : Past). IsPrunedBy p.before p.event p.answer) h held.pruned;
       in_order = All-from_has (λ (p : Past). is_grant p.event p.answer ≡ true → GivesInOrder p.before p.answer) h held.in_order;
     }

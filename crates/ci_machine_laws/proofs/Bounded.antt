@@ -10,12 +10,14 @@ use Rattle.ci_machine.specs.declared.lease.Lease.{Lease}
 use Rattle.ci_machine.specs.declared.records.BoardRow.{BoardRow}
 use Rattle.ci_machine.specs.declared.records.Project.{Project}
 use Rattle.ci_machine.specs.declared.records.Pipeline.{Pipeline}
+use Rattle.ci_machine.specs.declared.records.Job.{Job}
+use Rattle.ci_machine.specs.declared.records.Attempt.{Attempt}
 use Rattle.ci_machine.specs.declared.change.RowChange.{RowChange}
 use Rattle.ci_machine.specs.declared.change.RowChange.TheVariants.{Put}
 use Rattle.ci_machine.specs.declared.change.Record.TheVariants as row
 use Rattle.ci_machine.specs.declared.request.NewPipeline.{NewPipeline}
 use Rattle.ci_machine.specs.declared.request.Request.{Request}
-use Rattle.ci_machine.specs.declared.request.Request.TheVariants.{AddProject, AddRunner, PauseRunner, SetFile, SetVariable, DeleteVariable, CreatePipeline, ShowPipeline, AskJob, UpdateJob, AppendTrace, ShowJob, ShowTrace, Play, CancelJob, CancelPipeline, RetryJob}
+use Rattle.ci_machine.specs.declared.request.Request.TheVariants.{AddProject, AddRunner, PauseRunner, SetFile, SetVariable, DeleteVariable, CreatePipeline, ShowPipeline, AskJob, UpdateJob, AppendTrace, ShowJob, ShowTrace, Play, CancelJob, CancelPipeline, RetryJob, PruneOne}
 use Rattle.ci_machine.specs.declared.request.Event.{Event}
 use Rattle.ci_machine.specs.declared.request.Event.TheVariants as event
 use Rattle.ci_machine.specs.declared.request.Seed.{Seed}
@@ -35,9 +37,12 @@ use Rattle.ci_machine_steps.specs.Sweeps.{sweep}
 use Rattle.ci_machine_steps.specs.Cancels.{cancellable_jobs, cancel}
 use Rattle.ci_machine_steps.specs.Step.{Does, Happens, leases, redundant_in, cancellable_in}
 use Rattle.ci_machine_steps.specs.History.{Past, Leads}
+use Rattle.ci_machine.proofs.Keyed.{Rising}
 use Rattle.ci_machine_steps.proofs.Created.{after_creation, new_length}
+use Rattle.ci_machine_steps.proofs.Pruned.{pruned_state}
 use Rattle.ci_machine_laws.proofs.Acts.{cancels, cancellable_within, after_act}
 use Rattle.ci_machine_laws.proofs.EachPlan.{Each, does, of_asked, given_in}
+use Rattle.ci_machine_laws.proofs.Reached.{reached}
 
 -- the next number of a job is at most one above the limit
 abbrev pub IsWithinLimit : State → Type 0
@@ -98,8 +103,8 @@ IsCreation _ = ⊥
 abbrev Stays : State → Request → Plan → Type 0
 Stays s request plan = (IsCreation request → ⊥) → (applied plan.1 s).next.job ≡ s.next.job
 
-each : (s : State) (board : List BoardRow) (request : Request) → Each s board request (Stays s request)
-each s board request = record {
+each : (s : State) (board : List BoardRow) (request : Request) → Rising (λ (j : Job). j.id) 0 s.jobs → Rising (λ (a : Attempt). a.id) 0 s.attempts → Each s board request (Stays s request)
+each s board request jobs_rise rise = record {
   refused = λ c m _. refl;
   faulted = λ d _. refl;
   project = λ name seed _. refl;
@@ -121,34 +126,40 @@ each s board request = record {
   shown = λ held project job status _. refl;
   traced = λ pieces _. refl;
   acted = λ text changes act _. ap (λ (t : State). t.next.job) (after_act s changes act);
+  pruned = λ p before asks found _. ap (λ (t : State). t.next.job) (pruned_state s p.id jobs_rise rise p refl);
 }
 
 -- ---- each step
 
-requested : (s : State) (board : List BoardRow) (request : Request) (now : ℕ) (seed : Seed) (plan : Plan) → IsWithinLimit s → (IsCreation request → ⊥) → Does s board request now seed plan
-    → IsWithinLimit (applied plan.1 s)
-requested s board request now seed plan within other is =
-    subst (λ n. n ≤ MAX_NUMBER + 1) (sym (does s board (Stays s request) request (each s board request) now seed plan is other)) within
+-- the numbers of jobs and of attempts rise
+abbrev Rises : State → Type 0
+Rises s = Rising (λ (j : Job). j.id) 0 s.jobs × Rising (λ (a : Attempt). a.id) 0 s.attempts
 
-by_request : (s : State) (board : List BoardRow) (request : Request) (now : ℕ) (seed : Seed) (plan : Plan) → IsWithinLimit s → Does s board request now seed plan → IsWithinLimit (applied plan.1 s)
-by_request s board (CreatePipeline new) now seed plan within is =
+requested : (s : State) (board : List BoardRow) (request : Request) (now : ℕ) (seed : Seed) (plan : Plan) → Rises s → IsWithinLimit s → (IsCreation request → ⊥) → Does s board request now seed plan
+    → IsWithinLimit (applied plan.1 s)
+requested s board request now seed plan rises within other is =
+    subst (λ n. n ≤ MAX_NUMBER + 1) (sym (does s board (Stays s request) request (each s board request rises.0 rises.1) now seed plan is other)) within
+
+by_request : (s : State) (board : List BoardRow) (request : Request) (now : ℕ) (seed : Seed) (plan : Plan) → Rises s → IsWithinLimit s → Does s board request now seed plan → IsWithinLimit (applied plan.1 s)
+by_request s board (CreatePipeline new) now seed plan rises within is =
     creates s new (given_in s new) now plan within (may_create (of_asked s new.token new.project) new) (refuses (of_asked s new.token new.project) new) is
-by_request s board (AddProject name) now seed plan within is = requested s board (AddProject name) now seed plan within (λ e. e) is
-by_request s board (AddRunner new) now seed plan within is = requested s board (AddRunner new) now seed plan within (λ e. e) is
-by_request s board (PauseRunner pause) now seed plan within is = requested s board (PauseRunner pause) now seed plan within (λ e. e) is
-by_request s board (SetFile new) now seed plan within is = requested s board (SetFile new) now seed plan within (λ e. e) is
-by_request s board (SetVariable new) now seed plan within is = requested s board (SetVariable new) now seed plan within (λ e. e) is
-by_request s board (DeleteVariable query) now seed plan within is = requested s board (DeleteVariable query) now seed plan within (λ e. e) is
-by_request s board (ShowPipeline query) now seed plan within is = requested s board (ShowPipeline query) now seed plan within (λ e. e) is
-by_request s board (AskJob token) now seed plan within is = requested s board (AskJob token) now seed plan within (λ e. e) is
-by_request s board (UpdateJob update) now seed plan within is = requested s board (UpdateJob update) now seed plan within (λ e. e) is
-by_request s board (AppendTrace part) now seed plan within is = requested s board (AppendTrace part) now seed plan within (λ e. e) is
-by_request s board (ShowJob query) now seed plan within is = requested s board (ShowJob query) now seed plan within (λ e. e) is
-by_request s board (ShowTrace query) now seed plan within is = requested s board (ShowTrace query) now seed plan within (λ e. e) is
-by_request s board (Play query) now seed plan within is = requested s board (Play query) now seed plan within (λ e. e) is
-by_request s board (CancelJob query) now seed plan within is = requested s board (CancelJob query) now seed plan within (λ e. e) is
-by_request s board (CancelPipeline query) now seed plan within is = requested s board (CancelPipeline query) now seed plan within (λ e. e) is
-by_request s board (RetryJob query) now seed plan within is = requested s board (RetryJob query) now seed plan within (λ e. e) is
+by_request s board (AddProject name) now seed plan rises within is = requested s board (AddProject name) now seed plan rises within (λ e. e) is
+by_request s board (AddRunner new) now seed plan rises within is = requested s board (AddRunner new) now seed plan rises within (λ e. e) is
+by_request s board (PauseRunner pause) now seed plan rises within is = requested s board (PauseRunner pause) now seed plan rises within (λ e. e) is
+by_request s board (SetFile new) now seed plan rises within is = requested s board (SetFile new) now seed plan rises within (λ e. e) is
+by_request s board (SetVariable new) now seed plan rises within is = requested s board (SetVariable new) now seed plan rises within (λ e. e) is
+by_request s board (DeleteVariable query) now seed plan rises within is = requested s board (DeleteVariable query) now seed plan rises within (λ e. e) is
+by_request s board (ShowPipeline query) now seed plan rises within is = requested s board (ShowPipeline query) now seed plan rises within (λ e. e) is
+by_request s board (AskJob token) now seed plan rises within is = requested s board (AskJob token) now seed plan rises within (λ e. e) is
+by_request s board (UpdateJob update) now seed plan rises within is = requested s board (UpdateJob update) now seed plan rises within (λ e. e) is
+by_request s board (AppendTrace part) now seed plan rises within is = requested s board (AppendTrace part) now seed plan rises within (λ e. e) is
+by_request s board (ShowJob query) now seed plan rises within is = requested s board (ShowJob query) now seed plan rises within (λ e. e) is
+by_request s board (ShowTrace query) now seed plan rises within is = requested s board (ShowTrace query) now seed plan rises within (λ e. e) is
+by_request s board (Play query) now seed plan rises within is = requested s board (Play query) now seed plan rises within (λ e. e) is
+by_request s board (CancelJob query) now seed plan rises within is = requested s board (CancelJob query) now seed plan rises within (λ e. e) is
+by_request s board (CancelPipeline query) now seed plan rises within is = requested s board (CancelPipeline query) now seed plan rises within (λ e. e) is
+by_request s board (RetryJob query) now seed plan rises within is = requested s board (RetryJob query) now seed plan rises within (λ e. e) is
+by_request s board (PruneOne before) now seed plan rises within is = requested s board (PruneOne before) now seed plan rises within (λ e. e) is
 
 swept : (s : State) (board : List BoardRow) → IsWithinLimit s → (o : Option Lease) (redundant : Option Pipeline) → IsWithinLimit (applied (sweep o redundant s.attempts (cancellable_in s board redundant)).1 s)
 swept s board within None None = within
@@ -157,14 +168,16 @@ swept s board within None (Some p) =
     subst IsWithinLimit (sym (after_act s (cancel s.attempts jobs) (cancels s jobs (cancellable_within s board p.id)))) within
 swept s board within (Some l) redundant = within
 
-goes_on : (s : State) (board : List BoardRow) (e : Event) (now : ℕ) (seed : Seed) (a : Answer) (changes : List RowChange) → IsWithinLimit s → Happens s board e now seed a changes → IsWithinLimit (applied changes s)
-goes_on s board (event.Request request) now seed (answer.Reply reply) changes within is = by_request s board request now seed (reply, changes) within is
-goes_on s board event.Sweep now seed (answer.Swept ended) changes within is =
+goes_on : (s : State) (board : List BoardRow) (e : Event) (now : ℕ) (seed : Seed) (a : Answer) (changes : List RowChange) → Rises s → IsWithinLimit s → Happens s board e now seed a changes → IsWithinLimit (applied changes s)
+goes_on s board (event.Request request) now seed (answer.Reply reply) changes rises within is = by_request s board request now seed (reply, changes) rises within is
+goes_on s board event.Sweep now seed (answer.Swept ended) changes rises within is =
     let P : Swept × List RowChange → Type 0 = λ f. IsWithinLimit (applied f.1 s) in
     subst P (sym is) (swept s board within (first_due (leases s) now) (redundant_in s board))
-goes_on s board (event.Request request) now seed (answer.Swept ended) changes within is = absurd is
-goes_on s board event.Sweep now seed (answer.Reply reply) changes within is = absurd is
+goes_on s board (event.Request request) now seed (answer.Swept ended) changes rises within is = absurd is
+goes_on s board event.Sweep now seed (answer.Reply reply) changes rises within is = absurd is
 
 pub within_limit : (h : List Past) (s : State) → Leads h s → IsWithinLimit s
 within_limit [] s l = subst IsWithinLimit (sym l) (omega arith)
-within_limit (p ∷ h) s l = subst IsWithinLimit (sym l.1.state) (goes_on p.before l.1.before p.event p.now p.seed p.answer l.1.changes (within_limit h p.before l.0) l.1.happens)
+within_limit (p ∷ h) s l =
+    let grants = (reached h p.before l.0).grants in
+    subst IsWithinLimit (sym l.1.state) (goes_on p.before l.1.before p.event p.now p.seed p.answer l.1.changes (grants.jobs_rise, grants.rise) (within_limit h p.before l.0) l.1.happens)

@@ -1,7 +1,7 @@
 -- Boards that are computed: of a state with one pipeline, whose rows are given.
-use Rattle.std.specs.Prelude.{◌≡◌, ◌⊎◌, ℕ, ◌+◌, ◌<◌, ◌≤◌, ◌==◌, nat_lt, Bool, true, List, [], ◌∷◌, length, map, filter}
+use Rattle.std.specs.Prelude.{◌≡◌, ◌⊎◌, ℕ, ◌+◌, ◌<◌, ◌≤◌, ◌==◌, nat_lt, List, [], ◌∷◌, length, map}
 use Rattle.std.specs.List.{AllByRecursion}
-use Rattle.std.proofs.Common.{refl, sym, ap, subst, ◌∙◌, inl, inr, ⊎_elim, arith, ltb-true}
+use Rattle.std.proofs.Common.{sym, ap, subst, ◌∙◌, inl, inr, ⊎_elim, arith, ltb-true, eqb-true}
 use Rattle.std.proofs.lemmas.Bool.{cond_both, cases_Bool, ltb-false}
 use Rattle.ci_graph.specs.JobGraph.{JobGraph, part_at}
 use Rattle.ci_board.specs.declared.facts.Facts.{Facts}
@@ -13,8 +13,9 @@ use Rattle.ci_board.proofs.Assignments.{assignment_of}
 use Rattle.ci_machine.specs.declared.records.Job.{Job}
 use Rattle.ci_machine.specs.declared.records.BoardRow.{BoardRow}
 use Rattle.ci_machine.specs.State.{State}
-use Rattle.ci_machine.specs.Statuses.{graph_by, facts_in, row_for, AreBoard}
+use Rattle.ci_machine.specs.Statuses.{jobs_of, graph_by, facts_in, row_for, AreBoard}
 use Rattle.ci_machine.proofs.Keyed.{Has, filter_none}
+use Rattle.ci_machine.proofs.Filters.{filter_all}
 
 -- ---- rows
 
@@ -45,10 +46,6 @@ all_has : {A : Type 0} (P : A → Type 0) (x : A) (xs : List A) → AllByRecursi
 all_has P x [] all k = absurd k
 all_has P x (y ∷ ys) all k = ⊎_elim (λ e. subst P (sym e) all.0) (λ m. all_has P x ys all.1 m) k
 
-filter_all : {A : Type 0} (p : A → Bool) (xs : List A) → ((x : A) → Has x xs → p x ≡ true) → filter p xs ≡ xs
-filter_all p [] h = refl
-filter_all p (x ∷ xs) h = rw (h x (inl refl)) (ap (λ l. x ∷ l) (filter_all p xs (λ y k. h y (inr k))))
-
 module _ (s : State) (board : List BoardRow) where
   -- the rows of some of its jobs
   abbrev pub AreTheirs : List Job → Type 0
@@ -67,4 +64,20 @@ module _ (s : State) (board : List BoardRow) where
         (λ e. subst AreTheirs (sym (filter_all (λ (j : Job). j.pipeline == q) s.jobs (λ j k. ap (λ n. n == q) (its j k) ∙ e))) rows)
         (λ e. subst AreTheirs (sym (filter_none (λ (j : Job). j.pipeline == q) s.jobs (λ j k. ap (λ n. n == q) (its j k) ∙ e))) none)
         (cases_Bool (p == q));
+  }
+
+  -- where each job is of one of two pipelines, the board is right if the rows of both are
+  pub two_pipelines : (p q : ℕ) → AllByRecursion (λ j. (j.pipeline ≡ p) ⊎ (j.pipeline ≡ q)) s.jobs → map (λ r. r.job) board ≡ map (λ j. j.id) s.jobs → AreTheirs (jobs_of s p) → AreTheirs (jobs_of s q) → AreBoard s board
+  two_pipelines p q of keys first second = record {
+    keys = keys;
+    each = λ n. ⊎_elim
+        (λ e. subst (λ m. AreTheirs (jobs_of s m)) (eqb-true p n e) first)
+        (λ e. ⊎_elim
+        (λ f. subst (λ m. AreTheirs (jobs_of s m)) (eqb-true q n f) second)
+        (λ f. subst AreTheirs (sym (filter_none (λ (j : Job). j.pipeline == n) s.jobs (λ j k. ⊎_elim
+        (λ g. ap (λ m. m == n) g ∙ e)
+        (λ g. ap (λ m. m == n) g ∙ f)
+        (all_has (λ (w : Job). (w.pipeline ≡ p) ⊎ (w.pipeline ≡ q)) j s.jobs of k)))) none)
+        (cases_Bool (q == n)))
+        (cases_Bool (p == n));
   }

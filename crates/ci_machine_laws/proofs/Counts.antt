@@ -2,10 +2,11 @@
 use Rattle.std.specs.Prelude.{◌≡◌, ℕ, ◌+◌, ◌≤◌, Bool, true, false, not, List, [], ◌∷◌, length, filter}
 use Rattle.std.specs.Ordering.{nat_cmp, is_eq, is_lt}
 use Rattle.std.specs.declared.cmp.Ordering.{Ordering}
-use Rattle.std.proofs.Common.{refl, sym, ap, subst, ◌∙◌, inl, inr, ⊎_elim, arith}
+use Rattle.std.proofs.Common.{sym, ap, subst, ◌∙◌, ⊎_elim, arith}
 use Rattle.std.proofs.lemmas.Bool.{cond_both, cases_Bool}
 use Rattle.ci_machine.specs.State.{placed, others, put}
 use Rattle.ci_machine.proofs.Keyed.{Has, Rising, Below, rising_from, equal, unequal}
+use Rattle.ci_machine.proofs.Filters.{filter_all}
 
 -- how many of a list pass
 abbrev pub passing : {A : Type 0} → (A → Bool) → List A → ℕ
@@ -32,10 +33,6 @@ passing_placed cmp p x (z ∷ zs) =
     cond_both (is_lt (cmp z x)) (z ∷ placed cmp x zs) (x ∷ z ∷ zs) (λ l. passing p (x ∷ z ∷ zs) ≤ passing p l)
     (λ _. let a = passing_swap p x z zs in let b = passing_cons p z (x ∷ zs) (placed cmp x zs) (passing_placed cmp p x zs) in omega arith)
     (λ _. omega arith)
-
-filter_all : {A : Type 0} (q : A → Bool) (xs : List A) → ((y : A) → Has y xs → q y ≡ true) → filter q xs ≡ xs
-filter_all q [] h = refl
-filter_all q (z ∷ zs) h = rw (h z (inl refl)) (ap (λ l. z ∷ l) (filter_all q zs (λ y k. h y (inr k))))
 
 module _ {A : Type 0} (id : A → ℕ) (p : A → Bool) (x : A) where
   abbrev cmp : A → A → Ordering

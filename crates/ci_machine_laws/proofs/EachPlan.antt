@@ -35,7 +35,7 @@ use Rattle.ci_machine.specs.declared.request.PipelineQuery.{PipelineQuery}
 use Rattle.ci_machine.specs.declared.request.Event.{Event}
 use Rattle.ci_machine.specs.declared.request.Event.TheVariants as event
 use Rattle.ci_machine.specs.declared.request.Request.{Request}
-use Rattle.ci_machine.specs.declared.request.Request.TheVariants.{AddProject, AddRunner, PauseRunner, SetFile, SetVariable, DeleteVariable, CreatePipeline, ShowPipeline, AskJob, UpdateJob, AppendTrace, ShowJob, ShowTrace, Play, CancelJob, CancelPipeline, RetryJob}
+use Rattle.ci_machine.specs.declared.request.Request.TheVariants.{AddProject, AddRunner, PauseRunner, SetFile, SetVariable, DeleteVariable, CreatePipeline, ShowPipeline, AskJob, UpdateJob, AppendTrace, ShowJob, ShowTrace, Play, CancelJob, CancelPipeline, RetryJob, PruneOne}
 use Rattle.ci_machine.specs.declared.request.Report.{Report}
 use Rattle.ci_machine.specs.declared.request.Report.TheVariants as report
 use Rattle.ci_machine.specs.declared.request.JobUpdate.{JobUpdate}
@@ -73,10 +73,11 @@ use Rattle.ci_machine_steps.specs.Plays.{is_playable, play}
 use Rattle.ci_machine_steps.specs.Retries.{is_retryable, retry}
 use Rattle.ci_machine_steps.specs.Cancels.{is_cancellable, cancellable_jobs, cancel, CancelsSome, CancelsPipeline}
 use Rattle.ci_machine_steps.specs.Sweeps.{sweep}
+use Rattle.ci_machine_steps.specs.Prunes.{prunable_in, pruned_reply, pipeline_goes, prune}
 use Rattle.ci_machine.specs.Leases.{accepted, first_due}
 use Rattle.ci_machine.specs.Eligible.{may_run, resource_free, is_eligible, chosen}
 use Rattle.ci_machine.specs.Holders.{holders}
-use Rattle.ci_machine_steps.specs.Step.{Does, Happens, Step, project_with, project_named, runner_at, redundant_in, cancellable_in, project_variables, variable_at, pipeline_at, runner_with, attempt_at, pipeline_of, job_at, found_job, found_pipeline, last_attempt, pieces_in, lease_of, leases, is_pending, pending_jobs, queued, queue, offer, offered_variables}
+use Rattle.ci_machine_steps.specs.Step.{Does, Happens, Step, project_with, project_named, runner_at, redundant_in, cancellable_in, project_variables, variable_at, pipeline_at, runner_with, attempt_at, pipeline_of, job_at, found_job, found_pipeline, last_attempt, pieces_in, lease_of, leases, is_pending, pending_jobs, queued, queue, offer, offered_variables, jobs_in}
 use Rattle.ci_machine_steps.specs.Laws.{IsRefusal}
 use Rattle.ci_machine.specs.Reply.{Stepped, outcome_of}
 use Rattle.ci_machine.proofs.Keyed.{Has, has_filter, has_find, find-map}
@@ -294,6 +295,7 @@ pub record Each (s : State) (board : List BoardRow) (request : Request) (P : Pla
   pub variable : (project : Project) (new : NewVariable) → P (variable_set project new)
   pub gone : (v : Variable) → P (variable_gone v)
   pub pipeline : (new : NewPipeline) (now : ℕ) → request ≡ CreatePipeline new → OfCreation s P new now
+  -- there is nothing to run, or nothing to prune
   pub nothing : P nothing_to_run
   pub granted : (runner : Runner) (job : Job) (q : QueuedJob) (variables : List JobVariable) (now : ℕ) (seed : Seed)
       → Has runner s.runners → Has job s.jobs → is_pending board job ≡ true → queued s job ≡ q → resource_free (holders s) q ≡ true → P (granted runner q variables s.next.attempt now seed)
@@ -306,6 +308,7 @@ pub record Each (s : State) (board : List BoardRow) (request : Request) (P : Pla
   pub shown : (held : List Holder) (project : ℕ) (job : Job) (status : Status) → P (job_shown held project job status)
   pub traced : (pieces : List Piece) → P (trace_shown pieces)
   pub acted : (text : List ℕ) (changes : List RowChange) → IsAct s changes → P (fine (Json text), changes)
+  pub pruned : (p : Pipeline) (before : ℕ) → request ≡ PruneOne before → prunable_in s board before ≡ Some p → P (pruned_reply p.id, pipeline_goes p (jobs_of s p.id) s.attempts)
 
 module _ (s : State) (board : List BoardRow) (request : Request) (P : Plan → Type 0) (each : Each s board request P) where
   projects : (name : List ℕ) (seed : Seed) → P (add_project s.next.project name seed)
@@ -371,6 +374,10 @@ module _ (s : State) (board : List BoardRow) (request : Request) (P : Plan → T
       let has = has_find (λ (b : Attempt). b.id == part.attempt) a s.attempts found in
       cond_both (bytes_eq a.token part.token) _ (refused M5) P (λ _. grows a has.0 part.bytes now (accepted a l.limit now a.size part.from (length part.bytes))) (λ _. each.refused M5 tt)
 
+  prunes : (before : ℕ) → request ≡ PruneOne before → (found : Option Pipeline) → prunable_in s board before ≡ found → P (prune found (jobs_in s found) s.attempts)
+  prunes before asks None found = each.nothing
+  prunes before asks (Some p) found = each.pruned p before asks found
+
 -- a query names a job, or is refused
 within : (Q : Result Job Code → Type 0) → ((j : Job) → Q (Ok j)) → ((c : Code) → IsMachineCode c → Q (Err c)) → (job : Option Job) (pipeline : Option Pipeline) (project : ℕ) → Q (job_within job pipeline project)
 within Q fine refused None pipeline project = refused M3 tt
@@ -409,6 +416,7 @@ does s board P (Play query) each now seed plan is = of_play s board P each.refus
 does s board P (CancelJob query) each now seed plan is = of_job_cancel s board P each.refused each.acted query plan is
 does s board P (RetryJob query) each now seed plan is = of_retry s board P each.refused each.acted query plan is
 does s board P (CancelPipeline query) each now seed plan is = of_cancel s board P each.refused each.acted query plan is
+does s board P (PruneOne before) each now seed plan is = subst P (sym is) (prunes s board (PruneOne before) P each before refl (prunable_in s board before) refl)
 
 -- where the plan is a refusal, it changes nothing
 abbrev Keeps : Plan → Type 0
@@ -436,6 +444,7 @@ keeps s board request = record {
   shown = λ held project job status _. refl;
   traced = λ pieces _. refl;
   acted = λ text changes act refused. absurd (false≢true refused);
+  pruned = λ p before asks found refused. absurd (false≢true refused);
 }
 
 -- a sweep that ends and cancels nothing changes nothing, and it refuses nothing
@@ -481,6 +490,7 @@ steps s board request = record {
   shown = λ held project job status. refl;
   traced = λ pieces. refl;
   acted = λ text changes act. refl;
+  pruned = λ p before asks found. refl;
 } where
   away : (fault : LeaseFault) → IsStep (unleased fault, [])
   away (NotLive state) = refl

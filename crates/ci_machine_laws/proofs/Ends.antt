@@ -1,6 +1,6 @@
--- What has ended stays as it ended, in every state that a history leads to.
-use Rattle.std.specs.Prelude.{◌≡◌, ℕ, Bool, true, false, List, ◌∷◌, Result, Ok, Err}
-use Rattle.std.proofs.Common.{refl, sym, ap, subst, ◌∙◌, ⊎_elim}
+-- What has ended stays as it ended or went with its pipeline, in every state that a history leads to.
+use Rattle.std.specs.Prelude.{◌≡◌, ◌⊎◌, ℕ, Bool, true, false, List, ◌∷◌, Result, Ok, Err}
+use Rattle.std.proofs.Common.{refl, sym, ap, subst, ◌∙◌, inl, inr, ⊎_elim}
 use Rattle.std.proofs.lemmas.Bool.{both_ways}
 use Rattle.ci_machine.specs.declared.records.Attempt.{Attempt}
 use Rattle.ci_values.specs.declared.attempts.AttemptState.{AttemptState}
@@ -11,29 +11,34 @@ use Rattle.ci_machine.specs.declared.lease.PieceFault.{PieceFault}
 use Rattle.ci_machine.specs.Leases.{is_live, while_leased, renewed, if_leased}
 use Rattle.ci_machine.specs.State.{State, attempt_cmp, put}
 use Rattle.ci_machine_steps.specs.History.{Past}
+use Rattle.ci_machine_steps.specs.Laws.{WentWithItsJob}
 use Rattle.ci_machine.proofs.Keyed.{Has, put_has, unequal}
+use Rattle.ci_machine_laws.proofs.Gone.{still_gone}
 
--- what had ended in the state before a line stands there as it ended
+-- what had ended in the state before a line stands there as it ended, or went with its pipeline
 abbrev pub Ends : List Past → State → Type 0
-Ends h s = (p : Past) → Has p h → (a : Attempt) → Has a p.before.attempts → is_live a ≡ false → Has a s.attempts
+Ends h s = (p : Past) → Has p h → (a : Attempt) → Has a p.before.attempts → is_live a ≡ false → Has a s.attempts ⊎ WentWithItsJob h a
 
-earlier : (h : List Past) (s : State) (p : Past) → p.before ≡ s → Ends h s → (q : Past) → Has q (p ∷ h) → (a : Attempt) → Has a q.before.attempts → is_live a ≡ false → Has a s.attempts
-earlier h s p b i q k a m l = ⊎_elim (λ e. subst (λ (w : State). Has a w.attempts) (ap (λ (w : Past). w.before) e ∙ b) m) (λ n. i q n a m l) k
+earlier : (h : List Past) (s : State) (p : Past) → p.before ≡ s → Ends h s → (q : Past) → Has q (p ∷ h) → (a : Attempt) → Has a q.before.attempts → is_live a ≡ false → Has a s.attempts ⊎ WentWithItsJob h a
+earlier h s p b i q k a m l = ⊎_elim (λ e. inl (subst (λ (w : State). Has a w.attempts) (ap (λ (w : Past). w.before) e ∙ b) m)) (λ n. i q n a m l) k
 
--- a step that leaves the attempts
-pub stays : (h : List Past) (s t : State) (p : Past) → p.before ≡ s → Ends h s → t.attempts ≡ s.attempts → Ends (p ∷ h) t
-stays h s t p b i e q k a m l = subst (Has a) (sym e) (earlier h s p b i q k a m l)
+-- a step after which what had ended stands, or went with its pipeline
+pub goes_on : (h : List Past) (s t : State) (p : Past) → p.before ≡ s → Ends h s → ((a : Attempt) → Has a s.attempts → is_live a ≡ false → Has a t.attempts ⊎ WentWithItsJob (p ∷ h) a) → Ends (p ∷ h) t
+goes_on h s t p b i stands q k a m l = ⊎_elim (λ n. stands a n l) (λ w. inr (still_gone p h a w)) (earlier h s p b i q k a m l)
 
 -- a step that leaves what has ended
 pub leaves_ended : (h : List Past) (s t : State) (p : Past) → p.before ≡ s → Ends h s → ((a : Attempt) → Has a s.attempts → is_live a ≡ false → Has a t.attempts) → Ends (p ∷ h) t
-leaves_ended h s t p b i keeps q k a m l = keeps a (earlier h s p b i q k a m l) l
+leaves_ended h s t p b i keeps = goes_on h s t p b i (λ a k l. inl (keeps a k l))
+
+-- a step that leaves the attempts
+pub stays : (h : List Past) (s t : State) (p : Past) → p.before ≡ s → Ends h s → t.attempts ≡ s.attempts → Ends (p ∷ h) t
+stays h s t p b i e = leaves_ended h s t p b i (λ a k l. subst (Has a) (sym e) k)
 
 -- a step that puts x, where none of its number has ended
 pub puts : (h : List Past) (s t : State) (p : Past) (x : Attempt) → p.before ≡ s → Ends h s → t.attempts ≡ put attempt_cmp x s.attempts
     → ((a : Attempt) → Has a s.attempts → a.id ≡ x.id → is_live a ≡ true) → Ends (p ∷ h) t
-puts h s t p x b i e live q k a m l =
-    let has = earlier h s p b i q k a m l in
-    subst (Has a) (sym e) (put_has attempt_cmp x a s.attempts has (unequal a.id x.id (λ f. both_ways (is_live a) l (live a has f))))
+puts h s t p x b i e live =
+    leaves_ended h s t p b i (λ a has l. subst (Has a) (sym e) (put_has attempt_cmp x a s.attempts has (unequal a.id x.id (λ f. both_ways (is_live a) l (live a has f)))))
 
 -- ---- what is accepted of a runner is of a live attempt
 

@@ -2,7 +2,7 @@
 use Rattle.std.specs.Prelude.{◌≡◌, ◌⊎◌, ℕ, ◌+◌, max, ◌==◌, ◌&&◌, ◌||◌, not, Bool, true, false, List, [], ◌∷◌, ◌++◌, flat_map, Option, Some, None, Ok, option_map}
 use Rattle.std.specs.List.{list_any}
 use Rattle.std.specs.Str.{bytes_eq}
-use Rattle.std.proofs.Common.{refl, sym, ap, subst, ◌∙◌, inl, inr, ⊎_elim, eqb-true}
+use Rattle.std.proofs.Common.{refl, sym, ap, subst, ◌∙◌, inl, inr, ⊎_elim, eqb-true, ne_eqb}
 use Rattle.std.proofs.lemmas.Bool.{cond_both, cases_Bool, both_ways, false≢true, and_parts}
 use Rattle.std.proofs.lemmas.Slice.Eq.{bytes_eq-Decides}
 use Rattle.ci_machine.specs.declared.records.BoardRow.{BoardRow}
@@ -24,6 +24,7 @@ use Rattle.ci_machine.specs.declared.reply.Answer.{Answer}
 use Rattle.ci_machine.specs.declared.reply.Answer.TheVariants as answer
 use Rattle.ci_machine.specs.declared.reply.Swept.{Swept}
 use Rattle.ci_machine.specs.State.{State, applied, put, attempt_cmp}
+use Rattle.ci_machine.specs.Statuses.{jobs_of}
 use Rattle.ci_machine.specs.Leases.{is_live, is_over, cause_of, first_due}
 use Rattle.ci_machine.specs.Eligible.{holds, is_free, resource_free}
 use Rattle.ci_machine_steps.specs.Cancels.{cancellable_jobs, cancel}
@@ -36,17 +37,22 @@ use Rattle.ci_machine_steps.specs.Pipelines.{creation, creation_changes}
 use Rattle.ci_machine_steps.specs.Reports.{ended}
 use Rattle.ci_machine_steps.specs.Traces.{grown}
 use Rattle.ci_machine_steps.specs.Sweeps.{sweep}
+use Rattle.ci_machine_steps.specs.Prunes.{is_job_among, without_pipeline}
 use Rattle.ci_machine.specs.Holders.{queued_at, group_held, held_by, held_of, holders, is_in_group}
 use Rattle.ci_machine_steps.specs.Step.{Happens, job_at, pipeline_at, project_or_none, queued, lease_of, leases, live_attempts, redundant_in, cancellable_in}
 use Rattle.ci_machine_steps.specs.History.{Past, Leads}
 use Rattle.ci_machine_steps.specs.Laws.{job_for_good, OneLeaseInGroup}
-use Rattle.ci_machine.proofs.Keyed.{not_true, Has, Rising, has_put, has_filter, filter_has, has_find, find_has, find-map, count_one, Named}
+use Rattle.ci_machine.proofs.Keyed.{not_true, Has, Rising, has_put, has_filter, filter_has, has_find, find_has, find-map, count_one, Named, rising_filter}
+use Rattle.ci_machine.proofs.Filters.{find_implied}
 use Rattle.ci_machine_steps.proofs.Created.{after_creation}
+use Rattle.ci_machine_steps.proofs.Pruned.{pruned_state, job_left, attempt_was}
 use Rattle.ci_machine_laws.proofs.Acts.{IsAct, cancels, cancellable_within, after_act, came}
 use Rattle.ci_machine_laws.proofs.Grants.{Stood}
 use Rattle.ci_machine_laws.proofs.EachPlan.{Each, does, given_in}
 use Rattle.ci_machine_laws.proofs.Reached.{reached}
-use Rattle.ci_machine_laws.proofs.Held.{Later, Linked, held}
+use Rattle.ci_machine_laws.proofs.Linked.{Later, Linked, linked_on, follows}
+use Rattle.ci_machine_laws.proofs.Left.{other_pipeline}
+use Rattle.ci_machine_laws.proofs.Held.{held}
 
 abbrev job_id : Job → ℕ
 job_id j = j.id
@@ -173,8 +179,8 @@ module _ (s : State) (board : List BoardRow) (request : Request) where
       let x = record a { seen = max a.seen now; pieces = a.pieces + 1; size = size } in
       alters s (applied (grown a bytes now size).1 s) x a has refl refl refl (λ l. l) refl
 
-  each : Each s board request Comes
-  each = record {
+  each : Rising job_id 0 s.jobs → Rising (λ (a : Attempt). a.id) 0 s.attempts → Each s board request Comes
+  each jobs_rise rise = record {
     refused = λ c m. stays s s refl;
     faulted = λ d. stays s s refl;
     project = λ name seed. stays s (applied (made_project s.next.project name seed).1 s) refl;
@@ -204,6 +210,7 @@ module _ (s : State) (board : List BoardRow) (request : Request) where
     shown = λ held project job status. stays s s refl;
     traced = λ pieces. stays s s refl;
     acted = λ text changes act. acted s changes act;
+    pruned = λ p before asks found b k. inl (there s b (attempt_was s p.id jobs_rise rise b (subst (λ (t : State). Has b t.attempts) (pruned_state s p.id jobs_rise rise p refl) k)).0);
   }
 
 swept : (s : State) (board : List BoardRow) (now : ℕ) (o : Option Lease) → first_due (leases s) now ≡ o → (redundant : Option Pipeline) → Come s (applied (sweep o redundant s.attempts (cancellable_in s board redundant)).1 s)
@@ -217,13 +224,13 @@ swept s board now (Some l) found redundant =
     let x = record l.attempt { state = Failed (cause_of l) None } in
     alters s (record s { attempts = put attempt_cmp x s.attempts }) x l.attempt (subst (λ (b : Attempt). Has b s.attempts) is has.0) refl refl refl (λ _. subst (λ (b : Attempt). is_live b ≡ true) is has.1) refl
 
-comes : (s : State) (board : List BoardRow) (e : Event) (now : ℕ) (seed : Seed) (a : Answer) (changes : List RowChange) → Happens s board e now seed a changes → Come s (applied changes s)
-comes s board (event.Request r) now seed (answer.Reply reply) changes is = does s board (Comes s board r) r (each s board r) now seed (reply, changes) is
-comes s board event.Sweep now seed (answer.Swept out) changes is =
+comes : (s : State) (board : List BoardRow) (e : Event) (now : ℕ) (seed : Seed) (a : Answer) (changes : List RowChange) → Rising job_id 0 s.jobs → Rising (λ (b : Attempt). b.id) 0 s.attempts → Happens s board e now seed a changes → Come s (applied changes s)
+comes s board (event.Request r) now seed (answer.Reply reply) changes jobs_rise rise is = does s board (Comes s board r) r (each s board r jobs_rise rise) now seed (reply, changes) is
+comes s board event.Sweep now seed (answer.Swept out) changes jobs_rise rise is =
     let P : Swept × List RowChange → Type 0 = λ f. Come s (applied f.1 s) in
     subst P (sym is) (swept s board now (first_due (leases s) now) refl (redundant_in s board))
-comes s board (event.Request r) now seed (answer.Swept out) changes is = absurd is
-comes s board event.Sweep now seed (answer.Reply reply) changes is = absurd is
+comes s board (event.Request r) now seed (answer.Swept out) changes jobs_rise rise is = absurd is
+comes s board event.Sweep now seed (answer.Reply reply) changes jobs_rise rise is = absurd is
 
 -- ---- every state that a history leads to
 
@@ -261,12 +268,38 @@ module _ (s t : State) (linked : Linked s) (next : Linked t) (later : Later s t)
       (come b l))
       (come a k)
 
+-- without a pipeline, each attempt that is left holds what it held
+module _ (s : State) (n : ℕ) (attempt_job : (a : Attempt) → Has a s.attempts → Named job_id a.job s.jobs) (jr : Rising job_id 0 s.jobs) (ar : Rising (λ (a : Attempt). a.id) 0 s.attempts) where
+  pub held_left : (b : Attempt) → Has b (without_pipeline s n).attempts → held_of (without_pipeline s n) b ≡ held_of s b
+  held_left b k =
+      let t = without_pipeline s n in
+      let was = attempt_was s n jr ar b k in
+      let w = attempt_job b was.0 in
+      let j = w.0 in
+      let other : j.pipeline ≡ n → ⊥ = other_pipeline s n jr ar j w.1.0 (subst (λ m. is_job_among (jobs_of s n) m ≡ false) (sym w.1.1) was.1) in
+      let its : pipeline_at t j.pipeline ≡ pipeline_at s j.pipeline = find_implied (λ (p : Pipeline). p.id == j.pipeline) (λ p. not (p.id == n)) s.pipelines
+      (λ p m e. ap not (ne_eqb p.id n (λ f. other (sym (eqb-true p.id j.pipeline e) ∙ f)))) in
+      ap (λ (o : Option Job). held_by b.id (option_map (queued t) o)) (job_found t j b.job (rising_filter job_id (λ (v : Job). not (v.pipeline == n)) 0 s.jobs jr) (job_left s n jr ar j w.1.0 other) w.1.1)
+      ∙ (ap (λ (o : Option Pipeline). group_held b.id (project_or_none o) j.options.resource_group) its
+      ∙ sym (ap (λ (o : Option Job). held_by b.id (option_map (queued s) o)) (job_found s j b.job jr w.1.0 w.1.1)))
+
+  apart_left : Apart s → Apart (without_pipeline s n)
+  apart_left i a b k l live lives p g e f =
+      i a b (attempt_was s n jr ar a k).0 (attempt_was s n jr ar b l).0 live lives p g
+      (ap (list_any (holds p g)) (sym (held_left a k)) ∙ e) (ap (list_any (holds p g)) (sym (held_left b l)) ∙ f)
+
 apart : (h : List Past) (s : State) → Leads h s → Apart s
 apart [] s l = subst Apart (sym l) (λ a b k. absurd k)
 apart (p ∷ h) s l =
-    let now = held (p ∷ h) s l in
-    apart_on p.before s (held h p.before l.0).linked now.linked (now.stays p (inl refl)) (reached h p.before l.0).grants.jobs_rise (reached (p ∷ h) s l).grants.jobs_rise (apart h p.before l.0)
-    (subst (Come p.before) (sym l.1.state) (comes p.before l.1.before p.event p.now p.seed p.answer l.1.changes l.1.happens))
+    let g = (reached h p.before l.0).grants in
+    let was = (held h p.before l.0).linked in
+    let t = applied l.1.changes p.before in
+    let kr : Rising job_id 0 t.jobs = subst (λ (w : State). Rising job_id 0 w.jobs) l.1.state (reached (p ∷ h) s l).grants.jobs_rise in
+    subst Apart (sym l.1.state) (⊎_elim
+    (λ n. apart_on p.before t was (linked_on p.before t was n) n.later g.jobs_rise kr (apart h p.before l.0)
+    (comes p.before l.1.before p.event p.now p.seed p.answer l.1.changes g.jobs_rise g.rise l.1.happens))
+    (λ w. subst Apart (sym w.state) (apart_left p.before w.pipeline.id was.attempt_job g.jobs_rise g.rise (apart h p.before l.0)))
+    (follows p.before l.1.before p.event p.now p.seed p.answer l.1.changes was g.jobs_rise g.rise g.below l.1.happens))
 
 pub one_in_group : (h : List Past) (s : State) → Leads h s → OneLeaseInGroup s
 one_in_group h s l p g = count_one (λ a. a.id) (λ a. is_live a && is_in_group s p g a) 0 s.attempts (reached h s l).grants.rise (λ a b k m e f.

@@ -9,6 +9,7 @@ use Rattle.ci_machine.specs.declared.records.BoardRow.{BoardRow}
 use Rattle.ci_machine.specs.declared.records.Project.{Project}
 use Rattle.ci_machine.specs.declared.records.Pipeline.{Pipeline}
 use Rattle.ci_machine.specs.declared.records.Job.{Job}
+use Rattle.ci_machine.specs.declared.records.Attempt.{Attempt}
 use Rattle.ci_machine.specs.declared.change.RowChange.{RowChange}
 use Rattle.ci_machine.specs.declared.change.RowChange.TheVariants.{Put}
 use Rattle.ci_machine.specs.declared.change.Record.TheVariants as row
@@ -32,11 +33,13 @@ use Rattle.ci_machine_steps.specs.Cancels.{cancellable_jobs, cancel}
 use Rattle.ci_machine_steps.specs.Step.{Happens, leases, redundant_in, cancellable_in}
 use Rattle.ci_machine_steps.specs.History.{Past, Leads}
 use Rattle.ci_machine_steps.specs.Laws.{job_for_good, IsMadeBy, WasIncluded}
-use Rattle.ci_machine.proofs.Keyed.{Has, contains_from_has}
+use Rattle.ci_machine.proofs.Keyed.{Has, Rising, contains_from_has}
 use Rattle.ci_machine_steps.proofs.Behind.{has_all}
 use Rattle.ci_machine_steps.proofs.Created.{after_creation, new_are, laid_is, lineup_are}
+use Rattle.ci_machine_steps.proofs.Pruned.{pruned_state, job_was}
 use Rattle.ci_machine_laws.proofs.Acts.{IsAct, cancels, cancellable_within, after_act}
 use Rattle.ci_machine_laws.proofs.EachPlan.{Each, does, of_asked, given_in}
+use Rattle.ci_machine_laws.proofs.Reached.{reached}
 
 abbrev line : State → Event → ℕ → Seed → Answer → Past
 line s e now seed a = record { before = s; event = e; now = now; seed = seed; answer = a }
@@ -91,8 +94,8 @@ module _ (s : State) (board : List BoardRow) (request : Request) (now : ℕ) (se
       }))
       (has_all job_cmp made.jobs s.jobs j (subst (λ (t : State). Has j t.jobs) (after_creation s.next.job made s) k))
 
-  each : Each s board request From
-  each = record {
+  each : Rising (λ (w : Job). w.id) 0 s.jobs → Rising (λ (a : Attempt). a.id) 0 s.attempts → Each s board request From
+  each jobs_rise rise = record {
     refused = λ c m j k. inl (there s j k);
     faulted = λ d j k. inl (there s j k);
     project = λ name seed j k. inl (there s j k);
@@ -115,6 +118,7 @@ module _ (s : State) (board : List BoardRow) (request : Request) (now : ℕ) (se
     shown = λ held project job status j k. inl (there s j k);
     traced = λ pieces j k. inl (there s j k);
     acted = λ text changes act j k. inl (acted s changes act j k);
+    pruned = λ p before asks found j k. inl (there s j (job_was s p.id jobs_rise rise j (subst (λ (t : State). Has j t.jobs) (pruned_state s p.id jobs_rise rise p refl) k)).0);
   }
 
 swept : (s : State) (board : List BoardRow) (o : Option Lease) (redundant : Option Pipeline) (j : Job) → Has j (applied (sweep o redundant s.attempts (cancellable_in s board redundant)).1 s).jobs → Was s j
@@ -122,13 +126,14 @@ swept s board (Some l) redundant j k = there s j k
 swept s board None (Some p) j k = acted s (cancel s.attempts (cancellable_jobs s board p.id)) (cancels s (cancellable_jobs s board p.id) (cancellable_within s board p.id)) j k
 swept s board None None j k = there s j k
 
-are : (s : State) (board : List BoardRow) (e : Event) (now : ℕ) (seed : Seed) (a : Answer) (changes : List RowChange) → Happens s board e now seed a changes → Are s e now seed a changes
-are s board (event.Request r) now seed (answer.Reply reply) changes is = does s board (From s board r now seed) r (each s board r now seed) now seed (reply, changes) is
-are s board event.Sweep now seed (answer.Swept out) changes is = λ j k.
+are : (s : State) (board : List BoardRow) (e : Event) (now : ℕ) (seed : Seed) (a : Answer) (changes : List RowChange) → Rising (λ (w : Job). w.id) 0 s.jobs → Rising (λ (b : Attempt). b.id) 0 s.attempts
+    → Happens s board e now seed a changes → Are s e now seed a changes
+are s board (event.Request r) now seed (answer.Reply reply) changes jobs_rise rise is = does s board (From s board r now seed) r (each s board r now seed jobs_rise rise) now seed (reply, changes) is
+are s board event.Sweep now seed (answer.Swept out) changes jobs_rise rise is = λ j k.
     let P : Swept × List RowChange → Type 0 = λ f. Has j (applied f.1 s).jobs → Was s j in
     inl (subst P (sym is) (swept s board (first_due (leases s) now) (redundant_in s board) j) k)
-are s board (event.Request r) now seed (answer.Swept out) changes is = absurd is
-are s board event.Sweep now seed (answer.Reply reply) changes is = absurd is
+are s board (event.Request r) now seed (answer.Swept out) changes jobs_rise rise is = absurd is
+are s board event.Sweep now seed (answer.Reply reply) changes jobs_rise rise is = absurd is
 
 more : (p : Past) (h : List Past) (j : Job) → WasIncluded h j → WasIncluded (p ∷ h) j
 more p h j w = (w.0, Contains-append_right (p ∷ []) h w.0 w.1, w.2)
@@ -162,10 +167,11 @@ alike p j old good m =
 included : (h : List Past) (s : State) → Leads h s → (j : Job) → Has j s.jobs → WasIncluded h j
 included [] s l j k = absurd (subst (λ (t : State). Has j t.jobs) l k)
 included (p ∷ h) s l j k =
+    let grants = (reached h p.before l.0).grants in
     ⊎_elim
     (λ m. let was = included h p.before l.0 m.0 m.1.0 in more p h j (was.0, was.1, alike was.0 j m.0 m.1.1 was.2))
     (λ q. (p, contains_from_has p (p ∷ h) (inl refl), q))
-    (are p.before l.1.before p.event p.now p.seed p.answer l.1.changes l.1.happens j (subst (λ (t : State). Has j t.jobs) l.1.state k))
+    (are p.before l.1.before p.event p.now p.seed p.answer l.1.changes grants.jobs_rise grants.rise l.1.happens j (subst (λ (t : State). Has j t.jobs) l.1.state k))
 
 -- and so was each job of an earlier state
 pub was_included : (h : List Past) (s : State) → Leads h s → (p : Past) → Has p h → (j : Job) → Has j p.before.jobs → WasIncluded h j

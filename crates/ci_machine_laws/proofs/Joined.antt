@@ -1,4 +1,4 @@
--- Which jobs wait for which, in every state that a history leads to: those of one pipeline, and in no circle.
+-- Which jobs wait for which, before each step and after it: those of one pipeline, and in no circle.
 use Rattle.std.specs.Prelude.{◌≡◌, ◌⊎◌, ℕ, ◌+◌, ◌<◌, ◌≤◌, List, [], ◌∷◌, ◌++◌, length, map, Option, Some, None, Contains, Result, Ok, Err}
 use Rattle.std.proofs.Common.{refl, sym, ap, subst, ◌∙◌, inl, inr, ⊎_elim, arith}
 use Rattle.std.proofs.lemmas.Bool.{cond_both}
@@ -13,6 +13,7 @@ use Rattle.ci_machine.specs.declared.records.BoardRow.{BoardRow}
 use Rattle.ci_machine.specs.declared.records.Pipeline.{Pipeline}
 use Rattle.ci_machine.specs.declared.records.Job.{Job}
 use Rattle.ci_machine.specs.declared.records.Need.{Need}
+use Rattle.ci_machine.specs.declared.records.Attempt.{Attempt}
 use Rattle.ci_machine.specs.declared.change.RowChange.{RowChange}
 use Rattle.ci_machine.specs.declared.change.RowChange.TheVariants.{Put}
 use Rattle.ci_machine.specs.declared.change.Record.TheVariants as row
@@ -33,13 +34,13 @@ use Rattle.ci_machine_steps.specs.Pipelines.{Layout, IsLaidOut, misread, unplann
 use Rattle.ci_machine_steps.specs.Sweeps.{sweep}
 use Rattle.ci_machine_steps.specs.Cancels.{cancellable_jobs, cancel}
 use Rattle.ci_machine_steps.specs.Step.{Happens, leases, redundant_in, cancellable_in}
-use Rattle.ci_machine_steps.specs.History.{Past, Leads}
-use Rattle.ci_machine.proofs.Keyed.{Has, contains_from_has, has_from_contains, has_map, map_has}
+use Rattle.ci_machine.proofs.Keyed.{Has, Rising, has_filter, contains_from_has, has_from_contains, has_map, map_has}
 use Rattle.ci_machine_steps.proofs.Behind.{in_either, has_all, put_all}
 use Rattle.ci_machine_steps.proofs.Created.{created_state, after_creation, IsNew, new_are, needs_are, jobs_behind}
+use Rattle.ci_machine_steps.proofs.Pruned.{pruned_state}
 use Rattle.ci_machine_laws.proofs.Acts.{IsAct, cancels, cancellable_within, after_act}
 use Rattle.ci_machine_laws.proofs.EachPlan.{Each, does, given_in}
-use Rattle.ci_machine_laws.proofs.Held.{Linked, held}
+use Rattle.ci_machine_laws.proofs.Linked.{Linked}
 
 -- the pairs of the needs, by the numbers of their jobs
 abbrev pub by_numbers : List Need → List (ℕ × ℕ)
@@ -209,13 +210,32 @@ acts s changes act was =
       acyclic = was.acyclic;
     })
 
+-- ---- some of the jobs and of the needs
+
+module _ (needs some : List Need) (had : (w : Need) → Has w some → Has w needs) where
+  one_pair : (i j : ℕ) → Contains (by_numbers some) (i, j) → Contains (by_numbers needs) (i, j)
+  one_pair i j c =
+      let numbers : Need → ℕ × ℕ = λ w. (w.pred, w.job) in
+      let at = map_has numbers (i, j) some (has_from_contains (i, j) (by_numbers some) c) in
+      contains_from_has (i, j) (by_numbers needs) (subst (λ (p : ℕ × ℕ). Has p (by_numbers needs)) at.1.1 (has_map numbers at.0 needs (had at.0 at.1.0)))
+
+  some_walk : (i : ℕ) (ks : List ℕ) (j : ℕ) → IsWalk (by_numbers some) i ks j → IsWalk (by_numbers needs) i ks j
+  some_walk i [] j c = one_pair i j c
+  some_walk i (k ∷ ks) j w = (one_pair i k w.0, some_walk k ks j w.1)
+
+  leaves : (jobs left : List Job) → ((j : Job) → Has j left → Has j jobs) → Joined jobs needs → Joined left some
+  leaves jobs left were is = record {
+    one_pipeline = λ w j k hw hj hk ej ek. is.one_pipeline w j k (had w hw) (were j hj) (were k hk) ej ek;
+    acyclic = λ c. is.acyclic (c.0, (c.1.0, some_walk c.0 c.1.0 c.0 c.1.1));
+  }
+
 -- ---- each step
 
 abbrev After : State → Plan → Type 0
 After s plan = Joined (applied plan.1 s).jobs (applied plan.1 s).needs
 
-each : (s : State) (board : List BoardRow) (request : Request) → Linked s → Joined s.jobs s.needs → Each s board request (After s)
-each s board request i was = record {
+each : (s : State) (board : List BoardRow) (request : Request) → Linked s → Joined s.jobs s.needs → Rising (λ (j : Job). j.id) 0 s.jobs → Rising (λ (a : Attempt). a.id) 0 s.attempts → Each s board request (After s)
+each s board request i was jobs_rise rise = record {
   refused = λ c m. was;
   faulted = λ d. was;
   project = λ name seed. was;
@@ -237,6 +257,8 @@ each s board request i was = record {
   shown = λ held project job status. was;
   traced = λ pieces. was;
   acted = λ text changes act. acts s changes act was;
+  pruned = λ p before asks found. subst (λ (t : State). Joined t.jobs t.needs) (sym (pruned_state s p.id jobs_rise rise p refl))
+      (leaves s.needs _ (λ w k. (has_filter _ w s.needs k).0) s.jobs _ (λ j k. (has_filter _ j s.jobs k).0) was);
 }
 
 swept : (s : State) (board : List BoardRow) → Joined s.jobs s.needs → (o : Option Lease) (redundant : Option Pipeline)
@@ -246,21 +268,19 @@ swept s board was None (Some p) =
     acts s (cancel s.attempts (cancellable_jobs s board p.id)) (cancels s (cancellable_jobs s board p.id) (cancellable_within s board p.id)) was
 swept s board was (Some l) redundant = was
 
-goes_on : (s : State) (board : List BoardRow) (e : Event) (now : ℕ) (seed : Seed) (a : Answer) (changes : List RowChange) → Linked s → Joined s.jobs s.needs → Happens s board e now seed a changes
-    → Joined (applied changes s).jobs (applied changes s).needs
-goes_on s board (event.Request request) now seed (answer.Reply reply) changes i was is = does s board (After s) request (each s board request i was) now seed (reply, changes) is
-goes_on s board event.Sweep now seed (answer.Swept ended) changes i was is =
+pub joined_on : (s : State) (board : List BoardRow) (e : Event) (now : ℕ) (seed : Seed) (a : Answer) (changes : List RowChange) → Linked s → Joined s.jobs s.needs → Rising (λ (j : Job). j.id) 0 s.jobs → Rising (λ (w : Attempt). w.id) 0 s.attempts
+    → Happens s board e now seed a changes → Joined (applied changes s).jobs (applied changes s).needs
+joined_on s board (event.Request request) now seed (answer.Reply reply) changes i was jobs_rise rise is = does s board (After s) request (each s board request i was jobs_rise rise) now seed (reply, changes) is
+joined_on s board event.Sweep now seed (answer.Swept ended) changes i was jobs_rise rise is =
     let P : Swept × List RowChange → Type 0 = λ f. Joined (applied f.1 s).jobs (applied f.1 s).needs in
     subst P (sym is) (swept s board was (first_due (leases s) now) (redundant_in s board))
-goes_on s board (event.Request request) now seed (answer.Swept ended) changes i was is = absurd is
-goes_on s board event.Sweep now seed (answer.Reply reply) changes i was is = absurd is
+joined_on s board (event.Request request) now seed (answer.Swept ended) changes i was jobs_rise rise is = absurd is
+joined_on s board event.Sweep now seed (answer.Reply reply) changes i was jobs_rise rise is = absurd is
 
 no_walk : (i : ℕ) (ks : List ℕ) (j : ℕ) → IsWalk [] i ks j → ⊥
 no_walk i [] j c = has_from_contains (i, j) [] c
 no_walk i (k ∷ ks) j w = has_from_contains (i, k) [] w.0
 
-pub joined : (h : List Past) (s : State) → Leads h s → Joined s.jobs s.needs
-joined [] s l = subst (λ (t : State). Joined t.jobs t.needs) (sym l) (record { one_pipeline = λ w j k hw hj hk ej ek. absurd hw; acyclic = λ c. no_walk c.0 c.1.0 c.0 c.1.1 })
-joined (p ∷ h) s l =
-    subst (λ (t : State). Joined t.jobs t.needs) (sym l.1.state)
-    (goes_on p.before l.1.before p.event p.now p.seed p.answer l.1.changes (held h p.before l.0).linked (joined h p.before l.0) l.1.happens)
+-- where nothing is
+pub joined_none : Joined [] []
+joined_none = record { one_pipeline = λ w j k hw hj hk ej ek. absurd hw; acyclic = λ c. no_walk c.0 c.1.0 c.0 c.1.1 }

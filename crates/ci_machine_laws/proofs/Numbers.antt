@@ -54,9 +54,12 @@ removed (key.Runner n) s o = o
 removed (key.Pipeline n) s o = o
 removed (key.Job n) s o = o
 removed (key.JobVariable n name) s o = o
+removed (key.JobVariables n) s o = o
 removed (key.Need n pred) s o = filter_ordered need_cmp _ s.needs o
+removed (key.Needs n) s o = filter_ordered need_cmp _ s.needs o
 removed (key.Attempt n) s o = o
 removed (key.Piece n seq) s o = o
+removed (key.Pieces n) s o = o
 
 one_change : (c : RowChange) (s : State) → Ordered need_cmp s.needs → Ordered need_cmp (changed c s).needs
 one_change (Put r) s o = recorded r s o

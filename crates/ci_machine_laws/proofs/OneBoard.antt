@@ -1,5 +1,5 @@
 -- The statuses of each reached state are one assignment.
-use Rattle.std.specs.Prelude.{◌≡◌, ◌⊎◌, ℕ, zero, suc, ◌+◌, ◌^◌, ◌<◌, ◌≤◌, Bool, true, false, cond, ◌==◌, ◌||◌, nat_lt, List, [], ◌∷◌, length, map, filter, count_by, All, Contains, slice_index_or}
+use Rattle.std.specs.Prelude.{◌≡◌, ◌⊎◌, ℕ, zero, suc, ◌+◌, ◌^◌, ◌<◌, ◌≤◌, Bool, true, cond, ◌==◌, ◌||◌, nat_lt, List, [], ◌∷◌, length, map, filter, count_by, All, Contains, slice_index_or}
 use Rattle.std.specs.List.{range_with_len}
 use Rattle.std.proofs.Common.{refl, sym, ap, subst, ◌∙◌, inl, inr, ⊎_elim, arith, eq-eqb, eqb-true, lt-ltb}
 use Rattle.std.proofs.lemmas.Bool.{cases_Bool, cases_lt, false≢true, cond-true, cond-false, le-ltb}
@@ -33,9 +33,10 @@ use Rattle.ci_machine_steps.specs.Laws.{grants, WasGranted}
 use Rattle.ci_machine_steps.specs.OneBoard.{JoinsOnePipeline, HasNoCircle, HasOneBoard, WasPending}
 use Rattle.ci_machine.proofs.Keyed.{Has, Rising, Below, rising_filter, has_filter, filter_has, find_has, has_map, map_has, contains_from_has, has_from_contains, has_from_all, All-from_has}
 use Rattle.ci_machine_laws.proofs.Reached.{reached}
-use Rattle.ci_machine_laws.proofs.Held.{Linked, held}
+use Rattle.ci_machine_laws.proofs.Linked.{Linked}
 use Rattle.ci_machine_laws.proofs.AllLaws.{laws}
-use Rattle.ci_machine_laws.proofs.Joined.{by_numbers, Joined, joined}
+use Rattle.ci_machine_laws.proofs.Joined.{by_numbers, Joined}
+use Rattle.ci_machine_laws.proofs.Held.{held}
 use Rattle.ci_machine_laws.proofs.Bounded.{IsWithinLimit, within_limit}
 use Rattle.ci_values.specs.declared.limits.TheConstants.{MAX_NUMBER}
 
@@ -375,13 +376,14 @@ module _ (law : OneAssignment) (s : State) (rise : Rising (λ (j : Job). j.id) 0
 -- ---- the laws
 
 pub no_circle : (h : List Past) (s : State) → Leads h s → HasNoCircle s
-no_circle h s leads = no_circle_in s (reached h s leads).grants.jobs_rise (held h s leads).linked (joined h s leads)
+no_circle h s leads = let held = held h s leads in no_circle_in s (reached h s leads).grants.jobs_rise held.linked held.joined
 
 pub one_board : OneAssignment → (h : List Past) (s : State) → Leads h s → HasOneBoard s
 one_board law h s leads =
     let rise = (reached h s leads).grants.jobs_rise in
-    let linked = (held h s leads).linked in
-    let is = joined h s leads in
+    let held = held h s leads in
+    let linked = held.linked in
+    let is = held.joined in
     let limit = within_limit h s leads in
     let some = (laws h s leads).settled in
     record {

@@ -2,7 +2,7 @@
 use Rattle.std.specs.Prelude.{◌≡◌, ◌⊎◌, ℕ, ◌+◌, ◌<◌, ◌≤◌, Bool, true, false, not, ◌==◌, ◌&&◌, nat_lt, nat_le, List, [], ◌∷◌, length, if◌then◌else◌, Option, Some, None, option_map, Result, Ok, Err}
 use Rattle.std.specs.Str.{bytes_eq}
 use Rattle.std.proofs.Common.{refl, sym, ap, subst, ◌∙◌, inl, inr, ⊎_elim, arith, eqb-true}
-use Rattle.std.proofs.lemmas.Bool.{cond_both, both_ways}
+use Rattle.std.proofs.lemmas.Bool.{cond_both, both_ways, cases_Bool}
 use Rattle.std.proofs.lemmas.Slice.Eq.{bytes_eq-Decides}
 use Rattle.ci_board.specs.declared.facts.Status.{Status}
 use Rattle.ci_machine.specs.declared.records.BoardRow.{BoardRow}
@@ -38,7 +38,7 @@ use Rattle.ci_machine.specs.declared.request.TracePart.{TracePart}
 use Rattle.ci_machine.specs.declared.request.Event.{Event}
 use Rattle.ci_machine.specs.declared.request.Event.TheVariants as event
 use Rattle.ci_machine.specs.declared.request.Request.{Request}
-use Rattle.ci_machine.specs.declared.request.Request.TheVariants.{AddProject, AddRunner, PauseRunner, SetFile, SetVariable, DeleteVariable, CreatePipeline, ShowPipeline, AskJob, UpdateJob, AppendTrace, ShowJob, ShowTrace, Play, CancelJob, CancelPipeline, RetryJob}
+use Rattle.ci_machine.specs.declared.request.Request.TheVariants.{AddProject, AddRunner, PauseRunner, SetFile, SetVariable, DeleteVariable, CreatePipeline, ShowPipeline, AskJob, UpdateJob, AppendTrace, ShowJob, ShowTrace, Play, CancelJob, CancelPipeline, RetryJob, PruneOne}
 use Rattle.ci_machine.specs.declared.request.Seed.{Seed}
 use Rattle.ci_machine.specs.declared.reply.Code.{Code}
 use Rattle.ci_machine.specs.declared.reply.Code.TheVariants.{M2, M5, M15}
@@ -70,8 +70,9 @@ use Rattle.ci_machine_steps.specs.Reports.{told, heard, ended, reported, update_
 use Rattle.ci_machine_steps.specs.Traces.{grown, appended, append_trace}
 use Rattle.ci_machine_steps.specs.Shows.{asked_pipeline, show_pipeline, asked_job, shown, traced}
 use Rattle.ci_machine_steps.specs.Sweeps.{sweep}
+use Rattle.ci_machine_steps.specs.Prunes.{prunable_in, is_job_among, pruned_reply, prune, without_pipeline}
 use Rattle.ci_machine.specs.Reply.{status_of_state}
-use Rattle.ci_machine_steps.specs.Step.{Does, Happens, project_with, project_named, runner_at, redundant_in, cancellable_in, project_variables, variable_at, pipeline_at, runner_with, job_at, attempt_at, pipeline_of, last_attempt, pieces_in, lease_of, leases, live_attempts, is_pending, pending_jobs, queued, queue, offer, offered_variables}
+use Rattle.ci_machine_steps.specs.Step.{Does, Happens, project_with, project_named, runner_at, redundant_in, cancellable_in, project_variables, variable_at, pipeline_at, runner_with, job_at, attempt_at, pipeline_of, last_attempt, pieces_in, lease_of, leases, live_attempts, is_pending, pending_jobs, queued, queue, offer, offered_variables, jobs_in}
 use Rattle.ci_machine_steps.specs.History.{Past, Leads}
 use Rattle.ci_machine_steps.specs.Laws.{grants, is_grant, accepted_bytes, IsLeastEligible}
 use Rattle.ci_machine.proofs.Keyed.{Has, Rising, has_put, rising_filter, has_filter, filter_has, has_find, least_find, find-map, one_at, All-from_has, contains_from_has}
@@ -82,11 +83,14 @@ use Rattle.ci_machine_steps.proofs.Behind.{put_all}
 use Rattle.ci_machine_laws.proofs.PutAll.{rising_all, has_still}
 use Rattle.ci_machine_laws.proofs.Acts.{WasLive, IsAct, cancels, cancellable_within, after_act, came}
 use Rattle.ci_machine_steps.proofs.Created.{after_creation}
+use Rattle.ci_machine_steps.proofs.Pruned.{pruned_state, attempt_was, attempt_left, pieces_left}
 use Rattle.ci_machine_laws.proofs.EachPlan.{IsMachineCode, of_asked, given_in, of_file, of_variable, of_removal, of_creation, of_pipeline, of_play, of_retry, of_job_cancel, of_cancel}
+use Rattle.ci_machine_laws.proofs.Gone.{goes_with}
 use Rattle.ci_machine_laws.proofs.Traces as pieces
 use Rattle.ci_machine_laws.proofs.Ends as finals
 use Rattle.ci_machine_laws.proofs.Ends.{Ends, renewed_live, leased_live}
 use Rattle.ci_machine_laws.proofs.Traces.{Traces, Was, IsNew, same, traces_empty}
+use Rattle.ci_machine_steps.proofs.Pieces.{climbs_filter}
 
 pub record Inv (h : List Past) (s : State) : Type 0 where
   pub grants : Grants h s
@@ -416,6 +420,27 @@ acts : (h : List Past) (s : State) (r : Request) (now : ℕ) (seed : Seed) → I
     → After h s (event.Request r) now seed (fine (Json text), changes)
 acts h s r now seed i other text changes act = acted h s (event.Request r) now seed _ changes i (other.0 _) (other.1 _) act
 
+-- ---- a pipeline is pruned
+
+prunes : (h : List Past) (s : State) (before now : ℕ) (seed : Seed) → Inv h s → (found : Option Pipeline) → After h s (event.Request (PruneOne before)) now seed (prune found (jobs_in s found) s.attempts)
+prunes h s before now seed i None = rests h s (event.Request (PruneOne before)) now seed _ i refl (λ n. refl)
+prunes h s before now seed i (Some p) =
+    let n = p.id in
+    let t = without_pipeline s n in
+    let q = line s (event.Request (PruneOne before)) now seed (answer.Reply (pruned_reply n)) in
+    let jobs_rise = i.grants.jobs_rise in
+    let rise = i.grants.rise in
+    let had : (b : Attempt) → Has b t.attempts → Has b s.attempts = λ b k. (attempt_was s n jobs_rise rise b k).0 in
+    subst (Inv (q ∷ h)) (sym (pruned_state s n jobs_rise rise p refl)) (record {
+      grants = leased.stand h s t q i.grants (λ m. refl) (λ b k. stood s b (inl (had b k)))
+          (rising_filter (λ (b : Attempt). b.id) _ 0 s.attempts rise) refl (rising_filter (λ (j : Job). j.id) _ 0 s.jobs jobs_rise);
+      traces = pieces.leaves h s t q i.traces (λ m. refl) (climbs_filter _ 0 s.pieces i.traces.climb) (λ r k. (has_filter _ r s.pieces k).0) refl had (λ b k. pieces_left s n jobs_rise rise b k);
+      ends = finals.goes_on h s t q refl i.ends (λ a k ended. ⊎_elim
+          (λ e. inr (goes_with q h s n refl (before, refl, refl) a e))
+          (λ e. inl (attempt_left s n jobs_rise rise a k e))
+          (cases_Bool (is_job_among (jobs_of s n) a.job)));
+    })
+
 -- ---- a job is shown, a sweep
 
 looks : (h : List Past) (s : State) (e : Event) (now : ℕ) (seed : Seed) (project : ℕ) (status : Status) → Inv h s → ((a : Answer) → is_grant e a ≡ false) → ((a : Answer) → Quiet e a) → (r : Result Job Code)
@@ -477,6 +502,7 @@ does h s board (RetryJob query) now seed f are i is =
     let r = RetryJob query in
     let other : IsOther r = (λ a. refl, λ a n. refl) in
     of_retry s board (After h s (event.Request r) now seed) (refuses h s r now seed i other) (acts h s r now seed i other) query f is
+does h s board (PruneOne before) now seed f are i is = subst (After h s (event.Request (PruneOne before)) now seed) (sym is) (prunes h s before now seed i (prunable_in s board before))
 
 goes_on : (h : List Past) (s : State) (board : List BoardRow) (e : Event) (now : ℕ) (seed : Seed) (a : Answer) (changes : List RowChange) → AreBoard s board → Inv h s → Happens s board e now seed a changes → Changed h s e now seed a changes
 goes_on h s board (event.Request r) now seed (answer.Reply reply) changes are i is = does h s board r now seed (reply, changes) are i is

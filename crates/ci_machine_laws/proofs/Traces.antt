@@ -122,3 +122,18 @@ grows h s t p a x q i has known its_attempt its_seq same_id one_more longer byte
           (cases b k);
       quiet = λ n l. let m : s.next.attempt ≤ n = subst (λ w. w ≤ n) g l in no_more n p h (no_bytes n (λ d. absurd (omega arith))) ∙ i.quiet n m;
     }
+
+-- a step that leaves some of the attempts, each with its pieces, and accepts no bytes
+pub leaves : (h : List Past) (s t : State) (p : Past) → Traces h s → ((n : ℕ) → accepted_bytes n p.event p.answer ≡ []) → Climbs 0 t.pieces → ((q : Piece) → Has q t.pieces → Has q s.pieces) → t.next.attempt ≡ s.next.attempt
+    → ((b : Attempt) → Has b t.attempts → Has b s.attempts) → ((b : Attempt) → Has b t.attempts → pieces_of t b.id ≡ pieces_of s b.id) → Traces (p ∷ h) t
+leaves h s t p i none climb were same_next had its_pieces = record {
+  climb = climb;
+  below = λ q k. subst (λ n. q.attempt < n) (sym same_next) (i.below q (were q k));
+  is_last = λ b k q l g. i.is_last b (had b k) q (were q l) g;
+  traced = λ b k. let at = its_pieces b k in let old = i.traced b (had b k) in record {
+    trace = ap joined at ∙ (old.trace ∙ sym (no_more b.id p h (none b.id)));
+    size = old.size ∙ sym (ap (λ l. length (joined l)) at);
+    numbered = ap (map (λ (q : Piece). q.seq)) at ∙ old.numbered;
+  };
+  quiet = λ n l. no_more n p h (none n) ∙ i.quiet n (subst (λ m. m ≤ n) same_next l);
+}

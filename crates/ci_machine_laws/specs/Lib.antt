@@ -1,3 +1,4 @@
 pub mod Examples
 pub mod ActExamples
 pub mod WaitingExamples
+pub mod PruneExamples

@@ -1,12 +1,16 @@
 //! What holds of every step and of each reached state, and worked examples.
 
-ghost use Rattle.std.specs.Prelude.{List, [], ◌∷◌, ℕ, ◌≡◌, map, codes, replicate, All, true, false, Some, None, Ok, Err};
+ghost use Rattle.std.specs.Prelude.{List, [], ◌∷◌, ℕ, ◌≡◌, map, codes, replicate, All, Contains, true, false, Some, None, Ok, Err};
+ghost use Rattle.ci_machine.specs.declared.records.Pipeline.{Pipeline};
+ghost use Rattle.ci_machine.specs.declared.records.Job.{Job};
+ghost use Rattle.ci_machine.specs.declared.records.Attempt.{Attempt};
+ghost use Rattle.ci_machine.specs.declared.records.BoardRow.{BoardRow};
 ghost use Rattle.ci_machine.specs.declared.request.Event.{Event};
 ghost use Rattle.ci_machine.specs.declared.request.Seed.{Seed};
 ghost use Rattle.ci_machine.specs.declared.reply.Answer.{Answer};
-ghost use Rattle.ci_machine.specs.State.{State};
-ghost use Rattle.ci_machine.specs.Statuses.{AreBoard};
-ghost use Rattle.ci_machine_steps.specs.Plans.{refused, faulted};
+ghost use Rattle.ci_machine.specs.State.{State, applied};
+ghost use Rattle.ci_machine.specs.Statuses.{jobs_of, attempts_of, AreBoard};
+ghost use Rattle.ci_machine_steps.specs.Plans.{Plan, refused, faulted};
 ghost use Rattle.ci_machine_steps.specs.Projects.{add_project, made_project};
 ghost use Rattle.ci_machine_steps.specs.Runners.{add_runner, made_runner};
 ghost use Rattle.ci_values.specs.Layers.{Variables};
@@ -26,8 +30,10 @@ ghost use Rattle.ci_machine_steps.specs.OneBoard.{HasNoCircle, HasOneBoard, WasP
 ghost use Rattle.ci_machine_laws.specs.Examples.{reply_text, project_added, with_project, new_runner, runner_added, pipeline, made, given, pipeline_made, granted, with_pipeline, with_attempt, token, two_rows, rows, asked, project_of, pair, with_variables, set_to, stage_by, new_variable, old_variable, hundred, put_variable, seed, attempt, lease, leased, after, sent, said, swept, query, job_shown, trace_shown, hello, hello_world};
 ghost use Rattle.ci_machine_laws.specs.ActExamples.{pipeline_query, board_from, pipeline_after, four, four_board, all_cancelled, cancelled_rows, cancel_marks, run_cancelled, run_cancelled_rows, five, five_board, first_retried, retried_rows, two, two_board, hand_played, played_rows, succeeded, succeeded_board, hand_retried};
 ghost use Rattle.ci_machine_laws.specs.WaitingExamples.{some_runner, tagged, waits, pause, both, answer_of, with_tags, for_project, of_a_minute, heard_at, replies_at, moments, ships, shipping, after_asking};
+ghost use Rattle.ci_machine_laws.specs.PruneExamples.{second_day, both_done, both_board, first_pruned, second_left, second_board, second_pruned, running, waiting, with_second};
 ghost use Rattle.ci_machine.specs.Holders.{holders};
-ghost use Rattle.ci_machine_steps.specs.Step.{project_at};
+ghost use Rattle.ci_machine_steps.specs.Prunes.{prunable_in, pruned_reply, nothing_to_prune, without_pipeline};
+ghost use Rattle.ci_machine_steps.specs.Step.{project_at, pieces_of, leases};
 ghost use Rattle.ci_machine.specs.Leases.{renewed, is_over, deadline, accepted, size_after, finished, cause_of};
 
 use ci_board::facts::Status;
@@ -274,12 +280,51 @@ pub fn group_examples()
     ensures finished { swept (ships true (codes "main")) (both Status.Success Status.Pending) 1001 ≡ (Swept.Nothing, []) }
 {}
 
+/// Two finished pipelines, made at 1000 and at 90000: of those made before the second day the first goes, with its jobs, their variables, what
+/// they wait for, their attempts and their traces, and then there is none. No next number changes. Of two that may go the one of least
+/// number goes; one that was made at the very moment stays, and so does one with a job that runs or is pending.
+pub fn prune_examples()
+    ensures before { AreBoard both_done both_board }
+    ensures pruned { Does both_done both_board (Request.PruneOne second_day) 90060 seed first_pruned }
+    ensures reply { reply_text first_pruned ≡ codes "{\"pruned\":1}" }
+    ensures left { after first_pruned both_done ≡ second_left }
+    ensures next { (after first_pruned both_done).next.pipeline ≡ 3 }
+    ensures board { AreBoard second_left second_board }
+    ensures nothing { Does second_left second_board (Request.PruneOne second_day) 90060 seed (plain HttpStatus.NoContent, []) }
+
+    ensures least { Does both_done both_board (Request.PruneOne 90001) 90060 seed first_pruned }
+    ensures second { Does second_left second_board (Request.PruneOne 90001) 90060 seed second_pruned }
+    ensures second_reply { reply_text second_pruned ≡ codes "{\"pruned\":2}" }
+    ensures at_the_moment { Does second_left second_board (Request.PruneOne 90000) 90060 seed nothing_to_prune }
+
+    ensures runs { AreBoard running (with_second Status.Running) }
+    ensures running { Does running (with_second Status.Running) (Request.PruneOne second_day) 90060 seed nothing_to_prune }
+    ensures waits { AreBoard waiting (with_second Status.Pending) }
+    ensures waiting { Does waiting (with_second Status.Pending) (Request.PruneOne second_day) 90060 seed nothing_to_prune }
+{}
+
+/// A request to prune that finds a pipeline to prune says its number, and leads to the state without that pipeline: no next number changes, and no
+/// record but those that belong to it. Each other pipeline has its jobs, each of these its attempts, and each of these its trace. A finished
+/// pipeline has no live attempt, so each lease stands, and each resource group is held as it was.
+pub fn a_prune_leaves_the_rest()
+    ensures reply { (s : State) (board : List BoardRow) (before now : ℕ) (seed : Seed) (plan : Plan) (p : Pipeline) → Does s board (Request.PruneOne before) now seed plan → prunable_in s board before ≡ Some p → plan.0 ≡ pruned_reply p.id }
+    ensures left { (s : State) (board : List BoardRow) (before now : ℕ) (seed : Seed) (plan : Plan) (p : Pipeline) → IsSound s → Does s board (Request.PruneOne before) now seed plan → prunable_in s board before ≡ Some p → applied plan.1 s ≡ without_pipeline s p.id }
+    ensures no_jobs { (s : State) (n : ℕ) → IsSound s → jobs_of (without_pipeline s n) n ≡ [] }
+    ensures jobs { (s : State) (n m : ℕ) → IsSound s → (m ≡ n → ⊥) → jobs_of (without_pipeline s n) m ≡ jobs_of s m }
+    ensures attempts { (s : State) (n : ℕ) (j : Job) → IsSound s → Contains (without_pipeline s n).jobs j → attempts_of (without_pipeline s n) j.id ≡ attempts_of s j.id }
+    ensures traces { (s : State) (n : ℕ) (a : Attempt) → IsSound s → Contains (without_pipeline s n).attempts a → pieces_of (without_pipeline s n) a.id ≡ pieces_of s a.id }
+    ensures leases { (s : State) (board : List BoardRow) (before : ℕ) (p : Pipeline) → IsSound s → AreBoard s board → prunable_in s board before ≡ Some p → leases (without_pipeline s p.id) ≡ leases s }
+    ensures groups { (s : State) (board : List BoardRow) (before : ℕ) (p : Pipeline) → IsSound s → AreBoard s board → prunable_in s board before ≡ Some p → holders (without_pipeline s p.id) ≡ holders s }
+{}
+
 /// In each state that a history leads to, each job has at most one live attempt, and so has each resource group of a project; each
 /// attempt was granted by just one request, with its runner's token, in a state in which its job was pending and, of those that its
-/// runner may be given, the one of least number, and the step that made the job's pipeline included the job by its rules; each trace is the bytes that were accepted of its attempt, joined in the order of the history; an
-/// attempt that had ended in an earlier state stands as it ended; no record of an earlier state is gone; the records that
-/// others name are there; and there are rows of its jobs' statuses. Each sweep of the history ended the due attempt of least
-/// number; where there was none, it cancelled the redundant pipeline of least number, or there was none either; and each grant gave the variables of its job in the order of their keys.
+/// runner may be given, the one of least number, and the step that made the job's pipeline included the job by its rules; each trace is the bytes that were accepted of its attempt, joined in the order of the history. An
+/// attempt that had ended in an earlier state stands as it ended, and no record of an earlier state is gone, unless a line of the history
+/// pruned its pipeline: projects and runners are never gone. The records that others name are there; and there are rows of its jobs' statuses. Each
+/// sweep of the history ended the due attempt of least number; where there was none, it cancelled the redundant pipeline of least number, or
+/// there was none either. Each request to prune pruned the finished pipeline of least number that was made before its moment, or there
+/// was none; and each grant gave the variables of its job in the order of their keys.
 pub fn laws_of_each_reached_state()
     ensures { (h : List Past) (s : State) → Leads h s → Laws h s }
 {}

@@ -1,2 +1,3 @@
 pub mod Floats
 pub mod Bodies
+pub mod Going

@@ -9,7 +9,7 @@ ghost use Rattle.std.specs.Fmt.{decimal};
 ghost use Rattle.serde_json.specs.Data.{array, object, string};
 ghost use Rattle.serde_json.specs.View.{view, items_of};
 ghost use Rattle.serde_json.specs.Written.{compact_text};
-ghost use Rattle.ci_machine.specs.Bodies.{fault_data, created_data, paused_data, job_data, file_data, jobs_data, status_of_jobs, pipeline_data, variable_data, with_default, granted_variables, grant_data};
+ghost use Rattle.ci_machine.specs.Bodies.{fault_data, created_data, paused_data, pruned_data, job_data, file_data, jobs_data, status_of_jobs, pipeline_data, variable_data, with_default, granted_variables, grant_data};
 ghost use Rattle.ci_machine_plans.specs.Objects.{members_of, job_info_data};
 
 use crate::object::Object;
@@ -48,6 +48,14 @@ pub fn paused(alloc: Global, id: u64, paused: bool) -> Result<Text, AllocError>
 {
     let body = Object::new(alloc).with_number(alloc, "id", id)?;
     let body = body.with_flag(alloc, "paused", paused)?;
+    body.into_text(alloc)
+}
+
+/// The body of a pipeline that was pruned.
+pub fn pruned(alloc: Global, pipeline: u64) -> Result<Text, AllocError>
+    ensures { IfOk result (λ t. t ≡ compact_text (pruned_data pipeline)) }
+{
+    let body = Object::new(alloc).with_number(alloc, "pruned", pipeline)?;
     body.into_text(alloc)
 }
 

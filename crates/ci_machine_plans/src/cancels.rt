@@ -110,7 +110,8 @@ fn is_lease_on(jobs: &[Job], attempt: &Attempt) -> bool
     attempt.state.is_live() && has_number(jobs, attempt.job)
 }
 
-fn has_number(jobs: &[Job], number: u64) -> bool
+/// Is the number that of one of these jobs?
+pub(crate) fn has_number(jobs: &[Job], number: u64) -> bool
     ensures { result ≡ list_any (λ j. j.id == number) jobs.now }
 {
     jobs.iter().any(|job| job.id == number)

@@ -8,6 +8,7 @@ pub mod grants;
 mod object;
 pub mod plays;
 pub mod projects;
+pub mod prunes;
 pub mod replies;
 pub mod reports;
 pub mod retries;

@@ -19,7 +19,7 @@ fn count_of(attempts: &[Attempt], job: u64) -> usize
 }
 
 /// How many of the attempts are of a job.
-fn attempts_of(attempts: &[Attempt], job: u64) -> u64
+pub fn attempts_of(attempts: &[Attempt], job: u64) -> u64
     ensures { result ≡ length (filter (λ a. a.job == job) attempts.now) }
 {
     count_of(attempts, job) as u64

@@ -14,7 +14,7 @@ use Rattle.ci_machine.specs.Leases.{is_live}
 use Rattle.ci_machine_steps.specs.Cancels.{is_lease_on}
 use Rattle.ci_machine.proofs.Keyed.{Has, has_from_all}
 use Rattle.ci_machine_statuses.specs.Lookups.{AreRecords}
-use Rattle.ci_machine_statuses.proofs.Loaded.{filter_implied}
+use Rattle.ci_machine.proofs.Filters.{filter_implied}
 
 second_too : (a b : Bool) → (a && b) ≡ true → b ≡ true
 second_too true b e = e
@@ -32,7 +32,7 @@ module _ (s : State) (board : List BoardRow) (p : ℕ) (jobs : List Job) (needs 
   all_attempts job h =
       ap (filter (λ (a : Attempt). a.job == job.id)) records.are_attempts
       ∙ filter_implied (λ (a : Attempt). a.job == job.id) (λ a. inside a.job) s.attempts
-      (λ a e. subst (λ m. inside m ≡ true) (sym (eqb-true a.job job.id e)) (inside_of job h))
+      (λ a k e. subst (λ m. inside m ≡ true) (sym (eqb-true a.job job.id e)) (inside_of job h))
 
   any_inside : (chosen : List Job) (n : ℕ) → ((j : Job) → Has j chosen → Has j jobs) → list_any (λ j. j.id == n) chosen ≡ true → inside n ≡ true
   any_inside [] n h e = absurd (both_ways false refl e)
@@ -47,4 +47,4 @@ module _ (s : State) (board : List BoardRow) (p : ℕ) (jobs : List Job) (needs 
   all_leases chosen h =
       ap (filter (is_lease_on chosen)) records.are_attempts
       ∙ filter_implied (is_lease_on chosen) (λ a. inside a.job) s.attempts
-      (λ a e. any_inside chosen a.job h (second_too (is_live a) (list_any (λ (j : Job). j.id == a.job) chosen) e))
+      (λ a k e. any_inside chosen a.job h (second_too (is_live a) (list_any (λ (j : Job). j.id == a.job) chosen) e))

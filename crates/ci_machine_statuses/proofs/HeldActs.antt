@@ -135,7 +135,7 @@ module _ (s : State) (act : Act) (n : ℕ) (test : Job → Bool) (sound : Sound 
         let left = dead w.0 w.1.0 (ap is_live w.1.1 ∙ l) in
         let is : w.0 ≡ b = sym (stays w.0 w.1.0 left) ∙ w.1.1 in
         record { attempt = w.0; has = w.1.0; id = ap attempt_id is; job = ap (λ (c : Attempt). c.job) is; live = ap is_live is ∙ l; left = left };
-    held = λ a h. ap (λ (o : Option Job). held_by a.id (option_map (queued t) o)) (found a.job) ∙ same_held a.id (job_at s a.job);
+    held = λ a h live. ap (λ (o : Option Job). held_by a.id (option_map (queued t) o)) (found a.job) ∙ same_held a.id (job_at s a.job);
   }
 
   pub act_holders : (rows : List Holder) → AreHolders s rows → AreHolders t (without_all (flat_map (held_of s) (filter gone s.attempts)) rows)

@@ -1,6 +1,6 @@
 -- A pipeline is made: no group moves, and it is the last of the pipelines, unfinished or not.
-use Rattle.std.specs.Prelude.{◌≡◌, ℕ, ◌<◌, Bool, true, false, cond, ◌==◌, List, [], ◌∷◌, ◌++◌, length, map, filter, find, replicate, Option, Some, option_map, option_to_list, Ok}
-use Rattle.std.proofs.Common.{refl, sym, ap, subst, ◌∙◌, inl, inr, arith}
+use Rattle.std.specs.Prelude.{◌≡◌, ℕ, ◌<◌, Bool, true, false, ◌==◌, List, [], ◌∷◌, ◌++◌, length, map, filter, find, replicate, Option, Some, option_map, option_to_list, Ok}
+use Rattle.std.proofs.Common.{refl, sym, ap, subst, ◌∙◌, arith}
 use Rattle.std.proofs.lemmas.Bool.{cond-true, cond-false, false≢true}
 use Rattle.std.proofs.lemmas.List.{append-nil, map-append}
 use Rattle.std.proofs.lemmas.List.Elements.{filter-append}
@@ -80,7 +80,7 @@ module _ (k : Kept) (sound : Sound k.state) (are : AreBoard k.state k.board) (in
     lives = λ a e. absurd (false≢true e);
     stay = λ a h live d. record { attempt = a; has = subst (Has a) (sym made.same_attempts) h; id = refl; job = refl; live = live };
     were = λ b h live. record { attempt = b; has = subst (Has b) made.same_attempts h; id = refl; job = refl; live = live; left = refl };
-    held = same_held;
+    held = λ a h live. same_held a h;
   }
 
   module _ (rows : List BoardRow) (keys : map (λ r. r.job) rows ≡ map (λ j. j.id) c.jobs) where

@@ -87,7 +87,7 @@ module _ (k : Kept) (p : Pipeline) (job : Job) (x : Attempt) (sound : Sound k.st
           left = ⊎_elim (λ e. absurd (different b.id x.id m.1 (ap (λ (c : Attempt). c.id) (the_lease b m.0 e) ∙ live.2))) (λ e. e) (cases_Bool (gone b));
         })
         (has_put_other attempt_cmp x b s.attempts h);
-    held = λ b h. refl;
+    held = λ b h live. refl;
   }
 
   is_within : IsWithin s t p.id

@@ -1,5 +1,5 @@
 -- A grant: its group is held, and its pipeline isn't finished, as before.
-use Rattle.std.specs.Prelude.{◌≡◌, ◌⊎◌, ℕ, zero, suc, ◌<◌, Bool, true, false, ◌||◌, ◌==◌, List, [], ◌∷◌, length, map, filter, Option, Some, None, option_map}
+use Rattle.std.specs.Prelude.{◌≡◌, ◌⊎◌, ℕ, ◌<◌, true, ◌==◌, List, [], ◌∷◌, length, map, filter, Option, Some, None, option_map}
 use Rattle.std.proofs.Common.{refl, sym, ap, subst, ◌∙◌, inl, inr, ⊎_elim, arith, eqb-true, eq-eqb}
 use Rattle.std.proofs.lemmas.Bool.{cond_both, eqb-false}
 use Rattle.std.proofs.lemmas.List.{get_or-map, length-map}
@@ -31,6 +31,7 @@ use Rattle.ci_machine.specs.Lookups.{job_at, queued, is_pending}
 use Rattle.ci_machine.specs.Holders.{group_held, held_by, held_of, holders, holds_group}
 use Rattle.ci_machine.specs.Indexes.{is_open_in, AreIndexes}
 use Rattle.ci_machine.proofs.Keyed.{Has, find_has, filter_has, has_map, has_put, put_has, unequal}
+use Rattle.ci_machine_steps.proofs.Finished.{some_is, running_open}
 use Rattle.ci_machine_steps.proofs.Sound.{Sound}
 use Rattle.ci_machine_statuses.specs.Changes.{started_row}
 use Rattle.ci_machine_statuses.proofs.Puts.{row_put}
@@ -43,21 +44,7 @@ use Rattle.ci_machine_statuses.proofs.HeldOpening.{number, same_status}
 
 -- ---- a pending or running job leaves its pipeline unfinished
 
-some_is : (n : ℕ) (test : ℕ → Bool) (i : ℕ) → i < n → test i ≡ true → some_job n test ≡ true
-some_is zero test i l e = absurd (omega arith)
-some_is (suc n) test i l e =
-    cond_both (i == n) 0 0 (λ (_ : ℕ). (test n || some_job n test) ≡ true)
-    (λ q. ap (λ b. b || some_job n test) (ap test (sym (eqb-true i n q)) ∙ e))
-    (λ q. let d : i ≡ n → ⊥ = eqb-false i n q in either (test n) (some_job n test) (some_is n test i (omega arith) e))
-  where
-    either : (a b : Bool) → b ≡ true → (a || b) ≡ true
-    either true b e = refl
-    either false b e = e
-
 module _ (parts : List Part) (facts : List Facts) (a : ℕ → Status) where
-  running_open : some_job (length parts) (has_status a status.Running) ≡ true → is_unfinished (pipeline_status parts facts a) ≡ true
-  running_open e = rw e refl
-
   pending_open : some_job (length parts) (has_status a status.Pending) ≡ true → is_unfinished (pipeline_status parts facts a) ≡ true
   pending_open e =
       cond_both (some_job (length parts) (has_status a status.Running)) status.Running _ (λ x. is_unfinished x ≡ true)

@@ -37,7 +37,7 @@ module _ (k : Kept) (changes : List RowChange) (is_sound : IsSound k.state) (ind
     lives = λ a e. absurd (false≢true e);
     stay = λ a h live d. let w = l.attempts a h in record { attempt = w.0; has = w.1; id = w.2; job = w.3; live = ap is_live_state w.4 ∙ live };
     were = λ b h live. let w = l.before b h in record { attempt = w.0; has = w.1; id = w.2; job = w.3; live = ap is_live_state w.4 ∙ live; left = refl };
-    held = λ a h i. held_by a.id (queued_at (record s { jobs = l.jobs i; pipelines = l.pipelines i }) a.job);
+    held = λ a h live i. held_by a.id (queued_at (record s { jobs = l.jobs i; pipelines = l.pipelines i }) a.job);
   }
 
   facts : HaveSameFacts s t

@@ -69,12 +69,12 @@ pub record IsLeft (s : State) (gone : Attempt → Bool) (b : Attempt) : Type 0 w
   pub live : is_live attempt ≡ true
   pub left : gone attempt ≡ false
 
--- The live attempts that pass the test end, the other live ones stay, no other comes, and each job has the group and project that it had.
+-- The live attempts that pass the test end, the other live ones stay, no other comes, and each job of one has the group and project that it had.
 pub record Ends (s t : State) (gone : Attempt → Bool) : Type 0 where
   pub lives : (a : Attempt) → gone a ≡ true → is_live a ≡ true
   pub stay : (a : Attempt) → Has a s.attempts → is_live a ≡ true → gone a ≡ false → IsLike t a
   pub were : (b : Attempt) → Has b t.attempts → is_live b ≡ true → IsLeft s gone b
-  pub held : (a : Attempt) → Has a s.attempts → held_by a.id (queued_at t a.job) ≡ held_by a.id (queued_at s a.job)
+  pub held : (a : Attempt) → Has a s.attempts → is_live a ≡ true → held_by a.id (queued_at t a.job) ≡ held_by a.id (queued_at s a.job)
 
 module _ (s t : State) (gone : Attempt → Bool) (rise : Rising (λ a. a.id) 0 s.attempts) (ends : Ends s t gone) where
   abbrev ended : List Attempt
@@ -88,14 +88,14 @@ module _ (s t : State) (gone : Attempt → Bool) (rise : Rising (λ a. a.id) 0 s
   before h w =
       let a = ends.were w.attempt w.has w.live in
       let same : held_of t w.attempt ≡ held_of s a.attempt
-      = (λ i. held_by (sym a.id i) (queued_at t (sym a.job i))) ∙ ends.held a.attempt a.has in
+      = (λ i. held_by (sym a.id i) (queued_at t (sym a.job i))) ∙ ends.held a.attempt a.has a.live in
       (record { attempt = a.attempt; has = a.has; live = a.live; its = subst (λ (l : List Holder). Has h l) same w.its }, a.left)
 
   after : (h : Holder) (w : IsHeld s h) → gone w.attempt ≡ false → IsHeld t h
   after h w left =
       let b = ends.stay w.attempt w.has w.live left in
       let same : held_of s w.attempt ≡ held_of t b.attempt
-      = sym (ends.held w.attempt w.has) ∙ (λ i. held_by (sym b.id i) (queued_at t (sym b.job i))) in
+      = sym (ends.held w.attempt w.has w.live) ∙ (λ i. held_by (sym b.id i) (queued_at t (sym b.job i))) in
       record { attempt = b.attempt; has = b.has; live = b.live; its = subst (λ (l : List Holder). Has h l) same w.its }
 
   -- what an attempt that ends held is free

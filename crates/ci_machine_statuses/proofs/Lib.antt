@@ -25,6 +25,7 @@ pub mod Holding
 pub mod HeldOpening
 pub mod HeldStays
 pub mod HeldGrants
+pub mod Pruning
 pub mod HeldChanged
 pub mod HeldEnds
 pub mod HeldActs

@@ -1,9 +1,9 @@
 -- What is made of the records of a pipeline is what the state has of it.
-use Rattle.std.specs.Prelude.{◌≡◌, ℕ, ◌-◌, ◌<◌, ◌≤◌, Bool, true, false, cond, ◌==◌, List, [], ◌∷◌, length, map, filter, find, All, Some, slice_index_or}
+use Rattle.std.specs.Prelude.{◌≡◌, ℕ, ◌-◌, ◌<◌, ◌≤◌, true, ◌==◌, List, length, map, All, slice_index_or}
 use Rattle.std.specs.Ordering.{nat_cmp}
 use Rattle.std.specs.List.Sorted.{IsStrictlySortedBy}
-use Rattle.std.proofs.Common.{refl, sym, ap, subst, ◌∙◌, arith, eqb-true}
-use Rattle.std.proofs.lemmas.Bool.{cond_both, cond-false, both_ways, and_from, le-leb}
+use Rattle.std.proofs.Common.{sym, ap, subst, ◌∙◌, arith, eqb-true}
+use Rattle.std.proofs.lemmas.Bool.{and_from, le-leb}
 use Rattle.std.proofs.lemmas.List.{get_or-map, length-map}
 use Rattle.ci_graph.specs.Lists.{is_among}
 use Rattle.ci_board.specs.Rows.{BoardState}
@@ -15,6 +15,7 @@ use Rattle.ci_machine.specs.State.{State}
 use Rattle.ci_machine.specs.Ranges.{is_within}
 use Rattle.ci_machine.specs.Statuses.{pair_of, jobs_of, numbers_of, graph_of, facts_in, facts_of, rows_of, row_for, row_or_none, AreBoard}
 use Rattle.ci_machine.proofs.Keyed.{Has, Rising, rising_filter, map_has, has_from_all}
+use Rattle.ci_machine.proofs.Filters.{filter_implied, find_implied}
 use Rattle.ci_machine_steps.proofs.Sound.{Sound, ascend_from_rising}
 use Rattle.ci_machine_statuses.specs.Lookups.{AreRecords, tally_of, facts_by}
 use Rattle.ci_machine.specs.Statuses.{pairs_among, predecessors_by}
@@ -27,29 +28,6 @@ use Rattle.ci_machine_statuses.proofs.Joint.{board_rises}
 
 abbrev number : Job → ℕ
 number j = j.id
-
--- what passes p passes q
-pub filter_implied : {A : Type 0} (p q : A → Bool) (xs : List A) → ((x : A) → p x ≡ true → q x ≡ true) → filter p (filter q xs) ≡ filter p xs
-filter_implied p q [] h = refl
-filter_implied p q (x ∷ xs) h =
-    cond_both (q x) (x ∷ filter q xs) (filter q xs) (λ l. filter p l ≡ filter p (x ∷ xs))
-    (λ e. ap (λ l. cond (p x) (x ∷ l) l) (filter_implied p q xs h))
-    (λ e. filter_implied p q xs h ∙ sym (cond-false (p x) (x ∷ filter p xs) (filter p xs) (fails (p x) (λ t. both_ways (q x) e (h x t)))))
-  where
-    fails : (b : Bool) → (b ≡ true → ⊥) → b ≡ false
-    fails true d = absurd (d refl)
-    fails false d = refl
-
-find_implied : {A : Type 0} (p q : A → Bool) (xs : List A) → ((x : A) → p x ≡ true → q x ≡ true) → find p (filter q xs) ≡ find p xs
-find_implied p q [] h = refl
-find_implied p q (x ∷ xs) h =
-    cond_both (q x) (x ∷ filter q xs) (filter q xs) (λ l. find p l ≡ find p (x ∷ xs))
-    (λ e. ap (λ o. cond (p x) (Some x) o) (find_implied p q xs h))
-    (λ e. find_implied p q xs h ∙ sym (cond-false (p x) (Some x) (find p xs) (fails (p x) (λ t. both_ways (q x) e (h x t)))))
-  where
-    fails : (b : Bool) → (b ≡ true → ⊥) → b ≡ false
-    fails true d = absurd (d refl)
-    fails false d = refl
 
 module _ (s : State) (kept : List BoardRow) (p : ℕ) (jobs : List Job) (needs : List Need) (attempts : List Attempt) (rows : List BoardRow)
     (sound : Sound s) (are : AreBoard s kept) (records : AreRecords s kept p jobs needs attempts rows) where
@@ -73,7 +51,7 @@ module _ (s : State) (kept : List BoardRow) (p : ℕ) (jobs : List Job) (needs :
   its_pairs : pairs_among (map (λ j. j.id) jobs) needs ≡ pairs_among (numbers_of s p) s.needs
   its_pairs =
       ap (λ (l : List Need). pairs_among (map number jobs) l) records.are_needs
-      ∙ (ap (map (pair_of (map number jobs))) (filter_implied (λ (w : Need). is_among (map number jobs) w.job) (λ w. is_within records.first records.last w.job) s.needs (λ w e. in_range w.job (has_among w.job (map number jobs) e)))
+      ∙ (ap (map (pair_of (map number jobs))) (filter_implied (λ (w : Need). is_among (map number jobs) w.job) (λ w. is_within records.first records.last w.job) s.needs (λ w m e. in_range w.job (has_among w.job (map number jobs) e)))
       ∙ ap (λ (js : List Job). pairs_among (map number js) s.needs) records.are_jobs)
 
   pub its_predecessors : predecessors_by (pairs_among (map (λ j. j.id) jobs) needs) (length jobs) ≡ (graph_of s p).predecessors
@@ -84,7 +62,7 @@ module _ (s : State) (kept : List BoardRow) (p : ℕ) (jobs : List Job) (needs :
       ap (λ (l : List Attempt). facts_by (tally_of l j.id) j) records.are_attempts
       ∙ ap (λ (l : List Attempt). facts_by (tally_from l) j)
       (filter_implied (λ (a : Attempt). a.job == j.id) (λ a. is_within records.first records.last a.job) s.attempts
-      (λ a e. subst (λ m. is_within records.first records.last m ≡ true) (sym (eqb-true a.job j.id e)) (has_from_all (λ (i : Job). is_within records.first records.last i.id ≡ true) j jobs records.inside h)))
+      (λ a k e. subst (λ m. is_within records.first records.last m ≡ true) (sym (eqb-true a.job j.id e)) (has_from_all (λ (i : Job). is_within records.first records.last i.id ≡ true) j jobs records.inside h)))
 
   pub all_facts : map (λ j. facts_by (tally_of attempts j.id) j) jobs ≡ facts_of s p
   all_facts = map_same (λ j. facts_by (tally_of attempts j.id) j) (facts_in s) jobs one_facts ∙ ap (map (facts_in s)) records.are_jobs
@@ -93,7 +71,7 @@ module _ (s : State) (kept : List BoardRow) (p : ℕ) (jobs : List Job) (needs :
   one_row n h =
       ap (λ (l : List BoardRow). row_for l n) records.are_rows
       ∙ ap row_or_none (find_implied (λ (r : BoardRow). r.job == n) (λ r. is_within records.first records.last r.job) kept
-      (λ r e. subst (λ m. is_within records.first records.last m ≡ true) (sym (eqb-true r.job n e)) (in_range n h)))
+      (λ r m e. subst (λ m. is_within records.first records.last m ≡ true) (sym (eqb-true r.job n e)) (in_range n h)))
 
   pub all_rows : map (row_for rows) (map (λ j. j.id) jobs) ≡ rows_of s kept p
   all_rows = map_same (row_for rows) (row_for kept) (map number jobs) one_row ∙ ap (λ (js : List Job). map (row_for kept) (map number js)) records.are_jobs

@@ -1,7 +1,7 @@
 -- A pipeline is made: its rows come behind all others.
-use Rattle.std.specs.Prelude.{◌≡◌, ℕ, ◌+◌, ◌-◌, ◌<◌, ◌≤◌, true, false, ◌==◌, List, [], ◌∷◌, ◌++◌, length, map, filter, replicate, Contains, None}
+use Rattle.std.specs.Prelude.{◌≡◌, ℕ, ◌+◌, ◌-◌, ◌<◌, ◌≤◌, false, ◌==◌, List, [], ◌∷◌, ◌++◌, length, map, filter, replicate, Contains, None}
 use Rattle.std.proofs.Common.{refl, sym, ap, subst, ◌∙◌, inl, inr, ⊎_elim, arith, eqb-true, eq-eqb, ne_eqb}
-use Rattle.std.proofs.lemmas.Bool.{cond_both, cond-true, eqb-false, cases_Bool}
+use Rattle.std.proofs.lemmas.Bool.{cond_both, eqb-false, cases_Bool}
 use Rattle.std.proofs.lemmas.List.{append-nil, map-append, length-map}
 use Rattle.std.proofs.lemmas.List.Elements.{filter-append}
 use Rattle.ci_graph.specs.Lists.{is_among}
@@ -20,6 +20,7 @@ use Rattle.ci_machine.specs.Statuses.{pair_of, jobs_of, numbers_of, pairs_of, gr
 use Rattle.ci_machine.specs.Statuses.{graph_by}
 use Rattle.ci_machine_steps.specs.Pipelines.{AreFirstRows}
 use Rattle.ci_machine.proofs.Keyed.{Has, Rising, rising_from, filter_none, map_has, has_map, has_from_all, named_contains}
+use Rattle.ci_machine.proofs.Filters.{filter_all}
 use Rattle.ci_machine_steps.proofs.Sound.{Sound, rising_from_ascend}
 use Rattle.ci_machine.specs.Statuses.{pairs_among, predecessors_by}
 use Rattle.ci_machine_statuses.specs.Changes.{IsMade}
@@ -34,10 +35,6 @@ number j = j.id
 
 abbrev job_of : BoardRow → ℕ
 job_of r = r.job
-
-filter_all : {A : Type 0} (p : A → _) (xs : List A) → ((x : A) → Has x xs → p x ≡ true) → filter p xs ≡ xs
-filter_all p [] h = refl
-filter_all p (x ∷ xs) h = cond-true (p x) (x ∷ filter p xs) (filter p xs) (h x (inl refl)) ∙ cons_same refl (filter_all p xs (λ y k. h y (inr k)))
 
 -- numbers from low on rise from there
 rises_from : {A : Type 0} (id : A → ℕ) (low : ℕ) (xs : List A) → Rising id 0 xs → ((x : A) → Has x xs → low ≤ id x) → Rising id low xs

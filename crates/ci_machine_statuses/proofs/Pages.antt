@@ -157,7 +157,7 @@ all_some : {A : Type 0} (xs : List A) → without_some (map (λ x. Some x) xs) �
 all_some [] = refl
 all_some (x ∷ xs) = ap (λ l. x ∷ l) (all_some xs)
 
-same_some : {A : Type 0} (xs ys : List A) → map (λ x. Some x) xs ≡ map (λ x. Some x) ys → xs ≡ ys
+pub same_some : {A : Type 0} (xs ys : List A) → map (λ x. Some x) xs ≡ map (λ x. Some x) ys → xs ≡ ys
 same_some xs ys e = sym (all_some xs) ∙ (ap without_some e ∙ all_some ys)
 
 module _ (s : State) (board : List BoardRow) (count n : ℕ) (sound : Sound s) (are : AreBoard s board) where

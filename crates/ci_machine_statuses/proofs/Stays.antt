@@ -85,9 +85,12 @@ module _ (s : State) (ascend : Rising (λ a. a.id) 0 s.attempts) where
   record_gone t (key.Pipeline n) u k = absurd u
   record_gone t (key.Job n) u k = absurd u
   record_gone t (key.JobVariable n name) u k = absurd u
+  record_gone t (key.JobVariables n) u k = absurd u
   record_gone t (key.Need n pred) u k = absurd u
+  record_gone t (key.Needs n) u k = absurd u
   record_gone t (key.Attempt n) u k = absurd u
   record_gone t (key.Piece n seq) u k = absurd u
+  record_gone t (key.Pieces n) u k = absurd u
 
   one_change : (t : State) (c : RowChange) → LeavesStatuses s c → IsLike s t → IsLike s (changed c t)
   one_change t (Put r) n k = record_put t r n k

@@ -15,16 +15,17 @@ ghost use Rattle.ci_machine.specs.declared.change.Record.TheVariants as row;
 ghost use Rattle.ci_machine.specs.declared.change.Counter.TheVariants as counter;
 ghost use Rattle.ci_machine.specs.declared.change.RowChange.{RowChange};
 ghost use Rattle.ci_machine.specs.declared.change.RowChange.TheVariants.{Put};
-ghost use Rattle.ci_machine.specs.Kept.{Kept, written};
-ghost use Rattle.ci_machine.specs.Statuses.{AreBoard};
+ghost use Rattle.ci_machine.specs.Kept.{Kept, cleared, written};
+ghost use Rattle.ci_machine.specs.Statuses.{jobs_of, numbers_of, AreBoard};
 ghost use Rattle.ci_machine.specs.Bodies.{status_of_jobs};
 ghost use Rattle.ci_machine.specs.Eligible.{resource_free};
 ghost use Rattle.ci_machine.specs.Holders.{holders, holds_group};
-ghost use Rattle.ci_machine.specs.Indexes.{AreIndexes};
+ghost use Rattle.ci_machine.specs.Indexes.{is_open_in, AreIndexes};
 ghost use Rattle.ci_machine.specs.Leases.{is_live};
 ghost use Rattle.ci_machine.specs.declared.request.NewPipeline.{NewPipeline};
 ghost use Rattle.ci_machine_steps.specs.Pipelines.{Layout, IsLaidOut, Creation, creation, creation_changes};
 ghost use Rattle.ci_machine_steps.specs.Plans.{numbered};
+ghost use Rattle.ci_machine_steps.specs.Prunes.{pipeline_goes};
 ghost use Rattle.ci_machine_steps.specs.Sound.{IsSound};
 ghost use Rattle.ci_machine_steps.specs.Step.{is_pending, queued, with_status};
 ghost use Rattle.ci_machine_statuses.specs.declared.act.Act.{Act};
@@ -66,6 +67,12 @@ pub fn acts_are_indexed()
         → IsOutcome act only k.state k.board p.id o → before ≡ (with_status k.state k.board p).status → after ≡ status_of_jobs jobs o.facts.items o.rows.items
         → let acted = acted_jobs act only k.state k.board p.id in
         AreIndexes (written (act_changes act k.state acted) o.changed.items (of_pipeline p (unleased act acted) attempts before after) k) }
+{}
+
+/// A finished pipeline goes, with the rows of its jobs: no group moves, and it was none of those that aren't finished.
+pub fn prune_is_indexed()
+    ensures { (k : Kept) (p : Pipeline) → IsSound k.state → AreBoard k.state k.board → AreIndexes k → Contains k.state.pipelines p → is_open_in k.state k.board p ≡ false
+        → AreIndexes (written (pipeline_goes p (jobs_of k.state p.id) k.state.attempts) [] [] (cleared (numbers_of k.state p.id) k)) }
 {}
 
 /// A pipeline is made of a file, with these rows of its jobs: no group moves, and it is unfinished if its first status is.

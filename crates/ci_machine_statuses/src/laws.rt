@@ -14,18 +14,19 @@ ghost use Rattle.ci_machine.specs.declared.change.Record.TheVariants as row;
 ghost use Rattle.ci_machine.specs.declared.change.Counter.TheVariants as counter;
 ghost use Rattle.ci_machine.specs.declared.change.RowChange.{RowChange};
 ghost use Rattle.ci_machine.specs.declared.request.NewPipeline.{NewPipeline};
-ghost use Rattle.ci_machine.specs.State.{State, applied};
+ghost use Rattle.ci_machine.specs.State.{State, without_all, applied};
 ghost use Rattle.ci_machine.specs.Kept.{put_rows};
 ghost use Rattle.ci_machine.specs.Statuses.{jobs_of, numbers_of, attempts_of, graph_of, facts_of, rows_of, row_for, status_for, AreRowsOf, AreBoard};
 ghost use Rattle.ci_machine.specs.declared.records.Pipeline.{Pipeline};
 ghost use Rattle.ci_machine_steps.specs.Acts.{ShowsJobAfter, ShowsPipelineAfter};
 ghost use Rattle.ci_machine_steps.specs.Plays.{play};
 ghost use Rattle.ci_machine_steps.specs.Retries.{retry};
+ghost use Rattle.ci_machine_steps.specs.Prunes.{pipeline_goes, prune};
 ghost use Rattle.ci_machine_steps.specs.Cancels.{cancellable_jobs, cancel};
 ghost use Rattle.ci_machine_steps.specs.Sound.{IsSound};
 ghost use Rattle.ci_machine.specs.Holders.{holders};
 ghost use Rattle.ci_machine_steps.specs.Step.{is_pending, queue, queued};
-ghost use Rattle.ci_machine.specs.Ranges.{row_at, pending_after};
+ghost use Rattle.ci_machine.specs.Ranges.{is_within, attempts_within, row_at, pending_after};
 ghost use Rattle.ci_machine_steps.specs.Plans.{numbered};
 ghost use Rattle.ci_graph_layout.specs.Inclusion.{Given};
 ghost use Rattle.ci_machine_steps.specs.Pipelines.{Layout, IsLaidOut, Creation, creation, creation_changes};
@@ -107,6 +108,16 @@ pub fn created_is_made()
     ensures { (s : State) (new : NewPipeline) (given : Given) (now : ℕ) (text : List ℕ) (laid : Layout) (made : Creation) → IsSound s → IsLaidOut text given (Ok laid)
         → made ≡ creation s.next.pipeline s.next.job new given now laid
         → IsMade s (applied (creation_changes s.next.job made) s) s.next.pipeline made.jobs made.needs }
+{}
+
+/// Where a pipeline goes, the rows of its jobs go too, and all are right.
+pub fn prune_settles()
+    ensures { (s : State) (board : List BoardRow) (p : Pipeline) → IsSound s → AreBoard s board → AreBoard (applied (pipeline_goes p (jobs_of s p.id) s.attempts) s) (without_all (λ r. r.job) (numbers_of s p.id) board) }
+{}
+
+/// The attempts of some of a pipeline's jobs are among those between two numbers, which take in theirs: where these go, those go.
+pub fn prunes_are_of_records()
+    ensures { (s : State) (p : Pipeline) (jobs : List Job) (first last : ℕ) → jobs ≡ jobs_of s p.id → All (λ j. is_within first last j.id ≡ true) jobs → prune (Some p) jobs (attempts_within first last s.attempts) ≡ prune (Some p) (jobs_of s p.id) s.attempts }
 {}
 
 /// Each job has one row, which is found at its number.

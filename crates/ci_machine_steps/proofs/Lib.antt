@@ -6,5 +6,8 @@ pub mod Layers
 pub mod Details
 pub mod Behind
 pub mod Created
+pub mod Pruned
+pub mod Running
 pub mod Sound
+pub mod Finished
 pub mod Alike

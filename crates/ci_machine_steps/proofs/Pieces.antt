@@ -11,6 +11,7 @@ use Rattle.std.proofs.lemmas.List.FromFn.{map-range_with_len_more}
 use Rattle.ci_machine.specs.declared.records.Piece.{Piece}
 use Rattle.ci_machine.specs.State.{piece_cmp, placed, others, put}
 use Rattle.ci_machine.proofs.Keyed.{Has, filter_none, less, not_less, same, equal}
+use Rattle.ci_machine.proofs.Filters.{filter_all}
 
 -- numbers of attempts from low on, that never fall
 abbrev pub Climbs : ℕ → List Piece → Type 0
@@ -26,7 +27,7 @@ climbs_weaker : (low low' : ℕ) (ps : List Piece) → low ≤ low' → Climbs l
 climbs_weaker low low' [] h c = tt
 climbs_weaker low low' (z ∷ zs) h c = (omega (arith, c.0), c.1)
 
-climbs_filter : (p : Piece → Bool) (low : ℕ) (ps : List Piece) → Climbs low ps → Climbs low (filter p ps)
+pub climbs_filter : (p : Piece → Bool) (low : ℕ) (ps : List Piece) → Climbs low ps → Climbs low (filter p ps)
 climbs_filter p low [] c = tt
 climbs_filter p low (z ∷ zs) c =
     cond_both (p z) (z ∷ filter p zs) (filter p zs) (λ l. Climbs low l)
@@ -80,10 +81,6 @@ differs y q l =
     (cases_Bool (is_eq (piece_cmp y q)))
 
 -- ---- a list with one more piece
-
-filter_all : {A : Type 0} (p : A → Bool) (xs : List A) → ((x : A) → Has x xs → p x ≡ true) → filter p xs ≡ xs
-filter_all p [] h = refl
-filter_all p (z ∷ zs) h = cond-true (p z) (z ∷ filter p zs) (filter p zs) (h z (inl refl)) ∙ ap (λ l. z ∷ l) (filter_all p zs (λ x k. h x (inr k)))
 
 others_all : (q : Piece) (ps : List Piece) → IsLast q ps → others piece_cmp q ps ≡ ps
 others_all q ps l = filter_all (λ y. not (is_eq (piece_cmp y q))) ps (λ y k. differs y q (l y k))

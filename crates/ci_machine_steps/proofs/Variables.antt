@@ -26,7 +26,7 @@ use Rattle.ci_machine.specs.declared.change.Key.{Key}
 use Rattle.ci_machine.specs.declared.change.Key.TheVariants as key
 use Rattle.ci_machine.specs.declared.request.Event.{Event}
 use Rattle.ci_machine.specs.declared.request.Event.TheVariants as event
-use Rattle.ci_machine.specs.declared.request.Request.TheVariants.{AddProject, AddRunner, PauseRunner, SetFile, SetVariable, DeleteVariable, CreatePipeline, ShowPipeline, AskJob, UpdateJob, AppendTrace, ShowJob, ShowTrace, Play, CancelJob, CancelPipeline, RetryJob}
+use Rattle.ci_machine.specs.declared.request.Request.TheVariants.{AddProject, AddRunner, PauseRunner, SetFile, SetVariable, DeleteVariable, CreatePipeline, ShowPipeline, AskJob, UpdateJob, AppendTrace, ShowJob, ShowTrace, Play, CancelJob, CancelPipeline, RetryJob, PruneOne}
 use Rattle.ci_machine.specs.declared.request.Seed.{Seed}
 use Rattle.ci_machine.specs.declared.reply.Answer.{Answer}
 use Rattle.ci_machine.specs.declared.reply.Answer.TheVariants as answer
@@ -172,9 +172,12 @@ removed (key.Runner n) s o = o
 removed (key.Pipeline n) s o = o
 removed (key.Job n) s o = o
 removed (key.JobVariable n name) s o = filter_ordered job_variable_cmp _ s.job_variables o
+removed (key.JobVariables n) s o = filter_ordered job_variable_cmp _ s.job_variables o
 removed (key.Need n pred) s o = o
+removed (key.Needs n) s o = o
 removed (key.Attempt n) s o = o
 removed (key.Piece n seq) s o = o
+removed (key.Pieces n) s o = o
 
 one_change : (c : RowChange) (s : State) → Ordered job_variable_cmp s.job_variables → Ordered job_variable_cmp (changed c s).job_variables
 one_change (Put r) s o = recorded r s o
@@ -222,3 +225,4 @@ gives_in_order s board (event.Request (Play x)) now seed (answer.Reply reply) ch
 gives_in_order s board (event.Request (CancelJob x)) now seed (answer.Reply reply) changes o is g = absurd (false≢true g)
 gives_in_order s board (event.Request (CancelPipeline x)) now seed (answer.Reply reply) changes o is g = absurd (false≢true g)
 gives_in_order s board (event.Request (RetryJob x)) now seed (answer.Reply reply) changes o is g = absurd (false≢true g)
+gives_in_order s board (event.Request (PruneOne x)) now seed (answer.Reply reply) changes o is g = absurd (false≢true g)

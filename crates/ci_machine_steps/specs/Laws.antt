@@ -1,5 +1,5 @@
 -- What holds of every step and every reached state.
-use Rattle.std.specs.Prelude.{⊤, ◌≡◌, ◌≤◌, ℕ, Bool, true, false, ◌&&◌, List, [], ◌∷◌, ◌++◌, length, map, filter, count_by, All, Contains, Some, None, IsSome, Ok, ◌==◌, if◌then◌else◌}
+use Rattle.std.specs.Prelude.{⊤, ◌≡◌, ◌⊎◌, ◌<◌, ◌≤◌, ℕ, Bool, true, false, ◌&&◌, List, [], ◌∷◌, ◌++◌, length, map, filter, count_by, All, Contains, Some, None, IsSome, Ok, ◌==◌, if◌then◌else◌}
 use Rattle.std.specs.List.{range_with_len}
 use Rattle.std.specs.Ordering.{nat_cmp}
 use Rattle.std.specs.Cmp.Lexicographic.{slice_cmp}
@@ -18,18 +18,20 @@ use Rattle.ci_machine.specs.declared.records.Attempt.{Attempt}
 use Rattle.ci_machine.specs.declared.request.Event.{Event}
 use Rattle.ci_machine.specs.declared.request.Event.TheVariants as event
 use Rattle.ci_machine.specs.declared.request.NewPipeline.{NewPipeline}
-use Rattle.ci_machine.specs.declared.request.Request.TheVariants.{CreatePipeline, AskJob, AppendTrace}
+use Rattle.ci_machine.specs.declared.request.Request.TheVariants.{CreatePipeline, AskJob, AppendTrace, PruneOne}
 use Rattle.ci_machine.specs.declared.reply.Answer.{Answer}
 use Rattle.ci_machine.specs.declared.reply.Answer.TheVariants as answer
 use Rattle.ci_machine.specs.declared.reply.Reply.{Reply}
 use Rattle.ci_machine.specs.declared.reply.HttpStatus.{HttpStatus}
-use Rattle.ci_machine.specs.declared.reply.HttpStatus.TheVariants.{Created, Accepted}
+use Rattle.ci_machine.specs.declared.reply.HttpStatus.TheVariants.{Created, Accepted, NoContent}
 use Rattle.ci_machine.specs.declared.reply.Swept.{Swept}
 use Rattle.ci_machine.specs.declared.reply.Swept.TheVariants as swept
 use Rattle.ci_values.specs.declared.attempts.AttemptState.TheVariants.{Live}
 use Rattle.ci_values.specs.declared.attempts.Cause.{Cause}
 use Rattle.ci_machine.specs.Leases.{is_live, is_over, cause_of}
 use Rattle.ci_machine.specs.Redundant.{is_redundant}
+use Rattle.ci_machine.specs.Indexes.{is_open_in}
+use Rattle.ci_machine.specs.Reply.{plain}
 use Rattle.ci_machine.specs.Eligible.{is_eligible}
 use Rattle.ci_machine.specs.declared.records.BoardRow.{BoardRow}
 use Rattle.ci_machine.specs.State.{State}
@@ -39,6 +41,7 @@ use Rattle.ci_machine_steps.specs.Plans.{created, asked_project}
 use Rattle.ci_machine_steps.specs.Files.{IsRead}
 use Rattle.ci_machine_steps.specs.Pipelines.{given_by, new_job}
 use Rattle.ci_machine_steps.specs.Shows.{joined}
+use Rattle.ci_machine_steps.specs.Prunes.{pruned_reply}
 use Rattle.ci_machine.specs.Holders.{holders, is_in_group}
 use Rattle.ci_machine_steps.specs.Step.{project_with, project_variables, is_pending, queued, pieces_of, lease_of, variables_of, with_status, was_tried}
 use Rattle.ci_machine_steps.specs.History.{Past}
@@ -155,21 +158,33 @@ pub record IsTraced (h : List Past) (s : State) (a : Attempt) : Type 0 where
   pub size : a.size ≡ length (joined (pieces_of s a.id))
   pub numbered : map (λ p. p.seq) (pieces_of s a.id) ≡ range_with_len 0 a.pieces
 
--- an attempt that has ended in the one state stands in the other as it ended
-abbrev pub EndsStay : State → State → Type 0
-EndsStay s t = All (λ a. is_live a ≡ false → Contains t.attempts a) s.attempts
+-- the line pruned the pipeline with this number
+abbrev pub Prunes : Past → ℕ → Type 0
+Prunes line n = (before : ℕ) × (line.event ≡ event.Request (PruneOne before)) × (line.answer ≡ answer.Reply (pruned_reply n))
 
--- each record of the one list is in the other, with what it has for good
-abbrev pub Stay : {A : Type 0} → (A → A) → List A → List A → Type 0
-Stay for_good xs ys = All (λ x. Contains (map for_good ys) (for_good x)) xs
+-- a line of the history pruned the pipeline with this number
+abbrev pub WasPruned : List Past → ℕ → Type 0
+WasPruned h n = (line : Past) × Contains h line × Prunes line n
 
--- what was there in the one state is there in the other
-pub record Stays (s t : State) : Type 0 where
-  pub projects : Stay project_for_good s.projects t.projects
-  pub runners : Stay runner_for_good s.runners t.runners
-  pub pipelines : Stay (λ p. p) s.pipelines t.pipelines
-  pub jobs : Stay job_for_good s.jobs t.jobs
-  pub attempts : Stay attempt_for_good s.attempts t.attempts
+-- a line of the history pruned the pipeline of the attempt's job, which was there before it
+abbrev pub WentWithItsJob : List Past → Attempt → Type 0
+WentWithItsJob h a = (line : Past) × (job : Job) × Contains h line × Contains line.before.jobs job × (job.id ≡ a.job) × Prunes line job.pipeline
+
+-- an attempt that has ended in the one state stands in the other as it ended, unless it went with its pipeline
+abbrev pub EndsStay : List Past → State → State → Type 0
+EndsStay h s t = All (λ a. is_live a ≡ false → Contains t.attempts a ⊎ WentWithItsJob h a) s.attempts
+
+-- each record of the one list is in the other, with what it has for good, or has gone
+abbrev pub Stay : {A : Type 0} → (A → A) → (A → Type 0) → List A → List A → Type 0
+Stay for_good HasGone xs ys = All (λ x. Contains (map for_good ys) (for_good x) ⊎ HasGone x) xs
+
+-- what was there in the one state is there in the other, or was pruned
+pub record Stays (h : List Past) (s t : State) : Type 0 where
+  pub projects : Stay project_for_good (λ _. ⊥) s.projects t.projects
+  pub runners : Stay runner_for_good (λ _. ⊥) s.runners t.runners
+  pub pipelines : Stay (λ p. p) (λ p. WasPruned h p.id) s.pipelines t.pipelines
+  pub jobs : Stay job_for_good (λ j. WasPruned h j.pipeline) s.jobs t.jobs
+  pub attempts : Stay attempt_for_good (WentWithItsJob h) s.attempts t.attempts
 
 -- the records that others name are there
 pub record IsLinked (s : State) : Type 0 where
@@ -230,6 +245,30 @@ IsSweptBy s now event.Sweep (answer.Swept ended) = SweepsLeast s now ended
 IsSweptBy s now event.Sweep (answer.Reply reply) = ⊥
 IsSweptBy s now (event.Request request) a = ⊤
 
+-- the pipeline n is the finished one of least number that was made before the moment
+pub record IsLeastPrunable (s : State) (before n : ℕ) : Type 0 where
+  pub board : List BoardRow
+  pub are_board : AreBoard s board
+  pub pipeline : Pipeline
+  pub is_pipeline : Contains s.pipelines pipeline
+  pub number : pipeline.id ≡ n
+  pub old : pipeline.created < before
+  pub finished : is_open_in s board pipeline ≡ false
+  pub least : All (λ other. other.created < before → is_open_in s board other ≡ false → n ≤ other.id) s.pipelines
+
+-- no finished pipeline was made before the moment
+pub record NoneIsPrunable (s : State) (before : ℕ) : Type 0 where
+  pub board : List BoardRow
+  pub are_board : AreBoard s board
+  pub none : All (λ p. p.created < before → is_open_in s board p ≡ true) s.pipelines
+
+-- a request to prune pruned the finished pipeline of least number that was made before its moment, or there was none
+abbrev pub IsPrunedBy : State → Event → Answer → Type 0
+IsPrunedBy s (event.Request (PruneOne before)) (answer.Reply reply) =
+    ((n : ℕ) × (reply ≡ pruned_reply n) × IsLeastPrunable s before n) ⊎ ((reply ≡ plain NoContent) × NoneIsPrunable s before)
+IsPrunedBy s (event.Request (PruneOne before)) (answer.Swept ended) = ⊥
+IsPrunedBy s _ a = ⊤
+
 -- the keys of the variables ascend by their bytes, and differ
 abbrev pub Ascend : List JobVariable → Type 0
 Ascend vs = IsStrictlySortedBy (slice_cmp nat_cmp) (map (λ v. v.key) vs)
@@ -247,9 +286,10 @@ pub record Laws (h : List Past) (s : State) : Type 0 where
   pub one_in_group : OneLeaseInGroup s
   pub was_granted : All (WasGranted h) s.attempts
   pub traced : All (IsTraced h s) s.attempts
-  pub ends_stay : All (λ p. EndsStay p.before s) h
-  pub stays : All (λ p. Stays p.before s) h
+  pub ends_stay : All (λ p. EndsStay h p.before s) h
+  pub stays : All (λ p. Stays h p.before s) h
   pub linked : IsLinked s
   pub settled : (board : List BoardRow) × AreBoard s board
   pub swept : All (λ p. IsSweptBy p.before p.now p.event p.answer) h
+  pub pruned : All (λ p. IsPrunedBy p.before p.event p.answer) h
   pub in_order : All (λ p. is_grant p.event p.answer ≡ true → GivesInOrder p.before p.answer) h

@@ -13,6 +13,7 @@ pub mod Plays
 pub mod Retries
 pub mod Cancels
 pub mod Sweeps
+pub mod Prunes
 pub mod Step
 pub mod History
 pub mod Laws

@@ -13,7 +13,6 @@ use Rattle.ci_values.specs.Layers.{Variables}
 use Rattle.ci_values.specs.VariableName.{is_variable_name}
 use Rattle.ci_config.specs.Config.{Config}
 use Rattle.ci_config.specs.declared.limits.TheConstants.{MAX_VARIABLES}
-use Rattle.ci_graph.specs.JobGraph.{no_part}
 use Rattle.ci_board.specs.declared.facts.Row.{Row}
 use Rattle.ci_board.specs.Rows.{AreRows, no_facts}
 use Rattle.ci_graph_layout.specs.Inclusion.{Given, IncludedJob, layered}

@@ -1,15 +1,13 @@
 -- One step of the machine: what an event does, by what the state holds and by the statuses of its jobs, and then its changes applied.
-use Rattle.std.specs.Prelude.{◌≡◌, ℕ, Bool, List, [], ◌∷◌, filter, map, ◌==◌, Option, Some, None, Result, option_map, option_and_then}
-use Rattle.std.specs.List.{list_any}
+use Rattle.std.specs.Prelude.{◌≡◌, ℕ, List, [], ◌∷◌, Option, Some, None, Result, option_and_then}
 use Rattle.ci_machine.specs.declared.records.Project.{Project}
 use Rattle.ci_machine.specs.declared.records.Runner.{Runner}
 use Rattle.ci_machine.specs.declared.records.Pipeline.{Pipeline}
-use Rattle.ci_machine.specs.declared.records.PipelineWithStatus.{PipelineWithStatus}
 use Rattle.ci_machine.specs.declared.records.Job.{Job}
 use Rattle.ci_machine.specs.declared.records.JobVariable.{JobVariable}
 use Rattle.ci_machine.specs.declared.records.QueuedJob.{QueuedJob}
 use Rattle.ci_machine.specs.declared.request.Request.{Request}
-use Rattle.ci_machine.specs.declared.request.Request.TheVariants.{AddProject, AddRunner, PauseRunner, SetFile, SetVariable, DeleteVariable, CreatePipeline, ShowPipeline, AskJob, UpdateJob, AppendTrace, ShowJob, ShowTrace, Play, CancelJob, CancelPipeline, RetryJob}
+use Rattle.ci_machine.specs.declared.request.Request.TheVariants.{AddProject, AddRunner, PauseRunner, SetFile, SetVariable, DeleteVariable, CreatePipeline, ShowPipeline, AskJob, UpdateJob, AppendTrace, ShowJob, ShowTrace, Play, CancelJob, CancelPipeline, RetryJob, PruneOne}
 use Rattle.ci_machine.specs.declared.request.JobQuery.{JobQuery}
 use Rattle.ci_machine.specs.declared.request.PipelineQuery.{PipelineQuery}
 use Rattle.ci_machine.specs.declared.request.Event.{Event}
@@ -25,9 +23,7 @@ use Rattle.ci_machine.specs.Statuses.{jobs_of, attempts_of, facts_of, rows_of, s
 pub use Rattle.ci_machine.specs.Lookups.{project_at, project_with, project_variables, variable_at, runner_at, runner_with, pipeline_at, job_at, demand_of, demand_at, attempt_at, variables_of, last_attempt, pieces_of, limit_or_none, lease_of, lease_at, live_attempts, leases, is_pending, pending_jobs, project_or_none, queued, queue, pipeline_of, pieces_in, next_of}
 pub use Rattle.ci_machine.specs.Indexes.{with_status, was_tried, redundant_in}
 use Rattle.ci_machine.specs.Holders.{holders}
-use Rattle.ci_machine.specs.Redundant.{first_redundant}
 use Rattle.ci_machine.specs.Eligible.{chosen}
-use Rattle.ci_machine.specs.Bodies.{status_of_jobs}
 use Rattle.ci_machine.specs.Leases.{first_due}
 use Rattle.ci_machine_steps.specs.Plans.{Plan, asked_project}
 use Rattle.ci_machine_steps.specs.Projects.{add_project}
@@ -46,6 +42,7 @@ use Rattle.ci_machine_steps.specs.Plays.{is_playable, play}
 use Rattle.ci_machine_steps.specs.Retries.{is_retryable, retry}
 use Rattle.ci_machine_steps.specs.Cancels.{is_cancellable, cancellable_jobs, cancel, CancelsPipeline}
 use Rattle.ci_machine_steps.specs.Sweeps.{sweep}
+use Rattle.ci_machine_steps.specs.Prunes.{prunable_in, prune}
 
 -- ---- what an event asks of a state and its rows
 
@@ -75,6 +72,11 @@ project_named s named = option_and_then (project_at s) named
 abbrev pub cancellable_in : State → List BoardRow → Option Pipeline → List Job
 cancellable_in s board None = []
 cancellable_in s board (Some p) = cancellable_jobs s board p.id
+
+-- the jobs of a pipeline, if there is one
+abbrev pub jobs_in : State → Option Pipeline → List Job
+jobs_in s None = []
+jobs_in s (Some p) = jobs_of s p.id
 
 -- what a sweep does at a moment in a state whose jobs have these rows
 abbrev pub sweep_in : State → List BoardRow → ℕ → Swept × List RowChange
@@ -113,6 +115,9 @@ Does s board (Play query) now seed plan = ActsOn s play (permitted board is_play
 Does s board (CancelJob query) now seed plan = ActsOn s (λ j. cancel s.attempts (j ∷ [])) (permitted board is_cancellable M12 (found_job s query)) plan
 Does s board (RetryJob query) now seed plan = ActsOn s (λ j. retry (attempts_of s j.id) j) (permitted board is_retryable M11 (found_job s query)) plan
 Does s board (CancelPipeline query) now seed plan = CancelsPipeline s board (found_pipeline s query) plan
+Does s board (PruneOne before) now seed plan =
+    let found = prunable_in s board before in
+    plan ≡ prune found (jobs_in s found) s.attempts
 
 -- what an event does in a state whose jobs have these rows: a request is answered by a reply, and a sweep by what it did
 abbrev pub Happens : State → List BoardRow → Event → ℕ → Seed → Answer → List RowChange → Type 0

@@ -38,6 +38,7 @@ enum Verb {
     Success,
     Failed,
     Append,
+    Prune,
     Sweep,
 }
 
@@ -63,6 +64,7 @@ const VERBS: &[(&str, Verb)] = &[
     ("success", Verb::Success),
     ("failed", Verb::Failed),
     ("append", Verb::Append),
+    ("prune", Verb::Prune),
     ("sweep", Verb::Sweep),
 ];
 
@@ -322,6 +324,7 @@ impl<'w, 't> Reading<'w, 't> {
             Verb::Retry => Request::RetryJob(self.job_query()?),
             Verb::Ask => Request::AskJob(token_of(self.alloc, self.words.word()?)?),
             Verb::Append => self.part()?,
+            Verb::Prune => Request::PruneOne(self.words.moment()?),
             Verb::Running | Verb::Success | Verb::Failed | Verb::Sweep => self.update(verb)?,
         })
     }

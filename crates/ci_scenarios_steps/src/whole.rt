@@ -31,16 +31,13 @@ fn lacking<T>() -> Result<T, StoreFault> {
     Err(StoreFault::Broken)
 }
 
-/// The pipeline with a number, which was made.
+/// A pipeline with its jobs, which are there while it is.
 fn standing_of<S: Alter>(
     alloc: Global,
     tables: &mut Tables<S>,
-    number: u64,
+    pipeline: Pipeline,
 ) -> Result<Standing, StoreFault> {
-    let Some(pipeline) = tables.pipeline(number)? else {
-        return lacking();
-    };
-    let jobs = tables.jobs_of(number)?;
+    let jobs = tables.jobs_of(pipeline.id)?;
     let (Some(first), Some(last)) = (jobs.first(), jobs.last()) else {
         return lacking();
     };
@@ -72,15 +69,18 @@ fn runners<S: Alter>(alloc: Global, tables: &mut Tables<S>) -> Result<Vec<Runner
     Ok(runners)
 }
 
+/// Those that are left of the pipelines that were made.
 fn pipelines<S: Alter>(alloc: Global, tables: &mut Tables<S>) -> Result<Vec<Standing>, StoreFault> {
     let mut pipelines = Vec::new(alloc);
     for number in 1..tables.next(Counter::Pipeline)? {
-        pipelines.push(standing_of(alloc, tables, number)?)?;
+        if let Some(pipeline) = tables.pipeline(number)? {
+            pipelines.push(standing_of(alloc, tables, pipeline)?)?;
+        }
     }
     Ok(pipelines)
 }
 
-/// All of it. Errors: the store's, or a record that was made isn't there.
+/// All of it. Errors: the store's, or a runner that was made isn't there, or a pipeline's jobs.
 pub fn whole_of<S: Alter>(alloc: Global, tables: &mut Tables<S>) -> Result<Whole, StoreFault> {
     let runners = runners(alloc, tables)?;
     let pipelines = pipelines(alloc, tables)?;

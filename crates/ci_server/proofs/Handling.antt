@@ -1,12 +1,12 @@
 -- From what an event did to a store to how it was handled.
-use Rattle.std.specs.Prelude.{IfOk}
+use Rattle.std.specs.Prelude.{ℕ, List, IfOk}
 use Rattle.std.proofs.Common.{◌≡◌, inl, inr, ⊎_elim, Bool, false, List, Result, Ok, Err, refl, sym, ap, subst, ◌∙◌}
 use Rattle.std.proofs.lemmas.Bool.{false≢true}
 use Rattle.ci_machine.specs.declared.reply.Answer.{Answer}
 use Rattle.ci_machine.specs.declared.change.RowChange.{RowChange}
 use Rattle.ci_machine.specs.declared.request.Event.{Event}
 use Rattle.ci_machine.specs.State.{State, applied}
-use Rattle.ci_machine.specs.Kept.{Kept, put_rows, written}
+use Rattle.ci_machine.specs.Kept.{Kept, cleared, put_rows, written}
 use Rattle.ci_machine_steps.specs.Sound.{IsSound}
 use Rattle.ci_machine_steps.specs.History.{IsReached}
 use Rattle.ci_machine_steps.specs.Step.{Happens, Step}
@@ -25,31 +25,31 @@ use Rattle.ci_server.proofs.Runs.{AllStep, outcome-M16, outcome-M17}
 
 module _ {T : Type 0} (keeps : T → Kept → Type 0) (leaves : T → Kept → Kept → Type 0) {A : Type 0} (as_answer : A → Answer) (c : Call) where
   -- it happens in the state that is kept: its changes were committed with what changes beside them, or not
-  performs : (k : Kept) → IsKeptOf k.state k → (a : A) (changes : List RowChange) (beside : Beside) (new : T) (r : Result A StoreFault) → Happens k.state k.board c.0 c.1 c.2 (as_answer a) changes
-      → Settles k changes beside → IfOk r (λ x. x ≡ a)
-      → Ends r (keeps new (written changes beside.rows.items beside.indexes.items k)) (keeps new k) (leaves new k (written changes beside.rows.items beside.indexes.items k))
+  performs : (k : Kept) → IsKeptOf k.state k → (jobs : List ℕ) (a : A) (changes : List RowChange) (beside : Beside) (new : T) (r : Result A StoreFault) → Happens k.state k.board c.0 c.1 c.2 (as_answer a) changes
+      → Settles (cleared jobs k) changes beside → IfOk r (λ x. x ≡ a)
+      → Ends r (keeps new (written changes beside.rows.items beside.indexes.items (cleared jobs k))) (keeps new k) (leaves new k (written changes beside.rows.items beside.indexes.items (cleared jobs k)))
       → Performs (Holds keeps) (Leaves leaves) as_answer c k.state new r
-  performs k of a changes beside new (Ok x) does settles same held = (
+  performs k of jobs a changes beside new (Ok x) does settles same held = (
     applied changes k.state,
-    record { before = k.board; are_before = of.are_board; changes = changes; happens = subst (λ b. Happens k.state k.board c.0 c.1 c.2 (as_answer b) changes) (sym same) does; state = refl; after = put_rows beside.rows.items k.board; are_after = settles.board },
-    record { kept = written changes beside.rows.items beside.indexes.items k; is_of = settled k changes beside settles; held = held },
+    record { before = k.board; are_before = of.are_board; changes = changes; happens = subst (λ b. Happens k.state k.board c.0 c.1 c.2 (as_answer b) changes) (sym same) does; state = refl; after = put_rows beside.rows.items (cleared jobs k).board; are_after = settles.board },
+    record { kept = written changes beside.rows.items beside.indexes.items (cleared jobs k); is_of = settled (cleared jobs k) changes beside settles; held = held },
   )
-  performs k of a changes beside new (Err Memory) does settles same held = record { kept = k; is_of = of; held = held }
-  performs k of a changes beside new (Err Broken) does settles same left = inr (
+  performs k of jobs a changes beside new (Err Memory) does settles same held = record { kept = k; is_of = of; held = held }
+  performs k of jobs a changes beside new (Err Broken) does settles same left = inr (
     as_answer a,
     applied changes k.state,
-    record { before = k.board; are_before = of.are_board; changes = changes; happens = does; state = refl; after = put_rows beside.rows.items k.board; are_after = settles.board },
-    record { before = k; after = written changes beside.rows.items beside.indexes.items k; is_before = of; is_after = settled k changes beside settles; left = left },
+    record { before = k.board; are_before = of.are_board; changes = changes; happens = does; state = refl; after = put_rows beside.rows.items (cleared jobs k).board; are_after = settles.board },
+    record { before = k; after = written changes beside.rows.items beside.indexes.items (cleared jobs k); is_before = of; is_after = settled (cleared jobs k) changes beside settles; left = left },
   )
 
   -- the changes of the event's plan were committed with what changes beside them, or not
-  pub performed : (s : State) (k : Kept) → IsKeptOf s k → (a : A) (changes : List RowChange) (beside : Beside) (new : T) (r : Result A StoreFault) → Happens k.state k.board c.0 c.1 c.2 (as_answer a) changes
-      → Settles k changes beside → IfOk r (λ x. x ≡ a)
-      → Ends r (keeps new (written changes beside.rows.items beside.indexes.items k)) (keeps new k) (leaves new k (written changes beside.rows.items beside.indexes.items k))
+  pub performed : (s : State) (k : Kept) → IsKeptOf s k → (jobs : List ℕ) (a : A) (changes : List RowChange) (beside : Beside) (new : T) (r : Result A StoreFault) → Happens k.state k.board c.0 c.1 c.2 (as_answer a) changes
+      → Settles (cleared jobs k) changes beside → IfOk r (λ x. x ≡ a)
+      → Ends r (keeps new (written changes beside.rows.items beside.indexes.items (cleared jobs k))) (keeps new k) (leaves new k (written changes beside.rows.items beside.indexes.items (cleared jobs k)))
       → Performs (Holds keeps) (Leaves leaves) as_answer c s new r
-  performed s k of a changes beside new r does settles same ends =
+  performed s k of jobs a changes beside new r does settles same ends =
       subst (λ t. Performs (Holds keeps) (Leaves leaves) as_answer c t new r) of.state
-      (performs k (subst (λ t. IsKeptOf t k) (sym of.state) of) a changes beside new r does settles same ends)
+      (performs k (subst (λ t. IsKeptOf t k) (sym of.state) of) jobs a changes beside new r does settles same ends)
 
   -- the store failed or lacked memory before anything changed
   pub unplanned : (s : State) (k : Kept) → IsKeptOf s k → (B : Type 0) (fault : StoreFault) (new : T) → UnlessBroken {A = B} (Err fault) (keeps new k) → leaves new k k

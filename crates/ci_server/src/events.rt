@@ -5,7 +5,7 @@ ghost use Rattle.ci_machine.specs.declared.reply.Answer.TheVariants as answer;
 ghost use Rattle.ci_machine.specs.declared.request.Event.TheVariants as event;
 ghost use Rattle.ci_machine.specs.declared.request.Seed.{Seed};
 ghost use Rattle.ci_machine.specs.State.{State};
-ghost use Rattle.ci_machine.specs.Kept.{Kept, written};
+ghost use Rattle.ci_machine.specs.Kept.{Kept, cleared, written};
 ghost use Rattle.ci_machine_steps.specs.Sound.{IsSound};
 ghost use Rattle.ci_store.specs.Store.{Ends};
 ghost use Rattle.ci_server.specs.Handling.{Performs};
@@ -15,7 +15,7 @@ use ci_machine::moment::Moment;
 use ci_machine::reply::{Reply, Swept};
 use ci_machine::request::{Request, Seed};
 use ci_server_events::events::plan_request;
-use ci_server_events::planned::{Beside, Planned};
+use ci_server_events::planned::{Beside, Clearing, Planned};
 use ci_server_events::sweeps::plan_sweep;
 use ci_store::delta::Delta;
 use ci_store::fault::StoreFault;
@@ -34,8 +34,8 @@ pub(crate) fn handle<T: Store>(
     ensures performed { T.honest store.new → (s : State) → IsSound s → Holds T.holds store.old s
         → Performs (Holds T.holds) (Leaves T.leaves) answer.Reply (event.Request request, now, seed) s store.new result }
 {
-    let planned = plan_request(alloc, store, request, now, seed)?;
-    commit(store, planned)
+    let clearing = plan_request(alloc, store, request, now, seed)?;
+    commit(store, clearing)
 }
 
 /// Sweeps: ends one lease that is over; where there is none, cancels one redundant pipeline, if there is one. Errors: as `handle`.
@@ -49,25 +49,27 @@ pub(crate) fn sweep<T: Store>(
         → (seed : Seed) → Performs (Holds T.holds) (Leaves T.leaves) answer.Swept (event.Sweep, now, seed) s store.new result }
 {
     let planned = plan_sweep(alloc, store, now)?;
-    commit(store, planned)
+    commit(store, Clearing::nothing(alloc, planned))
 }
 
 /// Makes the changes of a plan, with what changes beside them, if there are any, and gives its answer. Errors: the store's.
-fn commit<T: Store, A: Drop>(store: &mut T, planned: Planned<A>) -> Result<A, StoreFault>
+fn commit<T: Store, A: Drop>(store: &mut T, clearing: Clearing<A>) -> Result<A, StoreFault>
     ensures was_honest { T.honest store.new → T.honest store.old }
     ensures ends { T.honest store.new → (k : Kept) → T.holds store.old k
-        → Ends result (T.holds store.new (written planned.changes planned.beside.rows.items planned.beside.indexes.items k)) (T.holds store.new k) (T.leaves store.new k (written planned.changes planned.beside.rows.items planned.beside.indexes.items k)) }
-    ensures answer { IfOk result (λ a. a ≡ planned.answer) }
+        → let then = written clearing.planned.changes clearing.planned.beside.rows.items clearing.planned.beside.indexes.items (cleared clearing.cleared.items k) in
+        Ends result (T.holds store.new then) (T.holds store.new k) (T.leaves store.new k then) }
+    ensures answer { IfOk result (λ a. a ≡ clearing.planned.answer) }
 {
+    let Clearing { planned, cleared } = clearing;
     let Planned {
         answer,
         changes,
         beside,
     } = planned;
     let Beside { rows, indexes } = beside;
-    if changes.is_empty() && rows.is_empty() && indexes.is_empty() {
+    if changes.is_empty() && rows.is_empty() && indexes.is_empty() && cleared.is_empty() {
         return Ok(answer);
     }
-    store.commit(Delta::new(changes.into_vec(), rows, indexes))?;
+    store.commit(Delta::new(changes.into_vec(), rows, indexes).clearing(cleared))?;
     Ok(answer)
 }

@@ -34,13 +34,13 @@ use Rattle.ci_machine.specs.declared.reply.Reply.{Reply}
 use Rattle.ci_machine.specs.declared.request.NewRunner.{NewRunner}
 use Rattle.ci_machine.specs.declared.request.NewVariable.{NewVariable}
 use Rattle.ci_machine.specs.declared.request.Request.{Request}
-use Rattle.ci_machine.specs.declared.request.Request.TheVariants.{AddProject, AddRunner, PauseRunner, SetFile, SetVariable, DeleteVariable, CreatePipeline, ShowPipeline, AskJob, UpdateJob, AppendTrace, ShowJob, ShowTrace, Play, CancelJob, RetryJob, CancelPipeline}
+use Rattle.ci_machine.specs.declared.request.Request.TheVariants.{AddProject, AddRunner, PauseRunner, SetFile, SetVariable, DeleteVariable, CreatePipeline, ShowPipeline, AskJob, UpdateJob, AppendTrace, ShowJob, ShowTrace, Play, CancelJob, RetryJob, CancelPipeline, PruneOne}
 use Rattle.ci_machine.specs.declared.request.Seed.{Seed}
 use Rattle.ci_machine.specs.declared.request.TracePart.{TracePart}
 use Rattle.ci_machine_steps.specs.Files.{SetsFile, set_file}
 use Rattle.ci_machine.specs.Holders.{holders}
 use Rattle.ci_machine.specs.Indexes.{AreIndexes}
-use Rattle.ci_machine.specs.Kept.{Kept, put_rows, written}
+use Rattle.ci_machine.specs.Kept.{Kept, cleared, put_rows, written}
 use Rattle.ci_machine.specs.Leases.{accepted}
 use Rattle.ci_machine_steps.specs.Plans.{Plan, asked_project, refused, faulted}
 use Rattle.ci_machine_steps.specs.Projects.{add_project, made_project}
@@ -61,6 +61,7 @@ use Rattle.ci_store.specs.Store.{LoadsBy}
 use Rattle.ci_server_lookups.specs.Keeps.{IsKept}
 use Rattle.ci_server_lookups.proofs.Loading.{gives}
 use Rattle.ci_server_events.specs.declared.planned.Beside.{Beside}
+use Rattle.ci_server_events.specs.declared.planned.Planned.{Planned}
 use Rattle.ci_server_events.specs.Planning.{PlansFor, Settles}
 use Rattle.ci_server_events.proofs.Found.{leased, pair_is}
 
@@ -186,6 +187,7 @@ KeepsRows (Play query) = ⊥
 KeepsRows (CancelJob query) = ⊥
 KeepsRows (RetryJob query) = ⊥
 KeepsRows (CancelPipeline query) = ⊥
+KeepsRows (PruneOne before) = ⊥
 KeepsRows _ = Unit {0}
 
 leaves_so : (s : State) (plan is : Plan) → plan ≡ is → Leaves s is → Leaves s plan
@@ -207,6 +209,7 @@ leaves_rows s board (Play query) now seed plan keeps does = absurd keeps
 leaves_rows s board (CancelJob query) now seed plan keeps does = absurd keeps
 leaves_rows s board (RetryJob query) now seed plan keeps does = absurd keeps
 leaves_rows s board (CancelPipeline query) now seed plan keeps does = absurd keeps
+leaves_rows s board (PruneOne before) now seed plan keeps does = absurd keeps
 leaves_rows s board (AppendTrace part) now seed plan keeps does = leaves_so s plan _ does (piece_leaves s part now)
 leaves_rows s board (ShowPipeline query) now seed plan keeps does = leaves_so s plan _ does
     (pipeline_shown_leaves s (asked_pipeline (asked_project (project_with s query.token) query.project) (pipeline_at s query.pipeline)) (holders s) (jobs_of s query.pipeline) (facts_of s query.pipeline) (rows_of s board query.pipeline))
@@ -216,13 +219,28 @@ leaves_rows s board (ShowTrace query) now seed plan keeps does = leaves_so s pla
 module _ {T : Type 0} (honest : T → Type 0) (holds : T → Kept → Type 0) (leaves : T → Kept → Kept → Type 0) where
   -- what is loaded for such a request is planned alone
   pub planned_alone : {B : Type 0} {P : Kept → Plan → Type 0} (rows_stay : RowsStay) (indexes_stay : IndexesStay) (request asked : Request) (now : ℕ) (seed : Seed) (a b : T) (first : Result Plan StoreFault) (plan : Plan) (y : B)
-      (answer : B → Reply) (changes : B → List RowChange) (beside : B → Beside)
+      (answer : B → Reply) (changes : B → List RowChange) (beside : B → Beside) (jobs : B → List ℕ)
       → request ≡ asked → KeepsRows asked → first ≡ Ok plan → LoadsBy honest holds leaves a b first P → ((k : Kept) → IsKept k → P k plan → Does k.state k.board asked now seed plan)
-      → answer y ≡ plan.0 → changes y ≡ plan.1 → (beside y).rows.items ≡ [] → (beside y).indexes.items ≡ []
-      → LoadsBy honest holds leaves a b (Ok y) (λ k p. IsKept k → PlansFor k (Does k.state k.board request now seed (answer p, changes p)) (changes p) (beside p))
-  planned_alone rows_stay indexes_stay request asked now seed a b first plan y answer changes beside is keeps was load so same_answer same_changes no_rows no_indexes =
-      gives honest holds leaves (λ k p. IsKept k → PlansFor k (Does k.state k.board request now seed (answer p, changes p)) (changes p) (beside p)) a b first plan y was load
+      → answer y ≡ plan.0 → changes y ≡ plan.1 → (beside y).rows.items ≡ [] → (beside y).indexes.items ≡ [] → jobs y ≡ []
+      → LoadsBy honest holds leaves a b (Ok y) (λ k p. IsKept k → PlansFor (cleared (jobs p) k) (Does k.state k.board request now seed (answer p, changes p)) (changes p) (beside p))
+  planned_alone rows_stay indexes_stay request asked now seed a b first plan y answer changes beside jobs is keeps was load so same_answer same_changes no_rows no_indexes none_gone =
+      gives honest holds leaves (λ k p. IsKept k → PlansFor (cleared (jobs p) k) (Does k.state k.board request now seed (answer p, changes p)) (changes p) (beside p)) a b first plan y was load
       (λ k planned kept.
       let does : Does k.state k.board asked now seed plan = so k kept planned in
-      alone rows_stay indexes_stay k kept (λ (p : Plan). Does k.state k.board request now seed p) plan (answer y) (changes y) (beside y) same_answer same_changes no_rows no_indexes
-      (subst (λ (q : Request). Does k.state k.board q now seed plan) (sym is) does) (leaves_rows k.state k.board asked now seed plan keeps does))
+      subst (λ (js : List ℕ). PlansFor (cleared js k) (Does k.state k.board request now seed (answer y, changes y)) (changes y) (beside y)) (sym none_gone)
+      (alone rows_stay indexes_stay k kept (λ (p : Plan). Does k.state k.board request now seed p) plan (answer y) (changes y) (beside y) same_answer same_changes no_rows no_indexes
+      (subst (λ (q : Request). Does k.state k.board q now seed plan) (sym is) does) (leaves_rows k.state k.board asked now seed plan keeps does)))
+
+  -- what is planned of another request stands as it is, and no row goes first
+  pub planned_so : {B : Type 0} {P : Kept → Planned Reply → Type 0} (request asked : Request) (now : ℕ) (seed : Seed) (a b : T) (first : Result (Planned Reply) StoreFault) (planned : Planned Reply) (y : B)
+      (within : B → Planned Reply) (jobs : B → List ℕ)
+      → request ≡ asked → first ≡ Ok planned → LoadsBy honest holds leaves a b first P
+      → ((k : Kept) → IsKept k → P k planned → PlansFor k (Does k.state k.board asked now seed (planned.answer, planned.changes)) planned.changes planned.beside)
+      → within y ≡ planned → jobs y ≡ []
+      → LoadsBy honest holds leaves a b (Ok y) (λ k p. IsKept k → PlansFor (cleared (jobs p) k) (Does k.state k.board request now seed ((within p).answer, (within p).changes)) (within p).changes (within p).beside)
+  planned_so request asked now seed a b first planned y within jobs is was load so same none_gone =
+      gives honest holds leaves (λ k p. IsKept k → PlansFor (cleared (jobs p) k) (Does k.state k.board request now seed ((within p).answer, (within p).changes)) (within p).changes (within p).beside) a b first planned y was load
+      (λ k its kept.
+      subst (λ (js : List ℕ). PlansFor (cleared js k) (Does k.state k.board request now seed ((within y).answer, (within y).changes)) (within y).changes (within y).beside) (sym none_gone)
+      (subst (λ (q : Request). PlansFor k (Does k.state k.board q now seed ((within y).answer, (within y).changes)) (within y).changes (within y).beside) (sym is)
+      (subst (λ (p : Planned Reply). PlansFor k (Does k.state k.board asked now seed (p.answer, p.changes)) p.changes p.beside) (sym same) (so k kept its))))

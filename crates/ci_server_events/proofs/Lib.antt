@@ -7,3 +7,4 @@ pub mod Granting
 pub mod Creating
 pub mod Settles
 pub mod Acting
+pub mod Pruning

@@ -1,6 +1,7 @@
 //! What a request does, from what a store holds: what it needs is looked up, and its plan is made. The store stays as it is.
 
 ghost use Rattle.std.specs.Prelude.{◌≡◌};
+ghost use Rattle.ci_machine.specs.Kept.{cleared};
 ghost use Rattle.ci_machine_steps.specs.Step.{Does};
 ghost use Rattle.ci_store.specs.Store.{LoadsBy};
 ghost use Rattle.ci_server_lookups.specs.Keeps.{IsKept};
@@ -10,8 +11,9 @@ use crate::acts::{act_on, cancel_pipeline};
 use crate::files::set_file;
 use crate::grants::ask_job;
 use crate::pipelines::create_pipeline;
-use crate::planned::Planned;
+use crate::planned::Clearing;
 use crate::projects::add_project;
+use crate::prunes::prune_one;
 use crate::reports::update_job;
 use crate::runners::{add_runner, pause_runner};
 use crate::shows::{show_job, show_pipeline, show_trace};
@@ -27,66 +29,88 @@ use ci_store::fault::StoreFault;
 use ci_store::store::Store;
 use std::alloc::Global;
 
-/// What a request does: its reply, its changes, and what changes beside them. Errors: the store's.
+/// What a request does: its reply, its changes, and what changes beside them, of which some goes first. Errors: the store's.
 pub fn plan_request<T: Store>(
     alloc: Global,
     store: &mut T,
     request: Request,
     now: Moment,
     seed: Seed,
-) -> Result<Planned<Reply>, StoreFault>
+) -> Result<Clearing<Reply>, StoreFault>
     ensures { LoadsBy T.honest T.holds T.leaves store.old store.new result
-        (λ k p. IsKept k → PlansFor k (Does k.state k.board request now seed (p.answer, p.changes)) p.changes p.beside) }
+        (λ k p. IsKept k → PlansFor (cleared p.cleared.items k) (Does k.state k.board request now seed (p.planned.answer, p.planned.changes)) p.planned.changes p.planned.beside) }
 {
     rows_stay();
     indexes_stay();
     match request {
-        Request::CreatePipeline(new) => create_pipeline(alloc, store, &new, now),
-        Request::AskJob(token) => ask_job(alloc, store, token, now, seed),
-        Request::UpdateJob(update) => update_job(alloc, store, &update, now),
-        Request::Play(query) => act_on(alloc, store, Act::Play, &query),
-        Request::CancelJob(query) => act_on(alloc, store, Act::Cancel, &query),
-        Request::RetryJob(query) => act_on(alloc, store, Act::Retry, &query),
-        Request::CancelPipeline(query) => cancel_pipeline(alloc, store, &query),
+        Request::PruneOne(before) => prune_one(alloc, store, before),
+        Request::CreatePipeline(new) => {
+            let planned = create_pipeline(alloc, store, &new, now)?;
+            Ok(Clearing::nothing(alloc, planned))
+        }
+        Request::AskJob(token) => {
+            let planned = ask_job(alloc, store, token, now, seed)?;
+            Ok(Clearing::nothing(alloc, planned))
+        }
+        Request::UpdateJob(update) => {
+            let planned = update_job(alloc, store, &update, now)?;
+            Ok(Clearing::nothing(alloc, planned))
+        }
+        Request::Play(query) => {
+            let planned = act_on(alloc, store, Act::Play, &query)?;
+            Ok(Clearing::nothing(alloc, planned))
+        }
+        Request::CancelJob(query) => {
+            let planned = act_on(alloc, store, Act::Cancel, &query)?;
+            Ok(Clearing::nothing(alloc, planned))
+        }
+        Request::RetryJob(query) => {
+            let planned = act_on(alloc, store, Act::Retry, &query)?;
+            Ok(Clearing::nothing(alloc, planned))
+        }
+        Request::CancelPipeline(query) => {
+            let planned = cancel_pipeline(alloc, store, &query)?;
+            Ok(Clearing::nothing(alloc, planned))
+        }
         Request::AddProject(name) => {
             let plan = add_project(alloc, store, name, seed)?;
-            Ok(Planned::alone(alloc, plan))
+            Ok(Clearing::alone(alloc, plan))
         }
         Request::AddRunner(new) => {
             let plan = add_runner(alloc, store, new, seed)?;
-            Ok(Planned::alone(alloc, plan))
+            Ok(Clearing::alone(alloc, plan))
         }
         Request::PauseRunner(pause) => {
             let plan = pause_runner(alloc, store, pause)?;
-            Ok(Planned::alone(alloc, plan))
+            Ok(Clearing::alone(alloc, plan))
         }
         Request::SetFile(new) => {
             let plan = set_file(alloc, store, new)?;
-            Ok(Planned::alone(alloc, plan))
+            Ok(Clearing::alone(alloc, plan))
         }
         Request::SetVariable(new) => {
             let plan = set_variable(alloc, store, new)?;
-            Ok(Planned::alone(alloc, plan))
+            Ok(Clearing::alone(alloc, plan))
         }
         Request::DeleteVariable(query) => {
             let plan = delete_variable(alloc, store, &query)?;
-            Ok(Planned::alone(alloc, plan))
+            Ok(Clearing::alone(alloc, plan))
         }
         Request::AppendTrace(part) => {
             let plan = append_trace(alloc, store, part, now)?;
-            Ok(Planned::alone(alloc, plan))
+            Ok(Clearing::alone(alloc, plan))
         }
         Request::ShowPipeline(query) => {
             let plan = show_pipeline(alloc, store, &query)?;
-            Ok(Planned::alone(alloc, plan))
+            Ok(Clearing::alone(alloc, plan))
         }
         Request::ShowJob(query) => {
             let plan = show_job(alloc, store, &query)?;
-            Ok(Planned::alone(alloc, plan))
+            Ok(Clearing::alone(alloc, plan))
         }
         Request::ShowTrace(query) => {
             let plan = show_trace(alloc, store, &query)?;
-            Ok(Planned::alone(alloc, plan))
+            Ok(Clearing::alone(alloc, plan))
         }
     }
 }

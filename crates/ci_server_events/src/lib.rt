@@ -9,6 +9,7 @@ mod grants;
 mod pipelines;
 pub mod planned;
 mod projects;
+mod prunes;
 mod reports;
 mod runners;
 mod shows;

@@ -53,6 +53,37 @@ pub(crate) fn listed(
     Ok(changes)
 }
 
+/// What an event does, where rows of statuses go first, with the jobs that they are of.
+pub struct Clearing<A> {
+    pub planned: Planned<A>,
+    /// The jobs whose rows go, before all else is written.
+    pub cleared: Vec<u64>,
+}
+
+impl<A: Drop> Clearing<A> {
+    /// A plan by which no row goes.
+    pub fn nothing(alloc: Global, planned: Planned<A>) -> Clearing<A>
+        ensures planned { result.planned ≡ planned }
+        ensures cleared { result.cleared.items ≡ [] }
+    {
+        Clearing {
+            planned,
+            cleared: Vec::new(alloc),
+        }
+    }
+
+    /// A plan by which no row goes, and beside whose records nothing changes.
+    pub(crate) fn alone(alloc: Global, plan: (A, Changes)) -> Clearing<A>
+        ensures answer { result.planned.answer ≡ plan.0 }
+        ensures changes { result.planned.changes ≡ plan.1 }
+        ensures rows { result.planned.beside.rows.items ≡ [] }
+        ensures indexes { result.planned.beside.indexes.items ≡ [] }
+        ensures cleared { result.cleared.items ≡ [] }
+    {
+        Clearing::nothing(alloc, Planned::alone(alloc, plan))
+    }
+}
+
 impl<A: Drop> Planned<A> {
     /// A plan beside whose records nothing changes.
     pub(crate) fn alone(alloc: Global, plan: (A, Changes)) -> Planned<A>

@@ -68,6 +68,8 @@ pub enum Act {
     RetryJob(u64),
     /// The pipeline of this number is cancelled, by the first project.
     CancelPipeline(u64),
+    /// A finished pipeline goes that was made before so many seconds.
+    Prune(u64),
     Sweep,
 }
 
@@ -254,7 +256,7 @@ fn pipeline_query(alloc: Global, pipeline: u64) -> Result<PipelineQuery, AllocEr
 }
 
 /// The event of what happens.
-pub fn event(alloc: Global, act: Act) -> Result<Event, AllocError> {
+pub fn event(alloc: Global, act: Act) -> Result<Event, Fail> {
     Ok(Event::Request(match act {
         Act::AddProject(name) => Request::AddProject(text(alloc, name)?),
         Act::AddRunner(name) => plain_runner(alloc, name)?,
@@ -282,6 +284,7 @@ pub fn event(alloc: Global, act: Act) -> Result<Event, AllocError> {
         Act::CancelJob(job) => Request::CancelJob(query(alloc, job)?),
         Act::RetryJob(job) => Request::RetryJob(query(alloc, job)?),
         Act::CancelPipeline(pipeline) => Request::CancelPipeline(pipeline_query(alloc, pipeline)?),
+        Act::Prune(before) => Request::PruneOne(at(before)?),
         Act::Sweep => return Ok(Event::Sweep),
     }))
 }

@@ -153,6 +153,7 @@ pub fn first(act: Act) -> Want {
         Act::CancelPipeline(_) => Want::Done(
             "{\"id\":1,\"jobs\":[{\"id\":1,\"name\":\"build\",\"stage\":\"build\",\"status\":\"canceled\"}],\"ref\":\"main\",\"source\":\"api\",\"status\":\"canceled\"}",
         ),
+        Act::Prune(_) => Want::Done("{\"pruned\":1}"),
         Act::Sweep => Want::Ended(Cause::StuckOrTimeoutFailure),
     }
 }
@@ -175,6 +176,7 @@ pub fn again(act: Act) -> Want {
         Act::Play(_) => Want::Refused(Code::M10, None),
         Act::RetryJob(_) => Want::Refused(Code::M11, None),
         Act::CancelJob(_) | Act::CancelPipeline(_) => Want::Refused(Code::M12, None),
+        Act::Prune(_) => Want::Empty(HttpStatus::NoContent),
         Act::Sweep => Want::Nothing,
         Act::Pause(_, _)
         | Act::SetFile(_, _)

@@ -2,7 +2,7 @@
 use Rattle.std.specs.Prelude.{◌≡◌, ◌⊎◌, ℕ, ◌+◌, ◌<◌, ◌||◌, cond, not, Bool, true, false, List, [], ◌∷◌, ◌++◌, length, take, find, flat_map, Contains, Option, Some, None, is_some, option_to_list, slice_index_or}
 use Rattle.std.specs.List.{list_any}
 use Rattle.std.proofs.Common.{refl, sym, ap, subst, ◌∙◌, inl, inr, ⊎_elim}
-use Rattle.std.proofs.lemmas.Bool.{cases_Bool, both_ways, false≢true}
+use Rattle.std.proofs.lemmas.Bool.{cases_Bool, both_ways}
 use Rattle.std.proofs.lemmas.List.{take_more, flat_map_more, append-nil}
 use Rattle.std.proofs.lemmas.List.Elements.{filter_more}
 use Rattle.ci_machine.specs.declared.records.Holder.{Holder}
@@ -11,21 +11,11 @@ use Rattle.ci_machine.specs.State.{State}
 use Rattle.ci_machine.specs.Eligible.{holds, is_free}
 use Rattle.ci_machine.specs.Holders.{holders, holder_at, AreHolders}
 use Rattle.ci_machine.proofs.Keyed.{Has, has_find, has_from_all, has_from_contains, All-from_has}
+use Rattle.ci_machine.proofs.Tests.{any_has, has_any}
 use Rattle.ci_machine.specs.declared.change.IndexChange.{IndexChange}
 use Rattle.ci_server_lookups.specs.Held.{HoldAlike, holder_for, frees, still_held}
 
 -- ---- lists
-
-pub any_has : {A : Type 0} (p : A → Bool) (xs : List A) → list_any p xs ≡ true → (x : A) × (Has x xs × (p x ≡ true))
-any_has p [] e = absurd (false≢true e)
-any_has p (x ∷ xs) e =
-    ⊎_elim (λ t. (x, (inl refl, t))) (λ f. let w = any_has p xs (sym (ap (λ b. b || list_any p xs) f) ∙ e) in (w.0, (inr w.1.0, w.1.1))) (cases_Bool (p x))
-
-pub has_any : {A : Type 0} (p : A → Bool) (x : A) (xs : List A) → Has x xs → p x ≡ true → list_any p xs ≡ true
-has_any p x [] h e = absurd h
-has_any p x (y ∷ ys) h e =
-    ⊎_elim (λ s. ap (λ b. b || list_any p ys) (ap p (sym s) ∙ e))
-    (λ m. ⊎_elim (λ t. ap (λ b. b || list_any p ys) t) (λ f. ap (λ b. b || list_any p ys) f ∙ has_any p x ys m e) (cases_Bool (p y))) h
 
 one_way : {A : Type 0} (p : A → Bool) (xs ys : List A) → ((x : A) → Has x xs → p x ≡ true → Has x ys) → list_any p xs ≡ true → list_any p ys ≡ true
 one_way p xs ys f e = let w = any_has p xs e in has_any p w.0 ys (f w.0 w.1.0 w.1.1) w.1.1

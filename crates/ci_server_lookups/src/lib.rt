@@ -4,6 +4,7 @@
 
 pub mod holders;
 pub mod leases;
+pub mod prunable;
 pub mod records;
 pub mod redundant;
 pub mod search;

@@ -1,7 +1,6 @@
 -- The jobs of a pipeline, as what was looked up tells them.
-use Rattle.std.specs.Prelude.{◌≡◌, ℕ, Bool, true, false, cond, List, [], ◌∷◌, length, map, filter, ◌==◌}
+use Rattle.std.specs.Prelude.{◌≡◌, ℕ, Bool, true, List, [], ◌∷◌, length, map, filter, ◌==◌}
 use Rattle.std.proofs.Common.{refl, sym, ap, subst, ◌∙◌, eqb-true}
-use Rattle.std.proofs.lemmas.Bool.{cond_both, cond-false, both_ways}
 use Rattle.ci_board.specs.declared.facts.Facts.{Facts}
 use Rattle.ci_board.specs.declared.facts.Row.{Row}
 use Rattle.ci_board.specs.declared.facts.Status.{Status}
@@ -20,6 +19,7 @@ use Rattle.ci_machine.specs.Ranges.{is_within}
 use Rattle.ci_machine.specs.ReportRows.{pending_status, shown_status, job_row, job_rows}
 use Rattle.ci_machine.specs.Statuses.{jobs_of, attempts_of, facts_of, rows_of, row_for, status_for}
 use Rattle.ci_machine.proofs.Keyed.{Has, has_find, has_from_all}
+use Rattle.ci_machine.proofs.Filters.{filter_implied}
 use Rattle.ci_machine_statuses.proofs.Puts.{map_same}
 use Rattle.ci_server_lookups.specs.Records.{IsWhole}
 use Rattle.ci_server_lookups.specs.declared.records.Whole.{Whole}
@@ -28,18 +28,6 @@ use Rattle.ci_server_reports.specs.Told.{job_told}
 map_map : {A B C : Type 0} (g : B → C) (f : A → B) (xs : List A) → map g (map f xs) ≡ map (λ x. g (f x)) xs
 map_map g f [] = refl
 map_map g f (x ∷ xs) = ap (λ l. g (f x) ∷ l) (map_map g f xs)
-
--- those that pass the one test, where all that pass it pass the other
-filter_implied : {A : Type 0} (p q : A → Bool) (xs : List A) → ((x : A) → p x ≡ true → q x ≡ true) → filter p (filter q xs) ≡ filter p xs
-filter_implied p q [] h = refl
-filter_implied p q (x ∷ xs) h =
-    cond_both (q x) (x ∷ filter q xs) (filter q xs) (λ l. filter p l ≡ filter p (x ∷ xs))
-    (λ e. ap (λ l. cond (p x) (x ∷ l) l) (filter_implied p q xs h))
-    (λ e. filter_implied p q xs h ∙ sym (cond-false (p x) (x ∷ filter p xs) (filter p xs) (fails (p x) (λ t. both_ways (q x) e (h x t)))))
-  where
-    fails : (b : Bool) → (b ≡ true → ⊥) → b ≡ false
-    fails true d = absurd (d refl)
-    fails false d = refl
 
 -- by holders that hold alike a job is told alike
 shown_alike : (hs gs : List Holder) (project : ℕ) (j : Job) (s : Status) → is_free hs project j.options.resource_group ≡ is_free gs project j.options.resource_group → shown_status hs project j s ≡ shown_status gs project j s
@@ -63,7 +51,7 @@ module _ (k : Kept) (id : ℕ) (w : Whole) (whole : IsWhole k id w) where
       let own : Attempt → Bool = λ a. a.job == j.id in
       ap (λ (l : List Attempt). length (filter own l)) whole.records.are_attempts
       ∙ ap length (filter_implied own (λ a. is_within first last a.job) k.state.attempts
-      (λ a e. subst (λ m. is_within first last m ≡ true) (sym (eqb-true a.job j.id e)) (has_from_all (λ (i : Job). is_within first last i.id ≡ true) j w.records.jobs.items whole.records.inside h)))
+      (λ a k e. subst (λ m. is_within first last m ≡ true) (sym (eqb-true a.job j.id e)) (has_from_all (λ (i : Job). is_within first last i.id ≡ true) j w.records.jobs.items whole.records.inside h)))
 
   one_told : (j : Job) → Has j w.records.jobs.items → job_told w.held.items w.pipeline.project w.records.attempts.items k.board j ≡ job_row k.state k.board w.pipeline.project j
   one_told j h =

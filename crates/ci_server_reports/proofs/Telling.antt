@@ -1,7 +1,7 @@
 -- Rows that are told one by one, and page by page.
-use Rattle.std.specs.Prelude.{◌≡◌, ℕ, ◌+◌, ◌<◌, List, [], ◌∷◌, ◌++◌, length, map, drop, Option, Some, None, option_map, slice_index_or}
+use Rattle.std.specs.Prelude.{◌≡◌, ℕ, List, [], ◌∷◌, ◌++◌, map, Some, option_map}
 use Rattle.std.proofs.Common.{refl, sym, ap, ◌∙◌}
-use Rattle.std.proofs.lemmas.List.{drop_more, map-append, append_assoc, append-nil}
+use Rattle.std.proofs.lemmas.List.{map-append, append_assoc, append-nil}
 use Rattle.ci_machine.specs.declared.records.BoardRow.{BoardRow}
 use Rattle.ci_machine.specs.declared.records.QueuedJob.{QueuedJob}
 use Rattle.ci_machine.specs.declared.report.QueueRow.{QueueRow}
@@ -12,33 +12,10 @@ use Rattle.ci_machine.specs.Kept.{Kept}
 use Rattle.ci_machine.specs.Ranges.{pending_after}
 use Rattle.ci_machine_statuses.specs.Pages.{queue_behind, queued_at, end_of_page}
 use Rattle.ci_store.specs.declared.store.TheConstants.{PAGE_ROWS}
+use Rattle.ci_machine_statuses.proofs.Pages.{same_some}
 use Rattle.ci_server_lookups.specs.Keeps.{IsKept}
 use Rattle.ci_server_lookups.proofs.Pages.{ByPages, jobs_on, page_has_jobs}
 use Rattle.ci_server_reports.specs.Told.{row_told}
-
--- ---- lists
-
--- one more is told, and of the rest it is the first
-pub one_more : {A B : Type 0} (f : A → B) (xs : List A) (i : ℕ) (d : A) (before after all : List B) (y : B) → i < length xs → f (slice_index_or xs i d) ≡ y → after ≡ before ++ y ∷ []
-    → before ++ map f (drop i xs) ≡ all → after ++ map f (drop (i + 1) xs) ≡ all
-one_more f xs i d before after all y low is more so =
-    ap (λ l. l ++ map f (drop (i + 1) xs)) more
-    ∙ append_assoc before (y ∷ []) (map f (drop (i + 1) xs))
-    ∙ ap (λ z. before ++ z ∷ map f (drop (i + 1) xs)) (sym is)
-    ∙ ap (λ l. before ++ map f l) (sym (drop_more xs i d low))
-    ∙ so
-
-abbrev without_some : {A : Type 0} → List (Option A) → List A
-without_some [] = []
-without_some (None ∷ os) = without_some os
-without_some (Some x ∷ os) = x ∷ without_some os
-
-all_some : {A : Type 0} (xs : List A) → without_some (map (λ x. Some x) xs) ≡ xs
-all_some [] = refl
-all_some (x ∷ xs) = ap (λ l. x ∷ l) (all_some xs)
-
-same_some : {A : Type 0} (xs ys : List A) → map (λ x. Some x) xs ≡ map (λ x. Some x) ys → xs ≡ ys
-same_some xs ys e = sym (all_some xs) ∙ (ap without_some e ∙ all_some ys)
 
 -- ---- the jobs of a page
 

@@ -1,6 +1,6 @@
 //! A pipeline with its jobs, as a report tells them.
 
-ghost use Rattle.std.specs.Prelude.{◌≡◌, ◌==◌, List, ℕ, length, filter, count_by, map, IfOk};
+ghost use Rattle.std.specs.Prelude.{◌≡◌, List, ℕ, length, map, IfOk};
 ghost use Rattle.ci_machine.specs.declared.records.BoardRow.{BoardRow};
 ghost use Rattle.ci_machine.specs.Indexes.{with_status};
 ghost use Rattle.ci_machine.specs.Kept.{Kept};
@@ -16,6 +16,7 @@ use ci_board::facts::{Facts, Row};
 use ci_machine::records::{Attempt, Holder, Job, PipelineWithStatus};
 use ci_machine::report::{JobRow, PipelineRows, ShownStatus};
 use ci_machine_plans::body::status_of;
+use ci_machine_plans::retries::attempts_of;
 use ci_machine_statuses::fault::StatusFault;
 use ci_machine_statuses::load::facts_and_rows;
 use ci_server_lookups::records::{Records, Whole, whole_of};
@@ -108,17 +109,4 @@ fn job_rows(
         })?;
     }
     Ok(told)
-}
-
-fn count_of(attempts: &[Attempt], job: u64) -> usize
-    ensures { result ≡ count_by (λ a. a.job == job) attempts.now }
-{
-    attempts.iter().filter(|one| one.job == job).count()
-}
-
-/// How many of the attempts are of a job.
-fn attempts_of(attempts: &[Attempt], job: u64) -> u64
-    ensures { result ≡ length (filter (λ a. a.job == job) attempts.now) }
-{
-    count_of(attempts, job) as u64
 }

@@ -1,4 +1,4 @@
-//! Which job a runner is given and what a sweep does, by a rule of the tests' own over all that a store keeps.
+//! Which job a runner is given, what a sweep does and which pipeline is pruned, by a rule of the tests' own over all that a store keeps.
 
 use ci_board::facts::Status;
 use ci_machine::records::{Attempt, Cause, Holder, Job, Runner};
@@ -120,6 +120,14 @@ fn is_redundant(whole: &Whole, standing: &Standing) -> bool {
         .iter()
         .any(|other| is_newer(standing, other));
     newer && standing.is_unfinished() && !is_bound(standing)
+}
+
+/// The number of the pipeline that is to be pruned: the first finished one that was made before this moment, in seconds.
+pub(crate) fn prunable(whole: &Whole, before: u64) -> Option<u64> {
+    let found = whole.pipelines.iter().find(|standing| {
+        standing.pipeline.created.seconds() < before && !standing.is_unfinished()
+    });
+    found.map(|standing| standing.pipeline.id)
 }
 
 /// What a sweep answers at this moment, in seconds.

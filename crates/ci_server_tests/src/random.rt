@@ -1,14 +1,15 @@
 //! Thousands of random events. After each one the rows that the store keeps beside its records are those that the records give: of
 //! statuses, of groups that are held, and of pipelines that aren't finished. Each runner is given the job that a rule of the tests' own
-//! chooses, and each sweep does what that rule says.
+//! chooses, each sweep does what that rule says, and each pipeline that is pruned is the one that it names.
 
-use crate::choices::{offer, sweep};
+use crate::choices::{offer, prunable, sweep};
 use ci_machine::records::{Cause, Holder, RefKind};
 use ci_machine::reply::{Answer, Code, HttpStatus, Reply, Swept};
 use ci_machine::request::Report;
 use ci_scenarios_steps::rows::rightly_whole;
 use ci_scenarios_steps::whole::Whole;
 use ci_server_fixtures::acts::{Act, PATH};
+use ci_server_fixtures::answers::says;
 use ci_server_fixtures::servers::{InMemory, after, left, let_go, over, tell};
 use std::alloc::Global;
 use std::process::Abort;
@@ -46,6 +47,8 @@ struct Course {
     refused: u64,
     /// So many pipelines did sweeps cancel.
     cancelled: u64,
+    /// So many were pruned.
+    pruned: u64,
 }
 
 impl Course {
@@ -103,12 +106,13 @@ impl Course {
     }
 
     fn act(&mut self) -> Act {
-        match self.below(22) {
+        match self.below(23) {
             0 if self.pipelines < PIPELINES => self.creation(),
             0..=7 => Act::AskAs(self.below(6)),
             8..=12 => Act::Tell(self.attempt(), self.report()),
             13..=18 => self.act_of_user(),
             19 => Act::Append(self.below(2).saturating_mul(5), "hello"),
+            20 => Act::Prune(self.moment()),
             _ => Act::Sweep,
         }
     }
@@ -118,7 +122,7 @@ impl Course {
         self.below(150).saturating_add(1000)
     }
 
-    /// What the reply tells: an attempt was made, or none, or a pipeline.
+    /// What the reply tells: an attempt was made, or none, or a pipeline, or one went.
     fn learn_reply(&mut self, act: Act, reply: &Reply) {
         if reply.code.is_some() {
             return;
@@ -130,6 +134,9 @@ impl Course {
             Act::AskAs(_) => self.attempts = self.attempts.saturating_add(1),
             Act::CreatePipeline(_) | Act::CreateFor(_, _, _) => {
                 self.pipelines = self.pipelines.saturating_add(1);
+            }
+            Act::Prune(_) if !reply.body().is_empty() => {
+                self.pruned = self.pruned.saturating_add(1);
             }
             _ => {}
         }
@@ -177,7 +184,18 @@ fn is_swept(found: &Swept, wanted: &Swept) -> bool {
     }
 }
 
-/// Is the event answered as the rule has it? Only requests for jobs and sweeps are looked at.
+/// Is a request to prune answered as the rule has it?
+fn is_pruned(alloc: Global, pipeline: Option<u64>, reply: &Reply) -> Result<bool, Fail> {
+    match pipeline {
+        Some(number) => {
+            let body = format!(in alloc; "{{\"pruned\":{number}}}")?;
+            Ok(reply.status == HttpStatus::Fine && says(reply, body.as_str()))
+        }
+        None => Ok(reply.status == HttpStatus::NoContent),
+    }
+}
+
+/// Is the event answered as the rule has it? Only requests for jobs, those to prune and sweeps are looked at.
 fn is_foretold(
     alloc: Global,
     before: &Whole,
@@ -190,6 +208,9 @@ fn is_foretold(
         (Act::AskAs(number), Answer::Reply(reply)) => {
             let held = before.held(alloc)?;
             Ok(is_asked(before, held.as_slice(), after, reply, number, attempt))
+        }
+        (Act::Prune(moment), Answer::Reply(reply)) => {
+            is_pruned(alloc, prunable(before, moment), reply)
         }
         (Act::Sweep, Answer::Swept(found)) => Ok(is_swept(found, &sweep(before, seconds))),
         _ => Ok(true),
@@ -258,6 +279,7 @@ fn many(alloc: Global, seed: u64, events: usize) -> Result<Course, Fail> {
         attempts: 0,
         refused: 0,
         cancelled: 0,
+        pruned: 0,
     };
     for _ in 0..events {
         let (next, after) = one_more(alloc, server, &whole, &mut course)?;
@@ -272,9 +294,11 @@ fn many(alloc: Global, seed: u64, events: usize) -> Result<Course, Fail> {
 fn go_right(rt: &impl Abort, alloc: Global, seed: u64) -> Result<(), Fail> {
     let course = many(alloc, seed, 1000)?;
     let (attempts, refused, cancelled) = (course.attempts, course.refused, course.cancelled);
+    let pruned = course.pruned;
     assert!(rt; attempts > 20, "{attempts} attempts");
     assert!(rt; refused > 20, "{refused} refused");
     assert!(rt; cancelled > 0, "{cancelled} cancelled");
+    assert!(rt; pruned > 2, "{pruned} pruned");
     Ok(())
 }
 

@@ -3,9 +3,9 @@ use Rattle.std.proofs.Common.{◌≡◌, ◌∙◌, ℕ, ◌+◌, ◌<◌, List,
 use Rattle.std.proofs.lemmas.List.Sums.{fold_more}
 use Rattle.sqlite.specs.Store.{Ghosts}
 use Rattle.sqlite.specs.Held.{Held}
-use Rattle.ci_machine.specs.Kept.{Kept, row_cmp, put_rows, indexed, indexed_all}
+use Rattle.ci_machine.specs.Kept.{Kept, row_cmp, put_rows, indexed, indexed_all, cleared}
 use Rattle.ci_machine.specs.declared.records.BoardRow.{BoardRow}
-use Rattle.ci_machine.specs.State.{State, put, applied, changed}
+use Rattle.ci_machine.specs.State.{State, put, without, without_all, applied, changed}
 use Rattle.ci_machine.specs.declared.change.RowChange.{RowChange}
 use Rattle.ci_machine.specs.declared.change.IndexChange.{IndexChange}
 use Rattle.ci_store_rows.specs.Changes.{Makes}
@@ -30,6 +30,15 @@ indexed_is (c ∷ cs) k = indexed_is cs (indexed c k)
 
 pub indexed_more : (k : Kept) (cs : List IndexChange) (i : ℕ) (d : IndexChange) → i < length cs → indexed_all (take (i + 1) cs) k ≡ indexed (get_or cs i d) (indexed_all (take i cs) k)
 indexed_more k cs i d low = indexed_is (take (i + 1) cs) k ∙ fold_more (λ k c. indexed c k) k cs i d low ∙ ap (indexed (get_or cs i d)) (sym (indexed_is (take i cs) k))
+
+without_is : (jobs : List ℕ) (board : List BoardRow) → without_all (λ r. r.job) jobs board ≡ fold (λ board job. without (λ r. r.job) job board) board jobs
+without_is [] board = refl
+without_is (job ∷ jobs) board = without_is jobs (without (λ r. r.job) job board)
+
+pub cleared_more : (k : Kept) (jobs : List ℕ) (i d : ℕ) → i < length jobs → cleared (take (i + 1) jobs) k ≡ cleared (get_or jobs i d ∷ []) (cleared (take i jobs) k)
+cleared_more k jobs i d low =
+    ap (λ board. record k { board = board })
+    (without_is (take (i + 1) jobs) k.board ∙ fold_more (λ board job. without (λ r. r.job) job board) k.board jobs i d low ∙ ap (without (λ r. r.job) (get_or jobs i d)) (sym (without_is (take i jobs) k.board)))
 
 -- what a change makes of the tables, whatever it is called
 pub by_item : {S A E X : Type 0} (g : Ghosts S) (old new : Held S) (change : X → Kept → Kept) {x y : X} → y ≡ x → (result : Result A E) → OnOk result (Makes g (change x) old new) → OnOk result (Makes g (change y) old new)

@@ -1,15 +1,12 @@
 -- What a transaction leaves, however it ends.
-use Rattle.std.proofs.Common.{◌≡◌, ◌⊎◌, ◌∙◌, List, inl, inr, ⊎_elim, IsTrue, true, false, refl, sym, ap, subst, arith}
+use Rattle.std.proofs.Common.{◌≡◌, ◌⊎◌, ◌∙◌, inl, inr, ⊎_elim, IsTrue, true, false, refl, sym, ap, subst, arith}
 use Rattle.sqlite.specs.Tree.{Trees}
 use Rattle.sqlite.specs.Effect.{Database}
 use Rattle.sqlite.specs.State.{State as Seen, HasCleanDisk, Survives, IsUnchanged, Shows, KeepsCommit, IsRolledBack}
 use Rattle.sqlite.specs.Store.{Ghosts}
 use Rattle.sqlite.specs.Held.{Held, state}
 use Rattle.sqlite.proofs.StateLemmas.{survives_then}
-use Rattle.ci_machine.specs.Kept.{Kept, nothing_kept, written}
-use Rattle.ci_machine.specs.declared.records.BoardRow.{BoardRow}
-use Rattle.ci_machine.specs.declared.change.RowChange.{RowChange}
-use Rattle.ci_machine.specs.declared.change.IndexChange.{IndexChange}
+use Rattle.ci_machine.specs.Kept.{Kept, nothing_kept}
 use Rattle.ci_store_tables.specs.declared.fault.StoreFault.{StoreFault}
 use Rattle.ci_store.specs.declared.commit.Ended.{Ended}
 use Rattle.ci_store.specs.declared.commit.Ended.TheVariants.{Undone, Unknown}
@@ -41,9 +38,9 @@ module _ {S : Type 0} (g : Ghosts S) where
       }
 
   -- a stop after it leaves the state before the changes or the one after them
-  pub left_either : (changes : List RowChange) (rows : List BoardRow) (indexes : List IndexChange) (k : Kept) (old mid new : Held S) → IsAt g k old → HasCleanDisk (state g new) → Survives (state g old) (state g mid) (CommitsAll g changes rows indexes old) → Survives (state g mid) (state g new) (λ _. ⊥)
-      → LeavesEither g k (written changes rows indexes k) new
-  left_either changes rows indexes k old mid new at clean first second db may =
+  pub left_either : (change : Kept → Kept) (k : Kept) (old mid new : Held S) → IsAt g k old → HasCleanDisk (state g new) → Survives (state g old) (state g mid) (CommitsAll g change old) → Survives (state g mid) (state g new) (λ _. ⊥)
+      → LeavesEither g k (change k) new
+  left_either change k old mid new at clean first second db may =
       let early : HasCleanDisk (state g mid) = omega (arith, clean, second.clean) in
       ⊎_elim (λ was. ⊎_elim (λ before. inl (at.left db before)) (λ done. inr (done k at.now)) (first.crash early db was)) (λ none. absurd none) (second.crash clean db may)
 
@@ -59,8 +56,8 @@ module _ {S : Type 0} (g : Ghosts S) where
       subst (λ t. Survives (state g old) t P) (sym same) (survives_then (state g old) (state g made) (state g ended) (λ _. ⊥) Q P (λ _ db none. absurd none) so inside two)
 
   -- what is committed is what was made
-  pub commits_all : (old begun made : Held S) → begun ≡ record old { in_transaction = true } → (changes : List RowChange) (rows : List BoardRow) (indexes : List IndexChange) (db : Trees) → Makes g (written changes rows indexes) begun made → db ≡ (state g made).now.trees → CommitsAll g changes rows indexes old db
-  commits_all old begun made begins changes rows indexes db makes is k stands = subst (λ t. StandsIn (written changes rows indexes k) t) (sym is) (makes.1 k (subst (λ h. Stands k (state g h).now) (sym begins) stands)).inside
+  pub commits_all : (old begun made : Held S) → begun ≡ record old { in_transaction = true } → (change : Kept → Kept) (db : Trees) → Makes g change begun made → db ≡ (state g made).now.trees → CommitsAll g change old db
+  commits_all old begun made begins change db makes is k stands = subst (λ t. StandsIn (change k) t) (sym is) (makes.1 k (subst (λ h. Stands k (state g h).now) (sym begins) stands)).inside
 
   pub commits_empty : (old begun made : Held S) → begun ≡ record old { in_transaction = true } → (db : Trees) → (IsBlank g begun → Stands nothing_kept (state g made).now) → db ≡ (state g made).now.trees → IsBlank g old → StandsIn nothing_kept db
   commits_empty old begun made begins db makes is blank = subst (λ t. StandsIn nothing_kept t) (sym is) (makes (subst (λ h. IsBlank g h) (sym begins) blank)).inside
@@ -79,12 +76,12 @@ module _ {S : Type 0} (g : Ghosts S) where
         })
 
     -- the changes are committed
-    pub is_done_all : (changes : List RowChange) (rows : List BoardRow) (indexes : List IndexChange) → Makes g (written changes rows indexes) begun made → Shows (state g made) (state g ended) (state g made).now (state g made).now false → IsDone g changes rows indexes old new
-    is_done_all changes rows indexes makes shows =
-        subst (λ h. IsDone g changes rows indexes old h) (sym same)
+    pub is_done_all : (change : Kept → Kept) → Makes g change begun made → Shows (state g made) (state g ended) (state g made).now (state g made).now false → IsDone g change old new
+    is_done_all change makes shows =
+        subst (λ h. IsDone g change old h) (sym same)
         (record {
           is_open = shows.is_open;
-          stands = λ k stands. subst (Stands (written changes rows indexes k)) (sym shows.now_is) (makes.1 k (subst (λ h. Stands k (state g h).now) (sym begins) stands));
+          stands = λ k stands. subst (Stands (change k)) (sym shows.now_is) (makes.1 k (subst (λ h. Stands k (state g h).now) (sym begins) stands));
           committed = shows.committed_is ∙ sym shows.now_is;
         })
 

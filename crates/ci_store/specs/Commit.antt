@@ -4,13 +4,11 @@ use Rattle.std.specs.List.{list_any}
 use Rattle.sqlite.specs.Tree.{Trees}
 use Rattle.sqlite.specs.Store.{Ghosts}
 use Rattle.sqlite.specs.Held.{Held, state}
-use Rattle.ci_machine.specs.Kept.{Kept, written}
+use Rattle.ci_machine.specs.Kept.{Kept}
 use Rattle.ci_machine.specs.declared.change.RowChange.{RowChange}
 use Rattle.ci_machine.specs.declared.change.RowChange.TheVariants.{Put}
 use Rattle.ci_machine.specs.declared.change.Record.TheVariants as row
 use Rattle.ci_machine.specs.declared.change.Counter.TheVariants as counter
-use Rattle.ci_machine.specs.declared.records.BoardRow.{BoardRow}
-use Rattle.ci_machine.specs.declared.change.IndexChange.{IndexChange}
 use Rattle.ci_store.specs.declared.commit.Ended.{Ended}
 use Rattle.ci_store.specs.declared.commit.Ended.TheVariants.{Done, Undone}
 use Rattle.ci_store_rows.specs.Stands.{Stands, StandsIn}
@@ -24,9 +22,9 @@ is_next_job _ = false
 abbrev pub first_new_job : List RowChange → ℕ → ℕ
 first_new_job changes next = if list_any is_next_job changes then next else 18446744073709551615
 
--- what is committed stands for what is kept after the changes, the puts of rows and the changes of indexes
-abbrev pub CommitsAll : {S : Type 0} → Ghosts S → List RowChange → List BoardRow → List IndexChange → Held S → Trees → Type 0
-CommitsAll g changes rows indexes old db = (k : Kept) → Stands k (state g old).now → StandsIn (written changes rows indexes k) db
+-- what is committed stands for what is kept after the change
+abbrev pub CommitsAll : {S : Type 0} → Ghosts S → (Kept → Kept) → Held S → Trees → Type 0
+CommitsAll g change old db = (k : Kept) → Stands k (state g old).now → StandsIn (change k) db
 
 abbrev pub is_done : Ended → Bool
 is_done Done = true
@@ -41,8 +39,8 @@ pub record IsBack {S : Type 0} (g : Ghosts S) (old new : Held S) : Type 0 where
   pub was_open : IsTrue (state g new).is_open → IsTrue (state g old).is_open
   pub back : IsTrue (state g new).is_open → ((state g new).now ≡ (state g old).committed) × ((state g new).committed ≡ (state g old).committed)
 
--- the changes are made, the rows are put, the indexes are changed, and all is committed
-pub record IsDone {S : Type 0} (g : Ghosts S) (changes : List RowChange) (rows : List BoardRow) (indexes : List IndexChange) (old new : Held S) : Type 0 where
+-- the change is made, and all of it is committed
+pub record IsDone {S : Type 0} (g : Ghosts S) (change : Kept → Kept) (old new : Held S) : Type 0 where
   pub is_open : IsTrue (state g new).is_open
-  pub stands : (k : Kept) → Stands k (state g old).now → Stands (written changes rows indexes k) (state g new).now
+  pub stands : (k : Kept) → Stands k (state g old).now → Stands (change k) (state g new).now
   pub committed : (state g new).committed ≡ (state g new).now

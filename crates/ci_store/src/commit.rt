@@ -5,7 +5,7 @@ ghost use Rattle.std.specs.List.{list_any};
 ghost use Rattle.sqlite.specs.State.{HasCleanDisk, Survives};
 ghost use Rattle.sqlite_trees.specs.View.{doubt};
 ghost use Rattle.sqlite.specs.Held.{state};
-ghost use Rattle.ci_machine.specs.Kept.{Kept, put_rows, indexed_all, written};
+ghost use Rattle.ci_machine.specs.Kept.{Kept, put_rows, indexed_all, cleared, written};
 ghost use Rattle.ci_machine.specs.State.{applied};
 ghost use Rattle.ci_store_rows.specs.Stands.{IsAt, LeavesEither};
 ghost use Rattle.ci_store_tables.specs.declared.fault.StoreFault.TheVariants.{Memory};
@@ -15,7 +15,7 @@ ghost use Rattle.ci_store.specs.Calls.{Loads};
 ghost use Rattle.ci_store.specs.Commit.{CommitsAll, is_done, is_undone, IsBack, IsDone, is_next_job, first_new_job};
 
 use crate::load::next;
-use crate::make::{change_index, make};
+use crate::make::{change_index, clear_row, make};
 use crate::probe::probe;
 use ci_machine::change::{Counter, IndexChange, Record, RowChange};
 use ci_machine::records::BoardRow;
@@ -23,6 +23,19 @@ use ci_store_rows::read::Stored;
 use ci_store_tables::fault::StoreFault;
 use sqlite::{Alter, Connection, Transaction};
 use std::alloc::Global;
+
+/// Removes the rows of the jobs' statuses in turn.
+fn clear_rows<S: Alter>(tx: &mut Transaction<'_, S>, jobs: &[u64]) -> Result<(), StoreFault>
+    ensures same_reference { tx.new.conn.ghost_name ≡ tx.old.conn.ghost_name }
+    ensures makes { MakesInside S.Store (cleared jobs.now) tx.old.conn.now tx.new.conn.now result }
+    ensures kept { KeepsInside S.Store tx.old.conn.now tx.new.conn.now }
+    ensures survives { CommitsNothing S.Store tx.old.conn.now tx.new.conn.now }
+{
+    for job in jobs {
+        clear_row(tx, *job)?;
+    }
+    Ok(())
+}
 
 /// Makes the changes in turn, where jobs from the number `first_new` on aren't there yet.
 fn make_all<S: Alter>(
@@ -77,20 +90,22 @@ fn change_indexes<S: Alter>(
     Ok(())
 }
 
-/// Makes the changes in turn, then puts the rows, and then changes the indexes.
+/// Removes the rows of the jobs, makes the changes in turn, then puts the rows, and then changes the indexes.
 fn write_all<S: Alter>(
     tx: &mut Transaction<'_, S>,
     alloc: Global,
     first_new: u64,
+    jobs: &[u64],
     changes: &[RowChange],
     rows: &[BoardRow],
     indexes: &[IndexChange],
 ) -> Result<(), StoreFault>
     ensures same_reference { tx.new.conn.ghost_name ≡ tx.old.conn.ghost_name }
-    ensures makes { MakesInside S.Store (written changes.now rows.now indexes.now) tx.old.conn.now tx.new.conn.now result }
+    ensures makes { MakesInside S.Store (λ k. written changes.now rows.now indexes.now (cleared jobs.now k)) tx.old.conn.now tx.new.conn.now result }
     ensures kept { KeepsInside S.Store tx.old.conn.now tx.new.conn.now }
     ensures survives { CommitsNothing S.Store tx.old.conn.now tx.new.conn.now }
 {
+    clear_rows(tx, jobs)?;
     make_all(tx, alloc, first_new, changes)?;
     put_rows(tx, alloc, first_new, rows)?;
     change_indexes(tx, alloc, indexes)
@@ -110,19 +125,20 @@ fn attempt<S: Alter>(
     conn: &mut Connection<S>,
     alloc: Global,
     first_new: u64,
+    jobs: &[u64],
     changes: &[RowChange],
     rows: &[BoardRow],
     indexes: &[IndexChange],
 ) -> Ended
     requires { conn.old.in_transaction ≡ false }
     ensures idle { conn.new.in_transaction ≡ false }
-    ensures done { HasCleanDisk (state S.Store conn.new) → is_done result ≡ true → IsDone S.Store changes.now rows.now indexes.now conn.old conn.new }
+    ensures done { HasCleanDisk (state S.Store conn.new) → is_done result ≡ true → IsDone S.Store (λ k. written changes.now rows.now indexes.now (cleared jobs.now k)) conn.old conn.new }
     ensures back { HasCleanDisk (state S.Store conn.new) → is_done result ≡ false → IsBack S.Store conn.old conn.new }
-    ensures survives { Survives (state S.Store conn.old) (state S.Store conn.new) (CommitsAll S.Store changes.now rows.now indexes.now conn.old) }
+    ensures survives { Survives (state S.Store conn.old) (state S.Store conn.new) (CommitsAll S.Store (λ k. written changes.now rows.now indexes.now (cleared jobs.now k)) conn.old) }
     ensures quiet { is_undone result ≡ true → Survives (state S.Store conn.old) (state S.Store conn.new) (λ _. ⊥) }
 {
     let mut tx = conn.transaction();
-    if let Err(fault) = write_all(&mut tx, alloc, first_new, changes, rows, indexes) {
+    if let Err(fault) = write_all(&mut tx, alloc, first_new, jobs, changes, rows, indexes) {
         return Ended::Undone(fault);
     }
     match tx.commit() {
@@ -155,11 +171,12 @@ pub(crate) fn first_new_job<S: Alter>(
     }
 }
 
-/// Makes the changes, puts the rows and changes the indexes in one transaction, or none of it.
+/// Removes the rows of the jobs, makes the changes, puts the rows and changes the indexes in one transaction, or none of it.
 pub(crate) fn commit<S: Alter>(
     conn: &mut Connection<S>,
     alloc: Global,
     first_new: u64,
+    jobs: &[u64],
     changes: &[RowChange],
     rows: &[BoardRow],
     indexes: &[IndexChange],
@@ -167,13 +184,13 @@ pub(crate) fn commit<S: Alter>(
     requires { conn.old.in_transaction ≡ false }
     ensures idle { conn.new.in_transaction ≡ false }
     ensures clean { doubt (state S.Store conn.old).is_clean ≤ doubt (state S.Store conn.new).is_clean }
-    ensures done { HasCleanDisk (state S.Store conn.new) → OnOk result ((k : Kept) → IsAt S.Store k conn.old → IsAt S.Store (written changes.now rows.now indexes.now k) conn.new) }
+    ensures done { HasCleanDisk (state S.Store conn.new) → OnOk result ((k : Kept) → IsAt S.Store k conn.old → IsAt S.Store (written changes.now rows.now indexes.now (cleared jobs.now k)) conn.new) }
     ensures memory { HasCleanDisk (state S.Store conn.new) → result ≡ Err Memory → (k : Kept) → IsAt S.Store k conn.old → IsAt S.Store k conn.new }
-    ensures left { HasCleanDisk (state S.Store conn.new) → (k : Kept) → IsAt S.Store k conn.old → LeavesEither S.Store k (written changes.now rows.now indexes.now k) conn.new }
+    ensures left { HasCleanDisk (state S.Store conn.new) → (k : Kept) → IsAt S.Store k conn.old → LeavesEither S.Store k (written changes.now rows.now indexes.now (cleared jobs.now k)) conn.new }
 {
     // With no transaction open, what is seen is what is committed.
     let _is_idle = conn.is_autocommit();
-    match attempt(conn, alloc, first_new, changes, rows, indexes) {
+    match attempt(conn, alloc, first_new, jobs, changes, rows, indexes) {
         Ended::Done => Ok(()),
         Ended::Undone(fault) | Ended::Unknown(fault) => match probe(conn) {
             Ok(()) => Err(fault),

@@ -19,6 +19,7 @@ ghost use Rattle.ci_store_rows.specs.Rows.{number};
 use crate::probe::probe_intact;
 use ci_board::facts::Status;
 use ci_machine::change::Counter;
+use ci_machine::moment::Moment;
 use ci_machine::records::{Attempt, Pipeline};
 use ci_machine::text::Text;
 use ci_store_rows::columns::{LAST_INTEGER, counter_key, kind_number, text};
@@ -201,6 +202,23 @@ pub(crate) fn list_after<S: Alter, R: Loaded>(
     let job = number(job)?;
     let count = number(count as u64)?;
     list(conn, sql, &[status.as_number().to_sql(), job, count])
+}
+
+/// The records that a query by a moment and by how many it shows at most shows.
+pub(crate) fn list_before<S: Alter, R: Loaded>(
+    conn: &mut Connection<S>,
+    sql: &str,
+    before: Moment,
+    count: u64,
+) -> Result<Vec<R>, StoreFault>
+    requires idle { conn.old.in_transaction ≡ false }
+    requires plain { IsPlain (understood the_schema sql.now) }
+    ensures idle { conn.new.in_transaction ≡ false }
+    ensures loads { Loads S.Store conn.old conn.new result (λ _ found. ShowsRecords R.is_row S.Store sql.now (number before ∷ number count ∷ []) conn.old conn.new found.items) }
+{
+    let before = number(before.seconds())?;
+    let count = number(count)?;
+    list(conn, sql, &[before, count])
 }
 
 /// The first newer pipeline of the same project, for the same branch or the same tag, as a query by these shows it.

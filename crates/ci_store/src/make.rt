@@ -7,7 +7,7 @@ ghost use Rattle.sqlite.specs.Values.{bound};
 ghost use Rattle.sqlite.specs.Held.{state};
 ghost use Rattle.ci_machine.specs.State.{with_record, without_record, with_next, changed};
 ghost use Rattle.ci_store_tables.specs.Statements.{KeepsInside, CommitsNothing};
-ghost use Rattle.ci_machine.specs.Kept.{indexed};
+ghost use Rattle.ci_machine.specs.Kept.{indexed, cleared};
 ghost use Rattle.ci_store_rows.specs.Changes.{in_state, MakesInside, RemovesUnreferred};
 ghost use Rattle.ci_store_rows.specs.Rows.{number};
 
@@ -90,7 +90,7 @@ fn shows_none<S: Alter>(
     }
 }
 
-/// Removes the row with the key. Refuses where one of the queries shows a row that refers to it, so that no cascade acts.
+/// Removes the rows with the key. Refuses where one of the queries shows a row that refers to it, so that no cascade acts.
 fn remove<S: Alter>(
     tx: &mut Transaction<'_, S>,
     referring: &[&str],
@@ -110,7 +110,7 @@ fn remove<S: Alter>(
     Ok(())
 }
 
-/// Removes the row with the number, as `remove` does.
+/// Removes the rows with the number, as `remove` does: the one that it is the key of, or all of its owner.
 fn remove_at<S: Alter>(
     tx: &mut Transaction<'_, S>,
     referring: &[&str],
@@ -186,7 +186,9 @@ fn remove_record<S: Alter>(tx: &mut Transaction<'_, S>, key: &Key) -> Result<(),
             *id,
         ),
         Key::JobVariable(job, name) => remove_named(tx, texts::DELETE_JOB_VARIABLE, *job, name),
+        Key::JobVariables(job) => remove_at(tx, &[], texts::DELETE_JOB_VARIABLES, *job),
         Key::Need(job, pred) => remove_pair(tx, texts::DELETE_NEED, *job, *pred),
+        Key::Needs(job) => remove_at(tx, &[], texts::DELETE_NEEDS, *job),
         Key::Attempt(id) => remove_at(
             tx,
             &[texts::SELECT_PIECES, texts::SELECT_HOLDERS_OF],
@@ -194,6 +196,7 @@ fn remove_record<S: Alter>(tx: &mut Transaction<'_, S>, key: &Key) -> Result<(),
             *id,
         ),
         Key::Piece(attempt, seq) => remove_pair(tx, texts::DELETE_PIECE, *attempt, *seq),
+        Key::Pieces(attempt) => remove_at(tx, &[], texts::DELETE_PIECES, *attempt),
     }
 }
 
@@ -213,6 +216,16 @@ pub(crate) fn make<S: Alter>(
         RowChange::Put(record) => put_record(tx, alloc, first_new, record),
         RowChange::Remove(key) => remove_record(tx, key),
     }
+}
+
+/// Removes the row of a job's status, to which no other refers.
+pub(crate) fn clear_row<S: Alter>(tx: &mut Transaction<'_, S>, job: u64) -> Result<(), StoreFault>
+    ensures same_reference { tx.new.conn.ghost_name ≡ tx.old.conn.ghost_name }
+    ensures makes { MakesInside S.Store (cleared (job ∷ [])) tx.old.conn.now tx.new.conn.now result }
+    ensures kept { KeepsInside S.Store tx.old.conn.now tx.new.conn.now }
+    ensures survives { CommitsNothing S.Store tx.old.conn.now tx.new.conn.now }
+{
+    remove_at(tx, &[], texts::DELETE_ROW, job)
 }
 
 /// Makes one change of the groups that are held, or of the pipelines that aren't finished. Errors: what is to be added is there

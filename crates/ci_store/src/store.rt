@@ -1,16 +1,18 @@
 //! A store of the machine's state, by what it holds and by what a stop may leave of it.
 
-ghost use Rattle.std.specs.Prelude.{◌≡◌};
-ghost use Rattle.ci_machine.specs.Kept.{Kept, written};
+ghost use Rattle.std.specs.Prelude.{◌≡◌, take};
+ghost use Rattle.ci_machine.specs.Kept.{Kept, cleared, written};
 ghost use Rattle.ci_machine.specs.Statuses.{attempts_of, jobs_of};
 ghost use Rattle.ci_machine.specs.Lookups.{project_at, project_with, project_variables, variable_at, runner_at, runner_with, pipeline_at, job_at, demand_at, variables_of, attempt_at, last_attempt_by, live_attempts, pieces_of, next_of};
 ghost use Rattle.ci_machine.specs.Ranges.{needs_within, attempts_within, rows_within, row_at, pending_after};
 ghost use Rattle.ci_machine.specs.Holders.{holder_at};
 ghost use Rattle.ci_machine.specs.Indexes.{newer_in};
+ghost use Rattle.ci_store.specs.Made.{made_before, AreSome};
 ghost use Rattle.ci_store.specs.Store.{LoadsBy, Ends};
 
 use crate::delta::Delta;
 use ci_machine::change::Counter;
+use ci_machine::moment::Moment;
 use ci_machine::records::{
     Attempt, BoardRow, Demand, Holder, Job, JobVariable, Need, Piece, Pipeline, Project, Runner,
     Unfinished, Variable,
@@ -137,11 +139,21 @@ pub trait Store {
     fn newer_of(&mut self, pipeline: &Pipeline) -> Result<Option<Pipeline>, StoreFault>
         ensures { LoadsBy honest holds leaves self.old self.new result (λ k p. p ≡ newer_in k.state pipeline.now) };
 
-    /// Spends a delta: makes its changes of records, then puts its rows, and then changes the groups that are held and the pipelines
-    /// that aren't finished, all of it or nothing.
+    /// The first so many pipelines, by number, of those that were made before a moment. It reads pipelines by number until it has so
+    /// many, and so all of them where there are fewer. Errors: so many are over the greatest integer of SQL.
+    fn pipelines_before(&mut self, before: Moment, count: u64) -> Result<Vec<Pipeline>, StoreFault>
+        ensures { LoadsBy honest holds leaves self.old self.new result (λ k ps. ps.items ≡ take count (made_before before k.state.pipelines)) };
+
+    /// At most so many of the pipelines that were made before a moment, whichever: all of them, where they are fewer. It reads no
+    /// others. Errors: so many are over the greatest integer of SQL.
+    fn some_before(&mut self, before: Moment, count: u64) -> Result<Vec<Pipeline>, StoreFault>
+        ensures { LoadsBy honest holds leaves self.old self.new result (λ k ps. AreSome count (made_before before k.state.pipelines) ps.items) };
+
+    /// Spends a delta: removes the rows of statuses that it clears, makes its changes of records, then puts its rows, and then changes
+    /// the groups that are held and the pipelines that aren't finished, all of it or nothing.
     fn commit(&mut self, delta: Delta) -> Result<(), StoreFault>
         ensures was_honest { honest self.new → honest self.old }
-        ensures ends { honest self.new → (k : Kept) → holds self.old k → Ends result (holds self.new (written delta.changes delta.rows delta.indexes k)) (holds self.new k) (leaves self.new k (written delta.changes delta.rows delta.indexes k)) };
+        ensures ends { honest self.new → (k : Kept) → holds self.old k → Ends result (holds self.new (written delta.changes delta.rows delta.indexes (cleared delta.cleared k))) (holds self.new k) (leaves self.new k (written delta.changes delta.rows delta.indexes (cleared delta.cleared k))) };
 
     // What it keeps is what a stop leaves.
     ghost held_is_left: { (store : Self) (k : Kept) → holds store k → leaves store k k };

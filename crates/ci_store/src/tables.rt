@@ -21,6 +21,7 @@ use crate::probe::probe_intact;
 use crate::store::{PAGE_ROWS, Store};
 use ci_board::facts::Status;
 use ci_machine::change::Counter;
+use ci_machine::moment::Moment;
 use ci_machine::records::{
     Attempt, AttemptState, BoardRow, Demand, Holder, Job, JobVariable, Need, Piece, Pipeline,
     Project, Runner, Unfinished, Variable,
@@ -431,14 +432,37 @@ impl<S: Alter> Store for Tables<S> {
         load::newer(&mut self.conn, pipeline)
     }
 
+    fn pipelines_before(
+        &mut self,
+        before: Moment,
+        count: u64,
+    ) -> Result<Vec<Pipeline>, StoreFault> {
+        load::list_before(
+            &mut self.conn,
+            texts::SELECT_PIPELINES_BEFORE,
+            before,
+            count,
+        )
+    }
+
+    fn some_before(&mut self, before: Moment, count: u64) -> Result<Vec<Pipeline>, StoreFault> {
+        load::list_before(
+            &mut self.conn,
+            texts::SELECT_SOME_PIPELINES_BEFORE,
+            before,
+            count,
+        )
+    }
+
     fn commit(&mut self, delta: Delta) -> Result<(), StoreFault> {
-        let (changes, rows, indexes) = delta.into_parts();
+        let (changes, rows, indexes, jobs) = delta.into_parts();
         let alloc = *changes.allocator();
         let first_new = first_new_job(&mut self.conn, changes.as_slice())?;
         commit(
             &mut self.conn,
             alloc,
             first_new,
+            jobs.as_slice(),
             changes.as_slice(),
             rows.as_slice(),
             indexes.as_slice(),

@@ -1,11 +1,16 @@
 -- The statements that write `board`.
-use Rattle.std.proofs.Common.{◌≡◌, ◌∙◌, ◌==◌, ◌&&◌, ℕ, pos, List, [], ◌∷◌, map, take, drop, true, if◌then◌else◌, Option, refl, sym, ap}
+use Rattle.std.proofs.Common.{◌≡◌, ◌∙◌, ◌==◌, ◌&&◌, ℕ, pos, List, [], ◌∷◌, map, take, drop, true, if◌then◌else◌, Option, refl, sym, ap, codes}
 use Rattle.sqlite.specs.Collation.TheVariants.{Binary}
 use Rattle.sqlite.specs.declared.types.Value.TheVariants.{Null}
-use Rattle.sqlite.specs.Order.{column}
+use Rattle.sqlite.specs.Order.{Row, column}
 use Rattle.sqlite.specs.Term.{Term, lit, col}
 use Rattle.sqlite_sql.specs.declared.ops.CompareOp.TheVariants.{Le, Gt, Ge}
 use Rattle.sqlite_schema.specs.Rules.{equal}
+use Rattle.sqlite_schema.specs.declared.schema.Keys.TheVariants.{Enforced}
+use Rattle.sqlite_value.specs.Keys.{plain}
+use Rattle.sqlite_rules.specs.Action.{works, pairs, loses}
+use Rattle.sqlite_keyed.proofs.ListLemmas.{ascending-filter}
+use Rattle.std.specs.List.{list_any}
 use Rattle.sqlite_tied.specs.Compute.{everything}
 use Rattle.sqlite.specs.Listing.{understood}
 use Rattle.sqlite.specs.Store.{Ghosts}
@@ -14,26 +19,26 @@ use Rattle.sqlite.proofs.Callers.{IsPlain}
 use Rattle.ci_board.specs.declared.facts.Status.{Status}
 use Rattle.ci_board.specs.declared.facts.Status.TheVariants as status
 use Rattle.ci_board.specs.Effects.{status_number}
-use Rattle.ci_machine.specs.Kept.{Kept, row_cmp}
+use Rattle.ci_machine.specs.Kept.{Kept, row_cmp, cleared}
 use Rattle.ci_machine.specs.State.{put}
 use Rattle.ci_machine.specs.Ranges.{is_within, rows_within, row_at, is_pending_after, pending_after}
 use Rattle.ci_machine.specs.declared.records.BoardRow.{BoardRow}
 use Rattle.ci_store_tables.specs.Stands.{image, places}
 use Rattle.ci_store_tables.specs.Statements.{HasPut}
-use Rattle.ci_store_tables.proofs.Puts.{MeansPut, GivesRecord}
+use Rattle.ci_store_tables.proofs.Puts.{MeansPut, MeansRemove, GivesRecord}
 use Rattle.ci_store_tables.proofs.Absent.{absent_rowid}
 use Rattle.ci_store_tables.proofs.Scalars.{cast_int, compares}
 use Rattle.ci_store_tables.proofs.Selects.{MeansSelect, MeansSelectTo}
-use Rattle.ci_store_rows.specs.declared.texts.TheConstants.{UPDATE_ROW, INSERT_ROW, SELECT_ROW, SELECT_ROWS_WITHIN, SELECT_ROWS_AFTER}
+use Rattle.ci_store_rows.specs.declared.texts.TheConstants.{UPDATE_ROW, INSERT_ROW, DELETE_ROW, SELECT_ROW, SELECT_ROWS_WITHIN, SELECT_ROWS_AFTER}
 use Rattle.ci_store_rows.specs.Schema.{the_schema, board}
 use Rattle.ci_store_rows.specs.Rows.{number, board_row}
 use Rattle.ci_store_rows.specs.Stands.{rows_by_tree, rows_of, Stands, IsAt}
 use Rattle.ci_store_rows.specs.Found.{ShowsRecords, listed}
-use Rattle.ci_store_rows.specs.Changes.{in_board}
+use Rattle.ci_store_rows.specs.Changes.{in_board, RemovesUnreferred}
 use Rattle.ci_store_rows.proofs.OneList.{IsAlike, alike_but, regular_with_board}
 use Rattle.ci_store_rows.proofs.Lists.{put_rises, by_number}
 use Rattle.ci_store_rows.proofs.Records.{is, at_least, at_most, above, put_stands, same_number, finds_number, finds_within, finds_above, numbered}
-use Rattle.ci_store_rows.proofs.Removals.{Referring}
+use Rattle.ci_store_rows.proofs.Removals.{Referring, cascades, removed_numbered}
 use Rattle.ci_store_rows.proofs.Shows.{columns_of, names_of, pair, by, by_total, shows_passing, shows_sorted, shows_ordered, found_one, found_first, found_all, rising_numbers}
 
 abbrev sets : List Term
@@ -61,6 +66,20 @@ pub row_puts : {S : Type 0} (ghosts : Ghosts S) (before after : Held S) (b : Boa
 row_puts ghosts before after b k stands h =
     put_stands board_row k.board k (in_board (put row_cmp b) k) board refl (alike k _) (regular_with_board k _ (put_rises row_cmp (by_number (λ (q : BoardRow). q.job)) b k.board stands.inside.regular.board) stands.inside.regular)
     9 UPDATE_ROW.now INSERT_ROW.now (is 0 0 ∷ []) sets sets means row_cmp (number b.job ∷ []) b (gives b) (λ q. same_number q.job b.job) refl ghosts before after stands h
+
+means_remove : MeansRemove the_schema 9 board DELETE_ROW.now (is 0 0 ∷ [])
+unfolding understood everything
+means_remove = record { there = refl; apart = refl; delete_is = refl; delete_plain = (refl, refl) }
+
+-- what its removal sets off
+works_are : (olds : List Row) → works the_schema Enforced 0 board.tree olds [] ≡ cascades (list_any (loses plain (0 ∷ [])) (pairs olds [])) [] (codes "board") olds
+unfolding everything
+works_are olds = refl
+
+pub row_removed : {S : Type 0} (g : Ghosts S) (old new : Held S) (job : ℕ) (k : Kept) → Stands k (state g old).now → RemovesUnreferred g [] DELETE_ROW.now (number job ∷ []) old new → Stands (cleared (job ∷ []) k) (state g new).now
+row_removed g old new job k =
+    removed_numbered g old new board_row (λ q. q.job) k.board job k (cleared (job ∷ []) k) 9 board refl refl refl (alike k _) (λ o. regular_with_board k _ (ascending-filter _ _ k.board o.board) o) (λ q. same_number q.job job) (λ r. refl)
+    DELETE_ROW.now means_remove (codes "board") [] works_are tt
 
 -- ---- two rows of statuses with the same row
 

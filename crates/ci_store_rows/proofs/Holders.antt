@@ -1,8 +1,5 @@
 -- The statements that write `holder`.
-use Rattle.std.proofs.Common.{◌≡◌, ◌∙◌, ◌==◌, ℕ, pos, List, [], ◌∷◌, true, is_eq, refl, sym, Option, ◌&&◌, map, take, drop}
-use Rattle.std.specs.Ordering.{nat_cmp, ordering_then}
-use Rattle.std.specs.Str.{bytes_eq}
-use Rattle.std.specs.Cmp.Lexicographic.{slice_cmp}
+use Rattle.std.proofs.Common.{◌≡◌, ◌∙◌, ℕ, pos, List, [], ◌∷◌, true, refl, sym, Option, ◌&&◌, map, take, drop}
 use Rattle.sqlite_value.specs.declared.keys.Collation.TheVariants.{Binary}
 use Rattle.sqlite_sql.specs.Ops.{is_null}
 use Rattle.sqlite_schema.specs.Rules.{equal}
@@ -34,7 +31,7 @@ use Rattle.ci_store_rows.specs.Rows.{number, holder_row}
 use Rattle.ci_store_rows.specs.Stands.{rows_by_tree, rows_of, Stands, IsAt}
 use Rattle.ci_store_rows.proofs.OneList.{IsAlike, alike_but, regular_with_holders}
 use Rattle.ci_store_rows.proofs.Lists.{put_rises, by_both}
-use Rattle.ci_store_rows.proofs.Records.{is, put_stands, same_number, finds_named}
+use Rattle.ci_store_rows.proofs.Records.{is, put_stands, finds_named}
 use Rattle.sqlite.proofs.Callers.{IsPlain}
 use Rattle.ci_store_tables.proofs.Selects.{MeansSelect}
 use Rattle.ci_store_rows.specs.Found.{ShowsRecords, listed}
@@ -81,7 +78,7 @@ holds_is project group h = finds_named h.project project h.group group
 
 pub holder_freed : {S : Type 0} (g : Ghosts S) (old new : Held S) (project : ℕ) (group : List ℕ) (k : Kept) → Stands k (state g old).now → RemovesUnreferred g [] DELETE_HOLDER.now (named project group) old new → Stands (indexed (Free project group) k) (state g new).now
 holder_freed g old new project group k =
-    removed_owned g old new holder_row 11 holder (holds project group) k.holders (named project group) k (indexed (Free project group) k) refl refl (alike k _) (λ o. regular_with_holders k _ (ascending-filter _ _ k.holders o.holders) o) (holds_is project group) (λ r. refl)
+    removed_owned g old new holder_row 11 holder tests (holds project group) k.holders (named project group) k (indexed (Free project group) k) refl refl (alike k _) (λ o. regular_with_holders k _ (ascending-filter _ _ k.holders o.holders) o) (holds_is project group) (λ r. refl)
     DELETE_HOLDER.now means_remove whole
 
 -- ---- two records with the same row

@@ -1,14 +1,13 @@
 -- The statements that write `jobvar`.
-use Rattle.std.proofs.Common.{◌≡◌, ◌∙◌, ℕ, pos, List, [], ◌∷◌, true, is_eq, refl, inl, inr, ◌&&◌, map, take, drop}
+use Rattle.std.proofs.Common.{◌≡◌, ◌∙◌, ℕ, pos, List, [], ◌∷◌, is_eq, refl, inl, inr, map, take, drop}
 use Rattle.std.specs.Ordering.{nat_cmp, ordering_then}
 use Rattle.std.specs.Cmp.Lexicographic.{slice_cmp}
-use Rattle.sqlite_value.specs.declared.keys.Collation.TheVariants.{Binary}
 use Rattle.sqlite_sql.specs.Ops.{is_null}
-use Rattle.sqlite_schema.specs.Rules.{equal}
 use Rattle.sqlite.specs.Cast.{cast}
 use Rattle.sqlite.specs.Kind.TheVariants.{Integer}
 use Rattle.sqlite.specs.declared.types.Value.TheVariants.{Null, Text}
 use Rattle.sqlite.specs.Order.{Row}
+use Rattle.sqlite.specs.Term.{Term}
 use Rattle.sqlite.specs.Tree.{Trees}
 use Rattle.sqlite_tied.specs.Compute.{everything}
 use Rattle.sqlite.specs.Listing.{understood}
@@ -25,7 +24,7 @@ use Rattle.ci_store_tables.proofs.Writes.{IsWholeStep, whole_if_alone}
 use Rattle.ci_store_tables.proofs.Puts.{MeansPut, MeansRemove, GivesRecord}
 use Rattle.ci_store_tables.proofs.Absent.{absent_unique}
 use Rattle.ci_store_tables.proofs.Scalars.{cast_int}
-use Rattle.ci_store_rows.specs.declared.texts.TheConstants.{UPDATE_JOB_VARIABLE, INSERT_JOB_VARIABLE, DELETE_JOB_VARIABLE, SELECT_JOB_VARIABLES}
+use Rattle.ci_store_rows.specs.declared.texts.TheConstants.{UPDATE_JOB_VARIABLE, INSERT_JOB_VARIABLE, DELETE_JOB_VARIABLE, DELETE_JOB_VARIABLES, SELECT_JOB_VARIABLES}
 use Rattle.ci_store_rows.specs.Schema.{the_schema, jobvar, jobvar_index_1}
 use Rattle.ci_store_rows.specs.Rows.{number, job_variable_row}
 use Rattle.ci_store_rows.specs.Stands.{rows_by_tree, rows_of, Stands, IsAt}
@@ -69,14 +68,24 @@ means_remove : MeansRemove the_schema 5 jobvar DELETE_JOB_VARIABLE.now tests
 unfolding understood everything
 means_remove = record { there = refl; apart = refl; delete_is = refl; delete_plain = (refl, refl) }
 
-whole : (params : Row) (db : Trees) → IsWholeStep the_schema jobvar tests params db
+whole : (asked : List Term) (params : Row) (db : Trees) → IsWholeStep the_schema jobvar asked params db
 unfolding everything
-whole params db = whole_if_alone the_schema jobvar tests params db (λ olds. refl)
+whole asked params db = whole_if_alone the_schema jobvar asked params db (λ olds. refl)
 
 pub job_variable_removed : {S : Type 0} (g : Ghosts S) (old new : Held S) (id : ℕ) (name : List ℕ) (k : Kept) → Stands k (state g old).now → RemovesUnreferred g [] DELETE_JOB_VARIABLE.now (named id name) old new → Stands (in_state (without_record (key.JobVariable id name)) k) (state g new).now
 job_variable_removed g old new id name k =
-    removed_owned g old new job_variable_row 5 jobvar (λ q. is_eq (ordering_then (nat_cmp q.job id) (slice_cmp nat_cmp q.key name))) k.state.job_variables (named id name) k (in_state (without_record (key.JobVariable id name)) k) refl refl (alike k _) (λ o. regular_with_job_variables k _ (ascending-filter _ _ k.state.job_variables o.job_variables) o) (λ q. same_named id name q.job q.key) (λ r. refl)
-    DELETE_JOB_VARIABLE.now means_remove whole
+    removed_owned g old new job_variable_row 5 jobvar tests (λ q. is_eq (ordering_then (nat_cmp q.job id) (slice_cmp nat_cmp q.key name))) k.state.job_variables (named id name) k (in_state (without_record (key.JobVariable id name)) k) refl refl (alike k _) (λ o. regular_with_job_variables k _ (ascending-filter _ _ k.state.job_variables o.job_variables) o) (λ q. same_named id name q.job q.key) (λ r. refl)
+    DELETE_JOB_VARIABLE.now means_remove (whole tests)
+
+-- all variables of a job
+means_remove_all : MeansRemove the_schema 5 jobvar DELETE_JOB_VARIABLES.now (is 1 0 ∷ [])
+unfolding understood everything
+means_remove_all = record { there = refl; apart = refl; delete_is = refl; delete_plain = (refl, refl) }
+
+pub job_variables_removed : {S : Type 0} (g : Ghosts S) (old new : Held S) (job : ℕ) (k : Kept) → Stands k (state g old).now → RemovesUnreferred g [] DELETE_JOB_VARIABLES.now (number job ∷ []) old new → Stands (in_state (without_record (key.JobVariables job)) k) (state g new).now
+job_variables_removed g old new job k =
+    removed_owned g old new job_variable_row 5 jobvar (is 1 0 ∷ []) (λ q. is_eq (nat_cmp q.job job)) k.state.job_variables (number job ∷ []) k (in_state (without_record (key.JobVariables job)) k) refl refl (alike k _) (λ o. regular_with_job_variables k _ (ascending-filter _ _ k.state.job_variables o.job_variables) o) (λ q. same_number q.job job) (λ r. refl)
+    DELETE_JOB_VARIABLES.now means_remove_all (whole (is 1 0 ∷ []))
 
 -- ---- two records with the same row
 

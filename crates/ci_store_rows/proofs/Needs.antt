@@ -34,7 +34,7 @@ use Rattle.ci_store_tables.proofs.Puts.{MeansPut, MeansRemove, GivesRecord}
 use Rattle.ci_store_tables.proofs.Absent.{absent_unique}
 use Rattle.ci_store_tables.proofs.Scalars.{cast_int, equal_int, compares}
 use Rattle.ci_store_tables.proofs.Selects.{MeansSelect}
-use Rattle.ci_store_rows.specs.declared.texts.TheConstants.{UPDATE_NEED, INSERT_NEED, DELETE_NEED, SELECT_NEEDS_OF, SELECT_NEEDS_ON, SELECT_NEEDS_WITHIN}
+use Rattle.ci_store_rows.specs.declared.texts.TheConstants.{UPDATE_NEED, INSERT_NEED, DELETE_NEED, DELETE_NEEDS, SELECT_NEEDS_OF, SELECT_NEEDS_ON, SELECT_NEEDS_WITHIN}
 use Rattle.ci_store_rows.specs.Schema.{the_schema, need, need_index_1}
 use Rattle.ci_store_rows.specs.Rows.{number, need_row}
 use Rattle.ci_store_rows.specs.Stands.{rows_by_tree, rows_of, Stands, IsAt}
@@ -42,7 +42,7 @@ use Rattle.ci_store_rows.specs.Found.{ShowsRecords}
 use Rattle.ci_store_rows.specs.Changes.{in_state, RemovesUnreferred}
 use Rattle.ci_store_rows.proofs.OneList.{IsAlike, alike_but, regular_with_needs}
 use Rattle.ci_store_rows.proofs.Lists.{put_rises, by_two as in_two_parts}
-use Rattle.ci_store_rows.proofs.Records.{is, at_least, at_most, put_stands, both_equal, finds_within}
+use Rattle.ci_store_rows.proofs.Records.{is, at_least, at_most, put_stands, both_equal, same_number, finds_within}
 use Rattle.ci_store_rows.proofs.Removals.{Referring}
 use Rattle.ci_store_rows.proofs.Owned.{tests, removed_owned}
 use Rattle.ci_store_rows.proofs.Shows.{columns_of, names_of, by_two, by_two_total, pair_of_two, shows_ordered, found_all, rising_two}
@@ -97,14 +97,24 @@ means_remove : MeansRemove the_schema 8 need DELETE_NEED.now tests
 unfolding understood everything
 means_remove = record { there = refl; apart = refl; delete_is = refl; delete_plain = (refl, refl) }
 
-whole : (params : Row) (db : Trees) → IsWholeStep the_schema need tests params db
+whole : (asked : List Term) (params : Row) (db : Trees) → IsWholeStep the_schema need asked params db
 unfolding everything
-whole params db = whole_if_alone the_schema need tests params db (λ olds. refl)
+whole asked params db = whole_if_alone the_schema need asked params db (λ olds. refl)
 
 pub need_removed : {S : Type 0} (g : Ghosts S) (old new : Held S) (job pred : ℕ) (k : Kept) → Stands k (state g old).now → RemovesUnreferred g [] DELETE_NEED.now (key_of job pred) old new → Stands (in_state (without_record (key.Need job pred)) k) (state g new).now
 need_removed g old new job pred k =
-    removed_owned g old new need_row 8 need (λ q. is_eq (ordering_then (nat_cmp q.job job) (nat_cmp q.pred pred))) k.state.needs (key_of job pred) k (in_state (without_record (key.Need job pred)) k) refl refl (alike k _) (λ o. regular_with_needs k _ (ascending-filter _ _ k.state.needs o.needs) o) (same_key job pred) (λ r. refl)
-    DELETE_NEED.now means_remove whole
+    removed_owned g old new need_row 8 need tests (λ q. is_eq (ordering_then (nat_cmp q.job job) (nat_cmp q.pred pred))) k.state.needs (key_of job pred) k (in_state (without_record (key.Need job pred)) k) refl refl (alike k _) (λ o. regular_with_needs k _ (ascending-filter _ _ k.state.needs o.needs) o) (same_key job pred) (λ r. refl)
+    DELETE_NEED.now means_remove (whole tests)
+
+-- all that a job waits for
+means_remove_all : MeansRemove the_schema 8 need DELETE_NEEDS.now (is 1 0 ∷ [])
+unfolding understood everything
+means_remove_all = record { there = refl; apart = refl; delete_is = refl; delete_plain = (refl, refl) }
+
+pub needs_removed : {S : Type 0} (g : Ghosts S) (old new : Held S) (job : ℕ) (k : Kept) → Stands k (state g old).now → RemovesUnreferred g [] DELETE_NEEDS.now (number job ∷ []) old new → Stands (in_state (without_record (key.Needs job)) k) (state g new).now
+needs_removed g old new job k =
+    removed_owned g old new need_row 8 need (is 1 0 ∷ []) (λ q. is_eq (nat_cmp q.job job)) k.state.needs (number job ∷ []) k (in_state (without_record (key.Needs job)) k) refl refl (alike k _) (λ o. regular_with_needs k _ (ascending-filter _ _ k.state.needs o.needs) o) (λ q. same_number q.job job) (λ r. refl)
+    DELETE_NEEDS.now means_remove_all (whole (is 1 0 ∷ []))
 
 -- ---- two records with the same row
 

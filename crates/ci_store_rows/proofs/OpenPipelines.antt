@@ -34,7 +34,7 @@ use Rattle.ci_store_rows.proofs.OneList.{IsAlike, alike_but, regular_with_unfini
 use Rattle.ci_store_rows.proofs.Lists.{put_rises, by_number}
 use Rattle.ci_store_rows.proofs.Records.{is, put_stands, same_number, is_number, numbered}
 use Rattle.ci_store_rows.proofs.Removals.{cascades, removed_numbered}
-use Rattle.ci_store_rows.proofs.Shows.{columns_of, names_of, by, shows_sorted, found_all, rising_numbers}
+use Rattle.ci_store_rows.proofs.Shows.{columns_of, names_of, by, shows_sorted, found_all, rising_numbers, every}
 
 abbrev sets : List Term
 sets = col 0 0 ∷ lit Null ∷ []
@@ -93,10 +93,6 @@ means_select = record { is = refl; unlisted = refl; plain = (refl, refl) }
 
 pub plain_select : IsPlain (understood the_schema SELECT_UNFINISHED.now)
 plain_select = means_select.plain
-
-every : (xs : List Unfinished) → filter (λ x. true) xs ≡ xs
-every [] = refl
-every (x ∷ xs) = ap (λ l. x ∷ l) (every xs)
 
 pub unfinished_found : {S : Type 0} (g : Ghosts S) (old new : Held S) (k : Kept) → IsAt g k old → (found : List Unfinished) → ShowsRecords (λ row x. row ≡ unfinished_row x) g SELECT_UNFINISHED.now [] old new found → found ≡ k.unfinished
 unfinished_found g old new k at found h =

@@ -60,13 +60,13 @@ agrees r new_row x y z is =
     sym (λ i. equal (first_key-plain i).collation (column r 1) (column (is i) 0) && (equal (first_key-plain i).collation (column r 2) (column (is i) 1) && true))
 
 module _ {S : Type 0} (g : Ghosts S) (old new : Held S) {A : Type 0} (values : A → Row) (at : ℕ) (table : Table) where
-  -- the removal of a record by its key, where no table refers to it
-  pub removed_owned : (test : A → Bool) (xs : List A) (key : Row) (k next : Kept) → rows_of k table.tree ≡ map values xs → rows_of next table.tree ≡ map values (filter (λ x. not (test x)) xs) → IsAlike (rows_of k) (rows_of next) table
-      → (IsRegular k → IsRegular next) → ((x : A) → has_key key (values x) ≡ test x) → ((r : Row) → picks tests key r ≡ has_key key (image (places table) r))
-      → (delete : List ℕ) → MeansRemove the_schema at table delete tests → ((params : Row) (db : Trees) → IsWholeStep the_schema table tests params db)
+  -- the removal of the records with values of the first columns, where no table refers to them
+  pub removed_owned : (asked : List Term) (test : A → Bool) (xs : List A) (key : Row) (k next : Kept) → rows_of k table.tree ≡ map values xs → rows_of next table.tree ≡ map values (filter (λ x. not (test x)) xs) → IsAlike (rows_of k) (rows_of next) table
+      → (IsRegular k → IsRegular next) → ((x : A) → has_key key (values x) ≡ test x) → ((r : Row) → picks asked key r ≡ has_key key (image (places table) r))
+      → (delete : List ℕ) → MeansRemove the_schema at table delete asked → ((params : Row) (db : Trees) → IsWholeStep the_schema table asked params db)
       → Stands k (state g old).now → RemovesUnreferred g [] delete key old new → Stands next (state g new).now
-  removed_owned test xs key k next was gone alike regular keyed tested delete means whole stands h =
-      remove_stands values xs k next table was alike (regular stands.inside.regular) at delete tests means key tested test keyed gone g h.mid new h.count (subst (λ h. Stands k (state g h).now) h.none stands) (whole key (state g h.mid).now.trees) h.removed
+  removed_owned asked test xs key k next was gone alike regular keyed tested delete means whole stands h =
+      remove_stands values xs k next table was alike (regular stands.inside.regular) at delete asked means key tested test keyed gone g h.mid new h.count (subst (λ h. Stands k (state g h).now) h.none stands) (whole key (state g h.mid).now.trees) h.removed
 
   -- the records of an owner, which a query shows in the order of the second column
   pub owned_found : (owner : A → ℕ) (second : A → A → Ordering) → ((x y : A) → values x ≡ values y → x ≡ y) → slice_get the_schema.tables at ≡ Some table

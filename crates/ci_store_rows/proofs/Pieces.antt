@@ -8,6 +8,7 @@ use Rattle.sqlite.specs.Cast.{cast}
 use Rattle.sqlite.specs.Kind.TheVariants.{Integer}
 use Rattle.sqlite.specs.declared.types.Value.TheVariants.{Null, Blob}
 use Rattle.sqlite.specs.Order.{Row}
+use Rattle.sqlite.specs.Term.{Term}
 use Rattle.sqlite.specs.Tree.{Trees}
 use Rattle.sqlite_tied.specs.Compute.{everything}
 use Rattle.sqlite.specs.Listing.{understood}
@@ -24,7 +25,7 @@ use Rattle.ci_store_tables.proofs.Writes.{IsWholeStep, whole_if_alone}
 use Rattle.ci_store_tables.proofs.Puts.{MeansPut, MeansRemove, GivesRecord}
 use Rattle.ci_store_tables.proofs.Absent.{absent_unique}
 use Rattle.ci_store_tables.proofs.Scalars.{cast_int, equal_int}
-use Rattle.ci_store_rows.specs.declared.texts.TheConstants.{UPDATE_PIECE, INSERT_PIECE, DELETE_PIECE, SELECT_PIECES}
+use Rattle.ci_store_rows.specs.declared.texts.TheConstants.{UPDATE_PIECE, INSERT_PIECE, DELETE_PIECE, DELETE_PIECES, SELECT_PIECES}
 use Rattle.ci_store_rows.specs.Schema.{the_schema, piece, piece_index_1}
 use Rattle.ci_store_rows.specs.Rows.{number, piece_row}
 use Rattle.ci_store_rows.specs.Stands.{rows_by_tree, rows_of, Stands, IsAt}
@@ -74,14 +75,24 @@ means_remove : MeansRemove the_schema 7 piece DELETE_PIECE.now tests
 unfolding understood everything
 means_remove = record { there = refl; apart = refl; delete_is = refl; delete_plain = (refl, refl) }
 
-whole : (params : Row) (db : Trees) → IsWholeStep the_schema piece tests params db
+whole : (asked : List Term) (params : Row) (db : Trees) → IsWholeStep the_schema piece asked params db
 unfolding everything
-whole params db = whole_if_alone the_schema piece tests params db (λ olds. refl)
+whole asked params db = whole_if_alone the_schema piece asked params db (λ olds. refl)
 
 pub piece_removed : {S : Type 0} (g : Ghosts S) (old new : Held S) (attempt : ℕ) (seq : ℕ) (k : Kept) → Stands k (state g old).now → RemovesUnreferred g [] DELETE_PIECE.now (key_of attempt seq) old new → Stands (in_state (without_record (key.Piece attempt seq)) k) (state g new).now
 piece_removed g old new attempt seq k =
-    removed_owned g old new piece_row 7 piece (λ q. is_eq (ordering_then (nat_cmp q.attempt attempt) (nat_cmp q.seq seq))) k.state.pieces (key_of attempt seq) k (in_state (without_record (key.Piece attempt seq)) k) refl refl (alike k _) (λ o. regular_with_pieces k _ (ascending-filter _ _ k.state.pieces o.pieces) o) (same_key attempt seq) (λ r. refl)
-    DELETE_PIECE.now means_remove whole
+    removed_owned g old new piece_row 7 piece tests (λ q. is_eq (ordering_then (nat_cmp q.attempt attempt) (nat_cmp q.seq seq))) k.state.pieces (key_of attempt seq) k (in_state (without_record (key.Piece attempt seq)) k) refl refl (alike k _) (λ o. regular_with_pieces k _ (ascending-filter _ _ k.state.pieces o.pieces) o) (same_key attempt seq) (λ r. refl)
+    DELETE_PIECE.now means_remove (whole tests)
+
+-- the whole trace of an attempt
+means_remove_all : MeansRemove the_schema 7 piece DELETE_PIECES.now (is 1 0 ∷ [])
+unfolding understood everything
+means_remove_all = record { there = refl; apart = refl; delete_is = refl; delete_plain = (refl, refl) }
+
+pub pieces_removed : {S : Type 0} (g : Ghosts S) (old new : Held S) (attempt : ℕ) (k : Kept) → Stands k (state g old).now → RemovesUnreferred g [] DELETE_PIECES.now (number attempt ∷ []) old new → Stands (in_state (without_record (key.Pieces attempt)) k) (state g new).now
+pieces_removed g old new attempt k =
+    removed_owned g old new piece_row 7 piece (is 1 0 ∷ []) (λ q. is_eq (nat_cmp q.attempt attempt)) k.state.pieces (number attempt ∷ []) k (in_state (without_record (key.Pieces attempt)) k) refl refl (alike k _) (λ o. regular_with_pieces k _ (ascending-filter _ _ k.state.pieces o.pieces) o) (λ q. same_number q.attempt attempt) (λ r. refl)
+    DELETE_PIECES.now means_remove_all (whole (is 1 0 ∷ []))
 
 -- ---- two records with the same row
 

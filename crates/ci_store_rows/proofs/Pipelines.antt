@@ -1,5 +1,5 @@
 -- The statements that write `pipeline`.
-use Rattle.std.proofs.Common.{◌∙◌, ℕ, pos, List, [], ◌∷◌, refl, ap, ◌≡◌, ◌==◌, ◌&&◌, Bool, true, false, Option, Some, None, slice_get, filter, sym, map, take, drop, codes, if◌then◌else◌, inl, inr, nat_lt}
+use Rattle.std.proofs.Common.{◌∙◌, ℕ, pos, List, [], ◌∷◌, refl, ap, ◌≡◌, ◌==◌, ◌&&◌, Bool, true, false, Option, filter, sym, map, take, drop, length, ◌<◌, ◌≤◌, codes, if◌then◌else◌, inl, inr, nat_lt}
 use Rattle.sqlite.specs.declared.types.Value.TheVariants.{Null, Text}
 use Rattle.sqlite.specs.Order.{Row, column}
 use Rattle.sqlite.specs.Term.{Term, lit, col}
@@ -9,7 +9,9 @@ use Rattle.sqlite.specs.Store.{Ghosts}
 use Rattle.sqlite.specs.Held.{Held, state}
 use Rattle.sqlite_keyed.proofs.ListLemmas.{ascending-filter, slice_get-filter}
 use Rattle.std.proofs.lemmas.Map.Text.{is_eq-slice_cmp}
-use Rattle.sqlite_sql.specs.declared.ops.CompareOp.TheVariants.{Gt}
+use Rattle.sqlite_sql.specs.declared.ops.CompareOp.TheVariants.{Lt, Gt}
+use Rattle.sqlite_sql.specs.declared.ops.BinaryOp.TheVariants.{Coalesce}
+use Rattle.sqlite.specs.Ops.{binary}
 use Rattle.ci_machine.specs.Kept.{Kept}
 use Rattle.ci_machine.specs.State.{with_record, without_record, pipeline_cmp}
 use Rattle.ci_machine.specs.declared.records.Pipeline.{Pipeline}
@@ -20,14 +22,14 @@ use Rattle.ci_store_tables.specs.Statements.{HasPut}
 use Rattle.ci_store_tables.proofs.Puts.{MeansPut, MeansRemove, GivesRecord}
 use Rattle.ci_store_tables.proofs.Absent.{absent_rowid}
 use Rattle.ci_store_tables.proofs.Scalars.{cast_int, equal_int, equal_text, compares}
-use Rattle.ci_store_rows.specs.declared.texts.TheConstants.{UPDATE_PIPELINE, INSERT_PIPELINE, DELETE_PIPELINE, SELECT_PIPELINE, SELECT_PIPELINES_ABOVE, SELECT_NEWER_PIPELINES}
+use Rattle.ci_store_rows.specs.declared.texts.TheConstants.{UPDATE_PIPELINE, INSERT_PIPELINE, DELETE_PIPELINE, SELECT_PIPELINE, SELECT_PIPELINES_ABOVE, SELECT_NEWER_PIPELINES, SELECT_PIPELINES_BEFORE, SELECT_SOME_PIPELINES_BEFORE}
 use Rattle.ci_store_rows.specs.declared.columns.TheConstants.{LAST_INTEGER}
 use Rattle.ci_store_rows.specs.Schema.{the_schema, pipeline}
 use Rattle.ci_store_rows.specs.Rows.{number, pipeline_row, kind_number, source_number}
 use Rattle.ci_store_rows.specs.Stands.{rows_by_tree, rows_of, Stands, IsAt}
 use Rattle.ci_store_rows.proofs.OneList.{IsAlike, alike_but, regular_with_pipelines}
 use Rattle.ci_store_rows.proofs.Lists.{put_rises, by_number}
-use Rattle.ci_store_rows.proofs.Records.{is, put_stands, same_number, is_number, finds_number, numbered, above, finds_beyond}
+use Rattle.ci_store_rows.proofs.Records.{is, put_stands, same_number, is_number, finds_number, numbered, above, finds_beyond, below, finds_below, plus_below, finds_plus_below}
 use Rattle.sqlite.specs.Collation.TheVariants.{Binary}
 use Rattle.sqlite_schema.specs.Rules.{equal}
 use Rattle.sqlite.proofs.Callers.{IsPlain}
@@ -37,8 +39,8 @@ use Rattle.std.specs.Str.{bytes_eq}
 use Rattle.ci_machine.specs.Lookups.{pipeline_at}
 use Rattle.ci_machine.specs.Indexes.{newer_in}
 use Rattle.ci_machine.specs.Redundant.{same_kind, is_newer_of}
-use Rattle.ci_store_rows.proofs.Shows.{columns_of, names_of, pair, by, by_total, shows_passing, shows_ordered, found_one, found_first, found_none, first_of_one, rising_numbers}
-use Rattle.std.specs.List.{list_any}
+use Rattle.ci_store_rows.proofs.Shows.{columns_of, names_of, pair, by, by_total, shows_passing, shows_ordered, shows_some, found_one, found_first, found_some, found_none, first_of_one, rising_numbers}
+use Rattle.std.specs.List.{list_any, All, Contains}
 use Rattle.sqlite_value.specs.Keys.{plain, joined}
 use Rattle.sqlite_schema.specs.declared.schema.Keys.TheVariants.{Enforced}
 use Rattle.sqlite_rules.specs.Action.{works, pairs, loses}
@@ -203,3 +205,44 @@ newer_found g old new k at p found h =
     (rising_numbers (λ (x : Pipeline). x.id) (is_newer_of p) k.state.pipelines at.now.inside.regular.pipelines) (state g old) (state g new) at.now h.shown)
     (listed found) h.read)
     ∙ slice_get-filter (is_newer_of p) k.state.pipelines
+
+-- ---- the pipelines that were made before a moment
+
+abbrev made_before : ℕ → List Pipeline → List Pipeline
+made_before before pipelines = filter (λ p. nat_lt p.created before) pipelines
+
+abbrev before_key : ℕ → ℕ → Row
+before_key before count = number before ∷ number count ∷ []
+
+-- The second value is how many rows are shown at most. Under a plus no index of the column is taken, so that the rows are read by number, and no more
+-- of them than it takes.
+means_select_before : MeansSelectTo (col 0 1) the_schema pipeline SELECT_PIPELINES_BEFORE.now (plus_below 6 0 ∷ []) (columns_of pipeline) (by 0) (names_of pipeline)
+unfolding understood everything
+means_select_before = record { is = refl; unlisted = refl; plain = (refl, refl) }
+
+pub plain_select_before : IsPlain (understood the_schema SELECT_PIPELINES_BEFORE.now)
+plain_select_before = means_select_before.plain
+
+pub pipelines_before_found : {S : Type 0} (g : Ghosts S) (old new : Held S) (k : Kept) → IsAt g k old → (before count : ℕ) (found : List Pipeline) → ShowsRecords (λ row x. row ≡ pipeline_row x) g SELECT_PIPELINES_BEFORE.now (before_key before count) old new found
+    → found ≡ take count (made_before before k.state.pipelines)
+pipelines_before_found g old new k at before count found h =
+    found_first (λ row x. row ≡ pipeline_row x) pipeline_row (λ x. nat_lt x.created before) k.state.pipelines (λ x y _ same. sym (same_pipeline y x same)) count h.rows
+    (shows_ordered pipeline_row 3 pipeline refl SELECT_PIPELINES_BEFORE.now (plus_below 6 0 ∷ []) (before_key before count) (λ im. compares Lt (binary Coalesce (column im 5) Null) (number before) && true) (λ r. refl)
+    (λ x. nat_lt x.created before) (λ x. finds_plus_below before x.created) k k.state.pipelines refl h.rows (col 0 1) (by 0) (by_total (plus_below 6 0 ∷ []) (columns_of pipeline) pipeline.tree 0) (pair 0) (λ im. refl) (λ r. refl) means_select_before
+    (rising_numbers (λ (x : Pipeline). x.id) (λ x. nat_lt x.created before) k.state.pipelines at.now.inside.regular.pipelines) (state g old) (state g new) at.now h.shown)
+    found h.read
+
+-- as the index of moments has them
+means_select_some_before : MeansSelectTo (col 0 1) the_schema pipeline SELECT_SOME_PIPELINES_BEFORE.now (below 6 0 ∷ []) (columns_of pipeline) (by 6) (names_of pipeline)
+unfolding understood everything
+means_select_some_before = record { is = refl; unlisted = refl; plain = (refl, refl) }
+
+pub plain_select_some_before : IsPlain (understood the_schema SELECT_SOME_PIPELINES_BEFORE.now)
+plain_select_some_before = means_select_some_before.plain
+
+pub some_before_found : {S : Type 0} (g : Ghosts S) (old new : Held S) (k : Kept) → IsAt g k old → (before count : ℕ) (found : List Pipeline) → ShowsRecords (λ row x. row ≡ pipeline_row x) g SELECT_SOME_PIPELINES_BEFORE.now (before_key before count) old new found
+    → (length found ≤ count) × (All (Contains (made_before before k.state.pipelines)) found) × (length found < count → All (Contains found) (made_before before k.state.pipelines))
+some_before_found g old new k at before count found h =
+    let seen = shows_some pipeline_row 3 pipeline refl SELECT_SOME_PIPELINES_BEFORE.now (below 6 0 ∷ []) (before_key before count) (λ im. compares Lt (column im 5) (number before) && true) (λ r. refl)
+    (λ x. nat_lt x.created before) (λ x. finds_below before x.created) k k.state.pipelines refl h.rows (col 0 1) (by 6) (λ r. refl) means_select_some_before (state g old) (state g new) at.now h.shown in
+    found_some (λ row x. row ≡ pipeline_row x) pipeline_row (λ x. nat_lt x.created before) k.state.pipelines (λ x y _ same. sym (same_pipeline y x same)) count h.rows seen.0 seen.1 seen.2 found h.read

@@ -1,15 +1,19 @@
 -- A record that is put, and one that is removed, in a table of its own.
-use Rattle.std.proofs.Common.{◌≡◌, ◌<◌, ◌==◌, ℕ, ℤ, pos, nat_lt, nat_le, cond, arith, ltb-true, ne_eqb, Less, Equal, Greater, List, ◌∷◌, map, filter, Bool, true, false, not, ◌&&◌, Ordering, is_eq, refl, sym, ap, subst, ◌∙◌, Some, None, Option, IsPermutation}
+use Rattle.std.proofs.Common.{◌≡◌, ◌<◌, ◌==◌, ℕ, ℤ, pos, nat_lt, nat_le, cond, arith, ltb-true, ne_eqb, Less, Equal, Greater, List, ◌∷◌, map, filter, Bool, true, false, not, ◌&&◌, Ordering, is_eq, is_lt, refl, sym, ap, subst, ◌∙◌, Some, None, Option, IsPermutation}
 use Rattle.std.specs.Ordering.{nat_cmp, ordering_then}
 use Rattle.std.proofs.lemmas.Bool.{cond_both}
 use Rattle.std.proofs.lemmas.Map.Text.{is_eq-slice_cmp}
 use Rattle.std.specs.Str.{bytes_eq}
-use Rattle.sqlite.specs.declared.types.Value.TheVariants.{Int, Text}
+use Rattle.sqlite.specs.declared.types.Value.TheVariants.{Null, Int, Text}
 use Rattle.sqlite_value.specs.declared.keys.Collation.TheVariants.{Binary}
-use Rattle.sqlite_sql.specs.declared.ops.BinaryOp.TheVariants.{Compare}
-use Rattle.sqlite_sql.specs.declared.ops.CompareOp.TheVariants.{Eq, Le, Gt, Ge}
+use Rattle.sqlite_value.specs.Order.{value_cmp}
+use Rattle.sqlite_value.proofs.OrderLemmas.{value_cmp-Int}
+use Rattle.sqlite.specs.Ops.{binary}
+use Rattle.sqlite_sql.specs.Ops.{is_true, from_truth}
+use Rattle.sqlite_sql.specs.declared.ops.BinaryOp.TheVariants.{Compare, Coalesce}
+use Rattle.sqlite_sql.specs.declared.ops.CompareOp.TheVariants.{Eq, Lt, Le, Gt, Ge}
 use Rattle.sqlite.specs.Order.{Row}
-use Rattle.sqlite.specs.Term.{Term, col, op2}
+use Rattle.sqlite.specs.Term.{Term, lit, col, op2}
 use Rattle.sqlite.specs.Table.{Table}
 use Rattle.sqlite.specs.Edit.{with_rowid}
 use Rattle.sqlite.specs.Cast.{cast}
@@ -26,7 +30,7 @@ use Rattle.ci_store_tables.specs.Statements.{Changes, HasPut}
 use Rattle.ci_store_tables.proofs.Queries.{picks}
 use Rattle.ci_store_tables.proofs.Writes.{IsWholeStep}
 use Rattle.ci_store_tables.proofs.Puts.{MeansPut, MeansRemove, GivesRecord, puts, removes}
-use Rattle.ci_store_tables.proofs.Scalars.{cast_int, cast_null, equal_int, equal_text, compares, compares_at_least, compares_at_most, compares_above}
+use Rattle.ci_store_tables.proofs.Scalars.{cast_int, cast_null, equal_int, equal_text, int_nat, compares, compares_at_least, compares_at_most, compares_above}
 use Rattle.ci_machine.specs.Ranges.{is_within}
 use Rattle.ci_store_rows.specs.Schema.{the_schema}
 use Rattle.ci_store_rows.specs.Rows.{number}
@@ -45,6 +49,13 @@ at_most place param = op2 (Compare Le Binary) (col 1 place) (col 0 param)
 
 abbrev pub above : ℕ → ℕ → Term
 above place param = op2 (Compare Gt Binary) (col 1 place) (col 0 param)
+
+abbrev pub below : ℕ → ℕ → Term
+below place param = op2 (Compare Lt Binary) (col 1 place) (col 0 param)
+
+-- the same of a column under a plus, which is itself where it isn't NULL
+abbrev pub plus_below : ℕ → ℕ → Term
+plus_below place param = op2 (Compare Lt Binary) (op2 Coalesce (col 1 place) (lit Null)) (col 0 param)
 
 pub before_it : {S : Type 0} (ghosts : Ghosts S) (k : Kept) (h : Held S) → Stands k (state ghosts h).now → IsOf the_schema (rows_of k) (state ghosts h).now
 before_it ghosts k h stands = record { listed = stands.listed; inside = stands.inside.tables }
@@ -99,6 +110,28 @@ finds_above group other m n = (λ i. (equal_int m group ∙ is_number m group) i
 -- those above another
 pub finds_beyond : (other n : ℕ) → (compares Gt (number n) (number other) && true) ≡ nat_lt other n
 finds_beyond other n = and_true _ ∙ compares_above n other
+
+-- those below another
+truth : (b : Bool) → is_true (from_truth (Some b)) ≡ b
+truth true = refl
+truth false = refl
+
+order_below : (a b : ℕ) → is_lt (nat_cmp a b) ≡ nat_lt a b
+order_below a b = cond_both (nat_lt a b) Less (cond (a == b) Equal Greater) (λ o. is_lt o ≡ nat_lt a b) (λ e. sym e) (λ e. cond_both (a == b) Equal Greater (λ o. is_lt o ≡ nat_lt a b) (λ _. sym e) (λ _. sym e))
+
+compares_below : (a b : ℕ) → compares Lt (number a) (number b) ≡ nat_lt a b
+unfolding binary
+compares_below a b = truth (is_lt (value_cmp (number a) (number b))) ∙ ap is_lt (value_cmp-Int (pos a) (pos b) ∙ int_nat a b) ∙ order_below a b
+
+pub finds_below : (other n : ℕ) → (compares Lt (number n) (number other) && true) ≡ nat_lt n other
+finds_below other n = and_true _ ∙ compares_below n other
+
+itself : (n : ℕ) → binary Coalesce (number n) Null ≡ number n
+unfolding binary
+itself n = refl
+
+pub finds_plus_below : (other n : ℕ) → (compares Lt (binary Coalesce (number n) Null) (number other) && true) ≡ nat_lt n other
+finds_plus_below other n = (λ i. compares Lt (itself n i) (number other) && true) ∙ finds_below other n
 
 -- texts that compare as equal are the same
 pub finds_text : (a b : List ℕ) → (equal Binary (Text a) (Text b) && true) ≡ bytes_eq a b

@@ -1,5 +1,5 @@
 -- The statements that write `runner`.
-use Rattle.std.proofs.Common.{◌≡◌, ◌∙◌, ◌==◌, inl, inr, nat_lt, ℕ, pos, List, [], ◌∷◌, filter, if◌then◌else◌, Some, refl, ap, ◌&&◌, true, Option, sym, map, take, drop, codes}
+use Rattle.std.proofs.Common.{◌≡◌, ◌∙◌, ◌==◌, inl, inr, nat_lt, ℕ, pos, List, [], ◌∷◌, if◌then◌else◌, Some, refl, ap, ◌&&◌, true, Option, sym, map, take, drop, codes}
 use Rattle.sqlite.specs.declared.types.Value.TheVariants.{Null, Text}
 use Rattle.sqlite.specs.Order.{Row, column}
 use Rattle.sqlite.specs.Term.{Term, lit, col}
@@ -38,7 +38,7 @@ use Rattle.std.specs.Str.{bytes_eq}
 use Rattle.sqlite_rules.proofs.ListLemmas.{all_has}
 use Rattle.ci_machine.specs.Lookups.{runner_at, runner_with}
 use Rattle.ci_store_rows.specs.Load.{IsRunnerRow}
-use Rattle.ci_store_rows.proofs.Shows.{columns_of, names_of, by, shows_passing, shows_sorted, found_one, found_all, found_none, rising_numbers}
+use Rattle.ci_store_rows.proofs.Shows.{columns_of, names_of, by, shows_passing, shows_sorted, found_one, found_all, found_none, rising_numbers, every}
 use Rattle.std.specs.List.{list_any}
 use Rattle.sqlite_value.specs.Keys.{plain}
 use Rattle.sqlite_schema.specs.declared.schema.Keys.TheVariants.{Enforced}
@@ -157,10 +157,6 @@ means_select_all = record { is = refl; unlisted = refl; plain = (refl, refl) }
 
 pub plain_select_all : IsPlain (understood the_schema SELECT_RUNNERS.now)
 plain_select_all = means_select_all.plain
-
-every : (xs : List Runner) → filter (λ x. true) xs ≡ xs
-every [] = refl
-every (x ∷ xs) = ap (λ l. x ∷ l) (every xs)
 
 pub runners_found : {S : Type 0} (g : Ghosts S) (old new : Held S) (k : Kept) → IsAt g k old → (found : List Runner) → ShowsRecords IsRunnerRow g SELECT_RUNNERS.now [] old new found → found ≡ k.state.runners
 runners_found g old new k at found h =

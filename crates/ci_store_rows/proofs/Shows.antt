@@ -1,15 +1,15 @@
 -- What a query over one table shows of a state, and the records that its rows are read as.
-use Rattle.std.proofs.Common.{◌≡◌, ◌∙◌, ℕ, pos, List, [], ◌∷◌, ◌++◌, map, filter, reverse, find, take, drop, slice_get, Bool, true, false, is_eq, Ordering, Less, Equal, Greater, Option, Some, None, option_map, refl, sym, ap, subst, cond, inl, inr, IsPermutation, ◌<◌, ◌≤◌, ◌==◌, nat_lt, ltb-false, ne_eqb, arith}
+use Rattle.std.proofs.Common.{◌≡◌, ◌∙◌, ℕ, pos, List, [], ◌∷◌, ◌++◌, map, filter, reverse, find, take, drop, slice_get, Bool, true, false, is_eq, Ordering, Less, Equal, Greater, Option, Some, None, option_map, refl, sym, ap, subst, cond, inl, inr, IsPermutation, ◌<◌, ◌≤◌, ◌==◌, suc, length, min, nat_lt, ltb-false, ne_eqb, arith}
 use Rattle.std.proofs.lemmas.Bool.{cond_both}
-use Rattle.std.specs.List.{AllByRecursion, AllZip, last_or}
+use Rattle.std.specs.List.{AllByRecursion, AllZip, All, Contains, last_or}
 use Rattle.std.specs.Ordering.{nat_cmp, ordering_then}
 use Rattle.std.specs.Cmp.{IsTotalOrder}
 use Rattle.std.specs.Cmp.Lexicographic.{slice_cmp}
-use Rattle.std.proofs.lemmas.List.{take-append-drop, take-map, append-nil, append_assoc}
-use Rattle.std.proofs.lemmas.List.Elements.{filter-append}
+use Rattle.std.proofs.lemmas.List.{take-append-drop, take-map, take_all, length-take, append-nil, append_assoc}
+use Rattle.std.proofs.lemmas.List.Elements.{filter-append, All-from_recursion}
 use mathlib.Core.List.{reverse-cons}
 use Rattle.std.proofs.lemmas.Cmp.{on_total, then_total, nat_cmp_total, tied_back}
-use Rattle.std.proofs.lemmas.List.Sorted.{IsPermutation-sym, IsPermutation-trans, IsPermutation-map, IsPermutation-reverse}
+use Rattle.std.proofs.lemmas.List.Sorted.{IsPermutation-sym, IsPermutation-trans, IsPermutation-map, IsPermutation-reverse, Contains-permutation}
 use Rattle.sqlite_trees.proofs.ListLemmas.{IsPermutation-filter}
 use Rattle.sqlite.specs.Collation.TheVariants.{Binary}
 use Rattle.sqlite_value.specs.declared.keys.Key.{Key}
@@ -21,17 +21,18 @@ use Rattle.sqlite.specs.Order.{Row, column}
 use Rattle.sqlite.specs.Term.{Term, col, eval_all}
 use Rattle.sqlite.specs.Query.{Output, output, output_cmp, key_cmp, limited}
 use Rattle.sqlite.specs.Table.{Table}
+use Rattle.sqlite.specs.Tree.{Trees}
 use Rattle.sqlite.specs.Effect.{Database}
 use Rattle.sqlite.specs.State.{State as Seen, Shown}
 use Rattle.sqlite_trees.specs.Tree.{IsAscending}
 use Rattle.sqlite.proofs.Callers.{one_permutation, reads_as}
 use Rattle.sqlite_keyed.proofs.ListLemmas.{filter-map, filter_same, slice_get-filter, ascending-map, ascending_weaker, ascending-filter}
 use Rattle.sqlite_rules.specs.Lists.{Has}
-use Rattle.sqlite_rules.proofs.ListLemmas.{all_has, has_got, has_filtered, has_left}
+use Rattle.sqlite_rules.proofs.ListLemmas.{all_has, all_from, has_got, has_filtered, has_left, has_contained, contains_had}
 use Rattle.ci_machine.specs.Kept.{Kept}
 use Rattle.ci_store_tables.specs.Stands.{Holds, image, places}
 use Rattle.ci_store_tables.proofs.Writes.{perm_nil, map_nil, map_one}
-use Rattle.ci_store_tables.proofs.Queries.{query, picks, no_limit, count_of, shows, answered, map_map}
+use Rattle.ci_store_tables.proofs.Queries.{query, picks, no_limit, count_of, Answered, shows, answered, answered_to, map_map}
 use Rattle.ci_store_tables.proofs.Selects.{MeansSelect, MeansSelectTo, selects}
 use Rattle.ci_store_tables.proofs.Ordered.{no_key_total, selects_sorted}
 use Rattle.ci_store_tables.proofs.Scalars.{int_nat}
@@ -81,20 +82,26 @@ backward place = (col 1 place, record { collation = Binary; descending = true })
 pub backward_total : (tests columns : List Term) (tree place : ℕ) → IsTotalOrder (output_cmp (query tree tests columns (backward place)))
 backward_total tests columns tree place = on_total (λ (o : Output). o.0) (then_total (on_total (λ (r : Row). column r 0) (by_key_total (record { collation = Binary; descending = true }))) no_key_total)
 
--- what a query of a part of the columns shows of the records of its table
-shows_part : (t : Table) (text : List ℕ) (tests columns : List Term) (names : List (List ℕ)) → MeansSelect the_schema t text tests columns [] names → (key : Row) (p : Row → Bool) → ((r : Row) → picks tests key r ≡ p (image (places t) r))
-    → (part : Row → Row) → ((r : Row) → eval_all columns (key ∷ r ∷ []) ≡ part (image (places t) r)) → (old new : Seen) (records rows : List Row) → old.now.schema ≡ the_schema → Holds t records old.now.trees → Shown text key old new rows
-    → IsPermutation (map part (filter p records)) rows
-shows_part t text tests columns names means key p tested part showed old new records rows has held shown =
-    let there = old.now.trees t.tree in
-    let read = reads_as text key old new the_schema has _ means.is means.plain means.unlisted rows shown in
-    let answer = shows t.tree tests columns [] old.now.trees key rows (answered old.now.schema old.now.trees t.tree tests columns [] key rows read) in
+-- what an answer of a part of the columns has of the records of its table
+answers_part : (t : Table) (tests columns : List Term) (order : List (Term × Key)) (key : Row) (p : Row → Bool) → ((r : Row) → picks tests key r ≡ p (image (places t) r)) → (part : Row → Row) → ((r : Row) → eval_all columns (key ∷ r ∷ []) ≡ part (image (places t) r))
+    → (db : Trees) (records rows : List Row) → Holds t records db → Answered t.tree tests columns order db key rows → IsPermutation (map part (filter p records)) rows
+answers_part t tests columns order key p tested part showed db records rows held a =
+    let there = db t.tree in
+    let answer = shows t.tree tests columns order db key rows a in
     let images : map (λ r. eval_all columns (key ∷ r ∷ [])) (filter (picks tests key) there) ≡ map part (filter p (map (image (places t)) there)) =
     (λ i. map (λ r. showed r i) (filter (picks tests key) there))
     ∙ sym (map_map part (image (places t)) (filter (picks tests key) there))
     ∙ ap (λ l. map part (map (image (places t)) l)) (filter_same _ _ tested there)
     ∙ ap (map part) (sym (filter-map p (image (places t)) there)) in
     IsPermutation-trans _ _ _ (IsPermutation-map part _ _ (IsPermutation-sym _ _ (IsPermutation-filter p _ _ held.same))) (subst (λ l. IsPermutation l rows) images answer)
+
+-- what a query of a part of the columns shows of them
+shows_part : (t : Table) (text : List ℕ) (tests columns : List Term) (names : List (List ℕ)) → MeansSelect the_schema t text tests columns [] names → (key : Row) (p : Row → Bool) → ((r : Row) → picks tests key r ≡ p (image (places t) r))
+    → (part : Row → Row) → ((r : Row) → eval_all columns (key ∷ r ∷ []) ≡ part (image (places t) r)) → (old new : Seen) (records rows : List Row) → old.now.schema ≡ the_schema → Holds t records old.now.trees → Shown text key old new rows
+    → IsPermutation (map part (filter p records)) rows
+shows_part t text tests columns names means key p tested part showed old new records rows has held shown =
+    let read = reads_as text key old new the_schema has _ means.is means.plain means.unlisted rows shown in
+    answers_part t tests columns [] key p tested part showed old.now.trees records rows held (answered old.now.schema old.now.trees t.tree tests columns [] key rows read)
 
 module _ {A : Type 0} (values : A → Row) (at : ℕ) (t : Table) (there : slice_get the_schema.tables at ≡ Some t) (text : List ℕ) (tests : List Term) (key : Row) (p : Row → Bool)
     (tested : (r : Row) → picks tests key r ≡ p (image (places t) r)) (passes : A → Bool) (same : (x : A) → p (values x) ≡ passes x)
@@ -115,6 +122,17 @@ module _ {A : Type 0} (values : A → Row) (at : ℕ) (t : Table) (there : slice
   shows_columns columns names part showed means old new stands h =
       subst (λ l. IsPermutation l rows) (ap (λ l. map part (filter p l)) is ∙ ap (map part) (filtered xs) ∙ map_map part values (filter passes xs))
       (shows_part t text tests columns names means key p tested part showed old new (rows_of k t.tree) rows stands.listed (held k old.now stands at t there) h)
+
+  -- those rows in some order, and of them the first ones that a limit lets through
+  pub shows_some : (limit : Term) (order : List (Term × Key)) (showed : (r : Row) → eval_all (columns_of t) (key ∷ r ∷ []) ≡ image (places t) r) → MeansSelectTo limit the_schema t text tests (columns_of t) order (names_of t)
+      → (old new : Seen) → Stands k old.now → Shown text key old new rows → (all : List Row) × IsPermutation (map values (filter passes xs)) all × (rows ≡ limited (count_of limit key) all)
+  shows_some limit order showed means old new stands h =
+      let read = reads_as text key old new the_schema stands.listed _ means.is means.plain means.unlisted rows h in
+      let a = answered_to limit old.now.schema old.now.trees t.tree tests (columns_of t) order key rows read in
+      let all = map (λ (o : Output). o.1) a.ordered in
+      let whole : Answered t.tree tests (columns_of t) order old.now.trees key all = record { ordered = a.ordered; same = a.same; sorted = a.sorted; shown = refl } in
+      let those = ap (λ l. map (λ im. im) (filter p l)) is ∙ ap (map (λ im. im)) (filtered xs) ∙ map_map (λ im. im) values (filter passes xs) in
+      (all, subst (λ l. IsPermutation l all) those (answers_part t tests (columns_of t) order key p tested (λ im. im) showed old.now.trees (rows_of k t.tree) all (held k old.now stands at t there) whole), a.shown)
 
   -- of records that the table has, and that stand in an order, the first ones that a limit lets through
   shows_in_order : (limit : Term) (order : List (Term × Key)) (total : IsTotalOrder (output_cmp (query t.tree tests (columns_of t) order))) (pair : Row → Output) (second : (im : Row) → (pair im).1 ≡ im)
@@ -180,6 +198,38 @@ as_it_is : {A : Type 0} (o : Option A) → option_map (λ x. x) o ≡ o
 as_it_is None = refl
 as_it_is (Some x) = refl
 
+has_taken : {X : Type 0} (n : ℕ) (ys : List X) (y : X) → Has (take n ys) y → Has ys y
+has_taken n ys y h = subst (λ l. Has l y) (take-append-drop n ys) (has_left (take n ys) (drop n ys) y h)
+
+has_map : {X Y : Type 0} (f : X → Y) (xs : List X) (x : X) → Has xs x → Has (map f xs) (f x)
+has_map f [] x h = absurd h
+has_map f (y ∷ xs) x (inl same) = inl (ap f same)
+has_map f (y ∷ xs) x (inr h) = inr (has_map f xs x h)
+
+has_mapped : {X Y : Type 0} (f : X → Y) (xs : List X) (y : Y) → Has (map f xs) y → (x : X) × Has xs x × (y ≡ f x)
+has_mapped f [] y h = absurd h
+has_mapped f (x ∷ xs) y (inl same) = (x, inl refl, same)
+has_mapped f (x ∷ xs) y (inr h) = let w = has_mapped f xs y h in (w.0, inr w.1, w.2)
+
+module _ {X Y : Type 0} (R : X → Y → Type 0) where
+  length_zipped : (xs : List X) (ys : List Y) → AllZip R xs ys → length xs ≡ length ys
+  length_zipped [] [] all = refl
+  length_zipped [] (y ∷ ys) all = absurd all
+  length_zipped (x ∷ xs) [] all = absurd all
+  length_zipped (x ∷ xs) (y ∷ ys) all = ap suc (length_zipped xs ys all.1)
+
+  zipped : (xs : List X) (ys : List Y) → AllZip R xs ys → (x : X) → Has xs x → (y : Y) × Has ys y × R x y
+  zipped [] ys all x h = absurd h
+  zipped (z ∷ xs) [] all x h = absurd all
+  zipped (z ∷ xs) (y ∷ ys) all x (inl same) = (y, inl refl, subst (λ z. R z y) (sym same) all.0)
+  zipped (z ∷ xs) (y ∷ ys) all x (inr h) = let w = zipped xs ys all.1 x h in (w.0, inr w.1, w.2)
+
+  zipped_back : (xs : List X) (ys : List Y) → AllZip R xs ys → (y : Y) → Has ys y → (x : X) × Has xs x × R x y
+  zipped_back xs [] all y h = absurd h
+  zipped_back [] (z ∷ ys) all y h = absurd all
+  zipped_back (x ∷ xs) (z ∷ ys) all y (inl same) = (x, inl refl, subst (R x) (sym same) all.0)
+  zipped_back (x ∷ xs) (z ∷ ys) all y (inr h) = let w = zipped_back xs ys all.1 y h in (w.0, inr w.1, w.2)
+
 module _ {A : Type 0} (is_row : Row → A → Type 0) (values : A → Row) (passes : A → Bool) (xs : List A) (one : (x y : A) → Has xs y → is_row (values y) x → x ≡ y) where
   pub found_one : (rows : List Row) → IsPermutation (map values (filter passes xs)) rows → (found : Option A) → AllZip is_row rows (listed found) → found ≡ find passes xs
   found_one rows same found read = found_as (λ x. x) is_row values passes xs one rows same found read ∙ as_it_is (find passes xs)
@@ -197,12 +247,45 @@ module _ {A : Type 0} (is_row : Row → A → Type 0) (values : A → Row) (pass
   pub found_first : (n : ℕ) (rows : List Row) → rows ≡ take n (map values (filter passes xs)) → (found : List A) → AllZip is_row rows found → found ≡ take n (filter passes xs)
   found_first n rows is found read =
       each (take n (filter passes xs)) (λ y h. (has_filtered passes xs y (has_taken n (filter passes xs) y h)).0) found (subst (λ l. AllZip is_row l found) (is ∙ take-map values n (filter passes xs)) read)
+
+  -- some of them, so many at most: all, where they are fewer
+  pub found_some : (n : ℕ) (rows all : List Row) → IsPermutation (map values (filter passes xs)) all → rows ≡ take n all → (found : List A) → AllZip is_row rows found
+      → (length found ≤ n) × (All (Contains (filter passes xs)) found) × (length found < n → All (Contains found) (filter passes xs))
+  found_some n rows all same first found read =
+      (few, All-from_recursion _ found (all_from _ found among), λ less. All-from_recursion _ those (all_from _ those (there less)))
     where
-      has_taken : (n : ℕ) (ys : List A) (y : A) → Has (take n ys) y → Has ys y
-      has_taken n ys y h = subst (λ l. Has l y) (take-append-drop n ys) (has_left (take n ys) (drop n ys) y h)
+      those : List A
+      those = filter passes xs
+
+      long : length found ≡ min n (length all)
+      long = sym (length_zipped is_row rows found read) ∙ ap length first ∙ length-take n all
+
+      few : length found ≤ n
+      few = omega (arith, long)
+
+      among : (x : A) → Has found x → Contains those x
+      among x h =
+          let row = zipped_back is_row rows found read x h in
+          let in_all : Has all row.0 = has_taken n all row.0 (subst (λ l. Has l row.0) first row.1) in
+          let here = has_mapped values those row.0 (has_contained (map values those) row.0 (Contains-permutation all (map values those) row.0 (IsPermutation-sym _ _ same) (contains_had all row.0 in_all))) in
+          let is = one x here.0 (has_filtered passes xs here.0 here.1).0 (subst (λ row. is_row row x) here.2 row.2) in
+          subst (Contains those) (sym is) (contains_had those here.0 here.1)
+
+      there : length found < n → (y : A) → Has those y → Contains found y
+      there less y h =
+          let whole : rows ≡ all = first ∙ take_all n all (omega (arith, less, long)) in
+          let in_all : Has all (values y) = has_contained all (values y) (Contains-permutation (map values those) all (values y) same (contains_had (map values those) (values y) (has_map values those y h))) in
+          let seen = zipped is_row rows found read (values y) (subst (λ l. Has l (values y)) (sym whole) in_all) in
+          let is = one seen.0 y (has_filtered passes xs y h).0 seen.2 in
+          subst (Contains found) is (contains_had found seen.0 seen.1)
 
   pub found_all : (rows : List Row) → rows ≡ map values (filter passes xs) → (found : List A) → AllZip is_row rows found → found ≡ filter passes xs
   found_all rows is found read = each (filter passes xs) (λ y h. (has_filtered passes xs y h).0) found (subst (λ l. AllZip is_row l found) is read)
+
+-- where all pass
+pub every : {A : Type 0} (xs : List A) → filter (λ x. true) xs ≡ xs
+every [] = refl
+every (x ∷ xs) = ap (λ l. x ∷ l) (every xs)
 
 -- the one that a query of one row shows
 pub first_of_one : {A : Type 0} (xs : List A) (found : Option A) → listed found ≡ take 1 xs → found ≡ slice_get xs 0

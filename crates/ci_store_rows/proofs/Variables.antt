@@ -76,7 +76,7 @@ whole params db = whole_if_alone the_schema variable tests params db (λ olds. r
 
 pub variable_removed : {S : Type 0} (g : Ghosts S) (old new : Held S) (owner : ℕ) (name : List ℕ) (k : Kept) → Stands k (state g old).now → RemovesUnreferred g [] DELETE_VARIABLE.now (named owner name) old new → Stands (in_state (without_record (key.Variable owner name)) k) (state g new).now
 variable_removed g old new owner name k =
-    removed_owned g old new variable_row 10 variable (λ q. is_eq (ordering_then (nat_cmp q.project owner) (slice_cmp nat_cmp q.key name))) k.state.variables (named owner name) k (in_state (without_record (key.Variable owner name)) k) refl refl (alike k _) (λ o. regular_with_variables k _ (ascending-filter _ _ k.state.variables o.variables) o) (λ q. same_named owner name q.project q.key) (λ r. refl)
+    removed_owned g old new variable_row 10 variable tests (λ q. is_eq (ordering_then (nat_cmp q.project owner) (slice_cmp nat_cmp q.key name))) k.state.variables (named owner name) k (in_state (without_record (key.Variable owner name)) k) refl refl (alike k _) (λ o. regular_with_variables k _ (ascending-filter _ _ k.state.variables o.variables) o) (λ q. same_named owner name q.project q.key) (λ r. refl)
     DELETE_VARIABLE.now means_remove whole
 
 -- ---- two records with the same row

@@ -244,9 +244,13 @@ pipeline_ref = record { name = codes "pipeline_ref"; tree = 27; table = 6; colum
 abbrev pub attempt_runner : Index
 attempt_runner = record { name = codes "attempt_runner"; tree = 28; table = 11; columns = 3 ∷ 0 ∷ []; order = plain; is_unique = false }
 
+-- by the moment when a pipeline was made
+abbrev pub pipeline_created : Index
+pipeline_created = record { name = codes "pipeline_created"; tree = 29; table = 6; columns = 6 ∷ []; order = plain; is_unique = false }
+
 abbrev pub the_schema : Schema
 the_schema = record {
   tables = meta ∷ project ∷ runner ∷ pipeline ∷ job ∷ jobvar ∷ attempt ∷ piece ∷ need ∷ board ∷ variable ∷ holder ∷ unfinished ∷ [];
-  indexes = meta_index_1 ∷ project_index_1 ∷ runner_index_1 ∷ job_pipeline ∷ jobvar_index_1 ∷ attempt_job ∷ attempt_state ∷ piece_index_1 ∷ need_index_1 ∷ need_pred ∷ board_status ∷ variable_index_1 ∷ holder_index_1 ∷ holder_attempt ∷ pipeline_ref ∷ attempt_runner ∷ [];
+  indexes = meta_index_1 ∷ project_index_1 ∷ runner_index_1 ∷ job_pipeline ∷ jobvar_index_1 ∷ attempt_job ∷ attempt_state ∷ piece_index_1 ∷ need_index_1 ∷ need_pred ∷ board_status ∷ variable_index_1 ∷ holder_index_1 ∷ holder_attempt ∷ pipeline_ref ∷ attempt_runner ∷ pipeline_created ∷ [];
   views = [];
 }

@@ -1,6 +1,6 @@
 //! The texts of all statements. A connection keeps the plans of 64 texts; those that the machine's events run are fewer.
 
-pub const SCHEMA: [&str; 21] = [
+pub const SCHEMA: [&str; 22] = [
     "CREATE TABLE meta (key TEXT NOT NULL PRIMARY KEY, num INTEGER NOT NULL) STRICT",
     "CREATE TABLE project (id INTEGER PRIMARY KEY, name TEXT NOT NULL, token TEXT NOT NULL UNIQUE, file TEXT) STRICT",
     "CREATE TABLE runner (id INTEGER PRIMARY KEY, name TEXT NOT NULL, token TEXT NOT NULL UNIQUE, project INTEGER REFERENCES project (id), tags TEXT NOT NULL, untagged INTEGER NOT NULL, paused INTEGER NOT NULL) STRICT",
@@ -22,6 +22,7 @@ pub const SCHEMA: [&str; 21] = [
     "CREATE TABLE unfinished (pipeline INTEGER PRIMARY KEY) STRICT",
     "CREATE INDEX pipeline_ref ON pipeline (project, ref, kind, id)",
     "CREATE INDEX attempt_runner ON attempt (runner, id)",
+    "CREATE INDEX pipeline_created ON pipeline (created)",
 ];
 
 pub const INSERT_META: &str = "INSERT INTO meta (key, num) VALUES (?1, ?2)";
@@ -94,6 +95,12 @@ pub const SELECT_PIPELINES_ABOVE: &str =
 pub const SELECT_NEWER_PIPELINES: &str =
     "SELECT id, project, ref, kind, source, created FROM pipeline WHERE project = ?1 AND ref = ?2 AND kind = ?3 AND id > ?4 ORDER BY id LIMIT ?5";
 
+pub const SELECT_PIPELINES_BEFORE: &str =
+    "SELECT id, project, ref, kind, source, created FROM pipeline WHERE +created < ?1 ORDER BY id LIMIT ?2";
+
+pub const SELECT_SOME_PIPELINES_BEFORE: &str =
+    "SELECT id, project, ref, kind, source, created FROM pipeline WHERE created < ?1 ORDER BY created LIMIT ?2";
+
 pub const INSERT_JOB: &str =
     "INSERT INTO job (id, pipeline, pos, name, stage, spec, script, played, cancelled, aside) VALUES (?1, ?2, ?3, ?4, ?5, ?6, ?7, ?8, ?9, ?10)";
 
@@ -121,6 +128,8 @@ pub const UPDATE_JOB_VARIABLE: &str =
     "UPDATE jobvar SET job = ?1, key = ?2, value = ?3 WHERE job = ?1 AND key = ?2";
 
 pub const DELETE_JOB_VARIABLE: &str = "DELETE FROM jobvar WHERE job = ?1 AND key = ?2";
+
+pub const DELETE_JOB_VARIABLES: &str = "DELETE FROM jobvar WHERE job = ?1";
 
 pub const SELECT_JOB_VARIABLES: &str =
     "SELECT job, key, value FROM jobvar WHERE job = ?1 ORDER BY key";
@@ -158,6 +167,8 @@ pub const UPDATE_PIECE: &str =
 
 pub const DELETE_PIECE: &str = "DELETE FROM piece WHERE attempt = ?1 AND seq = ?2";
 
+pub const DELETE_PIECES: &str = "DELETE FROM piece WHERE attempt = ?1";
+
 pub const SELECT_PIECES: &str =
     "SELECT attempt, seq, bytes FROM piece WHERE attempt = ?1 ORDER BY seq";
 
@@ -166,6 +177,8 @@ pub const INSERT_NEED: &str = "INSERT INTO need (job, pred) VALUES (?1, ?2)";
 pub const UPDATE_NEED: &str = "UPDATE need SET job = ?1, pred = ?2 WHERE job = ?1 AND pred = ?2";
 
 pub const DELETE_NEED: &str = "DELETE FROM need WHERE job = ?1 AND pred = ?2";
+
+pub const DELETE_NEEDS: &str = "DELETE FROM need WHERE job = ?1";
 
 pub const SELECT_NEEDS_OF: &str = "SELECT job, pred FROM need WHERE job = ?1";
 
@@ -179,6 +192,8 @@ pub const INSERT_ROW: &str =
 
 pub const UPDATE_ROW: &str =
     "UPDATE board SET job = ?1, status = ?2, open = ?3, failed = ?4, barred = ?5 WHERE job = ?1";
+
+pub const DELETE_ROW: &str = "DELETE FROM board WHERE job = ?1";
 
 pub const SELECT_ROW: &str = "SELECT job, status, open, failed, barred FROM board WHERE job = ?1";
 

@@ -207,8 +207,8 @@ fn tried(alloc: Global, call: Call, of_log: bool, calls: u64) -> Result<Ended, F
 /// The least number of calls with which the store opens.
 fn opens_from(alloc: Global, call: Call, of_log: bool) -> Result<u64, Fail> {
     let mut low = 0u64;
-    let mut high = 256u64;
-    for _ in 0..8 {
+    let mut high = 512u64;
+    for _ in 0..9 {
         let mid = low.midpoint(high);
         if tried(alloc, call, of_log, mid)? == Ended::Unopened {
             low = mid;

@@ -1,7 +1,7 @@
 //! The calls of the tables without their clauses, so that the proof of a test that makes many of them carries little.
 
 use crate::lines::Answer;
-use crate::records::{Change, ONE_OF_EACH, Work, text};
+use crate::records::{Change, ONE_OF_EACH, Work, moment, text};
 use ci_machine::change::Counter;
 use ci_store::delta::Delta;
 use ci_store::fault::StoreFault;
@@ -62,8 +62,10 @@ pub fn is_committed<S: Alter>(tables: &mut Tables<S>, work: Work) -> bool {
         changes,
         rows,
         indexes,
+        cleared,
     } = work;
-    tables.commit(Delta::new(changes, rows, indexes)).is_ok()
+    let delta = Delta::new(changes, rows, indexes).clearing(cleared);
+    tables.commit(delta).is_ok()
 }
 
 /// Are these changes made in one commit?
@@ -104,6 +106,9 @@ pub enum Load {
     Pipeline(u64),
     /// The first newer one of the same project, ref and kind as the pipeline with a number.
     NewerThan(u64),
+    /// Those made before a moment, at most so many.
+    PipelinesBefore(u64, u64),
+    SomeBefore(u64, u64),
     Job(u64),
     Demand(u64),
     JobsOf(u64),
@@ -160,6 +165,12 @@ fn shown_of_pipelines<S: Alter>(
     match load {
         Load::Pipeline(id) => Answer::of_one(alloc, tables.pipeline(id)),
         Load::NewerThan(id) => newer_than(alloc, tables, id),
+        Load::PipelinesBefore(before, count) => {
+            Answer::of_all(alloc, tables.pipelines_before(moment(before)?, count))
+        }
+        Load::SomeBefore(before, count) => {
+            Answer::of_all(alloc, tables.some_before(moment(before)?, count))
+        }
         Load::Job(id) => Answer::of_one(alloc, tables.job(id)),
         Load::Demand(id) => Answer::of_one(alloc, tables.demand(id)),
         Load::JobsOf(pipeline) => Answer::of_all(alloc, tables.jobs_of(pipeline)),

@@ -25,6 +25,8 @@ pub enum Made {
     Runner(u64),
     /// Its number, project, ref and kind.
     Pipeline(u64, u64, &'static str, RefKind),
+    /// Its number and the moment when it was made, for the branch `old` of project 1.
+    PipelineAt(u64, u64),
     /// Its number and pipeline.
     Job(u64, u64),
     /// Of job 1.
@@ -47,9 +49,12 @@ pub enum Gone {
     Pipeline(u64),
     Job(u64),
     JobVariable(u64, &'static str),
+    JobVariables(u64),
     Need(u64, u64),
+    Needs(u64),
     Attempt(u64),
     Piece(u64, u64),
+    Pieces(u64),
 }
 
 /// A change of what the tables keep.
@@ -60,6 +65,8 @@ pub enum Change {
     SetNext(Counter, u64),
     /// The row of a job is put.
     Row(u64, Status),
+    /// The row of a job goes, before all else.
+    Clear(u64),
     /// A group of a project is held by an attempt.
     Hold(u64, &'static str, u64),
     Free(u64, &'static str),
@@ -73,6 +80,7 @@ pub struct Work {
     pub changes: Vec<RowChange>,
     pub rows: Vec<BoardRow>,
     pub indexes: Vec<IndexChange>,
+    pub cleared: Vec<u64>,
 }
 
 /// The length of a long piece, in bytes.
@@ -100,7 +108,7 @@ fn texts(alloc: Global, items: &[&str]) -> Result<Texts, Fail> {
     Ok(Texts::new(texts))
 }
 
-fn moment(seconds: u64) -> Result<Moment, Fail> {
+pub fn moment(seconds: u64) -> Result<Moment, Fail> {
     Ok(Moment::new(seconds).ok_or("no moment")?)
 }
 
@@ -137,6 +145,17 @@ fn options(alloc: Global) -> Result<JobOptions, Fail> {
         resource_group: Some(text(alloc, "prod")?),
         interruptible: true,
         part: part(alloc)?,
+    })
+}
+
+fn pipeline_at(alloc: Global, id: u64, seconds: u64) -> Result<Pipeline, Fail> {
+    Ok(Pipeline {
+        id,
+        project: 1,
+        git_ref: text(alloc, "old")?,
+        kind: RefKind::Branch,
+        source: Source::Push,
+        created: moment(seconds)?,
     })
 }
 
@@ -198,6 +217,7 @@ fn record(alloc: Global, made: &Made) -> Result<Record, Fail> {
             source: Source::Schedule,
             created: moment(60)?,
         }),
+        Made::PipelineAt(id, seconds) => Record::Pipeline(pipeline_at(alloc, *id, *seconds)?),
         Made::Job(id, pipeline) => Record::Job(job(alloc, *id, *pipeline)?),
         Made::JobVariable(key) => Record::JobVariable(JobVariable {
             job: 1,
@@ -221,9 +241,12 @@ fn key(alloc: Global, gone: &Gone) -> Result<Key, Fail> {
         Gone::Pipeline(id) => Key::Pipeline(*id),
         Gone::Job(id) => Key::Job(*id),
         Gone::JobVariable(job, key) => Key::JobVariable(*job, text(alloc, key)?),
+        Gone::JobVariables(job) => Key::JobVariables(*job),
         Gone::Need(job, pred) => Key::Need(*job, *pred),
+        Gone::Needs(job) => Key::Needs(*job),
         Gone::Attempt(id) => Key::Attempt(*id),
         Gone::Piece(attempt, seq) => Key::Piece(*attempt, *seq),
+        Gone::Pieces(attempt) => Key::Pieces(*attempt),
     })
 }
 
@@ -246,6 +269,7 @@ impl Work {
             changes: Vec::new(alloc),
             rows: Vec::new(alloc),
             indexes: Vec::new(alloc),
+            cleared: Vec::new(alloc),
         }
     }
 
@@ -257,6 +281,7 @@ impl Work {
                 .changes
                 .push(RowChange::Put(Record::Next(*counter, *next)))?,
             Change::Row(job, status) => self.rows.push(row_of(*job, *status))?,
+            Change::Clear(job) => self.cleared.push(*job)?,
             Change::Hold(project, group, attempt) => {
                 self.indexes.push(IndexChange::Hold(Holder {
                     project: *project,

@@ -522,6 +522,97 @@ fn a_newer_pipeline_is_of_the_same_ref_and_unfinished_ones_come_by_number(
     tells(&rt, rt.alloc(), &[Step::Makes(MANY_PIPELINES)], NEWER)
 }
 
+// ---- old pipelines
+
+/// Four more, of which two were made before the first one.
+const OLD_AND_NEW: &[Step] = &[Step::Makes(&[
+    Change::Put(Made::PipelineAt(5, 50)),
+    Change::Put(Made::PipelineAt(2, 59)),
+    Change::Put(Made::PipelineAt(3, 70)),
+    Change::Put(Made::PipelineAt(4, 60)),
+])];
+
+const OLD: &[Step] = &[
+    Step::Finds(Load::PipelinesBefore(60, 9), &[2, 5]),
+    Step::Finds(Load::PipelinesBefore(60, 1), &[2]),
+    Step::Finds(Load::PipelinesBefore(61, 9), &[1, 2, 4, 5]),
+    Step::Finds(Load::PipelinesBefore(61, 3), &[1, 2, 4]),
+    Step::Shows(Load::PipelinesBefore(51, 9), "5 1 old branch push 50"),
+    Step::Shows(Load::PipelinesBefore(50, 9), ""),
+    Step::Shows(Load::PipelinesBefore(99, 0), ""),
+    Step::Shows(Load::PipelinesBefore(60, OVER), "broken"),
+    Step::Shows(Load::SomeBefore(51, 9), "5 1 old branch push 50"),
+    Step::Shows(Load::SomeBefore(51, 1), "5 1 old branch push 50"),
+    Step::Shows(Load::SomeBefore(50, 9), ""),
+    Step::Shows(Load::SomeBefore(99, 0), ""),
+];
+
+#[test]
+fn pipelines_are_found_that_were_made_before_a_moment(rt: HostRuntime) -> Result<(), Fail> {
+    tells(&rt, rt.alloc(), OLD_AND_NEW, OLD)
+}
+
+/// Pipeline 1 has two pieces, a pair and two rows of statuses then, and pipeline 2 a pair and two rows.
+const TWO_PIPELINES: &[Change] = &[
+    Change::Put(Made::PipelineAt(2, 70)),
+    Change::Put(Made::Job(3, 2)),
+    Change::Put(Made::Job(4, 2)),
+    Change::Put(Made::Need(2, 1)),
+    Change::Put(Made::Need(4, 3)),
+    Change::Put(Made::Piece(0, b"one")),
+    Change::Put(Made::Piece(1, b"two")),
+    Change::Row(2, Status::Success),
+    Change::Row(3, Status::Success),
+    Change::Row(4, Status::Success),
+];
+
+/// What names a job or an attempt goes before it, but for the rows of statuses.
+const ALL_BUT_ROWS: &[Change] = &[
+    Change::Remove(Gone::Pieces(1)),
+    Change::Remove(Gone::Attempt(1)),
+    Change::Remove(Gone::JobVariables(1)),
+    Change::Remove(Gone::Needs(2)),
+    Change::Remove(Gone::Job(1)),
+    Change::Remove(Gone::Job(2)),
+    Change::Remove(Gone::Pipeline(1)),
+];
+
+/// The same, with the rows, which are named last and go first.
+const ALL: &[Change] = &[
+    Change::Remove(Gone::Pieces(1)),
+    Change::Remove(Gone::Attempt(1)),
+    Change::Remove(Gone::JobVariables(1)),
+    Change::Remove(Gone::Needs(2)),
+    Change::Remove(Gone::Job(1)),
+    Change::Remove(Gone::Job(2)),
+    Change::Remove(Gone::Pipeline(1)),
+    Change::Clear(1),
+    Change::Clear(2),
+];
+
+const PIPELINE_GOES: &[Step] = &[
+    Step::Makes(TWO_PIPELINES),
+    Step::Refuses(ALL_BUT_ROWS),
+    Step::Makes(ALL),
+];
+
+/// What is left is pipeline 2's.
+const LEFT: &[Step] = &[
+    Step::Shows(Load::Pipeline(1), ""),
+    Step::Shows(Load::JobsOf(1), ""),
+    Step::Shows(Load::JobVariables(1), ""),
+    Step::Shows(Load::AttemptsWithin(1, 9), ""),
+    Step::Shows(Load::PiecesOf(1), ""),
+    Step::Shows(Load::NeedsWithin(1, 9), "4 for 3"),
+    Step::Finds(Load::RowsWithin(1, 9), &[3, 4]),
+    Step::Finds(Load::JobsOf(2), &[3, 4]),
+];
+
+#[test]
+fn a_pipeline_goes_with_all_its_rows(rt: HostRuntime) -> Result<(), Fail> {
+    tells(&rt, rt.alloc(), PIPELINE_GOES, LEFT)
+}
+
 // ---- texts in the file
 
 const TEXTS: &[(&str, &str)] = &[
@@ -568,6 +659,10 @@ const TEXTS: &[(&str, &str)] = &[
     (
         "SELECT sql FROM sqlite_schema WHERE name = 'pipeline_ref'",
         "CREATE INDEX pipeline_ref ON pipeline (project, ref, kind, id)",
+    ),
+    (
+        "SELECT sql FROM sqlite_schema WHERE name = 'pipeline_created'",
+        "CREATE INDEX pipeline_created ON pipeline (created)",
     ),
 ];
 

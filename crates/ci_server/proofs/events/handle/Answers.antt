@@ -2,6 +2,7 @@ use Rattle.std.specs.Prelude.{IfOk}
 use Rattle.std.proofs.Common.{subst}
 use Rattle.ci_machine.specs.declared.reply.Answer.TheVariants as answer
 use Rattle.ci_machine.specs.declared.request.Event.TheVariants as event
+use Rattle.ci_machine.specs.Kept.{cleared}
 use Rattle.ci_machine_steps.specs.Step.{Does}
 use Rattle.ci_store.specs.Store.{UnlessBroken}
 use Rattle.ci_server_lookups.specs.Keeps.{IsKept}
@@ -15,9 +16,9 @@ pub returns-clause-performed : goal.returns-clause-performed
 returns-clause-performed g c = λ honest s sound held.
     let looked = c.commit.ensures.was_honest honest in
     let k = held.kept in
-    let planned = subst (λ r. IfOk r (λ p. IsKept k → PlansFor k (Does k.state k.board c.args.request c.args.now c.args.seed (p.answer, p.changes)) p.changes p.beside)) c.in_ok-planned.was
+    let planned = subst (λ r. IfOk r (λ p. IsKept k → PlansFor (cleared p.cleared.items k) (Does k.state k.board c.args.request c.args.now c.args.seed (p.planned.answer, p.planned.changes)) p.planned.changes p.planned.beside)) c.in_ok-clearing.was
     (c.plan_request.ensures.answered looked k held.held) (is_kept s k sound held.is_of) in
     performed g.T.Store.holds g.T.Store.leaves answer.Reply (event.Request c.args.request, c.args.now, c.args.seed) s k held.is_of
-    c.in_ok-planned.planned.answer c.in_ok-planned.planned.changes c.in_ok-planned.planned.beside c.commit.new.store c.commit.result
+    c.in_ok-clearing.clearing.cleared.items c.in_ok-clearing.clearing.planned.answer c.in_ok-clearing.clearing.planned.changes c.in_ok-clearing.clearing.planned.beside c.commit.new.store c.commit.result
     planned.made planned.settled c.commit.ensures.answer
-    (c.commit.ensures.ends honest k (subst (λ r. UnlessBroken r (g.T.Store.holds c.plan_request.new.store k)) c.in_ok-planned.was (c.plan_request.ensures.kept looked k held.held)))
+    (c.commit.ensures.ends honest k (subst (λ r. UnlessBroken r (g.T.Store.holds c.plan_request.new.store k)) c.in_ok-clearing.was (c.plan_request.ensures.kept looked k held.held)))

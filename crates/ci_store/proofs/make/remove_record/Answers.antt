@@ -5,11 +5,11 @@ use Rattle.ci_store_rows.proofs.Variables.{variable_removed}
 use Rattle.ci_store_rows.proofs.Runners.{runner_removed}
 use Rattle.ci_store_rows.proofs.Pipelines.{pipeline_removed}
 use Rattle.ci_store_rows.proofs.Jobs.{job_removed, refers_to_pipeline}
-use Rattle.ci_store_rows.proofs.JobVariables.{job_variable_removed, refers_to_job as variables_refer}
+use Rattle.ci_store_rows.proofs.JobVariables.{job_variable_removed, job_variables_removed, refers_to_job as variables_refer}
 use Rattle.ci_store_rows.proofs.Attempts.{attempt_removed, refers_to_job as attempts_refer}
-use Rattle.ci_store_rows.proofs.Pieces.{piece_removed, refers_to_attempt}
+use Rattle.ci_store_rows.proofs.Pieces.{piece_removed, pieces_removed, refers_to_attempt}
 use Rattle.ci_store_rows.proofs.Holders.{holders_refer}
-use Rattle.ci_store_rows.proofs.Needs.{need_removed, needs_refer, needed_refer}
+use Rattle.ci_store_rows.proofs.Needs.{need_removed, needs_removed, needs_refer, needed_refer}
 use Rattle.ci_store_rows.proofs.Board.{rows_refer}
 use Rattle.ci_store.proofs.make.remove_record.Goals as goal
 
@@ -48,3 +48,15 @@ returns-in-Piece-clause-makes g c clean inside =
 pub returns-in-Need-clause-makes : goal.returns-in-Need-clause-makes
 returns-in-Need-clause-makes g c clean inside =
     removed_by g.S.Store c.args.tx.now.conn.now c.remove_pair.new.tx.conn.now c.in-Need.is c.remove_pair.result [] _ refl (need_removed g.S.Store c.args.tx.now.conn.now c.remove_pair.new.tx.conn.now _ _) (c.remove_pair.ensures.removes clean inside)
+
+pub returns-in-JobVariables-clause-makes : goal.returns-in-JobVariables-clause-makes
+returns-in-JobVariables-clause-makes g c clean inside =
+    removed_by g.S.Store c.args.tx.now.conn.now c.remove_at-in-JobVariables.new.tx.conn.now c.in-JobVariables.is c.remove_at-in-JobVariables.result [] _ refl (job_variables_removed g.S.Store c.args.tx.now.conn.now c.remove_at-in-JobVariables.new.tx.conn.now _) (c.remove_at-in-JobVariables.ensures.removes clean inside)
+
+pub returns-in-Needs-clause-makes : goal.returns-in-Needs-clause-makes
+returns-in-Needs-clause-makes g c clean inside =
+    removed_by g.S.Store c.args.tx.now.conn.now c.remove_at-in-Needs.new.tx.conn.now c.in-Needs.is c.remove_at-in-Needs.result [] _ refl (needs_removed g.S.Store c.args.tx.now.conn.now c.remove_at-in-Needs.new.tx.conn.now _) (c.remove_at-in-Needs.ensures.removes clean inside)
+
+pub returns-in-Pieces-clause-makes : goal.returns-in-Pieces-clause-makes
+returns-in-Pieces-clause-makes g c clean inside =
+    removed_by g.S.Store c.args.tx.now.conn.now c.remove_at-in-Pieces.new.tx.conn.now c.in-Pieces.is c.remove_at-in-Pieces.result [] _ refl (pieces_removed g.S.Store c.args.tx.now.conn.now c.remove_at-in-Pieces.new.tx.conn.now _) (c.remove_at-in-Pieces.ensures.removes clean inside)

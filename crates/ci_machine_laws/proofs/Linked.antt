@@ -1,0 +1,600 @@
+-- What a step leaves, and which records others name.
+use Rattle.std.specs.Prelude.{◌≡◌, ◌⊎◌, ℕ, ◌+◌, ◌<◌, ◌≤◌, Bool, ◌==◌, not, max, List, [], ◌∷◌, ◌++◌, length, filter, Option, Some, None, Ok}
+use Rattle.std.specs.Ordering.{nat_cmp, is_eq, is_lt}
+use Rattle.std.specs.declared.cmp.Ordering.{Ordering}
+use Rattle.std.proofs.Common.{refl, sym, ap, subst, ◌∙◌, inl, inr, ⊎_elim, arith}
+use Rattle.std.proofs.lemmas.Bool.{cases_Bool, cond_both}
+use Rattle.ci_machine.specs.declared.records.BoardRow.{BoardRow}
+use Rattle.ci_machine.specs.declared.records.Need.{Need}
+use Rattle.ci_machine.specs.declared.records.Project.{Project}
+use Rattle.ci_machine.specs.declared.records.Runner.{Runner}
+use Rattle.ci_machine.specs.declared.records.Pipeline.{Pipeline}
+use Rattle.ci_machine.specs.declared.records.QueuedJob.{QueuedJob}
+use Rattle.ci_machine.specs.declared.records.Job.{Job}
+use Rattle.ci_machine.specs.declared.records.Variable.{Variable}
+use Rattle.ci_machine.specs.declared.records.Attempt.{Attempt}
+use Rattle.ci_machine.specs.declared.lease.Lease.{Lease}
+use Rattle.ci_machine.specs.declared.change.RowChange.{RowChange}
+use Rattle.ci_machine.specs.declared.change.RowChange.TheVariants.{Put}
+use Rattle.ci_machine.specs.declared.change.Record.TheVariants as row
+use Rattle.ci_machine.specs.declared.request.NewPipeline.{NewPipeline}
+use Rattle.ci_machine.specs.declared.request.Request.{Request}
+use Rattle.ci_machine.specs.declared.request.Event.{Event}
+use Rattle.ci_machine.specs.declared.request.Event.TheVariants as event
+use Rattle.ci_machine.specs.declared.request.Seed.{Seed}
+use Rattle.ci_machine.specs.declared.reply.Answer.{Answer}
+use Rattle.ci_machine.specs.declared.reply.Answer.TheVariants as answer
+use Rattle.ci_machine.specs.declared.reply.Swept.{Swept}
+use Rattle.ci_machine.specs.State.{State, applied, placed, put, others, variable_cmp, pipeline_cmp, job_cmp, need_cmp, attempt_cmp}
+use Rattle.ci_machine.specs.Statuses.{attempts_of}
+use Rattle.ci_machine.specs.Leases.{is_live, is_over, first_due}
+use Rattle.ci_machine_steps.specs.Plans.{Plan}
+use Rattle.ci_graph_layout.specs.Inclusion.{Given}
+use Rattle.ci_machine_steps.specs.Pipelines.{Layout, IsLaidOut, creation}
+use Rattle.ci_machine_steps.specs.Sweeps.{sweep}
+use Rattle.ci_machine_steps.specs.Prunes.{is_prunable}
+use Rattle.ci_machine_steps.specs.Traces.{grown as traces_grown}
+use Rattle.ci_machine_steps.specs.Cancels.{cancellable_jobs, cancel}
+use Rattle.ci_machine_steps.specs.Step.{Happens, lease_of, leases, live_attempts, redundant_in, cancellable_in}
+use Rattle.ci_machine_steps.specs.Laws.{project_for_good, runner_for_good, job_for_good, attempt_for_good}
+use Rattle.ci_machine.proofs.Keyed.{Has, Rising, has_put, put_has, same, rising_put, has_filter, has_find, find-map, one_at, Below, Named}
+use Rattle.ci_machine_laws.proofs.Counts.{passing_new, passing_put}
+use Rattle.ci_machine_steps.proofs.Behind.{in_either, has_left, has_right, put_all, has_all}
+use Rattle.ci_machine_steps.proofs.Created.{created_state, after_creation, new_length, IsNew, new_are, new_numbered, needs_are, pairs_inside, jobs_behind}
+use Rattle.ci_machine_laws.proofs.Acts.{IsAct, cancels, cancellable_within, after_act}
+use Rattle.ci_machine_laws.proofs.EachPlan.{Each, does, given_in}
+use Rattle.ci_machine_steps.proofs.Pruned.{pruned_state}
+use Rattle.ci_machine_laws.proofs.Gone.{IsPruned}
+
+-- ---- lists
+
+has_self : {A : Type 0} (cmp : A → A → Ordering) (x : A) (xs : List A) → Has x (placed cmp x xs)
+has_self cmp x [] = inl refl
+has_self cmp x (z ∷ zs) = cond_both (is_lt (cmp z x)) (z ∷ placed cmp x zs) (x ∷ z ∷ zs) (λ l. Has x l) (λ _. inr (has_self cmp x zs)) (λ _. inl refl)
+
+-- each record of the one list is in the other, with what it has for good
+abbrev pub Kept : {A : Type 0} → (A → A) → List A → List A → Type 0
+Kept {A} f xs ys = (x : A) → Has x xs → (y : A) × (Has y ys × (f y ≡ f x))
+
+pub kept : {A : Type 0} (f : A → A) (xs ys : List A) → ys ≡ xs → Kept f xs ys
+kept f xs ys e x k = (x, (subst (Has x) (sym e) k, refl))
+
+pub kept_through : {A : Type 0} (f : A → A) (xs ys zs : List A) → Kept f xs ys → Kept f ys zs → Kept f xs zs
+kept_through f xs ys zs a b x k =
+    let y = a x k in
+    let z = b y.0 y.1.0 in
+    (z.0, (z.1.0, z.1.1 ∙ y.1.1))
+
+below_put : {A : Type 0} (id : A → ℕ) (x : A) (n m : ℕ) (xs : List A) → Below id n xs → n ≤ m → id x < m → Below id m (put (λ a b. nat_cmp (id a) (id b)) x xs)
+below_put id x n m xs b l lt y k =
+    ⊎_elim (λ e. subst (λ (w : _). id w < m) (sym e) lt) (λ h. let z : id y < n = b y h in omega arith) (has_put (λ a b. nat_cmp (id a) (id b)) x y xs k)
+
+-- a record whose number is new
+kept_new : {A : Type 0} (id : A → ℕ) (f : A → A) (x : A) (n : ℕ) (xs : List A) → Below id n xs → n ≤ id x → Kept f xs (put (λ a b. nat_cmp (id a) (id b)) x xs)
+kept_new id f x n xs b l y k =
+    let cmp = λ (v w : _). nat_cmp (id v) (id w) in
+    ⊎_elim
+    (λ e. absurd (let q : id y ≡ id x = same (id y) (id x) e in let z : id y < n = b y k in omega arith))
+    (λ e. (y, (put_has cmp x y xs k (ap not e), refl)))
+    (cases_Bool (is_eq (nat_cmp (id y) (id x))))
+
+-- a record in place of one of its number
+kept_put : {A : Type 0} (id : A → ℕ) (f : A → A) (x a : A) (xs : List A) → Rising id 0 xs → Has a xs → id x ≡ id a → f x ≡ f a
+    → Kept f xs (put (λ v w. nat_cmp (id v) (id w)) x xs)
+kept_put id f x a xs r has same_id good y k =
+    let cmp = λ (v w : _). nat_cmp (id v) (id w) in
+    ⊎_elim
+    (λ e. let q : y ≡ a = one_at id y a 0 xs r k has (same (id y) (id x) e ∙ same_id) in (x, (has_self cmp x (others cmp x xs), good ∙ ap f (sym q))))
+    (λ e. (y, (put_has cmp x y xs k (ap not e), refl)))
+    (cases_Bool (is_eq (nat_cmp (id y) (id x))))
+
+-- records that come in the places of ones that are the same for good
+module _ {A : Type 0} (id : A → ℕ) (f : A → A) (same_id : (x y : A) → f x ≡ f y → id x ≡ id y) where
+  abbrev by_id : A → A → Ordering
+  by_id a b = nat_cmp (id a) (id b)
+
+  abbrev Old : List A → A → Type 0
+  Old xs r = (a : A) × (Has a xs × (f r ≡ f a))
+
+  one_kept : (x : A) (xs : List A) → Rising id 0 xs → Old xs x → Kept f xs (put by_id x xs)
+  one_kept x xs r old = kept_put id f x old.0 xs r old.1.0 (same_id x old.0 old.1.1) old.1.1
+
+  still_old : (x w : A) (xs : List A) → Rising id 0 xs → Old xs x → Old xs w → Old (put by_id x xs) w
+  still_old x w xs r old other = let y = one_kept x xs r old other.0 other.1.0 in (y.0, (y.1.0, other.1.1 ∙ sym y.1.1))
+
+  kept_all : (rs xs : List A) → Rising id 0 xs → ((w : A) → Has w rs → Old xs w) → Kept f xs (put_all (λ a b. nat_cmp (id a) (id b)) rs xs)
+  kept_all [] xs r old = kept f xs xs refl
+  kept_all (x ∷ rs) xs r old =
+      let first = old x (inl refl) in
+      let ys = put by_id x xs in
+      kept_through f xs ys (put_all by_id rs ys) (one_kept x xs r first) (kept_all rs ys (rising_put id x 0 xs r (omega arith)) (λ w k. still_old x w xs r first (old w (inr k))))
+
+  passing_all : (p : A → Bool) → ((x y : A) → f x ≡ f y → p x ≡ p y) → (rs xs : List A) → Rising id 0 xs → ((w : A) → Has w rs → Old xs w)
+      → length (filter p xs) ≤ length (filter p (put_all (λ a b. nat_cmp (id a) (id b)) rs xs))
+  passing_all p alike [] xs r old = omega arith
+  passing_all p alike (x ∷ rs) xs r old =
+      let first = old x (inl refl) in
+      let ys = put by_id x xs in
+      let one : length (filter p xs) ≤ length (filter p ys) = passing_put id p x first.0 xs r first.1.0 (same_id x first.0 first.1.1) (alike x first.0 first.1.1) in
+      let rest : length (filter p ys) ≤ length (filter p (put_all by_id rs ys))
+      = passing_all p alike rs ys (rising_put id x 0 xs r (omega arith)) (λ w k. still_old x w xs r first (old w (inr k))) in
+      omega arith
+
+named_kept : {A : Type 0} (id : A → ℕ) (f : A → A) (n : ℕ) (xs ys : List A) → ((x y : A) → f y ≡ f x → id y ≡ id x) → Kept f xs ys → Named id n xs → Named id n ys
+named_kept id f n xs ys g k w =
+    let y = k w.0 w.1.0 in
+    (y.0, (y.1.0, g w.0 y.0 y.1.1 ∙ w.1.1))
+
+-- ---- what a step leaves
+
+-- what was there is there
+pub record Later (s t : State) : Type 0 where
+  pub projects : Kept project_for_good s.projects t.projects
+  pub runners : Kept runner_for_good s.runners t.runners
+  pub pipelines : Kept (λ p. p) s.pipelines t.pipelines
+  pub jobs : Kept job_for_good s.jobs t.jobs
+  pub attempts : Kept attempt_for_good s.attempts t.attempts
+
+later_through : (s m t : State) → Later s m → Later m t → Later s t
+later_through s m t a b = record {
+  projects = kept_through project_for_good s.projects m.projects t.projects a.projects b.projects;
+  runners = kept_through runner_for_good s.runners m.runners t.runners a.runners b.runners;
+  pipelines = kept_through (λ p. p) s.pipelines m.pipelines t.pipelines a.pipelines b.pipelines;
+  jobs = kept_through job_for_good s.jobs m.jobs t.jobs a.jobs b.jobs;
+  attempts = kept_through attempt_for_good s.attempts m.attempts t.attempts a.attempts b.attempts;
+}
+
+later_self : (s : State) → Later s s
+later_self s = record {
+  projects = kept project_for_good s.projects s.projects refl;
+  runners = kept runner_for_good s.runners s.runners refl;
+  pipelines = kept (λ p. p) s.pipelines s.pipelines refl;
+  jobs = kept job_for_good s.jobs s.jobs refl;
+  attempts = kept attempt_for_good s.attempts s.attempts refl;
+}
+
+-- numbers that are still to come are new, and the records that others name are there
+pub record Linked (s : State) : Type 0 where
+  pub projects_rise : Rising (λ (p : Project). p.id) 0 s.projects
+  pub runners_rise : Rising (λ (r : Runner). r.id) 0 s.runners
+  pub pipelines_rise : Rising (λ (p : Pipeline). p.id) 0 s.pipelines
+  pub project_below : Below (λ (p : Project). p.id) s.next.project s.projects
+  pub runner_below : Below (λ (r : Runner). r.id) s.next.runner s.runners
+  pub pipeline_below : Below (λ (p : Pipeline). p.id) s.next.pipeline s.pipelines
+  pub job_below : Below (λ (j : Job). j.id) s.next.job s.jobs
+  pub attempt_job : (a : Attempt) → Has a s.attempts → Named (λ (j : Job). j.id) a.job s.jobs
+  pub attempt_runner : (a : Attempt) → Has a s.attempts → Named (λ (r : Runner). r.id) a.runner s.runners
+  pub job_pipeline : (j : Job) → Has j s.jobs → Named (λ (p : Pipeline). p.id) j.pipeline s.pipelines
+  pub pipeline_project : (p : Pipeline) → Has p s.pipelines → Named (λ (q : Project). q.id) p.project s.projects
+  pub need_job : (w : Need) → Has w s.needs → Named (λ (j : Job). j.id) w.job s.jobs
+  pub need_pred : (w : Need) → Has w s.needs → Named (λ (j : Job). j.id) w.pred s.jobs
+  pub first_job : 1 ≤ s.next.job
+  pub positive : (j : Job) → Has j s.jobs → 1 ≤ j.id
+  -- no more of a job's attempts are set aside than it has
+  pub aside : (j : Job) → Has j s.jobs → j.set_aside ≤ length (attempts_of s j.id)
+
+-- the next state: what was there is there, and its new records are linked
+pub record Next (s t : State) : Type 0 where
+  pub later : Later s t
+  projects_rise : Rising (λ (p : Project). p.id) 0 t.projects
+  runners_rise : Rising (λ (r : Runner). r.id) 0 t.runners
+  pipelines_rise : Rising (λ (p : Pipeline). p.id) 0 t.pipelines
+  project_below : Below (λ (p : Project). p.id) t.next.project t.projects
+  runner_below : Below (λ (r : Runner). r.id) t.next.runner t.runners
+  pipeline_below : Below (λ (p : Pipeline). p.id) t.next.pipeline t.pipelines
+  job_below : Below (λ (j : Job). j.id) t.next.job t.jobs
+  next_job : s.next.job ≤ t.next.job
+  attempts : (a : Attempt) → Has a t.attempts → Has a s.attempts ⊎ (Named (λ (j : Job). j.id) a.job t.jobs × Named (λ (r : Runner). r.id) a.runner t.runners)
+  jobs : (j : Job) → Has j t.jobs → Has j s.jobs ⊎ (Named (λ (p : Pipeline). p.id) j.pipeline t.pipelines × ((1 ≤ j.id) × (j.set_aside ≤ length (attempts_of t j.id))))
+  -- no job has fewer attempts
+  counts : (job : ℕ) → length (attempts_of s job) ≤ length (attempts_of t job)
+  pipelines : (p : Pipeline) → Has p t.pipelines → Has p s.pipelines ⊎ Named (λ (q : Project). q.id) p.project t.projects
+  needs : (w : Need) → Has w t.needs → Has w s.needs ⊎ (Named (λ (j : Job). j.id) w.job t.jobs × Named (λ (j : Job). j.id) w.pred t.jobs)
+
+pub linked_on : (s t : State) → Linked s → Next s t → Linked t
+linked_on s t i n = record {
+  projects_rise = n.projects_rise;
+  runners_rise = n.runners_rise;
+  pipelines_rise = n.pipelines_rise;
+  project_below = n.project_below;
+  runner_below = n.runner_below;
+  pipeline_below = n.pipeline_below;
+  job_below = n.job_below;
+  attempt_job = λ a k. ⊎_elim (λ m. named_kept (λ (j : Job). j.id) job_for_good a.job s.jobs t.jobs (λ x y e. ap (λ (j : Job). j.id) e) n.later.jobs (i.attempt_job a m)) (λ w. w.0) (n.attempts a k);
+  attempt_runner = λ a k. ⊎_elim (λ m. named_kept (λ (r : Runner). r.id) runner_for_good a.runner s.runners t.runners (λ x y e. ap (λ (r : Runner). r.id) e) n.later.runners (i.attempt_runner a m)) (λ w. w.1) (n.attempts a k);
+  job_pipeline = λ j k. ⊎_elim (λ m. named_kept (λ (p : Pipeline). p.id) (λ p. p) j.pipeline s.pipelines t.pipelines (λ x y e. ap (λ (p : Pipeline). p.id) e) n.later.pipelines (i.job_pipeline j m)) (λ w. w.0) (n.jobs j k);
+  pipeline_project = λ p k. ⊎_elim (λ m. named_kept (λ (q : Project). q.id) project_for_good p.project s.projects t.projects (λ x y e. ap (λ (q : Project). q.id) e) n.later.projects (i.pipeline_project p m)) (λ w. w) (n.pipelines p k);
+  need_job = λ w k. ⊎_elim (λ m. named_kept (λ (j : Job). j.id) job_for_good w.job s.jobs t.jobs (λ x y e. ap (λ (j : Job). j.id) e) n.later.jobs (i.need_job w m)) (λ v. v.0) (n.needs w k);
+  need_pred = λ w k. ⊎_elim (λ m. named_kept (λ (j : Job). j.id) job_for_good w.pred s.jobs t.jobs (λ x y e. ap (λ (j : Job). j.id) e) n.later.jobs (i.need_pred w m)) (λ v. v.1) (n.needs w k);
+  first_job = let a = i.first_job in let b = n.next_job in omega arith;
+  positive = λ j k. ⊎_elim (λ m. i.positive j m) (λ w. w.1.0) (n.jobs j k);
+  aside = λ j k. ⊎_elim (λ m. let a = i.aside j m in let b = n.counts j.id in omega arith) (λ w. w.1.1) (n.jobs j k);
+}
+
+-- nothing changes
+rests : (s : State) → Linked s → Next s s
+rests s i = record {
+  later = later_self s;
+  projects_rise = i.projects_rise;
+  runners_rise = i.runners_rise;
+  pipelines_rise = i.pipelines_rise;
+  project_below = i.project_below;
+  runner_below = i.runner_below;
+  pipeline_below = i.pipeline_below;
+  job_below = i.job_below;
+  next_job = omega arith;
+  counts = λ n. omega arith;
+  attempts = λ a k. inl k;
+  jobs = λ j k. inl k;
+  pipelines = λ p k. inl k;
+  needs = λ w k. inl k;
+}
+
+-- an attempt in place of one of its number, job, runner, token and grant
+alters : (s : State) (x a : Attempt) → Linked s → Rising (λ (b : Attempt). b.id) 0 s.attempts → Has a s.attempts → attempt_for_good x ≡ attempt_for_good a
+    → Next s (applied (Put (row.Attempt x) ∷ []) s)
+alters s x a i r has good = record {
+  later = record {
+    projects = kept project_for_good s.projects s.projects refl;
+    runners = kept runner_for_good s.runners s.runners refl;
+    pipelines = kept (λ p. p) s.pipelines s.pipelines refl;
+    jobs = kept job_for_good s.jobs s.jobs refl;
+    attempts = kept_put (λ (b : Attempt). b.id) attempt_for_good x a s.attempts r has (ap (λ (b : Attempt). b.id) good) good;
+  };
+  projects_rise = i.projects_rise;
+  runners_rise = i.runners_rise;
+  pipelines_rise = i.pipelines_rise;
+  project_below = i.project_below;
+  runner_below = i.runner_below;
+  pipeline_below = i.pipeline_below;
+  job_below = i.job_below;
+  next_job = omega arith;
+  counts = λ n. passing_put (λ (b : Attempt). b.id) (λ (b : Attempt). b.job == n) x a s.attempts r has (ap (λ (b : Attempt). b.id) good) (ap (λ (b : Attempt). b.job == n) good);
+  attempts = λ b k. ⊎_elim
+      (λ e. let same_job : a.job ≡ b.job = sym (ap (λ (c : Attempt). c.job) e ∙ ap (λ (c : Attempt). c.job) good) in
+      let same_runner : a.runner ≡ b.runner = sym (ap (λ (c : Attempt). c.runner) e ∙ ap (λ (c : Attempt). c.runner) good) in
+      inr (subst (λ n. Named (λ (j : Job). j.id) n s.jobs) same_job (i.attempt_job a has), subst (λ n. Named (λ (q : Runner). q.id) n s.runners) same_runner (i.attempt_runner a has)))
+      (λ m. inl m) (has_put attempt_cmp x b s.attempts k);
+  jobs = λ j k. inl k;
+  pipelines = λ p k. inl k;
+  needs = λ w k. inl k;
+}
+
+-- ---- a project's file
+
+-- a project in place of one of its number, with another file
+files : (s : State) (project : Project) (text : Option (List ℕ)) → Linked s → Has project s.projects → Next s (applied (Put (row.Project (record project { file = text })) ∷ []) s)
+files s project text i has =
+    let ids = λ (p : Project). p.id in
+    let x = record project { file = text } in
+    let n = rests s i in
+    record {
+      later = record {
+        projects = kept_put ids project_for_good x project s.projects i.projects_rise has refl refl;
+        runners = n.later.runners;
+        pipelines = n.later.pipelines;
+        jobs = n.later.jobs;
+        attempts = n.later.attempts;
+      };
+      projects_rise = rising_put ids x 0 s.projects i.projects_rise (omega arith);
+      runners_rise = n.runners_rise;
+      pipelines_rise = n.pipelines_rise;
+      project_below = below_put ids x s.next.project s.next.project s.projects i.project_below (omega arith) (i.project_below project has);
+      runner_below = n.runner_below;
+      pipeline_below = n.pipeline_below;
+      job_below = n.job_below;
+      next_job = n.next_job;
+      counts = n.counts;
+      attempts = n.attempts;
+      jobs = n.jobs;
+      pipelines = λ p k. inl k;
+      needs = n.needs;
+    }
+
+-- a runner in place of one of its number, paused or not
+pauses : (s : State) (runner : Runner) (paused : Bool) → Linked s → Has runner s.runners → Next s (applied (Put (row.Runner (record runner { paused = paused })) ∷ []) s)
+pauses s runner paused i has =
+    let ids = λ (r : Runner). r.id in
+    let x = record runner { paused = paused } in
+    let n = rests s i in
+    record {
+      later = record {
+        projects = n.later.projects;
+        runners = kept_put ids runner_for_good x runner s.runners i.runners_rise has refl refl;
+        pipelines = n.later.pipelines;
+        jobs = n.later.jobs;
+        attempts = n.later.attempts;
+      };
+      projects_rise = n.projects_rise;
+      runners_rise = rising_put ids x 0 s.runners i.runners_rise (omega arith);
+      pipelines_rise = n.pipelines_rise;
+      project_below = n.project_below;
+      runner_below = below_put ids x s.next.runner s.next.runner s.runners i.runner_below (omega arith) (i.runner_below runner has);
+      pipeline_below = n.pipeline_below;
+      job_below = n.job_below;
+      next_job = n.next_job;
+      counts = n.counts;
+      attempts = λ a k. inl k;
+      jobs = n.jobs;
+      pipelines = n.pipelines;
+      needs = n.needs;
+    }
+
+-- variables are put, or go
+variables : (s : State) (vs : List Variable) → Linked s → Next s (record s { variables = vs })
+variables s vs i =
+    let n = rests s i in
+    record {
+      later = record { projects = n.later.projects; runners = n.later.runners; pipelines = n.later.pipelines; jobs = n.later.jobs; attempts = n.later.attempts };
+      projects_rise = n.projects_rise;
+      runners_rise = n.runners_rise;
+      pipelines_rise = n.pipelines_rise;
+      project_below = n.project_below;
+      runner_below = n.runner_below;
+      pipeline_below = n.pipeline_below;
+      job_below = n.job_below;
+      next_job = n.next_job;
+      counts = n.counts;
+      attempts = n.attempts;
+      jobs = n.jobs;
+      pipelines = n.pipelines;
+      needs = n.needs;
+    }
+
+-- ---- a new pipeline
+
+enters : (s : State) (new : NewPipeline) (project : Project) (given : Given) (now : ℕ) (text : List ℕ) (laid : Layout) → Linked s → Has project s.projects → project.id ≡ new.project → IsLaidOut text given (Ok laid)
+    → Next s (created_state s.next.job (creation s.next.pipeline s.next.job new given now laid) s)
+enters s new project given now text laid i has named lays =
+    let made = creation s.next.pipeline s.next.job new given now laid in
+    let t = created_state s.next.job made s in
+    let is = laid.plan.jobs in
+    let count = length is in
+    let pids = λ (w : Pipeline). w.id in
+    let ids = λ (w : Job). w.id in
+    let long : length made.jobs ≡ count = new_length s.next.pipeline s.next.job 0 is in
+    let jobs : t.jobs ≡ s.jobs ++ made.jobs = jobs_behind s is i.job_below in
+    let cases : (j : Job) → Has j t.jobs → Has j s.jobs ⊎ IsNew s.next.pipeline s.next.job (0 + count) is j
+    = λ j k. ⊎_elim (λ m. inl m) (λ m. inr (new_are s.next.pipeline s.next.job 0 is j m)) (in_either j s.jobs made.jobs (subst (Has j) jobs k)) in
+    let is_pipeline : Named pids s.next.pipeline t.pipelines = (made.pipeline, (has_self pipeline_cmp made.pipeline (others pipeline_cmp made.pipeline s.pipelines), refl)) in
+    let numbered : (k : ℕ) → k < count → Named ids (s.next.job + k) t.jobs
+    = λ k l. let w = new_numbered s.next.pipeline s.next.job 0 is k (omega arith) (omega arith) in (w.0, (subst (Has w.0) (sym jobs) (has_right w.0 s.jobs made.jobs w.1.0), w.1.1)) in
+    let within = pairs_inside text given laid lays in
+    record {
+      later = record {
+        projects = kept project_for_good s.projects s.projects refl;
+        runners = kept runner_for_good s.runners s.runners refl;
+        pipelines = kept_new pids (λ w. w) made.pipeline s.next.pipeline s.pipelines i.pipeline_below (omega arith);
+        jobs = λ x k. (x, (subst (Has x) (sym jobs) (has_left x s.jobs made.jobs k), refl));
+        attempts = kept attempt_for_good s.attempts s.attempts refl;
+      };
+      projects_rise = i.projects_rise;
+      runners_rise = i.runners_rise;
+      pipelines_rise = rising_put pids made.pipeline 0 s.pipelines i.pipelines_rise (omega arith);
+      project_below = i.project_below;
+      runner_below = i.runner_below;
+      pipeline_below = below_put pids made.pipeline s.next.pipeline (s.next.pipeline + 1) s.pipelines i.pipeline_below (omega arith) (omega arith);
+      job_below = λ w k. ⊎_elim (λ m. let a : w.id < s.next.job = i.job_below w m in omega arith) (λ e. let b = e.below in omega arith) (cases w k);
+      next_job = omega arith;
+      counts = λ n. omega arith;
+      attempts = λ a k. inl k;
+      jobs = λ w k. ⊎_elim (λ m. inl m)
+          (λ e. inr (subst (λ n. Named pids n t.pipelines) (sym (ap (λ (v : Job). v.pipeline) e.job)) is_pipeline, (let a = e.above in let b = i.first_job in omega arith, let none : w.set_aside ≡ 0 = ap (λ (v : Job). v.set_aside) e.job in omega arith))) (cases w k);
+      pipelines = λ w k. ⊎_elim
+          (λ e. inr (project, (has, named ∙ sym (ap (λ (v : Pipeline). v.project) e))))
+          (λ l. inl l) (has_put pipeline_cmp made.pipeline w s.pipelines k);
+      needs = λ w k. ⊎_elim (λ m. inl m)
+          (λ m. ⊎_elim (λ e. absurd e)
+          (λ q. let of = within q.0 q.1.0 in
+          inr (subst (λ n. Named ids n t.jobs) (sym (ap (λ (v : Need). v.job) q.1.1)) (numbered q.0.1 of.1), subst (λ n. Named ids n t.jobs) (sym (ap (λ (v : Need). v.pred) q.1.1)) (numbered q.0.0 of.0)))
+          (needs_are s.next.job laid.plan.pairs [] w m))
+          (has_all need_cmp made.needs s.needs w k);
+    }
+
+-- ---- a user acts on jobs
+
+acts : (s : State) (changes : List RowChange) (act : IsAct s changes) → Linked s → Rising (λ (j : Job). j.id) 0 s.jobs → Rising (λ (a : Attempt). a.id) 0 s.attempts → Next s (applied changes s)
+acts s changes act i jr r =
+    let jids = λ (j : Job). j.id in
+    let aids = λ (a : Attempt). a.id in
+    let t : State = record s { jobs = put_all job_cmp act.jobs s.jobs; attempts = put_all attempt_cmp act.attempts s.attempts } in
+    let rest = rests s i in
+    let was_attempt : (a : Attempt) → Has a act.attempts → (b : Attempt) × (Has b s.attempts × (attempt_for_good a ≡ attempt_for_good b))
+    = λ a k. let w = act.each_attempt a k in (w.old, (w.has, ap attempt_for_good w.is)) in
+    let counts : (n : ℕ) → length (attempts_of s n) ≤ length (attempts_of t n)
+    = λ n. passing_all aids attempt_for_good (λ x y e. ap aids e) (λ (b : Attempt). b.job == n) (λ x y e. ap (λ (b : Attempt). b.job == n) e) act.attempts s.attempts r was_attempt in
+    subst (Next s) (sym (after_act s changes act)) (record {
+      later = record {
+        projects = rest.later.projects;
+        runners = rest.later.runners;
+        pipelines = rest.later.pipelines;
+        jobs = kept_all jids job_for_good (λ x y e. ap jids e) act.jobs s.jobs jr (λ j k. let w = act.each_job j k in (w.old, (w.has, w.good)));
+        attempts = kept_all aids attempt_for_good (λ x y e. ap aids e) act.attempts s.attempts r was_attempt;
+      };
+      projects_rise = i.projects_rise;
+      runners_rise = i.runners_rise;
+      pipelines_rise = i.pipelines_rise;
+      project_below = i.project_below;
+      runner_below = i.runner_below;
+      pipeline_below = i.pipeline_below;
+      job_below = λ j k. ⊎_elim (λ m. i.job_below j m)
+          (λ m. let w = act.each_job j m in subst (λ n. n < s.next.job) (sym (ap jids w.good)) (i.job_below w.old w.has))
+          (has_all job_cmp act.jobs s.jobs j k);
+      next_job = omega arith;
+      counts = counts;
+      attempts = λ a k. ⊎_elim (λ m. inl m)
+          (λ m. let w = act.each_attempt a m in
+          let named_job = kept_all jids job_for_good (λ x y e. ap jids e) act.jobs s.jobs jr (λ j l. let v = act.each_job j l in (v.old, (v.has, v.good))) in
+          inr (
+            subst (λ n. Named jids n t.jobs) (sym (ap (λ (b : Attempt). b.job) w.is)) (named_kept jids job_for_good w.old.job s.jobs t.jobs (λ x y e. ap jids e) named_job (i.attempt_job w.old w.has)),
+            subst (λ n. Named (λ (q : Runner). q.id) n s.runners) (sym (ap (λ (b : Attempt). b.runner) w.is)) (i.attempt_runner w.old w.has),
+          ))
+          (has_all attempt_cmp act.attempts s.attempts a k);
+      jobs = λ j k. ⊎_elim (λ m. inl m)
+          (λ m. let w = act.each_job j m in
+          let same : j.id ≡ w.old.id = ap jids w.good in
+          let old : w.old.set_aside ≤ length (attempts_of s w.old.id) = i.aside w.old w.has in
+          let more : length (attempts_of s w.old.id) ≤ length (attempts_of t w.old.id) = counts w.old.id in
+          let aside : j.set_aside ≤ length (attempts_of t w.old.id)
+          = ⊎_elim (λ e. let f : j.set_aside ≡ w.old.set_aside = e in omega arith) (λ e. let f : j.set_aside ≡ length (attempts_of s w.old.id) = e in omega arith) w.aside in
+          inr (
+            subst (λ n. Named (λ (p : Pipeline). p.id) n s.pipelines) (sym (ap (λ (v : Job). v.pipeline) w.good)) (i.job_pipeline w.old w.has),
+            (subst (λ n. 1 ≤ n) (sym same) (i.positive w.old w.has), subst (λ n. j.set_aside ≤ length (attempts_of t n)) (sym same) aside),
+          ))
+          (has_all job_cmp act.jobs s.jobs j k);
+      pipelines = λ p k. inl k;
+      needs = λ w k. inl k;
+    })
+
+-- ---- each step
+
+-- the next state, in which what was there is there; or that without a pipeline, which a request to prune leads to
+abbrev pub Follows : State → Event → Answer → State → Type 0
+Follows s e a t = Next s t ⊎ IsPruned s e a t
+
+abbrev Goes : State → Request → Plan → Type 0
+Goes s request plan = Follows s (event.Request request) (answer.Reply plan.0) (applied plan.1 s)
+
+goes : (s : State) (board : List BoardRow) (request : Request) → Linked s → Rising (λ (j : Job). j.id) 0 s.jobs → Rising (λ (a : Attempt). a.id) 0 s.attempts → Below (λ (a : Attempt). a.id) s.next.attempt s.attempts → Each s board request (Goes s request)
+goes s board request i jr r b = record {
+  refused = λ c m. inl (rests s i);
+  faulted = λ d. inl (rests s i);
+  project = λ name seed. inl (record {
+    later = record {
+      projects = kept_new (λ (w : Project). w.id) project_for_good _ s.next.project s.projects i.project_below (omega arith);
+      runners = kept runner_for_good s.runners s.runners refl;
+      pipelines = kept (λ p. p) s.pipelines s.pipelines refl;
+      jobs = kept job_for_good s.jobs s.jobs refl;
+      attempts = kept attempt_for_good s.attempts s.attempts refl;
+    };
+    projects_rise = rising_put (λ (w : Project). w.id) _ 0 s.projects i.projects_rise (omega arith);
+    runners_rise = i.runners_rise;
+    pipelines_rise = i.pipelines_rise;
+    project_below = below_put (λ (w : Project). w.id) _ s.next.project (s.next.project + 1) s.projects i.project_below (omega arith) (omega arith);
+    runner_below = i.runner_below;
+    pipeline_below = i.pipeline_below;
+    job_below = i.job_below;
+    next_job = omega arith;
+    counts = λ n. omega arith;
+    attempts = λ a k. inl k;
+    jobs = λ j k. inl k;
+    pipelines = λ p k. inl k;
+    needs = λ w k. inl k;
+  });
+  runner = λ new seed. inl (record {
+    later = record {
+      projects = kept project_for_good s.projects s.projects refl;
+      runners = kept_new (λ (w : Runner). w.id) runner_for_good _ s.next.runner s.runners i.runner_below (omega arith);
+      pipelines = kept (λ p. p) s.pipelines s.pipelines refl;
+      jobs = kept job_for_good s.jobs s.jobs refl;
+      attempts = kept attempt_for_good s.attempts s.attempts refl;
+    };
+    projects_rise = i.projects_rise;
+    runners_rise = rising_put (λ (w : Runner). w.id) _ 0 s.runners i.runners_rise (omega arith);
+    pipelines_rise = i.pipelines_rise;
+    project_below = i.project_below;
+    runner_below = below_put (λ (w : Runner). w.id) _ s.next.runner (s.next.runner + 1) s.runners i.runner_below (omega arith) (omega arith);
+    pipeline_below = i.pipeline_below;
+    job_below = i.job_below;
+    next_job = omega arith;
+    counts = λ n. omega arith;
+    attempts = λ a k. inl k;
+    jobs = λ j k. inl k;
+    pipelines = λ p k. inl k;
+    needs = λ w k. inl k;
+  });
+  paused = λ runner paused has. inl (pauses s runner paused i has);
+  file = λ project text c has. inl (files s project (Some text) i has);
+  variable = λ project new. inl (variables s (put variable_cmp (record { project = project.id; key = new.key; value = new.value }) s.variables) i);
+  gone = λ v. inl (variables s _ i);
+  pipeline = λ new now is project text laid rows asked has named file lays.
+      inl (subst (Next s) (sym (after_creation s.next.job (creation s.next.pipeline s.next.job new (given_in s new) now laid) s)) (enters s new project (given_in s new) now text laid i has named lays));
+  nothing = inl (rests s i);
+  granted = λ runner job q variables now seed has_runner has_job pending is_queued free. let its_job : job.id ≡ q.job.id = ap (λ (w : QueuedJob). w.job.id) is_queued in inl (record {
+    later = record {
+      projects = kept project_for_good s.projects s.projects refl;
+      runners = kept runner_for_good s.runners s.runners refl;
+      pipelines = kept (λ p. p) s.pipelines s.pipelines refl;
+      jobs = kept job_for_good s.jobs s.jobs refl;
+      attempts = kept_new (λ (w : Attempt). w.id) attempt_for_good _ s.next.attempt s.attempts b (omega arith);
+    };
+    projects_rise = i.projects_rise;
+    runners_rise = i.runners_rise;
+    pipelines_rise = i.pipelines_rise;
+    project_below = i.project_below;
+    runner_below = i.runner_below;
+    pipeline_below = i.pipeline_below;
+    job_below = i.job_below;
+    next_job = omega arith;
+    counts = λ n. passing_new (λ (w : Attempt). w.id) (λ (w : Attempt). w.job == n) _ s.next.attempt s.attempts b (omega arith);
+    attempts = λ a k. ⊎_elim
+        (λ e. inr ((job, (has_job, its_job ∙ sym (ap (λ (w : Attempt). w.job) e))), (runner, (has_runner, sym (ap (λ (w : Attempt). w.runner) e)))))
+        (λ m. inl m) (has_put attempt_cmp _ a s.attempts k);
+    jobs = λ j k. inl k;
+    pipelines = λ p k. inl k;
+    needs = λ w k. inl k;
+  });
+  turned_away = λ fault. inl (rests s i);
+  heard = λ a seen has. inl (alters s (record a { seen = seen }) a i r has refl);
+  ended = λ a state has.
+      let x = record a { state = state } in
+      inl (cond_both (is_live a) (Put (row.Attempt x) ∷ []) [] (λ cs. Next s (applied cs s)) (λ _. alters s x a i r has refl) (λ _. rests s i));
+  misplaced = λ fault. inl (rests s i);
+  grown = λ a bytes now size has. inl (grows a bytes now size has);
+  pipeline_shown = λ p held jobs facts rows. inl (rests s i);
+  shown = λ held project job status. inl (rests s i);
+  traced = λ pieces. inl (rests s i);
+  acted = λ text changes act. inl (acts s changes act i jr r);
+  pruned = λ p before is found. inr (record {
+    pipeline = p;
+    has = (has_find (is_prunable s board before) p s.pipelines found).0;
+    before = before;
+    asked = ap event.Request is;
+    answered = refl;
+    state = pruned_state s p.id jr r p refl;
+  });
+} where
+  grows : (a : Attempt) (bytes : List ℕ) (now size : ℕ) → Has a s.attempts → Next s (applied (traces_grown a bytes now size).1 s)
+  grows a bytes now size has =
+      let n = alters s (record a { seen = max a.seen now; pieces = a.pieces + 1; size = size }) a i r has refl in
+      record {
+        later = record { projects = n.later.projects; runners = n.later.runners; pipelines = n.later.pipelines; jobs = n.later.jobs; attempts = n.later.attempts };
+        projects_rise = n.projects_rise;
+        runners_rise = n.runners_rise;
+        pipelines_rise = n.pipelines_rise;
+        project_below = n.project_below;
+        runner_below = n.runner_below;
+        pipeline_below = n.pipeline_below;
+        job_below = n.job_below;
+        next_job = n.next_job;
+        counts = n.counts;
+        attempts = n.attempts;
+        jobs = n.jobs;
+        pipelines = n.pipelines;
+        needs = n.needs;
+      }
+
+-- ---- sweeps
+
+swept_next : (s : State) (board : List BoardRow) (now : ℕ) → Linked s → Rising (λ (j : Job). j.id) 0 s.jobs → Rising (λ (a : Attempt). a.id) 0 s.attempts → (o : Option Lease) → first_due (leases s) now ≡ o → (redundant : Option Pipeline)
+    → Next s (applied (sweep o redundant s.attempts (cancellable_in s board redundant)).1 s)
+swept_next s board now i jr r None found None = rests s i
+swept_next s board now i jr r None found (Some p) =
+    acts s (cancel s.attempts (cancellable_jobs s board p.id)) (cancels s (cancellable_jobs s board p.id) (cancellable_within s board p.id)) i jr r
+swept_next s board now i jr r (Some l) found redundant =
+    let at = find-map (lease_of s) (λ (w : Lease). is_over w.attempt w.limit now) l (live_attempts s) found in
+    let is : at.0 ≡ l.attempt = ap (λ (w : Lease). w.attempt) at.1.0 in
+    let live = has_find (λ (b : Attempt). is_over b (lease_of s b).limit now) at.0 (live_attempts s) at.1.1 in
+    let has = has_filter is_live at.0 s.attempts live.0 in
+    alters s _ l.attempt i r (subst (λ (b : Attempt). Has b s.attempts) is has.0) refl
+
+-- ---- any event
+
+pub follows : (s : State) (board : List BoardRow) (e : Event) (now : ℕ) (seed : Seed) (a : Answer) (changes : List RowChange) → Linked s → Rising (λ (w : Job). w.id) 0 s.jobs → Rising (λ (w : Attempt). w.id) 0 s.attempts → Below (λ (w : Attempt). w.id) s.next.attempt s.attempts
+    → Happens s board e now seed a changes → Follows s e a (applied changes s)
+follows s board (event.Request request) now seed (answer.Reply reply) changes i jr r b is = does s board (Goes s request) request (goes s board request i jr r b) now seed (reply, changes) is
+follows s board event.Sweep now seed (answer.Swept swept) changes i jr r b is =
+    let P : Swept × List RowChange → Type 0 = λ f. Next s (applied f.1 s) in
+    inl (subst P (sym is) (swept_next s board now i jr r (first_due (leases s) now) refl (redundant_in s board)))
+follows s board (event.Request request) now seed (answer.Swept swept) changes i jr r b is = absurd is
+follows s board event.Sweep now seed (answer.Reply reply) changes i jr r b is = absurd is

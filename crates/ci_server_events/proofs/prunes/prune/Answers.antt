@@ -1,0 +1,30 @@
+use Rattle.std.specs.Prelude.{◌≡◌, ℕ, true, IfSome, All, Some, map}
+use Rattle.std.proofs.Common.{ap, subst, ◌∙◌}
+use Rattle.ci_machine.specs.declared.records.Job.{Job}
+use Rattle.ci_machine.specs.Ranges.{is_within}
+use Rattle.ci_machine.specs.State.{State}
+use Rattle.ci_machine.specs.Statuses.{jobs_of}
+use Rattle.ci_machine_steps.specs.Prunes as machine
+use Rattle.ci_machine_steps.specs.Sound.{IsSound}
+use Rattle.ci_server_lookups.proofs.Loading.{so}
+use Rattle.ci_server_events.proofs.Pruning.{prune_plans}
+use Rattle.ci_server_events.proofs.prunes.prune.Goals as goal
+
+-- the attempts of the pipeline's jobs are among those between its first job and its last one
+pub returns : goal.returns
+returns g c =
+    let p = c.args.pipeline.now in
+    let jobs = c.in_ok-jobs.jobs.items in
+    let first = c.in-Some.first in
+    let last = c.in-Some.last in
+    so g.T.Store.honest g.T.Store.holds g.T.Store.leaves _ _ _ _ c.jobs_of.result c.in_ok-jobs.jobs c.attempts_within.result c.in_ok-attempts.attempts _ c.in_ok-jobs.was c.in_ok-attempts.was c.jobs_of.ensures c.attempts_within.ensures
+    (λ k its tried kept has finished.
+    let inside = subst (λ z. IfSome z (λ r. (s : State) (pipeline : ℕ) → IsSound s → c.as_slice.result.now ≡ jobs_of s pipeline → All (λ j. is_within r.0 r.1 j.id ≡ true) c.as_slice.result.now)) c.in-Some.is c.range_of.ensures.within k.state p.id kept.sound (c.as_slice.ensures.value ∙ its) in
+    let all : All (λ (j : Job). is_within first last j.id ≡ true) jobs = subst (All (λ (j : Job). is_within first last j.id ≡ true)) c.as_slice.ensures.value inside in
+    let same = c.in_ok-plan.ensures
+    ∙ ((λ i. machine.prune (Some p) (c.as_slice-3.ensures.value i) ((c.as_slice-4.ensures.value ∙ tried) i))
+    ∙ c.prunes_are_of_records.ensures k.state p jobs first last its all) in
+    let made = c.alone.ensures in
+    prune_plans c.prune_settles.ensures c.prune_is_indexed.ensures k kept p has finished c.alone.result.answer c.alone.result.changes c.alone.result.beside c.in_ok-cleared.cleared.items
+    ((λ i. (made.answer i, made.changes i)) ∙ same) made.rows made.indexes
+    (c.in_ok-cleared.ensures ∙ ap (map (λ (j : Job). j.id)) (c.as_slice-2.ensures.value ∙ its)))

@@ -1,0 +1,79 @@
+//! What a request to prune does, from what the store holds.
+
+ghost use Rattle.std.specs.Prelude.{◌≡◌, false, map, Contains, Some, IfOk};
+ghost use Rattle.ci_machine.specs.Indexes.{is_open_in};
+ghost use Rattle.ci_machine.specs.Kept.{cleared};
+ghost use Rattle.ci_machine.specs.Statuses.{jobs_of};
+ghost use Rattle.ci_machine_steps.specs.Prunes as machine;
+ghost use Rattle.ci_machine_steps.specs.Step.{jobs_in};
+ghost use Rattle.ci_store.specs.Store.{LoadsBy};
+ghost use Rattle.ci_server_lookups.specs.Keeps.{IsKept};
+ghost use Rattle.ci_server_events.specs.Planning.{PlansFor};
+
+use crate::planned::{Clearing, Planned};
+use ci_machine::moment::Moment;
+use ci_machine::records::{Job, Pipeline};
+use ci_machine::reply::Reply;
+use ci_machine_plans::prunes;
+use ci_machine_statuses::holder_laws::prune_is_indexed;
+use ci_machine_statuses::laws::{prune_settles, prunes_are_of_records};
+use ci_machine_statuses::load::range_of;
+use ci_server_lookups::prunable::first_prunable;
+use ci_store::fault::StoreFault;
+use ci_store::store::Store;
+use std::alloc::{AllocError, Global};
+
+/// The finished pipeline of least number goes that was made before this moment, if there is one. Errors: the store's.
+pub(crate) fn prune_one<T: Store>(
+    alloc: Global,
+    store: &mut T,
+    before: Moment,
+) -> Result<Clearing<Reply>, StoreFault>
+    ensures { LoadsBy T.honest T.holds T.leaves store.old store.new result
+        (λ k p. IsKept k → let found = machine.prunable_in k.state k.board before in
+        PlansFor (cleared p.cleared.items k) ((p.planned.answer, p.planned.changes) ≡ machine.prune found (jobs_in k.state found) k.state.attempts) p.planned.changes p.planned.beside) }
+{
+    match first_prunable(store, before)? {
+        Some(pipeline) => prune(alloc, store, &pipeline),
+        None => Ok(Clearing::nothing(
+            alloc,
+            Planned::alone(alloc, prunes::nothing_to_prune(alloc)),
+        )),
+    }
+}
+
+/// The finished pipeline goes, with all that belongs to it.
+fn prune<T: Store>(
+    alloc: Global,
+    store: &mut T,
+    pipeline: &Pipeline,
+) -> Result<Clearing<Reply>, StoreFault>
+    ensures { LoadsBy T.honest T.holds T.leaves store.old store.new result
+        (λ k p. IsKept k → Contains k.state.pipelines pipeline.now → is_open_in k.state k.board pipeline.now ≡ false
+        → PlansFor (cleared p.cleared.items k) ((p.planned.answer, p.planned.changes) ≡ machine.prune (Some pipeline.now) (jobs_of k.state pipeline.now.id) k.state.attempts) p.planned.changes p.planned.beside) }
+{
+    prune_settles();
+    prune_is_indexed();
+    prunes_are_of_records();
+    let jobs = store.jobs_of(pipeline.id)?;
+    let Some((first, last)) = range_of(jobs.as_slice()) else {
+        return Err(StoreFault::Broken);
+    };
+    let attempts = store.attempts_within(first, last)?;
+    let cleared = numbers(alloc, jobs.as_slice())?;
+    let plan = prunes::prune(alloc, pipeline, jobs.as_slice(), attempts.as_slice())?;
+    Ok(Clearing {
+        planned: Planned::alone(alloc, plan),
+        cleared,
+    })
+}
+
+fn numbers(alloc: Global, jobs: &[Job]) -> Result<Vec<u64>, AllocError>
+    ensures { IfOk result (λ numbers. numbers.items ≡ map (λ j. j.id) jobs.now) }
+{
+    let mut numbers = Vec::with_capacity(alloc, jobs.len())?;
+    for job in jobs {
+        numbers.push(job.id)?;
+    }
+    Ok(numbers)
+}
