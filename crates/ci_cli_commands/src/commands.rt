@@ -2,7 +2,7 @@
 
 use crate::admin::request_of;
 use crate::file::{let_go, make, open};
-use crate::prune::{Progress, prune};
+use crate::prune::prune;
 use crate::report::report;
 use crate::server::{ask, is_closed};
 use crate::serving::serve_connections;
@@ -18,7 +18,7 @@ use clap::Error;
 use clap::error::ErrorKind;
 use mio::net::TcpListener;
 use std::alloc::Global;
-use std::io::{IsTerminal, Read, Write};
+use std::io::{Read, Write};
 use std::net::{Ipv4Addr, SocketAddr};
 use std::random::RandomSource;
 use std::time::{Clock, Duration};
@@ -41,7 +41,7 @@ pub fn command<C: Clock, R: RandomSource, I: Read + Drop, O: Write, E: Write>(
     errors: &mut E,
 ) -> u8 {
     match task_of(rt.alloc(), words) {
-        Ok(task) => perform(rt, task, sources, input, output, errors),
+        Ok(task) => perform(rt, &task, sources, input, output, errors),
         Err(error) if error.kind() == ErrorKind::OutOfMemory => refuse_memory(output),
         Err(error) => print_words(&error, output, errors),
     }
@@ -66,7 +66,7 @@ fn print_words<O: Write, E: Write>(error: &Error, output: &mut O, errors: &mut E
 
 fn perform<C: Clock, R: RandomSource, I: Read + Drop, O: Write, E: Write>(
     rt: &HostRuntime,
-    task: Task<'_>,
+    task: &Task<'_>,
     sources: &Sources<'_, C, R>,
     input: I,
     output: &mut O,
@@ -75,16 +75,10 @@ fn perform<C: Clock, R: RandomSource, I: Read + Drop, O: Write, E: Write>(
     match task {
         Task::Check(file) => exit_status(&check_word(rt, rt.alloc(), file, input, output)),
         Task::Init(file) => init(rt, file, output),
-        Task::Send(file, asked) => send(rt, file, asked, sources, output),
-        Task::Report(file, kind) => report(rt, file, kind, output),
-        Task::Prune(file, before) => {
-            let progress = Progress {
-                to: errors,
-                is_shown: rt.stderr().is_terminal(),
-            };
-            prune(rt, file, before, sources, output, progress)
-        }
-        Task::Serve(options) => serve(rt, options, sources, output),
+        Task::Send(file, asked) => send(rt, file, *asked, sources, output),
+        Task::Report(file, kind) => report(rt, file, *kind, output),
+        Task::Prune(file, before) => prune(rt, file, *before, sources, output, errors),
+        Task::Serve(options) => serve(rt, *options, sources, output),
     }
 }
 

@@ -11,44 +11,29 @@ use ci_machine::request::Request;
 use ci_server::server::Server;
 use ci_store::Alter;
 use std::alloc::Global;
-use std::io::Write;
+use std::io::{IsTerminal, Write};
 use std::random::RandomSource;
 use std::time::Clock;
 
 /// After so many pipelines it is told how far a prune is.
 const STRETCH: u64 = 1000;
 
-/// Where it is told how far a prune is.
-#[derive(Drop)]
-pub struct Progress<'a, E> {
-    pub to: &'a mut E,
-    /// Does somebody see it?
-    pub is_shown: bool,
-}
-
-impl<'a, E: Write> Progress<'a, E> {
-    /// So many pipelines are gone. Nothing depends on whether it can be told.
-    fn tell(&mut self, pruned: u64) {
-        if self.is_shown && pruned % STRETCH == 0 {
-            let _ = writeln!(self.to, "pruned {pruned} pipelines");
-        }
-    }
-}
-
 /// Prunes the finished pipelines of the server of a file that were made before a moment, each in a commit of its own, until there is none. It
-/// prints what is answered for each that goes, and gives the exit status.
+/// prints what is answered for each that goes, and gives the exit status. Where the process's standard error is a terminal, `errors` is told at times how
+/// far it is.
 pub fn prune<C: Clock, R: RandomSource, O: Write, E: Write>(
     rt: &HostRuntime,
     file: &str,
     before: Moment,
     sources: &Sources<'_, C, R>,
     output: &mut O,
-    mut progress: Progress<'_, E>,
+    errors: &mut E,
 ) -> u8 {
     match open(rt, file) {
         Ok(mut server) => {
+            let is_seen = rt.stderr().is_terminal();
             let alloc = rt.alloc();
-            let status = prune_all(alloc, &mut server, before, sources, output, &mut progress);
+            let status = prune_all(alloc, &mut server, before, sources, output, errors, is_seen);
             let_go(server);
             status
         }
@@ -63,7 +48,8 @@ fn prune_all<S: Alter, C: Clock, R: RandomSource, O: Write, E: Write>(
     before: Moment,
     sources: &Sources<'_, C, R>,
     output: &mut O,
-    progress: &mut Progress<'_, E>,
+    errors: &mut E,
+    is_seen: bool,
 ) -> u8 {
     // No number comes twice, so there are no more pipelines than numbers.
     for pruned in 1..=MAX_NUMBER {
@@ -79,7 +65,10 @@ fn prune_all<S: Alter, C: Clock, R: RandomSource, O: Write, E: Write>(
         if status != DONE {
             return status;
         }
-        progress.tell(pruned);
+        if is_seen && pruned % STRETCH == 0 {
+            // Nothing depends on whether this can be written.
+            let _ = writeln!(errors, "pruned {pruned} pipelines");
+        }
     }
     DONE
 }
