@@ -9,3 +9,5 @@ pub mod Responses
 pub mod Codes
 pub mod Requests
 pub mod Allows
+mod Places
+mod Lengths

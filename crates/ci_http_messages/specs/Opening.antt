@@ -1,6 +1,8 @@
 -- Where the head of a request ends: at the first empty line, within limits.
-use Rattle.std.specs.Prelude.{ℕ, suc, Bool, List, [], ◌∷◌, length, take, drop, ◌==◌, nat_eq, nat_lt, if◌then◌else◌, Option, Some, None, option_map, count_by}
+use Rattle.std.specs.Prelude.{◌≡◌, ◌≤◌, ℕ, suc, Bool, List, [], ◌∷◌, length, take, drop, ◌==◌, nat_eq, nat_lt, if◌then◌else◌, Option, Some, None, option_map, count_by}
 use Rattle.std.specs.List.{starts_with}
+use Rattle.ci_http_messages.specs.declared.head.Opens.{Opens}
+use Rattle.ci_http_messages.specs.declared.head.Opens.TheVariants.{Short, TooLarge, Whole}
 use Rattle.ci_http_messages.specs.declared.limits.TheConstants.{MAX_HEAD_BYTES, MAX_HEAD_LINES}
 
 -- CR LF CR LF
@@ -28,3 +30,9 @@ opening_at bytes (Some n) = if nat_lt MAX_HEAD_LINES (count_by is_line_feed (tak
 -- how a text opens, and the bytes that are not needed to say so
 abbrev pub opening_of : List ℕ → Opening × List ℕ
 opening_of bytes = opening_at bytes (head_len (take MAX_HEAD_BYTES bytes))
+
+-- a text opens so: of a head that is there, so many bytes are its own
+abbrev pub IsOpening : List ℕ → Opens → Type 0
+IsOpening bytes Short = opening_of bytes ≡ (short, [])
+IsOpening bytes TooLarge = (rest : List ℕ) × (opening_of bytes ≡ (too_large, rest))
+IsOpening bytes (Whole n) = (n ≤ length bytes) × (n ≤ MAX_HEAD_BYTES) × (count_by is_line_feed (take n bytes) ≤ MAX_HEAD_LINES) × (opening_of bytes ≡ (opened (take n bytes), drop n bytes))

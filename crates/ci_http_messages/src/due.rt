@@ -6,9 +6,7 @@ ghost use Rattle.ci_http_messages.specs.Opening.{short, opening_of};
 ghost use Rattle.ci_http_messages.specs.Dues.{IsWhole};
 
 use crate::call::frame;
-use crate::fault::HttpFault;
-use crate::head::read_head;
-use crate::laws::Lent;
+use crate::head::{Opens, opening_in};
 use crate::limits::MAX_HEAD_FIELDS;
 use httparse::spans::EMPTY_HEADER_SPAN;
 
@@ -21,16 +19,13 @@ pub fn bytes_due(bytes: &[u8]) -> Option<usize>
     // With so many it is whole, or refused.
     ensures enough { IfSome result (λ due. (more : List ℕ) → due ≤ length (bytes.now ++ more) → IsWhole (bytes.now ++ more)) }
 {
-    let mut reader = Lent { rest: bytes };
-    let head = match read_head(&mut reader) {
-        Ok(head) => head,
-        Err(HttpFault::Ended) => return None,
-        Err(HttpFault::Refused(_)) => return Some(0),
-        Err(HttpFault::ReadFailed) => return Some(0),
-        Err(HttpFault::Memory) => return Some(0),
+    let head = match opening_in(bytes) {
+        Opens::Whole(len) => &bytes[..len],
+        Opens::Short => return None,
+        Opens::TooLarge => return Some(0),
     };
     let mut headers = [EMPTY_HEADER_SPAN; MAX_HEAD_FIELDS];
-    match frame(head.as_slice(), &mut headers) {
+    match frame(head, &mut headers) {
         Ok((_, len)) => Some(head.len() + len),
         Err(_) => Some(0),
     }

@@ -4,7 +4,7 @@ ghost use Rattle.std.specs.Prelude.{◌≡◌, ◌≤◌, length, count_by, IfOk
 ghost use Rattle.httparse.specs.Spans.{IsRequestWithin};
 ghost use Rattle.ci_machine.specs.declared.reply.Code.{Code};
 ghost use Rattle.ci_http_messages.specs.Head.{IsHeadOf, head_at};
-ghost use Rattle.ci_http_messages.specs.Opening.{is_line_feed, short, too_large, opened, opening_of};
+ghost use Rattle.ci_http_messages.specs.Opening.{is_line_feed, head_len, short, too_large, opened, opening_of, IsOpening};
 ghost use Rattle.ci_http_messages.specs.Sources.{Tells, TakesFront, Fails};
 
 use crate::fault::HttpFault;
@@ -50,6 +50,43 @@ pub fn read_head<R: Source>(reader: &mut R) -> Result<HeadBytes, HttpFault>
         }
     }
     Err(HttpFault::Refused(Code::H2))
+}
+
+/// How a text opens, as far as it has come.
+#[derive(Clone, Copy, Drop)]
+pub enum Opens {
+    /// It ends before its head does.
+    Short,
+    /// Its head passes a limit.
+    TooLarge,
+    /// It has a head of so many bytes.
+    Whole(usize),
+}
+
+/// How a text opens that is there as a whole.
+pub fn opening_in(bytes: &[u8]) -> Opens
+    ensures { IsOpening bytes.now result }
+{
+    let room = bytes.len().min(MAX_HEAD_BYTES);
+    match head_len(&bytes[..room]) {
+        Some(len) if lines_of(&bytes[..len]) > MAX_HEAD_LINES => Opens::TooLarge,
+        Some(len) => Opens::Whole(len),
+        None if bytes.len() < MAX_HEAD_BYTES => Opens::Short,
+        None => Opens::TooLarge,
+    }
+}
+
+// How many bytes stand up to and with the first CR LF CR LF.
+fn head_len(text: &[u8]) -> Option<usize>
+    ensures len { result ≡ head_len text.now }
+    ensures within { IfSome result (λ len. len ≤ length text.now) }
+{
+    for at in 0..text.len() {
+        if text[at..].starts_with(b"\r\n\r\n") {
+            return Some(at + 4);
+        }
+    }
+    None
 }
 
 // How many line feeds the bytes have.

@@ -31,6 +31,8 @@ pub(crate) struct Chair<W> {
     count: usize,
     /// How many bytes the request takes, once that is known.
     due: Option<usize>,
+    /// Did just the request come, and not a byte behind it?
+    is_exact: bool,
     /// Does the loop hear of it?
     is_heard: bool,
 }
@@ -43,6 +45,7 @@ impl<W: Wire> Chair<W> {
             bytes: Vec::new(alloc),
             count: 0,
             due: None,
+            is_exact: false,
             is_heard: false,
         }
     }
@@ -76,9 +79,18 @@ impl<W: Wire> Chair<W> {
             self.due = answerer.bytes_due(self.bytes.as_slice());
         }
         match self.due {
-            Some(due) if due <= self.bytes.len() => Step::Whole,
+            Some(due) if due <= self.bytes.len() => {
+                self.is_exact = due == self.bytes.len();
+                Step::Whole
+            }
             _ => Step::Again,
         }
+    }
+
+    /// Is the connection over once the reply went? It is where the peer sent its whole request and no more. Else it may be
+    /// sending still, and were the connection closed then, the reply could be lost on its way.
+    pub(crate) fn ends_with_reply(&self) -> bool {
+        self.is_exact
     }
 
     /// Sends bytes of the reply.

@@ -3,7 +3,9 @@
 use crate::answerer::Answerer;
 use crate::chair::{Chair, Step};
 use crate::peer::{Peer, Stage};
-use crate::peers::{MAX_PEERS, end_late, make_room, next_deadline, next_place, places, put};
+use crate::peers::{
+    MAX_PEERS, end_late, have_room, make_room, next_deadline, next_place, places, put,
+};
 use crate::wire::Wire;
 use std::alloc::{AllocError, Global};
 
@@ -83,7 +85,7 @@ impl<W: Wire + Drop> Hall<W> {
         for _ in 0..u64::MAX {
             match self.step(place, answerer, subject, now)? {
                 Step::Waits => {
-                    self.listen(place);
+                    self.wait(place);
                     return Ok(());
                 }
                 Step::Over => {
@@ -130,8 +132,7 @@ impl<W: Wire + Drop> Hall<W> {
         }
     }
 
-    /// Has the request of a place answered, and begins its reply, or ends the peer where there is none. Where the replies are too
-    /// many bytes in all now, those give way that have been going longest.
+    /// Has the request of a place answered, and begins its reply, or ends the peer where there is none.
     fn answer<T, E, A: Answerer<T, E>>(
         &mut self,
         place: usize,
@@ -149,8 +150,6 @@ impl<W: Wire + Drop> Hall<W> {
         let peer = Peer::writing(reply.len(), now, self.patience);
         chair.reply(reply);
         put(&mut self.peers, place, Some(peer));
-        make_room(&mut self.peers);
-        self.clear();
         Ok(())
     }
 
@@ -168,8 +167,29 @@ impl<W: Wire + Drop> Hall<W> {
         let Some(Some(chair)) = self.chairs.get_mut(place) else {
             return Step::Over;
         };
+        if chair.ends_with_reply() {
+            return Step::Over;
+        }
         put(&mut self.peers, place, Some(Peer::ending(now)));
         chair.end()
+    }
+
+    /// The connection of a place isn't ready: the loop is to hear of it. Where its reply waits, and those that wait are too many bytes in
+    /// all now, those give way that have been going longest.
+    fn wait(&mut self, place: usize) {
+        self.listen(place);
+        if self.is_writing(place) && !have_room(self.peers.as_slice()) {
+            make_room(&mut self.peers);
+            self.clear();
+        }
+    }
+
+    /// Does a reply go to the peer of a place?
+    fn is_writing(&self, place: usize) -> bool {
+        match self.peers.get(place) {
+            Some(Some(peer)) => matches!(peer.stage, Stage::Writing(_)),
+            _ => false,
+        }
     }
 
     /// Has the loop hear of the connection of a place, or ends it where the system refuses.

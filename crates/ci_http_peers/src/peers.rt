@@ -142,7 +142,7 @@ fn too_many(seats: &[Option<Peer>]) -> Option<usize>
 }
 
 /// Have the replies room in memory in all?
-fn have_room(seats: &[Option<Peer>]) -> bool
+pub(crate) fn have_room(seats: &[Option<Peer>]) -> bool
     ensures { IsTrue result ↔ (bytes_held seats.now ≤ MAX_REPLY_BYTES) }
 {
     let mut room = MAX_REPLY_BYTES;

@@ -75,9 +75,9 @@ impl<'a, C: Clock> Ticks<'a, C> {
 /// Serves so many connections of a listener, side by side: of each one request, once it is whole, and returns when all are over.
 ///
 /// At most 256 are open at a time. Where one more comes, the one whose request has been coming longest gives way. A request must
-/// come, and its reply be taken, within a time each; then what the peer still sends is taken for half a second, and 256 KiB of it
-/// at most. Replies that are still to be taken have 32 MiB in memory together; where they are more, the one that has been going
-/// longest is given up.
+/// come, and its reply be taken, within a time each. Where just the request came, the connection is over then; else what the peer
+/// still sends is taken for half a second, and 256 KiB of it at most. Replies that are still to be taken have 32 MiB in memory
+/// together; where they are more, the one that has been going longest is given up.
 ///
 /// Errors: no request can be answered any more; the clock can't be read; there is no way to wait.
 pub fn serve_peers<N: Net, C: Clock, T, E, A: Answerer<T, E>>(
@@ -143,7 +143,10 @@ fn run<'a, C: Clock, T, E, A: Answerer<T, E>>(
         }
         hear(&events, &mut hall, ticks, &mut door, answerer, subject)?;
         accept_some(&mut hall, ticks, &mut door, answerer, subject)?;
-        hall.end_late(ticks.now()?);
+        let now = ticks.now()?;
+        if nearest.is_some_and(|nearest| nearest <= now) {
+            hall.end_late(now);
+        }
     }
     Ok(())
 }

@@ -23,8 +23,8 @@ fn parrot(alloc: Global, reply: usize) -> Parrot {
     }
 }
 
-/// A request in pieces is answered once, when it is whole, and its size is asked no more once it is known. Then what comes is taken
-/// for half a second.
+/// A request in pieces is answered once, when it is whole, and its size is asked no more once it is known. Where a byte came behind it,
+/// what comes then is taken for half a second.
 #[test]
 fn a_request_in_pieces(rt: HostRuntime) -> Result<(), Fail> {
     let line = Line::new(3, 1000);
@@ -37,7 +37,7 @@ fn a_request_in_pieces(rt: HostRuntime) -> Result<(), Fail> {
         hall.go_on(0, &parrot, &mut left, piece)?;
         assert!(rt; line.sent.get() == 0 && left == 5);
     }
-    line.came.set(1);
+    line.came.set(2);
     hall.go_on(0, &parrot, &mut left, 9_000)?;
     assert!(rt; line.sent.get() == 100 && left == 4 && line.ended.get());
     assert!(rt; parrot.asked.get() == 2);
@@ -51,27 +51,30 @@ fn a_request_in_pieces(rt: HostRuntime) -> Result<(), Fail> {
     Ok(())
 }
 
-/// A peer that sends no more is over, with its request or without.
+/// A peer that sends no more is over, with its request or without; and one that sent just its request, once the reply went.
 #[test]
 fn peers_that_end(rt: HostRuntime) -> Result<(), Fail> {
-    let (part, whole) = (Line::new(9, 1000), Line::new(10, 1000));
+    let (part, whole, more) = (Line::new(9, 1000), Line::new(10, 1000), Line::new(11, 1000));
     let (mut hall, parrot) = (hall(&rt)?, parrot(rt.alloc(), 100));
     let mut left: Left = 5;
     part.closed.set(true);
-    whole.closed.set(true);
+    more.closed.set(true);
     hall.admit(part.connect(), &parrot, &mut left, 0)?;
     assert!(rt; !part.open.get() && part.sent.get() == 0 && left == 5);
     hall.admit(whole.connect(), &parrot, &mut left, 0)?;
-    assert!(rt; whole.open.get() && whole.sent.get() == 100 && left == 4);
+    assert!(rt; !whole.open.get() && whole.sent.get() == 100 && left == 4);
+    assert!(rt; !whole.ended.get() && hall.next_deadline() == None);
+    hall.admit(more.connect(), &parrot, &mut left, 0)?;
+    assert!(rt; more.open.get() && more.ended.get() && more.sent.get() == 100);
     hall.go_on(0, &parrot, &mut left, 1)?;
-    assert!(rt; !whole.open.get());
+    assert!(rt; !more.open.get() && left == 3);
     Ok(())
 }
 
 /// A peer that is silent, or that never reads, goes at its deadline and no sooner.
 #[test]
 fn silent_and_deaf_peers(rt: HostRuntime) -> Result<(), Fail> {
-    let (silent, deaf, slow) = (Line::new(0, 1000), Line::new(10, 60), Line::new(10, 60));
+    let (silent, deaf, slow) = (Line::new(0, 1000), Line::new(10, 60), Line::new(11, 60));
     let (mut hall, parrot) = (hall(&rt)?, parrot(rt.alloc(), 100));
     let mut left: Left = 5;
     hall.admit(silent.connect(), &parrot, &mut left, 0)?;
@@ -130,9 +133,9 @@ fn one_peer_more(rt: HostRuntime) -> Result<(), Fail> {
     fill(&mut hall, lines.as_slice(), &parrot, &mut left)?;
     hall.admit(next.connect(), &parrot, &mut left, 300)?;
     assert!(rt; !is_open(lines.as_slice(), 0) && is_open(lines.as_slice(), 1) && next.open.get());
-    // The second has sent its request by now.
+    // The second has sent its request by now, and a byte behind it.
     if let Some(line) = lines.get(1) {
-        line.came.set(10);
+        line.came.set(11);
     }
     hall.admit(other.connect(), &parrot, &mut left, 301)?;
     assert!(rt; left == 4 && is_open(lines.as_slice(), 1));
@@ -164,10 +167,10 @@ fn replies_for_which_is_no_room(rt: HostRuntime) -> Result<(), Fail> {
     Ok(())
 }
 
-/// What comes after the reply is taken up to 256 KiB.
+/// What comes after the reply is taken up to 256 KiB, where a byte came behind the request.
 #[test]
 fn what_comes_after_the_reply(rt: HostRuntime) -> Result<(), Fail> {
-    let line = Line::new(10, 1000);
+    let line = Line::new(11, 1000);
     let (mut hall, parrot) = (hall(&rt)?, parrot(rt.alloc(), 100));
     let mut left: Left = 5;
     hall.admit(line.connect(), &parrot, &mut left, 0)?;
