@@ -1,19 +1,28 @@
 -- What is kept beside a state follows from it: where nothing is kept, after an event, in each file, and once a server is opened.
+use Rattle.std.specs.List.{AllByRecursion}
 use Rattle.std.specs.List.Sorted.{IsStrictlySortedBy}
-use Rattle.std.proofs.Common.{◌≡◌, false, List, [], ◌∷◌, refl, sym, subst, arith}
+use Rattle.std.specs.Ordering.{nat_cmp}
+use Rattle.std.specs.declared.cmp.Ordering.TheVariants.{Less}
+use Rattle.std.proofs.Common.{◌≡◌, false, List, [], ◌∷◌, map, refl, sym, subst, arith}
 use Rattle.sqlite.specs.Tree.{Trees}
 use Rattle.sqlite.specs.Store.{Ghosts}
-use Rattle.sqlite.specs.Held.{Held}
+use Rattle.sqlite.specs.Held.{Held, state}
+use Rattle.sqlite.specs.State.{HasCleanDisk}
+use Rattle.ci_memory.specs.declared.remembering.Remembering.{Remembering}
+use Rattle.ci_memory.specs.Right.{IsRight}
+use Rattle.ci_memory_queue.specs.Order.{RowsAscend}
+use Rattle.ci_memory_queue.proofs.Ordered.{nothing_ascends}
 use Rattle.ci_machine.specs.declared.change.RowChange.{RowChange}
+use Rattle.ci_machine.specs.declared.records.BoardRow.{BoardRow}
 use Rattle.ci_machine.specs.declared.change.IndexChange.{IndexChange}
 use Rattle.ci_machine.specs.declared.change.IndexChange.TheVariants.{Hold, Free, Open, Close}
 use Rattle.ci_machine.specs.State.{State, empty, applied}
-use Rattle.ci_machine.specs.Kept.{Kept, nothing_kept, put_rows, indexed, indexed_all, written}
+use Rattle.ci_machine.specs.Kept.{Kept, nothing_kept, row_cmp, put_rows, indexed, indexed_all, written}
 use Rattle.ci_machine_steps.specs.Sound.{IsSound}
 use Rattle.ci_machine.specs.Statuses.{AreBoard}
 use Rattle.ci_machine.specs.Holders.{AreHolders}
 use Rattle.ci_store.specs.Create.{IsBlank}
-use Rattle.ci_store.specs.Stands.{IsAt, LeavesOnly}
+use Rattle.ci_store.specs.Stands.{IsAt, LeavesOnly, Rises}
 use Rattle.ci_server_lookups.specs.Keeps.{IsKept}
 use Rattle.ci_server_events.specs.declared.planned.Beside.{Beside}
 use Rattle.ci_server_events.specs.Planning.{Settles}
@@ -82,22 +91,34 @@ groups_in s db stands = record {
 
 -- ---- a new server
 
-module _ {S : Type 0} (g : Ghosts S) (conn store : Held S) where
+-- the rows of a table stand by their keys
+rows_ascend : (rows : List BoardRow) → Rises row_cmp rows → RowsAscend rows
+unfolding IsStrictlySortedBy
+rows_ascend [] rise = tt
+rows_ascend (r ∷ rows) rise = (behind rows rise.0, rows_ascend rows rise.1)
+  where
+    behind : (rs : List BoardRow) → AllByRecursion (λ b. row_cmp r b ≡ Less) rs → AllByRecursion (λ n. nat_cmp r.job n ≡ Less) (map (λ (b : BoardRow). b.job) rs)
+    behind [] all = tt
+    behind (b ∷ rs) all = (all.0, behind rs all.1)
+
+module _ {S : Type 0} (g : Ghosts S) (conn : Held S) (store : Remembering (Held S)) (right : (k : Kept) → RowsAscend k.board → IsRight store.memory k) where
   -- it is over tables that keep nothing
-  pub creates : (IsHonest g store → IsHonest g conn) → IsBlank g conn → (IsHonest g store → IsBlank g conn → IsAt g nothing_kept store)
+  pub creates : (IsHonest g store → HasCleanDisk (state g conn)) → IsBlank g conn → (IsHonest g store → IsBlank g conn → IsAt g nothing_kept store.store)
       → Creates g conn (record { store = store; closed = false })
   creates back blank made = record {
     is_open = refl;
     was_honest = back;
     was_blank = blank;
     made = made;
-    holds = λ honest. record { kept = nothing_kept; is_of = nothing_is_kept; held = made honest blank };
+    holds = λ honest. record { kept = nothing_kept; is_of = nothing_is_kept; held = (made honest blank, right nothing_kept nothing_ascends) };
   }
 
   -- it is over the tables that were found
-  pub opens : (IsHonest g store → (k : Kept) → LeavesOnly g k conn → IsAt g k store) → Opens g conn (record { store = store; closed = false })
+  pub opens : (IsHonest g store → (k : Kept) → LeavesOnly g k conn → IsAt g k store.store) → Opens g conn (record { store = store; closed = false })
   opens found = record {
     is_open = refl;
     opened = found;
-    holds = λ honest s k of only. record { kept = k; is_of = of; held = found honest k only };
+    holds = λ honest s k of only.
+        let at = found honest k only in
+        record { kept = k; is_of = of; held = (at, right k (rows_ascend k.board at.now.inside.regular.board)) };
   }

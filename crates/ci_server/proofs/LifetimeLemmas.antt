@@ -4,6 +4,7 @@ use Rattle.std.proofs.lemmas.Bool.{false≢true}
 use Rattle.sqlite.specs.Tree.{Trees}
 use Rattle.sqlite.specs.Store.{Ghosts}
 use Rattle.sqlite.specs.Held.{Held, state}
+use Rattle.ci_memory.specs.declared.remembering.Remembering.{Remembering}
 use Rattle.ci_machine.specs.declared.reply.Answer.{Answer}
 use Rattle.ci_machine.specs.Reply.{Outcome, LackedMemory, StoreFailed, outcome_of}
 use Rattle.ci_machine.specs.State.{State, empty}
@@ -41,17 +42,17 @@ newest ops c a s k = record { before = s; earlier = k.history; newest = refl; re
 
 module _ {S : Type 0} (g : Ghosts S) (settled : (s : S) (db : Trees) → IsTrue (g.view s).is_open → g.recovers s db → db ≡ (g.view s).committed) (laws : AllLaws) (steps : AllStep) where
   -- what stands of a server, and whether it is closed
-  abbrev Stands : List Operation → FailStop (Held S) → Type 0
+  abbrev Stands : List Operation → FailStop (Remembering (Held S)) → Type 0
   Stands ops server = LosesNoStep g ops server × (server.closed ≡ has_failed ops)
 
   -- a server whose tables hold a state that the operations reach
-  holding : (ops : List Operation) (server : FailStop (Held S)) (s : State) → IsReachedBy ops s → HoldsIn g s server.store → server.closed ≡ has_failed ops → Stands ops server
+  holding : (ops : List Operation) (server : FailStop (Remembering (Held S))) (s : State) → IsReachedBy ops s → HoldsIn g s server.store → server.closed ≡ has_failed ops → Stands ops server
   holding ops server s reached at closed =
-      (record { held = λ _. (s, reached, at); left = λ db may. (s, reached, record { kept = at.kept; is_of = at.is_of; stands = at.held.left db may }) }, closed)
+      (record { held = λ _. (s, reached, at); left = λ db may. (s, reached, record { kept = at.kept; is_of = at.is_of; stands = at.held.0.left db may }) }, closed)
 
   -- a server that is closed after a call in which the store failed, or which it refused
-  failed : (ops : List Operation) (new : FailStop (Held S)) (c : Call) (a : Answer) → outcome_of a ≡ StoreFailed → new.closed ≡ true
-      → ((db : Trees) → (state g new.store).may_leave db → (s : State) × IsReachedBy (called c a ∷ ops) s × StandsFor s db) → Stands (called c a ∷ ops) new
+  failed : (ops : List Operation) (new : FailStop (Remembering (Held S))) (c : Call) (a : Answer) → outcome_of a ≡ StoreFailed → new.closed ≡ true
+      → ((db : Trees) → (state g new.store.store).may_leave db → (s : State) × IsReachedBy (called c a ∷ ops) s × StandsFor s db) → Stands (called c a ∷ ops) new
   failed ops new c a is is_closed left =
       (record { held = λ o. absurd (false≢true (sym o ∙ is_closed)); left = left }, is_closed ∙ sym (ap (λ w. closed_by w (has_failed ops)) is))
 
@@ -60,8 +61,8 @@ module _ {S : Type 0} (g : Ghosts S) (settled : (s : S) (db : Trees) → IsTrue 
       → closed ≡ false → closed ≡ has_failed (called c a ∷ ops)
   still_open ops c a o closed is same none is_open = is_open ∙ sym (ap (λ w. closed_by w (has_failed ops)) is ∙ same ∙ none)
 
-  called_open : (ops : List Operation) (new : FailStop (Held S)) (c : Call) (a : Answer) (s : State) → has_failed ops ≡ false → IsReachedBy ops s
-      → Handled (λ (h : Held S) t. HoldsIn g t h) (λ (h : Held S) t u. LeavesIn g t u h) c s new.store new.closed a → Stands (called c a ∷ ops) new
+  called_open : (ops : List Operation) (new : FailStop (Remembering (Held S))) (c : Call) (a : Answer) (s : State) → has_failed ops ≡ false → IsReachedBy ops s
+      → Handled (λ (h : Remembering (Held S)) t. HoldsIn g t h) (λ (h : Remembering (Held S)) t u. LeavesIn g t u h) c s new.store new.closed a → Stands (called c a ∷ ops) new
   called_open ops new c a s none k (answered t step held is_open) =
       let is = steps s t c.0 c.1 c.2 a step in
       let leads : Leads (line s c a ∷ k.history) t = (k.leads, step) in
@@ -91,13 +92,13 @@ module _ {S : Type 0} (g : Ghosts S) (settled : (s : S) (db : Trees) → IsTrue 
       (λ x. (t, with_line, record { kept = left.after; is_of = left.is_after; stands = x }))
       (left.left db may))
 
-  called_closed : (ops : List Operation) (old new : FailStop (Held S)) (c : Call) (a : Answer) → Stands ops old → old.closed ≡ true → outcome_of a ≡ StoreFailed → new ≡ old
+  called_closed : (ops : List Operation) (old new : FailStop (Remembering (Held S))) (c : Call) (a : Answer) → Stands ops old → old.closed ≡ true → outcome_of a ≡ StoreFailed → new ≡ old
       → Stands (called c a ∷ ops) new
-  called_closed ops old new c a earlier shut is same = failed ops new c a is (ap (λ (o : FailStop (Held S)). o.closed) same ∙ shut) (λ db may.
-      let was = earlier.0.left db (subst (λ (o : FailStop (Held S)). (state g o.store).may_leave db) same may) in
+  called_closed ops old new c a earlier shut is same = failed ops new c a is (ap (λ (o : FailStop (Remembering (Held S))). o.closed) same ∙ shut) (λ db may.
+      let was = earlier.0.left db (subst (λ (o : FailStop (Remembering (Held S))). (state g o.store.store).may_leave db) same may) in
       (was.0, without_line ops c a was.0 is was.1, was.2))
 
-  called_once : (ops : List Operation) (old new : FailStop (Held S)) (c : Call) (a : Answer) (closed : Bool) → old.closed ≡ closed → Stands ops old → Handles g old c new a → IsHonest g new.store
+  called_once : (ops : List Operation) (old new : FailStop (Remembering (Held S))) (c : Call) (a : Answer) (closed : Bool) → old.closed ≡ closed → Stands ops old → Handles g old c new a → IsHonest g new.store
       → Stands (called c a ∷ ops) new
   called_once ops old new c a true shut earlier one honest =
       let w = one.once_closed shut in called_closed ops old new c a earlier shut (ap outcome_of w.0 ∙ outcome-M17 c.0) w.1
@@ -105,7 +106,7 @@ module _ {S : Type 0} (g : Ghosts S) (settled : (s : S) (db : Trees) → IsTrue 
       let at = earlier.0.held was_open in
       called_open ops new c a at.0 (sym earlier.1 ∙ was_open) at.1 (one.while_open was_open honest at.0 (at.1.history, at.1.leads) at.2)
 
-  opened_again : (ops : List Operation) (old new : FailStop (Held S)) (conn : Held S) → Stands ops old → Recovers g old.store conn → Opens g conn new → IsHonest g new.store
+  opened_again : (ops : List Operation) (old new : FailStop (Remembering (Held S))) (conn : Held S) → Stands ops old → Recovers g old.store.store conn → Opens g conn new → IsHonest g new.store
       → Stands (opened ∷ ops) new
   opened_again ops old new conn earlier recovers opens honest =
       let was = earlier.0.left (state g conn).committed.trees recovers.left in
@@ -115,7 +116,7 @@ module _ {S : Type 0} (g : Ghosts S) (settled : (s : S) (db : Trees) → IsTrue 
       holding (opened ∷ ops) new was.0 now (opens.holds honest was.0 kept was.2.is_of only) opens.is_open
 
   -- what an opening leaves that failed
-  not_opened : (ops : List Operation) (old new : FailStop (Held S)) (conn : Held S) → Stands ops old → Recovers g old.store conn → LeavesNoMore g conn new.store → new.closed ≡ true
+  not_opened : (ops : List Operation) (old new : FailStop (Remembering (Held S))) (conn : Held S) → Stands ops old → Recovers g old.store.store conn → LeavesNoMore g conn new.store.store → new.closed ≡ true
       → IsHonest g new.store → Stands (unopened ∷ ops) new
   not_opened ops old new conn earlier recovers less shut honest =
       let was = earlier.0.left (state g conn).committed.trees recovers.left in
@@ -127,7 +128,7 @@ module _ {S : Type 0} (g : Ghosts S) (settled : (s : S) (db : Trees) → IsTrue 
         shut,
       )
 
-  pub stands : (ops : List Operation) (server : FailStop (Held S)) → ComesOf g ops server → IsHonest g server.store → Stands ops server
+  pub stands : (ops : List Operation) (server : FailStop (Remembering (Held S))) → ComesOf g ops server → IsHonest g server.store → Stands ops server
   stands [] server came honest =
       let now : IsReachedBy [] empty = record { history = []; is_history = refl; leads = refl; laws = laws [] empty refl } in
       ⊎_elim
@@ -142,13 +143,13 @@ module _ {S : Type 0} (g : Ghosts S) (settled : (s : S) (db : Trees) → IsTrue 
       not_opened before came.0 server came.1 (stands before came.0 came.2 came.3) came.4 came.5 came.6 honest
 
   -- where no step is lost, no group is
-  pub keeps_groups : (ops : List Operation) (server : FailStop (Held S)) → LosesNoStep g ops server → KeepsItsGroups g ops server
+  pub keeps_groups : (ops : List Operation) (server : FailStop (Remembering (Held S))) → LosesNoStep g ops server → KeepsItsGroups g ops server
   keeps_groups ops server kept = λ db may. let was = kept.left db may in (was.0, was.1, was.2, groups_in was.0 db was.2)
 
   -- calls one after the other are operations one after the other
-  pub comes_of_each : (ops : List Operation) (old new : FailStop (Held S)) (cs : List Call) (rs : List Answer) → ComesOf g ops old → HandlesEach g old cs rs new
+  pub comes_of_each : (ops : List Operation) (old new : FailStop (Remembering (Held S))) (cs : List Call) (rs : List Answer) → ComesOf g ops old → HandlesEach g old cs rs new
       → ComesOf g (called_each cs rs ops) new
-  comes_of_each ops old new [] [] came same = subst (λ (o : FailStop (Held S)). ComesOf g ops o) (sym same) came
+  comes_of_each ops old new [] [] came same = subst (λ (o : FailStop (Remembering (Held S))). ComesOf g ops o) (sym same) came
   comes_of_each ops old new [] (a ∷ rs) came each = absurd each
   comes_of_each ops old new (c ∷ cs) [] came each = absurd each
   comes_of_each ops old new (c ∷ cs) (a ∷ rs) came each = comes_of_each (called c a ∷ ops) each.0 new cs rs (old, came, each.1) each.2

@@ -15,6 +15,7 @@ use Rattle.ci_machine_steps.specs.Laws.{Laws}
 use Rattle.ci_server.specs.Handling.{Call, refused, Handled, answered, no_memory, look_failed, commit_failed}
 use Rattle.sqlite.specs.Store.{Ghosts}
 use Rattle.sqlite.specs.Held.{Held}
+use Rattle.ci_memory.specs.declared.remembering.Remembering.{Remembering}
 use Rattle.ci_server.specs.Holding.{HoldsIn, LeavesIn}
 use Rattle.ci_server.specs.declared.fail_stop.FailStop.{FailStop}
 use Rattle.ci_server.specs.Server.{IsHonest, HandlesBy, HandlesEachBy, Handles, HandlesEach, closed_by_each, each_refused}
@@ -257,14 +258,14 @@ module _ {T : Type 0} (honest : T → Type 0) (holds : T → State → Type 0) (
 
 -- ---- over tables
 
-pub run_of_each : {S : Type 0} (g : Ghosts S) → AllLaws → AllStep → (old new : FailStop (Held S)) (cs : List Call) (rs : List Answer) → HandlesEach g old cs rs new
+pub run_of_each : {S : Type 0} (g : Ghosts S) → AllLaws → AllStep → (old new : FailStop (Remembering (Held S))) (cs : List Call) (rs : List Answer) → HandlesEach g old cs rs new
     → Runs g old cs rs new
 run_of_each {S = S} g laws steps old new cs rs each = λ honest h s leads at.
-    run_from (IsHonest g) (λ (t : Held S) u. HoldsIn g u t) (λ (t : Held S) u v. LeavesIn g u v t) laws steps h s old new cs rs
-    (record { before = at.kept; after = at.kept; is_before = at.is_of; is_after = at.is_of; left = λ db may. inl (at.held.left db may) })
+    run_from (IsHonest g) (λ (t : Remembering (Held S)) u. HoldsIn g u t) (λ (t : Remembering (Held S)) u v. LeavesIn g u v t) laws steps h s old new cs rs
+    (record { before = at.kept; after = at.kept; is_before = at.is_of; is_after = at.is_of; left = λ db may. inl (at.held.0.left db may) })
     leads at each honest
 
-pub run_of_one : {S : Type 0} (g : Ghosts S) → AllLaws → AllStep → (old new : FailStop (Held S)) (c : Call) (a : Answer) → Handles g old c new a
+pub run_of_one : {S : Type 0} (g : Ghosts S) → AllLaws → AllStep → (old new : FailStop (Remembering (Held S))) (c : Call) (a : Answer) → Handles g old c new a
     → Runs g old (c ∷ []) (a ∷ []) new
 run_of_one g laws steps old new c a one = run_of_each g laws steps old new (c ∷ []) (a ∷ []) (new, one, refl)
 

@@ -4,6 +4,7 @@ use Rattle.std.proofs.lemmas.Bool.{false≢true}
 use Rattle.sqlite.specs.Tree.{Trees}
 use Rattle.sqlite.specs.Store.{Ghosts}
 use Rattle.sqlite.specs.Held.{Held, state}
+use Rattle.ci_memory.specs.declared.remembering.Remembering.{Remembering}
 use Rattle.ci_machine.specs.declared.reply.Answer.{Answer}
 use Rattle.ci_machine.specs.Reply.{Outcome, LackedMemory, StoreFailed, outcome_of}
 use Rattle.ci_machine.specs.State.{State, empty}
@@ -31,17 +32,17 @@ is_file s db stands = (stands, groups_in s db stands)
 
 module _ {S : Type 0} (g : Ghosts S) (settled : (s : S) (db : Trees) → IsTrue (g.view s).is_open → g.recovers s db → db ≡ (g.view s).committed) (laws : AllLaws) (steps : AllStep) where
   -- tables that hold the state
-  holding : (ops : List Operation) (server : FailStop (Held S)) (h : List Past) (s : State) → Leads h s → HoldsIn g s server.store → StandsBy g ops server h
+  holding : (ops : List Operation) (server : FailStop (Remembering (Held S))) (h : List Past) (s : State) → Leads h s → HoldsIn g s server.store → StandsBy g ops server h
   holding ops server h s leads at = record {
     state = s;
     leads = leads;
     laws = laws h s leads;
     held = λ _. at;
-    left = inl (λ db may. is_file s db (record { kept = at.kept; is_of = at.is_of; stands = at.held.left db may }));
+    left = inl (λ db may. is_file s db (record { kept = at.kept; is_of = at.is_of; stands = at.held.0.left db may }));
   }
 
   -- a server that is closed
-  shut : (ops : List Operation) (server : FailStop (Held S)) (h : List Past) (s : State) → Leads h s → server.closed ≡ true → LeavesOne g s server ⊎ LeavesTwo g ops h s server
+  shut : (ops : List Operation) (server : FailStop (Remembering (Held S))) (h : List Past) (s : State) → Leads h s → server.closed ≡ true → LeavesOne g s server ⊎ LeavesTwo g ops h s server
       → StandsBy g ops server h
   shut ops server h s leads is_closed left = record {
     state = s;
@@ -54,11 +55,11 @@ module _ {S : Type 0} (g : Ghosts S) (settled : (s : S) (db : Trees) → IsTrue 
   -- ---- a call
 
   -- the history after a call, by the one before it
-  abbrev Next : List Operation → Call → Answer → List Past → FailStop (Held S) → Type 0
+  abbrev Next : List Operation → Call → Answer → List Past → FailStop (Remembering (Held S)) → Type 0
   Next ops c a h new = (k : List Past) × GoesOn h (c ∷ []) (a ∷ []) k × StandsBy g (called c a ∷ ops) new k
 
-  called_open : (ops : List Operation) (new : FailStop (Held S)) (c : Call) (a : Answer) (h : List Past) (s : State) → has_failed ops ≡ false → Leads h s
-      → Handled (λ (x : Held S) t. HoldsIn g t x) (λ (x : Held S) t u. LeavesIn g t u x) c s new.store new.closed a → Next ops c a h new
+  called_open : (ops : List Operation) (new : FailStop (Remembering (Held S))) (c : Call) (a : Answer) (h : List Past) (s : State) → has_failed ops ≡ false → Leads h s
+      → Handled (λ (x : Remembering (Held S)) t. HoldsIn g t x) (λ (x : Remembering (Held S)) t u. LeavesIn g t u x) c s new.store new.closed a → Next ops c a h new
   called_open ops new c a h s none leads (answered t step held is_open) =
       let is = steps s t c.0 c.1 c.2 a step in
       (line s c a ∷ h, subst (λ o. GoesOnBy o h c a (line s c a ∷ h)) (sym is) (s, refl), holding (called c a ∷ ops) new (line s c a ∷ h) t (leads, step) held)
@@ -92,7 +93,7 @@ module _ {S : Type 0} (g : Ghosts S) (settled : (s : S) (db : Trees) → IsTrue 
       )
 
   -- a closed server refuses the call, and nothing changes
-  called_closed : (ops : List Operation) (old new : FailStop (Held S)) (c : Call) (a : Answer) (h : List Past) → StandsBy g ops old h → has_failed ops ≡ true → outcome_of a ≡ StoreFailed → new ≡ old
+  called_closed : (ops : List Operation) (old new : FailStop (Remembering (Held S))) (c : Call) (a : Answer) (h : List Past) → StandsBy g ops old h → has_failed ops ≡ true → outcome_of a ≡ StoreFailed → new ≡ old
       → Next ops c a h new
   called_closed ops old new c a h was failed is same =
       let one : unanswered (called c a ∷ ops) ≡ unanswered ops = ap (λ b. first_failed b (outcome_of a) c (unanswered ops)) failed in
@@ -114,9 +115,9 @@ module _ {S : Type 0} (g : Ghosts S) (settled : (s : S) (db : Trees) → IsTrue 
           each = l.each;
         })) was.left;
       } in
-      (h, subst (λ o. GoesOnBy o h c a h) (sym is) refl, subst (λ (o : FailStop (Held S)). StandsBy g (called c a ∷ ops) o h) (sym same) now)
+      (h, subst (λ o. GoesOnBy o h c a h) (sym is) refl, subst (λ (o : FailStop (Remembering (Held S))). StandsBy g (called c a ∷ ops) o h) (sym same) now)
 
-  called_once : (ops : List Operation) (old new : FailStop (Held S)) (c : Call) (a : Answer) (h : List Past) (closed : Bool) → old.closed ≡ closed → old.closed ≡ has_failed ops → StandsBy g ops old h
+  called_once : (ops : List Operation) (old new : FailStop (Remembering (Held S))) (c : Call) (a : Answer) (h : List Past) (closed : Bool) → old.closed ≡ closed → old.closed ≡ has_failed ops → StandsBy g ops old h
       → Handles g old c new a → IsHonest g new.store → Next ops c a h new
   called_once ops old new c a h true is_closed as_failed was one honest =
       let w = one.once_closed is_closed in called_closed ops old new c a h was (sym as_failed ∙ is_closed) (ap outcome_of w.0 ∙ outcome-M17 c.0) w.1
@@ -133,7 +134,7 @@ module _ {S : Type 0} (g : Ghosts S) (settled : (s : S) (db : Trees) → IsTrue 
     leads : Leads history state
     file : IsFileOf state db
 
-  found : (ops : List Operation) (old : FailStop (Held S)) (h : List Past) → StandsBy g ops old h → (db : Trees) → (state g old.store).may_leave db → Found ops h db
+  found : (ops : List Operation) (old : FailStop (Remembering (Held S))) (h : List Past) → StandsBy g ops old h → (db : Trees) → (state g old.store.store).may_leave db → Found ops h db
   found ops old h was db may =
       let without : IsFileOf was.state db → Found ops h db = λ file. record { history = h; adds = inl refl; state = was.state; leads = was.leads; file = file } in
       ⊎_elim
@@ -148,10 +149,10 @@ module _ {S : Type 0} (g : Ghosts S) (settled : (s : S) (db : Trees) → IsTrue 
       was.left
 
   -- the history after an opening
-  abbrev After : List Operation → Operation → List Past → FailStop (Held S) → Type 0
+  abbrev After : List Operation → Operation → List Past → FailStop (Remembering (Held S)) → Type 0
   After ops operation h new = (k : List Past) × AddsUnanswered ops h k × StandsBy g (operation ∷ ops) new k
 
-  opened_again : (ops : List Operation) (old new : FailStop (Held S)) (conn : Held S) (h : List Past) → StandsBy g ops old h → Recovers g old.store conn → Opens g conn new → IsHonest g new.store
+  opened_again : (ops : List Operation) (old new : FailStop (Remembering (Held S))) (conn : Held S) (h : List Past) → StandsBy g ops old h → Recovers g old.store.store conn → Opens g conn new → IsHonest g new.store
       → After ops opened h new
   opened_again ops old new conn h was recovers opens honest =
       let f = found ops old h was (state g conn).committed.trees recovers.left in
@@ -159,7 +160,7 @@ module _ {S : Type 0} (g : Ghosts S) (settled : (s : S) (db : Trees) → IsTrue 
       let only : LeavesOnly g kept conn = λ db may. subst (StandsIn kept) (sym (settled conn.store db recovers.is_open may)) f.file.0.stands in
       (f.history, f.adds, holding (opened ∷ ops) new f.history f.state f.leads (opens.holds honest f.state kept f.file.0.is_of only))
 
-  not_opened : (ops : List Operation) (old new : FailStop (Held S)) (conn : Held S) (h : List Past) → StandsBy g ops old h → Recovers g old.store conn → LeavesNoMore g conn new.store → new.closed ≡ true
+  not_opened : (ops : List Operation) (old new : FailStop (Remembering (Held S))) (conn : Held S) (h : List Past) → StandsBy g ops old h → Recovers g old.store.store conn → LeavesNoMore g conn new.store.store → new.closed ≡ true
       → IsHonest g new.store → After ops unopened h new
   not_opened ops old new conn h was recovers less is_closed honest =
       let f = found ops old h was (state g conn).committed.trees recovers.left in (
@@ -171,21 +172,21 @@ module _ {S : Type 0} (g : Ghosts S) (settled : (s : S) (db : Trees) → IsTrue 
   -- ---- a life
 
   -- the history of a server that came of these operations
-  abbrev Told : List Operation → FailStop (Held S) → Type 0
+  abbrev Told : List Operation → FailStop (Remembering (Held S)) → Type 0
   Told ops server = (h : List Past) × StandsBy g ops server h
 
-  after_call : (c : Call) (a : Answer) (before : List Operation) (server : FailStop (Held S)) (came : ComesOf g (called c a ∷ before) server) → IsHonest g server.store → (was : Told before came.0)
+  after_call : (c : Call) (a : Answer) (before : List Operation) (server : FailStop (Remembering (Held S))) (came : ComesOf g (called c a ∷ before) server) → IsHonest g server.store → (was : Told before came.0)
       → Next before c a was.0 server
   after_call c a before server came honest was =
       called_once before came.0 server c a was.0 came.0.closed refl (stands g settled laws steps before came.0 came.1 (came.2.was_honest honest)).1 was.1 came.2 honest
 
-  after_opening : (before : List Operation) (server : FailStop (Held S)) (came : ComesOf g (opened ∷ before) server) → IsHonest g server.store → (was : Told before came.0) → After before opened was.0 server
+  after_opening : (before : List Operation) (server : FailStop (Remembering (Held S))) (came : ComesOf g (opened ∷ before) server) → IsHonest g server.store → (was : Told before came.0) → After before opened was.0 server
   after_opening before server came honest was = opened_again before came.0 server came.1 was.0 was.1 came.4 came.5 honest
 
-  after_failure : (before : List Operation) (server : FailStop (Held S)) (came : ComesOf g (unopened ∷ before) server) → IsHonest g server.store → (was : Told before came.0) → After before unopened was.0 server
+  after_failure : (before : List Operation) (server : FailStop (Remembering (Held S))) (came : ComesOf g (unopened ∷ before) server) → IsHonest g server.store → (was : Told before came.0) → After before unopened was.0 server
   after_failure before server came honest was = not_opened before came.0 server came.1 was.0 was.1 came.4 came.5 came.6 honest
 
-  settle : (ops : List Operation) (server : FailStop (Held S)) → ComesOf g ops server → IsHonest g server.store → Told ops server
+  settle : (ops : List Operation) (server : FailStop (Remembering (Held S))) → ComesOf g ops server → IsHonest g server.store → Told ops server
   settle [] server came honest = (
     [],
     ⊎_elim

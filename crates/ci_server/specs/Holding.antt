@@ -4,6 +4,8 @@ use Rattle.std.specs.Prelude.{◌≡◌, List, map}
 use Rattle.sqlite.specs.Tree.{Trees}
 use Rattle.sqlite.specs.Store.{Ghosts}
 use Rattle.sqlite.specs.Held.{Held}
+use Rattle.ci_memory.specs.declared.remembering.Remembering.{Remembering}
+use Rattle.ci_memory.specs.Right.{IsRight}
 use Rattle.ci_machine.specs.declared.records.Holder.{Holder}
 use Rattle.ci_machine.specs.State.{State}
 use Rattle.ci_machine.specs.Kept.{Kept}
@@ -38,12 +40,12 @@ pub record Leaves {T : Type 0} (leaves : T → Kept → Kept → Type 0) (store 
 -- ---- over tables
 
 -- the tables are open, and hold the state with what follows from it
-abbrev pub HoldsIn : {S : Type 0} → Ghosts S → State → Held S → Type 0
-HoldsIn g s h = Holds (λ t k. IsAt g k t) h s
+abbrev pub HoldsIn : {S : Type 0} → Ghosts S → State → Remembering (Held S) → Type 0
+HoldsIn g s h = Holds (λ t k. IsAt g k t.store × IsRight t.memory k) h s
 
 -- each file that a stop may leave stands for one of the two states, with what follows from it
-abbrev pub LeavesIn : {S : Type 0} → Ghosts S → State → State → Held S → Type 0
-LeavesIn g s t h = Leaves (λ u k l. LeavesEither g k l u) h s t
+abbrev pub LeavesIn : {S : Type 0} → Ghosts S → State → State → Remembering (Held S) → Type 0
+LeavesIn g s t h = Leaves (λ u k l. LeavesEither g k l u.store) h s t
 
 -- The file stands for the state: what is in it beside the state is what follows from the state, the rows of statuses from its jobs, needs
 -- and attempts, the groups that are held from its live attempts, and the pipelines that aren't finished from these rows.

@@ -3,6 +3,7 @@ use Rattle.std.specs.Prelude.{◌≡◌, ◌⊎◌, Bool, true, false, List, [],
 use Rattle.sqlite.specs.Tree.{Trees}
 use Rattle.sqlite.specs.Store.{Ghosts}
 use Rattle.sqlite.specs.Held.{Held, state}
+use Rattle.ci_memory.specs.declared.remembering.Remembering.{Remembering}
 use Rattle.ci_machine.specs.declared.reply.Answer.{Answer}
 use Rattle.ci_machine.specs.Reply.{outcome_of}
 use Rattle.ci_machine.specs.State.{State}
@@ -29,18 +30,18 @@ pub record Recovers {S : Type 0} (g : Ghosts S) (old conn : Held S) : Type 0 whe
   pub left : (state g old).may_leave (state g conn).committed.trees
 
 -- The server is new: it was made in a store that listed nothing, or opened over the empty tables, which a creation that fails may leave.
-abbrev pub Begins : {S : Type 0} → Ghosts S → FailStop (Held S) → Type 0
+abbrev pub Begins : {S : Type 0} → Ghosts S → FailStop (Remembering (Held S)) → Type 0
 Begins {S} g new = (conn : Held S) × (Creates g conn new ⊎ (LeavesOnly g nothing_kept conn × Opens g conn new))
 
 -- The server came of these operations, the newest first: it is new, events came, and it was opened again over what a stop may have left of it,
 -- at whatever call it was stopped. Where the opening failed, what comes back is a server that is closed.
-abbrev pub ComesOf : {S : Type 0} → Ghosts S → List Operation → FailStop (Held S) → Type 0
+abbrev pub ComesOf : {S : Type 0} → Ghosts S → List Operation → FailStop (Remembering (Held S)) → Type 0
 ComesOf {S} g [] new = Begins g new
-ComesOf {S} g (called c a ∷ before) new = (old : FailStop (Held S)) × ComesOf g before old × Handles g old c new a
+ComesOf {S} g (called c a ∷ before) new = (old : FailStop (Remembering (Held S))) × ComesOf g before old × Handles g old c new a
 ComesOf {S} g (opened ∷ before) new =
-    (old : FailStop (Held S)) × (conn : Held S) × ComesOf g before old × IsHonest g old.store × Recovers g old.store conn × Opens g conn new
+    (old : FailStop (Remembering (Held S))) × (conn : Held S) × ComesOf g before old × IsHonest g old.store × Recovers g old.store.store conn × Opens g conn new
 ComesOf {S} g (unopened ∷ before) new =
-    (old : FailStop (Held S)) × (conn : Held S) × ComesOf g before old × IsHonest g old.store × Recovers g old.store conn × LeavesNoMore g conn new.store × (new.closed ≡ true)
+    (old : FailStop (Remembering (Held S))) × (conn : Held S) × ComesOf g before old × IsHonest g old.store × Recovers g old.store.store conn × LeavesNoMore g conn new.store.store × (new.closed ≡ true)
 
 -- and then these calls, the first of them first
 abbrev pub called_each : List Call → List Answer → List Operation → List Operation
@@ -83,12 +84,12 @@ pub record IsReachedBy (operations : List Operation) (s : State) : Type 0 where
 
 -- No step of the operations is lost: an open server holds a state that they reach, with what follows from it, and each file that a stop may
 -- leave stands for one, what is beside it being what is recomputed from it.
-pub record LosesNoStep {S : Type 0} (g : Ghosts S) (operations : List Operation) (server : FailStop (Held S)) : Type 0 where
+pub record LosesNoStep {S : Type 0} (g : Ghosts S) (operations : List Operation) (server : FailStop (Remembering (Held S))) : Type 0 where
   pub held : server.closed ≡ false → (s : State) × IsReachedBy operations s × HoldsIn g s server.store
-  pub left : (db : Trees) → (state g server.store).may_leave db → (s : State) × IsReachedBy operations s × StandsFor s db
+  pub left : (db : Trees) → (state g server.store.store).may_leave db → (s : State) × IsReachedBy operations s × StandsFor s db
 
 -- Each file that a stop may leave stands for a state that the operations reach, and its table `holder` has rows for just the live attempts of
 -- that state whose jobs have a resource group.
-abbrev pub KeepsItsGroups : {S : Type 0} → Ghosts S → List Operation → FailStop (Held S) → Type 0
+abbrev pub KeepsItsGroups : {S : Type 0} → Ghosts S → List Operation → FailStop (Remembering (Held S)) → Type 0
 KeepsItsGroups g operations server =
-    (db : Trees) → (state g server.store).may_leave db → (s : State) × IsReachedBy operations s × StandsFor s db × KeepsGroups s db
+    (db : Trees) → (state g server.store.store).may_leave db → (s : State) × IsReachedBy operations s × StandsFor s db × KeepsGroups s db

@@ -3,6 +3,7 @@ use Rattle.std.specs.Prelude.{◌≡◌, ℕ, Bool, true, false, List, Option, R
 use Rattle.std.specs.Global.{Vec}
 use Rattle.sqlite.specs.Store.{Ghosts}
 use Rattle.sqlite.specs.Held.{Held}
+use Rattle.ci_memory.specs.declared.remembering.Remembering.{Remembering}
 use Rattle.ci_machine.specs.declared.records.BoardRow.{BoardRow}
 use Rattle.ci_machine.specs.declared.reply.Code.{Code}
 use Rattle.ci_machine.specs.declared.reply.Code.TheVariants.{M16, M17}
@@ -65,5 +66,5 @@ pub record ReportsBy {T A : Type 0} (honest : T → Type 0) (holds : T → State
   pub closes : new.closed ≡ closed_after answer old.closed
 
 -- over tables
-abbrev pub Reports : {S A : Type 0} → Ghosts S → FailStop (Held S) → FailStop (Held S) → (State → A → Type 0) → Result A Code → Type 0
+abbrev pub Reports : {S A : Type 0} → Ghosts S → FailStop (Remembering (Held S)) → FailStop (Remembering (Held S)) → (State → A → Type 0) → Result A Code → Type 0
 Reports g old new Tells answer = ReportsBy (IsHonest g) (λ h s. HoldsIn g s h) (λ h s t. LeavesIn g s t h) old new Tells answer

@@ -7,6 +7,7 @@ use Rattle.ci_machine_steps.specs.History.{Past, Leads}
 use Rattle.ci_machine_steps.specs.Laws.{Laws}
 use Rattle.sqlite.specs.Store.{Ghosts}
 use Rattle.sqlite.specs.Held.{Held}
+use Rattle.ci_memory.specs.declared.remembering.Remembering.{Remembering}
 use Rattle.ci_server.specs.Holding.{HoldsIn, LeavesIn}
 use Rattle.ci_server.specs.Handling.{Call}
 use Rattle.ci_server.specs.declared.fail_stop.FailStop.{FailStop}
@@ -63,7 +64,7 @@ pub record IsRun {T : Type 0} (holds : T → State → Type 0) (leaves : T → S
 
 -- From each state that a history leads to and that the server's store holds, the calls with these answers are a run. Where the server was closed
 -- it is that of calls which were all refused.
-abbrev pub Runs : {S : Type 0} → Ghosts S → FailStop (Held S) → List Call → List Answer → FailStop (Held S) → Type 0
+abbrev pub Runs : {S : Type 0} → Ghosts S → FailStop (Remembering (Held S)) → List Call → List Answer → FailStop (Remembering (Held S)) → Type 0
 Runs {S} g old cs rs new =
     IsHonest g new.store → (h : List Past) (s : State) → Leads h s → HoldsIn g s old.store
-    → IsRun (λ (t : Held S) u. HoldsIn g u t) (λ (t : Held S) u v. LeavesIn g u v t) h cs rs new.store new.closed
+    → IsRun (λ (t : Remembering (Held S)) u. HoldsIn g u t) (λ (t : Remembering (Held S)) u v. LeavesIn g u v t) h cs rs new.store new.closed

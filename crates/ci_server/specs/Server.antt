@@ -6,6 +6,8 @@ use Rattle.std.proofs.Common.{ap}
 use Rattle.sqlite.specs.State.{HasCleanDisk}
 use Rattle.sqlite.specs.Store.{Ghosts}
 use Rattle.sqlite.specs.Held.{Held, state}
+use Rattle.ci_memory.specs.declared.memory.Memory as memory
+use Rattle.ci_memory.specs.declared.remembering.Remembering.{Remembering}
 use Rattle.ci_machine.specs.declared.reply.Answer.{Answer}
 use Rattle.ci_machine.specs.declared.reply.Code.TheVariants.{M17}
 use Rattle.ci_machine.specs.State.{State, empty}
@@ -20,6 +22,9 @@ use Rattle.ci_server.specs.Handling.{Call, refused, Handled, closed_by}
 
 abbrev pub fail_stop_code : {T : Type 0} → Coded T → Coded (FailStop T)
 fail_stop_code code = coded_via (coded× code coded_bool) (λ s. (s.store, s.closed)) (λ x y e. ap (λ p. record { store = p.0; closed = p.1 }) e)
+
+abbrev pub remembering_code : {T : Type 0} → Coded T → Coded (Remembering T)
+remembering_code code = coded_via (coded× code memory.the_code) (λ m. (m.store, m.memory)) (λ x y e. ap (λ p. record { store = p.0; memory = p.1 }) e)
 
 module _ {T : Type 0} (honest : T → Type 0) (holds : T → State → Type 0) (leaves : T → State → State → Type 0) where
   -- What a call does: on an open server that holds a state which a history leads to, what `Handled` says; on a closed one nothing, and the answer is M17. Over any disk it
@@ -49,27 +54,27 @@ each_refused cs = map (λ c. refused c.0 M17) cs
 -- ---- over tables
 
 -- a disk of the server that has given back what was written to it
-abbrev pub IsHonest : {S : Type 0} → Ghosts S → Held S → Type 0
-IsHonest g h = HasCleanDisk (state g h)
+abbrev pub IsHonest : {S : Type 0} → Ghosts S → Remembering (Held S) → Type 0
+IsHonest g h = HasCleanDisk (state g h.store)
 
-abbrev pub Handles : {S : Type 0} → Ghosts S → FailStop (Held S) → Call → FailStop (Held S) → Answer → Type 0
+abbrev pub Handles : {S : Type 0} → Ghosts S → FailStop (Remembering (Held S)) → Call → FailStop (Remembering (Held S)) → Answer → Type 0
 Handles g old c new a = HandlesBy (IsHonest g) (λ h s. HoldsIn g s h) (λ h s t. LeavesIn g s t h) old c new a
 
-abbrev pub HandlesEach : {S : Type 0} → Ghosts S → FailStop (Held S) → List Call → List Answer → FailStop (Held S) → Type 0
+abbrev pub HandlesEach : {S : Type 0} → Ghosts S → FailStop (Remembering (Held S)) → List Call → List Answer → FailStop (Remembering (Held S)) → Type 0
 HandlesEach g old cs rs new = HandlesEachBy (IsHonest g) (λ h s. HoldsIn g s h) (λ h s t. LeavesIn g s t h) old cs rs new
 
 -- the store listed nothing, and the server is new over the tables that it made in it, which keep nothing
-pub record Creates {S : Type 0} (g : Ghosts S) (conn : Held S) (new : FailStop (Held S)) : Type 0 where
+pub record Creates {S : Type 0} (g : Ghosts S) (conn : Held S) (new : FailStop (Remembering (Held S))) : Type 0 where
   pub is_open : new.closed ≡ false
-  pub was_honest : IsHonest g new.store → IsHonest g conn
+  pub was_honest : IsHonest g new.store → HasCleanDisk (state g conn)
   pub was_blank : IsBlank g conn
-  pub made : IsHonest g new.store → IsBlank g conn → IsAt g nothing_kept new.store
+  pub made : IsHonest g new.store → IsBlank g conn → IsAt g nothing_kept new.store.store
   -- this is the empty state, with what follows from it
   pub holds : IsHonest g new.store → HoldsIn g empty new.store
 
 -- the server is new over the tables that this store has, and keeps what each file that a stop may leave stands for
-pub record Opens {S : Type 0} (g : Ghosts S) (conn : Held S) (new : FailStop (Held S)) : Type 0 where
+pub record Opens {S : Type 0} (g : Ghosts S) (conn : Held S) (new : FailStop (Remembering (Held S))) : Type 0 where
   pub is_open : new.closed ≡ false
-  pub opened : IsHonest g new.store → (k : Kept) → LeavesOnly g k conn → IsAt g k new.store
+  pub opened : IsHonest g new.store → (k : Kept) → LeavesOnly g k conn → IsAt g k new.store.store
   -- so it holds the state that this is kept of
   pub holds : IsHonest g new.store → (s : State) (k : Kept) → IsKeptOf s k → LeavesOnly g k conn → HoldsIn g s new.store

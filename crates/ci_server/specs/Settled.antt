@@ -3,6 +3,7 @@ use Rattle.std.specs.Prelude.{◌≡◌, ◌⊎◌, Bool, true, false, List, [],
 use Rattle.sqlite.specs.Tree.{Trees}
 use Rattle.sqlite.specs.Store.{Ghosts}
 use Rattle.sqlite.specs.Held.{Held, state}
+use Rattle.ci_memory.specs.declared.remembering.Remembering.{Remembering}
 use Rattle.ci_machine.specs.declared.reply.Answer.{Answer}
 use Rattle.ci_machine.specs.Reply.{Outcome, Stepped, LackedMemory, StoreFailed, outcome_of}
 use Rattle.ci_machine.specs.State.{State}
@@ -51,18 +52,18 @@ pub record IsAfterUnanswered (operations : List Operation) (h : List Past) (t : 
   pub laws : Laws (line before call answer ∷ h) t
 
 -- each file that a stop may leave of the server stands for the state
-abbrev pub LeavesOne : {S : Type 0} → Ghosts S → State → FailStop (Held S) → Type 0
-LeavesOne g s server = (db : Trees) → (state g server.store).may_leave db → IsFileOf s db
+abbrev pub LeavesOne : {S : Type 0} → Ghosts S → State → FailStop (Remembering (Held S)) → Type 0
+LeavesOne g s server = (db : Trees) → (state g server.store.store).may_leave db → IsFileOf s db
 
 -- each of them stands for the state, or for the one after the one unanswered call
-pub record LeavesTwo {S : Type 0} (g : Ghosts S) (operations : List Operation) (h : List Past) (s : State) (server : FailStop (Held S)) : Type 0 where
+pub record LeavesTwo {S : Type 0} (g : Ghosts S) (operations : List Operation) (h : List Past) (s : State) (server : FailStop (Remembering (Held S))) : Type 0 where
   pub after : State
   pub is_after : IsAfterUnanswered operations h after
-  pub each : (db : Trees) → (state g server.store).may_leave db → IsFileOf s db ⊎ IsFileOf after db
+  pub each : (db : Trees) → (state g server.store.store).may_leave db → IsFileOf s db ⊎ IsFileOf after db
 
 -- The history is that of a server which came of these operations: it leads to one state, whose laws hold. An open server holds this state,
 -- with what follows from it; and a stop leaves this state alone, or besides it the one after the one unanswered call.
-pub record StandsBy {S : Type 0} (g : Ghosts S) (operations : List Operation) (server : FailStop (Held S)) (h : List Past) : Type 0 where
+pub record StandsBy {S : Type 0} (g : Ghosts S) (operations : List Operation) (server : FailStop (Remembering (Held S))) (h : List Past) : Type 0 where
   pub state : State
   pub leads : Leads h state
   pub laws : Laws h state
@@ -73,20 +74,20 @@ pub record StandsBy {S : Type 0} (g : Ghosts S) (operations : List Operation) (s
 
 -- a history of each life: of operations, a server that came of them, and its disk, which has given back what was written to it
 abbrev pub Histories : {S : Type 0} → Ghosts S → Type 0
-Histories {S} g = (operations : List Operation) (server : FailStop (Held S)) → ComesOf g operations server → IsHonest g server.store → List Past
+Histories {S} g = (operations : List Operation) (server : FailStop (Remembering (Held S))) → ComesOf g operations server → IsHonest g server.store → List Past
 
 -- Each life has the one history that its beginning had, gone on by its last operation. A new server has none. A call adds its line where it
 -- was answered, and else nothing. An opening, also one that fails, settles whether the one unanswered call since the opening before it took
 -- place, and adds its line if so: from then on that line is in the history, or it never is. And each server stands by its history.
 pub record AreSettled {S : Type 0} (g : Ghosts S) (history : Histories g) : Type 0 where
-  pub new : (server : FailStop (Held S)) (came : ComesOf g [] server) (honest : IsHonest g server.store) → history [] server came honest ≡ []
-  pub call : (c : Call) (a : Answer) (before : List Operation) (server : FailStop (Held S)) (came : ComesOf g (called c a ∷ before) server) (honest : IsHonest g server.store)
+  pub new : (server : FailStop (Remembering (Held S))) (came : ComesOf g [] server) (honest : IsHonest g server.store) → history [] server came honest ≡ []
+  pub call : (c : Call) (a : Answer) (before : List Operation) (server : FailStop (Remembering (Held S))) (came : ComesOf g (called c a ∷ before) server) (honest : IsHonest g server.store)
       → GoesOn (history before came.0 came.1 (came.2.was_honest honest)) (c ∷ []) (a ∷ []) (history (called c a ∷ before) server came honest)
-  pub opening : (before : List Operation) (server : FailStop (Held S)) (came : ComesOf g (opened ∷ before) server) (honest : IsHonest g server.store)
+  pub opening : (before : List Operation) (server : FailStop (Remembering (Held S))) (came : ComesOf g (opened ∷ before) server) (honest : IsHonest g server.store)
       → AddsUnanswered before (history before came.0 came.2 came.3) (history (opened ∷ before) server came honest)
-  pub failed_opening : (before : List Operation) (server : FailStop (Held S)) (came : ComesOf g (unopened ∷ before) server) (honest : IsHonest g server.store)
+  pub failed_opening : (before : List Operation) (server : FailStop (Remembering (Held S))) (came : ComesOf g (unopened ∷ before) server) (honest : IsHonest g server.store)
       → AddsUnanswered before (history before came.0 came.2 came.3) (history (unopened ∷ before) server came honest)
-  pub stands : (operations : List Operation) (server : FailStop (Held S)) (came : ComesOf g operations server) (honest : IsHonest g server.store) → StandsBy g operations server (history operations server came honest)
+  pub stands : (operations : List Operation) (server : FailStop (Remembering (Held S))) (came : ComesOf g operations server) (honest : IsHonest g server.store) → StandsBy g operations server (history operations server came honest)
 
 -- there is such a history of each life
 abbrev pub HasOneHistory : {S : Type 0} → Ghosts S → Type 0

@@ -17,13 +17,13 @@ use ci_machine::request::{Request, Seed};
 use ci_server_events::events::plan_request;
 use ci_server_events::planned::{Beside, Clearing, Planned};
 use ci_server_events::sweeps::plan_sweep;
+use ci_server_lookups::searches::Searches;
 use ci_store::delta::Delta;
 use ci_store::fault::StoreFault;
-use ci_store::store::Store;
 use std::alloc::Global;
 
 /// Handles a request. The reply stands before the commit. Errors: the store's, and there is no step.
-pub(crate) fn handle<T: Store>(
+pub(crate) fn handle<T: Searches>(
     alloc: Global,
     store: &mut T,
     request: Request,
@@ -39,7 +39,7 @@ pub(crate) fn handle<T: Store>(
 }
 
 /// Sweeps: ends one lease that is over; where there is none, cancels one redundant pipeline, if there is one. Errors: as `handle`.
-pub(crate) fn sweep<T: Store>(
+pub(crate) fn sweep<T: Searches>(
     alloc: Global,
     store: &mut T,
     now: Moment,
@@ -53,7 +53,7 @@ pub(crate) fn sweep<T: Store>(
 }
 
 /// Makes the changes of a plan, with what changes beside them, if there are any, and gives its answer. Errors: the store's.
-fn commit<T: Store, A: Drop>(store: &mut T, clearing: Clearing<A>) -> Result<A, StoreFault>
+fn commit<T: Searches, A: Drop>(store: &mut T, clearing: Clearing<A>) -> Result<A, StoreFault>
     ensures was_honest { T.honest store.new → T.honest store.old }
     ensures ends { T.honest store.new → (k : Kept) → T.holds store.old k
         → let then = written clearing.planned.changes clearing.planned.beside.rows.items clearing.planned.beside.indexes.items (cleared clearing.cleared.items k) in

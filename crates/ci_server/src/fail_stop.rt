@@ -17,11 +17,11 @@ use ci_machine::reply::{Answer, Code, Reply, Swept};
 use ci_machine::report::{PipelineRows, QueueRow, RunnerRow};
 use ci_machine::request::{Event, Request, Seed};
 use ci_machine_laws::laws::{a_step_is_answered, sound_of_each_reached_state};
+use ci_server_lookups::searches::Searches;
 use ci_server_reports::pipeline::pipeline_rows;
 use ci_server_reports::queue::queue_rows;
 use ci_server_reports::runners::runner_rows;
 use ci_store::fault::StoreFault;
-use ci_store::store::Store;
 use std::alloc::{AllocError, Global};
 
 /// A store that events are handled over. It stops at the store's first fault: from then on it is closed, refuses each event
@@ -32,7 +32,7 @@ pub struct FailStop<T> {
     pub closed: bool,
 }
 
-impl<T: Store> FailStop<T> {
+impl<T: Searches> FailStop<T> {
     /// Handles a request: looks up what it needs, plans, and commits what the plan changes.
     pub(crate) fn handle(
         &mut self,

@@ -2,6 +2,7 @@
 
 ghost use Rattle.std.specs.Prelude.{List};
 ghost use Rattle.sqlite.specs.Held.{Held};
+ghost use Rattle.ci_memory.specs.declared.remembering.Remembering.{Remembering};
 ghost use Rattle.ci_machine.specs.declared.reply.Answer.{Answer};
 ghost use Rattle.ci_server.specs.declared.fail_stop.FailStop.{FailStop};
 ghost use Rattle.ci_server.specs.Handling.{Call};
@@ -26,9 +27,9 @@ use ci_store::Alter;
 /// some history of them leads to.
 pub fn no_step_is_lost<S: Alter>()
     ensures settled { HasOneHistory S.Store }
-    ensures kept { (operations : List Operation) (server : FailStop (Held S)) → ComesOf S.Store operations server → IsHonest S.Store server.store → LosesNoStep S.Store operations server }
-    ensures groups { (operations : List Operation) (server : FailStop (Held S)) → ComesOf S.Store operations server → IsHonest S.Store server.store → KeepsItsGroups S.Store operations server }
-    ensures runs { (operations : List Operation) (old new : FailStop (Held S)) (cs : List Call) (rs : List Answer) → ComesOf S.Store operations old → HandlesEach S.Store old cs rs new → ComesOf S.Store (called_each cs rs operations) new }
+    ensures kept { (operations : List Operation) (server : FailStop (Remembering (Held S))) → ComesOf S.Store operations server → IsHonest S.Store server.store → LosesNoStep S.Store operations server }
+    ensures groups { (operations : List Operation) (server : FailStop (Remembering (Held S))) → ComesOf S.Store operations server → IsHonest S.Store server.store → KeepsItsGroups S.Store operations server }
+    ensures runs { (operations : List Operation) (old new : FailStop (Remembering (Held S))) (cs : List Call) (rs : List Answer) → ComesOf S.Store operations old → HandlesEach S.Store old cs rs new → ComesOf S.Store (called_each cs rs operations) new }
 {
     laws_of_each_reached_state();
     a_step_is_answered();

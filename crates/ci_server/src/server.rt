@@ -3,6 +3,7 @@
 ghost use Rattle.std.specs.Prelude.{◌≡◌, ◌≢◌, ◌⊎◌, ◌∷◌, [], false, true, IfOk, IfErr, OnErr};
 ghost use Rattle.sqlite.specs.State.{HasCleanDisk};
 ghost use Rattle.sqlite.specs.Held.{state};
+ghost use Rattle.ci_memory.specs.declared.remembering.Remembering.{Remembering};
 ghost use Rattle.sqlite.specs.Tree.{Trees};
 ghost use Rattle.ci_machine.specs.declared.reply.Answer.TheVariants as answer;
 ghost use Rattle.ci_machine.specs.declared.request.Event.TheVariants as event;
@@ -11,6 +12,8 @@ ghost use Rattle.ci_machine.specs.Kept.{Kept, nothing_kept};
 ghost use Rattle.ci_store.specs.Create.{IsBlank};
 ghost use Rattle.ci_store.specs.Open.{Blames, IsFailure, LeavesNoMore};
 ghost use Rattle.ci_store.specs.Stands.{StandsIn, LeavesOnly};
+ghost use Rattle.ci_memory_queue.specs.Order.{RowsAscend};
+ghost use Rattle.ci_memory.specs.Right.{IsRight};
 ghost use Rattle.ci_server.specs.Reports.{Reports, TellsQueue, TellsPipelineAt, TellsRunners};
 ghost use Rattle.ci_server.specs.Server.{Handles, HandlesEach, Creates, Opens, closed_by_each, each_refused};
 ghost use Rattle.ci_server.specs.Runs.{Runs};
@@ -21,25 +24,28 @@ use ci_machine::reply::{Answer, Code, Reply, Swept};
 use ci_machine::report::{PipelineRows, QueueRow, RunnerRow};
 use ci_machine::request::{Event, Request, Seed};
 use ci_machine_laws::laws::{a_step_is_answered, laws_of_each_reached_state};
+use ci_memory::remembering::Remembering;
 use ci_store::tables::{OpenFault, Tables};
 use ci_store::{Alter, Connection};
 use std::alloc::{AllocError, Global};
 use std::marker::Model;
 
-/// A server over the tables of a store. From the first fault of the store on it is closed, and answers M17 to all.
+/// A server over the tables of a store, with what it remembers of them. From the first fault of the store on it is closed, and answers
+/// M17 to all.
 #[derive(Drop)]
 pub struct Server<S: Alter> {
-    inner: FailStop<Tables<S>>,
+    inner: FailStop<Remembering<Tables<S>>>,
 }
 
 impl<S: Alter> Model for Server<S> {
     ghost use Rattle.sqlite.specs.Held.{Held, held_code};
     ghost use Rattle.ci_server.specs.declared.fail_stop.FailStop.{FailStop};
-    ghost use Rattle.ci_server.specs.Server.{fail_stop_code};
+    ghost use Rattle.ci_memory.specs.declared.remembering.Remembering.{Remembering};
+    ghost use Rattle.ci_server.specs.Server.{fail_stop_code, remembering_code};
 
-    ghost Value = { FailStop (Held S) };
+    ghost Value = { FailStop (Remembering (Held S)) };
 
-    ghost coded = { fail_stop_code (held_code S.code) };
+    ghost coded = { fail_stop_code (remembering_code (held_code S.code)) };
 
     ghost view = { λ s. s.inner };
 
@@ -80,13 +86,14 @@ impl<S: Alter> Server<S> {
         }
     }
 
-    /// An open server over tables.
-    fn over(store: Tables<S>) -> Server<S>
-        ensures { result ≡ record { store = store; closed = false } }
+    /// An open server over tables, of which nothing is remembered yet.
+    fn over(tables: Tables<S>) -> Server<S>
+        ensures open { result ≡ record { store = record { store = tables; memory = result.store.memory }; closed = false } }
+        ensures right { (k : Kept) → RowsAscend k.board → IsRight result.store.memory k }
     {
         Server {
             inner: FailStop {
-                store,
+                store: Remembering::over(tables),
                 closed: false,
             },
         }
@@ -101,11 +108,12 @@ impl<S: Alter> Server<S> {
 
     /// Gives the connection back, for a reopening.
     pub fn close(self) -> Connection<S>
-        ensures same { result ≡ self.store }
+        ensures same { result ≡ self.store.store }
         ensures idle { result.in_transaction ≡ false }
     {
         let Server { inner } = self;
         let FailStop { store, closed: _ } = inner;
+        let Remembering { store, memory: _ } = store;
         store.close()
     }
 
@@ -176,7 +184,7 @@ impl<S: Alter> Server<S> {
         alloc: Global,
         calls: &[(Event, Moment, Seed)],
     ) -> Result<Vec<Answer>, AllocError>
-        ensures was_honest { HasCleanDisk (state S.Store self.new.store) → HasCleanDisk (state S.Store self.old.store) }
+        ensures was_honest { HasCleanDisk (state S.Store self.new.store.store) → HasCleanDisk (state S.Store self.old.store.store) }
         ensures each { IfOk result (λ answers. HandlesEach S.Store self.old calls.now answers.items self.new) }
         ensures run { IfOk result (λ answers. Runs S.Store self.old calls.now answers.items self.new) }
         ensures closes { IfOk result (λ answers. self.new.closed ≡ closed_by_each answers.items self.old.closed) }

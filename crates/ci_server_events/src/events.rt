@@ -25,12 +25,12 @@ use ci_machine::request::{Request, Seed};
 use ci_machine_statuses::act::Act;
 use ci_machine_statuses::holder_laws::indexes_stay;
 use ci_machine_statuses::laws::rows_stay;
+use ci_server_lookups::searches::Searches;
 use ci_store::fault::StoreFault;
-use ci_store::store::Store;
 use std::alloc::Global;
 
 /// What a request does: its reply, its changes, and what changes beside them, of which some goes first. Errors: the store's.
-pub fn plan_request<T: Store>(
+pub fn plan_request<T: Searches>(
     alloc: Global,
     store: &mut T,
     request: Request,

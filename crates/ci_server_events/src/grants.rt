@@ -23,13 +23,14 @@ use ci_machine_statuses::groups::held;
 use ci_machine_statuses::holder_laws::grant_is_indexed;
 use ci_machine_statuses::laws::grant_settles;
 use ci_machine_statuses::pending::started;
-use ci_server_lookups::search::{Offer, first_offer};
+use ci_server_lookups::search::Offer;
+use ci_server_lookups::searches::Searches;
 use ci_store::fault::StoreFault;
 use ci_store::store::Store;
 use std::alloc::Global;
 
 /// The runner with this token asks for a job.
-pub(crate) fn ask_job<T: Store>(
+pub(crate) fn ask_job<T: Searches>(
     alloc: Global,
     store: &mut T,
     token: Text,
@@ -46,7 +47,7 @@ pub(crate) fn ask_job<T: Store>(
 }
 
 /// The runner asks for a job.
-fn ask_for<T: Store>(
+fn ask_for<T: Searches>(
     alloc: Global,
     store: &mut T,
     runner: &Runner,
@@ -57,7 +58,7 @@ fn ask_for<T: Store>(
         (λ k p. IsKept k → let q = step.offer k.state k.board (Some runner.now) in
         PlansFor k ((p.answer, p.changes) ≡ machine.ask_job (Some runner.now) q (step.offered_variables k.state q) k.state.next.attempt now seed) p.changes p.beside) }
 {
-    match first_offer(store, runner)? {
+    match store.first_offer(alloc, runner)? {
         None => Ok(Planned::alone(alloc, grants::nothing_to_run(alloc))),
         Some(offer) => grant(alloc, store, runner, &offer, now, seed),
     }

@@ -1,5 +1,4 @@
 pub mod Keeps
 pub mod Held
 pub mod Records
-pub mod Redundant
 pub mod Search

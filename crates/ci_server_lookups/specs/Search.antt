@@ -1,27 +1,13 @@
 -- The first pending job that a runner may be given, as it is looked for over rows.
-use Rattle.std.specs.Prelude.{◌≡◌, ◌<◌, ℕ, Bool, false, List, length, find, Option, Some, None}
+use Rattle.std.specs.Prelude.{◌≡◌, ◌<◌, ℕ, List, length, Option, Some, None}
 use Rattle.ci_machine.specs.declared.records.Runner.{Runner}
-use Rattle.ci_machine.specs.declared.records.QueuedJob.{QueuedJob}
 use Rattle.ci_machine.specs.declared.records.BoardRow.{BoardRow}
-use Rattle.ci_machine.specs.declared.records.Holder.{Holder}
-use Rattle.ci_machine.specs.Eligible.{is_eligible}
-use Rattle.ci_machine.specs.Holders.{holders}
-use Rattle.ci_machine.specs.State.{State}
 use Rattle.ci_machine.specs.Kept.{Kept}
 use Rattle.ci_machine.specs.Statuses.{row_for}
 use Rattle.ci_machine_steps.specs.Step.{offer}
-use Rattle.ci_machine_statuses.specs.Pages.{queued_at, end_of_page}
+use Rattle.ci_machine_statuses.specs.Pages.{end_of_page}
 use Rattle.ci_store.specs.declared.store.TheConstants.{PAGE_ROWS}
 use Rattle.ci_server_lookups.specs.declared.search.Offer.{Offer}
-
--- there is such a job, and the runner may be given it
-abbrev pub is_found_eligible : Runner → List Holder → Option QueuedJob → Bool
-is_found_eligible runner holders None = false
-is_found_eligible runner holders (Some q) = is_eligible runner holders q
-
--- the first of the rows whose job the runner may be given
-abbrev pub first_row : State → Runner → List BoardRow → Option BoardRow
-first_row s runner rows = find (λ r. is_found_eligible runner (holders s) (queued_at s r)) rows
 
 -- What was found is the job that the runner is offered, with its row.
 abbrev pub IsOffered : Kept → Runner → Option Offer → Type 0

@@ -1,6 +1,7 @@
 //! Thousands of random events. After each one the rows that the store keeps beside its records are those that the records give: of
 //! statuses, of groups that are held, and of pipelines that aren't finished. Each runner is given the job that a rule of the tests' own
-//! chooses, each sweep does what that rule says, and each pipeline that is pruned is the one that it names.
+//! chooses, each sweep does what that rule says, and each pipeline that is pruned is the one that it names. The server is opened anew after
+//! each event, so it remembers nothing; another one, which goes on and remembers what came before, must answer the same.
 
 use crate::choices::{offer, prunable, sweep};
 use ci_machine::records::{Cause, Holder, RefKind};
@@ -217,17 +218,47 @@ fn is_foretold(
     }
 }
 
-/// One random event, and then a reopening. Errors: a row isn't the one that the records give, or the answer isn't as foretold.
+/// Are two answers the same?
+fn is_same(found: &Answer, wanted: &Answer) -> bool {
+    match (found, wanted) {
+        (Answer::Reply(a), Answer::Reply(b)) => {
+            a.status == b.status && a.code == b.code && a.body() == b.body()
+        }
+        (Answer::Swept(a), Answer::Swept(b)) => is_swept(a, b),
+        _ => false,
+    }
+}
+
+/// Has a server handle an event, and the other one too. Errors: they don't answer the same.
+fn told_twice(
+    alloc: Global,
+    server: &mut InMemory,
+    going: &mut InMemory,
+    moment: u64,
+    act: Act,
+) -> Result<Answer, Fail> {
+    let answer = tell(alloc, server, moment, act)?;
+    let other = tell(alloc, going, moment, act)?;
+    if is_same(&other, &answer) {
+        Ok(answer)
+    } else {
+        Err("another answer by what is remembered")?
+    }
+}
+
+/// One random event, and then a reopening. Errors: a row isn't the one that the records give, or the answer isn't as foretold, or
+/// that of the server which goes on is another.
 fn one_more(
     alloc: Global,
     mut server: InMemory,
+    going: &mut InMemory,
     before: &Whole,
     course: &mut Course,
 ) -> Result<(InMemory, Whole), Fail> {
     let act = course.act();
     let moment = course.moment();
     let attempt = course.attempts.saturating_add(1);
-    let answer = match tell(alloc, &mut server, moment, act) {
+    let answer = match told_twice(alloc, &mut server, going, moment, act) {
         Ok(answer) => answer,
         Err(fail) => {
             let_go(server);
@@ -250,8 +281,8 @@ fn one_more(
     }
 }
 
-/// A server with the runners and a pipeline of each project, and all that it keeps.
-fn begun(alloc: Global) -> Result<(InMemory, Whole), Fail> {
+/// A server with the runners and a pipeline of each project.
+fn begun(alloc: Global) -> Result<InMemory, Fail> {
     let [project, _, _, pipeline, _] = PATH;
     let [first, second, third, fourth] = RUNNERS;
     let before = [
@@ -266,13 +297,13 @@ fn begun(alloc: Global) -> Result<(InMemory, Whole), Fail> {
         pipeline,
         Act::CreatePipeline(2),
     ];
-    let (conn, whole) = rightly_whole(alloc, left(after(alloc, &before)?))?;
-    Ok((over(conn)?, whole))
+    after(alloc, &before)
 }
 
-/// So many random events. What came of them?
-fn many(alloc: Global, seed: u64, events: usize) -> Result<Course, Fail> {
-    let (mut server, mut whole) = begun(alloc)?;
+/// So many random events, also for a server that goes on. What came of them?
+fn many(alloc: Global, going: &mut InMemory, seed: u64, events: usize) -> Result<Course, Fail> {
+    let (conn, mut whole) = rightly_whole(alloc, left(begun(alloc)?))?;
+    let mut server = over(conn)?;
     let mut course = Course {
         seed,
         pipelines: 2,
@@ -282,7 +313,7 @@ fn many(alloc: Global, seed: u64, events: usize) -> Result<Course, Fail> {
         pruned: 0,
     };
     for _ in 0..events {
-        let (next, after) = one_more(alloc, server, &whole, &mut course)?;
+        let (next, after) = one_more(alloc, server, going, &whole, &mut course)?;
         server = next;
         whole = after;
     }
@@ -292,7 +323,10 @@ fn many(alloc: Global, seed: u64, events: usize) -> Result<Course, Fail> {
 
 /// Random events of this seed are answered rightly, and of each kind there are some.
 fn go_right(rt: &impl Abort, alloc: Global, seed: u64) -> Result<(), Fail> {
-    let course = many(alloc, seed, 1000)?;
+    let mut going = begun(alloc)?;
+    let course = many(alloc, &mut going, seed, 1000);
+    let_go(going);
+    let course = course?;
     let (attempts, refused, cancelled) = (course.attempts, course.refused, course.cancelled);
     let pruned = course.pruned;
     assert!(rt; attempts > 20, "{attempts} attempts");

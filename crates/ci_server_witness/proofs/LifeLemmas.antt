@@ -6,6 +6,7 @@ use Rattle.std.proofs.Common.{◌≡◌, ◌⊎◌, inl, inr, List, [], ◌∷�
 use Rattle.std.specs.Fmt.{digits}
 use Rattle.hex.proofs.OnLiterals.{hex_on_literals}
 use Rattle.sqlite.specs.Held.{Held}
+use Rattle.ci_memory.specs.declared.remembering.Remembering.{Remembering}
 use Rattle.sqlite.specs.Steps.{over_memory}
 use Rattle.sqlite.proofs.Callers.{memory_is_clean}
 use Rattle.sqlite_trees.specs.declared.memory.MemStore.{MemStore}
@@ -72,10 +73,10 @@ use Rattle.ci_server_witness.specs.Life.{file_text, new_file, owner, configured,
 pub created_at : (conn : Held MemStore) (new : InMemory) → Creates over_memory conn new → IsOpenAt [] empty new
 created_at conn new made = record {
   came = (conn, inl made);
-  honest = memory_is_clean new.store;
+  honest = memory_is_clean new.store.store;
   is_open = made.is_open;
   reached = ([], refl);
-  holds = made.holds (memory_is_clean new.store);
+  holds = made.holds (memory_is_clean new.store.store);
 }
 
 pub uncreated : (fault : OpenFault) → (fault ≡ O1 → ⊥) → (fault ≡ O2 → ⊥) → IsFailure fault
@@ -93,10 +94,10 @@ reply_in (answer.Swept swept) = refusal M16
 module _ (ops : List Operation) (s : State) (request : Request) (plan : Plan) (old new : InMemory) (reply : Reply) (was : IsOpenAt ops s old) (is : IsPlanned s request plan)
     (handled : Handles over_memory old (at_1000 request) new (answer.Reply reply)) where
   abbrev Ended : Type 0
-  Ended = Handled (λ (h : Held MemStore) t. HoldsIn over_memory t h) (λ (h : Held MemStore) t u. LeavesIn over_memory t u h) (at_1000 request) s new.store new.closed (answer.Reply reply)
+  Ended = Handled (λ (h : Remembering (Held MemStore)) t. HoldsIn over_memory t h) (λ (h : Remembering (Held MemStore)) t u. LeavesIn over_memory t u h) (at_1000 request) s new.store new.closed (answer.Reply reply)
 
   ended : Ended
-  ended = handled.while_open was.is_open (memory_is_clean new.store) s was.reached was.holds
+  ended = handled.while_open was.is_open (memory_is_clean new.store.store) s was.reached was.holds
 
   goes_on : Ended → reply.code ≡ None → IsOpenAt (planned request plan ∷ ops) (applied plan.1 s) new
   goes_on (answered t step held is_open) made =
@@ -104,7 +105,7 @@ module _ (ops : List Operation) (s : State) (request : Request) (plan : Plan) (o
       let to : t ≡ applied plan.1 s = step.state ∙ ap (λ (p : Plan). applied p.1 s) same in
       record {
         came = (old, was.came, subst (λ (p : Plan). Handles over_memory old (at_1000 request) new (answer.Reply p.0)) same handled);
-        honest = memory_is_clean new.store;
+        honest = memory_is_clean new.store.store;
         is_open = is_open;
         reached = subst IsReached to ((record { before = s; event = event.Request request; now = 1000; seed = seed; answer = answer.Reply reply }) ∷ was.reached.0, (was.reached.1, step));
         holds = subst (λ (u : State). HoldsIn over_memory u new.store) to held;
@@ -291,14 +292,14 @@ plans_grant = record {
 -- ---- the server is opened again
 
 -- over memory a closed server is what a stop leaves of it
-pub reopened_at : (ops : List Operation) (s : State) (old new : InMemory) → IsOpenAt ops s old → Opens over_memory old.store new → IsOpenAt (opened ∷ ops) s new
+pub reopened_at : (ops : List Operation) (s : State) (old new : InMemory) → IsOpenAt ops s old → Opens over_memory old.store.store new → IsOpenAt (opened ∷ ops) s new
 reopened_at ops s old new was opens =
     record {
-      came = (old, old.store, was.came, memory_is_clean old.store, record { is_open = was.holds.held.is_open; left = refl }, opens);
-      honest = memory_is_clean new.store;
+      came = (old, old.store.store, was.came, memory_is_clean old.store.store, record { is_open = was.holds.held.0.is_open; left = refl }, opens);
+      honest = memory_is_clean new.store.store;
       is_open = opens.is_open;
       reached = was.reached;
-      holds = opens.holds (memory_is_clean new.store) s was.holds.kept was.holds.is_of was.holds.held.left;
+      holds = opens.holds (memory_is_clean new.store.store) s was.holds.kept was.holds.is_of was.holds.held.0.left;
     }
 
 -- ---- the state after the grant, computed

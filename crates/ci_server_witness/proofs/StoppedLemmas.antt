@@ -4,6 +4,7 @@ use Rattle.std.proofs.Common.{◌≡◌, ◌⊎◌, inl, inr, ⊎_elim, List, []
 use Rattle.sqlite.specs.Tree.{Trees}
 use Rattle.sqlite.specs.Store.{Ghosts}
 use Rattle.sqlite.specs.Held.{Held, state}
+use Rattle.ci_memory.specs.declared.remembering.Remembering.{Remembering}
 use Rattle.ci_machine.specs.declared.request.Request.{Request}
 use Rattle.ci_machine.specs.declared.request.Request.TheVariants.{AddProject, AddRunner, SetFile, CreatePipeline, AskJob}
 use Rattle.ci_machine.specs.declared.request.Event.TheVariants as event
@@ -66,7 +67,7 @@ leads_on h k s request plan is was u same t leads =
 module _ {S : Type 0} (g : Ghosts S) (history : Histories g) (are : AreSettled g history) where
   -- the history of each server that came of the operations leads to this state alone
   abbrev AllLead : List Operation → State → Type 0
-  AllLead ops s = (server : FailStop (Held S)) (came : ComesOf g ops server) (honest : IsHonest g server.store) → LeadsTo (history ops server came honest) s
+  AllLead ops s = (server : FailStop (Remembering (Held S))) (came : ComesOf g ops server) (honest : IsHonest g server.store) → LeadsTo (history ops server came honest) s
 
   begins : AllLead [] empty
   begins server came honest t leads = subst (λ (l : List Past). Leads l t) (are.new server came honest) leads
@@ -92,7 +93,7 @@ module _ {S : Type 0} (g : Ghosts S) (history : Histories g) (are : AreSettled g
 
     -- ---- the failure
 
-    failed_same : (server : FailStop (Held S)) (came : ComesOf g until_failure server) (honest : IsHonest g server.store)
+    failed_same : (server : FailStop (Remembering (Held S))) (came : ComesOf g until_failure server) (honest : IsHonest g server.store)
         → history until_failure server came honest ≡ history before_grant came.0 came.1 (came.2.was_honest honest)
     failed_same server came honest = are.call (at_1000 (AskJob token)) (answer.Reply (refusal M17)) before_grant server came honest
 
@@ -110,7 +111,7 @@ module _ {S : Type 0} (g : Ghosts S) (history : Histories g) (are : AreSettled g
         let of = of_reply with_pipeline t (AskJob token) granted a plans_grant step in
         ((λ i. line (at i) (its i) (of.0 i)), of.1)
 
-    stopped_at : (server : FailStop (Held S)) → ComesOf g until_failure server → IsHonest g server.store → IsStopped g server
+    stopped_at : (server : FailStop (Remembering (Held S))) → ComesOf g until_failure server → IsHonest g server.store → IsStopped g server
     stopped_at server came honest =
         let stands = are.stands until_failure server came honest in
         let leads = failed_leads server came honest in
@@ -129,7 +130,7 @@ module _ {S : Type 0} (g : Ghosts S) (history : Histories g) (are : AreSettled g
 
     -- ---- the opening
 
-    settled_at : (server : FailStop (Held S)) (came : ComesOf g stopped_life server) (honest : IsHonest g server.store)
+    settled_at : (server : FailStop (Remembering (Held S))) (came : ComesOf g stopped_life server) (honest : IsHonest g server.store)
         → IsSettledAs g (history before_grant came.2.0 came.2.1 (came.2.2.was_honest came.3)) (history stopped_life server came honest) server
     settled_at server came honest =
         let stands = are.stands stopped_life server came honest in

@@ -2,6 +2,7 @@
 -- is granted the job, and the server is closed and opened again.
 use Rattle.std.specs.Prelude.{◌≡◌, ◌⊎◌, ℕ, false, List, [], ◌∷◌, None, codes}
 use Rattle.sqlite.specs.Held.{Held}
+use Rattle.ci_memory.specs.declared.remembering.Remembering.{Remembering}
 use Rattle.sqlite.specs.Steps.{over_memory}
 use Rattle.sqlite_trees.specs.declared.memory.MemStore.{MemStore}
 use Rattle.ci_values.specs.declared.attempts.AttemptState.TheVariants.{Live}
@@ -110,7 +111,7 @@ abbrev pub life : List Operation
 life = opened ∷ until_grant
 
 abbrev pub InMemory : Type 0
-InMemory = FailStop (Held MemStore)
+InMemory = FailStop (Remembering (Held MemStore))
 
 -- The server came of these operations, and its disk returned what was written; it is open, and holds this state, to which a history leads.
 pub record IsOpenAt (operations : List Operation) (s : State) (server : InMemory) : Type 0 where

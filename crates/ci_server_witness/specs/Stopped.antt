@@ -3,6 +3,7 @@ use Rattle.std.specs.Prelude.{◌≡◌, ◌⊎◌, true, List, ◌∷◌}
 use Rattle.sqlite.specs.Tree.{Trees}
 use Rattle.sqlite.specs.Store.{Ghosts}
 use Rattle.sqlite.specs.Held.{Held, state}
+use Rattle.ci_memory.specs.declared.remembering.Remembering.{Remembering}
 use Rattle.ci_machine.specs.declared.request.Request.TheVariants.{AskJob}
 use Rattle.ci_machine.specs.declared.reply.Answer.TheVariants as answer
 use Rattle.ci_machine.specs.declared.reply.Code.TheVariants.{M17}
@@ -30,22 +31,22 @@ abbrev pub grant_line : Past
 grant_line = line with_pipeline (at_1000 (AskJob token)) (answer.Reply granted.0)
 
 -- Before it is opened again: it is closed, and each file that a stop may leave is of the state before the grant, or of the one after it.
-pub record IsStopped {S : Type 0} (g : Ghosts S) (server : FailStop (Held S)) : Type 0 where
+pub record IsStopped {S : Type 0} (g : Ghosts S) (server : FailStop (Remembering (Held S))) : Type 0 where
   pub is_closed : server.closed ≡ true
-  pub left : (db : Trees) → (state g server.store).may_leave db → IsFileOf with_pipeline db ⊎ IsFileOf with_attempt db
+  pub left : (db : Trees) → (state g server.store.store).may_leave db → IsFileOf with_pipeline db ⊎ IsFileOf with_attempt db
 
 -- By the history h before the failure, what is settled once the server is opened again: the grant did not take place, and the server holds the
 -- state before it; or it did, its line is in the history for good, and the server holds the state after it.
-pub data IsSettledAs {S : Type 0} (g : Ghosts S) (h settled : List Past) (server : FailStop (Held S)) : Type 0 where
+pub data IsSettledAs {S : Type 0} (g : Ghosts S) (h settled : List Past) (server : FailStop (Remembering (Held S))) : Type 0 where
   not_granted : settled ≡ h → HoldsIn g with_pipeline server.store → IsSettledAs g h settled server
   was_granted : settled ≡ grant_line ∷ h → HoldsIn g with_attempt server.store → IsSettledAs g h settled server
 
 -- Of each server over these stores that came of this life: what a stop may leave of it, what is settled once it is opened again, and that the grant
 -- is held where a stop left the file that the commit was to make.
 pub record NamesStoppedLife {S : Type 0} (g : Ghosts S) : Type 0 where
-  pub stopped : (server : FailStop (Held S)) → ComesOf g until_failure server → IsHonest g server.store → IsStopped g server
-  pub settled : (history : Histories g) → AreSettled g history → (server : FailStop (Held S)) (came : ComesOf g stopped_life server) (honest : IsHonest g server.store)
+  pub stopped : (server : FailStop (Remembering (Held S))) → ComesOf g until_failure server → IsHonest g server.store → IsStopped g server
+  pub settled : (history : Histories g) → AreSettled g history → (server : FailStop (Remembering (Held S))) (came : ComesOf g stopped_life server) (honest : IsHonest g server.store)
       → let old = came.2.0 in
       let was_honest = came.2.2.was_honest came.3 in
       IsSettledAs g (history before_grant old came.2.1 was_honest) (history stopped_life server came honest) server
-  pub committed : (server : FailStop (Held S)) (came : ComesOf g stopped_life server) → IsHonest g server.store → StandsFor with_attempt (state g came.1).committed.trees → HoldsIn g with_attempt server.store
+  pub committed : (server : FailStop (Remembering (Held S))) (came : ComesOf g stopped_life server) → IsHonest g server.store → StandsFor with_attempt (state g came.1).committed.trees → HoldsIn g with_attempt server.store

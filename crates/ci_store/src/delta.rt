@@ -6,7 +6,7 @@ use ci_machine::change::{IndexChange, RowChange};
 use ci_machine::records::BoardRow;
 use std::marker::Model;
 
-/// What one commit writes. It has to be spent: it can't be dropped, and only a commit takes it apart.
+/// What one commit writes. It may be read, and has to be spent: it can't be dropped, and only a commit takes it apart.
 pub struct Delta {
     changes: Vec<RowChange>,
     rows: Vec<BoardRow>,
@@ -60,6 +60,27 @@ impl Delta {
             indexes,
             cleared,
         }
+    }
+
+    /// The changes of records, lent.
+    pub fn changes(&self) -> &[RowChange]
+        ensures { result.now ≡ self.now.changes }
+    {
+        self.changes.as_slice()
+    }
+
+    /// The rows of statuses that are put, lent.
+    pub fn rows(&self) -> &[BoardRow]
+        ensures { result.now ≡ self.now.rows }
+    {
+        self.rows.as_slice()
+    }
+
+    /// The changes of the groups that are held and of the pipelines that aren't finished, lent.
+    pub fn indexes(&self) -> &[IndexChange]
+        ensures { result.now ≡ self.now.indexes }
+    {
+        self.indexes.as_slice()
     }
 
     /// Spends the delta, and gives its lists: the changes, the rows that are put, the changes of indexes, and the jobs whose rows go.

@@ -1,6 +1,7 @@
 use Rattle.std.specs.Prelude.{IfOk}
 use Rattle.std.proofs.Common.{subst}
 use Rattle.sqlite.specs.Held.{Held}
+use Rattle.ci_memory.specs.declared.remembering.Remembering.{Remembering}
 use Rattle.ci_server.specs.Holding.{HoldsIn, LeavesIn}
 use Rattle.ci_server.specs.Server.{IsHonest, HandlesEach}
 use Rattle.ci_server.proofs.Runs.{run_of_each, closes_each, refuses_each, ok_then}
@@ -19,17 +20,17 @@ returns-clause-run g c =
 pub returns-clause-closes : goal.returns-clause-closes
 returns-clause-closes g c =
     ok_then c.run.result
-    (λ answers each. closes_each (IsHonest g.S.Store) (λ (t : Held _) u. HoldsIn g.S.Store u t) (λ (t : Held _) u v. LeavesIn g.S.Store u v t) c.args.self.now c.run.new.self c.args.calls.now answers.items each)
+    (λ answers each. closes_each (IsHonest g.S.Store) (λ (t : Remembering (Held _)) u. HoldsIn g.S.Store u t) (λ (t : Remembering (Held _)) u v. LeavesIn g.S.Store u v t) c.args.self.now c.run.new.self c.args.calls.now answers.items each)
     (returns-clause-each g c)
 
 pub returns-clause-refused : goal.returns-clause-refused
 returns-clause-refused g c = λ shut.
     ok_then c.run.result
-    (λ answers each. (refuses_each (IsHonest g.S.Store) (λ (t : Held _) u. HoldsIn g.S.Store u t) (λ (t : Held _) u v. LeavesIn g.S.Store u v t) c.args.self.now c.run.new.self c.args.calls.now answers.items each shut).0)
+    (λ answers each. (refuses_each (IsHonest g.S.Store) (λ (t : Remembering (Held _)) u. HoldsIn g.S.Store u t) (λ (t : Remembering (Held _)) u v. LeavesIn g.S.Store u v t) c.args.self.now c.run.new.self c.args.calls.now answers.items each shut).0)
     (returns-clause-each g c)
 
 pub returns-clause-untouched : goal.returns-clause-untouched
 returns-clause-untouched g c = λ shut.
     ok_then c.run.result
-    (λ answers each. (refuses_each (IsHonest g.S.Store) (λ (t : Held _) u. HoldsIn g.S.Store u t) (λ (t : Held _) u v. LeavesIn g.S.Store u v t) c.args.self.now c.run.new.self c.args.calls.now answers.items each shut).1)
+    (λ answers each. (refuses_each (IsHonest g.S.Store) (λ (t : Remembering (Held _)) u. HoldsIn g.S.Store u t) (λ (t : Remembering (Held _)) u v. LeavesIn g.S.Store u v t) c.args.self.now c.run.new.self c.args.calls.now answers.items each shut).1)
     (returns-clause-each g c)

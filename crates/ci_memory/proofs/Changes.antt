@@ -1,0 +1,68 @@
+-- What changes leave as it was.
+use Rattle.std.specs.Prelude.{◌≡◌, ℕ, ◌+◌, ◌<◌, Bool, true, false, List, [], ◌∷◌, ◌||◌, ◌++◌, length, take, slice_index_or}
+use Rattle.std.specs.List.{list_any}
+use Rattle.std.proofs.Common.{refl, sym, ap, ◌∙◌}
+use Rattle.std.proofs.lemmas.Bool.{false≢true}
+use Rattle.std.proofs.lemmas.List.{take_more}
+use Rattle.ci_machine.specs.declared.change.IndexChange.{IndexChange}
+use Rattle.ci_machine.specs.declared.change.IndexChange.TheVariants.{Hold, Free, Open, Close}
+use Rattle.ci_machine.specs.Kept.{Kept, indexed, indexed_all}
+use Rattle.ci_machine_steps.proofs.Created.{applied_append}
+use Rattle.ci_machine.specs.declared.change.Key.TheVariants as key
+use Rattle.ci_machine.specs.declared.change.Record.TheVariants as row
+use Rattle.ci_machine.specs.declared.change.RowChange.{RowChange}
+use Rattle.ci_machine.specs.declared.change.RowChange.TheVariants.{Put, Remove}
+use Rattle.ci_machine.specs.State.{State, changed, applied}
+use Rattle.ci_memory.specs.Runners.{is_of_runner}
+
+-- a change that is not of a runner leaves the runners
+runners_stay : (c : RowChange) (s : State) → is_of_runner c ≡ false → (changed c s).runners ≡ s.runners
+runners_stay (Put (row.Project x)) s e = refl
+runners_stay (Put (row.Variable x)) s e = refl
+runners_stay (Put (row.Runner x)) s e = absurd (false≢true (sym e))
+runners_stay (Put (row.Pipeline x)) s e = refl
+runners_stay (Put (row.Job x)) s e = refl
+runners_stay (Put (row.JobVariable x)) s e = refl
+runners_stay (Put (row.Need x)) s e = refl
+runners_stay (Put (row.Attempt x)) s e = refl
+runners_stay (Put (row.Piece x)) s e = refl
+runners_stay (Put (row.Next counter n)) s e = refl
+runners_stay (Remove (key.Project n)) s e = refl
+runners_stay (Remove (key.Variable n m)) s e = refl
+runners_stay (Remove (key.Runner n)) s e = absurd (false≢true (sym e))
+runners_stay (Remove (key.Pipeline n)) s e = refl
+runners_stay (Remove (key.Job n)) s e = refl
+runners_stay (Remove (key.JobVariable n m)) s e = refl
+runners_stay (Remove (key.JobVariables n)) s e = refl
+runners_stay (Remove (key.Need n m)) s e = refl
+runners_stay (Remove (key.Needs n)) s e = refl
+runners_stay (Remove (key.Attempt n)) s e = refl
+runners_stay (Remove (key.Piece n m)) s e = refl
+runners_stay (Remove (key.Pieces n)) s e = refl
+
+first : (a b : Bool) → (a || b) ≡ false → a ≡ false
+first true b e = absurd (false≢true (sym e))
+first false b e = refl
+
+later : (a b : Bool) → (a || b) ≡ false → b ≡ false
+later true b e = absurd (false≢true (sym e))
+later false b e = e
+
+-- and so do changes none of which is of a runner
+pub all_runners_stay : (cs : List RowChange) (s : State) → list_any is_of_runner cs ≡ false → (applied cs s).runners ≡ s.runners
+all_runners_stay [] s none = refl
+all_runners_stay (c ∷ cs) s none =
+    all_runners_stay cs (changed c s) (later (is_of_runner c) (list_any is_of_runner cs) none) ∙ runners_stay c s (first (is_of_runner c) (list_any is_of_runner cs) none)
+
+-- the state after one change more of a list
+pub one_more : (cs : List RowChange) (i : ℕ) (c : RowChange) (s : State) → i < length cs → c ≡ slice_index_or cs i c → changed c (applied (take i cs) s) ≡ applied (take (i + 1) cs) s
+one_more cs i c s within at =
+    sym (ap (λ (l : List RowChange). applied l s) (take_more cs i c within ∙ ap (λ (x : RowChange). take i cs ++ x ∷ []) (sym at)) ∙ applied_append (take i cs) (c ∷ []) s)
+
+-- changes of indexes leave the state
+pub state_stays : (cs : List IndexChange) (k : Kept) → (indexed_all cs k).state ≡ k.state
+state_stays [] k = refl
+state_stays (Hold h ∷ cs) k = state_stays cs (indexed (Hold h) k)
+state_stays (Free p g ∷ cs) k = state_stays cs (indexed (Free p g) k)
+state_stays (Open u ∷ cs) k = state_stays cs (indexed (Open u) k)
+state_stays (Close n ∷ cs) k = state_stays cs (indexed (Close n) k)

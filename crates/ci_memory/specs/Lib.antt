@@ -1,0 +1,4 @@
+pub mod Numbers
+pub mod Runners
+pub mod Remembered
+pub mod Right

@@ -1,0 +1,14 @@
+-- What is remembered of a store, in its parts.
+use Rattle.std.specs.Prelude.{Option}
+use Rattle.ci_memory_leases.specs.declared.memory.Leases.{Leases}
+use Rattle.ci_memory_pipelines.specs.declared.open.Open.{Open}
+use Rattle.ci_memory_queue.specs.declared.queue.Queue.{Queue}
+use Rattle.ci_memory.specs.declared.numbers.NextNumbers.{NextNumbers}
+use Rattle.ci_memory.specs.declared.runners.Runners.{Runners}
+
+pub record Remembered : Type 0 where
+  pub numbers : NextNumbers
+  pub runners : Runners
+  pub queue : Option Queue
+  pub leases : Leases
+  pub pipelines : Option Open

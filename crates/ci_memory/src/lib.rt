@@ -1,0 +1,7 @@
+//! What a server remembers of its store, so that it is not looked up again: a store over a store.
+#![tactic(auto)]
+
+pub mod memory;
+pub mod numbers;
+pub mod remembering;
+pub mod runners;

@@ -1,0 +1,71 @@
+//! What is remembered of a store.
+
+ghost use Rattle.ci_machine.specs.Kept.{Kept, cleared, written};
+ghost use Rattle.ci_memory_queue.specs.Order.{RowsAscend};
+ghost use Rattle.ci_memory.specs.Right.{IsRight};
+
+use crate::numbers::NextNumbers;
+use crate::runners::Runners;
+use ci_memory_leases::memory::Leases;
+use ci_memory_pipelines::after::open_after;
+use ci_memory_pipelines::open::Open;
+use ci_memory_queue::after::queue_after;
+use ci_memory_queue::queue::Queue;
+use ci_store::delta::Delta;
+use std::marker::Model;
+
+/// What is remembered of a store. None of it need be.
+#[derive(Drop)]
+pub struct Memory {
+    pub(crate) numbers: NextNumbers,
+    pub(crate) runners: Runners,
+    /// The pending jobs, by what they ask of a runner.
+    pub(crate) queue: Option<Queue>,
+    /// Until when no lease is over.
+    pub(crate) leases: Leases,
+    /// The unfinished pipelines, and of which there is no newer one.
+    pub(crate) pipelines: Option<Open>,
+}
+
+impl Model for Memory {
+    ghost use Rattle.ci_memory.specs.Remembered.{Remembered};
+
+    ghost Value = { Remembered };
+
+    ghost view = { λ m. record { numbers = m.numbers; runners = m.runners; queue = m.queue; leases = m.leases; pipelines = m.pipelines } };
+}
+
+impl Memory {
+    /// Nothing is remembered.
+    pub fn nothing() -> Memory
+        ensures { (k : Kept) → RowsAscend k.board → IsRight result k }
+    {
+        Memory {
+            numbers: NextNumbers::unknown(),
+            runners: Runners::Unknown,
+            queue: None,
+            leases: Leases::unknown(),
+            pipelines: None,
+        }
+    }
+
+    /// What is remembered after a commit.
+    pub(crate) fn after(self, delta: &Delta) -> Memory
+        ensures { (k : Kept) → IsRight self k → IsRight result (written delta.now.changes delta.now.rows delta.now.indexes (cleared delta.now.cleared k)) }
+    {
+        let Memory {
+            numbers,
+            runners,
+            queue,
+            leases,
+            pipelines,
+        } = self;
+        Memory {
+            numbers: numbers.after(delta.changes()),
+            runners: runners.after(delta.changes()),
+            queue: queue_after(queue, delta.changes(), delta.rows()),
+            leases: leases.after(delta.changes()),
+            pipelines: open_after(pipelines, delta.changes(), delta.indexes()),
+        }
+    }
+}

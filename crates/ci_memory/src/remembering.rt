@@ -1,0 +1,243 @@
+//! A store over a store, of which it remembers something: what is remembered is not looked up.
+
+ghost use Rattle.std.specs.Prelude.{◌≡◌};
+ghost use Rattle.ci_machine.specs.Kept.{Kept};
+ghost use Rattle.ci_store.specs.Store.{LoadsBy};
+ghost use Rattle.ci_server_lookups.specs.Keeps.{IsKept};
+ghost use Rattle.ci_server_lookups.specs.Search.{IsOffered};
+ghost use Rattle.ci_memory_queue.specs.Order.{RowsAscend};
+ghost use Rattle.ci_memory.specs.Right.{IsRight};
+
+use crate::memory::Memory;
+use crate::runners::{Runners, with_token};
+use ci_machine::change::Counter;
+use ci_machine::lease::Lease;
+use ci_machine::moment::Moment;
+use ci_machine::records::{
+    Attempt, BoardRow, Demand, Holder, Job, JobVariable, Need, Piece, Pipeline, Project, Runner,
+    Unfinished, Variable,
+};
+use ci_machine::text::Text;
+use ci_memory_leases::due;
+use ci_memory_pipelines::redundant;
+use ci_memory_queue::offer;
+use ci_server_lookups::search::Offer;
+use ci_server_lookups::searches::Searches;
+use ci_store::delta::Delta;
+use ci_store::fault::StoreFault;
+use ci_store::store::Store;
+use std::alloc::Global;
+use std::mem;
+
+/// A store, with what is remembered of it.
+#[derive(Drop)]
+pub struct Remembering<T> {
+    pub store: T,
+    pub memory: Memory,
+}
+
+impl<T: Store> Remembering<T> {
+    /// A store of which nothing is remembered yet.
+    pub fn over(store: T) -> Remembering<T>
+        ensures store { result.store ≡ store }
+        ensures right { (k : Kept) → RowsAscend k.board → IsRight result.memory k }
+    {
+        Remembering {
+            store,
+            memory: Memory::nothing(),
+        }
+    }
+}
+
+impl<T: Store> Store for Remembering<T> {
+    ghost use Rattle.ci_memory.specs.Right.{IsRight};
+
+    ghost honest = { λ m. T.honest m.store };
+
+    ghost holds = { λ m k. T.holds m.store k × IsRight m.memory k };
+
+    ghost leaves = { λ m k l. T.leaves m.store k l };
+
+    ghost held_is_left = { λ m k held. T.held_is_left m.store k held.0 };
+
+    fn next(&mut self, counter: Counter) -> Result<u64, StoreFault> {
+        if let Some(number) = self.memory.numbers.of(counter) {
+            return Ok(number);
+        }
+        let number = self.store.next(counter)?;
+        self.memory.numbers.learn(counter, number);
+        Ok(number)
+    }
+
+    fn project(&mut self, id: u64) -> Result<Option<Project>, StoreFault> {
+        self.store.project(id)
+    }
+
+    fn project_with(&mut self, token: &Text) -> Result<Option<Project>, StoreFault> {
+        self.store.project_with(token)
+    }
+
+    fn variables_of(&mut self, project: u64) -> Result<Vec<Variable>, StoreFault> {
+        self.store.variables_of(project)
+    }
+
+    fn variable(&mut self, project: u64, key: &Text) -> Result<Option<Variable>, StoreFault> {
+        self.store.variable(project, key)
+    }
+
+    fn runner(&mut self, id: u64) -> Result<Option<Runner>, StoreFault> {
+        self.store.runner(id)
+    }
+
+    fn runner_with(&mut self, token: &Text) -> Result<Option<Runner>, StoreFault> {
+        match &self.memory.runners {
+            Runners::All(runners) => Ok(with_token(runners.as_slice(), token)?),
+            Runners::Many => self.store.runner_with(token),
+            Runners::Unknown => {
+                let runners = self.store.runners()?;
+                let found = with_token(runners.as_slice(), token)?;
+                self.memory.runners = Runners::of(runners);
+                Ok(found)
+            }
+        }
+    }
+
+    fn runners(&mut self) -> Result<Vec<Runner>, StoreFault> {
+        self.store.runners()
+    }
+
+    fn pipeline(&mut self, id: u64) -> Result<Option<Pipeline>, StoreFault> {
+        self.store.pipeline(id)
+    }
+
+    fn job(&mut self, id: u64) -> Result<Option<Job>, StoreFault> {
+        let found = self.store.job(id)?;
+        if let Some(job) = &found {
+            self.memory.leases.learn(job, id);
+        }
+        Ok(found)
+    }
+
+    fn demand(&mut self, id: u64) -> Result<Option<Demand>, StoreFault> {
+        self.store.demand(id)
+    }
+
+    fn job_variables(&mut self, job: u64) -> Result<Vec<JobVariable>, StoreFault> {
+        self.store.job_variables(job)
+    }
+
+    fn attempt(&mut self, id: u64) -> Result<Option<Attempt>, StoreFault> {
+        self.store.attempt(id)
+    }
+
+    fn attempts_of(&mut self, job: u64) -> Result<Vec<Attempt>, StoreFault> {
+        self.store.attempts_of(job)
+    }
+
+    fn last_attempt_by(&mut self, runner: u64) -> Result<Option<Attempt>, StoreFault> {
+        self.store.last_attempt_by(runner)
+    }
+
+    fn live_attempts(&mut self) -> Result<Vec<Attempt>, StoreFault> {
+        self.store.live_attempts()
+    }
+
+    fn pieces_of(&mut self, attempt: u64) -> Result<Vec<Piece>, StoreFault> {
+        self.store.pieces_of(attempt)
+    }
+
+    fn jobs_of(&mut self, pipeline: u64) -> Result<Vec<Job>, StoreFault> {
+        self.store.jobs_of(pipeline)
+    }
+
+    fn needs_within(&mut self, first: u64, last: u64) -> Result<Vec<Need>, StoreFault> {
+        self.store.needs_within(first, last)
+    }
+
+    fn attempts_within(&mut self, first: u64, last: u64) -> Result<Vec<Attempt>, StoreFault> {
+        self.store.attempts_within(first, last)
+    }
+
+    fn rows_within(&mut self, first: u64, last: u64) -> Result<Vec<BoardRow>, StoreFault> {
+        self.store.rows_within(first, last)
+    }
+
+    fn row(&mut self, job: u64) -> Result<Option<BoardRow>, StoreFault> {
+        self.store.row(job)
+    }
+
+    fn pending_after(&mut self, job: u64) -> Result<Vec<BoardRow>, StoreFault> {
+        self.store.pending_after(job)
+    }
+
+    fn holder(&mut self, project: u64, group: &Text) -> Result<Option<Holder>, StoreFault> {
+        self.store.holder(project, group)
+    }
+
+    fn unfinished(&mut self) -> Result<Vec<Unfinished>, StoreFault> {
+        self.store.unfinished()
+    }
+
+    fn newer_of(&mut self, pipeline: &Pipeline) -> Result<Option<Pipeline>, StoreFault> {
+        self.store.newer_of(pipeline)
+    }
+
+    fn pipelines_before(
+        &mut self,
+        before: Moment,
+        count: u64,
+    ) -> Result<Vec<Pipeline>, StoreFault> {
+        self.store.pipelines_before(before, count)
+    }
+
+    fn some_before(&mut self, before: Moment, count: u64) -> Result<Vec<Pipeline>, StoreFault> {
+        self.store.some_before(before, count)
+    }
+
+    fn commit(&mut self, delta: Delta) -> Result<(), StoreFault> {
+        let memory = mem::replace(&mut self.memory, Memory::nothing()).after(&delta);
+        self.store.commit(delta)?;
+        self.memory = memory;
+        Ok(())
+    }
+}
+
+impl<T: Store> Searches for Remembering<T> {
+    fn first_offer(&mut self, alloc: Global, runner: &Runner) -> Result<Option<Offer>, StoreFault> {
+        let found = offered(self, alloc, runner)?;
+        learn_limit(self, &found)?;
+        Ok(found)
+    }
+
+    fn first_due(&mut self, alloc: Global, now: Moment) -> Result<Option<Lease>, StoreFault> {
+        due::first_due(alloc, &mut self.store, &mut self.memory.leases, now)
+    }
+
+    fn first_redundant(&mut self, alloc: Global) -> Result<Option<Pipeline>, StoreFault> {
+        redundant::first_redundant(alloc, &mut self.store, &mut self.memory.pipelines)
+    }
+}
+
+/// The first pending job that the runner may be given, with its row, by the queue that is remembered.
+fn offered<T: Store>(
+    store: &mut Remembering<T>,
+    alloc: Global,
+    runner: &Runner,
+) -> Result<Option<Offer>, StoreFault>
+    ensures { LoadsBy ⟦<Remembering<T> as Store>⟧.honest ⟦<Remembering<T> as Store>⟧.holds ⟦<Remembering<T> as Store>⟧.leaves store.old store.new result (λ k found. IsKept k → IsOffered k runner.now found) }
+{
+    offer::first_offer(alloc, &mut store.store, &mut store.memory.queue, runner)
+}
+
+/// Remembers the time limit of the job that is offered: the next commit may have a lease on it.
+fn learn_limit<T: Store>(
+    store: &mut Remembering<T>,
+    found: &Option<Offer>,
+) -> Result<(), StoreFault>
+    ensures { LoadsBy ⟦<Remembering<T> as Store>⟧.honest ⟦<Remembering<T> as Store>⟧.holds ⟦<Remembering<T> as Store>⟧.leaves store.old store.new result (λ k _. Unit {0}) }
+{
+    if let Some(offer) = found {
+        store.job(offer.row.job)?;
+    }
+    Ok(())
+}

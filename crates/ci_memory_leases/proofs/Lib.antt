@@ -1,0 +1,4 @@
+pub mod Jobs
+pub mod Quiets
+pub mod Rights
+pub mod Stays

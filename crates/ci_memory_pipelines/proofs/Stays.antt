@@ -1,0 +1,78 @@
+-- Changes of records that are of no pipeline leave the pipelines.
+use Rattle.std.specs.Prelude.{◌≡◌, ℕ, ◌+◌, ◌<◌, ◌++◌, ◌∷◌, [], List, take, length, slice_index_or, false, Option, Some, None, Result, Ok, Err, IfOk, IfSome}
+use Rattle.std.specs.Result.{result_ok}
+use Rattle.std.proofs.Common.{refl, sym, ap, subst, ◌∙◌}
+use Rattle.std.proofs.lemmas.Bool.{false≢true}
+use Rattle.std.proofs.lemmas.List.{take_more}
+use Rattle.ci_machine.specs.declared.records.Pipeline.{Pipeline}
+use Rattle.ci_machine.specs.declared.change.Record.TheVariants as row
+use Rattle.ci_machine.specs.declared.change.Key.TheVariants as key
+use Rattle.ci_machine.specs.declared.change.RowChange.{RowChange}
+use Rattle.ci_machine.specs.declared.change.RowChange.TheVariants.{Put, Remove}
+use Rattle.ci_machine.specs.declared.change.IndexChange.{IndexChange}
+use Rattle.ci_machine.specs.Kept.{Kept, indexed, indexed_all}
+use Rattle.ci_machine.specs.State.{State, changed, applied}
+use Rattle.ci_machine_steps.proofs.Created.{applied_append}
+use Rattle.ci_memory_pipelines.specs.Changes.{put_pipeline, removes_pipeline}
+
+-- a change that puts a pipeline is that
+pub put_is : (c : RowChange) (p : Pipeline) → put_pipeline c ≡ Some p → c ≡ Put (row.Pipeline p)
+put_is (Put (row.Project x)) p e = absurd (cc)
+put_is (Put (row.Variable x)) p e = absurd (cc)
+put_is (Put (row.Runner x)) p e = absurd (cc)
+put_is (Put (row.Pipeline q)) p e = let same : q ≡ p = cc in ap (λ (r : Pipeline). Put (row.Pipeline r)) same
+put_is (Put (row.Job x)) p e = absurd (cc)
+put_is (Put (row.JobVariable x)) p e = absurd (cc)
+put_is (Put (row.Need x)) p e = absurd (cc)
+put_is (Put (row.Attempt x)) p e = absurd (cc)
+put_is (Put (row.Piece x)) p e = absurd (cc)
+put_is (Put (row.Next c n)) p e = absurd (cc)
+put_is (Remove k) p e = absurd (cc)
+
+pub pipelines_stay : (c : RowChange) (s : State) → put_pipeline c ≡ None → removes_pipeline c ≡ false → (changed c s).pipelines ≡ s.pipelines
+pipelines_stay (Put (row.Project x)) s e f = refl
+pipelines_stay (Put (row.Variable x)) s e f = refl
+pipelines_stay (Put (row.Runner x)) s e f = refl
+pipelines_stay (Put (row.Pipeline q)) s e f = absurd (cc)
+pipelines_stay (Put (row.Job x)) s e f = refl
+pipelines_stay (Put (row.JobVariable x)) s e f = refl
+pipelines_stay (Put (row.Need x)) s e f = refl
+pipelines_stay (Put (row.Attempt x)) s e f = refl
+pipelines_stay (Put (row.Piece x)) s e f = refl
+pipelines_stay (Put (row.Next c n)) s e f = refl
+pipelines_stay (Remove (key.Project n)) s e f = refl
+pipelines_stay (Remove (key.Variable n m)) s e f = refl
+pipelines_stay (Remove (key.Runner n)) s e f = refl
+pipelines_stay (Remove (key.Pipeline n)) s e f = absurd (false≢true (sym f))
+pipelines_stay (Remove (key.Job n)) s e f = refl
+pipelines_stay (Remove (key.JobVariable n m)) s e f = refl
+pipelines_stay (Remove (key.JobVariables n)) s e f = refl
+pipelines_stay (Remove (key.Need n m)) s e f = refl
+pipelines_stay (Remove (key.Needs n)) s e f = refl
+pipelines_stay (Remove (key.Attempt n)) s e f = refl
+pipelines_stay (Remove (key.Piece n m)) s e f = refl
+pipelines_stay (Remove (key.Pieces n)) s e f = refl
+
+-- ---- one more change
+
+pub changed_more : (cs : List RowChange) (i : ℕ) (c : RowChange) (s : State) → i < length cs → c ≡ slice_index_or cs i c → changed c (applied (take i cs) s) ≡ applied (take (i + 1) cs) s
+changed_more cs i c s within at =
+    sym (ap (λ (l : List RowChange). applied l s) (take_more cs i c within ∙ ap (λ (x : RowChange). take i cs ++ x ∷ []) (sym at)) ∙ applied_append (take i cs) (c ∷ []) s)
+
+indexed_append : (xs ys : List IndexChange) (k : Kept) → indexed_all (xs ++ ys) k ≡ indexed_all ys (indexed_all xs k)
+indexed_append [] ys k = refl
+indexed_append (c ∷ cs) ys k = indexed_append cs ys (indexed c k)
+
+pub indexed_more : (cs : List IndexChange) (i : ℕ) (c : IndexChange) (k : Kept) → i < length cs → c ≡ slice_index_or cs i c → indexed c (indexed_all (take i cs) k) ≡ indexed_all (take (i + 1) cs) k
+indexed_more cs i c k within at =
+    sym (ap (λ (l : List IndexChange). indexed_all l k) (take_more cs i c within ∙ ap (λ (x : IndexChange). take i cs ++ x ∷ []) (sym at)) ∙ indexed_append (take i cs) (c ∷ []) k)
+
+-- ---- a call that may fail
+
+pub kept_ok : {A E : Type 0} (P : A → Type 0) (r : Result A E) (o : Option A) → o ≡ result_ok r → IfOk r P → IfSome o P
+kept_ok P (Ok x) o e p = subst (λ z. IfSome z P) (sym e) p
+kept_ok P (Err x) o e p = subst (λ z. IfSome z P) (sym e) tt
+
+pub if_some : {A : Type 0} (P Q : A → Type 0) (o : Option A) → ((x : A) → P x → Q x) → IfSome o P → IfSome o Q
+if_some P Q None f p = p
+if_some P Q (Some x) f p = f x p

@@ -1,0 +1,22 @@
+-- What changes of records are to pipelines.
+use Rattle.std.specs.Prelude.{Bool, true, false, ◌==◌, ◌||◌, Option, Some, None}
+use Rattle.ci_machine.specs.declared.records.Pipeline.{Pipeline}
+use Rattle.ci_machine.specs.declared.change.Record.TheVariants as row
+use Rattle.ci_machine.specs.declared.change.Key.TheVariants as key
+use Rattle.ci_machine.specs.declared.change.RowChange.{RowChange}
+use Rattle.ci_machine.specs.declared.change.RowChange.TheVariants.{Put, Remove}
+use Rattle.ci_machine.specs.Redundant.{is_newer_of}
+
+-- the pipeline that the change puts, if it puts one
+abbrev pub put_pipeline : RowChange → Option Pipeline
+put_pipeline (Put (row.Pipeline p)) = Some p
+put_pipeline _ = None
+
+-- the change removes a pipeline
+abbrev pub removes_pipeline : RowChange → Bool
+removes_pipeline (Remove (key.Pipeline n)) = true
+removes_pipeline _ = false
+
+-- where q is put, it isn't known of p any more that it is as it was, with no newer one
+abbrev pub is_unsettled : Pipeline → Pipeline → Bool
+is_unsettled q p = (p.id == q.id) || is_newer_of p q

@@ -1,0 +1,192 @@
+-- The least of the pending jobs that a runner may be given, by classes, is the first of the queue that it may be given.
+use Rattle.std.specs.Prelude.{◌≡◌, ℕ, ◌+◌, ◌≤◌, Bool, true, ◌==◌, cond, false, length, drop, slice_index_or, ◌<◌, List, [], ◌∷◌, map, filter, find, Option, Some, None, IfSome, option_map, option_and_then, Result, Ok}
+use Rattle.std.proofs.Common.{refl, sym, ap, subst, ◌∙◌, inl, inr, ⊎_elim, arith, eqb-true}
+use Rattle.std.proofs.lemmas.Bool.{both_ways, cases_Bool, cond_both}
+use Rattle.std.proofs.lemmas.List.{drop_more}
+use Rattle.ci_machine.specs.declared.records.Job.{Job}
+use Rattle.ci_machine.specs.declared.records.Pipeline.{Pipeline}
+use Rattle.ci_machine.specs.declared.records.BoardRow.{BoardRow}
+use Rattle.ci_machine.specs.declared.records.Holder.{Holder}
+use Rattle.ci_machine.specs.declared.records.QueuedJob.{QueuedJob}
+use Rattle.ci_machine.specs.declared.records.Runner.{Runner}
+use Rattle.ci_machine.specs.Eligible.{is_eligible, chosen}
+use Rattle.ci_machine.specs.Holders.{holders}
+use Rattle.ci_machine.specs.State.{State}
+use Rattle.ci_machine.specs.Kept.{Kept}
+use Rattle.ci_machine.specs.Statuses.{row_for, row_or_none}
+use Rattle.ci_machine.specs.Lookups.{job_at, pipeline_at, is_pending, queued, queue, project_or_none}
+use Rattle.ci_machine.proofs.Keyed.{Has, Rising, rising_filter, has_filter, filter_has, has_find, find_has, rising_from, has_from_contains, contains_from_has}
+use Rattle.ci_machine_steps.proofs.Sound.{sound}
+use Rattle.ci_store_tables.specs.declared.fault.StoreFault.{StoreFault}
+use Rattle.ci_store.specs.Store.{LoadsBy}
+use Rattle.ci_server_lookups.proofs.Loading.{so}
+use Rattle.ci_server_lookups.specs.declared.search.Offer.{Offer}
+use Rattle.ci_server_lookups.specs.Keeps.{IsKept}
+use Rattle.ci_server_lookups.specs.Search.{IsOffered}
+use Rattle.ci_memory_queue.specs.declared.queue.Asks.{Asks}
+use Rattle.ci_memory_queue.specs.declared.queue.Class.{Class}
+use Rattle.ci_memory_queue.specs.Known.{Known}
+use Rattle.ci_memory_queue.specs.Covers.{asked_by, asks_at, is_pending_at, IsAmong, IsSorted, Covers, IsRight}
+use Rattle.ci_memory_queue.specs.Order.{RowsAscend}
+use Rattle.ci_memory_queue.specs.Offers.{is_open, UpTo, IsPendingOf, IsBest}
+use Rattle.ci_memory_queue.proofs.Found.{find_none}
+
+-- ---- the first of a list that rises is its least
+
+find_least : {A : Type 0} (id : A → ℕ) (p : A → Bool) (x : A) (low : ℕ) (xs : List A) → Rising id low xs → Has x xs → p x ≡ true → ((y : A) → Has y xs → p y ≡ true → id x ≤ id y) → find p xs ≡ Some x
+find_least id p x low [] rise h e least = absurd h
+find_least id p x low (y ∷ ys) rise h e least =
+    cond_both (p y) (Some y) (find p ys) (λ o. o ≡ Some x)
+    (λ t. ⊎_elim (λ same. ap (λ z. Some z) (sym same)) (λ m. absurd (let a : id x ≤ id y = least y (inl refl) t in let b : id y + 1 ≤ id x = rising_from id x (id y + 1) ys rise.1 m in omega arith)) h)
+    (λ f. ⊎_elim (λ same. absurd (both_ways (p y) f (ap p (sym same) ∙ e))) (λ m. find_least id p x (id y + 1) ys rise.1 m e (λ z k q. least z (inr k) q)) h)
+
+mapped_step : {A B : Type 0} (f : A → B) (x : A) (b : Bool) (o : Option B) (r : Option A) → o ≡ option_map f r → cond b (Some (f x)) o ≡ option_map f (cond b (Some x) r)
+mapped_step f x true o r e = refl
+mapped_step f x false o r e = e
+
+find_mapped : {A B : Type 0} (f : A → B) (p : B → Bool) (xs : List A) → find p (map f xs) ≡ option_map f (find (λ x. p (f x)) xs)
+find_mapped f p [] = refl
+find_mapped f p (x ∷ xs) = mapped_step f x (p (f x)) (find p (map f xs)) (find (λ y. p (f y)) xs) (find_mapped f p xs)
+
+mapped_from : {A B : Type 0} (f : A → B) (o : Option A) (y : B) → option_map f o ≡ Some y → (x : A) × ((o ≡ Some x) × (f x ≡ y))
+mapped_from f None y e = absurd (cc)
+mapped_from f (Some x) y e = let same : f x ≡ y = cc in (x, (refl, same))
+
+-- ---- what a job asks
+
+-- the runner may be given the job where it may be given those that ask the same
+eligible_is_open : (s : State) (runner : Runner) (held : List Holder) (j : Job) (asks : Asks) → option_map (asked_by j) (pipeline_at s j.pipeline) ≡ Some asks → is_eligible runner held (queued s j) ≡ is_open runner held asks
+eligible_is_open s runner held j asks e =
+    let own = mapped_from (asked_by j) (pipeline_at s j.pipeline) asks e in
+    ap (λ (o : Option Pipeline). is_eligible runner held (record { job = j; project = project_or_none o })) own.1.0 ∙ ap (is_open runner held) own.1.1
+
+-- what a job that was found asks
+asks_found : (s : State) (n : ℕ) (j : Job) (asks : Asks) → job_at s n ≡ Some j → asks_at s n ≡ Some asks → option_map (asked_by j) (pipeline_at s j.pipeline) ≡ Some asks
+asks_found s n j asks found asked = sym (ap (option_and_then (λ (x : Job). option_map (asked_by x) (pipeline_at s x.pipeline))) found) ∙ asked
+
+-- ---- the offer
+
+module _ (k : Kept) (kept : IsKept k) (runner : Runner) (classes : List Class) (newest_pipeline : ℕ) (all : (job : ℕ) → is_pending_at k.board job ≡ true → IsSorted k.state classes newest_pipeline job) where
+  abbrev pending : List Job
+  pending = filter (is_pending k.board) k.state.jobs
+
+  abbrev may : Job → Bool
+  may j = is_eligible runner (holders k.state) (queued k.state j)
+
+  rise : Rising (λ (j : Job). j.id) 0 k.state.jobs
+  rise = (sound k.state kept.sound).jobs
+
+  up_to : (best : Option Offer) → IsBest k runner classes best → (j : Job) → Has j pending → may j ≡ true → UpTo best j.id
+  up_to best is j h e =
+      let own = has_filter (is_pending k.board) j k.state.jobs h in
+      let w = all j.id own.1 in
+      let asks = asks_found k.state j.id j w.asks (find_has (λ (x : Job). x.id) j 0 k.state.jobs rise own.0) w.asked in
+      is.least w.asks j.id w.among (sym (eligible_is_open k.state runner (holders k.state) j w.asks asks) ∙ e) own.1
+
+  as_found : chosen (queue k.state k.board) (holders k.state) runner ≡ option_map (queued k.state) (find may pending)
+  as_found = find_mapped (queued k.state) (is_eligible runner (holders k.state)) pending
+
+  none_offered : IsBest k runner classes None → IsOffered k runner None
+  none_offered is =
+      as_found
+      ∙ ap (option_map (queued k.state))
+      (find_none may pending (λ j h. ⊎_elim (λ e. absurd (up_to None is j h e)) (λ e. e) (cases_Bool (may j))))
+
+  one_offered : (offer : Offer) → IsBest k runner classes (Some offer) → IsOffered k runner (Some offer)
+  one_offered offer is =
+      let asks = is.may.0 in
+      let of : IsPendingOf k asks offer = is.may.1.0 in
+      let own = mapped_from (queued k.state) (job_at k.state offer.row.job) offer.queued of.queued in
+      let j : Job = own.0 in
+      let there = has_find (λ (x : Job). x.id == offer.row.job) j k.state.jobs own.1.0 in
+      let number : j.id ≡ offer.row.job = eqb-true j.id offer.row.job there.1 in
+      let its : Has j pending = filter_has (is_pending k.board) j k.state.jobs there.0 (subst (λ n. is_pending_at k.board n ≡ true) (sym number) of.pending) in
+      let eligible : may j ≡ true = eligible_is_open k.state runner (holders k.state) j asks (asks_found k.state offer.row.job j asks own.1.0 of.asked) ∙ is.may.1.1 in
+      let found : find may pending ≡ Some j = find_least (λ (x : Job). x.id) may j 0 pending (rising_filter (λ (x : Job). x.id) (is_pending k.board) 0 k.state.jobs rise) its eligible
+      (λ y h e. let l : offer.row.job ≤ y.id = up_to (Some offer) is y h e in omega arith) in
+      let queued_number : offer.queued.job.id ≡ j.id = ap (λ (q : QueuedJob). q.job.id) (sym own.1.1) in (
+        as_found ∙ (ap (option_map (queued k.state)) found ∙ ap (λ (q : QueuedJob). Some q) own.1.1),
+        sym (queued_number ∙ number),
+        sym (ap row_or_none of.row) ∙ ap (row_for k.board) (sym (queued_number ∙ number)),
+      )
+
+  pub is_offered : (best : Option Offer) → IsBest k runner classes best → IsOffered k runner best
+  is_offered None is = none_offered is
+  is_offered (Some offer) is = one_offered offer is
+
+-- ---- what is covered
+
+-- where no job is fresh, all pending ones are in classes
+pub all_sorted : (q : Known) (s : State) (board : List BoardRow) → q.fresh ≡ [] → Covers q s board → (job : ℕ) → is_pending_at board job ≡ true → IsSorted s q.classes q.newest_pipeline job
+all_sorted q s board none covers job pending =
+    ⊎_elim (λ c. absurd (subst (Has job) none (has_from_contains job q.fresh c))) (λ w. w) (covers job pending).1
+
+sorted_among : (s : State) (classes more : List Class) (newest job : ℕ) → ((asks : Asks) → asks_at s job ≡ Some asks → IsAmong classes asks job → IsAmong more asks job) → IsSorted s classes newest job → IsSorted s more newest job
+sorted_among s classes more newest job among w = record { asks = w.asks; asked = w.asked; among = among w.asks w.asked w.among; pipeline = w.pipeline }
+
+module _ (k : Kept) (q : Known) (classes : List Class) (none : q.fresh ≡ []) (covers : Covers q k.state k.board)
+    (keeps : (asks : Asks) (job : ℕ) → is_pending_at k.board job ≡ true → asks_at k.state job ≡ Some asks → IsAmong q.classes asks job → IsAmong classes asks job) where
+  -- so they are once others are taken out
+  pub still_sorted : (job : ℕ) → is_pending_at k.board job ≡ true → IsSorted k.state classes q.newest_pipeline job
+  still_sorted job pending = sorted_among k.state q.classes classes q.newest_pipeline job (λ asks asked. keeps asks job pending asked) (all_sorted q k.state k.board none covers job pending)
+
+  pub still_covers : Covers (record q { classes = classes }) k.state k.board
+  still_covers job pending = ((covers job pending).0, inr (still_sorted job pending))
+
+-- the same, of a queue by its parts
+module _ (k : Kept) (q parts : Known) (given classes : List Class) (is : parts ≡ q) (same : given ≡ parts.classes) (known : (q.fresh ≡ []) × Covers q k.state k.board)
+    (keeps : (asks : Asks) (job : ℕ) → is_pending_at k.board job ≡ true → asks_at k.state job ≡ Some asks → IsAmong given asks job → IsAmong classes asks job) where
+  known_parts : (parts.fresh ≡ []) × Covers parts k.state k.board
+  known_parts = subst (λ (x : Known). (x.fresh ≡ []) × Covers x k.state k.board) (sym is) known
+
+  kept_parts : (asks : Asks) (job : ℕ) → is_pending_at k.board job ≡ true → asks_at k.state job ≡ Some asks → IsAmong parts.classes asks job → IsAmong classes asks job
+  kept_parts asks job pending asked w = keeps asks job pending asked (subst (λ (cs : List Class). IsAmong cs asks job) (sym same) w)
+
+  pub parts_cover : Covers (record parts { classes = classes }) k.state k.board
+  parts_cover = still_covers k parts classes known_parts.0 known_parts.1 kept_parts
+
+  pub parts_offer : IsKept k → (runner : Runner) (best : Option Offer) → IsBest k runner classes best → IsOffered k runner best
+  parts_offer kept runner best found = is_offered k kept runner classes parts.newest_pipeline (still_sorted k parts classes known_parts.0 known_parts.1 kept_parts) best found
+
+-- ---- sorting in
+
+sorted_raised : (s : State) (classes : List Class) (newest more job : ℕ) → newest ≤ more → IsSorted s classes newest job → IsSorted s classes more job
+sorted_raised s classes newest more job l w = record { asks = w.asks; asked = w.asked; among = w.among; pipeline = raise (job_at s job) w.pipeline }
+  where
+    raise : (o : Option Job) → IfSome o (λ j. j.pipeline ≤ newest) → IfSome o (λ j. j.pipeline ≤ more)
+    raise None h = tt
+    raise (Some j) h = let g : j.pipeline ≤ newest = h in omega arith
+
+-- one more of the fresh jobs is in its class, if it is pending
+pub sort_more : (k : Kept) (classes more : List Class) (xs : List ℕ) (i d newest low high : ℕ) → i < length xs → low ≤ high
+    → ((asks : Asks) (job : ℕ) → IsAmong classes asks job → IsAmong more asks job)
+    → (is_pending_at k.board (slice_index_or xs i d) ≡ true → IsSorted k.state more high (slice_index_or xs i d))
+    → Covers (record { classes = classes; fresh = drop i xs; newest = newest; newest_pipeline = low }) k.state k.board
+    → Covers (record { classes = more; fresh = drop (i + 1) xs; newest = newest; newest_pipeline = high }) k.state k.board
+sort_more k classes more xs i d newest low high within raised keeps sorted covers = λ job pending.
+    let was = covers job pending in (
+      was.0,
+      ⊎_elim
+          (λ c. ⊎_elim
+          (λ e. inr (subst (IsSorted k.state more high) (sym e) (sorted (subst (λ n. is_pending_at k.board n ≡ true) e pending))))
+          (λ h. inl (contains_from_has job (drop (i + 1) xs) h))
+          (subst (Has job) (drop_more xs i d within) (has_from_contains job (drop i xs) c)))
+          (λ w. inr (sorted_raised k.state more low high job raised (sorted_among k.state classes more low job (λ asks asked. keeps asks job) w)))
+          was.1,
+    )
+
+-- ---- all of it
+
+-- what is remembered or filled, and sorted, is what is known then
+module _ {T : Type 0} (honest : T → Type 0) (holds : T → Kept → Type 0) (leaves : T → Kept → Kept → Type 0) where
+  pub sorted_then : {A : Type 0} {P : Kept → A → Type 0} (old given : Option Known) (a b c d : T) (filling sorting : Result Known StoreFault) (filled known : Known) (r : Result A StoreFault) (x : A)
+      → given ≡ old → filling ≡ Ok filled → sorting ≡ Ok known → r ≡ Ok x
+      → LoadsBy honest holds leaves a b filling (λ k q. RowsAscend k.board → IsRight given k → Covers q k.state k.board)
+      → LoadsBy honest holds leaves b c sorting (λ k q. Covers filled k.state k.board → (q.fresh ≡ []) × Covers q k.state k.board)
+      → LoadsBy honest holds leaves c d r (λ k y. (known.fresh ≡ []) × Covers known k.state k.board → P k y)
+      → LoadsBy honest holds leaves a d (Ok x) (λ k y. RowsAscend k.board → IsRight old k → P k y)
+  sorted_then {P = P} old given a b c d filling sorting filled known r x same is was went fill sort offer =
+      so honest holds leaves (λ k y. RowsAscend k.board → IsRight old k → P k y) a c d (Ok tt) tt r x x refl went
+      (so honest holds leaves (λ k (u : Unit {0}). RowsAscend k.board → IsRight old k → (known.fresh ≡ []) × Covers known k.state k.board) a b c filling filled sorting known tt is was fill sort
+      (λ k of sorts ascend right. sorts (of ascend (subst (λ (o : Option Known). IsRight o k) (sym same) right))))
+      offer (λ k knows gives ascend right. gives (knows ascend right))

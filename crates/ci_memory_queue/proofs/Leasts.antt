@@ -1,0 +1,69 @@
+-- The least pending job of some classes that a runner may be given, class by class.
+use Rattle.std.specs.Prelude.{◌≡◌, ℕ, ◌+◌, ◌<◌, Bool, true, ◌&&◌, List, [], ◌∷◌, ◌++◌, length, take, Contains, Option, Some, None, slice_index_or, slice_set}
+use Rattle.std.proofs.Common.{sym, ap, subst, ◌∙◌, inl, inr, ⊎_elim}
+use Rattle.std.proofs.lemmas.List.{take_more_set}
+use Rattle.ci_machine.specs.declared.records.Runner.{Runner}
+use Rattle.ci_machine.specs.Eligible.{may_run, is_free}
+use Rattle.ci_machine.specs.Holders.{holders}
+use Rattle.ci_machine.specs.Kept.{Kept}
+use Rattle.ci_machine.proofs.Keyed.{has_from_contains}
+use Rattle.ci_server_lookups.specs.declared.search.Offer.{Offer}
+use Rattle.ci_memory_queue.specs.declared.queue.Asks.{Asks}
+use Rattle.ci_memory_queue.specs.declared.queue.Class.{Class}
+use Rattle.ci_memory_queue.specs.Covers.{asks_at, is_pending_at, IsAmong}
+use Rattle.ci_memory_queue.specs.Offers.{is_open, IsFirst, IsBetter, IsBest}
+use Rattle.ci_memory_queue.proofs.Sets.{has_append, among_one, set_has, set_new}
+
+both : (a b : Bool) → a ≡ true → b ≡ true → (a && b) ≡ true
+both a b e f = ap (λ x. x && b) e ∙ f
+
+-- ---- one class
+
+module _ (k : Kept) (runner : Runner) (class : Class) (before : Option Offer) where
+  -- the class is open, and its first job is ahead of what was found before
+  pub better_found : (offer : Offer) → may_run runner class.asks.project class.asks.tags ≡ true → is_free (holders k.state) class.asks.project class.asks.group ≡ true
+      → IsFirst k class.asks class.jobs.keys before (Some offer) → IsBetter k runner class before (Some offer)
+  better_found offer may free first = record {
+    may = λ _. (class.asks, (first.0, both (may_run runner class.asks.project class.asks.tags) (is_free (holders k.state) class.asks.project class.asks.group) may free));
+    earlier = first.2;
+    least = λ may_be job has pending. first.1 job has;
+  }
+
+-- ---- all classes so far
+
+module _ (k : Kept) (runner : Runner) where
+  pub best_of_none : IsBest k runner [] None
+  best_of_none = record { may = tt; least = λ asks job among may_be pending. absurd (none asks job among) }
+    where
+      none : (asks : Asks) (job : ℕ) → IsAmong [] asks job → ⊥
+      none asks job w = has_from_contains w.of [] w.there
+
+  best_append : (classes : List Class) (class : Class) (before after : Option Offer) → IsBest k runner classes before → IsBetter k runner class before after → IsBest k runner (classes ++ class ∷ []) after
+  best_append classes class before after best better = record {
+    may = better.may best.may;
+    least = λ asks job w may_be pending.
+        ⊎_elim
+        (λ h. better.earlier job (best.least asks job (among_one classes asks job w.of h w.same w.has) may_be pending))
+        (λ h. ⊎_elim
+        (λ (e : w.of ≡ class). better.least (subst (λ (a : Asks). is_open runner (holders k.state) a ≡ true) (sym w.same ∙ ap (λ (c : Class). c.asks) e) may_be) job (subst (λ (c : Class). Contains c.jobs.keys job) e w.has) pending)
+        (λ m. absurd m) h)
+        (has_append w.of classes (class ∷ []) (has_from_contains w.of (classes ++ class ∷ []) w.there));
+  }
+
+  -- with one more class, in its place
+  pub best_more : (classes : List Class) (i : ℕ) (class : Class) (before after : Option Offer) → i < length classes → IsBest k runner (take i classes) before → IsBetter k runner class before after
+      → IsBest k runner (take (i + 1) (slice_set classes i class)) after
+  best_more classes i class before after within best better =
+      subst (λ (cs : List Class). IsBest k runner cs after) (sym (take_more_set classes i class within)) (best_append (take i classes) class before after best better)
+
+-- the others, and those of its own that are pending and ask this, are left where a class is replaced
+pub keeps_more : (k : Kept) (classes : List Class) (i : ℕ) (old new : Class) → i < length classes → old ≡ slice_index_or classes i old → new.asks ≡ old.asks
+    → ((job : ℕ) → is_pending_at k.board job ≡ true → asks_at k.state job ≡ Some old.asks → Contains old.jobs.keys job → Contains new.jobs.keys job)
+    → (asks : Asks) (job : ℕ) → is_pending_at k.board job ≡ true → asks_at k.state job ≡ Some asks → IsAmong classes asks job → IsAmong (slice_set classes i new) asks job
+keeps_more k classes i old new within at same keeps asks job pending asked w =
+    ⊎_elim
+    (λ (e : w.of ≡ old).
+    among_one (slice_set classes i new) asks job new (set_new classes i new within) (same ∙ (ap (λ (c : Class). c.asks) (sym e) ∙ w.same))
+    (keeps job pending (asked ∙ ap (λ (a : Asks). Some a) (sym w.same ∙ ap (λ (c : Class). c.asks) e)) (subst (λ (c : Class). Contains c.jobs.keys job) e w.has)))
+    (λ h. among_one (slice_set classes i new) asks job w.of h w.same w.has)
+    (⊎_elim (λ e. inl (e ∙ sym at)) (λ h. inr h) (set_has w.of classes i new old within (has_from_contains w.of classes w.there)))

@@ -1,0 +1,57 @@
+-- Which pending jobs are remembered, and when that is right.
+use Rattle.std.specs.Prelude.{◌≡◌, ◌⊎◌, ◌≤◌, ℕ, Bool, true, List, Contains, Option, Some, IfSome, option_map, option_and_then}
+use Rattle.ci_board.specs.declared.facts.Status.TheVariants as status
+use Rattle.ci_board.specs.Effects.{is_status}
+use Rattle.ci_machine.specs.declared.records.BoardRow.{BoardRow}
+use Rattle.ci_machine.specs.declared.records.Job.{Job}
+use Rattle.ci_machine.specs.declared.records.Pipeline.{Pipeline}
+use Rattle.ci_machine.specs.declared.records.QueuedJob.{QueuedJob}
+use Rattle.ci_machine.specs.State.{State}
+use Rattle.ci_machine.specs.Kept.{Kept}
+use Rattle.ci_machine.specs.Statuses.{status_for}
+use Rattle.ci_machine.specs.Lookups.{job_at, pipeline_at}
+use Rattle.ci_memory_queue.specs.declared.queue.Asks.{Asks}
+use Rattle.ci_memory_queue.specs.declared.queue.Class.{Class}
+use Rattle.ci_memory_queue.specs.Known.{Known}
+
+-- what a job of a pipeline asks of a runner
+abbrev pub asked_by : Job → Pipeline → Asks
+asked_by j p = record { project = p.project; tags = j.options.tags; group = j.options.resource_group }
+
+-- what the job with a number asks: none where it or its pipeline isn't there
+abbrev pub asks_at : State → ℕ → Option Asks
+asks_at s n = option_and_then (λ j. option_map (asked_by j) (pipeline_at s j.pipeline)) (job_at s n)
+
+-- what a job asks that is found with its project
+abbrev pub asked_of : QueuedJob → Asks
+asked_of q = record { project = q.project; tags = q.job.options.tags; group = q.job.options.resource_group }
+
+-- the job with this number is pending: its row says so
+abbrev pub is_pending_at : List BoardRow → ℕ → Bool
+is_pending_at board n = is_status (status_for board n) status.Pending
+
+-- A class of those that ask this has the job.
+pub record IsAmong (classes : List Class) (asks : Asks) (job : ℕ) : Type 0 where
+  pub of : Class
+  pub there : Contains classes of
+  pub same : of.asks ≡ asks
+  pub has : Contains of.jobs.keys job
+
+-- The job is in a class by what it asks, and its pipeline has no greater number than this one.
+pub record IsSorted (s : State) (classes : List Class) (newest_pipeline job : ℕ) : Type 0 where
+  pub asks : Asks
+  pub asked : asks_at s job ≡ Some asks
+  pub among : IsAmong classes asks job
+  pub pipeline : IfSome (job_at s job) (λ j. j.pipeline ≤ newest_pipeline)
+
+-- the job is noted as fresh, or in a class by what it asks
+abbrev pub IsKnown : State → Known → ℕ → Type 0
+IsKnown s q job = Contains q.fresh job ⊎ IsSorted s q.classes q.newest_pipeline job
+
+-- each pending job is known, and none of them has a greater number than the newest
+abbrev pub Covers : Known → State → List BoardRow → Type 0
+Covers q s board = (job : ℕ) → is_pending_at board job ≡ true → (job ≤ q.newest) × IsKnown s q job
+
+-- where a queue is remembered, it covers what is kept; nothing remembered is right for all
+abbrev pub IsRight : Option Known → Kept → Type 0
+IsRight queue k = IfSome queue (λ q. Covers q k.state k.board)

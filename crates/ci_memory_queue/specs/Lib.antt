@@ -1,0 +1,5 @@
+pub mod Known
+pub mod Code
+pub mod Covers
+pub mod Order
+pub mod Offers

@@ -1,0 +1,66 @@
+//! Jobs are put into the class of what they ask.
+
+ghost use Rattle.std.specs.Prelude.{◌≡◌, ℕ, ◌<◌, length, slice_index_or, IfSome, OnOk, Contains};
+ghost use Rattle.ci_memory_queue.specs.declared.queue.Asks.{Asks};
+ghost use Rattle.ci_memory_queue.specs.declared.queue.Class.{Class};
+ghost use Rattle.ci_memory_queue.specs.Covers.{IsAmong};
+
+use crate::asks::is_same;
+use crate::queue::{Asks, Class};
+use std::alloc::{AllocError, Global};
+use std::collections::BTreeSet;
+
+/// Puts a job into the class of what it asks, or into a new one. Errors: memory was refused.
+pub fn put_in(
+    alloc: Global,
+    classes: &mut Vec<Class>,
+    asks: Asks,
+    job: u64,
+) -> Result<(), AllocError>
+    ensures there { OnOk result (IsAmong classes.new.items asks job) }
+    ensures keeps { (a : Asks) (n : ℕ) → IsAmong classes.old.items a n → IsAmong classes.new.items a n }
+{
+    match place_of(classes.as_slice(), &asks) {
+        Some(place) => put_at(classes, place, job),
+        None => begin(alloc, classes, asks, job),
+    }
+}
+
+/// The place of the class of those that ask this, if there is one.
+fn place_of(classes: &[Class], asks: &Asks) -> Option<usize>
+    ensures { IfSome result (λ i. (i < length classes.now) × ((d : Class) → (slice_index_or classes.now i d).asks ≡ asks.now)) }
+{
+    for (i, class) in classes.iter().enumerate() {
+        if is_same(&class.asks, asks) {
+            return Some(i);
+        }
+    }
+    None
+}
+
+fn put_at(classes: &mut Vec<Class>, place: usize, job: u64) -> Result<(), AllocError>
+    requires { place < length classes.old.items }
+    ensures there { OnOk result ((d : Class) → IsAmong classes.new.items (slice_index_or classes.old.items place d).asks job) }
+    ensures keeps { (a : Asks) (n : ℕ) → IsAmong classes.old.items a n → IsAmong classes.new.items a n }
+{
+    put(&mut classes[place].jobs, job)
+}
+
+/// Adds a class that has this job alone.
+fn begin(alloc: Global, classes: &mut Vec<Class>, asks: Asks, job: u64) -> Result<(), AllocError>
+    ensures there { OnOk result (IsAmong classes.new.items asks job) }
+    ensures keeps { (a : Asks) (n : ℕ) → IsAmong classes.old.items a n → IsAmong classes.new.items a n }
+{
+    let mut jobs = BTreeSet::new(alloc);
+    put(&mut jobs, job)?;
+    classes.push(Class { asks, jobs })?;
+    Ok(())
+}
+
+fn put(jobs: &mut BTreeSet<u64>, job: u64) -> Result<(), AllocError>
+    ensures there { OnOk result (Contains jobs.new.keys job) }
+    ensures keeps { (n : ℕ) → Contains jobs.old.keys n → Contains jobs.new.keys n }
+{
+    jobs.insert(job)?;
+    Ok(())
+}

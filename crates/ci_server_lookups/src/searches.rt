@@ -1,0 +1,31 @@
+//! What a runner's request and a sweep look for, as a store finds it.
+
+ghost use Rattle.std.specs.Prelude.{◌≡◌};
+ghost use Rattle.ci_machine.specs.Leases.{first_due};
+ghost use Rattle.ci_machine_steps.specs.Step.{leases, redundant_in};
+ghost use Rattle.ci_store.specs.Store.{LoadsBy};
+ghost use Rattle.ci_server_lookups.specs.Keeps.{IsKept};
+ghost use Rattle.ci_server_lookups.specs.Search.{IsOffered};
+
+use crate::search::Offer;
+use ci_machine::lease::Lease;
+use ci_machine::moment::Moment;
+use ci_machine::records::{Pipeline, Runner};
+use ci_store::fault::StoreFault;
+use ci_store::store::Store;
+use std::alloc::Global;
+
+/// A store that finds the first of many: it may look through its tables, or remember where to look.
+pub trait Searches: Store {
+    /// The first pending job, by number, that the runner may be given, with its row.
+    fn first_offer(&mut self, alloc: Global, runner: &Runner) -> Result<Option<Offer>, StoreFault>
+        ensures { LoadsBy Self.honest Self.holds Self.leaves self.old self.new result (λ k found. IsKept k → IsOffered k runner.now found) };
+
+    /// The first live attempt, by number, whose lease is over at a moment, with the time limit of its job.
+    fn first_due(&mut self, alloc: Global, now: Moment) -> Result<Option<Lease>, StoreFault>
+        ensures { LoadsBy Self.honest Self.holds Self.leaves self.old self.new result (λ k found. found ≡ first_due (leases k.state) now) };
+
+    /// The redundant pipeline of least number.
+    fn first_redundant(&mut self, alloc: Global) -> Result<Option<Pipeline>, StoreFault>
+        ensures { LoadsBy Self.honest Self.holds Self.leaves self.old self.new result (λ k found. IsKept k → found ≡ redundant_in k.state k.board) };
+}
