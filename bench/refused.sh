@@ -5,6 +5,7 @@
 # 10: it told of refused memory (`Memory`, M16), and the server was open. Then (rows) each row was as before, or (again) the same call
 #     was answered as ever and left the rows that it should.
 # 11: the server told of a fault of its store (M17), and all was as with 10 once it was opened again.
+# 12: a sweep told of refused memory (M16), and the request behind it was served; the next one found all as it should be.
 # Any other end is a fault (refused_ends.rt.txt; 128 and more: a signal). 11 is wanted in the last lines alone: there, under `rest`,
 # all memory is refused from one request on to the end of the call, also to the question whether the store is open.
 # Wants gcc. The program is proved before it is built, which takes some minutes; the trials over 300 leases take the longest. The gate
@@ -13,7 +14,7 @@ set -eu
 . "$(dirname "$0")/tables.sh"
 need gcc
 gcc -O2 -shared -fPIC -o "$work/refuse.so" "$root/bench/refuse.c" || stop "bench/refuse.c was not built"
-build refused "${1:-/dev/shm}" ci_server_fixtures ci_server ci_http_routes
+build refused "${1:-/dev/shm}" ci_server_fixtures ci_server ci_http_routes ci_http_service
 ended=0
 
 # tried ENDS WORD..: these ends are as wanted.
@@ -38,6 +39,8 @@ for look in rows again; do
 done
 for call in create open serve-ask serve-unknown serve-body; do tried "0 10" "$call" memory again; done
 for call in create open; do tried "0 10" "$call" file again; done
+tried "0 10 12" serve-swept memory again | tee swept
+grep -q 'ended with 12' swept && grep -q 'as wanted$' swept || ended=1
 # Its answer needs no memory at all.
 tried 0 serve-path memory again
 export REFUSE=rest

@@ -25,15 +25,14 @@ below() {
   echo "$1"
 }
 
-# Builds the program bench/NAME.rt.txt over the crates of the tables, or over those that are named third and behind, of which the
-# third stands above the others, as $program, and goes to a new folder in the one that is named second, where the program's file is to
-# lie. Takes a few minutes: the program is proved before it is built.
+# Builds the program bench/NAME.rt.txt over the crates of the tables, and over those that are named third and behind, as $program, and
+# goes to a new folder in the one that is named second, where the program's file is to lie. Takes a few minutes: the program is proved before it is built.
 build() {
-  local crate="$work/crates/bench_$1" low part top="${3:-ci_store}"
+  local crate="$work/crates/bench_$1" low part
   [ -d "$2" ] || stop "there is no folder $2"
   need rt sqlite3
   mkdir -p "$crate/src" "$crate/specs"
-  for low in $(below "$top" | sort -u); do
+  for low in $(for part in ci_store "${@:3}"; do below "$part"; done | sort -u); do
     cp -r "$root/crates/$low" "$work/crates/"
     grep "^$low:" "$root/crates.txt" >> "$work/crates.txt"
   done
