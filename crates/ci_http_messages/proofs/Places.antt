@@ -1,9 +1,11 @@
 -- The first empty line of a text, place by place.
-use Rattle.std.proofs.Common.{◌≡◌, ℕ, ◌+◌, ◌-◌, ◌<◌, ◌≤◌, Bool, false, List, [], length, take, drop, refl, sym, ◌∙◌, ap, arith, length-drop}
+use Rattle.std.proofs.Common.{◌≡◌, ℕ, ◌+◌, ◌-◌, ◌<◌, ◌≤◌, Bool, true, false, List, [], length, take, drop, refl, sym, ◌∙◌, ap, arith, length-drop, get_or}
 use Rattle.std.proofs.lemmas.Bool.{cond-true, cond-false, lt-ltb, le-ltb}
-use Rattle.std.proofs.lemmas.List.{drop_more, take_min, take_all}
+use Rattle.std.proofs.lemmas.List.{drop_more, take_min, take_all, get_or-drop}
 use Rattle.std.specs.Prelude.{nat_eq, if◌then◌else◌, suc, min, count_by, Option, Some, None, option_map}
-use Rattle.std.specs.List.{starts_with}
+use Rattle.std.proofs.lemmas.Option.{get_or_from_slice_get}
+use Rattle.std.specs.List.{starts_with, ends_with, slice_get}
+use Rattle.std.specs.Cmp.Lexicographic.{bytes_decides}
 use Rattle.ci_http_messages.specs.declared.limits.TheConstants.{MAX_HEAD_BYTES, MAX_HEAD_LINES}
 use Rattle.ci_http_messages.specs.Opening.{empty_line, head_len, is_line_feed, short, too_large, opened, opening_at, opening_of}
 
@@ -44,3 +46,20 @@ module _ (bytes front : List ℕ) (room : ℕ) (is_room : room ≡ min MAX_HEAD_
 -- a slice from a place on is what is left there
 pub left_there : (i : ℕ) (text : List ℕ) → take (length text - i) (drop i text) ≡ drop i text
 left_there i text = take_all (length text - i) (drop i text) (let l = length-drop i text in omega (arith, l))
+
+-- ---- the last byte
+
+not_so : (b : Bool) → (b ≡ true → ⊥) → false ≡ b
+not_so true never = absurd (never refl)
+not_so false never = refl
+
+-- the empty line ends with a line feed, and so does what ends with it
+ends_by_feed : (head : List ℕ) → ends_with nat_eq head empty_line ≡ true → get_or head (length head - 1) 0 ≡ 10
+ends_by_feed head ends =
+    let same : drop (length head - 4) head ≡ empty_line = sym ((bytes_decides empty_line (drop (length head - 4) head)).0 ends) in
+    let last : (length head - 4) + 3 ≡ length head - 1 = omega (arith, ap length same, length-drop (length head - 4) head) in
+    ap (λ n. get_or head n 0) (sym last) ∙ sym (get_or-drop (length head - 4) head 3 0) ∙ ap (λ l. get_or l 3 0) same
+
+-- what ends with another byte doesn't end with it
+pub ends_otherwise : (head : List ℕ) (b : ℕ) → Some b ≡ slice_get head (length head - 1) → (b ≡ 10 → ⊥) → false ≡ ends_with nat_eq head empty_line
+ends_otherwise head b is other = not_so (ends_with nat_eq head empty_line) (λ ends. other (sym (get_or_from_slice_get head (length head - 1) b 0 (sym is)) ∙ ends_by_feed head ends))

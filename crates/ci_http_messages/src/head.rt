@@ -1,10 +1,11 @@
 //! The head of a request: the bytes up to its first empty line, and their parts.
 
-ghost use Rattle.std.specs.Prelude.{◌≡◌, ◌≤◌, length, count_by, IfOk, IfSome, IfNone, Some, None};
+ghost use Rattle.std.specs.Prelude.{◌≡◌, ◌≤◌, length, count_by, nat_eq, IfOk, IfSome, IfNone, Some, None};
+ghost use Rattle.std.specs.List.{starts_with, ends_with};
 ghost use Rattle.httparse.specs.Spans.{IsRequestWithin};
 ghost use Rattle.ci_machine.specs.declared.reply.Code.{Code};
 ghost use Rattle.ci_http_messages.specs.Head.{IsHeadOf, head_at};
-ghost use Rattle.ci_http_messages.specs.Opening.{is_line_feed, head_len, short, too_large, opened, opening_of, IsOpening};
+ghost use Rattle.ci_http_messages.specs.Opening.{is_line_feed, empty_line, head_len, short, too_large, opened, opening_of, IsOpening};
 ghost use Rattle.ci_http_messages.specs.Sources.{Tells, TakesFront, Fails};
 
 use crate::fault::HttpFault;
@@ -42,7 +43,7 @@ pub fn read_head<R: Source>(reader: &mut R) -> Result<HeadBytes, HttpFault>
             return Err(HttpFault::Ended);
         }
         head.push(byte[0]);
-        if head.as_slice().ends_with(b"\r\n\r\n") {
+        if ends_head(head.as_slice()) {
             if lines_of(head.as_slice()) > MAX_HEAD_LINES {
                 return Err(HttpFault::Refused(Code::H2));
             }
@@ -50,6 +51,16 @@ pub fn read_head<R: Source>(reader: &mut R) -> Result<HeadBytes, HttpFault>
         }
     }
     Err(HttpFault::Refused(Code::H2))
+}
+
+// Whether the bytes end with CR LF CR LF. Few bytes are LF, so that is asked first.
+fn ends_head(head: &[u8]) -> bool
+    ensures { result ≡ ends_with nat_eq head.now empty_line }
+{
+    match head.last() {
+        Some(b) if *b == b'\n' => head.ends_with(b"\r\n\r\n"),
+        _ => false,
+    }
 }
 
 /// How a text opens, as far as it has come.
@@ -82,11 +93,21 @@ fn head_len(text: &[u8]) -> Option<usize>
     ensures within { IfSome result (λ len. len ≤ length text.now) }
 {
     for at in 0..text.len() {
-        if text[at..].starts_with(b"\r\n\r\n") {
+        if begins_empty_line(&text[at..]) {
             return Some(at + 4);
         }
     }
     None
+}
+
+// Whether the bytes begin with CR LF CR LF. Few bytes are CR, so that is asked first.
+fn begins_empty_line(text: &[u8]) -> bool
+    ensures { result ≡ starts_with nat_eq text.now empty_line }
+{
+    match text.first() {
+        Some(b) if *b == b'\r' => text.starts_with(b"\r\n\r\n"),
+        _ => false,
+    }
 }
 
 // How many line feeds the bytes have.

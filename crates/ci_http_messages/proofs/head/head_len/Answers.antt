@@ -10,4 +10,4 @@ loop-at-preserved c =
     let end = c.loop-at.auto.at-end in
     let text = c.args.text.now in
     let i = c.loop-at.at in
-    begins_later text i (omega (arith, end, c.loop-at-test.true)) (ap (λ l. starts_with nat_eq l empty_line) (sym (left_there i text)) ∙ (sym c.starts_with.ensures.value ∙ c.if-starts_with.false)) c.loop-at.invariant
+    begins_later text i (omega (arith, end, c.loop-at-test.true)) (ap (λ l. starts_with nat_eq l empty_line) (sym (left_there i text)) ∙ (sym c.begins_empty_line.ensures ∙ c.if-begins_empty_line.false)) c.loop-at.invariant
