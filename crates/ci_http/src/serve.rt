@@ -10,7 +10,7 @@ ghost use Rattle.ci_http.specs.Serving.{AnswersAsked, LacksMemory, Serves, Write
 ghost use Rattle.ci_http_messages.specs.Sources.{Tells, TakesFront, Fails};
 
 use arrayvec::ArrayVec;
-use ci_http_messages::call::{Call, read_request};
+use ci_http_messages::call::{Call, HeadRoom, read_request};
 use ci_http_messages::fault::HttpFault;
 use ci_http_messages::link::{Failed, Sink, Source};
 use ci_http_messages::route::request_of;
@@ -107,7 +107,8 @@ fn reply_to<R: Source, S: Alter>(
     ensures took { TakesFront (R.left reader.old) (R.left reader.new) }
     ensures failed { Fails result (Err Unread.Failed) (R.failures reader.old) (R.failures reader.new) }
 {
-    match read_request(alloc, reader) {
+    let mut room = HeadRoom::new();
+    match read_request(alloc, reader, &mut room) {
         Ok(call) => Ok(answer(alloc, &call, server, paths, moment, seed)),
         Err(HttpFault::Refused(why)) => Ok(Reply::refusal(why)),
         Err(HttpFault::Memory) => Ok(Reply::refusal(Code::M16)),
@@ -119,7 +120,7 @@ fn reply_to<R: Source, S: Alter>(
 // The reply to a call.
 fn answer<S: Alter>(
     alloc: Global,
-    call: &Call,
+    call: &Call<'_>,
     server: &mut Server<S>,
     paths: &Paths,
     moment: Moment,

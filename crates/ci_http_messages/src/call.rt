@@ -1,6 +1,6 @@
 //! A request as it was sent.
 
-ghost use Rattle.std.specs.Prelude.{◌≡◌, ◌≤◌, length, count_by, Option, Some, Ok, Err, IfOk, IfErr};
+ghost use Rattle.std.specs.Prelude.{◌≡◌, ◌≤◌, [], length, count_by, Option, Some, Ok, Err, IfOk, IfErr};
 ghost use Rattle.httparse.specs.Spans.{IsRequestWithin};
 ghost use Rattle.ci_machine.specs.declared.reply.Code.{Code};
 ghost use Rattle.ci_http_messages.specs.BodyLength.{body_length};
@@ -21,53 +21,67 @@ use httparse::spans::{EMPTY_HEADER_SPAN, HeaderSpan, RequestSpans};
 use std::alloc::Global;
 use std::marker::Model;
 
-/// A request as it was sent: its method, its target, its fields and its body.
+/// Room for the longest head, and for where its fields stand.
 #[derive(Drop)]
-pub struct Call {
-    head: HeadBytes,
+pub struct HeadRoom {
+    bytes: HeadBytes,
     headers: [HeaderSpan; MAX_HEAD_FIELDS],
+}
+
+impl HeadRoom {
+    /// Room with no head in it.
+    pub fn new() -> Self
+        ensures { result.bytes.items ≡ [] }
+    {
+        HeadRoom {
+            bytes: HeadBytes::new(),
+            headers: [EMPTY_HEADER_SPAN; MAX_HEAD_FIELDS],
+        }
+    }
+}
+
+/// A request as it was sent: its method, its target, its fields and its body. Its head is lent from
+/// the room that it was read into.
+#[derive(Drop)]
+pub struct Call<'r> {
+    head: &'r [u8],
+    headers: &'r [HeaderSpan],
     spans: RequestSpans,
     body: Vec<u8>,
 }
 
-impl Model for Call {
-    ghost use Rattle.std.specs.Prelude.{◌≡◌, length};
+impl<'r> Model for Call<'r> {
     ghost use Rattle.httparse.specs.Spans.{IsRequestWithin};
-    ghost use Rattle.ci_http_messages.specs.declared.limits.TheConstants.{MAX_HEAD_FIELDS};
     ghost use Rattle.ci_http_messages.specs.Head.{head_at};
     ghost use Rattle.ci_http_messages.specs.Reading.{Message, message};
 
     ghost Value = { Message };
 
-    ghost view = { λ c. message (head_at c.head.items c.headers c.spans) c.body.items };
+    ghost view = { λ c. message (head_at c.head.now c.headers.now c.spans) c.body.items };
 
-    ghost invariant = { λ c. (length c.headers ≡ MAX_HEAD_FIELDS) × IsRequestWithin c.head.items c.headers c.spans };
+    ghost invariant = { λ c. IsRequestWithin c.head.now c.headers.now c.spans };
 }
 
-impl Call {
+impl<'r> Call<'r> {
     /// The method, as POST.
     pub fn method(&self) -> &[u8]
         ensures { result.now ≡ self.now.method }
     {
-        self.spans.method.of(self.head.as_slice())
+        self.spans.method.of(self.head)
     }
 
     /// The target: the path, and the query if there is one.
     pub fn target(&self) -> &[u8]
         ensures { result.now ≡ self.now.target }
     {
-        self.spans.path.of(self.head.as_slice())
+        self.spans.path.of(self.head)
     }
 
     /// The values of the fields of this name, whatever the case of its letters.
     pub fn field(&self, name: &[u8]) -> Found<'_>
         ensures { Shows result (values_of name.now self.now.fields) }
     {
-        find_field(
-            self.head.as_slice(),
-            &self.headers[..self.spans.headers],
-            name,
-        )
+        find_field(self.head, &self.headers[..self.spans.headers], name)
     }
 
     /// The body.
@@ -78,12 +92,17 @@ impl Call {
     }
 }
 
-/// Reads a request: its head and its body, or up to the fault, and not a byte more.
+/// Reads a request: its head and its body, or up to the fault, and not a byte more. The head is read
+/// into `room`, in place of what is there, and lent from it.
 ///
 /// Errors: the bytes end first; they are no request, or one over a limit (H1, H2, H3, H4, H8); a
 /// call of the reader failed, which isn't tried again; memory was refused, which is asked for only
 /// once a whole head says that a body follows.
-pub fn read_request<R: Source>(alloc: Global, reader: &mut R) -> Result<Call, HttpFault>
+pub fn read_request<'r, R: Source>(
+    alloc: Global,
+    reader: &mut R,
+    room: &'r mut HeadRoom,
+) -> Result<Call<'r>, HttpFault>
     ensures call { IfOk result (λ call. Tells (R.left reader.old) (R.left reader.new)
         (λ bytes rest. IsReading bytes (request call) rest)) }
     ensures refused { (why : Code) → result ≡ Err (HttpFault.Refused why) → Tells (R.left reader.old) (R.left reader.new)
@@ -96,14 +115,18 @@ pub fn read_request<R: Source>(alloc: Global, reader: &mut R) -> Result<Call, Ht
     ensures took { TakesFront (R.left reader.old) (R.left reader.new) }
     ensures failed { Fails result (Err HttpFault.ReadFailed) (R.failures reader.old) (R.failures reader.new) }
 {
-    let head = read_head(reader)?;
-    let mut headers = [EMPTY_HEADER_SPAN; MAX_HEAD_FIELDS];
-    let (spans, len) = match frame(head.as_slice(), &mut headers) {
+    read_head(reader, &mut room.bytes)?;
+    let (spans, len) = match frame(room.bytes.as_slice(), &mut room.headers) {
         Ok(parts) => parts,
         Err(why) => return Err(HttpFault::Refused(why)),
     };
     let body = read_body(alloc, reader, len)?;
-    Ok(assemble(head, headers, spans, body))
+    Ok(Call {
+        head: room.bytes.as_slice(),
+        headers: &room.headers,
+        spans,
+        body,
+    })
 }
 
 // The parts of a head, and how long the body is that follows it.
@@ -124,23 +147,5 @@ pub(crate) fn frame(bytes: &[u8], headers: &mut [HeaderSpan]) -> Result<(Request
     match body_length(spans.method.of(bytes), lengths, codings) {
         Ok(len) => Ok((spans, len)),
         Err(why) => Err(why),
-    }
-}
-
-// A request of its parts.
-fn assemble(
-    head: HeadBytes,
-    headers: [HeaderSpan; MAX_HEAD_FIELDS],
-    spans: RequestSpans,
-    body: Vec<u8>,
-) -> Call
-    requires { IsRequestWithin head.items headers spans }
-    ensures { result ≡ message (head_at head.items headers spans) body.items }
-{
-    Call {
-        head,
-        headers,
-        spans,
-        body,
     }
 }

@@ -1,6 +1,6 @@
 //! The head of a request: the bytes up to its first empty line, and their parts.
 
-ghost use Rattle.std.specs.Prelude.{◌≡◌, ◌≤◌, length, count_by, nat_eq, IfOk, IfSome, IfNone, Some, None};
+ghost use Rattle.std.specs.Prelude.{◌≡◌, ◌≤◌, length, count_by, nat_eq, OnOk, IfSome, IfNone, Some, None};
 ghost use Rattle.std.specs.List.{starts_with, ends_with};
 ghost use Rattle.httparse.specs.Spans.{IsRequestWithin};
 ghost use Rattle.ci_machine.specs.declared.reply.Code.{Code};
@@ -19,14 +19,15 @@ use httparse::spans::{HeaderSpan, RequestSpans, parse_request};
 /// The bytes of a head, and room for the longest.
 pub(crate) type HeadBytes = ArrayVec<u8, MAX_HEAD_BYTES>;
 
-/// Reads a head, up to and with its first CR LF CR LF, and not a byte more. It takes no memory.
+/// Reads a head, up to and with its first CR LF CR LF, and not a byte more, into `head` in place of
+/// what is there. It takes no memory.
 ///
 /// Errors: the bytes end first; there is no CR LF CR LF within 8,192 bytes, or there are more than
 /// 34 line feeds up to it (H2); a call of the reader failed.
-pub fn read_head<R: Source>(reader: &mut R) -> Result<HeadBytes, HttpFault>
-    ensures head { IfOk result (λ head. Tells (R.left reader.old) (R.left reader.new)
-        (λ bytes rest. opening_of bytes ≡ (opened head.items, rest))) }
-    ensures lines { IfOk result (λ head. count_by is_line_feed head.items ≤ MAX_HEAD_LINES) }
+pub fn read_head<R: Source>(reader: &mut R, head: &mut HeadBytes) -> Result<(), HttpFault>
+    ensures head { OnOk result (Tells (R.left reader.old) (R.left reader.new)
+        (λ bytes rest. opening_of bytes ≡ (opened head.new.items, rest))) }
+    ensures lines { OnOk result (count_by is_line_feed head.new.items ≤ MAX_HEAD_LINES) }
     ensures ended { result ≡ Err HttpFault.Ended → Tells (R.left reader.old) (R.left reader.new)
         (λ bytes rest. opening_of bytes ≡ (short, rest)) }
     ensures refused { (why : Code) → result ≡ Err (HttpFault.Refused why) → why ≡ Code.H2 }
@@ -36,7 +37,7 @@ pub fn read_head<R: Source>(reader: &mut R) -> Result<HeadBytes, HttpFault>
     ensures took { TakesFront (R.left reader.old) (R.left reader.new) }
     ensures failed { Fails result (Err HttpFault.ReadFailed) (R.failures reader.old) (R.failures reader.new) }
 {
-    let mut head = HeadBytes::new();
+    head.clear();
     for _ in 0..MAX_HEAD_BYTES {
         let mut byte = [0];
         if reader.get(&mut byte)? == 0 {
@@ -47,7 +48,7 @@ pub fn read_head<R: Source>(reader: &mut R) -> Result<HeadBytes, HttpFault>
             if lines_of(head.as_slice()) > MAX_HEAD_LINES {
                 return Err(HttpFault::Refused(Code::H2));
             }
-            return Ok(head);
+            return Ok(());
         }
     }
     Err(HttpFault::Refused(Code::H2))

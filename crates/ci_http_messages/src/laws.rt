@@ -8,7 +8,7 @@ ghost use Rattle.ci_http_messages.specs.ReplyText.{listed};
 ghost use Rattle.ci_http_messages.specs.RequestBytes.{methods_of};
 
 use crate::fault::HttpFault;
-use crate::head::{read_head, whole_head};
+use crate::head::{HeadBytes, read_head, whole_head};
 use crate::limits::MAX_HEAD_FIELDS;
 use crate::link::{Failed, Source};
 use httparse::spans::EMPTY_HEADER_SPAN;
@@ -42,8 +42,9 @@ pub fn each_text_has_a_reading(bytes: &[u8])
     ensures { (reading : Reading) × (rest : List ℕ) × IsReading bytes.now reading rest }
 {
     let mut reader = Lent { rest: bytes };
-    match read_head(&mut reader) {
-        Ok(head) => {
+    let mut head = HeadBytes::new();
+    match read_head(&mut reader, &mut head) {
+        Ok(()) => {
             let mut headers = [EMPTY_HEADER_SPAN; MAX_HEAD_FIELDS];
             match whole_head(head.as_slice(), &mut headers) {
                 Some(_) => (),

@@ -37,7 +37,7 @@ use std::str;
 /// it wants them, and its body may be JSON or is as it wants it.
 ///
 /// A missing token counts as an empty one, which nothing has, and so does one that isn't UTF-8.
-pub fn request_of(alloc: Global, paths: &Paths, call: &Call) -> Result<Request, Reply>
+pub fn request_of(alloc: Global, paths: &Paths, call: &Call<'_>) -> Result<Request, Reply>
     ensures ok { IfOk result (λ request. request_in call.now ≡ Ok request) }
     ensures err { IfErr result (λ reply. ((reply ≡ refusal Code.M16) × AsksMemory call.now) ⊎ (request_in call.now ≡ Err reply)) }
 {
@@ -52,7 +52,7 @@ pub fn request_of(alloc: Global, paths: &Paths, call: &Call) -> Result<Request, 
 }
 
 // What a call asks for by its method and its path.
-fn asked_by<'c>(paths: &Paths, call: &'c Call) -> Lookup<&'c str>
+fn asked_by<'c>(paths: &Paths, call: &'c Call<'_>) -> Lookup<&'c str>
     ensures { asked_at call.now.method (path_of call.now.target) ≡ as_asked (λ key. key.now) result }
 {
     match str::from_utf8(path_of(call.target())) {
@@ -72,7 +72,7 @@ fn not_allowed(methods: Methods) -> Reply
 
 // The request of an operation. Errors: the fields or the body of the call aren't as its route wants
 // them (H7); memory was refused (M16).
-fn requested(alloc: Global, operation: Operation<&str>, call: &Call) -> Result<Request, Code>
+fn requested(alloc: Global, operation: Operation<&str>, call: &Call<'_>) -> Result<Request, Code>
     ensures { AnswersFor (map_key (λ key. key.now) operation.entry) call.now result }
 {
     match operation {
@@ -98,21 +98,21 @@ fn requested(alloc: Global, operation: Operation<&str>, call: &Call) -> Result<R
 }
 
 // A runner asks for a job: the body has its token.
-fn ask_job(alloc: Global, call: &Call) -> Result<Request, Code>
+fn ask_job(alloc: Global, call: &Call<'_>) -> Result<Request, Code>
     ensures { AnswersFor Operation.AskJob call.now result }
 {
     token_in(alloc, call.body()).map(Request::AskJob)
 }
 
 // A runner says how an attempt stands: the body has that.
-fn update_job(alloc: Global, attempt: u64, call: &Call) -> Result<Request, Code>
+fn update_job(alloc: Global, attempt: u64, call: &Call<'_>) -> Result<Request, Code>
     ensures { AnswersFor (Operation.UpdateJob attempt) call.now result }
 {
     update_in(alloc, attempt, call.body()).map(Request::UpdateJob)
 }
 
 // A runner sends a piece of an attempt's trace: the body, at the place that its range says.
-fn append_trace(alloc: Global, attempt: u64, call: &Call) -> Result<Request, Code>
+fn append_trace(alloc: Global, attempt: u64, call: &Call<'_>) -> Result<Request, Code>
     ensures { AnswersFor (Operation.AppendTrace attempt) call.now result }
 {
     let Some(field) = field_in(b"JOB-TOKEN", call) else {
@@ -137,7 +137,7 @@ fn append_trace(alloc: Global, attempt: u64, call: &Call) -> Result<Request, Cod
 }
 
 // The body is to be a project's file.
-fn set_file(alloc: Global, project: u64, call: &Call) -> Result<Request, Code>
+fn set_file(alloc: Global, project: u64, call: &Call<'_>) -> Result<Request, Code>
     ensures { AnswersFor (Operation.SetFile project) call.now result }
 {
     let field = project_field(call)?;
@@ -151,7 +151,7 @@ fn set_file(alloc: Global, project: u64, call: &Call) -> Result<Request, Code>
 }
 
 // A variable of a project is to have the value that the body has.
-fn set_variable(alloc: Global, project: u64, key: &str, call: &Call) -> Result<Request, Code>
+fn set_variable(alloc: Global, project: u64, key: &str, call: &Call<'_>) -> Result<Request, Code>
     ensures { AnswersFor (Operation.SetVariable project key.now) call.now result }
 {
     let field = project_field(call)?;
@@ -167,7 +167,7 @@ fn set_variable(alloc: Global, project: u64, key: &str, call: &Call) -> Result<R
 }
 
 // A variable of a project is to go.
-fn delete_variable(alloc: Global, project: u64, key: &str, call: &Call) -> Result<Request, Code>
+fn delete_variable(alloc: Global, project: u64, key: &str, call: &Call<'_>) -> Result<Request, Code>
     ensures { AnswersFor (Operation.DeleteVariable project key.now) call.now result }
 {
     let token = token_of(alloc, project_field(call)?)?;
@@ -180,7 +180,7 @@ fn delete_variable(alloc: Global, project: u64, key: &str, call: &Call) -> Resul
 }
 
 // A pipeline of a project is to be made as the body says.
-fn create_pipeline(alloc: Global, project: u64, call: &Call) -> Result<Request, Code>
+fn create_pipeline(alloc: Global, project: u64, call: &Call<'_>) -> Result<Request, Code>
     ensures { AnswersFor (Operation.CreatePipeline project) call.now result }
 {
     let field = project_field(call)?;
@@ -197,7 +197,7 @@ fn pipeline_in(
     alloc: Global,
     project: u64,
     pipeline: u64,
-    call: &Call,
+    call: &Call<'_>,
 ) -> Result<PipelineQuery, Code>
     ensures { let query = option_map (λ field. pipeline_of project field pipeline) (field_in (codes "PRIVATE-TOKEN") call.now)
         in Gives (IsSome query) query result }
@@ -211,7 +211,7 @@ fn pipeline_in(
 }
 
 // The job of a project that is named.
-fn job_in(alloc: Global, project: u64, job: u64, call: &Call) -> Result<JobQuery, Code>
+fn job_in(alloc: Global, project: u64, job: u64, call: &Call<'_>) -> Result<JobQuery, Code>
     ensures { let query = option_map (λ field. job_of project field job) (field_in (codes "PRIVATE-TOKEN") call.now)
         in Gives (IsSome query) query result }
 {
@@ -224,7 +224,7 @@ fn job_in(alloc: Global, project: u64, job: u64, call: &Call) -> Result<JobQuery
 }
 
 // The one value of the field with a project's token. Errors: the field stands twice (H7).
-fn project_field(call: &Call) -> Result<&[u8], Code>
+fn project_field<'c>(call: &'c Call<'_>) -> Result<&'c [u8], Code>
     ensures ok { IfOk result (λ field. field_in (codes "PRIVATE-TOKEN") call.now ≡ Some field.now) }
     ensures err { IfErr result (λ why. (why ≡ Code.H7) × (field_in (codes "PRIVATE-TOKEN") call.now ≡ None)) }
 {
@@ -232,7 +232,7 @@ fn project_field(call: &Call) -> Result<&[u8], Code>
 }
 
 // The one value of a field, which is empty where the field is missing; `None` where it stands twice.
-fn field_in<'c>(name: &[u8], call: &'c Call) -> Option<&'c [u8]>
+fn field_in<'c>(name: &[u8], call: &'c Call<'_>) -> Option<&'c [u8]>
     ensures { MatchOption result
         (field_in name.now call.now ≡ None)
         (λ value. field_in name.now call.now ≡ Some value.now) }

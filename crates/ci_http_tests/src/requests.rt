@@ -1,6 +1,6 @@
 ghost use Rattle.ci_http_messages.specs.Blanks.{OpensWhole};
 
-use ci_http_messages::call::read_request;
+use ci_http_messages::call::{HeadRoom, read_request};
 use ci_http_messages::fault::HttpFault;
 use ci_http_messages::fields::Found;
 use ci_http_messages::link::{Link, Sink};
@@ -21,7 +21,8 @@ fn read_parts<L: Ledger>(rt: &impl Abort, alloc: Global, blank: Blank)
     let bytes =
         b"PATCH /x?y HTTP/1.1\r\nA: 1\r\nJob-Token: \t t u \r\nContent-Length: 3\r\na: 2\r\n\r\nxyzw".as_slice();
     let mut reader = Link::<&[u8], L>::new(bytes, blank);
-    let read = read_request(alloc, &mut reader);
+    let mut room = HeadRoom::new();
+    let read = read_request(alloc, &mut reader, &mut room);
     assert!(rt; read.is_ok());
     if let Ok(call) = read {
         assert!(rt; call.method() == b"PATCH".as_slice());
@@ -125,7 +126,8 @@ fn code_over<L: Ledger>(alloc: Global, paths: &Paths, bytes: &[u8], blank: Blank
     requires { OpensWhole blank.name blank.parts L.name L.parts }
 {
     let mut reader = Link::<&[u8], L>::new(bytes, blank);
-    match read_request(alloc, &mut reader) {
+    let mut room = HeadRoom::new();
+    match read_request(alloc, &mut reader, &mut room) {
         Ok(call) => match request_of(alloc, paths, &call) {
             Ok(_) => None,
             Err(reply) => reply.code,
@@ -210,7 +212,11 @@ fn read_once<L: Ledger>(alloc: Global, flaky: Flaky<'_>, blank: Blank) -> (bool,
     requires { OpensWhole blank.name blank.parts L.name L.parts }
 {
     let mut reader = Link::<Flaky<'_>, L>::new(flaky, blank);
-    let failed = matches!(read_request(alloc, &mut reader), Err(HttpFault::ReadFailed));
+    let mut room = HeadRoom::new();
+    let failed = matches!(
+        read_request(alloc, &mut reader, &mut room),
+        Err(HttpFault::ReadFailed)
+    );
     let flaky = reader.into_inner();
     (failed, flaky.calls, flaky.rest.len())
 }
