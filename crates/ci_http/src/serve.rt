@@ -1,6 +1,6 @@
 //! One request, from the bytes that come in to the bytes that go out.
 
-ghost use Rattle.std.specs.Prelude.{◌≡◌, ◌<◌, ◌+◌, ◌++◌, ◌⊎◌, length, Err, IfOk, IfSome, IfNone, OnOk, OnErr};
+ghost use Rattle.std.specs.Prelude.{◌≡◌, ◌<◌, ◌+◌, ◌++◌, ◌⊎◌, [], length, true, false, Err, IfOk, OnOk, OnErr};
 ghost use Rattle.std.specs.Io.KnownBytes.{Appends};
 ghost use Rattle.ci_machine.specs.declared.reply.Reply.{Reply};
 ghost use Rattle.ci_http_messages.specs.Reading.{ended, IsReading};
@@ -146,29 +146,32 @@ fn send<W: Sink>(writer: &mut W, reply: &Reply) -> Result<(), Failed>
     put_both(writer, text.head.as_slice(), text.body)
 }
 
-// Writes the head and the body, as one text if there is room for both. Errors: a call of the writer
-// failed, and a beginning was written.
+// Writes the head and the body, as one text if there is room for both or the body is empty. Errors:
+// a call of the writer failed, and a beginning was written.
 fn put_both<W: Sink>(writer: &mut W, head: &[u8], body: &[u8]) -> Result<(), Failed>
     ensures ok { OnOk result (Appends (W.written writer.old) (W.written writer.new) (head.now ++ body.now)) }
     ensures err { OnErr result (WritesFront (W.written writer.old) (W.written writer.new) (head.now ++ body.now)) }
     ensures none_failed { OnOk result (W.failures writer.new ≡ W.failures writer.old) }
     ensures failed { OnErr result (W.failures writer.new ≡ W.failures writer.old + 1) }
 {
-    match joined(head, body) {
-        Some(whole) => put_all(writer, whole.as_slice()),
-        None => put_each(writer, head, body),
+    if body.is_empty() {
+        return put_all(writer, head);
+    }
+    let mut whole = ArrayVec::new();
+    if join(&mut whole, head, body) {
+        put_all(writer, whole.as_slice())
+    } else {
+        put_each(writer, head, body)
     }
 }
 
-// The head and the body as one text, if there is room for both.
-fn joined(head: &[u8], body: &[u8]) -> Option<ArrayVec<u8, MAX_JOINED_BYTES>>
-    ensures whole { IfSome result (λ whole. whole.items ≡ head.now ++ body.now) }
-    ensures room { IfNone result (MAX_JOINED_BYTES < length head.now + length body.now) }
+// Fills the buffer with the head and the body as one text, if there is room for both.
+fn join(whole: &mut ArrayVec<u8, MAX_JOINED_BYTES>, head: &[u8], body: &[u8]) -> bool
+    requires { whole.old.items ≡ [] }
+    ensures whole { result ≡ true → whole.new.items ≡ head.now ++ body.now }
+    ensures room { result ≡ false → MAX_JOINED_BYTES < length head.now + length body.now }
 {
-    let mut whole = ArrayVec::new();
-    whole.try_extend_from_slice(head).ok()?;
-    whole.try_extend_from_slice(body).ok()?;
-    Some(whole)
+    whole.try_extend_from_slice(head).is_ok() && whole.try_extend_from_slice(body).is_ok()
 }
 
 // Writes the head, and then the body. Errors: a call of the writer failed, and a beginning was written.
