@@ -11,8 +11,7 @@ use Rattle.ci_machine.specs.declared.change.RowChange.{RowChange}
 use Rattle.ci_machine.specs.declared.change.RowChange.TheVariants.{Put, Remove}
 use Rattle.ci_machine.specs.declared.change.IndexChange.{IndexChange}
 use Rattle.ci_machine.specs.Kept.{Kept, indexed, indexed_all}
-use Rattle.ci_machine.specs.State.{State, changed, applied}
-use Rattle.ci_machine_steps.proofs.Created.{applied_append}
+use Rattle.ci_machine.specs.State.{State, changed}
 use Rattle.ci_memory_pipelines.specs.Changes.{put_pipeline, removes_pipeline}
 
 -- a change that puts a pipeline is that
@@ -53,11 +52,7 @@ pipelines_stay (Remove (key.Attempt n)) s e f = refl
 pipelines_stay (Remove (key.Piece n m)) s e f = refl
 pipelines_stay (Remove (key.Pieces n)) s e f = refl
 
--- ---- one more change
-
-pub changed_more : (cs : List RowChange) (i : ℕ) (c : RowChange) (s : State) → i < length cs → c ≡ slice_index_or cs i c → changed c (applied (take i cs) s) ≡ applied (take (i + 1) cs) s
-changed_more cs i c s within at =
-    sym (ap (λ (l : List RowChange). applied l s) (take_more cs i c within ∙ ap (λ (x : RowChange). take i cs ++ x ∷ []) (sym at)) ∙ applied_append (take i cs) (c ∷ []) s)
+-- ---- one more change of an index
 
 indexed_append : (xs ys : List IndexChange) (k : Kept) → indexed_all (xs ++ ys) k ≡ indexed_all ys (indexed_all xs k)
 indexed_append [] ys k = refl
@@ -72,7 +67,3 @@ indexed_more cs i c k within at =
 pub kept_ok : {A E : Type 0} (P : A → Type 0) (r : Result A E) (o : Option A) → o ≡ result_ok r → IfOk r P → IfSome o P
 kept_ok P (Ok x) o e p = subst (λ z. IfSome z P) (sym e) p
 kept_ok P (Err x) o e p = subst (λ z. IfSome z P) (sym e) tt
-
-pub if_some : {A : Type 0} (P Q : A → Type 0) (o : Option A) → ((x : A) → P x → Q x) → IfSome o P → IfSome o Q
-if_some P Q None f p = p
-if_some P Q (Some x) f p = f x p

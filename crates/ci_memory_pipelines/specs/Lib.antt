@@ -1,5 +1,4 @@
 pub mod Known
-pub mod Code
 pub mod Alone
 pub mod Changes
 pub mod Redundant

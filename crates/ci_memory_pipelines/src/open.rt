@@ -14,11 +14,8 @@ pub struct Open {
 
 impl Model for Open {
     ghost use Rattle.ci_memory_pipelines.specs.Known.{Known};
-    ghost use Rattle.ci_memory_pipelines.specs.Code.{open_code};
 
     ghost Value = { Known };
-
-    ghost coded = { open_code };
 
     ghost view = { λ o. record { alone = o.alone.items; suspects = o.suspects.items } };
 }

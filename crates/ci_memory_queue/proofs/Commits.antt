@@ -1,8 +1,7 @@
 -- What a commit leaves covered.
-use Rattle.std.specs.Prelude.{◌≡◌, ◌⊎◌, ℕ, ◌+◌, ◌<◌, ◌≤◌, max, Bool, true, false, ◌==◌, List, [], ◌∷◌, ◌++◌, length, take, Contains, Option, Some, None, IfSome, OnSome, option_map, option_and_then, slice_index_or}
+use Rattle.std.specs.Prelude.{◌≡◌, ◌⊎◌, ℕ, ◌<◌, ◌≤◌, max, Bool, true, false, ◌==◌, List, [], ◌∷◌, ◌++◌, Contains, Option, Some, None, IfSome, OnSome, option_map, option_and_then}
 use Rattle.std.proofs.Common.{refl, sym, ap, subst, ◌∙◌, inl, inr, ⊎_elim, arith, eqb-true}
 use Rattle.std.proofs.lemmas.Bool.{both_ways, cases_Bool, eqb-false, false≢true}
-use Rattle.std.proofs.lemmas.List.{take_more}
 use Rattle.ci_board.specs.declared.facts.Status.TheVariants.{Pending}
 use Rattle.ci_board.specs.Effects.{is_status}
 use Rattle.ci_machine.specs.declared.records.BoardRow.{BoardRow}
@@ -11,49 +10,23 @@ use Rattle.ci_machine.specs.declared.records.Pipeline.{Pipeline}
 use Rattle.ci_machine.specs.declared.change.RowChange.{RowChange}
 use Rattle.ci_machine.specs.declared.change.Record.TheVariants as change
 use Rattle.ci_machine.specs.declared.change.IndexChange.{IndexChange}
-use Rattle.ci_machine.specs.declared.change.IndexChange.TheVariants.{Hold, Free, Open, Close}
-use Rattle.ci_machine.specs.State.{State, put, without, without_all, with_record, changed, applied}
-use Rattle.ci_machine.specs.Kept.{Kept, row_cmp, put_rows, indexed, indexed_all, cleared, written}
+use Rattle.ci_machine.specs.State.{State, put, without, without_all, with_record, applied}
+use Rattle.ci_machine.specs.Kept.{Kept, row_cmp, put_rows, indexed_all, cleared, written}
 use Rattle.ci_machine.specs.Statuses.{row_or_none}
 use Rattle.ci_machine.specs.Lookups.{job_at, pipeline_at}
 use Rattle.ci_machine.proofs.Keyed.{has_from_contains, contains_from_has}
-use Rattle.ci_machine_steps.proofs.Created.{applied_append}
+use Rattle.ci_machine_steps.proofs.Behind.{has_left, has_right}
+use Rattle.ci_server_lookups.proofs.Changes.{state_stays, board_stays}
 use Rattle.ci_memory_queue.specs.declared.queue.Class.{Class}
 use Rattle.ci_memory_queue.specs.Known.{Known}
 use Rattle.ci_memory_queue.specs.Covers.{asked_by, asks_at, is_pending_at, IsSorted, IsKnown, Covers, IsRight}
 use Rattle.ci_memory_queue.proofs.Found.{put_other, put_same, without_other, without_same}
-use Rattle.ci_memory_queue.proofs.Sets.{append_left, append_right}
 
--- ---- one after the other
+-- ---- what may be none
 
 pub on_some_then : {A P Q : Type 0} (o : Option A) → OnSome o P → (P → Q) → OnSome o Q
 on_some_then None p f = tt
 on_some_then (Some x) p f = f p
-
-pub changed_more : (cs : List RowChange) (i : ℕ) (d : RowChange) (s : State) → i < length cs → changed (slice_index_or cs i d) (applied (take i cs) s) ≡ applied (take (i + 1) cs) s
-changed_more cs i d s within = sym (ap (λ (l : List RowChange). applied l s) (take_more cs i d within) ∙ applied_append (take i cs) (slice_index_or cs i d ∷ []) s)
-
-rows_append : (rs qs : List BoardRow) (board : List BoardRow) → put_rows (rs ++ qs) board ≡ put_rows qs (put_rows rs board)
-rows_append [] qs board = refl
-rows_append (r ∷ rs) qs board = rows_append rs qs (put row_cmp r board)
-
-pub rows_more : (rs : List BoardRow) (i : ℕ) (d : BoardRow) (board : List BoardRow) → i < length rs → put row_cmp (slice_index_or rs i d) (put_rows (take i rs) board) ≡ put_rows (take (i + 1) rs) board
-rows_more rs i d board within = sym (ap (λ (l : List BoardRow). put_rows l board) (take_more rs i d within) ∙ rows_append (take i rs) (slice_index_or rs i d ∷ []) board)
-
--- changes of indexes leave the state and the rows
-pub state_stays : (cs : List IndexChange) (k : Kept) → (indexed_all cs k).state ≡ k.state
-state_stays [] k = refl
-state_stays (Hold h ∷ cs) k = state_stays cs (indexed (Hold h) k)
-state_stays (Free p g ∷ cs) k = state_stays cs (indexed (Free p g) k)
-state_stays (Open u ∷ cs) k = state_stays cs (indexed (Open u) k)
-state_stays (Close n ∷ cs) k = state_stays cs (indexed (Close n) k)
-
-pub board_stays : (cs : List IndexChange) (k : Kept) → (indexed_all cs k).board ≡ k.board
-board_stays [] k = refl
-board_stays (Hold h ∷ cs) k = board_stays cs (indexed (Hold h) k)
-board_stays (Free p g ∷ cs) k = board_stays cs (indexed (Free p g) k)
-board_stays (Open u ∷ cs) k = board_stays cs (indexed (Open u) k)
-board_stays (Close n ∷ cs) k = board_stays cs (indexed (Close n) k)
 
 -- ---- rows
 
@@ -101,10 +74,10 @@ abbrev pub with_note : Known → ℕ → Known
 with_note q job = record q { fresh = q.fresh ++ job ∷ [] }
 
 noted : (fresh : List ℕ) (job n : ℕ) → n ≡ job → Contains (fresh ++ job ∷ []) n
-noted fresh job n e = contains_from_has n (fresh ++ job ∷ []) (append_right n fresh (job ∷ []) (inl e))
+noted fresh job n e = contains_from_has n (fresh ++ job ∷ []) (has_right n fresh (job ∷ []) (inl e))
 
 known_more : (s : State) (q : Known) (job n : ℕ) → IsKnown s q n → IsKnown s (with_note q job) n
-known_more s q job n known = ⊎_elim (λ c. inl (contains_from_has n (q.fresh ++ job ∷ []) (append_left n q.fresh (job ∷ []) (has_from_contains n q.fresh c)))) (λ w. inr w) known
+known_more s q job n known = ⊎_elim (λ c. inl (contains_from_has n (q.fresh ++ job ∷ []) (has_left n q.fresh (job ∷ []) (has_from_contains n q.fresh c)))) (λ w. inr w) known
 
 pub covers_row : (r : BoardRow) (q : Known) (s : State) (board : List BoardRow) → Covers q s board → Covers (record q { fresh = q.fresh ++ r.job ∷ []; newest = max q.newest r.job }) s (put row_cmp r board)
 covers_row r q s board covers = λ n pending.

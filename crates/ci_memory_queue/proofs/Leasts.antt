@@ -7,12 +7,13 @@ use Rattle.ci_machine.specs.Eligible.{may_run, is_free}
 use Rattle.ci_machine.specs.Holders.{holders}
 use Rattle.ci_machine.specs.Kept.{Kept}
 use Rattle.ci_machine.proofs.Keyed.{has_from_contains}
+use Rattle.ci_machine_steps.proofs.Behind.{in_either}
 use Rattle.ci_server_lookups.specs.declared.search.Offer.{Offer}
 use Rattle.ci_memory_queue.specs.declared.queue.Asks.{Asks}
 use Rattle.ci_memory_queue.specs.declared.queue.Class.{Class}
 use Rattle.ci_memory_queue.specs.Covers.{asks_at, is_pending_at, IsAmong}
 use Rattle.ci_memory_queue.specs.Offers.{is_open, IsFirst, IsBetter, IsBest}
-use Rattle.ci_memory_queue.proofs.Sets.{has_append, among_one, set_has, set_new}
+use Rattle.ci_memory_queue.proofs.Sets.{among_one, set_has, set_new}
 
 both : (a b : Bool) → a ≡ true → b ≡ true → (a && b) ≡ true
 both a b e f = ap (λ x. x && b) e ∙ f
@@ -47,7 +48,7 @@ module _ (k : Kept) (runner : Runner) where
         (λ h. ⊎_elim
         (λ (e : w.of ≡ class). better.least (subst (λ (a : Asks). is_open runner (holders k.state) a ≡ true) (sym w.same ∙ ap (λ (c : Class). c.asks) e) may_be) job (subst (λ (c : Class). Contains c.jobs.keys job) e w.has) pending)
         (λ m. absurd m) h)
-        (has_append w.of classes (class ∷ []) (has_from_contains w.of (classes ++ class ∷ []) w.there));
+        (in_either w.of classes (class ∷ []) (has_from_contains w.of (classes ++ class ∷ []) w.there));
   }
 
   -- with one more class, in its place

@@ -11,8 +11,8 @@ use Rattle.ci_machine.specs.Kept.{Kept, row_cmp, put_rows, cleared, written}
 use Rattle.ci_machine.proofs.Keyed.{Rising, rising_put, rising_filter}
 use Rattle.ci_machine_steps.proofs.Sound.{ascend_from_rising, rising_from_ascend}
 use Rattle.ci_server_lookups.specs.Keeps.{IsKept}
+use Rattle.ci_server_lookups.proofs.Changes.{board_stays}
 use Rattle.ci_memory_queue.specs.Order.{RowsAscend}
-use Rattle.ci_memory_queue.proofs.Commits.{board_stays}
 
 abbrev by_job : BoardRow → ℕ
 by_job r = r.job

@@ -9,12 +9,12 @@ use Rattle.ci_machine.specs.Ranges.{row_at, is_pending_after, pending_after}
 use Rattle.ci_machine.specs.Statuses.{row_or_none}
 use Rattle.ci_machine.proofs.Keyed.{Has, Rising, rising_from, rising_filter, has_filter, filter_has, has_find, has_map, has_from_contains, contains_from_has}
 use Rattle.ci_machine_steps.proofs.Sound.{rising_from_ascend}
+use Rattle.ci_machine_steps.proofs.Behind.{has_left, has_right}
 use Rattle.ci_machine_statuses.specs.Pages.{end_of_page}
 use Rattle.ci_store.specs.declared.store.TheConstants.{PAGE_ROWS}
 use Rattle.ci_server_lookups.specs.Search.{LeadsOn}
 use Rattle.ci_memory_queue.specs.Covers.{is_pending_at}
 use Rattle.ci_memory_queue.specs.Order.{RowsAscend}
-use Rattle.ci_memory_queue.proofs.Sets.{append_left, append_right}
 
 abbrev by_job : BoardRow → ℕ
 by_job r = r.job
@@ -68,10 +68,10 @@ module _ (board : List BoardRow) (ascend : RowsAscend board) (behind : ℕ) wher
   pending_behind r h e l = filter_has (is_pending_after behind) r board h (ap (λ b. b && nat_lt behind r.job) e ∙ lt-ltb behind r.job l)
 
   noted : (jobs : List ℕ) (r : BoardRow) (job : ℕ) → r.job ≡ job → Has r page → Contains (jobs ++ map by_job page) job
-  noted jobs r job e h = contains_from_has job (jobs ++ map by_job page) (append_right job jobs (map by_job page) (subst (λ n. Has n (map by_job page)) e (has_map by_job r page h)))
+  noted jobs r job e h = contains_from_has job (jobs ++ map by_job page) (has_right job jobs (map by_job page) (subst (λ n. Has n (map by_job page)) e (has_map by_job r page h)))
 
   before : (jobs : List ℕ) (job : ℕ) → Contains jobs job → Contains (jobs ++ map by_job page) job
-  before jobs job c = contains_from_has job (jobs ++ map by_job page) (append_left job jobs (map by_job page) (has_from_contains job jobs c))
+  before jobs job c = contains_from_has job (jobs ++ map by_job page) (has_left job jobs (map by_job page) (has_from_contains job jobs c))
 
   within_or_behind : (n m : ℕ) → (n ≤ m) ⊎ (m < n)
   within_or_behind n m = ⊎_elim (λ e. inr (ltb-true m n e)) (λ e. inl (ltb-false m n e)) (cases_Bool (nat_lt m n))

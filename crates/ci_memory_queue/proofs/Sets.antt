@@ -1,5 +1,5 @@
 -- Jobs in sets and lists of numbers, and in classes.
-use Rattle.std.specs.Prelude.{◌≡◌, ◌⊎◌, ℕ, ◌<◌, List, [], ◌∷◌, ◌++◌, length, Contains, slice_index_or, slice_set, Result, Ok, Err, OnOk}
+use Rattle.std.specs.Prelude.{◌≡◌, ◌⊎◌, ℕ, ◌<◌, List, [], ◌∷◌, length, Contains, slice_index_or, slice_set, Result, Ok, Err, OnOk}
 use Rattle.std.proofs.Common.{refl, sym, ap, subst, ◌∙◌, inl, inr, ⊎_elim, arith, suc, zero}
 use Rattle.std.specs.Ordering.{nat_cmp, is_eq, match_ordering}
 use Rattle.std.specs.declared.cmp.Ordering.{Ordering}
@@ -17,18 +17,6 @@ on_ok_then (Ok x) p f = f p
 on_ok_then (Err e) p f = tt
 
 -- ---- lists
-
-pub has_append : {A : Type 0} (x : A) (xs ys : List A) → Has x (xs ++ ys) → Has x xs ⊎ Has x ys
-has_append x [] ys h = inr h
-has_append x (z ∷ zs) ys h = ⊎_elim (λ e. inl (inl e)) (λ m. ⊎_elim (λ k. inl (inr k)) (λ k. inr k) (has_append x zs ys m)) h
-
-pub append_left : {A : Type 0} (x : A) (xs ys : List A) → Has x xs → Has x (xs ++ ys)
-append_left x [] ys h = absurd h
-append_left x (z ∷ zs) ys h = ⊎_elim (λ e. inl e) (λ m. inr (append_left x zs ys m)) h
-
-pub append_right : {A : Type 0} (x : A) (xs ys : List A) → Has x ys → Has x (xs ++ ys)
-append_right x [] ys h = h
-append_right x (z ∷ zs) ys h = inr (append_right x zs ys h)
 
 -- an element at an index is in the list
 pub at_index : {A : Type 0} (xs : List A) (i : ℕ) (d : A) → i < length xs → Has (slice_index_or xs i d) xs

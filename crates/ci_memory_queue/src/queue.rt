@@ -39,11 +39,8 @@ pub struct Queue {
 
 impl Model for Queue {
     ghost use Rattle.ci_memory_queue.specs.Known.{Known};
-    ghost use Rattle.ci_memory_queue.specs.Code.{queue_code};
 
     ghost Value = { Known };
-
-    ghost coded = { queue_code };
 
     ghost view = { λ q. record { classes = q.classes.items; fresh = q.fresh.items; newest = q.newest; newest_pipeline = q.newest_pipeline } };
 }

@@ -1,6 +1,7 @@
 use Rattle.std.proofs.Common.{sym, ap, subst, ◌∙◌}
 use Rattle.std.specs.Prelude.{List}
 use Rattle.std.specs.Option.{option_copied}
+use Rattle.std.proofs.lemmas.Option.{IfSome_then}
 use Rattle.ci_machine.specs.declared.records.Pipeline.{Pipeline}
 use Rattle.ci_machine.specs.declared.change.RowChange.{RowChange}
 use Rattle.ci_machine.specs.declared.change.Record.TheVariants as row
@@ -9,7 +10,7 @@ use Rattle.ci_machine.specs.State.{changed, with_record}
 use Rattle.ci_memory_pipelines.specs.Known.{Known}
 use Rattle.ci_memory_pipelines.specs.Alone.{Accounts, IsRight}
 use Rattle.ci_memory_pipelines.proofs.Covers.{Covers, covers, accounts}
-use Rattle.ci_memory_pipelines.proofs.Stays.{put_is, pipelines_stay, kept_ok, if_some}
+use Rattle.ci_memory_pipelines.proofs.Stays.{put_is, pipelines_stay, kept_ok}
 use Rattle.ci_memory_pipelines.proofs.after.after_change.Goals as goal
 
 -- a pipeline is put
@@ -20,7 +21,7 @@ returns-in-Some c = λ k before.
     let IsAfter : Known → Type 0 = λ after. (k : Kept) → Accounts o k → Accounts after (record k { state = with_record (row.Pipeline q) k.state }) in
     let is = put_is c.args.change.now q (sym c.put_pipeline.ensures ∙ ap option_copied c.in-Some.is) in
     subst (λ (x : RowChange). IsRight c.ok.result (record k { state = changed x k.state })) (sym is)
-    (if_some IsAfter (λ after. Accounts after (record k { state = with_record (row.Pipeline q) k.state })) c.ok.result (λ after f. f k before) (kept_ok IsAfter c.after_put.result c.ok.result c.ok.ensures.value c.after_put.ensures))
+    (IfSome_then c.ok.result (kept_ok IsAfter c.after_put.result c.ok.result c.ok.ensures.value c.after_put.ensures) (λ after f. f k before))
 
 -- the pipelines stay
 pub returns-in-None : goal.returns-in-None

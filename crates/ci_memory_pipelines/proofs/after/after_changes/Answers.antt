@@ -3,8 +3,8 @@ use Rattle.std.specs.Prelude.{take, List}
 use Rattle.std.proofs.lemmas.List.{take_all}
 use Rattle.ci_machine.specs.State.{State, applied}
 use Rattle.ci_machine.specs.declared.change.RowChange.{RowChange}
+use Rattle.ci_server_lookups.proofs.Changes.{changed_more}
 use Rattle.ci_memory_pipelines.specs.Alone.{Accounts}
-use Rattle.ci_memory_pipelines.proofs.Stays.{changed_more}
 use Rattle.ci_memory_pipelines.proofs.after.after_changes.Goals as goal
 
 pub loop-change-preserved : goal.loop-change-preserved

@@ -1,9 +1,8 @@
-use Rattle.std.proofs.Common.{ap, subst, ◌∙◌, take}
+use Rattle.std.proofs.Common.{ap, subst, take}
 use Rattle.std.proofs.lemmas.List.{take_all}
-use Rattle.ci_machine.specs.State.{State, changed, applied}
-use Rattle.ci_machine.specs.declared.change.RowChange.{RowChange}
+use Rattle.ci_machine.specs.State.{State, applied}
+use Rattle.ci_server_lookups.proofs.Changes.{changed_more}
 use Rattle.ci_memory_queue.specs.Covers.{Covers}
-use Rattle.ci_memory_queue.proofs.Commits.{changed_more}
 use Rattle.ci_memory_queue.proofs.after.after_changes.Goals as goal
 
 -- and after one more
@@ -13,7 +12,7 @@ loop-change-preserved c = λ s board covers.
     let i = c.loop-change.change-index in
     let d = c.change-item.result in
     subst (λ (t : State). Covers c.note_change.new.queue t board)
-    (ap (λ (x : RowChange). changed x (applied (take i cs) s)) c.change-item.is ∙ changed_more cs i d s c.loop-change-test.true)
+    (changed_more cs i d s c.loop-change-test.true c.change-item.is)
     (c.in_ok-note_change.ensures (applied (take i cs) s) board (c.loop-change.invariant s board covers))
 
 -- these are all

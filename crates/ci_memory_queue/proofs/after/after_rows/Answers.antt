@@ -2,8 +2,8 @@ use Rattle.std.proofs.Common.{ap, subst, take, List}
 use Rattle.std.proofs.lemmas.List.{take_all}
 use Rattle.ci_machine.specs.declared.records.BoardRow.{BoardRow}
 use Rattle.ci_machine.specs.Kept.{put_rows}
+use Rattle.ci_server_lookups.proofs.Changes.{rows_more}
 use Rattle.ci_memory_queue.specs.Covers.{Covers}
-use Rattle.ci_memory_queue.proofs.Commits.{rows_more}
 use Rattle.ci_memory_queue.proofs.after.after_rows.Goals as goal
 
 -- and after one more

@@ -1,8 +1,8 @@
 use Rattle.std.proofs.Common.{sym, subst}
 use Rattle.ci_machine.specs.Kept.{cleared, put_rows}
 use Rattle.ci_machine.specs.State.{State, applied}
+use Rattle.ci_server_lookups.proofs.Changes.{state_stays}
 use Rattle.ci_memory_leases.specs.Quiet.{AreRightOf}
-use Rattle.ci_memory_leases.proofs.Stays.{state_stays}
 use Rattle.ci_memory_leases.proofs.memory.Leases.after.Goals as goal
 
 pub returns : goal.returns

@@ -1,0 +1,39 @@
+-- Changes one after the other, and what changes of indexes leave as it was.
+use Rattle.std.specs.Prelude.{◌≡◌, ℕ, ◌+◌, ◌<◌, ◌++◌, List, [], ◌∷◌, length, take, slice_index_or}
+use Rattle.std.proofs.Common.{refl, sym, ap, ◌∙◌}
+use Rattle.std.proofs.lemmas.List.{take_more}
+use Rattle.ci_machine.specs.declared.change.IndexChange.{IndexChange}
+use Rattle.ci_machine.specs.declared.change.IndexChange.TheVariants.{Hold, Free, Open, Close}
+use Rattle.ci_machine.specs.declared.change.RowChange.{RowChange}
+use Rattle.ci_machine.specs.declared.records.BoardRow.{BoardRow}
+use Rattle.ci_machine.specs.Kept.{Kept, row_cmp, put_rows, indexed, indexed_all}
+use Rattle.ci_machine.specs.State.{State, put, changed, applied}
+use Rattle.ci_machine_steps.proofs.Created.{applied_append}
+
+-- the state after one change more of a list
+pub changed_more : (cs : List RowChange) (i : ℕ) (c : RowChange) (s : State) → i < length cs → c ≡ slice_index_or cs i c → changed c (applied (take i cs) s) ≡ applied (take (i + 1) cs) s
+changed_more cs i c s within at =
+    sym (ap (λ (l : List RowChange). applied l s) (take_more cs i c within ∙ ap (λ (x : RowChange). take i cs ++ x ∷ []) (sym at)) ∙ applied_append (take i cs) (c ∷ []) s)
+
+rows_append : (rs qs : List BoardRow) (board : List BoardRow) → put_rows (rs ++ qs) board ≡ put_rows qs (put_rows rs board)
+rows_append [] qs board = refl
+rows_append (r ∷ rs) qs board = rows_append rs qs (put row_cmp r board)
+
+-- the rows after one more of a list is put
+pub rows_more : (rs : List BoardRow) (i : ℕ) (d : BoardRow) (board : List BoardRow) → i < length rs → put row_cmp (slice_index_or rs i d) (put_rows (take i rs) board) ≡ put_rows (take (i + 1) rs) board
+rows_more rs i d board within = sym (ap (λ (l : List BoardRow). put_rows l board) (take_more rs i d within) ∙ rows_append (take i rs) (slice_index_or rs i d ∷ []) board)
+
+-- changes of indexes leave the state and the rows
+pub state_stays : (cs : List IndexChange) (k : Kept) → (indexed_all cs k).state ≡ k.state
+state_stays [] k = refl
+state_stays (Hold h ∷ cs) k = state_stays cs (indexed (Hold h) k)
+state_stays (Free p g ∷ cs) k = state_stays cs (indexed (Free p g) k)
+state_stays (Open u ∷ cs) k = state_stays cs (indexed (Open u) k)
+state_stays (Close n ∷ cs) k = state_stays cs (indexed (Close n) k)
+
+pub board_stays : (cs : List IndexChange) (k : Kept) → (indexed_all cs k).board ≡ k.board
+board_stays [] k = refl
+board_stays (Hold h ∷ cs) k = board_stays cs (indexed (Hold h) k)
+board_stays (Free p g ∷ cs) k = board_stays cs (indexed (Free p g) k)
+board_stays (Open u ∷ cs) k = board_stays cs (indexed (Open u) k)
+board_stays (Close n ∷ cs) k = board_stays cs (indexed (Close n) k)
