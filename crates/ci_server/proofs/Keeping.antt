@@ -14,16 +14,15 @@ use Rattle.ci_memory_queue.specs.Order.{RowsAscend}
 use Rattle.ci_memory_queue.proofs.Ordered.{nothing_ascends}
 use Rattle.ci_machine.specs.declared.change.RowChange.{RowChange}
 use Rattle.ci_machine.specs.declared.records.BoardRow.{BoardRow}
-use Rattle.ci_machine.specs.declared.change.IndexChange.{IndexChange}
-use Rattle.ci_machine.specs.declared.change.IndexChange.TheVariants.{Hold, Free, Open, Close}
 use Rattle.ci_machine.specs.State.{State, empty, applied}
-use Rattle.ci_machine.specs.Kept.{Kept, nothing_kept, row_cmp, put_rows, indexed, indexed_all, written}
+use Rattle.ci_machine.specs.Kept.{Kept, nothing_kept, row_cmp, put_rows, written}
 use Rattle.ci_machine_steps.specs.Sound.{IsSound}
 use Rattle.ci_machine.specs.Statuses.{AreBoard}
 use Rattle.ci_machine.specs.Holders.{AreHolders}
 use Rattle.ci_store.specs.Create.{IsBlank}
 use Rattle.ci_store.specs.Stands.{IsAt, LeavesOnly, Rises}
 use Rattle.ci_server_lookups.specs.Keeps.{IsKept}
+use Rattle.ci_server_lookups.proofs.Changes.{state_stays, board_stays}
 use Rattle.ci_server_events.specs.declared.planned.Beside.{Beside}
 use Rattle.ci_server_events.specs.Planning.{Settles}
 use Rattle.ci_server.specs.Holding.{IsKeptOf, StandsFor, KeepsGroups}
@@ -53,29 +52,14 @@ is_kept s k sound of = record {
   are_indexes = of.are_indexes;
 }
 
--- changes of what is beside the state and its rows leave both
-same_state : (cs : List IndexChange) (k : Kept) → (indexed_all cs k).state ≡ k.state
-same_state [] k = refl
-same_state (Hold h ∷ cs) k = same_state cs (indexed (Hold h) k)
-same_state (Free project group ∷ cs) k = same_state cs (indexed (Free project group) k)
-same_state (Open u ∷ cs) k = same_state cs (indexed (Open u) k)
-same_state (Close pipeline ∷ cs) k = same_state cs (indexed (Close pipeline) k)
-
-same_board : (cs : List IndexChange) (k : Kept) → (indexed_all cs k).board ≡ k.board
-same_board [] k = refl
-same_board (Hold h ∷ cs) k = same_board cs (indexed (Hold h) k)
-same_board (Free project group ∷ cs) k = same_board cs (indexed (Free project group) k)
-same_board (Open u ∷ cs) k = same_board cs (indexed (Open u) k)
-same_board (Close pipeline ∷ cs) k = same_board cs (indexed (Close pipeline) k)
-
 -- what an event leaves is of the state after its changes
 pub settled : (k : Kept) (changes : List RowChange) (beside : Beside) → Settles k changes beside
     → IsKeptOf (applied changes k.state) (written changes beside.rows.items beside.indexes.items k)
 settled k changes beside settles =
     let changed : Kept = record k { state = applied changes k.state; board = put_rows beside.rows.items k.board } in
     record {
-      state = same_state beside.indexes.items changed;
-      are_board = subst (AreBoard (applied changes k.state)) (sym (same_board beside.indexes.items changed)) settles.board;
+      state = state_stays beside.indexes.items changed;
+      are_board = subst (AreBoard (applied changes k.state)) (sym (board_stays beside.indexes.items changed)) settles.board;
       are_indexes = settles.indexes;
     }
 

@@ -20,6 +20,7 @@ use ci_server_events::sweeps::plan_sweep;
 use ci_server_lookups::searches::Searches;
 use ci_store::delta::Delta;
 use ci_store::fault::StoreFault;
+use ci_store::store::Store;
 use std::alloc::Global;
 
 /// Handles a request. The reply stands before the commit. Errors: the store's, and there is no step.
@@ -53,7 +54,7 @@ pub(crate) fn sweep<T: Searches>(
 }
 
 /// Makes the changes of a plan, with what changes beside them, if there are any, and gives its answer. Errors: the store's.
-fn commit<T: Searches, A: Drop>(store: &mut T, clearing: Clearing<A>) -> Result<A, StoreFault>
+fn commit<T: Store, A: Drop>(store: &mut T, clearing: Clearing<A>) -> Result<A, StoreFault>
     ensures was_honest { T.honest store.new → T.honest store.old }
     ensures ends { T.honest store.new → (k : Kept) → T.holds store.old k
         → let then = written clearing.planned.changes clearing.planned.beside.rows.items clearing.planned.beside.indexes.items (cleared clearing.cleared.items k) in

@@ -59,11 +59,12 @@ use Rattle.ci_server_lookups.specs.Records.{AreOf, IsWhole}
 use Rattle.ci_server_lookups.specs.Held.{HoldAlike, still_held}
 use Rattle.ci_server_lookups.specs.Keeps.{IsKept}
 use Rattle.ci_server_lookups.proofs.Loading.{ends, says}
+use Rattle.ci_server_lookups.proofs.Changes.{state_stays}
 use Rattle.ci_server_events.specs.declared.planned.Beside.{Beside}
 use Rattle.ci_server_events.specs.Acting.{refusal_of, ActsAs, changes_by, IsDone}
 use Rattle.ci_server_events.specs.Planning.{PlansFor, Settles}
 use Rattle.ci_server_events.proofs.Found.{pair_is, found_is_there}
-use Rattle.ci_server_events.proofs.Held.{HoldsNone, state_stays, still_alike, acts_hold_none}
+use Rattle.ci_server_events.proofs.Held.{HoldsNone, still_alike, acts_hold_none}
 use Rattle.ci_server_events.proofs.Settles.{settles_by, number_found}
 use Rattle.ci_server_events.proofs.Showing.{job_alike, pipeline_alike}
 

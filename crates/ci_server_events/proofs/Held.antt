@@ -67,14 +67,6 @@ HoldsNone (Free project group) = Unit {0}
 HoldsNone (Open u) = Unit {0}
 HoldsNone (Close pipeline) = Unit {0}
 
--- what is beside the state changes alone
-pub state_stays : (changes : List IndexChange) (k : Kept) → (indexed_all changes k).state ≡ k.state
-state_stays [] k = refl
-state_stays (Hold h ∷ cs) k = state_stays cs (indexed (Hold h) k)
-state_stays (Free p g ∷ cs) k = state_stays cs (indexed (Free p g) k)
-state_stays (Open u ∷ cs) k = state_stays cs (indexed (Open u) k)
-state_stays (Close p ∷ cs) k = state_stays cs (indexed (Close p) k)
-
 frees_alike : (g h : Holder) → g.project ≡ h.project → g.group ≡ h.group → (c : IndexChange) → frees g c ≡ frees h c
 frees_alike g h p q (Hold x) = refl
 frees_alike g h p q (Free project group) = λ i. (p i == project) && bytes_eq (q i) group

@@ -1,9 +1,10 @@
 -- Plans that leave all statuses, and so all that stands beside the records.
-use Rattle.std.specs.Prelude.{◌≡◌, ℕ, Bool, not, nat_lt, List, [], length, Option, Some, None, Result, Ok, Err, Contains}
+use Rattle.std.specs.Prelude.{◌≡◌, ℕ, Bool, not, nat_lt, List, [], length, Option, Some, None, Result, Ok, Err, IfOk, IfErr, Contains}
 use Rattle.std.specs.List.{AllByRecursion}
 use Rattle.std.specs.Str.{bytes_eq}
 use Rattle.std.proofs.Common.{refl, sym, subst, ◌∙◌}
 use Rattle.std.proofs.lemmas.Bool.{cond_both}
+use Rattle.std.proofs.lemmas.Result.{IfOk-at_ok}
 use Rattle.ci_values.specs.Names.{is_name}
 use Rattle.ci_values.specs.declared.limits.TheConstants.{MAX_NUMBER}
 use Rattle.ci_values.specs.VariableName.{is_variable_name}
@@ -59,8 +60,9 @@ use Rattle.ci_machine_statuses.specs.Changes.{LeavesStatuses}
 use Rattle.ci_store_tables.specs.declared.fault.StoreFault.{StoreFault}
 use Rattle.ci_store.specs.Store.{LoadsBy}
 use Rattle.ci_server_lookups.specs.Keeps.{IsKept}
-use Rattle.ci_server_lookups.proofs.Loading.{gives}
+use Rattle.ci_server_lookups.proofs.Loading.{says, carries}
 use Rattle.ci_server_events.specs.declared.planned.Beside.{Beside}
+use Rattle.ci_server_events.specs.declared.planned.Clearing.{Clearing}
 use Rattle.ci_server_events.specs.declared.planned.Planned.{Planned}
 use Rattle.ci_server_events.specs.Planning.{PlansFor, Settles}
 use Rattle.ci_server_events.proofs.Found.{leased, pair_is}
@@ -153,14 +155,6 @@ alone_settles rows_stay indexes_stay k is changes beside no_rows no_indexes leav
       (subst (λ (cs : List IndexChange). AreIndexes (written changes [] cs k)) (sym no_indexes) (indexes_stay k changes is.sound is.are_board is.are_indexes leaves));
 }
 
--- a plan with changes alone
-alone : RowsStay → IndexesStay → (k : Kept) → IsKept k → (Makes : Plan → Type 0) (plan : Plan) (answer : Reply) (changes : List RowChange) (beside : Beside)
-    → answer ≡ plan.0 → changes ≡ plan.1 → beside.rows.items ≡ [] → beside.indexes.items ≡ [] → Makes plan → Leaves k.state plan → PlansFor k (Makes (answer, changes)) changes beside
-alone rows_stay indexes_stay k is Makes plan answer changes beside same_answer same_changes no_rows no_indexes makes leaves = record {
-  made = subst Makes (sym (pair_is answer changes plan plan same_answer same_changes refl)) makes;
-  settled = alone_settles rows_stay indexes_stay k is changes beside no_rows no_indexes (subst (AllByRecursion (LeavesStatuses k.state)) (sym same_changes) leaves);
-}
-
 -- a plan that changes nothing
 pub nothing_changes : (k : Kept) → IsKept k → (Makes : Plan → Type 0) (plan : Plan) (answer : Reply) (changes : List RowChange) (beside : Beside)
     → answer ≡ plan.0 → changes ≡ plan.1 → beside.rows.items ≡ [] → beside.indexes.items ≡ [] → Makes plan → plan.1 ≡ [] → PlansFor k (Makes (answer, changes)) changes beside
@@ -216,31 +210,38 @@ leaves_rows s board (ShowPipeline query) now seed plan keeps does = leaves_so s 
 leaves_rows s board (ShowJob query) now seed plan keeps does = leaves_so s plan _ does (shown_leaves s (holders s) query.project (found_job s query) (status_for board query.job))
 leaves_rows s board (ShowTrace query) now seed plan keeps does = leaves_so s plan _ does (traced_leaves s (found_job s query) (pieces_in s (last_attempt s query.job)))
 
-module _ {T : Type 0} (honest : T → Type 0) (holds : T → Kept → Type 0) (leaves : T → Kept → Kept → Type 0) where
+-- what a request does with a plan by which these rows go first
+abbrev pub DoesBy : Request → ℕ → Seed → Kept → Clearing Reply → Type 0
+DoesBy request now seed k p = IsKept k → PlansFor (cleared p.cleared.items k) (Does k.state k.board request now seed (p.planned.answer, p.planned.changes)) p.planned.changes p.planned.beside
+
+module _ {T : Type 0} (honest : T → Type 0) (holds : T → Kept → Type 0) (leaves : T → Kept → Kept → Type 0) (request asked : Request) (now : ℕ) (seed : Seed) (is : request ≡ asked) where
+  asked_for : (k : Kept) (plan : Plan) → Does k.state k.board asked now seed plan → Does k.state k.board request now seed plan
+  asked_for k plan does = subst (λ (q : Request). Does k.state k.board q now seed plan) (sym is) does
+
   -- what is loaded for such a request is planned alone
-  pub planned_alone : {B : Type 0} {P : Kept → Plan → Type 0} (rows_stay : RowsStay) (indexes_stay : IndexesStay) (request asked : Request) (now : ℕ) (seed : Seed) (a b : T) (first : Result Plan StoreFault) (plan : Plan) (y : B)
-      (answer : B → Reply) (changes : B → List RowChange) (beside : B → Beside) (jobs : B → List ℕ)
-      → request ≡ asked → KeepsRows asked → first ≡ Ok plan → LoadsBy honest holds leaves a b first P → ((k : Kept) → IsKept k → P k plan → Does k.state k.board asked now seed plan)
-      → answer y ≡ plan.0 → changes y ≡ plan.1 → (beside y).rows.items ≡ [] → (beside y).indexes.items ≡ [] → jobs y ≡ []
-      → LoadsBy honest holds leaves a b (Ok y) (λ k p. IsKept k → PlansFor (cleared (jobs p) k) (Does k.state k.board request now seed (answer p, changes p)) (changes p) (beside p))
-  planned_alone rows_stay indexes_stay request asked now seed a b first plan y answer changes beside jobs is keeps was load so same_answer same_changes no_rows no_indexes none_gone =
-      gives honest holds leaves (λ k p. IsKept k → PlansFor (cleared (jobs p) k) (Does k.state k.board request now seed (answer p, changes p)) (changes p) (beside p)) a b first plan y was load
-      (λ k planned kept.
-      let does : Does k.state k.board asked now seed plan = so k kept planned in
-      subst (λ (js : List ℕ). PlansFor (cleared js k) (Does k.state k.board request now seed (answer y, changes y)) (changes y) (beside y)) (sym none_gone)
-      (alone rows_stay indexes_stay k kept (λ (p : Plan). Does k.state k.board request now seed p) plan (answer y) (changes y) (beside y) same_answer same_changes no_rows no_indexes
-      (subst (λ (q : Request). Does k.state k.board q now seed plan) (sym is) does) (leaves_rows k.state k.board asked now seed plan keeps does)))
+  pub planned_alone : {P : Kept → Plan → Type 0} (a b : T) (plan : Result Plan StoreFault) (r : Result (Clearing Reply) StoreFault) → RowsStay → IndexesStay → KeepsRows asked
+      → LoadsBy honest holds leaves a b plan P → ((k : Kept) (p : Plan) → IsKept k → P k p → Does k.state k.board asked now seed p)
+      → IfOk r (λ p. plan ≡ Ok (p.planned.answer, p.planned.changes)) → IfErr r (λ fault. plan ≡ Err fault)
+      → IfOk r (λ p. (p.planned.beside.rows.items ≡ []) × (p.planned.beside.indexes.items ≡ [])) → IfOk r (λ p. p.cleared.items ≡ []) → LoadsBy honest holds leaves a b r (DoesBy request now seed)
+  planned_alone {P = P} a b plan r rows_stay indexes_stay keeps load so went failed beside none_gone =
+      says honest holds leaves (DoesBy request now seed) a b r (carries honest holds leaves {Q = P} (λ p. (p.planned.answer, p.planned.changes)) a b plan r load went failed)
+      (λ k p e loaded kept.
+      let its : Plan = (p.planned.answer, p.planned.changes) in
+      let nothing = IfOk-at_ok (λ p. (p.planned.beside.rows.items ≡ []) × (p.planned.beside.indexes.items ≡ [])) e beside in
+      let does : Does k.state k.board asked now seed its = so k its kept loaded in
+      subst (λ (js : List ℕ). PlansFor (cleared js k) (Does k.state k.board request now seed its) p.planned.changes p.planned.beside) (sym (IfOk-at_ok (λ p. p.cleared.items ≡ []) e none_gone))
+      (record {
+        made = asked_for k its does;
+        settled = alone_settles rows_stay indexes_stay k kept p.planned.changes p.planned.beside nothing.0 nothing.1 (leaves_rows k.state k.board asked now seed its keeps does);
+      }))
 
   -- what is planned of another request stands as it is, and no row goes first
-  pub planned_so : {B : Type 0} {P : Kept → Planned Reply → Type 0} (request asked : Request) (now : ℕ) (seed : Seed) (a b : T) (first : Result (Planned Reply) StoreFault) (planned : Planned Reply) (y : B)
-      (within : B → Planned Reply) (jobs : B → List ℕ)
-      → request ≡ asked → first ≡ Ok planned → LoadsBy honest holds leaves a b first P
-      → ((k : Kept) → IsKept k → P k planned → PlansFor k (Does k.state k.board asked now seed (planned.answer, planned.changes)) planned.changes planned.beside)
-      → within y ≡ planned → jobs y ≡ []
-      → LoadsBy honest holds leaves a b (Ok y) (λ k p. IsKept k → PlansFor (cleared (jobs p) k) (Does k.state k.board request now seed ((within p).answer, (within p).changes)) (within p).changes (within p).beside)
-  planned_so request asked now seed a b first planned y within jobs is was load so same none_gone =
-      gives honest holds leaves (λ k p. IsKept k → PlansFor (cleared (jobs p) k) (Does k.state k.board request now seed ((within p).answer, (within p).changes)) (within p).changes (within p).beside) a b first planned y was load
-      (λ k its kept.
-      subst (λ (js : List ℕ). PlansFor (cleared js k) (Does k.state k.board request now seed ((within y).answer, (within y).changes)) (within y).changes (within y).beside) (sym none_gone)
-      (subst (λ (q : Request). PlansFor k (Does k.state k.board q now seed ((within y).answer, (within y).changes)) (within y).changes (within y).beside) (sym is)
-      (subst (λ (p : Planned Reply). PlansFor k (Does k.state k.board asked now seed (p.answer, p.changes)) p.changes p.beside) (sym same) (so k kept its))))
+  pub planned_so : {P : Kept → Planned Reply → Type 0} (a b : T) (planned : Result (Planned Reply) StoreFault) (r : Result (Clearing Reply) StoreFault) → LoadsBy honest holds leaves a b planned P
+      → ((k : Kept) (p : Planned Reply) → IsKept k → P k p → PlansFor k (Does k.state k.board asked now seed (p.answer, p.changes)) p.changes p.beside)
+      → IfOk r (λ p. planned ≡ Ok p.planned) → IfErr r (λ fault. planned ≡ Err fault) → IfOk r (λ p. p.cleared.items ≡ []) → LoadsBy honest holds leaves a b r (DoesBy request now seed)
+  planned_so {P = P} a b planned r load so went failed none_gone =
+      says honest holds leaves (DoesBy request now seed) a b r (carries honest holds leaves {Q = P} (λ p. p.planned) a b planned r load went failed)
+      (λ k p e loaded kept.
+      let plans = so k p.planned kept loaded in
+      subst (λ (js : List ℕ). PlansFor (cleared js k) (Does k.state k.board request now seed (p.planned.answer, p.planned.changes)) p.planned.changes p.planned.beside) (sym (IfOk-at_ok (λ p. p.cleared.items ≡ []) e none_gone))
+      (record { made = asked_for k (p.planned.answer, p.planned.changes) plans.made; settled = plans.settled }))

@@ -1,6 +1,6 @@
 //! What a request does, from what a store holds: what it needs is looked up, and its plan is made. The store stays as it is.
 
-ghost use Rattle.std.specs.Prelude.{◌≡◌};
+ghost use Rattle.std.specs.Prelude.{◌≡◌, [], Ok, IfOk, Err, IfErr};
 ghost use Rattle.ci_machine.specs.Kept.{cleared};
 ghost use Rattle.ci_machine_steps.specs.Step.{Does};
 ghost use Rattle.ci_store.specs.Store.{LoadsBy};
@@ -11,7 +11,7 @@ use crate::acts::{act_on, cancel_pipeline};
 use crate::files::set_file;
 use crate::grants::ask_job;
 use crate::pipelines::create_pipeline;
-use crate::planned::Clearing;
+use crate::planned::{Clearing, Planned};
 use crate::projects::add_project;
 use crate::prunes::prune_one;
 use crate::reports::update_job;
@@ -19,6 +19,7 @@ use crate::runners::{add_runner, pause_runner};
 use crate::shows::{show_job, show_pipeline, show_trace};
 use crate::traces::append_trace;
 use crate::variables::{delete_variable, set_variable};
+use ci_machine::change::Changes;
 use ci_machine::moment::Moment;
 use ci_machine::reply::Reply;
 use ci_machine::request::{Request, Seed};
@@ -44,73 +45,47 @@ pub fn plan_request<T: Searches>(
     indexes_stay();
     match request {
         Request::PruneOne(before) => prune_one(alloc, store, before),
-        Request::CreatePipeline(new) => {
-            let planned = create_pipeline(alloc, store, &new, now)?;
-            Ok(Clearing::nothing(alloc, planned))
-        }
-        Request::AskJob(token) => {
-            let planned = ask_job(alloc, store, token, now, seed)?;
-            Ok(Clearing::nothing(alloc, planned))
-        }
-        Request::UpdateJob(update) => {
-            let planned = update_job(alloc, store, &update, now)?;
-            Ok(Clearing::nothing(alloc, planned))
-        }
-        Request::Play(query) => {
-            let planned = act_on(alloc, store, Act::Play, &query)?;
-            Ok(Clearing::nothing(alloc, planned))
-        }
-        Request::CancelJob(query) => {
-            let planned = act_on(alloc, store, Act::Cancel, &query)?;
-            Ok(Clearing::nothing(alloc, planned))
-        }
-        Request::RetryJob(query) => {
-            let planned = act_on(alloc, store, Act::Retry, &query)?;
-            Ok(Clearing::nothing(alloc, planned))
-        }
-        Request::CancelPipeline(query) => {
-            let planned = cancel_pipeline(alloc, store, &query)?;
-            Ok(Clearing::nothing(alloc, planned))
-        }
-        Request::AddProject(name) => {
-            let plan = add_project(alloc, store, name, seed)?;
-            Ok(Clearing::alone(alloc, plan))
-        }
-        Request::AddRunner(new) => {
-            let plan = add_runner(alloc, store, new, seed)?;
-            Ok(Clearing::alone(alloc, plan))
-        }
-        Request::PauseRunner(pause) => {
-            let plan = pause_runner(alloc, store, pause)?;
-            Ok(Clearing::alone(alloc, plan))
-        }
-        Request::SetFile(new) => {
-            let plan = set_file(alloc, store, new)?;
-            Ok(Clearing::alone(alloc, plan))
-        }
-        Request::SetVariable(new) => {
-            let plan = set_variable(alloc, store, new)?;
-            Ok(Clearing::alone(alloc, plan))
-        }
-        Request::DeleteVariable(query) => {
-            let plan = delete_variable(alloc, store, &query)?;
-            Ok(Clearing::alone(alloc, plan))
-        }
-        Request::AppendTrace(part) => {
-            let plan = append_trace(alloc, store, part, now)?;
-            Ok(Clearing::alone(alloc, plan))
-        }
-        Request::ShowPipeline(query) => {
-            let plan = show_pipeline(alloc, store, &query)?;
-            Ok(Clearing::alone(alloc, plan))
-        }
-        Request::ShowJob(query) => {
-            let plan = show_job(alloc, store, &query)?;
-            Ok(Clearing::alone(alloc, plan))
-        }
-        Request::ShowTrace(query) => {
-            let plan = show_trace(alloc, store, &query)?;
-            Ok(Clearing::alone(alloc, plan))
-        }
+        Request::CreatePipeline(new) => uncleared(alloc, create_pipeline(alloc, store, &new, now)),
+        Request::AskJob(token) => uncleared(alloc, ask_job(alloc, store, token, now, seed)),
+        Request::UpdateJob(update) => uncleared(alloc, update_job(alloc, store, &update, now)),
+        Request::Play(query) => uncleared(alloc, act_on(alloc, store, Act::Play, &query)),
+        Request::CancelJob(query) => uncleared(alloc, act_on(alloc, store, Act::Cancel, &query)),
+        Request::RetryJob(query) => uncleared(alloc, act_on(alloc, store, Act::Retry, &query)),
+        Request::CancelPipeline(query) => uncleared(alloc, cancel_pipeline(alloc, store, &query)),
+        Request::AddProject(name) => alone(alloc, add_project(alloc, store, name, seed)),
+        Request::AddRunner(new) => alone(alloc, add_runner(alloc, store, new, seed)),
+        Request::PauseRunner(pause) => alone(alloc, pause_runner(alloc, store, pause)),
+        Request::SetFile(new) => alone(alloc, set_file(alloc, store, new)),
+        Request::SetVariable(new) => alone(alloc, set_variable(alloc, store, new)),
+        Request::DeleteVariable(query) => alone(alloc, delete_variable(alloc, store, &query)),
+        Request::AppendTrace(part) => alone(alloc, append_trace(alloc, store, part, now)),
+        Request::ShowPipeline(query) => alone(alloc, show_pipeline(alloc, store, &query)),
+        Request::ShowJob(query) => alone(alloc, show_job(alloc, store, &query)),
+        Request::ShowTrace(query) => alone(alloc, show_trace(alloc, store, &query)),
     }
+}
+
+/// The plan, if there is one, by which no row goes.
+fn uncleared(
+    alloc: Global,
+    planned: Result<Planned<Reply>, StoreFault>,
+) -> Result<Clearing<Reply>, StoreFault>
+    ensures planned { IfOk result (λ p. planned ≡ Ok p.planned) }
+    ensures fault { IfErr result (λ fault. planned ≡ Err fault) }
+    ensures cleared { IfOk result (λ p. p.cleared.items ≡ []) }
+{
+    Ok(Clearing::nothing(alloc, planned?))
+}
+
+/// The plan, if there is one, by which no row goes, and beside whose records nothing changes.
+fn alone(
+    alloc: Global,
+    plan: Result<(Reply, Changes), StoreFault>,
+) -> Result<Clearing<Reply>, StoreFault>
+    ensures plan { IfOk result (λ p. plan ≡ Ok (p.planned.answer, p.planned.changes)) }
+    ensures fault { IfErr result (λ fault. plan ≡ Err fault) }
+    ensures beside { IfOk result (λ p. (p.planned.beside.rows.items ≡ []) × (p.planned.beside.indexes.items ≡ [])) }
+    ensures cleared { IfOk result (λ p. p.cleared.items ≡ []) }
+{
+    Ok(Clearing::alone(alloc, plan?))
 }
