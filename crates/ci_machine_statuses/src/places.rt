@@ -1,6 +1,6 @@
 //! Where jobs stand among those of their pipeline.
 
-ghost use Rattle.std.specs.Prelude.{◌≡◌, ◌<◌, map, length, IfOk, IfSome};
+ghost use Rattle.std.specs.Prelude.{◌≡◌, ◌<◌, map, length, slice_index_or, IfOk, IfSome};
 ghost use Rattle.std.specs.Ordering.{nat_cmp};
 ghost use Rattle.std.specs.List.Sorted.{IsStrictlySortedBy};
 ghost use Rattle.ci_graph.specs.Pairs.{AreWithin};
@@ -35,7 +35,23 @@ pub fn place_of(numbers: &[u64], n: u64) -> Option<usize>
     ensures within { IfSome result (λ place. place < length numbers.now) }
     ensures place { IsStrictlySortedBy nat_cmp numbers.now → result ≡ place_of numbers.now n }
 {
-    numbers.binary_search(&n).ok()
+    match place_in_row(numbers, n) {
+        Some(place) => Some(place),
+        None => numbers.binary_search(&n).ok(),
+    }
+}
+
+/// Where a number stands among numbers in a row, as those of a pipeline's jobs mostly are. None where it isn't there.
+fn place_in_row(numbers: &[u64], n: u64) -> Option<usize>
+    ensures within { IfSome result (λ place. place < length numbers.now) }
+    ensures there { IfSome result (λ place. slice_index_or numbers.now place 0 ≡ n) }
+{
+    let first = *numbers.first()?;
+    let place = usize::try_from(n.checked_sub(first)?).ok()?;
+    if place < numbers.len() && numbers[place] == n {
+        return Some(place);
+    }
+    None
 }
 
 /// The pair of places that a need is. Errors: the job that it waits for is none of these.
