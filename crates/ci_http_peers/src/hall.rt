@@ -19,6 +19,8 @@ pub(crate) struct Hall<W> {
     peers: Vec<Option<Peer>>,
     chairs: Vec<Option<Chair<W>>>,
     scratch: Vec<u8>,
+    /// Nobody has sat at a place from this one on: those need not be looked at.
+    taken: usize,
     /// How long a whole request may take to come, and a whole reply to be taken, in milliseconds.
     patience: u64,
 }
@@ -35,13 +37,14 @@ impl<W: Wire + Drop> Hall<W> {
             peers: places(alloc)?,
             chairs,
             scratch: Vec::from_elem(alloc, 0, READ_BYTES)?,
+            taken: 0,
             patience,
         })
     }
 
     /// When something is to be done though no connection is ready, in milliseconds. None where nobody sits.
     pub(crate) fn next_deadline(&self) -> Option<u64> {
-        next_deadline(self.peers.as_slice())
+        next_deadline(self.peers.as_slice().get(..self.taken)?)
     }
 
     /// Takes one more peer, and goes on with it. Where the table is full another gives way, once it was seen whether its request has
@@ -206,6 +209,7 @@ impl<W: Wire + Drop> Hall<W> {
     /// A peer sits down at a place; who sat there is gone.
     fn seat(&mut self, place: usize, peer: Peer, chair: Chair<W>) {
         put(&mut self.peers, place, Some(peer));
+        self.taken = self.taken.max(place.saturating_add(1));
         if let Some(sat) = self.chairs.get_mut(place) {
             *sat = Some(chair);
         }
