@@ -1,13 +1,8 @@
 -- What changes leave as it was.
-use Rattle.std.specs.Prelude.{◌≡◌, ℕ, ◌+◌, ◌<◌, Bool, true, false, List, [], ◌∷◌, ◌||◌, ◌++◌, length, take, slice_index_or}
+use Rattle.std.specs.Prelude.{◌≡◌, Bool, true, false, List, [], ◌∷◌, ◌||◌}
 use Rattle.std.specs.List.{list_any}
-use Rattle.std.proofs.Common.{refl, sym, ap, ◌∙◌}
+use Rattle.std.proofs.Common.{refl, sym, ◌∙◌}
 use Rattle.std.proofs.lemmas.Bool.{false≢true}
-use Rattle.std.proofs.lemmas.List.{take_more}
-use Rattle.ci_machine.specs.declared.change.IndexChange.{IndexChange}
-use Rattle.ci_machine.specs.declared.change.IndexChange.TheVariants.{Hold, Free, Open, Close}
-use Rattle.ci_machine.specs.Kept.{Kept, indexed, indexed_all}
-use Rattle.ci_machine_steps.proofs.Created.{applied_append}
 use Rattle.ci_machine.specs.declared.change.Key.TheVariants as key
 use Rattle.ci_machine.specs.declared.change.Record.TheVariants as row
 use Rattle.ci_machine.specs.declared.change.RowChange.{RowChange}
@@ -53,16 +48,3 @@ pub all_runners_stay : (cs : List RowChange) (s : State) → list_any is_of_runn
 all_runners_stay [] s none = refl
 all_runners_stay (c ∷ cs) s none =
     all_runners_stay cs (changed c s) (later (is_of_runner c) (list_any is_of_runner cs) none) ∙ runners_stay c s (first (is_of_runner c) (list_any is_of_runner cs) none)
-
--- the state after one change more of a list
-pub one_more : (cs : List RowChange) (i : ℕ) (c : RowChange) (s : State) → i < length cs → c ≡ slice_index_or cs i c → changed c (applied (take i cs) s) ≡ applied (take (i + 1) cs) s
-one_more cs i c s within at =
-    sym (ap (λ (l : List RowChange). applied l s) (take_more cs i c within ∙ ap (λ (x : RowChange). take i cs ++ x ∷ []) (sym at)) ∙ applied_append (take i cs) (c ∷ []) s)
-
--- changes of indexes leave the state
-pub state_stays : (cs : List IndexChange) (k : Kept) → (indexed_all cs k).state ≡ k.state
-state_stays [] k = refl
-state_stays (Hold h ∷ cs) k = state_stays cs (indexed (Hold h) k)
-state_stays (Free p g ∷ cs) k = state_stays cs (indexed (Free p g) k)
-state_stays (Open u ∷ cs) k = state_stays cs (indexed (Open u) k)
-state_stays (Close n ∷ cs) k = state_stays cs (indexed (Close n) k)

@@ -1,5 +1,6 @@
 -- What is remembered of a store, in its parts.
 use Rattle.std.specs.Prelude.{Option}
+use Rattle.ci_memory_boards.specs.declared.boards.Boards.{Boards}
 use Rattle.ci_memory_leases.specs.declared.memory.Leases.{Leases}
 use Rattle.ci_memory_pipelines.specs.declared.open.Open.{Open}
 use Rattle.ci_memory_queue.specs.declared.queue.Queue.{Queue}
@@ -12,3 +13,4 @@ pub record Remembered : Type 0 where
   pub queue : Option Queue
   pub leases : Leases
   pub pipelines : Option Open
+  pub boards : Boards

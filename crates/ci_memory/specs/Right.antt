@@ -1,9 +1,10 @@
 -- What is remembered of a store is right for what it keeps.
 use Rattle.ci_machine.specs.Kept.{Kept}
+use Rattle.ci_memory_boards.specs.Order.{InOrder}
+use Rattle.ci_memory_boards.specs.Sheets as boards
 use Rattle.ci_memory_leases.specs.Quiet.{AreRight}
 use Rattle.ci_memory_pipelines.specs.Alone as alone
 use Rattle.ci_memory_queue.specs.Covers as queue
-use Rattle.ci_memory_queue.specs.Order.{RowsAscend}
 use Rattle.ci_memory.specs.Remembered.{Remembered}
 use Rattle.ci_memory.specs.Numbers.{AreNext}
 use Rattle.ci_memory.specs.Runners.{AreRunners}
@@ -14,5 +15,7 @@ pub record IsRight (m : Remembered) (k : Kept) : Type 0 where
   pub queue : queue.IsRight m.queue k
   pub leases : AreRight m.leases k
   pub pipelines : alone.IsRight m.pipelines k
-  -- the rows of statuses stand by their jobs, as those of a table do, so that all pending ones are found page by page
-  pub in_order : RowsAscend k.board
+  pub boards : boards.AreRight m.boards k
+  -- the rows of statuses and the attempts stand by their numbers, as those of a table do: so all pending rows are found page by page, and
+  -- one that is put has its place among those that are remembered
+  pub in_order : InOrder k

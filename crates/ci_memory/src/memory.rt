@@ -1,11 +1,12 @@
 //! What is remembered of a store.
 
 ghost use Rattle.ci_machine.specs.Kept.{Kept, cleared, written};
-ghost use Rattle.ci_memory_queue.specs.Order.{RowsAscend};
+ghost use Rattle.ci_memory_boards.specs.Order.{InOrder};
 ghost use Rattle.ci_memory.specs.Right.{IsRight};
 
 use crate::numbers::NextNumbers;
 use crate::runners::Runners;
+use ci_memory_boards::boards::Boards;
 use ci_memory_leases::memory::Leases;
 use ci_memory_pipelines::after::open_after;
 use ci_memory_pipelines::open::Open;
@@ -25,6 +26,8 @@ pub struct Memory {
     pub(crate) leases: Leases,
     /// The unfinished pipelines, and of which there is no newer one.
     pub(crate) pipelines: Option<Open>,
+    /// The records of some pipelines.
+    pub(crate) boards: Boards,
 }
 
 impl Model for Memory {
@@ -32,13 +35,13 @@ impl Model for Memory {
 
     ghost Value = { Remembered };
 
-    ghost view = { λ m. record { numbers = m.numbers; runners = m.runners; queue = m.queue; leases = m.leases; pipelines = m.pipelines } };
+    ghost view = { λ m. record { numbers = m.numbers; runners = m.runners; queue = m.queue; leases = m.leases; pipelines = m.pipelines; boards = m.boards } };
 }
 
 impl Memory {
     /// Nothing is remembered.
     pub fn nothing() -> Memory
-        ensures { (k : Kept) → RowsAscend k.board → IsRight result k }
+        ensures { (k : Kept) → InOrder k → IsRight result k }
     {
         Memory {
             numbers: NextNumbers::unknown(),
@@ -46,6 +49,7 @@ impl Memory {
             queue: None,
             leases: Leases::unknown(),
             pipelines: None,
+            boards: Boards::nothing(),
         }
     }
 
@@ -59,6 +63,7 @@ impl Memory {
             queue,
             leases,
             pipelines,
+            boards,
         } = self;
         Memory {
             numbers: numbers.after(delta.changes()),
@@ -66,6 +71,7 @@ impl Memory {
             queue: queue_after(queue, delta.changes(), delta.rows()),
             leases: leases.after(delta.changes()),
             pipelines: open_after(pipelines, delta.changes(), delta.indexes()),
+            boards: boards.after(delta.changes(), delta.rows(), delta.cleared()),
         }
     }
 }

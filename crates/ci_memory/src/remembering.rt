@@ -5,7 +5,7 @@ ghost use Rattle.ci_machine.specs.Kept.{Kept};
 ghost use Rattle.ci_store.specs.Store.{LoadsBy};
 ghost use Rattle.ci_server_lookups.specs.Keeps.{IsKept};
 ghost use Rattle.ci_server_lookups.specs.Search.{IsOffered};
-ghost use Rattle.ci_memory_queue.specs.Order.{RowsAscend};
+ghost use Rattle.ci_memory_boards.specs.Order.{InOrder};
 ghost use Rattle.ci_memory.specs.Right.{IsRight};
 
 use crate::memory::Memory;
@@ -18,6 +18,8 @@ use ci_machine::records::{
     Unfinished, Variable,
 };
 use ci_machine::text::Text;
+use ci_memory_boards::boards::copies_of_jobs;
+use ci_memory_boards::load::sheet_of;
 use ci_memory_leases::due;
 use ci_memory_pipelines::redundant;
 use ci_memory_queue::offer;
@@ -40,7 +42,7 @@ impl<T: Store> Remembering<T> {
     /// A store of which nothing is remembered yet.
     pub fn over(store: T) -> Remembering<T>
         ensures store { result.store ≡ store }
-        ensures right { (k : Kept) → RowsAscend k.board → IsRight result.memory k }
+        ensures right { (k : Kept) → InOrder k → IsRight result.memory k }
     {
         Remembering {
             store,
@@ -147,18 +149,35 @@ impl<T: Store> Store for Remembering<T> {
     }
 
     fn jobs_of(&mut self, pipeline: u64) -> Result<Vec<Job>, StoreFault> {
-        self.store.jobs_of(pipeline)
+        if let Some(jobs) = self.memory.boards.jobs_of(pipeline) {
+            return Ok(jobs);
+        }
+        let Some(sheet) = sheet_of(&mut self.store, pipeline)? else {
+            return self.store.jobs_of(pipeline);
+        };
+        let jobs = copies_of_jobs(&sheet.jobs).ok_or(StoreFault::Memory)?;
+        self.memory.boards.learn(sheet);
+        Ok(jobs)
     }
 
     fn needs_within(&mut self, first: u64, last: u64) -> Result<Vec<Need>, StoreFault> {
+        if let Some(needs) = self.memory.boards.needs_within(first, last) {
+            return Ok(needs);
+        }
         self.store.needs_within(first, last)
     }
 
     fn attempts_within(&mut self, first: u64, last: u64) -> Result<Vec<Attempt>, StoreFault> {
+        if let Some(attempts) = self.memory.boards.attempts_within(first, last) {
+            return Ok(attempts);
+        }
         self.store.attempts_within(first, last)
     }
 
     fn rows_within(&mut self, first: u64, last: u64) -> Result<Vec<BoardRow>, StoreFault> {
+        if let Some(rows) = self.memory.boards.rows_within(first, last) {
+            return Ok(rows);
+        }
         self.store.rows_within(first, last)
     }
 

@@ -3,18 +3,18 @@ use Rattle.std.specs.List.{AllByRecursion}
 use Rattle.std.specs.List.Sorted.{IsStrictlySortedBy}
 use Rattle.std.specs.Ordering.{nat_cmp}
 use Rattle.std.specs.declared.cmp.Ordering.TheVariants.{Less}
-use Rattle.std.proofs.Common.{◌≡◌, false, List, [], ◌∷◌, map, refl, sym, subst, arith}
+use Rattle.std.proofs.Common.{◌≡◌, ℕ, false, List, [], ◌∷◌, map, refl, sym, subst, arith}
 use Rattle.sqlite.specs.Tree.{Trees}
 use Rattle.sqlite.specs.Store.{Ghosts}
 use Rattle.sqlite.specs.Held.{Held, state}
 use Rattle.sqlite.specs.State.{HasCleanDisk}
 use Rattle.ci_memory.specs.declared.remembering.Remembering.{Remembering}
 use Rattle.ci_memory.specs.Right.{IsRight}
-use Rattle.ci_memory_queue.specs.Order.{RowsAscend}
-use Rattle.ci_memory_queue.proofs.Ordered.{nothing_ascends}
+use Rattle.ci_memory_boards.specs.Order.{InOrder}
 use Rattle.ci_machine.specs.declared.change.RowChange.{RowChange}
+use Rattle.ci_machine.specs.declared.records.Attempt.{Attempt}
 use Rattle.ci_machine.specs.declared.records.BoardRow.{BoardRow}
-use Rattle.ci_machine.specs.State.{State, empty, applied}
+use Rattle.ci_machine.specs.State.{State, empty, attempt_cmp, applied}
 use Rattle.ci_machine.specs.Kept.{Kept, nothing_kept, row_cmp, put_rows, written}
 use Rattle.ci_machine_steps.specs.Sound.{IsSound}
 use Rattle.ci_machine.specs.Statuses.{AreBoard}
@@ -75,17 +75,23 @@ groups_in s db stands = record {
 
 -- ---- a new server
 
--- the rows of a table stand by their keys
-rows_ascend : (rows : List BoardRow) → Rises row_cmp rows → RowsAscend rows
+-- the records of a table stand by their numbers
+ascend : {A : Type 0} (id : A → ℕ) (xs : List A) → Rises (λ a b. nat_cmp (id a) (id b)) xs → IsStrictlySortedBy nat_cmp (map id xs)
 unfolding IsStrictlySortedBy
-rows_ascend [] rise = tt
-rows_ascend (r ∷ rows) rise = (behind rows rise.0, rows_ascend rows rise.1)
+ascend id [] rise = tt
+ascend id (x ∷ xs) rise = (behind xs rise.0, ascend id xs rise.1)
   where
-    behind : (rs : List BoardRow) → AllByRecursion (λ b. row_cmp r b ≡ Less) rs → AllByRecursion (λ n. nat_cmp r.job n ≡ Less) (map (λ (b : BoardRow). b.job) rs)
+    behind : (ys : List _) → AllByRecursion (λ y. nat_cmp (id x) (id y) ≡ Less) ys → AllByRecursion (λ n. nat_cmp (id x) n ≡ Less) (map id ys)
     behind [] all = tt
-    behind (b ∷ rs) all = (all.0, behind rs all.1)
+    behind (y ∷ ys) all = (all.0, behind ys all.1)
 
-module _ {S : Type 0} (g : Ghosts S) (conn : Held S) (store : Remembering (Held S)) (right : (k : Kept) → RowsAscend k.board → IsRight store.memory k) where
+in_order : (k : Kept) → Rises attempt_cmp k.state.attempts → Rises row_cmp k.board → InOrder k
+in_order k attempts rows = record {
+  attempts = ascend (λ (a : Attempt). a.id) k.state.attempts attempts;
+  rows = ascend (λ (r : BoardRow). r.job) k.board rows;
+}
+
+module _ {S : Type 0} (g : Ghosts S) (conn : Held S) (store : Remembering (Held S)) (right : (k : Kept) → InOrder k → IsRight store.memory k) where
   -- it is over tables that keep nothing
   pub creates : (IsHonest g store → HasCleanDisk (state g conn)) → IsBlank g conn → (IsHonest g store → IsBlank g conn → IsAt g nothing_kept store.store)
       → Creates g conn (record { store = store; closed = false })
@@ -94,7 +100,7 @@ module _ {S : Type 0} (g : Ghosts S) (conn : Held S) (store : Remembering (Held 
     was_honest = back;
     was_blank = blank;
     made = made;
-    holds = λ honest. record { kept = nothing_kept; is_of = nothing_is_kept; held = (made honest blank, right nothing_kept nothing_ascends) };
+    holds = λ honest. record { kept = nothing_kept; is_of = nothing_is_kept; held = (made honest blank, right nothing_kept (in_order nothing_kept tt tt)) };
   }
 
   -- it is over the tables that were found
@@ -104,5 +110,5 @@ module _ {S : Type 0} (g : Ghosts S) (conn : Held S) (store : Remembering (Held 
     opened = found;
     holds = λ honest s k of only.
         let at = found honest k only in
-        record { kept = k; is_of = of; held = (at, right k (rows_ascend k.board at.now.inside.regular.board)) };
+        record { kept = k; is_of = of; held = (at, right k (in_order k at.now.inside.regular.attempts at.now.inside.regular.board)) };
   }

@@ -12,7 +12,7 @@ ghost use Rattle.ci_machine.specs.Kept.{Kept, nothing_kept};
 ghost use Rattle.ci_store.specs.Create.{IsBlank};
 ghost use Rattle.ci_store.specs.Open.{Blames, IsFailure, LeavesNoMore};
 ghost use Rattle.ci_store.specs.Stands.{StandsIn, LeavesOnly};
-ghost use Rattle.ci_memory_queue.specs.Order.{RowsAscend};
+ghost use Rattle.ci_memory_boards.specs.Order.{InOrder};
 ghost use Rattle.ci_memory.specs.Right.{IsRight};
 ghost use Rattle.ci_server.specs.Reports.{Reports, TellsQueue, TellsPipelineAt, TellsRunners};
 ghost use Rattle.ci_server.specs.Server.{Handles, HandlesEach, Creates, Opens, closed_by_each, each_refused};
@@ -89,7 +89,7 @@ impl<S: Alter> Server<S> {
     /// An open server over tables, of which nothing is remembered yet.
     fn over(tables: Tables<S>) -> Server<S>
         ensures open { result ≡ record { store = record { store = tables; memory = result.store.memory }; closed = false } }
-        ensures right { (k : Kept) → RowsAscend k.board → IsRight result.store.memory k }
+        ensures right { (k : Kept) → InOrder k → IsRight result.store.memory k }
     {
         Server {
             inner: FailStop {

@@ -83,6 +83,13 @@ impl Delta {
         self.indexes.as_slice()
     }
 
+    /// The jobs whose rows of statuses go before all else is written, lent.
+    pub fn cleared(&self) -> &[u64]
+        ensures { result.now ≡ self.now.cleared }
+    {
+        self.cleared.as_slice()
+    }
+
     /// Spends the delta, and gives its lists: the changes, the rows that are put, the changes of indexes, and the jobs whose rows go.
     pub(crate) fn into_parts(self) -> (Vec<RowChange>, Vec<BoardRow>, Vec<IndexChange>, Vec<u64>)
         ensures changes { result.0.items ≡ self.changes }

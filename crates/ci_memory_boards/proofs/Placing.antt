@@ -1,0 +1,86 @@
+-- Records put among others by their numbers, and what passes a test of them.
+use Rattle.std.specs.Prelude.{◌≡◌, ℕ, suc, ◌+◌, ◌≤◌, nat_lt, ◌==◌, ◌&&◌, Bool, true, false, cond, not, List, [], ◌∷◌, insert, filter}
+use Rattle.std.specs.declared.cmp.Ordering.{Ordering}
+use Rattle.std.specs.Ordering.{nat_cmp, is_eq, is_lt}
+use Rattle.std.specs.List.{prefix_len}
+use Rattle.std.proofs.Common.{refl, sym, ap, ◌∙◌, inl, ⊎_elim, arith}
+use Rattle.std.proofs.lemmas.Bool.{cond-true, cond-false, cases_Bool}
+use Rattle.std.proofs.lemmas.Bool.Decides.{nat_tests}
+use Rattle.ci_machine.specs.State.{placed, others, put}
+use Rattle.ci_machine.proofs.Filters.{filter_both, unlike}
+use Rattle.ci_machine.proofs.Keyed.{Has, Rising, rising_from, rising_filter, has_filter, less, not_less, filter_same}
+
+not_lt : (a b : ℕ) → b ≤ a → is_lt (nat_cmp a b) ≡ false
+not_lt a b h = ⊎_elim (λ t. absurd (let l = less a b t in omega (arith, l, h))) (λ f. f) (cases_Bool (is_lt (nat_cmp a b)))
+
+lt_test : (a b : ℕ) → nat_lt a b ≡ is_lt (nat_cmp a b)
+lt_test a b =
+    ⊎_elim
+    (λ t. let l = less a b t in let m : nat_lt a b ≡ true = grind (arith, nat_tests, l) in m ∙ sym t)
+    (λ f. let l = not_less a b f in let m : nat_lt a b ≡ false = grind (arith, nat_tests, l) in m ∙ sym f)
+    (cases_Bool (is_lt (nat_cmp a b)))
+
+swap : (a b : Bool) → (a && b) ≡ (b && a)
+swap true true = refl
+swap true false = refl
+swap false true = refl
+swap false false = refl
+
+module _ {A : Type 0} (id : A → ℕ) where
+  abbrev by : A → A → Ordering
+  by a b = nat_cmp (id a) (id b)
+
+  abbrev lesser : A → A → Bool
+  lesser x y = nat_lt (id y) (id x)
+
+  -- a record that is put in behind those that are lesser, from the first on, is at its place
+  put_in : (x : A) (xs : List A) → insert xs (prefix_len (lesser x) xs) x ≡ placed by x xs
+  put_in x [] = refl
+  put_in x (z ∷ zs) = either (is_lt (by z x)) (lt_test (id z) (id x)) (put_in x zs)
+    where
+      either : (b : Bool) → lesser x z ≡ b → insert zs (prefix_len (lesser x) zs) x ≡ placed by x zs → insert (z ∷ zs) (cond (lesser x z) (1 + prefix_len (lesser x) zs) 0) x ≡ cond b (z ∷ placed by x zs) (x ∷ z ∷ zs)
+      either true e more =
+          let one : 1 + prefix_len (lesser x) zs ≡ suc (prefix_len (lesser x) zs) = omega arith in
+          ap (λ b. insert (z ∷ zs) (cond b (1 + prefix_len (lesser x) zs) 0) x) e ∙ ap (λ n. insert (z ∷ zs) n x) one ∙ ap (λ l. z ∷ l) more
+      either false e more = ap (λ b. insert (z ∷ zs) (cond b (1 + prefix_len (lesser x) zs) 0) x) e
+
+  -- so it is put, where the one that had its number was taken out
+  pub put_back : (x : A) (n : ℕ) (xs left : List A) → left ≡ filter (λ y. not (id x == id y)) xs → n ≡ prefix_len (lesser x) left → insert left n x ≡ put by x xs
+  put_back x n xs left is at =
+      ap (λ m. insert left m x) at ∙ put_in x left
+      ∙ ap (placed by x) (is ∙ filter_same (λ y. not (id x == id y)) (λ y. not (is_eq (by y x))) xs (λ y _. sym (unlike (id y) (id x))))
+
+  placed_first : (x : A) (xs : List A) → ((y : A) → Has y xs → id x ≤ id y) → placed by x xs ≡ x ∷ xs
+  placed_first x [] low = refl
+  placed_first x (z ∷ zs) low = cond-false (is_lt (by z x)) (z ∷ placed by x zs) (x ∷ z ∷ zs) (not_lt (id z) (id x) (low z (inl refl)))
+
+  filter_placed : (test : A → Bool) (x : A) (low : ℕ) (xs : List A) → Rising id low xs → test x ≡ true → filter test (placed by x xs) ≡ placed by x (filter test xs)
+  filter_placed test x low [] r t = cond-true (test x) (x ∷ []) [] t
+  filter_placed test x low (z ∷ zs) r t = ⊎_elim (behind (filter_placed test x (id z + 1) zs r.1 t)) before (cases_Bool (is_lt (by z x)))
+    where
+      either : (b : Bool) → is_lt (by z x) ≡ true → cond b (z ∷ placed by x (filter test zs)) (placed by x (filter test zs)) ≡ placed by x (cond b (z ∷ filter test zs) (filter test zs))
+      either true e = sym (cond-true (is_lt (by z x)) (z ∷ placed by x (filter test zs)) (x ∷ z ∷ filter test zs) e)
+      either false e = refl
+
+      behind : filter test (placed by x zs) ≡ placed by x (filter test zs) → is_lt (by z x) ≡ true → filter test (placed by x (z ∷ zs)) ≡ placed by x (filter test (z ∷ zs))
+      behind more e =
+          ap (filter test) (cond-true (is_lt (by z x)) (z ∷ placed by x zs) (x ∷ z ∷ zs) e)
+          ∙ ap (λ l. cond (test z) (z ∷ l) l) more
+          ∙ either (test z) e
+
+      before : is_lt (by z x) ≡ false → filter test (placed by x (z ∷ zs)) ≡ placed by x (filter test (z ∷ zs))
+      before e =
+          let least = not_less (id z) (id x) e in
+          ap (filter test) (cond-false (is_lt (by z x)) (z ∷ placed by x zs) (x ∷ z ∷ zs) e)
+          ∙ cond-true (test x) (x ∷ filter test (z ∷ zs)) (filter test (z ∷ zs)) t
+          ∙ sym (placed_first x (filter test (z ∷ zs)) (λ y h. let from = rising_from id y (id z) (z ∷ zs) (omega arith, r.1) (has_filter test y (z ∷ zs) h).0 in omega (arith, from, least)))
+
+  filter_others : (test : A → Bool) (x : A) (xs : List A) → filter test (others by x xs) ≡ others by x (filter test xs)
+  filter_others test x xs =
+      filter_both (λ y. not (is_eq (by y x))) test (λ y. not (is_eq (by y x)) && test y) xs (λ y. refl)
+      ∙ sym (filter_both test (λ y. not (is_eq (by y x))) (λ y. not (is_eq (by y x)) && test y) xs (λ y. swap (not (is_eq (by y x))) (test y)))
+
+  -- what passes where a record that passes is put, in a list in order: it is put among those that passed
+  pub filter_put : (test : A → Bool) (x : A) (xs : List A) → Rising id 0 xs → test x ≡ true → filter test (put by x xs) ≡ put by x (filter test xs)
+  filter_put test x xs r t =
+      filter_placed test x 0 (others by x xs) (rising_filter id (λ y. not (is_eq (by y x))) 0 xs r) t ∙ ap (placed by x) (filter_others test x xs)

@@ -1,0 +1,254 @@
+-- What changes leave as it is remembered.
+use Rattle.std.specs.Prelude.{◌≡◌, ◌==◌, ◌||◌, ℕ, Bool, true, false, not, List, [], ◌∷◌, filter, map, Option, Some, None, unwrap_or}
+use Rattle.std.specs.List.{list_any}
+use Rattle.std.specs.List.Sorted.{IsStrictlySortedBy}
+use Rattle.std.specs.declared.cmp.Ordering.{Ordering}
+use Rattle.std.specs.declared.cmp.Ordering.TheVariants.{Less, Equal, Greater}
+use Rattle.std.specs.Ordering.{nat_cmp, is_eq, ordering_then}
+use Rattle.std.proofs.Common.{refl, sym, ap, subst, ◌∙◌, ⊎_elim, eq-eqb, arith}
+use Rattle.std.proofs.lemmas.Bool.{false≢true}
+use Rattle.ci_machine.specs.declared.change.IndexChange.{IndexChange}
+use Rattle.ci_machine.specs.declared.change.Key.TheVariants as key
+use Rattle.ci_machine.specs.declared.change.Record.TheVariants as row
+use Rattle.ci_machine.specs.declared.change.RowChange.{RowChange}
+use Rattle.ci_machine.specs.declared.change.RowChange.TheVariants.{Put, Remove}
+use Rattle.ci_machine.specs.declared.records.Attempt.{Attempt}
+use Rattle.ci_machine.specs.declared.records.BoardRow.{BoardRow}
+use Rattle.ci_machine.specs.declared.records.Job.{Job}
+use Rattle.ci_machine.specs.declared.records.Need.{Need}
+use Rattle.ci_machine.specs.Kept.{Kept, row_cmp, put_rows, cleared, written}
+use Rattle.ci_machine.specs.Ranges.{is_within, needs_within, attempts_within, rows_within}
+use Rattle.ci_machine.specs.State.{State, job_cmp, need_cmp, attempt_cmp, put, without, without_all, changed, applied}
+use Rattle.ci_machine.specs.Statuses.{jobs_of}
+use Rattle.ci_machine.proofs.Filters.{filter_implied}
+use Rattle.ci_machine.proofs.Keyed.{Has, Rising, filter_has, has_from_all, rising_put, rising_filter, unequal}
+use Rattle.ci_machine_steps.proofs.Sound.{ascend_from_rising, rising_from_ascend}
+use Rattle.ci_server_lookups.proofs.Changes.{state_stays, board_stays}
+use Rattle.ci_memory_boards.specs.Order.{InOrder}
+use Rattle.ci_memory_boards.specs.declared.sheet.Sheet.{Sheet}
+use Rattle.ci_memory_boards.specs.Sheets.{IsRight, touches, attempt_put}
+use Rattle.ci_memory_boards.proofs.Lists.{other_put}
+
+-- of two truths of which neither holds
+first : (a b : Bool) → (a || b) ≡ false → a ≡ false
+first true b e = absurd (false≢true (sym e))
+first false b e = refl
+
+later : (a b : Bool) → (a || b) ≡ false → b ≡ false
+later true b e = absurd (false≢true (sym e))
+later false b e = e
+
+-- a number between two others isn't one that isn't
+apart : (low high a b : ℕ) → is_within low high a ≡ true → is_within low high b ≡ false → a ≡ b → ⊥
+apart low high a b inside outside same = false≢true (sym outside ∙ (ap (is_within low high) (sym same) ∙ inside))
+
+pub key_apart : (low high a b : ℕ) → is_within low high a ≡ true → is_within low high b ≡ false → not (is_eq (nat_cmp a b)) ≡ true
+key_apart low high a b inside outside = unequal a b (apart low high a b inside outside)
+
+then_apart : (low high a b : ℕ) (p q : ℕ) → is_within low high a ≡ true → is_within low high b ≡ false → not (is_eq (ordering_then (nat_cmp a b) (nat_cmp p q))) ≡ true
+then_apart low high a b p q inside outside = either (nat_cmp a b) refl
+  where
+    either : (o : Ordering) → nat_cmp a b ≡ o → not (is_eq (ordering_then o (nat_cmp p q))) ≡ true
+    either Less e = refl
+    either Greater e = refl
+    either Equal e = absurd (false≢true (sym (ap (λ x. not (is_eq x)) e) ∙ key_apart low high a b inside outside))
+
+-- one of a list has a number, or none has
+none_has : (n : ℕ) (a : Attempt) (xs : List Attempt) → list_any (λ x. x.id == n) xs ≡ false → Has a xs → not (is_eq (nat_cmp a.id n)) ≡ true
+none_has n a [] none has = absurd has
+none_has n a (x ∷ xs) none has =
+    ⊎_elim
+    (λ e. unequal a.id n (λ same. false≢true (sym (first (x.id == n) (list_any (λ y. y.id == n) xs) none) ∙ eq-eqb x.id n (ap (λ (y : Attempt). y.id) (sym e) ∙ same))))
+    (λ m. none_has n a xs (later (x.id == n) (list_any (λ y. y.id == n) xs) none) m)
+    has
+
+some_same : {a b : Attempt} → Some a ≡ Some b → a ≡ b
+some_same {a} e = ap (λ (o : Option Attempt). unwrap_or o a) e
+
+some_not_none : {A : Type 0} {a : A} → Some a ≡ None → ⊥
+some_not_none e = cc
+
+-- ---- one change
+
+module _ (m : Sheet) (k : Kept) (right : IsRight m k) where
+  abbrev its : Job → Bool
+  its j = j.pipeline == m.pipeline
+
+  abbrev of_need : Need → Bool
+  of_need w = is_within m.first m.last w.job
+
+  abbrev of_attempt : Attempt → Bool
+  of_attempt a = is_within m.first m.last a.job
+
+  inside : (j : Job) → Has j k.state.jobs → its j ≡ true → is_within m.first m.last j.id ≡ true
+  inside j has is = has_from_all (λ x. is_within m.first m.last x.id ≡ true) j m.jobs.items right.inside (subst (λ (l : List Job). Has j l) (sym right.jobs) (filter_has its j k.state.jobs has is))
+
+  -- with other jobs, needs or attempts that are the same between the two numbers
+  with_jobs : (js : List Job) → filter its js ≡ filter its k.state.jobs → IsRight m (record k { state = record k.state { jobs = js } })
+  with_jobs js same = record { jobs = right.jobs ∙ sym same; inside = right.inside; needs = right.needs; attempts = right.attempts; rows = right.rows }
+
+  with_needs : (ws : List Need) → filter of_need ws ≡ filter of_need k.state.needs → IsRight m (record k { state = record k.state { needs = ws } })
+  with_needs ws same = record { jobs = right.jobs; inside = right.inside; needs = right.needs ∙ sym same; attempts = right.attempts; rows = right.rows }
+
+  with_attempts : (xs : List Attempt) → filter of_attempt xs ≡ filter of_attempt k.state.attempts → IsRight m (record k { state = record k.state { attempts = xs } })
+  with_attempts xs same = record { jobs = right.jobs; inside = right.inside; needs = right.needs; attempts = right.attempts ∙ sym same; rows = right.rows }
+
+  -- an attempt that is none of those of its jobs, before or after
+  pub attempt_elsewhere : (x : Attempt) → is_within m.first m.last x.job ≡ false → list_any (λ a. a.id == x.id) m.attempts.items ≡ false → IsRight m (record k { state = changed (Put (row.Attempt x)) k.state })
+  attempt_elsewhere x outside none =
+      with_attempts (put attempt_cmp x k.state.attempts)
+      (other_put attempt_cmp of_attempt x k.state.attempts outside
+      (λ y has is. none_has x.id y m.attempts.items none (subst (λ (l : List Attempt). Has y l) (sym right.attempts) (filter_has of_attempt y k.state.attempts has is))))
+
+  -- a change that doesn't touch it, and puts no attempt
+  pub stays : (c : RowChange) → touches m c ≡ false → attempt_put c ≡ None → IsRight m (record k { state = changed c k.state })
+  stays (Put (row.Project x)) e never = record { jobs = right.jobs; inside = right.inside; needs = right.needs; attempts = right.attempts; rows = right.rows }
+  stays (Put (row.Variable x)) e never = record { jobs = right.jobs; inside = right.inside; needs = right.needs; attempts = right.attempts; rows = right.rows }
+  stays (Put (row.Runner x)) e never = record { jobs = right.jobs; inside = right.inside; needs = right.needs; attempts = right.attempts; rows = right.rows }
+  stays (Put (row.Pipeline x)) e never = record { jobs = right.jobs; inside = right.inside; needs = right.needs; attempts = right.attempts; rows = right.rows }
+  stays (Put (row.Job x)) e never =
+      with_jobs (put job_cmp x k.state.jobs)
+      (other_put job_cmp its x k.state.jobs (first (its x) (is_within m.first m.last x.id) e) (λ y has is. key_apart m.first m.last y.id x.id (inside y has is) (later (its x) (is_within m.first m.last x.id) e)))
+  stays (Put (row.JobVariable x)) e never = record { jobs = right.jobs; inside = right.inside; needs = right.needs; attempts = right.attempts; rows = right.rows }
+  stays (Put (row.Need x)) e never = with_needs (put need_cmp x k.state.needs) (other_put need_cmp of_need x k.state.needs e (λ y has is. then_apart m.first m.last y.job x.job y.pred x.pred is e))
+  stays (Put (row.Attempt x)) e never = absurd (some_not_none never)
+  stays (Put (row.Piece x)) e never = record { jobs = right.jobs; inside = right.inside; needs = right.needs; attempts = right.attempts; rows = right.rows }
+  stays (Put (row.Next counter n)) e never = record { jobs = right.jobs; inside = right.inside; needs = right.needs; attempts = right.attempts; rows = right.rows }
+  stays (Remove (key.Project n)) e never = record { jobs = right.jobs; inside = right.inside; needs = right.needs; attempts = right.attempts; rows = right.rows }
+  stays (Remove (key.Variable n t)) e never = record { jobs = right.jobs; inside = right.inside; needs = right.needs; attempts = right.attempts; rows = right.rows }
+  stays (Remove (key.Runner n)) e never = record { jobs = right.jobs; inside = right.inside; needs = right.needs; attempts = right.attempts; rows = right.rows }
+  stays (Remove (key.Pipeline n)) e never = record { jobs = right.jobs; inside = right.inside; needs = right.needs; attempts = right.attempts; rows = right.rows }
+  stays (Remove (key.Job n)) e never =
+      with_jobs (without (λ j. j.id) n k.state.jobs) (filter_implied its (λ y. not (is_eq (nat_cmp y.id n))) k.state.jobs (λ y has is. key_apart m.first m.last y.id n (inside y has is) e))
+  stays (Remove (key.JobVariable n t)) e never = record { jobs = right.jobs; inside = right.inside; needs = right.needs; attempts = right.attempts; rows = right.rows }
+  stays (Remove (key.JobVariables n)) e never = record { jobs = right.jobs; inside = right.inside; needs = right.needs; attempts = right.attempts; rows = right.rows }
+  stays (Remove (key.Need n p)) e never =
+      with_needs (filter (λ w. not (is_eq (ordering_then (nat_cmp w.job n) (nat_cmp w.pred p)))) k.state.needs)
+      (filter_implied of_need (λ w. not (is_eq (ordering_then (nat_cmp w.job n) (nat_cmp w.pred p)))) k.state.needs (λ y has is. then_apart m.first m.last y.job n y.pred p is e))
+  stays (Remove (key.Needs n)) e never = with_needs (without (λ w. w.job) n k.state.needs) (filter_implied of_need (λ w. not (is_eq (nat_cmp w.job n))) k.state.needs (λ y has is. key_apart m.first m.last y.job n is e))
+  stays (Remove (key.Attempt n)) e never =
+      with_attempts (without (λ a. a.id) n k.state.attempts)
+      (filter_implied of_attempt (λ a. not (is_eq (nat_cmp a.id n))) k.state.attempts
+      (λ y has is. none_has n y m.attempts.items e (subst (λ (l : List Attempt). Has y l) (sym right.attempts) (filter_has of_attempt y k.state.attempts has is))))
+  stays (Remove (key.Piece n p)) e never = record { jobs = right.jobs; inside = right.inside; needs = right.needs; attempts = right.attempts; rows = right.rows }
+  stays (Remove (key.Pieces n)) e never = record { jobs = right.jobs; inside = right.inside; needs = right.needs; attempts = right.attempts; rows = right.rows }
+
+-- the change that puts an attempt
+pub put_of : (c : RowChange) (a : Attempt) → attempt_put c ≡ Some a → c ≡ Put (row.Attempt a)
+put_of (Put (row.Project x)) a e = cc
+put_of (Put (row.Variable x)) a e = cc
+put_of (Put (row.Runner x)) a e = cc
+put_of (Put (row.Pipeline x)) a e = cc
+put_of (Put (row.Job x)) a e = cc
+put_of (Put (row.JobVariable x)) a e = cc
+put_of (Put (row.Need x)) a e = cc
+put_of (Put (row.Attempt x)) a e = ap (λ (o : Attempt). Put (row.Attempt o)) (some_same e)
+put_of (Put (row.Piece x)) a e = cc
+put_of (Put (row.Next counter n)) a e = cc
+put_of (Remove (key.Project n)) a e = cc
+put_of (Remove (key.Variable n t)) a e = cc
+put_of (Remove (key.Runner n)) a e = cc
+put_of (Remove (key.Pipeline n)) a e = cc
+put_of (Remove (key.Job n)) a e = cc
+put_of (Remove (key.JobVariable n t)) a e = cc
+put_of (Remove (key.JobVariables n)) a e = cc
+put_of (Remove (key.Need n p)) a e = cc
+put_of (Remove (key.Needs n)) a e = cc
+put_of (Remove (key.Attempt n)) a e = cc
+put_of (Remove (key.Piece n p)) a e = cc
+put_of (Remove (key.Pieces n)) a e = cc
+
+-- ---- the order of attempts
+
+abbrev pub AttemptsAscend : State → Type 0
+AttemptsAscend s = IsStrictlySortedBy nat_cmp (map (λ a. a.id) s.attempts)
+
+abbrev by_id : Attempt → ℕ
+by_id a = a.id
+
+put_ascends : (x : Attempt) (s : State) → AttemptsAscend s → AttemptsAscend (changed (Put (row.Attempt x)) s)
+put_ascends x s a = ascend_from_rising by_id 0 (put attempt_cmp x s.attempts) (rising_put by_id x 0 s.attempts (rising_from_ascend by_id s.attempts a) (omega arith))
+
+goes_ascends : (n : ℕ) (s : State) → AttemptsAscend s → AttemptsAscend (changed (Remove (key.Attempt n)) s)
+goes_ascends n s a = ascend_from_rising by_id 0 (without by_id n s.attempts) (rising_filter by_id (λ x. not (is_eq (nat_cmp x.id n))) 0 s.attempts (rising_from_ascend by_id s.attempts a))
+
+one_ascends : (c : RowChange) (s : State) → AttemptsAscend s → AttemptsAscend (changed c s)
+one_ascends (Put (row.Project x)) s a = a
+one_ascends (Put (row.Variable x)) s a = a
+one_ascends (Put (row.Runner x)) s a = a
+one_ascends (Put (row.Pipeline x)) s a = a
+one_ascends (Put (row.Job x)) s a = a
+one_ascends (Put (row.JobVariable x)) s a = a
+one_ascends (Put (row.Need x)) s a = a
+one_ascends (Put (row.Attempt x)) s a = put_ascends x s a
+one_ascends (Put (row.Piece x)) s a = a
+one_ascends (Put (row.Next counter n)) s a = a
+one_ascends (Remove (key.Project n)) s a = a
+one_ascends (Remove (key.Variable n t)) s a = a
+one_ascends (Remove (key.Runner n)) s a = a
+one_ascends (Remove (key.Pipeline n)) s a = a
+one_ascends (Remove (key.Job n)) s a = a
+one_ascends (Remove (key.JobVariable n t)) s a = a
+one_ascends (Remove (key.JobVariables n)) s a = a
+one_ascends (Remove (key.Need n p)) s a = a
+one_ascends (Remove (key.Needs n)) s a = a
+one_ascends (Remove (key.Attempt n)) s a = goes_ascends n s a
+one_ascends (Remove (key.Piece n p)) s a = a
+one_ascends (Remove (key.Pieces n)) s a = a
+
+pub all_ascend : (cs : List RowChange) (s : State) → AttemptsAscend s → AttemptsAscend (applied cs s)
+all_ascend [] s a = a
+all_ascend (c ∷ cs) s a = all_ascend cs (changed c s) (one_ascends c s a)
+
+-- ---- the order of rows
+
+abbrev pub RowsAscend : List BoardRow → Type 0
+RowsAscend rows = IsStrictlySortedBy nat_cmp (map (λ r. r.job) rows)
+
+abbrev by_job : BoardRow → ℕ
+by_job r = r.job
+
+rising_rows : (rs : List BoardRow) (board : List BoardRow) → Rising by_job 0 board → Rising by_job 0 (put_rows rs board)
+rising_rows [] board r = r
+rising_rows (x ∷ rs) board r = rising_rows rs (put row_cmp x board) (rising_put by_job x 0 board r (omega arith))
+
+pub rows_ascend : (rs : List BoardRow) (board : List BoardRow) → RowsAscend board → RowsAscend (put_rows rs board)
+rows_ascend rs board a = ascend_from_rising by_job 0 (put_rows rs board) (rising_rows rs board (rising_from_ascend by_job board a))
+
+rising_cleared : (jobs : List ℕ) (board : List BoardRow) → Rising by_job 0 board → Rising by_job 0 (without_all by_job jobs board)
+rising_cleared [] board r = r
+rising_cleared (n ∷ jobs) board r = rising_cleared jobs (without by_job n board) (rising_filter by_job (λ x. not (is_eq (nat_cmp x.job n))) 0 board r)
+
+pub cleared_ascend : (jobs : List ℕ) (board : List BoardRow) → RowsAscend board → RowsAscend (without_all by_job jobs board)
+cleared_ascend jobs board a = ascend_from_rising by_job 0 (without_all by_job jobs board) (rising_cleared jobs board (rising_from_ascend by_job board a))
+
+pub written_in_order : (k : Kept) (cs : List RowChange) (rs : List BoardRow) (is : List IndexChange) (gone : List ℕ) → InOrder k → InOrder (written cs rs is (cleared gone k))
+written_in_order k cs rs is gone o =
+    let before : Kept = cleared gone k in
+    let mid : Kept = record before { state = applied cs before.state; board = put_rows rs before.board } in
+    record {
+      attempts = subst AttemptsAscend (sym (state_stays is mid)) (all_ascend cs k.state o.attempts);
+      rows = subst RowsAscend (sym (board_stays is mid)) (rows_ascend rs before.board (cleared_ascend gone k.board o.rows));
+    }
+
+-- ---- rows that go
+
+pub rows_gone : (low high : ℕ) (jobs : List ℕ) (board : List BoardRow) → list_any (is_within low high) jobs ≡ false → rows_within low high (without_all by_job jobs board) ≡ rows_within low high board
+rows_gone low high [] board none = refl
+rows_gone low high (n ∷ jobs) board none =
+    rows_gone low high jobs (without by_job n board) (later (is_within low high n) (list_any (is_within low high) jobs) none)
+    ∙ filter_implied (λ r. is_within low high r.job) (λ r. not (is_eq (nat_cmp r.job n))) board (λ y has is. key_apart low high y.job n is (first (is_within low high n) (list_any (is_within low high) jobs) none))
+
+pub right_cleared : (m : Sheet) (k : Kept) (gone : List ℕ) → list_any (is_within m.first m.last) gone ≡ false → IsRight m k → IsRight m (cleared gone k)
+right_cleared m k gone none right =
+    record { jobs = right.jobs; inside = right.inside; needs = right.needs; attempts = right.attempts; rows = right.rows ∙ sym (rows_gone m.first m.last gone k.board none) }
+
+-- being right is of the state and of the rows alone
+pub right_same : (m : Sheet) (k l : Kept) → l.state ≡ k.state → l.board ≡ k.board → IsRight m k → IsRight m l
+right_same m k l s b right = record {
+  jobs = right.jobs ∙ sym (ap (λ (t : State). jobs_of t m.pipeline) s);
+  inside = right.inside;
+  needs = right.needs ∙ sym (ap (λ (t : State). needs_within m.first m.last t.needs) s);
+  attempts = right.attempts ∙ sym (ap (λ (t : State). attempts_within m.first m.last t.attempts) s);
+  rows = right.rows ∙ sym (ap (rows_within m.first m.last) b);
+}

@@ -1,0 +1,31 @@
+use Rattle.std.specs.Prelude.{ℕ}
+use Rattle.std.proofs.Common.{sym, ap, ◌∙◌}
+use Rattle.ci_machine.specs.declared.records.Attempt.{Attempt}
+use Rattle.ci_machine.specs.Ranges.{is_within}
+use Rattle.ci_machine.specs.State.{attempt_cmp, put}
+use Rattle.ci_machine_steps.proofs.Sound.{rising_from_ascend}
+use Rattle.ci_memory_boards.proofs.Lists.{on_some_then}
+use Rattle.ci_memory_boards.proofs.Placing.{filter_put}
+use Rattle.ci_memory_boards.proofs.Stays.{attempt_elsewhere}
+use Rattle.ci_memory_boards.proofs.after.note_attempt.Goals as goal
+
+abbrev by_id : Attempt → ℕ
+by_id a = a.id
+
+-- it is put among the attempts of these jobs
+pub returns-then-has_within : goal.returns-then-has_within
+returns-then-has_within c =
+    let m = c.args.sheet.now in
+    let new = c.args.attempt.now in
+    on_some_then c.put_copy.result c.put_copy.ensures (λ put_in k ascend right. record {
+      jobs = right.jobs;
+      inside = right.inside;
+      needs = right.needs;
+      attempts = put_in ∙ ap (put attempt_cmp new) right.attempts ∙ sym (filter_put by_id (λ (a : Attempt). is_within m.first m.last a.job) new k.state.attempts (rising_from_ascend by_id k.state.attempts ascend) (sym c.has_within.ensures ∙ c.if-has_within.true));
+      rows = right.rows;
+    })
+
+-- or is and was none of them
+pub returns : goal.returns
+returns c k ascend right =
+    attempt_elsewhere c.args.sheet.now k right c.args.attempt.now (sym c.has_within.ensures ∙ c.if-has_within.false) (sym c.has_attempt.ensures ∙ c.if-has_attempt.false)

@@ -1,0 +1,15 @@
+use Rattle.std.specs.Prelude.{◌==◌}
+use Rattle.std.proofs.Common.{sym, ap, ◌∙◌, eqb-true}
+use Rattle.std.proofs.lemmas.Option.{IfSome_then}
+use Rattle.ci_machine.specs.Statuses.{jobs_of}
+use Rattle.ci_memory_boards.specs.declared.sheet.Sheet.{Sheet}
+use Rattle.ci_memory_boards.specs.Sheets.{IsRight}
+use Rattle.ci_memory_boards.proofs.Lists.{all_found}
+use Rattle.ci_memory_boards.proofs.boards.jobs_in.Goals as goal
+
+pub returns : goal.returns
+returns c =
+    let one : Sheet = c.in_ok-sheet.sheet.now in
+    IfSome_then c.copies_of_jobs.result c.copies_of_jobs.ensures (λ jobs same k all.
+    let it = all_found (λ (m : Sheet). IsRight m k) (λ m. m.pipeline == c.args.pipeline) one c.args.sheets.now (sym c.in_ok-sheet.ensures) all in
+    same ∙ it.0.jobs ∙ ap (jobs_of k.state) (eqb-true one.pipeline c.args.pipeline it.1))

@@ -1,0 +1,42 @@
+-- The records of pipelines as they are remembered, and when that is right.
+use Rattle.std.specs.Prelude.{◌≡◌, ◌==◌, ◌||◌, Bool, true, false, All, Option, Some, None, IfSome}
+use Rattle.std.specs.List.{list_any}
+use Rattle.ci_machine.specs.Kept.{Kept}
+use Rattle.ci_machine.specs.Ranges.{is_within, needs_within, attempts_within, rows_within}
+use Rattle.ci_machine.specs.Statuses.{jobs_of}
+use Rattle.ci_machine.specs.declared.change.Key.TheVariants as key
+use Rattle.ci_machine.specs.declared.change.Record.TheVariants as row
+use Rattle.ci_machine.specs.declared.change.RowChange.{RowChange}
+use Rattle.ci_machine.specs.declared.change.RowChange.TheVariants.{Put, Remove}
+use Rattle.ci_machine.specs.declared.records.Attempt.{Attempt}
+use Rattle.ci_memory_boards.specs.declared.boards.Boards.{Boards}
+use Rattle.ci_memory_boards.specs.declared.sheet.Sheet.{Sheet}
+
+-- What is remembered of a pipeline is right: its jobs, which stand between the two numbers; and the needs, the attempts and the rows of
+-- the jobs between these.
+pub record IsRight (m : Sheet) (k : Kept) : Type 0 where
+  pub jobs : m.jobs.items ≡ jobs_of k.state m.pipeline
+  pub inside : All (λ j. is_within m.first m.last j.id ≡ true) m.jobs.items
+  pub needs : m.needs.items ≡ needs_within m.first m.last k.state.needs
+  pub attempts : m.attempts.items ≡ attempts_within m.first m.last k.state.attempts
+  pub rows : m.rows.items ≡ rows_within m.first m.last k.board
+
+-- The change is of a job of the pipeline or between the two numbers, or of what such a job waits for; or an attempt goes that is
+-- remembered, or comes to be of a job that isn't.
+abbrev pub touches : Sheet → RowChange → Bool
+touches m (Put (row.Job j)) = j.pipeline == m.pipeline || is_within m.first m.last j.id
+touches m (Put (row.Need n)) = is_within m.first m.last n.job
+touches m (Remove (key.Job n)) = is_within m.first m.last n
+touches m (Remove (key.Need n p)) = is_within m.first m.last n
+touches m (Remove (key.Needs n)) = is_within m.first m.last n
+touches m (Remove (key.Attempt n)) = list_any (λ a. a.id == n) m.attempts.items
+touches m _ = false
+
+-- the attempt that the change puts
+abbrev pub attempt_put : RowChange → Option Attempt
+attempt_put (Put (row.Attempt a)) = Some a
+attempt_put _ = None
+
+-- each pipeline that is remembered is remembered right
+abbrev pub AreRight : Boards → Kept → Type 0
+AreRight b k = IfSome b.sheets (λ sheets. All (λ m. IsRight m k) sheets.items)

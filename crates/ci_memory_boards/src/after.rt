@@ -1,0 +1,112 @@
+//! What is remembered still of a pipeline after a commit.
+
+ghost use Rattle.std.specs.Prelude.{◌≡◌, ◌==◌, ℕ, List, map, IfSome, OnSome};
+ghost use Rattle.std.specs.List.{list_any};
+ghost use Rattle.std.specs.Option.{option_copied};
+ghost use Rattle.std.specs.Ordering.{nat_cmp};
+ghost use Rattle.std.specs.List.Sorted.{IsStrictlySortedBy};
+ghost use Rattle.ci_machine.specs.declared.change.IndexChange.{IndexChange};
+ghost use Rattle.ci_machine.specs.declared.change.Record.TheVariants as row;
+ghost use Rattle.ci_machine.specs.Kept.{Kept, row_cmp, put_rows, cleared, written};
+ghost use Rattle.ci_machine.specs.Ranges.{is_within};
+ghost use Rattle.ci_machine.specs.State.{attempt_cmp, put, with_record, changed, applied};
+ghost use Rattle.ci_memory_boards.specs.Order.{InOrder};
+ghost use Rattle.ci_memory_boards.specs.Sheets.{IsRight, attempt_put};
+
+use crate::puts::{put_attempt, put_row};
+use crate::sheet::Sheet;
+use ci_machine::change::{Record, RowChange};
+use ci_machine::records::{Attempt, BoardRow};
+
+/// What is remembered of a pipeline after the rows of these jobs went, these changes were made and these rows were put: attempts and rows
+/// are put among those that are remembered. None, so that it is forgotten, where anything else of it changes or memory is refused.
+pub(crate) fn sheet_after(
+    sheet: Sheet,
+    changes: &[RowChange],
+    rows: &[BoardRow],
+    gone: &[u64],
+) -> Option<Sheet>
+    ensures { IfSome result (λ m. (k : Kept) (indexes : List IndexChange) → InOrder k → IsRight sheet k → IsRight m (written changes.now rows.now indexes (cleared gone.now k))) }
+{
+    if has_any(&sheet, gone) {
+        return None;
+    }
+    after_rows(after_changes(sheet, changes)?, rows)
+}
+
+/// Does one of these jobs stand between the two numbers?
+fn has_any(sheet: &Sheet, jobs: &[u64]) -> bool
+    ensures { result ≡ list_any (is_within sheet.now.first sheet.now.last) jobs.now }
+{
+    jobs.iter().any(|job| sheet.has_within(*job))
+}
+
+fn after_changes(sheet: Sheet, changes: &[RowChange]) -> Option<Sheet>
+    ensures { IfSome result (λ m. (k : Kept) → IsStrictlySortedBy nat_cmp (map (λ a. a.id) k.state.attempts) → IsRight sheet k → IsRight m (record k { state = applied changes.now k.state })) }
+{
+    let mut sheet = sheet;
+    for change in changes {
+        note_change(&mut sheet, change)?;
+    }
+    Some(sheet)
+}
+
+fn note_change(sheet: &mut Sheet, change: &RowChange) -> Option<()>
+    ensures { OnSome result ((k : Kept) → IsStrictlySortedBy nat_cmp (map (λ a. a.id) k.state.attempts) → IsRight sheet.old k → IsRight sheet.new (record k { state = changed change.now k.state })) }
+{
+    if sheet.touches(change) {
+        return None;
+    }
+    match attempt_put(change) {
+        Some(attempt) => note_attempt(sheet, attempt),
+        None => Some(()),
+    }
+}
+
+/// The attempt that a change puts.
+fn attempt_put(change: &RowChange) -> Option<&Attempt>
+    ensures { option_copied result ≡ attempt_put change.now }
+{
+    match change {
+        RowChange::Put(Record::Attempt(attempt)) => Some(attempt),
+        _ => None,
+    }
+}
+
+/// An attempt that is put: it is one of those of the jobs between the two numbers, or neither was nor is.
+fn note_attempt(sheet: &mut Sheet, attempt: &Attempt) -> Option<()>
+    ensures { OnSome result ((k : Kept) → IsStrictlySortedBy nat_cmp (map (λ a. a.id) k.state.attempts) → IsRight sheet.old k → IsRight sheet.new (record k { state = with_record (row.Attempt attempt.now) k.state })) }
+{
+    if sheet.has_within(attempt.job) {
+        return put_copy(&mut sheet.attempts, attempt);
+    }
+    if sheet.has_attempt(attempt.id) {
+        return None;
+    }
+    Some(())
+}
+
+fn put_copy(attempts: &mut Vec<Attempt>, attempt: &Attempt) -> Option<()>
+    ensures { OnSome result (attempts.new.items ≡ put attempt_cmp attempt.now attempts.old.items) }
+{
+    put_attempt(attempts, attempt.clone().ok()?)
+}
+
+fn after_rows(sheet: Sheet, rows: &[BoardRow]) -> Option<Sheet>
+    ensures { IfSome result (λ m. (k : Kept) → IsStrictlySortedBy nat_cmp (map (λ r. r.job) k.board) → IsRight sheet k → IsRight m (record k { board = put_rows rows.now k.board })) }
+{
+    let mut sheet = sheet;
+    for row in rows {
+        note_row(&mut sheet, *row)?;
+    }
+    Some(sheet)
+}
+
+fn note_row(sheet: &mut Sheet, row: BoardRow) -> Option<()>
+    ensures { OnSome result ((k : Kept) → IsStrictlySortedBy nat_cmp (map (λ r. r.job) k.board) → IsRight sheet.old k → IsRight sheet.new (record k { board = put row_cmp row k.board })) }
+{
+    if sheet.has_within(row.job) {
+        return put_row(&mut sheet.rows, row);
+    }
+    Some(())
+}

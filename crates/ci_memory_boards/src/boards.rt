@@ -1,0 +1,228 @@
+//! What is remembered of pipelines.
+
+ghost use Rattle.std.specs.Prelude.{◌≡◌, ◌==◌, ◌&&◌, ◌++◌, ◌∷◌, [], ℕ, List, All, find, drop, option_to_list, IfSome, OnSome};
+ghost use Rattle.std.specs.List.Sorted.{IsPermutation};
+ghost use Rattle.std.specs.Option.{option_copied};
+ghost use Rattle.ci_machine.specs.declared.change.IndexChange.{IndexChange};
+ghost use Rattle.ci_machine.specs.Kept.{Kept, cleared, written};
+ghost use Rattle.ci_machine.specs.Ranges.{needs_within, attempts_within, rows_within};
+ghost use Rattle.ci_machine.specs.Statuses.{jobs_of};
+ghost use Rattle.ci_memory_boards.specs.Order.{InOrder};
+ghost use Rattle.ci_memory_boards.specs.Sheets.{IsRight, AreRight};
+
+use crate::after::sheet_after;
+use crate::sheet::Sheet;
+use ci_machine::change::RowChange;
+use ci_machine::records::{Attempt, BoardRow, Job, Need};
+
+/// Of how many pipelines the records are remembered, at most. With one more that goes which was learned first.
+pub const MAX_SHEETS: usize = 32;
+
+/// The records of some pipelines. To forget any of them is always right.
+#[derive(Drop)]
+pub struct Boards {
+    pub sheets: Option<Vec<Sheet>>,
+}
+
+impl Boards {
+    /// Nothing is remembered.
+    pub fn nothing() -> Boards
+        ensures { (k : Kept) → AreRight result k }
+    {
+        Boards { sheets: None }
+    }
+
+    /// Remembers the records of one more pipeline. Where there is no memory for it, all are forgotten.
+    pub fn learn(&mut self, sheet: Sheet)
+        ensures { (k : Kept) → AreRight self.old k → IsRight sheet k → AreRight self.new k }
+    {
+        let alloc = *sheet.jobs.allocator();
+        self.sheets = match self.sheets.take() {
+            Some(sheets) => with_one(sheets, sheet),
+            None => with_one(Vec::new(alloc), sheet),
+        };
+    }
+
+    /// The jobs of a pipeline, by number, where they are remembered and there is memory for their copies.
+    pub fn jobs_of(&self, pipeline: u64) -> Option<Vec<Job>>
+        ensures { IfSome result (λ jobs. (k : Kept) → AreRight self.now k → jobs.items ≡ jobs_of k.state pipeline) }
+    {
+        match &self.sheets {
+            Some(sheets) => jobs_in(sheets.as_slice(), pipeline),
+            None => None,
+        }
+    }
+
+    /// What the jobs between two numbers wait for, where it is remembered and there is memory for the copies.
+    pub fn needs_within(&self, first: u64, last: u64) -> Option<Vec<Need>>
+        ensures { IfSome result (λ needs. (k : Kept) → AreRight self.now k → needs.items ≡ needs_within first last k.state.needs) }
+    {
+        match &self.sheets {
+            Some(sheets) => needs_in(sheets.as_slice(), first, last),
+            None => None,
+        }
+    }
+
+    /// The attempts of the jobs between two numbers, by number, where they are remembered and there is memory for their copies.
+    pub fn attempts_within(&self, first: u64, last: u64) -> Option<Vec<Attempt>>
+        ensures { IfSome result (λ attempts. (k : Kept) → AreRight self.now k → attempts.items ≡ attempts_within first last k.state.attempts) }
+    {
+        match &self.sheets {
+            Some(sheets) => attempts_in(sheets.as_slice(), first, last),
+            None => None,
+        }
+    }
+
+    /// The rows of the jobs between two numbers, by job, where they are remembered and there is memory for their copies.
+    pub fn rows_within(&self, first: u64, last: u64) -> Option<Vec<BoardRow>>
+        ensures { IfSome result (λ rows. (k : Kept) → AreRight self.now k → rows.items ≡ rows_within first last k.board) }
+    {
+        match &self.sheets {
+            Some(sheets) => rows_in(sheets.as_slice(), first, last),
+            None => None,
+        }
+    }
+
+    /// What is remembered still after a commit: the rows of these jobs went, these changes were made, and these rows were put.
+    pub fn after(self, changes: &[RowChange], rows: &[BoardRow], gone: &[u64]) -> Boards
+        ensures { (k : Kept) (indexes : List IndexChange) → InOrder k → AreRight self k → AreRight result (written changes.now rows.now indexes (cleared gone.now k)) }
+    {
+        Boards {
+            sheets: sheets_after(self.sheets, changes, rows, gone),
+        }
+    }
+}
+
+/// With one more; where there are too many, that goes which was learned first. None where memory was refused.
+fn with_one(sheets: Vec<Sheet>, sheet: Sheet) -> Option<Vec<Sheet>>
+    ensures { IfSome result (λ v. (n : ℕ) × (v.items ≡ drop n sheets.items ++ sheet ∷ [])) }
+{
+    let mut sheets = sheets;
+    make_room(&mut sheets);
+    match sheets.push(sheet) {
+        Ok(()) => Some(sheets),
+        Err(_) => None,
+    }
+}
+
+fn make_room(sheets: &mut Vec<Sheet>)
+    ensures { (n : ℕ) × (sheets.new.items ≡ drop n sheets.old.items) }
+{
+    if sheets.len() >= MAX_SHEETS {
+        sheets.remove(0);
+    }
+}
+
+fn sheets_after(
+    sheets: Option<Vec<Sheet>>,
+    changes: &[RowChange],
+    rows: &[BoardRow],
+    gone: &[u64],
+) -> Option<Vec<Sheet>>
+    ensures { (k : Kept) (indexes : List IndexChange) → InOrder k → IfSome sheets (λ v. All (λ m. IsRight m k) v.items) → IfSome result (λ v. All (λ m. IsRight m (written changes.now rows.now indexes (cleared gone.now k))) v.items) }
+{
+    match sheets {
+        Some(sheets) => each_after(sheets, changes, rows, gone),
+        None => None,
+    }
+}
+
+fn each_after(
+    sheets: Vec<Sheet>,
+    changes: &[RowChange],
+    rows: &[BoardRow],
+    gone: &[u64],
+) -> Option<Vec<Sheet>>
+    ensures { (k : Kept) (indexes : List IndexChange) → InOrder k → All (λ m. IsRight m k) sheets.items → IfSome result (λ v. All (λ m. IsRight m (written changes.now rows.now indexes (cleared gone.now k))) v.items) }
+{
+    let mut left = Vec::with_capacity(*sheets.allocator(), sheets.len()).ok()?;
+    let mut sheets = sheets;
+    while let Some(sheet) = sheets.pop() {
+        add(&mut left, sheet_after(sheet, changes, rows, gone))?;
+    }
+    turn_round(&mut left);
+    Some(left)
+}
+
+fn turn_round(sheets: &mut Vec<Sheet>)
+    ensures { IsPermutation sheets.old.items sheets.new.items }
+{
+    sheets.as_mut_slice().reverse();
+}
+
+/// Adds what is remembered still, if anything is. None where memory was refused.
+fn add(left: &mut Vec<Sheet>, sheet: Option<Sheet>) -> Option<()>
+    ensures { OnSome result (left.new.items ≡ left.old.items ++ option_to_list sheet) }
+{
+    match sheet {
+        Some(sheet) => left.push(sheet).ok(),
+        None => Some(()),
+    }
+}
+
+fn of_pipeline(sheets: &[Sheet], pipeline: u64) -> Option<&Sheet>
+    ensures { option_copied result ≡ find (λ m. m.pipeline == pipeline) sheets.now }
+{
+    sheets.iter().find(|sheet| sheet.pipeline == pipeline)
+}
+
+fn between(sheets: &[Sheet], first: u64, last: u64) -> Option<&Sheet>
+    ensures { option_copied result ≡ find (λ m. m.first == first && m.last == last) sheets.now }
+{
+    sheets
+        .iter()
+        .find(|sheet| sheet.first == first && sheet.last == last)
+}
+
+fn jobs_in(sheets: &[Sheet], pipeline: u64) -> Option<Vec<Job>>
+    ensures { IfSome result (λ jobs. (k : Kept) → All (λ m. IsRight m k) sheets.now → jobs.items ≡ jobs_of k.state pipeline) }
+{
+    let sheet = of_pipeline(sheets, pipeline)?;
+    copies_of_jobs(&sheet.jobs)
+}
+
+fn needs_in(sheets: &[Sheet], first: u64, last: u64) -> Option<Vec<Need>>
+    ensures { IfSome result (λ needs. (k : Kept) → All (λ m. IsRight m k) sheets.now → needs.items ≡ needs_within first last k.state.needs) }
+{
+    let sheet = between(sheets, first, last)?;
+    copies_of_needs(&sheet.needs)
+}
+
+fn attempts_in(sheets: &[Sheet], first: u64, last: u64) -> Option<Vec<Attempt>>
+    ensures { IfSome result (λ attempts. (k : Kept) → All (λ m. IsRight m k) sheets.now → attempts.items ≡ attempts_within first last k.state.attempts) }
+{
+    let sheet = between(sheets, first, last)?;
+    copies_of_attempts(&sheet.attempts)
+}
+
+fn rows_in(sheets: &[Sheet], first: u64, last: u64) -> Option<Vec<BoardRow>>
+    ensures { IfSome result (λ rows. (k : Kept) → All (λ m. IsRight m k) sheets.now → rows.items ≡ rows_within first last k.board) }
+{
+    let sheet = between(sheets, first, last)?;
+    copies_of_rows(&sheet.rows)
+}
+
+/// Copies of jobs. None where memory was refused.
+pub fn copies_of_jobs(jobs: &Vec<Job>) -> Option<Vec<Job>>
+    ensures { IfSome result (λ copies. copies.items ≡ jobs.now.items) }
+{
+    Vec::from_clones(*jobs.allocator(), jobs.as_slice()).ok()
+}
+
+fn copies_of_needs(needs: &Vec<Need>) -> Option<Vec<Need>>
+    ensures { IfSome result (λ copies. copies.items ≡ needs.now.items) }
+{
+    Vec::from_clones(*needs.allocator(), needs.as_slice()).ok()
+}
+
+fn copies_of_attempts(attempts: &Vec<Attempt>) -> Option<Vec<Attempt>>
+    ensures { IfSome result (λ copies. copies.items ≡ attempts.now.items) }
+{
+    Vec::from_clones(*attempts.allocator(), attempts.as_slice()).ok()
+}
+
+fn copies_of_rows(rows: &Vec<BoardRow>) -> Option<Vec<BoardRow>>
+    ensures { IfSome result (λ copies. copies.items ≡ rows.now.items) }
+{
+    Vec::from_clones(*rows.allocator(), rows.as_slice()).ok()
+}
