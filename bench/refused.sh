@@ -26,7 +26,7 @@ tried() {
 }
 
 loads="next project project-with variables-of variable runner runner-with pipeline newer-of job demand job-variables attempt attempts-of
-  live-attempts holder unfinished pipelines-before some-before
+  live-attempts holder rows-with pipelines-before some-before
   pieces-of jobs-of needs-within attempts-within rows-within row pending-after"
 events="add-project add-runner set-file set-file-again set-file-fault set-variable delete-variable create-pipeline create-with
   create-stages create-circle create-no-file ask-job ask-job-none ask-job-unknown running success success-stages append show-job

@@ -1,12 +1,13 @@
 //! The file of a server.
 
+use crate::blank::first_page;
 use ci_cli_words::line::Line;
 use ci_server::server::Server;
 use ci_store::tables::OpenFault;
 use sqlite::{Connection, Error, ErrorCode, File, FileStore};
 use std::alloc::{AllocError, Global};
 use std::fs::{self, OpenOptions};
-use std::io;
+use std::io::{self, Write};
 use std::os::unix::fs::OpenOptionsExt;
 
 /// The access of a file that its owner alone may read and write.
@@ -78,12 +79,12 @@ impl Making {
         Ok(())
     }
 
-    /// Makes a file that holds nothing, which its owner alone may read and write.
+    /// Makes a file of a database that has no table, which its owner alone may read and write.
     fn claim(&self, rt: &HostRuntime) -> io::Result<()> {
         let mut options = OpenOptions::new();
         options.write(true).create_new(true).mode(OWNER_ALONE);
-        options.open(rt, self.unfinished.as_str())?;
-        Ok(())
+        let mut file = options.open(rt, self.unfinished.as_str())?;
+        file.write_all(first_page().as_slice())
     }
 
     /// Removes what there is of an unfinished one.

@@ -4,6 +4,7 @@
 #![tactic(auto)]
 
 mod admin;
+mod blank;
 mod commands;
 mod file;
 mod prune;

@@ -1,4 +1,4 @@
--- What is kept beside the state for look-ups follows from it: which groups are held, and which pipelines aren't finished.
+-- What is kept beside the state follows from it: which groups are held, and which pipelines aren't finished.
 use Rattle.std.specs.Prelude.{◌≡◌, Bool, List, filter, map, find, ◌==◌, Option, option_map}
 use Rattle.std.specs.List.{list_any}
 use Rattle.ci_machine.specs.declared.records.Pipeline.{Pipeline}

@@ -1,5 +1,6 @@
 -- What a store keeps: the state, and beside it the rows of its jobs' statuses, the resource groups that are held, and the pipelines that
--- aren't finished. All but the state follows from it, and is there to be looked up.
+-- aren't finished. All but the state follows from it. The rows and the groups are there to be looked up; no table has the pipelines that
+-- aren't finished: each change says which of them come and go, for who remembers them.
 use Rattle.std.specs.Prelude.{ℕ, not, ◌==◌, List, [], ◌∷◌, filter}
 use Rattle.std.specs.declared.cmp.Ordering.{Ordering}
 use Rattle.std.specs.Ordering.{nat_cmp}

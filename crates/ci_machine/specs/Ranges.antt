@@ -1,5 +1,6 @@
--- What is looked up by a range of job numbers, and page by page.
+-- What is looked up by a range of job numbers, by a status, and page by page.
 use Rattle.std.specs.Prelude.{ℕ, Bool, ◌&&◌, List, filter, find, take, nat_lt, nat_le, ◌==◌, Option}
+use Rattle.ci_board.specs.declared.facts.Status.{Status}
 use Rattle.ci_board.specs.declared.facts.Status.TheVariants as status
 use Rattle.ci_board.specs.Effects.{is_status}
 use Rattle.ci_machine.specs.declared.records.Need.{Need}
@@ -21,6 +22,10 @@ rows_within first last board = filter (λ r. is_within first last r.job) board
 
 abbrev pub row_at : ℕ → List BoardRow → Option BoardRow
 row_at job board = find (λ r. r.job == job) board
+
+-- the rows with this status, by job
+abbrev pub rows_with : Status → List BoardRow → List BoardRow
+rows_with s board = filter (λ r. is_status r.row.status s) board
 
 -- the row is that of a pending job behind this one
 abbrev pub is_pending_after : ℕ → BoardRow → Bool

@@ -66,7 +66,7 @@ pub enum RowChange {
     Remove(Key),
 }
 
-/// A change of what is kept beside the state for look-ups: which resource groups are held, and which pipelines aren't finished.
+/// A change of what is kept beside the state: which resource groups are held, and which pipelines aren't finished.
 #[derive(Drop)]
 pub enum IndexChange {
     /// A live attempt holds a group, which none held.

@@ -266,7 +266,7 @@ pub struct Holder {
     pub attempt: u64,
 }
 
-/// A pipeline that isn't finished. It is kept beside the state, which has no such record: it follows from the statuses of its jobs.
+/// A pipeline that isn't finished. Neither the state nor a table has such a record: it follows from the statuses of the pipeline's jobs.
 #[derive(Clone, Copy, Drop)]
 pub struct Unfinished {
     pub pipeline: u64,

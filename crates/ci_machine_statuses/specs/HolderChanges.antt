@@ -1,4 +1,4 @@
--- What an event changes of what is kept beside the state for look-ups: which groups are held, and which pipelines aren't finished.
+-- What an event changes of what is kept beside the state: which groups are held, and which pipelines aren't finished.
 use Rattle.std.specs.Prelude.{ℕ, Bool, true, false, ◌==◌, List, [], ◌++◌, map, filter, find, flat_map, Option, Some, None, option_map, option_to_list}
 use Rattle.ci_board.specs.declared.facts.Status.{Status}
 use Rattle.ci_machine.specs.declared.records.Pipeline.{Pipeline}

@@ -1,4 +1,4 @@
-//! How what is kept for look-ups stays right under the changes of a state.
+//! How what is kept beside a state stays right under the changes of a state.
 
 ghost use Rattle.std.specs.Prelude.{◌≡◌, ℕ, true, false, List, [], ◌∷◌, length, map, replicate, Contains, Option, option_to_list, Ok};
 ghost use Rattle.std.specs.List.{AllByRecursion};

@@ -35,11 +35,11 @@ runners_stay (Remove (key.Attempt n)) s e = refl
 runners_stay (Remove (key.Piece n m)) s e = refl
 runners_stay (Remove (key.Pieces n)) s e = refl
 
-first : (a b : Bool) → (a || b) ≡ false → a ≡ false
+pub first : (a b : Bool) → (a || b) ≡ false → a ≡ false
 first true b e = absurd (false≢true (sym e))
 first false b e = refl
 
-later : (a b : Bool) → (a || b) ≡ false → b ≡ false
+pub later : (a b : Bool) → (a || b) ≡ false → b ≡ false
 later true b e = absurd (false≢true (sym e))
 later false b e = e
 

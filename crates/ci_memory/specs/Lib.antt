@@ -1,4 +1,5 @@
 pub mod Numbers
+pub mod Projects
 pub mod Runners
 pub mod Remembered
 pub mod Right

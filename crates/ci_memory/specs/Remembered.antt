@@ -5,10 +5,12 @@ use Rattle.ci_memory_leases.specs.declared.memory.Leases.{Leases}
 use Rattle.ci_memory_pipelines.specs.declared.open.Open.{Open}
 use Rattle.ci_memory_queue.specs.declared.queue.Queue.{Queue}
 use Rattle.ci_memory.specs.declared.numbers.NextNumbers.{NextNumbers}
+use Rattle.ci_memory.specs.declared.projects.Projects.{Projects}
 use Rattle.ci_memory.specs.declared.runners.Runners.{Runners}
 
 pub record Remembered : Type 0 where
   pub numbers : NextNumbers
+  pub projects : Projects
   pub runners : Runners
   pub queue : Option Queue
   pub leases : Leases

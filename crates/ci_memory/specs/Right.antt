@@ -7,15 +7,17 @@ use Rattle.ci_memory_pipelines.specs.Alone as alone
 use Rattle.ci_memory_queue.specs.Covers as queue
 use Rattle.ci_memory.specs.Remembered.{Remembered}
 use Rattle.ci_memory.specs.Numbers.{AreNext}
+use Rattle.ci_memory.specs.Projects.{AreProjects}
 use Rattle.ci_memory.specs.Runners.{AreRunners}
 
 pub record IsRight (m : Remembered) (k : Kept) : Type 0 where
   pub numbers : AreNext m.numbers k.state.next
+  pub projects : AreProjects m.projects k.state
   pub runners : AreRunners m.runners k.state
   pub queue : queue.IsRight m.queue k
   pub leases : AreRight m.leases k
   pub pipelines : alone.IsRight m.pipelines k
   pub boards : boards.AreRight m.boards k
-  -- the rows of statuses and the attempts stand by their numbers, as those of a table do: so all pending rows are found page by page, and
-  -- one that is put has its place among those that are remembered
+  -- the rows of statuses, the jobs and the attempts stand by their numbers, as those of a table do: so all pending rows are found page by
+  -- page, one that is put has its place among those that are remembered, and no two have the same number
   pub in_order : InOrder k

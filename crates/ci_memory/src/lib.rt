@@ -3,5 +3,6 @@
 
 pub mod memory;
 pub mod numbers;
+pub mod projects;
 pub mod remembering;
 pub mod runners;

@@ -5,6 +5,7 @@ ghost use Rattle.ci_memory_boards.specs.Order.{InOrder};
 ghost use Rattle.ci_memory.specs.Right.{IsRight};
 
 use crate::numbers::NextNumbers;
+use crate::projects::Projects;
 use crate::runners::Runners;
 use ci_memory_boards::boards::Boards;
 use ci_memory_leases::memory::Leases;
@@ -19,6 +20,8 @@ use std::marker::Model;
 #[derive(Drop)]
 pub struct Memory {
     pub(crate) numbers: NextNumbers,
+    /// Those that were looked up last.
+    pub(crate) projects: Projects,
     pub(crate) runners: Runners,
     /// The pending jobs, by what they ask of a runner.
     pub(crate) queue: Option<Queue>,
@@ -35,7 +38,7 @@ impl Model for Memory {
 
     ghost Value = { Remembered };
 
-    ghost view = { λ m. record { numbers = m.numbers; runners = m.runners; queue = m.queue; leases = m.leases; pipelines = m.pipelines; boards = m.boards } };
+    ghost view = { λ m. record { numbers = m.numbers; projects = m.projects; runners = m.runners; queue = m.queue; leases = m.leases; pipelines = m.pipelines; boards = m.boards } };
 }
 
 impl Memory {
@@ -45,6 +48,7 @@ impl Memory {
     {
         Memory {
             numbers: NextNumbers::unknown(),
+            projects: Projects::unknown(),
             runners: Runners::Unknown,
             queue: None,
             leases: Leases::unknown(),
@@ -59,6 +63,7 @@ impl Memory {
     {
         let Memory {
             numbers,
+            projects,
             runners,
             queue,
             leases,
@@ -67,6 +72,7 @@ impl Memory {
         } = self;
         Memory {
             numbers: numbers.after(delta.changes()),
+            projects: projects.after(delta.changes()),
             runners: runners.after(delta.changes()),
             queue: queue_after(queue, delta.changes(), delta.rows()),
             leases: leases.after(delta.changes()),

@@ -3,22 +3,25 @@
 ghost use Rattle.std.specs.Prelude.{◌≡◌};
 ghost use Rattle.ci_machine.specs.Kept.{Kept};
 ghost use Rattle.ci_store.specs.Store.{LoadsBy};
-ghost use Rattle.ci_server_lookups.specs.Keeps.{IsKept};
+ghost use Rattle.ci_server_lookups.specs.Keeps.{IsKept, HoldsKept};
 ghost use Rattle.ci_server_lookups.specs.Search.{IsOffered};
+ghost use Rattle.ci_memory_boards.specs.Fresh.{IsFresh};
 ghost use Rattle.ci_memory_boards.specs.Order.{InOrder};
 ghost use Rattle.ci_memory.specs.Right.{IsRight};
 
 use crate::memory::Memory;
 use crate::runners::{Runners, with_token};
+use ci_board::facts::Status;
 use ci_machine::change::Counter;
 use ci_machine::lease::Lease;
 use ci_machine::moment::Moment;
 use ci_machine::records::{
     Attempt, BoardRow, Demand, Holder, Job, JobVariable, Need, Piece, Pipeline, Project, Runner,
-    Unfinished, Variable,
+    Variable,
 };
 use ci_machine::text::Text;
 use ci_memory_boards::boards::copies_of_jobs;
+use ci_memory_boards::fresh::Fresh;
 use ci_memory_boards::load::sheet_of;
 use ci_memory_leases::due;
 use ci_memory_pipelines::redundant;
@@ -76,7 +79,14 @@ impl<T: Store> Store for Remembering<T> {
     }
 
     fn project_with(&mut self, token: &Text) -> Result<Option<Project>, StoreFault> {
-        self.store.project_with(token)
+        if let Some(project) = self.memory.projects.with_token(token) {
+            return Ok(Some(project));
+        }
+        let found = self.store.project_with(token)?;
+        if let Some(project) = &found {
+            self.memory.projects.learn(project);
+        }
+        Ok(found)
     }
 
     fn variables_of(&mut self, project: u64) -> Result<Vec<Variable>, StoreFault> {
@@ -113,6 +123,10 @@ impl<T: Store> Store for Remembering<T> {
     }
 
     fn job(&mut self, id: u64) -> Result<Option<Job>, StoreFault> {
+        if let Some(job) = self.memory.boards.job(id) {
+            self.memory.leases.learn(&job, id);
+            return Ok(Some(job));
+        }
         let found = self.store.job(id)?;
         if let Some(job) = &found {
             self.memory.leases.learn(job, id);
@@ -129,6 +143,9 @@ impl<T: Store> Store for Remembering<T> {
     }
 
     fn attempt(&mut self, id: u64) -> Result<Option<Attempt>, StoreFault> {
+        if let Some(attempt) = self.memory.boards.attempt(id) {
+            return Ok(Some(attempt));
+        }
         self.store.attempt(id)
     }
 
@@ -182,7 +199,14 @@ impl<T: Store> Store for Remembering<T> {
     }
 
     fn row(&mut self, job: u64) -> Result<Option<BoardRow>, StoreFault> {
+        if let Some(row) = self.memory.boards.row(job) {
+            return Ok(Some(row));
+        }
         self.store.row(job)
+    }
+
+    fn rows_with(&mut self, status: Status) -> Result<Vec<BoardRow>, StoreFault> {
+        self.store.rows_with(status)
     }
 
     fn pending_after(&mut self, job: u64) -> Result<Vec<BoardRow>, StoreFault> {
@@ -191,10 +215,6 @@ impl<T: Store> Store for Remembering<T> {
 
     fn holder(&mut self, project: u64, group: &Text) -> Result<Option<Holder>, StoreFault> {
         self.store.holder(project, group)
-    }
-
-    fn unfinished(&mut self) -> Result<Vec<Unfinished>, StoreFault> {
-        self.store.unfinished()
     }
 
     fn newer_of(&mut self, pipeline: &Pipeline) -> Result<Option<Pipeline>, StoreFault> {
@@ -229,12 +249,43 @@ impl<T: Store> Searches for Remembering<T> {
     }
 
     fn first_due(&mut self, alloc: Global, now: Moment) -> Result<Option<Lease>, StoreFault> {
+        self.memory.projects.begin(alloc);
         due::first_due(alloc, &mut self.store, &mut self.memory.leases, now)
     }
 
+    fn unfinished(&mut self, alloc: Global) -> Result<Vec<u64>, StoreFault> {
+        redundant::unfinished(alloc, &mut self.store, &mut self.memory.pipelines)
+    }
+
     fn first_redundant(&mut self, alloc: Global) -> Result<Option<Pipeline>, StoreFault> {
+        learn_fresh(self, alloc)?;
         redundant::first_redundant(alloc, &mut self.store, &mut self.memory.pipelines)
     }
+}
+
+/// Remembers from which numbers on pipelines and jobs are new, unless that is known: so a pipeline that is made is known from then on.
+fn learn_fresh<T: Store>(store: &mut Remembering<T>, alloc: Global) -> Result<(), StoreFault>
+    ensures { LoadsBy ⟦<Remembering<T> as Store>⟧.honest (HoldsKept ⟦<Remembering<T> as Store>⟧.holds) ⟦<Remembering<T> as Store>⟧.leaves store.old store.new result (λ k _. Unit {0}) }
+{
+    if store.memory.boards.fresh.is_some() {
+        return Ok(());
+    }
+    let pipeline = store.next(Counter::Pipeline)?;
+    let job = store.next(Counter::Job)?;
+    let fresh = Fresh {
+        pipeline,
+        job,
+        alloc,
+    };
+    note_fresh(store, fresh);
+    Ok(())
+}
+
+fn note_fresh<T: Store>(store: &mut Remembering<T>, fresh: Fresh)
+    ensures store { store.new.store ≡ store.old.store }
+    ensures right { (k : Kept) → IsRight store.old.memory k → IsFresh fresh k → IsRight store.new.memory k }
+{
+    store.memory.boards.learn_fresh(fresh);
 }
 
 /// The first pending job that the runner may be given, with its row, by the queue that is remembered.

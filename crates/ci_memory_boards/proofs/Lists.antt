@@ -8,7 +8,7 @@ use Rattle.std.proofs.lemmas.List.{append-nil}
 use Rattle.std.proofs.lemmas.Bool.{cond_both, cond-false, false≢true}
 use Rattle.ci_machine.specs.State.{placed, others, put}
 use Rattle.ci_machine.proofs.Filters.{filter_implied}
-use Rattle.ci_machine.proofs.Keyed.{Has, has_find, has_from_all, All-from_has}
+use Rattle.ci_machine.proofs.Keyed.{Has, has_find, has_put, has_from_all, All-from_has}
 
 other_placed : {A : Type 0} (cmp : A → A → Ordering) (test : A → Bool) (x : A) (xs : List A) → test x ≡ false → filter test (placed cmp x xs) ≡ filter test xs
 other_placed cmp test x [] f = cond-false (test x) (x ∷ []) [] f
@@ -74,3 +74,7 @@ all_but_last P x xs ys is all =
 pub all_with : {A : Type 0} (P : A → Type 0) (o : Option A) (xs ys : List A) → ys ≡ xs ++ option_to_list o → All P xs → IfSome o P → All P ys
 all_with P None xs ys is all one = subst (λ (l : List _). All P l) (sym (is ∙ append-nil xs)) all
 all_with P (Some x) xs ys is all one = all_more P 0 x xs ys is all one
+
+-- and of those among which one of which it holds is put
+pub all_put : {A : Type 0} (P : A → Type 0) (cmp : A → A → Ordering) (x : A) (xs : List A) → All P xs → P x → All P (put cmp x xs)
+all_put P cmp x xs all one = All-from_has P (put cmp x xs) (λ y h. ⊎_elim (λ e. subst P (sym e) one) (λ m. has_from_all P y xs all m) (has_put cmp x y xs h))

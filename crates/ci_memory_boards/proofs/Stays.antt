@@ -6,7 +6,7 @@ use Rattle.std.specs.declared.cmp.Ordering.{Ordering}
 use Rattle.std.specs.declared.cmp.Ordering.TheVariants.{Less, Equal, Greater}
 use Rattle.std.specs.Ordering.{nat_cmp, is_eq, ordering_then}
 use Rattle.std.proofs.Common.{refl, sym, ap, subst, ◌∙◌, ⊎_elim, eq-eqb, arith}
-use Rattle.std.proofs.lemmas.Bool.{false≢true}
+use Rattle.std.proofs.lemmas.Bool.{cond_both, false≢true}
 use Rattle.ci_machine.specs.declared.change.IndexChange.{IndexChange}
 use Rattle.ci_machine.specs.declared.change.Key.TheVariants as key
 use Rattle.ci_machine.specs.declared.change.Record.TheVariants as row
@@ -26,7 +26,7 @@ use Rattle.ci_machine_steps.proofs.Sound.{ascend_from_rising, rising_from_ascend
 use Rattle.ci_server_lookups.proofs.Changes.{state_stays, board_stays}
 use Rattle.ci_memory_boards.specs.Order.{InOrder}
 use Rattle.ci_memory_boards.specs.declared.sheet.Sheet.{Sheet}
-use Rattle.ci_memory_boards.specs.Sheets.{IsRight, touches, attempt_put}
+use Rattle.ci_memory_boards.specs.Sheets.{IsRight, owns, own_job, touches, attempt_put}
 use Rattle.ci_memory_boards.proofs.Lists.{other_put}
 
 -- of two truths of which neither holds
@@ -62,8 +62,8 @@ none_has n a (x ∷ xs) none has =
     (λ m. none_has n a xs (later (x.id == n) (list_any (λ y. y.id == n) xs) none) m)
     has
 
-some_same : {a b : Attempt} → Some a ≡ Some b → a ≡ b
-some_same {a} e = ap (λ (o : Option Attempt). unwrap_or o a) e
+some_same : {A : Type 0} {a b : A} → Some a ≡ Some b → a ≡ b
+some_same {A} {a} e = ap (λ (o : Option A). unwrap_or o a) e
 
 some_not_none : {A : Type 0} {a : A} → Some a ≡ None → ⊥
 some_not_none e = cc
@@ -158,6 +158,35 @@ put_of (Remove (key.Attempt n)) a e = cc
 put_of (Remove (key.Piece n p)) a e = cc
 put_of (Remove (key.Pieces n)) a e = cc
 
+-- a job of the sheet's own that the change puts
+pub own_job_of : (m : Sheet) (c : RowChange) (j : Job) → own_job m c ≡ Some j → (c ≡ Put (row.Job j)) × (owns m j ≡ true)
+own_job_of m (Put (row.Project x)) j e = absurd (some_not_none (sym e))
+own_job_of m (Put (row.Variable x)) j e = absurd (some_not_none (sym e))
+own_job_of m (Put (row.Runner x)) j e = absurd (some_not_none (sym e))
+own_job_of m (Put (row.Pipeline x)) j e = absurd (some_not_none (sym e))
+own_job_of m (Put (row.Job x)) j e =
+    cond_both (owns m x) (Some x) None (λ o. o ≡ Some j → (Put (row.Job x) ≡ Put (row.Job j)) × (owns m j ≡ true))
+    (λ its is. let same : x ≡ j = some_same is in (ap (λ (y : Job). Put (row.Job y)) same, ap (owns m) (sym same) ∙ its))
+    (λ _ is. absurd (some_not_none (sym is)))
+    e
+own_job_of m (Put (row.JobVariable x)) j e = absurd (some_not_none (sym e))
+own_job_of m (Put (row.Need x)) j e = absurd (some_not_none (sym e))
+own_job_of m (Put (row.Attempt x)) j e = absurd (some_not_none (sym e))
+own_job_of m (Put (row.Piece x)) j e = absurd (some_not_none (sym e))
+own_job_of m (Put (row.Next counter n)) j e = absurd (some_not_none (sym e))
+own_job_of m (Remove (key.Project n)) j e = absurd (some_not_none (sym e))
+own_job_of m (Remove (key.Variable n t)) j e = absurd (some_not_none (sym e))
+own_job_of m (Remove (key.Runner n)) j e = absurd (some_not_none (sym e))
+own_job_of m (Remove (key.Pipeline n)) j e = absurd (some_not_none (sym e))
+own_job_of m (Remove (key.Job n)) j e = absurd (some_not_none (sym e))
+own_job_of m (Remove (key.JobVariable n t)) j e = absurd (some_not_none (sym e))
+own_job_of m (Remove (key.JobVariables n)) j e = absurd (some_not_none (sym e))
+own_job_of m (Remove (key.Need n p)) j e = absurd (some_not_none (sym e))
+own_job_of m (Remove (key.Needs n)) j e = absurd (some_not_none (sym e))
+own_job_of m (Remove (key.Attempt n)) j e = absurd (some_not_none (sym e))
+own_job_of m (Remove (key.Piece n p)) j e = absurd (some_not_none (sym e))
+own_job_of m (Remove (key.Pieces n)) j e = absurd (some_not_none (sym e))
+
 -- ---- the order of attempts
 
 abbrev pub AttemptsAscend : State → Type 0
@@ -200,6 +229,48 @@ pub all_ascend : (cs : List RowChange) (s : State) → AttemptsAscend s → Atte
 all_ascend [] s a = a
 all_ascend (c ∷ cs) s a = all_ascend cs (changed c s) (one_ascends c s a)
 
+-- ---- the order of jobs
+
+abbrev pub JobsAscend : State → Type 0
+JobsAscend s = IsStrictlySortedBy nat_cmp (map (λ j. j.id) s.jobs)
+
+abbrev job_id : Job → ℕ
+job_id j = j.id
+
+put_job_ascends : (x : Job) (s : State) → JobsAscend s → JobsAscend (changed (Put (row.Job x)) s)
+put_job_ascends x s a = ascend_from_rising job_id 0 (put job_cmp x s.jobs) (rising_put job_id x 0 s.jobs (rising_from_ascend job_id s.jobs a) (omega arith))
+
+job_goes_ascends : (n : ℕ) (s : State) → JobsAscend s → JobsAscend (changed (Remove (key.Job n)) s)
+job_goes_ascends n s a = ascend_from_rising job_id 0 (without job_id n s.jobs) (rising_filter job_id (λ x. not (is_eq (nat_cmp x.id n))) 0 s.jobs (rising_from_ascend job_id s.jobs a))
+
+one_job_ascends : (c : RowChange) (s : State) → JobsAscend s → JobsAscend (changed c s)
+one_job_ascends (Put (row.Project x)) s a = a
+one_job_ascends (Put (row.Variable x)) s a = a
+one_job_ascends (Put (row.Runner x)) s a = a
+one_job_ascends (Put (row.Pipeline x)) s a = a
+one_job_ascends (Put (row.Job x)) s a = put_job_ascends x s a
+one_job_ascends (Put (row.JobVariable x)) s a = a
+one_job_ascends (Put (row.Need x)) s a = a
+one_job_ascends (Put (row.Attempt x)) s a = a
+one_job_ascends (Put (row.Piece x)) s a = a
+one_job_ascends (Put (row.Next counter n)) s a = a
+one_job_ascends (Remove (key.Project n)) s a = a
+one_job_ascends (Remove (key.Variable n t)) s a = a
+one_job_ascends (Remove (key.Runner n)) s a = a
+one_job_ascends (Remove (key.Pipeline n)) s a = a
+one_job_ascends (Remove (key.Job n)) s a = job_goes_ascends n s a
+one_job_ascends (Remove (key.JobVariable n t)) s a = a
+one_job_ascends (Remove (key.JobVariables n)) s a = a
+one_job_ascends (Remove (key.Need n p)) s a = a
+one_job_ascends (Remove (key.Needs n)) s a = a
+one_job_ascends (Remove (key.Attempt n)) s a = a
+one_job_ascends (Remove (key.Piece n p)) s a = a
+one_job_ascends (Remove (key.Pieces n)) s a = a
+
+pub all_jobs_ascend : (cs : List RowChange) (s : State) → JobsAscend s → JobsAscend (applied cs s)
+all_jobs_ascend [] s a = a
+all_jobs_ascend (c ∷ cs) s a = all_jobs_ascend cs (changed c s) (one_job_ascends c s a)
+
 -- ---- the order of rows
 
 abbrev pub RowsAscend : List BoardRow → Type 0
@@ -227,9 +298,17 @@ written_in_order k cs rs is gone o =
     let before : Kept = cleared gone k in
     let mid : Kept = record before { state = applied cs before.state; board = put_rows rs before.board } in
     record {
+      jobs = subst JobsAscend (sym (state_stays is mid)) (all_jobs_ascend cs k.state o.jobs);
       attempts = subst AttemptsAscend (sym (state_stays is mid)) (all_ascend cs k.state o.attempts);
       rows = subst RowsAscend (sym (board_stays is mid)) (rows_ascend rs before.board (cleared_ascend gone k.board o.rows));
     }
+
+-- what is kept is in order after changes of records, and after rows go
+pub records_in_order : (k : Kept) (cs : List RowChange) → InOrder k → InOrder (record k { state = applied cs k.state })
+records_in_order k cs o = record { jobs = all_jobs_ascend cs k.state o.jobs; attempts = all_ascend cs k.state o.attempts; rows = o.rows }
+
+pub cleared_in_order : (k : Kept) (gone : List ℕ) → InOrder k → InOrder (cleared gone k)
+cleared_in_order k gone o = record { jobs = o.jobs; attempts = o.attempts; rows = cleared_ascend gone k.board o.rows }
 
 -- ---- rows that go
 

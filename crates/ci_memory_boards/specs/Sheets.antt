@@ -1,5 +1,5 @@
 -- The records of pipelines as they are remembered, and when that is right.
-use Rattle.std.specs.Prelude.{◌≡◌, ◌==◌, ◌||◌, Bool, true, false, All, Option, Some, None, IfSome}
+use Rattle.std.specs.Prelude.{◌≡◌, ◌==◌, ◌||◌, ◌&&◌, if◌then◌else◌, Bool, true, false, All, Option, Some, None, IfSome}
 use Rattle.std.specs.List.{list_any}
 use Rattle.ci_machine.specs.Kept.{Kept}
 use Rattle.ci_machine.specs.Ranges.{is_within, needs_within, attempts_within, rows_within}
@@ -9,6 +9,8 @@ use Rattle.ci_machine.specs.declared.change.Record.TheVariants as row
 use Rattle.ci_machine.specs.declared.change.RowChange.{RowChange}
 use Rattle.ci_machine.specs.declared.change.RowChange.TheVariants.{Put, Remove}
 use Rattle.ci_machine.specs.declared.records.Attempt.{Attempt}
+use Rattle.ci_machine.specs.declared.records.Job.{Job}
+use Rattle.ci_memory_boards.specs.Fresh.{IsFresh}
 use Rattle.ci_memory_boards.specs.declared.boards.Boards.{Boards}
 use Rattle.ci_memory_boards.specs.declared.sheet.Sheet.{Sheet}
 
@@ -32,11 +34,24 @@ touches m (Remove (key.Needs n)) = is_within m.first m.last n
 touches m (Remove (key.Attempt n)) = list_any (λ a. a.id == n) m.attempts.items
 touches m _ = false
 
+-- the job is one of the pipeline's, and between the two numbers
+abbrev pub owns : Sheet → Job → Bool
+owns m j = j.pipeline == m.pipeline && is_within m.first m.last j.id
+
+-- such a job that the change puts
+abbrev pub own_job : Sheet → RowChange → Option Job
+own_job m (Put (row.Job j)) = if owns m j then Some j else None
+own_job m _ = None
+
 -- the attempt that the change puts
 abbrev pub attempt_put : RowChange → Option Attempt
 attempt_put (Put (row.Attempt a)) = Some a
 attempt_put _ = None
 
 -- each pipeline that is remembered is remembered right
+abbrev pub AreRightSheets : Boards → Kept → Type 0
+AreRightSheets b k = IfSome b.sheets (λ sheets. All (λ m. IsRight m k) sheets.items)
+
+-- and pipelines and jobs are new from the numbers on that are remembered, if they are
 abbrev pub AreRight : Boards → Kept → Type 0
-AreRight b k = IfSome b.sheets (λ sheets. All (λ m. IsRight m k) sheets.items)
+AreRight b k = AreRightSheets b k × IfSome b.fresh (λ f. IsFresh f k)

@@ -9,17 +9,17 @@ ghost use Rattle.ci_machine.specs.declared.change.IndexChange.{IndexChange};
 ghost use Rattle.ci_machine.specs.declared.change.Record.TheVariants as row;
 ghost use Rattle.ci_machine.specs.Kept.{Kept, row_cmp, put_rows, cleared, written};
 ghost use Rattle.ci_machine.specs.Ranges.{is_within};
-ghost use Rattle.ci_machine.specs.State.{attempt_cmp, put, with_record, changed, applied};
+ghost use Rattle.ci_machine.specs.State.{job_cmp, attempt_cmp, put, with_record, changed, applied};
 ghost use Rattle.ci_memory_boards.specs.Order.{InOrder};
 ghost use Rattle.ci_memory_boards.specs.Sheets.{IsRight, attempt_put};
 
-use crate::puts::{put_attempt, put_row};
+use crate::puts::{put_attempt, put_job, put_row};
 use crate::sheet::Sheet;
 use ci_machine::change::{Record, RowChange};
-use ci_machine::records::{Attempt, BoardRow};
+use ci_machine::records::{Attempt, BoardRow, Job};
 
-/// What is remembered of a pipeline after the rows of these jobs went, these changes were made and these rows were put: attempts and rows
-/// are put among those that are remembered. None, so that it is forgotten, where anything else of it changes or memory is refused.
+/// What is remembered of a pipeline after the rows of these jobs went, these changes were made and these rows were put: jobs of it, attempts
+/// and rows are put among those that are remembered. None, so that it is forgotten, where anything else of it changes or memory is refused.
 pub(crate) fn sheet_after(
     sheet: Sheet,
     changes: &[RowChange],
@@ -42,7 +42,7 @@ fn has_any(sheet: &Sheet, jobs: &[u64]) -> bool
 }
 
 fn after_changes(sheet: Sheet, changes: &[RowChange]) -> Option<Sheet>
-    ensures { IfSome result (λ m. (k : Kept) → IsStrictlySortedBy nat_cmp (map (λ a. a.id) k.state.attempts) → IsRight sheet k → IsRight m (record k { state = applied changes.now k.state })) }
+    ensures { IfSome result (λ m. (k : Kept) → InOrder k → IsRight sheet k → IsRight m (record k { state = applied changes.now k.state })) }
 {
     let mut sheet = sheet;
     for change in changes {
@@ -52,6 +52,22 @@ fn after_changes(sheet: Sheet, changes: &[RowChange]) -> Option<Sheet>
 }
 
 fn note_change(sheet: &mut Sheet, change: &RowChange) -> Option<()>
+    ensures { OnSome result ((k : Kept) → InOrder k → IsRight sheet.old k → IsRight sheet.new (record k { state = changed change.now k.state })) }
+{
+    match sheet.own_job(change) {
+        Some(job) => put_copy_of_job(&mut sheet.jobs, job),
+        None => note_other(sheet, change),
+    }
+}
+
+fn put_copy_of_job(jobs: &mut Vec<Job>, job: &Job) -> Option<()>
+    ensures { OnSome result (jobs.new.items ≡ put job_cmp job.now jobs.old.items) }
+{
+    put_job(jobs, job.clone().ok()?)
+}
+
+/// A change that puts no job of the pipeline's between the two numbers.
+fn note_other(sheet: &mut Sheet, change: &RowChange) -> Option<()>
     ensures { OnSome result ((k : Kept) → IsStrictlySortedBy nat_cmp (map (λ a. a.id) k.state.attempts) → IsRight sheet.old k → IsRight sheet.new (record k { state = changed change.now k.state })) }
 {
     if sheet.touches(change) {

@@ -1,16 +1,20 @@
 //! What is remembered of pipelines.
 
-ghost use Rattle.std.specs.Prelude.{◌≡◌, ◌==◌, ◌&&◌, ◌++◌, ◌∷◌, [], ℕ, List, All, find, drop, option_to_list, IfSome, OnSome};
+ghost use Rattle.std.specs.Prelude.{◌≡◌, ◌==◌, ◌&&◌, ◌++◌, ◌∷◌, [], ℕ, List, All, Some, find, drop, option_to_list, IfSome, OnSome};
 ghost use Rattle.std.specs.List.Sorted.{IsPermutation};
 ghost use Rattle.std.specs.Option.{option_copied};
 ghost use Rattle.ci_machine.specs.declared.change.IndexChange.{IndexChange};
 ghost use Rattle.ci_machine.specs.Kept.{Kept, cleared, written};
-ghost use Rattle.ci_machine.specs.Ranges.{needs_within, attempts_within, rows_within};
+ghost use Rattle.ci_machine.specs.Lookups.{job_at, attempt_at};
+ghost use Rattle.ci_machine.specs.Ranges.{needs_within, attempts_within, rows_within, row_at};
 ghost use Rattle.ci_machine.specs.Statuses.{jobs_of};
+ghost use Rattle.ci_memory_boards.specs.Fresh.{IsFresh};
 ghost use Rattle.ci_memory_boards.specs.Order.{InOrder};
 ghost use Rattle.ci_memory_boards.specs.Sheets.{IsRight, AreRight};
 
 use crate::after::sheet_after;
+use crate::fresh::Fresh;
+use crate::one::{attempt_in, job_in, row_in};
 use crate::sheet::Sheet;
 use ci_machine::change::RowChange;
 use ci_machine::records::{Attempt, BoardRow, Job, Need};
@@ -22,6 +26,8 @@ pub const MAX_SHEETS: usize = 32;
 #[derive(Drop)]
 pub struct Boards {
     pub sheets: Option<Vec<Sheet>>,
+    /// From which numbers on pipelines and jobs are new.
+    pub fresh: Option<Fresh>,
 }
 
 impl Boards {
@@ -29,18 +35,24 @@ impl Boards {
     pub fn nothing() -> Boards
         ensures { (k : Kept) → AreRight result k }
     {
-        Boards { sheets: None }
+        Boards {
+            sheets: None,
+            fresh: None,
+        }
     }
 
     /// Remembers the records of one more pipeline. Where there is no memory for it, all are forgotten.
     pub fn learn(&mut self, sheet: Sheet)
         ensures { (k : Kept) → AreRight self.old k → IsRight sheet k → AreRight self.new k }
     {
-        let alloc = *sheet.jobs.allocator();
-        self.sheets = match self.sheets.take() {
-            Some(sheets) => with_one(sheets, sheet),
-            None => with_one(Vec::new(alloc), sheet),
-        };
+        self.sheets = and_one(self.sheets.take(), sheet);
+    }
+
+    /// Remembers from which numbers on pipelines and jobs are new: of one that a commit makes then all is remembered from its beginning.
+    pub fn learn_fresh(&mut self, fresh: Fresh)
+        ensures { (k : Kept) → AreRight self.old k → IsFresh fresh k → AreRight self.new k }
+    {
+        self.fresh = Some(fresh);
     }
 
     /// The jobs of a pipeline, by number, where they are remembered and there is memory for their copies.
@@ -83,13 +95,88 @@ impl Boards {
         }
     }
 
+    /// The row of a job, where one is remembered.
+    pub fn row(&self, job: u64) -> Option<BoardRow>
+        ensures { IfSome result (λ row. (k : Kept) → InOrder k → AreRight self.now k → row_at job k.board ≡ Some row) }
+    {
+        match &self.sheets {
+            Some(sheets) => row_in(sheets.as_slice(), job),
+            None => None,
+        }
+    }
+
+    /// The job with a number, where it is remembered and there is memory for its copy.
+    pub fn job(&self, id: u64) -> Option<Job>
+        ensures { IfSome result (λ job. (k : Kept) → InOrder k → AreRight self.now k → job_at k.state id ≡ Some job) }
+    {
+        match &self.sheets {
+            Some(sheets) => job_in(sheets.as_slice(), id),
+            None => None,
+        }
+    }
+
+    /// The attempt with a number, where it is remembered and there is memory for its copy.
+    pub fn attempt(&self, id: u64) -> Option<Attempt>
+        ensures { IfSome result (λ attempt. (k : Kept) → InOrder k → AreRight self.now k → attempt_at k.state id ≡ Some attempt) }
+    {
+        match &self.sheets {
+            Some(sheets) => attempt_in(sheets.as_slice(), id),
+            None => None,
+        }
+    }
+
     /// What is remembered still after a commit: the rows of these jobs went, these changes were made, and these rows were put.
     pub fn after(self, changes: &[RowChange], rows: &[BoardRow], gone: &[u64]) -> Boards
         ensures { (k : Kept) (indexes : List IndexChange) → InOrder k → AreRight self k → AreRight result (written changes.now rows.now indexes (cleared gone.now k)) }
     {
+        let Boards { sheets, fresh } = self;
+        let sheets = with_blank(sheets, &fresh, changes);
         Boards {
-            sheets: sheets_after(self.sheets, changes, rows, gone),
+            sheets: sheets_after(sheets, changes, rows, gone),
+            fresh: fresh_after(fresh, changes, rows),
         }
+    }
+}
+
+fn fresh_after(fresh: Option<Fresh>, changes: &[RowChange], rows: &[BoardRow]) -> Option<Fresh>
+    ensures { (k : Kept) (indexes : List IndexChange) (gone : List ℕ) → IfSome fresh (λ f. IsFresh f k) → IfSome result (λ f. IsFresh f (written changes.now rows.now indexes (cleared gone k))) }
+{
+    match fresh {
+        Some(fresh) => fresh.after(changes, rows),
+        None => None,
+    }
+}
+
+/// With the sheet of a pipeline that the changes make, as it is before them.
+fn with_blank(
+    sheets: Option<Vec<Sheet>>,
+    fresh: &Option<Fresh>,
+    changes: &[RowChange],
+) -> Option<Vec<Sheet>>
+    ensures { (k : Kept) → IfSome fresh.now (λ f. IsFresh f k) → IfSome sheets (λ v. All (λ m. IsRight m k) v.items) → IfSome result (λ v. All (λ m. IsRight m k) v.items) }
+{
+    match blank_of(fresh, changes) {
+        Some(sheet) => and_one(sheets, sheet),
+        None => sheets,
+    }
+}
+
+fn blank_of(fresh: &Option<Fresh>, changes: &[RowChange]) -> Option<Sheet>
+    ensures { IfSome result (λ m. (k : Kept) → IfSome fresh.now (λ f. IsFresh f k) → IsRight m k) }
+{
+    match fresh {
+        Some(fresh) => fresh.blank(changes),
+        None => None,
+    }
+}
+
+fn and_one(sheets: Option<Vec<Sheet>>, sheet: Sheet) -> Option<Vec<Sheet>>
+    ensures { (k : Kept) → IsRight sheet k → IfSome sheets (λ v. All (λ m. IsRight m k) v.items) → IfSome result (λ v. All (λ m. IsRight m k) v.items) }
+{
+    let alloc = *sheet.jobs.allocator();
+    match sheets {
+        Some(sheets) => with_one(sheets, sheet),
+        None => with_one(Vec::new(alloc), sheet),
     }
 }
 

@@ -4,6 +4,8 @@
 
 mod after;
 pub mod boards;
+pub mod fresh;
 pub mod load;
+mod one;
 mod puts;
 pub mod sheet;

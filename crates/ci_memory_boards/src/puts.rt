@@ -3,9 +3,9 @@
 ghost use Rattle.std.specs.Prelude.{◌≡◌, ◌≤◌, ◌==◌, not, filter, length, nat_lt, OnSome};
 ghost use Rattle.std.specs.List.{prefix_len};
 ghost use Rattle.ci_machine.specs.Kept.{row_cmp};
-ghost use Rattle.ci_machine.specs.State.{attempt_cmp, put};
+ghost use Rattle.ci_machine.specs.State.{job_cmp, attempt_cmp, put};
 
-use ci_machine::records::{Attempt, BoardRow};
+use ci_machine::records::{Attempt, BoardRow, Job};
 
 /// Puts an attempt in the place of the one with its number, or where it belongs by that. None where memory was refused.
 pub(crate) fn put_attempt(attempts: &mut Vec<Attempt>, attempt: Attempt) -> Option<()>
@@ -29,6 +29,30 @@ fn attempts_before(attempts: &[Attempt], id: u64) -> usize
     ensures within { result ≤ length attempts.now }
 {
     attempts.iter().take_while(|one| one.id < id).count()
+}
+
+/// Puts a job in the place of the one with its number, or where it belongs by that. None where memory was refused.
+pub(crate) fn put_job(jobs: &mut Vec<Job>, job: Job) -> Option<()>
+    ensures { OnSome result (jobs.new.items ≡ put job_cmp job jobs.old.items) }
+{
+    take_job_out(jobs, job.id);
+    let place = jobs_before(jobs.as_slice(), job.id);
+    jobs.insert(place, job).ok()?;
+    Some(())
+}
+
+fn take_job_out(jobs: &mut Vec<Job>, id: u64)
+    ensures { jobs.new.items ≡ filter (λ j. not (id == j.id)) jobs.old.items }
+{
+    jobs.retain(|one| id != one.id);
+}
+
+/// How many jobs from the first on have a lesser number.
+fn jobs_before(jobs: &[Job], id: u64) -> usize
+    ensures len { result ≡ prefix_len (λ j. nat_lt j.id id) jobs.now }
+    ensures within { result ≤ length jobs.now }
+{
+    jobs.iter().take_while(|one| one.id < id).count()
 }
 
 /// Puts a row in the place of that of its job, or where it belongs by that. None where memory was refused.

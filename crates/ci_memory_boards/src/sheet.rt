@@ -2,8 +2,9 @@
 
 ghost use Rattle.std.specs.Prelude.{◌≡◌, ◌==◌};
 ghost use Rattle.std.specs.List.{list_any};
+ghost use Rattle.std.specs.Option.{option_copied};
 ghost use Rattle.ci_machine.specs.Ranges.{is_within};
-ghost use Rattle.ci_memory_boards.specs.Sheets.{touches};
+ghost use Rattle.ci_memory_boards.specs.Sheets.{owns, own_job, touches};
 
 use ci_machine::change::{Key, Record, RowChange};
 use ci_machine::records::{Attempt, BoardRow, Job, Need};
@@ -42,6 +43,23 @@ impl Sheet {
             RowChange::Remove(Key::Attempt(id)) => self.has_attempt(*id),
             _ => false,
         }
+    }
+
+    /// The job that the change puts, where it is one of the pipeline's and stands between the two numbers.
+    pub(crate) fn own_job<'a>(&self, change: &'a RowChange) -> Option<&'a Job>
+        ensures { option_copied result ≡ own_job self.now change.now }
+    {
+        match change {
+            RowChange::Put(Record::Job(job)) if self.owns(job) => Some(job),
+            _ => None,
+        }
+    }
+
+    /// Is the job one of the pipeline's, and stands between the two numbers?
+    fn owns(&self, job: &Job) -> bool
+        ensures { result ≡ owns self.now job.now }
+    {
+        job.pipeline == self.pipeline && self.has_within(job.id)
     }
 
     /// Does a job's number stand between the two?

@@ -6,16 +6,18 @@ use Rattle.std.proofs.Common.{refl, sym, ap, subst, ◌∙◌, inl, inr, ⊎_eli
 use Rattle.std.proofs.lemmas.Bool.{cases_Bool, both_ways, false≢true}
 use Rattle.ci_machine.specs.declared.records.Pipeline.{Pipeline}
 use Rattle.ci_machine.specs.declared.records.Unfinished.{Unfinished}
-use Rattle.ci_machine.specs.State.{pipeline_cmp, put}
+use Rattle.ci_machine.specs.State.{pipeline_cmp, put, without}
 use Rattle.ci_machine.specs.Kept.{Kept, unfinished_cmp}
 use Rattle.ci_machine.specs.Redundant.{is_newer_of}
 use Rattle.ci_machine.proofs.Keyed.{Has, Named, has_find, has_filter, filter_has, has_put, put_has, has_map, map_has, same, unequal, has_from_contains, contains_from_has, has_from_all, All-from_has, contains_named, named_contains, not_true}
-use Rattle.ci_machine.proofs.Tests.{any_has}
+use Rattle.ci_machine.proofs.Tests.{any_has, has_any}
+use Rattle.ci_server_lookups.specs.Unfinished.{AreOpen}
+use Rattle.ci_server_lookups.proofs.OpenRows.{same_test}
 use Rattle.ci_memory_pipelines.specs.Known.{Known}
 use Rattle.ci_memory_pipelines.specs.Alone.{IsOpen, IsAlone, Accounts}
 use Rattle.ci_memory_pipelines.specs.Changes.{is_unsettled}
 use Rattle.ci_machine_steps.proofs.Behind.{in_either, has_left, has_right}
-use Rattle.ci_memory_pipelines.proofs.Found.{find_put, put_has_it, none_found, found_none}
+use Rattle.ci_memory_pipelines.proofs.Found.{any_none, find_kept, find_put, put_has_it, none_found, found_none}
 
 abbrev pub id : Pipeline → ℕ
 id p = p.id
@@ -53,18 +55,63 @@ accounts o k c = record {
   suspects = All-from_has (IsOpen k) o.suspects (λ n h. contains_named number n k.unfinished (c.suspects_open n h));
 }
 
+-- its number is among the suspects
+pub has_number : (n : ℕ) (suspects : List ℕ) → list_any (λ m. m == n) suspects ≡ true → Has n suspects
+has_number n suspects e = let w = any_has (λ m. m == n) suspects e in subst (λ m. Has m suspects) (eqb-true w.0 n w.1.1) w.1.0
+
+named_number : (n : ℕ) (us : List Unfinished) → list_any (λ u. u.pipeline == n) us ≡ true → Named number n us
+named_number n us e = let w = any_has (λ (u : Unfinished). u.pipeline == n) us e in (w.0, (w.1.0, eqb-true w.0.pipeline n w.1.1))
+
+number_named : (n : ℕ) (us : List Unfinished) → Named number n us → list_any (λ u. u.pipeline == n) us ≡ true
+number_named n us w = has_any (λ (u : Unfinished). u.pipeline == n) w.0 us w.1.0 (eq-eqb w.0.pipeline n w.1.1)
+
 -- where all that aren't finished are suspects, and none is alone
-pub all_suspects : (o : Known) (k : Kept) → o.alone ≡ [] → o.suspects ≡ map (λ u. u.pipeline) k.unfinished → Accounts o k
+pub all_suspects : (o : Known) (k : Kept) → o.alone ≡ [] → AreOpen k o.suspects → Accounts o k
 all_suspects o k none all =
     accounts o k
-    (subst (λ (ps : List Pipeline). Covers k.state.pipelines k.unfinished ps o.suspects) (sym none)
-    (subst (λ (ns : List ℕ). Covers k.state.pipelines k.unfinished [] ns) (sym all) (record {
-      covered = λ u h. inl (has_map number u k.unfinished h);
+    (subst (λ (ps : List Pipeline). Covers k.state.pipelines k.unfinished ps o.suspects) (sym none) (record {
+      covered = λ u h. inl (has_number u.pipeline o.suspects (all u.pipeline ∙ has_any (λ v. v.pipeline == u.pipeline) u k.unfinished h (eq-eqb u.pipeline u.pipeline refl)));
       there = λ p h. absurd h;
       newest = λ p h. absurd h;
       alone_open = λ p h. absurd h;
-      suspects_open = λ n h. map_has number n k.unfinished h;
-    })))
+      suspects_open = λ n h. named_number n k.unfinished (sym (all n) ∙ has_any (λ m. m == n) n o.suspects h (eq-eqb n n refl));
+    }))
+
+-- those that are alone and the suspects are those that aren't finished
+pub all_numbers : (o : Known) (k : Kept) → Accounts o k → AreOpen k (map (λ p. p.id) o.alone ++ o.suspects)
+all_numbers o k known n =
+    let c = covers o k known in
+    let numbers = map id o.alone ++ o.suspects in
+    same_test (list_any (λ m. m == n) numbers) (list_any (λ u. u.pipeline == n) k.unfinished)
+    (λ e. number_named n k.unfinished
+    (⊎_elim
+    (λ m. let w = map_has id n o.alone m in subst (λ i. Named number i k.unfinished) w.1.1 (c.alone_open w.0 w.1.0))
+    (c.suspects_open n)
+    (in_either n (map id o.alone) o.suspects (has_number n numbers e))))
+    (λ e. let w = named_number n k.unfinished e in
+    has_any (λ m. m == n) n numbers
+    (⊎_elim
+    (λ m. has_right n (map id o.alone) o.suspects (subst (λ i. Has i o.suspects) w.1.1 m))
+    (λ v. has_left n (map id o.alone) o.suspects (subst (λ i. Has i (map id o.alone)) (v.1.1 ∙ w.1.1) (has_map id v.0 o.alone v.1.0)))
+    (c.covered w.0 w.1.0))
+    (eq-eqb n n refl))
+
+-- ---- a pipeline is removed that none of those that are alone is
+
+module _ (n : ℕ) (ps : List Pipeline) (alone : List Pipeline) (none : list_any (λ p. p.id == n) alone ≡ false) where
+  another : (p : Pipeline) → Has p alone → p.id ≡ n → ⊥
+  another p h e = both_ways (p.id == n) (any_none (λ (q : Pipeline). q.id == n) p alone none h) (eq-eqb p.id n e)
+
+  pub after_removal : (us : List Unfinished) (suspects : List ℕ) → Covers ps us alone suspects → Covers (without id n ps) us alone suspects
+  after_removal us suspects c = record {
+    covered = c.covered;
+    there = λ p h. find_kept (λ q. q.id == p.id) (λ q. not (is_eq (nat_cmp q.id n))) ps (λ q e. unequal q.id n (λ f. another p h (sym (eqb-true q.id p.id e) ∙ f))) ∙ c.there p h;
+    newest = λ p h.
+        none_found (is_newer_of p) (without id n ps)
+        (λ r m. found_none (is_newer_of p) r ps (c.newest p h) (has_filter (λ q. not (is_eq (nat_cmp q.id n))) r ps m).0);
+    alone_open = c.alone_open;
+    suspects_open = c.suspects_open;
+  }
 
 -- ---- a pipeline is put
 
@@ -174,10 +221,6 @@ module _ (v : Unfinished) (ps : List Pipeline) (us : List Unfinished) (alone : L
     alone_open = λ p h. named_put p.id (c.alone_open p h);
     suspects_open = λ n h. named_put n (c.suspects_open n h);
   }
-
--- its number is among the suspects
-pub has_number : (n : ℕ) (suspects : List ℕ) → list_any (λ m. m == n) suspects ≡ true → Has n suspects
-has_number n suspects e = let w = any_has (λ m. m == n) suspects e in subst (λ m. Has m suspects) (eqb-true w.0 n w.1.1) w.1.0
 
 module _ (n : ℕ) (ps : List Pipeline) (us : List Unfinished) (alone : List Pipeline) (suspects : List ℕ) (c : Covers ps us alone suspects) where
   different : (m : ℕ) → not (m == n) ≡ true → m ≡ n → ⊥

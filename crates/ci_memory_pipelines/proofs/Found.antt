@@ -18,7 +18,8 @@ find_placed p cmp x (y ∷ ys) e =
     (λ _. ap (λ o. cond (p y) (Some y) o) (find_placed p cmp x ys e))
     (λ _. cond-false (p x) (Some x) (find p (y ∷ ys)) e)
 
-find_kept : {A : Type 0} (p t : A → Bool) (xs : List A) → ((x : A) → p x ≡ true → t x ≡ true) → find p (filter t xs) ≡ find p xs
+-- what passes a test is found as before where all that pass it are left
+pub find_kept : {A : Type 0} (p t : A → Bool) (xs : List A) → ((x : A) → p x ≡ true → t x ≡ true) → find p (filter t xs) ≡ find p xs
 find_kept p t [] stays = refl
 find_kept p t (y ∷ ys) stays =
     cond_both (t y) (y ∷ filter t ys) (filter t ys) (λ l. find p l ≡ find p (y ∷ ys))

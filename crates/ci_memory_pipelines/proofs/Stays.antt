@@ -1,8 +1,7 @@
 -- Changes of records that are of no pipeline leave the pipelines.
-use Rattle.std.specs.Prelude.{◌≡◌, ℕ, ◌+◌, ◌<◌, ◌++◌, ◌∷◌, [], List, take, length, slice_index_or, false, Option, Some, None, Result, Ok, Err, IfOk, IfSome}
+use Rattle.std.specs.Prelude.{◌≡◌, ℕ, ◌+◌, ◌<◌, ◌++◌, ◌∷◌, [], List, take, length, slice_index_or, Option, Some, None, Result, Ok, Err, IfOk, IfSome}
 use Rattle.std.specs.Result.{result_ok}
 use Rattle.std.proofs.Common.{refl, sym, ap, subst, ◌∙◌}
-use Rattle.std.proofs.lemmas.Bool.{false≢true}
 use Rattle.std.proofs.lemmas.List.{take_more}
 use Rattle.ci_machine.specs.declared.records.Pipeline.{Pipeline}
 use Rattle.ci_machine.specs.declared.change.Record.TheVariants as row
@@ -12,7 +11,7 @@ use Rattle.ci_machine.specs.declared.change.RowChange.TheVariants.{Put, Remove}
 use Rattle.ci_machine.specs.declared.change.IndexChange.{IndexChange}
 use Rattle.ci_machine.specs.Kept.{Kept, indexed, indexed_all}
 use Rattle.ci_machine.specs.State.{State, changed}
-use Rattle.ci_memory_pipelines.specs.Changes.{put_pipeline, removes_pipeline}
+use Rattle.ci_memory_pipelines.specs.Changes.{put_pipeline, removed_pipeline}
 
 -- a change that puts a pipeline is that
 pub put_is : (c : RowChange) (p : Pipeline) → put_pipeline c ≡ Some p → c ≡ Put (row.Pipeline p)
@@ -28,7 +27,23 @@ put_is (Put (row.Piece x)) p e = absurd (cc)
 put_is (Put (row.Next c n)) p e = absurd (cc)
 put_is (Remove k) p e = absurd (cc)
 
-pub pipelines_stay : (c : RowChange) (s : State) → put_pipeline c ≡ None → removes_pipeline c ≡ false → (changed c s).pipelines ≡ s.pipelines
+-- one that removes a pipeline is that
+pub removed_is : (c : RowChange) (n : ℕ) → removed_pipeline c ≡ Some n → c ≡ Remove (key.Pipeline n)
+removed_is (Put x) n e = absurd (cc)
+removed_is (Remove (key.Project m)) n e = absurd (cc)
+removed_is (Remove (key.Variable m i)) n e = absurd (cc)
+removed_is (Remove (key.Runner m)) n e = absurd (cc)
+removed_is (Remove (key.Pipeline m)) n e = let same : m ≡ n = cc in ap (λ (i : ℕ). Remove (key.Pipeline i)) same
+removed_is (Remove (key.Job m)) n e = absurd (cc)
+removed_is (Remove (key.JobVariable m i)) n e = absurd (cc)
+removed_is (Remove (key.JobVariables m)) n e = absurd (cc)
+removed_is (Remove (key.Need m i)) n e = absurd (cc)
+removed_is (Remove (key.Needs m)) n e = absurd (cc)
+removed_is (Remove (key.Attempt m)) n e = absurd (cc)
+removed_is (Remove (key.Piece m i)) n e = absurd (cc)
+removed_is (Remove (key.Pieces m)) n e = absurd (cc)
+
+pub pipelines_stay : (c : RowChange) (s : State) → put_pipeline c ≡ None → removed_pipeline c ≡ None → (changed c s).pipelines ≡ s.pipelines
 pipelines_stay (Put (row.Project x)) s e f = refl
 pipelines_stay (Put (row.Variable x)) s e f = refl
 pipelines_stay (Put (row.Runner x)) s e f = refl
@@ -42,7 +57,7 @@ pipelines_stay (Put (row.Next c n)) s e f = refl
 pipelines_stay (Remove (key.Project n)) s e f = refl
 pipelines_stay (Remove (key.Variable n m)) s e f = refl
 pipelines_stay (Remove (key.Runner n)) s e f = refl
-pipelines_stay (Remove (key.Pipeline n)) s e f = absurd (false≢true (sym f))
+pipelines_stay (Remove (key.Pipeline n)) s e f = absurd (cc)
 pipelines_stay (Remove (key.Job n)) s e f = refl
 pipelines_stay (Remove (key.JobVariable n m)) s e f = refl
 pipelines_stay (Remove (key.JobVariables n)) s e f = refl

@@ -1,5 +1,5 @@
 -- What changes of records are to pipelines.
-use Rattle.std.specs.Prelude.{Bool, true, false, ◌==◌, ◌||◌, Option, Some, None}
+use Rattle.std.specs.Prelude.{ℕ, Bool, ◌==◌, ◌||◌, Option, Some, None}
 use Rattle.ci_machine.specs.declared.records.Pipeline.{Pipeline}
 use Rattle.ci_machine.specs.declared.change.Record.TheVariants as row
 use Rattle.ci_machine.specs.declared.change.Key.TheVariants as key
@@ -12,10 +12,10 @@ abbrev pub put_pipeline : RowChange → Option Pipeline
 put_pipeline (Put (row.Pipeline p)) = Some p
 put_pipeline _ = None
 
--- the change removes a pipeline
-abbrev pub removes_pipeline : RowChange → Bool
-removes_pipeline (Remove (key.Pipeline n)) = true
-removes_pipeline _ = false
+-- the number of the pipeline that the change removes, if it removes one
+abbrev pub removed_pipeline : RowChange → Option ℕ
+removed_pipeline (Remove (key.Pipeline n)) = Some n
+removed_pipeline _ = None
 
 -- where q is put, it isn't known of p any more that it is as it was, with no newer one
 abbrev pub is_unsettled : Pipeline → Pipeline → Bool

@@ -4,11 +4,12 @@ ghost use Rattle.std.specs.Prelude.{◌≡◌, ◌==◌, ◌++◌, not, ℕ, Lis
 ghost use Rattle.std.specs.List.{list_any};
 ghost use Rattle.std.specs.Option.{option_copied};
 ghost use Rattle.ci_machine.specs.declared.records.BoardRow.{BoardRow};
+ghost use Rattle.ci_machine.specs.declared.change.Key.TheVariants as key;
 ghost use Rattle.ci_machine.specs.declared.change.Record.TheVariants as row;
-ghost use Rattle.ci_machine.specs.State.{with_record, changed, applied};
+ghost use Rattle.ci_machine.specs.State.{with_record, without_record, changed, applied};
 ghost use Rattle.ci_machine.specs.Kept.{Kept, cleared, indexed, indexed_all, with_open, without_open, written};
 ghost use Rattle.ci_memory_pipelines.specs.Alone.{Accounts, IsRight};
-ghost use Rattle.ci_memory_pipelines.specs.Changes.{put_pipeline, removes_pipeline, is_unsettled};
+ghost use Rattle.ci_memory_pipelines.specs.Changes.{put_pipeline, removed_pipeline, is_unsettled};
 
 use crate::open::Open;
 use ci_machine::change::{IndexChange, Key, Record, RowChange};
@@ -17,7 +18,7 @@ use ci_machine::redundant::is_newer_of;
 use std::alloc::AllocError;
 
 /// What is remembered of a store after it has written these changes. A pipeline that is put makes suspects of those of which it is a
-/// newer one; where a pipeline is removed, or memory is refused, nothing is remembered.
+/// newer one; where one is removed that was known to have none, or memory is refused, nothing is remembered.
 pub fn open_after(
     remembered: Option<Open>,
     changes: &[RowChange],
@@ -43,8 +44,8 @@ fn after_changes(mut known: Open, changes: &[RowChange]) -> Option<Open>
 fn after_change(known: Open, change: &RowChange) -> Option<Open>
     ensures { (k : Kept) → Accounts known k → IsRight result (record k { state = changed change.now k.state }) }
 {
-    if removes_pipeline(change) {
-        return None;
+    if let Some(number) = removed_pipeline(change) {
+        return after_removal(known, number);
     }
     match put_pipeline(change) {
         Some(pipeline) => after_put(known, pipeline).ok(),
@@ -52,10 +53,30 @@ fn after_change(known: Open, change: &RowChange) -> Option<Open>
     }
 }
 
-fn removes_pipeline(change: &RowChange) -> bool
-    ensures { result ≡ removes_pipeline change.now }
+/// The number of the pipeline that a change removes, if it removes one.
+fn removed_pipeline(change: &RowChange) -> Option<u64>
+    ensures { result ≡ removed_pipeline change.now }
 {
-    matches!(change, RowChange::Remove(Key::Pipeline(_)))
+    match change {
+        RowChange::Remove(Key::Pipeline(number)) => Some(*number),
+        _ => None,
+    }
+}
+
+/// What is remembered after the pipeline with a number is removed: of the others none gets a newer one.
+fn after_removal(known: Open, number: u64) -> Option<Open>
+    ensures { (k : Kept) → Accounts known k → IsRight result (record k { state = without_record (key.Pipeline number) k.state }) }
+{
+    if has_pipeline(known.alone.as_slice(), number) {
+        return None;
+    }
+    Some(known)
+}
+
+fn has_pipeline(pipelines: &[Pipeline], number: u64) -> bool
+    ensures { result ≡ list_any (λ p. p.id == number) pipelines.now }
+{
+    pipelines.iter().any(|one| one.id == number)
 }
 
 /// The pipeline that a change puts, if it puts one.

@@ -1,23 +1,25 @@
 //! The pipeline that a newer one makes redundant, from what is remembered and what the store holds.
 
-ghost use Rattle.std.specs.Prelude.{◌≡◌, ℕ, List, [], ◌∷◌, map, IfOk};
+ghost use Rattle.std.specs.Prelude.{◌≡◌, ℕ, List, [], ◌∷◌, IfOk};
 ghost use Rattle.ci_machine.specs.Kept.{Kept};
 ghost use Rattle.ci_machine.specs.Indexes.{redundant_in};
 ghost use Rattle.ci_store.specs.Store.{LoadsBy};
 ghost use Rattle.ci_server_lookups.specs.Keeps.{IsKept};
+ghost use Rattle.ci_server_lookups.specs.Unfinished.{AreOpen};
 ghost use Rattle.ci_memory_pipelines.specs.Alone.{Accounts, IsRight};
 ghost use Rattle.ci_memory_pipelines.specs.Looks.{IsSeen, IsLooked};
 ghost use Rattle.ci_memory_pipelines.specs.Redundant.{lesser};
 
 use crate::held_back::is_held_back;
-use crate::open::Open;
-use ci_machine::records::{Pipeline, Unfinished};
+use crate::open::{Open, numbers_known};
+use ci_machine::records::Pipeline;
+use ci_server_lookups::unfinished::unfinished_of;
 use ci_store::fault::StoreFault;
 use ci_store::store::Store;
 use std::alloc::{AllocError, Global};
 
-/// The redundant pipeline of least number, if there is one. Where it isn't remembered which pipelines aren't finished, they are looked
-/// up, all of them suspects. Of each suspect it is looked up whether there is a newer one, and where there is none, that is remembered.
+/// The redundant pipeline of least number, if there is one. Where it isn't remembered which pipelines aren't finished, they are worked
+/// out of rows of statuses, all of them suspects: this is right only where the rows are. Of each suspect it is looked up whether there is a newer one, and where there is none, that is remembered.
 /// Without a suspect nothing is looked up. Errors: the store failed, or memory was refused; then nothing is remembered.
 pub fn first_redundant<T: Store>(
     alloc: Global,
@@ -25,7 +27,7 @@ pub fn first_redundant<T: Store>(
     remembered: &mut Option<Open>,
 ) -> Result<Option<Pipeline>, StoreFault>
     ensures found { LoadsBy T.honest T.holds T.leaves store.old store.new result (λ k found. IsRight remembered.old k → IsKept k → found ≡ redundant_in k.state k.board) }
-    ensures right { T.honest store.new → (k : Kept) → T.holds store.old k → IsRight remembered.old k → IsRight remembered.new k }
+    ensures right { T.honest store.new → (k : Kept) → T.holds store.old k → IsKept k → IsRight remembered.old k → IsRight remembered.new k }
 {
     let known = known_of(alloc, store, remembered.take())?;
     let Looked {
@@ -37,32 +39,36 @@ pub fn first_redundant<T: Store>(
     Ok(found)
 }
 
+/// The numbers of the pipelines that aren't finished, in any order. Where it isn't remembered which these are, they are worked out of rows of
+/// statuses, all of them suspects, and remembered: this is right only where the rows are. Errors: as `first_redundant`.
+pub fn unfinished<T: Store>(
+    alloc: Global,
+    store: &mut T,
+    remembered: &mut Option<Open>,
+) -> Result<Vec<u64>, StoreFault>
+    ensures found { LoadsBy T.honest T.holds T.leaves store.old store.new result (λ k numbers. IsRight remembered.old k → IsKept k → AreOpen k numbers.items) }
+    ensures right { T.honest store.new → (k : Kept) → T.holds store.old k → IsKept k → IsRight remembered.old k → IsRight remembered.new k }
+{
+    let known = known_of(alloc, store, remembered.take())?;
+    let numbers = numbers_known(alloc, &known)?;
+    *remembered = Some(known);
+    Ok(numbers)
+}
+
 /// What is remembered, or else that all pipelines that aren't finished are suspects.
 fn known_of<T: Store>(
     alloc: Global,
     store: &mut T,
     remembered: Option<Open>,
 ) -> Result<Open, StoreFault>
-    ensures { LoadsBy T.honest T.holds T.leaves store.old store.new result (λ k known. IsRight remembered k → Accounts known k) }
+    ensures { LoadsBy T.honest T.holds T.leaves store.old store.new result (λ k known. IsKept k → IsRight remembered k → Accounts known k) }
 {
     if let Some(known) = remembered {
         return Ok(known);
     }
-    let unfinished = store.unfinished()?;
-    let suspects = numbers_of(alloc, unfinished.as_slice())?;
+    let suspects = unfinished_of(alloc, store)?;
     let alone = Vec::new(alloc);
     Ok(Open { alone, suspects })
-}
-
-/// The numbers of pipelines.
-fn numbers_of(alloc: Global, unfinished: &[Unfinished]) -> Result<Vec<u64>, AllocError>
-    ensures { IfOk result (λ numbers. numbers.items ≡ map (λ u. u.pipeline) unfinished.now) }
-{
-    let mut numbers = Vec::new(alloc);
-    for one in unfinished {
-        numbers.push(one.pipeline)?;
-    }
-    Ok(numbers)
 }
 
 /// What is known once suspects are looked at.

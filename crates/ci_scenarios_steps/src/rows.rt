@@ -1,5 +1,5 @@
-//! The rows that a store keeps beside its records, of statuses, of groups that are held and of unfinished pipelines, and those that
-//! are worked out from the records.
+//! The rows that a store keeps beside its records, of statuses and of groups that are held, and those that are worked out from the
+//! records.
 
 ghost use Rattle.std.specs.Prelude.{◌≡◌, ◌<◌};
 
@@ -54,13 +54,7 @@ pub fn are_same(found: &[BoardRow], wanted: &[BoardRow]) -> bool {
 /// The rows of `holder` in a file: a project, a group of it, and the attempt that holds that.
 type Held = (u64, String, u64);
 
-/// The rows of the tables `holder` and `unfinished` in a file.
-#[derive(Drop)]
-struct Indexes {
-    holders: Vec<Held>,
-    unfinished: Vec<u64>,
-}
-
+/// The rows of the table `holder` in a file.
 fn holders_in<S: Alter>(alloc: Global, conn: &mut Connection<S>) -> Result<Vec<Held>, Fault> {
     let rows = conn.query_all("SELECT project, grp, attempt FROM holder", &[])?;
     let mut holders = Vec::new(alloc);
@@ -68,24 +62,6 @@ fn holders_in<S: Alter>(alloc: Global, conn: &mut Connection<S>) -> Result<Vec<H
         holders.push((row.get(0)?, row.get(1)?, row.get(2)?))?;
     }
     Ok(holders)
-}
-
-fn unfinished_in<S: Alter>(alloc: Global, conn: &mut Connection<S>) -> Result<Vec<u64>, Fault> {
-    let rows = conn.query_all("SELECT pipeline FROM unfinished ORDER BY pipeline", &[])?;
-    let mut unfinished = Vec::new(alloc);
-    for row in &rows {
-        unfinished.push(row.get(0)?)?;
-    }
-    Ok(unfinished)
-}
-
-fn indexes_in<S: Alter>(alloc: Global, conn: &mut Connection<S>) -> Result<Indexes, Fault> {
-    let holders = holders_in(alloc, conn)?;
-    let unfinished = unfinished_in(alloc, conn)?;
-    Ok(Indexes {
-        holders,
-        unfinished,
-    })
 }
 
 /// Is there a row for the holder?
@@ -97,16 +73,10 @@ fn is_kept(holder: &Holder, rows: &[Held]) -> bool {
     })
 }
 
-/// Are the rows of both tables those that the records give?
-fn are_right(alloc: Global, found: &Indexes, whole: &Whole) -> Result<bool, Fault> {
+/// Are the rows of the table those that the records give?
+fn are_right(alloc: Global, rows: &[Held], whole: &Whole) -> Result<bool, Fault> {
     let held = whole.held(alloc)?;
-    let unfinished = whole.unfinished(alloc)?;
-    let rows = found.holders.as_slice();
-    Ok(
-        held.len() == rows.len()
-            && held.iter().all(|holder| is_kept(holder, rows))
-            && unfinished.as_slice() == found.unfinished.as_slice(),
-    )
+    Ok(held.len() == rows.len() && held.iter().all(|holder| is_kept(holder, rows)))
 }
 
 /// All that the store keeps, and its rows of statuses.
@@ -119,20 +89,19 @@ fn loaded<S: Alter>(
     Ok((whole, rows))
 }
 
-/// Are the rows in a store those that its records give: of statuses, of groups that are held, and of unfinished pipelines? All that the
-/// store keeps, if so.
+/// Are the rows in a store those that its records give: of statuses, and of groups that are held? All that the store keeps, if so.
 fn right_whole(
     alloc: Global,
     found: Result<(Whole, Vec<BoardRow>), StoreFault>,
-    indexes: &Indexes,
+    holders: &[Held],
 ) -> Result<Whole, Fault> {
     let (whole, rows) = found?;
     let wanted = whole.rows(alloc)?;
     if !are_same(rows.as_slice(), wanted.as_slice()) {
         return Err(Fault::Failed("other rows of statuses than the records give"));
     }
-    if !are_right(alloc, indexes, &whole)? {
-        return Err(Fault::Failed("other groups or unfinished pipelines than the records give"));
+    if !are_right(alloc, holders, &whole)? {
+        return Err(Fault::Failed("other groups than the records give"));
     }
     Ok(whole)
 }
@@ -142,8 +111,8 @@ pub fn rightly_whole<S: Alter + Drop>(
     alloc: Global,
     mut conn: Connection<S>,
 ) -> Result<(Connection<S>, Whole), Fault> {
-    let indexes = match indexes_in(alloc, &mut conn) {
-        Ok(indexes) => indexes,
+    let holders = match holders_in(alloc, &mut conn) {
+        Ok(holders) => holders,
         Err(fail) => {
             discard(conn);
             return Err(fail);
@@ -154,7 +123,7 @@ pub fn rightly_whole<S: Alter + Drop>(
     };
     let found = loaded(alloc, &mut tables);
     let conn = tables.close();
-    match right_whole(alloc, found, &indexes) {
+    match right_whole(alloc, found, holders.as_slice()) {
         Ok(whole) => Ok((conn, whole)),
         Err(fail) => {
             discard(conn);

@@ -146,17 +146,6 @@ impl Whole {
         Ok(held)
     }
 
-    /// The numbers of the pipelines that aren't finished.
-    pub fn unfinished(&self, alloc: Global) -> Result<Vec<u64>, AllocError> {
-        let mut unfinished = Vec::new(alloc);
-        for standing in &self.pipelines {
-            if standing.is_unfinished() {
-                unfinished.push(standing.pipeline.id)?;
-            }
-        }
-        Ok(unfinished)
-    }
-
     /// The rows of statuses of all jobs.
     pub fn rows(&self, alloc: Global) -> Result<Vec<BoardRow>, AllocError> {
         let mut rows = Vec::new(alloc);

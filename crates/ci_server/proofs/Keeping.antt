@@ -14,7 +14,8 @@ use Rattle.ci_memory_boards.specs.Order.{InOrder}
 use Rattle.ci_machine.specs.declared.change.RowChange.{RowChange}
 use Rattle.ci_machine.specs.declared.records.Attempt.{Attempt}
 use Rattle.ci_machine.specs.declared.records.BoardRow.{BoardRow}
-use Rattle.ci_machine.specs.State.{State, empty, attempt_cmp, applied}
+use Rattle.ci_machine.specs.declared.records.Job.{Job}
+use Rattle.ci_machine.specs.State.{State, empty, job_cmp, attempt_cmp, applied}
 use Rattle.ci_machine.specs.Kept.{Kept, nothing_kept, row_cmp, put_rows, written}
 use Rattle.ci_machine_steps.specs.Sound.{IsSound}
 use Rattle.ci_machine.specs.Statuses.{AreBoard}
@@ -85,8 +86,9 @@ ascend id (x ∷ xs) rise = (behind xs rise.0, ascend id xs rise.1)
     behind [] all = tt
     behind (y ∷ ys) all = (all.0, behind ys all.1)
 
-in_order : (k : Kept) → Rises attempt_cmp k.state.attempts → Rises row_cmp k.board → InOrder k
-in_order k attempts rows = record {
+in_order : (k : Kept) → Rises job_cmp k.state.jobs → Rises attempt_cmp k.state.attempts → Rises row_cmp k.board → InOrder k
+in_order k jobs attempts rows = record {
+  jobs = ascend (λ (j : Job). j.id) k.state.jobs jobs;
   attempts = ascend (λ (a : Attempt). a.id) k.state.attempts attempts;
   rows = ascend (λ (r : BoardRow). r.job) k.board rows;
 }
@@ -100,7 +102,7 @@ module _ {S : Type 0} (g : Ghosts S) (conn : Held S) (store : Remembering (Held 
     was_honest = back;
     was_blank = blank;
     made = made;
-    holds = λ honest. record { kept = nothing_kept; is_of = nothing_is_kept; held = (made honest blank, right nothing_kept (in_order nothing_kept tt tt)) };
+    holds = λ honest. record { kept = nothing_kept; is_of = nothing_is_kept; held = (made honest blank, right nothing_kept (in_order nothing_kept tt tt tt)) };
   }
 
   -- it is over the tables that were found
@@ -110,5 +112,5 @@ module _ {S : Type 0} (g : Ghosts S) (conn : Held S) (store : Remembering (Held 
     opened = found;
     holds = λ honest s k of only.
         let at = found honest k only in
-        record { kept = k; is_of = of; held = (at, right k (in_order k at.now.inside.regular.attempts at.now.inside.regular.board)) };
+        record { kept = k; is_of = of; held = (at, right k (in_order k at.now.inside.regular.jobs at.now.inside.regular.attempts at.now.inside.regular.board)) };
   }

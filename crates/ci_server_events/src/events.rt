@@ -4,7 +4,7 @@ ghost use Rattle.std.specs.Prelude.{◌≡◌, [], Ok, IfOk, Err, IfErr};
 ghost use Rattle.ci_machine.specs.Kept.{cleared};
 ghost use Rattle.ci_machine_steps.specs.Step.{Does};
 ghost use Rattle.ci_store.specs.Store.{LoadsBy};
-ghost use Rattle.ci_server_lookups.specs.Keeps.{IsKept};
+ghost use Rattle.ci_server_lookups.specs.Keeps.{IsKept, HoldsKept};
 ghost use Rattle.ci_server_events.specs.Planning.{PlansFor};
 
 use crate::acts::{act_on, cancel_pipeline};
@@ -38,7 +38,7 @@ pub fn plan_request<T: Searches>(
     now: Moment,
     seed: Seed,
 ) -> Result<Clearing<Reply>, StoreFault>
-    ensures { LoadsBy T.honest T.holds T.leaves store.old store.new result
+    ensures { LoadsBy T.honest (HoldsKept T.holds) T.leaves store.old store.new result
         (λ k p. IsKept k → PlansFor (cleared p.cleared.items k) (Does k.state k.board request now seed (p.planned.answer, p.planned.changes)) p.planned.changes p.planned.beside) }
 {
     rows_stay();

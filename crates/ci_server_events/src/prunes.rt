@@ -7,7 +7,7 @@ ghost use Rattle.ci_machine.specs.Statuses.{jobs_of};
 ghost use Rattle.ci_machine_steps.specs.Prunes as machine;
 ghost use Rattle.ci_machine_steps.specs.Step.{jobs_in};
 ghost use Rattle.ci_store.specs.Store.{LoadsBy};
-ghost use Rattle.ci_server_lookups.specs.Keeps.{IsKept};
+ghost use Rattle.ci_server_lookups.specs.Keeps.{IsKept, HoldsKept};
 ghost use Rattle.ci_server_events.specs.Planning.{PlansFor};
 
 use crate::planned::{Clearing, Planned};
@@ -19,21 +19,22 @@ use ci_machine_statuses::holder_laws::prune_is_indexed;
 use ci_machine_statuses::laws::{prune_settles, prunes_are_of_records};
 use ci_machine_statuses::load::range_of;
 use ci_server_lookups::prunable::first_prunable;
+use ci_server_lookups::searches::Searches;
 use ci_store::fault::StoreFault;
 use ci_store::store::Store;
 use std::alloc::{AllocError, Global};
 
 /// The finished pipeline of least number goes that was made before this moment, if there is one. Errors: the store's.
-pub(crate) fn prune_one<T: Store>(
+pub(crate) fn prune_one<T: Searches>(
     alloc: Global,
     store: &mut T,
     before: Moment,
 ) -> Result<Clearing<Reply>, StoreFault>
-    ensures { LoadsBy T.honest T.holds T.leaves store.old store.new result
+    ensures { LoadsBy T.honest (HoldsKept T.holds) T.leaves store.old store.new result
         (λ k p. IsKept k → let found = machine.prunable_in k.state k.board before in
         PlansFor (cleared p.cleared.items k) ((p.planned.answer, p.planned.changes) ≡ machine.prune found (jobs_in k.state found) k.state.attempts) p.planned.changes p.planned.beside) }
 {
-    match first_prunable(store, before)? {
+    match first_prunable(alloc, store, before)? {
         Some(pipeline) => prune(alloc, store, &pipeline),
         None => Ok(Clearing::nothing(
             alloc,

@@ -5,7 +5,7 @@ ghost use Rattle.ci_machine_steps.specs.Sweeps.{ends, sweep};
 ghost use Rattle.ci_machine_steps.specs.Step as step;
 ghost use Rattle.ci_machine_statuses.specs.Changes.{HasLive};
 ghost use Rattle.ci_store.specs.Store.{LoadsBy};
-ghost use Rattle.ci_server_lookups.specs.Keeps.{IsKept};
+ghost use Rattle.ci_server_lookups.specs.Keeps.{IsKept, HoldsKept};
 ghost use Rattle.ci_server_events.specs.Planning.{PlansFor};
 
 use crate::acts::cancel_redundant;
@@ -27,7 +27,7 @@ pub fn plan_sweep<T: Searches>(
     store: &mut T,
     now: Moment,
 ) -> Result<Planned<Swept>, StoreFault>
-    ensures { LoadsBy T.honest T.holds T.leaves store.old store.new result
+    ensures { LoadsBy T.honest (HoldsKept T.holds) T.leaves store.old store.new result
         (λ k p. IsKept k → PlansFor k ((p.answer, p.changes) ≡ step.sweep_in k.state k.board now) p.changes p.beside) }
 {
     match store.first_due(alloc, now)? {
@@ -51,7 +51,7 @@ fn end<T: Store>(alloc: Global, store: &mut T, lease: &Lease) -> Result<Planned<
 
 /// No lease is over: the redundant pipeline of least number is cancelled, if there is one.
 fn sweep_pipelines<T: Searches>(alloc: Global, store: &mut T) -> Result<Planned<Swept>, StoreFault>
-    ensures { LoadsBy T.honest T.holds T.leaves store.old store.new result
+    ensures { LoadsBy T.honest (HoldsKept T.holds) T.leaves store.old store.new result
         (λ k p. IsKept k → let redundant = step.redundant_in k.state k.board in
         PlansFor k ((p.answer, p.changes) ≡ sweep None redundant k.state.attempts (step.cancellable_in k.state k.board redundant)) p.changes p.beside) }
 {

@@ -3,3 +3,5 @@ pub mod Holds
 pub mod Prunables
 pub mod Pages
 pub mod Changes
+pub mod Opens
+pub mod OpenRows

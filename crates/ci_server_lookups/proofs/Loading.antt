@@ -5,11 +5,17 @@ use Rattle.ci_machine.specs.Kept.{Kept}
 use Rattle.ci_store_tables.specs.declared.fault.StoreFault.{StoreFault}
 use Rattle.ci_store_tables.specs.declared.fault.StoreFault.TheVariants.{Memory, Broken}
 use Rattle.ci_store.specs.Store.{LoadsBy, UnlessBroken}
+use Rattle.ci_server_lookups.specs.Keeps.{IsKept, HoldsKept}
 
 unless : {A : Type 0} {P : Type 0} (r : Result A StoreFault) → P → UnlessBroken r P
 unless (Ok x) p = p
 unless (Err Memory) p = p
 unless (Err Broken) p = tt
+
+and_so : {A : Type 0} (P Q : Type 0) (r : Result A StoreFault) → UnlessBroken r P → Q → UnlessBroken r (P × Q)
+and_so P Q (Ok x) p q = (p, q)
+and_so P Q (Err Memory) p q = (p, q)
+and_so P Q (Err Broken) p q = tt
 
 pub on_ok : {A : Type 0} {P : A → Type 0} (r : Result A StoreFault) → ((y : A) → r ≡ Ok y → P y) → IfOk r P
 on_ok (Ok y) f = f y refl
@@ -133,4 +139,13 @@ module _ {T : Type 0} (honest : T → Type 0) (holds : T → Kept → Type 0) (l
     kept = load.kept;
     left = load.left;
     answered = λ h k held. both_ok (P k) (Q k) r (load.answered h k held) (more.answered h k held);
+  }
+
+  -- a load of what is held is one of what is held and kept: so it may stand between others of that
+  pub of_kept : {A : Type 0} {P : Kept → A → Type 0} (a b : T) (r : Result A StoreFault) → LoadsBy honest holds leaves a b r P → LoadsBy honest (HoldsKept holds) leaves a b r P
+  of_kept a b r load = record {
+    was_honest = load.was_honest;
+    kept = λ h k held. and_so (holds b k) (IsKept k) r (load.kept h k held.0) held.1;
+    left = λ h k held. load.left h k held.0;
+    answered = λ h k held. load.answered h k held.0;
   }

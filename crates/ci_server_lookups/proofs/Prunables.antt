@@ -11,6 +11,7 @@ use Rattle.ci_machine.proofs.Keyed.{Has, Rising, one_at, has_filter, filter_has,
 use Rattle.ci_machine.proofs.Tests.{any_mapped, any_has, has_any}
 use Rattle.ci_machine_steps.specs.Prunes.{prunable_in}
 use Rattle.ci_store.specs.Made.{made_before, AreSome}
+use Rattle.ci_server_lookups.specs.Unfinished.{AreOpen}
 
 -- ---- lists
 
@@ -51,17 +52,18 @@ not_some (Some x) e = absurd (false≢true e)
 
 -- ---- the pipelines
 
-module _ (k : Kept) (rise : Rising (λ (p : Pipeline). p.id) 0 k.state.pipelines) (unfinished : k.unfinished ≡ unfinished_in k.state k.board) (before : ℕ) where
+module _ (k : Kept) (rise : Rising (λ (p : Pipeline). p.id) 0 k.state.pipelines) (unfinished : k.unfinished ≡ unfinished_in k.state k.board) (numbers : List ℕ) (are_open : AreOpen k numbers) (before : ℕ) where
   abbrev is_open : Pipeline → Bool
   is_open p = is_open_in k.state k.board p
 
   abbrev is_listed : Pipeline → Bool
-  is_listed p = list_any (λ u. u.pipeline == p.id) k.unfinished
+  is_listed p = list_any (λ n. n == p.id) numbers
 
   -- a pipeline is one of those that are listed if it isn't finished
   listed : (p : Pipeline) → Has p k.state.pipelines → is_listed p ≡ is_open p
   listed p h =
-      ap (list_any (λ u. u.pipeline == p.id)) unfinished
+      are_open p.id
+      ∙ ap (list_any (λ u. u.pipeline == p.id)) unfinished
       ∙ sym (any_mapped (λ (u : Unfinished). u.pipeline == p.id) (λ (q : Pipeline). record { pipeline = q.id }) (filter is_open k.state.pipelines))
       ∙ ⊎_elim
       (λ (e : is_open p ≡ true). has_any (λ (q : Pipeline). q.id == p.id) p (filter is_open k.state.pipelines) (filter_has is_open p k.state.pipelines h e) (eq-eqb p.id p.id refl) ∙ sym e)
@@ -81,13 +83,13 @@ module _ (k : Kept) (rise : Rising (λ (p : Pipeline). p.id) 0 k.state.pipelines
       (λ p h. ap not (sym (listed p (has_filter (λ (q : Pipeline). nat_lt q.created before) p k.state.pipelines h).0)))
 
   -- one was found among those that were looked up
-  pub one_is_prunable : (count : ℕ) (old : List Pipeline) (p : Pipeline) → old ≡ take count (made_before before k.state.pipelines) → find (λ q. not (list_any (λ u. u.pipeline == q.id) k.unfinished)) old ≡ Some p
+  pub one_is_prunable : (count : ℕ) (old : List Pipeline) (p : Pipeline) → old ≡ take count (made_before before k.state.pipelines) → find (λ q. not (list_any (λ n. n == q.id) numbers)) old ≡ Some p
       → Some p ≡ prunable_in k.state k.board before
   one_is_prunable count old p is found =
       sym (as_found ∙ found_first (λ q. not (is_listed q)) p count (made_before before k.state.pipelines) (ap (find (λ q. not (is_listed q))) (sym is) ∙ found))
 
   -- none was, and they are all
-  pub none_is_prunable : (count : ℕ) (some : List Pipeline) → AreSome count (made_before before k.state.pipelines) some → length some < count → find (λ q. not (list_any (λ u. u.pipeline == q.id) k.unfinished)) some ≡ None
+  pub none_is_prunable : (count : ℕ) (some : List Pipeline) → AreSome count (made_before before k.state.pipelines) some → length some < count → find (λ q. not (list_any (λ n. n == q.id) numbers)) some ≡ None
       → None ≡ prunable_in k.state k.board before
   none_is_prunable count some are few found =
       let all = made_before before k.state.pipelines in

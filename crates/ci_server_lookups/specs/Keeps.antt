@@ -9,3 +9,7 @@ pub record IsKept (k : Kept) : Type 0 where
   pub sound : IsSound k.state
   pub are_board : AreBoard k.state k.board
   pub are_indexes : AreIndexes k
+
+-- the store holds this, and it is what the machine may come to
+abbrev pub HoldsKept : {T : Type 0} → (T → Kept → Type 0) → T → Kept → Type 0
+HoldsKept holds t k = holds t k × IsKept k

@@ -2,3 +2,4 @@ pub mod Keeps
 pub mod Held
 pub mod Records
 pub mod Search
+pub mod Unfinished

@@ -4,8 +4,9 @@ ghost use Rattle.std.specs.Prelude.{◌≡◌};
 ghost use Rattle.ci_machine.specs.Leases.{first_due};
 ghost use Rattle.ci_machine_steps.specs.Step.{leases, redundant_in};
 ghost use Rattle.ci_store.specs.Store.{LoadsBy};
-ghost use Rattle.ci_server_lookups.specs.Keeps.{IsKept};
+ghost use Rattle.ci_server_lookups.specs.Keeps.{IsKept, HoldsKept};
 ghost use Rattle.ci_server_lookups.specs.Search.{IsOffered};
+ghost use Rattle.ci_server_lookups.specs.Unfinished.{AreOpen};
 
 use crate::search::Offer;
 use ci_machine::lease::Lease;
@@ -25,7 +26,12 @@ pub trait Searches: Store {
     fn first_due(&mut self, alloc: Global, now: Moment) -> Result<Option<Lease>, StoreFault>
         ensures { LoadsBy Self.honest Self.holds Self.leaves self.old self.new result (λ k found. found ≡ first_due (leases k.state) now) };
 
-    /// The redundant pipeline of least number.
+    /// The numbers of the pipelines that aren't finished, in any order, where what the store holds is what the machine may come to: what is
+    /// learned of pipelines from the rows of their jobs is right only of that.
+    fn unfinished(&mut self, alloc: Global) -> Result<Vec<u64>, StoreFault>
+        ensures { LoadsBy Self.honest (HoldsKept Self.holds) Self.leaves self.old self.new result (λ k numbers. AreOpen k numbers.items) };
+
+    /// The redundant pipeline of least number, where what the store holds is what the machine may come to.
     fn first_redundant(&mut self, alloc: Global) -> Result<Option<Pipeline>, StoreFault>
-        ensures { LoadsBy Self.honest Self.holds Self.leaves self.old self.new result (λ k found. IsKept k → found ≡ redundant_in k.state k.board) };
+        ensures { LoadsBy Self.honest (HoldsKept Self.holds) Self.leaves self.old self.new result (λ k found. found ≡ redundant_in k.state k.board) };
 }

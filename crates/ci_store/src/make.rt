@@ -228,8 +228,8 @@ pub(crate) fn clear_row<S: Alter>(tx: &mut Transaction<'_, S>, job: u64) -> Resu
     remove_at(tx, &[], texts::DELETE_ROW, job)
 }
 
-/// Makes one change of the groups that are held, or of the pipelines that aren't finished. Errors: what is to be added is there
-/// already.
+/// Makes one change of the groups that are held. One of the pipelines that aren't finished changes no table: none has them. Errors:
+/// what is to be added is there already.
 pub(crate) fn change_index<S: Alter>(
     tx: &mut Transaction<'_, S>,
     alloc: Global,
@@ -245,7 +245,7 @@ pub(crate) fn change_index<S: Alter>(
         IndexChange::Free(project, group) => {
             remove_named(tx, texts::DELETE_HOLDER, *project, group)
         }
-        IndexChange::Open(unfinished) => unfinished.put(tx, alloc, true),
-        IndexChange::Close(pipeline) => remove_at(tx, &[], texts::DELETE_UNFINISHED, *pipeline),
+        IndexChange::Open(_) => Ok(()),
+        IndexChange::Close(_) => Ok(()),
     }
 }

@@ -4,18 +4,19 @@ ghost use Rattle.std.specs.Prelude.{◌≡◌, take};
 ghost use Rattle.ci_machine.specs.Kept.{Kept, cleared, written};
 ghost use Rattle.ci_machine.specs.Statuses.{attempts_of, jobs_of};
 ghost use Rattle.ci_machine.specs.Lookups.{project_at, project_with, project_variables, variable_at, runner_at, runner_with, pipeline_at, job_at, demand_at, variables_of, attempt_at, last_attempt_by, live_attempts, pieces_of, next_of};
-ghost use Rattle.ci_machine.specs.Ranges.{needs_within, attempts_within, rows_within, row_at, pending_after};
+ghost use Rattle.ci_machine.specs.Ranges.{needs_within, attempts_within, rows_within, row_at, rows_with, pending_after};
 ghost use Rattle.ci_machine.specs.Holders.{holder_at};
 ghost use Rattle.ci_machine.specs.Indexes.{newer_in};
 ghost use Rattle.ci_store.specs.Made.{made_before, AreSome};
 ghost use Rattle.ci_store.specs.Store.{LoadsBy, Ends};
 
 use crate::delta::Delta;
+use ci_board::facts::Status;
 use ci_machine::change::Counter;
 use ci_machine::moment::Moment;
 use ci_machine::records::{
     Attempt, BoardRow, Demand, Holder, Job, JobVariable, Need, Piece, Pipeline, Project, Runner,
-    Unfinished, Variable,
+    Variable,
 };
 use ci_machine::text::Text;
 use ci_store_tables::fault::StoreFault;
@@ -75,7 +76,7 @@ pub trait Store {
     fn job(&mut self, id: u64) -> Result<Option<Job>, StoreFault>
         ensures { LoadsBy honest holds leaves self.old self.new result (λ k j. j ≡ job_at k.state id) };
 
-    /// What the job with a number asks of a runner, without its script.
+    /// What the job with a number asks of a runner.
     fn demand(&mut self, id: u64) -> Result<Option<Demand>, StoreFault>
         ensures { LoadsBy honest holds leaves self.old self.new result (λ k d. d ≡ demand_at k.state id) };
 
@@ -123,6 +124,10 @@ pub trait Store {
     fn row(&mut self, job: u64) -> Result<Option<BoardRow>, StoreFault>
         ensures { LoadsBy honest holds leaves self.old self.new result (λ k row. row ≡ row_at job k.board) };
 
+    /// The rows with a status, by job.
+    fn rows_with(&mut self, status: Status) -> Result<Vec<BoardRow>, StoreFault>
+        ensures { LoadsBy honest holds leaves self.old self.new result (λ k rows. rows.items ≡ rows_with status k.board) };
+
     /// The first pending rows behind a job, by job: at most `PAGE_ROWS` of them.
     fn pending_after(&mut self, job: u64) -> Result<Vec<BoardRow>, StoreFault>
         ensures { LoadsBy honest holds leaves self.old self.new result (λ k rows. rows.items ≡ pending_after PAGE_ROWS job k.board) };
@@ -130,10 +135,6 @@ pub trait Store {
     /// The attempt that holds a resource group of a project that was found.
     fn holder(&mut self, project: u64, group: &Text) -> Result<Option<Holder>, StoreFault>
         ensures { LoadsBy honest holds leaves self.old self.new result (λ k h. h ≡ holder_at project group.now k.holders) };
-
-    /// The pipelines that aren't finished, by number.
-    fn unfinished(&mut self) -> Result<Vec<Unfinished>, StoreFault>
-        ensures { LoadsBy honest holds leaves self.old self.new result (λ k all. all.items ≡ k.unfinished) };
 
     /// The first newer pipeline of the same project, for the same branch or the same tag, as a pipeline that was found.
     fn newer_of(&mut self, pipeline: &Pipeline) -> Result<Option<Pipeline>, StoreFault>
@@ -150,7 +151,7 @@ pub trait Store {
         ensures { LoadsBy honest holds leaves self.old self.new result (λ k ps. AreSome count (made_before before k.state.pipelines) ps.items) };
 
     /// Spends a delta: removes the rows of statuses that it clears, makes its changes of records, then puts its rows, and then changes
-    /// the groups that are held and the pipelines that aren't finished, all of it or nothing.
+    /// the groups that are held, all of it or nothing. Which pipelines aren't finished is kept as the delta says it, and not looked up.
     fn commit(&mut self, delta: Delta) -> Result<(), StoreFault>
         ensures was_honest { honest self.new → honest self.old }
         ensures ends { honest self.new → (k : Kept) → holds self.old k → Ends result (holds self.new (written delta.changes delta.rows delta.indexes (cleared delta.cleared k))) (holds self.new k) (leaves self.new k (written delta.changes delta.rows delta.indexes (cleared delta.cleared k))) };

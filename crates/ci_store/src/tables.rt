@@ -24,7 +24,7 @@ use ci_machine::change::Counter;
 use ci_machine::moment::Moment;
 use ci_machine::records::{
     Attempt, AttemptState, BoardRow, Demand, Holder, Job, JobVariable, Need, Piece, Pipeline,
-    Project, Runner, Unfinished, Variable,
+    Project, Runner, Variable,
 };
 use ci_machine::text::Text;
 use ci_store_rows::columns::{state_numbers, text};
@@ -410,6 +410,14 @@ impl<S: Alter> Store for Tables<S> {
         load::one_at(&mut self.conn, texts::SELECT_ROW, job)
     }
 
+    fn rows_with(&mut self, status: Status) -> Result<Vec<BoardRow>, StoreFault> {
+        load::list_of(
+            &mut self.conn,
+            texts::SELECT_ROWS_WITH,
+            u64::from(status.as_number()),
+        )
+    }
+
     fn pending_after(&mut self, job: u64) -> Result<Vec<BoardRow>, StoreFault> {
         load::list_after(
             &mut self.conn,
@@ -422,10 +430,6 @@ impl<S: Alter> Store for Tables<S> {
 
     fn holder(&mut self, project: u64, group: &Text) -> Result<Option<Holder>, StoreFault> {
         load::one_of(&mut self.conn, texts::SELECT_HOLDER, project, group)
-    }
-
-    fn unfinished(&mut self) -> Result<Vec<Unfinished>, StoreFault> {
-        load::list(&mut self.conn, texts::SELECT_UNFINISHED, &[])
     }
 
     fn newer_of(&mut self, pipeline: &Pipeline) -> Result<Option<Pipeline>, StoreFault> {

@@ -46,7 +46,7 @@ retry_float : (r : Retry) → has_float (retry_data r) ≡ false
 retry_float r = or_from _ _ (no_float (map cause_text (filter (has_cause r.causes) every_cause))) refl
 
 pub spec_float : (spec : JobOptions) → has_float (spec_data spec) ≡ false
-spec_float spec = or_from _ _ (allow_float spec.part.allow_failure) (or_from _ _ (group_float spec.resource_group) (or_from _ _ (retry_float spec.part.retry) (or_from _ _ (no_float spec.tags) refl)))
+spec_float spec = or_from _ _ (allow_float spec.part.allow_failure) (or_from _ _ (group_float spec.resource_group) (or_from _ _ (retry_float spec.part.retry) (or_from _ _ (no_float spec.script) (or_from _ _ (no_float spec.tags) refl))))
 
 either_low : (a b n : ℕ) → a ≤ n → b ≤ n → max a b ≤ n
 either_low a b n p q = omega (arith, p, q)
@@ -77,9 +77,10 @@ spec_low spec =
     (either_low _ _ 2 nothing_low
     (either_low _ _ 2 (group_low spec.resource_group)
     (either_low _ _ 2 (retry_low spec.part.retry)
+    (either_low _ _ 2 (list_low spec.script)
     (either_low _ _ 2 (list_low spec.tags)
     (either_low _ _ 2 nothing_low
-    (either_low _ _ 2 nothing_low nothing_low))))))) in
+    (either_low _ _ 2 nothing_low nothing_low)))))))) in
     omega (arith, inner)
 
 -- ---- how a value is written, and read again

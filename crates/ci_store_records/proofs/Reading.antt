@@ -121,10 +121,10 @@ list_read (Err e) text v is h = tt
 value_is : (text : List ℕ) (v : Data) (other : JobOptions) → read text ≡ Some v → read text ≡ Some (spec_data other) → v ≡ spec_data other
 value_is text v other is reads = let a = sym is ∙ reads in cc
 
-pub spec_read : {E : Type 0} (r : Result JobOptions E) (text : List ℕ) (v : Data) (script : List (List ℕ)) → read text ≡ Some v → IfOk r (λ spec. spec.script ≡ script)
-    → IfOk r (λ spec. (other : JobOptions) → v ≡ spec_data other → spec ≡ record other { script = script }) → IfOk r (ReadsSpec text)
-spec_read (Ok spec) text v script is own h = λ other reads. h other (value_is text v other is reads) ∙ ap (λ (lines : List (List ℕ)). record other { script = lines }) (sym own)
-spec_read (Err e) text v script is own h = tt
+pub spec_read : {E : Type 0} (r : Result JobOptions E) (text : List ℕ) (v : Data) → read text ≡ Some v
+    → IfOk r (λ spec. (other : JobOptions) → v ≡ spec_data other → spec ≡ other) → IfOk r (ReadsSpec text)
+spec_read (Ok spec) text v is h = λ other reads. h other (value_is text v other is reads)
+spec_read (Err e) text v is h = tt
 
 pub demand_read : {E : Type 0} (r : Result Demand E) (text : List ℕ) (v : Data) → read text ≡ Some v
     → IfOk r (λ demand. (other : JobOptions) → v ≡ spec_data other → (demand.tags ≡ other.tags) × (demand.resource_group ≡ other.resource_group)) → IfOk r (ReadsDemand text)

@@ -23,7 +23,7 @@ numbers ns = items_of (map (λ n. number (unsigned n)) ns)
 abbrev pub list_data : List (List ℕ) → Data
 list_data texts = array (strings texts)
 
--- the list of a runner's tags, or of the lines of a job's script
+-- the list of a runner's tags
 abbrev pub list_text : List (List ℕ) → List ℕ
 list_text texts = compact_text (list_data texts)
 
@@ -64,7 +64,6 @@ abbrev pub group_data : Option (List ℕ) → Data
 group_data None = null
 group_data (Some name) = string name
 
--- all but its script
 abbrev pub spec_data : JobOptions → Data
 spec_data spec =
     object
@@ -73,11 +72,12 @@ spec_data spec =
     (member (codes "needs") (boolean spec.part.gives_needs)
     (member (codes "resource_group") (group_data spec.resource_group)
     (member (codes "retry") (retry_data spec.part.retry)
+    (member (codes "script") (array (strings spec.script))
     (member (codes "tags") (array (strings spec.tags))
     (member (codes "timeout") (number (unsigned spec.timeout))
-    (member (codes "when") (string (when_text spec.part.«when»)) no_members))))))))
+    (member (codes "when") (string (when_text spec.part.«when»)) no_members)))))))))
 
 -- {"allow_failure":false,"interruptible":false,"needs":false,"resource_group":null,"retry":{"causes":[],"max":0},
--- "tags":[],"timeout":3600,"when":"on_success"} without the line's end
+-- "script":["make"],"tags":[],"timeout":3600,"when":"on_success"} without the line's end
 abbrev pub spec_text : JobOptions → List ℕ
 spec_text spec = compact_text (spec_data spec)

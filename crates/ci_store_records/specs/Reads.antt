@@ -11,9 +11,9 @@ use Rattle.ci_store_records.specs.JsonText.{list_data, spec_data}
 abbrev pub ReadsList : List ℕ → List (List ℕ) → Type 0
 ReadsList text texts = (others : List (List ℕ)) → read text ≡ Some (list_data others) → texts ≡ others
 
--- the text can be read as these options alone, whatever their script
+-- the text can be read as these options alone
 abbrev pub ReadsSpec : List ℕ → JobOptions → Type 0
-ReadsSpec text spec = (others : JobOptions) → read text ≡ Some (spec_data others) → spec ≡ record others { script = spec.script }
+ReadsSpec text spec = (others : JobOptions) → read text ≡ Some (spec_data others) → spec ≡ others
 
 -- the text can be read only as options that ask this of a runner
 abbrev pub ReadsDemand : List ℕ → Demand → Type 0

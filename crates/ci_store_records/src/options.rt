@@ -1,4 +1,4 @@
-//! What was fixed of a job, but for its script.
+//! What was fixed of a job.
 
 ghost use Rattle.std.specs.Prelude.{◌≡◌, IfOk, OnOk, Some, string_bytes};
 ghost use Rattle.serde_json.specs.Read.{read};
@@ -11,7 +11,7 @@ use crate::causes::retry_value;
 use crate::lists::{flag_of, member, number_of, parsed, text_of, texts_of, texts_value};
 use crate::part::{allow_value, part_of, when_text};
 use ci_machine::records::{Demand, JobOptions};
-use ci_machine::text::{Text, Texts};
+use ci_machine::text::Text;
 use ci_store_tables::fault::StoreFault;
 use serde_json::{Map, Value, put};
 use std::alloc::{AllocError, Global};
@@ -40,6 +40,7 @@ fn spec_value(alloc: Global, spec: &JobOptions) -> Result<Value, AllocError>
     let allow_failure = allow_value(alloc, &spec.part.allow_failure)?;
     let group = group_value(alloc, &spec.resource_group)?;
     let retry = retry_value(alloc, spec.part.retry)?;
+    let script = texts_value(alloc, &spec.script)?;
     let tags = texts_value(alloc, &spec.tags)?;
     let when = Value::try_from_str(alloc, when_text(spec.part.when))?;
     let mut members = Map::new(alloc);
@@ -58,13 +59,14 @@ fn spec_value(alloc: Global, spec: &JobOptions) -> Result<Value, AllocError>
     )?;
     put(&mut members, alloc, "resource_group", group)?;
     put(&mut members, alloc, "retry", retry)?;
+    put(&mut members, alloc, "script", script)?;
     put(&mut members, alloc, "tags", tags)?;
     put(&mut members, alloc, "timeout", Value::from(spec.timeout))?;
     put(&mut members, alloc, "when", when)?;
     Ok(Value::Object(members))
 }
 
-/// The JSON object of what was fixed of a job, but for its script. Errors: memory was refused.
+/// The JSON object of what was fixed of a job. Errors: memory was refused.
 pub fn spec_text(alloc: Global, spec: &JobOptions) -> Result<String, AllocError>
     ensures text { IfOk result (λ t. string_bytes t ≡ spec_text spec.now) }
     ensures reads_back { OnOk result (read (spec_text spec.now) ≡ Some (spec_data spec.now)) }
@@ -73,13 +75,13 @@ pub fn spec_text(alloc: Global, spec: &JobOptions) -> Result<String, AllocError>
     value.to_string(alloc)
 }
 
-fn spec_of(alloc: Global, value: &Value, script: Texts) -> Result<JobOptions, StoreFault>
-    ensures script { IfOk result (λ spec. spec.script ≡ script) }
-    ensures spec { IfOk result (λ spec. (other : JobOptions) → view value.now ≡ spec_data other → spec ≡ record other { script = script }) }
+fn spec_of(alloc: Global, value: &Value) -> Result<JobOptions, StoreFault>
+    ensures { IfOk result (λ spec. (other : JobOptions) → view value.now ≡ spec_data other → spec ≡ other) }
 {
     let timeout = number_of(member(value, "timeout")?)?;
     let interruptible = flag_of(member(value, "interruptible")?)?;
     let part = part_of(alloc, value)?;
+    let script = texts_of(alloc, member(value, "script")?)?;
     let tags = texts_of(alloc, member(value, "tags")?)?;
     let resource_group = group_of(alloc, member(value, "resource_group")?)?;
     Ok(JobOptions {
@@ -92,13 +94,12 @@ fn spec_of(alloc: Global, value: &Value, script: Texts) -> Result<JobOptions, St
     })
 }
 
-/// What was fixed of a job, of its JSON object and of its script. Errors: memory was refused, or the text is no such object.
-pub fn read_spec(alloc: Global, text: &str, script: Texts) -> Result<JobOptions, StoreFault>
-    ensures script { IfOk result (λ spec. spec.script ≡ script) }
-    ensures reads { IfOk result (ReadsSpec text.now) }
+/// What was fixed of a job, of its JSON object. Errors: memory was refused, or the text is no such object.
+pub fn read_spec(alloc: Global, text: &str) -> Result<JobOptions, StoreFault>
+    ensures { IfOk result (ReadsSpec text.now) }
 {
     let value = parsed(alloc, text)?;
-    spec_of(alloc, &value, script)
+    spec_of(alloc, &value)
 }
 
 fn demand_of(alloc: Global, job: u64, pipeline: u64, value: &Value) -> Result<Demand, StoreFault>

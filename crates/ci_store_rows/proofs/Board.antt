@@ -18,10 +18,10 @@ use Rattle.sqlite.specs.Held.{Held, state}
 use Rattle.sqlite.proofs.Callers.{IsPlain}
 use Rattle.ci_board.specs.declared.facts.Status.{Status}
 use Rattle.ci_board.specs.declared.facts.Status.TheVariants as status
-use Rattle.ci_board.specs.Effects.{status_number}
+use Rattle.ci_board.specs.Effects.{status_number, is_status}
 use Rattle.ci_machine.specs.Kept.{Kept, row_cmp, cleared}
 use Rattle.ci_machine.specs.State.{put}
-use Rattle.ci_machine.specs.Ranges.{is_within, rows_within, row_at, is_pending_after, pending_after}
+use Rattle.ci_machine.specs.Ranges.{is_within, rows_within, row_at, rows_with, is_pending_after, pending_after}
 use Rattle.ci_machine.specs.declared.records.BoardRow.{BoardRow}
 use Rattle.ci_store_tables.specs.Stands.{image, places}
 use Rattle.ci_store_tables.specs.Statements.{HasPut}
@@ -29,7 +29,7 @@ use Rattle.ci_store_tables.proofs.Puts.{MeansPut, MeansRemove, GivesRecord}
 use Rattle.ci_store_tables.proofs.Absent.{absent_rowid}
 use Rattle.ci_store_tables.proofs.Scalars.{cast_int, compares}
 use Rattle.ci_store_tables.proofs.Selects.{MeansSelect, MeansSelectTo}
-use Rattle.ci_store_rows.specs.declared.texts.TheConstants.{UPDATE_ROW, INSERT_ROW, DELETE_ROW, SELECT_ROW, SELECT_ROWS_WITHIN, SELECT_ROWS_AFTER}
+use Rattle.ci_store_rows.specs.declared.texts.TheConstants.{UPDATE_ROW, INSERT_ROW, DELETE_ROW, SELECT_ROW, SELECT_ROWS_WITHIN, SELECT_ROWS_WITH, SELECT_ROWS_AFTER}
 use Rattle.ci_store_rows.specs.Schema.{the_schema, board}
 use Rattle.ci_store_rows.specs.Rows.{number, board_row}
 use Rattle.ci_store_rows.specs.Stands.{rows_by_tree, rows_of, Stands, IsAt}
@@ -140,6 +140,22 @@ rows_within_found g old new k at first last found h =
     (shows_sorted board_row 9 board refl SELECT_ROWS_WITHIN.now (at_least 0 0 ∷ at_most 0 1 ∷ []) (number first ∷ number last ∷ []) (λ im. compares Ge (column im 0) (number first) && (compares Le (column im 0) (number last) && true)) (λ r. refl)
     (λ x. is_within first last x.job) (λ x. finds_within first last x.job) k k.board refl h.rows 0 0 (λ r. refl) means_select_within
     (rising_numbers (λ (x : BoardRow). x.job) (λ x. is_within first last x.job) k.board at.now.inside.regular.board) (state g old) (state g new) at.now h.shown)
+    found h.read
+
+means_select_with : MeansSelect the_schema board SELECT_ROWS_WITH.now (is 2 0 ∷ []) (columns_of board) (by 0) (names_of board)
+unfolding understood everything
+means_select_with = record { is = refl; unlisted = refl; plain = (refl, refl) }
+
+pub plain_select_with : IsPlain (understood the_schema SELECT_ROWS_WITH.now)
+plain_select_with = means_select_with.plain
+
+pub rows_with_found : {S : Type 0} (g : Ghosts S) (old new : Held S) (k : Kept) → IsAt g k old → (s : Status) (found : List BoardRow)
+    → ShowsRecords (λ row x. row ≡ board_row x) g SELECT_ROWS_WITH.now (number (status_number s) ∷ []) old new found → found ≡ rows_with s k.board
+rows_with_found g old new k at s found h =
+    found_all (λ row x. row ≡ board_row x) board_row (λ x. is_status x.row.status s) k.board (λ x y _ same. sym (same_row y x same)) h.rows
+    (shows_sorted board_row 9 board refl SELECT_ROWS_WITH.now (is 2 0 ∷ []) (number (status_number s) ∷ []) (λ im. equal Binary (column im 1) (number (status_number s)) && true) (λ r. refl)
+    (λ x. is_status x.row.status s) (λ x. finds_number (status_number x.row.status) (status_number s)) k k.board refl h.rows 0 0 (λ r. refl) means_select_with
+    (rising_numbers (λ (x : BoardRow). x.job) (λ x. is_status x.row.status s) k.board at.now.inside.regular.board) (state g old) (state g new) at.now h.shown)
     found h.read
 
 -- the third value is how many rows are shown at most

@@ -95,12 +95,12 @@ creates_index before after at table text index means old new count bare h =
 
 -- how many tables and indexes there are after the first texts
 abbrev counts : List (ℕ × ℕ)
-counts = (0, 0) ∷ (1, 1) ∷ (2, 2) ∷ (3, 3) ∷ (4, 3) ∷ (5, 3) ∷ (5, 4) ∷ (6, 5) ∷ (7, 5) ∷ (7, 6) ∷ (7, 7) ∷ (8, 8) ∷ (9, 9) ∷ (9, 10) ∷ (10, 10) ∷ (10, 11) ∷ (11, 12) ∷ (12, 13) ∷ (12, 14) ∷ (13, 14) ∷ (13, 15) ∷ (13, 16) ∷ []
+counts = (0, 0) ∷ (1, 1) ∷ (2, 2) ∷ (3, 3) ∷ (4, 3) ∷ (5, 3) ∷ (5, 4) ∷ (6, 5) ∷ (7, 5) ∷ (7, 6) ∷ (7, 7) ∷ (8, 8) ∷ (9, 9) ∷ (9, 10) ∷ (10, 10) ∷ (10, 11) ∷ (11, 12) ∷ (12, 13) ∷ (12, 14) ∷ (12, 15) ∷ (12, 16) ∷ []
 
 -- the schema after the first texts
 abbrev pub schema_after : ℕ → Schema
 schema_after k =
-    let count = slice_index_or counts k (13, 17) in
+    let count = slice_index_or counts k (12, 17) in
     record { tables = take count.0 the_schema.tables; indexes = take count.1 the_schema.indexes; views = [] }
 
 abbrev pub text_at : ℕ → List ℕ
@@ -178,24 +178,20 @@ makes_holder_attempt : MeansIndex (schema_after 17) (schema_after 18) 11 table.h
 unfolding understood everything
 makes_holder_attempt = record { there = refl; command = refl; plain = (refl, refl); whole = refl; defined = refl; is = refl }
 
-makes_unfinished : MeansTable (schema_after 18) (schema_after 19) (text_at 18) (record table.unfinished { tree = 0 })
-unfolding understood everything
-makes_unfinished = record { command = refl; plain = (refl, refl); whole = refl; defined = refl; is = refl; uncounted = refl }
-
-makes_pipeline_ref : MeansIndex (schema_after 19) (schema_after 20) 3 table.pipeline (text_at 19) (record table.pipeline_ref { tree = 0 })
+makes_pipeline_ref : MeansIndex (schema_after 18) (schema_after 19) 3 table.pipeline (text_at 18) (record table.pipeline_ref { tree = 0 })
 unfolding understood everything
 makes_pipeline_ref = record { there = refl; command = refl; plain = (refl, refl); whole = refl; defined = refl; is = refl }
 
-makes_attempt_runner : MeansIndex (schema_after 20) (schema_after 21) 6 table.attempt (text_at 20) (record table.attempt_runner { tree = 0 })
+makes_attempt_runner : MeansIndex (schema_after 19) (schema_after 20) 6 table.attempt (text_at 19) (record table.attempt_runner { tree = 0 })
 unfolding understood everything
 makes_attempt_runner = record { there = refl; command = refl; plain = (refl, refl); whole = refl; defined = refl; is = refl }
 
-makes_pipeline_created : MeansIndex (schema_after 21) (schema_after 22) 3 table.pipeline (text_at 21) (record table.pipeline_created { tree = 0 })
+makes_pipeline_created : MeansIndex (schema_after 20) (schema_after 21) 3 table.pipeline (text_at 20) (record table.pipeline_created { tree = 0 })
 unfolding understood everything
 makes_pipeline_created = record { there = refl; command = refl; plain = (refl, refl); whole = refl; defined = refl; is = refl }
 
 -- after each text the schema is that of one text more
-makes_next : (k : ℕ) → k < 22 → (old new : State) (count : ℕ) → IsBare (schema_after k) old.now → Executes (text_at k) [] old new (Ok count) → IsBare (schema_after (k + 1)) new.now
+makes_next : (k : ℕ) → k < 21 → (old new : State) (count : ℕ) → IsBare (schema_after k) old.now → Executes (text_at k) [] old new (Ok count) → IsBare (schema_after (k + 1)) new.now
 makes_next zero low = creates_table (schema_after 0) (schema_after 1) (text_at 0) _ makes_meta
 makes_next (suc zero) low = creates_table (schema_after 1) (schema_after 2) (text_at 1) _ makes_project
 makes_next (suc (suc zero)) low = creates_table (schema_after 2) (schema_after 3) (text_at 2) _ makes_runner
@@ -214,37 +210,35 @@ makes_next (suc (suc (suc (suc (suc (suc (suc (suc (suc (suc (suc (suc (suc (suc
 makes_next (suc (suc (suc (suc (suc (suc (suc (suc (suc (suc (suc (suc (suc (suc (suc zero))))))))))))))) low = creates_table (schema_after 15) (schema_after 16) (text_at 15) _ makes_variable
 makes_next (suc (suc (suc (suc (suc (suc (suc (suc (suc (suc (suc (suc (suc (suc (suc (suc zero)))))))))))))))) low = creates_table (schema_after 16) (schema_after 17) (text_at 16) _ makes_holder
 makes_next (suc (suc (suc (suc (suc (suc (suc (suc (suc (suc (suc (suc (suc (suc (suc (suc (suc zero))))))))))))))))) low = creates_index (schema_after 17) (schema_after 18) 11 table.holder (text_at 17) _ makes_holder_attempt
-makes_next (suc (suc (suc (suc (suc (suc (suc (suc (suc (suc (suc (suc (suc (suc (suc (suc (suc (suc zero)))))))))))))))))) low = creates_table (schema_after 18) (schema_after 19) (text_at 18) _ makes_unfinished
-makes_next (suc (suc (suc (suc (suc (suc (suc (suc (suc (suc (suc (suc (suc (suc (suc (suc (suc (suc (suc zero))))))))))))))))))) low = creates_index (schema_after 19) (schema_after 20) 3 table.pipeline (text_at 19) _ makes_pipeline_ref
-makes_next (suc (suc (suc (suc (suc (suc (suc (suc (suc (suc (suc (suc (suc (suc (suc (suc (suc (suc (suc (suc zero)))))))))))))))))))) low = creates_index (schema_after 20) (schema_after 21) 6 table.attempt (text_at 20) _ makes_attempt_runner
-makes_next (suc (suc (suc (suc (suc (suc (suc (suc (suc (suc (suc (suc (suc (suc (suc (suc (suc (suc (suc (suc (suc zero))))))))))))))))))))) low = creates_index (schema_after 21) (schema_after 22) 3 table.pipeline (text_at 21) _ makes_pipeline_created
-makes_next (suc (suc (suc (suc (suc (suc (suc (suc (suc (suc (suc (suc (suc (suc (suc (suc (suc (suc (suc (suc (suc (suc k)))))))))))))))))))))) low = absurd (omega (arith, low))
+makes_next (suc (suc (suc (suc (suc (suc (suc (suc (suc (suc (suc (suc (suc (suc (suc (suc (suc (suc zero)))))))))))))))))) low = creates_index (schema_after 18) (schema_after 19) 3 table.pipeline (text_at 18) _ makes_pipeline_ref
+makes_next (suc (suc (suc (suc (suc (suc (suc (suc (suc (suc (suc (suc (suc (suc (suc (suc (suc (suc (suc zero))))))))))))))))))) low = creates_index (schema_after 19) (schema_after 20) 6 table.attempt (text_at 19) _ makes_attempt_runner
+makes_next (suc (suc (suc (suc (suc (suc (suc (suc (suc (suc (suc (suc (suc (suc (suc (suc (suc (suc (suc (suc zero)))))))))))))))))))) low = creates_index (schema_after 20) (schema_after 21) 3 table.pipeline (text_at 20) _ makes_pipeline_created
+makes_next (suc (suc (suc (suc (suc (suc (suc (suc (suc (suc (suc (suc (suc (suc (suc (suc (suc (suc (suc (suc (suc k))))))))))))))))))))) low = absurd (omega (arith, low))
 
--- each place below twenty-two
-pub below_twenty_two : (k : ℕ) → k < 22 → (k ≡ 0) ⊎ ((k ≡ 1) ⊎ ((k ≡ 2) ⊎ ((k ≡ 3) ⊎ ((k ≡ 4) ⊎ ((k ≡ 5) ⊎ ((k ≡ 6) ⊎ ((k ≡ 7) ⊎ ((k ≡ 8) ⊎ ((k ≡ 9) ⊎ ((k ≡ 10) ⊎ ((k ≡ 11) ⊎ ((k ≡ 12) ⊎ ((k ≡ 13) ⊎ ((k ≡ 14) ⊎ ((k ≡ 15) ⊎ ((k ≡ 16) ⊎ ((k ≡ 17) ⊎ ((k ≡ 18) ⊎ ((k ≡ 19) ⊎ ((k ≡ 20) ⊎ (k ≡ 21)))))))))))))))))))))
-below_twenty_two zero low = inl refl
-below_twenty_two (suc zero) low = inr (inl refl)
-below_twenty_two (suc (suc zero)) low = inr (inr (inl refl))
-below_twenty_two (suc (suc (suc zero))) low = inr (inr (inr (inl refl)))
-below_twenty_two (suc (suc (suc (suc zero)))) low = inr (inr (inr (inr (inl refl))))
-below_twenty_two (suc (suc (suc (suc (suc zero))))) low = inr (inr (inr (inr (inr (inl refl)))))
-below_twenty_two (suc (suc (suc (suc (suc (suc zero)))))) low = inr (inr (inr (inr (inr (inr (inl refl))))))
-below_twenty_two (suc (suc (suc (suc (suc (suc (suc zero))))))) low = inr (inr (inr (inr (inr (inr (inr (inl refl)))))))
-below_twenty_two (suc (suc (suc (suc (suc (suc (suc (suc zero)))))))) low = inr (inr (inr (inr (inr (inr (inr (inr (inl refl))))))))
-below_twenty_two (suc (suc (suc (suc (suc (suc (suc (suc (suc zero))))))))) low = inr (inr (inr (inr (inr (inr (inr (inr (inr (inl refl)))))))))
-below_twenty_two (suc (suc (suc (suc (suc (suc (suc (suc (suc (suc zero)))))))))) low = inr (inr (inr (inr (inr (inr (inr (inr (inr (inr (inl refl))))))))))
-below_twenty_two (suc (suc (suc (suc (suc (suc (suc (suc (suc (suc (suc zero))))))))))) low = inr (inr (inr (inr (inr (inr (inr (inr (inr (inr (inr (inl refl)))))))))))
-below_twenty_two (suc (suc (suc (suc (suc (suc (suc (suc (suc (suc (suc (suc zero)))))))))))) low = inr (inr (inr (inr (inr (inr (inr (inr (inr (inr (inr (inr (inl refl))))))))))))
-below_twenty_two (suc (suc (suc (suc (suc (suc (suc (suc (suc (suc (suc (suc (suc zero))))))))))))) low = inr (inr (inr (inr (inr (inr (inr (inr (inr (inr (inr (inr (inr (inl refl)))))))))))))
-below_twenty_two (suc (suc (suc (suc (suc (suc (suc (suc (suc (suc (suc (suc (suc (suc zero)))))))))))))) low = inr (inr (inr (inr (inr (inr (inr (inr (inr (inr (inr (inr (inr (inr (inl refl))))))))))))))
-below_twenty_two (suc (suc (suc (suc (suc (suc (suc (suc (suc (suc (suc (suc (suc (suc (suc zero))))))))))))))) low = inr (inr (inr (inr (inr (inr (inr (inr (inr (inr (inr (inr (inr (inr (inr (inl refl)))))))))))))))
-below_twenty_two (suc (suc (suc (suc (suc (suc (suc (suc (suc (suc (suc (suc (suc (suc (suc (suc zero)))))))))))))))) low = inr (inr (inr (inr (inr (inr (inr (inr (inr (inr (inr (inr (inr (inr (inr (inr (inl refl))))))))))))))))
-below_twenty_two (suc (suc (suc (suc (suc (suc (suc (suc (suc (suc (suc (suc (suc (suc (suc (suc (suc zero))))))))))))))))) low = inr (inr (inr (inr (inr (inr (inr (inr (inr (inr (inr (inr (inr (inr (inr (inr (inr (inl refl)))))))))))))))))
-below_twenty_two (suc (suc (suc (suc (suc (suc (suc (suc (suc (suc (suc (suc (suc (suc (suc (suc (suc (suc zero)))))))))))))))))) low = inr (inr (inr (inr (inr (inr (inr (inr (inr (inr (inr (inr (inr (inr (inr (inr (inr (inr (inl refl))))))))))))))))))
-below_twenty_two (suc (suc (suc (suc (suc (suc (suc (suc (suc (suc (suc (suc (suc (suc (suc (suc (suc (suc (suc zero))))))))))))))))))) low = inr (inr (inr (inr (inr (inr (inr (inr (inr (inr (inr (inr (inr (inr (inr (inr (inr (inr (inr (inl refl)))))))))))))))))))
-below_twenty_two (suc (suc (suc (suc (suc (suc (suc (suc (suc (suc (suc (suc (suc (suc (suc (suc (suc (suc (suc (suc zero)))))))))))))))))))) low = inr (inr (inr (inr (inr (inr (inr (inr (inr (inr (inr (inr (inr (inr (inr (inr (inr (inr (inr (inr (inl refl))))))))))))))))))))
-below_twenty_two (suc (suc (suc (suc (suc (suc (suc (suc (suc (suc (suc (suc (suc (suc (suc (suc (suc (suc (suc (suc (suc zero))))))))))))))))))))) low = inr (inr (inr (inr (inr (inr (inr (inr (inr (inr (inr (inr (inr (inr (inr (inr (inr (inr (inr (inr (inr refl))))))))))))))))))))
-below_twenty_two (suc (suc (suc (suc (suc (suc (suc (suc (suc (suc (suc (suc (suc (suc (suc (suc (suc (suc (suc (suc (suc (suc k)))))))))))))))))))))) low = absurd (omega (arith, low))
+-- each place below twenty-one
+pub below_twenty_one : (k : ℕ) → k < 21 → (k ≡ 0) ⊎ ((k ≡ 1) ⊎ ((k ≡ 2) ⊎ ((k ≡ 3) ⊎ ((k ≡ 4) ⊎ ((k ≡ 5) ⊎ ((k ≡ 6) ⊎ ((k ≡ 7) ⊎ ((k ≡ 8) ⊎ ((k ≡ 9) ⊎ ((k ≡ 10) ⊎ ((k ≡ 11) ⊎ ((k ≡ 12) ⊎ ((k ≡ 13) ⊎ ((k ≡ 14) ⊎ ((k ≡ 15) ⊎ ((k ≡ 16) ⊎ ((k ≡ 17) ⊎ ((k ≡ 18) ⊎ ((k ≡ 19) ⊎ (k ≡ 20))))))))))))))))))))
+below_twenty_one zero low = inl refl
+below_twenty_one (suc zero) low = inr (inl refl)
+below_twenty_one (suc (suc zero)) low = inr (inr (inl refl))
+below_twenty_one (suc (suc (suc zero))) low = inr (inr (inr (inl refl)))
+below_twenty_one (suc (suc (suc (suc zero)))) low = inr (inr (inr (inr (inl refl))))
+below_twenty_one (suc (suc (suc (suc (suc zero))))) low = inr (inr (inr (inr (inr (inl refl)))))
+below_twenty_one (suc (suc (suc (suc (suc (suc zero)))))) low = inr (inr (inr (inr (inr (inr (inl refl))))))
+below_twenty_one (suc (suc (suc (suc (suc (suc (suc zero))))))) low = inr (inr (inr (inr (inr (inr (inr (inl refl)))))))
+below_twenty_one (suc (suc (suc (suc (suc (suc (suc (suc zero)))))))) low = inr (inr (inr (inr (inr (inr (inr (inr (inl refl))))))))
+below_twenty_one (suc (suc (suc (suc (suc (suc (suc (suc (suc zero))))))))) low = inr (inr (inr (inr (inr (inr (inr (inr (inr (inl refl)))))))))
+below_twenty_one (suc (suc (suc (suc (suc (suc (suc (suc (suc (suc zero)))))))))) low = inr (inr (inr (inr (inr (inr (inr (inr (inr (inr (inl refl))))))))))
+below_twenty_one (suc (suc (suc (suc (suc (suc (suc (suc (suc (suc (suc zero))))))))))) low = inr (inr (inr (inr (inr (inr (inr (inr (inr (inr (inr (inl refl)))))))))))
+below_twenty_one (suc (suc (suc (suc (suc (suc (suc (suc (suc (suc (suc (suc zero)))))))))))) low = inr (inr (inr (inr (inr (inr (inr (inr (inr (inr (inr (inr (inl refl))))))))))))
+below_twenty_one (suc (suc (suc (suc (suc (suc (suc (suc (suc (suc (suc (suc (suc zero))))))))))))) low = inr (inr (inr (inr (inr (inr (inr (inr (inr (inr (inr (inr (inr (inl refl)))))))))))))
+below_twenty_one (suc (suc (suc (suc (suc (suc (suc (suc (suc (suc (suc (suc (suc (suc zero)))))))))))))) low = inr (inr (inr (inr (inr (inr (inr (inr (inr (inr (inr (inr (inr (inr (inl refl))))))))))))))
+below_twenty_one (suc (suc (suc (suc (suc (suc (suc (suc (suc (suc (suc (suc (suc (suc (suc zero))))))))))))))) low = inr (inr (inr (inr (inr (inr (inr (inr (inr (inr (inr (inr (inr (inr (inr (inl refl)))))))))))))))
+below_twenty_one (suc (suc (suc (suc (suc (suc (suc (suc (suc (suc (suc (suc (suc (suc (suc (suc zero)))))))))))))))) low = inr (inr (inr (inr (inr (inr (inr (inr (inr (inr (inr (inr (inr (inr (inr (inr (inl refl))))))))))))))))
+below_twenty_one (suc (suc (suc (suc (suc (suc (suc (suc (suc (suc (suc (suc (suc (suc (suc (suc (suc zero))))))))))))))))) low = inr (inr (inr (inr (inr (inr (inr (inr (inr (inr (inr (inr (inr (inr (inr (inr (inr (inl refl)))))))))))))))))
+below_twenty_one (suc (suc (suc (suc (suc (suc (suc (suc (suc (suc (suc (suc (suc (suc (suc (suc (suc (suc zero)))))))))))))))))) low = inr (inr (inr (inr (inr (inr (inr (inr (inr (inr (inr (inr (inr (inr (inr (inr (inr (inr (inl refl))))))))))))))))))
+below_twenty_one (suc (suc (suc (suc (suc (suc (suc (suc (suc (suc (suc (suc (suc (suc (suc (suc (suc (suc (suc zero))))))))))))))))))) low = inr (inr (inr (inr (inr (inr (inr (inr (inr (inr (inr (inr (inr (inr (inr (inr (inr (inr (inr (inl refl)))))))))))))))))))
+below_twenty_one (suc (suc (suc (suc (suc (suc (suc (suc (suc (suc (suc (suc (suc (suc (suc (suc (suc (suc (suc (suc zero)))))))))))))))))))) low = inr (inr (inr (inr (inr (inr (inr (inr (inr (inr (inr (inr (inr (inr (inr (inr (inr (inr (inr (inr refl)))))))))))))))))))
+below_twenty_one (suc (suc (suc (suc (suc (suc (suc (suc (suc (suc (suc (suc (suc (suc (suc (suc (suc (suc (suc (suc (suc k))))))))))))))))))))) low = absurd (omega (arith, low))
 
-pub runs_next : (k : ℕ) → k < 22 → (text : List ℕ) (old new : State) (count : ℕ) → IsBare (schema_after k) old.now → Executes text [] old new (Ok count) → text ≡ text_at k → IsBare (schema_after (k + 1)) new.now
+pub runs_next : (k : ℕ) → k < 21 → (text : List ℕ) (old new : State) (count : ℕ) → IsBare (schema_after k) old.now → Executes text [] old new (Ok count) → text ≡ text_at k → IsBare (schema_after (k + 1)) new.now
 runs_next k low text old new count bare h is = makes_next k low old new count bare (subst (λ t. Executes t [] old new (Ok count)) is h)

@@ -23,7 +23,7 @@ use Rattle.ci_store_tables.proofs.Scalars.{cast_int, compares}
 use Rattle.ci_store_rows.specs.declared.texts.TheConstants.{UPDATE_JOB, INSERT_JOB, DELETE_JOB, SELECT_JOB, SELECT_JOBS_OF, SELECT_JOBS_ABOVE}
 use Rattle.ci_store_rows.specs.declared.columns.TheConstants.{LAST_INTEGER}
 use Rattle.ci_store_rows.specs.Schema.{the_schema, job, need}
-use Rattle.ci_store_records.specs.JsonText.{list_text, list_data, spec_text, spec_data}
+use Rattle.ci_store_records.specs.JsonText.{spec_text, spec_data}
 use Rattle.serde_json.specs.Read.{read}
 use Rattle.ci_store_rows.specs.Rows.{number, job_row}
 use Rattle.ci_store_rows.specs.Stands.{rows_by_tree, rows_of, IsRegular, Stands, IsAt}
@@ -53,11 +53,11 @@ use Rattle.ci_store_rows.proofs.Needs.{needs_refer, needed_refer}
 use Rattle.ci_store_rows.proofs.Board.{rows_refer}
 use Rattle.ci_store_rows.specs.Rows.{flag}
 use Rattle.ci_store_rows.specs.Load.{job_cells}
-use Rattle.ci_store_records.specs.Reads.{ReadsSpec, ReadsList}
+use Rattle.ci_store_records.specs.Reads.{ReadsSpec}
 use Rattle.ci_store_rows.proofs.Same.{same_flag}
 
 abbrev sets : List Term
-sets = col 0 0 ∷ lit Null ∷ col 0 1 ∷ col 0 2 ∷ col 0 3 ∷ col 0 4 ∷ col 0 5 ∷ col 0 6 ∷ col 0 7 ∷ col 0 8 ∷ col 0 9 ∷ []
+sets = col 0 0 ∷ lit Null ∷ col 0 1 ∷ col 0 2 ∷ col 0 3 ∷ col 0 4 ∷ col 0 5 ∷ col 0 6 ∷ col 0 7 ∷ col 0 8 ∷ []
 
 means : MeansPut the_schema 4 job UPDATE_JOB.now INSERT_JOB.now (is 0 0 ∷ []) sets sets
 unfolding understood everything
@@ -66,9 +66,9 @@ means = record { there = refl; apart = refl; update_is = refl; update_plain = (r
 gives : (j : Job) → GivesRecord the_schema job (is 0 0 ∷ []) sets sets (number j.id ∷ []) (job_row j)
 gives j = record {
   tested = λ r. refl;
-  updated = λ old. λ i. cast_int (pos j.id) i ∷ cast_int (pos j.pipeline) i ∷ cast_int (pos j.position) i ∷ Text j.name ∷ Text j.stage ∷ Text (spec_text j.options) ∷ Text (list_text j.options.script) ∷ cast_int (if j.played then pos 1 else pos 0) i ∷ cast_int (if j.cancelled then pos 1 else pos 0) i ∷ cast_int (pos j.set_aside) i ∷ [];
+  updated = λ old. λ i. cast_int (pos j.id) i ∷ cast_int (pos j.pipeline) i ∷ cast_int (pos j.position) i ∷ Text j.name ∷ Text j.stage ∷ Text (spec_text j.options) ∷ cast_int (if j.played then pos 1 else pos 0) i ∷ cast_int (if j.cancelled then pos 1 else pos 0) i ∷ cast_int (pos j.set_aside) i ∷ [];
   source = refl;
-  inserted = λ rows. ap (image (places job)) (numbered rows (pos j.id) _) ∙ (λ i. number j.id ∷ cast_int (pos j.pipeline) i ∷ cast_int (pos j.position) i ∷ Text j.name ∷ Text j.stage ∷ Text (spec_text j.options) ∷ Text (list_text j.options.script) ∷ cast_int (if j.played then pos 1 else pos 0) i ∷ cast_int (if j.cancelled then pos 1 else pos 0) i ∷ cast_int (pos j.set_aside) i ∷ []);
+  inserted = λ rows. ap (image (places job)) (numbered rows (pos j.id) _) ∙ (λ i. number j.id ∷ cast_int (pos j.pipeline) i ∷ cast_int (pos j.position) i ∷ Text j.name ∷ Text j.stage ∷ Text (spec_text j.options) ∷ cast_int (if j.played then pos 1 else pos 0) i ∷ cast_int (if j.cancelled then pos 1 else pos 0) i ∷ cast_int (pos j.set_aside) i ∷ []);
   absent = λ rows new_row db shaped is keyed fresh put sound. absent_rowid rows new_row (pos j.id) _ (λ r. refl) shaped (ap (λ image. column image 0) is) fresh;
 }
 
@@ -76,10 +76,10 @@ gives j = record {
 alike : (k : Kept) (xs : List Job) → IsAlike (rows_of k) (rows_of (record k { state = record k.state { jobs = xs } })) job
 alike k xs = alike_but (take 4 (rows_by_tree k)) (drop 5 (rows_by_tree k)) job (map job_row k.state.jobs) (map job_row xs)
 
-pub job_puts : {S : Type 0} (ghosts : Ghosts S) (before after : Held S) (j : Job) (k : Kept) → read (spec_text j.options) ≡ Some (spec_data j.options) → read (list_text j.options.script) ≡ Some (list_data j.options.script) → Stands k (state ghosts before).now → HasPut ghosts UPDATE_JOB.now INSERT_JOB.now (job_row j) before after
+pub job_puts : {S : Type 0} (ghosts : Ghosts S) (before after : Held S) (j : Job) (k : Kept) → read (spec_text j.options) ≡ Some (spec_data j.options) → Stands k (state ghosts before).now → HasPut ghosts UPDATE_JOB.now INSERT_JOB.now (job_row j) before after
     → Stands (in_state (with_record (row.Job j)) k) (state ghosts after).now
-job_puts ghosts before after j k spec_back script_back stands h =
-    put_stands job_row k.state.jobs k (in_state (with_record (row.Job j)) k) job refl (alike k _) (regular_with_jobs k _ (put_rises job_cmp (by_number (λ (q : Job). q.id)) j k.state.jobs stands.inside.regular.jobs) (all_put job_cmp _ j k.state.jobs spec_back stands.inside.regular.specs) (all_put job_cmp _ j k.state.jobs script_back stands.inside.regular.scripts) stands.inside.regular)
+job_puts ghosts before after j k spec_back stands h =
+    put_stands job_row k.state.jobs k (in_state (with_record (row.Job j)) k) job refl (alike k _) (regular_with_jobs k _ (put_rises job_cmp (by_number (λ (q : Job). q.id)) j k.state.jobs stands.inside.regular.jobs) (all_put job_cmp _ j k.state.jobs spec_back stands.inside.regular.specs) stands.inside.regular)
     4 UPDATE_JOB.now INSERT_JOB.now (is 0 0 ∷ []) sets sets means job_cmp (number j.id ∷ []) j (gives j) (λ q. same_number q.id j.id) refl ghosts before after stands h
 
 means_remove : MeansRemove the_schema 4 job DELETE_JOB.now (is 0 0 ∷ [])
@@ -96,31 +96,28 @@ works_are olds =
 
 pub job_removed : {S : Type 0} (g : Ghosts S) (old new : Held S) (id : ℕ) (k : Kept) → Stands k (state g old).now → RemovesUnreferred g (queries (variables_refer ∷ attempts_refer ∷ needs_refer ∷ needed_refer ∷ rows_refer ∷ [])) DELETE_JOB.now (number id ∷ []) old new → Stands (in_state (without_record (key.Job id)) k) (state g new).now
 job_removed g old new id k =
-    removed_numbered g old new job_row (λ q. q.id) k.state.jobs id k (in_state (without_record (key.Job id)) k) 4 job refl refl refl (alike k _) (λ o. regular_with_jobs k _ (ascending-filter _ _ k.state.jobs o.jobs) (all-filter _ _ k.state.jobs o.specs) (all-filter _ _ k.state.jobs o.scripts) o) (λ q. same_number q.id id) (λ r. refl)
+    removed_numbered g old new job_row (λ q. q.id) k.state.jobs id k (in_state (without_record (key.Job id)) k) 4 job refl refl refl (alike k _) (λ o. regular_with_jobs k _ (ascending-filter _ _ k.state.jobs o.jobs) (all-filter _ _ k.state.jobs o.specs) o) (λ q. same_number q.id id) (λ r. refl)
     DELETE_JOB.now means_remove (codes "job") (variables_refer ∷ attempts_refer ∷ needs_refer ∷ needed_refer ∷ rows_refer ∷ []) works_are (λ e. absurd cc, (λ e. absurd cc, (λ e. absurd cc, (λ e. absurd cc, (λ e. absurd cc, tt)))))
 
 -- ---- two records with the same row
 
-same_job : (j q : Job) (spec script : List ℕ) → ReadsSpec spec j.options → ReadsList script j.options.script → read (spec_text q.options) ≡ Some (spec_data q.options) → read (list_text q.options.script) ≡ Some (list_data q.options.script)
-    → job_cells j spec script ≡ job_row q → j ≡ q
-same_job j q spec script reads lists spec_back script_back h =
+same_job : (j q : Job) (spec : List ℕ) → ReadsSpec spec j.options → read (spec_text q.options) ≡ Some (spec_data q.options) → job_cells j spec ≡ job_row q → j ≡ q
+same_job j q spec reads spec_back h =
     let a : j.id ≡ q.id = cc in
     let b : j.pipeline ≡ q.pipeline = cc in
     let c : j.position ≡ q.position = cc in
     let d : j.name ≡ q.name = cc in
     let e : j.stage ≡ q.stage = cc in
     let t : spec ≡ spec_text q.options = cc in
-    let l : script ≡ list_text q.options.script = cc in
     let u : flag j.played ≡ flag q.played = cc in
     let v : flag j.cancelled ≡ flag q.cancelled = cc in
     let w : j.set_aside ≡ q.set_aside = cc in
-    let lines : j.options.script ≡ q.options.script = lists q.options.script (ap read l ∙ script_back) in
-    let options : j.options ≡ q.options = reads q.options (ap read t ∙ spec_back) ∙ ap (λ (lines : List (List ℕ)). record q.options { script = lines }) lines in
+    let options : j.options ≡ q.options = reads q.options (ap read t ∙ spec_back) in
     λ i. record { id = a i; pipeline = b i; position = c i; name = d i; stage = e i; options = options i; played = same_flag j.played q.played u i; cancelled = same_flag j.cancelled q.cancelled v i; set_aside = w i }
 
 -- a row that a job of the state has is read as that job
 one_job : (k : Kept) → IsRegular k → (j q : Job) → Has k.state.jobs q → IsJobRow (job_row q) j → j ≡ q
-one_job k o j q there same = same_job j q same.0 same.1 same.3 same.4 (all_has _ k.state.jobs q o.specs there) (all_has _ k.state.jobs q o.scripts there) (sym same.2)
+one_job k o j q there same = same_job j q same.0 same.2 (all_has _ k.state.jobs q o.specs there) (sym same.1)
 
 -- ---- the queries that load
 

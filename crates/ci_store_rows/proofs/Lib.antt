@@ -12,7 +12,6 @@ pub mod Pieces
 pub mod Needs
 pub mod Board
 pub mod Holders
-pub mod OpenPipelines
 pub mod Meta
 pub mod OneList
 pub mod Creates

@@ -5,7 +5,7 @@ use Rattle.sqlite.specs.Order.{Row}
 use Rattle.sqlite.specs.Table.{Table}
 use Rattle.sqlite_rules.proofs.ListLemmas.{all_from}
 use Rattle.serde_json.specs.Read.{read}
-use Rattle.ci_machine.specs.Kept.{Kept, row_cmp, unfinished_cmp}
+use Rattle.ci_machine.specs.Kept.{Kept, row_cmp}
 use Rattle.ci_machine.specs.Holders.{holder_cmp}
 use Rattle.ci_machine.specs.State.{project_cmp, variable_cmp, runner_cmp, pipeline_cmp, job_cmp, job_variable_cmp, need_cmp, attempt_cmp, piece_cmp}
 use Rattle.ci_machine.specs.declared.records.Numbers.{Numbers}
@@ -23,7 +23,8 @@ use Rattle.ci_machine.specs.declared.records.Holder.{Holder}
 use Rattle.ci_machine.specs.declared.records.Unfinished.{Unfinished}
 use Rattle.ci_store_rows.specs.Schema.{the_schema}
 use Rattle.ci_store_records.specs.JsonText.{list_text, list_data, spec_text, spec_data}
-use Rattle.ci_store_rows.specs.Stands.{rows_at, Rises, IsRegular}
+use Rattle.sqlite.specs.Effect.{Database}
+use Rattle.ci_store_rows.specs.Stands.{rows_at, Rises, IsRegular, Stands}
 
 -- ---- the rows of the other tables
 
@@ -61,8 +62,8 @@ pub regular_with_pipelines : (k : Kept) (xs : List Pipeline) → Rises pipeline_
 regular_with_pipelines k xs up o = search rules
 
 pub regular_with_jobs : (k : Kept) (xs : List Job) → Rises job_cmp xs → AllByRecursion (λ j. read (spec_text j.options) ≡ Some (spec_data j.options)) xs
-    → AllByRecursion (λ j. read (list_text j.options.script) ≡ Some (list_data j.options.script)) xs → IsRegular k → IsRegular (record k { state = record k.state { jobs = xs } })
-regular_with_jobs k xs up specs scripts o = search rules
+    → IsRegular k → IsRegular (record k { state = record k.state { jobs = xs } })
+regular_with_jobs k xs up specs o = search rules
 
 pub regular_with_job_variables : (k : Kept) (xs : List JobVariable) → Rises job_variable_cmp xs → IsRegular k → IsRegular (record k { state = record k.state { job_variables = xs } })
 regular_with_job_variables k xs up o = search rules
@@ -79,8 +80,15 @@ regular_with_pieces k xs up o = search rules
 pub regular_with_holders : (k : Kept) (xs : List Holder) → Rises holder_cmp xs → IsRegular k → IsRegular (record k { holders = xs })
 regular_with_holders k xs up o = search rules
 
-pub regular_with_unfinished : (k : Kept) (xs : List Unfinished) → Rises unfinished_cmp xs → IsRegular k → IsRegular (record k { unfinished = xs })
-regular_with_unfinished k xs up o = search rules
+pub regular_with_unfinished : (k : Kept) (xs : List Unfinished) → IsRegular k → IsRegular (record k { unfinished = xs })
+regular_with_unfinished k xs o = search rules
 
 pub regular_with_board : (k : Kept) (xs : List BoardRow) → Rises row_cmp xs → IsRegular k → IsRegular (record k { board = xs })
 regular_with_board k xs up o = search rules
+
+-- the tables stand for what is kept whatever it says of the pipelines that aren't finished
+pub stands_with_unfinished : (k : Kept) (xs : List Unfinished) (db : Database) → Stands k db → Stands (record k { unfinished = xs }) db
+stands_with_unfinished k xs db stands = record {
+  listed = stands.listed;
+  inside = record { tables = stands.inside.tables; regular = regular_with_unfinished k xs stands.inside.regular };
+}

@@ -53,11 +53,6 @@ row9 (a ∷ b ∷ c ∷ d ∷ e ∷ f ∷ g ∷ h ∷ []) is = cc
 row9 (a ∷ b ∷ c ∷ d ∷ e ∷ f ∷ g ∷ h ∷ i ∷ []) is = refl
 row9 (a ∷ b ∷ c ∷ d ∷ e ∷ f ∷ g ∷ h ∷ i ∷ x ∷ more) is = absurd (omega (arith, is))
 
-pub row10 : (row : Row) → length row ≡ 10
-    → row ≡ column row 0 ∷ column row 1 ∷ column row 2 ∷ column row 3 ∷ column row 4 ∷ column row 5 ∷ column row 6 ∷ column row 7 ∷ column row 8 ∷ column row 9 ∷ []
-row10 [] is = cc
-row10 (a ∷ row) is = let short : length row ≡ 9 = omega (arith, is) in λ i. a ∷ row9 row short i
-
 pub row11 : (row : Row) → length row ≡ 11
     → row ≡ column row 0 ∷ column row 1 ∷ column row 2 ∷ column row 3 ∷ column row 4 ∷ column row 5 ∷ column row 6 ∷ column row 7 ∷ column row 8 ∷ column row 9 ∷ column row 10 ∷ []
 row11 [] is = cc

@@ -8,7 +8,6 @@ use Rattle.ci_machine.specs.Kept.{Kept}
 use Rattle.ci_machine.specs.State.{State}
 use Rattle.ci_machine.specs.declared.records.BoardRow.{BoardRow}
 use Rattle.ci_machine.specs.declared.records.Holder.{Holder}
-use Rattle.ci_machine.specs.declared.records.Unfinished.{Unfinished}
 use Rattle.ci_store_tables.specs.Statements.{Changes}
 use Rattle.ci_store_rows.specs.Stands.{Stands}
 
@@ -23,10 +22,6 @@ in_board change k = record k { board = change k.board }
 -- a change of the groups that are held, which leaves the rest
 abbrev pub in_holders : (List Holder → List Holder) → Kept → Kept
 in_holders change k = record k { holders = change k.holders }
-
--- a change of the pipelines that aren't finished, which leaves the rest
-abbrev pub in_unfinished : (List Unfinished → List Unfinished) → Kept → Kept
-in_unfinished change k = record k { unfinished = change k.unfinished }
 
 -- inside a transaction the tables follow this change of what they keep
 abbrev pub Makes : {S : Type 0} → Ghosts S → (Kept → Kept) → Held S → Held S → Type 0

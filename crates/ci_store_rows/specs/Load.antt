@@ -30,12 +30,12 @@ runner_cells r text = number r.id ∷ Text r.name ∷ Text r.token ∷ or_null n
 abbrev pub IsRunnerRow : Row → Runner → Type 0
 IsRunnerRow row r = (text : List ℕ) × (row ≡ runner_cells r text) × ReadsList text r.tags
 
--- the values of a job's row, with this text of its script, and this one of what else was fixed of it
-abbrev pub job_cells : Job → List ℕ → List ℕ → Row
-job_cells j spec script = number j.id ∷ number j.pipeline ∷ number j.position ∷ Text j.name ∷ Text j.stage ∷ Text spec ∷ Text script ∷ flag j.played ∷ flag j.cancelled ∷ number j.set_aside ∷ []
+-- the values of a job's row, with this text of what was fixed of it
+abbrev pub job_cells : Job → List ℕ → Row
+job_cells j spec = number j.id ∷ number j.pipeline ∷ number j.position ∷ Text j.name ∷ Text j.stage ∷ Text spec ∷ flag j.played ∷ flag j.cancelled ∷ number j.set_aside ∷ []
 
 abbrev pub IsJobRow : Row → Job → Type 0
-IsJobRow row j = (spec : List ℕ) × (script : List ℕ) × (row ≡ job_cells j spec script) × ReadsSpec spec j.options × ReadsList script j.options.script
+IsJobRow row j = (spec : List ℕ) × (row ≡ job_cells j spec) × ReadsSpec spec j.options
 
 -- the values of the columns that tell what a job asks of a runner
 abbrev pub demand_cells : Demand → List ℕ → Row

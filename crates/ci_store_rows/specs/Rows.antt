@@ -15,7 +15,6 @@ use Rattle.ci_machine.specs.declared.records.Attempt.{Attempt}
 use Rattle.ci_machine.specs.declared.records.Piece.{Piece}
 use Rattle.ci_machine.specs.declared.records.BoardRow.{BoardRow}
 use Rattle.ci_machine.specs.declared.records.Holder.{Holder}
-use Rattle.ci_machine.specs.declared.records.Unfinished.{Unfinished}
 use Rattle.ci_board.specs.Effects.{status_number}
 use Rattle.ci_machine.specs.declared.records.RefKind.{RefKind}
 use Rattle.ci_machine.specs.declared.records.RefKind.TheVariants.{Branch, Tag}
@@ -80,7 +79,7 @@ abbrev pub pipeline_row : Pipeline → Row
 pipeline_row p = number p.id ∷ number p.project ∷ Text p.git_ref ∷ number (kind_number p.kind) ∷ number (source_number p.source) ∷ number p.created ∷ []
 
 abbrev pub job_row : Job → Row
-job_row j = number j.id ∷ number j.pipeline ∷ number j.position ∷ Text j.name ∷ Text j.stage ∷ Text (spec_text j.options) ∷ Text (list_text j.options.script) ∷ flag j.played ∷ flag j.cancelled ∷ number j.set_aside ∷ []
+job_row j = number j.id ∷ number j.pipeline ∷ number j.position ∷ Text j.name ∷ Text j.stage ∷ Text (spec_text j.options) ∷ flag j.played ∷ flag j.cancelled ∷ number j.set_aside ∷ []
 
 abbrev pub job_variable_row : JobVariable → Row
 job_variable_row v = number v.job ∷ Text v.key ∷ Text v.value ∷ []
@@ -100,6 +99,3 @@ board_row r = number r.job ∷ number (status_number r.row.status) ∷ number r.
 
 abbrev pub holder_row : Holder → Row
 holder_row h = number h.project ∷ Text h.group ∷ number h.attempt ∷ []
-
-abbrev pub unfinished_row : Unfinished → Row
-unfinished_row u = number u.pipeline ∷ []

@@ -117,7 +117,6 @@ job =
     ∷ column (codes "name") Text true
     ∷ column (codes "stage") Text true
     ∷ column (codes "spec") Text true
-    ∷ column (codes "script") Text true
     ∷ column (codes "played") Integer true
     ∷ column (codes "cancelled") Integer true
     ∷ column (codes "aside") Integer true
@@ -232,25 +231,21 @@ holder_index_1 = automatic holder 0 (1 ∷ 2 ∷ []) 24
 abbrev pub holder_attempt : Index
 holder_attempt = record { name = codes "holder_attempt"; tree = 25; table = 23; columns = 3 ∷ []; order = plain; is_unique = false }
 
--- the pipelines that aren't finished: it follows from the rows of their jobs, as `holder` follows from attempts
-abbrev pub unfinished : Table
-unfinished = numbered (codes "unfinished") 26 (column (codes "pipeline") Integer false ∷ []) [] []
-
 -- by the project and by what a pipeline runs for, and of one such by number
 abbrev pub pipeline_ref : Index
-pipeline_ref = record { name = codes "pipeline_ref"; tree = 27; table = 6; columns = 2 ∷ 3 ∷ 4 ∷ 0 ∷ []; order = plain; is_unique = false }
+pipeline_ref = record { name = codes "pipeline_ref"; tree = 26; table = 6; columns = 2 ∷ 3 ∷ 4 ∷ 0 ∷ []; order = plain; is_unique = false }
 
 -- by the runner, and of one runner by number
 abbrev pub attempt_runner : Index
-attempt_runner = record { name = codes "attempt_runner"; tree = 28; table = 11; columns = 3 ∷ 0 ∷ []; order = plain; is_unique = false }
+attempt_runner = record { name = codes "attempt_runner"; tree = 27; table = 11; columns = 3 ∷ 0 ∷ []; order = plain; is_unique = false }
 
 -- by the moment when a pipeline was made
 abbrev pub pipeline_created : Index
-pipeline_created = record { name = codes "pipeline_created"; tree = 29; table = 6; columns = 6 ∷ []; order = plain; is_unique = false }
+pipeline_created = record { name = codes "pipeline_created"; tree = 28; table = 6; columns = 6 ∷ []; order = plain; is_unique = false }
 
 abbrev pub the_schema : Schema
 the_schema = record {
-  tables = meta ∷ project ∷ runner ∷ pipeline ∷ job ∷ jobvar ∷ attempt ∷ piece ∷ need ∷ board ∷ variable ∷ holder ∷ unfinished ∷ [];
+  tables = meta ∷ project ∷ runner ∷ pipeline ∷ job ∷ jobvar ∷ attempt ∷ piece ∷ need ∷ board ∷ variable ∷ holder ∷ [];
   indexes = meta_index_1 ∷ project_index_1 ∷ runner_index_1 ∷ job_pipeline ∷ jobvar_index_1 ∷ attempt_job ∷ attempt_state ∷ piece_index_1 ∷ need_index_1 ∷ need_pred ∷ board_status ∷ variable_index_1 ∷ holder_index_1 ∷ holder_attempt ∷ pipeline_ref ∷ attempt_runner ∷ pipeline_created ∷ [];
   views = [];
 }

@@ -1,5 +1,5 @@
--- What it means that the tables of a database stand for what is kept: a state, the rows of its jobs' statuses, the groups that
--- are held, and the pipelines that aren't finished.
+-- What it means that the tables of a database stand for what is kept: a state, the rows of its jobs' statuses, and the groups that are
+-- held. Which pipelines aren't finished stands in no table, so the tables stand for what is kept whatever it says of them.
 use Rattle.std.specs.Prelude.{◌≡◌, ◌⊎◌, ℕ, ◌==◌, if◌then◌else◌, List, [], ◌∷◌, map, codes, Some, IsTrue}
 use Rattle.std.specs.List.{AllByRecursion}
 use Rattle.std.specs.declared.cmp.Ordering.{Ordering}
@@ -11,7 +11,7 @@ use Rattle.sqlite.specs.Effect.{Database}
 use Rattle.sqlite.specs.Store.{Ghosts}
 use Rattle.sqlite.specs.Held.{Held, state}
 use Rattle.sqlite_trees.specs.Tree.{IsAscending}
-use Rattle.ci_machine.specs.Kept.{Kept, row_cmp, unfinished_cmp}
+use Rattle.ci_machine.specs.Kept.{Kept, row_cmp}
 use Rattle.ci_machine.specs.Holders.{holder_cmp}
 use Rattle.ci_machine.specs.State.{project_cmp, variable_cmp, runner_cmp, pipeline_cmp, job_cmp, job_variable_cmp, need_cmp, attempt_cmp, piece_cmp}
 use Rattle.ci_machine.specs.declared.records.Numbers.{Numbers}
@@ -22,7 +22,7 @@ use Rattle.serde_json.specs.Read.{read}
 use Rattle.ci_store_records.specs.JsonText.{list_data, list_text, spec_data, spec_text}
 use Rattle.ci_store_rows.specs.Schema as table
 use Rattle.ci_store_rows.specs.Schema.{the_schema}
-use Rattle.ci_store_rows.specs.Rows.{number, project_row, variable_row, runner_row, pipeline_row, job_row, job_variable_row, need_row, attempt_row, piece_row, board_row, holder_row, unfinished_row}
+use Rattle.ci_store_rows.specs.Rows.{number, project_row, variable_row, runner_row, pipeline_row, job_row, job_variable_row, need_row, attempt_row, piece_row, board_row, holder_row}
 
 abbrev pub meta_row : List ℕ → ℕ → Row
 meta_row key num = Text key ∷ number num ∷ []
@@ -56,7 +56,6 @@ rows_by_tree k =
     ∷ (table.board.tree, map board_row k.board)
     ∷ (table.variable.tree, map variable_row k.state.variables)
     ∷ (table.holder.tree, map holder_row k.holders)
-    ∷ (table.unfinished.tree, map unfinished_row k.unfinished)
     ∷ []
 
 -- the rows of this tree, and none where it is no table's
@@ -85,10 +84,8 @@ pub record IsRegular (k : Kept) : Type 0 where
   pub pieces : Rises piece_cmp k.state.pieces
   pub board : Rises row_cmp k.board
   pub holders : Rises holder_cmp k.holders
-  pub unfinished : Rises unfinished_cmp k.unfinished
   pub tags : AllByRecursion (λ r. read (list_text r.tags) ≡ Some (list_data r.tags)) k.state.runners
   pub specs : AllByRecursion (λ j. read (spec_text j.options) ≡ Some (spec_data j.options)) k.state.jobs
-  pub scripts : AllByRecursion (λ j. read (list_text j.options.script) ≡ Some (list_data j.options.script)) k.state.jobs
 
 -- the trees of a file, as a stop may leave them, stand for what is kept
 pub record StandsIn (k : Kept) (db : Trees) : Type 0 where

@@ -2,13 +2,13 @@
 
 ghost use Rattle.std.specs.Prelude.{IfOk};
 ghost use Rattle.sqlite.specs.Order.{column};
-ghost use Rattle.ci_store_rows.specs.Load.{HoldsList, HoldsSpec};
+ghost use Rattle.ci_store_rows.specs.Load.{HoldsSpec};
 
 use crate::columns::text;
-use crate::read::{Loaded, Stored, flag_at, has_columns, text_at, texts_at};
+use crate::read::{Loaded, Stored, flag_at, has_columns, text_at};
 use crate::texts;
 use ci_machine::records::{Job, JobOptions};
-use ci_store_records::{list_text, read_spec, spec_text};
+use ci_store_records::{read_spec, spec_text};
 use ci_store_tables::fault::StoreFault;
 use ci_store_tables::values::number;
 use ci_store_tables::write::put;
@@ -16,14 +16,12 @@ use sqlite::types::ToSql;
 use sqlite::{Alter, Row, Transaction};
 use std::alloc::Global;
 
-/// What was fixed of a job, of the columns `spec` and `script`.
+/// What was fixed of a job, of the column `spec`.
 fn options_of(alloc: Global, row: &Row) -> Result<JobOptions, StoreFault>
-    ensures spec { IfOk result (HoldsSpec (column row.now 5)) }
-    ensures script { IfOk result (λ options. HoldsList (column row.now 6) options.script) }
+    ensures { IfOk result (HoldsSpec (column row.now 5)) }
 {
     let text: String = row.get(5)?;
-    let script = texts_at(alloc, row, 6)?;
-    read_spec(alloc, text.as_str(), script)
+    read_spec(alloc, text.as_str())
 }
 
 impl Loaded for Job {
@@ -32,14 +30,14 @@ impl Loaded for Job {
     ghost is_row = { IsJobRow };
 
     fn read(alloc: Global, row: &Row) -> Result<Job, StoreFault> {
-        has_columns(row, 10)?;
+        has_columns(row, 9)?;
         Ok(Job {
             id: row.get(0)?,
             pipeline: row.get(1)?,
             position: row.get(2)?,
-            played: flag_at(row, 7)?,
-            cancelled: flag_at(row, 8)?,
-            set_aside: row.get(9)?,
+            played: flag_at(row, 6)?,
+            cancelled: flag_at(row, 7)?,
+            set_aside: row.get(8)?,
             name: text_at(row, 3)?,
             stage: text_at(row, 4)?,
             options: options_of(alloc, row)?,
@@ -61,7 +59,6 @@ impl Stored for Job {
         is_new: bool,
     ) -> Result<(), StoreFault> {
         let spec = spec_text(alloc, &self.options)?;
-        let script = list_text(alloc, &self.options.script)?;
         let id = number(self.id)?;
         let pipeline = number(self.pipeline)?;
         let position = number(self.position)?;
@@ -78,7 +75,6 @@ impl Stored for Job {
                 text(&self.name),
                 text(&self.stage),
                 (&spec).to_sql(),
-                (&script).to_sql(),
                 self.played.to_sql(),
                 self.cancelled.to_sql(),
                 set_aside,

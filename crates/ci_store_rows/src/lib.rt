@@ -16,5 +16,4 @@ mod project;
 pub mod read;
 mod runner;
 pub mod texts;
-mod unfinished;
 mod variable;

@@ -1,11 +1,11 @@
 //! The texts of all statements. A connection keeps the plans of 64 texts; those that the machine's events run are fewer.
 
-pub const SCHEMA: [&str; 22] = [
+pub const SCHEMA: [&str; 21] = [
     "CREATE TABLE meta (key TEXT NOT NULL PRIMARY KEY, num INTEGER NOT NULL) STRICT",
     "CREATE TABLE project (id INTEGER PRIMARY KEY, name TEXT NOT NULL, token TEXT NOT NULL UNIQUE, file TEXT) STRICT",
     "CREATE TABLE runner (id INTEGER PRIMARY KEY, name TEXT NOT NULL, token TEXT NOT NULL UNIQUE, project INTEGER REFERENCES project (id), tags TEXT NOT NULL, untagged INTEGER NOT NULL, paused INTEGER NOT NULL) STRICT",
     "CREATE TABLE pipeline (id INTEGER PRIMARY KEY, project INTEGER NOT NULL REFERENCES project (id), ref TEXT NOT NULL, kind INTEGER NOT NULL, source INTEGER NOT NULL, created INTEGER NOT NULL) STRICT",
-    "CREATE TABLE job (id INTEGER PRIMARY KEY, pipeline INTEGER NOT NULL REFERENCES pipeline (id) ON DELETE CASCADE, pos INTEGER NOT NULL, name TEXT NOT NULL, stage TEXT NOT NULL, spec TEXT NOT NULL, script TEXT NOT NULL, played INTEGER NOT NULL, cancelled INTEGER NOT NULL, aside INTEGER NOT NULL) STRICT",
+    "CREATE TABLE job (id INTEGER PRIMARY KEY, pipeline INTEGER NOT NULL REFERENCES pipeline (id) ON DELETE CASCADE, pos INTEGER NOT NULL, name TEXT NOT NULL, stage TEXT NOT NULL, spec TEXT NOT NULL, played INTEGER NOT NULL, cancelled INTEGER NOT NULL, aside INTEGER NOT NULL) STRICT",
     "CREATE INDEX job_pipeline ON job (pipeline)",
     "CREATE TABLE jobvar (job INTEGER NOT NULL REFERENCES job (id) ON DELETE CASCADE, key TEXT NOT NULL, value TEXT NOT NULL, PRIMARY KEY (job, key)) STRICT",
     "CREATE TABLE attempt (id INTEGER PRIMARY KEY, job INTEGER NOT NULL REFERENCES job (id) ON DELETE CASCADE, runner INTEGER NOT NULL REFERENCES runner (id), token TEXT NOT NULL, granted INTEGER NOT NULL, seen INTEGER NOT NULL, state INTEGER NOT NULL, cause INTEGER, exit INTEGER, pieces INTEGER NOT NULL, size INTEGER NOT NULL) STRICT",
@@ -19,7 +19,6 @@ pub const SCHEMA: [&str; 22] = [
     "CREATE TABLE variable (project INTEGER NOT NULL REFERENCES project (id), key TEXT NOT NULL, value TEXT NOT NULL, PRIMARY KEY (project, key)) STRICT",
     "CREATE TABLE holder (project INTEGER NOT NULL REFERENCES project (id), grp TEXT NOT NULL, attempt INTEGER NOT NULL REFERENCES attempt (id) ON DELETE CASCADE, PRIMARY KEY (project, grp)) STRICT",
     "CREATE INDEX holder_attempt ON holder (attempt)",
-    "CREATE TABLE unfinished (pipeline INTEGER PRIMARY KEY) STRICT",
     "CREATE INDEX pipeline_ref ON pipeline (project, ref, kind, id)",
     "CREATE INDEX attempt_runner ON attempt (runner, id)",
     "CREATE INDEX pipeline_created ON pipeline (created)",
@@ -102,25 +101,25 @@ pub const SELECT_SOME_PIPELINES_BEFORE: &str =
     "SELECT id, project, ref, kind, source, created FROM pipeline WHERE created < ?1 ORDER BY created LIMIT ?2";
 
 pub const INSERT_JOB: &str =
-    "INSERT INTO job (id, pipeline, pos, name, stage, spec, script, played, cancelled, aside) VALUES (?1, ?2, ?3, ?4, ?5, ?6, ?7, ?8, ?9, ?10)";
+    "INSERT INTO job (id, pipeline, pos, name, stage, spec, played, cancelled, aside) VALUES (?1, ?2, ?3, ?4, ?5, ?6, ?7, ?8, ?9)";
 
 pub const UPDATE_JOB: &str =
-    "UPDATE job SET id = ?1, pipeline = ?2, pos = ?3, name = ?4, stage = ?5, spec = ?6, script = ?7, played = ?8, cancelled = ?9, aside = ?10 WHERE id = ?1";
+    "UPDATE job SET id = ?1, pipeline = ?2, pos = ?3, name = ?4, stage = ?5, spec = ?6, played = ?7, cancelled = ?8, aside = ?9 WHERE id = ?1";
 
 pub const DELETE_JOB: &str = "DELETE FROM job WHERE id = ?1";
 
 pub const SELECT_JOB: &str =
-    "SELECT id, pipeline, pos, name, stage, spec, script, played, cancelled, aside FROM job WHERE id = ?1";
+    "SELECT id, pipeline, pos, name, stage, spec, played, cancelled, aside FROM job WHERE id = ?1";
 
 pub const SELECT_JOBS_ABOVE: &str =
-    "SELECT id, pipeline, pos, name, stage, spec, script, played, cancelled, aside FROM job WHERE id > ?1";
+    "SELECT id, pipeline, pos, name, stage, spec, played, cancelled, aside FROM job WHERE id > ?1";
 
 pub const SELECT_DEMAND: &str = "SELECT id, pipeline, spec FROM job WHERE id = ?1";
 
 pub const SELECT_DEMANDS_ABOVE: &str = "SELECT id, pipeline, spec FROM job WHERE id > ?1";
 
 pub const SELECT_JOBS_OF: &str =
-    "SELECT id, pipeline, pos, name, stage, spec, script, played, cancelled, aside FROM job WHERE pipeline = ?1 ORDER BY id";
+    "SELECT id, pipeline, pos, name, stage, spec, played, cancelled, aside FROM job WHERE pipeline = ?1 ORDER BY id";
 
 pub const INSERT_JOB_VARIABLE: &str = "INSERT INTO jobvar (job, key, value) VALUES (?1, ?2, ?3)";
 
@@ -203,6 +202,9 @@ pub const SELECT_ROWS_WITHIN: &str =
 pub const SELECT_ROWS_AFTER: &str =
     "SELECT job, status, open, failed, barred FROM board WHERE status = ?1 AND job > ?2 ORDER BY job LIMIT ?3";
 
+pub const SELECT_ROWS_WITH: &str =
+    "SELECT job, status, open, failed, barred FROM board WHERE status = ?1 ORDER BY job";
+
 pub const INSERT_HOLDER: &str = "INSERT INTO holder (project, grp, attempt) VALUES (?1, ?2, ?3)";
 
 pub const UPDATE_HOLDER: &str =
@@ -214,11 +216,3 @@ pub const SELECT_HOLDER: &str =
     "SELECT project, grp, attempt FROM holder WHERE project = ?1 AND grp = ?2";
 
 pub const SELECT_HOLDERS_OF: &str = "SELECT project, grp, attempt FROM holder WHERE attempt = ?1";
-
-pub const INSERT_UNFINISHED: &str = "INSERT INTO unfinished (pipeline) VALUES (?1)";
-
-pub const UPDATE_UNFINISHED: &str = "UPDATE unfinished SET pipeline = ?1 WHERE pipeline = ?1";
-
-pub const DELETE_UNFINISHED: &str = "DELETE FROM unfinished WHERE pipeline = ?1";
-
-pub const SELECT_UNFINISHED: &str = "SELECT pipeline FROM unfinished ORDER BY pipeline";

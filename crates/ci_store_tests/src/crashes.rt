@@ -54,7 +54,6 @@ const BEFORE: &[(Load, &str)] = &[
     (Load::Project(2), ""),
     (Load::Row(1), ""),
     (Load::Holder(1, "prod"), ""),
-    (Load::Unfinished, ""),
 ];
 
 /// What is shown after it.
@@ -63,7 +62,6 @@ const AFTER: &[(Load, &str)] = &[
     (Load::Project(2), "2 two p2 -"),
     (Load::Row(1), "1 pending 2 1 3"),
     (Load::Holder(1, "prod"), "1 prod 1"),
-    (Load::Unfinished, "1"),
 ];
 
 /// How a call ended on a store that fails.

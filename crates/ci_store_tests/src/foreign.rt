@@ -1,6 +1,7 @@
 //! Stores that are not ours, and rows that are no records: written through plain SQL.
 
 use crate::plain::{Load, are_shown, close, create, filled, found, open, parted};
+use ci_board::facts::Status;
 use ci_machine::change::Counter;
 use ci_store::Connection;
 use ci_store::tables::OpenFault;
@@ -23,6 +24,13 @@ fn noted(alloc: Global) -> Result<Connection<MemStore>, Fail> {
     Ok(conn)
 }
 
+const SPEC_WITHOUT_SCRIPT: &str =
+    r#"UPDATE job SET spec = '{"allow_failure":false,"interruptible":false,"needs":false,"resource_group":null,"retry":{"causes":[],"max":0},"tags":[],"timeout":3600,"when":"on_success"}'"#;
+
+/// A script is a list of lines.
+const SPEC_WITH_ONE_LINE: &str =
+    r#"UPDATE job SET spec = '{"allow_failure":false,"interruptible":false,"needs":false,"resource_group":null,"retry":{"causes":[],"max":0},"script":"make","tags":[],"timeout":3600,"when":"on_success"}'"#;
+
 /// A statement, and the load of a row that it spoils.
 const BROKEN: &[(&str, Load)] = &[
     ("UPDATE runner SET tags = 'gpu'", Load::RunnerWith("r1")),
@@ -41,9 +49,8 @@ const BROKEN: &[(&str, Load)] = &[
         "UPDATE job SET spec = '{\"tags\":[\"gpu\"],\"timeout\":3600}'",
         Load::Demand(1),
     ),
-    ("INSERT INTO unfinished VALUES (-1)", Load::Unfinished),
-    ("UPDATE job SET script = 'make'", Load::Job(1)),
-    ("UPDATE job SET script = '{}'", Load::Job(1)),
+    (SPEC_WITHOUT_SCRIPT, Load::Job(1)),
+    (SPEC_WITH_ONE_LINE, Load::Job(1)),
     ("UPDATE job SET spec = '[]' WHERE id = 2", Load::JobsOf(1)),
     ("UPDATE board SET status = 9", Load::Row(1)),
     ("UPDATE board SET status = 9", Load::RowsWithin(1, 2)),
@@ -51,6 +58,10 @@ const BROKEN: &[(&str, Load)] = &[
     (
         "UPDATE board SET status = 1, open = -1",
         Load::PendingAfter(0),
+    ),
+    (
+        "UPDATE board SET status = 7, open = -1",
+        Load::RowsWith(Status::Manual),
     ),
     ("UPDATE attempt SET state = 7", Load::Attempt(1)),
     ("UPDATE attempt SET state = 7", Load::AttemptsOf(1)),

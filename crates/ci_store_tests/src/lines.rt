@@ -2,7 +2,7 @@
 
 use ci_machine::records::{
     Attempt, AttemptState, BoardRow, Cause, Demand, Holder, Job, JobOptions, JobVariable, Need,
-    Piece, Pipeline, Project, RefKind, Runner, Unfinished, Variable,
+    Piece, Pipeline, Project, RefKind, Runner, Variable,
 };
 use ci_machine::text::{Text, Texts};
 use ci_store::fault::StoreFault;
@@ -379,15 +379,5 @@ impl Shown for Holder {
     fn line(&self, alloc: Global) -> Result<String, Fail> {
         let group = self.group.as_str();
         Ok(format!(in alloc; "{} {group} {}", self.project, self.attempt)?)
-    }
-}
-
-impl Shown for Unfinished {
-    fn number(&self) -> u64 {
-        self.pipeline
-    }
-
-    fn line(&self, alloc: Global) -> Result<String, Fail> {
-        Ok(self.pipeline.to_string(alloc)?)
     }
 }

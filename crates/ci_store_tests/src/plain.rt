@@ -2,6 +2,7 @@
 
 use crate::lines::Answer;
 use crate::records::{Change, ONE_OF_EACH, Work, moment, text};
+use ci_board::facts::Status;
 use ci_machine::change::Counter;
 use ci_store::delta::Delta;
 use ci_store::fault::StoreFault;
@@ -121,9 +122,9 @@ pub enum Load {
     PiecesOf(u64),
     Row(u64),
     RowsWithin(u64, u64),
+    RowsWith(Status),
     PendingAfter(u64),
     Holder(u64, &'static str),
-    Unfinished,
 }
 
 fn newer_than<S: Alter>(alloc: Global, tables: &mut Tables<S>, id: u64) -> Result<Answer, Fail> {
@@ -147,11 +148,11 @@ fn shown_of_runs<S: Alter>(
         Load::PiecesOf(attempt) => Answer::of_all(alloc, tables.pieces_of(attempt)),
         Load::Row(job) => Answer::of_one(alloc, tables.row(job)),
         Load::RowsWithin(first, last) => Answer::of_all(alloc, tables.rows_within(first, last)),
+        Load::RowsWith(status) => Answer::of_all(alloc, tables.rows_with(status)),
         Load::PendingAfter(job) => Answer::of_all(alloc, tables.pending_after(job)),
         Load::Holder(project, group) => {
             Answer::of_one(alloc, tables.holder(project, &text(alloc, group)?))
         }
-        Load::Unfinished => Answer::of_all(alloc, tables.unfinished()),
         _ => Err("not of a run")?,
     }
 }

@@ -292,6 +292,11 @@ const OF_FIFTY: &[Step] = &[
     Step::Finds(Load::PendingAfter(39), &[41, 42, 43, 44, 46, 47, 48, 49]),
     Step::Shows(Load::PendingAfter(48), "49 pending 2 1 3"),
     Step::Shows(Load::PendingAfter(49), ""),
+    Step::Finds(
+        Load::RowsWith(Status::Created),
+        &[5, 10, 15, 20, 25, 30, 35, 40, 45, 50],
+    ),
+    Step::Shows(Load::RowsWith(Status::Manual), ""),
     Step::Shows(
         Load::RowsWithin(9, 11),
         "9 pending 2 1 3; 10 created 2 1 3; 11 pending 2 1 3",
@@ -480,9 +485,9 @@ fn groups_are_free(rt: HostRuntime) -> Result<(), Fail> {
     tells(&rt, rt.alloc(), TWO_FREE, HELD_THEN)
 }
 
-// ---- pipelines that aren't finished, and newer ones
+// ---- newer pipelines
 
-/// Seven more pipelines; of those that are opened, not in their order, one is closed, and one that wasn't open.
+/// Seven more pipelines.
 const MANY_PIPELINES: &[Change] = &[
     Change::Put(Made::Project(2, "two", "p2")),
     Change::Put(Made::Pipeline(2, 1, "main", RefKind::Branch)),
@@ -492,12 +497,6 @@ const MANY_PIPELINES: &[Change] = &[
     Change::Put(Made::Pipeline(6, 1, "main", RefKind::Tag)),
     Change::Put(Made::Pipeline(7, 1, "Main", RefKind::Tag)),
     Change::Put(Made::Pipeline(8, 1, "main", RefKind::Branch)),
-    Change::Open(6),
-    Change::Open(1),
-    Change::Open(2),
-    Change::Open(4),
-    Change::Close(4),
-    Change::Close(5),
 ];
 
 /// The first one is of a tag `main` too.
@@ -510,15 +509,12 @@ const NEWER: &[Step] = &[
     Step::Shows(Load::NewerThan(6), ""),
     Step::Shows(Load::NewerThan(7), ""),
     Step::Shows(Load::NewerThan(8), ""),
-    Step::Shows(Load::Unfinished, "1; 2; 6"),
-    // an open pipeline is not opened again
-    Step::Refuses(&[Change::Open(2)]),
+    // no table has which pipelines aren't finished
+    Step::Makes(&[Change::Open(2), Change::Open(2), Change::Close(5)]),
 ];
 
 #[test]
-fn a_newer_pipeline_is_of_the_same_ref_and_unfinished_ones_come_by_number(
-    rt: HostRuntime,
-) -> Result<(), Fail> {
+fn a_newer_pipeline_is_of_the_same_ref(rt: HostRuntime) -> Result<(), Fail> {
     tells(&rt, rt.alloc(), &[Step::Makes(MANY_PIPELINES)], NEWER)
 }
 
@@ -618,11 +614,11 @@ fn a_pipeline_goes_with_all_its_rows(rt: HostRuntime) -> Result<(), Fail> {
 const TEXTS: &[(&str, &str)] = &[
     (
         "SELECT spec FROM job WHERE id = 1",
-        r#"{"allow_failure":[1,137],"interruptible":true,"needs":true,"resource_group":"prod","retry":{"causes":["script_failure","job_execution_timeout"],"max":2},"tags":["gpu"],"timeout":3600,"when":"always"}"#,
+        r#"{"allow_failure":[1,137],"interruptible":true,"needs":true,"resource_group":"prod","retry":{"causes":["script_failure","job_execution_timeout"],"max":2},"script":["make","make check"],"tags":["gpu"],"timeout":3600,"when":"always"}"#,
     ),
     (
-        "SELECT script FROM job WHERE id = 1",
-        r#"["make","make check"]"#,
+        "SELECT sql FROM sqlite_schema WHERE name = 'job'",
+        "CREATE TABLE job (id INTEGER PRIMARY KEY, pipeline INTEGER NOT NULL REFERENCES pipeline (id) ON DELETE CASCADE, pos INTEGER NOT NULL, name TEXT NOT NULL, stage TEXT NOT NULL, spec TEXT NOT NULL, played INTEGER NOT NULL, cancelled INTEGER NOT NULL, aside INTEGER NOT NULL) STRICT",
     ),
     (
         "SELECT sql FROM sqlite_schema WHERE name = 'need'",
@@ -651,10 +647,6 @@ const TEXTS: &[(&str, &str)] = &[
     (
         "SELECT sql FROM sqlite_schema WHERE name = 'holder_attempt'",
         "CREATE INDEX holder_attempt ON holder (attempt)",
-    ),
-    (
-        "SELECT sql FROM sqlite_schema WHERE name = 'unfinished'",
-        "CREATE TABLE unfinished (pipeline INTEGER PRIMARY KEY) STRICT",
     ),
     (
         "SELECT sql FROM sqlite_schema WHERE name = 'pipeline_ref'",

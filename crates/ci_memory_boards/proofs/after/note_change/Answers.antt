@@ -1,15 +1,36 @@
-use Rattle.std.proofs.Common.{sym, subst, ◌∙◌}
+use Rattle.std.specs.Prelude.{◌≡◌, ◌==◌, ℕ, true, All}
+use Rattle.std.proofs.Common.{sym, ap, subst, ◌∙◌}
 use Rattle.ci_machine.specs.declared.change.RowChange.{RowChange}
-use Rattle.ci_machine.specs.State.{changed}
+use Rattle.ci_machine.specs.declared.records.Job.{Job}
+use Rattle.ci_machine.specs.Ranges.{is_within}
+use Rattle.ci_machine.specs.State.{job_cmp, put, changed}
+use Rattle.ci_machine_steps.proofs.Sound.{rising_from_ascend}
 use Rattle.ci_memory_boards.specs.Sheets.{IsRight}
-use Rattle.ci_memory_boards.proofs.Lists.{on_some_then}
-use Rattle.ci_memory_boards.proofs.Stays.{stays, put_of}
+use Rattle.ci_memory_boards.proofs.Lists.{all_put, both, on_some_then}
+use Rattle.ci_memory_boards.proofs.Placing.{filter_put}
+use Rattle.ci_memory_boards.proofs.Stays.{own_job_of}
 use Rattle.ci_memory_boards.proofs.after.note_change.Goals as goal
 
+abbrev by_id : Job → ℕ
+by_id j = j.id
+
+-- it is put among the jobs of the pipeline
 pub returns-in-Some : goal.returns-in-Some
 returns-in-Some c =
-    on_some_then c.note_attempt.result c.note_attempt.ensures (λ then k ascend right.
-    subst (λ (x : RowChange). IsRight c.note_attempt.new.sheet (record k { state = changed x k.state })) (sym (put_of c.args.change.now c.in-Some.attempt.now (sym c.in-Some.ensures))) (then k ascend right))
+    let m = c.args.sheet.now in
+    let new = c.in-Some.job.now in
+    let of = own_job_of m c.args.change.now new (sym c.in-Some.ensures) in
+    let its = both (new.pipeline == m.pipeline) (is_within m.first m.last new.id) of.1 in
+    on_some_then c.put_copy_of_job.result c.put_copy_of_job.ensures (λ put_in k order right.
+    subst (λ (x : RowChange). IsRight (record m { jobs = c.put_copy_of_job.new.jobs }) (record k { state = changed x k.state })) (sym of.0)
+    (record {
+      jobs = put_in ∙ ap (put job_cmp new) right.jobs ∙ sym (filter_put by_id (λ (j : Job). j.pipeline == m.pipeline) new k.state.jobs (rising_from_ascend by_id k.state.jobs order.jobs) its.0);
+      inside = subst (All (λ j. is_within m.first m.last j.id ≡ true)) (sym put_in) (all_put (λ j. is_within m.first m.last j.id ≡ true) job_cmp new m.jobs.items right.inside its.1);
+      needs = right.needs;
+      attempts = right.attempts;
+      rows = right.rows;
+    }))
 
+-- or the change is another
 pub returns-in-None : goal.returns-in-None
-returns-in-None c k ascend right = stays c.args.sheet.now k right c.args.change.now (sym c.touches.ensures ∙ c.if-touches.false) (sym c.in-None.ensures)
+returns-in-None c = on_some_then c.note_other.result c.note_other.ensures (λ then k order right. then k order.attempts right)

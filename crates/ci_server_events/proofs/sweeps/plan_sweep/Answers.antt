@@ -4,14 +4,18 @@ use Rattle.ci_machine.specs.declared.lease.Lease.{Lease}
 use Rattle.ci_machine.specs.Leases.{first_due}
 use Rattle.ci_machine_steps.specs.Step.{leases, redundant_in, cancellable_in}
 use Rattle.ci_machine_steps.specs.Sweeps.{sweep}
-use Rattle.ci_server_lookups.proofs.Loading.{goes_on}
+use Rattle.ci_server_lookups.specs.Keeps.{HoldsKept}
+use Rattle.ci_server_lookups.proofs.Loading.{goes_on, of_kept}
 use Rattle.ci_server_events.proofs.Settles.{due_is_live}
 use Rattle.ci_server_events.proofs.sweeps.plan_sweep.Goals as goal
 
 -- the first lease that is over is that of a live attempt, and it ends
 pub returns-in-Some : goal.returns-in-Some
 returns-in-Some g c =
-    goes_on g.T.Store.honest g.T.Store.holds g.T.Store.leaves _ _ _ _ c.first_due.result c.in_ok-lease.field-0 c.end.result c.in_ok-lease.was c.first_due.ensures c.end.ensures
+    let honest = g.T.Store.honest in
+    let holds = g.T.Store.holds in
+    let leaves = g.T.Store.leaves in
+    goes_on honest (HoldsKept holds) leaves _ _ _ _ c.first_due.result c.in_ok-lease.field-0 c.end.result c.in_ok-lease.was (of_kept honest holds leaves _ _ _ c.first_due.ensures) (of_kept honest holds leaves _ _ _ c.end.ensures)
     (λ k y is found ended kept.
     let s = k.state in
     let due : first_due (leases s) c.args.now ≡ Some c.in-Some.lease = sym found ∙ c.in-Some.is in
@@ -25,7 +29,10 @@ returns-in-Some g c =
 -- none is over
 pub returns-in-None : goal.returns-in-None
 returns-in-None g c =
-    goes_on g.T.Store.honest g.T.Store.holds g.T.Store.leaves _ _ _ _ c.first_due.result c.in_ok-lease.field-0 c.sweep_pipelines.result c.in_ok-lease.was c.first_due.ensures c.sweep_pipelines.ensures
+    let honest = g.T.Store.honest in
+    let holds = g.T.Store.holds in
+    let leaves = g.T.Store.leaves in
+    goes_on honest (HoldsKept holds) leaves _ _ _ _ c.first_due.result c.in_ok-lease.field-0 c.sweep_pipelines.result c.in_ok-lease.was (of_kept honest holds leaves _ _ _ c.first_due.ensures) c.sweep_pipelines.ensures
     (λ k y is found swept kept.
     let s = k.state in
     let none : first_due (leases s) c.args.now ≡ None = sym found ∙ c.in-None.is in

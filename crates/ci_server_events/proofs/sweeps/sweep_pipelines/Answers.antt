@@ -3,7 +3,8 @@ use Rattle.std.proofs.Common.{sym, ap, ◌∙◌}
 use Rattle.ci_machine.specs.declared.records.Pipeline.{Pipeline}
 use Rattle.ci_machine_steps.specs.Step.{redundant_in, cancellable_in}
 use Rattle.ci_machine_steps.specs.Sweeps.{sweep}
-use Rattle.ci_server_lookups.proofs.Loading.{goes_on, gives}
+use Rattle.ci_server_lookups.specs.Keeps.{HoldsKept}
+use Rattle.ci_server_lookups.proofs.Loading.{goes_on, gives, of_kept}
 use Rattle.ci_server_events.proofs.Found.{pair_is}
 use Rattle.ci_server_events.proofs.Settles.{nothing_settles}
 use Rattle.ci_server_events.proofs.sweeps.sweep_pipelines.Goals as goal
@@ -11,11 +12,14 @@ use Rattle.ci_server_events.proofs.sweeps.sweep_pipelines.Goals as goal
 -- the redundant pipeline is cancelled
 pub returns-in-Some : goal.returns-in-Some
 returns-in-Some g c =
-    goes_on g.T.Store.honest g.T.Store.holds g.T.Store.leaves _ _ _ _ c.first_redundant.result c.in_ok-pipeline.field-0 c.cancel_redundant.result c.in_ok-pipeline.was c.first_redundant.ensures
-    c.cancel_redundant.ensures
+    let honest = g.T.Store.honest in
+    let holds = g.T.Store.holds in
+    let leaves = g.T.Store.leaves in
+    goes_on honest (HoldsKept holds) leaves _ _ _ _ c.first_redundant.result c.in_ok-pipeline.field-0 c.cancel_redundant.result c.in_ok-pipeline.was c.first_redundant.ensures
+    (of_kept honest holds leaves _ _ _ c.cancel_redundant.ensures)
     (λ k y is found planned kept.
     let s = k.state in
-    let its : redundant_in s k.board ≡ Some c.in-Some.pipeline = sym (found kept) ∙ c.in-Some.is in
+    let its : redundant_in s k.board ≡ Some c.in-Some.pipeline = sym found ∙ c.in-Some.is in
     let plan = planned kept in
     record {
       made = plan.made ∙ ap (λ (o : Option Pipeline). sweep None o s.attempts (cancellable_in s k.board o)) (sym its);
@@ -26,10 +30,10 @@ returns-in-Some g c =
 pub returns-in-None : goal.returns-in-None
 returns-in-None g c =
     let made = c.alone in
-    gives g.T.Store.honest g.T.Store.holds g.T.Store.leaves _ _ _ c.first_redundant.result c.in_ok-pipeline.field-0 made.result c.in_ok-pipeline.was c.first_redundant.ensures
+    gives g.T.Store.honest (HoldsKept g.T.Store.holds) g.T.Store.leaves _ _ _ c.first_redundant.result c.in_ok-pipeline.field-0 made.result c.in_ok-pipeline.was c.first_redundant.ensures
     (λ k found kept.
     let s = k.state in
-    let none : redundant_in s k.board ≡ None = sym (found kept) ∙ c.in-None.is in
+    let none : redundant_in s k.board ≡ None = sym found ∙ c.in-None.is in
     record {
       made = pair_is made.result.answer made.result.changes c.nothing.result (sweep None None s.attempts []) made.ensures.answer made.ensures.changes c.nothing.ensures
           ∙ ap (λ (o : Option Pipeline). sweep None o s.attempts (cancellable_in s k.board o)) (sym none);

@@ -1,9 +1,11 @@
-use Rattle.std.proofs.Common.{[]}
+use Rattle.std.proofs.Common.{[], subst, sym}
+use Rattle.sqlite.specs.Held.{state}
 use Rattle.ci_machine.specs.Kept.{indexed}
 use Rattle.ci_store.proofs.Applied.{by_item}
 use Rattle.ci_store_rows.proofs.Removals.{removed_indexed}
 use Rattle.ci_store_rows.proofs.Holders.{holder_freed}
-use Rattle.ci_store_rows.proofs.OpenPipelines.{unfinished_removed}
+use Rattle.ci_store_rows.specs.Stands.{Stands}
+use Rattle.ci_store_rows.proofs.OneList.{stands_with_unfinished}
 use Rattle.ci_store.proofs.make.change_index.Goals as goal
 
 pub returns-in-Hold-clause-makes : goal.returns-in-Hold-clause-makes
@@ -16,8 +18,8 @@ returns-in-Free-clause-makes g c clean inside =
 
 pub returns-in-Open-clause-makes : goal.returns-in-Open-clause-makes
 returns-in-Open-clause-makes g c clean inside =
-    by_item g.S.Store c.args.tx.now.conn.now c.put-in-Open.new.tx.conn.now indexed c.in-Open.is c.put-in-Open.result (c.put-in-Open.ensures.makes clean inside)
+    (inside, λ k stands. subst (λ change. Stands (indexed change k) (state g.S.Store c.args.tx.now.conn.now).now) (sym c.in-Open.is) (stands_with_unfinished k _ _ stands))
 
 pub returns-in-Close-clause-makes : goal.returns-in-Close-clause-makes
 returns-in-Close-clause-makes g c clean inside =
-    removed_indexed g.S.Store c.args.tx.now.conn.now c.remove_at.new.tx.conn.now c.in-Close.is c.remove_at.result [] _ (unfinished_removed g.S.Store c.args.tx.now.conn.now c.remove_at.new.tx.conn.now _) (c.remove_at.ensures.removes clean inside)
+    (inside, λ k stands. subst (λ change. Stands (indexed change k) (state g.S.Store c.args.tx.now.conn.now).now) (sym c.in-Close.is) (stands_with_unfinished k _ _ stands))

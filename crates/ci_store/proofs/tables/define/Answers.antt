@@ -2,7 +2,7 @@ use Rattle.std.proofs.Common.{inl, inr, ◌≡◌, ◌∙◌, refl, subst, arith
 use Rattle.sqlite.specs.State.{HasCleanDisk}
 use Rattle.sqlite.specs.Held.{state}
 use Rattle.sqlite.proofs.StateLemmas.{survives_then}
-use Rattle.ci_store_rows.proofs.Creates.{runs_next, below_twenty_two, schema_after}
+use Rattle.ci_store_rows.proofs.Creates.{runs_next, below_twenty_one, schema_after}
 use Rattle.ci_store.proofs.Committing.{survives_same}
 use Rattle.ci_store_rows.specs.Create.{IsBare}
 use Rattle.ci_store.proofs.tables.define.Goals as goal
@@ -21,7 +21,7 @@ loop-text-preserved g c =
           let was = inv.1 early inside in
           let ran = one.changed clean was.0 in (
             ran.0,
-            λ blank. runs_next c.loop-text.text-index low _ (state g.S.Store mid) (state g.S.Store new) c.in_ok-change.field-0 (was.1 blank) ran.1 (elim (below_twenty_two c.loop-text.text-index low) [
+            λ blank. runs_next c.loop-text.text-index low _ (state g.S.Store mid) (state g.S.Store new) c.in_ok-change.field-0 (was.1 blank) ran.1 (elim (below_twenty_one c.loop-text.text-index low) [
               | inl e ↦ rw e
               | inr (inl e) ↦ rw e
               | inr (inr (inl e)) ↦ rw e
@@ -42,8 +42,7 @@ loop-text-preserved g c =
               | inr (inr (inr (inr (inr (inr (inr (inr (inr (inr (inr (inr (inr (inr (inr (inr (inr (inl e))))))))))))))))) ↦ rw e
               | inr (inr (inr (inr (inr (inr (inr (inr (inr (inr (inr (inr (inr (inr (inr (inr (inr (inr (inl e)))))))))))))))))) ↦ rw e
               | inr (inr (inr (inr (inr (inr (inr (inr (inr (inr (inr (inr (inr (inr (inr (inr (inr (inr (inr (inl e))))))))))))))))))) ↦ rw e
-              | inr (inr (inr (inr (inr (inr (inr (inr (inr (inr (inr (inr (inr (inr (inr (inr (inr (inr (inr (inr (inl e)))))))))))))))))))) ↦ rw e
-              | inr (inr (inr (inr (inr (inr (inr (inr (inr (inr (inr (inr (inr (inr (inr (inr (inr (inr (inr (inr (inr e)))))))))))))))))))) ↦ rw e
+              | inr (inr (inr (inr (inr (inr (inr (inr (inr (inr (inr (inr (inr (inr (inr (inr (inr (inr (inr (inr e))))))))))))))))))) ↦ rw e
             ]),
           ),
       survives_then _ _ _ _ _ _ (λ _ db none. none) (λ _ db none. none) inv.2 one.survives,
@@ -54,5 +53,5 @@ loop-text-init g c = (refl, (λ clean inside. (inside, λ blank. record { listed
 
 pub returns-clause-makes : goal.returns-clause-makes
 returns-clause-makes g c = λ clean inside. let it = c.loop-text.invariant.1 clean inside in
-    let all : c.loop-text.text-index ≡ 22 = omega (arith, c.loop-text-test.false, c.loop-text.auto.text-index-end) in
+    let all : c.loop-text.text-index ≡ 21 = omega (arith, c.loop-text-test.false, c.loop-text.auto.text-index-end) in
     (it.0, λ blank. subst (λ k. IsBare (schema_after k) (state g.S.Store c.loop-text.tx.conn.now).now) all (it.1 blank))

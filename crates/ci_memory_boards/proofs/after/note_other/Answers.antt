@@ -1,0 +1,15 @@
+use Rattle.std.proofs.Common.{sym, subst, ◌∙◌}
+use Rattle.ci_machine.specs.declared.change.RowChange.{RowChange}
+use Rattle.ci_machine.specs.State.{changed}
+use Rattle.ci_memory_boards.specs.Sheets.{IsRight}
+use Rattle.ci_memory_boards.proofs.Lists.{on_some_then}
+use Rattle.ci_memory_boards.proofs.Stays.{stays, put_of}
+use Rattle.ci_memory_boards.proofs.after.note_other.Goals as goal
+
+pub returns-in-Some : goal.returns-in-Some
+returns-in-Some c =
+    on_some_then c.note_attempt.result c.note_attempt.ensures (λ then k ascend right.
+    subst (λ (x : RowChange). IsRight c.note_attempt.new.sheet (record k { state = changed x k.state })) (sym (put_of c.args.change.now c.in-Some.attempt.now (sym c.in-Some.ensures))) (then k ascend right))
+
+pub returns-in-None : goal.returns-in-None
+returns-in-None c k ascend right = stays c.args.sheet.now k right c.args.change.now (sym c.touches.ensures ∙ c.if-touches.false) (sym c.in-None.ensures)

@@ -1,0 +1,24 @@
+use Rattle.std.specs.Prelude.{◌==◌, ℕ, find, Some}
+use Rattle.std.specs.List.{list_any}
+use Rattle.std.proofs.Common.{sym, ap, ◌∙◌}
+use Rattle.std.proofs.lemmas.Option.{IfSome_then}
+use Rattle.ci_machine.specs.declared.records.Attempt.{Attempt}
+use Rattle.ci_machine.specs.Ranges.{is_within}
+use Rattle.ci_memory_boards.specs.declared.sheet.Sheet.{Sheet}
+use Rattle.ci_memory_boards.specs.Sheets.{IsRight}
+use Rattle.ci_memory_boards.proofs.Found.{found_among}
+use Rattle.ci_memory_boards.proofs.Lists.{all_found}
+use Rattle.ci_memory_boards.proofs.one.attempt_in.Goals as goal
+
+abbrev by_id : Attempt → ℕ
+by_id a = a.id
+
+pub returns : goal.returns
+returns c =
+    let one : Sheet = c.in_ok-sheet.sheet.now in
+    let attempt : Attempt = c.in_ok-attempt.attempt.now in
+    IfSome_then c.copy_of_attempt.result c.copy_of_attempt.ensures (λ copy same k order all.
+    let its = all_found (λ (m : Sheet). IsRight m k) (λ m. list_any (λ a. a.id == c.args.id) m.attempts.items) one c.args.sheets.now (sym c.in_ok-sheet.ensures) all in
+    found_among by_id (λ a. is_within one.first one.last a.job) c.args.id attempt k.state.attempts one.attempts.items order.attempts its.0.attempts
+    (ap (find (λ a. a.id == c.args.id)) (sym c.as_slice.ensures.value) ∙ sym c.in_ok-attempt.ensures)
+    ∙ ap (λ a. Some a) (sym same))

@@ -1,0 +1,46 @@
+-- The pipelines that aren't finished, as they are looked up by the rows of their jobs' statuses.
+use Rattle.std.specs.Prelude.{◌≡◌, ℕ, Bool, true, false, ◌==◌, ◌&&◌, not, List, Option, Some, None}
+use Rattle.std.specs.List.{list_any}
+use Rattle.ci_values.specs.declared.when.AllowFailure.{AllowFailure}
+use Rattle.ci_values.specs.declared.when.AllowFailure.TheVariants.{No, Yes, ExitCodes}
+use Rattle.ci_board.specs.declared.facts.Status.{Status}
+use Rattle.ci_board.specs.declared.facts.Status.TheVariants as status
+use Rattle.ci_machine.specs.declared.records.Job.{Job}
+use Rattle.ci_machine.specs.declared.records.BoardRow.{BoardRow}
+use Rattle.ci_machine.specs.State.{State}
+use Rattle.ci_machine.specs.Kept.{Kept}
+use Rattle.ci_machine.specs.Lookups.{job_at}
+
+-- a manual job may be left out: it is allowed to fail, whatever its exit code
+abbrev pub may_be_left_out : AllowFailure → Bool
+may_be_left_out Yes = true
+may_be_left_out No = false
+may_be_left_out (ExitCodes codes) = false
+
+-- a pipeline isn't finished while it has a job with this status
+abbrev pub keeps_open : AllowFailure → Status → Bool
+keeps_open allow status.Pending = true
+keeps_open allow status.Running = true
+keeps_open allow status.Manual = not (may_be_left_out allow)
+keeps_open allow status.Created = false
+keeps_open allow status.Success = false
+keeps_open allow status.Failed = false
+keeps_open allow status.Canceled = false
+keeps_open allow status.Skipped = false
+
+-- the job is one of pipeline n, and with this status keeps it from being finished
+abbrev pub opens_with : ℕ → Status → Option Job → Bool
+opens_with n s None = false
+opens_with n s (Some j) = keeps_open j.options.part.allow_failure s && (j.pipeline == n)
+
+-- by this row of one of its jobs pipeline n isn't finished
+abbrev pub opens : State → ℕ → BoardRow → Bool
+opens s n r = opens_with n r.row.status (job_at s r.job)
+
+-- the number is one of these
+abbrev pub has_number : ℕ → List ℕ → Bool
+has_number n numbers = list_any (λ m. m == n) numbers
+
+-- these numbers are those of the pipelines that aren't finished, in any order
+abbrev pub AreOpen : Kept → List ℕ → Type 0
+AreOpen k numbers = (n : ℕ) → list_any (λ m. m == n) numbers ≡ list_any (λ u. u.pipeline == n) k.unfinished

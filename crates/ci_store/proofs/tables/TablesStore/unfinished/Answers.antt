@@ -1,9 +1,0 @@
-use Rattle.ci_store.proofs.Loading.{answered_so, begun}
-use Rattle.ci_store_rows.proofs.OpenPipelines.{plain_select, unfinished_found}
-use Rattle.ci_store.proofs.tables.TablesStore.unfinished.Goals as goal
-
-pub list-requires-clause-plain : goal.list-requires-clause-plain
-list-requires-clause-plain g c = plain_select
-
-pub returns : goal.returns
-returns g c = begun c.self.view_is (answered_so c.list.ensures.loads (λ k at found. unfinished_found g.S.Store c.self.inside.conn c.list.new.conn k at found.items))
