@@ -4,7 +4,6 @@
 memory.py PROGRAM: PROGRAM is bin/ciserver. There is a new file in the folder of TMPDIR. It wants Linux and nothing but Python's own library.
 """
 import re
-import subprocess
 import sys
 import tempfile
 import time
@@ -35,10 +34,8 @@ def opened(server):
     """Starts the server again, and tells what its opening and its first poll take."""
     server.process.terminate()
     server.process.wait()
-    words = [server.program, "serve", "--db", server.db, "--port", str(server.port), "--requests", "1000000000"]
     begin = time.perf_counter()
-    server.process = subprocess.Popen(words, stdout=subprocess.PIPE, text=True)
-    server.process.stdout.readline()
+    server.start()
     took = time.perf_counter() - begin
     first = server.poll(server.runner, 204)[1]
     second = server.poll(server.runner, 204)[1]

@@ -32,7 +32,10 @@ class Server:
         with socket.socket() as probe:
             probe.bind(("127.0.0.1", 0))
             self.port = probe.getsockname()[1]
-        words = [program, "serve", "--db", self.db, "--port", str(self.port), "--requests", "1000000000"]
+        self.start()
+
+    def start(self):
+        words = [self.program, "serve", "--db", self.db, "--port", str(self.port), "--requests", "1000000000"]
         self.process = subprocess.Popen(words, stdout=subprocess.PIPE, text=True)
         self.process.stdout.readline()
 
