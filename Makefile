@@ -1,6 +1,6 @@
 # make build  proves the crates below the program side by side, builds it, and leaves it at bin/ciserver
 # make demo   the same, has it check the stored CI files and serve requests, and runs a whole pipeline with it
-# make test   the gate: every proof from nothing, the must-fail edits, the tests, the programs' stored runs
+# make test   the gate: every proof from nothing, the must-fail edits, the tests, the programs' stored runs, and memory refused
 
 .PHONY: build demo test
 
@@ -17,4 +17,4 @@ demo: build
 	examples/demo.sh
 
 test:
-	rt ci
+	.ci/gate

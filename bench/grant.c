@@ -46,8 +46,8 @@ int main(int count, char **words) {
                         "DELETE FROM attempt; UPDATE meta SET num = 1 WHERE key = 'next_attempt'; UPDATE board SET status = 1", 0, 0, 0), db);
     sqlite3_stmt *begin = prepared(db, "BEGIN IMMEDIATE");
     sqlite3_stmt *commit = prepared(db, "COMMIT");
-    sqlite3_stmt *there = prepared(db, "UPDATE attempt SET id = ?1, job = ?2, runner = ?3, token = ?4, granted = ?5, seen = ?6, state = ?7, cause = ?8, exit = ?9, pieces = 0, size = 0 WHERE id = ?1");
-    sqlite3_stmt *add = prepared(db, "INSERT INTO attempt (id, job, runner, token, granted, seen, state, cause, exit, pieces, size) VALUES (?1, ?2, ?3, ?4, ?5, ?6, ?7, ?8, ?9, 0, 0)");
+    sqlite3_stmt *there = prepared(db, "UPDATE attempt SET id = ?1, job = ?2, runner = ?3, token = ?4, granted = ?5, seen = ?6, state = ?7, cause = ?8, exit = ?9 WHERE id = ?1");
+    sqlite3_stmt *add = prepared(db, "INSERT INTO attempt (id, job, runner, token, granted, seen, state, cause, exit) VALUES (?1, ?2, ?3, ?4, ?5, ?6, ?7, ?8, ?9)");
     sqlite3_stmt *next = prepared(db, "UPDATE meta SET key = ?1, num = ?2 WHERE key = ?1");
     sqlite3_stmt *row = prepared(db, "UPDATE board SET job = ?1, status = ?2, open = ?3, failed = ?4, barred = ?5 WHERE job = ?1");
     struct timespec from, to;

@@ -12,7 +12,7 @@ use ci_cli_words::line::{BROKEN_OFF, DONE, Line, USAGE, say, say_reply};
 use ci_cli_words::task::{AdminRequest, ServeOptions, Task};
 use ci_cli_words::words::task_of;
 use ci_http_routes::paths::Paths;
-use ci_server::server::Server;
+use ci_http_service::Server;
 use ci_store::Alter;
 use clap::Error;
 use clap::error::ErrorKind;

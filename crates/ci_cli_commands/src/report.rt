@@ -3,11 +3,11 @@
 use crate::file::{let_go, open};
 use ci_cli_words::line::{Line, say, say_report};
 use ci_cli_words::task::ReportKind;
+use ci_http_service::Server;
 use ci_machine::reply::Code;
 use ci_report::pipeline::pipeline_report;
 use ci_report::queue::queue_report;
 use ci_report::runner::runner_report;
-use ci_server::server::Server;
 use ci_store::Alter;
 use std::alloc::{AllocError, Global};
 use std::io::Write;

@@ -4,10 +4,10 @@
 use crate::sources::{Sources, Stamp, line_of};
 use ci_cli_words::line::Line;
 use ci_http_routes::paths::Paths;
+use ci_http_service::Server;
 use ci_http_service::attend::{Unanswered, attend};
 use ci_machine::reply::Reply;
 use ci_machine::request::Request;
-use ci_server::server::Server;
 use ci_store::Alter;
 use std::alloc::Global;
 use std::random::RandomSource;

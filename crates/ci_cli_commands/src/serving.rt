@@ -3,11 +3,11 @@
 use crate::server::answer;
 use crate::sources::Sources;
 use ci_cli_words::line::Line;
-use ci_http::due::bytes_due;
 use ci_http_peers::answerer::Answerer;
 use ci_http_peers::serve::{Terms, Unserved, serve_peers};
 use ci_http_routes::paths::Paths;
-use ci_server::server::Server;
+use ci_http_service::Server;
+use ci_http_service::due::bytes_due;
 use ci_store::Alter;
 use mio::net::TcpListener;
 use std::alloc::Global;

@@ -3,8 +3,8 @@
 use ci_cli_commands::Sources;
 use ci_cli_commands::serving::serve_connections;
 use ci_http_routes::paths::Paths;
-use ci_server::server::Server;
 use ci_server_fixtures::clock::Still;
+use ci_server_fixtures::servers::Server;
 use ci_store::Alter;
 use mio::net::TcpListener;
 use std::io::{Read, Write};

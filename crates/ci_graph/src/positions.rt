@@ -1,6 +1,7 @@
 //! Lists of positions.
 
-ghost use Rattle.std.specs.Prelude.{◌≡◌, ◌<◌, ◌++◌, ◌∷◌, [], length, replicate, slice_index, IfOk, OnOk, OnErr};
+ghost use Rattle.std.specs.Prelude.{◌≡◌, ◌<◌, ◌++◌, ◌∷◌, [], true, length, replicate, slice_index, IfOk, OnOk, OnErr};
+ghost use Rattle.ci_graph.specs.Lists.{distinct};
 
 use std::alloc::{AllocError, Global};
 use std::marker::Model;
@@ -20,13 +21,12 @@ impl Model for Positions {
 }
 
 impl Positions {
-    /// No position.
-    pub fn new(alloc: Global) -> Positions
-        ensures { result ≡ [] }
+    /// No position, with room for so many.
+    pub fn with_room(alloc: Global, room: usize) -> Result<Positions, AllocError>
+        ensures { IfOk result (λ p. p ≡ []) }
     {
-        Positions {
-            positions: Vec::new(alloc),
-        }
+        let positions = Vec::with_capacity(alloc, room)?;
+        Ok(Positions { positions })
     }
 
     /// How many there are.
@@ -44,6 +44,18 @@ impl Positions {
         self.positions[k]
     }
 
+    /// Is each greater than the one before it? Then none stands twice.
+    pub fn rises(&self) -> bool
+        ensures { result ≡ true → distinct self.now ≡ self.now }
+    {
+        for k in 1..self.positions.len() {
+            if self.positions[k] <= self.positions[k - 1] {
+                return false;
+            }
+        }
+        true
+    }
+
     /// Puts one at the end; where memory is refused the list stays as it was.
     pub fn push(&mut self, i: usize) -> Result<(), AllocError>
         ensures ok { OnOk result (self.new ≡ self.old ++ i ∷ []) }
@@ -54,13 +66,13 @@ impl Positions {
     }
 }
 
-/// So many lists of no position.
-pub fn empty_lists(alloc: Global, count: usize) -> Result<Vec<Positions>, AllocError>
-    ensures { IfOk result (λ v. v.items ≡ replicate count []) }
+/// Lists of no position, each with its room.
+pub fn empty_lists(alloc: Global, rooms: &[usize]) -> Result<Vec<Positions>, AllocError>
+    ensures { IfOk result (λ v. v.items ≡ replicate (length rooms.now) []) }
 {
-    let mut lists = Vec::with_capacity(alloc, count)?;
-    for _k in 0..count {
-        lists.push(Positions::new(alloc))?;
+    let mut lists = Vec::with_capacity(alloc, rooms.len())?;
+    for k in 0..rooms.len() {
+        lists.push(Positions::with_room(alloc, rooms[k])?)?;
     }
     Ok(lists)
 }

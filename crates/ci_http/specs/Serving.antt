@@ -2,8 +2,6 @@
 use Rattle.std.specs.Prelude.{◌≡◌, ◌⊎◌, ℕ, List, ◌++◌, Option, Result, Ok, Err}
 use Rattle.std.specs.Io.KnownBytes.{Appends}
 use Rattle.sqlite.specs.Store.{Ghosts}
-use Rattle.sqlite.specs.Held.{Held}
-use Rattle.ci_memory.specs.declared.remembering.Remembering.{Remembering}
 use Rattle.ci_machine.specs.declared.reply.Answer.TheVariants as answer
 use Rattle.ci_machine.specs.declared.reply.Code.TheVariants.{M16}
 use Rattle.ci_machine.specs.declared.reply.Reply.{Reply}
@@ -11,7 +9,7 @@ use Rattle.ci_machine.specs.declared.request.Event.TheVariants as event
 use Rattle.ci_machine.specs.declared.request.Request.{Request}
 use Rattle.ci_machine.specs.declared.request.Seed.{Seed}
 use Rattle.ci_machine.specs.Reply.{refusal}
-use Rattle.ci_server.specs.declared.fail_stop.FailStop.{FailStop}
+use Rattle.ci_server.specs.Servers.{ServerOver}
 use Rattle.ci_server.specs.Server.{Handles}
 use Rattle.ci_http_messages.specs.Reading.{Message, Reading, ended, refused, request, IsReading, AwaitsBody}
 use Rattle.ci_http_messages.specs.RequestBytes.{request_in, AsksMemory}
@@ -22,7 +20,7 @@ use Rattle.ci_http_messages.specs.Sources.{Tells}
 abbrev pub ReadsByMemory : List ℕ → List ℕ → Type 0
 ReadsByMemory bytes rest = AwaitsBody bytes rest ⊎ ((m : Message) × IsReading bytes (request m) rest × AsksMemory m)
 
-module _ {S : Type 0} (g : Ghosts S) (moment : ℕ) (seed : Seed) (old new : FailStop (Remembering (Held S))) (reply : Reply) where
+module _ {S : Type 0} (g : Ghosts S) (moment : ℕ) (seed : Seed) (old new : ServerOver S) (reply : Reply) where
   -- a request is handled once, and the reply is the server's; where there is none, nothing is handled, and the reply is the one that refuses it
   abbrev pub AnswersAsked : Result Request Reply → Type 0
   AnswersAsked (Ok asked) = Handles g old (event.Request asked, moment, seed) new (answer.Reply reply)

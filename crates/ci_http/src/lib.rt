@@ -5,3 +5,4 @@ pub mod serve;
 pub mod sweep;
 
 pub use ci_http_messages::{call, due, fault, fields, link, route, text};
+pub use ci_server::server::Server;

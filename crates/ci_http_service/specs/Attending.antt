@@ -1,23 +1,21 @@
 -- What becomes of the server while one request is served.
 use Rattle.std.specs.Prelude.{◌≡◌, ◌⊎◌, ℕ, List, Option, Some}
 use Rattle.sqlite.specs.Store.{Ghosts}
-use Rattle.sqlite.specs.Held.{Held}
-use Rattle.ci_memory.specs.declared.remembering.Remembering.{Remembering}
 use Rattle.ci_machine.specs.declared.reply.Reply.{Reply}
 use Rattle.ci_machine.specs.declared.request.Seed.{Seed}
-use Rattle.ci_server.specs.declared.fail_stop.FailStop.{FailStop}
+use Rattle.ci_server.specs.Servers.{ServerOver}
 use Rattle.ci_http.specs.Serving.{Serves}
 use Rattle.ci_http.specs.Sweeping.{SweepsUpTo}
 
 -- The server is swept at a moment, so often at most, and then serves the one request of these bytes at that moment and with this
 -- seed; this is the reply.
-abbrev pub ServesSwept : {S : Type 0} → Ghosts S → ℕ → ℕ × Seed → FailStop (Remembering (Held S)) → FailStop (Remembering (Held S)) → List ℕ → Reply → Type 0
+abbrev pub ServesSwept : {S : Type 0} → Ghosts S → ℕ → ℕ × Seed → ServerOver S → ServerOver S → List ℕ → Reply → Type 0
 ServesSwept {S} g most stamp old new bytes reply =
-    (mid : FailStop (Remembering (Held S))) × SweepsUpTo g stamp.0 most old mid
+    (mid : ServerOver S) × SweepsUpTo g stamp.0 most old mid
     × ((rest : Option (List ℕ)) × Serves g stamp.0 stamp.1 mid new reply (Some bytes) rest)
 
 -- The server is swept so; then it serves the one request of these bytes, or does nothing.
-abbrev pub LeavesSwept : {S : Type 0} → Ghosts S → ℕ → ℕ × Seed → FailStop (Remembering (Held S)) → FailStop (Remembering (Held S)) → List ℕ → Type 0
+abbrev pub LeavesSwept : {S : Type 0} → Ghosts S → ℕ → ℕ × Seed → ServerOver S → ServerOver S → List ℕ → Type 0
 LeavesSwept {S} g most stamp old new bytes =
-    (mid : FailStop (Remembering (Held S))) × SweepsUpTo g stamp.0 most old mid
+    (mid : ServerOver S) × SweepsUpTo g stamp.0 most old mid
     × ((new ≡ mid) ⊎ ((reply : Reply) × (rest : Option (List ℕ)) × Serves g stamp.0 stamp.1 mid new reply (Some bytes) rest))

@@ -10,13 +10,13 @@ ghost use Rattle.ci_http_service.specs.declared.stamps.Unstamped.{Unstamped as W
 ghost use Rattle.ci_http_service.specs.Attending.{ServesSwept, LeavesSwept};
 
 use crate::stamps::{Stamps, Unstamped};
+use ci_http::Server;
 use ci_http::link::Link;
 use ci_http::serve::{Served, serve_one};
 use ci_http::sweep::sweep_all;
 use ci_http_routes::paths::Paths;
 use ci_machine::moment::Moment;
 use ci_machine::request::Seed;
-use ci_server::server::Server;
 use ci_store::Alter;
 use std::alloc::Global;
 use std::marker::Brand;

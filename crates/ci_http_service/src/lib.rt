@@ -3,3 +3,5 @@
 
 pub mod attend;
 pub mod stamps;
+
+pub use ci_http::{Server, due};

@@ -13,13 +13,12 @@ use Rattle.ci_machine.specs.declared.records.JobVariable.{JobVariable}
 use Rattle.ci_machine.specs.declared.records.QueuedJob.{QueuedJob}
 use Rattle.ci_machine.specs.declared.records.Demand.{Demand}
 use Rattle.ci_machine.specs.declared.records.Attempt.{Attempt}
-use Rattle.ci_machine.specs.declared.records.Piece.{Piece}
 use Rattle.ci_machine.specs.declared.records.Numbers.{Numbers}
 use Rattle.ci_machine.specs.declared.records.BoardRow.{BoardRow}
 use Rattle.ci_machine.specs.declared.lease.Lease.{Lease}
 use Rattle.ci_machine.specs.declared.change.Counter.{Counter}
 use Rattle.ci_machine.specs.declared.change.Counter.TheVariants as counter
-use Rattle.ci_machine.specs.State.{State}
+use Rattle.ci_machine.specs.State.{State, trace_in}
 use Rattle.ci_machine.specs.Statuses.{attempts_of, status_for}
 use Rattle.ci_machine.specs.Leases.{is_live}
 
@@ -72,9 +71,9 @@ attempts_by s runner = filter (λ a. a.runner == runner) s.attempts
 abbrev pub last_attempt_by : State → ℕ → Option Attempt
 last_attempt_by s runner = last_or None (attempts_by s runner)
 
--- the pieces of the trace of an attempt, in order
-abbrev pub pieces_of : State → ℕ → List Piece
-pieces_of s attempt = filter (λ p. p.attempt == attempt) s.pieces
+-- the trace of the attempt with a number
+abbrev pub trace_of : State → ℕ → List ℕ
+trace_of s attempt = trace_in attempt s.traces
 
 -- the time limit of a job; an attempt's job is always there
 abbrev pub limit_or_none : Option Job → ℕ
@@ -117,10 +116,10 @@ queue s board = map (queued s) (pending_jobs s board)
 abbrev pub pipeline_of : State → Option Job → Option Pipeline
 pipeline_of s job = option_and_then (λ j. pipeline_at s j.pipeline) job
 
--- the pieces of the trace of an attempt, if there is one
-abbrev pub pieces_in : State → Option Attempt → List Piece
-pieces_in s None = []
-pieces_in s (Some a) = pieces_of s a.id
+-- the trace of an attempt, if there is one
+abbrev pub trace_if_any : State → Option Attempt → List ℕ
+trace_if_any s None = []
+trace_if_any s (Some a) = trace_of s a.id
 
 -- the next number of a kind
 abbrev pub next_of : Counter → Numbers → ℕ

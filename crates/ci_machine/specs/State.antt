@@ -1,5 +1,5 @@
 -- The state: finite lists of records, each in the order of its keys, and the next numbers.
-use Rattle.std.specs.Prelude.{ℕ, not, List, [], ◌∷◌, filter, if◌then◌else◌}
+use Rattle.std.specs.Prelude.{ℕ, not, List, [], ◌∷◌, ◌++◌, ◌==◌, filter, find, Option, Some, None, if◌then◌else◌}
 use Rattle.std.specs.declared.cmp.Ordering.{Ordering}
 use Rattle.std.specs.Ordering.{nat_cmp, is_eq, is_lt, ordering_then}
 use Rattle.std.specs.Cmp.Lexicographic.{slice_cmp}
@@ -11,7 +11,7 @@ use Rattle.ci_machine.specs.declared.records.Job.{Job}
 use Rattle.ci_machine.specs.declared.records.JobVariable.{JobVariable}
 use Rattle.ci_machine.specs.declared.records.Need.{Need}
 use Rattle.ci_machine.specs.declared.records.Attempt.{Attempt}
-use Rattle.ci_machine.specs.declared.records.Piece.{Piece}
+use Rattle.ci_machine.specs.declared.records.Trace.{Trace}
 use Rattle.ci_machine.specs.declared.records.Numbers.{Numbers}
 use Rattle.ci_machine.specs.declared.change.Record.{Record}
 use Rattle.ci_machine.specs.declared.change.Record.TheVariants as row
@@ -20,7 +20,7 @@ use Rattle.ci_machine.specs.declared.change.Key.TheVariants as key
 use Rattle.ci_machine.specs.declared.change.Counter.{Counter}
 use Rattle.ci_machine.specs.declared.change.Counter.TheVariants as counter
 use Rattle.ci_machine.specs.declared.change.RowChange.{RowChange}
-use Rattle.ci_machine.specs.declared.change.RowChange.TheVariants.{Put, Remove}
+use Rattle.ci_machine.specs.declared.change.RowChange.TheVariants.{Put, Append, Remove}
 
 pub record State : Type 0 where
   pub projects : List Project
@@ -31,7 +31,7 @@ pub record State : Type 0 where
   pub job_variables : List JobVariable  -- by the job, then by the key
   pub needs : List Need  -- by the job, then by the one that it waits for
   pub attempts : List Attempt
-  pub pieces : List Piece  -- by the attempt, then by the place in its trace
+  pub traces : List Trace  -- by the attempt, of which each has one at most
   pub next : Numbers
 
 abbrev pub first_numbers : Numbers
@@ -39,10 +39,10 @@ first_numbers = record { project = 1; runner = 1; pipeline = 1; job = 1; attempt
 
 -- nothing, and each next number is 1
 abbrev pub empty : State
-empty = record { projects = []; variables = []; runners = []; pipelines = []; jobs = []; job_variables = []; needs = []; attempts = []; pieces = []; next = first_numbers }
+empty = record { projects = []; variables = []; runners = []; pipelines = []; jobs = []; job_variables = []; needs = []; attempts = []; traces = []; next = first_numbers }
 
 -- how records of a table are ordered: by their numbers, variables by their project or job and then by the bytes of the key, the
--- pairs of graphs by the job and then by the one that it waits for, the pieces of a trace by the attempt and then by their place
+-- pairs of graphs by the job and then by the one that it waits for, traces by the attempt
 abbrev pub project_cmp : Project → Project → Ordering
 project_cmp a b = nat_cmp a.id b.id
 
@@ -67,8 +67,8 @@ need_cmp a b = ordering_then (nat_cmp a.job b.job) (nat_cmp a.pred b.pred)
 abbrev pub attempt_cmp : Attempt → Attempt → Ordering
 attempt_cmp a b = nat_cmp a.id b.id
 
-abbrev pub piece_cmp : Piece → Piece → Ordering
-piece_cmp a b = ordering_then (nat_cmp a.attempt b.attempt) (nat_cmp a.seq b.seq)
+abbrev pub trace_cmp : Trace → Trace → Ordering
+trace_cmp a b = nat_cmp a.attempt b.attempt
 
 -- an ordered list with x at its place
 abbrev pub placed : {A : Type 0} → (A → A → Ordering) → A → List A → List A
@@ -108,7 +108,6 @@ with_record (row.Job j) s = record s { jobs = put job_cmp j s.jobs }
 with_record (row.JobVariable v) s = record s { job_variables = put job_variable_cmp v s.job_variables }
 with_record (row.Need n) s = record s { needs = put need_cmp n s.needs }
 with_record (row.Attempt a) s = record s { attempts = put attempt_cmp a s.attempts }
-with_record (row.Piece p) s = record s { pieces = put piece_cmp p s.pieces }
 with_record (row.Next c n) s = record s { next = with_next c n s.next }
 
 abbrev pub without_record : Key → State → State
@@ -122,12 +121,24 @@ without_record (key.JobVariables n) s = record s { job_variables = without (λ v
 without_record (key.Need n pred) s = record s { needs = filter (λ w. not (is_eq (ordering_then (nat_cmp w.job n) (nat_cmp w.pred pred)))) s.needs }
 without_record (key.Needs n) s = record s { needs = without (λ w. w.job) n s.needs }
 without_record (key.Attempt n) s = record s { attempts = without (λ a. a.id) n s.attempts }
-without_record (key.Piece n seq) s = record s { pieces = filter (λ p. not (is_eq (ordering_then (nat_cmp p.attempt n) (nat_cmp p.seq seq)))) s.pieces }
-without_record (key.Pieces n) s = record s { pieces = without (λ p. p.attempt) n s.pieces }
+without_record (key.Trace n) s = record s { traces = without (λ t. t.attempt) n s.traces }
+
+abbrev pub bytes_or_none : Option Trace → List ℕ
+bytes_or_none None = []
+bytes_or_none (Some t) = t.bytes
+
+-- the trace of the attempt n among these: no bytes, where it has none
+abbrev pub trace_in : ℕ → List Trace → List ℕ
+trace_in n traces = bytes_or_none (find (λ t. t.attempt == n) traces)
+
+-- the traces, where these bytes stand behind those that their attempt's has
+abbrev pub with_bytes : Trace → List Trace → List Trace
+with_bytes t traces = put trace_cmp (record t { bytes = trace_in t.attempt traces ++ t.bytes }) traces
 
 -- the state after one change
 abbrev pub changed : RowChange → State → State
 changed (Put r) s = with_record r s
+changed (Append t) s = record s { traces = with_bytes t s.traces }
 changed (Remove k) s = without_record k s
 
 -- the state after changes, the first of them first

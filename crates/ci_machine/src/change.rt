@@ -3,12 +3,12 @@
 ghost use Rattle.std.specs.Prelude.{◌≡◌, ◌↔◌, [], IsTrue};
 
 use crate::records::{
-    Attempt, Holder, Job, JobVariable, Need, Piece, Pipeline, Project, Runner, Unfinished, Variable,
+    Attempt, Holder, Job, JobVariable, Need, Pipeline, Project, Runner, Trace, Unfinished, Variable,
 };
 use crate::text::Text;
 use std::marker::Model;
 
-/// A record of any table.
+/// A record of any table but that of traces.
 #[derive(Drop)]
 pub enum Record {
     Project(Project),
@@ -19,7 +19,6 @@ pub enum Record {
     JobVariable(JobVariable),
     Need(Need),
     Attempt(Attempt),
-    Piece(Piece),
     /// The next number of a kind.
     Next(Counter, u64),
 }
@@ -41,10 +40,8 @@ pub enum Key {
     /// All that a job waits for.
     Needs(u64),
     Attempt(u64),
-    /// Of an attempt, at a place of its trace.
-    Piece(u64, u64),
     /// The whole trace of an attempt.
-    Pieces(u64),
+    Trace(u64),
 }
 
 /// One of the next numbers.
@@ -57,11 +54,13 @@ pub enum Counter {
     Attempt,
 }
 
-/// A change of one row.
+/// A change of the records.
 #[derive(Drop)]
 pub enum RowChange {
     /// A record in place of the one with its key, or a new one.
     Put(Record),
+    /// Bytes behind the trace of an attempt.
+    Append(Trace),
     /// The record with the key goes, or all that have it.
     Remove(Key),
 }

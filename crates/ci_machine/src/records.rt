@@ -243,10 +243,6 @@ pub struct Attempt {
     /// When its runner was last heard of.
     pub seen: Moment,
     pub state: AttemptState,
-    /// How many pieces its trace has.
-    pub pieces: u64,
-    /// The size of its trace, in bytes.
-    pub size: u64,
 }
 
 /// An attempt with its job.
@@ -272,12 +268,10 @@ pub struct Unfinished {
     pub pipeline: u64,
 }
 
-/// A piece of the trace of an attempt, as its runner sent it.
-#[derive(Clone, Drop)]
-pub struct Piece {
+/// The trace of an attempt, or bytes that go behind it: what its runner sent and the server accepted.
+#[derive(Drop)]
+pub struct Trace {
     pub attempt: u64,
-    /// Its place among the pieces of the trace, from 0.
-    pub seq: u64,
     pub bytes: Bytes,
 }
 

@@ -71,7 +71,7 @@ laws h s leads =
       was_granted = All-from_has (WasGranted h) s.attempts (λ a k. granted h s leads a (i.grants.granted a k));
       traced = All-from_has (IsTraced h s) s.attempts i.traces.traced;
       ends_stay = All-from_has (λ (p : Past). EndsStay h p.before s) h (λ p k. All-from_has (λ (a : Attempt). is_live a ≡ false → Contains s.attempts a ⊎ WentWithItsJob h a) p.before.attempts
-          (λ a m l. ⊎_elim (λ n. inl (contains_from_has a s.attempts n)) (λ w. inr w) (i.ends p k a m l)));
+          (λ a m l. ⊎_elim (λ n. inl (contains_from_has a s.attempts n)) (λ w. inr w.0) (i.ends p k a m l)));
       stays = All-from_has (λ (p : Past). Stays h p.before s) h (λ p k. stays_from h p.before s (held.stays p k));
       linked = is_linked s held.linked;
       settled = settled h s leads;

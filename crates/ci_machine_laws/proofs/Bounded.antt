@@ -124,7 +124,7 @@ each s board request jobs_rise rise = record {
   grown = λ a bytes now size has _. refl;
   pipeline_shown = λ p held jobs facts rows _. refl;
   shown = λ held project job status _. refl;
-  traced = λ pieces _. refl;
+  traced = λ trace _. refl;
   acted = λ text changes act _. ap (λ (t : State). t.next.job) (after_act s changes act);
   pruned = λ p before asks found _. ap (λ (t : State). t.next.job) (pruned_state s p.id jobs_rise rise p refl);
 }

@@ -9,7 +9,6 @@ use Rattle.ci_machine.specs.declared.records.Pipeline.{Pipeline}
 use Rattle.ci_machine.specs.declared.records.Job.{Job}
 use Rattle.ci_machine.specs.declared.records.Attempt.{Attempt}
 use Rattle.ci_values.specs.declared.attempts.AttemptState.{AttemptState}
-use Rattle.ci_machine.specs.declared.records.Piece.{Piece}
 use Rattle.ci_machine.specs.declared.lease.Lease.{Lease}
 use Rattle.ci_machine.specs.declared.lease.LeaseFault.{LeaseFault}
 use Rattle.ci_machine.specs.declared.lease.LeaseFault.TheVariants.{NotLive, LeaseOver}
@@ -77,7 +76,7 @@ use Rattle.ci_machine_steps.specs.Prunes.{prunable_in, pruned_reply, pipeline_go
 use Rattle.ci_machine.specs.Leases.{accepted, first_due}
 use Rattle.ci_machine.specs.Eligible.{may_run, resource_free, is_eligible, chosen}
 use Rattle.ci_machine.specs.Holders.{holders}
-use Rattle.ci_machine_steps.specs.Step.{Does, Happens, Step, project_with, project_named, runner_at, redundant_in, cancellable_in, project_variables, variable_at, pipeline_at, runner_with, attempt_at, pipeline_of, job_at, found_job, found_pipeline, last_attempt, pieces_in, lease_of, leases, is_pending, pending_jobs, queued, queue, offer, offered_variables, jobs_in}
+use Rattle.ci_machine_steps.specs.Step.{Does, Happens, Step, project_with, project_named, runner_at, redundant_in, cancellable_in, project_variables, variable_at, pipeline_at, runner_with, attempt_at, pipeline_of, job_at, found_job, found_pipeline, last_attempt, trace_of, trace_if_any, lease_of, leases, is_pending, pending_jobs, queued, queue, offer, offered_variables, jobs_in}
 use Rattle.ci_machine_steps.specs.Laws.{IsRefusal}
 use Rattle.ci_machine.specs.Reply.{Stepped, outcome_of}
 use Rattle.ci_machine.proofs.Keyed.{Has, has_filter, has_find, find-map}
@@ -306,7 +305,7 @@ pub record Each (s : State) (board : List BoardRow) (request : Request) (P : Pla
   pub grown : (a : Attempt) (bytes : List ℕ) (now size : ℕ) → Has a s.attempts → P (grown a bytes now size)
   pub pipeline_shown : (p : Pipeline) (held : List Holder) (jobs : List Job) (facts : List Facts) (rows : List Row) → P (pipeline_shown p held jobs facts rows)
   pub shown : (held : List Holder) (project : ℕ) (job : Job) (status : Status) → P (job_shown held project job status)
-  pub traced : (pieces : List Piece) → P (trace_shown pieces)
+  pub traced : (trace : List ℕ) → P (trace_shown trace)
   pub acted : (text : List ℕ) (changes : List RowChange) → IsAct s changes → P (fine (Json text), changes)
   pub pruned : (p : Pipeline) (before : ℕ) → request ≡ PruneOne before → prunable_in s board before ≡ Some p → P (pruned_reply p.id, pipeline_goes p (jobs_of s p.id) s.attempts)
 
@@ -364,15 +363,15 @@ module _ (s : State) (board : List BoardRow) (request : Request) (P : Plan → T
       cond_both (bytes_eq a.token update.token) (reported (lease_of s a) update.report now) (refused M5) P (λ _. reports (lease_of s a) has.0 update.report now) (λ _. each.refused M5 tt)
 
   grows : (a : Attempt) → Has a s.attempts → (bytes : List ℕ) (now : ℕ) (size : Result ℕ PieceFault) → P (appended a bytes now size)
-  grows a has bytes now (Ok size) = cond_both (nat_lt MAX_NUMBER a.pieces) (refused M15) (grown a bytes now size) P (λ _. each.refused M15 tt) (λ _. each.grown a bytes now size has)
+  grows a has bytes now (Ok size) = each.grown a bytes now size has
   grows a has bytes now (Err fault) = each.misplaced fault
 
-  appends : (part : TracePart) (now : ℕ) (a : Option Attempt) → attempt_at s part.attempt ≡ a → P (append_trace (option_map (lease_of s) a) part now)
+  appends : (part : TracePart) (now : ℕ) (a : Option Attempt) → attempt_at s part.attempt ≡ a → P (append_trace (option_map (lease_of s) a) (length (trace_of s part.attempt)) part now)
   appends part now None found = each.refused M5 tt
   appends part now (Some a) found =
       let l = lease_of s a in
       let has = has_find (λ (b : Attempt). b.id == part.attempt) a s.attempts found in
-      cond_both (bytes_eq a.token part.token) _ (refused M5) P (λ _. grows a has.0 part.bytes now (accepted a l.limit now a.size part.from (length part.bytes))) (λ _. each.refused M5 tt)
+      cond_both (bytes_eq a.token part.token) _ (refused M5) P (λ _. grows a has.0 part.bytes now (accepted a l.limit now (length (trace_of s part.attempt)) part.from (length part.bytes))) (λ _. each.refused M5 tt)
 
   prunes : (before : ℕ) → request ≡ PruneOne before → (found : Option Pipeline) → prunable_in s board before ≡ found → P (prune found (jobs_in s found) s.attempts)
   prunes before asks None found = each.nothing
@@ -410,8 +409,8 @@ does s board P (ShowJob query) each now seed plan is =
     subst P (sym is) (asked (λ r. P (shown (holders s) query.project r status)) (λ j. each.shown (holders s) query.project j status) (λ c m. each.refused c m) (project_with s query.token) job (pipeline_of s job) query)
 does s board P (ShowTrace query) each now seed plan is =
     let job = job_at s query.job in
-    let pieces = pieces_in s (last_attempt s query.job) in
-    subst P (sym is) (asked (λ r. P (traced r pieces)) (λ j. each.traced pieces) (λ c m. each.refused c m) (project_with s query.token) job (pipeline_of s job) query)
+    let trace = trace_if_any s (last_attempt s query.job) in
+    subst P (sym is) (asked (λ r. P (traced r trace)) (λ j. each.traced trace) (λ c m. each.refused c m) (project_with s query.token) job (pipeline_of s job) query)
 does s board P (Play query) each now seed plan is = of_play s board P each.refused each.acted query plan is
 does s board P (CancelJob query) each now seed plan is = of_job_cancel s board P each.refused each.acted query plan is
 does s board P (RetryJob query) each now seed plan is = of_retry s board P each.refused each.acted query plan is
@@ -442,7 +441,7 @@ keeps s board request = record {
   grown = λ a bytes now size has refused. absurd (false≢true refused);
   pipeline_shown = λ p held jobs facts rows _. refl;
   shown = λ held project job status _. refl;
-  traced = λ pieces _. refl;
+  traced = λ trace _. refl;
   acted = λ text changes act refused. absurd (false≢true refused);
   pruned = λ p before asks found refused. absurd (false≢true refused);
 }
@@ -488,7 +487,7 @@ steps s board request = record {
   grown = λ a bytes now size has. refl;
   pipeline_shown = λ p held jobs facts rows. refl;
   shown = λ held project job status. refl;
-  traced = λ pieces. refl;
+  traced = λ trace. refl;
   acted = λ text changes act. refl;
   pruned = λ p before asks found. refl;
 } where

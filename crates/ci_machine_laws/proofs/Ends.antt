@@ -1,6 +1,6 @@
--- What has ended stays as it ended or went with its pipeline, in every state that a history leads to.
-use Rattle.std.specs.Prelude.{◌≡◌, ◌⊎◌, ℕ, Bool, true, false, List, ◌∷◌, Result, Ok, Err}
-use Rattle.std.proofs.Common.{refl, sym, ap, subst, ◌∙◌, inl, inr, ⊎_elim}
+-- What has ended stays as it ended or went with its pipeline, and then for good, in every state that a history leads to.
+use Rattle.std.specs.Prelude.{◌≡◌, ◌⊎◌, ℕ, ◌<◌, ◌≤◌, Bool, true, false, List, ◌∷◌, Result, Ok, Err}
+use Rattle.std.proofs.Common.{refl, sym, ap, subst, ◌∙◌, inl, inr, ⊎_elim, arith}
 use Rattle.std.proofs.lemmas.Bool.{both_ways}
 use Rattle.ci_machine.specs.declared.records.Attempt.{Attempt}
 use Rattle.ci_values.specs.declared.attempts.AttemptState.{AttemptState}
@@ -14,31 +14,53 @@ use Rattle.ci_machine_steps.specs.History.{Past}
 use Rattle.ci_machine_steps.specs.Laws.{WentWithItsJob}
 use Rattle.ci_machine.proofs.Keyed.{Has, put_has, unequal}
 use Rattle.ci_machine_laws.proofs.Gone.{still_gone}
+use Rattle.ci_machine_laws.proofs.Traces.{Was, IsNew, same}
+
+-- no attempt has the number n, which isn't still to come either
+abbrev pub IsMissing : ℕ → State → Type 0
+IsMissing n s = (n < s.next.attempt) × ((b : Attempt) → Has b s.attempts → b.id ≡ n → ⊥)
+
+-- the attempt went with its pipeline, and no other has its number
+abbrev pub HasGone : List Past → State → Attempt → Type 0
+HasGone h s a = WentWithItsJob h a × IsMissing a.id s
 
 -- what had ended in the state before a line stands there as it ended, or went with its pipeline
 abbrev pub Ends : List Past → State → Type 0
-Ends h s = (p : Past) → Has p h → (a : Attempt) → Has a p.before.attempts → is_live a ≡ false → Has a s.attempts ⊎ WentWithItsJob h a
+Ends h s = (p : Past) → Has p h → (a : Attempt) → Has a p.before.attempts → is_live a ≡ false → Has a s.attempts ⊎ HasGone h s a
 
-earlier : (h : List Past) (s : State) (p : Past) → p.before ≡ s → Ends h s → (q : Past) → Has q (p ∷ h) → (a : Attempt) → Has a q.before.attempts → is_live a ≡ false → Has a s.attempts ⊎ WentWithItsJob h a
+-- each attempt of the one state was there in the other, or is new
+abbrev pub AreKnown : State → State → Type 0
+AreKnown s t = (s.next.attempt ≤ t.next.attempt) × ((b : Attempt) → Has b t.attempts → Was s b ⊎ IsNew s b)
+
+still_missing : (n : ℕ) (s t : State) → AreKnown s t → IsMissing n s → IsMissing n t
+still_missing n s t known missing =
+    let below : n < s.next.attempt = missing.0 in
+    let more : s.next.attempt ≤ t.next.attempt = known.0 in (
+      omega arith,
+      λ b k e. ⊎_elim (λ w. missing.1 w.0 w.1.0 (w.1.1 ∙ e)) (λ w. let new : s.next.attempt ≤ b.id = w in absurd (omega arith)) (known.1 b k),
+    )
+
+earlier : (h : List Past) (s : State) (p : Past) → p.before ≡ s → Ends h s → (q : Past) → Has q (p ∷ h) → (a : Attempt) → Has a q.before.attempts → is_live a ≡ false → Has a s.attempts ⊎ HasGone h s a
 earlier h s p b i q k a m l = ⊎_elim (λ e. inl (subst (λ (w : State). Has a w.attempts) (ap (λ (w : Past). w.before) e ∙ b) m)) (λ n. i q n a m l) k
 
 -- a step after which what had ended stands, or went with its pipeline
-pub goes_on : (h : List Past) (s t : State) (p : Past) → p.before ≡ s → Ends h s → ((a : Attempt) → Has a s.attempts → is_live a ≡ false → Has a t.attempts ⊎ WentWithItsJob (p ∷ h) a) → Ends (p ∷ h) t
-goes_on h s t p b i stands q k a m l = ⊎_elim (λ n. stands a n l) (λ w. inr (still_gone p h a w)) (earlier h s p b i q k a m l)
+pub goes_on : (h : List Past) (s t : State) (p : Past) → p.before ≡ s → Ends h s → AreKnown s t → ((a : Attempt) → Has a s.attempts → is_live a ≡ false → Has a t.attempts ⊎ HasGone (p ∷ h) t a) → Ends (p ∷ h) t
+goes_on h s t p b i known stands q k a m l =
+    ⊎_elim (λ n. stands a n l) (λ w. inr (still_gone p h a w.0, still_missing a.id s t known w.1)) (earlier h s p b i q k a m l)
 
 -- a step that leaves what has ended
-pub leaves_ended : (h : List Past) (s t : State) (p : Past) → p.before ≡ s → Ends h s → ((a : Attempt) → Has a s.attempts → is_live a ≡ false → Has a t.attempts) → Ends (p ∷ h) t
-leaves_ended h s t p b i keeps = goes_on h s t p b i (λ a k l. inl (keeps a k l))
+pub leaves_ended : (h : List Past) (s t : State) (p : Past) → p.before ≡ s → Ends h s → AreKnown s t → ((a : Attempt) → Has a s.attempts → is_live a ≡ false → Has a t.attempts) → Ends (p ∷ h) t
+leaves_ended h s t p b i known keeps = goes_on h s t p b i known (λ a k l. inl (keeps a k l))
 
 -- a step that leaves the attempts
-pub stays : (h : List Past) (s t : State) (p : Past) → p.before ≡ s → Ends h s → t.attempts ≡ s.attempts → Ends (p ∷ h) t
-stays h s t p b i e = leaves_ended h s t p b i (λ a k l. subst (Has a) (sym e) k)
+pub stays : (h : List Past) (s t : State) (p : Past) → p.before ≡ s → Ends h s → t.attempts ≡ s.attempts → t.next.attempt ≡ s.next.attempt → Ends (p ∷ h) t
+stays h s t p b i e f = leaves_ended h s t p b i (omega arith, λ c k. same s c (subst (Has c) e k)) (λ a k l. subst (Has a) (sym e) k)
 
 -- a step that puts x, where none of its number has ended
-pub puts : (h : List Past) (s t : State) (p : Past) (x : Attempt) → p.before ≡ s → Ends h s → t.attempts ≡ put attempt_cmp x s.attempts
+pub puts : (h : List Past) (s t : State) (p : Past) (x : Attempt) → p.before ≡ s → Ends h s → AreKnown s t → t.attempts ≡ put attempt_cmp x s.attempts
     → ((a : Attempt) → Has a s.attempts → a.id ≡ x.id → is_live a ≡ true) → Ends (p ∷ h) t
-puts h s t p x b i e live =
-    leaves_ended h s t p b i (λ a has l. subst (Has a) (sym e) (put_has attempt_cmp x a s.attempts has (unequal a.id x.id (λ f. both_ways (is_live a) l (live a has f)))))
+puts h s t p x b i known e live =
+    leaves_ended h s t p b i known (λ a has l. subst (Has a) (sym e) (put_has attempt_cmp x a s.attempts has (unequal a.id x.id (λ f. both_ways (is_live a) l (live a has f)))))
 
 -- ---- what is accepted of a runner is of a live attempt
 

@@ -1,5 +1,5 @@
 -- Each resource group of a project is held by at most one live attempt, in every state that a history leads to.
-use Rattle.std.specs.Prelude.{◌≡◌, ◌⊎◌, ℕ, ◌+◌, max, ◌==◌, ◌&&◌, ◌||◌, not, Bool, true, false, List, [], ◌∷◌, ◌++◌, flat_map, Option, Some, None, Ok, option_map}
+use Rattle.std.specs.Prelude.{◌≡◌, ◌⊎◌, ℕ, max, ◌==◌, ◌&&◌, ◌||◌, not, Bool, true, false, List, [], ◌∷◌, ◌++◌, flat_map, Option, Some, None, Ok, option_map}
 use Rattle.std.specs.List.{list_any}
 use Rattle.std.specs.Str.{bytes_eq}
 use Rattle.std.proofs.Common.{refl, sym, ap, subst, ◌∙◌, inl, inr, ⊎_elim, eqb-true, ne_eqb}
@@ -176,7 +176,7 @@ module _ (s : State) (board : List BoardRow) (request : Request) where
 
   grows : (a : Attempt) (bytes : List ℕ) (now size : ℕ) → Has a s.attempts → Comes (grown a bytes now size)
   grows a bytes now size has =
-      let x = record a { seen = max a.seen now; pieces = a.pieces + 1; size = size } in
+      let x = record a { seen = max a.seen now } in
       alters s (applied (grown a bytes now size).1 s) x a has refl refl refl (λ l. l) refl
 
   each : Rising job_id 0 s.jobs → Rising (λ (a : Attempt). a.id) 0 s.attempts → Each s board request Comes
@@ -208,7 +208,7 @@ module _ (s : State) (board : List BoardRow) (request : Request) where
     grown = grows;
     pipeline_shown = λ p held jobs facts rows. stays s s refl;
     shown = λ held project job status. stays s s refl;
-    traced = λ pieces. stays s s refl;
+    traced = λ trace. stays s s refl;
     acted = λ text changes act. acted s changes act;
     pruned = λ p before asks found b k. inl (there s b (attempt_was s p.id jobs_rise rise b (subst (λ (t : State). Has b t.attempts) (pruned_state s p.id jobs_rise rise p refl) k)).0);
   }

@@ -116,7 +116,7 @@ module _ (s : State) (board : List BoardRow) (request : Request) (now : ℕ) (se
     grown = λ a bytes at size has j k. inl (there s j k);
     pipeline_shown = λ p held jobs facts rows j k. inl (there s j k);
     shown = λ held project job status j k. inl (there s j k);
-    traced = λ pieces j k. inl (there s j k);
+    traced = λ trace j k. inl (there s j k);
     acted = λ text changes act j k. inl (acted s changes act j k);
     pruned = λ p before asks found j k. inl (there s j (job_was s p.id jobs_rise rise j (subst (λ (t : State). Has j t.jobs) (pruned_state s p.id jobs_rise rise p refl) k)).0);
   }

@@ -255,7 +255,7 @@ each s board request i was jobs_rise rise = record {
   grown = λ a bytes now size has. was;
   pipeline_shown = λ p held jobs facts rows. was;
   shown = λ held project job status. was;
-  traced = λ pieces. was;
+  traced = λ trace. was;
   acted = λ text changes act. acts s changes act was;
   pruned = λ p before asks found. subst (λ (t : State). Joined t.jobs t.needs) (sym (pruned_state s p.id jobs_rise rise p refl))
       (leaves s.needs _ (λ w k. (has_filter _ w s.needs k).0) s.jobs _ (λ j k. (has_filter _ j s.jobs k).0) was);

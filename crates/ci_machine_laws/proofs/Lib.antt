@@ -4,6 +4,7 @@ pub mod Grants
 pub mod Pending
 pub mod Computed
 pub mod Traces
+pub mod Pieces
 pub mod Gone
 pub mod Ends
 pub mod PutAll
@@ -22,3 +23,4 @@ pub mod AllLaws
 pub mod Numbers
 pub mod Bounded
 pub mod OneBoard
+pub mod SentAgain

@@ -543,7 +543,7 @@ goes s board request i jr r b = record {
   grown = λ a bytes now size has. inl (grows a bytes now size has);
   pipeline_shown = λ p held jobs facts rows. inl (rests s i);
   shown = λ held project job status. inl (rests s i);
-  traced = λ pieces. inl (rests s i);
+  traced = λ trace. inl (rests s i);
   acted = λ text changes act. inl (acts s changes act i jr r);
   pruned = λ p before is found. inr (record {
     pipeline = p;
@@ -556,7 +556,7 @@ goes s board request i jr r b = record {
 } where
   grows : (a : Attempt) (bytes : List ℕ) (now size : ℕ) → Has a s.attempts → Next s (applied (traces_grown a bytes now size).1 s)
   grows a bytes now size has =
-      let n = alters s (record a { seen = max a.seen now; pieces = a.pieces + 1; size = size }) a i r has refl in
+      let n = alters s (record a { seen = max a.seen now }) a i r has refl in
       record {
         later = record { projects = n.later.projects; runners = n.later.runners; pipelines = n.later.pipelines; jobs = n.later.jobs; attempts = n.later.attempts };
         projects_rise = n.projects_rise;

@@ -12,7 +12,7 @@ use Rattle.ci_machine.specs.declared.records.Job.{Job}
 use Rattle.ci_machine.specs.declared.records.Need.{Need}
 use Rattle.ci_machine.specs.declared.records.Attempt.{Attempt}
 use Rattle.ci_machine.specs.declared.change.RowChange.{RowChange}
-use Rattle.ci_machine.specs.declared.change.RowChange.TheVariants.{Put, Remove}
+use Rattle.ci_machine.specs.declared.change.RowChange.TheVariants.{Put, Append, Remove}
 use Rattle.ci_machine.specs.declared.change.Record.{Record}
 use Rattle.ci_machine.specs.declared.change.Record.TheVariants as row
 use Rattle.ci_machine.specs.declared.change.Key.{Key}
@@ -44,7 +44,6 @@ recorded (row.Job p) s o = o
 recorded (row.JobVariable v) s o = o
 recorded (row.Need w) s o = put_ordered need_cmp need_total w s.needs o
 recorded (row.Attempt p) s o = o
-recorded (row.Piece p) s o = o
 recorded (row.Next c n) s o = o
 
 removed : (k : Key) (s : State) → Ordered need_cmp s.needs → Ordered need_cmp (without_record k s).needs
@@ -58,11 +57,11 @@ removed (key.JobVariables n) s o = o
 removed (key.Need n pred) s o = filter_ordered need_cmp _ s.needs o
 removed (key.Needs n) s o = filter_ordered need_cmp _ s.needs o
 removed (key.Attempt n) s o = o
-removed (key.Piece n seq) s o = o
-removed (key.Pieces n) s o = o
+removed (key.Trace n) s o = o
 
 one_change : (c : RowChange) (s : State) → Ordered need_cmp s.needs → Ordered need_cmp (changed c s).needs
 one_change (Put r) s o = recorded r s o
+one_change (Append t) s o = o
 one_change (Remove k) s o = removed k s o
 
 changes : (cs : List RowChange) (s : State) → Ordered need_cmp s.needs → Ordered need_cmp (applied cs s).needs

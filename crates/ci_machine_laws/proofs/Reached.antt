@@ -1,5 +1,5 @@
 -- What holds of every state that a history leads to.
-use Rattle.std.specs.Prelude.{◌≡◌, ◌⊎◌, ℕ, ◌+◌, ◌<◌, ◌≤◌, Bool, true, false, not, ◌==◌, ◌&&◌, nat_lt, nat_le, List, [], ◌∷◌, length, if◌then◌else◌, Option, Some, None, option_map, Result, Ok, Err}
+use Rattle.std.specs.Prelude.{◌≡◌, ◌⊎◌, ℕ, ◌<◌, ◌≤◌, Bool, true, false, not, ◌==◌, ◌&&◌, nat_lt, List, [], ◌∷◌, length, if◌then◌else◌, Option, Some, None, option_map, Result, Ok, Err}
 use Rattle.std.specs.Str.{bytes_eq}
 use Rattle.std.proofs.Common.{refl, sym, ap, subst, ◌∙◌, inl, inr, ⊎_elim, arith, eqb-true}
 use Rattle.std.proofs.lemmas.Bool.{cond_both, both_ways, cases_Bool}
@@ -13,7 +13,6 @@ use Rattle.ci_machine.specs.declared.records.QueuedJob.{QueuedJob}
 use Rattle.ci_machine.specs.declared.records.Attempt.{Attempt}
 use Rattle.ci_values.specs.declared.attempts.AttemptState.{AttemptState}
 use Rattle.ci_values.specs.declared.attempts.AttemptState.TheVariants.{Failed}
-use Rattle.ci_machine.specs.declared.records.Piece.{Piece}
 use Rattle.ci_machine.specs.declared.lease.Lease.{Lease}
 use Rattle.ci_machine.specs.declared.lease.LeaseFault.{LeaseFault}
 use Rattle.ci_machine.specs.declared.lease.LeaseFault.TheVariants.{NotLive, LeaseOver}
@@ -49,12 +48,11 @@ use Rattle.ci_machine.specs.declared.reply.Answer.{Answer}
 use Rattle.ci_machine.specs.declared.reply.Answer.TheVariants as answer
 use Rattle.ci_machine.specs.declared.reply.Swept.{Swept}
 use Rattle.ci_values.specs.Names.{is_name}
-use Rattle.ci_machine.specs.State.{State, applied, job_cmp, attempt_cmp}
+use Rattle.ci_machine.specs.State.{State, applied, put, job_cmp, attempt_cmp}
 use Rattle.ci_machine.specs.Statuses.{jobs_of, facts_of, rows_of, status_for, AreBoard}
-use Rattle.ci_machine.specs.Leases.{is_live, renewed, if_leased, size_after, accepted, cause_of, is_over, first_due}
+use Rattle.ci_machine.specs.Leases.{is_live, renewed, size_after, accepted, cause_of, is_over, first_due}
 use Rattle.ci_machine.specs.Eligible.{is_eligible, chosen}
 use Rattle.ci_values.specs.declared.limits.TheConstants.{MAX_NUMBER}
-use Rattle.ci_machine.specs.declared.limits.TheConstants.{MAX_TRACE_BYTES}
 use Rattle.ci_machine.specs.declared.reply.Body.TheVariants.{Json}
 use Rattle.ci_machine_steps.specs.Plans.{Plan, refused, faulted, fine}
 use Rattle.ci_machine_steps.specs.Projects.{made_project, add_project}
@@ -72,7 +70,7 @@ use Rattle.ci_machine_steps.specs.Shows.{asked_pipeline, show_pipeline, asked_jo
 use Rattle.ci_machine_steps.specs.Sweeps.{sweep}
 use Rattle.ci_machine_steps.specs.Prunes.{prunable_in, is_job_among, pruned_reply, prune, without_pipeline}
 use Rattle.ci_machine.specs.Reply.{status_of_state}
-use Rattle.ci_machine_steps.specs.Step.{Does, Happens, project_with, project_named, runner_at, redundant_in, cancellable_in, project_variables, variable_at, pipeline_at, runner_with, job_at, attempt_at, pipeline_of, last_attempt, pieces_in, lease_of, leases, live_attempts, is_pending, pending_jobs, queued, queue, offer, offered_variables, jobs_in}
+use Rattle.ci_machine_steps.specs.Step.{Does, Happens, project_with, project_named, runner_at, redundant_in, cancellable_in, project_variables, variable_at, pipeline_at, runner_with, job_at, attempt_at, pipeline_of, last_attempt, trace_of, trace_if_any, lease_of, leases, live_attempts, is_pending, pending_jobs, queued, queue, offer, offered_variables, jobs_in}
 use Rattle.ci_machine_steps.specs.History.{Past, Leads}
 use Rattle.ci_machine_steps.specs.Laws.{grants, is_grant, accepted_bytes, IsLeastEligible}
 use Rattle.ci_machine.proofs.Keyed.{Has, Rising, has_put, rising_filter, has_filter, filter_has, has_find, least_find, find-map, one_at, All-from_has, contains_from_has}
@@ -83,14 +81,13 @@ use Rattle.ci_machine_steps.proofs.Behind.{put_all}
 use Rattle.ci_machine_laws.proofs.PutAll.{rising_all, has_still}
 use Rattle.ci_machine_laws.proofs.Acts.{WasLive, IsAct, cancels, cancellable_within, after_act, came}
 use Rattle.ci_machine_steps.proofs.Created.{after_creation}
-use Rattle.ci_machine_steps.proofs.Pruned.{pruned_state, attempt_was, attempt_left, pieces_left}
+use Rattle.ci_machine_steps.proofs.Pruned.{pruned_state, attempt_was, attempt_left, trace_left}
 use Rattle.ci_machine_laws.proofs.EachPlan.{IsMachineCode, of_asked, given_in, of_file, of_variable, of_removal, of_creation, of_pipeline, of_play, of_retry, of_job_cancel, of_cancel}
 use Rattle.ci_machine_laws.proofs.Gone.{goes_with}
-use Rattle.ci_machine_laws.proofs.Traces as pieces
+use Rattle.ci_machine_laws.proofs.Traces as trace
 use Rattle.ci_machine_laws.proofs.Ends as finals
 use Rattle.ci_machine_laws.proofs.Ends.{Ends, renewed_live, leased_live}
 use Rattle.ci_machine_laws.proofs.Traces.{Traces, Was, IsNew, same, traces_empty}
-use Rattle.ci_machine_steps.proofs.Pieces.{climbs_filter}
 
 pub record Inv (h : List Past) (s : State) : Type 0 where
   pub grants : Grants h s
@@ -113,13 +110,13 @@ After h s e now seed plan = Changed h s e now seed (answer.Reply plan.0) plan.1
 abbrev Quiet : Event → Answer → Type 0
 Quiet e a = (n : ℕ) → accepted_bytes n e a ≡ []
 
--- a step that leaves attempts and pieces
+-- a step that leaves attempts and traces
 keeps : (h : List Past) (s t : State) (p : Past) → p.before ≡ s → Inv h s → ((n : ℕ) → grants n p ≡ false) → Quiet p.event p.answer
-    → t.attempts ≡ s.attempts → t.pieces ≡ s.pieces → t.next.attempt ≡ s.next.attempt → Rising (λ (j : Job). j.id) 0 t.jobs → Inv (p ∷ h) t
+    → t.attempts ≡ s.attempts → t.traces ≡ s.traces → t.next.attempt ≡ s.next.attempt → Rising (λ (j : Job). j.id) 0 t.jobs → Inv (p ∷ h) t
 keeps h s t p b i isnt none e f g r = record {
   grants = leased.keeps h s t p i.grants isnt e g r;
-  traces = pieces.stays h s t p i.traces none f (omega arith) (λ b k. same s b (subst (Has b) e k));
-  ends = finals.stays h s t p b i.ends e;
+  traces = trace.stays h s t p i.traces none f (omega arith) (λ b k. same s b (subst (Has b) e k));
+  ends = finals.stays h s t p b i.ends e g;
 }
 
 -- no changes, of an event that grants nothing and accepts no bytes with its answer
@@ -131,26 +128,20 @@ rests h s e now seed a i isnt quiet =
 only_live : {h : List Past} {s : State} {n : ℕ} → Inv h s → (a : Attempt) → Has a s.attempts → is_live a ≡ true → n ≡ a.id → (b : Attempt) → Has b s.attempts → b.id ≡ n → is_live b ≡ true
 only_live {h} {s} i a has live its b k e = ap is_live (one_at (λ (c : Attempt). c.id) b a 0 s.attempts i.grants.rise k has (e ∙ its)) ∙ live
 
--- x in place of a live attempt of its number, job, runner and trace
+-- what is there with x in place of an attempt of its number
+in_place : (s : State) (a x : Attempt) → Has a s.attempts → x.id ≡ a.id → (b : Attempt) → Has b (put attempt_cmp x s.attempts) → Was s b ⊎ IsNew s b
+in_place s a x has same_id b k = ⊎_elim (λ q. inl (a, (has, sym (ap (λ (c : Attempt). c.id) q ∙ same_id)))) (λ m. same s b m) (has_put attempt_cmp x b s.attempts k)
+
+-- x in place of a live attempt of its number, job and runner
 alters : (h : List Past) (s : State) (e : Event) (now : ℕ) (seed : Seed) (said : Answer) (a x : Attempt) → Inv h s → Has a s.attempts
-    → x.id ≡ a.id → x.job ≡ a.job → x.runner ≡ a.runner → x.pieces ≡ a.pieces → x.size ≡ a.size → is_live a ≡ true
+    → x.id ≡ a.id → x.job ≡ a.job → x.runner ≡ a.runner → is_live a ≡ true
     → is_grant e said ≡ false → Quiet e said → Changed h s e now seed said (Put (row.Attempt x) ∷ [])
-alters h s e now seed said a x i has same_id same_job same_runner same_pieces same_size live isnt quiet =
+alters h s e now seed said a x i has same_id same_job same_runner live isnt quiet =
     let t = applied (Put (row.Attempt x) ∷ []) s in
     record {
       grants = leased.alters h s t (line s e now seed said) a x i.grants has same_id same_job same_runner (λ _. live) (λ n. ap (λ b. b && (s.next.attempt == n)) isnt) refl refl refl;
-      traces = pieces.stays h s t (line s e now seed said) i.traces quiet refl (omega arith)
-          (λ b k. ⊎_elim
-          (λ q. inl (record {
-            old = a;
-            has = has;
-            id = sym (ap (λ (c : Attempt). c.id) q ∙ same_id);
-            pieces = sym (ap (λ (c : Attempt). c.pieces) q ∙ same_pieces);
-            size = sym (ap (λ (c : Attempt). c.size) q ∙ same_size);
-          }))
-          (λ m. same s b m)
-          (has_put attempt_cmp x b s.attempts k));
-      ends = finals.puts h s t (line s e now seed said) x refl i.ends refl (only_live i a has live same_id);
+      traces = trace.stays h s t (line s e now seed said) i.traces quiet refl (omega arith) (in_place s a x has same_id);
+      ends = finals.puts h s t (line s e now seed said) x refl i.ends (omega arith, in_place s a x has same_id) refl (only_live i a has live same_id);
     }
 
 -- ---- a project, a runner
@@ -182,8 +173,8 @@ pauses h s pause now seed i (Some r) = keeps h s _ _ refl i (λ n. refl) (λ n. 
 abbrev IsOther : Request → Type 0
 IsOther r = ((a : Answer) → is_grant (event.Request r) a ≡ false) × ((a : Answer) → Quiet (event.Request r) a)
 
--- a request that neither asks for a job nor sends a piece, and its plan leaves attempts and pieces
-stands : (h : List Past) (s : State) (r : Request) (now : ℕ) (seed : Seed) → Inv h s → IsOther r → (plan : Plan) → (applied plan.1 s).attempts ≡ s.attempts → (applied plan.1 s).pieces ≡ s.pieces
+-- a request that neither asks for a job nor sends a piece, and its plan leaves attempts and traces
+stands : (h : List Past) (s : State) (r : Request) (now : ℕ) (seed : Seed) → Inv h s → IsOther r → (plan : Plan) → (applied plan.1 s).attempts ≡ s.attempts → (applied plan.1 s).traces ≡ s.traces
     → (applied plan.1 s).next.attempt ≡ s.next.attempt → Rising (λ (j : Job). j.id) 0 (applied plan.1 s).jobs → After h s (event.Request r) now seed plan
 stands h s r now seed i other plan e f g rise = keeps h s _ _ refl i (λ n. ap (λ b. b && (s.next.attempt == n)) (other.0 (answer.Reply plan.0))) (other.1 (answer.Reply plan.0)) e f g rise
 
@@ -226,7 +217,7 @@ creates h s new now seed plan i is =
     (λ project text laid rows asked has named file lays.
     let made = creation s.next.pipeline s.next.job new (given_in s new) now laid in
     let e = after_creation s.next.job made s in
-    stands h s r now seed i other (pipeline_created s.next.job made (holders s) rows) (ap (λ (t : State). t.attempts) e) (ap (λ (t : State). t.pieces) e) (ap (λ (t : State). t.next.attempt) e)
+    stands h s r now seed i other (pipeline_created s.next.job made (holders s) rows) (ap (λ (t : State). t.attempts) e) (ap (λ (t : State). t.traces) e) (ap (λ (t : State). t.next.attempt) e)
     (subst (λ (t : State). Rising (λ (j : Job). j.id) 0 t.jobs) (sym e) (rising_all (λ (j : Job). j.id) made.jobs s.jobs i.grants.jobs_rise))) is
 
 pipeline_shows : (h : List Past) (s : State) (board : List BoardRow) (query : PipelineQuery) (now : ℕ) (seed : Seed) → Inv h s
@@ -250,14 +241,18 @@ pending_none h s board are i job has pending a k live its =
 -- a grant
 starts : (h : List Past) (s : State) (token : List ℕ) (now : ℕ) (seed : Seed) (runner : Runner) (q : QueuedJob) (vs : List JobVariable) (job : Job) → Inv h s
     → ((a : Attempt) → Has a s.attempts → is_live a ≡ true → a.job ≡ job.id → ⊥) → job.id ≡ q.job.id → IsLeastEligible s runner job → runner.token ≡ token → After h s (event.Request (AskJob token)) now seed (granted runner q vs s.next.attempt now seed)
-starts h s token now seed runner q vs job i free its_job eligible asked = record {
-  grants = leased.gives h s _ _ _ i.grants refl (λ a k l m. free a k l (m ∙ sym its_job)) (λ n. refl) runner job refl its_job eligible (ap (λ t. event.Request (AskJob t)) (sym asked)) refl refl refl;
-  traces = pieces.stays h s _ _ i.traces (λ n. refl) refl (omega arith) (λ b k. ⊎_elim
-      (λ w. inr (record { id = let m : b.id ≡ s.next.attempt = ap (λ (c : Attempt). c.id) w in omega arith; pieces = ap (λ (c : Attempt). c.pieces) w; size = ap (λ (c : Attempt). c.size) w }))
-      (λ m. same s b m)
-      (has_put attempt_cmp _ b s.attempts k));
-  ends = finals.puts h s (applied (granted runner q vs s.next.attempt now seed).1 s) _ _ refl i.ends refl (λ b k e. let l : b.id < s.next.attempt = i.grants.below b k in let m : b.id ≡ s.next.attempt = e in absurd (omega arith));
-}
+starts h s token now seed runner q vs job i free its_job eligible asked =
+    let t = applied (granted runner q vs s.next.attempt now seed).1 s in
+    let known : (b : Attempt) → Has b t.attempts → Was s b ⊎ IsNew s b
+    = λ b k. ⊎_elim
+    (λ w. inr (let m : b.id ≡ s.next.attempt = ap (λ (c : Attempt). c.id) w in omega arith))
+    (λ m. same s b m)
+    (has_put attempt_cmp _ b s.attempts k) in
+    record {
+      grants = leased.gives h s _ _ _ i.grants refl (λ a k l m. free a k l (m ∙ sym its_job)) (λ n. refl) runner job refl its_job eligible (ap (λ t. event.Request (AskJob t)) (sym asked)) refl refl refl;
+      traces = trace.stays h s _ _ i.traces (λ n. refl) refl (omega arith) known;
+      ends = finals.puts h s t _ _ refl i.ends (omega arith, known) refl (λ b k e. let l : b.id < s.next.attempt = i.grants.below b k in let m : b.id ≡ s.next.attempt = e in absurd (omega arith));
+    }
 
 grants_least : (h : List Past) (s : State) (board : List BoardRow) (token : List ℕ) (now : ℕ) (seed : Seed) → AreBoard s board → Inv h s → (runner : Runner) → runner_with s token ≡ Some runner
     → (q : QueuedJob) → chosen (queue s board) (holders s) runner ≡ Some q → (vs : List JobVariable)
@@ -301,7 +296,7 @@ asks h s board token now seed are i (Some runner) found = offers h s board token
 hears : (h : List Past) (s : State) (u : JobUpdate) (now : ℕ) (seed : Seed) → Inv h s → (a : Attempt) → Has a s.attempts → (seen : Result ℕ LeaseFault) → ((z : ℕ) → seen ≡ Ok z → is_live a ≡ true)
     → After h s (event.Request (UpdateJob u)) now seed (heard a seen)
 hears h s u now seed i a has (Ok seen) live =
-    alters h s (event.Request (UpdateJob u)) now seed _ a (record a { seen = seen }) i has refl refl refl refl refl (live seen refl) refl (λ n. refl)
+    alters h s (event.Request (UpdateJob u)) now seed _ a (record a { seen = seen }) i has refl refl refl (live seen refl) refl (λ n. refl)
 hears h s u now seed i a has (Err fault) live = rests h s (event.Request (UpdateJob u)) now seed _ i refl (λ n. refl)
 
 ends : (h : List Past) (s : State) (u : JobUpdate) (now : ℕ) (seed : Seed) → Inv h s → (a : Attempt) → Has a s.attempts → (state : Result AttemptState LeaseFault)
@@ -311,7 +306,7 @@ ends h s u now seed i a has (Ok state) =
     let x = record a { state = state } in
     let reply = told (status_of_state state) in
     cond_both (is_live a) (Put (row.Attempt x) ∷ []) [] (Changed h s e now seed (answer.Reply reply))
-    (λ live. alters h s e now seed (answer.Reply reply) a x i has refl refl refl refl refl live refl (λ n. refl))
+    (λ live. alters h s e now seed (answer.Reply reply) a x i has refl refl refl live refl (λ n. refl))
     (λ _. rests h s e now seed _ i refl (λ n. refl))
 ends h s u now seed i a has (Err fault) = rests h s (event.Request (UpdateJob u)) now seed _ i refl (λ n. refl)
 
@@ -333,49 +328,34 @@ updates h s u now seed i (Some a) found =
 
 -- ---- a piece of a trace
 
--- an accepted piece makes the trace longer by its bytes
-sum_of : (size from count z : ℕ) → size_after size from count ≡ Ok z → z ≡ size + count
-sum_of size from count z =
-    cond_both (from == size) (if nat_le (size + count) MAX_TRACE_BYTES then Ok (size + count) else Err TraceFull) (Err (WrongOffset size)) (λ (r : Result ℕ PieceFault). r ≡ Ok z → z ≡ size + count)
-    (λ _. cond_both (nat_le (size + count) MAX_TRACE_BYTES) (Ok (size + count)) (Err TraceFull) (λ (r : Result ℕ PieceFault). r ≡ Ok z → z ≡ size + count) (λ _ k. cc) (λ _ k. absurd (cc)))
-    (λ _ k. absurd (cc))
-
-accepted_size : (r : Result ℕ LeaseFault) (size from count z : ℕ) → if_leased r (size_after size from count) ≡ Ok z → z ≡ size + count
-accepted_size (Ok seen) size from count z e = sum_of size from count z e
-accepted_size (Err fault) size from count z e = absurd (cc)
-
-lengthens : (h : List Past) (s : State) (part : TracePart) (now : ℕ) (seed : Seed) → Inv h s → (a : Attempt) → Has a s.attempts → a.id ≡ part.attempt → is_live a ≡ true → (size : ℕ) → size ≡ a.size + length part.bytes
+lengthens : (h : List Past) (s : State) (part : TracePart) (now : ℕ) (seed : Seed) → Inv h s → (a : Attempt) → Has a s.attempts → a.id ≡ part.attempt → is_live a ≡ true → (size : ℕ)
     → After h s (event.Request (AppendTrace part)) now seed (grown a part.bytes now size)
-lengthens h s part now seed i a has its live size longer = record {
+lengthens h s part now seed i a has its live size = record {
   grants = leased.alters h s _ _ a _ i.grants has refl refl refl (λ l. l) (λ n. refl) refl refl refl;
-  traces = pieces.grows h s _ _ a _ (record { attempt = a.id; seq = a.pieces; bytes = part.bytes }) i.traces has (i.grants.below a has) refl refl refl refl longer
-      (λ n. ap (λ m. if m == n then part.bytes else []) (sym its)) refl refl refl;
-  ends = finals.puts h s (applied (grown a part.bytes now size).1 s) _ _ refl i.ends refl (only_live i a has live refl);
+  traces = trace.grows h s _ _ a _ part.bytes i.traces has (i.grants.below a has) refl (λ n. ap (λ m. if m == n then part.bytes else []) (sym its)) refl refl refl;
+  ends = finals.puts h s (applied (grown a part.bytes now size).1 s) _ _ refl i.ends (omega arith, in_place s a _ has refl) refl (only_live i a has live refl);
 }
 
 appends : (h : List Past) (s : State) (part : TracePart) (now : ℕ) (seed : Seed) → Inv h s → (a : Attempt) → Has a s.attempts → a.id ≡ part.attempt
-    → (r : Result ℕ PieceFault) → ((z : ℕ) → r ≡ Ok z → z ≡ a.size + length part.bytes) → ((z : ℕ) → r ≡ Ok z → is_live a ≡ true) → After h s (event.Request (AppendTrace part)) now seed (appended a part.bytes now r)
-appends h s part now seed i a has its (Ok size) sum live =
-    let e = event.Request (AppendTrace part) in
-    cond_both (nat_lt MAX_NUMBER a.pieces) (refused M15) (grown a part.bytes now size) (After h s e now seed)
-    (λ _. rests h s e now seed _ i refl (λ n. refl))
-    (λ _. lengthens h s part now seed i a has its (live size refl) size (sum size refl))
-appends h s part now seed i a has its (Err (Unleased (NotLive state))) sum live = rests h s (event.Request (AppendTrace part)) now seed _ i refl (λ n. refl)
-appends h s part now seed i a has its (Err (Unleased LeaseOver)) sum live = rests h s (event.Request (AppendTrace part)) now seed _ i refl (λ n. refl)
-appends h s part now seed i a has its (Err (WrongOffset size)) sum live = rests h s (event.Request (AppendTrace part)) now seed _ i refl (λ n. refl)
-appends h s part now seed i a has its (Err TraceFull) sum live = rests h s (event.Request (AppendTrace part)) now seed _ i refl (λ n. refl)
+    → (r : Result ℕ PieceFault) → ((z : ℕ) → r ≡ Ok z → is_live a ≡ true) → After h s (event.Request (AppendTrace part)) now seed (appended a part.bytes now r)
+appends h s part now seed i a has its (Ok size) live = lengthens h s part now seed i a has its (live size refl) size
+appends h s part now seed i a has its (Err (Unleased (NotLive state))) live = rests h s (event.Request (AppendTrace part)) now seed _ i refl (λ n. refl)
+appends h s part now seed i a has its (Err (Unleased LeaseOver)) live = rests h s (event.Request (AppendTrace part)) now seed _ i refl (λ n. refl)
+appends h s part now seed i a has its (Err (WrongOffset size)) live = rests h s (event.Request (AppendTrace part)) now seed _ i refl (λ n. refl)
+appends h s part now seed i a has its (Err TraceFull) live = rests h s (event.Request (AppendTrace part)) now seed _ i refl (λ n. refl)
 
 parts : (h : List Past) (s : State) (part : TracePart) (now : ℕ) (seed : Seed) → Inv h s → (o : Option Attempt) → attempt_at s part.attempt ≡ o
-    → After h s (event.Request (AppendTrace part)) now seed (append_trace (option_map (lease_of s) o) part now)
+    → After h s (event.Request (AppendTrace part)) now seed (append_trace (option_map (lease_of s) o) (length (trace_of s part.attempt)) part now)
 parts h s part now seed i None found = rests h s (event.Request (AppendTrace part)) now seed _ i refl (λ n. refl)
 parts h s part now seed i (Some a) found =
     let e = event.Request (AppendTrace part) in
     let l = lease_of s a in
+    let size = length (trace_of s part.attempt) in
     let has = has_find (λ (b : Attempt). b.id == part.attempt) a s.attempts found in
-    let r = accepted a l.limit now a.size part.from (length part.bytes) in
+    let r = accepted a l.limit now size part.from (length part.bytes) in
     cond_both (bytes_eq a.token part.token) (appended a part.bytes now r) (refused M5) (After h s e now seed)
-    (λ _. appends h s part now seed i a has.0 (eqb-true a.id part.attempt has.1) r (λ z. accepted_size (renewed a l.limit now) a.size part.from (length part.bytes) z)
-    (leased_live a l.limit now (renewed a l.limit now) refl (size_after a.size part.from (length part.bytes))))
+    (λ _. appends h s part now seed i a has.0 (eqb-true a.id part.attempt has.1) r
+    (leased_live a l.limit now (renewed a l.limit now) refl (size_after size part.from (length part.bytes))))
     (λ _. rests h s e now seed _ i refl (λ n. refl))
 
 -- ---- a user acts on jobs
@@ -392,25 +372,20 @@ stood s b (inr w) = record {
   live = λ l. w.live;
 }
 
-was : (s : State) (b : Attempt) → Has b s.attempts ⊎ WasLive s b → Was s b
-was s b (inl k) = record { old = b; has = k; id = refl; pieces = refl; size = refl }
-was s b (inr w) = record {
-  old = w.old;
-  has = w.has;
-  id = sym (ap (λ (c : Attempt). c.id) w.is);
-  pieces = sym (ap (λ (c : Attempt). c.pieces) w.is);
-  size = sym (ap (λ (c : Attempt). c.size) w.is);
-}
+was : (s : State) (b : Attempt) → Has b s.attempts ⊎ WasLive s b → Was s b ⊎ IsNew s b
+was s b (inl k) = same s b k
+was s b (inr w) = inl (w.old, (w.has, sym (ap (λ (c : Attempt). c.id) w.is)))
 
 acted : (h : List Past) (s : State) (e : Event) (now : ℕ) (seed : Seed) (said : Answer) (changes : List RowChange) → Inv h s → is_grant e said ≡ false → Quiet e said → IsAct s changes → Changed h s e now seed said changes
 acted h s e now seed said changes i isnt quiet act =
     let p = line s e now seed said in
     let t : State = record s { jobs = put_all job_cmp act.jobs s.jobs; attempts = put_all attempt_cmp act.attempts s.attempts } in
+    let known : (b : Attempt) → Has b t.attempts → Was s b ⊎ IsNew s b = λ b k. was s b (came s changes act b k) in
     subst (Inv (p ∷ h)) (sym (after_act s changes act)) (record {
       grants = leased.stand h s t p i.grants (λ n. ap (λ b. b && (s.next.attempt == n)) isnt) (λ b k. stood s b (came s changes act b k))
           (rising_all (λ (b : Attempt). b.id) act.attempts s.attempts i.grants.rise) refl (rising_all (λ (j : Job). j.id) act.jobs s.jobs i.grants.jobs_rise);
-      traces = pieces.stays h s t p i.traces quiet refl (omega arith) (λ b k. inl (was s b (came s changes act b k)));
-      ends = finals.leaves_ended h s t p refl i.ends (λ a k ended. has_still (λ (b : Attempt). b.id) act.attempts s.attempts a k
+      traces = trace.stays h s t p i.traces quiet refl (omega arith) known;
+      ends = finals.leaves_ended h s t p refl i.ends (omega arith, known) (λ a k ended. has_still (λ (b : Attempt). b.id) act.attempts s.attempts a k
           (λ c m e. let w = act.each_attempt c m in
           let same : a ≡ w.old = one_at (λ (b : Attempt). b.id) a w.old 0 s.attempts i.grants.rise k w.has (e ∙ ap (λ (b : Attempt). b.id) w.is) in
           both_ways (is_live a) ended (ap is_live same ∙ w.live)));
@@ -434,9 +409,18 @@ prunes h s before now seed i (Some p) =
     subst (Inv (q ∷ h)) (sym (pruned_state s n jobs_rise rise p refl)) (record {
       grants = leased.stand h s t q i.grants (λ m. refl) (λ b k. stood s b (inl (had b k)))
           (rising_filter (λ (b : Attempt). b.id) _ 0 s.attempts rise) refl (rising_filter (λ (j : Job). j.id) _ 0 s.jobs jobs_rise);
-      traces = pieces.leaves h s t q i.traces (λ m. refl) (climbs_filter _ 0 s.pieces i.traces.climb) (λ r k. (has_filter _ r s.pieces k).0) refl had (λ b k. pieces_left s n jobs_rise rise b k);
-      ends = finals.goes_on h s t q refl i.ends (λ a k ended. ⊎_elim
-          (λ e. inr (goes_with q h s n refl (before, refl, refl) a e))
+      traces = trace.leaves h s t q i.traces (λ m. refl) (λ u k. (has_filter _ u s.traces k).0) refl had (λ b k. trace_left s n jobs_rise rise b k);
+      ends = finals.goes_on h s t q refl i.ends (omega arith, λ b k. same s b (had b k)) (λ a k ended. ⊎_elim
+          (λ e. inr (
+            goes_with q h s n refl (before, refl, refl) a e,
+            (
+              i.grants.below a k,
+              λ b m same_id.
+                  let w = attempt_was s n jobs_rise rise b m in
+                  let is : b ≡ a = one_at (λ (c : Attempt). c.id) b a 0 s.attempts rise w.0 k same_id in
+                  both_ways (is_job_among (jobs_of s n) a.job) (subst (λ (c : Attempt). is_job_among (jobs_of s n) c.job ≡ false) is w.1) e,
+            ),
+          ))
           (λ e. inl (attempt_left s n jobs_rise rise a k e))
           (cases_Bool (is_job_among (jobs_of s n) a.job)));
     })
@@ -448,9 +432,9 @@ looks : (h : List Past) (s : State) (e : Event) (now : ℕ) (seed : Seed) (proje
 looks h s e now seed project status i isnt quiet (Ok job) = rests h s e now seed _ i (isnt _) (quiet _)
 looks h s e now seed project status i isnt quiet (Err code) = rests h s e now seed _ i (isnt _) (quiet _)
 
-reads : (h : List Past) (s : State) (e : Event) (now : ℕ) (seed : Seed) (ps : List Piece) → Inv h s → ((a : Answer) → is_grant e a ≡ false) → ((a : Answer) → Quiet e a) → (r : Result Job Code) → After h s e now seed (traced r ps)
-reads h s e now seed ps i isnt quiet (Ok job) = rests h s e now seed _ i (isnt _) (quiet _)
-reads h s e now seed ps i isnt quiet (Err code) = rests h s e now seed _ i (isnt _) (quiet _)
+reads : (h : List Past) (s : State) (e : Event) (now : ℕ) (seed : Seed) (bytes : List ℕ) → Inv h s → ((a : Answer) → is_grant e a ≡ false) → ((a : Answer) → Quiet e a) → (r : Result Job Code) → After h s e now seed (traced r bytes)
+reads h s e now seed bytes i isnt quiet (Ok job) = rests h s e now seed _ i (isnt _) (quiet _)
+reads h s e now seed bytes i isnt quiet (Err code) = rests h s e now seed _ i (isnt _) (quiet _)
 
 sweeps : (h : List Past) (s : State) (board : List BoardRow) (now : ℕ) (seed : Seed) → Inv h s → (o : Option Lease) → first_due (leases s) now ≡ o → (redundant : Option Pipeline)
     → let does = sweep o redundant s.attempts (cancellable_in s board redundant) in Changed h s event.Sweep now seed (answer.Swept does.0) does.1
@@ -463,7 +447,7 @@ sweeps h s board now seed i (Some l) found redundant =
     let live = has_find (λ (b : Attempt). is_over b (lease_of s b).limit now) a (live_attempts s) at.1.1 in
     let has = has_filter is_live a s.attempts live.0 in
     alters h s event.Sweep now seed _ l.attempt (record l.attempt { state = Failed (cause_of l) None }) i (subst (λ (b : Attempt). Has b s.attempts) is has.0)
-    refl refl refl refl refl (subst (λ (b : Attempt). is_live b ≡ true) is has.1) refl (λ n. refl)
+    refl refl refl (subst (λ (b : Attempt). is_live b ≡ true) is has.1) refl (λ n. refl)
 
 -- each event keeps the invariant
 does : (h : List Past) (s : State) (board : List BoardRow) (r : Request) (now : ℕ) (seed : Seed) (f : Plan) → AreBoard s board → Inv h s → Does s board r now seed f → After h s (event.Request r) now seed f
@@ -485,7 +469,7 @@ does h s board (ShowJob query) now seed f are i is =
 does h s board (ShowTrace query) now seed f are i is =
     let job = job_at s query.job in
     subst (After h s (event.Request (ShowTrace query)) now seed) (sym is)
-    (reads h s (event.Request (ShowTrace query)) now seed (pieces_in s (last_attempt s query.job)) i (λ a. refl) (λ a n. refl) (asked_job (project_with s query.token) job (pipeline_of s job) query))
+    (reads h s (event.Request (ShowTrace query)) now seed (trace_if_any s (last_attempt s query.job)) i (λ a. refl) (λ a n. refl) (asked_job (project_with s query.token) job (pipeline_of s job) query))
 does h s board (Play query) now seed f are i is =
     let r = Play query in
     let other : IsOther r = (λ a. refl, λ a n. refl) in

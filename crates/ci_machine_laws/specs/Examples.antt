@@ -1,5 +1,5 @@
 -- Worked examples: a first project, a runner, a pipeline of two jobs, and the runner's requests, each one computed.
-use Rattle.std.specs.Prelude.{ℕ, true, false, List, [], ◌∷◌, map, filter, Option, Some, None, Result, Ok, codes, replicate}
+use Rattle.std.specs.Prelude.{ℕ, true, false, List, [], ◌∷◌, length, map, filter, Option, Some, None, Result, Ok, codes, replicate}
 use Rattle.std.specs.List.{flat_map}
 use Rattle.std.specs.Str.{bytes_eq}
 use Rattle.ci_board.specs.declared.facts.Status.{Status}
@@ -47,7 +47,7 @@ use Rattle.ci_machine_steps.specs.Grants.{ask_job}
 use Rattle.ci_machine_steps.specs.Reports.{update_job}
 use Rattle.ci_machine_steps.specs.Traces.{append_trace}
 use Rattle.ci_machine_steps.specs.Shows.{show_job, show_trace}
-use Rattle.ci_machine_steps.specs.Step.{project_with, project_named, project_variables, runner_with, pipeline_of, job_at, last_attempt, pieces_in, lease_at, offer, offered_variables, sweep_in}
+use Rattle.ci_machine_steps.specs.Step.{project_with, project_named, project_variables, runner_with, pipeline_of, job_at, last_attempt, trace_of, trace_if_any, lease_at, offer, offered_variables, sweep_in}
 
 -- sixteen bytes ab
 abbrev pub seed : Seed
@@ -176,7 +176,7 @@ stage_by own project rule job top =
 -- ---- an attempt granted at 1000
 
 abbrev pub attempt : ℕ → AttemptState → Attempt
-attempt seen state = record { id = 1; job = 1; runner = 1; token = []; granted = 1000; seen = seen; state = state; pieces = 0; size = 0 }
+attempt seen state = record { id = 1; job = 1; runner = 1; token = []; granted = 1000; seen = seen; state = state }
 
 abbrev pub lease : ℕ → ℕ → Lease
 lease seen limit = record { attempt = attempt seen Live; limit = limit }
@@ -195,7 +195,7 @@ leased = record empty {
 
 -- its runner sends these bytes of its trace
 abbrev pub sent : State → ℕ → List ℕ → ℕ → Plan
-sent s from bytes now = append_trace (lease_at s 1) (record { attempt = 1; token = []; from = from; bytes = bytes }) now
+sent s from bytes now = append_trace (lease_at s 1) (length (trace_of s 1)) (record { attempt = 1; token = []; from = from; bytes = bytes }) now
 
 -- a runner says with this token how it stands
 abbrev pub said : State → List ℕ → Report → ℕ → Plan
@@ -211,7 +211,7 @@ abbrev pub job_shown : State → List BoardRow → JobQuery → Plan
 job_shown s board q = show_job (project_with s q.token) (job_at s q.job) (pipeline_of s (job_at s q.job)) (holders s) (status_for board q.job) q
 
 abbrev pub trace_shown : State → JobQuery → Plan
-trace_shown s q = show_trace (project_with s q.token) (job_at s q.job) (pipeline_of s (job_at s q.job)) (pieces_in s (last_attempt s q.job)) q
+trace_shown s q = show_trace (project_with s q.token) (job_at s q.job) (pipeline_of s (job_at s q.job)) (trace_if_any s (last_attempt s q.job)) q
 
 abbrev pub hello : State
 hello = after (sent leased 0 (codes "hello") 1119) leased

@@ -2,3 +2,5 @@ pub mod Examples
 pub mod ActExamples
 pub mod WaitingExamples
 pub mod PruneExamples
+pub mod Pieces
+pub mod Repeats

@@ -8,7 +8,7 @@ use Rattle.ci_machine.specs.declared.records.Pipeline.{Pipeline}
 use Rattle.ci_machine.specs.declared.records.Job.{Job}
 use Rattle.ci_machine.specs.declared.records.JobVariable.{JobVariable}
 use Rattle.ci_machine.specs.declared.records.Attempt.{Attempt}
-use Rattle.ci_machine.specs.declared.records.Piece.{Piece}
+use Rattle.ci_machine.specs.declared.records.Trace.{Trace}
 use Rattle.ci_machine.specs.declared.records.BoardRow.{BoardRow}
 use Rattle.ci_machine.specs.State.{State, first_numbers}
 use Rattle.ci_machine.specs.Statuses.{jobs_of}
@@ -39,11 +39,11 @@ variable_of n = record { job = n; key = codes "A"; value = codes "v" }
 
 -- its attempt, which has the number of the job, and succeeded
 abbrev pub succeeded_at : ℕ → Attempt
-succeeded_at n = record (tried n n (Succeeded None)) { pieces = 1; size = 2 }
+succeeded_at n = tried n n (Succeeded None)
 
 -- the trace of that
-abbrev pub trace_of : ℕ → Piece
-trace_of n = record { attempt = n; seq = 0; bytes = codes "ok" }
+abbrev pub its_trace : ℕ → Trace
+its_trace n = record { attempt = n; bytes = codes "ok" }
 
 abbrev pub both_done : State
 both_done = record leased {
@@ -52,7 +52,7 @@ both_done = record leased {
   job_variables = variable_of 1 ∷ variable_of 2 ∷ variable_of 3 ∷ [];
   needs = need 2 1 ∷ [];
   attempts = succeeded_at 1 ∷ succeeded_at 2 ∷ succeeded_at 3 ∷ [];
-  pieces = trace_of 1 ∷ trace_of 2 ∷ trace_of 3 ∷ [];
+  traces = its_trace 1 ∷ its_trace 2 ∷ its_trace 3 ∷ [];
   next = record first_numbers { project = 2; pipeline = 3; job = 4; attempt = 4 };
 }
 
@@ -74,7 +74,7 @@ second_left = record both_done {
   job_variables = variable_of 3 ∷ [];
   needs = [];
   attempts = succeeded_at 3 ∷ [];
-  pieces = trace_of 3 ∷ [];
+  traces = its_trace 3 ∷ [];
 }
 
 abbrev pub second_board : List BoardRow

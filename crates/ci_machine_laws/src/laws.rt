@@ -7,6 +7,8 @@ ghost use Rattle.ci_machine.specs.declared.records.Attempt.{Attempt};
 ghost use Rattle.ci_machine.specs.declared.records.BoardRow.{BoardRow};
 ghost use Rattle.ci_machine.specs.declared.request.Event.{Event};
 ghost use Rattle.ci_machine.specs.declared.request.Seed.{Seed};
+ghost use Rattle.ci_machine.specs.declared.request.TracePart.{TracePart};
+ghost use Rattle.ci_machine.specs.declared.reply.Reply.{Reply};
 ghost use Rattle.ci_machine.specs.declared.reply.Answer.{Answer};
 ghost use Rattle.ci_machine.specs.State.{State, applied};
 ghost use Rattle.ci_machine.specs.Statuses.{jobs_of, attempts_of, AreBoard};
@@ -31,9 +33,10 @@ ghost use Rattle.ci_machine_laws.specs.Examples.{reply_text, project_added, with
 ghost use Rattle.ci_machine_laws.specs.ActExamples.{pipeline_query, board_from, pipeline_after, four, four_board, all_cancelled, cancelled_rows, cancel_marks, run_cancelled, run_cancelled_rows, five, five_board, first_retried, retried_rows, two, two_board, hand_played, played_rows, succeeded, succeeded_board, hand_retried};
 ghost use Rattle.ci_machine_laws.specs.WaitingExamples.{some_runner, tagged, waits, pause, both, answer_of, with_tags, for_project, of_a_minute, heard_at, replies_at, moments, ships, shipping, after_asking};
 ghost use Rattle.ci_machine_laws.specs.PruneExamples.{second_day, both_done, both_board, first_pruned, second_left, second_board, second_pruned, running, waiting, with_second};
+ghost use Rattle.ci_machine_laws.specs.Pieces.{GoesBehind};
 ghost use Rattle.ci_machine.specs.Holders.{holders};
 ghost use Rattle.ci_machine_steps.specs.Prunes.{prunable_in, pruned_reply, nothing_to_prune, without_pipeline};
-ghost use Rattle.ci_machine_steps.specs.Step.{project_at, pieces_of, leases};
+ghost use Rattle.ci_machine_steps.specs.Step.{project_at, trace_of, leases};
 ghost use Rattle.ci_machine.specs.Leases.{renewed, is_over, deadline, accepted, size_after, finished, cause_of};
 
 use ci_board::facts::Status;
@@ -51,6 +54,12 @@ pub fn a_refusal_changes_nothing()
 /// The machine answers neither M16 nor M17: these say that there was no step.
 pub fn a_step_is_answered()
     ensures { (s t : State) (e : Event) (now : ℕ) (seed : Seed) (a : Answer) → Step s e now seed a t → outcome_of a ≡ Stepped }
+{}
+
+/// A piece of a trace that is accepted begins where the trace of its attempt ended, and goes behind it; the reply tells the size that the
+/// trace has then, which is 4 MiB at most. Each other trace stays as it was.
+pub fn an_accepted_piece_goes_behind_its_trace()
+    ensures { (s t : State) (part : TracePart) (now : ℕ) (seed : Seed) (reply : Reply) → Step s (Event.Request (Request.AppendTrace part)) now seed (Answer.Reply reply) t → reply.status ≡ HttpStatus.Accepted → GoesBehind s t part reply }
 {}
 
 /// The worked examples come out of the definitions, byte for byte.
@@ -164,6 +173,7 @@ pub fn trace_examples()
     ensures repeated_piece { sent hello 0 (codes "hello") 1119 ≡ (not_accepted (PieceFault.WrongOffset 5), []) }
     ensures next_piece { (sent hello 5 (codes "world") 1119).0 ≡ accepted_to 10 }
     ensures gap { sent hello_world 11 (codes "ab") 1119 ≡ (not_accepted (PieceFault.WrongOffset 10), []) }
+    ensures traces { hello_world.traces ≡ record { attempt = 1; bytes = codes "helloworld" } ∷ [] }
     ensures trace { reply_text (trace_shown hello_world (query 1 1 (codes "p"))) ≡ codes "helloworld" }
 
     ensures too_early { swept hello_world (rows Status.Running) 1238 ≡ (Swept.Nothing, []) }
@@ -312,7 +322,7 @@ pub fn a_prune_leaves_the_rest()
     ensures no_jobs { (s : State) (n : ℕ) → IsSound s → jobs_of (without_pipeline s n) n ≡ [] }
     ensures jobs { (s : State) (n m : ℕ) → IsSound s → (m ≡ n → ⊥) → jobs_of (without_pipeline s n) m ≡ jobs_of s m }
     ensures attempts { (s : State) (n : ℕ) (j : Job) → IsSound s → Contains (without_pipeline s n).jobs j → attempts_of (without_pipeline s n) j.id ≡ attempts_of s j.id }
-    ensures traces { (s : State) (n : ℕ) (a : Attempt) → IsSound s → Contains (without_pipeline s n).attempts a → pieces_of (without_pipeline s n) a.id ≡ pieces_of s a.id }
+    ensures traces { (s : State) (n : ℕ) (a : Attempt) → IsSound s → Contains (without_pipeline s n).attempts a → trace_of (without_pipeline s n) a.id ≡ trace_of s a.id }
     ensures leases { (s : State) (board : List BoardRow) (before : ℕ) (p : Pipeline) → IsSound s → AreBoard s board → prunable_in s board before ≡ Some p → leases (without_pipeline s p.id) ≡ leases s }
     ensures groups { (s : State) (board : List BoardRow) (before : ℕ) (p : Pipeline) → IsSound s → AreBoard s board → prunable_in s board before ≡ Some p → holders (without_pipeline s p.id) ≡ holders s }
 {}

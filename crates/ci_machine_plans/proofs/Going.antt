@@ -25,10 +25,10 @@ module _ (jobs : List Job) (attempts : List Attempt) (i : ℕ) (a : Attempt) (wi
       ∙ flat_map-append attempt_goes (attempts_among jobs (take i attempts)) (cond (is_job_among jobs a.job) (a ∷ []) [])
 
   -- the next one goes
-  pub goes_too : (before trace both : List RowChange) → is_job_among jobs a.job ≡ true → before ≡ gone i → trace ≡ before ++ Remove (key.Pieces a.id) ∷ [] → both ≡ trace ++ Remove (key.Attempt a.id) ∷ [] → both ≡ gone (i + 1)
+  pub goes_too : (before trace both : List RowChange) → is_job_among jobs a.job ≡ true → before ≡ gone i → trace ≡ before ++ Remove (key.Trace a.id) ∷ [] → both ≡ trace ++ Remove (key.Attempt a.id) ∷ [] → both ≡ gone (i + 1)
   goes_too before trace both its so first second =
-      second ∙ ((λ k. (first ∙ ap (λ l. l ++ Remove (key.Pieces a.id) ∷ []) so) k ++ Remove (key.Attempt a.id) ∷ [])
-      ∙ (append_assoc (gone i) (Remove (key.Pieces a.id) ∷ []) (Remove (key.Attempt a.id) ∷ [])
+      second ∙ ((λ k. (first ∙ ap (λ l. l ++ Remove (key.Trace a.id) ∷ []) so) k ++ Remove (key.Attempt a.id) ∷ [])
+      ∙ (append_assoc (gone i) (Remove (key.Trace a.id) ∷ []) (Remove (key.Attempt a.id) ∷ [])
       ∙ sym (next_is ∙ ap (λ b. gone i ++ one_more b) its)))
 
   -- it isn't theirs

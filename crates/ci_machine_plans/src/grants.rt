@@ -55,8 +55,6 @@ pub fn grant(
         granted: now,
         seen: now,
         state: AttemptState::Live,
-        pieces: 0,
-        size: 0,
     });
     made(alloc, text, attempt, Counter::Attempt, next)
 }

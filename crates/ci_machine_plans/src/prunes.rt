@@ -49,7 +49,7 @@ fn without_attempts(
     let mut changes = Vec::new(alloc);
     for attempt in attempts {
         if has_number(jobs, attempt.job) {
-            changes.push(RowChange::Remove(Key::Pieces(attempt.id)))?;
+            changes.push(RowChange::Remove(Key::Trace(attempt.id)))?;
             changes.push(RowChange::Remove(Key::Attempt(attempt.id)))?;
         }
     }

@@ -9,7 +9,7 @@ use crate::body;
 use crate::replies::{fine, unchanged};
 use ci_board::facts::{Facts, Row, Status};
 use ci_machine::change::Changes;
-use ci_machine::records::{Holder, Job, Piece, Pipeline, Project};
+use ci_machine::records::{Holder, Job, Pipeline, Project};
 use ci_machine::reply::{Body, Code, Reply};
 use ci_machine::report::ShownStatus;
 use ci_machine::request::JobQuery;
@@ -78,24 +78,11 @@ pub(crate) fn job_reply(
     Ok(fine(Body::Json(text)))
 }
 
-/// The pieces of a trace, joined in their order.
-fn joined(alloc: Global, pieces: &[Piece]) -> Result<Bytes, AllocError>
-    ensures { IfOk result (λ b. b ≡ shows.joined pieces.now) }
+/// The trace of the last attempt of the job that `asked_job` gives is shown (200): it is empty where there is no attempt.
+pub fn trace_shown(alloc: Global, trace: Bytes) -> (Reply, Changes)
+    ensures { result ≡ shows.trace_shown trace }
 {
-    let mut bytes = Vec::new(alloc);
-    for piece in pieces {
-        bytes.extend_from_slice(piece.bytes.as_slice())?;
-    }
-    Ok(Bytes::new(bytes))
-}
-
-/// The trace of the last attempt of the job that `asked_job` gives is shown (200), by its pieces: it is empty where there
-/// is no attempt.
-pub fn trace_shown(alloc: Global, pieces: &[Piece]) -> Result<(Reply, Changes), AllocError>
-    ensures { IfOk result (λ plan. plan ≡ shows.trace_shown pieces.now) }
-{
-    let bytes = joined(alloc, pieces)?;
-    Ok(unchanged(alloc, fine(Body::Plain(bytes))))
+    unchanged(alloc, fine(Body::Plain(trace)))
 }
 
 /// The pipeline that was found, if there is one, where it is one of the project that was asked for.

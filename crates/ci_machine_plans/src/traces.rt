@@ -1,6 +1,6 @@
 //! A runner sends the next bytes of a trace.
 
-ghost use Rattle.std.specs.Prelude.{◌≡◌, ◌+◌, ◌≤◌, IfOk, Ok, length, max};
+ghost use Rattle.std.specs.Prelude.{◌≡◌, IfOk, length, max};
 ghost use Rattle.std.specs.Option.{option_copied};
 ghost use Rattle.ci_machine.specs.Leases.{accepted};
 ghost use Rattle.ci_machine_steps.specs.Traces as traces;
@@ -10,7 +10,7 @@ use crate::reports::unleased;
 use ci_machine::change::{Changes, Record, RowChange};
 use ci_machine::lease::{Lease, PieceFault, accept_piece};
 use ci_machine::moment::Moment;
-use ci_machine::records::{Attempt, MAX_NUMBER, Piece};
+use ci_machine::records::{Attempt, Trace};
 use ci_machine::reply::{Code, HttpStatus, JobStatus, Reply};
 use ci_machine::request::TracePart;
 use ci_machine::text::Bytes;
@@ -39,19 +39,16 @@ fn not_accepted(fault: PieceFault) -> Reply
     }
 }
 
-/// The attempt with one more piece of its trace, which has this size then.
-fn grown(attempt: &Attempt, now: Moment, size: u64) -> Result<Attempt, AllocError>
-    requires { attempt.now.pieces ≤ MAX_NUMBER }
-    ensures { IfOk result (λ a. a ≡ record attempt.now { seen = max attempt.now.seen now; pieces = attempt.now.pieces + 1; size = size }) }
+/// The attempt, whose runner was heard of at this moment too.
+fn heard_of(attempt: &Attempt, now: Moment) -> Result<Attempt, AllocError>
+    ensures { IfOk result (λ a. a ≡ record attempt.now { seen = max attempt.now.seen now }) }
 {
-    let mut grown = attempt.clone()?;
-    grown.seen = attempt.seen.later(now);
-    grown.pieces = attempt.pieces + 1;
-    grown.size = size;
-    Ok(grown)
+    let mut heard_of = attempt.clone()?;
+    heard_of.seen = attempt.seen.later(now);
+    Ok(heard_of)
 }
 
-/// The bytes are the next piece of the trace, which has this size then.
+/// The bytes go behind the trace, which has this size then.
 fn grow(
     alloc: Global,
     attempt: &Attempt,
@@ -59,53 +56,50 @@ fn grow(
     now: Moment,
     size: u64,
 ) -> Result<(Reply, Changes), AllocError>
-    ensures { IfOk result (λ plan. plan ≡ traces.appended attempt.now bytes now (Ok size)) }
+    ensures { IfOk result (λ plan. plan ≡ traces.grown attempt.now bytes now size) }
 {
-    if attempt.pieces > MAX_NUMBER {
-        return Ok(refused(alloc, Code::M15));
-    }
-    let piece = Record::Piece(Piece {
+    let more = Trace {
         attempt: attempt.id,
-        seq: attempt.pieces,
         bytes,
-    });
-    let changes = and(Vec::new(alloc), RowChange::Put(piece))?;
-    let attempt = Record::Attempt(grown(attempt, now, size)?);
+    };
+    let changes = and(Vec::new(alloc), RowChange::Append(more))?;
+    let attempt = Record::Attempt(heard_of(attempt, now)?);
     let changes = and(changes, RowChange::Put(attempt))?;
     Ok((accepted_to(size), Changes::new(changes)))
 }
 
-/// The bytes come from an offset of the trace of the attempt, whose time limit is in seconds.
+/// The bytes of a part come for the trace of an attempt, which has this size so far.
 fn append(
     alloc: Global,
     lease: &Lease,
-    from: u64,
-    bytes: Bytes,
+    size: u64,
+    part: TracePart,
     now: Moment,
 ) -> Result<(Reply, Changes), AllocError>
-    ensures { IfOk result (λ plan. plan ≡ traces.appended lease.now.attempt bytes now (accepted lease.now.attempt lease.now.limit now lease.now.attempt.size from (length bytes))) }
+    ensures { IfOk result (λ plan. plan ≡ traces.appended lease.now.attempt part.bytes now (accepted lease.now.attempt lease.now.limit now size part.from (length part.bytes))) }
 {
     let Lease { attempt, limit } = lease;
-    let count = bytes.as_slice().len() as u64;
-    match accept_piece(attempt, *limit, now, attempt.size, from, count) {
-        Ok(size) => grow(alloc, attempt, bytes, now, size),
+    let count = part.bytes.as_slice().len() as u64;
+    match accept_piece(attempt, *limit, now, size, part.from, count) {
+        Ok(size) => grow(alloc, attempt, part.bytes, now, size),
         Err(fault) => Ok(unchanged(alloc, not_accepted(fault))),
     }
 }
 
-/// A runner sends the next bytes of the trace of the attempt with the number that it names. The reply (202) has the
-/// size of the trace with them. This renews the attempt's lease.
+/// A runner sends the next bytes of the trace of the attempt with the number that it names. The trace has this size so far,
+/// in bytes. The reply (202) has its size with them. This renews the attempt's lease.
 ///
 /// Refusals, in order: M5 where there is no such attempt, or the token isn't its token; M6 where it has ended, with its
 /// status; M7 where its lease is over; M8 where the bytes don't begin where the trace ends, with the trace's size; M9
-/// where the trace would pass its limit; M15 where the piece's number is over the limit.
+/// where the trace would pass its limit.
 pub fn append_trace(
     alloc: Global,
     lease: Option<&Lease>,
+    size: u64,
     part: TracePart,
     now: Moment,
 ) -> Result<(Reply, Changes), AllocError>
-    ensures { IfOk result (λ plan. plan ≡ traces.append_trace (option_copied lease.entry) part now) }
+    ensures { IfOk result (λ plan. plan ≡ traces.append_trace (option_copied lease.entry) size part now) }
 {
     let Some(lease) = lease else {
         return Ok(refused(alloc, Code::M5));
@@ -113,5 +107,5 @@ pub fn append_trace(
     if !lease.attempt.token.is_same(&part.token) {
         return Ok(refused(alloc, Code::M5));
     }
-    append(alloc, lease, part.from, part.bytes, now)
+    append(alloc, lease, size, part, now)
 }

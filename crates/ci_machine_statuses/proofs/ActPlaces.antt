@@ -17,7 +17,7 @@ use Rattle.ci_machine.specs.Kept.{put_rows}
 use Rattle.ci_machine.specs.Statuses.{jobs_of, numbers_of, graph_of, facts_in, facts_of, rows_of, row_for, status_for, AreRowsOf, AreBoard}
 use Rattle.ci_machine.specs.Options.{plain_options}
 use Rattle.ci_machine.proofs.Keyed.{Has, Rising, rising_from, rising_filter, has_filter, filter_has, filter_none, map_has, All-from_has}
-use Rattle.ci_machine_steps.proofs.Pieces.{range_more}
+use Rattle.ci_machine_steps.proofs.Ranges.{range_more}
 use Rattle.ci_machine_steps.proofs.Sound.{Sound}
 use Rattle.ci_machine_statuses.specs.declared.act.Act.{Act}
 use Rattle.ci_machine_statuses.specs.declared.outcome.Outcome.{Outcome}

@@ -12,7 +12,7 @@ use Rattle.ci_machine.specs.declared.change.Record.TheVariants as row
 use Rattle.ci_machine.specs.declared.change.Key.{Key}
 use Rattle.ci_machine.specs.declared.change.Key.TheVariants as key
 use Rattle.ci_machine.specs.declared.change.RowChange.{RowChange}
-use Rattle.ci_machine.specs.declared.change.RowChange.TheVariants.{Put, Remove}
+use Rattle.ci_machine.specs.declared.change.RowChange.TheVariants.{Put, Append, Remove}
 use Rattle.ci_machine.specs.State.{State, attempt_cmp, placed, others, put, with_record, without_record, changed, applied}
 use Rattle.ci_machine.specs.Statuses.{jobs_of, graph_of, facts_in, AreBoard}
 use Rattle.ci_machine_steps.specs.Sound.{IsSound}
@@ -75,7 +75,6 @@ module _ (s : State) (ascend : Rising (λ a. a.id) 0 s.attempts) where
   record_put t (row.JobVariable v) n k = record { pipelines = k.pipelines; jobs = k.jobs; needs = k.needs; rise = k.rise; attempts = k.attempts; before = k.before; facts = k.facts }
   record_put t (row.Need w) n k = absurd n
   record_put t (row.Attempt a) n k = attempt_put t a n.0 (has_from_contains n.0 s.attempts n.1) n.2 n.3 n.4 k
-  record_put t (row.Piece p) n k = record { pipelines = k.pipelines; jobs = k.jobs; needs = k.needs; rise = k.rise; attempts = k.attempts; before = k.before; facts = k.facts }
   record_put t (row.Next counter m) n k = record { pipelines = k.pipelines; jobs = k.jobs; needs = k.needs; rise = k.rise; attempts = k.attempts; before = k.before; facts = k.facts }
 
   record_gone : (t : State) (x : Key) → IsNoStatusKey x → IsLike s t → IsLike s (without_record x t)
@@ -89,11 +88,11 @@ module _ (s : State) (ascend : Rising (λ a. a.id) 0 s.attempts) where
   record_gone t (key.Need n pred) u k = absurd u
   record_gone t (key.Needs n) u k = absurd u
   record_gone t (key.Attempt n) u k = absurd u
-  record_gone t (key.Piece n seq) u k = absurd u
-  record_gone t (key.Pieces n) u k = absurd u
+  record_gone t (key.Trace n) u k = absurd u
 
   one_change : (t : State) (c : RowChange) → LeavesStatuses s c → IsLike s t → IsLike s (changed c t)
   one_change t (Put r) n k = record_put t r n k
+  one_change t (Append more) n k = record { pipelines = k.pipelines; jobs = k.jobs; needs = k.needs; rise = k.rise; attempts = k.attempts; before = k.before; facts = k.facts }
   one_change t (Remove x) n k = record_gone t x n k
 
   all_changes : (t : State) (cs : List RowChange) → AllByRecursion (LeavesStatuses s) cs → IsLike s t → IsLike s (applied cs t)

@@ -12,7 +12,7 @@ use Rattle.ci_machine.specs.declared.change.Record.TheVariants as row
 use Rattle.ci_machine.specs.declared.change.Key.{Key}
 use Rattle.ci_machine.specs.declared.change.Key.TheVariants as key
 use Rattle.ci_machine.specs.declared.change.RowChange.{RowChange}
-use Rattle.ci_machine.specs.declared.change.RowChange.TheVariants.{Put, Remove}
+use Rattle.ci_machine.specs.declared.change.RowChange.TheVariants.{Put, Append, Remove}
 use Rattle.ci_machine.specs.Leases.{is_live}
 use Rattle.ci_machine.specs.State.{State}
 use Rattle.ci_machine.specs.Statuses.{numbers_of, graph_of, facts_of, row_for}
@@ -49,7 +49,6 @@ IsNoStatus s (row.Job j) = ⊥
 IsNoStatus s (row.JobVariable v) = Unit {0}
 IsNoStatus s (row.Need w) = ⊥
 IsNoStatus s (row.Attempt a) = HasLike s a
-IsNoStatus s (row.Piece p) = Unit {0}
 IsNoStatus s (row.Next counter n) = Unit {0}
 
 -- no status depends on the record with the key: it is a project's variable
@@ -60,6 +59,7 @@ IsNoStatusKey _ = ⊥
 -- the change leaves all statuses of the state
 abbrev pub LeavesStatuses : State → RowChange → Type 0
 LeavesStatuses s (Put r) = IsNoStatus s r
+LeavesStatuses s (Append more) = Unit {0}
 LeavesStatuses s (Remove k) = IsNoStatusKey k
 
 -- the row of a pending job that is started

@@ -76,7 +76,7 @@ pub fn pairs_among(
     ensures within { IfOk result (λ v. AreWithin (length numbers.now) v.items) }
     ensures pairs { IfOk result (λ v. IsStrictlySortedBy nat_cmp numbers.now → v.items ≡ pairs_among numbers.now needs.now) }
 {
-    let mut pairs = Vec::new(alloc);
+    let mut pairs = Vec::with_capacity(alloc, needs.len())?;
     for need in needs {
         if let Some(job) = place_of(numbers, need.job) {
             pairs.push(pair_at(numbers, job, *need)?)?;

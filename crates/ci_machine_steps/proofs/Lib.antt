@@ -1,6 +1,7 @@
 pub mod Tokens
 pub mod Parts
-pub mod Pieces
+pub mod Ranges
+pub mod Traces
 pub mod Variables
 pub mod Layers
 pub mod Details

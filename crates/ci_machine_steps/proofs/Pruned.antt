@@ -8,25 +8,25 @@ use Rattle.ci_machine.specs.declared.records.Job.{Job}
 use Rattle.ci_machine.specs.declared.records.JobVariable.{JobVariable}
 use Rattle.ci_machine.specs.declared.records.Need.{Need}
 use Rattle.ci_machine.specs.declared.records.Attempt.{Attempt}
-use Rattle.ci_machine.specs.declared.records.Piece.{Piece}
+use Rattle.ci_machine.specs.declared.records.Trace.{Trace}
 use Rattle.ci_machine.specs.declared.change.Key.TheVariants as key
 use Rattle.ci_machine.specs.declared.change.RowChange.{RowChange}
 use Rattle.ci_machine.specs.declared.change.RowChange.TheVariants.{Remove}
-use Rattle.ci_machine.specs.State.{State, without, without_all, applied}
+use Rattle.ci_machine.specs.State.{State, without, without_all, bytes_or_none, applied}
 use Rattle.ci_machine.specs.Statuses.{jobs_of, attempts_of}
-use Rattle.ci_machine.specs.Lookups.{pieces_of}
+use Rattle.ci_machine.specs.Lookups.{trace_of}
 use Rattle.ci_machine_steps.specs.Prunes.{is_job_among, attempts_among, attempt_goes, ties_go, pipeline_goes, without_pipeline}
 use Rattle.ci_machine.proofs.Keyed.{Has, Rising, one_at, not_true, has_filter, filter_has, filter_none, filter_same}
 use Rattle.ci_machine.proofs.Tests.{any_mapped, any_has, has_any}
-use Rattle.ci_machine.proofs.Filters.{filter_implied, all_gone, those_gone, unlike}
+use Rattle.ci_machine.proofs.Filters.{filter_implied, find_implied, all_gone, those_gone, unlike}
 use Rattle.ci_machine_steps.proofs.Created.{applied_append}
 
 -- ---- the changes, one after the other
 
 attempts_went : (mine : List Attempt) (s : State) → applied (flat_map attempt_goes mine) s
-    ≡ record s { attempts = without_all (λ a. a.id) (map (λ a. a.id) mine) s.attempts; pieces = without_all (λ p. p.attempt) (map (λ a. a.id) mine) s.pieces }
+    ≡ record s { attempts = without_all (λ a. a.id) (map (λ a. a.id) mine) s.attempts; traces = without_all (λ t. t.attempt) (map (λ a. a.id) mine) s.traces }
 attempts_went [] s = refl
-attempts_went (a ∷ mine) s = attempts_went mine (record s { attempts = without (λ b. b.id) a.id s.attempts; pieces = without (λ p. p.attempt) a.id s.pieces })
+attempts_went (a ∷ mine) s = attempts_went mine (record s { attempts = without (λ b. b.id) a.id s.attempts; traces = without (λ t. t.attempt) a.id s.traces })
 
 ties_went : (js : List Job) (s : State) → applied (flat_map ties_go js) s
     ≡ record s { job_variables = without_all (λ v. v.job) (map (λ j. j.id) js) s.job_variables; needs = without_all (λ w. w.job) (map (λ j. j.id) js) s.needs }
@@ -45,7 +45,7 @@ without_these n jobs attempts s = record s {
   job_variables = without_all (λ v. v.job) jobs s.job_variables;
   needs = without_all (λ w. w.job) jobs s.needs;
   attempts = without_all (λ a. a.id) attempts s.attempts;
-  pieces = without_all (λ p. p.attempt) attempts s.pieces;
+  traces = without_all (λ t. t.attempt) attempts s.traces;
 }
 
 all_went : (p : Pipeline) (js : List Job) (mine : List Attempt) (s : State)
@@ -53,7 +53,7 @@ all_went : (p : Pipeline) (js : List Job) (mine : List Attempt) (s : State)
 all_went p js mine s =
     let its = attempts_among js mine in
     let jobs_and_it : List RowChange = map (λ j. Remove (key.Job j.id)) js ++ Remove (key.Pipeline p.id) ∷ [] in
-    let r : State = record s { attempts = without_all (λ a. a.id) (map (λ a. a.id) its) s.attempts; pieces = without_all (λ q. q.attempt) (map (λ a. a.id) its) s.pieces } in
+    let r : State = record s { attempts = without_all (λ a. a.id) (map (λ a. a.id) its) s.attempts; traces = without_all (λ t. t.attempt) (map (λ a. a.id) its) s.traces } in
     let t : State = record r { job_variables = without_all (λ v. v.job) (map (λ j. j.id) js) r.job_variables; needs = without_all (λ w. w.job) (map (λ j. j.id) js) r.needs } in
     applied_append (flat_map attempt_goes its) (flat_map ties_go js ++ jobs_and_it) s
     ∙ (ap (applied (flat_map ties_go js ++ jobs_and_it)) (attempts_went its s)
@@ -97,15 +97,15 @@ module _ (s : State) (n : ℕ) (jobs_rise : Rising (λ (j : Job). j.id) 0 s.jobs
       let same_needs = all_gone (λ (w : Need). w.job) (map (λ j. j.id) its_jobs) s.needs
       ∙ filter_same _ (λ (w : Need). not (is_job_among its_jobs w.job)) s.needs (λ w k. ap not (sym (any_mapped (λ m. m == w.job) (λ (j : Job). j.id) its_jobs))) in
       let same_attempts = those_gone (λ (a : Attempt). a.id) (λ a. is_job_among its_jobs a.job) s.attempts attempts_rise in
-      let same_pieces = all_gone (λ (q : Piece). q.attempt) (map (λ a. a.id) its) s.pieces
-      ∙ filter_same _ (λ (q : Piece). not (list_any (λ a. a.id == q.attempt) its)) s.pieces (λ q k. ap not (sym (any_mapped (λ m. m == q.attempt) (λ (a : Attempt). a.id) its))) in
+      let same_traces = all_gone (λ (t : Trace). t.attempt) (map (λ a. a.id) its) s.traces
+      ∙ filter_same _ (λ (t : Trace). not (list_any (λ a. a.id == t.attempt) its)) s.traces (λ t k. ap not (sym (any_mapped (λ m. m == t.attempt) (λ (a : Attempt). a.id) its))) in
       all_went p its_jobs s.attempts s ∙ (λ i. record s {
         pipelines = same_pipelines i;
         jobs = same_jobs i;
         job_variables = same_variables i;
         needs = same_needs i;
         attempts = same_attempts i;
-        pieces = same_pieces i;
+        traces = same_traces i;
       })
     where
       flips : (a b : ℕ) → (a == b) ≡ (b == a)
@@ -145,17 +145,17 @@ module _ (s : State) (n : ℕ) (jobs_rise : Rising (λ (j : Job). j.id) 0 s.jobs
   attempt_left a k e = filter_has (λ (b : Attempt). not (is_job_among its_jobs b.job)) a s.attempts k (ap not e)
 
   -- the trace of an attempt that is left
-  pub pieces_left : (a : Attempt) → Has a (without_pipeline s n).attempts → pieces_of (without_pipeline s n) a.id ≡ pieces_of s a.id
-  pieces_left a k =
+  pub trace_left : (a : Attempt) → Has a (without_pipeline s n).attempts → trace_of (without_pipeline s n) a.id ≡ trace_of s a.id
+  trace_left a k =
       let its = attempts_among its_jobs s.attempts in
       let was = attempt_was a k in
-      filter_implied (λ (q : Piece). q.attempt == a.id) (λ q. not (list_any (λ b. b.id == q.attempt) its)) s.pieces
-      (λ q m e.
+      ap bytes_or_none (find_implied (λ (t : Trace). t.attempt == a.id) (λ t. not (list_any (λ b. b.id == t.attempt) its)) s.traces
+      (λ t m e.
       ⊎_elim
-      (λ (t : list_any (λ (b : Attempt). b.id == q.attempt) its ≡ true).
-      let w = any_has (λ (b : Attempt). b.id == q.attempt) its t in
+      (λ (among : list_any (λ (b : Attempt). b.id == t.attempt) its ≡ true).
+      let w = any_has (λ (b : Attempt). b.id == t.attempt) its among in
       let of = has_filter (λ (b : Attempt). is_job_among its_jobs b.job) w.0 s.attempts w.1.0 in
-      let same = one_at (λ (b : Attempt). b.id) w.0 a 0 s.attempts attempts_rise of.0 was.0 (eqb-true w.0.id q.attempt w.1.1 ∙ eqb-true q.attempt a.id e) in
+      let same = one_at (λ (b : Attempt). b.id) w.0 a 0 s.attempts attempts_rise of.0 was.0 (eqb-true w.0.id t.attempt w.1.1 ∙ eqb-true t.attempt a.id e) in
       absurd (both_ways (is_job_among its_jobs a.job) was.1 (subst (λ (b : Attempt). is_job_among its_jobs b.job ≡ true) same of.1)))
       (λ f. ap not f)
-      (cases_Bool (list_any (λ (b : Attempt). b.id == q.attempt) its)))
+      (cases_Bool (list_any (λ (b : Attempt). b.id == t.attempt) its))))

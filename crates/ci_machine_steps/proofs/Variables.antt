@@ -19,7 +19,7 @@ use Rattle.ci_machine.specs.declared.records.Job.{Job}
 use Rattle.ci_machine.specs.declared.records.JobVariable.{JobVariable}
 use Rattle.ci_machine.specs.declared.records.QueuedJob.{QueuedJob}
 use Rattle.ci_machine.specs.declared.change.RowChange.{RowChange}
-use Rattle.ci_machine.specs.declared.change.RowChange.TheVariants.{Put, Remove}
+use Rattle.ci_machine.specs.declared.change.RowChange.TheVariants.{Put, Append, Remove}
 use Rattle.ci_machine.specs.declared.change.Record.{Record}
 use Rattle.ci_machine.specs.declared.change.Record.TheVariants as row
 use Rattle.ci_machine.specs.declared.change.Key.{Key}
@@ -162,7 +162,6 @@ recorded (row.Job p) s o = o
 recorded (row.JobVariable v) s o = put_ordered job_variable_cmp variable_total v s.job_variables o
 recorded (row.Need n) s o = o
 recorded (row.Attempt p) s o = o
-recorded (row.Piece p) s o = o
 recorded (row.Next c n) s o = o
 
 removed : (k : Key) (s : State) → Ordered job_variable_cmp s.job_variables → Ordered job_variable_cmp (without_record k s).job_variables
@@ -176,11 +175,11 @@ removed (key.JobVariables n) s o = filter_ordered job_variable_cmp _ s.job_varia
 removed (key.Need n pred) s o = o
 removed (key.Needs n) s o = o
 removed (key.Attempt n) s o = o
-removed (key.Piece n seq) s o = o
-removed (key.Pieces n) s o = o
+removed (key.Trace n) s o = o
 
 one_change : (c : RowChange) (s : State) → Ordered job_variable_cmp s.job_variables → Ordered job_variable_cmp (changed c s).job_variables
 one_change (Put r) s o = recorded r s o
+one_change (Append t) s o = o
 one_change (Remove k) s o = removed k s o
 
 pub changes_ordered : (cs : List RowChange) (s : State) → Ordered job_variable_cmp s.job_variables → Ordered job_variable_cmp (applied cs s).job_variables

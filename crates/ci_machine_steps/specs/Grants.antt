@@ -27,7 +27,7 @@ abbrev pub granted : Runner → QueuedJob → List JobVariable → ℕ → ℕ �
 granted runner q variables id now seed =
     let token = token_of (codes "j") id seed in (
       created (compact_text (grant_data id token q variables)),
-      numbered (row.Attempt (record { id = id; job = q.job.id; runner = runner.id; token = token; granted = now; seen = now; state = Live; pieces = 0; size = 0 })) counter.Attempt id,
+      numbered (row.Attempt (record { id = id; job = q.job.id; runner = runner.id; token = token; granted = now; seen = now; state = Live })) counter.Attempt id,
     )
 
 -- the runner is offered this job with its variables: an attempt is made, with this next number

@@ -1,6 +1,5 @@
 -- What holds of every step and every reached state.
-use Rattle.std.specs.Prelude.{⊤, ◌≡◌, ◌⊎◌, ◌<◌, ◌≤◌, ℕ, Bool, true, false, ◌&&◌, List, [], ◌∷◌, ◌++◌, length, map, filter, count_by, All, Contains, Some, None, IsSome, Ok, ◌==◌, if◌then◌else◌}
-use Rattle.std.specs.List.{range_with_len}
+use Rattle.std.specs.Prelude.{⊤, ◌≡◌, ◌⊎◌, ◌<◌, ◌≤◌, ℕ, Bool, true, false, ◌&&◌, List, [], ◌∷◌, ◌++◌, map, filter, count_by, All, Contains, Some, None, IsSome, Ok, ◌==◌, if◌then◌else◌}
 use Rattle.std.specs.Ordering.{nat_cmp}
 use Rattle.std.specs.Cmp.Lexicographic.{slice_cmp}
 use Rattle.std.specs.List.Sorted.{IsStrictlySortedBy}
@@ -40,10 +39,9 @@ use Rattle.ci_machine.specs.Bodies.{grant_data, granted_variables}
 use Rattle.ci_machine_steps.specs.Plans.{created, asked_project}
 use Rattle.ci_machine_steps.specs.Files.{IsRead}
 use Rattle.ci_machine_steps.specs.Pipelines.{given_by, new_job}
-use Rattle.ci_machine_steps.specs.Shows.{joined}
 use Rattle.ci_machine_steps.specs.Prunes.{pruned_reply}
 use Rattle.ci_machine.specs.Holders.{holders, is_in_group}
-use Rattle.ci_machine_steps.specs.Step.{project_with, project_variables, is_pending, queued, pieces_of, lease_of, variables_of, with_status, was_tried}
+use Rattle.ci_machine_steps.specs.Step.{project_with, project_variables, is_pending, queued, trace_of, lease_of, variables_of, with_status, was_tried}
 use Rattle.ci_machine_steps.specs.History.{Past}
 
 -- the answer is a refusal
@@ -97,7 +95,7 @@ job_for_good j = record j { played = false; cancelled = false; set_aside = 0 }
 
 -- the number, the job, the runner, the token and the moment of the grant
 abbrev pub attempt_for_good : Attempt → Attempt
-attempt_for_good a = record a { seen = 0; state = Live; pieces = 0; size = 0 }
+attempt_for_good a = record a { seen = 0; state = Live }
 
 -- The line made the job's pipeline, whose number it drew. By the file that the project had then, the pipeline included the job by its
 -- rules, and has it as they say.
@@ -151,12 +149,9 @@ abbrev pub all_accepted : ℕ → List Past → List ℕ
 all_accepted n [] = []
 all_accepted n (p ∷ earlier) = all_accepted n earlier ++ accepted_bytes n p.event p.answer
 
--- the trace of the attempt is its accepted bytes in their order; its pieces are numbered from 0 on, and it knows how many they
--- are and how long the trace is
-pub record IsTraced (h : List Past) (s : State) (a : Attempt) : Type 0 where
-  pub trace : joined (pieces_of s a.id) ≡ all_accepted a.id h
-  pub size : a.size ≡ length (joined (pieces_of s a.id))
-  pub numbered : map (λ p. p.seq) (pieces_of s a.id) ≡ range_with_len 0 a.pieces
+-- the trace of the attempt is the bytes that its runner sent and the machine accepted, joined in their order
+abbrev pub IsTraced : List Past → State → Attempt → Type 0
+IsTraced h s a = trace_of s a.id ≡ all_accepted a.id h
 
 -- the line pruned the pipeline with this number
 abbrev pub Prunes : Past → ℕ → Type 0

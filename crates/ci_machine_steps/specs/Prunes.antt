@@ -40,7 +40,7 @@ abbrev pub attempts_among : List Job → List Attempt → List Attempt
 attempts_among jobs attempts = filter (λ a. is_job_among jobs a.job) attempts
 
 abbrev pub attempt_goes : Attempt → List RowChange
-attempt_goes a = Remove (key.Pieces a.id) ∷ Remove (key.Attempt a.id) ∷ []
+attempt_goes a = Remove (key.Trace a.id) ∷ Remove (key.Attempt a.id) ∷ []
 
 abbrev pub ties_go : Job → List RowChange
 ties_go j = Remove (key.JobVariables j.id) ∷ Remove (key.Needs j.id) ∷ []
@@ -78,5 +78,5 @@ without_pipeline s n =
       job_variables = filter (λ v. not (is_job_among jobs v.job)) s.job_variables;
       needs = filter (λ w. not (is_job_among jobs w.job)) s.needs;
       attempts = filter (λ a. not (is_job_among jobs a.job)) s.attempts;
-      pieces = filter (λ p. not (list_any (λ a. a.id == p.attempt) (attempts_among jobs s.attempts))) s.pieces;
+      traces = filter (λ t. not (list_any (λ a. a.id == t.attempt) (attempts_among jobs s.attempts))) s.traces;
     }

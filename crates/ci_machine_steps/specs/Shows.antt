@@ -1,11 +1,9 @@
 -- A pipeline of a project is asked for, a job of one, or the trace of a job's last attempt.
 use Rattle.std.specs.Prelude.{ℕ, List, [], if◌then◌else◌, ◌==◌, Option, Some, None, Result, Ok, Err}
-use Rattle.std.specs.List.{flat_map}
 use Rattle.serde_json.specs.Written.{compact_text}
 use Rattle.ci_machine.specs.declared.records.Project.{Project}
 use Rattle.ci_machine.specs.declared.records.Pipeline.{Pipeline}
 use Rattle.ci_machine.specs.declared.records.Job.{Job}
-use Rattle.ci_machine.specs.declared.records.Piece.{Piece}
 use Rattle.ci_machine.specs.declared.records.Holder.{Holder}
 use Rattle.ci_machine.specs.declared.request.JobQuery.{JobQuery}
 use Rattle.ci_machine.specs.declared.reply.Code.{Code}
@@ -40,20 +38,16 @@ shown holders project (Err code) status = refused code
 abbrev pub show_job : Option Project → Option Job → Option Pipeline → List Holder → Status → JobQuery → Plan
 show_job project job pipeline holders status query = shown holders query.project (asked_job project job pipeline query) status
 
--- the pieces of a trace, joined in their order
-abbrev pub joined : List Piece → List ℕ
-joined pieces = flat_map (λ p. p.bytes) pieces
+abbrev pub trace_shown : List ℕ → Plan
+trace_shown trace = (fine (Plain trace), [])
 
-abbrev pub trace_shown : List Piece → Plan
-trace_shown pieces = (fine (Plain (joined pieces)), [])
+abbrev pub traced : Result Job Code → List ℕ → Plan
+traced (Ok job) trace = trace_shown trace
+traced (Err code) trace = refused code
 
-abbrev pub traced : Result Job Code → List Piece → Plan
-traced (Ok job) pieces = trace_shown pieces
-traced (Err code) pieces = refused code
-
--- a job of a project, and the pieces of the trace of its last attempt
-abbrev pub show_trace : Option Project → Option Job → Option Pipeline → List Piece → JobQuery → Plan
-show_trace project job pipeline pieces query = traced (asked_job project job pipeline query) pieces
+-- a job of a project, and the trace of its last attempt
+abbrev pub show_trace : Option Project → Option Job → Option Pipeline → List ℕ → JobQuery → Plan
+show_trace project job pipeline trace query = traced (asked_job project job pipeline query) trace
 
 -- ---- a pipeline
 

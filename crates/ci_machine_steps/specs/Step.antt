@@ -1,5 +1,5 @@
 -- One step of the machine: what an event does, by what the state holds and by the statuses of its jobs, and then its changes applied.
-use Rattle.std.specs.Prelude.{◌≡◌, ℕ, List, [], ◌∷◌, Option, Some, None, Result, option_and_then}
+use Rattle.std.specs.Prelude.{◌≡◌, ℕ, List, [], ◌∷◌, length, Option, Some, None, Result, option_and_then}
 use Rattle.ci_machine.specs.declared.records.Project.{Project}
 use Rattle.ci_machine.specs.declared.records.Runner.{Runner}
 use Rattle.ci_machine.specs.declared.records.Pipeline.{Pipeline}
@@ -20,7 +20,7 @@ use Rattle.ci_machine.specs.declared.reply.Answer.TheVariants as answer
 use Rattle.ci_machine.specs.declared.records.BoardRow.{BoardRow}
 use Rattle.ci_machine.specs.State.{State, applied}
 use Rattle.ci_machine.specs.Statuses.{jobs_of, attempts_of, facts_of, rows_of, status_for, AreBoard}
-pub use Rattle.ci_machine.specs.Lookups.{project_at, project_with, project_variables, variable_at, runner_at, runner_with, pipeline_at, job_at, demand_of, demand_at, attempt_at, variables_of, last_attempt, pieces_of, limit_or_none, lease_of, lease_at, live_attempts, leases, is_pending, pending_jobs, project_or_none, queued, queue, pipeline_of, pieces_in, next_of}
+pub use Rattle.ci_machine.specs.Lookups.{project_at, project_with, project_variables, variable_at, runner_at, runner_with, pipeline_at, job_at, demand_of, demand_at, attempt_at, variables_of, last_attempt, trace_of, limit_or_none, lease_of, lease_at, live_attempts, leases, is_pending, pending_jobs, project_or_none, queued, queue, pipeline_of, trace_if_any, next_of}
 pub use Rattle.ci_machine.specs.Indexes.{with_status, was_tried, redundant_in}
 use Rattle.ci_machine.specs.Holders.{holders}
 use Rattle.ci_machine.specs.Eligible.{chosen}
@@ -101,7 +101,7 @@ Does s board (AskJob token) now seed plan =
     let offered = offer s board runner in
     plan ≡ ask_job runner offered (offered_variables s offered) s.next.attempt now seed
 Does s board (UpdateJob update) now seed plan = plan ≡ update_job (lease_at s update.attempt) update now
-Does s board (AppendTrace part) now seed plan = plan ≡ append_trace (lease_at s part.attempt) part now
+Does s board (AppendTrace part) now seed plan = plan ≡ append_trace (lease_at s part.attempt) (length (trace_of s part.attempt)) part now
 Does s board (ShowPipeline query) now seed plan =
     let n = query.pipeline in
     plan ≡ show_pipeline (asked_pipeline (asked_project (project_with s query.token) query.project) (pipeline_at s n)) (holders s) (jobs_of s n) (facts_of s n) (rows_of s board n)
@@ -110,7 +110,7 @@ Does s board (ShowJob query) now seed plan =
     plan ≡ show_job (project_with s query.token) job (pipeline_of s job) (holders s) (status_for board query.job) query
 Does s board (ShowTrace query) now seed plan =
     let job = job_at s query.job in
-    plan ≡ show_trace (project_with s query.token) job (pipeline_of s job) (pieces_in s (last_attempt s query.job)) query
+    plan ≡ show_trace (project_with s query.token) job (pipeline_of s job) (trace_if_any s (last_attempt s query.job)) query
 Does s board (Play query) now seed plan = ActsOn s play (permitted board is_playable M10 (found_job s query)) plan
 Does s board (CancelJob query) now seed plan = ActsOn s (λ j. cancel s.attempts (j ∷ [])) (permitted board is_cancellable M12 (found_job s query)) plan
 Does s board (RetryJob query) now seed plan = ActsOn s (λ j. retry (attempts_of s j.id) j) (permitted board is_retryable M11 (found_job s query)) plan

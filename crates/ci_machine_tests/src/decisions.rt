@@ -34,8 +34,6 @@ fn attempt(alloc: Global, id: u64, seen: u64, state: AttemptState) -> Result<Att
         granted: at(1000)?,
         seen: at(seen)?,
         state,
-        pieces: 0,
-        size: 0,
     })
 }
 

@@ -58,8 +58,6 @@ pub fn attempt(alloc: Global, id: u64, job: u64, state: AttemptState) -> Result<
         granted: moment,
         seen: moment,
         state,
-        pieces: 0,
-        size: 0,
     })
 }
 

@@ -6,7 +6,7 @@ use Rattle.std.proofs.lemmas.Bool.{false≢true}
 use Rattle.ci_machine.specs.declared.change.Key.TheVariants as key
 use Rattle.ci_machine.specs.declared.change.Record.TheVariants as row
 use Rattle.ci_machine.specs.declared.change.RowChange.{RowChange}
-use Rattle.ci_machine.specs.declared.change.RowChange.TheVariants.{Put, Remove}
+use Rattle.ci_machine.specs.declared.change.RowChange.TheVariants.{Put, Append, Remove}
 use Rattle.ci_machine.specs.State.{State, changed, applied}
 use Rattle.ci_memory.specs.Runners.{is_of_runner}
 
@@ -20,8 +20,8 @@ runners_stay (Put (row.Job x)) s e = refl
 runners_stay (Put (row.JobVariable x)) s e = refl
 runners_stay (Put (row.Need x)) s e = refl
 runners_stay (Put (row.Attempt x)) s e = refl
-runners_stay (Put (row.Piece x)) s e = refl
 runners_stay (Put (row.Next counter n)) s e = refl
+runners_stay (Append x) s e = refl
 runners_stay (Remove (key.Project n)) s e = refl
 runners_stay (Remove (key.Variable n m)) s e = refl
 runners_stay (Remove (key.Runner n)) s e = absurd (false≢true (sym e))
@@ -32,8 +32,7 @@ runners_stay (Remove (key.JobVariables n)) s e = refl
 runners_stay (Remove (key.Need n m)) s e = refl
 runners_stay (Remove (key.Needs n)) s e = refl
 runners_stay (Remove (key.Attempt n)) s e = refl
-runners_stay (Remove (key.Piece n m)) s e = refl
-runners_stay (Remove (key.Pieces n)) s e = refl
+runners_stay (Remove (key.Trace n)) s e = refl
 
 pub first : (a b : Bool) → (a || b) ≡ false → a ≡ false
 first true b e = absurd (false≢true (sym e))

@@ -9,7 +9,7 @@ use Rattle.std.proofs.lemmas.Slice.Eq.{bytes_eq-Decides}
 use Rattle.ci_machine.specs.declared.change.Key.TheVariants as key
 use Rattle.ci_machine.specs.declared.change.Record.TheVariants as row
 use Rattle.ci_machine.specs.declared.change.RowChange.{RowChange}
-use Rattle.ci_machine.specs.declared.change.RowChange.TheVariants.{Put, Remove}
+use Rattle.ci_machine.specs.declared.change.RowChange.TheVariants.{Put, Append, Remove}
 use Rattle.ci_machine.specs.declared.records.Project.{Project}
 use Rattle.ci_machine.specs.State.{State, placed, others, project_cmp, changed}
 use Rattle.ci_machine.proofs.Keyed.{has_filter, has_find, has_from_all, All-from_has, unequal}
@@ -49,8 +49,8 @@ stays_found p (Put (row.Job x)) s e is = is
 stays_found p (Put (row.JobVariable x)) s e is = is
 stays_found p (Put (row.Need x)) s e is = is
 stays_found p (Put (row.Attempt x)) s e is = is
-stays_found p (Put (row.Piece x)) s e is = is
 stays_found p (Put (row.Next counter n)) s e is = is
+stays_found p (Append x) s e is = is
 stays_found p (Remove (key.Project n)) s e is =
     find_left (λ q. bytes_eq q.token p.token) (λ y. not (is_eq (nat_cmp y.id n))) p s.projects is (unequal p.id n (λ same. false≢true (sym e ∙ eq-eqb n p.id (sym same))))
 stays_found p (Remove (key.Variable n m)) s e is = is
@@ -62,8 +62,7 @@ stays_found p (Remove (key.JobVariables n)) s e is = is
 stays_found p (Remove (key.Need n m)) s e is = is
 stays_found p (Remove (key.Needs n)) s e is = is
 stays_found p (Remove (key.Attempt n)) s e is = is
-stays_found p (Remove (key.Piece n m)) s e is = is
-stays_found p (Remove (key.Pieces n)) s e is = is
+stays_found p (Remove (key.Trace n)) s e is = is
 
 none_of : (a : Bool) → not a ≡ true → a ≡ false
 none_of true e = absurd (false≢true e)

@@ -2,6 +2,7 @@
 
 ghost use Rattle.std.specs.Prelude.{◌≡◌};
 ghost use Rattle.ci_machine.specs.Kept.{Kept};
+ghost use Rattle.ci_machine.specs.Lookups.{demand_of};
 ghost use Rattle.ci_store.specs.Store.{LoadsBy};
 ghost use Rattle.ci_server_lookups.specs.Keeps.{IsKept, HoldsKept};
 ghost use Rattle.ci_server_lookups.specs.Search.{IsOffered};
@@ -16,10 +17,10 @@ use ci_machine::change::Counter;
 use ci_machine::lease::Lease;
 use ci_machine::moment::Moment;
 use ci_machine::records::{
-    Attempt, BoardRow, Demand, Holder, Job, JobVariable, Need, Piece, Pipeline, Project, Runner,
-    Variable,
+    Attempt, BoardRow, Demand, Holder, Job, JobOptions, JobVariable, Need, Pipeline, Project,
+    Runner, Variable,
 };
-use ci_machine::text::Text;
+use ci_machine::text::{Bytes, Text};
 use ci_memory_boards::boards::copies_of_jobs;
 use ci_memory_boards::fresh::Fresh;
 use ci_memory_boards::load::sheet_of;
@@ -135,6 +136,9 @@ impl<T: Store> Store for Remembering<T> {
     }
 
     fn demand(&mut self, id: u64) -> Result<Option<Demand>, StoreFault> {
+        if let Some(job) = self.memory.boards.job(id) {
+            return Ok(Some(demand_of(job)));
+        }
         self.store.demand(id)
     }
 
@@ -161,8 +165,12 @@ impl<T: Store> Store for Remembering<T> {
         self.store.live_attempts()
     }
 
-    fn pieces_of(&mut self, attempt: u64) -> Result<Vec<Piece>, StoreFault> {
-        self.store.pieces_of(attempt)
+    fn trace_of(&mut self, attempt: u64) -> Result<Bytes, StoreFault> {
+        self.store.trace_of(attempt)
+    }
+
+    fn trace_size(&mut self, attempt: u64) -> Result<u64, StoreFault> {
+        self.store.trace_size(attempt)
     }
 
     fn jobs_of(&mut self, pipeline: u64) -> Result<Vec<Job>, StoreFault> {
@@ -243,9 +251,7 @@ impl<T: Store> Store for Remembering<T> {
 
 impl<T: Store> Searches for Remembering<T> {
     fn first_offer(&mut self, alloc: Global, runner: &Runner) -> Result<Option<Offer>, StoreFault> {
-        let found = offered(self, alloc, runner)?;
-        learn_limit(self, &found)?;
-        Ok(found)
+        offered(self, alloc, runner)
     }
 
     fn first_due(&mut self, alloc: Global, now: Moment) -> Result<Option<Lease>, StoreFault> {
@@ -288,7 +294,32 @@ fn note_fresh<T: Store>(store: &mut Remembering<T>, fresh: Fresh)
     store.memory.boards.learn_fresh(fresh);
 }
 
-/// The first pending job that the runner may be given, with its row, by the queue that is remembered.
+/// What a job asks of the runner that is given it.
+fn demand_of(job: Job) -> Demand
+    ensures { result ≡ demand_of job }
+{
+    let Job {
+        id,
+        pipeline,
+        options,
+        ..
+    } = job;
+    let JobOptions {
+        tags,
+        resource_group,
+        ..
+    } = options;
+    Demand {
+        job: id,
+        pipeline,
+        tags,
+        resource_group,
+    }
+}
+
+/// The first pending job that the runner may be given, with its row, by the queue that is remembered. Meanwhile the queue is taken out, so
+/// that what it looks up is answered by all else that is remembered; and looking the job up remembers its time limit, for the next commit
+/// may have a lease on it.
 fn offered<T: Store>(
     store: &mut Remembering<T>,
     alloc: Global,
@@ -296,18 +327,8 @@ fn offered<T: Store>(
 ) -> Result<Option<Offer>, StoreFault>
     ensures { LoadsBy ⟦<Remembering<T> as Store>⟧.honest ⟦<Remembering<T> as Store>⟧.holds ⟦<Remembering<T> as Store>⟧.leaves store.old store.new result (λ k found. IsKept k → IsOffered k runner.now found) }
 {
-    offer::first_offer(alloc, &mut store.store, &mut store.memory.queue, runner)
-}
-
-/// Remembers the time limit of the job that is offered: the next commit may have a lease on it.
-fn learn_limit<T: Store>(
-    store: &mut Remembering<T>,
-    found: &Option<Offer>,
-) -> Result<(), StoreFault>
-    ensures { LoadsBy ⟦<Remembering<T> as Store>⟧.honest ⟦<Remembering<T> as Store>⟧.holds ⟦<Remembering<T> as Store>⟧.leaves store.old store.new result (λ k _. Unit {0}) }
-{
-    if let Some(offer) = found {
-        store.job(offer.row.job)?;
-    }
-    Ok(())
+    let mut queue = store.memory.queue.take();
+    let found = offer::first_offer(alloc, store, &mut queue, runner);
+    store.memory.queue = queue;
+    found
 }

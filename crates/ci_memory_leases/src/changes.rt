@@ -26,6 +26,7 @@ fn after_change(memory: Leases, change: &RowChange) -> Leases
 {
     match change {
         RowChange::Put(record) => with_record(memory, record),
+        RowChange::Append(_) => memory,
         RowChange::Remove(key) => without_record(memory, key),
     }
 }

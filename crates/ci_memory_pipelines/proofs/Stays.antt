@@ -7,7 +7,7 @@ use Rattle.ci_machine.specs.declared.records.Pipeline.{Pipeline}
 use Rattle.ci_machine.specs.declared.change.Record.TheVariants as row
 use Rattle.ci_machine.specs.declared.change.Key.TheVariants as key
 use Rattle.ci_machine.specs.declared.change.RowChange.{RowChange}
-use Rattle.ci_machine.specs.declared.change.RowChange.TheVariants.{Put, Remove}
+use Rattle.ci_machine.specs.declared.change.RowChange.TheVariants.{Put, Append, Remove}
 use Rattle.ci_machine.specs.declared.change.IndexChange.{IndexChange}
 use Rattle.ci_machine.specs.Kept.{Kept, indexed, indexed_all}
 use Rattle.ci_machine.specs.State.{State, changed}
@@ -23,13 +23,14 @@ put_is (Put (row.Job x)) p e = absurd (cc)
 put_is (Put (row.JobVariable x)) p e = absurd (cc)
 put_is (Put (row.Need x)) p e = absurd (cc)
 put_is (Put (row.Attempt x)) p e = absurd (cc)
-put_is (Put (row.Piece x)) p e = absurd (cc)
 put_is (Put (row.Next c n)) p e = absurd (cc)
+put_is (Append x) p e = absurd (cc)
 put_is (Remove k) p e = absurd (cc)
 
 -- one that removes a pipeline is that
 pub removed_is : (c : RowChange) (n : ℕ) → removed_pipeline c ≡ Some n → c ≡ Remove (key.Pipeline n)
 removed_is (Put x) n e = absurd (cc)
+removed_is (Append x) n e = absurd (cc)
 removed_is (Remove (key.Project m)) n e = absurd (cc)
 removed_is (Remove (key.Variable m i)) n e = absurd (cc)
 removed_is (Remove (key.Runner m)) n e = absurd (cc)
@@ -40,8 +41,7 @@ removed_is (Remove (key.JobVariables m)) n e = absurd (cc)
 removed_is (Remove (key.Need m i)) n e = absurd (cc)
 removed_is (Remove (key.Needs m)) n e = absurd (cc)
 removed_is (Remove (key.Attempt m)) n e = absurd (cc)
-removed_is (Remove (key.Piece m i)) n e = absurd (cc)
-removed_is (Remove (key.Pieces m)) n e = absurd (cc)
+removed_is (Remove (key.Trace m)) n e = absurd (cc)
 
 pub pipelines_stay : (c : RowChange) (s : State) → put_pipeline c ≡ None → removed_pipeline c ≡ None → (changed c s).pipelines ≡ s.pipelines
 pipelines_stay (Put (row.Project x)) s e f = refl
@@ -52,8 +52,8 @@ pipelines_stay (Put (row.Job x)) s e f = refl
 pipelines_stay (Put (row.JobVariable x)) s e f = refl
 pipelines_stay (Put (row.Need x)) s e f = refl
 pipelines_stay (Put (row.Attempt x)) s e f = refl
-pipelines_stay (Put (row.Piece x)) s e f = refl
 pipelines_stay (Put (row.Next c n)) s e f = refl
+pipelines_stay (Append x) s e f = refl
 pipelines_stay (Remove (key.Project n)) s e f = refl
 pipelines_stay (Remove (key.Variable n m)) s e f = refl
 pipelines_stay (Remove (key.Runner n)) s e f = refl
@@ -64,8 +64,7 @@ pipelines_stay (Remove (key.JobVariables n)) s e f = refl
 pipelines_stay (Remove (key.Need n m)) s e f = refl
 pipelines_stay (Remove (key.Needs n)) s e f = refl
 pipelines_stay (Remove (key.Attempt n)) s e f = refl
-pipelines_stay (Remove (key.Piece n m)) s e f = refl
-pipelines_stay (Remove (key.Pieces n)) s e f = refl
+pipelines_stay (Remove (key.Trace n)) s e f = refl
 
 -- ---- one more change of an index
 

@@ -39,6 +39,7 @@ fn note_change(queue: &mut Queue, change: &RowChange) -> Option<()>
 {
     match change {
         RowChange::Put(record) => note_record(queue, record),
+        RowChange::Append(_) => Some(()),
         RowChange::Remove(key) => note_removal(key),
     }
 }

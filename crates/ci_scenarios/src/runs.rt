@@ -86,6 +86,7 @@ impl<'a> Stage<'a> {
             "at" => self.set_moment(Some(number(rest)?)),
             "no-clock" => self.set_moment(None),
             "file" => self.write(rest),
+            "copy" => self.copy(rest),
             "no-file" => self.lacks(rest),
             "sql" => self.alter(rest),
             _ => unknown(String::from_str(self.alloc(), kind)?),
@@ -129,6 +130,14 @@ impl<'a> Stage<'a> {
     fn write(&self, text: &str) -> Result<(), Fault> {
         let (path, text) = self.file(text)?;
         let written = fs::write(self.rt, path.as_str(), text.as_bytes());
+        written.map_err(|_| Fault::Failed("a file can't be written"))
+    }
+
+    /// `copy @NAME FILE`: a copy of a file that lies beside the scenarios.
+    fn copy(&self, text: &str) -> Result<(), Fault> {
+        let (path, from) = self.file(text)?;
+        let bytes = fs::read(self.rt, from).map_err(|_| Fault::Failed("a file can't be read"))?;
+        let written = fs::write(self.rt, path.as_str(), bytes.as_slice());
         written.map_err(|_| Fault::Failed("a file can't be written"))
     }
 

@@ -2,9 +2,9 @@
 
 use crate::asks::Ask;
 use crate::fault::Fault;
+use ci_http::Server;
 use ci_machine::reply::Answer;
 use ci_machine::request::{Event, Seed};
-use ci_server::server::Server;
 use ci_store::Connection;
 use ci_store_disks::{Disks, FailingDisks, closed, connected, fused};
 use sqlite::{FileStore, Files};

@@ -14,7 +14,7 @@ use crate::stops::{StopEach, stop_each};
 use crate::tables::{changed, shown};
 use ci_machine::moment::Moment;
 use ci_store::Connection;
-use ci_store_disks::discard;
+use ci_store_disks::{discard, stopped};
 use std::alloc::Global;
 
 /// The server of a scenario, while there is one.
@@ -122,8 +122,15 @@ impl Stage {
         Ok(image)
     }
 
+    /// What a stop leaves of the server's files, their log too; it is opened again.
+    fn stopped(&mut self) -> Result<Image, Fault> {
+        let image = Image::of(self.alloc, &stopped(left(self.leave()?)))?;
+        self.enter(image.connect(self.alloc)?)?;
+        Ok(image)
+    }
+
     fn stop_each(&mut self, stop: &StopEach) -> Result<(), Fault> {
-        let image = self.reopened()?;
+        let image = self.stopped()?;
         stop_each(self.alloc, &image, stop)
     }
 

@@ -63,17 +63,17 @@ pub fn stop_each(alloc: Global, image: &Image, stop: &StopEach) -> Result<(), Fa
     if stop.of_log && stop_file(alloc, image, stop, true)? == 0 && changes {
         return Err(Fault::Failed("no fault of the log is met"));
     }
-    if stop.of_db {
-        let _ = stop_file(alloc, image, stop, false)?;
+    if stop.of_db && stop_file(alloc, image, stop, false)? == 0 && changes && !stop.of_log {
+        return Err(Fault::Failed("no fault of the database file is met"));
     }
     Ok(())
 }
 
-/// The least number of calls with which a server opens, which is below 256.
+/// The least number of calls with which a server opens, which is below 8192.
 fn opens_from(alloc: Global, image: &Image, of_log: bool) -> Result<u64, Fault> {
     let mut low = 0u64;
-    let mut high = 256u64;
-    for _ in 0..8 {
+    let mut high = 8192u64;
+    for _ in 0..13 {
         let mid = low.midpoint(high);
         match opened(alloc, image.failing(alloc, of_log, mid)?) {
             Some(server) => {

@@ -102,7 +102,7 @@ module _ {S : Type 0} (g : Ghosts S) (conn : Held S) (store : Remembering (Held 
     was_honest = back;
     was_blank = blank;
     made = made;
-    holds = λ honest. record { kept = nothing_kept; is_of = nothing_is_kept; held = (made honest blank, right nothing_kept (in_order nothing_kept tt tt tt)) };
+    holds = λ honest. record { kept = nothing_kept; is_of = nothing_is_kept; held = ((made honest blank).left, right nothing_kept (in_order nothing_kept tt tt tt)) };
   }
 
   -- it is over the tables that were found
@@ -112,5 +112,5 @@ module _ {S : Type 0} (g : Ghosts S) (conn : Held S) (store : Remembering (Held 
     opened = found;
     holds = λ honest s k of only.
         let at = found honest k only in
-        record { kept = k; is_of = of; held = (at, right k (in_order k at.now.inside.regular.jobs at.now.inside.regular.attempts at.now.inside.regular.board)) };
+        record { kept = k; is_of = of; held = (at.left, right k (in_order k at.now.inside.regular.jobs at.now.inside.regular.attempts at.now.inside.regular.board)) };
   }

@@ -4,3 +4,4 @@ pub mod Runs
 pub mod LifetimeLemmas
 pub mod Settled
 pub mod Reports
+pub mod SentAgain

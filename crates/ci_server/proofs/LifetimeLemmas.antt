@@ -48,7 +48,7 @@ module _ {S : Type 0} (g : Ghosts S) (settled : (s : S) (db : Trees) → IsTrue 
   -- a server whose tables hold a state that the operations reach
   holding : (ops : List Operation) (server : FailStop (Remembering (Held S))) (s : State) → IsReachedBy ops s → HoldsIn g s server.store → server.closed ≡ has_failed ops → Stands ops server
   holding ops server s reached at closed =
-      (record { held = λ _. (s, reached, at); left = λ db may. (s, reached, record { kept = at.kept; is_of = at.is_of; stands = at.held.0.left db may }) }, closed)
+      (record { held = λ _. (s, reached, at); left = λ db may. (s, reached, record { kept = at.kept; is_of = at.is_of; stands = at.held.0 db may }) }, closed)
 
   -- a server that is closed after a call in which the store failed, or which it refused
   failed : (ops : List Operation) (new : FailStop (Remembering (Held S))) (c : Call) (a : Answer) → outcome_of a ≡ StoreFailed → new.closed ≡ true

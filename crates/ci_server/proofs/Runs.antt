@@ -262,7 +262,7 @@ pub run_of_each : {S : Type 0} (g : Ghosts S) → AllLaws → AllStep → (old n
     → Runs g old cs rs new
 run_of_each {S = S} g laws steps old new cs rs each = λ honest h s leads at.
     run_from (IsHonest g) (λ (t : Remembering (Held S)) u. HoldsIn g u t) (λ (t : Remembering (Held S)) u v. LeavesIn g u v t) laws steps h s old new cs rs
-    (record { before = at.kept; after = at.kept; is_before = at.is_of; is_after = at.is_of; left = λ db may. inl (at.held.0.left db may) })
+    (record { before = at.kept; after = at.kept; is_before = at.is_of; is_after = at.is_of; left = λ db may. inl (at.held.0 db may) })
     leads at each honest
 
 pub run_of_one : {S : Type 0} (g : Ghosts S) → AllLaws → AllStep → (old new : FailStop (Remembering (Held S))) (c : Call) (a : Answer) → Handles g old c new a

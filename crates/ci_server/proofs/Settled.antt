@@ -38,7 +38,7 @@ module _ {S : Type 0} (g : Ghosts S) (settled : (s : S) (db : Trees) → IsTrue 
     leads = leads;
     laws = laws h s leads;
     held = λ _. at;
-    left = inl (λ db may. is_file s db (record { kept = at.kept; is_of = at.is_of; stands = at.held.0.left db may }));
+    left = inl (λ db may. is_file s db (record { kept = at.kept; is_of = at.is_of; stands = at.held.0 db may }));
   }
 
   -- a server that is closed

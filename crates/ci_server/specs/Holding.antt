@@ -15,7 +15,7 @@ use Rattle.ci_machine.specs.Indexes.{AreIndexes}
 use Rattle.ci_store_tables.specs.Stands as tables
 use Rattle.ci_store.specs.Schema as table
 use Rattle.ci_store.specs.Rows.{holder_row}
-use Rattle.ci_store.specs.Stands.{StandsIn, IsAt, LeavesEither}
+use Rattle.ci_store.specs.Stands.{StandsIn, LeavesOnly, LeavesEither}
 
 -- what is kept is this state, and all that is beside it follows from it
 pub record IsKeptOf (s : State) (k : Kept) : Type 0 where
@@ -39,9 +39,10 @@ pub record Leaves {T : Type 0} (leaves : T → Kept → Kept → Type 0) (store 
 
 -- ---- over tables
 
--- the tables are open, and hold the state with what follows from it
+-- The tables hold the state with what follows from it: each file that a stop may leave stands for that. Whether they are open still they
+-- ask by themselves, where a want of memory left that in doubt.
 abbrev pub HoldsIn : {S : Type 0} → Ghosts S → State → Remembering (Held S) → Type 0
-HoldsIn g s h = Holds (λ t k. IsAt g k t.store × IsRight t.memory k) h s
+HoldsIn g s h = Holds (λ t k. LeavesOnly g k t.store × IsRight t.memory k) h s
 
 -- each file that a stop may leave stands for one of the two states, with what follows from it
 abbrev pub LeavesIn : {S : Type 0} → Ghosts S → State → State → Remembering (Held S) → Type 0

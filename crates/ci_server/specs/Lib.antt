@@ -1,7 +1,9 @@
 pub mod Holding
 pub mod Handling
 pub mod Server
+pub mod Servers
 pub mod Runs
 pub mod Lifetime
 pub mod Settled
 pub mod Reports
+pub mod Repeats

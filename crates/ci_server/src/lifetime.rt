@@ -9,8 +9,10 @@ ghost use Rattle.ci_server.specs.Handling.{Call};
 ghost use Rattle.ci_server.specs.Server.{IsHonest, HandlesEach};
 ghost use Rattle.ci_server.specs.Lifetime.{Operation, ComesOf, called_each, LosesNoStep, KeepsItsGroups};
 ghost use Rattle.ci_server.specs.Settled.{HasOneHistory};
+ghost use Rattle.ci_server.specs.Repeats.{LivesRepeat};
 
 use ci_machine_laws::laws::{a_step_is_answered, laws_of_each_reached_state};
+use ci_machine_laws::repeats::repeats_change_nothing;
 use ci_store::Alter;
 
 /// No step is lost. A server was made in a store that listed nothing (`Server::create`), or opened over the empty state that
@@ -25,12 +27,17 @@ use ci_store::Alter;
 ///
 /// `kept` and `groups` say so of a server by its operations alone: what it holds, and each file that a stop may leave, is of a state that
 /// some history of them leads to.
+///
+/// In the one history what a runner sent again changed nothing (`repeats`): so a final state that was answered 200 changes nothing whenever it
+/// comes again, whatever stops, openings, sweeps, requests and moments came between.
 pub fn no_step_is_lost<S: Alter>()
     ensures settled { HasOneHistory S.Store }
     ensures kept { (operations : List Operation) (server : FailStop (Remembering (Held S))) → ComesOf S.Store operations server → IsHonest S.Store server.store → LosesNoStep S.Store operations server }
     ensures groups { (operations : List Operation) (server : FailStop (Remembering (Held S))) → ComesOf S.Store operations server → IsHonest S.Store server.store → KeepsItsGroups S.Store operations server }
+    ensures repeats { LivesRepeat S.Store }
     ensures runs { (operations : List Operation) (old new : FailStop (Remembering (Held S))) (cs : List Call) (rs : List Answer) → ComesOf S.Store operations old → HandlesEach S.Store old cs rs new → ComesOf S.Store (called_each cs rs operations) new }
 {
     laws_of_each_reached_state();
     a_step_is_answered();
+    repeats_change_nothing();
 }

@@ -17,6 +17,7 @@ ghost use Rattle.ci_memory.specs.Right.{IsRight};
 ghost use Rattle.ci_server.specs.Reports.{Reports, TellsQueue, TellsPipelineAt, TellsRunners};
 ghost use Rattle.ci_server.specs.Server.{Handles, HandlesEach, Creates, Opens, closed_by_each, each_refused};
 ghost use Rattle.ci_server.specs.Runs.{Runs};
+ghost use Rattle.ci_server.specs.Repeats.{Repeats, RunsRepeats};
 
 use crate::fail_stop::FailStop;
 use ci_machine::moment::Moment;
@@ -24,6 +25,7 @@ use ci_machine::reply::{Answer, Code, Reply, Swept};
 use ci_machine::report::{PipelineRows, QueueRow, RunnerRow};
 use ci_machine::request::{Event, Request, Seed};
 use ci_machine_laws::laws::{a_step_is_answered, laws_of_each_reached_state};
+use ci_machine_laws::repeats::repeats_change_nothing;
 use ci_memory::remembering::Remembering;
 use ci_store::tables::{OpenFault, Tables};
 use ci_store::{Alter, Connection};
@@ -122,12 +124,18 @@ impl<S: Alter> Server<S> {
     /// Besides the machine's own replies: M16 where memory was refused, and nothing happened; M17 where the store
     /// failed in this call or an earlier one, and the server is closed exactly from the first M17 on. The call is a run of
     /// one, whose laws hold.
+    ///
+    /// What a runner sends again changes nothing (`repeats`), by each history that leads to what the server holds: what it sent already at
+    /// this moment, where nothing has changed since; and a final state that any line of the history was answered 200 to, whatever came
+    /// between. This is answered as it was then, or M5 once its attempt has gone with a pruned pipeline.
     pub fn handle(&mut self, alloc: Global, request: Request, moment: Moment, seed: Seed) -> Reply
         ensures handled { Handles S.Store self.old (event.Request request, moment, seed) self.new (answer.Reply result) }
         ensures run { Runs S.Store self.old ((event.Request request, moment, seed) ∷ []) (answer.Reply result ∷ []) self.new }
+        ensures repeats { Repeats S.Store self.old (event.Request request, moment, seed) self.new (answer.Reply result) }
     {
         laws_of_each_reached_state();
         a_step_is_answered();
+        repeats_change_nothing();
         self.inner.handle(alloc, request, moment, seed)
     }
 
@@ -176,6 +184,8 @@ impl<S: Alter> Server<S> {
     /// store holds the state that it leads to, and a stop leaves that state alone. From the first fault of the store on
     /// a stop leaves that state, or the one after the one call that was not answered, and no other.
     ///
+    /// In that history what a runner sent again changed nothing (`repeats`).
+    ///
     /// It closes the server exactly where an answer is M17. On a closed one each answer is M17, and nothing changes.
     ///
     /// Errors: there is no memory for the answers, and nothing was handled.
@@ -187,6 +197,7 @@ impl<S: Alter> Server<S> {
         ensures was_honest { HasCleanDisk (state S.Store self.new.store.store) → HasCleanDisk (state S.Store self.old.store.store) }
         ensures each { IfOk result (λ answers. HandlesEach S.Store self.old calls.now answers.items self.new) }
         ensures run { IfOk result (λ answers. Runs S.Store self.old calls.now answers.items self.new) }
+        ensures repeats { IfOk result (λ answers. RunsRepeats S.Store self.old calls.now answers.items self.new) }
         ensures closes { IfOk result (λ answers. self.new.closed ≡ closed_by_each answers.items self.old.closed) }
         ensures refused { self.old.closed ≡ true → IfOk result (λ answers. answers.items ≡ each_refused calls.now) }
         ensures untouched { self.old.closed ≡ true → IfOk result (λ _. self.new ≡ self.old) }
@@ -194,6 +205,7 @@ impl<S: Alter> Server<S> {
     {
         laws_of_each_reached_state();
         a_step_is_answered();
+        repeats_change_nothing();
         self.inner.run(alloc, calls)
     }
 }

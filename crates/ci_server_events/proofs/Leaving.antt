@@ -21,7 +21,6 @@ use Rattle.ci_machine.specs.declared.records.Attempt.{Attempt}
 use Rattle.ci_machine.specs.declared.records.BoardRow.{BoardRow}
 use Rattle.ci_machine.specs.declared.records.Holder.{Holder}
 use Rattle.ci_machine.specs.declared.records.Job.{Job}
-use Rattle.ci_machine.specs.declared.records.Piece.{Piece}
 use Rattle.ci_machine.specs.declared.records.Pipeline.{Pipeline}
 use Rattle.ci_machine.specs.declared.records.Project.{Project}
 use Rattle.ci_machine.specs.declared.records.Runner.{Runner}
@@ -50,8 +49,8 @@ use Rattle.ci_machine_steps.specs.Shows.{asked_pipeline, shown, show_pipeline, t
 use Rattle.ci_machine_steps.specs.Sound.{IsSound}
 use Rattle.ci_machine.specs.State.{State, applied}
 use Rattle.ci_machine.specs.Statuses.{jobs_of, facts_of, rows_of, status_for, AreBoard}
-use Rattle.ci_machine_steps.specs.Step.{Does, project_with, project_named, project_variables, variable_at, runner_at, pipeline_at, lease_at, last_attempt, pieces_in, found_job}
-use Rattle.ci_machine_steps.specs.Traces.{append_trace, appended, grown}
+use Rattle.ci_machine_steps.specs.Step.{Does, project_with, project_named, project_variables, variable_at, runner_at, pipeline_at, lease_at, last_attempt, trace_of, trace_if_any, found_job}
+use Rattle.ci_machine_steps.specs.Traces.{append_trace, appended}
 use Rattle.ci_machine_steps.specs.Variables.{set_variable, variable_set, delete_variable, count_with}
 use Rattle.ci_machine_plans.specs.Refusals.{unmade}
 use Rattle.ci_machine_plans.specs.declared.replies.Refusal.{Refusal}
@@ -91,17 +90,17 @@ pause_leaves s (Some r) paused = (tt, tt)
 
 appended_leaves : (s : State) (a : Attempt) (bytes : List ℕ) (now : ℕ) (r : Result ℕ PieceFault) → Contains s.attempts a → Leaves s (appended a bytes now r)
 appended_leaves s a bytes now (Err fault) there = tt
-appended_leaves s a bytes now (Ok size) there = cond_both (nat_lt MAX_NUMBER a.pieces) (refused M15) (grown a bytes now size) (Leaves s) (λ _. tt) (λ _. (tt, ((a, there, refl, refl, refl), tt)))
+appended_leaves s a bytes now (Ok size) there = (tt, ((a, there, refl, refl, refl), tt))
 
-trace_leaves : (s : State) (o : Option Lease) (part : TracePart) (now : ℕ) → ((l : Lease) → o ≡ Some l → Contains s.attempts l.attempt) → Leaves s (append_trace o part now)
-trace_leaves s None part now there = tt
-trace_leaves s (Some l) part now there =
-    cond_both (bytes_eq l.attempt.token part.token) (appended l.attempt part.bytes now (accepted l.attempt l.limit now l.attempt.size part.from (length part.bytes))) (refused M5) (Leaves s)
+trace_leaves : (s : State) (o : Option Lease) (size : ℕ) (part : TracePart) (now : ℕ) → ((l : Lease) → o ≡ Some l → Contains s.attempts l.attempt) → Leaves s (append_trace o size part now)
+trace_leaves s None size part now there = tt
+trace_leaves s (Some l) size part now there =
+    cond_both (bytes_eq l.attempt.token part.token) (appended l.attempt part.bytes now (accepted l.attempt l.limit now size part.from (length part.bytes))) (refused M5) (Leaves s)
     (λ _. appended_leaves s l.attempt part.bytes now _ (there l refl))
     (λ _. tt)
 
-piece_leaves : (s : State) (part : TracePart) (now : ℕ) → Leaves s (append_trace (lease_at s part.attempt) part now)
-piece_leaves s part now = trace_leaves s (lease_at s part.attempt) part now (leased s part.attempt)
+part_leaves : (s : State) (part : TracePart) (now : ℕ) → Leaves s (append_trace (lease_at s part.attempt) (length (trace_of s part.attempt)) part now)
+part_leaves s part now = trace_leaves s (lease_at s part.attempt) (length (trace_of s part.attempt)) part now (leased s part.attempt)
 
 -- ---- files and variables of projects
 
@@ -130,9 +129,9 @@ shown_leaves : (s : State) (held : List Holder) (project : ℕ) (r : Result Job 
 shown_leaves s held project (Ok job) status = tt
 shown_leaves s held project (Err code) status = tt
 
-traced_leaves : (s : State) (r : Result Job Code) (pieces : List Piece) → Leaves s (traced r pieces)
-traced_leaves s (Ok job) pieces = tt
-traced_leaves s (Err code) pieces = tt
+traced_leaves : (s : State) (r : Result Job Code) (trace : List ℕ) → Leaves s (traced r trace)
+traced_leaves s (Ok job) trace = tt
+traced_leaves s (Err code) trace = tt
 
 pipeline_shown_leaves : (s : State) (r : Result Pipeline Code) (held : List Holder) (jobs : List Job) (facts : List Facts) (rows : List Row) → Leaves s (show_pipeline r held jobs facts rows)
 pipeline_shown_leaves s (Ok p) held jobs facts rows = tt
@@ -204,11 +203,11 @@ leaves_rows s board (CancelJob query) now seed plan keeps does = absurd keeps
 leaves_rows s board (RetryJob query) now seed plan keeps does = absurd keeps
 leaves_rows s board (CancelPipeline query) now seed plan keeps does = absurd keeps
 leaves_rows s board (PruneOne before) now seed plan keeps does = absurd keeps
-leaves_rows s board (AppendTrace part) now seed plan keeps does = leaves_so s plan _ does (piece_leaves s part now)
+leaves_rows s board (AppendTrace part) now seed plan keeps does = leaves_so s plan _ does (part_leaves s part now)
 leaves_rows s board (ShowPipeline query) now seed plan keeps does = leaves_so s plan _ does
     (pipeline_shown_leaves s (asked_pipeline (asked_project (project_with s query.token) query.project) (pipeline_at s query.pipeline)) (holders s) (jobs_of s query.pipeline) (facts_of s query.pipeline) (rows_of s board query.pipeline))
 leaves_rows s board (ShowJob query) now seed plan keeps does = leaves_so s plan _ does (shown_leaves s (holders s) query.project (found_job s query) (status_for board query.job))
-leaves_rows s board (ShowTrace query) now seed plan keeps does = leaves_so s plan _ does (traced_leaves s (found_job s query) (pieces_in s (last_attempt s query.job)))
+leaves_rows s board (ShowTrace query) now seed plan keeps does = leaves_so s plan _ does (traced_leaves s (found_job s query) (trace_if_any s (last_attempt s query.job)))
 
 -- what a request does with a plan by which these rows go first
 abbrev pub DoesBy : Request → ℕ → Seed → Kept → Clearing Reply → Type 0

@@ -22,9 +22,10 @@ use crate::ends::or_store_fault;
 use crate::projects;
 use ci_board::facts::{Facts, Row};
 use ci_machine::change::Changes;
-use ci_machine::records::{Attempt, BoardRow, Holder, Job, Piece, Pipeline, Project};
+use ci_machine::records::{Attempt, BoardRow, Holder, Job, Pipeline, Project};
 use ci_machine::reply::{Code, Reply};
 use ci_machine::request::{JobQuery, PipelineQuery};
+use ci_machine::text::Bytes;
 use ci_machine_plans::{replies, shows};
 use ci_machine_statuses::load::{facts_and_rows, range_of};
 use ci_machine_statuses::pending::status_of;
@@ -101,7 +102,7 @@ pub(crate) fn show_job<T: Store>(
     }
 }
 
-/// The trace of a job's last attempt is asked for. Its pieces are looked up only where the job is the asking project's.
+/// The trace of a job's last attempt is asked for. It is looked up only where the job is the asking project's.
 pub(crate) fn show_trace<T: Store>(
     alloc: Global,
     store: &mut T,
@@ -109,26 +110,26 @@ pub(crate) fn show_trace<T: Store>(
 ) -> Result<(Reply, Changes), StoreFault>
     ensures { LoadsBy T.honest T.holds T.leaves store.old store.new result
         (λ k plan. let job = step.job_at k.state query.now.job in
-        plan ≡ machine.show_trace (step.project_with k.state query.now.token) job (step.pipeline_of k.state job) (step.pieces_in k.state (step.last_attempt k.state query.now.job)) query.now) }
+        plan ≡ machine.show_trace (step.project_with k.state query.now.token) job (step.pipeline_of k.state job) (step.trace_if_any k.state (step.last_attempt k.state query.now.job)) query.now) }
 {
     let named = load_named(store, query)?;
     match asked(&named, query) {
         Ok(_) => {
-            let pieces = last_pieces(alloc, store, query.job)?;
-            Ok(shows::trace_shown(alloc, pieces.as_slice())?)
+            let trace = last_trace(alloc, store, query.job)?;
+            Ok(shows::trace_shown(alloc, trace))
         }
         Err(code) => Ok(replies::refused(alloc, code)),
     }
 }
 
-/// The pieces of the trace of the last attempt of a job.
-fn last_pieces<T: Store>(alloc: Global, store: &mut T, job: u64) -> Result<Vec<Piece>, StoreFault>
+/// The trace of the last attempt of a job: it is empty where there is none.
+fn last_trace<T: Store>(alloc: Global, store: &mut T, job: u64) -> Result<Bytes, StoreFault>
     ensures { LoadsBy T.honest T.holds T.leaves store.old store.new result
-        (λ k pieces. pieces.items ≡ step.pieces_in k.state (step.last_attempt k.state job)) }
+        (λ k trace. trace ≡ step.trace_if_any k.state (step.last_attempt k.state job)) }
 {
     match last_attempt(store, job)? {
-        Some(attempt) => store.pieces_of(attempt.id),
-        None => Ok(Vec::new(alloc)),
+        Some(attempt) => store.trace_of(attempt.id),
+        None => Ok(Bytes::new(Vec::new(alloc))),
     }
 }
 

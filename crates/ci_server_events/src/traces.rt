@@ -1,8 +1,8 @@
-//! What a piece of a trace does, from what the store holds.
+//! What the next bytes of a trace do, from what the store holds.
 
-ghost use Rattle.std.specs.Prelude.{◌≡◌};
+ghost use Rattle.std.specs.Prelude.{◌≡◌, length};
 ghost use Rattle.ci_machine_steps.specs.Traces as machine;
-ghost use Rattle.ci_machine_steps.specs.Step.{lease_at};
+ghost use Rattle.ci_machine_steps.specs.Step.{lease_at, trace_of};
 ghost use Rattle.ci_store.specs.Store.{LoadsBy};
 
 use ci_machine::change::Changes;
@@ -15,7 +15,7 @@ use ci_store::fault::StoreFault;
 use ci_store::store::Store;
 use std::alloc::Global;
 
-/// A runner sends the next bytes of a trace.
+/// A runner sends the next bytes of a trace. How long the trace is, is looked up only where its attempt is there.
 pub(crate) fn append_trace<T: Store>(
     alloc: Global,
     store: &mut T,
@@ -23,8 +23,11 @@ pub(crate) fn append_trace<T: Store>(
     now: Moment,
 ) -> Result<(Reply, Changes), StoreFault>
     ensures { LoadsBy T.honest T.holds T.leaves store.old store.new result
-        (λ k plan. plan ≡ machine.append_trace (lease_at k.state part.attempt) part now) }
+        (λ k plan. plan ≡ machine.append_trace (lease_at k.state part.attempt) (length (trace_of k.state part.attempt)) part now) }
 {
-    let lease = lease_at(store, part.attempt)?;
-    Ok(traces::append_trace(alloc, lease.as_ref(), part, now)?)
+    let Some(lease) = lease_at(store, part.attempt)? else {
+        return Ok(traces::append_trace(alloc, None, 0, part, now)?);
+    };
+    let size = store.trace_size(part.attempt)?;
+    Ok(traces::append_trace(alloc, Some(&lease), size, part, now)?)
 }

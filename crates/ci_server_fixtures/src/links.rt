@@ -3,11 +3,11 @@
 ghost use Rattle.std.specs.Prelude.{◌≡◌, ◌<◌};
 
 use crate::acts::SEED;
+use ci_http::Server;
 use ci_http::link::Link;
 use ci_http::serve::{Served, serve_one};
 use ci_http_routes::paths::Paths;
 use ci_machine::moment::Moment;
-use ci_server::server::Server;
 use ci_store::Alter;
 use std::alloc::Global;
 use std::marker::Brand;

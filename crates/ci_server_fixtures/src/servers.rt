@@ -1,10 +1,10 @@
 //! Servers over memory, and their calls without a clause.
 
 use crate::acts::{Act, SEED, at, event};
+pub use ci_http::Server;
 use ci_machine::moment::Moment;
 use ci_machine::reply::{Answer, Reply};
 use ci_machine::request::{Event, Request};
-use ci_server::server::Server;
 use ci_store::{Alter, Connection};
 use ci_store_disks::discard;
 use sqlite::MemStore;

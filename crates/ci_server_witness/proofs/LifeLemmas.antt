@@ -295,11 +295,11 @@ plans_grant = record {
 pub reopened_at : (ops : List Operation) (s : State) (old new : InMemory) → IsOpenAt ops s old → Opens over_memory old.store.store new → IsOpenAt (opened ∷ ops) s new
 reopened_at ops s old new was opens =
     record {
-      came = (old, old.store.store, was.came, memory_is_clean old.store.store, record { is_open = was.holds.held.0.is_open; left = refl }, opens);
+      came = (old, old.store.store, was.came, memory_is_clean old.store.store, record { is_open = refl; left = refl }, opens);
       honest = memory_is_clean new.store.store;
       is_open = opens.is_open;
       reached = was.reached;
-      holds = opens.holds (memory_is_clean new.store.store) s was.holds.kept was.holds.is_of was.holds.held.0.left;
+      holds = opens.holds (memory_is_clean new.store.store) s was.holds.kept was.holds.is_of was.holds.held.0;
     }
 
 -- ---- the state after the grant, computed
@@ -309,7 +309,7 @@ unfolding digits hex_on_literals
 leased = record {
   runner = record { id = 1; name = codes "r"; token = token; project = None; tags = []; untagged = true; paused = false };
   job = build;
-  attempt = record { id = 1; job = 1; runner = 1; token = token_of (codes "j") 1 seed; granted = 1000; seen = 1000; state = Live; pieces = 0; size = 0 };
+  attempt = record { id = 1; job = 1; runner = 1; token = token_of (codes "j") 1 seed; granted = 1000; seen = 1000; state = Live };
   one_runner = refl;
   one_job = refl;
   one_attempt = refl;

@@ -1,5 +1,5 @@
 -- What a transaction leaves, however it ends.
-use Rattle.std.proofs.Common.{◌≡◌, ◌⊎◌, ◌∙◌, inl, inr, ⊎_elim, IsTrue, true, false, refl, sym, ap, subst, arith}
+use Rattle.std.proofs.Common.{◌≡◌, ◌∙◌, inl, inr, ⊎_elim, IsTrue, true, false, refl, sym, ap, subst, arith}
 use Rattle.sqlite.specs.Tree.{Trees}
 use Rattle.sqlite.specs.Effect.{Database}
 use Rattle.sqlite.specs.State.{State as Seen, HasCleanDisk, Survives, IsUnchanged, Shows, KeepsCommit, IsRolledBack}
@@ -7,17 +7,10 @@ use Rattle.sqlite.specs.Store.{Ghosts}
 use Rattle.sqlite.specs.Held.{Held, state}
 use Rattle.sqlite.proofs.StateLemmas.{survives_then}
 use Rattle.ci_machine.specs.Kept.{Kept, nothing_kept}
-use Rattle.ci_store_tables.specs.declared.fault.StoreFault.{StoreFault}
-use Rattle.ci_store.specs.declared.commit.Ended.{Ended}
-use Rattle.ci_store.specs.declared.commit.Ended.TheVariants.{Undone, Unknown}
 use Rattle.ci_store_rows.specs.Changes.{Makes}
-use Rattle.ci_store.specs.Commit.{is_done, CommitsAll, IsBack, IsDone}
+use Rattle.ci_store.specs.Commit.{CommitsAll, IsBack, IsDone}
 use Rattle.ci_store_rows.specs.Create.{IsBlank}
-use Rattle.ci_store_rows.specs.Stands.{Stands, StandsIn, IsAt, LeavesEither}
-
-pub not_done : {ended : Ended} {fault : StoreFault} → (ended ≡ Undone fault) ⊎ (ended ≡ Unknown fault) → is_done ended ≡ false
-not_done (inl is) = ap is_done is
-not_done (inr is) = ap is_done is
+use Rattle.ci_store_rows.specs.Stands.{Stands, StandsIn, IsAt, LeavesOnly, LeavesEither}
 
 -- where nothing happens, a stop leaves what it left
 pub survives_same : (s : Seen) (P : Trees → Type 0) → Survives s s P
@@ -36,6 +29,10 @@ module _ {S : Type 0} (g : Ghosts S) where
         now = subst (Stands k) (sym now) at.now;
         left = λ db may. subst (StandsIn k) (sym (only db same.0.is_open may ∙ ap (λ (d : Database). d.trees) committed)) at.now.inside;
       }
+
+  -- what is done and committed is what alone a stop leaves
+  pub done_only : (change : Kept → Kept) (k : Kept) (old new : Held S) → IsAt g k old → IsDone g change old new → ((db : Trees) → IsTrue (state g new).is_open → (state g new).may_leave db → db ≡ (state g new).committed.trees) → LeavesOnly g (change k) new
+  done_only change k old new at done only db may = subst (StandsIn (change k)) (sym (only db done.is_open may ∙ ap (λ (d : Database). d.trees) done.committed)) (done.stands k at.now).inside
 
   -- a stop after it leaves the state before the changes or the one after them
   pub left_either : (change : Kept → Kept) (k : Kept) (old mid new : Held S) → IsAt g k old → HasCleanDisk (state g new) → Survives (state g old) (state g mid) (CommitsAll g change old) → Survives (state g mid) (state g new) (λ _. ⊥)

@@ -1,3 +1,4 @@
+mod Appending
 mod Applied
 mod Committing
 mod Loading

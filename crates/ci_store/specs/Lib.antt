@@ -6,5 +6,6 @@ pub mod Delta
 pub mod Made
 pub mod Store
 pub mod Calls
+pub mod Appends
 pub mod Commit
 pub mod Open

@@ -7,16 +7,16 @@ ghost use Rattle.sqlite_trees.specs.View.{doubt};
 ghost use Rattle.sqlite.specs.Held.{state};
 ghost use Rattle.ci_machine.specs.Kept.{Kept, put_rows, indexed_all, cleared, written};
 ghost use Rattle.ci_machine.specs.State.{applied};
-ghost use Rattle.ci_store_rows.specs.Stands.{IsAt, LeavesEither};
+ghost use Rattle.ci_store_rows.specs.Stands.{LeavesOnly, LeavesEither};
 ghost use Rattle.ci_store_tables.specs.declared.fault.StoreFault.TheVariants.{Memory};
 ghost use Rattle.ci_store_tables.specs.Statements.{KeepsInside, CommitsNothing};
 ghost use Rattle.ci_store_rows.specs.Changes.{in_state, in_board, MakesInside};
 ghost use Rattle.ci_store.specs.Calls.{Loads};
 ghost use Rattle.ci_store.specs.Commit.{CommitsAll, is_done, is_undone, IsBack, IsDone, is_next_job, first_new_job};
 
+use crate::asked::Asked;
 use crate::load::next;
 use crate::make::{change_index, clear_row, make};
-use crate::probe::probe;
 use ci_machine::change::{Counter, IndexChange, Record, RowChange};
 use ci_machine::records::BoardRow;
 use ci_store_rows::read::Stored;
@@ -157,12 +157,10 @@ fn puts_next_job(changes: &[RowChange]) -> bool
 /// The number from which on jobs are new: where the changes put the next number of jobs, what that is before them. A put of such a job, of its row,
 /// or of what names it needs no look for what is in its place. Where they don't, none is known to be new.
 pub(crate) fn first_new_job<S: Alter>(
-    conn: &mut Connection<S>,
+    conn: &mut Asked<S>,
     changes: &[RowChange],
 ) -> Result<u64, StoreFault>
-    requires { conn.old.in_transaction ≡ false }
-    ensures idle { conn.new.in_transaction ≡ false }
-    ensures loads { Loads S.Store conn.old conn.new result (λ k n. n ≡ first_new_job changes.now k.state.next.job) }
+    ensures { Loads S.Store conn.old conn.new result (λ k n. n ≡ first_new_job changes.now k.state.next.job) }
 {
     if puts_next_job(changes) {
         next(conn, Counter::Job)
@@ -171,9 +169,11 @@ pub(crate) fn first_new_job<S: Alter>(
     }
 }
 
-/// Removes the rows of the jobs, makes the changes, puts the rows and changes the indexes in one transaction, or none of it.
+/// Removes the rows of the jobs, makes the changes, puts the rows and changes the indexes in one transaction, or none of it. Where nothing
+/// was committed the connection is in doubt; where it was to be and failed, it is asked at once, since a stop may leave either then:
+/// `Broken`, where it isn't open, or memory is refused to the question too.
 pub(crate) fn commit<S: Alter>(
-    conn: &mut Connection<S>,
+    conn: &mut Asked<S>,
     alloc: Global,
     first_new: u64,
     jobs: &[u64],
@@ -181,20 +181,34 @@ pub(crate) fn commit<S: Alter>(
     rows: &[BoardRow],
     indexes: &[IndexChange],
 ) -> Result<(), StoreFault>
-    requires { conn.old.in_transaction ≡ false }
-    ensures idle { conn.new.in_transaction ≡ false }
     ensures clean { doubt (state S.Store conn.old).is_clean ≤ doubt (state S.Store conn.new).is_clean }
-    ensures done { HasCleanDisk (state S.Store conn.new) → OnOk result ((k : Kept) → IsAt S.Store k conn.old → IsAt S.Store (written changes.now rows.now indexes.now (cleared jobs.now k)) conn.new) }
-    ensures memory { HasCleanDisk (state S.Store conn.new) → result ≡ Err Memory → (k : Kept) → IsAt S.Store k conn.old → IsAt S.Store k conn.new }
-    ensures left { HasCleanDisk (state S.Store conn.new) → (k : Kept) → IsAt S.Store k conn.old → LeavesEither S.Store k (written changes.now rows.now indexes.now (cleared jobs.now k)) conn.new }
+    ensures done { HasCleanDisk (state S.Store conn.new) → OnOk result ((k : Kept) → LeavesOnly S.Store k conn.old → LeavesOnly S.Store (written changes.now rows.now indexes.now (cleared jobs.now k)) conn.new) }
+    ensures memory { HasCleanDisk (state S.Store conn.new) → result ≡ Err Memory → (k : Kept) → LeavesOnly S.Store k conn.old → LeavesOnly S.Store k conn.new }
+    ensures left { HasCleanDisk (state S.Store conn.new) → (k : Kept) → LeavesOnly S.Store k conn.old → LeavesEither S.Store k (written changes.now rows.now indexes.now (cleared jobs.now k)) conn.new }
 {
+    conn.ask()?;
     // With no transaction open, what is seen is what is committed.
-    let _is_idle = conn.is_autocommit();
-    match attempt(conn, alloc, first_new, jobs, changes, rows, indexes) {
+    let _is_idle = conn.conn.is_autocommit();
+    match attempt(
+        &mut conn.conn,
+        alloc,
+        first_new,
+        jobs,
+        changes,
+        rows,
+        indexes,
+    ) {
         Ended::Done => Ok(()),
-        Ended::Undone(fault) | Ended::Unknown(fault) => match probe(conn) {
-            Ok(()) => Err(fault),
-            Err(_) => Err(StoreFault::Broken),
-        },
+        Ended::Undone(fault) => {
+            conn.in_doubt = true;
+            Err(fault)
+        }
+        Ended::Unknown(fault) => {
+            conn.in_doubt = true;
+            match conn.ask() {
+                Ok(()) => Err(fault),
+                Err(_) => Err(StoreFault::Broken),
+            }
+        }
     }
 }

@@ -1,6 +1,8 @@
 //! The machine's state as tables of a database: loads by key, and the changes of an event in one transaction.
 #![tactic(auto)]
 
+mod append;
+mod asked;
 pub mod commit;
 pub mod delta;
 pub mod load;

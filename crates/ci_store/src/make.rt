@@ -11,6 +11,7 @@ ghost use Rattle.ci_machine.specs.Kept.{indexed, cleared};
 ghost use Rattle.ci_store_rows.specs.Changes.{in_state, MakesInside, RemovesUnreferred};
 ghost use Rattle.ci_store_rows.specs.Rows.{number};
 
+use crate::append::append;
 use ci_machine::change::{Counter, IndexChange, Key, Record, RowChange};
 use ci_machine::text::Text;
 use ci_store_rows::columns::{counter_key, text};
@@ -65,7 +66,6 @@ fn put_record<S: Alter>(
         Record::JobVariable(variable) => variable.put(tx, alloc, variable.job >= first_new),
         Record::Need(need) => need.put(tx, alloc, need.job >= first_new),
         Record::Attempt(attempt) => attempt.put(tx, alloc, false),
-        Record::Piece(piece) => piece.put(tx, alloc, false),
         Record::Next(counter, next) => set_next(tx, *counter, *next),
     }
 }
@@ -191,12 +191,11 @@ fn remove_record<S: Alter>(tx: &mut Transaction<'_, S>, key: &Key) -> Result<(),
         Key::Needs(job) => remove_at(tx, &[], texts::DELETE_NEEDS, *job),
         Key::Attempt(id) => remove_at(
             tx,
-            &[texts::SELECT_PIECES, texts::SELECT_HOLDERS_OF],
+            &[texts::SELECT_BLOCKS, texts::SELECT_HOLDERS_OF],
             texts::DELETE_ATTEMPT,
             *id,
         ),
-        Key::Piece(attempt, seq) => remove_pair(tx, texts::DELETE_PIECE, *attempt, *seq),
-        Key::Pieces(attempt) => remove_at(tx, &[], texts::DELETE_PIECES, *attempt),
+        Key::Trace(attempt) => remove_at(tx, &[], texts::DELETE_BLOCKS, *attempt),
     }
 }
 
@@ -214,6 +213,7 @@ pub(crate) fn make<S: Alter>(
 {
     match change {
         RowChange::Put(record) => put_record(tx, alloc, first_new, record),
+        RowChange::Append(more) => append(tx, more),
         RowChange::Remove(key) => remove_record(tx, key),
     }
 }

@@ -11,7 +11,7 @@ use ci_store_tables::fault::StoreFault;
 use sqlite::{Alter, Connection};
 
 /// Tells that the connection is open, by a statement that is not run. Errors: it is not, or memory was refused.
-pub(crate) fn probe<S: Alter>(conn: &mut Connection<S>) -> Result<(), StoreFault>
+fn probe<S: Alter>(conn: &mut Connection<S>) -> Result<(), StoreFault>
     requires { conn.old.in_transaction ≡ false }
     ensures idle { conn.new.in_transaction ≡ false }
     ensures same { HasCleanDisk (state S.Store conn.new) → OnOk result (IsUnchanged (state S.Store conn.old) (state S.Store conn.new)) }

@@ -1,9 +1,9 @@
 //! A store of the machine's state, by what it holds and by what a stop may leave of it.
 
-ghost use Rattle.std.specs.Prelude.{◌≡◌, take};
+ghost use Rattle.std.specs.Prelude.{◌≡◌, length, take};
 ghost use Rattle.ci_machine.specs.Kept.{Kept, cleared, written};
 ghost use Rattle.ci_machine.specs.Statuses.{attempts_of, jobs_of};
-ghost use Rattle.ci_machine.specs.Lookups.{project_at, project_with, project_variables, variable_at, runner_at, runner_with, pipeline_at, job_at, demand_at, variables_of, attempt_at, last_attempt_by, live_attempts, pieces_of, next_of};
+ghost use Rattle.ci_machine.specs.Lookups.{project_at, project_with, project_variables, variable_at, runner_at, runner_with, pipeline_at, job_at, demand_at, variables_of, attempt_at, last_attempt_by, live_attempts, trace_of, next_of};
 ghost use Rattle.ci_machine.specs.Ranges.{needs_within, attempts_within, rows_within, row_at, rows_with, pending_after};
 ghost use Rattle.ci_machine.specs.Holders.{holder_at};
 ghost use Rattle.ci_machine.specs.Indexes.{newer_in};
@@ -15,10 +15,9 @@ use ci_board::facts::Status;
 use ci_machine::change::Counter;
 use ci_machine::moment::Moment;
 use ci_machine::records::{
-    Attempt, BoardRow, Demand, Holder, Job, JobVariable, Need, Piece, Pipeline, Project, Runner,
-    Variable,
+    Attempt, BoardRow, Demand, Holder, Job, JobVariable, Need, Pipeline, Project, Runner, Variable,
 };
-use ci_machine::text::Text;
+use ci_machine::text::{Bytes, Text};
 use ci_store_tables::fault::StoreFault;
 
 /// How many rows a page of pending jobs has, at most.
@@ -30,7 +29,8 @@ pub trait Store {
     /// The disk has given back what was written to it.
     ghost honest: { Self → Type 0 };
 
-    /// The store is open and keeps this state with these rows, and a stop leaves them alone.
+    /// The store keeps this state with these rows, and a stop leaves them alone. Whether it is open still may be in doubt: then its next
+    /// call asks, and answers `Memory` where memory is refused to the question, and `Broken` where it isn't open.
     ghost holds: { Self → Kept → Type 0 };
 
     /// A stop leaves one of the two, each a state with rows, and nothing else.
@@ -100,9 +100,13 @@ pub trait Store {
     fn live_attempts(&mut self) -> Result<Vec<Attempt>, StoreFault>
         ensures { LoadsBy honest holds leaves self.old self.new result (λ k attempts. attempts.items ≡ live_attempts k.state) };
 
-    /// The pieces of the trace of an attempt, in order.
-    fn pieces_of(&mut self, attempt: u64) -> Result<Vec<Piece>, StoreFault>
-        ensures { LoadsBy honest holds leaves self.old self.new result (λ k pieces. pieces.items ≡ pieces_of k.state attempt) };
+    /// The trace of an attempt that was looked up.
+    fn trace_of(&mut self, attempt: u64) -> Result<Bytes, StoreFault>
+        ensures { LoadsBy honest holds leaves self.old self.new result (λ k bytes. bytes ≡ trace_of k.state attempt) };
+
+    /// The size of the trace of an attempt that was looked up, in bytes; found from its last row alone.
+    fn trace_size(&mut self, attempt: u64) -> Result<u64, StoreFault>
+        ensures { LoadsBy honest holds leaves self.old self.new result (λ k size. size ≡ length (trace_of k.state attempt)) };
 
     /// The jobs of a pipeline, by number.
     fn jobs_of(&mut self, pipeline: u64) -> Result<Vec<Job>, StoreFault>
@@ -152,6 +156,8 @@ pub trait Store {
 
     /// Spends a delta: removes the rows of statuses that it clears, makes its changes of records, then puts its rows, and then changes
     /// the groups that are held, all of it or nothing. Which pipelines aren't finished is kept as the delta says it, and not looked up.
+    /// Errors: Memory, nothing was committed; Broken, the store failed, or it didn't commit for want of memory and had none for the
+    /// question whether it is open.
     fn commit(&mut self, delta: Delta) -> Result<(), StoreFault>
         ensures was_honest { honest self.new → honest self.old }
         ensures ends { honest self.new → (k : Kept) → holds self.old k → Ends result (holds self.new (written delta.changes delta.rows delta.indexes (cleared delta.cleared k))) (holds self.new k) (leaves self.new k (written delta.changes delta.rows delta.indexes (cleared delta.cleared k))) };

@@ -14,6 +14,7 @@ ghost use Rattle.ci_store_rows.specs.Stands.{Stands, StandsIn, IsAt, LeavesOnly}
 ghost use Rattle.ci_store.specs.Open.{HasNumber, LacksNumber, IsOurs, Blames, IsFailure, LeavesNoMore};
 ghost use Rattle.ci_store_rows.specs.Rows.{number};
 
+use crate::asked::Asked;
 use crate::commit::{commit, first_new_job};
 use crate::delta::Delta;
 use crate::load;
@@ -23,12 +24,13 @@ use ci_board::facts::Status;
 use ci_machine::change::Counter;
 use ci_machine::moment::Moment;
 use ci_machine::records::{
-    Attempt, AttemptState, BoardRow, Demand, Holder, Job, JobVariable, Need, Piece, Pipeline,
-    Project, Runner, Variable,
+    Attempt, AttemptState, BoardRow, Demand, Holder, Job, JobVariable, Need, Pipeline, Project,
+    Runner, Variable,
 };
-use ci_machine::text::Text;
+use ci_machine::text::{Bytes, Text};
 use ci_store_rows::columns::{state_numbers, text};
 use ci_store_rows::texts;
+use ci_store_rows::version1::SCHEMA;
 use ci_store_tables::fault::StoreFault;
 use ci_store_tables::read::rows;
 use ci_store_tables::values::number;
@@ -73,11 +75,10 @@ impl From<StoreFault> for OpenFault {
 /// The tables of the server. Between its calls no transaction is open.
 #[derive(Drop)]
 pub struct Tables<S: Alter> {
-    conn: Connection<S>,
+    conn: Asked<S>,
 }
 
 impl<S: Alter> Model for Tables<S> {
-    ghost use Rattle.std.specs.Prelude.{◌≡◌, false};
     ghost use Rattle.sqlite.specs.Held.{Held, held_code};
 
     ghost Value = { Held S };
@@ -85,8 +86,6 @@ impl<S: Alter> Model for Tables<S> {
     ghost coded = { held_code S.code };
 
     ghost view = { λ t. t.conn };
-
-    ghost invariant = { λ t. t.conn.in_transaction ≡ false };
 }
 
 /// The rows that `meta` has at first.
@@ -107,7 +106,7 @@ fn define<S: Alter>(tx: &mut Transaction<'_, S>) -> Result<(), StoreFault>
         → OnOk result (IsTrue tx.new.conn.now.in_transaction × (IsBlank S.Store tx.old.conn.now → IsBare the_schema (state S.Store tx.new.conn.now).now)) }
     ensures survives { CommitsNothing S.Store tx.old.conn.now tx.new.conn.now }
 {
-    for text in texts::SCHEMA {
+    for text in SCHEMA {
         change(tx, text, &[])?;
     }
     Ok(())
@@ -237,7 +236,9 @@ impl<S: Alter> Tables<S> {
             return Err((OpenFault::O1, conn));
         }
         match make_tables(&mut conn) {
-            Ok(()) => Ok(Tables { conn }),
+            Ok(()) => Ok(Tables {
+                conn: Asked::open(conn),
+            }),
             Err(fault) => Err((OpenFault::from(fault), conn)),
         }
     }
@@ -262,7 +263,9 @@ impl<S: Alter> Tables<S> {
             return Err((OpenFault::from(fault), conn));
         }
         match recognize(&mut conn) {
-            Ok(()) => Ok(Tables { conn }),
+            Ok(()) => Ok(Tables {
+                conn: Asked::open(conn),
+            }),
             Err(fault) => Err((fault, conn)),
         }
     }
@@ -273,7 +276,7 @@ impl<S: Alter> Tables<S> {
         ensures idle { result.in_transaction ≡ false }
     {
         let Tables { conn } = self;
-        conn
+        conn.into_inner()
     }
 }
 
@@ -281,15 +284,15 @@ impl<S: Alter> Store for Tables<S> {
     ghost use Rattle.std.proofs.Common.{inl};
     ghost use Rattle.sqlite.specs.State.{HasCleanDisk};
     ghost use Rattle.sqlite.specs.Held.{state};
-    ghost use Rattle.ci_store_rows.specs.Stands.{IsAt, LeavesEither};
+    ghost use Rattle.ci_store_rows.specs.Stands.{LeavesOnly, LeavesEither};
 
     ghost honest = { λ t. HasCleanDisk (state S.Store t) };
 
-    ghost holds = { λ t k. IsAt S.Store k t };
+    ghost holds = { λ t k. LeavesOnly S.Store k t };
 
     ghost leaves = { λ t k l. LeavesEither S.Store k l t };
 
-    ghost held_is_left = { λ t k at db may. inl (at.left db may) };
+    ghost held_is_left = { λ t k only db may. inl (only db may) };
 
     fn next(&mut self, counter: Counter) -> Result<u64, StoreFault> {
         load::next(&mut self.conn, counter)
@@ -386,8 +389,12 @@ impl<S: Alter> Store for Tables<S> {
         load::list(&mut self.conn, texts::SELECT_ATTEMPTS_IN, &[live.to_sql()])
     }
 
-    fn pieces_of(&mut self, attempt: u64) -> Result<Vec<Piece>, StoreFault> {
-        load::list_of(&mut self.conn, texts::SELECT_PIECES, attempt)
+    fn trace_of(&mut self, attempt: u64) -> Result<Bytes, StoreFault> {
+        load::trace_of(&mut self.conn, attempt)
+    }
+
+    fn trace_size(&mut self, attempt: u64) -> Result<u64, StoreFault> {
+        load::trace_size(&mut self.conn, attempt)
     }
 
     fn jobs_of(&mut self, pipeline: u64) -> Result<Vec<Job>, StoreFault> {

@@ -46,7 +46,7 @@ use Rattle.sqlite_schema.specs.declared.schema.Keys.TheVariants.{Enforced}
 use Rattle.sqlite_rules.specs.Action.{works, pairs, loses}
 use Rattle.ci_store_rows.specs.Changes.{in_state, RemovesUnreferred}
 use Rattle.ci_store_rows.proofs.Removals.{Referring, queries, cascades, removed_numbered}
-use Rattle.ci_store_rows.proofs.Pieces.{refers_to_attempt}
+use Rattle.ci_store_rows.proofs.Blocks.{refers_to_attempt}
 use Rattle.ci_store_rows.proofs.Holders.{holders_refer}
 use Rattle.sqlite.specs.Values.{or_null}
 use Rattle.ci_values.specs.declared.attempts.Cause.{Cause}
@@ -55,7 +55,7 @@ use Rattle.ci_store_rows.specs.Rows.{cause_number}
 use Rattle.ci_store_rows.proofs.Same.{same_option}
 
 abbrev sets : List Term
-sets = col 0 0 ∷ lit Null ∷ col 0 1 ∷ col 0 2 ∷ col 0 3 ∷ col 0 4 ∷ col 0 5 ∷ col 0 6 ∷ col 0 7 ∷ col 0 8 ∷ col 0 9 ∷ col 0 10 ∷ []
+sets = col 0 0 ∷ lit Null ∷ col 0 1 ∷ col 0 2 ∷ col 0 3 ∷ col 0 4 ∷ col 0 5 ∷ col 0 6 ∷ col 0 7 ∷ col 0 8 ∷ []
 
 means : MeansPut the_schema 6 attempt UPDATE_ATTEMPT.now INSERT_ATTEMPT.now (is 0 0 ∷ []) sets sets
 unfolding understood everything
@@ -64,9 +64,9 @@ means = record { there = refl; apart = refl; update_is = refl; update_plain = (r
 gives : (a : Attempt) → GivesRecord the_schema attempt (is 0 0 ∷ []) sets sets (number a.id ∷ []) (attempt_row a)
 gives a = record {
   tested = λ r. refl;
-  updated = λ old. λ i. cast_int (pos a.id) i ∷ cast_int (pos a.job) i ∷ cast_int (pos a.runner) i ∷ Text a.token ∷ cast_int (pos a.granted) i ∷ cast_int (pos a.seen) i ∷ cast_int (pos (state_number a.state)) i ∷ cast_option (cause_in a.state) i ∷ cast_option (exit_in a.state) i ∷ cast_int (pos a.pieces) i ∷ cast_int (pos a.size) i ∷ [];
+  updated = λ old. λ i. cast_int (pos a.id) i ∷ cast_int (pos a.job) i ∷ cast_int (pos a.runner) i ∷ Text a.token ∷ cast_int (pos a.granted) i ∷ cast_int (pos a.seen) i ∷ cast_int (pos (state_number a.state)) i ∷ cast_option (cause_in a.state) i ∷ cast_option (exit_in a.state) i ∷ [];
   source = refl;
-  inserted = λ rows. ap (image (places attempt)) (numbered rows (pos a.id) _) ∙ (λ i. number a.id ∷ cast_int (pos a.job) i ∷ cast_int (pos a.runner) i ∷ Text a.token ∷ cast_int (pos a.granted) i ∷ cast_int (pos a.seen) i ∷ cast_int (pos (state_number a.state)) i ∷ cast_option (cause_in a.state) i ∷ cast_option (exit_in a.state) i ∷ cast_int (pos a.pieces) i ∷ cast_int (pos a.size) i ∷ []);
+  inserted = λ rows. ap (image (places attempt)) (numbered rows (pos a.id) _) ∙ (λ i. number a.id ∷ cast_int (pos a.job) i ∷ cast_int (pos a.runner) i ∷ Text a.token ∷ cast_int (pos a.granted) i ∷ cast_int (pos a.seen) i ∷ cast_int (pos (state_number a.state)) i ∷ cast_option (cause_in a.state) i ∷ cast_option (exit_in a.state) i ∷ []);
   absent = λ rows new_row db shaped is keyed fresh put sound. absent_rowid rows new_row (pos a.id) _ (λ r. refl) shaped (ap (λ image. column image 0) is) fresh;
 }
 
@@ -131,10 +131,8 @@ same_attempt p q h =
     let n : state_number p.state ≡ state_number q.state = cc in
     let m : or_null number (cause_in p.state) ≡ or_null number (cause_in q.state) = cc in
     let x : or_null number (exit_in p.state) ≡ or_null number (exit_in q.state) = cc in
-    let u : p.pieces ≡ q.pieces = cc in
-    let v : p.size ≡ q.size = cc in
     let state = sym (state_is p.state) ∙ (λ i. state_back (n i) (same_option _ _ m i) (same_option _ _ x i)) ∙ state_is q.state in
-    λ i. record { id = a i; job = b i; runner = c i; token = d i; granted = e i; seen = f i; state = state i; pieces = u i; size = v i }
+    λ i. record { id = a i; job = b i; runner = c i; token = d i; granted = e i; seen = f i; state = state i }
 
 -- ---- the queries that load
 

@@ -14,7 +14,7 @@ use Rattle.sqlite.specs.Listing.{understood}
 use Rattle.sqlite_tied.specs.Compute.{everything}
 use Rattle.sqlite.specs.Command.TheVariants.{CreateTable, CreateIndex}
 use Rattle.sqlite.proofs.Callers.{IsPlain, command_of, statement_of, runs_as}
-use Rattle.ci_store_rows.specs.declared.texts.TheConstants.{SCHEMA}
+use Rattle.ci_store_rows.specs.declared.version1.TheConstants.{SCHEMA}
 use Rattle.ci_store_rows.specs.Schema as table
 use Rattle.ci_store_rows.specs.Schema.{the_schema}
 use Rattle.ci_store_rows.specs.Create.{IsBare}

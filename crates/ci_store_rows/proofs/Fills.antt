@@ -48,7 +48,7 @@ begins db bare = record {
 pub ends : (db : Database) → IsOf the_schema (rows_after 7) db → Stands nothing_kept db
 ends db it = record {
   listed = it.listed;
-  inside = record { tables = record { sound = it.inside.sound; holds = it.inside.holds }; regular = record { projects = tt; variables = tt; runners = tt; pipelines = tt; jobs = tt; job_variables = tt; needs = tt; attempts = tt; pieces = tt; board = tt; holders = tt; tags = tt; specs = tt } };
+  inside = record { tables = record { sound = it.inside.sound; holds = it.inside.holds }; regular = record { projects = tt; variables = tt; runners = tt; pipelines = tt; jobs = tt; job_variables = tt; needs = tt; attempts = tt; traces = tt; board = tt; holders = tt; tags = tt; specs = tt } };
 }
 
 -- a row that is new is put after those that are there

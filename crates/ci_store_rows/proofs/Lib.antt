@@ -8,7 +8,8 @@ pub mod Jobs
 pub mod Demands
 pub mod Attempts
 pub mod JobVariables
-pub mod Pieces
+pub mod BlockLists
+pub mod Blocks
 pub mod Needs
 pub mod Board
 pub mod Holders

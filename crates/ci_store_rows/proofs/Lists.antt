@@ -13,7 +13,7 @@ use Rattle.ci_machine.specs.State.{placed, others, put}
 use Rattle.ci_store_rows.specs.Stands.{Rises}
 
 module _ {X : Type 0} (values : X → Row) (key : Row) where
-  without_is : (test : X → Bool) → ((y : X) → has_key key (values y) ≡ test y) → (xs : List X) → without key (map values xs) ≡ map values (filter (λ y. not (test y)) xs)
+  pub without_is : (test : X → Bool) → ((y : X) → has_key key (values y) ≡ test y) → (xs : List X) → without key (map values xs) ≡ map values (filter (λ y. not (test y)) xs)
   without_is test same xs = filter-map (λ r. not (has_key key r)) values xs ∙ ap (map values) (filter_same _ _ (λ y. ap not (same y)) xs)
 
   inserted : (cmp : X → X → Ordering) (x : X) (xs : List X) → IsPermutation (x ∷ xs) (placed cmp x xs)

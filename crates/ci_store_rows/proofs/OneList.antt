@@ -7,7 +7,7 @@ use Rattle.sqlite_rules.proofs.ListLemmas.{all_from}
 use Rattle.serde_json.specs.Read.{read}
 use Rattle.ci_machine.specs.Kept.{Kept, row_cmp}
 use Rattle.ci_machine.specs.Holders.{holder_cmp}
-use Rattle.ci_machine.specs.State.{project_cmp, variable_cmp, runner_cmp, pipeline_cmp, job_cmp, job_variable_cmp, need_cmp, attempt_cmp, piece_cmp}
+use Rattle.ci_machine.specs.State.{project_cmp, variable_cmp, runner_cmp, pipeline_cmp, job_cmp, job_variable_cmp, need_cmp, attempt_cmp, trace_cmp}
 use Rattle.ci_machine.specs.declared.records.Numbers.{Numbers}
 use Rattle.ci_machine.specs.declared.records.Project.{Project}
 use Rattle.ci_machine.specs.declared.records.Variable.{Variable}
@@ -17,7 +17,7 @@ use Rattle.ci_machine.specs.declared.records.Job.{Job}
 use Rattle.ci_machine.specs.declared.records.JobVariable.{JobVariable}
 use Rattle.ci_machine.specs.declared.records.Need.{Need}
 use Rattle.ci_machine.specs.declared.records.Attempt.{Attempt}
-use Rattle.ci_machine.specs.declared.records.Piece.{Piece}
+use Rattle.ci_machine.specs.declared.records.Trace.{Trace}
 use Rattle.ci_machine.specs.declared.records.BoardRow.{BoardRow}
 use Rattle.ci_machine.specs.declared.records.Holder.{Holder}
 use Rattle.ci_machine.specs.declared.records.Unfinished.{Unfinished}
@@ -74,8 +74,8 @@ regular_with_needs k xs up o = search rules
 pub regular_with_attempts : (k : Kept) (xs : List Attempt) → Rises attempt_cmp xs → IsRegular k → IsRegular (record k { state = record k.state { attempts = xs } })
 regular_with_attempts k xs up o = search rules
 
-pub regular_with_pieces : (k : Kept) (xs : List Piece) → Rises piece_cmp xs → IsRegular k → IsRegular (record k { state = record k.state { pieces = xs } })
-regular_with_pieces k xs up o = search rules
+pub regular_with_traces : (k : Kept) (xs : List Trace) → Rises trace_cmp xs → IsRegular k → IsRegular (record k { state = record k.state { traces = xs } })
+regular_with_traces k xs up o = search rules
 
 pub regular_with_holders : (k : Kept) (xs : List Holder) → Rises holder_cmp xs → IsRegular k → IsRegular (record k { holders = xs })
 regular_with_holders k xs up o = search rules

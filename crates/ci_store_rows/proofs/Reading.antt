@@ -53,12 +53,6 @@ row9 (a ∷ b ∷ c ∷ d ∷ e ∷ f ∷ g ∷ h ∷ []) is = cc
 row9 (a ∷ b ∷ c ∷ d ∷ e ∷ f ∷ g ∷ h ∷ i ∷ []) is = refl
 row9 (a ∷ b ∷ c ∷ d ∷ e ∷ f ∷ g ∷ h ∷ i ∷ x ∷ more) is = absurd (omega (arith, is))
 
-pub row11 : (row : Row) → length row ≡ 11
-    → row ≡ column row 0 ∷ column row 1 ∷ column row 2 ∷ column row 3 ∷ column row 4 ∷ column row 5 ∷ column row 6 ∷ column row 7 ∷ column row 8 ∷ column row 9 ∷ column row 10 ∷ []
-row11 [] is = cc
-row11 (a ∷ []) is = cc
-row11 (a ∷ b ∷ row) is = let short : length row ≡ 9 = omega (arith, is) in λ i. a ∷ b ∷ row9 row short i
-
 pub option_cell : (v : Value) (o : Option ℕ) → MatchOption o (v ≡ Null) (λ n. (v ≢ Null) × (v ≡ number n)) → v ≡ or_null number o
 option_cell v None h = h
 option_cell v (Some n) h = h.1

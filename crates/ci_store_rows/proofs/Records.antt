@@ -63,13 +63,20 @@ before_it ghosts k h stands = record { listed = stands.listed; inside = stands.i
 pub after_it : {S : Type 0} (ghosts : Ghosts S) (k : Kept) (h : Held S) → IsRegular k → IsOf the_schema (rows_of k) (state ghosts h).now → Stands k (state ghosts h).now
 after_it ghosts k h ordered it = record { listed = it.listed; inside = record { tables = it.inside; regular = ordered } }
 
+-- a row that is put, where the rows after it are those before it but for that with the key
+pub put_moved : (k next : Kept) (table : Table) → IsAlike (rows_of k) (rows_of next) table → IsRegular next → (at : ℕ) (update insert : List ℕ) (tests sets terms : List Term) → MeansPut the_schema at table update insert tests sets terms
+    → (key row : Row) → GivesRecord the_schema table tests sets terms key row → IsPermutation (row ∷ without key (rows_of k table.tree)) (rows_of next table.tree)
+    → {S : Type 0} (ghosts : Ghosts S) (before after : Held S) → Stands k (state ghosts before).now → HasPut ghosts update insert row before after → Stands next (state ghosts after).now
+put_moved k next table alike ordered at update insert tests sets terms means key row gives moved ghosts before after stands h =
+    after_it ghosts next after ordered (puts the_schema at table update insert tests sets terms means key row gives (rows_of k) (rows_of next) alike moved ghosts before after (before_it ghosts k before stands) h)
+
 module _ {A : Type 0} (values : A → Row) (xs : List A) (k next : Kept) (table : Table) (was : rows_of k table.tree ≡ map values xs) (alike : IsAlike (rows_of k) (rows_of next) table) (ordered : IsRegular next) where
   pub put_stands : (at : ℕ) (update insert : List ℕ) (tests sets terms : List Term) → MeansPut the_schema at table update insert tests sets terms → (cmp : A → A → Ordering) (key : Row) (x : A)
       → GivesRecord the_schema table tests sets terms key (values x) → ((y : A) → has_key key (values y) ≡ is_eq (cmp y x)) → rows_of next table.tree ≡ map values (put cmp x xs)
       → {S : Type 0} (ghosts : Ghosts S) (before after : Held S) → Stands k (state ghosts before).now → HasPut ghosts update insert (values x) before after → Stands next (state ghosts after).now
-  put_stands at update insert tests sets terms means cmp key x gives same_key is ghosts before after stands h =
+  put_stands at update insert tests sets terms means cmp key x gives same_key is =
       let moved = subst (λ l. IsPermutation (values x ∷ without key l) (rows_of next table.tree)) (sym was) (subst (IsPermutation _) (sym is) (put_among values key cmp x same_key xs)) in
-      after_it ghosts next after ordered (puts the_schema at table update insert tests sets terms means key (values x) gives (rows_of k) (rows_of next) alike moved ghosts before after (before_it ghosts k before stands) h)
+      put_moved k next table alike ordered at update insert tests sets terms means key (values x) gives moved
 
   pub remove_stands : (at : ℕ) (delete : List ℕ) (tests : List Term) → MeansRemove the_schema at table delete tests → (key : Row) → ((r : Row) → picks tests key r ≡ has_key key (image (places table) r))
       → (test : A → Bool) → ((y : A) → has_key key (values y) ≡ test y) → rows_of next table.tree ≡ map values (filter (λ y. not (test y)) xs)

@@ -407,6 +407,21 @@ ascend_turned Up [] up = tt
 ascend_turned Up (x ∷ xs) up =
     subst (IsAscending (λ a b. Up b a)) (sym (reverse-cons x xs)) (ascend_behind (λ a b. Up b a) (reverse xs) x (ascend_turned Up xs up.1) (all_turned (Up x) xs up.0))
 
+filter-reverse : {X : Type 0} (p : X → Bool) (xs : List X) → filter p (reverse xs) ≡ reverse (filter p xs)
+filter-reverse p [] = refl
+filter-reverse p (x ∷ xs) = ap (filter p) (reverse-cons x xs) ∙ filter-append p (reverse xs) (x ∷ []) ∙ ap (λ l. l ++ filter p (x ∷ [])) (filter-reverse p xs) ∙ one (p x)
+  where
+    one : (b : Bool) → reverse (filter p xs) ++ cond b (x ∷ []) [] ≡ reverse (cond b (x ∷ filter p xs) (filter p xs))
+    one true = sym (reverse-cons x (filter p xs))
+    one false = append-nil (reverse (filter p xs))
+
+-- those that pass fall there, where they rise
+pub falling_within : {X : Type 0} (id : X → ℕ) (passes : X → Bool) (xs : List X) → IsAscending (λ x y. nat_cmp (id x) (id y) ≡ Less) (filter passes xs)
+    → IsAscending (λ x y. ordering_then (by_key (record { collation = Binary; descending = true }) (number (id x)) (number (id y))) Equal ≡ Less) (filter passes (reverse xs))
+falling_within id passes xs up =
+    ascending_weaker _ _ (λ x y h. rising_number (id y) (id x) h) (filter passes (reverse xs))
+    (subst (IsAscending (λ x y. nat_cmp (id y) (id x) ≡ Less)) (sym (filter-reverse passes xs)) (ascend_turned _ (filter passes xs) up))
+
 pub falling_numbers : {X : Type 0} (id : X → ℕ) (passes : X → Bool) (xs : List X) → IsAscending (λ x y. nat_cmp (id x) (id y) ≡ Less) xs
     → IsAscending (λ x y. ordering_then (by_key (record { collation = Binary; descending = true }) (number (id x)) (number (id y))) Equal ≡ Less) (filter passes (reverse xs))
-falling_numbers id passes xs up = ascending_weaker _ _ (λ x y h. rising_number (id y) (id x) h) (filter passes (reverse xs)) (ascending-filter _ passes (reverse xs) (ascend_turned _ xs up))
+falling_numbers id passes xs up = falling_within id passes xs (ascending-filter _ passes xs up)

@@ -5,10 +5,14 @@ use Rattle.sqlite.specs.State.{HasCleanDisk, Shown}
 use Rattle.sqlite.specs.Store.{Ghosts}
 use Rattle.sqlite.specs.Held.{Held, state}
 use Rattle.ci_machine.specs.Kept.{Kept}
-use Rattle.ci_machine.specs.State.{State}
+use Rattle.ci_machine.specs.State.{State, changed}
+use Rattle.ci_machine.specs.Lookups.{trace_of}
+use Rattle.ci_machine.specs.declared.change.RowChange.TheVariants.{Append}
 use Rattle.ci_machine.specs.declared.records.BoardRow.{BoardRow}
 use Rattle.ci_machine.specs.declared.records.Holder.{Holder}
 use Rattle.ci_store_tables.specs.Statements.{Changes}
+use Rattle.ci_store_rows.specs.declared.block.Block.{Block}
+use Rattle.ci_store_rows.specs.Blocks.{StaysWithin}
 use Rattle.ci_store_rows.specs.Stands.{Stands}
 
 -- a change of the state, which leaves the rows beside it
@@ -30,6 +34,15 @@ Makes g change old new = IsTrue new.in_transaction × ((k : Kept) → Stands k (
 -- where a call inside a transaction ends well, the tables follow this change of what they keep
 abbrev pub MakesInside : {S A E : Type 0} → Ghosts S → (Kept → Kept) → Held S → Held S → Result A E → Type 0
 MakesInside g change old new result = HasCleanDisk (state g new) → IsTrue old.in_transaction → OnOk result (Makes g change old new)
+
+-- bytes behind the trace of an attempt
+abbrev pub appended : ℕ → List ℕ → Kept → Kept
+appended attempt bytes = in_state (changed (Append (record { attempt = attempt; bytes = bytes })))
+
+-- a block is put inside a transaction: the tables follow bytes behind its attempt's trace, where they stay within it
+abbrev pub PutsBlock : {S : Type 0} → Ghosts S → Block → Held S → Held S → Type 0
+PutsBlock g b old new =
+    IsTrue new.in_transaction × ((k : Kept) (bytes : List ℕ) → Stands k (state g old).now → StaysWithin (trace_of k.state b.attempt) bytes b.seq b.bytes → Stands (appended b.attempt bytes k) (state g new).now)
 
 -- the queries, each after the one before, show no row
 abbrev pub ShowsNone : {S : Type 0} → Ghosts S → List (List ℕ) → Row → Held S → Held S → Type 0

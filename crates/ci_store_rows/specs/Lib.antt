@@ -1,4 +1,5 @@
 pub mod Schema
+pub mod Blocks
 pub mod Rows
 pub mod Stands
 pub mod Create

@@ -1,7 +1,7 @@
 -- What the rows that are read hold.
 use Rattle.std.specs.Prelude.{◌≡◌, ℕ, List, [], ◌∷◌, Option}
 use Rattle.sqlite.specs.declared.types.Value.{Value}
-use Rattle.sqlite.specs.declared.types.Value.TheVariants.{Text}
+use Rattle.sqlite.specs.declared.types.Value.TheVariants.{Text, Blob}
 use Rattle.sqlite.specs.Values.{or_null}
 use Rattle.sqlite.specs.Order.{Row}
 use Rattle.ci_machine.specs.declared.records.Runner.{Runner}
@@ -19,6 +19,11 @@ HasState number cause exit state = (number ≡ state_number state) × (cause ≡
 -- the value is a text that can be read as the list of these texts alone
 abbrev pub HoldsList : Value → List (List ℕ) → Type 0
 HoldsList value texts = (text : List ℕ) × (value ≡ Text text) × ReadsList text texts
+
+-- the bytes of a value, and none where it is of another kind
+abbrev pub bytes_in : Value → List ℕ
+bytes_in (Blob bytes) = bytes
+bytes_in _ = []
 
 abbrev pub HoldsSpec : Value → JobOptions → Type 0
 HoldsSpec value spec = (text : List ℕ) × (value ≡ Text text) × ReadsSpec text spec

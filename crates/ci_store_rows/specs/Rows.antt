@@ -12,7 +12,6 @@ use Rattle.ci_machine.specs.declared.records.Job.{Job}
 use Rattle.ci_machine.specs.declared.records.JobVariable.{JobVariable}
 use Rattle.ci_machine.specs.declared.records.Need.{Need}
 use Rattle.ci_machine.specs.declared.records.Attempt.{Attempt}
-use Rattle.ci_machine.specs.declared.records.Piece.{Piece}
 use Rattle.ci_machine.specs.declared.records.BoardRow.{BoardRow}
 use Rattle.ci_machine.specs.declared.records.Holder.{Holder}
 use Rattle.ci_board.specs.Effects.{status_number}
@@ -25,6 +24,7 @@ use Rattle.ci_values.specs.declared.attempts.Cause.TheVariants.{UnknownFailure, 
 use Rattle.ci_values.specs.declared.attempts.AttemptState.{AttemptState}
 use Rattle.ci_values.specs.declared.attempts.AttemptState.TheVariants.{Live, Succeeded, Failed, Cancelled}
 use Rattle.ci_store_records.specs.JsonText.{list_text, spec_text}
+use Rattle.ci_store_rows.specs.declared.block.Block.{Block}
 
 abbrev pub number : ℕ → Value
 number n = Int (pos n)
@@ -86,10 +86,10 @@ job_variable_row v = number v.job ∷ Text v.key ∷ Text v.value ∷ []
 
 abbrev pub attempt_row : Attempt → Row
 attempt_row a =
-    number a.id ∷ number a.job ∷ number a.runner ∷ Text a.token ∷ number a.granted ∷ number a.seen ∷ number (state_number a.state) ∷ or_null number (cause_in a.state) ∷ or_null number (exit_in a.state) ∷ number a.pieces ∷ number a.size ∷ []
+    number a.id ∷ number a.job ∷ number a.runner ∷ Text a.token ∷ number a.granted ∷ number a.seen ∷ number (state_number a.state) ∷ or_null number (cause_in a.state) ∷ or_null number (exit_in a.state) ∷ []
 
-abbrev pub piece_row : Piece → Row
-piece_row p = number p.attempt ∷ number p.seq ∷ Blob p.bytes ∷ []
+abbrev pub block_row : Block → Row
+block_row b = number b.attempt ∷ number b.seq ∷ Blob b.bytes ∷ []
 
 abbrev pub need_row : Need → Row
 need_row n = number n.job ∷ number n.pred ∷ []

@@ -150,8 +150,6 @@ attempt =
     ∷ column (codes "state") Integer true
     ∷ column (codes "cause") Integer false
     ∷ column (codes "exit") Integer false
-    ∷ column (codes "pieces") Integer true
-    ∷ column (codes "size") Integer true
     ∷ [])
     [] (refers 2 (codes "job") Cascade ∷ refers 3 (codes "runner") NoAction ∷ [])
 
@@ -161,6 +159,7 @@ attempt_job = record { name = codes "attempt_job"; tree = 12; table = 11; column
 abbrev pub attempt_state : Index
 attempt_state = record { name = codes "attempt_state"; tree = 13; table = 11; columns = 7 ∷ []; order = plain; is_unique = false }
 
+-- blocks of traces
 abbrev pub piece : Table
 piece =
     keyed (codes "piece") 14

@@ -13,7 +13,7 @@ use Rattle.sqlite.specs.Held.{Held, state}
 use Rattle.sqlite_trees.specs.Tree.{IsAscending}
 use Rattle.ci_machine.specs.Kept.{Kept, row_cmp}
 use Rattle.ci_machine.specs.Holders.{holder_cmp}
-use Rattle.ci_machine.specs.State.{project_cmp, variable_cmp, runner_cmp, pipeline_cmp, job_cmp, job_variable_cmp, need_cmp, attempt_cmp, piece_cmp}
+use Rattle.ci_machine.specs.State.{project_cmp, variable_cmp, runner_cmp, pipeline_cmp, job_cmp, job_variable_cmp, need_cmp, attempt_cmp, trace_cmp}
 use Rattle.ci_machine.specs.declared.records.Numbers.{Numbers}
 use Rattle.ci_machine.specs.declared.change.Counter.{Counter}
 use Rattle.ci_machine.specs.declared.change.Counter.TheVariants as counter
@@ -22,7 +22,8 @@ use Rattle.serde_json.specs.Read.{read}
 use Rattle.ci_store_records.specs.JsonText.{list_data, list_text, spec_data, spec_text}
 use Rattle.ci_store_rows.specs.Schema as table
 use Rattle.ci_store_rows.specs.Schema.{the_schema}
-use Rattle.ci_store_rows.specs.Rows.{number, project_row, variable_row, runner_row, pipeline_row, job_row, job_variable_row, need_row, attempt_row, piece_row, board_row, holder_row}
+use Rattle.ci_store_rows.specs.Blocks.{all_blocks}
+use Rattle.ci_store_rows.specs.Rows.{number, project_row, variable_row, runner_row, pipeline_row, job_row, job_variable_row, need_row, attempt_row, block_row, board_row, holder_row}
 
 abbrev pub meta_row : List ℕ → ℕ → Row
 meta_row key num = Text key ∷ number num ∷ []
@@ -51,7 +52,7 @@ rows_by_tree k =
     ∷ (table.job.tree, map job_row k.state.jobs)
     ∷ (table.jobvar.tree, map job_variable_row k.state.job_variables)
     ∷ (table.attempt.tree, map attempt_row k.state.attempts)
-    ∷ (table.piece.tree, map piece_row k.state.pieces)
+    ∷ (table.piece.tree, map block_row (all_blocks k.state.traces))
     ∷ (table.need.tree, map need_row k.state.needs)
     ∷ (table.board.tree, map board_row k.board)
     ∷ (table.variable.tree, map variable_row k.state.variables)
@@ -81,7 +82,7 @@ pub record IsRegular (k : Kept) : Type 0 where
   pub job_variables : Rises job_variable_cmp k.state.job_variables
   pub needs : Rises need_cmp k.state.needs
   pub attempts : Rises attempt_cmp k.state.attempts
-  pub pieces : Rises piece_cmp k.state.pieces
+  pub traces : Rises trace_cmp k.state.traces
   pub board : Rises row_cmp k.board
   pub holders : Rises holder_cmp k.holders
   pub tags : AllByRecursion (λ r. read (list_text r.tags) ≡ Some (list_data r.tags)) k.state.runners

@@ -48,7 +48,7 @@ impl Loaded for Attempt {
     ghost is_row = { λ row a. row ≡ attempt_row a };
 
     fn read(_: Global, row: &Row) -> Result<Attempt, StoreFault> {
-        has_columns(row, 11)?;
+        has_columns(row, 9)?;
         let state = read_state(row.get(6)?, row.get(7)?, row.get(8)?);
         Ok(Attempt {
             id: row.get(0)?,
@@ -57,8 +57,6 @@ impl Loaded for Attempt {
             granted: moment_at(row, 4)?,
             seen: moment_at(row, 5)?,
             state: state.ok_or(StoreFault::Broken)?,
-            pieces: row.get(9)?,
-            size: row.get(10)?,
             token: text_at(row, 3)?,
         })
     }
@@ -83,8 +81,6 @@ impl Stored for Attempt {
         let granted = number(self.granted.seconds())?;
         let seen = number(self.seen.seconds())?;
         let (state, cause, exit) = state_numbers(self.state);
-        let pieces = number(self.pieces)?;
-        let size = number(self.size)?;
         put(
             tx,
             is_new,
@@ -100,8 +96,6 @@ impl Stored for Attempt {
                 state.to_sql(),
                 cause.to_sql(),
                 exit.to_sql(),
-                pieces,
-                size,
             ],
         )
     }

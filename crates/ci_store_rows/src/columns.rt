@@ -3,13 +3,13 @@
 ghost use Rattle.std.specs.Prelude.{◌≡◌};
 ghost use Rattle.sqlite.specs.Value.{owned};
 ghost use Rattle.sqlite.specs.Values.{or_null};
-ghost use Rattle.sqlite.specs.declared.types.Value.TheVariants.{Text as Words, Blob};
+ghost use Rattle.sqlite.specs.declared.types.Value.TheVariants.{Text as Words};
 ghost use Rattle.ci_store_rows.specs.Stands.{counter_key};
 ghost use Rattle.ci_store_rows.specs.Rows.{kind_number, source_number, cause_number, state_number, cause_in, exit_in};
 
 use ci_machine::change::Counter;
 use ci_machine::records::{AttemptState, Cause, RefKind, Source};
-use ci_machine::text::{Bytes, Text};
+use ci_machine::text::Text;
 use sqlite::types::{ToSql, ValueRef};
 
 /// The greatest integer of SQL.
@@ -82,13 +82,6 @@ pub fn text(text: &Text) -> ValueRef<'_>
     ensures { owned result ≡ Words text.now }
 {
     text.as_str().to_sql()
-}
-
-/// Bytes as SQL has them.
-pub fn blob(bytes: &Bytes) -> ValueRef<'_>
-    ensures { owned result ≡ Blob bytes.now }
-{
-    bytes.as_slice().to_sql()
 }
 
 /// A text or NULL.

@@ -3,17 +3,19 @@
 #![tactic(auto)]
 
 mod attempt;
+pub mod block;
 mod board_row;
 pub mod columns;
 mod demand;
 mod holder;
 mod job;
 mod job_variable;
+pub mod laws;
 mod need;
-mod piece;
 mod pipeline;
 mod project;
 pub mod read;
 mod runner;
 pub mod texts;
 mod variable;
+pub mod version1;

@@ -1,28 +1,4 @@
-//! The texts of all statements. A connection keeps the plans of 64 texts; those that the machine's events run are fewer.
-
-pub const SCHEMA: [&str; 21] = [
-    "CREATE TABLE meta (key TEXT NOT NULL PRIMARY KEY, num INTEGER NOT NULL) STRICT",
-    "CREATE TABLE project (id INTEGER PRIMARY KEY, name TEXT NOT NULL, token TEXT NOT NULL UNIQUE, file TEXT) STRICT",
-    "CREATE TABLE runner (id INTEGER PRIMARY KEY, name TEXT NOT NULL, token TEXT NOT NULL UNIQUE, project INTEGER REFERENCES project (id), tags TEXT NOT NULL, untagged INTEGER NOT NULL, paused INTEGER NOT NULL) STRICT",
-    "CREATE TABLE pipeline (id INTEGER PRIMARY KEY, project INTEGER NOT NULL REFERENCES project (id), ref TEXT NOT NULL, kind INTEGER NOT NULL, source INTEGER NOT NULL, created INTEGER NOT NULL) STRICT",
-    "CREATE TABLE job (id INTEGER PRIMARY KEY, pipeline INTEGER NOT NULL REFERENCES pipeline (id) ON DELETE CASCADE, pos INTEGER NOT NULL, name TEXT NOT NULL, stage TEXT NOT NULL, spec TEXT NOT NULL, played INTEGER NOT NULL, cancelled INTEGER NOT NULL, aside INTEGER NOT NULL) STRICT",
-    "CREATE INDEX job_pipeline ON job (pipeline)",
-    "CREATE TABLE jobvar (job INTEGER NOT NULL REFERENCES job (id) ON DELETE CASCADE, key TEXT NOT NULL, value TEXT NOT NULL, PRIMARY KEY (job, key)) STRICT",
-    "CREATE TABLE attempt (id INTEGER PRIMARY KEY, job INTEGER NOT NULL REFERENCES job (id) ON DELETE CASCADE, runner INTEGER NOT NULL REFERENCES runner (id), token TEXT NOT NULL, granted INTEGER NOT NULL, seen INTEGER NOT NULL, state INTEGER NOT NULL, cause INTEGER, exit INTEGER, pieces INTEGER NOT NULL, size INTEGER NOT NULL) STRICT",
-    "CREATE INDEX attempt_job ON attempt (job)",
-    "CREATE INDEX attempt_state ON attempt (state)",
-    "CREATE TABLE piece (attempt INTEGER NOT NULL REFERENCES attempt (id) ON DELETE CASCADE, seq INTEGER NOT NULL, bytes BLOB NOT NULL, PRIMARY KEY (attempt, seq)) STRICT",
-    "CREATE TABLE need (job INTEGER NOT NULL REFERENCES job (id) ON DELETE CASCADE, pred INTEGER NOT NULL REFERENCES job (id) ON DELETE CASCADE, PRIMARY KEY (job, pred)) STRICT",
-    "CREATE INDEX need_pred ON need (pred)",
-    "CREATE TABLE board (job INTEGER PRIMARY KEY REFERENCES job (id) ON DELETE CASCADE, status INTEGER NOT NULL, open INTEGER NOT NULL, failed INTEGER NOT NULL, barred INTEGER NOT NULL) STRICT",
-    "CREATE INDEX board_status ON board (status, job)",
-    "CREATE TABLE variable (project INTEGER NOT NULL REFERENCES project (id), key TEXT NOT NULL, value TEXT NOT NULL, PRIMARY KEY (project, key)) STRICT",
-    "CREATE TABLE holder (project INTEGER NOT NULL REFERENCES project (id), grp TEXT NOT NULL, attempt INTEGER NOT NULL REFERENCES attempt (id) ON DELETE CASCADE, PRIMARY KEY (project, grp)) STRICT",
-    "CREATE INDEX holder_attempt ON holder (attempt)",
-    "CREATE INDEX pipeline_ref ON pipeline (project, ref, kind, id)",
-    "CREATE INDEX attempt_runner ON attempt (runner, id)",
-    "CREATE INDEX pipeline_created ON pipeline (created)",
-];
+//! The texts of all statements but those that make the tables. A connection keeps the plans of 64 texts; those that the machine's events run are fewer.
 
 pub const INSERT_META: &str = "INSERT INTO meta (key, num) VALUES (?1, ?2)";
 
@@ -134,42 +110,43 @@ pub const SELECT_JOB_VARIABLES: &str =
     "SELECT job, key, value FROM jobvar WHERE job = ?1 ORDER BY key";
 
 pub const INSERT_ATTEMPT: &str =
-    "INSERT INTO attempt (id, job, runner, token, granted, seen, state, cause, exit, pieces, size) VALUES (?1, ?2, ?3, ?4, ?5, ?6, ?7, ?8, ?9, ?10, ?11)";
+    "INSERT INTO attempt (id, job, runner, token, granted, seen, state, cause, exit) VALUES (?1, ?2, ?3, ?4, ?5, ?6, ?7, ?8, ?9)";
 
 pub const UPDATE_ATTEMPT: &str =
-    "UPDATE attempt SET id = ?1, job = ?2, runner = ?3, token = ?4, granted = ?5, seen = ?6, state = ?7, cause = ?8, exit = ?9, pieces = ?10, size = ?11 WHERE id = ?1";
+    "UPDATE attempt SET id = ?1, job = ?2, runner = ?3, token = ?4, granted = ?5, seen = ?6, state = ?7, cause = ?8, exit = ?9 WHERE id = ?1";
 
 pub const DELETE_ATTEMPT: &str = "DELETE FROM attempt WHERE id = ?1";
 
 pub const SELECT_ATTEMPT: &str =
-    "SELECT id, job, runner, token, granted, seen, state, cause, exit, pieces, size FROM attempt WHERE id = ?1";
+    "SELECT id, job, runner, token, granted, seen, state, cause, exit FROM attempt WHERE id = ?1";
 
 pub const SELECT_ATTEMPTS_ABOVE: &str =
-    "SELECT id, job, runner, token, granted, seen, state, cause, exit, pieces, size FROM attempt WHERE id > ?1";
+    "SELECT id, job, runner, token, granted, seen, state, cause, exit FROM attempt WHERE id > ?1";
 
 pub const SELECT_ATTEMPTS_OF: &str =
-    "SELECT id, job, runner, token, granted, seen, state, cause, exit, pieces, size FROM attempt WHERE job = ?1 ORDER BY id";
+    "SELECT id, job, runner, token, granted, seen, state, cause, exit FROM attempt WHERE job = ?1 ORDER BY id";
 
 pub const SELECT_ATTEMPTS_IN: &str =
-    "SELECT id, job, runner, token, granted, seen, state, cause, exit, pieces, size FROM attempt WHERE state = ?1 ORDER BY id";
+    "SELECT id, job, runner, token, granted, seen, state, cause, exit FROM attempt WHERE state = ?1 ORDER BY id";
 
 pub const SELECT_ATTEMPTS_WITHIN: &str =
-    "SELECT id, job, runner, token, granted, seen, state, cause, exit, pieces, size FROM attempt WHERE job >= ?1 AND job <= ?2 ORDER BY id";
+    "SELECT id, job, runner, token, granted, seen, state, cause, exit FROM attempt WHERE job >= ?1 AND job <= ?2 ORDER BY id";
 
 pub const SELECT_ATTEMPTS_BY: &str =
-    "SELECT id, job, runner, token, granted, seen, state, cause, exit, pieces, size FROM attempt WHERE runner = ?1 ORDER BY id DESC LIMIT ?2";
+    "SELECT id, job, runner, token, granted, seen, state, cause, exit FROM attempt WHERE runner = ?1 ORDER BY id DESC LIMIT ?2";
 
-pub const INSERT_PIECE: &str = "INSERT INTO piece (attempt, seq, bytes) VALUES (?1, ?2, ?3)";
+pub const INSERT_BLOCK: &str = "INSERT INTO piece (attempt, seq, bytes) VALUES (?1, ?2, ?3)";
 
-pub const UPDATE_PIECE: &str =
+pub const UPDATE_BLOCK: &str =
     "UPDATE piece SET attempt = ?1, seq = ?2, bytes = ?3 WHERE attempt = ?1 AND seq = ?2";
 
-pub const DELETE_PIECE: &str = "DELETE FROM piece WHERE attempt = ?1 AND seq = ?2";
+pub const DELETE_BLOCKS: &str = "DELETE FROM piece WHERE attempt = ?1";
 
-pub const DELETE_PIECES: &str = "DELETE FROM piece WHERE attempt = ?1";
-
-pub const SELECT_PIECES: &str =
+pub const SELECT_BLOCKS: &str =
     "SELECT attempt, seq, bytes FROM piece WHERE attempt = ?1 ORDER BY seq";
+
+pub const SELECT_LAST_BLOCKS: &str =
+    "SELECT attempt, seq, bytes FROM piece WHERE attempt = ?1 ORDER BY seq DESC LIMIT ?2";
 
 pub const INSERT_NEED: &str = "INSERT INTO need (job, pred) VALUES (?1, ?2)";
 

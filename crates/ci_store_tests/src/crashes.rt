@@ -19,19 +19,21 @@ use std::test::Fail;
 /// Files that fail.
 type Failing = Fuse<Memory>;
 
-/// Project 1 and a job of it, of which an attempt is live.
+/// Project 1 and a job of it, of which an attempt is live and has a trace.
 const FIRST: &[Change] = &[
     Change::Put(Made::Project(1, "one", "p1")),
     Change::Put(Made::Runner(1)),
     Change::Put(Made::Pipeline(1, 1, "main", RefKind::Tag)),
     Change::Put(Made::Job(1, 1)),
     Change::Put(Made::Attempt(1, 1, AttemptState::Live)),
+    Change::Append(b"one, "),
 ];
 
-/// Of the second commit: records, a row, a group that is held and a pipeline that isn't finished.
+/// Of the second commit: records, bytes behind a trace, a row, a group that is held and a pipeline that isn't finished.
 const SECOND: &[Change] = &[
     Change::Put(Made::Project(1, "uno", "p1")),
     Change::Put(Made::Project(2, "two", "p2")),
+    Change::Append(b"two"),
     Change::Row(1, Status::Pending),
     Change::Hold(1, "prod", 1),
     Change::Open(1),
@@ -52,6 +54,7 @@ const NOTHING: &[(Load, &str)] = &[
 const BEFORE: &[(Load, &str)] = &[
     (Load::Project(1), "1 one p1 -"),
     (Load::Project(2), ""),
+    (Load::TraceOf(1), "0 one, "),
     (Load::Row(1), ""),
     (Load::Holder(1, "prod"), ""),
 ];
@@ -60,6 +63,7 @@ const BEFORE: &[(Load, &str)] = &[
 const AFTER: &[(Load, &str)] = &[
     (Load::Project(1), "1 uno p1 -"),
     (Load::Project(2), "2 two p2 -"),
+    (Load::TraceOf(1), "0 one, two"),
     (Load::Row(1), "1 pending 2 1 3"),
     (Load::Holder(1, "prod"), "1 prod 1"),
 ];

@@ -67,6 +67,18 @@ const BROKEN: &[(&str, Load)] = &[
     ("UPDATE attempt SET state = 7", Load::AttemptsOf(1)),
     ("UPDATE attempt SET cause = NULL", Load::Attempt(1)),
     (
+        "INSERT INTO piece (attempt, seq, bytes) VALUES (1, 0, x'')",
+        Load::TraceSize(1),
+    ),
+    (
+        "INSERT INTO piece (attempt, seq, bytes) VALUES (1, -1, x'61')",
+        Load::TraceSize(1),
+    ),
+    (
+        "INSERT INTO piece (attempt, seq, bytes) VALUES (1, 9223372036854775807, x'61')",
+        Load::TraceSize(1),
+    ),
+    (
         "DELETE FROM meta WHERE key = 'next_job'",
         Load::Next(Counter::Job),
     ),

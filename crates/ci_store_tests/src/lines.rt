@@ -2,9 +2,9 @@
 
 use ci_machine::records::{
     Attempt, AttemptState, BoardRow, Cause, Demand, Holder, Job, JobOptions, JobVariable, Need,
-    Piece, Pipeline, Project, RefKind, Runner, Variable,
+    Pipeline, Project, RefKind, Runner, Variable,
 };
-use ci_machine::text::{Text, Texts};
+use ci_machine::text::{Bytes, Text, Texts};
 use ci_store::fault::StoreFault;
 use ci_values::when::{AllowFailure, Causes, When};
 use std::alloc::Global;
@@ -85,13 +85,26 @@ impl Answer {
         Ok(answer)
     }
 
-    /// Of the next number of a kind.
-    pub fn of_next(alloc: Global, found: Result<u64, StoreFault>) -> Result<Answer, Fail> {
+    /// Of a number: the next one of a kind, or the size of a trace.
+    pub fn of_number(alloc: Global, found: Result<u64, StoreFault>) -> Result<Answer, Fail> {
         match found {
-            Ok(next) => {
+            Ok(number) => {
                 let mut answer = Answer::nothing(alloc);
-                answer.text.push_str(next.to_string(alloc)?.as_str())?;
-                answer.numbers.push(next)?;
+                answer.text.push_str(number.to_string(alloc)?.as_str())?;
+                answer.numbers.push(number)?;
+                Ok(answer)
+            }
+            Err(fault) => Answer::of_fault(alloc, fault),
+        }
+    }
+
+    /// Of a trace: how many bytes 255 it begins with, and the text behind them.
+    pub fn of_bytes(alloc: Global, found: Result<Bytes, StoreFault>) -> Result<Answer, Fail> {
+        match found {
+            Ok(bytes) => {
+                let mut answer = Answer::nothing(alloc);
+                let (many, text) = bytes_text(bytes.as_slice());
+                answer.text = format!(in alloc; "{many} {text}")?;
                 Ok(answer)
             }
             Err(fault) => Answer::of_fault(alloc, fault),
@@ -200,14 +213,16 @@ fn state_text(alloc: Global, state: AttemptState) -> Result<String, Fail> {
     })
 }
 
-/// Bytes that are a text, or 255 alone.
-fn bytes_text(bytes: &[u8]) -> &str {
-    if bytes.iter().all(|byte| *byte == 255) {
-        return "all 255";
-    }
-    match std::str::from_utf8(bytes) {
-        Ok(text) => text,
-        Err(_) => "other bytes",
+/// How many bytes 255 come first, and the text behind them.
+fn bytes_text(bytes: &[u8]) -> (usize, &str) {
+    let many = bytes
+        .iter()
+        .position(|byte| *byte != 255)
+        .unwrap_or(bytes.len());
+    let (_, rest) = bytes.split_at(many.min(bytes.len()));
+    match std::str::from_utf8(rest) {
+        Ok(text) => (many, text),
+        Err(_) => (many, "no text"),
     }
 }
 
@@ -313,32 +328,13 @@ impl Shown for Attempt {
     fn line(&self, alloc: Global) -> Result<String, Fail> {
         let state = state_text(alloc, self.state)?;
         Ok(format!(in alloc;
-            "{} {} {} {} {} {} {state} {} {}",
+            "{} {} {} {} {} {} {state}",
             self.id,
             self.job,
             self.runner,
             self.token.as_str(),
             self.granted.seconds(),
-            self.seen.seconds(),
-            self.pieces,
-            self.size
-        )?)
-    }
-}
-
-impl Shown for Piece {
-    fn number(&self) -> u64 {
-        self.seq
-    }
-
-    fn line(&self, alloc: Global) -> Result<String, Fail> {
-        let bytes = self.bytes.as_slice();
-        Ok(format!(in alloc;
-            "{} {} {} {}",
-            self.attempt,
-            self.seq,
-            bytes.len(),
-            bytes_text(bytes)
+            self.seen.seconds()
         )?)
     }
 }

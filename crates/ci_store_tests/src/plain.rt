@@ -119,7 +119,8 @@ pub enum Load {
     AttemptsOf(u64),
     AttemptsWithin(u64, u64),
     LiveAttempts,
-    PiecesOf(u64),
+    TraceOf(u64),
+    TraceSize(u64),
     Row(u64),
     RowsWithin(u64, u64),
     RowsWith(Status),
@@ -145,7 +146,8 @@ fn shown_of_runs<S: Alter>(
             Answer::of_all(alloc, tables.attempts_within(first, last))
         }
         Load::LiveAttempts => Answer::of_all(alloc, tables.live_attempts()),
-        Load::PiecesOf(attempt) => Answer::of_all(alloc, tables.pieces_of(attempt)),
+        Load::TraceOf(attempt) => Answer::of_bytes(alloc, tables.trace_of(attempt)),
+        Load::TraceSize(attempt) => Answer::of_number(alloc, tables.trace_size(attempt)),
         Load::Row(job) => Answer::of_one(alloc, tables.row(job)),
         Load::RowsWithin(first, last) => Answer::of_all(alloc, tables.rows_within(first, last)),
         Load::RowsWith(status) => Answer::of_all(alloc, tables.rows_with(status)),
@@ -184,7 +186,7 @@ fn shown_of_pipelines<S: Alter>(
 /// What a load answers.
 pub fn shown<S: Alter>(alloc: Global, tables: &mut Tables<S>, load: Load) -> Result<Answer, Fail> {
     match load {
-        Load::Next(counter) => Answer::of_next(alloc, tables.next(counter)),
+        Load::Next(counter) => Answer::of_number(alloc, tables.next(counter)),
         Load::Project(id) => Answer::of_one(alloc, tables.project(id)),
         Load::ProjectWith(token) => {
             Answer::of_one(alloc, tables.project_with(&text(alloc, token)?))

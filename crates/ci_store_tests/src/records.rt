@@ -5,8 +5,8 @@ use ci_graph::part::Part;
 use ci_machine::change::{Counter, IndexChange, Key, Record, RowChange};
 use ci_machine::moment::Moment;
 use ci_machine::records::{
-    Attempt, AttemptState, BoardRow, Cause, Holder, Job, JobOptions, JobVariable, Need, Piece,
-    Pipeline, Project, RefKind, Runner, Source, Unfinished, Variable,
+    Attempt, AttemptState, BoardRow, Cause, Holder, Job, JobOptions, JobVariable, Need, Pipeline,
+    Project, RefKind, Runner, Source, Trace, Unfinished, Variable,
 };
 use ci_machine::text::{Bytes, Text, Texts};
 use ci_values::items::Items;
@@ -35,10 +35,6 @@ pub enum Made {
     Attempt(u64, u64, AttemptState),
     /// A job, and the one that it waits for.
     Need(u64, u64),
-    /// Its place in the trace of attempt 1, and its bytes.
-    Piece(u64, &'static [u8]),
-    /// At a place in the trace of attempt 1, `LONG` bytes.
-    LongPiece(u64),
 }
 
 /// The key of a row that is removed.
@@ -53,14 +49,17 @@ pub enum Gone {
     Need(u64, u64),
     Needs(u64),
     Attempt(u64),
-    Piece(u64, u64),
-    Pieces(u64),
+    Trace(u64),
 }
 
 /// A change of what the tables keep.
 #[derive(Drop)]
 pub enum Change {
     Put(Made),
+    /// These bytes behind the trace of attempt 1.
+    Append(&'static [u8]),
+    /// So many bytes 255 behind it.
+    AppendMany(usize),
     Remove(Gone),
     SetNext(Counter, u64),
     /// The row of a job is put.
@@ -82,9 +81,6 @@ pub struct Work {
     pub indexes: Vec<IndexChange>,
     pub cleared: Vec<u64>,
 }
-
-/// The length of a long piece, in bytes.
-pub const LONG: usize = 65_536;
 
 /// The causes of two of the six flags.
 const CAUSES: Causes = Causes {
@@ -182,15 +178,12 @@ fn attempt(alloc: Global, id: u64, job: u64, state: AttemptState) -> Result<Atte
         granted: moment(100)?,
         seen: moment(130)?,
         state,
-        pieces: 2,
-        size: 65_542,
     })
 }
 
-fn piece(seq: u64, bytes: Vec<u8>) -> Record {
-    Record::Piece(Piece {
+fn appended(bytes: Vec<u8>) -> RowChange {
+    RowChange::Append(Trace {
         attempt: 1,
-        seq,
         bytes: Bytes::new(bytes),
     })
 }
@@ -229,8 +222,6 @@ fn record(alloc: Global, made: &Made) -> Result<Record, Fail> {
             job: *job,
             pred: *pred,
         }),
-        Made::Piece(seq, bytes) => piece(*seq, Vec::from_slice(alloc, bytes)?),
-        Made::LongPiece(seq) => piece(*seq, vec![in alloc; 255u8; LONG]?),
     })
 }
 
@@ -245,8 +236,7 @@ fn key(alloc: Global, gone: &Gone) -> Result<Key, Fail> {
         Gone::Need(job, pred) => Key::Need(*job, *pred),
         Gone::Needs(job) => Key::Needs(*job),
         Gone::Attempt(id) => Key::Attempt(*id),
-        Gone::Piece(attempt, seq) => Key::Piece(*attempt, *seq),
-        Gone::Pieces(attempt) => Key::Pieces(*attempt),
+        Gone::Trace(attempt) => Key::Trace(*attempt),
     })
 }
 
@@ -276,6 +266,10 @@ impl Work {
     pub fn push(&mut self, alloc: Global, change: &Change) -> Result<(), Fail> {
         match change {
             Change::Put(made) => self.changes.push(RowChange::Put(record(alloc, made)?))?,
+            Change::Append(bytes) => self.changes.push(appended(Vec::from_slice(alloc, bytes)?))?,
+            Change::AppendMany(count) => {
+                self.changes.push(appended(vec![in alloc; 255u8; *count]?))?
+            }
             Change::Remove(gone) => self.changes.push(RowChange::Remove(key(alloc, gone)?))?,
             Change::SetNext(counter, next) => self
                 .changes

@@ -94,14 +94,11 @@ const RECORDS: &[Step] = &[
     Step::Shows(Load::JobVariables(1), "1 CI=1; 1 KEY=1"),
     Step::Shows(
         Load::AttemptsOf(1),
-        "1 1 1 j1 100 130 script_failure Some(2) 2 65542",
+        "1 1 1 j1 100 130 script_failure Some(2)",
     ),
     Step::Finds(Load::JobsOf(1), &[1, 2]),
     Step::Shows(Load::Next(Counter::Job), "3"),
-    Step::Shows(
-        Load::Attempt(1),
-        "1 1 1 j1 100 130 script_failure Some(2) 2 65542",
-    ),
+    Step::Shows(Load::Attempt(1), "1 1 1 j1 100 130 script_failure Some(2)"),
 ];
 
 #[test]
@@ -200,25 +197,35 @@ fn a_project_with_a_variable_is_not_removed(rt: HostRuntime) -> Result<(), Fail>
 
 // ---- traces
 
-/// The later piece comes first.
-const TWO_PIECES: &[Change] = &[
-    Change::Put(Made::Piece(1, b"wor\0ld")),
-    Change::Put(Made::LongPiece(0)),
+/// Bytes that fill four blocks, and some behind them.
+const LONG_AND_SHORT: &[Change] = &[
+    Change::AppendMany(65_530),
+    Change::Append(b"wor\0ld"),
+    Change::Append(b"!"),
 ];
 
-const PIECES: &[Step] = &[
-    Step::Shows(Load::PiecesOf(1), "1 0 65536 all 255; 1 1 6 wor\0ld"),
+const TRACES: &[Step] = &[
+    Step::Shows(Load::TraceOf(1), "65530 wor\0ld!"),
+    Step::Shows(Load::TraceSize(1), "65537"),
+    Step::Shows(Load::TraceOf(2), "0 "),
+    Step::Shows(Load::TraceSize(2), "0"),
+    Step::Makes(&[Change::Append(b"")]),
+    Step::Shows(Load::TraceSize(1), "65537"),
     Step::Refuses(&[Change::Remove(Gone::Attempt(1))]),
-    Step::Makes(&[Change::Remove(Gone::Piece(1, 0))]),
-    Step::Shows(Load::PiecesOf(1), "1 1 6 wor\0ld"),
-    Step::Shows(Load::PiecesOf(2), ""),
-    Step::Makes(&[Change::Remove(Gone::Piece(1, 1))]),
-    Step::Makes(&[Change::Remove(Gone::Attempt(1))]),
+    Step::Makes(&[Change::Remove(Gone::Trace(1))]),
+    Step::Shows(Load::TraceOf(1), "0 "),
+    Step::Shows(Load::TraceSize(1), "0"),
+    Step::Makes(&[Change::Append(b"one, "), Change::Append(b"two")]),
+    Step::Shows(Load::TraceOf(1), "0 one, two"),
+    Step::Makes(&[
+        Change::Remove(Gone::Trace(1)),
+        Change::Remove(Gone::Attempt(1)),
+    ]),
 ];
 
 #[test]
-fn pieces_are_loaded_in_their_order_and_removed(rt: HostRuntime) -> Result<(), Fail> {
-    tells(&rt, rt.alloc(), &[Step::Makes(TWO_PIECES)], PIECES)
+fn a_trace_grows_and_is_removed(rt: HostRuntime) -> Result<(), Fail> {
+    tells(&rt, rt.alloc(), &[Step::Makes(LONG_AND_SHORT)], TRACES)
 }
 
 const TWO_LIVE: &[Change] = &[
@@ -233,14 +240,14 @@ const LIVE: &[Step] = &[
     Step::Makes(TWO_LIVE),
     Step::Shows(
         Load::LiveAttempts,
-        "2 1 1 j1 100 130 live 2 65542; 3 1 1 j1 100 130 live 2 65542",
+        "2 1 1 j1 100 130 live; 3 1 1 j1 100 130 live",
     ),
     Step::Makes(ONE_ENDS),
 ];
 
 #[test]
 fn an_attempt_that_has_ended_is_not_live(rt: HostRuntime) -> Result<(), Fail> {
-    let then = [Step::Shows(Load::LiveAttempts, "3 1 1 j1 100 130 live 2 65542")];
+    let then = [Step::Shows(Load::LiveAttempts, "3 1 1 j1 100 130 live")];
     tells(&rt, rt.alloc(), LIVE, &then)
 }
 
@@ -548,15 +555,15 @@ fn pipelines_are_found_that_were_made_before_a_moment(rt: HostRuntime) -> Result
     tells(&rt, rt.alloc(), OLD_AND_NEW, OLD)
 }
 
-/// Pipeline 1 has two pieces, a pair and two rows of statuses then, and pipeline 2 a pair and two rows.
+/// Pipeline 1 has a trace, a pair and two rows of statuses then, and pipeline 2 a pair and two rows.
 const TWO_PIPELINES: &[Change] = &[
     Change::Put(Made::PipelineAt(2, 70)),
     Change::Put(Made::Job(3, 2)),
     Change::Put(Made::Job(4, 2)),
     Change::Put(Made::Need(2, 1)),
     Change::Put(Made::Need(4, 3)),
-    Change::Put(Made::Piece(0, b"one")),
-    Change::Put(Made::Piece(1, b"two")),
+    Change::AppendMany(16_384),
+    Change::Append(b"one"),
     Change::Row(2, Status::Success),
     Change::Row(3, Status::Success),
     Change::Row(4, Status::Success),
@@ -564,7 +571,7 @@ const TWO_PIPELINES: &[Change] = &[
 
 /// What names a job or an attempt goes before it, but for the rows of statuses.
 const ALL_BUT_ROWS: &[Change] = &[
-    Change::Remove(Gone::Pieces(1)),
+    Change::Remove(Gone::Trace(1)),
     Change::Remove(Gone::Attempt(1)),
     Change::Remove(Gone::JobVariables(1)),
     Change::Remove(Gone::Needs(2)),
@@ -575,7 +582,7 @@ const ALL_BUT_ROWS: &[Change] = &[
 
 /// The same, with the rows, which are named last and go first.
 const ALL: &[Change] = &[
-    Change::Remove(Gone::Pieces(1)),
+    Change::Remove(Gone::Trace(1)),
     Change::Remove(Gone::Attempt(1)),
     Change::Remove(Gone::JobVariables(1)),
     Change::Remove(Gone::Needs(2)),
@@ -598,7 +605,7 @@ const LEFT: &[Step] = &[
     Step::Shows(Load::JobsOf(1), ""),
     Step::Shows(Load::JobVariables(1), ""),
     Step::Shows(Load::AttemptsWithin(1, 9), ""),
-    Step::Shows(Load::PiecesOf(1), ""),
+    Step::Shows(Load::TraceOf(1), "0 "),
     Step::Shows(Load::NeedsWithin(1, 9), "4 for 3"),
     Step::Finds(Load::RowsWithin(1, 9), &[3, 4]),
     Step::Finds(Load::JobsOf(2), &[3, 4]),
@@ -619,6 +626,14 @@ const TEXTS: &[(&str, &str)] = &[
     (
         "SELECT sql FROM sqlite_schema WHERE name = 'job'",
         "CREATE TABLE job (id INTEGER PRIMARY KEY, pipeline INTEGER NOT NULL REFERENCES pipeline (id) ON DELETE CASCADE, pos INTEGER NOT NULL, name TEXT NOT NULL, stage TEXT NOT NULL, spec TEXT NOT NULL, played INTEGER NOT NULL, cancelled INTEGER NOT NULL, aside INTEGER NOT NULL) STRICT",
+    ),
+    (
+        "SELECT sql FROM sqlite_schema WHERE name = 'attempt'",
+        "CREATE TABLE attempt (id INTEGER PRIMARY KEY, job INTEGER NOT NULL REFERENCES job (id) ON DELETE CASCADE, runner INTEGER NOT NULL REFERENCES runner (id), token TEXT NOT NULL, granted INTEGER NOT NULL, seen INTEGER NOT NULL, state INTEGER NOT NULL, cause INTEGER, exit INTEGER) STRICT",
+    ),
+    (
+        "SELECT sql FROM sqlite_schema WHERE name = 'piece'",
+        "CREATE TABLE piece (attempt INTEGER NOT NULL REFERENCES attempt (id) ON DELETE CASCADE, seq INTEGER NOT NULL, bytes BLOB NOT NULL, PRIMARY KEY (attempt, seq)) STRICT",
     ),
     (
         "SELECT sql FROM sqlite_schema WHERE name = 'need'",

@@ -2,4 +2,4 @@ use Rattle.std.proofs.Common.{◌≡◌, [], replicate}
 use Rattle.ci_graph.proofs.positions.empty_lists.Given as goal
 
 abbrev pub invariant-loop-k : goal.invariant-loop-k
-invariant-loop-k l = l.lists.items ≡ replicate l._k []
+invariant-loop-k l = l.lists.items ≡ replicate l.k []

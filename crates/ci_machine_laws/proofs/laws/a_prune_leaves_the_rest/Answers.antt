@@ -1,7 +1,7 @@
 use Rattle.std.proofs.Common.{ap}
 use Rattle.ci_machine.proofs.Keyed.{has_from_contains}
 use Rattle.ci_machine_steps.specs.Plans.{Plan}
-use Rattle.ci_machine_steps.proofs.Pruned.{jobs_left, no_jobs, job_was, attempts_left, pieces_left}
+use Rattle.ci_machine_steps.proofs.Pruned.{jobs_left, no_jobs, job_was, attempts_left, trace_left}
 use Rattle.ci_machine_steps.proofs.Sound.{sound}
 use Rattle.ci_machine_laws.proofs.Finished.{leases_left, holders_left, its_plan, then_left, is_finished}
 use Rattle.ci_machine_laws.proofs.laws.a_prune_leaves_the_rest.Goals as goal
@@ -25,7 +25,7 @@ returns-clause-attempts c = λ s n j i has.
     attempts_left s n known.jobs known.attempts j was.0 was.1
 
 pub returns-clause-traces : goal.returns-clause-traces
-returns-clause-traces c = λ s n a i has. pieces_left s n (sound s i).jobs (sound s i).attempts a (has_from_contains a _ has)
+returns-clause-traces c = λ s n a i has. trace_left s n (sound s i).jobs (sound s i).attempts a (has_from_contains a _ has)
 
 pub returns-clause-leases : goal.returns-clause-leases
 returns-clause-leases c = λ s board before p i are found. leases_left s board p (sound s i) are (is_finished s board before p found)

@@ -12,7 +12,7 @@ use Rattle.ci_machine_steps.specs.Reports as reports
 use Rattle.ci_machine_plans.proofs.reports.ended.Goals as goal
 
 same_attempt : (a b : Attempt) → (a.id ≡ b.id) × ((a.job ≡ b.job) × ((a.runner ≡ b.runner) × ((a.token ≡ b.token) × ((a.granted ≡ b.granted)
-    × ((a.seen ≡ b.seen) × ((a.state ≡ b.state) × ((a.pieces ≡ b.pieces) × (a.size ≡ b.size)))))))) → a ≡ b
+    × ((a.seen ≡ b.seen) × (a.state ≡ b.state)))))) → a ≡ b
 same_attempt a b h = λ i. record {
   id = h.0 i;
   job = h.1.0 i;
@@ -20,9 +20,7 @@ same_attempt a b h = λ i. record {
   token = h.1.1.1.0 i;
   granted = h.1.1.1.1.0 i;
   seen = h.1.1.1.1.1.0 i;
-  state = h.1.1.1.1.1.1.0 i;
-  pieces = h.1.1.1.1.1.1.1.0 i;
-  size = h.1.1.1.1.1.1.1.1 i;
+  state = h.1.1.1.1.1.1 i;
 }
 
 -- a final state that was accepted is told, and put in the attempt's place

@@ -13,4 +13,4 @@ returns-in-Ok-clause-reopened c ops s was =
 pub returns-clause-stopped : goal.returns-clause-stopped
 returns-clause-stopped c ops s was =
     let kept = was.holds.kept in
-    c.in-Err.ensures.own (memory_is_clean c.in-Err.field-0-1) kept (subst (LeavesOnly over_memory kept) (sym c.close.ensures.same) was.holds.held.0.left)
+    c.in-Err.ensures.own (memory_is_clean c.in-Err.field-0-1) kept (subst (LeavesOnly over_memory kept) (sym c.close.ensures.same) was.holds.held.0)

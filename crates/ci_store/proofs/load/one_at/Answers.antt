@@ -1,8 +1,7 @@
 use Rattle.std.proofs.Common.{[], ◌∷◌}
 use Rattle.sqlite.specs.Values.{bound_value}
-use Rattle.ci_store.proofs.Loading.{answered_so}
-use Rattle.ci_store.proofs.Looking.{by_params}
+use Rattle.ci_store.proofs.Looking.{looked_so, by_params}
 use Rattle.ci_store.proofs.load.one_at.Goals as goal
 
-pub returns-clause-loads : goal.returns-clause-loads
-returns-clause-loads g c = answered_so c.one.ensures.loads (λ k at found. by_params (λ i. bound_value (c.in_ok-id.ensures i) ∷ []))
+pub returns : goal.returns
+returns g c = looked_so c.one.ensures (λ k at found. by_params (λ i. bound_value (c.in_ok-id.ensures i) ∷ []))

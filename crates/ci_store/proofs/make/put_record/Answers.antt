@@ -24,9 +24,6 @@ returns-in-JobVariable-clause-makes g c clean inside = by_item g.S.Store c.args.
 pub returns-in-Attempt-clause-makes : goal.returns-in-Attempt-clause-makes
 returns-in-Attempt-clause-makes g c clean inside = by_item g.S.Store c.args.tx.now.conn.now c.put-in-Attempt.new.tx.conn.now (λ r. in_state (with_record r)) c.in-Attempt.is c.put-in-Attempt.result (c.put-in-Attempt.ensures.makes clean inside)
 
-pub returns-in-Piece-clause-makes : goal.returns-in-Piece-clause-makes
-returns-in-Piece-clause-makes g c clean inside = by_item g.S.Store c.args.tx.now.conn.now c.put-in-Piece.new.tx.conn.now (λ r. in_state (with_record r)) c.in-Piece.is c.put-in-Piece.result (c.put-in-Piece.ensures.makes clean inside)
-
 pub returns-in-Need-clause-makes : goal.returns-in-Need-clause-makes
 returns-in-Need-clause-makes g c clean inside = by_item g.S.Store c.args.tx.now.conn.now c.put-in-Need.new.tx.conn.now (λ r. in_state (with_record r)) c.in-Need.is c.put-in-Need.result (c.put-in-Need.ensures.makes clean inside)
 

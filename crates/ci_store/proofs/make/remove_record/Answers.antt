@@ -7,7 +7,7 @@ use Rattle.ci_store_rows.proofs.Pipelines.{pipeline_removed}
 use Rattle.ci_store_rows.proofs.Jobs.{job_removed, refers_to_pipeline}
 use Rattle.ci_store_rows.proofs.JobVariables.{job_variable_removed, job_variables_removed, refers_to_job as variables_refer}
 use Rattle.ci_store_rows.proofs.Attempts.{attempt_removed, refers_to_job as attempts_refer}
-use Rattle.ci_store_rows.proofs.Pieces.{piece_removed, pieces_removed, refers_to_attempt}
+use Rattle.ci_store_rows.proofs.Blocks.{trace_removed, refers_to_attempt}
 use Rattle.ci_store_rows.proofs.Holders.{holders_refer}
 use Rattle.ci_store_rows.proofs.Needs.{need_removed, needs_removed, needs_refer, needed_refer}
 use Rattle.ci_store_rows.proofs.Board.{rows_refer}
@@ -41,10 +41,6 @@ pub returns-in-Attempt-clause-makes : goal.returns-in-Attempt-clause-makes
 returns-in-Attempt-clause-makes g c clean inside =
     removed_by g.S.Store c.args.tx.now.conn.now c.remove_at-in-Attempt.new.tx.conn.now c.in-Attempt.is c.remove_at-in-Attempt.result (queries (refers_to_attempt ∷ holders_refer ∷ [])) _ refl (attempt_removed g.S.Store c.args.tx.now.conn.now c.remove_at-in-Attempt.new.tx.conn.now _) (c.remove_at-in-Attempt.ensures.removes clean inside)
 
-pub returns-in-Piece-clause-makes : goal.returns-in-Piece-clause-makes
-returns-in-Piece-clause-makes g c clean inside =
-    removed_by g.S.Store c.args.tx.now.conn.now c.remove_pair-in-Piece.new.tx.conn.now c.in-Piece.is c.remove_pair-in-Piece.result [] _ refl (piece_removed g.S.Store c.args.tx.now.conn.now c.remove_pair-in-Piece.new.tx.conn.now _ _) (c.remove_pair-in-Piece.ensures.removes clean inside)
-
 pub returns-in-Need-clause-makes : goal.returns-in-Need-clause-makes
 returns-in-Need-clause-makes g c clean inside =
     removed_by g.S.Store c.args.tx.now.conn.now c.remove_pair.new.tx.conn.now c.in-Need.is c.remove_pair.result [] _ refl (need_removed g.S.Store c.args.tx.now.conn.now c.remove_pair.new.tx.conn.now _ _) (c.remove_pair.ensures.removes clean inside)
@@ -57,6 +53,6 @@ pub returns-in-Needs-clause-makes : goal.returns-in-Needs-clause-makes
 returns-in-Needs-clause-makes g c clean inside =
     removed_by g.S.Store c.args.tx.now.conn.now c.remove_at-in-Needs.new.tx.conn.now c.in-Needs.is c.remove_at-in-Needs.result [] _ refl (needs_removed g.S.Store c.args.tx.now.conn.now c.remove_at-in-Needs.new.tx.conn.now _) (c.remove_at-in-Needs.ensures.removes clean inside)
 
-pub returns-in-Pieces-clause-makes : goal.returns-in-Pieces-clause-makes
-returns-in-Pieces-clause-makes g c clean inside =
-    removed_by g.S.Store c.args.tx.now.conn.now c.remove_at-in-Pieces.new.tx.conn.now c.in-Pieces.is c.remove_at-in-Pieces.result [] _ refl (pieces_removed g.S.Store c.args.tx.now.conn.now c.remove_at-in-Pieces.new.tx.conn.now _) (c.remove_at-in-Pieces.ensures.removes clean inside)
+pub returns-in-Trace-clause-makes : goal.returns-in-Trace-clause-makes
+returns-in-Trace-clause-makes g c clean inside =
+    removed_by g.S.Store c.args.tx.now.conn.now c.remove_at-in-Trace.new.tx.conn.now c.in-Trace.is c.remove_at-in-Trace.result [] _ refl (trace_removed g.S.Store c.args.tx.now.conn.now c.remove_at-in-Trace.new.tx.conn.now _) (c.remove_at-in-Trace.ensures.removes clean inside)

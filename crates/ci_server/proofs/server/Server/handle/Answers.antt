@@ -4,6 +4,7 @@ use Rattle.ci_machine.specs.declared.request.Event.TheVariants as event
 use Rattle.ci_server.specs.Handling.{Call}
 use Rattle.ci_server.specs.Server.{Handles}
 use Rattle.ci_server.proofs.Runs.{run_of_one}
+use Rattle.ci_server.proofs.SentAgain.{repeats_of_one}
 use Rattle.ci_server.proofs.server.Server.handle.Goals as goal
 
 pub returns : goal.returns
@@ -15,4 +16,5 @@ returns g c =
     record {
       handled = one;
       run = run_of_one g.S.Store c.laws_of_each_reached_state.ensures c.a_step_is_answered.ensures c.args.self.now now call (answer.Reply c.handle.result) one;
+      repeats = repeats_of_one g.S.Store c.repeats_change_nothing.ensures.history c.args.self.now now call (answer.Reply c.handle.result) one;
     }

@@ -5,6 +5,7 @@ use Rattle.ci_memory.specs.declared.remembering.Remembering.{Remembering}
 use Rattle.ci_server.specs.Holding.{HoldsIn, LeavesIn}
 use Rattle.ci_server.specs.Server.{IsHonest, HandlesEach}
 use Rattle.ci_server.proofs.Runs.{run_of_each, closes_each, refuses_each, ok_then}
+use Rattle.ci_server.proofs.SentAgain.{repeats_of_each}
 use Rattle.ci_server.proofs.server.Server.run.Goals as goal
 
 pub returns-clause-each : goal.returns-clause-each
@@ -16,6 +17,12 @@ returns-clause-run g c =
     ok_then c.run.result
     (λ answers each. run_of_each g.S.Store c.laws_of_each_reached_state.ensures c.a_step_is_answered.ensures c.args.self.now c.run.new.self c.args.calls.now answers.items each)
     (returns-clause-each g c)
+
+pub returns-clause-repeats : goal.returns-clause-repeats
+returns-clause-repeats g c =
+    ok_then c.run.result
+    (λ answers runs. repeats_of_each g.S.Store c.repeats_change_nothing.ensures.history c.args.self.now c.run.new.self c.args.calls.now answers.items runs)
+    (returns-clause-run g c)
 
 pub returns-clause-closes : goal.returns-clause-closes
 returns-clause-closes g c =

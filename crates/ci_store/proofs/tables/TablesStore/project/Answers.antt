@@ -1,4 +1,5 @@
-use Rattle.ci_store.proofs.Loading.{answered_so, begun}
+use Rattle.ci_store.proofs.Loading.{begun}
+use Rattle.ci_store.proofs.Looking.{loads_so}
 use Rattle.ci_store_rows.proofs.Projects.{plain_select, plain_select_above, project_named}
 use Rattle.ci_store.proofs.tables.TablesStore.project.Goals as goal
 
@@ -9,4 +10,4 @@ pub one_named-requires-clause-plain_above : goal.one_named-requires-clause-plain
 one_named-requires-clause-plain_above g c = plain_select_above
 
 pub returns : goal.returns
-returns g c = begun c.self.view_is (answered_so c.one_named.ensures.loads (λ k at found. project_named g.S.Store c.self.inside.conn c.one_named.new.conn k at c.args.id found))
+returns g c = begun c.self.view_is (loads_so c.one_named.ensures (λ k at found. project_named g.S.Store c.self.inside.conn c.one_named.new.conn k at c.args.id found))

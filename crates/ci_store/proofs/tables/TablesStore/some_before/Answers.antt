@@ -1,14 +1,15 @@
-use Rattle.ci_store.proofs.Loading.{answered_so, begun}
+use Rattle.ci_store.proofs.Loading.{begun}
+use Rattle.ci_store.proofs.Looking.{loads_so}
 use Rattle.ci_store_rows.proofs.Pipelines.{plain_select_some_before, some_before_found}
 use Rattle.ci_store.proofs.tables.TablesStore.some_before.Goals as goal
 
-pub list_before-requires-clause-plain : goal.list_before-requires-clause-plain
-list_before-requires-clause-plain g c = plain_select_some_before
+pub list_before-requires : goal.list_before-requires
+list_before-requires g c = plain_select_some_before
 
 pub returns : goal.returns
 returns g c =
     begun c.self.view_is
-    (answered_so c.list_before.ensures.loads
+    (loads_so c.list_before.ensures
     (λ k at found h.
     let some = some_before_found g.S.Store c.self.inside.conn c.list_before.new.conn k at c.args.before c.args.count found.items h in
     record { few = some.0; among = some.1; whole = some.2 }))

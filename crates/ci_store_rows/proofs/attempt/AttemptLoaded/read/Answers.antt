@@ -3,7 +3,7 @@ use Rattle.sqlite.specs.Order.{column}
 use Rattle.sqlite.specs.Values.{or_null}
 use Rattle.ci_store_rows.specs.Rows.{number}
 use Rattle.ci_store_rows.specs.Load.{HasState}
-use Rattle.ci_store_rows.proofs.Reading.{row11, option_cell}
+use Rattle.ci_store_rows.proofs.Reading.{row9, option_cell}
 use Rattle.ci_store_rows.proofs.attempt.AttemptLoaded.read.Goals as goal
 
 pub returns : goal.returns
@@ -13,5 +13,5 @@ returns c =
     let state = c.in_ok-get.ensures.ok.1 ∙ ap number it.0 in
     let cause = option_cell (column row 7) c.in_ok-get-2.field-0 c.in_ok-get-2.ensures.ok.1 ∙ ap (or_null number) it.1 in
     let exit = option_cell (column row 8) c.in_ok-get-3.field-0 c.in_ok-get-3.ensures.ok.1 ∙ ap (or_null number) it.2 in
-    row11 row c.in_ok-has_columns.ensures
-    ∙ (λ i. c.in_ok-get-4.ensures.ok.1 i ∷ c.in_ok-get-5.ensures.ok.1 i ∷ c.in_ok-get-6.ensures.ok.1 i ∷ c.in_ok-text_at.ensures i ∷ c.in_ok-moment_at.ensures i ∷ c.in_ok-moment_at-2.ensures i ∷ state i ∷ cause i ∷ exit i ∷ c.in_ok-get-7.ensures.ok.1 i ∷ c.in_ok-get-8.ensures.ok.1 i ∷ [])
+    row9 row c.in_ok-has_columns.ensures
+    ∙ (λ i. c.in_ok-get-4.ensures.ok.1 i ∷ c.in_ok-get-5.ensures.ok.1 i ∷ c.in_ok-get-6.ensures.ok.1 i ∷ c.in_ok-text_at.ensures i ∷ c.in_ok-moment_at.ensures i ∷ c.in_ok-moment_at-2.ensures i ∷ state i ∷ cause i ∷ exit i ∷ [])

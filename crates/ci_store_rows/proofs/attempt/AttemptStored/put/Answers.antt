@@ -14,5 +14,5 @@ returns-clause-makes g c clean inside =
     let old = c.args.tx.now.conn.now in
     let new = c.put.new.tx.conn.now in
     let x = c.args.self.now in
-    let row = (λ i. bound_value (c.in_ok-id.ensures i) ∷ bound_value (c.in_ok-job.ensures i) ∷ bound_value (c.in_ok-runner.ensures i) ∷ bound_value (c.text.ensures i) ∷ bound_value (c.in_ok-granted.ensures i) ∷ bound_value (c.in_ok-seen.ensures i) ∷ bound_value (c.to_sql.ensures i) ∷ bound_value (c.to_sql-2.ensures i) ∷ bound_value (c.to_sql-3.ensures i) ∷ bound_value (c.in_ok-pieces.ensures i) ∷ bound_value (c.in_ok-size.ensures i) ∷ []) ∙ (λ i. number x.id ∷ number x.job ∷ number x.runner ∷ Text x.token ∷ number (c.seconds.ensures.is i) ∷ number (c.seconds-2.ensures.is i) ∷ number ((c.state_numbers-state.ensures i).0) ∷ bound_number ((c.state_numbers-state.ensures i).1) i ∷ bound_number ((c.state_numbers-state.ensures i).2) i ∷ number x.pieces ∷ number x.size ∷ []) in
+    let row = (λ i. bound_value (c.in_ok-id.ensures i) ∷ bound_value (c.in_ok-job.ensures i) ∷ bound_value (c.in_ok-runner.ensures i) ∷ bound_value (c.text.ensures i) ∷ bound_value (c.in_ok-granted.ensures i) ∷ bound_value (c.in_ok-seen.ensures i) ∷ bound_value (c.to_sql.ensures i) ∷ bound_value (c.to_sql-2.ensures i) ∷ bound_value (c.to_sql-3.ensures i) ∷ []) ∙ (λ i. number x.id ∷ number x.job ∷ number x.runner ∷ Text x.token ∷ number (c.seconds.ensures.is i) ∷ number (c.seconds-2.ensures.is i) ∷ number ((c.state_numbers-state.ensures i).0) ∷ bound_number ((c.state_numbers-state.ensures i).1) i ∷ bound_number ((c.state_numbers-state.ensures i).2) i ∷ []) in
     on_ok c.put.result (λ ran. (ran.0, λ k stands. attempt_puts g.S.Store old new x k stands (subst (λ row. HasPut g.S.Store UPDATE_ATTEMPT.now INSERT_ATTEMPT.now row old new) row ran.1))) (c.put.ensures.put clean inside)

@@ -1,0 +1,90 @@
+-- What an accepted piece of a trace does.
+use Rattle.std.specs.Prelude.{◌≡◌, ℕ, ◌+◌, ◌≤◌, true, ◌==◌, nat_le, ◌++◌, length, if◌then◌else◌, Option, Some, None, option_map, Result, Ok, Err}
+use Rattle.std.specs.Str.{bytes_eq}
+use Rattle.std.proofs.Common.{refl, sym, ap, subst, ◌∙◌, eqb-true, leb-true}
+use Rattle.std.proofs.lemmas.Bool.{cond_both, false≢true}
+use Rattle.std.proofs.lemmas.List.{length-append}
+use Rattle.ci_machine.specs.declared.records.Attempt.{Attempt}
+use Rattle.ci_machine.specs.declared.records.Trace.{Trace}
+use Rattle.ci_machine.specs.declared.lease.LeaseFault.{LeaseFault}
+use Rattle.ci_machine.specs.declared.lease.LeaseFault.TheVariants.{NotLive, LeaseOver}
+use Rattle.ci_machine.specs.declared.lease.PieceFault.{PieceFault}
+use Rattle.ci_machine.specs.declared.lease.PieceFault.TheVariants.{Unleased, WrongOffset, TraceFull}
+use Rattle.ci_machine.specs.declared.limits.TheConstants.{MAX_TRACE_BYTES}
+use Rattle.ci_machine.specs.declared.request.TracePart.{TracePart}
+use Rattle.ci_machine.specs.declared.request.Event.TheVariants as event
+use Rattle.ci_machine.specs.declared.request.Request.TheVariants.{AppendTrace}
+use Rattle.ci_machine.specs.declared.request.Seed.{Seed}
+use Rattle.ci_machine.specs.declared.reply.Answer.TheVariants as answer
+use Rattle.ci_machine.specs.declared.reply.HttpStatus.TheVariants.{Accepted}
+use Rattle.ci_machine.specs.declared.reply.Code.TheVariants.{M5}
+use Rattle.ci_machine.specs.declared.reply.Reply.{Reply}
+use Rattle.ci_machine.specs.State.{State, applied}
+use Rattle.ci_machine.specs.Leases.{renewed, size_after, if_leased, accepted}
+use Rattle.ci_machine_steps.specs.Plans.{Plan, refused}
+use Rattle.ci_machine_steps.specs.Traces.{appended, append_trace}
+use Rattle.ci_machine_steps.specs.Step.{Step, attempt_at, lease_of, trace_of}
+use Rattle.ci_machine_steps.specs.Laws.{is_accepted}
+use Rattle.ci_machine.proofs.Keyed.{has_find}
+use Rattle.ci_machine_steps.proofs.Traces.{its_trace, other_trace}
+use Rattle.ci_machine_laws.specs.Pieces.{GoesBehind}
+
+-- a trace of this size takes so many bytes from this offset, and has the size z then
+pub record Fits (size from count z : ℕ) : Type 0 where
+  pub begins : from ≡ size
+  pub sum : z ≡ size + count
+  pub limited : z ≤ MAX_TRACE_BYTES
+
+fits : (size from count z : ℕ) → size_after size from count ≡ Ok z → Fits size from count z
+fits size from count z =
+    let P : Result ℕ PieceFault → Type 0 = λ r. r ≡ Ok z → Fits size from count z in
+    cond_both (from == size) (if nat_le (size + count) MAX_TRACE_BYTES then Ok (size + count) else Err TraceFull) (Err (WrongOffset size)) P
+    (λ e. cond_both (nat_le (size + count) MAX_TRACE_BYTES) (Ok (size + count)) (Err TraceFull) P
+    (λ l k. let sum : size + count ≡ z = cc in
+    record { begins = eqb-true from size e; sum = sym sum; limited = subst (λ n. n ≤ MAX_TRACE_BYTES) sum (leb-true (size + count) MAX_TRACE_BYTES l) })
+    (λ _ k. absurd (cc)))
+    (λ _ k. absurd (cc))
+
+pub accepted_fits : (renewal : Result ℕ LeaseFault) (size from count z : ℕ) → if_leased renewal (size_after size from count) ≡ Ok z → Fits size from count z
+accepted_fits (Ok seen) size from count z e = fits size from count z e
+accepted_fits (Err fault) size from count z e = absurd (cc)
+
+-- the plan, if it accepts the piece, puts it behind its trace
+abbrev Goes : State → TracePart → Plan → Type 0
+Goes s part plan = is_accepted plan.0.status ≡ true → GoesBehind s (applied plan.1 s) part plan.0
+
+appends : (s : State) (part : TracePart) (now : ℕ) (a : Attempt) → a.id ≡ part.attempt → (r : Result ℕ PieceFault)
+    → ((z : ℕ) → r ≡ Ok z → Fits (length (trace_of s part.attempt)) part.from (length part.bytes) z) → Goes s part (appended a part.bytes now r)
+appends s part now a its (Ok size) fit is =
+    let f = fit size refl in
+    let t = applied (appended a part.bytes now (Ok size)).1 s in
+    let new : Trace = record { attempt = a.id; bytes = part.bytes } in
+    let trace : trace_of t part.attempt ≡ trace_of s part.attempt ++ part.bytes = its_trace new part.attempt s.traces its in
+    let long : size ≡ length (trace_of t part.attempt) = f.sum ∙ sym (ap length trace ∙ length-append (trace_of s part.attempt) part.bytes) in
+    record {
+      begins = f.begins;
+      trace = trace;
+      told = ap (λ n. Some n) long;
+      limited = subst (λ n. n ≤ MAX_TRACE_BYTES) long f.limited;
+      others = λ n d. other_trace new n s.traces (λ e. d (sym e ∙ its));
+    }
+appends s part now a its (Err (Unleased (NotLive state))) fit is = absurd (false≢true is)
+appends s part now a its (Err (Unleased LeaseOver)) fit is = absurd (false≢true is)
+appends s part now a its (Err (WrongOffset size)) fit is = absurd (false≢true is)
+appends s part now a its (Err TraceFull) fit is = absurd (false≢true is)
+
+parts : (s : State) (part : TracePart) (now : ℕ) (o : Option Attempt) → attempt_at s part.attempt ≡ o → Goes s part (append_trace (option_map (lease_of s) o) (length (trace_of s part.attempt)) part now)
+parts s part now None found = λ is. absurd (false≢true is)
+parts s part now (Some a) found =
+    let limit = (lease_of s a).limit in
+    let size = length (trace_of s part.attempt) in
+    let its = eqb-true a.id part.attempt (has_find (λ (b : Attempt). b.id == part.attempt) a s.attempts found).1 in
+    let r = accepted a limit now size part.from (length part.bytes) in
+    cond_both (bytes_eq a.token part.token) (appended a part.bytes now r) (refused M5) (Goes s part)
+    (λ _. appends s part now a its r (accepted_fits (renewed a limit now) size part.from (length part.bytes)))
+    (λ _ is. absurd (false≢true is))
+
+pub goes_behind : (s t : State) (part : TracePart) (now : ℕ) (seed : Seed) (reply : Reply) → Step s (event.Request (AppendTrace part)) now seed (answer.Reply reply) t → reply.status ≡ Accepted → GoesBehind s t part reply
+goes_behind s t part now seed reply step is =
+    let plan : Goes s part (reply, step.changes) = subst (Goes s part) (sym step.happens) (parts s part now (attempt_at s part.attempt) refl) in
+    subst (λ w. GoesBehind s w part reply) (sym step.state) (plan (ap is_accepted is))

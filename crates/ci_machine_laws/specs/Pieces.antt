@@ -1,0 +1,16 @@
+-- What an accepted piece of a trace does.
+use Rattle.std.specs.Prelude.{◌≡◌, ℕ, ◌++◌, ◌≤◌, length, Some}
+use Rattle.ci_machine.specs.declared.limits.TheConstants.{MAX_TRACE_BYTES}
+use Rattle.ci_machine.specs.declared.request.TracePart.{TracePart}
+use Rattle.ci_machine.specs.declared.reply.Reply.{Reply}
+use Rattle.ci_machine.specs.State.{State}
+use Rattle.ci_machine_steps.specs.Step.{trace_of}
+
+-- From the one state to the other the piece goes behind the trace of its attempt, at whose end it begins; the reply tells the size that the
+-- trace has then; and each other trace stays.
+pub record GoesBehind (s t : State) (part : TracePart) (reply : Reply) : Type 0 where
+  pub begins : part.from ≡ length (trace_of s part.attempt)
+  pub trace : trace_of t part.attempt ≡ trace_of s part.attempt ++ part.bytes
+  pub told : reply.range ≡ Some (length (trace_of t part.attempt))
+  pub limited : length (trace_of t part.attempt) ≤ MAX_TRACE_BYTES
+  pub others : (n : ℕ) → (n ≡ part.attempt → ⊥) → trace_of t n ≡ trace_of s n

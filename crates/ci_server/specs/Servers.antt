@@ -1,0 +1,8 @@
+-- What the clauses of the crates above see of a server.
+use Rattle.sqlite.specs.Held.{Held}
+use Rattle.ci_memory.specs.declared.remembering.Remembering.{Remembering}
+use Rattle.ci_server.specs.declared.fail_stop.FailStop.{FailStop}
+
+-- its tables, with what is remembered of them, and whether it is closed
+abbrev pub ServerOver : Type 0 → Type 0
+ServerOver S = FailStop (Remembering (Held S))

@@ -1,0 +1,8 @@
+use Rattle.std.proofs.Common.{◌≡◌, take}
+use Rattle.std.specs.List.{flat_map}
+use Rattle.sqlite.specs.Order.{column}
+use Rattle.ci_store_rows.specs.Load.{bytes_in}
+use Rattle.ci_store_rows.proofs.block.joined.Given as goal
+
+abbrev pub invariant-loop-row : goal.invariant-loop-row
+invariant-loop-row l = l.all.items ≡ flat_map (λ row. bytes_in (column row 2)) (take l.row-index l.rows)
