@@ -2,6 +2,7 @@
 
 use crate::admin::request_of;
 use crate::file::{let_go, make, open};
+use crate::plan::plan;
 use crate::prune::prune;
 use crate::report::report;
 use crate::server::{ask, is_closed};
@@ -11,6 +12,7 @@ use ci_cli_check::{check_word, exit_status};
 use ci_cli_words::line::{BROKEN_OFF, DONE, Line, USAGE, say, say_reply};
 use ci_cli_words::task::{AdminRequest, ServeOptions, Task};
 use ci_cli_words::words::task_of;
+use ci_explain::explain_word;
 use ci_http_routes::paths::Paths;
 use ci_http_service::Server;
 use ci_store::Alter;
@@ -74,6 +76,8 @@ fn perform<C: Clock, R: RandomSource, I: Read + Drop, O: Write, E: Write>(
 ) -> u8 {
     match task {
         Task::Check(file) => exit_status(&check_word(rt, rt.alloc(), file, input, output)),
+        Task::Explain(file) => explain_word(rt, rt.alloc(), file, input, output),
+        Task::Plan(options) => plan(rt, options, input, output),
         Task::Init(file) => init(rt, file, output),
         Task::Send(file, asked) => send(rt, file, *asked, sources, output),
         Task::Report(file, kind) => report(rt, file, *kind, output),

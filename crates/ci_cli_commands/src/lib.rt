@@ -7,6 +7,7 @@ mod admin;
 mod blank;
 mod commands;
 mod file;
+mod plan;
 mod prune;
 mod report;
 mod server;

@@ -1,13 +1,18 @@
 //! What a command line asks for.
 
 use ci_machine::moment::Moment;
+use ci_machine::records::{RefKind, Source};
 use ci_machine::request::RunnerPause;
 
 /// What a command line asks for.
-#[derive(Clone, Copy)]
+#[derive(Drop)]
 pub enum Task<'a> {
     /// To check the CI file at a path, or on standard input for `-`.
     Check(&'a str),
+    /// To tell each fault of the CI file at a path, or on standard input for `-`.
+    Explain(&'a str),
+    /// To tell what a pipeline of a CI file would be.
+    Plan(PlanOptions<'a>),
     /// To make a file for a server.
     Init(&'a str),
     /// To send the server of a file a request.
@@ -18,6 +23,18 @@ pub enum Task<'a> {
     Prune(&'a str, Moment),
     /// To serve requests over a socket.
     Serve(ServeOptions<'a>),
+}
+
+/// The CI file at a path, or on standard input for `-`, and the pipeline that is asked for.
+#[derive(Drop)]
+pub struct PlanOptions<'a> {
+    pub file: &'a str,
+    /// The branch or the tag that it is for, a name.
+    pub git_ref: &'a str,
+    pub kind: RefKind,
+    pub source: Source,
+    /// Names of variables and values; no name comes twice.
+    pub variables: Vec<(&'a str, &'a str)>,
 }
 
 /// What is to be told of a server.

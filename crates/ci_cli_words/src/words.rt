@@ -1,13 +1,16 @@
 //! The words of the command line, which `clap` reads.
 
-ghost use Rattle.std.specs.Prelude.{◌≡◌, Some, IfSome};
+ghost use Rattle.std.specs.Prelude.{◌≡◌, Some, IfOk, IfSome};
 ghost use Rattle.clap.specs.Matches.{subcommand_name_of};
 ghost use Rattle.ci_cli_words.specs.Words.{name_of, admin_name};
 
 use crate::date::midnight_of;
-use crate::task::{AdminRequest, ReportKind, RunnerOptions, ServeOptions, Task};
+use crate::task::{AdminRequest, PlanOptions, ReportKind, RunnerOptions, ServeOptions, Task};
+use ci_machine::records::{RefKind, Source};
 use ci_machine::request::RunnerPause;
+use ci_values::is_variable_name;
 use ci_values::limits::MAX_NUMBER;
+use ci_values::text::is_name;
 use clap::builder::ValueParser;
 use clap::error::ErrorKind;
 use clap::{Arg, ArgAction, ArgMatches, Command, Error};
@@ -16,6 +19,10 @@ use std::alloc::{AllocError, Global};
 const VERSION: &str = "0.1.0";
 
 const CHECK: &str = "check";
+
+const EXPLAIN: &str = "explain";
+
+const PLAN: &str = "plan";
 
 const INIT: &str = "init";
 
@@ -31,8 +38,16 @@ const PRUNE: &str = "prune";
 
 const SERVE: &str = "serve";
 
-/// The name of the argument of `check`.
+/// The name of the argument of `check`, `explain` and `plan`.
 const FILE: &str = "FILE";
+
+const REF: &str = "ref";
+
+const TAG: &str = "tag";
+
+const SOURCE: &str = "source";
+
+const VARIABLE: &str = "variable";
 
 const DB: &str = "db";
 
@@ -67,11 +82,11 @@ const RULES: &str = "The profile, with examples and its codes, is described in d
 pub fn task_of<'a>(alloc: Global, words: &'a [String]) -> Result<Task<'a>, Error> {
     let mut command = command_line(alloc)?;
     let matches = command.try_get_matches_from_mut(words)?;
-    match task_named(&matches) {
+    match task_named(alloc, &matches)? {
         Some(task) => Ok(task),
         None => Err(command.error(
             ErrorKind::InvalidValue,
-            "a command is wanted, whose values don't begin with '-'; a report is of the kind queue, pipeline or runners, and of a pipeline alone --pipeline is given; --before is a date from 1970 on, as 2026-01-31",
+            "a command is wanted, whose values don't begin with '-'; of a plan --ref is a name, --source one of push, web, schedule, api and trigger, and --variable a variable's name, '=' and a value, each name once; a report is of the kind queue, pipeline or runners, and of a pipeline alone --pipeline is given; --before is a date from 1970 on, as 2026-01-31",
         )?),
     }
 }
@@ -84,6 +99,8 @@ fn command_line<'a>(alloc: Global) -> Result<Command<'a>, AllocError> {
         .after_help(RULES)
         .subcommand_required(true)
         .subcommand(check(alloc)?)?
+        .subcommand(explain(alloc)?)?
+        .subcommand(plan(alloc)?)?
         .subcommand(init(alloc)?)?
         .subcommand(project_add(alloc)?)?
         .subcommand(runner_add(alloc)?)?
@@ -93,14 +110,47 @@ fn command_line<'a>(alloc: Global) -> Result<Command<'a>, AllocError> {
         .subcommand(serve(alloc)?)
 }
 
-fn check<'a>(alloc: Global) -> Result<Command<'a>, AllocError> {
-    let file = Arg::new(alloc, FILE)
+/// The argument of a CI file.
+fn file<'a>(alloc: Global) -> Arg<'a> {
+    Arg::new(alloc, FILE)
         .required(true)
-        .help("The path of the CI file, or - for standard input");
+        .help("The path of the CI file, or - for standard input")
+}
+
+fn check<'a>(alloc: Global) -> Result<Command<'a>, AllocError> {
     Command::new(alloc, CHECK)
         .about("Says how many jobs a CI file configures, or why it is refused")
         .after_help(RULES)
-        .arg(file)
+        .arg(file(alloc))
+}
+
+fn explain<'a>(alloc: Global) -> Result<Command<'a>, AllocError> {
+    Command::new(alloc, EXPLAIN)
+        .about("Tells each fault of a CI file, with its line and what to write in its place")
+        .after_help(RULES)
+        .arg(file(alloc))
+}
+
+fn plan<'a>(alloc: Global) -> Result<Command<'a>, AllocError> {
+    let git_ref = option(alloc, REF)
+        .required(true)
+        .help("The branch that the pipeline is for");
+    let tag = flag(alloc, TAG).help("It is for the tag of this name");
+    let source = option(alloc, SOURCE).help(
+        "What asks for it: push, web, schedule, api or trigger [default: api]",
+    );
+    let variable = option(alloc, VARIABLE)
+        .action(ArgAction::Append)
+        .value_name("K=V")
+        .help("A variable of the request; it may stand several times");
+    Command::new(alloc, PLAN)
+        .about("Tells which jobs a pipeline of a CI file would have, or why there is none")
+        .after_help(RULES)
+        .arg(file(alloc))?
+        .arg(git_ref)?
+        .arg(tag)?
+        .arg(source)?
+        .arg(variable)
 }
 
 /// An option that has a value, as `--port N`.
@@ -211,12 +261,28 @@ fn serve<'a>(alloc: Global) -> Result<Command<'a>, AllocError> {
 }
 
 /// What the command asks for that was found among the words, by its name. None where the value of an option begins with `-`, or where
-/// there is no such report, or no such day.
-fn task_named<'a>(matches: &ArgMatches<'a>) -> Option<Task<'a>>
+/// there is no such report, no such day, no such source, or no such name. Errors: memory was refused.
+fn task_named<'a>(alloc: Global, matches: &ArgMatches<'a>) -> Result<Option<Task<'a>>, AllocError>
+    ensures { IfOk result (λ found. IfSome found (λ task. subcommand_name_of matches.now ≡ Some (name_of task))) }
+{
+    match matches.subcommand_matches(PLAN) {
+        Some(found) => {
+            let options = plan_options_in(alloc, found)?;
+            Ok(options.map(Task::Plan))
+        }
+        None => Ok(plain_task_named(matches)),
+    }
+}
+
+/// The same of the other commands.
+fn plain_task_named<'a>(matches: &ArgMatches<'a>) -> Option<Task<'a>>
     ensures { IfSome result (λ task. subcommand_name_of matches.now ≡ Some (name_of task)) }
 {
     if let Some(found) = matches.subcommand_matches(CHECK) {
         return Some(Task::Check(found.get_str(FILE)?));
+    }
+    if let Some(found) = matches.subcommand_matches(EXPLAIN) {
+        return Some(Task::Explain(found.get_str(FILE)?));
     }
     if let Some(found) = matches.subcommand_matches(INIT) {
         return Some(Task::Init(text_in(found, DB)?));
@@ -271,6 +337,80 @@ fn report_kind_in(found: &ArgMatches<'_>) -> Option<ReportKind> {
         ("runners", None) => Some(ReportKind::Runners),
         _ => None,
     }
+}
+
+/// The pipeline that is to be planned. None where its ref is no name, there is no such source, or one of its variables has no name of its
+/// own. Errors: memory was refused.
+fn plan_options_in<'a>(
+    alloc: Global,
+    found: &ArgMatches<'a>,
+) -> Result<Option<PlanOptions<'a>>, AllocError> {
+    match variables_in(alloc, found)? {
+        Some(variables) => Ok(plan_options_with(found, variables)),
+        None => Ok(None),
+    }
+}
+
+fn plan_options_with<'a>(
+    found: &ArgMatches<'a>,
+    variables: Vec<(&'a str, &'a str)>,
+) -> Option<PlanOptions<'a>> {
+    let git_ref = text_in(found, REF)?;
+    if !is_name(git_ref) {
+        return None;
+    }
+    let kind = if found.get_flag(TAG) {
+        RefKind::Tag
+    } else {
+        RefKind::Branch
+    };
+    Some(PlanOptions {
+        file: found.get_str(FILE)?,
+        git_ref,
+        kind,
+        source: source_in(found)?,
+        variables,
+    })
+}
+
+/// What asks for a pipeline; `api` where nothing is said. None where there is no such source.
+fn source_in(found: &ArgMatches<'_>) -> Option<Source> {
+    match found.get_str(SOURCE).unwrap_or("api") {
+        "push" => Some(Source::Push),
+        "web" => Some(Source::Web),
+        "schedule" => Some(Source::Schedule),
+        "api" => Some(Source::Api),
+        "trigger" => Some(Source::Trigger),
+        _ => None,
+    }
+}
+
+/// The variables of a request. None where one has no name of its own. Errors: memory was refused.
+fn variables_in<'a>(
+    alloc: Global,
+    found: &ArgMatches<'a>,
+) -> Result<Option<Vec<(&'a str, &'a str)>>, AllocError> {
+    let mut variables: Vec<(&'a str, &'a str)> = Vec::new(alloc);
+    for text in found.get_strs(VARIABLE).unwrap_or(&[]) {
+        let Some(pair) = text.split_once('=') else {
+            return Ok(None);
+        };
+        if !is_variable_name(pair.0) || is_among(&variables, pair.0) {
+            return Ok(None);
+        }
+        variables.push(pair)?;
+    }
+    Ok(Some(variables))
+}
+
+/// Has one of the variables this name?
+fn is_among(variables: &[(&str, &str)], name: &str) -> bool {
+    for variable in variables {
+        if variable.0 == name {
+            return true;
+        }
+    }
+    false
 }
 
 fn serve_options_in<'a>(found: &ArgMatches<'a>) -> Option<ServeOptions<'a>> {

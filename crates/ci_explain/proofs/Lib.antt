@@ -1,0 +1,4 @@
+mod Judging
+mod Leaving
+mod Saying
+mod Turns

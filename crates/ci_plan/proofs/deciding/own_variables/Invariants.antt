@@ -1,0 +1,7 @@
+use Rattle.std.proofs.Common.{◌≡◌, ◌++◌, drop, map}
+use Rattle.ci_values.specs.Layers.{layer_view}
+use Rattle.ci_config.specs.View.{variable_view}
+use Rattle.ci_plan.proofs.deciding.own_variables.Given as goal
+
+abbrev pub invariant-loop-variable : goal.invariant-loop-variable
+invariant-loop-variable l = layer_view l.pairs.items ++ map variable_view (drop l.variable-index l.job.variables.items) ≡ map variable_view l.job.variables.items

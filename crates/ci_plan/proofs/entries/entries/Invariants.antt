@@ -1,0 +1,10 @@
+use Rattle.std.proofs.Common.{◌≡◌, ◌++◌, drop, map}
+use Rattle.ci_values.specs.Layers.{text_view}
+use Rattle.ci_config.specs.View.{config_view}
+use Rattle.ci_graph_layout.specs.View.{given_view}
+use Rattle.ci_plan.specs.Views.{entry_view, taken_by_stage}
+use Rattle.ci_plan.proofs.entries.entries.Given as goal
+
+abbrev pub invariant-loop-stage : goal.invariant-loop-stage
+invariant-loop-stage l = map entry_view l.entries.items ++ taken_by_stage (given_view l.fn.given) (config_view l.fn.config) (map text_view (drop l.stage-index l.config.stages.items))
+    ≡ taken_by_stage (given_view l.fn.given) (config_view l.fn.config) (map text_view l.config.stages.items)

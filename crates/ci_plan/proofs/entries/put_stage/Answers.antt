@@ -1,0 +1,15 @@
+use Rattle.std.proofs.Common.{subst, sym}
+use Rattle.std.specs.Prelude.{flat_map}
+use Rattle.ci_expr.specs.Answered.{answered, AreAnswered}
+use Rattle.ci_expr.specs.Built.{same_look}
+use Rattle.ci_expr.proofs.Answering.{among-part}
+use Rattle.ci_graph_layout.specs.Searches.{job_looks}
+use Rattle.ci_graph_layout.specs.View.{given_view}
+use Rattle.ci_plan.proofs.entries.put_stage.Goals as goal
+
+pub entry_of-requires : goal.entry_of-requires
+entry_of-requires c =
+    let part = job_looks (given_view c.args.given.now) c.args.config.now in
+    let all : AreAnswered c.args.answers.now (flat_map part c.deref-job-items.result.now) =
+    subst (λ js. AreAnswered c.args.answers.now (flat_map part js)) (sym c.deref-job-items.ensures.value) c.requires in
+    among-part same_look part c.deref-job-items.result.now c.loop-job.job-index c.job-item.result (answered c.args.answers.now) c.loop-job-test.true c.job-item.is all

@@ -1,0 +1,8 @@
+use Rattle.std.proofs.Common.{◌≡◌, ◌++◌, drop, map}
+use Rattle.ci_config.specs.View.{need_view}
+use Rattle.ci_graph_layout.specs.Layout.{needed}
+use Rattle.ci_plan.specs.Views.{lined}
+use Rattle.ci_plan.proofs.places.needed.Given as goal
+
+abbrev pub invariant-loop-need : goal.invariant-loop-need
+invariant-loop-need l = l.found.items ++ needed (lined l.fn.entries) (map need_view (drop l.need-index l.needs)) ≡ needed (lined l.fn.entries) (map need_view l.needs)

@@ -1,0 +1,14 @@
+use Rattle.ci_yaml_lines.specs.TreeView.{value_view}
+use Rattle.ci_config.specs.View.{config_view}
+use Rattle.ci_graph_layout.specs.View.{given_view}
+use Rattle.ci_plan.proofs.Saying.{says_plan, says_fault}
+use Rattle.ci_plan.proofs.verdict.outcome_of_tree.Goals as goal
+
+pub returns-in-Ok-notes : goal.returns-in-Ok-notes
+returns-in-Ok-notes c = λ bytes has.
+    says_plan bytes (value_view c.args.tree.now) (given_view c.args.given.now) (config_view c.in-Ok.config) c.in-Ok-plan.plan c.in-Ok-notes.notes has c.in-Ok.ensures.answer c.in-Ok-plan.ensures
+
+pub returns-in-Ok : goal.returns-in-Ok
+returns-in-Ok c = λ bytes has.
+    says_fault bytes (value_view c.args.tree.now) (given_view c.args.given.now) (config_view c.in-Ok.config) c.in-Err-plan.fault c.refusal.result c.refusal.ensures has
+    c.in-Ok.ensures.answer c.may_refuse_patterns.ensures c.in-Err-plan.ensures

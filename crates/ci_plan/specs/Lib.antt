@@ -1,0 +1,8 @@
+pub mod Rules
+pub mod Planned
+pub mod Circles
+pub mod Faults
+pub mod Said
+pub mod Notes
+pub mod Views
+pub mod TableText

@@ -1,0 +1,28 @@
+-- What is told of each job that a pipeline has.
+use Rattle.std.specs.Prelude.{ℕ, List, [], map, slice_index_or}
+use Rattle.ci_config.specs.Config.{Text, Config}
+use Rattle.ci_graph_layout.specs.Inclusion.{Given, IncludedJob}
+use Rattle.ci_graph_layout.specs.Layout.{lineup, predecessors}
+use Rattle.ci_plan.specs.Rules.{rule_of}
+use Rattle.ci_plan.specs.declared.records.PlannedJob.{PlannedJob}
+
+abbrev pub names : List IncludedJob → List Text
+names is = map (λ i. i.job.name) is
+
+-- the name of the job at a position
+abbrev pub name_at : List IncludedJob → ℕ → Text
+name_at is place = slice_index_or (names is) place []
+
+-- a job of these: the rule that took it in, and the names of those that it waits for
+abbrev pub planned_job : Given → Config → List IncludedJob → IncludedJob → PlannedJob
+planned_job g c is i = record {
+  name = i.job.name;
+  stage = i.job.stage;
+  «when» = i.«when»;
+  rule = rule_of g c i.job;
+  waits_for = map (name_at is) (predecessors c.stages is i);
+}
+
+-- the jobs of the pipeline, in the order of the layout
+abbrev pub planned_jobs : Given → Config → List PlannedJob
+planned_jobs g c = map (planned_job g c (lineup g c)) (lineup g c)

@@ -1,0 +1,111 @@
+-- What is said of a file before a pipeline is made of it.
+use Rattle.std.specs.Prelude.{◌≡◌, ℕ, List, [], Option, Some, None, Result, Ok, Err, IfSome, ◌⊎◌, ⊤}
+use Rattle.std.specs.IoError.{error_kind}
+use Rattle.std.specs.Str.{IsUtf8}
+use Rattle.std.specs.declared.io.Error.{Error}
+use Rattle.ci_yaml.specs.declared.fault.YamlFault.TheVariants as yaml
+use Rattle.ci_expr.specs.declared.fault.ExprCode.TheVariants.{X8}
+use Rattle.ci_config.specs.Config.{Config}
+use Rattle.ci_config.specs.declared.fault.ConfigCode.TheVariants.{K13}
+use Rattle.ci_config.specs.declared.fault.ConfigFault.TheVariants as keywords
+use Rattle.ci_config.specs.Laws.{ConfigLacksPatterns}
+use Rattle.ci_graph_layout.specs.Inclusion.{Given}
+use Rattle.ci_graph_layout.specs.Layout.{lineup, pairs}
+use Rattle.ci_graph_layout.specs.Fault as layout
+use Rattle.ci_graph_layout.specs.Fault.{Plans}
+use Rattle.ci_graph_layout.specs.declared.fault.GraphCode.{GraphCode}
+use Rattle.ci_graph_layout.specs.declared.fault.PlanFault.{PlanFault}
+use Rattle.ci_graph_layout.specs.declared.fault.PlanFault.TheVariants as refused
+use Rattle.ci_graph_layout.specs.declared.planning.PipelinePlan.{PipelinePlan}
+use Rattle.ci_machine.specs.declared.request.NewPipeline.{NewPipeline}
+use Rattle.ci_machine_steps.specs.Files.{IsRead}
+use Rattle.ci_machine_steps.specs.Pipelines.{given_by}
+use Rattle.ci_cli_check.specs.Verdicts.{Fits, FitsText, TellsUnread}
+use Rattle.ci_cli_check.specs.Verdicts.{status as verdict_status}
+use Rattle.ci_cli_check.specs.declared.verdict.Verdict.{Verdict}
+use Rattle.ci_cli_check.specs.declared.verdict.Verdict.TheVariants as check
+use Rattle.ci_plan.specs.Rules.{left_out}
+use Rattle.ci_plan.specs.Planned.{planned_jobs}
+use Rattle.ci_plan.specs.Faults.{code_of, IsAbout}
+use Rattle.ci_plan.specs.declared.records.Plan.{Plan}
+use Rattle.ci_plan.specs.declared.records.PlannedJob.{PlannedJob}
+use Rattle.ci_plan.specs.declared.records.Fault.{Fault}
+use Rattle.ci_plan.specs.declared.verdict.Outcome.{Outcome}
+use Rattle.ci_plan.specs.declared.verdict.Outcome.TheVariants.{Planned, Refused}
+
+-- the layout of the file: the jobs that are included, and the pairs of them
+abbrev pub laid_out : Given → Config → layout.Plan
+laid_out g c = record { jobs = lineup g c; pairs = pairs c.stages (lineup g c) }
+
+-- The file lays out a pipeline, and these are its jobs; or it has this fault, and these are the jobs that the fault is about.
+abbrev pub TellsJobs : Given → Config → Result (List PlannedJob) Fault → Type 0
+TellsJobs g c (Ok jobs) = Plans g c (Ok (laid_out g c)) × (jobs ≡ planned_jobs g c)
+TellsJobs g c (Err fault) = Plans g c (Err (code_of fault)) × IsAbout c.stages (lineup g c) fault
+
+-- this is what a pipeline would be that brings these variables
+pub record Tells (g : Given) (c : Config) (plan : Plan) : Type 0 where
+  pub jobs : TellsJobs g c plan.jobs
+  pub left_out : plan.left_out ≡ left_out g c c.jobs
+
+-- whether the file lays out a pipeline, or the code of its fault; or why that isn't known: memory was refused, or a pattern
+abbrev pub Lays : Given → Config → Result (Option GraphCode) PlanFault → Type 0
+Lays g c (Ok None) = Plans g c (Ok (laid_out g c))
+Lays g c (Ok (Some code)) = Plans g c (Err code)
+Lays g c (Err (refused.Fault code)) = ⊥
+Lays g c (Err refused.Pattern) = ConfigLacksPatterns c → ⊥
+Lays g c (Err refused.Memory) = ⊤
+
+-- what is answered where a plan is asked, without the plan
+abbrev pub fault_in : Result PipelinePlan PlanFault → Result (Option GraphCode) PlanFault
+fault_in (Ok plan) = Ok None
+fault_in (Err (refused.Fault code)) = Ok (Some code)
+fault_in (Err refused.Pattern) = Err refused.Pattern
+fault_in (Err refused.Memory) = Err refused.Memory
+
+-- why nothing is told of a file that can be read: memory was refused, or a pattern
+abbrev pub Gives : Given → Config → Result Plan PlanFault → Type 0
+Gives g c (Ok plan) = Tells g c plan
+Gives g c (Err (refused.Fault code)) = ⊥
+Gives g c (Err refused.Pattern) = ConfigLacksPatterns c → ⊥
+Gives g c (Err refused.Memory) = ⊤
+
+-- the same as the verdict of a check
+abbrev pub refusal : PlanFault → Verdict
+refusal refused.Memory = check.Refused yaml.Memory
+refusal refused.Pattern = check.Misconfigured (keywords.Fault (K13 X8))
+refusal (refused.Fault code) = check.Refused yaml.Memory
+
+abbrev pub IsRefusal : Verdict → Type 0
+IsRefusal (check.Configures jobs) = ⊥
+IsRefusal other = ⊤
+
+-- what is said of a text where these variables are brought
+abbrev pub SaysText : List ℕ → Given → Outcome → Type 0
+SaysText text g (Planned plan notes) = (c : Config) × IsRead text (Ok c) × Tells g c plan
+SaysText text g (Refused verdict) = FitsText text verdict × IsRefusal verdict
+
+-- What is said of the bytes of a file where a pipeline is asked for, of a project without variables: what it would be, by what the file
+-- says; or the verdict of a check, that it is refused.
+abbrev pub Says : List ℕ → NewPipeline → Outcome → Type 0
+Says bytes asked (Planned plan notes) = (c : Config) × IsUtf8 bytes × IsRead bytes (Ok c) × Tells (given_by asked []) c plan
+Says bytes asked (Refused verdict) = Fits bytes verdict × IsRefusal verdict
+
+-- what is said of a file that was opened fits all its bytes, where its reader tells them; of another, why it wasn't opened
+abbrev pub IsSaidOf : {R : Type 0} → (R → Option (List ℕ)) → Result R Error → NewPipeline → Outcome → Type 0
+IsSaidOf remaining (Ok reader) asked outcome = IfSome (remaining reader) (λ bytes. Says bytes asked outcome)
+IsSaidOf remaining (Err fault) asked (Planned plan notes) = ⊥
+IsSaidOf remaining (Err fault) asked (Refused verdict) = TellsUnread (error_kind fault) verdict
+
+-- it is printed as it is, or of a plan that memory was refused
+abbrev pub IsPrintedOf : Outcome → Outcome → Type 0
+IsPrintedOf (Refused verdict) printed = printed ≡ Refused verdict
+IsPrintedOf (Planned plan notes) printed = (printed ≡ Planned plan notes) ⊎ (printed ≡ Refused (check.Refused yaml.Memory))
+
+-- the exit status of a run that tells it: 0 a pipeline, 1 a fault, and of a refused file that of a check
+abbrev pub jobs_status : Result (List PlannedJob) Fault → ℕ
+jobs_status (Ok jobs) = 0
+jobs_status (Err fault) = 1
+
+abbrev pub status : Outcome → ℕ
+status (Planned plan notes) = jobs_status plan.jobs
+status (Refused verdict) = verdict_status verdict
