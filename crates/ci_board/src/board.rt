@@ -136,6 +136,16 @@ impl<L: Ledger> Board<L> {
         Board { graph, facts, rows }
     }
 
+    /// The graph, the facts and the rows of which the board is made.
+    pub fn into_parts(self) -> (Graph<L>, Vec<Facts>, Vec<Row>)
+        ensures graph { result.0 ≡ self.graph }
+        ensures facts { result.1.items ≡ self.facts }
+        ensures rows { result.2.items ≡ self.rows }
+    {
+        let Board { graph, facts, rows } = self;
+        (graph, facts, rows)
+    }
+
     /// The facts of the job at a position.
     pub fn facts(&self, j: usize) -> Facts
         requires { j < length self.now.facts }

@@ -35,6 +35,34 @@ impl<L: Ledger> Model for Graph<L> {
     ghost invariant = { λ g. (0 < g.share.parts) × IsJobGraph (record { parts = g.parts.items; predecessors = g.predecessors.items; successors = g.successors.items; order = g.order.items; meter = g.book.total }) };
 }
 
+/// A graph without a meter, as it is kept from one use of it to the next.
+#[derive(Drop)]
+pub struct Net {
+    parts: Vec<Part>,
+    predecessors: Vec<Positions>,
+    successors: Vec<Positions>,
+    order: Vec<usize>,
+}
+
+impl Model for Net {
+    ghost use Rattle.ci_graph.specs.JobGraph.{JobGraph, IsJobGraph};
+
+    ghost Value = { JobGraph };
+
+    ghost view = { λ n. record { parts = n.parts.items; predecessors = n.predecessors.items; successors = n.successors.items; order = n.order.items; meter = 0 } };
+
+    ghost invariant = { λ n. IsJobGraph (record { parts = n.parts.items; predecessors = n.predecessors.items; successors = n.successors.items; order = n.order.items; meter = 0 }) };
+}
+
+impl Net {
+    /// The number of jobs.
+    pub fn size(&self) -> usize
+        ensures { result ≡ length self.now.parts }
+    {
+        self.parts.len()
+    }
+}
+
 impl<L: Ledger> Graph<L> {
     /// The graph of these parts and pairs of a predecessor and a job; G3 where a walk along the pairs returns to its
     /// start. A pair that comes again counts once. The blank makes the meter.
@@ -71,6 +99,49 @@ impl<L: Ledger> Graph<L> {
             }
             Ok(None) => Err(GraphFault::G3),
             Err(_) => Err(GraphFault::Memory),
+        }
+    }
+
+    /// A graph that was kept, with a meter of its own, which the blank makes.
+    pub fn of_net(blank: Blank, net: Net) -> Graph<L>
+        requires name { blank.name ≡ L.name }
+        requires ledger { blank.parts ≡ L.parts }
+        requires some { 0 < blank.parts }
+        ensures { result ≡ record net { meter = 0 } }
+    {
+        let Net {
+            parts,
+            predecessors,
+            successors,
+            order,
+        } = net;
+        let (book, share) = blank.open::<L>();
+        Graph {
+            parts,
+            predecessors,
+            successors,
+            order,
+            book,
+            share,
+        }
+    }
+
+    /// The graph without its meter.
+    pub fn into_net(self) -> Net
+        ensures { result ≡ record self { meter = 0 } }
+    {
+        let Graph {
+            parts,
+            predecessors,
+            successors,
+            order,
+            ..
+        } = self;
+        Net {
+            parts,
+            predecessors,
+            successors,
+            order,
         }
     }
 

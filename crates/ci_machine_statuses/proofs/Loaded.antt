@@ -19,7 +19,7 @@ use Rattle.ci_machine.proofs.Filters.{filter_implied, find_implied}
 use Rattle.ci_machine_steps.proofs.Sound.{Sound, ascend_from_rising}
 use Rattle.ci_machine_statuses.specs.Lookups.{AreRecords, tally_of, facts_by}
 use Rattle.ci_machine.specs.Statuses.{pairs_among, predecessors_by}
-use Rattle.ci_machine_statuses.specs.Boards.{IsBoardOf}
+use Rattle.ci_machine_statuses.specs.Boards.{IsBoardOf, IsGraphOf}
 use Rattle.ci_machine_statuses.proofs.Puts.{map_same}
 use Rattle.ci_machine_statuses.proofs.Positions.{ascending, has_among}
 use Rattle.ci_machine_statuses.proofs.RowPuts.{map_rises}
@@ -90,6 +90,15 @@ module _ (s : State) (kept : List BoardRow) (p : ℕ) (jobs : List Job) (needs :
         its_facts = facts up ∙ all_facts;
         its_rows = its rows_ascend ∙ (ap (map (row_for rows)) same ∙ all_rows);
       }
+
+  -- and so is a board of the graph of these jobs and needs, and of the pipeline's facts and rows
+  pub is_board_with : (b : BoardState) → IsGraphOf b.graph jobs needs → b.facts ≡ facts_of s p → b.rows ≡ rows_of s kept p → IsBoardOf s kept p b
+  is_board_with b of facts its = record {
+    parts = of.parts ∙ ap (map (λ (j : Job). j.options.part)) records.are_jobs;
+    predecessors = of.predecessors numbers_ascend ∙ its_predecessors;
+    its_facts = facts;
+    its_rows = its;
+  }
 
 -- ---- the range of a pipeline's jobs
 

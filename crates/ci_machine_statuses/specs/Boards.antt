@@ -1,11 +1,21 @@
 -- The board of a pipeline in a state with rows.
-use Rattle.std.specs.Prelude.{◌≡◌, ℕ, List, map}
+use Rattle.std.specs.Prelude.{◌≡◌, ℕ, List, length, map}
+use Rattle.std.specs.Ordering.{nat_cmp}
+use Rattle.std.specs.List.Sorted.{IsStrictlySortedBy}
+use Rattle.ci_graph.specs.JobGraph.{JobGraph}
 use Rattle.ci_graph.specs.Lists.{number_at}
 use Rattle.ci_board.specs.declared.facts.Row.{Row}
 use Rattle.ci_board.specs.Rows.{BoardState, differing, row_at}
+use Rattle.ci_machine.specs.declared.records.Job.{Job}
+use Rattle.ci_machine.specs.declared.records.Need.{Need}
 use Rattle.ci_machine.specs.declared.records.BoardRow.{BoardRow}
 use Rattle.ci_machine.specs.State.{State}
-use Rattle.ci_machine.specs.Statuses.{graph_of, facts_of, rows_of}
+use Rattle.ci_machine.specs.Statuses.{pairs_among, predecessors_by, graph_of, facts_of, rows_of}
+
+-- The graph is that of these jobs with these needs among others: it has their parts and, where they stand by their numbers, their predecessors.
+pub record IsGraphOf (graph : JobGraph) (jobs : List Job) (needs : List Need) : Type 0 where
+  pub parts : graph.parts ≡ map (λ j. j.options.part) jobs
+  pub predecessors : IsStrictlySortedBy nat_cmp (map (λ j. j.id) jobs) → graph.predecessors ≡ predecessors_by (pairs_among (map (λ j. j.id) jobs) needs) (length jobs)
 
 -- A loaded board is that of the pipeline: its graph has the same parts and predecessors, on which alone the rows depend.
 pub record IsBoardOf (s : State) (board : List BoardRow) (pipeline : ℕ) (loaded : BoardState) : Type 0 where

@@ -12,17 +12,18 @@ ghost use Rattle.ci_machine_steps.specs.Sound.{IsSound};
 ghost use Rattle.ci_machine.specs.Ranges.{is_within};
 ghost use Rattle.ci_machine_statuses.specs.Lookups.{tally_of, facts_by, AreRecords};
 ghost use Rattle.ci_machine.specs.Statuses.{pairs_among, predecessors_by};
-ghost use Rattle.ci_machine_statuses.specs.Boards.{IsBoardOf};
+ghost use Rattle.ci_machine_statuses.specs.Boards.{IsBoardOf, IsGraphOf};
 
 use crate::fault::StatusFault;
 use crate::places::{jobs_of_rows, numbers_of, pairs_among, place_of};
 use crate::tally::{facts, tallies};
 use ci_board::board::Board;
 use ci_board::facts::{Facts, Row};
-use ci_graph::graph::Graph;
+use ci_graph::graph::{Graph, Net};
 use ci_graph::part::Part;
 use ci_machine::records::{Attempt, BoardRow, Job, Need};
 use std::alloc::{AllocError, Global};
+use std::marker::Brand;
 use std::sync::ledger::{Blank, Ledger};
 
 /// The numbers of the first job and of the last one, between which a pipeline's records are looked up; none where there are
@@ -69,6 +70,30 @@ pub fn graph_of<L: Ledger>(
     let graph = Graph::new(alloc, blank, parts, pairs.as_slice())?;
     let _size = graph.size();
     Ok(graph)
+}
+
+/// The graph of jobs with at least their needs. Errors: memory was refused, a job waits for one that is none of them, or for itself by way
+/// of others.
+pub fn graph_for(alloc: Global, jobs: &[Job], needs: &[Need]) -> Result<Net, StatusFault>
+    ensures { IfOk result (λ g. IsGraphOf g jobs.now needs.now) }
+{
+    graph_by::<Brand>(alloc, Blank::new(1), jobs, needs)
+}
+
+fn graph_by<L: Ledger>(
+    alloc: Global,
+    blank: Blank,
+    jobs: &[Job],
+    needs: &[Need],
+) -> Result<Net, StatusFault>
+    requires name { blank.name ≡ L.name }
+    requires ledger { blank.parts ≡ L.parts }
+    requires some { 0 < blank.parts }
+    ensures { IfOk result (λ g. IsGraphOf g jobs.now needs.now) }
+{
+    let numbers = numbers_of(alloc, jobs)?;
+    let graph = graph_of::<L>(alloc, blank, jobs, numbers.as_slice(), needs)?;
+    Ok(graph.into_net())
 }
 
 /// The facts of jobs with these numbers. Errors: memory was refused, or more attempts of a job are set aside than it has.

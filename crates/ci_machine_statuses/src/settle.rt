@@ -42,6 +42,7 @@ pub fn settle<L: Ledger>(
 ) -> Result<Vec<BoardRow>, AllocError>
     requires changes { All (λ c. c.position < length board.old.graph.parts) changes.now }
     requires long { length jobs.now ≡ length board.old.graph.parts }
+    ensures graph { OnOk result (board.new.graph ≡ record board.old.graph { meter = board.new.graph.meter }) }
     ensures long { OnOk result (length board.new.rows ≡ length board.old.rows) }
     ensures long_facts { OnOk result (length board.new.facts ≡ length board.old.facts) }
     ensures facts { OnOk result (AreRows board.old.graph board.old.facts board.old.rows → board.new.facts ≡ replaced changes.now board.old.facts) }

@@ -5,9 +5,9 @@ use ci_board::facts::Status::{Created, Failed, Manual, Pending, Running, Skipped
 use ci_graph::part::Part;
 use ci_machine::records::{Attempt, AttemptState, BoardRow, Cause, Job, Need};
 use ci_machine_statuses::creation::rows_of_creation;
-use ci_machine_statuses::end::end_of;
+use ci_machine_statuses::end::{Ended, end_of};
 use ci_machine_statuses::fault::StatusFault;
-use ci_machine_statuses::load::range_of;
+use ci_machine_statuses::load::{graph_for, range_of};
 use ci_machine_statuses::pending::{started, status_of};
 use ci_values::when::When;
 use std::alloc::Global;
@@ -49,6 +49,19 @@ fn attempts_of_first(alloc: Global, count: u64) -> Result<Vec<Attempt>, Fail> {
     Ok(attempts)
 }
 
+// What becomes of jobs with these needs, by a graph that is made of them.
+fn end_with(
+    alloc: Global,
+    jobs: &[Job],
+    needs: &[Need],
+    attempts: &[Attempt],
+    rows: &[BoardRow],
+    after: &Attempt,
+) -> Result<Ended, StatusFault> {
+    let graph = graph_for(alloc, jobs, needs)?;
+    end_of(alloc, graph, jobs, attempts, rows, after)
+}
+
 // The end of the attempt 9 of the job 1, which is its last of so many, puts these rows.
 fn ends(
     rt: &impl Abort,
@@ -61,7 +74,7 @@ fn ends(
     let jobs = three_jobs(alloc, set_aside)?;
     let attempts = attempts_of_first(alloc, attempts)?;
     let after = attempt(alloc, 9, 1, state)?;
-    let settled = end_of(
+    let ended = end_with(
         alloc,
         jobs.as_slice(),
         their_needs().as_slice(),
@@ -69,7 +82,7 @@ fn ends(
         their_rows().as_slice(),
         &after,
     );
-    assert!(rt; matches!(&settled, Ok(settled) if are_same(settled.changed.as_slice(), wanted)));
+    assert!(rt; matches!(&ended, Ok(ended) if are_same(ended.settled.changed.as_slice(), wanted)));
     Ok(())
 }
 
@@ -128,7 +141,7 @@ fn kept_counts_are_taken_as_they_are(rt: HostRuntime) -> Result<(), Fail> {
         row(3, Created, 1, 0, 0),
         row(4, Created, 1, 0, 0),
     ];
-    let settled = end_of(
+    let ended = end_with(
         alloc,
         jobs.as_slice(),
         their_needs().as_slice(),
@@ -137,7 +150,7 @@ fn kept_counts_are_taken_as_they_are(rt: HostRuntime) -> Result<(), Fail> {
         &after,
     );
     assert!(rt;
-        matches!(&settled, Ok(settled) if are_same(settled.changed.as_slice(), wanted.as_slice()))
+        matches!(&ended, Ok(ended) if are_same(ended.settled.changed.as_slice(), wanted.as_slice()))
     );
     Ok(())
 }
@@ -154,7 +167,7 @@ fn is_broken(
     let jobs = three_jobs(alloc, set_aside)?;
     let attempts = attempts_of_first(alloc, 1)?;
     let after = attempt(alloc, 9, ended, AttemptState::Succeeded(None))?;
-    let found = end_of(
+    let found = end_with(
         alloc,
         jobs.as_slice(),
         needs,
@@ -183,6 +196,56 @@ fn what_does_not_fit_is_broken(rt: HostRuntime) -> Result<(), Fail> {
     is_broken(&rt, alloc, 0, needs.as_slice(), &rows[..3], 1)?;
     // the attempt's job is none of them
     is_broken(&rt, alloc, 0, needs.as_slice(), rows.as_slice(), 2)
+}
+
+#[test]
+fn a_graph_serves_the_next_end(rt: HostRuntime) -> Result<(), Fail> {
+    let alloc = rt.alloc();
+    let jobs = three_jobs(alloc, 0)?;
+    let attempts = attempts_of_first(alloc, 1)?;
+    let after = attempt(alloc, 9, 1, AttemptState::Succeeded(Some(0)))?;
+    let first = end_with(
+        alloc,
+        jobs.as_slice(),
+        their_needs().as_slice(),
+        attempts.as_slice(),
+        their_rows().as_slice(),
+        &after,
+    )?;
+    // one runs, and then 3 is pending behind an attempt of its pipeline
+    assert!(rt; first.before == Running && first.then == Running);
+    // the job 3 has an attempt then, and its end opens nothing: 4 runs after a failure alone
+    let mut attempts = Vec::new(alloc);
+    attempts.push(attempt(alloc, 9, 1, AttemptState::Succeeded(Some(0)))?)?;
+    attempts.push(attempt(alloc, 10, 3, AttemptState::Live)?)?;
+    let after = attempt(alloc, 10, 3, AttemptState::Succeeded(Some(0)))?;
+    let rows = [
+        row(1, Success, 0, 0, 0),
+        row(3, Running, 0, 0, 0),
+        row(4, Created, 1, 0, 0),
+    ];
+    let wanted = [row(3, Success, 0, 0, 0), row(4, Skipped, 0, 0, 0)];
+    let second = end_of(
+        alloc,
+        first.graph,
+        jobs.as_slice(),
+        attempts.as_slice(),
+        rows.as_slice(),
+        &after,
+    )?;
+    assert!(rt; are_same(second.settled.changed.as_slice(), wanted.as_slice()));
+    assert!(rt; second.before == Running && second.then == Success);
+    // a graph of three jobs is none of two
+    let found = end_of(
+        alloc,
+        second.graph,
+        &jobs.as_slice()[..2],
+        attempts.as_slice(),
+        rows.as_slice(),
+        &after,
+    );
+    assert!(rt; matches!(found, Err(StatusFault::Broken)));
+    Ok(())
 }
 
 #[test]

@@ -23,12 +23,12 @@ use ci_machine::records::{
 use ci_machine::text::{Bytes, Text};
 use ci_memory_boards::boards::copies_of_jobs;
 use ci_memory_boards::fresh::Fresh;
-use ci_memory_boards::load::sheet_of;
 use ci_memory_leases::due;
 use ci_memory_pipelines::redundant;
 use ci_memory_queue::offer;
 use ci_server_lookups::search::Offer;
 use ci_server_lookups::searches::Searches;
+use ci_server_lookups::sheet::{Sheet, sheet_of, sheet_there};
 use ci_store::delta::Delta;
 use ci_store::fault::StoreFault;
 use ci_store::store::Store;
@@ -266,6 +266,17 @@ impl<T: Store> Searches for Remembering<T> {
     fn first_redundant(&mut self, alloc: Global) -> Result<Option<Pipeline>, StoreFault> {
         learn_fresh(self, alloc)?;
         redundant::first_redundant(alloc, &mut self.store, &mut self.memory.pipelines)
+    }
+
+    fn take_sheet(&mut self, pipeline: u64) -> Result<Sheet, StoreFault> {
+        if let Some(sheet) = self.memory.boards.take(pipeline) {
+            return Ok(sheet);
+        }
+        sheet_there(&mut self.store, pipeline)
+    }
+
+    fn keep_sheet(&mut self, sheet: Sheet) {
+        self.memory.boards.learn(sheet);
     }
 }
 

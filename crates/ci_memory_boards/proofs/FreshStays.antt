@@ -1,8 +1,9 @@
 -- From which numbers on pipelines and jobs are new, after a change; and what is kept of a new one.
-use Rattle.std.specs.Prelude.{◌≡◌, ◌≤◌, ◌<◌, ◌==◌, ℕ, Bool, true, false, not, List, [], ◌∷◌, filter, All, nat_le}
+use Rattle.std.specs.Prelude.{◌≡◌, ◌≤◌, ◌<◌, ◌==◌, ℕ, Bool, true, false, not, List, [], ◌∷◌, filter, All, nat_le, Option, None, IfSome}
 use Rattle.std.specs.Ordering.{nat_cmp, is_eq, ordering_then}
 use Rattle.std.proofs.Common.{sym, subst, ◌∙◌, ⊎_elim, eqb-true, arith}
 use Rattle.std.proofs.lemmas.Bool.{cases_Bool, leb-true}
+use Rattle.ci_graph.specs.JobGraph.{JobGraph}
 use Rattle.ci_machine.specs.declared.change.Key.TheVariants as key
 use Rattle.ci_machine.specs.declared.change.Record.TheVariants as row
 use Rattle.ci_machine.specs.declared.change.RowChange.{RowChange}
@@ -15,10 +16,11 @@ use Rattle.ci_machine.specs.Kept.{Kept, row_cmp, cleared}
 use Rattle.ci_machine.specs.Ranges.{is_within}
 use Rattle.ci_machine.specs.State.{State, job_cmp, need_cmp, attempt_cmp, put, without, without_all, changed}
 use Rattle.ci_machine.proofs.Keyed.{has_filter, has_from_all, All-from_has, filter_none}
+use Rattle.ci_machine_statuses.specs.Boards.{IsGraphOf}
 use Rattle.ci_memory_boards.specs.Fresh.{IsFresh, IsNoLess, IsBefore}
-use Rattle.ci_memory_boards.specs.Sheets.{IsRight}
+use Rattle.ci_server_lookups.specs.Sheets.{IsRight}
 use Rattle.ci_memory_boards.specs.declared.fresh.Fresh.{Fresh}
-use Rattle.ci_memory_boards.specs.declared.sheet.Sheet.{Sheet}
+use Rattle.ci_server_lookups.specs.declared.sheet.Sheet.{Sheet}
 use Rattle.ci_memory_boards.proofs.Lists.{all_put, both}
 
 pub all_then : {A : Type 0} (P Q : A → Type 0) (xs : List A) → ((x : A) → P x → Q x) → All P xs → All Q xs
@@ -100,11 +102,12 @@ outside first last low n h l =
 
 -- an empty sheet of a new pipeline is right
 pub blank_is_right : (f : Fresh) (m : Sheet) (k : Kept) → f.pipeline ≤ m.pipeline → f.job ≤ m.first
-    → m.jobs.items ≡ [] → m.needs.items ≡ [] → m.attempts.items ≡ [] → m.rows.items ≡ [] → IsFresh f k → IsRight m k
-blank_is_right f m k new from jobs needs attempts rows is = record {
+    → m.jobs.items ≡ [] → m.needs.items ≡ [] → m.attempts.items ≡ [] → m.rows.items ≡ [] → m.graph ≡ None → IsFresh f k → IsRight m k
+blank_is_right f m k new from jobs needs attempts rows graph is = record {
   jobs = jobs ∙ sym (filter_none (λ j. j.pipeline == m.pipeline) k.state.jobs (λ j h. ⊎_elim (λ e. let low = has_from_all (λ (x : Job). x.pipeline < f.pipeline) j k.state.jobs is.jobs h in let same = eqb-true j.pipeline m.pipeline e in absurd (omega (arith, low, same, new))) (λ e. e) (cases_Bool (j.pipeline == m.pipeline))));
   inside = subst (All (λ j. is_within m.first m.last j.id ≡ true)) (sym jobs) (All-from_has (λ (j : Job). is_within m.first m.last j.id ≡ true) [] (λ j h. absurd h));
   needs = needs ∙ sym (filter_none (λ w. is_within m.first m.last w.job) k.state.needs (λ w h. outside m.first m.last f.job w.job from (has_from_all (λ (x : Need). x.job < f.job) w k.state.needs is.needs h)));
   attempts = attempts ∙ sym (filter_none (λ a. is_within m.first m.last a.job) k.state.attempts (λ a h. outside m.first m.last f.job a.job from (has_from_all (λ (x : Attempt). x.job < f.job) a k.state.attempts is.attempts h)));
   rows = rows ∙ sym (filter_none (λ r. is_within m.first m.last r.job) k.board (λ r h. outside m.first m.last f.job r.job from (has_from_all (λ (x : BoardRow). x.job < f.job) r k.board is.rows h)));
+  graph = subst (λ (o : Option JobGraph). IfSome o (λ g. IsGraphOf g m.jobs.items m.needs.items)) (sym graph) tt;
 }

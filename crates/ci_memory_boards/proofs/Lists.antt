@@ -52,6 +52,10 @@ pub on_some_then : {A P Q : Type 0} (o : Option A) → OnSome o P → (P → Q) 
 on_some_then None p f = tt
 on_some_then (Some x) p f = f p
 
+pub both_some : {A : Type 0} (P Q : Type 0) (o : Option A) → OnSome o P → OnSome o Q → OnSome o (P × Q)
+both_some P Q None p q = tt
+both_some P Q (Some x) p q = (p, q)
+
 pub ok_if_some : {A E : Type 0} (r : Result A E) (x : A) → result_ok r ≡ Some x → is_ok r ≡ true
 ok_if_some (Ok y) x e = refl
 ok_if_some (Err w) x e = cc

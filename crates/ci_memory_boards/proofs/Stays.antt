@@ -25,8 +25,9 @@ use Rattle.ci_machine.proofs.Keyed.{Has, Rising, filter_has, has_from_all, risin
 use Rattle.ci_machine_steps.proofs.Sound.{ascend_from_rising, rising_from_ascend}
 use Rattle.ci_server_lookups.proofs.Changes.{state_stays, board_stays}
 use Rattle.ci_memory_boards.specs.Order.{InOrder}
-use Rattle.ci_memory_boards.specs.declared.sheet.Sheet.{Sheet}
-use Rattle.ci_memory_boards.specs.Sheets.{IsRight, owns, own_job, touches, attempt_put}
+use Rattle.ci_server_lookups.specs.declared.sheet.Sheet.{Sheet}
+use Rattle.ci_memory_boards.specs.Sheets.{owns, own_job, touches, attempt_put}
+use Rattle.ci_server_lookups.specs.Sheets.{IsRight}
 use Rattle.ci_memory_boards.proofs.Lists.{other_put}
 
 -- of two truths of which neither holds
@@ -85,13 +86,13 @@ module _ (m : Sheet) (k : Kept) (right : IsRight m k) where
 
   -- with other jobs, needs or attempts that are the same between the two numbers
   with_jobs : (js : List Job) → filter its js ≡ filter its k.state.jobs → IsRight m (record k { state = record k.state { jobs = js } })
-  with_jobs js same = record { jobs = right.jobs ∙ sym same; inside = right.inside; needs = right.needs; attempts = right.attempts; rows = right.rows }
+  with_jobs js same = record { jobs = right.jobs ∙ sym same; inside = right.inside; needs = right.needs; attempts = right.attempts; rows = right.rows; graph = right.graph }
 
   with_needs : (ws : List Need) → filter of_need ws ≡ filter of_need k.state.needs → IsRight m (record k { state = record k.state { needs = ws } })
-  with_needs ws same = record { jobs = right.jobs; inside = right.inside; needs = right.needs ∙ sym same; attempts = right.attempts; rows = right.rows }
+  with_needs ws same = record { jobs = right.jobs; inside = right.inside; needs = right.needs ∙ sym same; attempts = right.attempts; rows = right.rows; graph = right.graph }
 
   with_attempts : (xs : List Attempt) → filter of_attempt xs ≡ filter of_attempt k.state.attempts → IsRight m (record k { state = record k.state { attempts = xs } })
-  with_attempts xs same = record { jobs = right.jobs; inside = right.inside; needs = right.needs; attempts = right.attempts ∙ sym same; rows = right.rows }
+  with_attempts xs same = record { jobs = right.jobs; inside = right.inside; needs = right.needs; attempts = right.attempts ∙ sym same; rows = right.rows; graph = right.graph }
 
   -- an attempt that is none of those of its jobs, before or after
   pub attempt_elsewhere : (x : Attempt) → is_within m.first m.last x.job ≡ false → list_any (λ a. a.id == x.id) m.attempts.items ≡ false → IsRight m (record k { state = changed (Put (row.Attempt x)) k.state })
@@ -102,26 +103,26 @@ module _ (m : Sheet) (k : Kept) (right : IsRight m k) where
 
   -- a change that doesn't touch it, and puts no attempt
   pub stays : (c : RowChange) → touches m c ≡ false → attempt_put c ≡ None → IsRight m (record k { state = changed c k.state })
-  stays (Put (row.Project x)) e never = record { jobs = right.jobs; inside = right.inside; needs = right.needs; attempts = right.attempts; rows = right.rows }
-  stays (Put (row.Variable x)) e never = record { jobs = right.jobs; inside = right.inside; needs = right.needs; attempts = right.attempts; rows = right.rows }
-  stays (Put (row.Runner x)) e never = record { jobs = right.jobs; inside = right.inside; needs = right.needs; attempts = right.attempts; rows = right.rows }
-  stays (Put (row.Pipeline x)) e never = record { jobs = right.jobs; inside = right.inside; needs = right.needs; attempts = right.attempts; rows = right.rows }
+  stays (Put (row.Project x)) e never = record { jobs = right.jobs; inside = right.inside; needs = right.needs; attempts = right.attempts; rows = right.rows; graph = right.graph }
+  stays (Put (row.Variable x)) e never = record { jobs = right.jobs; inside = right.inside; needs = right.needs; attempts = right.attempts; rows = right.rows; graph = right.graph }
+  stays (Put (row.Runner x)) e never = record { jobs = right.jobs; inside = right.inside; needs = right.needs; attempts = right.attempts; rows = right.rows; graph = right.graph }
+  stays (Put (row.Pipeline x)) e never = record { jobs = right.jobs; inside = right.inside; needs = right.needs; attempts = right.attempts; rows = right.rows; graph = right.graph }
   stays (Put (row.Job x)) e never =
       with_jobs (put job_cmp x k.state.jobs)
       (other_put job_cmp its x k.state.jobs (first (its x) (is_within m.first m.last x.id) e) (λ y has is. key_apart m.first m.last y.id x.id (inside y has is) (later (its x) (is_within m.first m.last x.id) e)))
-  stays (Put (row.JobVariable x)) e never = record { jobs = right.jobs; inside = right.inside; needs = right.needs; attempts = right.attempts; rows = right.rows }
+  stays (Put (row.JobVariable x)) e never = record { jobs = right.jobs; inside = right.inside; needs = right.needs; attempts = right.attempts; rows = right.rows; graph = right.graph }
   stays (Put (row.Need x)) e never = with_needs (put need_cmp x k.state.needs) (other_put need_cmp of_need x k.state.needs e (λ y has is. then_apart m.first m.last y.job x.job y.pred x.pred is e))
   stays (Put (row.Attempt x)) e never = absurd (some_not_none never)
-  stays (Put (row.Next counter n)) e never = record { jobs = right.jobs; inside = right.inside; needs = right.needs; attempts = right.attempts; rows = right.rows }
-  stays (Append x) e never = record { jobs = right.jobs; inside = right.inside; needs = right.needs; attempts = right.attempts; rows = right.rows }
-  stays (Remove (key.Project n)) e never = record { jobs = right.jobs; inside = right.inside; needs = right.needs; attempts = right.attempts; rows = right.rows }
-  stays (Remove (key.Variable n t)) e never = record { jobs = right.jobs; inside = right.inside; needs = right.needs; attempts = right.attempts; rows = right.rows }
-  stays (Remove (key.Runner n)) e never = record { jobs = right.jobs; inside = right.inside; needs = right.needs; attempts = right.attempts; rows = right.rows }
-  stays (Remove (key.Pipeline n)) e never = record { jobs = right.jobs; inside = right.inside; needs = right.needs; attempts = right.attempts; rows = right.rows }
+  stays (Put (row.Next counter n)) e never = record { jobs = right.jobs; inside = right.inside; needs = right.needs; attempts = right.attempts; rows = right.rows; graph = right.graph }
+  stays (Append x) e never = record { jobs = right.jobs; inside = right.inside; needs = right.needs; attempts = right.attempts; rows = right.rows; graph = right.graph }
+  stays (Remove (key.Project n)) e never = record { jobs = right.jobs; inside = right.inside; needs = right.needs; attempts = right.attempts; rows = right.rows; graph = right.graph }
+  stays (Remove (key.Variable n t)) e never = record { jobs = right.jobs; inside = right.inside; needs = right.needs; attempts = right.attempts; rows = right.rows; graph = right.graph }
+  stays (Remove (key.Runner n)) e never = record { jobs = right.jobs; inside = right.inside; needs = right.needs; attempts = right.attempts; rows = right.rows; graph = right.graph }
+  stays (Remove (key.Pipeline n)) e never = record { jobs = right.jobs; inside = right.inside; needs = right.needs; attempts = right.attempts; rows = right.rows; graph = right.graph }
   stays (Remove (key.Job n)) e never =
       with_jobs (without (λ j. j.id) n k.state.jobs) (filter_implied its (λ y. not (is_eq (nat_cmp y.id n))) k.state.jobs (λ y has is. key_apart m.first m.last y.id n (inside y has is) e))
-  stays (Remove (key.JobVariable n t)) e never = record { jobs = right.jobs; inside = right.inside; needs = right.needs; attempts = right.attempts; rows = right.rows }
-  stays (Remove (key.JobVariables n)) e never = record { jobs = right.jobs; inside = right.inside; needs = right.needs; attempts = right.attempts; rows = right.rows }
+  stays (Remove (key.JobVariable n t)) e never = record { jobs = right.jobs; inside = right.inside; needs = right.needs; attempts = right.attempts; rows = right.rows; graph = right.graph }
+  stays (Remove (key.JobVariables n)) e never = record { jobs = right.jobs; inside = right.inside; needs = right.needs; attempts = right.attempts; rows = right.rows; graph = right.graph }
   stays (Remove (key.Need n p)) e never =
       with_needs (filter (λ w. not (is_eq (ordering_then (nat_cmp w.job n) (nat_cmp w.pred p)))) k.state.needs)
       (filter_implied of_need (λ w. not (is_eq (ordering_then (nat_cmp w.job n) (nat_cmp w.pred p)))) k.state.needs (λ y has is. then_apart m.first m.last y.job n y.pred p is e))
@@ -130,7 +131,7 @@ module _ (m : Sheet) (k : Kept) (right : IsRight m k) where
       with_attempts (without (λ a. a.id) n k.state.attempts)
       (filter_implied of_attempt (λ a. not (is_eq (nat_cmp a.id n))) k.state.attempts
       (λ y has is. none_has n y m.attempts.items e (subst (λ (l : List Attempt). Has y l) (sym right.attempts) (filter_has of_attempt y k.state.attempts has is))))
-  stays (Remove (key.Trace n)) e never = record { jobs = right.jobs; inside = right.inside; needs = right.needs; attempts = right.attempts; rows = right.rows }
+  stays (Remove (key.Trace n)) e never = record { jobs = right.jobs; inside = right.inside; needs = right.needs; attempts = right.attempts; rows = right.rows; graph = right.graph }
 
 -- the change that puts an attempt
 pub put_of : (c : RowChange) (a : Attempt) → attempt_put c ≡ Some a → c ≡ Put (row.Attempt a)
@@ -315,7 +316,7 @@ rows_gone low high (n ∷ jobs) board none =
 
 pub right_cleared : (m : Sheet) (k : Kept) (gone : List ℕ) → list_any (is_within m.first m.last) gone ≡ false → IsRight m k → IsRight m (cleared gone k)
 right_cleared m k gone none right =
-    record { jobs = right.jobs; inside = right.inside; needs = right.needs; attempts = right.attempts; rows = right.rows ∙ sym (rows_gone m.first m.last gone k.board none) }
+    record { jobs = right.jobs; inside = right.inside; needs = right.needs; attempts = right.attempts; rows = right.rows ∙ sym (rows_gone m.first m.last gone k.board none); graph = right.graph }
 
 -- being right is of the state and of the rows alone
 pub right_same : (m : Sheet) (k l : Kept) → l.state ≡ k.state → l.board ≡ k.board → IsRight m k → IsRight m l
@@ -325,4 +326,5 @@ right_same m k l s b right = record {
   needs = right.needs ∙ sym (ap (λ (t : State). needs_within m.first m.last t.needs) s);
   attempts = right.attempts ∙ sym (ap (λ (t : State). attempts_within m.first m.last t.attempts) s);
   rows = right.rows ∙ sym (ap (rows_within m.first m.last) b);
+  graph = right.graph;
 }

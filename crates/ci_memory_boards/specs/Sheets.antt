@@ -1,27 +1,18 @@
 -- The records of pipelines as they are remembered, and when that is right.
-use Rattle.std.specs.Prelude.{◌≡◌, ◌==◌, ◌||◌, ◌&&◌, if◌then◌else◌, Bool, true, false, All, Option, Some, None, IfSome}
+use Rattle.std.specs.Prelude.{◌==◌, ◌||◌, ◌&&◌, if◌then◌else◌, Bool, false, All, Option, Some, None, IfSome}
 use Rattle.std.specs.List.{list_any}
 use Rattle.ci_machine.specs.Kept.{Kept}
-use Rattle.ci_machine.specs.Ranges.{is_within, needs_within, attempts_within, rows_within}
-use Rattle.ci_machine.specs.Statuses.{jobs_of}
+use Rattle.ci_machine.specs.Ranges.{is_within}
 use Rattle.ci_machine.specs.declared.change.Key.TheVariants as key
 use Rattle.ci_machine.specs.declared.change.Record.TheVariants as row
 use Rattle.ci_machine.specs.declared.change.RowChange.{RowChange}
 use Rattle.ci_machine.specs.declared.change.RowChange.TheVariants.{Put, Remove}
 use Rattle.ci_machine.specs.declared.records.Attempt.{Attempt}
 use Rattle.ci_machine.specs.declared.records.Job.{Job}
+use Rattle.ci_server_lookups.specs.Sheets.{IsRight}
+use Rattle.ci_server_lookups.specs.declared.sheet.Sheet.{Sheet}
 use Rattle.ci_memory_boards.specs.Fresh.{IsFresh}
 use Rattle.ci_memory_boards.specs.declared.boards.Boards.{Boards}
-use Rattle.ci_memory_boards.specs.declared.sheet.Sheet.{Sheet}
-
--- What is remembered of a pipeline is right: its jobs, which stand between the two numbers; and the needs, the attempts and the rows of
--- the jobs between these.
-pub record IsRight (m : Sheet) (k : Kept) : Type 0 where
-  pub jobs : m.jobs.items ≡ jobs_of k.state m.pipeline
-  pub inside : All (λ j. is_within m.first m.last j.id ≡ true) m.jobs.items
-  pub needs : m.needs.items ≡ needs_within m.first m.last k.state.needs
-  pub attempts : m.attempts.items ≡ attempts_within m.first m.last k.state.attempts
-  pub rows : m.rows.items ≡ rows_within m.first m.last k.board
 
 -- The change is of a job of the pipeline or between the two numbers, or of what such a job waits for; or an attempt goes that is
 -- remembered, or comes to be of a job that isn't.

@@ -1,6 +1,6 @@
 //! What is remembered still of a pipeline after a commit.
 
-ghost use Rattle.std.specs.Prelude.{◌≡◌, ◌==◌, ℕ, List, map, IfSome, OnSome};
+ghost use Rattle.std.specs.Prelude.{◌≡◌, ◌==◌, ℕ, List, None, map, IfSome, OnSome};
 ghost use Rattle.std.specs.List.{list_any};
 ghost use Rattle.std.specs.Option.{option_copied};
 ghost use Rattle.std.specs.Ordering.{nat_cmp};
@@ -11,12 +11,14 @@ ghost use Rattle.ci_machine.specs.Kept.{Kept, row_cmp, put_rows, cleared, writte
 ghost use Rattle.ci_machine.specs.Ranges.{is_within};
 ghost use Rattle.ci_machine.specs.State.{job_cmp, attempt_cmp, put, with_record, changed, applied};
 ghost use Rattle.ci_memory_boards.specs.Order.{InOrder};
-ghost use Rattle.ci_memory_boards.specs.Sheets.{IsRight, attempt_put};
+ghost use Rattle.ci_memory_boards.specs.Sheets.{attempt_put};
+ghost use Rattle.ci_server_lookups.specs.Sheets.{IsRight};
 
 use crate::puts::{put_attempt, put_job, put_row};
-use crate::sheet::Sheet;
+use crate::touch::{own_job, touches};
 use ci_machine::change::{Record, RowChange};
 use ci_machine::records::{Attempt, BoardRow, Job};
+use ci_server_lookups::sheet::Sheet;
 
 /// What is remembered of a pipeline after the rows of these jobs went, these changes were made and these rows were put: jobs of it, attempts
 /// and rows are put among those that are remembered. None, so that it is forgotten, where anything else of it changes or memory is refused.
@@ -54,10 +56,19 @@ fn after_changes(sheet: Sheet, changes: &[RowChange]) -> Option<Sheet>
 fn note_change(sheet: &mut Sheet, change: &RowChange) -> Option<()>
     ensures { OnSome result ((k : Kept) → InOrder k → IsRight sheet.old k → IsRight sheet.new (record k { state = changed change.now k.state })) }
 {
-    match sheet.own_job(change) {
-        Some(job) => put_copy_of_job(&mut sheet.jobs, job),
+    match own_job(sheet, change) {
+        Some(job) => note_job(sheet, job),
         None => note_other(sheet, change),
     }
+}
+
+/// A job of the pipeline's between the two numbers that is put. It may have other rules for those behind it, so the graph goes.
+fn note_job(sheet: &mut Sheet, job: &Job) -> Option<()>
+    ensures same { OnSome result (sheet.new ≡ record sheet.old { jobs = sheet.new.jobs; graph = None }) }
+    ensures jobs { OnSome result (sheet.new.jobs.items ≡ put job_cmp job.now sheet.old.jobs.items) }
+{
+    sheet.graph = None;
+    put_copy_of_job(&mut sheet.jobs, job)
 }
 
 fn put_copy_of_job(jobs: &mut Vec<Job>, job: &Job) -> Option<()>
@@ -70,7 +81,7 @@ fn put_copy_of_job(jobs: &mut Vec<Job>, job: &Job) -> Option<()>
 fn note_other(sheet: &mut Sheet, change: &RowChange) -> Option<()>
     ensures { OnSome result ((k : Kept) → IsStrictlySortedBy nat_cmp (map (λ a. a.id) k.state.attempts) → IsRight sheet.old k → IsRight sheet.new (record k { state = changed change.now k.state })) }
 {
-    if sheet.touches(change) {
+    if touches(sheet, change) {
         return None;
     }
     match attempt_put(change) {

@@ -10,14 +10,15 @@ ghost use Rattle.ci_machine.specs.Ranges.{needs_within, attempts_within, rows_wi
 ghost use Rattle.ci_machine.specs.Statuses.{jobs_of};
 ghost use Rattle.ci_memory_boards.specs.Fresh.{IsFresh};
 ghost use Rattle.ci_memory_boards.specs.Order.{InOrder};
-ghost use Rattle.ci_memory_boards.specs.Sheets.{IsRight, AreRight};
+ghost use Rattle.ci_memory_boards.specs.Sheets.{AreRight};
+ghost use Rattle.ci_server_lookups.specs.Sheets.{IsRight};
 
 use crate::after::sheet_after;
 use crate::fresh::Fresh;
 use crate::one::{attempt_in, job_in, row_in};
-use crate::sheet::Sheet;
 use ci_machine::change::RowChange;
 use ci_machine::records::{Attempt, BoardRow, Job, Need};
+use ci_server_lookups::sheet::Sheet;
 
 /// Of how many pipelines the records are remembered, at most. With one more that goes which was learned first.
 pub const MAX_SHEETS: usize = 32;
@@ -46,6 +47,17 @@ impl Boards {
         ensures { (k : Kept) → AreRight self.old k → IsRight sheet k → AreRight self.new k }
     {
         self.sheets = and_one(self.sheets.take(), sheet);
+    }
+
+    /// Takes the records of a pipeline out of what is remembered, where they are.
+    pub fn take(&mut self, pipeline: u64) -> Option<Sheet>
+        ensures right { (k : Kept) → AreRight self.old k → AreRight self.new k }
+        ensures taken { IfSome result (λ m. (k : Kept) → AreRight self.old k → IsRight m k × (m.pipeline ≡ pipeline)) }
+    {
+        match &mut self.sheets {
+            Some(sheets) => take_out(sheets, pipeline),
+            None => None,
+        }
     }
 
     /// Remembers from which numbers on pipelines and jobs are new: of one that a commit makes then all is remembered from its beginning.
@@ -245,6 +257,14 @@ fn add(left: &mut Vec<Sheet>, sheet: Option<Sheet>) -> Option<()>
         Some(sheet) => left.push(sheet).ok(),
         None => Some(()),
     }
+}
+
+fn take_out(sheets: &mut Vec<Sheet>, pipeline: u64) -> Option<Sheet>
+    ensures right { (k : Kept) → All (λ m. IsRight m k) sheets.old.items → All (λ m. IsRight m k) sheets.new.items }
+    ensures taken { IfSome result (λ m. (k : Kept) → All (λ m. IsRight m k) sheets.old.items → IsRight m k × (m.pipeline ≡ pipeline)) }
+{
+    let place = sheets.iter().position(|sheet| sheet.pipeline == pipeline)?;
+    Some(sheets.remove(place))
 }
 
 fn of_pipeline(sheets: &[Sheet], pipeline: u64) -> Option<&Sheet>

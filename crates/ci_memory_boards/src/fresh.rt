@@ -1,15 +1,15 @@
 //! From which numbers on pipelines and jobs are new: so all records of one that comes to be are known without a look-up.
 
-ghost use Rattle.std.specs.Prelude.{◌≡◌, ◌≤◌, ◌<◌, [], ℕ, List, IfSome, IsTrue};
+ghost use Rattle.std.specs.Prelude.{◌≡◌, ◌≤◌, ◌<◌, [], ℕ, List, None, IfSome, IsTrue};
 ghost use Rattle.ci_machine.specs.declared.change.IndexChange.{IndexChange};
 ghost use Rattle.ci_machine.specs.Kept.{Kept, put_rows, cleared, written};
 ghost use Rattle.ci_machine.specs.State.{changed, applied};
 ghost use Rattle.ci_memory_boards.specs.Fresh.{IsFresh, IsNoLess, IsBefore};
-ghost use Rattle.ci_memory_boards.specs.Sheets.{IsRight};
+ghost use Rattle.ci_server_lookups.specs.Sheets.{IsRight};
 
-use crate::sheet::Sheet;
 use ci_machine::change::{Record, RowChange};
 use ci_machine::records::{BoardRow, Job};
+use ci_server_lookups::sheet::Sheet;
 use std::alloc::Global;
 
 /// From which numbers on pipelines and jobs are new.
@@ -47,6 +47,7 @@ impl Fresh {
     fn empty_sheet(&self, pipeline: u64, first: u64, last: u64) -> Sheet
         ensures of { (result.pipeline ≡ pipeline) × (result.first ≡ first) × (result.last ≡ last) }
         ensures empty { (result.jobs.items ≡ []) × (result.needs.items ≡ []) × (result.attempts.items ≡ []) × (result.rows.items ≡ []) }
+        ensures graph { result.graph ≡ None }
     {
         Sheet {
             pipeline,
@@ -56,6 +57,7 @@ impl Fresh {
             needs: Vec::new(self.alloc),
             attempts: Vec::new(self.alloc),
             rows: Vec::new(self.alloc),
+            graph: None,
         }
     }
 

@@ -5,7 +5,6 @@
 mod after;
 pub mod boards;
 pub mod fresh;
-pub mod load;
 mod one;
 mod puts;
-pub mod sheet;
+mod touch;

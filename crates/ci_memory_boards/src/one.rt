@@ -7,10 +7,10 @@ ghost use Rattle.ci_machine.specs.Kept.{Kept};
 ghost use Rattle.ci_machine.specs.Lookups.{job_at, attempt_at};
 ghost use Rattle.ci_machine.specs.Ranges.{is_within, row_at};
 ghost use Rattle.ci_memory_boards.specs.Order.{InOrder};
-ghost use Rattle.ci_memory_boards.specs.Sheets.{IsRight};
+ghost use Rattle.ci_server_lookups.specs.Sheets.{IsRight};
 
-use crate::sheet::Sheet;
 use ci_machine::records::{Attempt, BoardRow, Job};
+use ci_server_lookups::sheet::Sheet;
 
 /// The row of a job.
 pub(crate) fn row_in(sheets: &[Sheet], job: u64) -> Option<BoardRow>

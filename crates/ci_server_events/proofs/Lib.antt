@@ -8,3 +8,4 @@ pub mod Creating
 pub mod Settles
 pub mod Acting
 pub mod Pruning
+pub mod Sheets

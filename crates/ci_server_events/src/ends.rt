@@ -1,6 +1,6 @@
 //! What changes beside the records where an attempt ends.
 
-ghost use Rattle.std.specs.Prelude.{◌≡◌, ◌==◌, ℕ, ◌∷◌, [], false, find, Ok, Err, Some, IfOk, IfErr};
+ghost use Rattle.std.specs.Prelude.{◌≡◌, ◌==◌, ℕ, ◌∷◌, [], false, find, Ok, Err, Some, None, IfOk, IfErr, OnOk};
 ghost use Rattle.std.specs.Option.{option_copied};
 ghost use Rattle.ci_machine.specs.declared.change.Record.TheVariants as row;
 ghost use Rattle.ci_machine.specs.declared.change.RowChange.TheVariants.{Put};
@@ -9,33 +9,40 @@ ghost use Rattle.ci_machine.specs.Kept.{Kept};
 ghost use Rattle.ci_machine.specs.Leases.{is_live};
 ghost use Rattle.ci_machine.specs.Statuses.{jobs_of, facts_of, rows_of};
 ghost use Rattle.ci_machine_steps.specs.Step.{pipeline_at};
+ghost use Rattle.ci_machine.specs.declared.records.Job.{Job};
+ghost use Rattle.ci_machine_statuses.specs.Boards.{IsGraphOf};
 ghost use Rattle.ci_machine_statuses.specs.Changes.{HasLive};
+ghost use Rattle.ci_machine_statuses.specs.HolderChanges.{of_pipeline};
 ghost use Rattle.ci_store.specs.Store.{LoadsBy};
 ghost use Rattle.ci_server_lookups.specs.Records.{AreOf};
 ghost use Rattle.ci_server_lookups.specs.Keeps.{IsKept};
+ghost use Rattle.ci_server_lookups.specs.Sheets.{IsRight};
 ghost use Rattle.ci_server_events.specs.Planning.{Settles, MovesOne, attempt_ended, as_store_fault};
 
 use crate::planned::Beside;
 use crate::shows::loaded;
 use ci_board::facts::Status;
-use ci_machine::change::{Changes, Record, RowChange};
+use ci_graph::graph::Net;
+use ci_machine::change::{Changes, IndexChange, Record, RowChange};
 use ci_machine::records::{Attempt, Job, Pipeline};
 use ci_machine_plans::body::status_of;
-use ci_machine_statuses::end::end_of;
+use ci_machine_statuses::end::{Ended, end_of};
 use ci_machine_statuses::fault::StatusFault;
 use ci_machine_statuses::holder_laws::{end_is_indexed, indexes_stay};
 use ci_machine_statuses::laws::rows_stay;
+use ci_machine_statuses::load::graph_for;
 use ci_machine_statuses::unfinished::of_pipeline;
-use ci_server_lookups::records::{Records, records_of};
+use ci_server_lookups::records::Records;
+use ci_server_lookups::searches::Searches;
+use ci_server_lookups::sheet::Sheet;
 use ci_store::fault::StoreFault;
-use ci_store::store::Store;
 use std::alloc::Global;
 use std::slice;
 
 /// What changes beside changes that are none, or that put a live attempt of a job of this pipeline as it stands then: nothing where
 /// it is live still, and else the rows of its job and of the jobs behind it that differ, its resource group, which is free, and its
 /// pipeline where that is finished then.
-pub(crate) fn beside_changes<T: Store>(
+pub(crate) fn beside_changes<T: Searches>(
     alloc: Global,
     store: &mut T,
     pipeline: u64,
@@ -62,8 +69,9 @@ fn attempt_ended(changes: &Changes) -> Option<&Attempt>
     }
 }
 
-/// What changes beside a live attempt of a job of this pipeline that has ended so.
-fn beside_end<T: Store>(
+/// What changes beside a live attempt of a job of this pipeline that has ended so. What is remembered of the pipeline is taken for it, and
+/// kept again with the graph of its jobs.
+fn beside_end<T: Searches>(
     alloc: Global,
     store: &mut T,
     pipeline: u64,
@@ -72,56 +80,87 @@ fn beside_end<T: Store>(
     ensures { LoadsBy T.honest T.holds T.leaves store.old store.new result
         (λ k b. IsKept k → HasLive k.state after.now → is_live after.now ≡ false → Settles k (Put (row.Attempt after.now) ∷ []) b) }
 {
-    let records = records_of(store, pipeline)?;
+    let sheet = store.take_sheet(pipeline)?;
     let Some(pipeline) = store.pipeline(pipeline)? else {
         return Err(StoreFault::Broken);
     };
-    ended(alloc, &pipeline, &records, after)
+    let (beside, sheet) = ended(alloc, &pipeline, sheet, after)?;
+    store.keep_sheet(sheet);
+    Ok(beside)
 }
 
-/// The same, of the records of its pipeline.
+/// The same, of the records of its pipeline; and these with the graph of its jobs.
 fn ended(
     alloc: Global,
     pipeline: &Pipeline,
-    records: &Records,
+    sheet: Sheet,
     after: &Attempt,
-) -> Result<Beside, StoreFault>
-    ensures { IfOk result (λ b. (k : Kept) → IsKept k → pipeline_at k.state pipeline.now.id ≡ Some pipeline.now → AreOf k pipeline.now.id records.now
-        → HasLive k.state after.now → is_live after.now ≡ false → Settles k (Put (row.Attempt after.now) ∷ []) b) }
+) -> Result<(Beside, Sheet), StoreFault>
+    ensures kept { IfOk result (λ r. (k : Kept) → IsRight sheet k → IsRight r.1 k) }
+    ensures settled { IfOk result (λ r. (k : Kept) → IsKept k → pipeline_at k.state pipeline.now.id ≡ Some pipeline.now → IsRight sheet k → sheet.pipeline ≡ pipeline.now.id
+        → HasLive k.state after.now → is_live after.now ≡ false → Settles k (Put (row.Attempt after.now) ∷ []) r.0) }
 {
     end_is_indexed();
-    let jobs = records.jobs.as_slice();
-    let attempts = records.attempts.as_slice();
-    let Some(job) = job_with(jobs, after.job) else {
-        return Err(StoreFault::Broken);
-    };
-    let before = status_before(alloc, records)?;
-    let settled = or_store_fault(end_of(
+    let mut sheet = sheet;
+    let graph = take_graph(alloc, &mut sheet)?;
+    let ended = or_store_fault(end_of(
         alloc,
-        jobs,
-        records.needs.as_slice(),
-        attempts,
-        records.rows.as_slice(),
+        graph,
+        sheet.jobs.as_slice(),
+        sheet.attempts.as_slice(),
+        sheet.rows.as_slice(),
         after,
     ))?;
-    let then = status_of(
-        alloc,
-        jobs,
-        settled.facts.as_slice(),
-        settled.rows.as_slice(),
-    )?;
+    let Ended {
+        settled,
+        before,
+        then,
+        graph,
+    } = ended;
+    let indexes = indexes_after(alloc, pipeline, &sheet, after, before, then)?;
+    sheet.graph = Some(graph);
+    let beside = Beside {
+        rows: settled.changed,
+        indexes,
+    };
+    Ok((beside, sheet))
+}
+
+/// The graph of a sheet's jobs, taken out of it, or made.
+fn take_graph(alloc: Global, sheet: &mut Sheet) -> Result<Net, StoreFault>
+    ensures sheet { OnOk result (sheet.new ≡ record sheet.old { graph = None }) }
+    ensures graph { IfOk result (λ g. (k : Kept) → IsRight sheet.old k → IsGraphOf g sheet.old.jobs.items sheet.old.needs.items) }
+{
+    match sheet.graph.take() {
+        Some(graph) => Ok(graph),
+        None => or_store_fault(graph_for(alloc, sheet.jobs.as_slice(), sheet.needs.as_slice())),
+    }
+}
+
+/// What changes of held groups and unfinished pipelines where the attempt of one of the sheet's jobs ends, and the status of its pipeline
+/// comes from the one to the other.
+fn indexes_after(
+    alloc: Global,
+    pipeline: &Pipeline,
+    sheet: &Sheet,
+    after: &Attempt,
+    before: Status,
+    then: Status,
+) -> Result<Vec<IndexChange>, StoreFault>
+    ensures { IfOk result (λ v. (job : Job) × (find (λ j. j.id == after.now.job) sheet.now.jobs.items ≡ Some job) × (v.items ≡ of_pipeline pipeline.now (job ∷ []) sheet.now.attempts.items before then)) }
+{
+    let Some(job) = job_with(sheet.jobs.as_slice(), after.job) else {
+        return Err(StoreFault::Broken);
+    };
     let indexes = of_pipeline(
         alloc,
         pipeline,
         slice::from_ref(job),
-        attempts,
+        sheet.attempts.as_slice(),
         before,
         then,
     )?;
-    Ok(Beside {
-        rows: settled.changed,
-        indexes,
-    })
+    Ok(indexes)
 }
 
 /// The job with a number, if it is one of these.

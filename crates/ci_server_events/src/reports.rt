@@ -14,13 +14,13 @@ use ci_machine::reply::Reply;
 use ci_machine::request::JobUpdate;
 use ci_machine_plans::reports;
 use ci_server_lookups::leases::leased_at;
+use ci_server_lookups::searches::Searches;
 use ci_store::fault::StoreFault;
-use ci_store::store::Store;
 use std::alloc::Global;
 
 /// A runner says how an attempt of its stands. Where it ends, the rows of its job and of jobs behind it may differ, its resource
 /// group is free, and its pipeline may be finished.
-pub(crate) fn update_job<T: Store>(
+pub(crate) fn update_job<T: Searches>(
     alloc: Global,
     store: &mut T,
     update: &JobUpdate,

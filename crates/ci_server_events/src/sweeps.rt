@@ -17,7 +17,6 @@ use ci_machine::reply::Swept;
 use ci_machine_plans::sweeps;
 use ci_server_lookups::searches::Searches;
 use ci_store::fault::StoreFault;
-use ci_store::store::Store;
 use std::alloc::Global;
 
 /// What a sweep does: the lease that is over ends, if there is one, that of the attempt of least number; where there is none, the
@@ -37,7 +36,11 @@ pub fn plan_sweep<T: Searches>(
 }
 
 /// The lease ends.
-fn end<T: Store>(alloc: Global, store: &mut T, lease: &Lease) -> Result<Planned<Swept>, StoreFault>
+fn end<T: Searches>(
+    alloc: Global,
+    store: &mut T,
+    lease: &Lease,
+) -> Result<Planned<Swept>, StoreFault>
     ensures { LoadsBy T.honest T.holds T.leaves store.old store.new result
         (λ k p. IsKept k → HasLive k.state lease.now.attempt → PlansFor k ((p.answer, p.changes) ≡ ends lease.now) p.changes p.beside) }
 {

@@ -2,4 +2,5 @@ pub mod Keeps
 pub mod Held
 pub mod Records
 pub mod Search
+pub mod Sheets
 pub mod Unfinished

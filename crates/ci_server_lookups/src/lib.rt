@@ -8,4 +8,5 @@ pub mod prunable;
 pub mod records;
 pub mod search;
 pub mod searches;
+pub mod sheet;
 pub mod unfinished;

@@ -1,14 +1,17 @@
-//! What a runner's request and a sweep look for, as a store finds it.
+//! What a runner's request and a sweep look for, as a store finds it, and the records of a pipeline, as a store lends them.
 
 ghost use Rattle.std.specs.Prelude.{◌≡◌};
 ghost use Rattle.ci_machine.specs.Leases.{first_due};
 ghost use Rattle.ci_machine_steps.specs.Step.{leases, redundant_in};
 ghost use Rattle.ci_store.specs.Store.{LoadsBy};
 ghost use Rattle.ci_server_lookups.specs.Keeps.{IsKept, HoldsKept};
+ghost use Rattle.ci_machine.specs.Kept.{Kept};
 ghost use Rattle.ci_server_lookups.specs.Search.{IsOffered};
+ghost use Rattle.ci_server_lookups.specs.Sheets.{IsRight};
 ghost use Rattle.ci_server_lookups.specs.Unfinished.{AreOpen};
 
 use crate::search::Offer;
+use crate::sheet::Sheet;
 use ci_machine::lease::Lease;
 use ci_machine::moment::Moment;
 use ci_machine::records::{Pipeline, Runner};
@@ -34,4 +37,14 @@ pub trait Searches: Store {
     /// The redundant pipeline of least number, where what the store holds is what the machine may come to.
     fn first_redundant(&mut self, alloc: Global) -> Result<Option<Pipeline>, StoreFault>
         ensures { LoadsBy Self.honest (HoldsKept Self.holds) Self.leaves self.old self.new result (λ k found. found ≡ redundant_in k.state k.board) };
+
+    /// The records of a pipeline, taken out of what is remembered where they are remembered. Who changes nothing of what the store holds may
+    /// have them kept again.
+    fn take_sheet(&mut self, pipeline: u64) -> Result<Sheet, StoreFault>
+        ensures { LoadsBy Self.honest Self.holds Self.leaves self.old self.new result (λ k sheet. IsRight sheet k × (sheet.pipeline ≡ pipeline)) };
+
+    /// Keeps the records of a pipeline, where the store remembers any.
+    fn keep_sheet(&mut self, sheet: Sheet)
+        ensures honest { Self.honest self.new → Self.honest self.old }
+        ensures kept { (k : Kept) → Self.holds self.old k → IsRight sheet k → Self.holds self.new k };
 }

@@ -23,6 +23,7 @@ returns-then-has_within c =
       needs = right.needs;
       attempts = put_in ∙ ap (put attempt_cmp new) right.attempts ∙ sym (filter_put by_id (λ (a : Attempt). is_within m.first m.last a.job) new k.state.attempts (rising_from_ascend by_id k.state.attempts ascend) (sym c.has_within.ensures ∙ c.if-has_within.true));
       rows = right.rows;
+      graph = right.graph;
     })
 
 -- or is and was none of them

@@ -1,12 +1,15 @@
 use Rattle.std.specs.Prelude.{◌≡◌, ◌==◌, ℕ, true, All}
 use Rattle.std.proofs.Common.{sym, ap, subst, ◌∙◌}
+use Rattle.ci_machine.specs.declared.change.Record.TheVariants as row
 use Rattle.ci_machine.specs.declared.change.RowChange.{RowChange}
+use Rattle.ci_machine.specs.declared.change.RowChange.TheVariants.{Put}
 use Rattle.ci_machine.specs.declared.records.Job.{Job}
 use Rattle.ci_machine.specs.Ranges.{is_within}
 use Rattle.ci_machine.specs.State.{job_cmp, put, changed}
 use Rattle.ci_machine_steps.proofs.Sound.{rising_from_ascend}
-use Rattle.ci_memory_boards.specs.Sheets.{IsRight}
-use Rattle.ci_memory_boards.proofs.Lists.{all_put, both, on_some_then}
+use Rattle.ci_server_lookups.specs.Sheets.{IsRight}
+use Rattle.ci_server_lookups.specs.declared.sheet.Sheet.{Sheet}
+use Rattle.ci_memory_boards.proofs.Lists.{all_put, both, both_some, on_some_then}
 use Rattle.ci_memory_boards.proofs.Placing.{filter_put}
 use Rattle.ci_memory_boards.proofs.Stays.{own_job_of}
 use Rattle.ci_memory_boards.proofs.after.note_change.Goals as goal
@@ -21,15 +24,17 @@ returns-in-Some c =
     let new = c.in-Some.job.now in
     let of = own_job_of m c.args.change.now new (sym c.in-Some.ensures) in
     let its = both (new.pipeline == m.pipeline) (is_within m.first m.last new.id) of.1 in
-    on_some_then c.put_copy_of_job.result c.put_copy_of_job.ensures (λ put_in k order right.
-    subst (λ (x : RowChange). IsRight (record m { jobs = c.put_copy_of_job.new.jobs }) (record k { state = changed x k.state })) (sym of.0)
+    on_some_then c.note_job.result (both_some _ _ c.note_job.result c.note_job.ensures.same c.note_job.ensures.jobs) (λ noted k order right.
+    subst (λ (x : RowChange). IsRight c.note_job.new.sheet (record k { state = changed x k.state })) (sym of.0)
+    (subst (λ (n : Sheet). IsRight n (record k { state = changed (Put (row.Job new)) k.state })) (sym noted.0)
     (record {
-      jobs = put_in ∙ ap (put job_cmp new) right.jobs ∙ sym (filter_put by_id (λ (j : Job). j.pipeline == m.pipeline) new k.state.jobs (rising_from_ascend by_id k.state.jobs order.jobs) its.0);
-      inside = subst (All (λ j. is_within m.first m.last j.id ≡ true)) (sym put_in) (all_put (λ j. is_within m.first m.last j.id ≡ true) job_cmp new m.jobs.items right.inside its.1);
+      jobs = noted.1 ∙ ap (put job_cmp new) right.jobs ∙ sym (filter_put by_id (λ (j : Job). j.pipeline == m.pipeline) new k.state.jobs (rising_from_ascend by_id k.state.jobs order.jobs) its.0);
+      inside = subst (All (λ j. is_within m.first m.last j.id ≡ true)) (sym noted.1) (all_put (λ j. is_within m.first m.last j.id ≡ true) job_cmp new m.jobs.items right.inside its.1);
       needs = right.needs;
       attempts = right.attempts;
       rows = right.rows;
-    }))
+      graph = tt;
+    })))
 
 -- or the change is another
 pub returns-in-None : goal.returns-in-None

@@ -23,6 +23,7 @@ returns-then-has_within c =
       needs = right.needs;
       attempts = right.attempts;
       rows = put_in ∙ ap (put row_cmp c.args.row) right.rows ∙ sym (filter_put by_job (λ (r : BoardRow). is_within m.first m.last r.job) c.args.row k.board (rising_from_ascend by_job k.board ascend) (sym c.has_within.ensures ∙ c.if-has_within.true));
+      graph = right.graph;
     })
 
 -- or is none of them
@@ -36,4 +37,5 @@ returns c k ascend right =
       needs = right.needs;
       attempts = right.attempts;
       rows = right.rows ∙ sym (other_put row_cmp (λ (r : BoardRow). is_within m.first m.last r.job) c.args.row k.board outside (λ y has is. key_apart m.first m.last y.job c.args.row.job is outside));
+      graph = right.graph;
     }
