@@ -7,6 +7,7 @@ use Rattle.ci_yaml_lines.specs.Tree.{Value}
 use Rattle.ci_config.specs.Config.{Config}
 use Rattle.ci_config.specs.FaultView.{code_view}
 use Rattle.ci_config.specs.Meaning.{Means}
+use Rattle.ci_config_places.specs.Place.{IsPlace}
 use Rattle.ci_explain.specs.Told.{Told, InTurn, without, told_view, tolds_view}
 use Rattle.ci_explain.specs.declared.place.Found.{Found}
 
@@ -36,9 +37,9 @@ none-behind (u ∷ us) = ap (λ l. u ∷ l) (none-behind us)
 -- ---- one more
 
 pub goes-on : (w v v' : Value) (ts told : List Found) (f : Found) → Goes w ts v → told ≡ ts ++ f ∷ [] → Means v (Err (code_view f.code))
-    → false ≡ (length f.way.items == 0) → v' ≡ without f.way.items v → Goes w told v'
-goes-on w v v' ts told f goes is means some left rest h =
-    let here : InTurn v (told_view f ∷ rest) = (means, λ e. absurd (is-some f.way.items some e), λ e. subst (λ x. InTurn x rest) left h) in
+    → false ≡ (length f.way.items == 0) → (f.way.items ≢ [] → IsPlace (code_view f.code) f.way.items v) → v' ≡ without f.way.items v → Goes w told v'
+goes-on w v v' ts told f goes is means some place left rest h =
+    let here : InTurn v (told_view f ∷ rest) = (means, λ e. absurd (is-some f.way.items some e), λ e. (place e, subst (λ x. InTurn x rest) left h)) in
     subst (λ us. InTurn w us) (sym (ap (λ l. tolds_view l ++ rest) is ∙ all-behind ts f rest)) (goes (told_view f ∷ rest) here)
 
 -- ---- the last one

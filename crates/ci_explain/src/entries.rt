@@ -1,10 +1,11 @@
 //! The faults of the entries of a file, and of its jobs.
 
-use crate::frame::{copied, copied_text, fault_of, texts, word};
+use crate::frame::{copied, copied_text, texts, word};
 use crate::hint::hint_of;
 use crate::place::{Found, of_file};
 use crate::walk::{Walk, is_job, job_name, names_in};
 use ci_config::{ConfigCode, MAX_BUILDING_COST};
+use ci_config_places::fault_of;
 use ci_expr::{ExprCode, ExprFault, PatternBudget, parse_within};
 use ci_yaml::{Text, Tree};
 use std::alloc::{AllocError, Global};
@@ -172,16 +173,17 @@ fn costs_too_much(
     }
 }
 
-/// Looks for the rules of a job with whose expressions the patterns of the file cost too much to build. The job is left out for each.
+/// Looks for the first rule of a job with whose expression the patterns of the file cost too much to build, for which the job is left out.
+/// Is there none?
 fn look_at_patterns(
     alloc: Global,
     walk: &mut Walk,
     budget: &mut PatternBudget,
     pair: &(Text, Tree),
     index: usize,
-) -> Result<(), AllocError> {
+) -> Result<bool, AllocError> {
     let Some(found) = pair_at(&pair.1, "rules") else {
-        return Ok(());
+        return Ok(true);
     };
     let rules = items_of(&found.1);
     let mut number: usize = 0;
@@ -192,9 +194,10 @@ fn look_at_patterns(
             fault.line = line_of_rule(rule, fault.line);
             fault.rule = Some(number);
             walk.found.push(fault)?;
+            return Ok(false);
         }
     }
-    Ok(())
+    Ok(true)
 }
 
 /// The items of a list.
@@ -225,14 +228,14 @@ fn rule_costs_too_much(
     }
 }
 
-/// Notes what an entry is good for that is left: the names of the stages, or a job.
+/// Notes what an entry is good for: the names of the stages, or a job. Is it left, so that its patterns don't cost too much?
 fn keep<'t, 'a>(
     alloc: Global,
     walk: &mut Walk,
     kept: &mut Kept<'t, 'a>,
     pair: &'t (Text<'a>, Tree<'a>),
     index: usize,
-) -> Result<(), AllocError> {
+) -> Result<bool, AllocError> {
     match &pair.1 {
         Tree::List(items) if pair.0.as_str() == "stages" && walk.stages.is_none() => {
             walk.stages = Some(names_in(alloc, items.as_slice())?);
@@ -240,15 +243,18 @@ fn keep<'t, 'a>(
         _ => {}
     }
     if is_job(pair.0.as_str()) {
+        if !look_at_patterns(alloc, walk, &mut kept.budget, pair, index)? {
+            kept.lost_job = true;
+            return Ok(false);
+        }
         kept.jobs.push(Job {
             pair,
             index,
             lost_script: walk.lost_script,
             lost_stage: walk.lost_own_stage,
         })?;
-        look_at_patterns(alloc, walk, &mut kept.budget, pair, index)?;
     }
-    Ok(())
+    Ok(true)
 }
 
 /// Looks at the entries of a file.
@@ -269,8 +275,9 @@ fn look_at_entries<'t, 'a>(
         walk = next;
         match fault {
             None => {
-                keep(alloc, &mut walk, &mut kept, pair, index)?;
-                index = index.saturating_add(1);
+                if keep(alloc, &mut walk, &mut kept, pair, index)? {
+                    index = index.saturating_add(1);
+                }
             }
             Some(ConfigCode::K2(_)) => {}
             Some(_) => {

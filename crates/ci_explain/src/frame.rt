@@ -1,13 +1,8 @@
 //! Files that hold one part of a file, and nothing else that could be wrong: `config` judges the part alone by them.
 
-ghost use Rattle.std.specs.Prelude.{IfOk, MatchOption, Ok, Err};
-ghost use Rattle.ci_yaml_lines.specs.TreeView.{value_view};
-ghost use Rattle.ci_config.specs.Config.{Config};
-ghost use Rattle.ci_config.specs.FaultView.{code_view};
-ghost use Rattle.ci_config.specs.Meaning.{Means};
-
 use crate::role::Role;
-use ci_config::{ConfigCode, ConfigFault, config};
+use ci_config::ConfigCode;
+use ci_config_places::fault_of;
 use ci_yaml::{Place, Span, Text, Tree, Words};
 use std::alloc::{AllocError, Global};
 
@@ -199,19 +194,6 @@ pub fn way_to(alloc: Global, steps: &[Step]) -> Result<Vec<usize>, AllocError> {
         way.push(step.index)?;
     }
     Ok(way)
-}
-
-/// What is wrong with a file, or None where nothing is.
-///
-/// Errors: memory was refused.
-pub fn fault_of(alloc: Global, file: &Tree) -> Result<Option<ConfigCode>, AllocError>
-    ensures { IfOk result (λ fault. MatchOption fault ((c : Config) × Means (value_view file.now) (Ok c)) (λ code. Means (value_view file.now) (Err (code_view code)))) }
-{
-    match config(alloc, file) {
-        Ok(_) => Ok(None),
-        Err(ConfigFault::Fault(code)) => Ok(Some(code)),
-        Err(ConfigFault::Memory) => Err(AllocError),
-    }
 }
 
 /// What is wrong with a part of a file alone, or None where nothing is.

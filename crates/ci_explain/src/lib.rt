@@ -9,6 +9,7 @@ mod leave;
 mod place;
 mod report;
 mod role;
+mod search;
 mod turn;
 mod walk;
 mod yaml;

@@ -6,43 +6,13 @@ ghost use Rattle.ci_config.specs.FaultView.{code_view};
 ghost use Rattle.ci_explain.specs.Told.{InTurn, tolds_view};
 
 use crate::entries::look_at_file;
-use crate::frame::fault_of;
 use crate::leave::left_out;
 use crate::place::{Found, of_file};
+use crate::search::placed;
 use ci_config::ConfigCode;
+use ci_config_places::{fault_of, is_same};
 use ci_yaml::Tree;
 use std::alloc::{AllocError, Global};
-
-/// The number of a code.
-fn number_of(code: ConfigCode) -> u8 {
-    match code {
-        ConfigCode::K1 => 1,
-        ConfigCode::K2(_) => 2,
-        ConfigCode::K3 => 3,
-        ConfigCode::K4 => 4,
-        ConfigCode::K5 => 5,
-        ConfigCode::K6 => 6,
-        ConfigCode::K7 => 7,
-        ConfigCode::K8 => 8,
-        ConfigCode::K9 => 9,
-        ConfigCode::K10 => 10,
-        ConfigCode::K11 => 11,
-        ConfigCode::K12 => 12,
-        ConfigCode::K13(_) => 13,
-        ConfigCode::K14 => 14,
-        ConfigCode::K15 => 15,
-        ConfigCode::K16 => 16,
-    }
-}
-
-/// Are these the same code, with the same name or the same code of an expression?
-fn is_same(one: ConfigCode, other: ConfigCode) -> bool {
-    match (one, other) {
-        (ConfigCode::K2(one), ConfigCode::K2(other)) => one == other,
-        (ConfigCode::K13(one), ConfigCode::K13(other)) => one == other,
-        _ => number_of(one) == number_of(other),
-    }
-}
 
 /// The first of the faults that were found with this code, which is taken from among them; one of the whole file, where none has it.
 fn next_of(alloc: Global, found: &mut Vec<Found>, code: ConfigCode) -> Found
@@ -57,7 +27,7 @@ fn next_of(alloc: Global, found: &mut Vec<Found>, code: ConfigCode) -> Found
     }
 }
 
-/// The faults of a tree in turn, each at the place where it was found.
+/// The faults of a tree in turn, each at its place.
 ///
 /// Errors: memory was refused.
 fn in_turn(alloc: Global, tree: Tree, found: Vec<Found>) -> Result<Vec<Found>, AllocError>
@@ -71,6 +41,7 @@ fn in_turn(alloc: Global, tree: Tree, found: Vec<Found>) -> Result<Vec<Found>, A
             return Ok(told);
         };
         let next = next_of(alloc, &mut found, code);
+        let next = placed(alloc, &tree, next)?;
         if next.way.as_slice().is_empty() {
             told.push(next)?;
             return Ok(told);
@@ -87,8 +58,8 @@ fn in_turn(alloc: Global, tree: Tree, found: Vec<Found>) -> Result<Vec<Found>, A
     }
 }
 
-/// All faults of a file, in turn: each is told where the entries of those before it are left out. The first is the one that `config`
-/// tells, and there is none where it answers.
+/// All faults of a file, in turn: each is told where the entries of those before it are left out, at the least entry with which it
+/// comes. The first is the one that `config` tells, and there is none where it answers.
 ///
 /// Errors: memory was refused.
 pub fn faults(alloc: Global, source: &str, tree: Tree) -> Result<Vec<Found>, AllocError>

@@ -13,16 +13,17 @@ returns-in_default c =
 
 pub returns-then-is_empty : goal.returns-then-is_empty
 returns-then-is_empty c =
-    ends-with (value_view c.args.tree) (value_view c.loop.tree) c.loop.told.items c.push.new.self.items c.next_of-next.result c.loop.invariant c.in_ok-push.ensures.items
-    (known-ill (value_view c.loop.tree) c.in_ok-code.field-0 c.in-Some.code c.next_of-next.result.code c.in-Some.is c.next_of-next.ensures c.in_ok-code.ensures)
-    (is-empty c.next_of-next.result.way.items (subst (λ xs. true ≡ (length xs == 0)) c.as_slice.ensures.value c.if-is_empty.ensures))
+    ends-with (value_view c.args.tree) (value_view c.loop.tree) c.loop.told.items c.push.new.self.items c.in_ok-next.next c.loop.invariant c.in_ok-push.ensures.items
+    (known-ill (value_view c.loop.tree) c.in_ok-code.field-0 c.in-Some.code c.in_ok-next.next.code c.in-Some.is (c.in_ok-next.ensures.code ∙ c.next_of-next.ensures) c.in_ok-code.ensures)
+    (is-empty c.in_ok-next.next.way.items (subst (λ xs. true ≡ (length xs == 0)) c.as_slice.ensures.value c.if-is_empty.ensures))
 
 pub loop-preserved : goal.loop-preserved
 loop-preserved c =
-    goes-on (value_view c.args.tree) (value_view c.loop.tree) (value_view c.in_ok-tree.tree) c.loop.told.items c.push-in-loop.new.self.items c.next_of-next.result c.loop.invariant
+    goes-on (value_view c.args.tree) (value_view c.loop.tree) (value_view c.in_ok-tree.tree) c.loop.told.items c.push-in-loop.new.self.items c.in_ok-next.next c.loop.invariant
     c.in_ok-push-2.ensures.items
-    (known-ill (value_view c.loop.tree) c.in_ok-code.field-0 c.in-Some.code c.next_of-next.result.code c.in-Some.is c.next_of-next.ensures c.in_ok-code.ensures)
+    (known-ill (value_view c.loop.tree) c.in_ok-code.field-0 c.in-Some.code c.in_ok-next.next.code c.in-Some.is (c.in_ok-next.ensures.code ∙ c.next_of-next.ensures) c.in_ok-code.ensures)
     (subst (λ xs. false ≡ (length xs == 0)) c.as_slice.ensures.value c.if-is_empty.ensures)
+    c.in_ok-next.ensures.place
     (c.in_ok-tree.ensures ∙ ap (λ xs. without xs (value_view c.loop.tree)) c.as_slice-in-loop.ensures.value)
 
 pub returns-in-None : goal.returns-in-None

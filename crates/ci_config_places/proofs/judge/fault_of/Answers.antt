@@ -2,9 +2,9 @@ use Rattle.std.proofs.Common.{Err, ◌∙◌, sym, ap, subst}
 use Rattle.std.specs.Prelude.{IfOk}
 use Rattle.ci_yaml_lines.specs.TreeView.{value_view}
 use Rattle.ci_config.specs.View.{config_view}
-use Rattle.ci_explain.proofs.Judging.{Judges, judges-well, judges-ill}
-use Rattle.ci_explain.proofs.frame.fault_of.Goals as goal
-use Rattle.ci_explain.proofs.frame.fault_of.Goals.{in-Ok, in-Err-Fault, in-Err-Memory}
+use Rattle.ci_config_places.proofs.Answers.{Judges, judges-well, judges-ill}
+use Rattle.ci_config_places.proofs.judge.fault_of.Goals as goal
+use Rattle.ci_config_places.proofs.judge.fault_of.Goals.{in-Ok, in-Err-Fault, in-Err-Memory}
 
 pub returns : goal.returns
 returns c =
