@@ -1,5 +1,5 @@
 -- What is wrong with a tree, by what `config` answers.
-use Rattle.std.proofs.Common.{◌≡◌, ◌≢◌, ◌⊎◌, inl, inr, ℕ, List, Bool, true, false, not, Option, Some, None, Result, Ok, Err, sym, ap, subst}
+use Rattle.std.proofs.Common.{◌≡◌, ◌≢◌, ◌⊎◌, inl, inr, ℕ, List, Bool, true, false, not, Option, Some, None, Result, Ok, Err, subst}
 use Rattle.std.specs.Prelude.{MatchOption, MatchBool}
 use Rattle.ci_yaml_lines.specs.Tree.{Value}
 use Rattle.ci_expr.specs.declared.fault.ExprCode.TheVariants.{X8}
@@ -54,6 +54,13 @@ not-well one v f sure well ill = well-alone f well.0 sure (one v (Ok well.0) (Er
 
 pub not-ill : OneAnswer → (v : Value) (f g : fault.Fault) → f ≢ fault.K13 X8 → g ≢ f → g ≢ fault.K13 X8 → Means v (Err g) → Means v (Err f) → ⊥
 not-ill one v f g sure other plain is ill = ill-alone f g sure other plain (one v (Err g) (Err f) is ill)
+
+-- what isn't the fault that is looked for, in whose place X8 didn't come either
+pub other-well : OneAnswer → (v : Value) (f : fault.Fault) → ((c : Config) × Means v (Ok c)) → f ≢ fault.K13 X8 → Means v (Err f) → ⊥
+other-well one v f well sure = not-well one v f sure well
+
+pub other-ill : OneAnswer → (v : Value) (f g : fault.Fault) → g ≢ f → g ≢ fault.K13 X8 → Means v (Err g) → f ≢ fault.K13 X8 → Means v (Err f) → ⊥
+other-ill one v f g other plain is sure = not-ill one v f g sure other plain is
 
 pub not-so : (P Q : Type 0) (b : Bool) → not b ≡ true → MatchBool b P Q → Q
 not-so P Q true e h = absurd cc

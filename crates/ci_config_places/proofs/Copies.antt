@@ -1,5 +1,5 @@
 -- Copies of entries, one after the other.
-use Rattle.std.proofs.Common.{◌≡◌, ◌<◌, ◌≤◌, ℕ, zero, suc, ◌+◌, List, [], ◌∷◌, ◌++◌, Result, Ok, Err, length, get_or, take, drop, refl, sym, ◌∙◌, ap, arith, add-one, drop-cons}
+use Rattle.std.proofs.Common.{◌≡◌, ◌<◌, ◌≤◌, ℕ, suc, ◌+◌, List, [], ◌∷◌, ◌++◌, Result, Ok, Err, length, get_or, drop, refl, sym, ◌∙◌, ap, add-one, drop-cons}
 use Rattle.std.proofs.lemmas.List.{drop_all}
 use Rattle.std.specs.Prelude.{true, false, codes, IfOk, if◌then◌else◌}
 use Rattle.std.specs.Str.{bytes_eq}
@@ -63,10 +63,10 @@ pairs-step xs ys zs i x y lt is key same more h =
 
 -- ---- and of one that copies the stages alone
 
-stages-taken : (name : List ℕ) (v : Value) (ms : Members) → bytes_eq name (codes "stages") ≡ true → stages_in (member name v ms) ≡ member name v (stages_in ms)
+pub stages-taken : (name : List ℕ) (v : Value) (ms : Members) → bytes_eq name (codes "stages") ≡ true → stages_in (member name v ms) ≡ member name v (stages_in ms)
 stages-taken name v ms e = ap (λ b. if b then member name v (stages_in ms) else stages_in ms) e
 
-stages-left : (name : List ℕ) (v : Value) (ms : Members) → bytes_eq name (codes "stages") ≡ false → stages_in (member name v ms) ≡ stages_in ms
+pub stages-left : (name : List ℕ) (v : Value) (ms : Members) → bytes_eq name (codes "stages") ≡ false → stages_in (member name v ms) ≡ stages_in ms
 stages-left name v ms e = ap (λ b. if b then member name v (stages_in ms) else stages_in ms) e
 
 pub stages-step : (xs ys zs : List (Text × Tree)) (i : ℕ) (x y : Text × Tree) (all : Members) → i < length xs → x ≡ get_or xs i x → bytes_eq (bytes_of x.0) (codes "stages") ≡ true

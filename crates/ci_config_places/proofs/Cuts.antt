@@ -8,7 +8,7 @@ use Rattle.ci_yaml_lines.specs.TreeView.{value_view, items_view, pairs_view, byt
 use Rattle.ci_yaml_lines.specs.declared.tree.Text.{Text}
 use Rattle.ci_yaml_lines.specs.declared.tree.Tree.{Tree}
 use Rattle.ci_config_places.proofs.Copies.{joined-all, items-one, pairs-one}
-use Rattle.ci_config_places.specs.Cut.{part_at, part_in, behind, emptied, filled, ended, cut, cut_in}
+use Rattle.ci_config_places.specs.Cut.{part_at, part_in, behind, ended, cut, cut_in}
 use Rattle.ci_config_places.specs.declared.cut.End.{End}
 use Rattle.ci_config_places.specs.declared.cut.End.TheVariants.{Without, With, Emptied, Filled}
 use Rattle.ci_config_places.specs.declared.part.Part.{Part}

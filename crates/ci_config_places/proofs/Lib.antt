@@ -1,3 +1,5 @@
 mod Answers
 mod Copies
 mod Cuts
+mod Levels
+mod Searching

@@ -60,7 +60,7 @@ fn copied<'t>(alloc: Global, tree: &'t Tree) -> Result<Tree<'t>, AllocError>
 fn copied_items<'t>(alloc: Global, items: &'t [Tree]) -> Result<Vec<Tree<'t>>, AllocError>
     ensures { IfOk result (λ copies. items_view copies.items ≡ items_view items.now) }
 {
-    let mut copies = Vec::new(alloc);
+    let mut copies = Vec::with_capacity(alloc, items.len())?;
     for item in items {
         copies.push(copied(alloc, item)?)?;
     }
@@ -75,7 +75,7 @@ fn copied_pairs<'t>(
 ) -> Result<Vec<(Text<'t>, Tree<'t>)>, AllocError>
     ensures { IfOk result (λ copies. pairs_view copies.items ≡ pairs_view pairs.now) }
 {
-    let mut copies = Vec::new(alloc);
+    let mut copies = Vec::with_capacity(alloc, pairs.len())?;
     for pair in pairs {
         copies.push((lent(pair.0.as_str()), copied(alloc, &pair.1)?))?;
     }

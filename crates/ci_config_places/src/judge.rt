@@ -8,6 +8,7 @@ ghost use Rattle.ci_config.specs.Fault.{K13};
 ghost use Rattle.ci_config.specs.FaultView.{code_view};
 ghost use Rattle.ci_config.specs.Meaning.{Means};
 ghost use Rattle.ci_config_places.specs.Numbers.{number};
+ghost use Rattle.ci_config_places.specs.Search.{IsAnswer};
 
 use ci_config::laws::has_one_answer;
 use ci_config::{ConfigCode, ConfigFault, config};
@@ -17,6 +18,17 @@ use std::alloc::{AllocError, Global};
 
 /// The fault of patterns that were refused.
 const REFUSED_PATTERN: ConfigCode = ConfigCode::K13(ExprCode::X8);
+
+/// What `config` says of a file in which a fault is looked for.
+#[derive(Clone, Copy)]
+pub enum Answer {
+    /// That it has this fault.
+    Same,
+    /// Something else.
+    Other,
+    /// That a pattern was refused, in whose place the fault may come.
+    Doubtful,
+}
 
 /// What is wrong with a file, or None where nothing is.
 ///
@@ -92,6 +104,25 @@ pub fn is_not_refused(alloc: Global, file: &Tree, code: ConfigCode) -> Result<bo
         Some(other) => Ok(!is_same(other, code) && !is_pattern(other)),
         None => Ok(true),
     }
+}
+
+/// What `config` says of a file in which this fault is looked for.
+///
+/// Errors: memory was refused.
+pub fn answer_of(alloc: Global, file: &Tree, code: ConfigCode) -> Result<Answer, AllocError>
+    ensures { IfOk result (λ answer. IsAnswer answer (code_view code) (value_view file.now)) }
+{
+    has_one_answer();
+    let Some(other) = fault_of(alloc, file)? else {
+        return Ok(Answer::Other);
+    };
+    if is_same(other, code) {
+        return Ok(Answer::Same);
+    }
+    if is_pattern(other) {
+        return Ok(Answer::Doubtful);
+    }
+    Ok(Answer::Other)
 }
 
 /// Is it the fault of a pattern that was refused?

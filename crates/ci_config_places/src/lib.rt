@@ -5,6 +5,8 @@ mod cut;
 mod judge;
 mod part;
 mod place;
+mod search;
 
 pub use judge::{fault_of, is_same};
 pub use place::{comes_with, is_place};
+pub use search::place_of;

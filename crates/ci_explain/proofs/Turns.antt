@@ -7,7 +7,7 @@ use Rattle.ci_yaml_lines.specs.Tree.{Value}
 use Rattle.ci_config.specs.Config.{Config}
 use Rattle.ci_config.specs.FaultView.{code_view}
 use Rattle.ci_config.specs.Meaning.{Means}
-use Rattle.ci_config_places.specs.Place.{IsPlace}
+use Rattle.ci_config_places.specs.Place.{IsPlace, IsOfWhole}
 use Rattle.ci_explain.specs.Told.{Told, InTurn, without, told_view, tolds_view}
 use Rattle.ci_explain.specs.declared.place.Found.{Found}
 
@@ -44,9 +44,10 @@ goes-on w v v' ts told f goes is means some place left rest h =
 
 -- ---- the last one
 
-pub ends-with : (w v : Value) (ts told : List Found) (f : Found) → Goes w ts v → told ≡ ts ++ f ∷ [] → Means v (Err (code_view f.code)) → f.way.items ≡ [] → InTurn w (tolds_view told)
-ends-with w v ts told f goes is means none =
-    let here : InTurn v (told_view f ∷ []) = (means, λ e. refl, λ e. absurd (e none)) in
+pub ends-with : (w v : Value) (ts told : List Found) (f : Found) → Goes w ts v → told ≡ ts ++ f ∷ [] → Means v (Err (code_view f.code)) → f.way.items ≡ []
+    → (f.way.items ≡ [] → IsOfWhole (code_view f.code) v) → InTurn w (tolds_view told)
+ends-with w v ts told f goes is means none whole =
+    let here : InTurn v (told_view f ∷ []) = (means, λ e. (whole e, refl), λ e. absurd (e none)) in
     subst (λ us. InTurn w us) (sym (ap tolds_view is ∙ map-append told_view ts (f ∷ []))) (goes (told_view f ∷ []) here)
 
 pub ends-well : (w v : Value) (ts : List Found) → Goes w ts v → ((c : Config) × Means v (Ok c)) → InTurn w (tolds_view ts)

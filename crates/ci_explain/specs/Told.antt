@@ -5,7 +5,7 @@ use Rattle.ci_config.specs.Config.{Config}
 use Rattle.ci_config.specs.Fault.{Fault}
 use Rattle.ci_config.specs.FaultView.{code_view}
 use Rattle.ci_config.specs.Meaning.{Means}
-use Rattle.ci_config_places.specs.Place.{IsPlace}
+use Rattle.ci_config_places.specs.Place.{IsPlace, IsOfWhole}
 use Rattle.ci_explain.specs.declared.place.Found.{Found}
 
 -- The tree without the entry at the end of a way. A way tells of each list or map on it how many entries stand before the next.
@@ -25,11 +25,11 @@ pub record Told : Type 0 where
   pub fault : Fault
   pub way : List ℕ
 
--- Each fault is the tree's first where the entries of those before it are left out, and its entry is the least with which it comes. There
--- is none where the tree configures something, and behind one of the whole tree none is told.
+-- Each fault is the tree's first where the entries of those before it are left out, and its entry is the least with which it comes. It is
+-- told of the whole tree only where no entry is to blame, and none is told behind it. There is none where the tree configures something.
 abbrev pub InTurn : Value → List Told → Type 0
 InTurn v [] = (c : Config) × Means v (Ok c)
-InTurn v (t ∷ ts) = Means v (Err t.fault) × (t.way ≡ [] → ts ≡ []) × (t.way ≢ [] → IsPlace t.fault t.way v × InTurn (without t.way v) ts)
+InTurn v (t ∷ ts) = Means v (Err t.fault) × (t.way ≡ [] → IsOfWhole t.fault v × (ts ≡ [])) × (t.way ≢ [] → IsPlace t.fault t.way v × InTurn (without t.way v) ts)
 
 -- ---- the code's
 

@@ -15,7 +15,7 @@ pub returns-then-is_empty : goal.returns-then-is_empty
 returns-then-is_empty c =
     ends-with (value_view c.args.tree) (value_view c.loop.tree) c.loop.told.items c.push.new.self.items c.in_ok-next.next c.loop.invariant c.in_ok-push.ensures.items
     (known-ill (value_view c.loop.tree) c.in_ok-code.field-0 c.in-Some.code c.in_ok-next.next.code c.in-Some.is (c.in_ok-next.ensures.code ∙ c.next_of-next.ensures) c.in_ok-code.ensures)
-    (is-empty c.in_ok-next.next.way.items (subst (λ xs. true ≡ (length xs == 0)) c.as_slice.ensures.value c.if-is_empty.ensures))
+    (is-empty c.in_ok-next.next.way.items (subst (λ xs. true ≡ (length xs == 0)) c.as_slice.ensures.value c.if-is_empty.ensures)) c.in_ok-next.ensures.whole
 
 pub loop-preserved : goal.loop-preserved
 loop-preserved c =
@@ -26,13 +26,6 @@ loop-preserved c =
     c.in_ok-next.ensures.place
     (c.in_ok-tree.ensures ∙ ap (λ xs. without xs (value_view c.loop.tree)) c.as_slice-in-loop.ensures.value)
 
-pub returns-in-None : goal.returns-in-None
-returns-in-None c =
-    ends-well (value_view c.args.tree) (value_view c.loop.tree) c.loop.told.items c.loop.invariant
-    (known-well (value_view c.loop.tree) c.in_ok-fault_of.field-0 c.in-None.is c.in_ok-fault_of.ensures)
-
-pub returns : goal.returns
-returns c =
-    ends-with (value_view c.args.tree) (value_view c.loop.tree) c.loop.told.items c.push-in-Some-2.new.self.items c.of_file.result c.loop.invariant c.in_ok-push-in-Some-2.ensures.items
-    (known-ill (value_view c.loop.tree) c.in_ok-fault_of.field-0 c.in-Some-2.code c.of_file.result.code c.in-Some-2.is c.of_file.ensures.code c.in_ok-fault_of.ensures)
-    c.of_file.ensures.way
+pub placed-requires : goal.placed-requires
+placed-requires c =
+    known-ill (value_view c.loop.tree) c.in_ok-code.field-0 c.in-Some.code c.next_of-next.result.code c.in-Some.is c.next_of-next.ensures c.in_ok-code.ensures
