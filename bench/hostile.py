@@ -393,7 +393,7 @@ class Draws:
             elif kind == 3:
                 lines[at] += chance.choice(LINE_ENDS)
             else:
-                lines[at:at] = [f"j{n}:\n  script: x" for n in range(chance.choice([5, 90, 101]))]
+                lines[at:at] = [f"j{n}:\n  script: x" for n in range(chance.choice([5, 190, 201]))]
         return "\n".join(lines).encode()[:chance.choice([65536, 65537, 300])]
 
 

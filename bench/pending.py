@@ -1,5 +1,6 @@
 #!/usr/bin/env python3
-"""Polls, creations, grants and final states of a server beside many pending jobs that no runner fits, and beside many live leases.
+"""Polls, creations, grants and final states of a server beside many pending jobs that no runner fits, and beside many live leases; and polls
+beside many jobs of one resource group that must wait: since a live attempt holds it, or by its process mode for a job of another pipeline.
 
 pending.py PROGRAM [N ..]: PROGRAM is bin/ciserver, each N a number of jobs (100, 1000 and 10000 without one). For each N there is a
 new file in the folder of TMPDIR, where /dev/shm leaves out what a sync costs. Every request has a connection of its own; its time goes
@@ -87,11 +88,12 @@ def median(times):
     return f"{statistics.median(times):8.0f}"
 
 
-def polls(server):
+def polls(server, token=None):
     """The median time of a poll that gets nothing, the 99th of 100, and the processor time of one."""
-    server.poll(server.other, 204)
+    token = token or server.other
+    server.poll(token, 204)
     before = server.used()
-    times = sorted(server.poll(server.other, 204)[1] for _ in range(POLLS))
+    times = sorted(server.poll(token, 204)[1] for _ in range(POLLS))
     return f"{median(times)}{times[POLLS * 99 // 100]:8.0f}{(server.used() - before) / POLLS * 1e6:8.0f}"
 
 
@@ -119,12 +121,51 @@ def leases(server, count):
     return polls(server)
 
 
+SHIP = "ship:\n  stage: deploy\n  script: x\n  resource_group: prod\n  tags: [{}]\n"
+PRE = "pre:\n  stage: build\n  script: x\n  tags: [fit]\n"
+
+
+def ships(server, text, count, ref):
+    assert server.ask("PUT", "projects/1/ci_file", text, server.project)[0] == 200
+    for number in range(count):
+        server.create(f"{ref}{number}")
+
+
+def mode(server, name):
+    body = json.dumps({"process_mode": name})
+    assert server.ask("PUT", "projects/1/resource_groups/prod", body, server.project)[0] == 200
+
+
+def held(server, count):
+    """The first job holds the group."""
+    ships(server, SHIP.format("fit"), count, "b")
+    server.poll(server.runner, 201)
+    return polls(server, server.runner)
+
+
+def oldest(server, count):
+    """The first pipeline's job is created, behind one that runs."""
+    ships(server, PRE + SHIP.format("fit"), 1, "a")
+    server.poll(server.runner, 201)
+    ships(server, SHIP.format("fit"), count, "b")
+    mode(server, "oldest_first")
+    return polls(server, server.runner)
+
+
+def newest(server, count):
+    """The last pipeline's job is pending, and for no runner."""
+    ships(server, SHIP.format("fit"), count, "b")
+    ships(server, SHIP.format("nobody"), 1, "c")
+    mode(server, "newest_ready_first")
+    return polls(server, server.runner)
+
+
 def main():
     if len(sys.argv) < 2 or not re.fullmatch(r"[^-].*", sys.argv[1]):
         sys.exit(__doc__)
     counts = [int(word) for word in sys.argv[2:]] or [100, 1000, 10000]
     print(f"{'':21}{'poll':>8}{'99 %':>8}{'cpu':>8}{'create':>8}{'request':>8}{'finish':>8}   (microseconds)")
-    for name, tried in (("pending", pending), ("live", leases)):
+    for name, tried in (("pending", pending), ("live", leases), ("held", held), ("oldest_first", oldest), ("newest_ready", newest)):
         for count in counts:
             with tempfile.TemporaryDirectory() as folder:
                 server = Server(os.path.abspath(sys.argv[1]), folder)

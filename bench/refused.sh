@@ -40,15 +40,16 @@ tried() {
 }
 export -f tried
 
-loads="next project project-with variables-of variable runner runner-with pipeline newer-of job demand job-variables attempt attempts-of
+loads="next project project-with variables-of variable mode modes runner runner-with pipeline newer-of job demand job-variables attempt attempts-of
   live-attempts holder rows-with pipelines-before some-before
   trace-of trace-size jobs-of needs-within attempts-within rows-within row pending-after"
 # Events that change nothing, and those that end in a COMMIT.
 idle="set-file-fault create-circle create-no-file ask-job-none ask-job-unknown show-job show-trace show-pipeline play-none prune-none sweep-none
-  pause-none ask-ship-held"
+  pause-none ask-ship-held show-mode ask-behind show-behind"
 changing="add-project add-runner set-file set-file-again set-variable delete-variable create-pipeline create-with create-stages ask-job running
   success success-stages append play retry prune cancel-job cancel-job-stages cancel-pipeline cancel-stages sweep sweep-stages
-  add-runner-of pause-runner ask-ship success-ship cancel-ship sweep-ship sweep-redundant"
+  add-runner-of pause-runner ask-ship success-ship cancel-ship sweep-ship sweep-redundant
+  set-mode set-mode-again set-mode-none ask-newest create-behind"
 events="$idle $changing"
 
 # The words of each trial, behind the ends that are wanted and how memory is refused.

@@ -24,7 +24,7 @@ import sys
 import urllib.parse
 from dataclasses import dataclass, field
 
-FORMAT, VERSION = 1128878163, 1
+FORMAT, VERSIONS = 1128878163, (1, 2)
 STATUSES = ("created", "pending", "running", "success", "failed", "canceled", "skipped", "manual")
 SIGNS = {
     "created": "○", "pending": "◔", "waiting_for_resource": "◔", "running": "▶", "success": "✓", "failed": "✗", "canceled": "⊘",
@@ -132,8 +132,8 @@ def opened(path: str) -> sqlite3.Connection:
         if "locked" in str(fault):
             raise Unread(f"{path} is in use: stop the server, or give a copy") from None
         raise Unread(f"cannot read {path}: {fault}") from None
-    if meta != {"format": FORMAT, "version": VERSION}:
-        raise Unread(f"{path} is no server's file of version {VERSION}")
+    if meta.get("format") != FORMAT or meta.get("version") not in VERSIONS:
+        raise Unread(f"{path} is no server's file of version {VERSIONS[0]} or {VERSIONS[1]}")
     return file
 
 

@@ -1,5 +1,5 @@
 #!/usr/bin/env bash
-# Has examples/page.py write pages of a file that was written by hand (.ci/version1, and rows.sql behind it): each is a whole page that fetches and
+# Has examples/page.py write pages of a file that was written by hand (.ci/version1, what version 2 has more, and rows.sql behind it): each is a whole page that fetches and
 # runs nothing, its statuses are those that the program reports, and what a page is to show stands in it. Then of files and words that are refused.
 #
 #   examples/page/test.sh [CISERVER]        as in: examples/page/test.sh bin/ciserver
@@ -50,6 +50,9 @@ reported() {
 
 db=$work/ci.db
 "$here/../../.ci/version1" "$db"
+passes 'a file of version 1' written 0 "$db" 1
+sqlite3 "$db" "CREATE TABLE mode (project INTEGER NOT NULL REFERENCES project (id), grp TEXT NOT NULL, mode INTEGER NOT NULL, PRIMARY KEY (project, grp)) STRICT;
+  UPDATE meta SET num = 2 WHERE key = 'version'"
 passes 'the first page' written 0 "$db" 1
 passes 'the first page is whole' reads
 passes 'its statuses' reported 1
@@ -96,7 +99,7 @@ passes 'no database' written 3 "$work/text.db" 1
 sqlite3 "$work/other.db" 'CREATE TABLE meta (key TEXT, num INTEGER)'
 passes 'a database of others' written 3 "$work/other.db" 1
 cp "$db" "$work/later.db"
-sqlite3 "$work/later.db" "UPDATE meta SET num = 2 WHERE key = 'version'"
+sqlite3 "$work/later.db" "UPDATE meta SET num = 3 WHERE key = 'version'"
 passes 'a later version' written 3 "$work/later.db" 1
 before=$(sha256sum < "$db")
 passes 'it is read' written 0 "$db" 1

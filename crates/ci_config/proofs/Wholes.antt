@@ -264,7 +264,7 @@ pub record FileNamed (f : FileSaid) : Type 0 where
   pub stages : IfSome f.stages (Each IsName)
   pub variables : AreNamed f.variables
   pub jobs : Each HasNames f.jobs
-  pub few : length f.jobs ≤ 100
+  pub few : length f.jobs ≤ 200
 
 stage-read : (done : List Text) (v : Value) (name : Text) → stage_in done v ≡ Ok name → IsName name
 stage-read done v name e =
@@ -279,15 +279,15 @@ stages-read v names e =
     let b = bound (list_of v) (λ vs. each stage_in [] vs) names e in
     each-read IsName stage_in stage-read [] b.value names tt b.next
 
-job-of-read : (p : Patterns) (before : ℕ) (name : Text) (v : Value) (j : Job) → job_of before name v p ≡ Ok j → (before < 100) × HasNames j
+job-of-read : (p : Patterns) (before : ℕ) (name : Text) (v : Value) (j : Job) → job_of before name v p ≡ Ok j → (before < 200) × HasNames j
 job-of-read p before name v j e =
     let a = bound (map_of v) (λ ms. demand (nat_lt before MAX_JOBS) K11 (demand (is_name name) K16 (job_from p name ms))) j e in
     let b = demanded (nat_lt before MAX_JOBS) K11 (demand (is_name name) K16 (job_from p name a.value)) j a.next in
     let c = demanded (is_name name) K16 (job_from p name a.value) j b.1 in
-    let few : nat_lt before 100 ≡ true = b.0 in
+    let few : nat_lt before 200 ≡ true = b.0 in
     (grind (arith, nat_tests), job-read p name a.value j c.0 c.1)
 
-one-more : (f : FileSaid) (j : Job) → FileNamed f → length f.jobs < 100 → HasNames j → FileNamed (with_job f j)
+one-more : (f : FileSaid) (j : Job) → FileNamed f → length f.jobs < 200 → HasNames j → FileNamed (with_job f j)
 one-more f j h few named =
     let n = length-append f.jobs (j ∷ []) in
     record { stages = h.stages; variables = h.variables; jobs = each-append HasNames f.jobs (j ∷ []) h.jobs (named, tt); few = omega (arith, n, few) }

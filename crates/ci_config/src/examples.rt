@@ -20,7 +20,7 @@ use crate::limits::{
 
 /// The limits of the profile.
 pub fn has_these_limits()
-    ensures jobs { MAX_JOBS ≡ 100 }
+    ensures jobs { MAX_JOBS ≡ 200 }
     ensures stages { MAX_STAGES ≡ 32 }
     ensures variables { MAX_VARIABLES ≡ 100 }
     ensures rules { MAX_RULES ≡ 64 }
@@ -34,8 +34,8 @@ pub fn has_these_limits()
 
 /// What is taken up to each limit, and refused one past it. A hidden job isn't counted.
 pub fn takes_up_to_these_limits()
-    ensures jobs { configures (with_jobs 100) ≡ true }
-    ensures many_jobs { meaning built (with_jobs 101) ≡ Err K11 }
+    ensures jobs { configures (with_jobs 200) ≡ true }
+    ensures many_jobs { meaning built (with_jobs 201) ≡ Err K11 }
     ensures stages { configures (with_stages 32) ≡ true }
     ensures many_stages { meaning built (with_stages 33) ≡ Err K11 }
     ensures variables { configures (with_variables 100) ≡ true }
@@ -63,7 +63,7 @@ pub fn refuses_these_files()
     ensures left_out { meaning built (a_map ((codes "include", text (codes "x")) ∷ [])) ≡ Err (K2 (codes "include")) }
     ensures stage_twice { meaning built (a_map ((codes "stages", a_list (text (codes "a") ∷ text (codes "a") ∷ [])) ∷ [])) ≡ Err K7 }
     ensures no_script { meaning built (a_map ((codes "a", a_map ((codes "script", a_list []) ∷ [])) ∷ [])) ≡ Err K5 }
-    ensures many_jobs { meaning built (a_map (jobs 101)) ≡ Err K11 }
+    ensures many_jobs { meaning built (a_map (jobs 201)) ≡ Err K11 }
 {}
 
 /// Entries of a job that are wrong.

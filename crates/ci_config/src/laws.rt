@@ -57,7 +57,7 @@ pub fn looks_up_alike()
     ensures layer { (vs : Variables) (name : List ℕ) → value_of vs name ≡ value_in (vs ∷ []) name }
 {}
 
-/// In a configuration there are 1 to 100 jobs, each with a script and a stage that is one of the stages, and names are names.
+/// In a configuration there are 1 to 200 jobs, each with a script and a stage that is one of the stages, and names are names.
 pub fn configures_whole_jobs()
     ensures { (v : Value) (c : Config) → meaning built v ≡ Ok c → IsWhole c }
 {}

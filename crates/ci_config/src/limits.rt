@@ -1,7 +1,7 @@
 //! The limits of a CI file. Each name ends with what is counted.
 
 /// The most jobs of a file, hidden ones aside.
-pub const MAX_JOBS: usize = 100;
+pub const MAX_JOBS: usize = 200;
 
 /// The most stages that a file lists.
 pub const MAX_STAGES: usize = 32;

@@ -247,7 +247,7 @@ const ROWS: [Row; 95] = [
         "",
         "a time limit is from 1 minute to 30 days, in s, m, h and d or their words, as 1h 30m",
     ),
-    ("K11", "jobs", "a file has 100 jobs at most"),
+    ("K11", "jobs", "a file has 200 jobs at most"),
     ("K11", "stages", "a file lists 32 stages at most"),
     ("K11", "variables", "there are 100 variables at most"),
     ("K11", "rules", "a job has 64 rules at most"),

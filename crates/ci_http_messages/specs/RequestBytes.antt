@@ -3,13 +3,14 @@ use Rattle.std.specs.Prelude.{◌≡◌, ℕ, List, [], ◌∷◌, map, length, 
 use Rattle.std.specs.Str.{is_utf8}
 use Rattle.serde_json.specs.Data.{Data}
 use Rattle.serde_json.specs.Find.{get}
+use Rattle.ci_values.specs.Names.{is_name}
 use Rattle.ci_machine.specs.declared.reply.Method.{Method}
 use Rattle.ci_machine.specs.declared.reply.Methods.{Methods}
 use Rattle.ci_machine.specs.declared.reply.Code.{Code}
 use Rattle.ci_machine.specs.declared.reply.Code.TheVariants.{H5, H6, H7}
 use Rattle.ci_machine.specs.declared.reply.Reply.{Reply}
 use Rattle.ci_machine.specs.declared.request.Request.{Request}
-use Rattle.ci_machine.specs.declared.request.Request.TheVariants.{AskJob, UpdateJob, AppendTrace, SetFile, SetVariable, DeleteVariable, CreatePipeline, ShowPipeline, CancelPipeline, ShowJob, ShowTrace, Play, CancelJob, RetryJob}
+use Rattle.ci_machine.specs.declared.request.Request.TheVariants.{AskJob, UpdateJob, AppendTrace, SetFile, SetVariable, DeleteVariable, SetMode, ShowMode, CreatePipeline, ShowPipeline, CancelPipeline, ShowJob, ShowTrace, Play, CancelJob, RetryJob}
 use Rattle.ci_machine.specs.declared.request.JobQuery.{JobQuery}
 use Rattle.ci_machine.specs.declared.request.PipelineQuery.{PipelineQuery}
 use Rattle.ci_machine.specs.Reply.{refusal}
@@ -21,6 +22,7 @@ use Rattle.ci_http_payloads.specs.Json.{MayBeJson, object_in}
 use Rattle.ci_http_payloads.specs.Refusals.{IsWhyNot}
 use Rattle.ci_http_payloads.specs.Texts.{token_of, value_of, file_in}
 use Rattle.ci_http_payloads.specs.Updates.{update_of}
+use Rattle.ci_http_payloads.specs.Modes.{mode_of}
 use Rattle.ci_http_payloads.specs.Creations.{creation_of}
 use Rattle.ci_http_payloads.specs.Ranges.{start_in}
 use Rattle.ci_http_messages.specs.Fields.{values_of}
@@ -77,6 +79,10 @@ requested (operation.SetFile id) (field ∷ []) (content text) = Some (SetFile (
 requested (operation.SetVariable id key) (field ∷ []) (members (value ∷ [])) =
     option_map (λ text. SetVariable (record { project = id; token = text_or_empty field; key = key; value = text })) (value_of value)
 requested (operation.DeleteVariable id key) (field ∷ []) nothing = Some (DeleteVariable (record { project = id; token = text_or_empty field; key = key }))
+requested (operation.SetMode id key) (field ∷ []) (members (mode ∷ [])) =
+    if is_name key then option_map (λ order. SetMode (record { project = id; token = text_or_empty field; group = key; order = order })) (mode_of mode) else None
+requested (operation.ShowMode id key) (field ∷ []) nothing =
+    if is_name key then Some (ShowMode (record { project = id; token = text_or_empty field; group = key })) else None
 requested (operation.CreatePipeline id) (field ∷ []) (members (git_ref ∷ tag ∷ source ∷ variables ∷ [])) =
     option_map CreatePipeline (creation_of id (text_or_empty field) git_ref tag source variables)
 requested (operation.ShowPipeline id n) (field ∷ []) nothing = Some (ShowPipeline (pipeline_of id field n))

@@ -1,8 +1,9 @@
 //! What a call asks for.
 
-ghost use Rattle.std.specs.Prelude.{◌≡◌, ◌⊎◌, None, Some, Ok, Err, IfOk, IfErr, IsSome, MatchOption, option_map, codes};
+ghost use Rattle.std.specs.Prelude.{◌≡◌, ◌⊎◌, None, Some, Ok, Err, IfOk, IfErr, IsSome, MatchOption, option_map, codes, true, false};
 ghost use Rattle.std.specs.Str.{is_utf8};
 ghost use Rattle.ci_machine.specs.Reply.{refusal};
+ghost use Rattle.ci_values.specs.Names.{is_name};
 ghost use Rattle.ci_http_routes.specs.Answers.{as_asked, map_key};
 ghost use Rattle.ci_http_messages.specs.ReplyText.{listed};
 ghost use Rattle.ci_http_messages.specs.RequestBytes.{field_in, text_or_empty, job_of, pipeline_of, asked_at, not_allowed, request_in, AsksMemory, Gives, AnswersFor};
@@ -13,6 +14,7 @@ use crate::fields::Found;
 use crate::target::path_of;
 use ci_http_payloads::copy::copy_of;
 use ci_http_payloads::creation::creation_in;
+use ci_http_payloads::mode::mode_in;
 use ci_http_payloads::range::start_in;
 use ci_http_payloads::texts::{file_in, token_in, value_in};
 use ci_http_payloads::update::update_in;
@@ -21,9 +23,11 @@ use ci_http_routes::operation::Operation;
 use ci_http_routes::paths::Paths;
 use ci_machine::reply::{Code, Methods, Reply};
 use ci_machine::request::{
-    JobQuery, NewFile, NewVariable, PipelineQuery, Request, TracePart, VariableQuery,
+    GroupQuery, JobQuery, NewFile, NewMode, NewVariable, PipelineQuery, Request, TracePart,
+    VariableQuery,
 };
 use ci_machine::text::{Bytes, Text};
+use ci_values::text::is_name;
 use std::alloc::Global;
 use std::str;
 
@@ -32,9 +36,10 @@ use std::str;
 /// others. A query behind the path has no part in it.
 ///
 /// Errors, the first that holds: no route has the path (H5); its routes have other methods (H6,
-/// with these); a field or a body isn't what the route wants (H7): a field that stands twice, or a
-/// body that has a fault. Memory may be refused (M16) where the route is found and its fields are as
-/// it wants them, and its body may be JSON or is as it wants it.
+/// with these); a field, a body or the key of a resource group isn't what the route wants (H7): a
+/// field that stands twice, a body that has a fault, or a key that is no name. Memory may be refused
+/// (M16) where the route is found and its fields are as it wants them, and its body may be JSON or
+/// all is as it wants it.
 ///
 /// A missing token counts as an empty one, which nothing has, and so does one that isn't UTF-8.
 pub fn request_of(alloc: Global, paths: &Paths, call: &Call<'_>) -> Result<Request, Reply>
@@ -82,6 +87,8 @@ fn requested(alloc: Global, operation: Operation<&str>, call: &Call<'_>) -> Resu
         Operation::SetFile(id) => set_file(alloc, id, call),
         Operation::SetVariable(id, key) => set_variable(alloc, id, key, call),
         Operation::DeleteVariable(id, key) => delete_variable(alloc, id, key, call),
+        Operation::SetMode(id, key) => set_mode(alloc, id, key, call),
+        Operation::ShowMode(id, key) => show_mode(alloc, id, key, call),
         Operation::CreatePipeline(id) => create_pipeline(alloc, id, call),
         Operation::ShowPipeline(id, n) => {
             pipeline_in(alloc, id, n, call).map(Request::ShowPipeline)
@@ -177,6 +184,46 @@ fn delete_variable(alloc: Global, project: u64, key: &str, call: &Call<'_>) -> R
         token,
         key,
     }))
+}
+
+// A resource group of a project is to have the process mode that the body has.
+fn set_mode(alloc: Global, project: u64, key: &str, call: &Call<'_>) -> Result<Request, Code>
+    ensures { AnswersFor (Operation.SetMode project key.now) call.now result }
+{
+    let field = project_field(call)?;
+    let group = named(key)?;
+    let order = mode_in(alloc, call.body())?;
+    let token = token_of(alloc, field)?;
+    let group = copy_of(alloc, group)?;
+    Ok(Request::SetMode(NewMode {
+        project,
+        token,
+        group,
+        order,
+    }))
+}
+
+// A resource group of a project is asked for.
+fn show_mode(alloc: Global, project: u64, key: &str, call: &Call<'_>) -> Result<Request, Code>
+    ensures { AnswersFor (Operation.ShowMode project key.now) call.now result }
+{
+    let field = project_field(call)?;
+    let group = named(key)?;
+    let token = token_of(alloc, field)?;
+    let group = copy_of(alloc, group)?;
+    Ok(Request::ShowMode(GroupQuery {
+        project,
+        token,
+        group,
+    }))
+}
+
+// The key, which is a name. Errors: it is none (H7).
+fn named(key: &str) -> Result<&str, Code>
+    ensures ok { IfOk result (λ name. (name.now ≡ key.now) × (is_name key.now ≡ true)) }
+    ensures err { IfErr result (λ why. (why ≡ Code.H7) × (is_name key.now ≡ false)) }
+{
+    if is_name(key) { Ok(key) } else { Err(Code::H7) }
 }
 
 // A pipeline of a project is to be made as the body says.

@@ -6,6 +6,7 @@ pub mod creation;
 pub mod examples;
 mod json;
 pub mod limits;
+pub mod mode;
 pub mod range;
 pub mod texts;
 pub mod update;

@@ -7,13 +7,13 @@ use Rattle.ci_values.specs.Numbers.{id_in}
 use Rattle.ci_machine.specs.declared.reply.Method.{Method}
 use Rattle.ci_machine.specs.declared.reply.Method.TheVariants.{Get}
 use Rattle.ci_http_routes.specs.declared.operation.Operation.{Operation}
-use Rattle.ci_http_routes.specs.declared.operation.Operation.TheVariants.{AskJob, UpdateJob, AppendTrace, SetFile, SetVariable, DeleteVariable, CreatePipeline, ShowPipeline, CancelPipeline, ShowJob, ShowTrace, Play, CancelJob, RetryJob}
+use Rattle.ci_http_routes.specs.declared.operation.Operation.TheVariants.{AskJob, UpdateJob, AppendTrace, SetFile, SetVariable, DeleteVariable, SetMode, ShowMode, CreatePipeline, ShowPipeline, CancelPipeline, ShowJob, ShowTrace, Play, CancelJob, RetryJob}
 use Rattle.ci_http_routes.specs.declared.place.Place.{Place}
 use Rattle.ci_http_routes.specs.declared.router.Pattern.{Pattern}
-use Rattle.ci_http_routes.specs.declared.router.Pattern.TheVariants.{Queue, Attempt, AttemptTrace, CiFile, Variable, Creation, Pipeline, PipelineCancel, Job, JobTrace, JobPlay, JobCancel, JobRetry}
+use Rattle.ci_http_routes.specs.declared.router.Pattern.TheVariants.{Queue, Attempt, AttemptTrace, CiFile, Variable, ResourceGroup, Creation, Pipeline, PipelineCancel, Job, JobTrace, JobPlay, JobCancel, JobRetry}
 use Rattle.ci_http_routes.specs.Answers.{wanted}
 use Rattle.ci_http_routes.specs.Patterns.{Piece, patterns, pieces_fit, first_of, pattern_in, slot_names, slot_texts, text_at, text_of, text_in}
-use Rattle.ci_http_routes.specs.Places.{number_at, with_one, with_two, with_key, routes_in, routes_by, LeadsTo}
+use Rattle.ci_http_routes.specs.Places.{number_at, with_one, with_two, of_variable, of_group, with_key, routes_in, routes_by, LeadsTo}
 use Rattle.ci_http_routes.specs.Routes.{Body, no_body, Route, Wanted, routes, reads, with_route, routes_of, routes_at}
 use Rattle.ci_http_routes.specs.Segments.{segments}
 use Rattle.ci_http_routes.proofs.Fitting.{loose, unfit, fills, reads-fills, look, text-look, count, apart, apart-none}
@@ -94,20 +94,20 @@ fits-two r op names shape columns ss h =
     ∙ ap (λ z. with_two r.method op (number_at z) (id_in q.1)) (sym id)
     ∙ ap (λ z. with_two r.method op (number_at (text_at (codes "id") (loose r.path) ss)) (number_at z)) (sym n)
 
--- the two routes of a variable
-fits-key : (r s : Route) → slot_names (loose r.path) ≡ codes "id" ∷ codes "key" ∷ [] → loose s.path ≡ loose r.path
-    → ((t u : List ℕ) → fills r.path r.operation (t ∷ u ∷ []) ≡ option_and_then (λ i. Some (DeleteVariable i u)) (id_in t))
-    → ((t u : List ℕ) → fills s.path s.operation (t ∷ u ∷ []) ≡ option_and_then (λ i. Some (SetVariable i u)) (id_in t))
-    → ((v : Option ℕ) (u : List ℕ) → with_route r (option_and_then (λ i. Some (DeleteVariable i u)) v) (with_route s (option_and_then (λ i. Some (SetVariable i u)) v) []) ≡ with_key v (Some u))
+-- two routes with a slot for a number and one for a key
+fits-key : (of : ℕ → List ℕ → List (Method × Wanted)) (f g : ℕ → List ℕ → Operation (List ℕ)) (r s : Route) → slot_names (loose r.path) ≡ codes "id" ∷ codes "key" ∷ [] → loose s.path ≡ loose r.path
+    → ((t u : List ℕ) → fills r.path r.operation (t ∷ u ∷ []) ≡ option_and_then (λ i. Some (f i u)) (id_in t))
+    → ((t u : List ℕ) → fills s.path s.operation (t ∷ u ∷ []) ≡ option_and_then (λ i. Some (g i u)) (id_in t))
+    → ((v : Option ℕ) (u : List ℕ) → with_route r (option_and_then (λ i. Some (f i u)) v) (with_route s (option_and_then (λ i. Some (g i u)) v) []) ≡ with_key of v (Some u))
     → (ss : List (List ℕ)) → pieces_fit (loose r.path) ss ≡ true
-    → routes_of (r ∷ s ∷ []) ss ≡ with_key (number_at (text_at (codes "id") (loose r.path) ss)) (text_at (codes "key") (loose r.path) ss)
-fits-key r s names same shape shape2 joined ss h =
+    → routes_of (r ∷ s ∷ []) ss ≡ with_key of (number_at (text_at (codes "id") (loose r.path) ss)) (text_at (codes "key") (loose r.path) ss)
+fits-key of f g r s names same shape shape2 joined ss h =
     let ts = slot_texts (loose r.path) ss in
     let c : length ts ≡ 2 = count (loose r.path) ss h ∙ ap length names in
     let q = pair ts c in
-    let e : reads r.path r.operation ss ≡ option_and_then (λ i. Some (DeleteVariable i q.1)) (id_in q.0) =
+    let e : reads r.path r.operation ss ≡ option_and_then (λ i. Some (f i q.1)) (id_in q.0) =
     reads-fills r.path r.operation ss h ∙ ap (fills r.path r.operation) q.2 ∙ shape q.0 q.1 in
-    let e2 : reads s.path s.operation ss ≡ option_and_then (λ i. Some (SetVariable i q.1)) (id_in q.0) =
+    let e2 : reads s.path s.operation ss ≡ option_and_then (λ i. Some (g i q.1)) (id_in q.0) =
     reads-fills s.path s.operation ss (ap (λ z. pieces_fit z ss) same ∙ h) ∙ ap (λ z. fills s.path s.operation (slot_texts z ss)) same
     ∙ ap (fills s.path s.operation) q.2 ∙ shape2 q.0 q.1 in
     let id : text_at (codes "id") (loose r.path) ss ≡ Some q.0 =
@@ -115,10 +115,10 @@ fits-key r s names same shape shape2 joined ss h =
     let key : text_at (codes "key") (loose r.path) ss ≡ Some q.1 =
     text-look (codes "key") (loose r.path) ss ∙ ap (λ ns. look (codes "key") ns ts) names ∙ ap (look (codes "key") (codes "id" ∷ codes "key" ∷ [])) q.2 in
     ap (λ o. with_route r o (with_route s (reads s.path s.operation ss) [])) e
-    ∙ ap (λ o. with_route r (option_and_then (λ i. Some (DeleteVariable i q.1)) (id_in q.0)) (with_route s o [])) e2
+    ∙ ap (λ o. with_route r (option_and_then (λ i. Some (f i q.1)) (id_in q.0)) (with_route s o [])) e2
     ∙ joined (id_in q.0) q.1
-    ∙ ap (λ z. with_key (number_at z) (Some q.1)) (sym id)
-    ∙ ap (λ z. with_key (number_at (text_at (codes "id") (loose r.path) ss)) z) (sym key)
+    ∙ ap (λ z. with_key of (number_at z) (Some q.1)) (sym id)
+    ∙ ap (λ z. with_key of (number_at (text_at (codes "id") (loose r.path) ss)) z) (sym key)
 
 -- the routes of one pattern
 record Group : Type 0 where
@@ -199,6 +199,9 @@ row k = get_or routes k (record { method = Get; path = []; fields = []; body = n
 abbrev alone : ℕ → Pattern → Group
 alone k p = record { path = loose (row k).path; pattern = p; rows = row k ∷ [] }
 
+abbrev both : ℕ → ℕ → Pattern → Group
+both k l p = record { path = loose (row k).path; pattern = p; rows = row k ∷ row l ∷ [] }
+
 abbrev groups : List Group
 groups =
     alone 0 Queue
@@ -213,7 +216,8 @@ groups =
     ∷ alone 9 PipelineCancel
     ∷ alone 10 Pipeline
     ∷ alone 11 Creation
-    ∷ record { path = loose (row 12).path; pattern = Variable; rows = row 12 ∷ row 13 ∷ [] }
+    ∷ both 12 13 ResourceGroup
+    ∷ both 14 15 Variable
     ∷ []
 
 all-rows : routes ≡ flat groups
@@ -224,11 +228,17 @@ all-patterns : patterns ≡ seen groups
 unfolding routes patterns
 all-patterns = refl
 
-key-joined : (v : Option ℕ) (u : List ℕ)
-    → with_route (row 12) (option_and_then (λ i. Some (DeleteVariable i u)) v) (with_route (row 13) (option_and_then (λ i. Some (SetVariable i u)) v) []) ≡ with_key v (Some u)
+group-joined : (v : Option ℕ) (u : List ℕ)
+    → with_route (row 12) (option_and_then (λ i. Some (ShowMode i u)) v) (with_route (row 13) (option_and_then (λ i. Some (SetMode i u)) v) []) ≡ with_key of_group v (Some u)
 unfolding routes
-key-joined None u = refl
-key-joined (Some i) u = refl
+group-joined None u = refl
+group-joined (Some i) u = refl
+
+variable-joined : (v : Option ℕ) (u : List ℕ)
+    → with_route (row 14) (option_and_then (λ i. Some (DeleteVariable i u)) v) (with_route (row 15) (option_and_then (λ i. Some (SetVariable i u)) v) []) ≡ with_key of_variable v (Some u)
+unfolding routes
+variable-joined None u = refl
+variable-joined (Some i) u = refl
 
 fits-0 : Fits (alone 0 Queue)
 unfolding routes
@@ -278,13 +288,17 @@ fits-11 : Fits (alone 11 Creation)
 unfolding routes
 fits-11 = fits-one (codes "id") (row 11) CreatePipeline refl refl (λ t. refl) (λ n. refl)
 
-fits-12 : Fits (record { path = loose (row 12).path; pattern = Variable; rows = row 12 ∷ row 13 ∷ [] })
+fits-12 : Fits (both 12 13 ResourceGroup)
 unfolding routes
-fits-12 = fits-key (row 12) (row 13) refl refl (λ t u. refl) (λ t u. refl) key-joined
+fits-12 = fits-key of_group ShowMode SetMode (row 12) (row 13) refl refl (λ t u. refl) (λ t u. refl) group-joined
+
+fits-14 : Fits (both 14 15 Variable)
+unfolding routes
+fits-14 = fits-key of_variable DeleteVariable SetVariable (row 14) (row 15) refl refl (λ t u. refl) (λ t u. refl) variable-joined
 
 good : Good groups
 unfolding routes
-good = (fits-0, (refl, tt), refl, (fits-1, (refl, tt), refl, (fits-2, (refl, tt), refl, (fits-3, (refl, tt), refl, (fits-4, (refl, tt), refl, (fits-5, (refl, tt), refl, (fits-6, (refl, tt), refl, (fits-7, (refl, tt), refl, (fits-8, (refl, tt), refl, (fits-9, (refl, tt), refl, (fits-10, (refl, tt), refl, (fits-11, (refl, tt), refl, (fits-12, (refl, (refl, tt)), refl, tt)))))))))))))
+good = (fits-0, (refl, tt), refl, (fits-1, (refl, tt), refl, (fits-2, (refl, tt), refl, (fits-3, (refl, tt), refl, (fits-4, (refl, tt), refl, (fits-5, (refl, tt), refl, (fits-6, (refl, tt), refl, (fits-7, (refl, tt), refl, (fits-8, (refl, tt), refl, (fits-9, (refl, tt), refl, (fits-10, (refl, tt), refl, (fits-11, (refl, tt), refl, (fits-12, (refl, (refl, tt)), refl, (fits-14, (refl, (refl, tt)), refl, tt))))))))))))))
 
 at-segments : (ss : List (List ℕ)) → routes_of routes ss ≡ by_pattern (first_of patterns ss) (text_of (codes "id") patterns ss) (text_of (codes "n") patterns ss) (text_of (codes "key") patterns ss)
 at-segments ss =

@@ -4,21 +4,21 @@ use Rattle.std.specs.Prelude.{map, filter, codes}
 use Rattle.std.proofs.lemmas.Slice.Eq.{bytes_eq-Decides}
 use Rattle.ci_machine.specs.declared.reply.Method.{Method}
 use Rattle.ci_http_routes.specs.declared.operation.Operation.{Operation}
-use Rattle.ci_http_routes.specs.declared.operation.Operation.TheVariants.{AskJob, UpdateJob, AppendTrace, SetFile, SetVariable, DeleteVariable, CreatePipeline, ShowPipeline, CancelPipeline, ShowJob, ShowTrace, Play, CancelJob, RetryJob}
+use Rattle.ci_http_routes.specs.declared.operation.Operation.TheVariants.{AskJob, UpdateJob, AppendTrace, SetFile, SetVariable, DeleteVariable, SetMode, ShowMode, CreatePipeline, ShowPipeline, CancelPipeline, ShowJob, ShowTrace, Play, CancelJob, RetryJob}
 use Rattle.ci_machine.specs.declared.reply.Method.TheVariants.{Delete, Get, Patch, Post, Put}
 use Rattle.ci_http_routes.specs.Answers.{wanted}
 use Rattle.ci_http_routes.specs.declared.router.Pattern.{Pattern}
-use Rattle.ci_http_routes.specs.declared.router.Pattern.TheVariants.{Queue, Attempt, AttemptTrace, CiFile, Variable, Creation, Pipeline, PipelineCancel, Job, JobTrace, JobPlay, JobCancel, JobRetry}
+use Rattle.ci_http_routes.specs.declared.router.Pattern.TheVariants.{Queue, Attempt, AttemptTrace, CiFile, Variable, ResourceGroup, Creation, Pipeline, PipelineCancel, Job, JobTrace, JobPlay, JobCancel, JobRetry}
 use Rattle.ci_http_routes.specs.Laws.{ascends}
 use Rattle.ci_http_routes.specs.Methods.{is_text, method_text}
 use Rattle.ci_http_routes.specs.Patterns.{patterns, pattern_in, text_in}
-use Rattle.ci_http_routes.specs.Places.{number_at, with_one, with_two, with_key_at, with_key, routes_in}
+use Rattle.ci_http_routes.specs.Places.{number_at, with_one, with_two, of_variable, of_group, with_key, routes_in}
 use Rattle.ci_http_routes.specs.Routes.{Wanted, routes_at}
 use Rattle.ci_http_routes.proofs.Groups.{by_pattern, at-path}
 
--- what holds of no route, of one, and of the two of a variable holds of the routes of each path
+-- what holds of no route, of one, and of the two of a variable and of a resource group holds of the routes of each path
 module _ (P : List (Method × Wanted) → Type 0) (none : P []) (alone : (m : Method) (w : Wanted) → P ((m, w) ∷ []))
-    (both : (id : ℕ) (key : List ℕ) → P (with_key_at id (Some key))) where
+    (variable : (id : ℕ) (key : List ℕ) → P (of_variable id key)) (group : (id : ℕ) (key : List ℕ) → P (of_group id key)) where
   on-one : (m : Method) (op : ℕ → Operation (List ℕ)) (n : Option ℕ) → P (with_one m op n)
   on-one m op None = none
   on-one m op (Some n) = alone m (wanted (op n))
@@ -27,17 +27,18 @@ module _ (P : List (Method × Wanted) → Type 0) (none : P []) (alone : (m : Me
   on-two m op None n = none
   on-two m op (Some id) n = on-one m (op id) n
 
-  on-key : (id : Option ℕ) (key : Option (List ℕ)) → P (with_key id key)
-  on-key None key = none
-  on-key (Some id) None = none
-  on-key (Some id) (Some key) = both id key
+  on-key : (of : ℕ → List ℕ → List (Method × Wanted)) → ((id : ℕ) (key : List ℕ) → P (of id key)) → (id : Option ℕ) (key : Option (List ℕ)) → P (with_key of id key)
+  on-key of both None key = none
+  on-key of both (Some id) None = none
+  on-key of both (Some id) (Some key) = both id key
 
   on-pattern : (p : Pattern) (id n : Option ℕ) (key : Option (List ℕ)) → P (routes_in p id n key)
   on-pattern Queue id n key = alone Post (wanted AskJob)
   on-pattern Attempt id n key = on-one Put UpdateJob n
   on-pattern AttemptTrace id n key = on-one Patch AppendTrace n
   on-pattern CiFile id n key = on-one Put SetFile id
-  on-pattern Variable id n key = on-key id key
+  on-pattern Variable id n key = on-key of_variable variable id key
+  on-pattern ResourceGroup id n key = on-key of_group group id key
   on-pattern Creation id n key = on-one Post CreatePipeline id
   on-pattern Pipeline id n key = on-two Get ShowPipeline id n
   on-pattern PipelineCancel id n key = on-two Post CancelPipeline id n
@@ -58,7 +59,7 @@ abbrev Ascends : List (Method × Wanted) → Type 0
 Ascends rs = ascends (map (λ found. method_text found.0) rs) ≡ true
 
 pub methods_ascend : (path : List ℕ) → Ascends (routes_at path)
-methods_ascend path = on-path Ascends refl (λ m w. refl) (λ id key. refl) path
+methods_ascend path = on-path Ascends refl (λ m w. refl) (λ id key. refl) (λ id key. refl) path
 
 abbrev FewOf : List ℕ → List (Method × Wanted) → Type 0
 FewOf method rs = length (filter (λ found. is_text (method_text found.0) method) rs) ≤ 1
@@ -71,22 +72,28 @@ one-of : (method : List ℕ) (m : Method) (w : Wanted) → FewOf method ((m, w) 
 one-of method m w = few (is_text (method_text m) method) (m, w)
 
 -- no text is both names
-apart : (method : List ℕ) → is_text (codes "DELETE") method ≡ true → is_text (codes "PUT") method ≡ true → ⊥
-apart method d p =
-    let a : codes "DELETE" ≡ method = (bytes_eq-Decides (codes "DELETE") method).0 d in
-    let b : codes "PUT" ≡ method = (bytes_eq-Decides (codes "PUT") method).0 p in
-    let e : false ≡ true = (bytes_eq-Decides (codes "DELETE") (codes "PUT")).1 (a ∙ sym b) in
+apart : (one other method : List ℕ) → is_text one other ≡ false → is_text one method ≡ true → is_text other method ≡ true → ⊥
+apart one other method n d p =
+    let a : one ≡ method = (bytes_eq-Decides one method).0 d in
+    let b : other ≡ method = (bytes_eq-Decides other method).0 p in
+    let e : is_text one other ≡ true = (bytes_eq-Decides one other).1 (a ∙ sym b) in
     cc
 
-one-of-two : (method : List ℕ) (id : ℕ) (key : List ℕ) → FewOf method (with_key_at id (Some key))
-one-of-two method id key = by (is_text (codes "DELETE") method) (is_text (codes "PUT") method) refl refl (Delete, wanted (DeleteVariable id key)) (Put, wanted (SetVariable id key))
+one-of-two : (method : List ℕ) (m l : Method) (w v : Wanted) → is_text (method_text m) (method_text l) ≡ false → FewOf method ((m, w) ∷ (l, v) ∷ [])
+one-of-two method m l w v n = by (is_text (method_text m) method) (is_text (method_text l) method) refl refl (m, w) (l, v)
   where
-    by : (d p : Bool) → is_text (codes "DELETE") method ≡ d → is_text (codes "PUT") method ≡ p → (x y : Method × Wanted)
+    by : (d p : Bool) → is_text (method_text m) method ≡ d → is_text (method_text l) method ≡ p → (x y : Method × Wanted)
         → length (cond d (x ∷ cond p (y ∷ []) []) (cond p (y ∷ []) [])) ≤ 1
-    by true true d p x y = absurd (apart method d p)
+    by true true d p x y = absurd (apart (method_text m) (method_text l) method n d p)
     by true false d p x y = omega arith
     by false true d p x y = omega arith
     by false false d p x y = omega arith
 
+one-of-variable : (method : List ℕ) (id : ℕ) (key : List ℕ) → FewOf method (of_variable id key)
+one-of-variable method id key = one-of-two method Delete Put (wanted (DeleteVariable id key)) (wanted (SetVariable id key)) refl
+
+one-of-group : (method : List ℕ) (id : ℕ) (key : List ℕ) → FewOf method (of_group id key)
+one-of-group method id key = one-of-two method Get Put (wanted (ShowMode id key)) (wanted (SetMode id key)) refl
+
 pub one_route : (method path : List ℕ) → FewOf method (routes_at path)
-one_route method path = on-path (FewOf method) (omega arith) (one-of method) (one-of-two method) path
+one_route method path = on-path (FewOf method) (omega arith) (one-of method) (one-of-variable method) (one-of-group method) path

@@ -14,7 +14,6 @@ use Rattle.ci_http_routes.specs.Methods.{is_text, method_text}
 use Rattle.ci_http_routes.specs.Routes.{Part, word, number, text, Takes, Route, Wanted, asks, routes, reads, with_route, routes_of, routes_at, asked_by, asked_of, asked_in}
 use Rattle.ci_http_routes.specs.Segments.{segments, onto}
 use Rattle.ci_http_routes.proofs.Splits.{segments-some}
-use Rattle.ci_http_routes.proofs.Walks.{and-l, and-r}
 
 some-is : {A : Type 0} (d x y : A) → Some x ≡ Some y → x ≡ y
 some-is d x y e = ap (λ o. unwrap_or o d) e
@@ -123,7 +122,7 @@ rows-named (r ∷ rs) n ss = one-named r ss (routes_of rs ss) n.0 (rows-named rs
 
 all-name : AllName routes
 unfolding routes
-all-name = (λ vs. refl, (λ vs. refl, (λ vs. refl, (λ vs. refl, (λ vs. refl, (λ vs. refl, (λ vs. refl, (λ vs. refl, (λ vs. refl, (λ vs. refl, (λ vs. refl, (λ vs. refl, (λ vs. refl, (λ vs. refl, tt))))))))))))))
+all-name = (λ vs. refl, (λ vs. refl, (λ vs. refl, (λ vs. refl, (λ vs. refl, (λ vs. refl, (λ vs. refl, (λ vs. refl, (λ vs. refl, (λ vs. refl, (λ vs. refl, (λ vs. refl, (λ vs. refl, (λ vs. refl, (λ vs. refl, (λ vs. refl, tt))))))))))))))))
 
 path-named : (path : List ℕ) → AllNamed path (routes_at path)
 path-named [] = tt

@@ -2,7 +2,7 @@
 use Rattle.std.specs.Prelude.{ℕ, List, [], ◌∷◌, Option, Some, None, codes}
 use Rattle.ci_machine.specs.declared.reply.Method.{Method}
 use Rattle.ci_http_routes.specs.declared.operation.Operation.{Operation}
-use Rattle.ci_http_routes.specs.declared.operation.Operation.TheVariants.{AskJob, UpdateJob, AppendTrace, SetFile, SetVariable, DeleteVariable, CreatePipeline, ShowPipeline, CancelPipeline, ShowJob, ShowTrace, Play, CancelJob, RetryJob}
+use Rattle.ci_http_routes.specs.declared.operation.Operation.TheVariants.{AskJob, UpdateJob, AppendTrace, SetFile, SetVariable, DeleteVariable, SetMode, ShowMode, CreatePipeline, ShowPipeline, CancelPipeline, ShowJob, ShowTrace, Play, CancelJob, RetryJob}
 use Rattle.ci_http_routes.specs.declared.lookup.Lookup.{Lookup}
 use Rattle.ci_http_routes.specs.declared.lookup.Lookup.TheVariants.{NoRoute, OtherMethods, Found}
 use Rattle.ci_http_routes.specs.Routes.{Body, no_body, file, bytes, json, Wanted, Asked, no_route, other_methods, asks}
@@ -16,6 +16,8 @@ module _ {K L : Type 0} (view : K → L) where
   map_key (SetFile id) = SetFile id
   map_key (SetVariable id key) = SetVariable id (view key)
   map_key (DeleteVariable id key) = DeleteVariable id (view key)
+  map_key (SetMode id key) = SetMode id (view key)
+  map_key (ShowMode id key) = ShowMode id (view key)
   map_key (CreatePipeline id) = CreatePipeline id
   map_key (ShowPipeline id n) = ShowPipeline id n
   map_key (CancelPipeline id n) = CancelPipeline id n
@@ -39,6 +41,7 @@ body_of (UpdateJob n) = json (codes "token" ∷ codes "state" ∷ codes "failure
 body_of (AppendTrace n) = bytes
 body_of (SetFile id) = file
 body_of (SetVariable id key) = json (codes "value" ∷ [])
+body_of (SetMode id key) = json (codes "process_mode" ∷ [])
 body_of (CreatePipeline id) = json (codes "ref" ∷ codes "tag" ∷ codes "source" ∷ codes "variables" ∷ [])
 body_of _ = no_body
 

@@ -1,7 +1,7 @@
 -- The order of methods, and the path of an operation.
 use Rattle.std.specs.Prelude.{ℕ, Bool, true, false, List, [], ◌∷◌, ◌++◌, nat_lt, ◌==◌, ◌&&◌, ◌||◌, codes, decimal}
 use Rattle.ci_http_routes.specs.declared.operation.Operation.{Operation}
-use Rattle.ci_http_routes.specs.declared.operation.Operation.TheVariants.{AskJob, UpdateJob, AppendTrace, SetFile, SetVariable, DeleteVariable, CreatePipeline, ShowPipeline, CancelPipeline, ShowJob, ShowTrace, Play, CancelJob, RetryJob}
+use Rattle.ci_http_routes.specs.declared.operation.Operation.TheVariants.{AskJob, UpdateJob, AppendTrace, SetFile, SetVariable, DeleteVariable, SetMode, ShowMode, CreatePipeline, ShowPipeline, CancelPipeline, ShowJob, ShowTrace, Play, CancelJob, RetryJob}
 
 -- one text is before another in the order of their bytes
 abbrev pub is_before : List ℕ → List ℕ → Bool
@@ -28,6 +28,8 @@ path_text (AppendTrace n) = codes "/api/v4/jobs/" ++ (decimal n ++ codes "/trace
 path_text (SetFile id) = project_path id (codes "/ci_file")
 path_text (SetVariable id key) = project_path id (codes "/variables/" ++ key)
 path_text (DeleteVariable id key) = project_path id (codes "/variables/" ++ key)
+path_text (SetMode id key) = project_path id (codes "/resource_groups/" ++ key)
+path_text (ShowMode id key) = project_path id (codes "/resource_groups/" ++ key)
 path_text (CreatePipeline id) = project_path id (codes "/pipeline")
 path_text (ShowPipeline id n) = project_path id (codes "/pipelines/" ++ decimal n)
 path_text (CancelPipeline id n) = project_path id (codes "/pipelines/" ++ (decimal n ++ codes "/cancel"))

@@ -2,7 +2,7 @@
 use Rattle.std.specs.Prelude.{ℕ, List, [], ◌∷◌, Bool, true, false, cond, ◌&&◌, ◌==◌, ltb, length, Option, Some, None, nat_eq, codes}
 use Rattle.std.specs.Cmp.Lexicographic.{pointwise}
 use Rattle.ci_http_routes.specs.declared.router.Pattern.{Pattern}
-use Rattle.ci_http_routes.specs.declared.router.Pattern.TheVariants.{Queue, Attempt, AttemptTrace, CiFile, Variable, Creation, Pipeline, PipelineCancel, Job, JobTrace, JobPlay, JobCancel, JobRetry}
+use Rattle.ci_http_routes.specs.declared.router.Pattern.TheVariants.{Queue, Attempt, AttemptTrace, CiFile, Variable, ResourceGroup, Creation, Pipeline, PipelineCancel, Job, JobTrace, JobPlay, JobCancel, JobRetry}
 use Rattle.ci_http_routes.specs.Segments.{segments}
 
 -- a part of a pattern: a word, or a slot of this name, where any text stands that is not empty
@@ -79,5 +79,6 @@ patterns =
     ∷ (project (fixed (codes "pipelines") ∷ slot (codes "n") ∷ fixed (codes "cancel") ∷ []), PipelineCancel)
     ∷ (project (fixed (codes "pipelines") ∷ slot (codes "n") ∷ []), Pipeline)
     ∷ (project (fixed (codes "pipeline") ∷ []), Creation)
+    ∷ (project (fixed (codes "resource_groups") ∷ slot (codes "key") ∷ []), ResourceGroup)
     ∷ (project (fixed (codes "variables") ∷ slot (codes "key") ∷ []), Variable)
     ∷ []

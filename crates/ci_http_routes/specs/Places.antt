@@ -4,12 +4,12 @@ use Rattle.ci_values.specs.Numbers.{id_in}
 use Rattle.ci_machine.specs.declared.reply.Method.{Method}
 use Rattle.ci_machine.specs.declared.reply.Method.TheVariants.{Delete, Get, Patch, Post, Put}
 use Rattle.ci_http_routes.specs.declared.operation.Operation.{Operation}
-use Rattle.ci_http_routes.specs.declared.operation.Operation.TheVariants.{AskJob, UpdateJob, AppendTrace, SetFile, SetVariable, DeleteVariable, CreatePipeline, ShowPipeline, CancelPipeline, ShowJob, ShowTrace, Play, CancelJob, RetryJob}
+use Rattle.ci_http_routes.specs.declared.operation.Operation.TheVariants.{AskJob, UpdateJob, AppendTrace, SetFile, SetVariable, DeleteVariable, SetMode, ShowMode, CreatePipeline, ShowPipeline, CancelPipeline, ShowJob, ShowTrace, Play, CancelJob, RetryJob}
 use Rattle.ci_http_routes.specs.declared.lookup.Entry.{Entry}
 use Rattle.ci_http_routes.specs.declared.lookup.Entries.{Entries}
 use Rattle.ci_http_routes.specs.declared.place.Place.{Place}
 use Rattle.ci_http_routes.specs.declared.router.Pattern.{Pattern}
-use Rattle.ci_http_routes.specs.declared.router.Pattern.TheVariants.{Queue, Attempt, AttemptTrace, CiFile, Variable, Creation, Pipeline, PipelineCancel, Job, JobTrace, JobPlay, JobCancel, JobRetry}
+use Rattle.ci_http_routes.specs.declared.router.Pattern.TheVariants.{Queue, Attempt, AttemptTrace, CiFile, Variable, ResourceGroup, Creation, Pipeline, PipelineCancel, Job, JobTrace, JobPlay, JobCancel, JobRetry}
 use Rattle.ci_http_routes.specs.Answers.{map_key, wanted}
 use Rattle.ci_http_routes.specs.Patterns.{patterns, pattern_in, text_in}
 use Rattle.ci_http_routes.specs.Routes.{Wanted}
@@ -40,13 +40,18 @@ with_two method op None n = []
 with_two method op (Some id) n = with_one method (op id) n
 
 -- the routes of a variable
-abbrev pub with_key_at : ℕ → Option (List ℕ) → List (Method × Wanted)
-with_key_at id None = []
-with_key_at id (Some key) = (Delete, wanted (DeleteVariable id key)) ∷ (Put, wanted (SetVariable id key)) ∷ []
+abbrev pub of_variable : ℕ → List ℕ → List (Method × Wanted)
+of_variable id key = (Delete, wanted (DeleteVariable id key)) ∷ (Put, wanted (SetVariable id key)) ∷ []
 
-abbrev pub with_key : Option ℕ → Option (List ℕ) → List (Method × Wanted)
-with_key None key = []
-with_key (Some id) key = with_key_at id key
+-- the routes of a resource group
+abbrev pub of_group : ℕ → List ℕ → List (Method × Wanted)
+of_group id key = (Get, wanted (ShowMode id key)) ∷ (Put, wanted (SetMode id key)) ∷ []
+
+-- the routes of a place with a number and a key
+abbrev pub with_key : (ℕ → List ℕ → List (Method × Wanted)) → Option ℕ → Option (List ℕ) → List (Method × Wanted)
+with_key of None key = []
+with_key of (Some id) None = []
+with_key of (Some id) (Some key) = of id key
 
 -- the routes of a pattern, by what stands in its slots
 abbrev pub routes_in : Pattern → Option ℕ → Option ℕ → Option (List ℕ) → List (Method × Wanted)
@@ -54,7 +59,8 @@ routes_in Queue id n key = (Post, wanted AskJob) ∷ []
 routes_in Attempt id n key = with_one Put UpdateJob n
 routes_in AttemptTrace id n key = with_one Patch AppendTrace n
 routes_in CiFile id n key = with_one Put SetFile id
-routes_in Variable id n key = with_key id key
+routes_in Variable id n key = with_key of_variable id key
+routes_in ResourceGroup id n key = with_key of_group id key
 routes_in Creation id n key = with_one Post CreatePipeline id
 routes_in Pipeline id n key = with_two Get ShowPipeline id n
 routes_in PipelineCancel id n key = with_two Post CancelPipeline id n

@@ -5,7 +5,7 @@ use Rattle.ci_values.specs.Numbers.{id_in}
 use Rattle.ci_machine.specs.declared.reply.Method.{Method}
 use Rattle.ci_machine.specs.declared.reply.Method.TheVariants.{Delete, Get, Patch, Post, Put}
 use Rattle.ci_http_routes.specs.declared.operation.Operation.{Operation}
-use Rattle.ci_http_routes.specs.declared.operation.Operation.TheVariants.{AskJob, UpdateJob, AppendTrace, SetFile, SetVariable, DeleteVariable, CreatePipeline, ShowPipeline, CancelPipeline, ShowJob, ShowTrace, Play, CancelJob, RetryJob}
+use Rattle.ci_http_routes.specs.declared.operation.Operation.TheVariants.{AskJob, UpdateJob, AppendTrace, SetFile, SetVariable, DeleteVariable, SetMode, ShowMode, CreatePipeline, ShowPipeline, CancelPipeline, ShowJob, ShowTrace, Play, CancelJob, RetryJob}
 use Rattle.ci_http_routes.specs.Methods.{is_text, method_text}
 use Rattle.ci_http_routes.specs.Segments.{segments}
 
@@ -72,6 +72,8 @@ routes =
     ∷ project_route Get (project (word (codes "pipelines") ∷ number (codes "n") ∷ [])) no_body ShowPipeline
     ∷ project_route Post (project (word (codes "pipeline") ∷ []))
     (json (codes "ref" ∷ codes "tag" ∷ codes "source" ∷ codes "variables" ∷ [])) CreatePipeline
+    ∷ project_route Get (project (word (codes "resource_groups") ∷ text (codes "key") ∷ [])) no_body ShowMode
+    ∷ project_route Put (project (word (codes "resource_groups") ∷ text (codes "key") ∷ [])) (json (codes "process_mode" ∷ [])) SetMode
     ∷ project_route Delete (project (word (codes "variables") ∷ text (codes "key") ∷ [])) no_body DeleteVariable
     ∷ project_route Put (project (word (codes "variables") ∷ text (codes "key") ∷ [])) (json (codes "value" ∷ [])) SetVariable
     ∷ []

@@ -6,7 +6,7 @@ use Rattle.matchit.specs.Order.{placed}
 use Rattle.matchit.specs.Route.{Scan, parse_route}
 use Rattle.matchit.specs.declared.error.InsertError.{InsertError}
 use Rattle.ci_http_routes.specs.declared.router.Pattern.{Pattern}
-use Rattle.ci_http_routes.specs.declared.router.Pattern.TheVariants.{Queue, Attempt, AttemptTrace, CiFile, Variable, Creation, Pipeline, PipelineCancel, Job, JobTrace, JobPlay, JobCancel, JobRetry}
+use Rattle.ci_http_routes.specs.declared.router.Pattern.TheVariants.{Queue, Attempt, AttemptTrace, CiFile, Variable, ResourceGroup, Creation, Pipeline, PipelineCancel, Job, JobTrace, JobPlay, JobCancel, JobRetry}
 
 -- the rows with what a path's text gives
 abbrev pub with_scan : Result Scan InsertError → Pattern → RowsOf (RouteOf Pattern) → RowsOf (RouteOf Pattern)
@@ -34,8 +34,9 @@ table =
     (with_path (codes "/api/v4/projects/{id}/pipelines/{n}/cancel") PipelineCancel
     (with_path (codes "/api/v4/projects/{id}/pipelines/{n}") Pipeline
     (with_path (codes "/api/v4/projects/{id}/pipeline") Creation
+    (with_path (codes "/api/v4/projects/{id}/resource_groups/{key}") ResourceGroup
     (with_path (codes "/api/v4/projects/{id}/variables/{key}") Variable
     (with_path (codes "/api/v4/projects/{id}/ci_file") CiFile
     (with_path (codes "/api/v4/jobs/{n}/trace") AttemptTrace
     (with_path (codes "/api/v4/jobs/{n}") Attempt
-    (with_path (codes "/api/v4/jobs/request") Queue []))))))))))))
+    (with_path (codes "/api/v4/jobs/request") Queue [])))))))))))))

@@ -1,9 +1,9 @@
 //! What a method and a path ask for.
 
-ghost use Rattle.std.specs.Prelude.{◌≡◌, [], ◌∷◌, Some, MatchOption};
+ghost use Rattle.std.specs.Prelude.{◌≡◌, [], ◌∷◌, MatchOption};
 ghost use Rattle.ci_http_routes.specs.Routes.{asked_of};
 ghost use Rattle.ci_http_routes.specs.Answers.{as_asked, map_key, wanted};
-ghost use Rattle.ci_http_routes.specs.Places.{listed, routes_by, with_key_at};
+ghost use Rattle.ci_http_routes.specs.Places.{listed, of_group, of_variable, routes_by};
 
 use crate::method::is_named;
 use crate::operation::Operation;
@@ -56,6 +56,7 @@ fn entries_of<'p>(place: &Place<'p>) -> Option<Entries<&'p str>>
         Pattern::AttemptTrace => one(Method::Patch, Operation::AppendTrace(place.n()?)),
         Pattern::CiFile => one(Method::Put, Operation::SetFile(place.id()?)),
         Pattern::Variable => variable(place.id()?, place.key?),
+        Pattern::ResourceGroup => resource_group(place.id()?, place.key?),
         Pattern::Creation => one(Method::Post, Operation::CreatePipeline(place.id()?)),
         Pattern::Pipeline => one(
             Method::Get,
@@ -85,7 +86,7 @@ fn one<'p>(method: Method, operation: Operation<&'p str>) -> Entries<&'p str>
 
 // The routes of a variable.
 fn variable<'p>(id: u64, key: &'p str) -> Entries<&'p str>
-    ensures { listed (λ key. key.now) result ≡ with_key_at id (Some key.now) }
+    ensures { listed (λ key. key.now) result ≡ of_variable id key.now }
 {
     Entries {
         first: Entry {
@@ -95,6 +96,22 @@ fn variable<'p>(id: u64, key: &'p str) -> Entries<&'p str>
         second: Some(Entry {
             method: Method::Put,
             operation: Operation::SetVariable(id, key),
+        }),
+    }
+}
+
+// The routes of a resource group.
+fn resource_group<'p>(id: u64, key: &'p str) -> Entries<&'p str>
+    ensures { listed (λ key. key.now) result ≡ of_group id key.now }
+{
+    Entries {
+        first: Entry {
+            method: Method::Get,
+            operation: Operation::ShowMode(id, key),
+        },
+        second: Some(Entry {
+            method: Method::Put,
+            operation: Operation::SetMode(id, key),
         }),
     }
 }

@@ -17,6 +17,10 @@ pub enum Operation<K> {
     SetVariable(u64, K),
     /// DELETE `/api/v4/projects/:id/variables/:key`: a variable is to go.
     DeleteVariable(u64, K),
+    /// PUT `/api/v4/projects/:id/resource_groups/:key`: a resource group is to have a process mode.
+    SetMode(u64, K),
+    /// GET `/api/v4/projects/:id/resource_groups/:key`: a resource group's process mode is asked for.
+    ShowMode(u64, K),
     /// POST `/api/v4/projects/:id/pipeline`: a pipeline is to be made.
     CreatePipeline(u64),
     /// GET `/api/v4/projects/:id/pipelines/:n`: a pipeline is asked for.

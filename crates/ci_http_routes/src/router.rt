@@ -14,6 +14,7 @@ pub(crate) enum Pattern {
     AttemptTrace,
     CiFile,
     Variable,
+    ResourceGroup,
     Creation,
     Pipeline,
     PipelineCancel,
@@ -41,6 +42,11 @@ pub(crate) fn router_of(alloc: Global) -> Result<Router<Pattern>, AllocError>
         &mut router,
         "/api/v4/projects/{id}/variables/{key}",
         Pattern::Variable,
+    )?;
+    add(
+        &mut router,
+        "/api/v4/projects/{id}/resource_groups/{key}",
+        Pattern::ResourceGroup,
     )?;
     add(
         &mut router,

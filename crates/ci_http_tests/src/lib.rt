@@ -6,6 +6,8 @@ mod creations;
 #[cfg(test)]
 mod look_ups;
 #[cfg(test)]
+mod modes;
+#[cfg(test)]
 mod numbers;
 #[cfg(test)]
 mod requests;

@@ -21,6 +21,10 @@ fn has_project_routes(rt: &impl Abort, paths: &Paths) {
     assert!(rt; asked == Lookup::Found(Operation::SetVariable(1, "%41-b")));
     let asked = paths.look_up(b"DELETE", "/api/v4/projects/1/variables/A");
     assert!(rt; asked == Lookup::Found(Operation::DeleteVariable(1, "A")));
+    let asked = paths.look_up(b"PUT", "/api/v4/projects/1/resource_groups/prod");
+    assert!(rt; asked == Lookup::Found(Operation::SetMode(1, "prod")));
+    let asked = paths.look_up(b"GET", "/api/v4/projects/1/resource_groups/%41-b");
+    assert!(rt; asked == Lookup::Found(Operation::ShowMode(1, "%41-b")));
     let asked = paths.look_up(b"POST", "/api/v4/projects/1/pipeline");
     assert!(rt; asked == Lookup::Found(Operation::CreatePipeline(1)));
     let asked = paths.look_up(b"GET", "/api/v4/projects/1/pipelines/2");
@@ -45,6 +49,8 @@ fn has_job_routes(rt: &impl Abort, paths: &Paths) {
 fn lists_methods(rt: &impl Abort, paths: &Paths) {
     let asked = paths.look_up(b"GET", "/api/v4/projects/1/variables/A");
     assert!(rt; asked == Lookup::OtherMethods(Method::Delete, Some(Method::Put)));
+    let asked = paths.look_up(b"DELETE", "/api/v4/projects/1/resource_groups/A");
+    assert!(rt; asked == Lookup::OtherMethods(Method::Get, Some(Method::Put)));
     let asked = paths.look_up(b"post", "/api/v4/jobs/request");
     assert!(rt; asked == Lookup::OtherMethods(Method::Post, None));
 }
@@ -88,6 +94,10 @@ fn other_paths_have_no_route(rt: HostRuntime) -> Result<(), Fail> {
     has_no_route(&rt, &paths, "/api/v4/jobs/request/trace");
     has_no_route(&rt, &paths, "/api/v4/projects/1/variables/");
     has_no_route(&rt, &paths, "/api/v4/projects/1/variables/A/B");
+    has_no_route(&rt, &paths, "/api/v4/projects/1/resource_groups");
+    has_no_route(&rt, &paths, "/api/v4/projects/1/resource_groups/");
+    has_no_route(&rt, &paths, "/api/v4/projects/1/resource_groups/A/B");
+    has_no_route(&rt, &paths, "/api/v4/projects/0/resource_groups/A");
     has_no_route(&rt, &paths, "/api/v4/projects/01/pipeline");
     has_no_route(&rt, &paths, "//api/v4/jobs/1");
     Ok(())

@@ -83,6 +83,16 @@ const ROWS: &[(&[u8], Option<Code>, bool)] = &[
         true,
     ),
     (
+        b"PUT /api/v4/projects/1/resource_groups/A HTTP/1.1\r\nPRIVATE-TOKEN: p1-ab\r\nContent-Length: 28\r\n\r\n{\"process_mode\":\"unordered\"}",
+        None,
+        true,
+    ),
+    (
+        b"GET /api/v4/projects/1/resource_groups/A HTTP/1.1\r\nPRIVATE-TOKEN: p1-ab\r\n\r\n",
+        None,
+        true,
+    ),
+    (
         b"POST /api/v4/jobs/request HTTP/1.1\r\nContent-Length: 8\r\n\r\n[\"nope\"]",
         Some(Code::H7),
         true,

@@ -1,3 +1,4 @@
 pub mod Keyed
 pub mod Tests
 pub mod Filters
+pub mod Claims

@@ -1,5 +1,5 @@
 -- The bodies of replies: compact JSON, the members of each object in the order of their bytes.
-use Rattle.std.specs.Prelude.{ℕ, Bool, List, [], ◌∷◌, map, codes, insert, count_by, if◌then◌else◌}
+use Rattle.std.specs.Prelude.{ℕ, Bool, List, [], ◌∷◌, map, codes, insert, count_by, if◌then◌else◌, Option, Some, None}
 use Rattle.std.specs.List.{list_any}
 use Rattle.std.specs.Fmt.{decimal}
 use Rattle.std.specs.Ordering.{nat_cmp, is_lt}
@@ -20,7 +20,9 @@ use Rattle.ci_machine.specs.declared.records.Source.TheVariants.{Push, Web, Sche
 use Rattle.ci_machine.specs.declared.records.Job.{Job}
 use Rattle.ci_machine.specs.declared.records.JobVariable.{JobVariable}
 use Rattle.ci_machine.specs.declared.records.QueuedJob.{QueuedJob}
-use Rattle.ci_machine.specs.declared.records.Holder.{Holder}
+use Rattle.ci_machine.specs.declared.records.Claim.{Claim}
+use Rattle.ci_machine.specs.declared.records.GroupOrder.{GroupOrder}
+use Rattle.ci_machine.specs.declared.records.GroupOrder.TheVariants.{OldestFirst, NewestReadyFirst}
 use Rattle.ci_machine.specs.declared.reply.Detail.{Detail}
 use Rattle.ci_machine.specs.Eligible.{is_free}
 use Rattle.ci_machine.specs.Reply.{detail_text}
@@ -48,10 +50,20 @@ paused_data id paused = object (member (codes "id") (number (unsigned id)) (memb
 abbrev pub pruned_data : ℕ → Data
 pruned_data pipeline = object (member (codes "pruned") (number (unsigned pipeline)) no_members)
 
--- the status of a job of a project as it is printed: one that is pending waits for its resource group while a live attempt holds that
-abbrev pub printed_status : List Holder → ℕ → Job → Status → List ℕ
-printed_status holders project j status.Pending = if is_free holders project j.options.resource_group then status_text status.Pending else codes "waiting_for_resource"
-printed_status holders project j s = status_text s
+-- the process mode of a resource group, by its order
+abbrev pub order_text : Option GroupOrder → List ℕ
+order_text None = codes "unordered"
+order_text (Some OldestFirst) = codes "oldest_first"
+order_text (Some NewestReadyFirst) = codes "newest_ready_first"
+
+-- a resource group with its process mode: {"key":..,"process_mode":..}
+abbrev pub mode_data : List ℕ → Option GroupOrder → Data
+mode_data group order = object (member (codes "key") (string group) (member (codes "process_mode") (string (order_text order)) no_members))
+
+-- the status of a job of a project as it is printed: one that is pending waits for its resource group while one of these claims is on that
+abbrev pub printed_status : List Claim → ℕ → Job → Status → List ℕ
+printed_status claims project j status.Pending = if is_free claims project j.options.resource_group then status_text status.Pending else codes "waiting_for_resource"
+printed_status claims project j s = status_text s
 
 -- a job with its status: {"id":..,"name":..,"stage":..,"status":..}
 abbrev pub job_data : List ℕ → Job → Data
@@ -66,20 +78,20 @@ abbrev pub file_data : ℕ → Data
 file_data count = object (member (codes "jobs") (number (unsigned count)) no_members)
 
 -- jobs of a project with their rows
-abbrev pub jobs_data : List Holder → ℕ → List Job → List Row → List Data
-jobs_data holders project [] rows = []
-jobs_data holders project (j ∷ js) [] = []
-jobs_data holders project (j ∷ js) (r ∷ rows) = job_data (printed_status holders project j r.status) j ∷ jobs_data holders project js rows
+abbrev pub jobs_data : List Claim → ℕ → List Job → List Row → List Data
+jobs_data claims project [] rows = []
+jobs_data claims project (j ∷ js) [] = []
+jobs_data claims project (j ∷ js) (r ∷ rows) = job_data (printed_status claims project j r.status) j ∷ jobs_data claims project js rows
 
 -- the status of a pipeline whose jobs have these facts and rows
 abbrev pub status_of_jobs : List Job → List Facts → List Row → Status
 status_of_jobs jobs facts rows = pipeline_status (map (λ j. j.options.part) jobs) facts (statuses rows)
 
 -- a pipeline with its jobs, which have these facts and rows: {"id":..,"jobs":[..],"ref":..,"source":..,"status":..}
-abbrev pub pipeline_data : Pipeline → List Holder → List Job → List Facts → List Row → Data
-pipeline_data p holders jobs facts rows =
+abbrev pub pipeline_data : Pipeline → List Claim → List Job → List Facts → List Row → Data
+pipeline_data p claims jobs facts rows =
     object (member (codes "id") (number (unsigned p.id))
-    (member (codes "jobs") (array (items_of (jobs_data holders p.project jobs rows)))
+    (member (codes "jobs") (array (items_of (jobs_data claims p.project jobs rows)))
     (member (codes "ref") (string p.git_ref)
     (member (codes "source") (string (source_text p.source))
     (member (codes "status") (string (status_text (status_of_jobs jobs facts rows))) no_members)))))

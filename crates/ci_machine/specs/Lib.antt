@@ -3,9 +3,11 @@ pub mod Kept
 pub mod Statuses
 pub mod Lookups
 pub mod Holders
+pub mod Waiting
 pub mod Reply
 pub mod Options
 pub mod Bodies
+pub mod Groups
 pub mod Eligible
 pub mod Redundant
 pub mod Leases

@@ -12,6 +12,7 @@ use Rattle.ci_machine.specs.declared.records.JobVariable.{JobVariable}
 use Rattle.ci_machine.specs.declared.records.Need.{Need}
 use Rattle.ci_machine.specs.declared.records.Attempt.{Attempt}
 use Rattle.ci_machine.specs.declared.records.Trace.{Trace}
+use Rattle.ci_machine.specs.declared.records.GroupMode.{GroupMode}
 use Rattle.ci_machine.specs.declared.records.Numbers.{Numbers}
 use Rattle.ci_machine.specs.declared.change.Record.{Record}
 use Rattle.ci_machine.specs.declared.change.Record.TheVariants as row
@@ -32,6 +33,7 @@ pub record State : Type 0 where
   pub needs : List Need  -- by the job, then by the one that it waits for
   pub attempts : List Attempt
   pub traces : List Trace  -- by the attempt, of which each has one at most
+  pub modes : List GroupMode  -- by the project, then by the resource group
   pub next : Numbers
 
 abbrev pub first_numbers : Numbers
@@ -39,10 +41,11 @@ first_numbers = record { project = 1; runner = 1; pipeline = 1; job = 1; attempt
 
 -- nothing, and each next number is 1
 abbrev pub empty : State
-empty = record { projects = []; variables = []; runners = []; pipelines = []; jobs = []; job_variables = []; needs = []; attempts = []; traces = []; next = first_numbers }
+empty = record { projects = []; variables = []; runners = []; pipelines = []; jobs = []; job_variables = []; needs = []; attempts = []; traces = []; modes = []; next = first_numbers }
 
 -- how records of a table are ordered: by their numbers, variables by their project or job and then by the bytes of the key, the
--- pairs of graphs by the job and then by the one that it waits for, traces by the attempt
+-- pairs of graphs by the job and then by the one that it waits for, traces by the attempt, modes by the project and then by the bytes of
+-- the resource group
 abbrev pub project_cmp : Project → Project → Ordering
 project_cmp a b = nat_cmp a.id b.id
 
@@ -69,6 +72,9 @@ attempt_cmp a b = nat_cmp a.id b.id
 
 abbrev pub trace_cmp : Trace → Trace → Ordering
 trace_cmp a b = nat_cmp a.attempt b.attempt
+
+abbrev pub mode_cmp : GroupMode → GroupMode → Ordering
+mode_cmp a b = ordering_then (nat_cmp a.project b.project) (slice_cmp nat_cmp a.group b.group)
 
 -- an ordered list with x at its place
 abbrev pub placed : {A : Type 0} → (A → A → Ordering) → A → List A → List A
@@ -108,6 +114,7 @@ with_record (row.Job j) s = record s { jobs = put job_cmp j s.jobs }
 with_record (row.JobVariable v) s = record s { job_variables = put job_variable_cmp v s.job_variables }
 with_record (row.Need n) s = record s { needs = put need_cmp n s.needs }
 with_record (row.Attempt a) s = record s { attempts = put attempt_cmp a s.attempts }
+with_record (row.Mode m) s = record s { modes = put mode_cmp m s.modes }
 with_record (row.Next c n) s = record s { next = with_next c n s.next }
 
 abbrev pub without_record : Key → State → State
@@ -121,6 +128,7 @@ without_record (key.JobVariables n) s = record s { job_variables = without (λ v
 without_record (key.Need n pred) s = record s { needs = filter (λ w. not (is_eq (ordering_then (nat_cmp w.job n) (nat_cmp w.pred pred)))) s.needs }
 without_record (key.Needs n) s = record s { needs = without (λ w. w.job) n s.needs }
 without_record (key.Attempt n) s = record s { attempts = without (λ a. a.id) n s.attempts }
+without_record (key.Mode n name) s = record s { modes = filter (λ m. not (is_eq (ordering_then (nat_cmp m.project n) (slice_cmp nat_cmp m.group name)))) s.modes }
 without_record (key.Trace n) s = record s { traces = without (λ t. t.attempt) n s.traces }
 
 abbrev pub bytes_or_none : Option Trace → List ℕ

@@ -3,7 +3,8 @@
 ghost use Rattle.std.specs.Prelude.{◌≡◌, ◌↔◌, [], IsTrue};
 
 use crate::records::{
-    Attempt, Holder, Job, JobVariable, Need, Pipeline, Project, Runner, Trace, Unfinished, Variable,
+    Attempt, GroupMode, Holder, Job, JobVariable, Need, Pipeline, Project, Runner, Trace,
+    Unfinished, Variable,
 };
 use crate::text::Text;
 use std::marker::Model;
@@ -19,6 +20,7 @@ pub enum Record {
     JobVariable(JobVariable),
     Need(Need),
     Attempt(Attempt),
+    Mode(GroupMode),
     /// The next number of a kind.
     Next(Counter, u64),
 }
@@ -40,6 +42,8 @@ pub enum Key {
     /// All that a job waits for.
     Needs(u64),
     Attempt(u64),
+    /// Of a project, and of a resource group, which is unordered then.
+    Mode(u64, Text),
     /// The whole trace of an attempt.
     Trace(u64),
 }

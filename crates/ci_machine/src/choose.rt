@@ -3,32 +3,42 @@
 ghost use Rattle.std.specs.Prelude.{◌≡◌, Some};
 ghost use Rattle.std.specs.Option.{option_copied};
 ghost use Rattle.std.specs.List.{list_any, list_all};
-ghost use Rattle.ci_machine.specs.Eligible.{is_open_to, has_tag, takes, may_run, holds, is_free, resource_free, is_eligible, chosen};
+ghost use Rattle.ci_machine.specs.Eligible.{is_open_to, has_tag, takes, may_run, holds, claims_group, is_free, resource_free, is_eligible, chosen};
+ghost use Rattle.ci_machine.specs.Groups.{is_in_line, goes_before, goes_before_in, is_behind, order_of};
 ghost use Rattle.ci_machine.specs.Holders.{held_by, held_among};
+ghost use Rattle.ci_machine.specs.Waiting.{groups_among};
 
-use crate::records::{AttemptWithJob, Holder, QueuedJob, Runner};
+use crate::records::{AttemptWithJob, Claim, GroupMode, GroupOrder, QueuedJob, Runner, WaitingJob};
 use crate::text::Text;
 
-/// The job that the runner is given, of waiting jobs by number: the first that it may run and whose resource group, if it has one, none
-/// of the live attempts holds. These are all live attempts, or at least those whose jobs are in a group of the waiting ones.
+/// The job that the runner is given, of pending jobs by number: the first that it may run and whose resource group, if it has one, is free
+/// by its process mode. The live attempts, the modes and the waiting jobs are all of them, or at least those of the groups of these jobs.
 pub fn choose<'a>(
     queue: &'a [QueuedJob],
     live: &[AttemptWithJob],
+    modes: &[GroupMode],
+    waiting: &[WaitingJob],
     runner: &Runner,
 ) -> Option<&'a QueuedJob>
-    ensures { option_copied result ≡ chosen queue.now (held_among live.now) runner.now }
+    ensures { option_copied result ≡ chosen queue.now (groups_among live.now modes.now waiting.now) runner.now }
 {
     queue
         .iter()
-        .find(|queued| is_eligible(queued, live, runner))
+        .find(|queued| is_eligible(queued, live, modes, waiting, runner))
 }
 
-/// May the runner be given the job, which waits for a runner? The live attempts are at least those whose jobs are in its group.
-pub fn is_eligible(queued: &QueuedJob, live: &[AttemptWithJob], runner: &Runner) -> bool
-    ensures { result ≡ is_eligible runner.now (held_among live.now) queued.now }
+/// May the runner be given the job, which is pending? The live attempts, the modes and the waiting jobs are at least those of its group.
+pub fn is_eligible(
+    queued: &QueuedJob,
+    live: &[AttemptWithJob],
+    modes: &[GroupMode],
+    waiting: &[WaitingJob],
+    runner: &Runner,
+) -> bool
+    ensures { result ≡ is_eligible runner.now (groups_among live.now modes.now waiting.now) queued.now }
 {
     may_run(runner, queued.project, queued.job.options.tags.as_slice())
-        && resource_free(queued, live)
+        && resource_free(queued, live, modes, waiting)
 }
 
 /// May the runner run a job of the project that has these tags, when no group holds the job back?
@@ -69,14 +79,22 @@ fn has_tag(runner: &Runner, tag: &Text) -> bool
     runner.tags.as_slice().iter().any(|own| own.is_same(tag))
 }
 
-/// Does no live attempt hold the resource group of the job, if it has one? The live attempts are at least those whose jobs are in the
-/// group.
-pub fn resource_free(queued: &QueuedJob, live: &[AttemptWithJob]) -> bool
-    ensures { result ≡ resource_free (held_among live.now) queued.now }
+/// Is the resource group of the job, if it has one, free: does no live attempt hold it, and by its process mode no other job go first? The
+/// live attempts, the modes and the waiting jobs are at least those of the group.
+pub fn resource_free(
+    queued: &QueuedJob,
+    live: &[AttemptWithJob],
+    modes: &[GroupMode],
+    waiting: &[WaitingJob],
+) -> bool
+    ensures { result ≡ resource_free (groups_among live.now modes.now waiting.now) queued.now }
 {
     match &queued.job.options.resource_group {
         None => true,
-        Some(group) => !is_held_among(live, queued.project, group),
+        Some(group) => {
+            !is_held_among(live, queued.project, group)
+                && !is_behind(modes, waiting, queued.project, queued.job.pipeline, group)
+        }
     }
 }
 
@@ -103,24 +121,67 @@ fn has_group(one: &AttemptWithJob, project: u64, group: &Text) -> bool
     }
 }
 
-/// Does no live attempt hold this resource group, if it is one, of the project? The holders are at least those of the group.
-pub fn is_free(holders: &[Holder], project: u64, group: &Option<Text>) -> bool
-    ensures { result ≡ is_free holders.now project group.now }
+/// Does one of the waiting jobs go before those that a pipeline of the project has in the group, by the group's mode?
+fn is_behind(
+    modes: &[GroupMode],
+    waiting: &[WaitingJob],
+    project: u64,
+    pipeline: u64,
+    group: &Text,
+) -> bool
+    ensures { result ≡ is_behind (order_of modes.now project group.now) waiting.now project pipeline group.now }
 {
-    match group {
-        None => true,
-        Some(group) => !is_held(holders, project, group),
+    match order_of(modes, project, group) {
+        None => false,
+        Some(order) => waiting.iter().any(|job| is_in_line(job, project, group)
+            && goes_before(job, order, pipeline)),
     }
 }
 
-fn is_held(holders: &[Holder], project: u64, group: &Text) -> bool
-    ensures { result ≡ list_any (holds project group.now) holders.now }
+/// The order of a resource group of a project, by at least the mode of this group; none where it is `unordered`.
+pub fn order_of(modes: &[GroupMode], project: u64, group: &Text) -> Option<GroupOrder>
+    ensures { result ≡ order_of modes.now project group.now }
 {
-    holders.iter().any(|holder| holds(holder, project, group))
+    let found = modes.iter().find(|mode| mode.project == project && mode.group.is_same(group))?;
+    Some(found.order)
 }
 
-fn holds(holder: &Holder, project: u64, group: &Text) -> bool
-    ensures { result ≡ holds project group.now holder.now }
+fn is_in_line(job: &WaitingJob, project: u64, group: &Text) -> bool
+    ensures { result ≡ is_in_line project group.now job.now }
 {
-    holder.project == project && holder.group.is_same(group)
+    job.project == project && job.group.is_same(group)
+}
+
+/// Does the waiting job go before the jobs of its group that are of this pipeline?
+pub fn goes_before(job: &WaitingJob, order: GroupOrder, pipeline: u64) -> bool
+    ensures { result ≡ goes_before order pipeline job.now }
+{
+    match order {
+        GroupOrder::OldestFirst => job.pipeline < pipeline,
+        GroupOrder::NewestReadyFirst => pipeline < job.pipeline && job.pending,
+    }
+}
+
+/// Is none of these claims on the resource group, if it is one, of the project? They are at least those on the group.
+pub fn is_free(claims: &[Claim], project: u64, group: &Option<Text>) -> bool
+    ensures { result ≡ is_free claims.now project group.now }
+{
+    match group {
+        None => true,
+        Some(group) => !is_claimed(claims, project, group),
+    }
+}
+
+fn is_claimed(claims: &[Claim], project: u64, group: &Text) -> bool
+    ensures { result ≡ list_any (claims_group project group.now) claims.now }
+{
+    claims
+        .iter()
+        .any(|claim| claims_group(claim, project, group))
+}
+
+fn claims_group(claim: &Claim, project: u64, group: &Text) -> bool
+    ensures { result ≡ claims_group project group.now claim.now }
+{
+    claim.project == project && claim.group.is_same(group)
 }

@@ -1,7 +1,7 @@
 //! The records that the machine keeps: a row of a table each.
 
 ghost use Rattle.std.specs.Prelude.{◌≡◌, IfOk};
-ghost use Rattle.ci_machine.specs.Bodies.{source_text};
+ghost use Rattle.ci_machine.specs.Bodies.{order_text, source_text};
 ghost use Rattle.ci_machine.specs.Options.{plain_options};
 
 use crate::limits::DEFAULT_TIMEOUT_SECONDS;
@@ -260,6 +260,53 @@ pub struct Holder {
     pub group: Text,
     /// The attempt, whose job has the group.
     pub attempt: u64,
+}
+
+/// In which order the jobs of a resource group are given to runners, where that is set: by a process mode of GitLab's other than
+/// `unordered`. A job is older than those of pipelines with greater numbers.
+#[derive(Clone, Copy, PartialEq, Eq, Drop)]
+pub enum GroupOrder {
+    /// `oldest_first`: no job is given while one of an older pipeline is created or pending.
+    OldestFirst,
+    /// `newest_ready_first`: no job is given while one of a newer pipeline is pending.
+    NewestReadyFirst,
+}
+
+/// The process mode in GitLab's words, of a group with this order or with none.
+pub fn process_mode(order: Option<GroupOrder>) -> &'static str
+    ensures { result.now ≡ order_text order }
+{
+    match order {
+        None => "unordered",
+        Some(GroupOrder::OldestFirst) => "oldest_first",
+        Some(GroupOrder::NewestReadyFirst) => "newest_ready_first",
+    }
+}
+
+/// The process mode of a resource group of a project. A group without such a record is `unordered`.
+#[derive(Clone, Drop)]
+pub struct GroupMode {
+    pub project: u64,
+    pub group: Text,
+    pub order: GroupOrder,
+}
+
+/// A job with a resource group that is created or pending. It is told of one that waits: no table has it.
+#[derive(Clone, Drop)]
+pub struct WaitingJob {
+    /// The project of its pipeline.
+    pub project: u64,
+    pub group: Text,
+    pub pipeline: u64,
+    /// Whether it is pending, and not created.
+    pub pending: bool,
+}
+
+/// A resource group of a project that a job must wait for.
+#[derive(Clone, Drop)]
+pub struct Claim {
+    pub project: u64,
+    pub group: Text,
 }
 
 /// A pipeline that isn't finished. Neither the state nor a table has such a record: it follows from the statuses of the pipeline's jobs.

@@ -7,7 +7,7 @@ ghost use Rattle.ci_machine.specs.ReportRows.{pending_status, shown_status, show
 
 use crate::choose::is_free;
 use crate::moment::Moment;
-use crate::records::{Holder, Job, PipelineWithStatus};
+use crate::records::{Claim, Job, PipelineWithStatus};
 use crate::text::Text;
 use ci_board::facts::Status;
 
@@ -16,19 +16,19 @@ use ci_board::facts::Status;
 pub enum ShownStatus {
     /// This status. A pending job waits for a runner alone.
     Plain(Status),
-    /// It is pending, and a live attempt holds its resource group.
+    /// It is pending, and must wait for its resource group.
     WaitsForResource,
 }
 
 impl ShownStatus {
-    /// How users are told the status of a job of a project. The holders are at least those of its resource group.
-    pub fn of(holders: &[Holder], project: u64, job: &Job, status: Status) -> ShownStatus
-        ensures shown { result ≡ shown_status holders.now project job.now status }
-        ensures printed { shown_text result ≡ printed_status holders.now project job.now status }
+    /// How users are told the status of a job of a project. The claims, for which it must wait, are at least those on its resource group.
+    pub fn of(claims: &[Claim], project: u64, job: &Job, status: Status) -> ShownStatus
+        ensures shown { result ≡ shown_status claims.now project job.now status }
+        ensures printed { shown_text result ≡ printed_status claims.now project job.now status }
     {
         match status {
             Status::Pending => {
-                ShownStatus::pending(is_free(holders, project, &job.options.resource_group))
+                ShownStatus::pending(is_free(claims, project, &job.options.resource_group))
             }
             Status::Created
             | Status::Running

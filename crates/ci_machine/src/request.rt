@@ -3,7 +3,7 @@
 ghost use Rattle.std.specs.Prelude.{◌≡◌};
 
 use crate::moment::Moment;
-use crate::records::{Cause, RefKind, Source};
+use crate::records::{Cause, GroupOrder, RefKind, Source};
 use crate::text::{Bytes, Text, Texts};
 use ci_values::items::Items;
 use std::alloc::AllocError;
@@ -61,6 +61,24 @@ pub struct PipelineQuery {
     pub project: u64,
     pub token: Text,
     pub pipeline: u64,
+}
+
+/// The process mode that a resource group of a project is to have, sent with the project's token.
+#[derive(Clone, Drop)]
+pub struct NewMode {
+    pub project: u64,
+    pub token: Text,
+    pub group: Text,
+    /// None where it is to be `unordered`.
+    pub order: Option<GroupOrder>,
+}
+
+/// A resource group of a project, named with the project's token.
+#[derive(Clone, Drop)]
+pub struct GroupQuery {
+    pub project: u64,
+    pub token: Text,
+    pub group: Text,
 }
 
 /// What a runner says of an attempt: that it runs, or how it ended, with the exit code if there is one.
@@ -130,6 +148,10 @@ pub enum Request {
     SetVariable(NewVariable),
     /// A variable of a project is to go.
     DeleteVariable(VariableQuery),
+    /// A resource group of a project is to have this process mode.
+    SetMode(NewMode),
+    /// The process mode of a resource group of a project is asked for.
+    ShowMode(GroupQuery),
     /// A pipeline is to be made from its project's file.
     CreatePipeline(NewPipeline),
     /// A pipeline with its jobs and their statuses is asked for.
@@ -167,6 +189,8 @@ impl Clone for Request {
             Request::SetFile(new) => Request::SetFile(new.clone()?),
             Request::SetVariable(new) => Request::SetVariable(new.clone()?),
             Request::DeleteVariable(query) => Request::DeleteVariable(query.clone()?),
+            Request::SetMode(new) => Request::SetMode(new.clone()?),
+            Request::ShowMode(query) => Request::ShowMode(query.clone()?),
             Request::CreatePipeline(new) => Request::CreatePipeline(new.clone()?),
             Request::ShowPipeline(query) => Request::ShowPipeline(query.clone()?),
             Request::AskJob(token) => Request::AskJob(token.clone()?),

@@ -8,6 +8,7 @@ use Rattle.ci_config.specs.declared.limits.TheConstants.{MAX_VARIABLES}
 use Rattle.ci_graph_layout.specs.Inclusion.{Given}
 use Rattle.ci_machine.specs.declared.lease.Lease.{Lease}
 use Rattle.ci_machine.specs.declared.records.BoardRow.{BoardRow}
+use Rattle.ci_machine.specs.declared.records.Claim.{Claim}
 use Rattle.ci_machine.specs.declared.records.Project.{Project}
 use Rattle.ci_machine.specs.declared.records.Pipeline.{Pipeline}
 use Rattle.ci_machine.specs.declared.records.Job.{Job}
@@ -17,7 +18,7 @@ use Rattle.ci_machine.specs.declared.change.RowChange.TheVariants.{Put}
 use Rattle.ci_machine.specs.declared.change.Record.TheVariants as row
 use Rattle.ci_machine.specs.declared.request.NewPipeline.{NewPipeline}
 use Rattle.ci_machine.specs.declared.request.Request.{Request}
-use Rattle.ci_machine.specs.declared.request.Request.TheVariants.{AddProject, AddRunner, PauseRunner, SetFile, SetVariable, DeleteVariable, CreatePipeline, ShowPipeline, AskJob, UpdateJob, AppendTrace, ShowJob, ShowTrace, Play, CancelJob, CancelPipeline, RetryJob, PruneOne}
+use Rattle.ci_machine.specs.declared.request.Request.TheVariants.{AddProject, AddRunner, PauseRunner, SetFile, SetVariable, DeleteVariable, SetMode, ShowMode, CreatePipeline, ShowPipeline, AskJob, UpdateJob, AppendTrace, ShowJob, ShowTrace, Play, CancelJob, CancelPipeline, RetryJob, PruneOne}
 use Rattle.ci_machine.specs.declared.request.Event.{Event}
 use Rattle.ci_machine.specs.declared.request.Event.TheVariants as event
 use Rattle.ci_machine.specs.declared.request.Seed.{Seed}
@@ -31,7 +32,7 @@ use Rattle.ci_machine.specs.declared.reply.Swept.{Swept}
 use Rattle.ci_machine.specs.State.{State, applied}
 use Rattle.ci_machine.specs.Leases.{is_live, first_due}
 use Rattle.ci_machine_steps.specs.Plans.{Plan, faulted}
-use Rattle.ci_machine.specs.Holders.{holders}
+use Rattle.ci_machine.specs.Waiting.{claims_in}
 use Rattle.ci_machine_steps.specs.Pipelines.{have_names, file_or_none, may_create, Layout, creation, lacks_numbers, MakesUnless, Makes, Creates}
 use Rattle.ci_machine_steps.specs.Sweeps.{sweep}
 use Rattle.ci_machine_steps.specs.Cancels.{cancellable_jobs, cancel}
@@ -70,12 +71,12 @@ or_right : (a b : Bool) → (a || b) ≡ false → b ≡ false
 or_right true b e = absurd (false≢true (sym e))
 or_right false b e = e
 
-module _ (s : State) (new : NewPipeline) (given : Given) (now : ℕ) (plan : Plan) (within : IsWithinLimit s) where
+module _ (s : State) (claims : List Claim) (new : NewPipeline) (given : Given) (now : ℕ) (plan : Plan) (within : IsWithinLimit s) where
   abbrev After : Plan → Type 0
   After p = IsWithinLimit (applied p.1 s)
 
   numbered : (laid : Layout) (lacks : Bool) → lacks_numbers s.next.pipeline s.next.job (length laid.plan.jobs) ≡ lacks
-      → MakesUnless lacks s.next.job (creation s.next.pipeline s.next.job new given now laid) (holders s) plan → After plan
+      → MakesUnless lacks s.next.job (creation s.next.pipeline s.next.job new given now laid) claims plan → After plan
   numbered laid true e is = subst After (sym is) within
   numbered laid false e is =
       let first = s.next.job in
@@ -86,11 +87,11 @@ module _ (s : State) (new : NewPipeline) (given : Given) (now : ℕ) (plan : Pla
       let bound : first + length made.jobs ≤ MAX_NUMBER + 1 = omega arith in
       subst After (sym is.2) (subst IsWithinLimit (sym (after_creation first made s)) bound)
 
-  makes : (laid : Result Layout Detail) → Makes s.next.pipeline s.next.job (holders s) new given now laid plan → After plan
+  makes : (laid : Result Layout Detail) → Makes s.next.pipeline s.next.job claims new given now laid plan → After plan
   makes (Err fault) is = subst After (sym is) within
   makes (Ok laid) is = numbered laid (lacks_numbers s.next.pipeline s.next.job (length laid.plan.jobs)) refl is
 
-  creates : (file : Result (List ℕ) Plan) → IsQuiet file → Creates s.next.pipeline s.next.job (holders s) new given now file plan → After plan
+  creates : (file : Result (List ℕ) Plan) → IsQuiet file → Creates s.next.pipeline s.next.job claims new given now file plan → After plan
   creates (Err refusal) quiet is = subst After (sym is) (subst (λ (cs : List RowChange). IsWithinLimit (applied cs s)) (sym quiet) within)
   creates (Ok text) quiet is = makes is.0 is.2
 
@@ -113,6 +114,9 @@ each s board request jobs_rise rise = record {
   file = λ project text c has _. refl;
   variable = λ project new _. refl;
   gone = λ v _. refl;
+  mode = λ new is m _. refl;
+  unordered = λ new is project group _. refl;
+  mode_shown = λ group order _. refl;
   pipeline = λ new now is project text laid rows asked has named file lays other. absurd (other (subst IsCreation (sym is) tt));
   nothing = λ _. refl;
   granted = λ runner job q variables now seed has_runner has_job pending is_queued free _. refl;
@@ -122,8 +126,8 @@ each s board request jobs_rise rise = record {
       cond_both (is_live a) (Put (row.Attempt (record a { state = state })) ∷ []) [] (λ cs. (IsCreation request → ⊥) → (applied cs s).next.job ≡ s.next.job) (λ _ _. refl) (λ _ _. refl);
   misplaced = λ fault _. refl;
   grown = λ a bytes now size has _. refl;
-  pipeline_shown = λ p held jobs facts rows _. refl;
-  shown = λ held project job status _. refl;
+  pipeline_shown = λ p claims jobs facts rows _. refl;
+  shown = λ claims project job status _. refl;
   traced = λ trace _. refl;
   acted = λ text changes act _. ap (λ (t : State). t.next.job) (after_act s changes act);
   pruned = λ p before asks found _. ap (λ (t : State). t.next.job) (pruned_state s p.id jobs_rise rise p refl);
@@ -142,13 +146,15 @@ requested s board request now seed plan rises within other is =
 
 by_request : (s : State) (board : List BoardRow) (request : Request) (now : ℕ) (seed : Seed) (plan : Plan) → Rises s → IsWithinLimit s → Does s board request now seed plan → IsWithinLimit (applied plan.1 s)
 by_request s board (CreatePipeline new) now seed plan rises within is =
-    creates s new (given_in s new) now plan within (may_create (of_asked s new.token new.project) new) (refuses (of_asked s new.token new.project) new) is
+    creates s (claims_in s board s.next.pipeline) new (given_in s new) now plan within (may_create (of_asked s new.token new.project) new) (refuses (of_asked s new.token new.project) new) is
 by_request s board (AddProject name) now seed plan rises within is = requested s board (AddProject name) now seed plan rises within (λ e. e) is
 by_request s board (AddRunner new) now seed plan rises within is = requested s board (AddRunner new) now seed plan rises within (λ e. e) is
 by_request s board (PauseRunner pause) now seed plan rises within is = requested s board (PauseRunner pause) now seed plan rises within (λ e. e) is
 by_request s board (SetFile new) now seed plan rises within is = requested s board (SetFile new) now seed plan rises within (λ e. e) is
 by_request s board (SetVariable new) now seed plan rises within is = requested s board (SetVariable new) now seed plan rises within (λ e. e) is
 by_request s board (DeleteVariable query) now seed plan rises within is = requested s board (DeleteVariable query) now seed plan rises within (λ e. e) is
+by_request s board (SetMode new) now seed plan rises within is = requested s board (SetMode new) now seed plan rises within (λ e. e) is
+by_request s board (ShowMode query) now seed plan rises within is = requested s board (ShowMode query) now seed plan rises within (λ e. e) is
 by_request s board (ShowPipeline query) now seed plan rises within is = requested s board (ShowPipeline query) now seed plan rises within (λ e. e) is
 by_request s board (AskJob token) now seed plan rises within is = requested s board (AskJob token) now seed plan rises within (λ e. e) is
 by_request s board (UpdateJob update) now seed plan rises within is = requested s board (UpdateJob update) now seed plan rises within (λ e. e) is

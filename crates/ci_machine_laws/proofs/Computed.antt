@@ -1,5 +1,5 @@
--- Boards that are computed: of a state with one pipeline, whose rows are given.
-use Rattle.std.specs.Prelude.{◌≡◌, ◌⊎◌, ℕ, ◌+◌, ◌<◌, ◌≤◌, ◌==◌, nat_lt, List, [], ◌∷◌, length, map}
+-- Boards that are computed: of a state with some pipelines, whose rows are given.
+use Rattle.std.specs.Prelude.{◌≡◌, ◌⊎◌, ℕ, ◌+◌, ◌<◌, ◌≤◌, false, ◌==◌, nat_lt, List, [], ◌∷◌, length, map}
 use Rattle.std.specs.List.{AllByRecursion}
 use Rattle.std.proofs.Common.{sym, ap, subst, ◌∙◌, inl, inr, ⊎_elim, arith, ltb-true, eqb-true}
 use Rattle.std.proofs.lemmas.Bool.{cond_both, cases_Bool, ltb-false}
@@ -66,18 +66,31 @@ module _ (s : State) (board : List BoardRow) where
         (cases_Bool (p == q));
   }
 
-  -- where each job is of one of two pipelines, the board is right if the rows of both are
-  pub two_pipelines : (p q : ℕ) → AllByRecursion (λ j. (j.pipeline ≡ p) ⊎ (j.pipeline ≡ q)) s.jobs → map (λ r. r.job) board ≡ map (λ j. j.id) s.jobs → AreTheirs (jobs_of s p) → AreTheirs (jobs_of s q) → AreBoard s board
-  two_pipelines p q of keys first second = record {
+  among : (n : ℕ) (ps : List ℕ) → Has n ps ⊎ ((p : ℕ) → Has p ps → (p == n) ≡ false)
+  among n [] = inr (λ p k. absurd k)
+  among n (q ∷ ps) =
+      ⊎_elim
+      (λ e. inl (inl (sym (eqb-true q n e))))
+      (λ e. ⊎_elim
+      (λ k. inl (inr k))
+      (λ apart. inr (λ p k. ⊎_elim (λ f. ap (λ m. m == n) f ∙ e) (λ m. apart p m) k))
+      (among n ps))
+      (cases_Bool (q == n))
+
+  -- the rows of one of its pipelines
+  pub rows_of_one : (p : ℕ)
+      → let g = graph_by (jobs_of s p) s.needs in
+      let facts = map (facts_in s) (jobs_of s p) in
+      let rows = map (row_for board) (map (λ j. j.id) (jobs_of s p)) in
+      Places (HasCounts g facts rows) 0 g.parts → Places (λ i. (row_at rows i).status ≡ status_of_row (part_at g i) (facts_at facts i) (row_at rows i)) 0 g.parts → AreTheirs (jobs_of s p)
+  rows_of_one p = computed_rows (graph_by (jobs_of s p) s.needs) (map (facts_in s) (jobs_of s p)) (map (row_for board) (map (λ (j : Job). j.id) (jobs_of s p)))
+
+  -- where each job is of one of these pipelines, the board is right if the rows of each are
+  pub some_pipelines : (ps : List ℕ) → AllByRecursion (λ j. Has j.pipeline ps) s.jobs → map (λ r. r.job) board ≡ map (λ j. j.id) s.jobs → AllByRecursion (λ p. AreTheirs (jobs_of s p)) ps → AreBoard s board
+  some_pipelines ps of keys rows = record {
     keys = keys;
     each = λ n. ⊎_elim
-        (λ e. subst (λ m. AreTheirs (jobs_of s m)) (eqb-true p n e) first)
-        (λ e. ⊎_elim
-        (λ f. subst (λ m. AreTheirs (jobs_of s m)) (eqb-true q n f) second)
-        (λ f. subst AreTheirs (sym (filter_none (λ (j : Job). j.pipeline == n) s.jobs (λ j k. ⊎_elim
-        (λ g. ap (λ m. m == n) g ∙ e)
-        (λ g. ap (λ m. m == n) g ∙ f)
-        (all_has (λ (w : Job). (w.pipeline ≡ p) ⊎ (w.pipeline ≡ q)) j s.jobs of k)))) none)
-        (cases_Bool (q == n)))
-        (cases_Bool (p == n));
+        (λ k. all_has (λ p. AreTheirs (jobs_of s p)) n ps rows k)
+        (λ apart. subst AreTheirs (sym (filter_none (λ (j : Job). j.pipeline == n) s.jobs (λ j k. apart j.pipeline (all_has (λ (w : Job). Has w.pipeline ps) j s.jobs of k)))) none)
+        (among n ps);
   }

@@ -24,17 +24,21 @@ use Rattle.ci_graph_layout.specs.Inclusion.{Given}
 use Rattle.ci_board.specs.declared.facts.Facts.{Facts}
 use Rattle.ci_board.specs.declared.facts.Row.{Row}
 use Rattle.ci_machine.specs.declared.records.Variable.{Variable}
-use Rattle.ci_machine.specs.declared.records.Holder.{Holder}
+use Rattle.ci_machine.specs.declared.records.Claim.{Claim}
+use Rattle.ci_machine.specs.declared.records.GroupMode.{GroupMode}
+use Rattle.ci_machine.specs.declared.records.GroupOrder.{GroupOrder}
 use Rattle.ci_machine.specs.declared.request.NewRunner.{NewRunner}
 use Rattle.ci_machine.specs.declared.request.NewFile.{NewFile}
 use Rattle.ci_machine.specs.declared.request.NewVariable.{NewVariable}
 use Rattle.ci_machine.specs.declared.request.VariableQuery.{VariableQuery}
+use Rattle.ci_machine.specs.declared.request.NewMode.{NewMode}
+use Rattle.ci_machine.specs.declared.request.GroupQuery.{GroupQuery}
 use Rattle.ci_machine.specs.declared.request.NewPipeline.{NewPipeline}
 use Rattle.ci_machine.specs.declared.request.PipelineQuery.{PipelineQuery}
 use Rattle.ci_machine.specs.declared.request.Event.{Event}
 use Rattle.ci_machine.specs.declared.request.Event.TheVariants as event
 use Rattle.ci_machine.specs.declared.request.Request.{Request}
-use Rattle.ci_machine.specs.declared.request.Request.TheVariants.{AddProject, AddRunner, PauseRunner, SetFile, SetVariable, DeleteVariable, CreatePipeline, ShowPipeline, AskJob, UpdateJob, AppendTrace, ShowJob, ShowTrace, Play, CancelJob, CancelPipeline, RetryJob, PruneOne}
+use Rattle.ci_machine.specs.declared.request.Request.TheVariants.{AddProject, AddRunner, PauseRunner, SetFile, SetVariable, DeleteVariable, SetMode, ShowMode, CreatePipeline, ShowPipeline, AskJob, UpdateJob, AppendTrace, ShowJob, ShowTrace, Play, CancelJob, CancelPipeline, RetryJob, PruneOne}
 use Rattle.ci_machine.specs.declared.request.Report.{Report}
 use Rattle.ci_machine.specs.declared.request.Report.TheVariants as report
 use Rattle.ci_machine.specs.declared.request.JobUpdate.{JobUpdate}
@@ -51,6 +55,9 @@ use Rattle.ci_machine.specs.declared.reply.Answer.{Answer}
 use Rattle.ci_machine.specs.declared.reply.Answer.TheVariants as answer
 use Rattle.ci_machine.specs.declared.reply.Swept.{Swept}
 use Rattle.ci_machine.specs.declared.change.RowChange.{RowChange}
+use Rattle.ci_machine.specs.declared.change.RowChange.TheVariants.{Put, Remove}
+use Rattle.ci_machine.specs.declared.change.Record.TheVariants as row
+use Rattle.ci_machine.specs.declared.change.Key.TheVariants as key
 use Rattle.ci_values.specs.Names.{is_name}
 use Rattle.ci_machine.specs.State.{State, applied}
 use Rattle.ci_machine.specs.Statuses.{jobs_of, attempts_of, facts_of, rows_of, status_for}
@@ -62,6 +69,7 @@ use Rattle.ci_machine_steps.specs.Projects.{made_project, add_project}
 use Rattle.ci_machine_steps.specs.Runners.{made_runner, are_names, lacks_project, add_runner, runner_paused, pause_runner}
 use Rattle.ci_machine_steps.specs.Files.{file_set, set_file, SetsFile}
 use Rattle.ci_machine_steps.specs.Variables.{count_with, variable_set, set_variable, variable_gone, delete_variable}
+use Rattle.ci_machine_steps.specs.Modes.{mode_told, mode_change, set_mode, show_mode}
 use Rattle.ci_machine_steps.specs.Pipelines.{have_names, file_or_none, may_create, given_by, Layout, IsLaidOut, lacks_numbers, creation, pipeline_created, MakesUnless, Makes, Creates}
 use Rattle.ci_machine_steps.specs.Grants.{nothing_to_run, granted, ask_job}
 use Rattle.ci_machine_steps.specs.Reports.{unleased, heard, ended, reported, update_job}
@@ -75,8 +83,9 @@ use Rattle.ci_machine_steps.specs.Sweeps.{sweep}
 use Rattle.ci_machine_steps.specs.Prunes.{prunable_in, pruned_reply, pipeline_goes, prune}
 use Rattle.ci_machine.specs.Leases.{accepted, first_due}
 use Rattle.ci_machine.specs.Eligible.{may_run, resource_free, is_eligible, chosen}
-use Rattle.ci_machine.specs.Holders.{holders}
-use Rattle.ci_machine_steps.specs.Step.{Does, Happens, Step, project_with, project_named, runner_at, redundant_in, cancellable_in, project_variables, variable_at, pipeline_at, runner_with, attempt_at, pipeline_of, job_at, found_job, found_pipeline, last_attempt, trace_of, trace_if_any, lease_of, leases, is_pending, pending_jobs, queued, queue, offer, offered_variables, jobs_in}
+use Rattle.ci_machine.specs.Groups.{claims_on, order_of}
+use Rattle.ci_machine.specs.Waiting.{waiting, groups_with, groups_in, claims_in}
+use Rattle.ci_machine_steps.specs.Step.{Does, Happens, Step, project_with, project_named, runner_at, redundant_in, cancellable_in, project_variables, variable_at, pipeline_at, runner_with, attempt_at, pipeline_of, job_at, pipeline_or_none, found_job, found_pipeline, last_attempt, trace_of, trace_if_any, lease_of, leases, is_pending, pending_jobs, queued, queue, offer, offered_variables, jobs_in}
 use Rattle.ci_machine_steps.specs.Laws.{IsRefusal}
 use Rattle.ci_machine.specs.Reply.{Stepped, outcome_of}
 use Rattle.ci_machine.proofs.Keyed.{Has, has_filter, has_find, find-map}
@@ -122,10 +131,10 @@ abbrev pub given_in : State → NewPipeline → Given
 given_in s new = given_by new (project_variables s new.project)
 
 -- a fact of each plan by which a pipeline is made
-abbrev pub OfCreation : State → (Plan → Type 0) → NewPipeline → ℕ → Type 0
-OfCreation s P new now =
+abbrev pub OfCreation : State → List Claim → (Plan → Type 0) → NewPipeline → ℕ → Type 0
+OfCreation s claims P new now =
     (project : Project) (text : List ℕ) (laid : Layout) (rows : List Row) → of_asked s new.token new.project ≡ Ok project → Has project s.projects → project.id ≡ new.project → project.file ≡ Some text
-    → IsLaidOut text (given_in s new) (Ok laid) → P (pipeline_created s.next.job (creation s.next.pipeline s.next.job new (given_in s new) now laid) (holders s) rows)
+    → IsLaidOut text (given_in s new) (Ok laid) → P (pipeline_created s.next.job (creation s.next.pipeline s.next.job new (given_in s new) now laid) claims rows)
 
 module _ (s : State) (P : Plan → Type 0) (of_code : (c : Code) → IsMachineCode c → P (refused c)) (of_fault : (d : Detail) → P (faulted d)) where
   file_said : (project : Project) (text : List ℕ) → ((c : Config) → P (file_set project text c)) → (said : Result Config Detail) → P (set_file project text said)
@@ -159,50 +168,75 @@ module _ (s : State) (P : Plan → Type 0) (of_code : (c : Code) → IsMachineCo
   pub of_removal : (query : VariableQuery) → ((v : Variable) → P (variable_gone v)) → P (delete_variable (of_asked s query.token query.project) (variable_at s query.project query.key))
   of_removal query h = removes query.project h (variable_at s query.project query.key) (of_asked s query.token query.project) (is_asked s query.token query.project)
 
+  -- ---- the process mode of a resource group
+
+  orders : (project : ℕ) (group : List ℕ) → ((m : GroupMode) → P (mode_told m.group (Some m.order), Put (row.Mode m) ∷ [])) → ((n : ℕ) (name : List ℕ) → P (mode_told name None, Remove (key.Mode n name) ∷ []))
+      → (order : Option GroupOrder) → P (mode_told group order, mode_change project group order ∷ [])
+  orders project group h gone None = gone project group
+  orders project group h gone (Some order) = h (record { project = project; group = group; order = order })
+
+  sets_mode : (named : ℕ) (new : NewMode) → ((m : GroupMode) → P (mode_told m.group (Some m.order), Put (row.Mode m) ∷ [])) → ((n : ℕ) (name : List ℕ) → P (mode_told name None, Remove (key.Mode n name) ∷ []))
+      → (r : Result Project Code) → Asked s named r → P (set_mode r new)
+  sets_mode named new h gone (Err code) asked = of_code code asked
+  sets_mode named new h gone (Ok project) asked = orders project.id new.group h gone new.order
+
+  -- a resource group is to have a process mode
+  pub of_mode : (new : NewMode) → ((m : GroupMode) → P (mode_told m.group (Some m.order), Put (row.Mode m) ∷ [])) → ((n : ℕ) (name : List ℕ) → P (mode_told name None, Remove (key.Mode n name) ∷ []))
+      → P (set_mode (of_asked s new.token new.project) new)
+  of_mode new h gone = sets_mode new.project new h gone (of_asked s new.token new.project) (is_asked s new.token new.project)
+
+  tells_mode : (named : ℕ) (group : List ℕ) (order : Option GroupOrder) → P (mode_told group order, []) → (r : Result Project Code) → Asked s named r → P (show_mode r order group)
+  tells_mode named group order h (Err code) asked = of_code code asked
+  tells_mode named group order h (Ok project) asked = h
+
+  -- a resource group is told with the order that it has
+  pub of_order : (query : GroupQuery) (order : Option GroupOrder) → P (mode_told query.group order, []) → P (show_mode (of_asked s query.token query.project) order query.group)
+  of_order query order h = tells_mode query.project query.group order h (of_asked s query.token query.project) (is_asked s query.token query.project)
+
   -- ---- a pipeline is to be made
 
-  unless : (new : NewPipeline) (now : ℕ) (plan : Plan) (laid : Layout) → ((rows : List Row) → P (pipeline_created s.next.job (creation s.next.pipeline s.next.job new (given_in s new) now laid) (holders s) rows)) → (lacks : Bool)
-      → MakesUnless lacks s.next.job (creation s.next.pipeline s.next.job new (given_in s new) now laid) (holders s) plan → P plan
-  unless new now plan laid h true is = subst P (sym is) (of_code M15 tt)
-  unless new now plan laid h false is = subst P (sym is.2) (h is.0)
+  unless : (claims : List Claim) (new : NewPipeline) (now : ℕ) (plan : Plan) (laid : Layout) → ((rows : List Row) → P (pipeline_created s.next.job (creation s.next.pipeline s.next.job new (given_in s new) now laid) claims rows)) → (lacks : Bool)
+      → MakesUnless lacks s.next.job (creation s.next.pipeline s.next.job new (given_in s new) now laid) claims plan → P plan
+  unless claims new now plan laid h true is = subst P (sym is) (of_code M15 tt)
+  unless claims new now plan laid h false is = subst P (sym is.2) (h is.0)
 
-  makes : (new : NewPipeline) (now : ℕ) (plan : Plan) → OfCreation s P new now → (project : Project) → of_asked s new.token new.project ≡ Ok project → Asked s new.project (Ok project)
-      → (text : List ℕ) → project.file ≡ Some text → (laid : Result Layout Detail) → IsLaidOut text (given_in s new) laid → Makes s.next.pipeline s.next.job (holders s) new (given_in s new) now laid plan → P plan
-  makes new now plan h project is_project asked text file (Err fault) lays is = subst P (sym is) (of_fault fault)
-  makes new now plan h project is_project asked text file (Ok laid) lays is =
-      unless new now plan laid (λ rows. h project text laid rows is_project asked.0 asked.1 file lays) (lacks_numbers s.next.pipeline s.next.job (length laid.plan.jobs)) is
+  makes : (claims : List Claim) (new : NewPipeline) (now : ℕ) (plan : Plan) → OfCreation s claims P new now → (project : Project) → of_asked s new.token new.project ≡ Ok project → Asked s new.project (Ok project)
+      → (text : List ℕ) → project.file ≡ Some text → (laid : Result Layout Detail) → IsLaidOut text (given_in s new) laid → Makes s.next.pipeline s.next.job claims new (given_in s new) now laid plan → P plan
+  makes claims new now plan h project is_project asked text file (Err fault) lays is = subst P (sym is) (of_fault fault)
+  makes claims new now plan h project is_project asked text file (Ok laid) lays is =
+      unless claims new now plan laid (λ rows. h project text laid rows is_project asked.0 asked.1 file lays) (lacks_numbers s.next.pipeline s.next.job (length laid.plan.jobs)) is
 
-  reads : (new : NewPipeline) (now : ℕ) (plan : Plan) → OfCreation s P new now → (project : Project) → of_asked s new.token new.project ≡ Ok project → Asked s new.project (Ok project)
-      → (file : Option (List ℕ)) → project.file ≡ file → Creates s.next.pipeline s.next.job (holders s) new (given_in s new) now (file_or_none file) plan → P plan
-  reads new now plan h project is_project asked None file is = subst P (sym is) (of_code M13 tt)
-  reads new now plan h project is_project asked (Some text) file is = makes new now plan h project is_project asked text file is.0 is.1 is.2
+  reads : (claims : List Claim) (new : NewPipeline) (now : ℕ) (plan : Plan) → OfCreation s claims P new now → (project : Project) → of_asked s new.token new.project ≡ Ok project → Asked s new.project (Ok project)
+      → (file : Option (List ℕ)) → project.file ≡ file → Creates s.next.pipeline s.next.job claims new (given_in s new) now (file_or_none file) plan → P plan
+  reads claims new now plan h project is_project asked None file is = subst P (sym is) (of_code M13 tt)
+  reads claims new now plan h project is_project asked (Some text) file is = makes claims new now plan h project is_project asked text file is.0 is.1 is.2
 
-  creates : (new : NewPipeline) (now : ℕ) (plan : Plan) → OfCreation s P new now → (r : Result Project Code) → of_asked s new.token new.project ≡ r → Asked s new.project r
-      → Creates s.next.pipeline s.next.job (holders s) new (given_in s new) now (may_create r new) plan → P plan
-  creates new now plan h (Err code) is asked made = subst P (sym made) (of_code code asked)
-  creates new now plan h (Ok project) is asked made =
-      let C : Result (List ℕ) Plan → Type 0 = λ t. Creates s.next.pipeline s.next.job (holders s) new (given_in s new) now t plan → P plan in
+  creates : (claims : List Claim) (new : NewPipeline) (now : ℕ) (plan : Plan) → OfCreation s claims P new now → (r : Result Project Code) → of_asked s new.token new.project ≡ r → Asked s new.project r
+      → Creates s.next.pipeline s.next.job claims new (given_in s new) now (may_create r new) plan → P plan
+  creates claims new now plan h (Err code) is asked made = subst P (sym made) (of_code code asked)
+  creates claims new now plan h (Ok project) is asked made =
+      let C : Result (List ℕ) Plan → Type 0 = λ t. Creates s.next.pipeline s.next.job claims new (given_in s new) now t plan → P plan in
       cond_both (not (is_name new.git_ref)) (Err (faulted (detail.Code (K 16)))) _ C (λ _ k. subst P (sym k) (of_fault (detail.Code (K 16)))) (λ _.
       cond_both (nat_lt MAX_VARIABLES (length new.variables)) (Err (faulted (detail.Code (K 11)))) _ C (λ _ k. subst P (sym k) (of_fault (detail.Code (K 11)))) (λ _.
       cond_both (not (have_names new.variables)) (Err (faulted (detail.Code (K 12)))) (file_or_none project.file) C (λ _ k. subst P (sym k) (of_fault (detail.Code (K 12))))
-      (λ _. reads new now plan h project is asked project.file refl))) made
+      (λ _. reads claims new now plan h project is asked project.file refl))) made
 
-  pub of_creation : (new : NewPipeline) (now : ℕ) (plan : Plan) → OfCreation s P new now
-      → Creates s.next.pipeline s.next.job (holders s) new (given_in s new) now (may_create (of_asked s new.token new.project) new) plan → P plan
-  of_creation new now plan h = creates new now plan h (of_asked s new.token new.project) refl (is_asked s new.token new.project)
+  pub of_creation : (claims : List Claim) (new : NewPipeline) (now : ℕ) (plan : Plan) → OfCreation s claims P new now
+      → Creates s.next.pipeline s.next.job claims new (given_in s new) now (may_create (of_asked s new.token new.project) new) plan → P plan
+  of_creation claims new now plan h = creates claims new now plan h (of_asked s new.token new.project) refl (is_asked s new.token new.project)
 
   -- ---- a pipeline is shown
 
-  shows : (held : List Holder) (jobs : List Job) (facts : List Facts) (rows : List Row) → ((p : Pipeline) → P (pipeline_shown p held jobs facts rows)) → (named : ℕ) (found : Option Pipeline) (r : Result Project Code) → Asked s named r
-      → P (show_pipeline (asked_pipeline r found) held jobs facts rows)
-  shows held jobs facts rows h named found (Err code) asked = of_code code asked
-  shows held jobs facts rows h named None (Ok project) asked = of_code M3 tt
-  shows held jobs facts rows h named (Some p) (Ok project) asked =
-      cond_both (p.project == project.id) (Ok p) (Err M3) (λ r. P (show_pipeline r held jobs facts rows)) (λ _. h p) (λ _. of_code M3 tt)
+  shows : (claims : List Claim) (jobs : List Job) (facts : List Facts) (rows : List Row) → ((p : Pipeline) → P (pipeline_shown p claims jobs facts rows)) → (named : ℕ) (found : Option Pipeline) (r : Result Project Code) → Asked s named r
+      → P (show_pipeline (asked_pipeline r found) claims jobs facts rows)
+  shows claims jobs facts rows h named found (Err code) asked = of_code code asked
+  shows claims jobs facts rows h named None (Ok project) asked = of_code M3 tt
+  shows claims jobs facts rows h named (Some p) (Ok project) asked =
+      cond_both (p.project == project.id) (Ok p) (Err M3) (λ r. P (show_pipeline r claims jobs facts rows)) (λ _. h p) (λ _. of_code M3 tt)
 
-  pub of_pipeline : (query : PipelineQuery) (held : List Holder) (jobs : List Job) (facts : List Facts) (rows : List Row) → ((p : Pipeline) → P (pipeline_shown p held jobs facts rows))
-      → P (show_pipeline (asked_pipeline (of_asked s query.token query.project) (pipeline_at s query.pipeline)) held jobs facts rows)
-  of_pipeline query held jobs facts rows h = shows held jobs facts rows h query.project (pipeline_at s query.pipeline) (of_asked s query.token query.project) (is_asked s query.token query.project)
+  pub of_pipeline : (query : PipelineQuery) (claims : List Claim) (jobs : List Job) (facts : List Facts) (rows : List Row) → ((p : Pipeline) → P (pipeline_shown p claims jobs facts rows))
+      → P (show_pipeline (asked_pipeline (of_asked s query.token query.project) (pipeline_at s query.pipeline)) claims jobs facts rows)
+  of_pipeline query claims jobs facts rows h = shows claims jobs facts rows h query.project (pipeline_at s query.pipeline) (of_asked s query.token query.project) (is_asked s query.token query.project)
 
 -- ---- what a user does to jobs
 
@@ -240,36 +274,36 @@ module _ (s : State) (board : List BoardRow) (P : Plan → Type 0) (of_code : (c
   permits test code m (Err refusal) found = found
   permits test code m (Ok job) found = cond_both (test (status_for board job.id)) (Ok job) (Err code) (Found s) (λ _. found) (λ _. m)
 
-  acts : (act : Job → List RowChange) → ((j : Job) → Has j s.jobs → IsAct s (act j)) → (plan : Plan) (r : Result Job Code) → Found s r → ActsOn s act r plan → P plan
+  acts : (act : Job → List RowChange) → ((j : Job) → Has j s.jobs → IsAct s (act j)) → (plan : Plan) (r : Result Job Code) → Found s r → ActsOn s (waiting s board) act r plan → P plan
   acts act are plan (Err code) found is = subst P (sym is) (of_code code found)
   acts act are plan (Ok job) found is =
       let t = applied (act job) s in
-      subst P (sym is.2) (of_act (compact_text (job_data (printed_status (holders t) (queued t job).project job (status_among t is.0 job)) job)) (act job) (are job found))
+      subst P (sym is.2) (of_act (compact_text (job_data (printed_status (claims_on (groups_with t (waiting s board)) job.pipeline) (queued t job).project job (status_among t is.0 job)) job)) (act job) (are job found))
 
   acts_on : (act : Job → List RowChange) → ((j : Job) → Has j s.jobs → IsAct s (act j)) → (test : Status → Bool) (code : Code) → IsMachineCode code → (query : JobQuery) (plan : Plan)
-      → ActsOn s act (permitted board test code (found_job s query)) plan → P plan
+      → ActsOn s (waiting s board) act (permitted board test code (found_job s query)) plan → P plan
   acts_on act are test code m query plan is =
       acts act are plan (permitted board test code (found_job s query)) (permits test code m (found_job s query) (found_by s query (project_with s query.token))) is
 
   -- a job is to be played
-  pub of_play : (query : JobQuery) (plan : Plan) → ActsOn s play (permitted board is_playable M10 (found_job s query)) plan → P plan
+  pub of_play : (query : JobQuery) (plan : Plan) → ActsOn s (waiting s board) play (permitted board is_playable M10 (found_job s query)) plan → P plan
   of_play query plan is = acts_on play (plays s) is_playable M10 tt query plan is
 
   -- a job is to be tried again
-  pub of_retry : (query : JobQuery) (plan : Plan) → ActsOn s (λ j. retry (attempts_of s j.id) j) (permitted board is_retryable M11 (found_job s query)) plan → P plan
+  pub of_retry : (query : JobQuery) (plan : Plan) → ActsOn s (waiting s board) (λ j. retry (attempts_of s j.id) j) (permitted board is_retryable M11 (found_job s query)) plan → P plan
   of_retry query plan is = acts_on (λ j. retry (attempts_of s j.id) j) (retries s) is_retryable M11 tt query plan is
 
   -- a job is to be cancelled
-  pub of_job_cancel : (query : JobQuery) (plan : Plan) → ActsOn s (λ j. cancel s.attempts (j ∷ [])) (permitted board is_cancellable M12 (found_job s query)) plan → P plan
+  pub of_job_cancel : (query : JobQuery) (plan : Plan) → ActsOn s (waiting s board) (λ j. cancel s.attempts (j ∷ [])) (permitted board is_cancellable M12 (found_job s query)) plan → P plan
   of_job_cancel query plan is =
       acts_on (λ j. cancel s.attempts (j ∷ [])) (λ j has. cancels s (j ∷ []) (λ w k. ⊎_elim (λ e. subst (λ (v : Job). Has v s.jobs) (sym e) has) (λ m. absurd m) k)) is_cancellable M12 tt query plan is
 
-  cancels_some : (plan : Plan) (p : Pipeline) (jobs : List Job) → ((j : Job) → Has j jobs → Has j s.jobs) → CancelsSome s p jobs plan → P plan
+  cancels_some : (plan : Plan) (p : Pipeline) (jobs : List Job) → ((j : Job) → Has j jobs → Has j s.jobs) → CancelsSome s (waiting s board) p jobs plan → P plan
   cancels_some plan p [] within is = subst P (sym is) (of_code M12 tt)
   cancels_some plan p (j ∷ js) within is =
       let changes = cancel s.attempts (j ∷ js) in
       let t = applied changes s in
-      subst P (sym is.2) (of_act (compact_text (pipeline_data p (holders t) (jobs_of t p.id) (facts_of t p.id) is.0)) changes (cancels s (j ∷ js) within))
+      subst P (sym is.2) (of_act (compact_text (pipeline_data p (claims_on (groups_with t (waiting s board)) p.id) (jobs_of t p.id) (facts_of t p.id) is.0)) changes (cancels s (j ∷ js) within))
 
   cancels_by : (plan : Plan) (r : Result Pipeline Code) → IsPipeline r → CancelsPipeline s board r plan → P plan
   cancels_by plan (Err code) found is = subst P (sym is) (of_code code found)
@@ -293,18 +327,21 @@ pub record Each (s : State) (board : List BoardRow) (request : Request) (P : Pla
   pub file : (project : Project) (text : List ℕ) (c : Config) → Has project s.projects → P (file_set project text c)
   pub variable : (project : Project) (new : NewVariable) → P (variable_set project new)
   pub gone : (v : Variable) → P (variable_gone v)
-  pub pipeline : (new : NewPipeline) (now : ℕ) → request ≡ CreatePipeline new → OfCreation s P new now
+  pub mode : (new : NewMode) → request ≡ SetMode new → (m : GroupMode) → P (mode_told m.group (Some m.order), Put (row.Mode m) ∷ [])
+  pub unordered : (new : NewMode) → request ≡ SetMode new → (project : ℕ) (group : List ℕ) → P (mode_told group None, Remove (key.Mode project group) ∷ [])
+  pub mode_shown : (group : List ℕ) (order : Option GroupOrder) → P (mode_told group order, [])
+  pub pipeline : (new : NewPipeline) (now : ℕ) → request ≡ CreatePipeline new → OfCreation s (claims_in s board s.next.pipeline) P new now
   -- there is nothing to run, or nothing to prune
   pub nothing : P nothing_to_run
   pub granted : (runner : Runner) (job : Job) (q : QueuedJob) (variables : List JobVariable) (now : ℕ) (seed : Seed)
-      → Has runner s.runners → Has job s.jobs → is_pending board job ≡ true → queued s job ≡ q → resource_free (holders s) q ≡ true → P (granted runner q variables s.next.attempt now seed)
+      → Has runner s.runners → Has job s.jobs → is_pending board job ≡ true → queued s job ≡ q → resource_free (groups_in s board) q ≡ true → P (granted runner q variables s.next.attempt now seed)
   pub turned_away : (fault : LeaseFault) → P (unleased fault, [])
   pub heard : (a : Attempt) (seen : ℕ) → Has a s.attempts → P (heard a (Ok seen))
   pub ended : (a : Attempt) (state : AttemptState) → Has a s.attempts → P (ended a (Ok state))
   pub misplaced : (fault : PieceFault) → P (not_accepted fault, [])
   pub grown : (a : Attempt) (bytes : List ℕ) (now size : ℕ) → Has a s.attempts → P (grown a bytes now size)
-  pub pipeline_shown : (p : Pipeline) (held : List Holder) (jobs : List Job) (facts : List Facts) (rows : List Row) → P (pipeline_shown p held jobs facts rows)
-  pub shown : (held : List Holder) (project : ℕ) (job : Job) (status : Status) → P (job_shown held project job status)
+  pub pipeline_shown : (p : Pipeline) (claims : List Claim) (jobs : List Job) (facts : List Facts) (rows : List Row) → P (pipeline_shown p claims jobs facts rows)
+  pub shown : (claims : List Claim) (project : ℕ) (job : Job) (status : Status) → P (job_shown claims project job status)
   pub traced : (trace : List ℕ) → P (trace_shown trace)
   pub acted : (text : List ℕ) (changes : List RowChange) → IsAct s changes → P (fine (Json text), changes)
   pub pruned : (p : Pipeline) (before : ℕ) → request ≡ PruneOne before → prunable_in s board before ≡ Some p → P (pruned_reply p.id, pipeline_goes p (jobs_of s p.id) s.attempts)
@@ -326,22 +363,22 @@ module _ (s : State) (board : List BoardRow) (request : Request) (P : Plan → T
   pauses n paused None is = each.refused M3 tt
   pauses n paused (Some r) is = each.paused r paused (has_find (λ (w : Runner). w.id == n) r s.runners is).0
 
-  offers : (now : ℕ) (seed : Seed) (runner : Runner) → Has runner s.runners → (q : Option QueuedJob) → chosen (queue s board) (holders s) runner ≡ q → (variables : List JobVariable)
+  offers : (now : ℕ) (seed : Seed) (runner : Runner) → Has runner s.runners → (q : Option QueuedJob) → chosen (queue s board) (groups_in s board) runner ≡ q → (variables : List JobVariable)
       → P (ask_job (Some runner) q variables s.next.attempt now seed)
   offers now seed runner has None offered variables = each.nothing
   offers now seed runner has (Some q) offered variables =
-      let at = find-map (queued s) (is_eligible runner (holders s)) q (pending_jobs s board) offered in
-      let first = has_find (λ (j : Job). is_eligible runner (holders s) (queued s j)) at.0 (pending_jobs s board) at.1.1 in
+      let at = find-map (queued s) (is_eligible runner (groups_in s board)) q (pending_jobs s board) offered in
+      let first = has_find (λ (j : Job). is_eligible runner (groups_in s board) (queued s j)) at.0 (pending_jobs s board) at.1.1 in
       let is_job = has_filter (is_pending board) at.0 s.jobs first.0 in
-      let both = and_parts (may_run runner (queued s at.0).project at.0.options.tags) (resource_free (holders s) (queued s at.0)) first.1 in
+      let both = and_parts (may_run runner (queued s at.0).project at.0.options.tags) (resource_free (groups_in s board) (queued s at.0)) first.1 in
       cond_both (nat_lt MAX_NUMBER s.next.attempt) (refused M15) (granted runner q variables s.next.attempt now seed) P (λ _. each.refused M15 tt)
-      (λ _. each.granted runner at.0 q variables now seed has is_job.0 is_job.1 at.1.0 (subst (λ (w : QueuedJob). resource_free (holders s) w ≡ true) at.1.0 both.1))
+      (λ _. each.granted runner at.0 q variables now seed has is_job.0 is_job.1 at.1.0 (subst (λ (w : QueuedJob). resource_free (groups_in s board) w ≡ true) at.1.0 both.1))
 
   asks : (token : List ℕ) (now : ℕ) (seed : Seed) (runner : Option Runner) → runner_with s token ≡ runner
       → P (ask_job runner (offer s board runner) (offered_variables s (offer s board runner)) s.next.attempt now seed)
   asks token now seed None found = each.refused M4 tt
   asks token now seed (Some runner) found =
-      offers now seed runner (has_find (λ (r : Runner). bytes_eq r.token token) runner s.runners found).0 (chosen (queue s board) (holders s) runner) refl _
+      offers now seed runner (has_find (λ (r : Runner). bytes_eq r.token token) runner s.runners found).0 (chosen (queue s board) (groups_in s board) runner) refl _
 
   hears : (a : Attempt) → Has a s.attempts → (seen : Result ℕ LeaseFault) → P (heard a seen)
   hears a has (Ok seen) = each.heard a seen has
@@ -396,17 +433,23 @@ does s board P (PauseRunner pause) each now seed plan is = subst P (sym is) (pau
 does s board P (SetFile new) each now seed plan is = of_file s P each.refused each.faulted new plan (λ project c has. each.file project new.text c has) is
 does s board P (SetVariable new) each now seed plan is = subst P (sym is) (of_variable s P each.refused each.faulted new (λ project. each.variable project new))
 does s board P (DeleteVariable query) each now seed plan is = subst P (sym is) (of_removal s P each.refused each.faulted query each.gone)
-does s board P (CreatePipeline new) each now seed plan is = of_creation s P each.refused each.faulted new now plan (each.pipeline new now refl) is
+does s board P (SetMode new) each now seed plan is = subst P (sym is) (of_mode s P each.refused each.faulted new (each.mode new refl) (each.unordered new refl))
+does s board P (ShowMode query) each now seed plan is =
+    let order = order_of s.modes query.project query.group in
+    subst P (sym is) (of_order s P each.refused each.faulted query order (each.mode_shown query.group order))
+does s board P (CreatePipeline new) each now seed plan is = of_creation s P each.refused each.faulted (claims_in s board s.next.pipeline) new now plan (each.pipeline new now refl) is
 does s board P (ShowPipeline query) each now seed plan is =
     let n = query.pipeline in
-    subst P (sym is) (of_pipeline s P each.refused each.faulted query (holders s) (jobs_of s n) (facts_of s n) (rows_of s board n) (λ p. each.pipeline_shown p (holders s) (jobs_of s n) (facts_of s n) (rows_of s board n)))
+    let claims = claims_in s board n in
+    subst P (sym is) (of_pipeline s P each.refused each.faulted query claims (jobs_of s n) (facts_of s n) (rows_of s board n) (λ p. each.pipeline_shown p claims (jobs_of s n) (facts_of s n) (rows_of s board n)))
 does s board P (AskJob token) each now seed plan is = subst P (sym is) (asks s board (AskJob token) P each token now seed (runner_with s token) refl)
 does s board P (UpdateJob update) each now seed plan is = subst P (sym is) (updates s board (UpdateJob update) P each update now (attempt_at s update.attempt) refl)
 does s board P (AppendTrace part) each now seed plan is = subst P (sym is) (appends s board (AppendTrace part) P each part now (attempt_at s part.attempt) refl)
 does s board P (ShowJob query) each now seed plan is =
     let job = job_at s query.job in
     let status = status_for board query.job in
-    subst P (sym is) (asked (λ r. P (shown (holders s) query.project r status)) (λ j. each.shown (holders s) query.project j status) (λ c m. each.refused c m) (project_with s query.token) job (pipeline_of s job) query)
+    let claims = claims_in s board (pipeline_or_none job) in
+    subst P (sym is) (asked (λ r. P (shown claims query.project r status)) (λ j. each.shown claims query.project j status) (λ c m. each.refused c m) (project_with s query.token) job (pipeline_of s job) query)
 does s board P (ShowTrace query) each now seed plan is =
     let job = job_at s query.job in
     let trace = trace_if_any s (last_attempt s query.job) in
@@ -431,6 +474,9 @@ keeps s board request = record {
   file = λ project text c has refused. absurd (false≢true refused);
   variable = λ project new refused. absurd (false≢true refused);
   gone = λ v refused. absurd (false≢true refused);
+  mode = λ new is m refused. absurd (false≢true refused);
+  unordered = λ new is project group refused. absurd (false≢true refused);
+  mode_shown = λ group order _. refl;
   pipeline = λ new now is project text laid rows asked has named file lays refused. absurd (false≢true refused);
   nothing = λ _. refl;
   granted = λ runner job q variables now seed h k m e f refused. absurd (false≢true refused);
@@ -439,8 +485,8 @@ keeps s board request = record {
   ended = λ a state has refused. absurd (false≢true refused);
   misplaced = λ fault _. refl;
   grown = λ a bytes now size has refused. absurd (false≢true refused);
-  pipeline_shown = λ p held jobs facts rows _. refl;
-  shown = λ held project job status _. refl;
+  pipeline_shown = λ p claims jobs facts rows _. refl;
+  shown = λ claims project job status _. refl;
   traced = λ trace _. refl;
   acted = λ text changes act refused. absurd (false≢true refused);
   pruned = λ p before asks found refused. absurd (false≢true refused);
@@ -477,6 +523,9 @@ steps s board request = record {
   file = λ project text c has. refl;
   variable = λ project new. refl;
   gone = λ v. refl;
+  mode = λ new is m. refl;
+  unordered = λ new is project group. refl;
+  mode_shown = λ group order. refl;
   pipeline = λ new now is project text laid rows asked has named file lays. refl;
   nothing = refl;
   granted = λ runner job q variables now seed h k m e f. refl;
@@ -485,8 +534,8 @@ steps s board request = record {
   ended = λ a state has. refl;
   misplaced = misplaces;
   grown = λ a bytes now size has. refl;
-  pipeline_shown = λ p held jobs facts rows. refl;
-  shown = λ held project job status. refl;
+  pipeline_shown = λ p claims jobs facts rows. refl;
+  shown = λ claims project job status. refl;
   traced = λ trace. refl;
   acted = λ text changes act. refl;
   pruned = λ p before asks found. refl;

@@ -1,5 +1,5 @@
 -- Each resource group of a project is held by at most one live attempt, in every state that a history leads to.
-use Rattle.std.specs.Prelude.{◌≡◌, ◌⊎◌, ℕ, max, ◌==◌, ◌&&◌, ◌||◌, not, Bool, true, false, List, [], ◌∷◌, ◌++◌, flat_map, Option, Some, None, Ok, option_map}
+use Rattle.std.specs.Prelude.{◌≡◌, ◌⊎◌, ℕ, max, ◌==◌, ◌&&◌, ◌||◌, not, Bool, true, false, List, [], ◌∷◌, ◌++◌, map, flat_map, Option, Some, None, Ok, option_map}
 use Rattle.std.specs.List.{list_any}
 use Rattle.std.specs.Str.{bytes_eq}
 use Rattle.std.proofs.Common.{refl, sym, ap, subst, ◌∙◌, inl, inr, ⊎_elim, eqb-true, ne_eqb}
@@ -10,12 +10,14 @@ use Rattle.ci_machine.specs.declared.records.Holder.{Holder}
 use Rattle.ci_machine.specs.declared.records.Pipeline.{Pipeline}
 use Rattle.ci_machine.specs.declared.records.Job.{Job}
 use Rattle.ci_machine.specs.declared.records.Attempt.{Attempt}
+use Rattle.ci_machine.specs.declared.records.QueuedJob.{QueuedJob}
 use Rattle.ci_values.specs.declared.attempts.AttemptState.{AttemptState}
 use Rattle.ci_values.specs.declared.attempts.AttemptState.TheVariants.{Failed}
 use Rattle.ci_machine.specs.declared.lease.Lease.{Lease}
 use Rattle.ci_machine.specs.declared.change.RowChange.{RowChange}
-use Rattle.ci_machine.specs.declared.change.RowChange.TheVariants.{Put}
+use Rattle.ci_machine.specs.declared.change.RowChange.TheVariants.{Put, Remove}
 use Rattle.ci_machine.specs.declared.change.Record.TheVariants as row
+use Rattle.ci_machine.specs.declared.change.Key.TheVariants as key
 use Rattle.ci_machine.specs.declared.request.Request.{Request}
 use Rattle.ci_machine.specs.declared.request.Event.{Event}
 use Rattle.ci_machine.specs.declared.request.Event.TheVariants as event
@@ -23,10 +25,12 @@ use Rattle.ci_machine.specs.declared.request.Seed.{Seed}
 use Rattle.ci_machine.specs.declared.reply.Answer.{Answer}
 use Rattle.ci_machine.specs.declared.reply.Answer.TheVariants as answer
 use Rattle.ci_machine.specs.declared.reply.Swept.{Swept}
-use Rattle.ci_machine.specs.State.{State, applied, put, attempt_cmp}
+use Rattle.ci_machine.specs.State.{State, changed, applied, put, attempt_cmp, mode_cmp}
 use Rattle.ci_machine.specs.Statuses.{jobs_of}
 use Rattle.ci_machine.specs.Leases.{is_live, is_over, cause_of, first_due}
-use Rattle.ci_machine.specs.Eligible.{holds, is_free, resource_free}
+use Rattle.ci_machine.specs.Eligible.{holds, is_free}
+use Rattle.ci_machine.specs.Groups.{held_claim}
+use Rattle.ci_machine.specs.Waiting.{groups_in}
 use Rattle.ci_machine_steps.specs.Cancels.{cancellable_jobs, cancel}
 use Rattle.ci_machine_steps.specs.Plans.{Plan}
 use Rattle.ci_machine_steps.specs.Projects.{made_project}
@@ -44,6 +48,7 @@ use Rattle.ci_machine_steps.specs.History.{Past, Leads}
 use Rattle.ci_machine_steps.specs.Laws.{job_for_good, OneLeaseInGroup}
 use Rattle.ci_machine.proofs.Keyed.{not_true, Has, Rising, has_put, has_filter, filter_has, has_find, find_has, find-map, count_one, Named, rising_filter}
 use Rattle.ci_machine.proofs.Filters.{find_implied}
+use Rattle.ci_machine.proofs.Claims.{free_held, free_not_held}
 use Rattle.ci_machine_steps.proofs.Created.{after_creation}
 use Rattle.ci_machine_steps.proofs.Pruned.{pruned_state, job_left, attempt_was}
 use Rattle.ci_machine_laws.proofs.Acts.{IsAct, cancels, cancellable_within, after_act, came}
@@ -80,13 +85,13 @@ only_one false e = absurd (false≢true e)
 -- ---- what is free isn't held
 
 -- what an attempt of a job would hold whose group is free, none holds
-free_none : (hs : List Holder) (n project : ℕ) (group : Option (List ℕ)) → is_free hs project group ≡ true → (p : ℕ) (g : List ℕ) → list_any (holds p g) (group_held n project group) ≡ true → list_any (holds p g) hs ≡ false
+free_none : (hs : List Holder) (n project : ℕ) (group : Option (List ℕ)) → is_free (map held_claim hs) project group ≡ true → (p : ℕ) (g : List ℕ) → list_any (holds p g) (group_held n project group) ≡ true → list_any (holds p g) hs ≡ false
 free_none hs n project None free p g e = absurd (false≢true e)
 free_none hs n project (Some group) free p g e =
     let both = and_parts (project == p) (bytes_eq group g) (only_one ((project == p) && bytes_eq group g) e) in
     let same_project : project ≡ p = eqb-true project p both.0 in
     let same_group : group ≡ g = (bytes_eq-Decides group g).0 both.1 in
-    subst (λ m. list_any (holds m g) hs ≡ false) same_project (subst (λ (w : List ℕ). list_any (holds project w) hs ≡ false) same_group (not_true (list_any (holds project group) hs) free))
+    subst (λ m. list_any (holds m g) hs ≡ false) same_project (subst (λ (w : List ℕ). list_any (holds project w) hs ≡ false) same_group (not_true (list_any (holds project group) hs) (sym (free_held hs project group) ∙ free)))
 
 -- what a live attempt is in, is held
 in_holders : (s : State) (a : Attempt) → Has a s.attempts → is_live a ≡ true → (p : ℕ) (g : List ℕ) → is_in_group s p g a ≡ true → list_any (holds p g) (holders s) ≡ true
@@ -123,7 +128,7 @@ record IsNew (s : State) (b : Attempt) : Type 0 where
   job : Job
   has : Has job s.jobs
   its : job.id ≡ b.job
-  free : resource_free (holders s) (queued s job) ≡ true
+  free : is_free (map held_claim (holders s)) (queued s job).project job.options.resource_group ≡ true
   id : b.id ≡ s.next.attempt
 
 abbrev Come : State → State → Type 0
@@ -189,6 +194,9 @@ module _ (s : State) (board : List BoardRow) (request : Request) where
     file = λ project text c has. stays s (applied (file_set project text c).1 s) refl;
     variable = λ project new. stays s (applied (variable_set project new).1 s) refl;
     gone = λ v. stays s (applied (variable_gone v).1 s) refl;
+    mode = λ new is m. stays s (record s { modes = put mode_cmp m s.modes }) refl;
+    unordered = λ new is project group. stays s (changed (Remove (key.Mode project group)) s) refl;
+    mode_shown = λ group order. stays s s refl;
     pipeline = λ new now is project text laid rows asked has named file lays.
         stays s (applied (creation_changes s.next.job (creation s.next.pipeline s.next.job new (given_in s new) now laid)) s) (ap (λ (t : State). t.attempts) (after_creation s.next.job (creation s.next.pipeline s.next.job new (given_in s new) now laid) s));
     nothing = stays s s refl;
@@ -197,7 +205,8 @@ module _ (s : State) (board : List BoardRow) (request : Request) where
           job = job;
           has = has_job;
           its = ap (λ w. w.job.id) is_queued ∙ sym (ap (λ (c : Attempt). c.job) e);
-          free = subst (λ w. resource_free (holders s) w ≡ true) (sym is_queued) free;
+          free = subst (λ (w : QueuedJob). is_free (map held_claim (holders s)) w.project w.job.options.resource_group ≡ true) (sym is_queued)
+              (free_not_held (groups_in s board) q.job.pipeline q.project q.job.options.resource_group free);
           id = ap (λ (c : Attempt). c.id) e;
         }))
         (λ m. inl (there s b m)) (has_put attempt_cmp _ b s.attempts k);
@@ -206,8 +215,8 @@ module _ (s : State) (board : List BoardRow) (request : Request) where
     ended = ends;
     misplaced = λ fault. stays s s refl;
     grown = grows;
-    pipeline_shown = λ p held jobs facts rows. stays s s refl;
-    shown = λ held project job status. stays s s refl;
+    pipeline_shown = λ p claims jobs facts rows. stays s s refl;
+    shown = λ claims project job status. stays s s refl;
     traced = λ trace. stays s s refl;
     acted = λ text changes act. acted s changes act;
     pruned = λ p before asks found b k. inl (there s b (attempt_was s p.id jobs_rise rise b (subst (λ (t : State). Has b t.attempts) (pruned_state s p.id jobs_rise rise p refl) k)).0);

@@ -45,6 +45,7 @@ linked_empty = record {
   first_job = omega arith;
   positive = λ w k. absurd k;
   aside = λ w k. absurd k;
+  in_turn = λ a b k. absurd k;
 }
 
 pub held : (h : List Past) (s : State) → Leads h s → Held h s

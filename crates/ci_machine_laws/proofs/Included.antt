@@ -28,7 +28,7 @@ use Rattle.ci_machine_steps.specs.Plans.{Plan}
 use Rattle.ci_machine_steps.specs.Pipelines.{Layout, IsLaidOut, new_job, creation, pipeline_created}
 use Rattle.ci_machine_steps.specs.Reports.{ended}
 use Rattle.ci_machine_steps.specs.Sweeps.{sweep}
-use Rattle.ci_machine.specs.Holders.{holders}
+use Rattle.ci_machine.specs.Waiting.{claims_in}
 use Rattle.ci_machine_steps.specs.Cancels.{cancellable_jobs, cancel}
 use Rattle.ci_machine_steps.specs.Step.{Happens, leases, redundant_in, cancellable_in}
 use Rattle.ci_machine_steps.specs.History.{Past, Leads}
@@ -65,7 +65,7 @@ module _ (s : State) (board : List BoardRow) (request : Request) (now : ℕ) (se
   From plan = Are s (event.Request request) now seed (answer.Reply plan.0) plan.1
 
   makes : (new : NewPipeline) (at : ℕ) → request ≡ CreatePipeline new → (project : Project) (text : List ℕ) (laid : Layout) (rows : List Row) → of_asked s new.token new.project ≡ Ok project → project.file ≡ Some text
-      → IsLaidOut text (given_in s new) (Ok laid) → From (pipeline_created s.next.job (creation s.next.pipeline s.next.job new (given_in s new) at laid) (holders s) rows)
+      → IsLaidOut text (given_in s new) (Ok laid) → From (pipeline_created s.next.job (creation s.next.pipeline s.next.job new (given_in s new) at laid) (claims_in s board s.next.pipeline) rows)
   makes new at is project text laid rows asked file lays j k =
       let made = creation s.next.pipeline s.next.job new (given_in s new) at laid in
       let lays = laid_is text (given_in s new) (Ok laid) lays in
@@ -76,7 +76,7 @@ module _ (s : State) (board : List BoardRow) (request : Request) (now : ℕ) (se
       inr (record {
         new = new;
         asked = ap event.Request is;
-        reply = (pipeline_created s.next.job made (holders s) rows).0;
+        reply = (pipeline_created s.next.job made (claims_in s board s.next.pipeline) rows).0;
         answered = refl;
         made = refl;
         drawn = drawn;
@@ -104,6 +104,9 @@ module _ (s : State) (board : List BoardRow) (request : Request) (now : ℕ) (se
     file = λ project text c has j k. inl (there s j k);
     variable = λ project new j k. inl (there s j k);
     gone = λ v j k. inl (there s j k);
+    mode = λ new is m j k. inl (there s j k);
+    unordered = λ new is project group j k. inl (there s j k);
+    mode_shown = λ group order j k. inl (there s j k);
     pipeline = λ new at is project text laid rows asked has named file lays. makes new at is project text laid rows asked file lays;
     nothing = λ j k. inl (there s j k);
     granted = λ runner job q variables at seed h i p e f j k. inl (there s j k);
@@ -114,8 +117,8 @@ module _ (s : State) (board : List BoardRow) (request : Request) (now : ℕ) (se
         (λ _ j k. inl (there s j k)) (λ _ j k. inl (there s j k));
     misplaced = λ fault j k. inl (there s j k);
     grown = λ a bytes at size has j k. inl (there s j k);
-    pipeline_shown = λ p held jobs facts rows j k. inl (there s j k);
-    shown = λ held project job status j k. inl (there s j k);
+    pipeline_shown = λ p claims jobs facts rows j k. inl (there s j k);
+    shown = λ claims project job status j k. inl (there s j k);
     traced = λ trace j k. inl (there s j k);
     acted = λ text changes act j k. inl (acted s changes act j k);
     pruned = λ p before asks found j k. inl (there s j (job_was s p.id jobs_rise rise j (subst (λ (t : State). Has j t.jobs) (pruned_state s p.id jobs_rise rise p refl) k)).0);

@@ -244,6 +244,9 @@ each s board request i was jobs_rise rise = record {
   file = λ project text c has. was;
   variable = λ project new. was;
   gone = λ v. was;
+  mode = λ new is m. was;
+  unordered = λ new is project group. was;
+  mode_shown = λ group order. was;
   pipeline = λ new now is project text laid rows asked has named file lays.
       subst (λ (t : State). Joined t.jobs t.needs) (sym (after_creation s.next.job (creation s.next.pipeline s.next.job new (given_in s new) now laid) s)) (enters s new (given_in s new) now text laid i was lays);
   nothing = was;
@@ -253,8 +256,8 @@ each s board request i was jobs_rise rise = record {
   ended = λ a state has. cond_both (is_live a) (Put (row.Attempt (record a { state = state })) ∷ []) [] (λ cs. Joined (applied cs s).jobs (applied cs s).needs) (λ _. was) (λ _. was);
   misplaced = λ fault. was;
   grown = λ a bytes now size has. was;
-  pipeline_shown = λ p held jobs facts rows. was;
-  shown = λ held project job status. was;
+  pipeline_shown = λ p claims jobs facts rows. was;
+  shown = λ claims project job status. was;
   traced = λ trace. was;
   acted = λ text changes act. acts s changes act was;
   pruned = λ p before asks found. subst (λ (t : State). Joined t.jobs t.needs) (sym (pruned_state s p.id jobs_rise rise p refl))

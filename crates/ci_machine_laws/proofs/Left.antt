@@ -60,6 +60,7 @@ module _ (s : State) (n : ℕ) (jobs_rise : Rising (λ (j : Job). j.id) 0 s.jobs
         first_job = i.first_job;
         positive = λ j k. i.positive j (job_was s n jobs_rise rise j k).0;
         aside = λ j k. let w = job_was s n jobs_rise rise j k in subst (λ (l : List Attempt). j.set_aside ≤ length l) (sym (attempts_left s n jobs_rise rise j w.0 w.1)) (i.aside j w.0);
+        in_turn = λ a b k l. i.in_turn a b (job_was s n jobs_rise rise a k).0 (job_was s n jobs_rise rise b l).0;
       }
 
 -- ---- what became of that which was there

@@ -24,3 +24,4 @@ pub mod Numbers
 pub mod Bounded
 pub mod OneBoard
 pub mod SentAgain
+pub mod Modes

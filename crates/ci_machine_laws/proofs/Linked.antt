@@ -13,6 +13,7 @@ use Rattle.ci_machine.specs.declared.records.QueuedJob.{QueuedJob}
 use Rattle.ci_machine.specs.declared.records.Job.{Job}
 use Rattle.ci_machine.specs.declared.records.Variable.{Variable}
 use Rattle.ci_machine.specs.declared.records.Attempt.{Attempt}
+use Rattle.ci_machine.specs.declared.records.GroupMode.{GroupMode}
 use Rattle.ci_machine.specs.declared.lease.Lease.{Lease}
 use Rattle.ci_machine.specs.declared.change.RowChange.{RowChange}
 use Rattle.ci_machine.specs.declared.change.RowChange.TheVariants.{Put}
@@ -25,7 +26,7 @@ use Rattle.ci_machine.specs.declared.request.Seed.{Seed}
 use Rattle.ci_machine.specs.declared.reply.Answer.{Answer}
 use Rattle.ci_machine.specs.declared.reply.Answer.TheVariants as answer
 use Rattle.ci_machine.specs.declared.reply.Swept.{Swept}
-use Rattle.ci_machine.specs.State.{State, applied, placed, put, others, variable_cmp, pipeline_cmp, job_cmp, need_cmp, attempt_cmp}
+use Rattle.ci_machine.specs.State.{State, applied, placed, put, others, variable_cmp, pipeline_cmp, job_cmp, need_cmp, attempt_cmp, mode_cmp}
 use Rattle.ci_machine.specs.Statuses.{attempts_of}
 use Rattle.ci_machine.specs.Leases.{is_live, is_over, first_due}
 use Rattle.ci_machine_steps.specs.Plans.{Plan}
@@ -172,6 +173,19 @@ pub record Linked (s : State) : Type 0 where
   pub positive : (j : Job) → Has j s.jobs → 1 ≤ j.id
   -- no more of a job's attempts are set aside than it has
   pub aside : (j : Job) → Has j s.jobs → j.set_aside ≤ length (attempts_of s j.id)
+  -- jobs of newer pipelines have greater numbers
+  pub in_turn : (a b : Job) → Has a s.jobs → Has b s.jobs → a.pipeline < b.pipeline → a.id < b.id
+
+-- a job of this number was there, in this pipeline
+abbrev WasThere : State → Job → Type 0
+WasThere s j = (old : Job) × (Has old s.jobs × ((old.id ≡ j.id) × (old.pipeline ≡ j.pipeline)))
+
+-- the job is of the pipeline that comes next, and its number is one of those that come next
+abbrev IsOfNext : State → Job → Type 0
+IsOfNext s j = (j.pipeline ≡ s.next.pipeline) × (s.next.job ≤ j.id)
+
+was_there : (s : State) (j : Job) → Has j s.jobs → WasThere s j ⊎ IsOfNext s j
+was_there s j k = inl (j, (k, (refl, refl)))
 
 -- the next state: what was there is there, and its new records are linked
 pub record Next (s t : State) : Type 0 where
@@ -186,10 +200,36 @@ pub record Next (s t : State) : Type 0 where
   next_job : s.next.job ≤ t.next.job
   attempts : (a : Attempt) → Has a t.attempts → Has a s.attempts ⊎ (Named (λ (j : Job). j.id) a.job t.jobs × Named (λ (r : Runner). r.id) a.runner t.runners)
   jobs : (j : Job) → Has j t.jobs → Has j s.jobs ⊎ (Named (λ (p : Pipeline). p.id) j.pipeline t.pipelines × ((1 ≤ j.id) × (j.set_aside ≤ length (attempts_of t j.id))))
+  numbered : (j : Job) → Has j t.jobs → WasThere s j ⊎ IsOfNext s j
   -- no job has fewer attempts
   counts : (job : ℕ) → length (attempts_of s job) ≤ length (attempts_of t job)
   pipelines : (p : Pipeline) → Has p t.pipelines → Has p s.pipelines ⊎ Named (λ (q : Project). q.id) p.project t.projects
   needs : (w : Need) → Has w t.needs → Has w s.needs ⊎ (Named (λ (j : Job). j.id) w.job t.jobs × Named (λ (j : Job). j.id) w.pred t.jobs)
+
+turns : (s : State) → Linked s → (a b : Job) → WasThere s a ⊎ IsOfNext s a → WasThere s b ⊎ IsOfNext s b → a.pipeline < b.pipeline → a.id < b.id
+turns s i a b (inl v) (inl w) lt =
+    let x : v.0.id ≡ a.id = v.1.1.0 in
+    let y : w.0.id ≡ b.id = w.1.1.0 in
+    let p : v.0.pipeline ≡ a.pipeline = v.1.1.1 in
+    let q : w.0.pipeline ≡ b.pipeline = w.1.1.1 in
+    let z : v.0.id < w.0.id = i.in_turn v.0 w.0 v.1.0 w.1.0 (omega arith) in
+    omega arith
+turns s i a b (inl v) (inr m) lt =
+    let x : v.0.id ≡ a.id = v.1.1.0 in
+    let y : v.0.id < s.next.job = i.job_below v.0 v.1.0 in
+    let z : s.next.job ≤ b.id = m.1 in
+    omega arith
+turns s i a b (inr n) (inl w) lt =
+    let p = i.job_pipeline w.0 w.1.0 in
+    let x : p.0.id < s.next.pipeline = i.pipeline_below p.0 p.1.0 in
+    let y : p.0.id ≡ w.0.pipeline = p.1.1 in
+    let q : w.0.pipeline ≡ b.pipeline = w.1.1.1 in
+    let z : a.pipeline ≡ s.next.pipeline = n.0 in
+    absurd (omega arith)
+turns s i a b (inr n) (inr m) lt =
+    let y : a.pipeline ≡ s.next.pipeline = n.0 in
+    let z : b.pipeline ≡ s.next.pipeline = m.0 in
+    absurd (omega arith)
 
 pub linked_on : (s t : State) → Linked s → Next s t → Linked t
 linked_on s t i n = record {
@@ -209,6 +249,7 @@ linked_on s t i n = record {
   first_job = let a = i.first_job in let b = n.next_job in omega arith;
   positive = λ j k. ⊎_elim (λ m. i.positive j m) (λ w. w.1.0) (n.jobs j k);
   aside = λ j k. ⊎_elim (λ m. let a = i.aside j m in let b = n.counts j.id in omega arith) (λ w. w.1.1) (n.jobs j k);
+  in_turn = λ a b k l. turns s i a b (n.numbered a k) (n.numbered b l);
 }
 
 -- nothing changes
@@ -223,6 +264,7 @@ rests s i = record {
   pipeline_below = i.pipeline_below;
   job_below = i.job_below;
   next_job = omega arith;
+  numbered = was_there s;
   counts = λ n. omega arith;
   attempts = λ a k. inl k;
   jobs = λ j k. inl k;
@@ -249,6 +291,7 @@ alters s x a i r has good = record {
   pipeline_below = i.pipeline_below;
   job_below = i.job_below;
   next_job = omega arith;
+  numbered = was_there s;
   counts = λ n. passing_put (λ (b : Attempt). b.id) (λ (b : Attempt). b.job == n) x a s.attempts r has (ap (λ (b : Attempt). b.id) good) (ap (λ (b : Attempt). b.job == n) good);
   attempts = λ b k. ⊎_elim
       (λ e. let same_job : a.job ≡ b.job = sym (ap (λ (c : Attempt). c.job) e ∙ ap (λ (c : Attempt). c.job) good) in
@@ -284,6 +327,7 @@ files s project text i has =
       pipeline_below = n.pipeline_below;
       job_below = n.job_below;
       next_job = n.next_job;
+      numbered = n.numbered;
       counts = n.counts;
       attempts = n.attempts;
       jobs = n.jobs;
@@ -313,6 +357,7 @@ pauses s runner paused i has =
       pipeline_below = n.pipeline_below;
       job_below = n.job_below;
       next_job = n.next_job;
+      numbered = n.numbered;
       counts = n.counts;
       attempts = λ a k. inl k;
       jobs = n.jobs;
@@ -334,6 +379,29 @@ variables s vs i =
       pipeline_below = n.pipeline_below;
       job_below = n.job_below;
       next_job = n.next_job;
+      numbered = n.numbered;
+      counts = n.counts;
+      attempts = n.attempts;
+      jobs = n.jobs;
+      pipelines = n.pipelines;
+      needs = n.needs;
+    }
+
+-- process modes are put, or go
+modes : (s : State) (ms : List GroupMode) → Linked s → Next s (record s { modes = ms })
+modes s ms i =
+    let n = rests s i in
+    record {
+      later = record { projects = n.later.projects; runners = n.later.runners; pipelines = n.later.pipelines; jobs = n.later.jobs; attempts = n.later.attempts };
+      projects_rise = n.projects_rise;
+      runners_rise = n.runners_rise;
+      pipelines_rise = n.pipelines_rise;
+      project_below = n.project_below;
+      runner_below = n.runner_below;
+      pipeline_below = n.pipeline_below;
+      job_below = n.job_below;
+      next_job = n.next_job;
+      numbered = n.numbered;
       counts = n.counts;
       attempts = n.attempts;
       jobs = n.jobs;
@@ -357,7 +425,7 @@ enters s new project given now text laid i has named lays =
     let cases : (j : Job) → Has j t.jobs → Has j s.jobs ⊎ IsNew s.next.pipeline s.next.job (0 + count) is j
     = λ j k. ⊎_elim (λ m. inl m) (λ m. inr (new_are s.next.pipeline s.next.job 0 is j m)) (in_either j s.jobs made.jobs (subst (Has j) jobs k)) in
     let is_pipeline : Named pids s.next.pipeline t.pipelines = (made.pipeline, (has_self pipeline_cmp made.pipeline (others pipeline_cmp made.pipeline s.pipelines), refl)) in
-    let numbered : (k : ℕ) → k < count → Named ids (s.next.job + k) t.jobs
+    let has_number : (k : ℕ) → k < count → Named ids (s.next.job + k) t.jobs
     = λ k l. let w = new_numbered s.next.pipeline s.next.job 0 is k (omega arith) (omega arith) in (w.0, (subst (Has w.0) (sym jobs) (has_right w.0 s.jobs made.jobs w.1.0), w.1.1)) in
     let within = pairs_inside text given laid lays in
     record {
@@ -376,6 +444,7 @@ enters s new project given now text laid i has named lays =
       pipeline_below = below_put pids made.pipeline s.next.pipeline (s.next.pipeline + 1) s.pipelines i.pipeline_below (omega arith) (omega arith);
       job_below = λ w k. ⊎_elim (λ m. let a : w.id < s.next.job = i.job_below w m in omega arith) (λ e. let b = e.below in omega arith) (cases w k);
       next_job = omega arith;
+      numbered = λ w k. ⊎_elim (λ m. was_there s w m) (λ e. inr (ap (λ (v : Job). v.pipeline) e.job, e.above)) (cases w k);
       counts = λ n. omega arith;
       attempts = λ a k. inl k;
       jobs = λ w k. ⊎_elim (λ m. inl m)
@@ -386,7 +455,7 @@ enters s new project given now text laid i has named lays =
       needs = λ w k. ⊎_elim (λ m. inl m)
           (λ m. ⊎_elim (λ e. absurd e)
           (λ q. let of = within q.0 q.1.0 in
-          inr (subst (λ n. Named ids n t.jobs) (sym (ap (λ (v : Need). v.job) q.1.1)) (numbered q.0.1 of.1), subst (λ n. Named ids n t.jobs) (sym (ap (λ (v : Need). v.pred) q.1.1)) (numbered q.0.0 of.0)))
+          inr (subst (λ n. Named ids n t.jobs) (sym (ap (λ (v : Need). v.job) q.1.1)) (has_number q.0.1 of.1), subst (λ n. Named ids n t.jobs) (sym (ap (λ (v : Need). v.pred) q.1.1)) (has_number q.0.0 of.0)))
           (needs_are s.next.job laid.plan.pairs [] w m))
           (has_all need_cmp made.needs s.needs w k);
     }
@@ -421,6 +490,9 @@ acts s changes act i jr r =
           (λ m. let w = act.each_job j m in subst (λ n. n < s.next.job) (sym (ap jids w.good)) (i.job_below w.old w.has))
           (has_all job_cmp act.jobs s.jobs j k);
       next_job = omega arith;
+      numbered = λ j k. ⊎_elim (λ m. was_there s j m)
+          (λ m. let w = act.each_job j m in inl (w.old, (w.has, (sym (ap jids w.good), sym (ap (λ (v : Job). v.pipeline) w.good)))))
+          (has_all job_cmp act.jobs s.jobs j k);
       counts = counts;
       attempts = λ a k. ⊎_elim (λ m. inl m)
           (λ m. let w = act.each_attempt a m in
@@ -475,6 +547,7 @@ goes s board request i jr r b = record {
     pipeline_below = i.pipeline_below;
     job_below = i.job_below;
     next_job = omega arith;
+    numbered = was_there s;
     counts = λ n. omega arith;
     attempts = λ a k. inl k;
     jobs = λ j k. inl k;
@@ -497,6 +570,7 @@ goes s board request i jr r b = record {
     pipeline_below = i.pipeline_below;
     job_below = i.job_below;
     next_job = omega arith;
+    numbered = was_there s;
     counts = λ n. omega arith;
     attempts = λ a k. inl k;
     jobs = λ j k. inl k;
@@ -507,6 +581,9 @@ goes s board request i jr r b = record {
   file = λ project text c has. inl (files s project (Some text) i has);
   variable = λ project new. inl (variables s (put variable_cmp (record { project = project.id; key = new.key; value = new.value }) s.variables) i);
   gone = λ v. inl (variables s _ i);
+  mode = λ new is m. inl (modes s (put mode_cmp m s.modes) i);
+  unordered = λ new is project group. inl (modes s _ i);
+  mode_shown = λ group order. inl (rests s i);
   pipeline = λ new now is project text laid rows asked has named file lays.
       inl (subst (Next s) (sym (after_creation s.next.job (creation s.next.pipeline s.next.job new (given_in s new) now laid) s)) (enters s new project (given_in s new) now text laid i has named lays));
   nothing = inl (rests s i);
@@ -526,6 +603,7 @@ goes s board request i jr r b = record {
     pipeline_below = i.pipeline_below;
     job_below = i.job_below;
     next_job = omega arith;
+    numbered = was_there s;
     counts = λ n. passing_new (λ (w : Attempt). w.id) (λ (w : Attempt). w.job == n) _ s.next.attempt s.attempts b (omega arith);
     attempts = λ a k. ⊎_elim
         (λ e. inr ((job, (has_job, its_job ∙ sym (ap (λ (w : Attempt). w.job) e))), (runner, (has_runner, sym (ap (λ (w : Attempt). w.runner) e)))))
@@ -541,8 +619,8 @@ goes s board request i jr r b = record {
       inl (cond_both (is_live a) (Put (row.Attempt x) ∷ []) [] (λ cs. Next s (applied cs s)) (λ _. alters s x a i r has refl) (λ _. rests s i));
   misplaced = λ fault. inl (rests s i);
   grown = λ a bytes now size has. inl (grows a bytes now size has);
-  pipeline_shown = λ p held jobs facts rows. inl (rests s i);
-  shown = λ held project job status. inl (rests s i);
+  pipeline_shown = λ p claims jobs facts rows. inl (rests s i);
+  shown = λ claims project job status. inl (rests s i);
   traced = λ trace. inl (rests s i);
   acted = λ text changes act. inl (acts s changes act i jr r);
   pruned = λ p before is found. inr (record {
@@ -567,6 +645,7 @@ goes s board request i jr r b = record {
         pipeline_below = n.pipeline_below;
         job_below = n.job_below;
         next_job = n.next_job;
+        numbered = n.numbered;
         counts = n.counts;
         attempts = n.attempts;
         jobs = n.jobs;

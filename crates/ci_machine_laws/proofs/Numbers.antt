@@ -1,5 +1,5 @@
 -- Every state that a history leads to is sound.
-use Rattle.std.specs.Prelude.{◌≡◌, ◌<◌, ◌≤◌, true, List, [], ◌∷◌, length, Some}
+use Rattle.std.specs.Prelude.{◌≡◌, ◌<◌, ◌≤◌, true, List, [], ◌∷◌, length, All, Some}
 use Rattle.std.specs.List.{AllByRecursion}
 use Rattle.std.specs.List.Sorted.{IsStrictlySortedBy}
 use Rattle.std.specs.declared.cmp.Ordering.{Ordering}
@@ -44,6 +44,7 @@ recorded (row.Job p) s o = o
 recorded (row.JobVariable v) s o = o
 recorded (row.Need w) s o = put_ordered need_cmp need_total w s.needs o
 recorded (row.Attempt p) s o = o
+recorded (row.Mode m) s o = o
 recorded (row.Next c n) s o = o
 
 removed : (k : Key) (s : State) → Ordered need_cmp s.needs → Ordered need_cmp (without_record k s).needs
@@ -57,6 +58,7 @@ removed (key.JobVariables n) s o = o
 removed (key.Need n pred) s o = filter_ordered need_cmp _ s.needs o
 removed (key.Needs n) s o = filter_ordered need_cmp _ s.needs o
 removed (key.Attempt n) s o = o
+removed (key.Mode n name) s o = o
 removed (key.Trace n) s o = o
 
 one_change : (c : RowChange) (s : State) → Ordered need_cmp s.needs → Ordered need_cmp (changed c s).needs
@@ -96,6 +98,7 @@ sound_reached s is =
       pipelines_below = All-from_has (λ (p : Pipeline). p.id < s.next.pipeline) s.pipelines linked.pipeline_below;
       jobs_positive = All-from_has (λ (j : Job). 0 < j.id) s.jobs (λ j k. let l = linked.positive j k in omega arith);
       jobs_below = All-from_has (λ (j : Job). j.id < s.next.job) s.jobs linked.job_below;
+      jobs_in_turn = All-from_has (λ (a : Job). All (λ (b : Job). a.pipeline < b.pipeline → a.id < b.id) s.jobs) s.jobs (λ a k. All-from_has (λ (b : Job). a.pipeline < b.pipeline → a.id < b.id) s.jobs (λ b m. linked.in_turn a b k m));
       attempts_below = All-from_has (λ (a : Attempt). a.id < s.next.attempt) s.attempts grants.below;
       linked = is_linked s linked;
       set_aside = All-from_has (λ (j : Job). j.set_aside ≤ length (attempts_of s j.id)) s.jobs linked.aside;

@@ -5,7 +5,7 @@ use Rattle.std.proofs.lemmas.Bool.{and_parts, both_ways, cases_Bool}
 use Rattle.ci_machine.specs.declared.records.BoardRow.{BoardRow}
 use Rattle.ci_machine.specs.declared.records.Pipeline.{Pipeline}
 use Rattle.ci_machine.specs.declared.change.RowChange.{RowChange}
-use Rattle.ci_machine.specs.declared.request.Request.TheVariants.{AddProject, AddRunner, PauseRunner, SetFile, SetVariable, DeleteVariable, CreatePipeline, ShowPipeline, AskJob, UpdateJob, AppendTrace, ShowJob, ShowTrace, Play, CancelJob, CancelPipeline, RetryJob, PruneOne}
+use Rattle.ci_machine.specs.declared.request.Request.TheVariants.{AddProject, AddRunner, PauseRunner, SetFile, SetVariable, DeleteVariable, SetMode, ShowMode, CreatePipeline, ShowPipeline, AskJob, UpdateJob, AppendTrace, ShowJob, ShowTrace, Play, CancelJob, CancelPipeline, RetryJob, PruneOne}
 use Rattle.ci_machine.specs.declared.request.Event.{Event}
 use Rattle.ci_machine.specs.declared.request.Event.TheVariants as event
 use Rattle.ci_machine.specs.declared.request.Seed.{Seed}
@@ -71,6 +71,8 @@ pruned_by s board (event.Request (PauseRunner x)) now seed a changes are rise is
 pruned_by s board (event.Request (SetFile x)) now seed a changes are rise is = tt
 pruned_by s board (event.Request (SetVariable x)) now seed a changes are rise is = tt
 pruned_by s board (event.Request (DeleteVariable x)) now seed a changes are rise is = tt
+pruned_by s board (event.Request (SetMode x)) now seed a changes are rise is = tt
+pruned_by s board (event.Request (ShowMode x)) now seed a changes are rise is = tt
 pruned_by s board (event.Request (CreatePipeline x)) now seed a changes are rise is = tt
 pruned_by s board (event.Request (ShowPipeline x)) now seed a changes are rise is = tt
 pruned_by s board (event.Request (AskJob x)) now seed a changes are rise is = tt

@@ -19,8 +19,10 @@ use Rattle.ci_machine.specs.declared.lease.LeaseFault.TheVariants.{NotLive, Leas
 use Rattle.ci_machine.specs.declared.lease.PieceFault.{PieceFault}
 use Rattle.ci_machine.specs.declared.lease.PieceFault.TheVariants.{Unleased, WrongOffset, TraceFull}
 use Rattle.ci_machine.specs.declared.change.RowChange.{RowChange}
-use Rattle.ci_machine.specs.declared.change.RowChange.TheVariants.{Put}
+use Rattle.ci_machine.specs.declared.change.RowChange.TheVariants.{Put, Remove}
 use Rattle.ci_machine.specs.declared.change.Record.TheVariants as row
+use Rattle.ci_machine.specs.declared.change.Key.TheVariants as key
+use Rattle.ci_machine.specs.declared.records.Claim.{Claim}
 use Rattle.ci_machine.specs.declared.records.Project.{Project}
 use Rattle.ci_machine.specs.declared.records.Pipeline.{Pipeline}
 use Rattle.ci_machine.specs.declared.request.NewRunner.{NewRunner}
@@ -28,6 +30,8 @@ use Rattle.ci_machine.specs.declared.request.RunnerPause.{RunnerPause}
 use Rattle.ci_machine.specs.declared.request.NewFile.{NewFile}
 use Rattle.ci_machine.specs.declared.request.NewVariable.{NewVariable}
 use Rattle.ci_machine.specs.declared.request.VariableQuery.{VariableQuery}
+use Rattle.ci_machine.specs.declared.request.NewMode.{NewMode}
+use Rattle.ci_machine.specs.declared.request.GroupQuery.{GroupQuery}
 use Rattle.ci_machine.specs.declared.request.NewPipeline.{NewPipeline}
 use Rattle.ci_machine.specs.declared.request.PipelineQuery.{PipelineQuery}
 use Rattle.ci_machine.specs.declared.request.Report.{Report}
@@ -37,7 +41,7 @@ use Rattle.ci_machine.specs.declared.request.TracePart.{TracePart}
 use Rattle.ci_machine.specs.declared.request.Event.{Event}
 use Rattle.ci_machine.specs.declared.request.Event.TheVariants as event
 use Rattle.ci_machine.specs.declared.request.Request.{Request}
-use Rattle.ci_machine.specs.declared.request.Request.TheVariants.{AddProject, AddRunner, PauseRunner, SetFile, SetVariable, DeleteVariable, CreatePipeline, ShowPipeline, AskJob, UpdateJob, AppendTrace, ShowJob, ShowTrace, Play, CancelJob, CancelPipeline, RetryJob, PruneOne}
+use Rattle.ci_machine.specs.declared.request.Request.TheVariants.{AddProject, AddRunner, PauseRunner, SetFile, SetVariable, DeleteVariable, SetMode, ShowMode, CreatePipeline, ShowPipeline, AskJob, UpdateJob, AppendTrace, ShowJob, ShowTrace, Play, CancelJob, CancelPipeline, RetryJob, PruneOne}
 use Rattle.ci_machine.specs.declared.request.Seed.{Seed}
 use Rattle.ci_machine.specs.declared.reply.Code.{Code}
 use Rattle.ci_machine.specs.declared.reply.Code.TheVariants.{M2, M5, M15}
@@ -58,10 +62,12 @@ use Rattle.ci_machine_steps.specs.Plans.{Plan, refused, faulted, fine}
 use Rattle.ci_machine_steps.specs.Projects.{made_project, add_project}
 use Rattle.ci_config.specs.declared.limits.TheConstants.{MAX_TAGS}
 use Rattle.ci_machine_steps.specs.Runners.{made_runner, are_names, lacks_project, add_runner, pause_runner}
-use Rattle.ci_machine.specs.Holders.{holders}
+use Rattle.ci_machine.specs.Groups.{order_of}
+use Rattle.ci_machine.specs.Waiting.{groups_in, claims_in}
 use Rattle.ci_machine_steps.specs.Cancels.{cancellable_jobs}
 use Rattle.ci_machine_steps.specs.Files.{file_set, SetsFile}
 use Rattle.ci_machine_steps.specs.Variables.{variable_set, set_variable, variable_gone, delete_variable}
+use Rattle.ci_machine_steps.specs.Modes.{mode_told, set_mode, show_mode}
 use Rattle.ci_machine_steps.specs.Pipelines.{may_create, creation, pipeline_created, Creates}
 use Rattle.ci_machine_steps.specs.Grants.{granted, ask_job}
 use Rattle.ci_machine_steps.specs.Reports.{told, heard, ended, reported, update_job}
@@ -70,7 +76,7 @@ use Rattle.ci_machine_steps.specs.Shows.{asked_pipeline, show_pipeline, asked_jo
 use Rattle.ci_machine_steps.specs.Sweeps.{sweep}
 use Rattle.ci_machine_steps.specs.Prunes.{prunable_in, is_job_among, pruned_reply, prune, without_pipeline}
 use Rattle.ci_machine.specs.Reply.{status_of_state}
-use Rattle.ci_machine_steps.specs.Step.{Does, Happens, project_with, project_named, runner_at, redundant_in, cancellable_in, project_variables, variable_at, pipeline_at, runner_with, job_at, attempt_at, pipeline_of, last_attempt, trace_of, trace_if_any, lease_of, leases, live_attempts, is_pending, pending_jobs, queued, queue, offer, offered_variables, jobs_in}
+use Rattle.ci_machine_steps.specs.Step.{Does, Happens, project_with, project_named, runner_at, redundant_in, cancellable_in, project_variables, variable_at, pipeline_at, runner_with, job_at, pipeline_or_none, attempt_at, pipeline_of, last_attempt, trace_of, trace_if_any, lease_of, leases, live_attempts, is_pending, pending_jobs, queued, queue, offer, offered_variables, jobs_in}
 use Rattle.ci_machine_steps.specs.History.{Past, Leads}
 use Rattle.ci_machine_steps.specs.Laws.{grants, is_grant, accepted_bytes, IsLeastEligible}
 use Rattle.ci_machine.proofs.Keyed.{Has, Rising, has_put, rising_filter, has_filter, filter_has, has_find, least_find, find-map, one_at, All-from_has, contains_from_has}
@@ -82,7 +88,7 @@ use Rattle.ci_machine_laws.proofs.PutAll.{rising_all, has_still}
 use Rattle.ci_machine_laws.proofs.Acts.{WasLive, IsAct, cancels, cancellable_within, after_act, came}
 use Rattle.ci_machine_steps.proofs.Created.{after_creation}
 use Rattle.ci_machine_steps.proofs.Pruned.{pruned_state, attempt_was, attempt_left, trace_left}
-use Rattle.ci_machine_laws.proofs.EachPlan.{IsMachineCode, of_asked, given_in, of_file, of_variable, of_removal, of_creation, of_pipeline, of_play, of_retry, of_job_cancel, of_cancel}
+use Rattle.ci_machine_laws.proofs.EachPlan.{IsMachineCode, of_asked, given_in, of_file, of_variable, of_removal, of_mode, of_order, of_creation, of_pipeline, of_play, of_retry, of_job_cancel, of_cancel}
 use Rattle.ci_machine_laws.proofs.Gone.{goes_with}
 use Rattle.ci_machine_laws.proofs.Traces as trace
 use Rattle.ci_machine_laws.proofs.Ends as finals
@@ -208,26 +214,42 @@ removals h s query now seed i =
     of_removal s (After h s (event.Request r) now seed) (refuses h s r now seed i other) (faults h s r now seed i other) query
     (λ v. stands h s r now seed i other (variable_gone v) refl refl refl i.grants.jobs_rise)
 
-creates : (h : List Past) (s : State) (new : NewPipeline) (now : ℕ) (seed : Seed) (plan : Plan) → Inv h s
-    → Creates s.next.pipeline s.next.job (holders s) new (given_in s new) now (may_create (of_asked s new.token new.project) new) plan → After h s (event.Request (CreatePipeline new)) now seed plan
-creates h s new now seed plan i is =
+modes : (h : List Past) (s : State) (new : NewMode) (now : ℕ) (seed : Seed) → Inv h s → After h s (event.Request (SetMode new)) now seed (set_mode (of_asked s new.token new.project) new)
+modes h s new now seed i =
+    let r = SetMode new in
+    let other : IsOther r = (λ a. refl, λ a n. refl) in
+    of_mode s (After h s (event.Request r) now seed) (refuses h s r now seed i other) (faults h s r now seed i other) new
+    (λ m. stands h s r now seed i other (mode_told m.group (Some m.order), Put (row.Mode m) ∷ []) refl refl refl i.grants.jobs_rise)
+    (λ project group. stands h s r now seed i other (mode_told group None, Remove (key.Mode project group) ∷ []) refl refl refl i.grants.jobs_rise)
+
+mode_shows : (h : List Past) (s : State) (query : GroupQuery) (now : ℕ) (seed : Seed) → Inv h s
+    → After h s (event.Request (ShowMode query)) now seed (show_mode (of_asked s query.token query.project) (order_of s.modes query.project query.group) query.group)
+mode_shows h s query now seed i =
+    let r = ShowMode query in
+    let other : IsOther r = (λ a. refl, λ a n. refl) in
+    let order = order_of s.modes query.project query.group in
+    of_order s (After h s (event.Request r) now seed) (refuses h s r now seed i other) (faults h s r now seed i other) query order (rests h s (event.Request r) now seed (answer.Reply (mode_told query.group order)) i refl (λ n. refl))
+
+creates : (h : List Past) (s : State) (claims : List Claim) (new : NewPipeline) (now : ℕ) (seed : Seed) (plan : Plan) → Inv h s
+    → Creates s.next.pipeline s.next.job claims new (given_in s new) now (may_create (of_asked s new.token new.project) new) plan → After h s (event.Request (CreatePipeline new)) now seed plan
+creates h s claims new now seed plan i is =
     let r = CreatePipeline new in
     let other : IsOther r = (λ a. refl, λ a n. refl) in
-    of_creation s (After h s (event.Request r) now seed) (refuses h s r now seed i other) (faults h s r now seed i other) new now plan
+    of_creation s (After h s (event.Request r) now seed) (refuses h s r now seed i other) (faults h s r now seed i other) claims new now plan
     (λ project text laid rows asked has named file lays.
     let made = creation s.next.pipeline s.next.job new (given_in s new) now laid in
     let e = after_creation s.next.job made s in
-    stands h s r now seed i other (pipeline_created s.next.job made (holders s) rows) (ap (λ (t : State). t.attempts) e) (ap (λ (t : State). t.traces) e) (ap (λ (t : State). t.next.attempt) e)
+    stands h s r now seed i other (pipeline_created s.next.job made claims rows) (ap (λ (t : State). t.attempts) e) (ap (λ (t : State). t.traces) e) (ap (λ (t : State). t.next.attempt) e)
     (subst (λ (t : State). Rising (λ (j : Job). j.id) 0 t.jobs) (sym e) (rising_all (λ (j : Job). j.id) made.jobs s.jobs i.grants.jobs_rise))) is
 
 pipeline_shows : (h : List Past) (s : State) (board : List BoardRow) (query : PipelineQuery) (now : ℕ) (seed : Seed) → Inv h s
     → After h s (event.Request (ShowPipeline query)) now seed
-    (show_pipeline (asked_pipeline (of_asked s query.token query.project) (pipeline_at s query.pipeline)) (holders s) (jobs_of s query.pipeline) (facts_of s query.pipeline) (rows_of s board query.pipeline))
+    (show_pipeline (asked_pipeline (of_asked s query.token query.project) (pipeline_at s query.pipeline)) (claims_in s board query.pipeline) (jobs_of s query.pipeline) (facts_of s query.pipeline) (rows_of s board query.pipeline))
 pipeline_shows h s board query now seed i =
     let r = ShowPipeline query in
     let other : IsOther r = (λ a. refl, λ a n. refl) in
     let n = query.pipeline in
-    of_pipeline s (After h s (event.Request r) now seed) (refuses h s r now seed i other) (faults h s r now seed i other) query (holders s) (jobs_of s n) (facts_of s n) (rows_of s board n)
+    of_pipeline s (After h s (event.Request r) now seed) (refuses h s r now seed i other) (faults h s r now seed i other) query (claims_in s board n) (jobs_of s n) (facts_of s n) (rows_of s board n)
     (λ p. rests h s (event.Request r) now seed _ i refl (λ m. refl))
 
 -- ---- a job request
@@ -255,18 +277,18 @@ starts h s token now seed runner q vs job i free its_job eligible asked =
     }
 
 grants_least : (h : List Past) (s : State) (board : List BoardRow) (token : List ℕ) (now : ℕ) (seed : Seed) → AreBoard s board → Inv h s → (runner : Runner) → runner_with s token ≡ Some runner
-    → (q : QueuedJob) → chosen (queue s board) (holders s) runner ≡ Some q → (vs : List JobVariable)
+    → (q : QueuedJob) → chosen (queue s board) (groups_in s board) runner ≡ Some q → (vs : List JobVariable)
     → After h s (event.Request (AskJob token)) now seed (ask_job (Some runner) (Some q) vs s.next.attempt now seed)
 grants_least h s board token now seed are i runner found q offered vs =
     let e = event.Request (AskJob token) in
-    let test : Job → Bool = λ j. is_eligible runner (holders s) (queued s j) in
+    let test : Job → Bool = λ j. is_eligible runner (groups_in s board) (queued s j) in
     let is_runner = has_find (λ (w : Runner). bytes_eq w.token token) runner s.runners found in
-    let at = find-map (queued s) (is_eligible runner (holders s)) q (pending_jobs s board) offered in
+    let at = find-map (queued s) (is_eligible runner (groups_in s board)) q (pending_jobs s board) offered in
     let job = at.0 in
     let first = has_find test job (pending_jobs s board) at.1.1 in
     let is_job = has_filter (is_pending board) job s.jobs first.0 in
     let same_job : job.id ≡ q.job.id = ap (λ (w : QueuedJob). w.job.id) at.1.0 in
-    let Least : Job → Type 0 = λ other. is_pending board other ≡ true → is_eligible runner (holders s) (queued s other) ≡ true → job.id ≤ other.id in
+    let Least : Job → Type 0 = λ other. is_pending board other ≡ true → is_eligible runner (groups_in s board) (queued s other) ≡ true → job.id ≤ other.id in
     cond_both (nat_lt MAX_NUMBER s.next.attempt) (refused M15) (granted runner q vs s.next.attempt now seed) (After h s e now seed)
     (λ _. rests h s e now seed _ i refl (λ n. refl))
     (λ _. starts h s token now seed runner q vs job i (pending_none h s board are i job is_job.0 is_job.1) same_job (record {
@@ -281,7 +303,7 @@ grants_least h s board token now seed are i runner found q offered vs =
     }) ((bytes_eq-Decides runner.token token).0 is_runner.1))
 
 offers : (h : List Past) (s : State) (board : List BoardRow) (token : List ℕ) (now : ℕ) (seed : Seed) → AreBoard s board → Inv h s → (runner : Runner) → runner_with s token ≡ Some runner
-    → (q : Option QueuedJob) → chosen (queue s board) (holders s) runner ≡ q → (vs : List JobVariable)
+    → (q : Option QueuedJob) → chosen (queue s board) (groups_in s board) runner ≡ q → (vs : List JobVariable)
     → After h s (event.Request (AskJob token)) now seed (ask_job (Some runner) q vs s.next.attempt now seed)
 offers h s board token now seed are i runner found None offered vs = rests h s (event.Request (AskJob token)) now seed _ i refl (λ n. refl)
 offers h s board token now seed are i runner found (Some q) offered vs = grants_least h s board token now seed are i runner found q offered vs
@@ -289,7 +311,7 @@ offers h s board token now seed are i runner found (Some q) offered vs = grants_
 asks : (h : List Past) (s : State) (board : List BoardRow) (token : List ℕ) (now : ℕ) (seed : Seed) → AreBoard s board → Inv h s → (runner : Option Runner) → runner_with s token ≡ runner
     → After h s (event.Request (AskJob token)) now seed (ask_job runner (offer s board runner) (offered_variables s (offer s board runner)) s.next.attempt now seed)
 asks h s board token now seed are i None found = rests h s (event.Request (AskJob token)) now seed _ i refl (λ n. refl)
-asks h s board token now seed are i (Some runner) found = offers h s board token now seed are i runner found (chosen (queue s board) (holders s) runner) refl _
+asks h s board token now seed are i (Some runner) found = offers h s board token now seed are i runner found (chosen (queue s board) (groups_in s board) runner) refl _
 
 -- ---- what a runner says of an attempt
 
@@ -427,10 +449,10 @@ prunes h s before now seed i (Some p) =
 
 -- ---- a job is shown, a sweep
 
-looks : (h : List Past) (s : State) (e : Event) (now : ℕ) (seed : Seed) (project : ℕ) (status : Status) → Inv h s → ((a : Answer) → is_grant e a ≡ false) → ((a : Answer) → Quiet e a) → (r : Result Job Code)
-    → After h s e now seed (shown (holders s) project r status)
-looks h s e now seed project status i isnt quiet (Ok job) = rests h s e now seed _ i (isnt _) (quiet _)
-looks h s e now seed project status i isnt quiet (Err code) = rests h s e now seed _ i (isnt _) (quiet _)
+looks : (h : List Past) (s : State) (e : Event) (now : ℕ) (seed : Seed) (claims : List Claim) (project : ℕ) (status : Status) → Inv h s → ((a : Answer) → is_grant e a ≡ false) → ((a : Answer) → Quiet e a) → (r : Result Job Code)
+    → After h s e now seed (shown claims project r status)
+looks h s e now seed claims project status i isnt quiet (Ok job) = rests h s e now seed _ i (isnt _) (quiet _)
+looks h s e now seed claims project status i isnt quiet (Err code) = rests h s e now seed _ i (isnt _) (quiet _)
 
 reads : (h : List Past) (s : State) (e : Event) (now : ℕ) (seed : Seed) (bytes : List ℕ) → Inv h s → ((a : Answer) → is_grant e a ≡ false) → ((a : Answer) → Quiet e a) → (r : Result Job Code) → After h s e now seed (traced r bytes)
 reads h s e now seed bytes i isnt quiet (Ok job) = rests h s e now seed _ i (isnt _) (quiet _)
@@ -457,7 +479,9 @@ does h s board (PauseRunner pause) now seed f are i is = subst (After h s (event
 does h s board (SetFile new) now seed f are i is = files h s new now seed f i is
 does h s board (SetVariable new) now seed f are i is = subst (After h s (event.Request (SetVariable new)) now seed) (sym is) (variables h s new now seed i)
 does h s board (DeleteVariable query) now seed f are i is = subst (After h s (event.Request (DeleteVariable query)) now seed) (sym is) (removals h s query now seed i)
-does h s board (CreatePipeline new) now seed f are i is = creates h s new now seed f i is
+does h s board (SetMode new) now seed f are i is = subst (After h s (event.Request (SetMode new)) now seed) (sym is) (modes h s new now seed i)
+does h s board (ShowMode query) now seed f are i is = subst (After h s (event.Request (ShowMode query)) now seed) (sym is) (mode_shows h s query now seed i)
+does h s board (CreatePipeline new) now seed f are i is = creates h s (claims_in s board s.next.pipeline) new now seed f i is
 does h s board (ShowPipeline query) now seed f are i is = subst (After h s (event.Request (ShowPipeline query)) now seed) (sym is) (pipeline_shows h s board query now seed i)
 does h s board (AskJob token) now seed f are i is = subst (After h s (event.Request (AskJob token)) now seed) (sym is) (asks h s board token now seed are i (runner_with s token) refl)
 does h s board (UpdateJob u) now seed f are i is = subst (After h s (event.Request (UpdateJob u)) now seed) (sym is) (updates h s u now seed i (attempt_at s u.attempt) refl)
@@ -465,7 +489,7 @@ does h s board (AppendTrace part) now seed f are i is = subst (After h s (event.
 does h s board (ShowJob query) now seed f are i is =
     let job = job_at s query.job in
     subst (After h s (event.Request (ShowJob query)) now seed) (sym is)
-    (looks h s (event.Request (ShowJob query)) now seed query.project (status_for board query.job) i (λ a. refl) (λ a n. refl) (asked_job (project_with s query.token) job (pipeline_of s job) query))
+    (looks h s (event.Request (ShowJob query)) now seed (claims_in s board (pipeline_or_none job)) query.project (status_for board query.job) i (λ a. refl) (λ a n. refl) (asked_job (project_with s query.token) job (pipeline_of s job) query))
 does h s board (ShowTrace query) now seed f are i is =
     let job = job_at s query.job in
     subst (After h s (event.Request (ShowTrace query)) now seed) (sym is)

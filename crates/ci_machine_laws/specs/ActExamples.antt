@@ -22,7 +22,6 @@ use Rattle.ci_machine.specs.declared.request.PipelineQuery.{PipelineQuery}
 use Rattle.ci_machine.specs.declared.change.RowChange.{RowChange}
 use Rattle.ci_machine.specs.State.{State, applied}
 use Rattle.ci_machine.specs.Statuses.{jobs_of, attempts_of, facts_of}
-use Rattle.ci_machine.specs.Holders.{holders}
 use Rattle.ci_machine_steps.specs.Plans.{Plan}
 use Rattle.ci_machine.specs.Options.{plain_options}
 use Rattle.ci_machine_steps.specs.Shows.{job_shown, pipeline_shown}
@@ -76,11 +75,11 @@ abbrev pub board_from : ℕ → List Row → List BoardRow
 board_from n [] = []
 board_from n (r ∷ rows) = record { job = n; row = r } ∷ board_from (n + 1) rows
 
--- the changes, and the reply that shows the pipeline with these rows after them
+-- the changes, and the reply that shows the pipeline with these rows after them; none of its jobs has a resource group
 abbrev pub pipeline_after : State → List RowChange → List Row → Plan
 pipeline_after s changes rows =
     let t = applied changes s in
-    ((pipeline_shown its_pipeline (holders t) (jobs_of t 1) (facts_of t 1) rows).0, changes)
+    ((pipeline_shown its_pipeline [] (jobs_of t 1) (facts_of t 1) rows).0, changes)
 
 -- the changes, and the reply that shows the job with this status
 abbrev pub job_after : Job → List RowChange → Status → Plan

@@ -37,7 +37,7 @@ use Rattle.ci_machine.specs.declared.reply.Swept.{Swept}
 use Rattle.ci_machine.specs.Reply.{body_text}
 use Rattle.ci_machine.specs.State.{State, empty, applied}
 use Rattle.ci_machine.specs.Statuses.{status_for}
-use Rattle.ci_machine.specs.Holders.{holders}
+use Rattle.ci_machine.specs.Waiting.{claims_in}
 use Rattle.ci_machine_steps.specs.Plans.{Plan}
 use Rattle.ci_machine_steps.specs.Projects.{add_project}
 use Rattle.ci_machine_steps.specs.Runners.{add_runner}
@@ -47,7 +47,7 @@ use Rattle.ci_machine_steps.specs.Grants.{ask_job}
 use Rattle.ci_machine_steps.specs.Reports.{update_job}
 use Rattle.ci_machine_steps.specs.Traces.{append_trace}
 use Rattle.ci_machine_steps.specs.Shows.{show_job, show_trace}
-use Rattle.ci_machine_steps.specs.Step.{project_with, project_named, project_variables, runner_with, pipeline_of, job_at, last_attempt, trace_of, trace_if_any, lease_at, offer, offered_variables, sweep_in}
+use Rattle.ci_machine_steps.specs.Step.{project_with, project_named, project_variables, runner_with, pipeline_of, job_at, pipeline_or_none, last_attempt, trace_of, trace_if_any, lease_at, offer, offered_variables, sweep_in}
 
 -- sixteen bytes ab
 abbrev pub seed : Seed
@@ -101,7 +101,7 @@ abbrev pub first_rows : List Row
 first_rows = record no_row { status = Pending } ∷ record no_row { opens = 1 } ∷ []
 
 abbrev pub pipeline_made : Plan
-pipeline_made = pipeline_created with_runner.next.job made (holders with_runner) first_rows
+pipeline_made = pipeline_created with_runner.next.job made (claims_in with_runner [] with_runner.next.pipeline) first_rows
 
 abbrev pub with_pipeline : State
 with_pipeline = after pipeline_made with_runner
@@ -208,7 +208,7 @@ abbrev pub query : ℕ → ℕ → List ℕ → JobQuery
 query project number token = record { project = project; token = token; job = number }
 
 abbrev pub job_shown : State → List BoardRow → JobQuery → Plan
-job_shown s board q = show_job (project_with s q.token) (job_at s q.job) (pipeline_of s (job_at s q.job)) (holders s) (status_for board q.job) q
+job_shown s board q = show_job (project_with s q.token) (job_at s q.job) (pipeline_of s (job_at s q.job)) (claims_in s board (pipeline_or_none (job_at s q.job))) (status_for board q.job) q
 
 abbrev pub trace_shown : State → JobQuery → Plan
 trace_shown s q = show_trace (project_with s q.token) (job_at s q.job) (pipeline_of s (job_at s q.job)) (trace_if_any s (last_attempt s q.job)) q

@@ -4,3 +4,5 @@ pub mod WaitingExamples
 pub mod PruneExamples
 pub mod Pieces
 pub mod Repeats
+pub mod Modes
+pub mod ModeExamples

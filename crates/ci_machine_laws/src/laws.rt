@@ -8,6 +8,7 @@ ghost use Rattle.ci_machine.specs.declared.records.BoardRow.{BoardRow};
 ghost use Rattle.ci_machine.specs.declared.request.Event.{Event};
 ghost use Rattle.ci_machine.specs.declared.request.Seed.{Seed};
 ghost use Rattle.ci_machine.specs.declared.request.TracePart.{TracePart};
+ghost use Rattle.ci_machine.specs.declared.request.NewMode.{NewMode};
 ghost use Rattle.ci_machine.specs.declared.reply.Reply.{Reply};
 ghost use Rattle.ci_machine.specs.declared.reply.Answer.{Answer};
 ghost use Rattle.ci_machine.specs.State.{State, applied};
@@ -17,6 +18,7 @@ ghost use Rattle.ci_machine_steps.specs.Projects.{add_project, made_project};
 ghost use Rattle.ci_machine_steps.specs.Runners.{add_runner, made_runner};
 ghost use Rattle.ci_values.specs.Layers.{Variables};
 ghost use Rattle.ci_machine_steps.specs.Variables.{set_variable, delete_variable};
+ghost use Rattle.ci_machine_steps.specs.Modes.{mode_told, set_mode};
 ghost use Rattle.ci_machine.specs.Reply.{plain, refusal};
 ghost use Rattle.ci_machine_steps.specs.Pipelines.{lacks_numbers, may_create};
 ghost use Rattle.ci_machine_steps.specs.Grants.{nothing_to_run};
@@ -32,8 +34,10 @@ ghost use Rattle.ci_machine_steps.specs.OneBoard.{HasNoCircle, HasOneBoard, WasP
 ghost use Rattle.ci_machine_laws.specs.Examples.{reply_text, project_added, with_project, new_runner, runner_added, pipeline, made, given, pipeline_made, granted, with_pipeline, with_attempt, token, two_rows, rows, asked, project_of, pair, with_variables, set_to, stage_by, new_variable, old_variable, hundred, put_variable, seed, attempt, lease, leased, after, sent, said, swept, query, job_shown, trace_shown, hello, hello_world};
 ghost use Rattle.ci_machine_laws.specs.ActExamples.{pipeline_query, board_from, pipeline_after, four, four_board, all_cancelled, cancelled_rows, cancel_marks, run_cancelled, run_cancelled_rows, five, five_board, first_retried, retried_rows, two, two_board, hand_played, played_rows, succeeded, succeeded_board, hand_retried};
 ghost use Rattle.ci_machine_laws.specs.WaitingExamples.{some_runner, tagged, waits, pause, both, answer_of, with_tags, for_project, of_a_minute, heard_at, replies_at, moments, ships, shipping, after_asking};
+ghost use Rattle.ci_machine_laws.specs.ModeExamples.{new_mode, mode_shown, prod_in, has_order, has_none, offered, three, third_is, third_tried, pairs, pairs_running, pairs_done};
 ghost use Rattle.ci_machine_laws.specs.PruneExamples.{second_day, both_done, both_board, first_pruned, second_left, second_board, second_pruned, running, waiting, with_second};
 ghost use Rattle.ci_machine_laws.specs.Pieces.{GoesBehind};
+ghost use Rattle.ci_machine_laws.specs.Modes.{SetsMode};
 ghost use Rattle.ci_machine.specs.Holders.{holders};
 ghost use Rattle.ci_machine_steps.specs.Prunes.{prunable_in, pruned_reply, nothing_to_prune, without_pipeline};
 ghost use Rattle.ci_machine_steps.specs.Step.{project_at, trace_of, leases};
@@ -42,7 +46,7 @@ ghost use Rattle.ci_machine.specs.Leases.{renewed, is_over, deadline, accepted, 
 use ci_board::facts::Status;
 use ci_board::laws::one_assignment;
 use ci_machine::lease::{LeaseFault, PieceFault};
-use ci_machine::records::{AttemptState, Cause};
+use ci_machine::records::{AttemptState, Cause, GroupOrder};
 use ci_machine::reply::{Code, Detail, FaultCode, HttpStatus, JobStatus, Swept};
 use ci_machine::request::{Report, Request};
 
@@ -60,6 +64,14 @@ pub fn a_step_is_answered()
 /// trace has then, which is 4 MiB at most. Each other trace stays as it was.
 pub fn an_accepted_piece_goes_behind_its_trace()
     ensures { (s t : State) (part : TracePart) (now : ℕ) (seed : Seed) (reply : Reply) → Step s (Event.Request (Request.AppendTrace part)) now seed (Answer.Reply reply) t → reply.status ≡ HttpStatus.Accepted → GoesBehind s t part reply }
+{}
+
+/// A request that sets the process mode of a resource group, and isn't refused, changes nothing but the modes: the group has that mode then,
+/// or is unordered, and each other group of the project, or of another, has the one that it had. No other event changes a mode, in each state
+/// that a history leads to.
+pub fn a_mode_is_of_its_group_alone()
+    ensures set { (s t : State) (new : NewMode) (now : ℕ) (seed : Seed) (a : Answer) → Step s (Event.Request (Request.SetMode new)) now seed a t → (IsRefusal a → ⊥) → SetsMode s t new }
+    ensures stay { (s t : State) (e : Event) (now : ℕ) (seed : Seed) (a : Answer) → IsReached s → ((new : NewMode) → e ≡ Event.Request (Request.SetMode new) → ⊥) → Step s e now seed a t → t.modes ≡ s.modes }
 {}
 
 /// The worked examples come out of the definitions, byte for byte.
@@ -290,6 +302,46 @@ pub fn group_examples()
     ensures finished { swept (ships true (codes "main")) (both Status.Success Status.Pending) 1001 ≡ (Swept.Nothing, []) }
 {}
 
+/// Which job of a resource group is offered by its process mode, and which ones wait. Three pipelines have a job each, all pending: the newest
+/// goes first, or the oldest, and a mode of another project counts for nothing. Of two pipelines the newer one's job is pending while the older
+/// one's is created yet: by `oldest_first` it waits for that, and in no other mode; once both are pending the mode decides. The rows are those
+/// of the states, in every mode: no status depends on it. A mode is set, in the place of the one that was, and goes.
+pub fn mode_examples()
+    ensures all_pending { AreBoard (three [] []) (third_is Status.Pending) }
+    ensures third_runs { AreBoard (three [] (third_tried AttemptState.Live)) (third_is Status.Running) }
+    ensures third_done { AreBoard (three [] (third_tried (AttemptState.Succeeded None))) (third_is Status.Success) }
+    ensures newest { offered (three (prod_in 1 GroupOrder.NewestReadyFirst) []) (third_is Status.Pending) ≡ Some 3 }
+    ensures newest_first_waits { reply_text (job_shown (three (prod_in 1 GroupOrder.NewestReadyFirst) []) (third_is Status.Pending) (query 1 1 (codes "p"))) ≡ codes "{\"id\":1,\"name\":\"ship\",\"stage\":\"test\",\"status\":\"waiting_for_resource\"}" }
+    ensures newest_second_waits { reply_text (job_shown (three (prod_in 1 GroupOrder.NewestReadyFirst) []) (third_is Status.Pending) (query 1 2 (codes "p"))) ≡ codes "{\"id\":2,\"name\":\"ship\",\"stage\":\"test\",\"status\":\"waiting_for_resource\"}" }
+    ensures newest_third { reply_text (job_shown (three (prod_in 1 GroupOrder.NewestReadyFirst) []) (third_is Status.Pending) (query 1 3 (codes "p"))) ≡ codes "{\"id\":3,\"name\":\"ship\",\"stage\":\"test\",\"status\":\"pending\"}" }
+    ensures newest_held { offered (three (prod_in 1 GroupOrder.NewestReadyFirst) (third_tried AttemptState.Live)) (third_is Status.Running) ≡ None }
+    ensures newest_then { offered (three (prod_in 1 GroupOrder.NewestReadyFirst) (third_tried (AttemptState.Succeeded None))) (third_is Status.Success) ≡ Some 2 }
+    ensures newest_then_waits { reply_text (job_shown (three (prod_in 1 GroupOrder.NewestReadyFirst) (third_tried (AttemptState.Succeeded None))) (third_is Status.Success) (query 1 1 (codes "p"))) ≡ codes "{\"id\":1,\"name\":\"ship\",\"stage\":\"test\",\"status\":\"waiting_for_resource\"}" }
+    ensures oldest { offered (three (prod_in 1 GroupOrder.OldestFirst) []) (third_is Status.Pending) ≡ Some 1 }
+    ensures oldest_waits { reply_text (job_shown (three (prod_in 1 GroupOrder.OldestFirst) []) (third_is Status.Pending) (query 1 2 (codes "p"))) ≡ codes "{\"id\":2,\"name\":\"ship\",\"stage\":\"test\",\"status\":\"waiting_for_resource\"}" }
+    ensures unordered { offered (three [] []) (third_is Status.Pending) ≡ Some 1 }
+    ensures unordered_pending { reply_text (job_shown (three [] []) (third_is Status.Pending) (query 1 2 (codes "p"))) ≡ codes "{\"id\":2,\"name\":\"ship\",\"stage\":\"test\",\"status\":\"pending\"}" }
+    ensures of_other_project { offered (three (prod_in 2 GroupOrder.NewestReadyFirst) []) (third_is Status.Pending) ≡ Some 1 }
+
+    ensures first_runs { AreBoard (pairs [] AttemptState.Live) pairs_running }
+    ensures first_done { AreBoard (pairs [] (AttemptState.Succeeded None)) pairs_done }
+    ensures created_goes_first { offered (pairs (prod_in 1 GroupOrder.OldestFirst) AttemptState.Live) pairs_running ≡ None }
+    ensures waits_for_created { reply_text (job_shown (pairs (prod_in 1 GroupOrder.OldestFirst) AttemptState.Live) pairs_running (query 1 4 (codes "p"))) ≡ codes "{\"id\":4,\"name\":\"ship\",\"stage\":\"test\",\"status\":\"waiting_for_resource\"}" }
+    ensures created_before { offered (pairs (prod_in 1 GroupOrder.OldestFirst) (AttemptState.Succeeded None)) pairs_done ≡ Some 2 }
+    ensures ready_alone { offered (pairs (prod_in 1 GroupOrder.NewestReadyFirst) AttemptState.Live) pairs_running ≡ Some 4 }
+    ensures ready_newest { offered (pairs (prod_in 1 GroupOrder.NewestReadyFirst) (AttemptState.Succeeded None)) pairs_done ≡ Some 4 }
+    ensures any_ready { offered (pairs [] AttemptState.Live) pairs_running ≡ Some 4 }
+    ensures any_first { offered (pairs [] (AttemptState.Succeeded None)) pairs_done ≡ Some 2 }
+
+    ensures set { set_mode (project_of None) (new_mode (Some GroupOrder.OldestFirst)) ≡ (mode_told (codes "prod") (Some GroupOrder.OldestFirst), has_order GroupOrder.OldestFirst) }
+    ensures set_reply { reply_text (set_mode (project_of None) (new_mode (Some GroupOrder.OldestFirst))) ≡ codes "{\"key\":\"prod\",\"process_mode\":\"oldest_first\"}" }
+    ensures unset { (set_mode (project_of None) (new_mode None)).1 ≡ has_none }
+    ensures set_once { (after (set_mode (project_of None) (new_mode (Some GroupOrder.OldestFirst))) (three (prod_in 1 GroupOrder.NewestReadyFirst) [])).modes ≡ prod_in 1 GroupOrder.OldestFirst }
+    ensures gone { (after (set_mode (project_of None) (new_mode None)) (three (prod_in 1 GroupOrder.NewestReadyFirst) [])).modes ≡ [] }
+    ensures told { reply_text (mode_shown (three (prod_in 1 GroupOrder.NewestReadyFirst) [])) ≡ codes "{\"key\":\"prod\",\"process_mode\":\"newest_ready_first\"}" }
+    ensures told_unordered { reply_text (mode_shown (three (prod_in 2 GroupOrder.OldestFirst) [])) ≡ codes "{\"key\":\"prod\",\"process_mode\":\"unordered\"}" }
+{}
+
 /// Two finished pipelines, made at 1000 and at 90000: of those made before the second day the first goes, with its jobs, their variables, what
 /// they wait for, their attempts and their traces, and then there is none. No next number changes. Of two that may go the one of least
 /// number goes; one that was made at the very moment stays, and so does one with a job that runs or is pending.
@@ -315,7 +367,7 @@ pub fn prune_examples()
 
 /// A request to prune that finds a pipeline to prune says its number, and leads to the state without that pipeline: no next number changes, and no
 /// record but those that belong to it. Each other pipeline has its jobs, each of these its attempts, and each of these its trace. A finished
-/// pipeline has no live attempt, so each lease stands, and each resource group is held as it was.
+/// pipeline has no live attempt, so each lease stands, and each resource group is held as it was, and has its process mode.
 pub fn a_prune_leaves_the_rest()
     ensures reply { (s : State) (board : List BoardRow) (before now : ℕ) (seed : Seed) (plan : Plan) (p : Pipeline) → Does s board (Request.PruneOne before) now seed plan → prunable_in s board before ≡ Some p → plan.0 ≡ pruned_reply p.id }
     ensures left { (s : State) (board : List BoardRow) (before now : ℕ) (seed : Seed) (plan : Plan) (p : Pipeline) → IsSound s → Does s board (Request.PruneOne before) now seed plan → prunable_in s board before ≡ Some p → applied plan.1 s ≡ without_pipeline s p.id }
@@ -325,6 +377,7 @@ pub fn a_prune_leaves_the_rest()
     ensures traces { (s : State) (n : ℕ) (a : Attempt) → IsSound s → Contains (without_pipeline s n).attempts a → trace_of (without_pipeline s n) a.id ≡ trace_of s a.id }
     ensures leases { (s : State) (board : List BoardRow) (before : ℕ) (p : Pipeline) → IsSound s → AreBoard s board → prunable_in s board before ≡ Some p → leases (without_pipeline s p.id) ≡ leases s }
     ensures groups { (s : State) (board : List BoardRow) (before : ℕ) (p : Pipeline) → IsSound s → AreBoard s board → prunable_in s board before ≡ Some p → holders (without_pipeline s p.id) ≡ holders s }
+    ensures modes { (s : State) (n : ℕ) → (without_pipeline s n).modes ≡ s.modes }
 {}
 
 /// In each state that a history leads to, each job has at most one live attempt, and so has each resource group of a project; each
@@ -340,7 +393,7 @@ pub fn laws_of_each_reached_state()
 {}
 
 /// In each state that a history leads to, records stand in the order of their numbers, which are below those that come
-/// next; what a record names is there; and the live attempt of a job, if it has one, is its last.
+/// next, and jobs of newer pipelines have greater ones; what a record names is there; and the live attempt of a job, if it has one, is its last.
 pub fn sound_of_each_reached_state()
     ensures { (s : State) → IsReached s → IsSound s }
 {}

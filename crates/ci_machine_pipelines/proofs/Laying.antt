@@ -31,7 +31,7 @@ use Rattle.ci_graph_layout.specs.Unmade.{unmade}
 use Rattle.ci_graph_layout.specs.declared.fault.PlanFault.{PlanFault}
 use Rattle.ci_graph_layout.specs.declared.fault.PlanFault.TheVariants as plan
 use Rattle.ci_board.specs.declared.facts.Row.{Row}
-use Rattle.ci_machine.specs.declared.records.Holder.{Holder}
+use Rattle.ci_machine.specs.declared.records.Claim.{Claim}
 use Rattle.ci_machine.specs.declared.records.Job.{Job}
 use Rattle.ci_machine.specs.declared.reply.Code.TheVariants.{M15}
 use Rattle.ci_machine.specs.declared.reply.Detail.{Detail}
@@ -137,20 +137,20 @@ module _ (text : List ℕ) (o : Origin) where
 
   -- ---- the plans of the definition
 
-  pub creates : (c : Creation) (holders : List Holder) (rows : List Row) (p : Plan) → LaysOut text o (Ok (Some c)) → AreFirstRows c.jobs.items c.needs.items rows → p ≡ pipeline_created o.first_job (creation_view c) holders rows
-      → Creates o.id o.first_job holders o.asked o.given o.moment (Ok text) p
-  creates c holders rows p l first is =
+  pub creates : (c : Creation) (claims : List Claim) (rows : List Row) (p : Plan) → LaysOut text o (Ok (Some c)) → AreFirstRows c.jobs.items c.needs.items rows → p ≡ pipeline_created o.first_job (creation_view c) claims rows
+      → Creates o.id o.first_job claims o.asked o.given o.moment (Ok text) p
+  creates c claims rows p l first is =
       let (laid, lays, made) = l in (
         Ok laid,
         lays,
-        subst (λ (b : Bool). MakesUnless b o.first_job (creation_of o laid) holders p) (sym made.1)
-            (subst (λ (m : pipelines.Creation). MakesUnless false o.first_job m holders p) made.0 (rows, first, is)),
+        subst (λ (b : Bool). MakesUnless b o.first_job (creation_of o laid) claims p) (sym made.1)
+            (subst (λ (m : pipelines.Creation). MakesUnless false o.first_job m claims p) made.0 (rows, first, is)),
       )
 
-  pub creates_none : (holders : List Holder) (p : Plan) → LaysOut text o (Ok None) → p ≡ refused M15 → Creates o.id o.first_job holders o.asked o.given o.moment (Ok text) p
-  creates_none holders p l is =
+  pub creates_none : (claims : List Claim) (p : Plan) → LaysOut text o (Ok None) → p ≡ refused M15 → Creates o.id o.first_job claims o.asked o.given o.moment (Ok text) p
+  creates_none claims p l is =
       let (laid, lays, lack) = l in
-      (Ok laid, lays, subst (λ (b : Bool). MakesUnless b o.first_job (creation_of o laid) holders p) (sym lack) is)
+      (Ok laid, lays, subst (λ (b : Bool). MakesUnless b o.first_job (creation_of o laid) claims p) (sym lack) is)
 
-  pub creates_fault : (detail : Detail) (holders : List Holder) (p : Plan) → LaysOut text o (Err (Fault detail)) → p ≡ faulted detail → Creates o.id o.first_job holders o.asked o.given o.moment (Ok text) p
-  creates_fault detail holders p l is = (Err detail, l, is)
+  pub creates_fault : (detail : Detail) (claims : List Claim) (p : Plan) → LaysOut text o (Err (Fault detail)) → p ≡ faulted detail → Creates o.id o.first_job claims o.asked o.given o.moment (Ok text) p
+  creates_fault detail claims p l is = (Err detail, l, is)

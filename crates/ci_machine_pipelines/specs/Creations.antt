@@ -14,7 +14,7 @@ use Rattle.ci_graph_layout.specs.View.{given_view}
 use Rattle.ci_graph_layout.specs.declared.planning.PipelinePlan.{PipelinePlan}
 use Rattle.ci_graph_layout.specs.declared.fault.PlanFault.{PlanFault}
 use Rattle.ci_graph_layout.specs.declared.fault.PlanFault.TheVariants as plan
-use Rattle.ci_machine.specs.declared.records.Holder.{Holder}
+use Rattle.ci_machine.specs.declared.records.Claim.{Claim}
 use Rattle.ci_machine.specs.declared.records.Need.{Need}
 use Rattle.ci_machine.specs.declared.records.Variable.{Variable}
 use Rattle.ci_machine.specs.declared.request.NewPipeline.{NewPipeline}
@@ -67,9 +67,9 @@ plan_fault plan.Memory = Memory
 plan_fault (plan.Fault code) = Fault (graph_fault code)
 plan_fault plan.Pattern = Fault (keyword_fault (K13 X8))
 
--- the body that shows the pipeline, of whose jobs none was tried, with these rows, where these resource groups are held
-abbrev pub created_text : Creation → List Holder → List Row → List ℕ
-created_text c holders rows = compact_text (pipeline_data c.pipeline holders c.jobs.items (replicate (length c.jobs.items) no_facts) rows)
+-- the body that shows the pipeline, of whose jobs none was tried, with these rows, where these are the resource groups for which they must wait
+abbrev pub created_text : Creation → List Claim → List Row → List ℕ
+created_text c claims rows = compact_text (pipeline_data c.pipeline claims c.jobs.items (replicate (length c.jobs.items) no_facts) rows)
 
 -- the records of what a file lays out
 abbrev pub creation_of : Origin → Layout → pipelines.Creation

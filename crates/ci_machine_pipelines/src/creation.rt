@@ -22,7 +22,7 @@ use ci_graph_layout::{Given, IncludedJob, PipelinePlan};
 use ci_machine::change::{Changes, Counter, Record, RowChange};
 use ci_machine::limits::DEFAULT_TIMEOUT_SECONDS;
 use ci_machine::records::{
-    BoardRow, Holder, Job, JobOptions, JobVariable, MAX_NUMBER, Need, Pipeline,
+    BoardRow, Claim, Job, JobOptions, JobVariable, MAX_NUMBER, Need, Pipeline,
 };
 use ci_machine::reply::Reply;
 use ci_machine::text::{Text, Texts};
@@ -308,11 +308,11 @@ impl Creation {
         body::status_of(alloc, jobs, facts.as_slice(), rows.as_slice())
     }
 
-    /// The body that shows the pipeline with its jobs, of which none was tried, and which have these rows, where these resource groups
-    /// are held.
-    fn text(&self, alloc: Global, holders: &[Holder], rows: &[BoardRow]) -> Result<Text, AllocError>
+    /// The body that shows the pipeline with its jobs, of which none was tried, and which have these rows, where these are the resource
+    /// groups for which they must wait.
+    fn text(&self, alloc: Global, claims: &[Claim], rows: &[BoardRow]) -> Result<Text, AllocError>
         requires { length rows.now ≡ length self.now.jobs.items }
-        ensures { IfOk result (λ t. t ≡ created_text self.now holders.now (map (λ r. r.row) rows.now)) }
+        ensures { IfOk result (λ t. t ≡ created_text self.now claims.now (map (λ r. r.row) rows.now)) }
     {
         let facts = first_facts(alloc, self.jobs.len())?;
         let rows = bare_rows(alloc, rows)?;
@@ -320,7 +320,7 @@ impl Creation {
         body::pipeline(
             alloc,
             &self.pipeline,
-            holders,
+            claims,
             jobs,
             facts.as_slice(),
             rows.as_slice(),
@@ -351,21 +351,21 @@ impl Creation {
         Ok(Changes::new(changes))
     }
 
-    /// The pipeline is made, and shown with the statuses of its jobs, which have these rows (201). Its first job has this number. The holders
-    /// are at least those of its jobs' resource groups.
+    /// The pipeline is made, and shown with the statuses of its jobs, which have these rows (201). Its first job has this number. The claims
+    /// are the resource groups for which its jobs must wait, at least those of the jobs.
     pub fn into_plan(
         self,
         alloc: Global,
         first_job: u64,
-        holders: &[Holder],
+        claims: &[Claim],
         rows: &[BoardRow],
     ) -> Result<(Reply, Changes), AllocError>
         requires rows { length rows.now ≡ length self.jobs.items }
         requires pipeline { self.pipeline.id ≤ MAX_NUMBER }
         requires jobs { first_job + length self.jobs.items ≤ MAX_NUMBER + 1 }
-        ensures { IfOk result (λ plan. plan ≡ pipelines.pipeline_created first_job (creation_view self) holders.now (map (λ r. r.row) rows.now)) }
+        ensures { IfOk result (λ plan. plan ≡ pipelines.pipeline_created first_job (creation_view self) claims.now (map (λ r. r.row) rows.now)) }
     {
-        let text = self.text(alloc, holders, rows)?;
+        let text = self.text(alloc, claims, rows)?;
         let changes = self.into_changes(alloc, first_job)?;
         Ok(created(text, changes))
     }

@@ -5,7 +5,7 @@ use Rattle.serde_json.specs.View.{items_of}
 use Rattle.serde_json.specs.Written.{has_float, items_have_float}
 use Rattle.ci_machine.specs.declared.records.Pipeline.{Pipeline}
 use Rattle.ci_machine.specs.declared.records.Job.{Job}
-use Rattle.ci_machine.specs.declared.records.Holder.{Holder}
+use Rattle.ci_machine.specs.declared.records.Claim.{Claim}
 use Rattle.ci_machine.specs.declared.records.JobVariable.{JobVariable}
 use Rattle.ci_machine.specs.declared.records.QueuedJob.{QueuedJob}
 use Rattle.ci_machine.specs.Bodies.{jobs_data, pipeline_data, variable_data, granted_variables, grant_data}
@@ -17,13 +17,13 @@ items : {A : Type 0} (data_of : A → Data) → ((x : A) → has_float (data_of 
 items data_of plain [] = refl
 items data_of plain (x ∷ xs) = λ i. plain x i || items data_of plain xs i
 
-jobs_have_none : (hs : List Holder) (project : ℕ) (jobs : List Job) (rows : List Row) → items_have_float (items_of (jobs_data hs project jobs rows)) ≡ false
-jobs_have_none hs project [] rows = refl
-jobs_have_none hs project (j ∷ js) [] = refl
-jobs_have_none hs project (j ∷ js) (r ∷ rows) = jobs_have_none hs project js rows
+jobs_have_none : (claims : List Claim) (project : ℕ) (jobs : List Job) (rows : List Row) → items_have_float (items_of (jobs_data claims project jobs rows)) ≡ false
+jobs_have_none claims project [] rows = refl
+jobs_have_none claims project (j ∷ js) [] = refl
+jobs_have_none claims project (j ∷ js) (r ∷ rows) = jobs_have_none claims project js rows
 
-pub pipeline_has_none : (p : Pipeline) (hs : List Holder) (jobs : List Job) (facts : List Facts) (rows : List Row) → has_float (pipeline_data p hs jobs facts rows) ≡ false
-pipeline_has_none p hs jobs facts rows = ap (λ b. b || false) (jobs_have_none hs p.project jobs rows)
+pub pipeline_has_none : (p : Pipeline) (claims : List Claim) (jobs : List Job) (facts : List Facts) (rows : List Row) → has_float (pipeline_data p claims jobs facts rows) ≡ false
+pipeline_has_none p claims jobs facts rows = ap (λ b. b || false) (jobs_have_none claims p.project jobs rows)
 
 pub grant_has_none : (attempt : ℕ) (token : List ℕ) (q : QueuedJob) (vs : List JobVariable) → has_float (grant_data attempt token q vs) ≡ false
 grant_has_none attempt token q vs =

@@ -9,14 +9,14 @@ ghost use Rattle.std.specs.Fmt.{decimal};
 ghost use Rattle.serde_json.specs.Data.{array, object, string};
 ghost use Rattle.serde_json.specs.View.{view, items_of};
 ghost use Rattle.serde_json.specs.Written.{compact_text};
-ghost use Rattle.ci_machine.specs.Bodies.{fault_data, created_data, paused_data, pruned_data, job_data, file_data, jobs_data, status_of_jobs, pipeline_data, variable_data, with_default, granted_variables, grant_data};
+ghost use Rattle.ci_machine.specs.Bodies.{fault_data, created_data, paused_data, pruned_data, mode_data, job_data, file_data, jobs_data, status_of_jobs, pipeline_data, variable_data, with_default, granted_variables, grant_data};
 ghost use Rattle.ci_machine_plans.specs.Objects.{members_of, job_info_data};
 
 use crate::object::Object;
 use ci_board::facts::{Facts, Row, Status};
 use ci_board::pipeline::pipeline_status;
 use ci_graph::part::Part;
-use ci_machine::records::{Holder, Job, JobVariable, Pipeline, QueuedJob};
+use ci_machine::records::{Claim, GroupOrder, Job, JobVariable, Pipeline, QueuedJob, process_mode};
 use ci_machine::reply::Detail;
 use ci_machine::report::ShownStatus;
 use ci_machine::text::Text;
@@ -59,6 +59,15 @@ pub fn pruned(alloc: Global, pipeline: u64) -> Result<Text, AllocError>
     body.into_text(alloc)
 }
 
+/// The body that tells a resource group with its process mode, by its order.
+pub fn mode(alloc: Global, group: &Text, order: Option<GroupOrder>) -> Result<Text, AllocError>
+    ensures { IfOk result (λ t. t ≡ compact_text (mode_data group.now order)) }
+{
+    let body = Object::new(alloc).with_text(alloc, "key", group.as_str())?;
+    let body = body.with_text(alloc, "process_mode", process_mode(order))?;
+    body.into_text(alloc)
+}
+
 /// The body that shows a job with its status.
 pub fn job(alloc: Global, status: &str, job: &Job) -> Result<Text, AllocError>
     ensures { IfOk result (λ t. t ≡ compact_text (job_data status.now job.now)) }
@@ -83,21 +92,21 @@ pub fn file(alloc: Global, jobs: usize) -> Result<Text, AllocError>
     body.into_text(alloc)
 }
 
-/// The jobs of a project, each with the status of its row.
+/// The jobs of a project, each with the status of its row, where these are the resource groups for which they must wait.
 fn jobs_with_rows(
     alloc: Global,
-    holders: &[Holder],
+    claims: &[Claim],
     project: u64,
     jobs: &[Job],
     rows: &[Row],
 ) -> Result<Value, AllocError>
     requires { length rows.now ≡ length jobs.now }
-    ensures { IfOk result (λ v. view v ≡ array (items_of (jobs_data holders.now project jobs.now rows.now))) }
+    ensures { IfOk result (λ v. view v ≡ array (items_of (jobs_data claims.now project jobs.now rows.now))) }
 {
     let mut items = Vec::new(alloc);
     for i in 0..jobs.len() {
         let job = &jobs[i];
-        let status = ShownStatus::of(holders, project, job, rows[i].status).as_str();
+        let status = ShownStatus::of(claims, project, job, rows[i].status).as_str();
         let shown = job_object(alloc, status, job)?;
         items.push(shown.into_value())?;
     }
@@ -131,36 +140,37 @@ pub fn status_of(
     Ok(pipeline_status(parts.as_slice(), facts, rows))
 }
 
-/// The body that shows a pipeline with its jobs, which have these facts and rows. The holders are at least those of the jobs' groups.
+/// The body that shows a pipeline with its jobs, which have these facts and rows. The claims are the resource groups for which its jobs must
+/// wait, at least those of the jobs.
 pub fn pipeline(
     alloc: Global,
     pipeline: &Pipeline,
-    holders: &[Holder],
+    claims: &[Claim],
     jobs: &[Job],
     facts: &[Facts],
     rows: &[Row],
 ) -> Result<Text, AllocError>
     requires facts { length facts.now ≡ length jobs.now }
     requires rows { length rows.now ≡ length jobs.now }
-    ensures { IfOk result (λ t. t ≡ compact_text (pipeline_data pipeline.now holders.now jobs.now facts.now rows.now)) }
+    ensures { IfOk result (λ t. t ≡ compact_text (pipeline_data pipeline.now claims.now jobs.now facts.now rows.now)) }
 {
-    pipeline_object(alloc, pipeline, holders, jobs, facts, rows)?.into_text(alloc)
+    pipeline_object(alloc, pipeline, claims, jobs, facts, rows)?.into_text(alloc)
 }
 
 fn pipeline_object(
     alloc: Global,
     pipeline: &Pipeline,
-    holders: &[Holder],
+    claims: &[Claim],
     jobs: &[Job],
     facts: &[Facts],
     rows: &[Row],
 ) -> Result<Object, AllocError>
     requires facts { length facts.now ≡ length jobs.now }
     requires rows { length rows.now ≡ length jobs.now }
-    ensures { IfOk result (λ o. object (members_of o) ≡ pipeline_data pipeline.now holders.now jobs.now facts.now rows.now) }
+    ensures { IfOk result (λ o. object (members_of o) ≡ pipeline_data pipeline.now claims.now jobs.now facts.now rows.now) }
 {
     let status = status_of(alloc, jobs, facts, rows)?;
-    let jobs = jobs_with_rows(alloc, holders, pipeline.project, jobs, rows)?;
+    let jobs = jobs_with_rows(alloc, claims, pipeline.project, jobs, rows)?;
     let shown = Object::new(alloc).with(alloc, "jobs", jobs)?;
     let shown = shown.with_number(alloc, "id", pipeline.id)?;
     let shown = shown.with_text(alloc, "ref", pipeline.git_ref.as_str())?;

@@ -10,46 +10,46 @@ ghost use Rattle.ci_machine_steps.specs.Shows as shows;
 use crate::shows::{job_reply, pipeline_reply};
 use ci_board::facts::{Facts, Row, Status};
 use ci_machine::change::{Changes, Record, RowChange};
-use ci_machine::records::{Attempt, AttemptState, Holder, Job, Pipeline};
+use ci_machine::records::{Attempt, AttemptState, Claim, Job, Pipeline};
 use ci_machine::reply::Reply;
 use std::alloc::{AllocError, Global};
 use std::slice;
 
 /// The job of a project, whose status permits it, is cancelled, and its lease with it. The reply (200) shows it with its status after that.
-/// The attempts are at least those of the job, and the holders, as they are after that, at least those of its resource group.
+/// The attempts are at least those of the job. The claims are the resource groups for which it must wait after that, at least its own.
 pub fn cancel_job(
     alloc: Global,
     attempts: &[Attempt],
-    holders: &[Holder],
+    claims: &[Claim],
     project: u64,
     job: &Job,
     after: Status,
 ) -> Result<(Reply, Changes), AllocError>
-    ensures { IfOk result (λ plan. plan ≡ ((shows.job_shown holders.now project job.now after).0, cancels.cancel attempts.now (job.now ∷ []))) }
+    ensures { IfOk result (λ plan. plan ≡ ((shows.job_shown claims.now project job.now after).0, cancels.cancel attempts.now (job.now ∷ []))) }
 {
-    let reply = job_reply(alloc, holders, project, job, after)?;
+    let reply = job_reply(alloc, claims, project, job, after)?;
     let changes = cancel(alloc, attempts, slice::from_ref(job))?;
     Ok((reply, changes))
 }
 
 /// These jobs of the pipeline, whose statuses permit it, are cancelled all at once, and their leases with them. The reply (200) shows the
-/// pipeline with all its jobs, which have these facts and rows after that. The attempts are at least those of these jobs, and the holders,
-/// as they are after that, at least those of all jobs' resource groups.
+/// pipeline with all its jobs, which have these facts and rows after that. The attempts are at least those of these jobs. The claims are the
+/// resource groups for which its jobs must wait after that, at least those of all its jobs.
 pub fn cancel_jobs(
     alloc: Global,
     attempts: &[Attempt],
     cancelled: &[Job],
     pipeline: &Pipeline,
-    holders: &[Holder],
+    claims: &[Claim],
     jobs: &[Job],
     facts: &[Facts],
     rows: &[Row],
 ) -> Result<(Reply, Changes), AllocError>
     requires facts { length facts.now ≡ length jobs.now }
     requires rows { length rows.now ≡ length jobs.now }
-    ensures { IfOk result (λ plan. plan ≡ ((shows.pipeline_shown pipeline.now holders.now jobs.now facts.now rows.now).0, cancels.cancel attempts.now cancelled.now)) }
+    ensures { IfOk result (λ plan. plan ≡ ((shows.pipeline_shown pipeline.now claims.now jobs.now facts.now rows.now).0, cancels.cancel attempts.now cancelled.now)) }
 {
-    let reply = pipeline_reply(alloc, pipeline, holders, jobs, facts, rows)?;
+    let reply = pipeline_reply(alloc, pipeline, claims, jobs, facts, rows)?;
     let changes = cancel(alloc, attempts, cancelled)?;
     Ok((reply, changes))
 }

@@ -8,22 +8,22 @@ use crate::replies::only;
 use crate::shows::job_reply;
 use ci_board::facts::Status;
 use ci_machine::change::{Changes, Record, RowChange};
-use ci_machine::records::{Holder, Job};
+use ci_machine::records::{Claim, Job};
 use ci_machine::reply::Reply;
 use std::alloc::{AllocError, Global};
 
-/// The job of a project, whose status permits it, is marked as played. The reply (200) shows it with its status after that. The holders
-/// are those after that, at least those of its resource group.
+/// The job of a project, whose status permits it, is marked as played. The reply (200) shows it with its status after that. The claims
+/// are the resource groups for which it must wait after that, at least its own.
 pub fn play(
     alloc: Global,
-    holders: &[Holder],
+    claims: &[Claim],
     project: u64,
     job: &Job,
     after: Status,
 ) -> Result<(Reply, Changes), AllocError>
-    ensures { IfOk result (λ plan. plan ≡ ((job_shown holders.now project job.now after).0, plays.play job.now)) }
+    ensures { IfOk result (λ plan. plan ≡ ((job_shown claims.now project job.now after).0, plays.play job.now)) }
 {
-    let reply = job_reply(alloc, holders, project, job, after)?;
+    let reply = job_reply(alloc, claims, project, job, after)?;
     let mut job = job.clone()?;
     job.played = true;
     let changes = only(alloc, RowChange::Put(Record::Job(job)))?;

@@ -8,7 +8,7 @@ use crate::replies::only;
 use crate::shows::job_reply;
 use ci_board::facts::Status;
 use ci_machine::change::{Changes, Record, RowChange};
-use ci_machine::records::{Attempt, Holder, Job};
+use ci_machine::records::{Attempt, Claim, Job};
 use ci_machine::reply::Reply;
 use std::alloc::{AllocError, Global};
 
@@ -26,19 +26,19 @@ pub fn attempts_of(attempts: &[Attempt], job: u64) -> u64
 }
 
 /// Of the job of a project, whose status permits it, all attempts are set aside, and it isn't marked as cancelled any more. The reply (200)
-/// shows it with its status after that. The attempts are at least those of the job, and the holders, as they are after that, at least those
-/// of its resource group.
+/// shows it with its status after that. The attempts are at least those of the job. The claims are the resource groups for which it
+/// must wait after that, at least its own.
 pub fn retry(
     alloc: Global,
     attempts: &[Attempt],
-    holders: &[Holder],
+    claims: &[Claim],
     project: u64,
     job: &Job,
     after: Status,
 ) -> Result<(Reply, Changes), AllocError>
-    ensures { IfOk result (λ plan. plan ≡ ((job_shown holders.now project job.now after).0, retries.retry (filter (λ a. a.job == job.now.id) attempts.now) job.now)) }
+    ensures { IfOk result (λ plan. plan ≡ ((job_shown claims.now project job.now after).0, retries.retry (filter (λ a. a.job == job.now.id) attempts.now) job.now)) }
 {
-    let reply = job_reply(alloc, holders, project, job, after)?;
+    let reply = job_reply(alloc, claims, project, job, after)?;
     let count = attempts_of(attempts, job.id);
     let mut job = job.clone()?;
     job.set_aside = count;

@@ -9,7 +9,7 @@ use crate::body;
 use crate::replies::{fine, unchanged};
 use ci_board::facts::{Facts, Row, Status};
 use ci_machine::change::Changes;
-use ci_machine::records::{Holder, Job, Pipeline, Project};
+use ci_machine::records::{Claim, Job, Pipeline, Project};
 use ci_machine::reply::{Body, Code, Reply};
 use ci_machine::report::ShownStatus;
 use ci_machine::request::JobQuery;
@@ -49,31 +49,32 @@ pub fn asked_job<'a>(
     }
 }
 
-/// The job of a project that `asked_job` gives is shown with its status (200). The holders are at least those of its resource group.
+/// The job of a project that `asked_job` gives is shown with its status (200). The claims are the resource groups for which it must wait, at
+/// least its own.
 pub fn job_shown(
     alloc: Global,
-    holders: &[Holder],
+    claims: &[Claim],
     project: u64,
     job: &Job,
     status: Status,
 ) -> Result<(Reply, Changes), AllocError>
-    ensures { IfOk result (λ plan. plan ≡ shows.job_shown holders.now project job.now status) }
+    ensures { IfOk result (λ plan. plan ≡ shows.job_shown claims.now project job.now status) }
 {
-    let reply = job_reply(alloc, holders, project, job, status)?;
+    let reply = job_reply(alloc, claims, project, job, status)?;
     Ok(unchanged(alloc, reply))
 }
 
-/// The reply (200) that shows a job of a project with its status.
+/// The reply (200) that shows a job of a project with its status, where these are the resource groups for which it must wait.
 pub(crate) fn job_reply(
     alloc: Global,
-    holders: &[Holder],
+    claims: &[Claim],
     project: u64,
     job: &Job,
     status: Status,
 ) -> Result<Reply, AllocError>
-    ensures { IfOk result (λ reply. reply ≡ (shows.job_shown holders.now project job.now status).0) }
+    ensures { IfOk result (λ reply. reply ≡ (shows.job_shown claims.now project job.now status).0) }
 {
-    let status = ShownStatus::of(holders, project, job, status).as_str();
+    let status = ShownStatus::of(claims, project, job, status).as_str();
     let text = body::job(alloc, status, job)?;
     Ok(fine(Body::Json(text)))
 }
@@ -104,37 +105,38 @@ pub fn asked_pipeline<'a>(
     }
 }
 
-/// The pipeline that `asked_pipeline` gives is shown with its jobs, which have these facts and rows (200). The holders are at least those
-/// of the jobs' resource groups.
+/// The pipeline that `asked_pipeline` gives is shown with its jobs, which have these facts and rows (200). The claims are the resource groups
+/// for which its jobs must wait, at least those of the jobs.
 pub fn pipeline_shown(
     alloc: Global,
     pipeline: &Pipeline,
-    holders: &[Holder],
+    claims: &[Claim],
     jobs: &[Job],
     facts: &[Facts],
     rows: &[Row],
 ) -> Result<(Reply, Changes), AllocError>
     requires facts { length facts.now ≡ length jobs.now }
     requires rows { length rows.now ≡ length jobs.now }
-    ensures { IfOk result (λ plan. plan ≡ shows.pipeline_shown pipeline.now holders.now jobs.now facts.now rows.now) }
+    ensures { IfOk result (λ plan. plan ≡ shows.pipeline_shown pipeline.now claims.now jobs.now facts.now rows.now) }
 {
-    let reply = pipeline_reply(alloc, pipeline, holders, jobs, facts, rows)?;
+    let reply = pipeline_reply(alloc, pipeline, claims, jobs, facts, rows)?;
     Ok(unchanged(alloc, reply))
 }
 
-/// The reply (200) that shows a pipeline with its jobs, which have these facts and rows.
+/// The reply (200) that shows a pipeline with its jobs, which have these facts and rows, where these are the resource groups for which they
+/// must wait.
 pub(crate) fn pipeline_reply(
     alloc: Global,
     pipeline: &Pipeline,
-    holders: &[Holder],
+    claims: &[Claim],
     jobs: &[Job],
     facts: &[Facts],
     rows: &[Row],
 ) -> Result<Reply, AllocError>
     requires facts { length facts.now ≡ length jobs.now }
     requires rows { length rows.now ≡ length jobs.now }
-    ensures { IfOk result (λ reply. reply ≡ (shows.pipeline_shown pipeline.now holders.now jobs.now facts.now rows.now).0) }
+    ensures { IfOk result (λ reply. reply ≡ (shows.pipeline_shown pipeline.now claims.now jobs.now facts.now rows.now).0) }
 {
-    let text = body::pipeline(alloc, pipeline, holders, jobs, facts, rows)?;
+    let text = body::pipeline(alloc, pipeline, claims, jobs, facts, rows)?;
     Ok(fine(Body::Json(text)))
 }

@@ -10,9 +10,11 @@ use Rattle.ci_board.specs.declared.facts.Status.TheVariants as status
 use Rattle.ci_machine.specs.declared.records.Pipeline.{Pipeline}
 use Rattle.ci_machine.specs.declared.records.Job.{Job}
 use Rattle.ci_machine.specs.declared.records.BoardRow.{BoardRow}
-use Rattle.ci_machine.specs.declared.records.Holder.{Holder}
+use Rattle.ci_machine.specs.declared.records.Claim.{Claim}
+use Rattle.ci_machine.specs.declared.records.WaitingJob.{WaitingJob}
 use Rattle.ci_machine.specs.State.{State}
-use Rattle.ci_machine.specs.Holders.{holders}
+use Rattle.ci_machine.specs.Groups.{claims_on}
+use Rattle.ci_machine.specs.Waiting.{groups_with}
 use Rattle.ci_machine.specs.Statuses.{jobs_of, numbers_of, place_in, facts_of, status_for}
 use Rattle.ci_machine.specs.declared.change.RowChange.{RowChange}
 use Rattle.ci_machine.specs.declared.reply.Reply.{Reply}
@@ -45,7 +47,7 @@ one_place js [] job within e = absurd (cc)
 one_place js (i ∷ []) job within e = record { place = i; only = refl; there = within i (inl refl); is = cc }
 one_place js (i ∷ (k ∷ ks)) job within e = absurd (cc)
 
-module _ (act : Act) (s : State) (board : List BoardRow) (job : Job) (o : Outcome) (sound : Sound s) (has : Has job s.jobs) (permitted : is_permitted act (status_for board job.id) ≡ true)
+module _ (act : Act) (s : State) (board : List BoardRow) (job : Job) (o : Outcome) (waiting : List WaitingJob) (sound : Sound s) (has : Has job s.jobs) (permitted : is_permitted act (status_for board job.id) ≡ true)
     (outcome : IsOutcome act (Some job.id) s board job.pipeline o) where
   abbrev p : ℕ
   p = job.pipeline
@@ -67,57 +69,57 @@ module _ (act : Act) (s : State) (board : List BoardRow) (job : Job) (o : Outcom
       ∙ (ap (λ (ns : List ℕ). place_in ns job.id) ((within s act p test sound).its_numbers p)
       ∙ (ap (place_in (numbers_of s p)) (sym number) ∙ place_at 0 (numbers_of s p) at.place (numbers_rise s p sound) there))
 
-  pub shows_job : (i : ℕ) × ((o.places.items ≡ i ∷ []) × ShowsJobAfter s job (act_changes act s (job ∷ [])) (shows_job_by s (act_changes act s (job ∷ [])) job (row_at o.rows.items i).status))
+  pub shows_job : (i : ℕ) × ((o.places.items ≡ i ∷ []) × ShowsJobAfter s waiting job (act_changes act s (job ∷ [])) (shows_job_by s waiting (act_changes act s (job ∷ [])) job (row_at o.rows.items i).status))
   shows_job = (
     at.place,
     (
       at.only,
-      subst (λ (js : List Job). ShowsJobAfter s job (act_changes act s js) (shows_job_by s (act_changes act s js) job (row_at o.rows.items at.place).status)) alone
-          (o.rows.items, outcome.rows, ap (λ n. shows_job_by s (act_changes act s (acted_jobs act (Some job.id) s board p)) job (statuses o.rows.items n)) (sym place_is)),
+      subst (λ (js : List Job). ShowsJobAfter s waiting job (act_changes act s js) (shows_job_by s waiting (act_changes act s js) job (row_at o.rows.items at.place).status)) alone
+          (o.rows.items, outcome.rows, ap (λ n. shows_job_by s waiting (act_changes act s (acted_jobs act (Some job.id) s board p)) job (statuses o.rows.items n)) (sym place_is)),
     ),
   )
 
 -- ---- a pipeline
 
 -- what is shown of a job doesn't change
-marked_shown : (act : Act) (s : State) (held : List Holder) (project : ℕ) (status : Status) (j : Job) → job_data (printed_status held project (marked act s j) status) (marked act s j) ≡ job_data (printed_status held project j status) j
-marked_shown Play s held project status.Created j = refl
-marked_shown Play s held project status.Pending j = refl
-marked_shown Play s held project status.Running j = refl
-marked_shown Play s held project status.Success j = refl
-marked_shown Play s held project status.Failed j = refl
-marked_shown Play s held project status.Canceled j = refl
-marked_shown Play s held project status.Skipped j = refl
-marked_shown Play s held project status.Manual j = refl
-marked_shown Retry s held project status.Created j = refl
-marked_shown Retry s held project status.Pending j = refl
-marked_shown Retry s held project status.Running j = refl
-marked_shown Retry s held project status.Success j = refl
-marked_shown Retry s held project status.Failed j = refl
-marked_shown Retry s held project status.Canceled j = refl
-marked_shown Retry s held project status.Skipped j = refl
-marked_shown Retry s held project status.Manual j = refl
-marked_shown Cancel s held project status.Created j = refl
-marked_shown Cancel s held project status.Pending j = refl
-marked_shown Cancel s held project status.Running j = refl
-marked_shown Cancel s held project status.Success j = refl
-marked_shown Cancel s held project status.Failed j = refl
-marked_shown Cancel s held project status.Canceled j = refl
-marked_shown Cancel s held project status.Skipped j = refl
-marked_shown Cancel s held project status.Manual j = refl
+marked_shown : (act : Act) (s : State) (claims : List Claim) (project : ℕ) (status : Status) (j : Job) → job_data (printed_status claims project (marked act s j) status) (marked act s j) ≡ job_data (printed_status claims project j status) j
+marked_shown Play s claims project status.Created j = refl
+marked_shown Play s claims project status.Pending j = refl
+marked_shown Play s claims project status.Running j = refl
+marked_shown Play s claims project status.Success j = refl
+marked_shown Play s claims project status.Failed j = refl
+marked_shown Play s claims project status.Canceled j = refl
+marked_shown Play s claims project status.Skipped j = refl
+marked_shown Play s claims project status.Manual j = refl
+marked_shown Retry s claims project status.Created j = refl
+marked_shown Retry s claims project status.Pending j = refl
+marked_shown Retry s claims project status.Running j = refl
+marked_shown Retry s claims project status.Success j = refl
+marked_shown Retry s claims project status.Failed j = refl
+marked_shown Retry s claims project status.Canceled j = refl
+marked_shown Retry s claims project status.Skipped j = refl
+marked_shown Retry s claims project status.Manual j = refl
+marked_shown Cancel s claims project status.Created j = refl
+marked_shown Cancel s claims project status.Pending j = refl
+marked_shown Cancel s claims project status.Running j = refl
+marked_shown Cancel s claims project status.Success j = refl
+marked_shown Cancel s claims project status.Failed j = refl
+marked_shown Cancel s claims project status.Canceled j = refl
+marked_shown Cancel s claims project status.Skipped j = refl
+marked_shown Cancel s claims project status.Manual j = refl
 
 pub marked_group : (act : Act) (s : State) (j : Job) → (marked act s j).options.resource_group ≡ j.options.resource_group
 marked_group Play s j = refl
 marked_group Retry s j = refl
 marked_group Cancel s j = refl
 
-same_shown : (held : List Holder) (project : ℕ) (F : Job → Job) → ((status : Status) (j : Job) → job_data (printed_status held project (F j) status) (F j) ≡ job_data (printed_status held project j status) j) → (js : List Job) (rows : List Row)
-    → jobs_data held project (map F js) rows ≡ jobs_data held project js rows
-same_shown held project F same [] rows = refl
-same_shown held project F same (j ∷ js) [] = refl
-same_shown held project F same (j ∷ js) (r ∷ rows) = cons_same (same r.status j) (same_shown held project F same js rows)
+same_shown : (claims : List Claim) (project : ℕ) (F : Job → Job) → ((status : Status) (j : Job) → job_data (printed_status claims project (F j) status) (F j) ≡ job_data (printed_status claims project j status) j) → (js : List Job) (rows : List Row)
+    → jobs_data claims project (map F js) rows ≡ jobs_data claims project js rows
+same_shown claims project F same [] rows = refl
+same_shown claims project F same (j ∷ js) [] = refl
+same_shown claims project F same (j ∷ js) (r ∷ rows) = cons_same (same r.status j) (same_shown claims project F same js rows)
 
-module _ (act : Act) (s : State) (board : List BoardRow) (q : Pipeline) (o : Outcome) (sound : Sound s) (outcome : IsOutcome act None s board q.id o) where
+module _ (act : Act) (s : State) (board : List BoardRow) (q : Pipeline) (o : Outcome) (waiting : List WaitingJob) (sound : Sound s) (outcome : IsOutcome act None s board q.id o) where
   abbrev wide : Job → Bool
   wide = is_acted_on act None board
 
@@ -130,17 +132,17 @@ module _ (act : Act) (s : State) (board : List BoardRow) (q : Pipeline) (o : Out
   new_jobs : jobs_of new q.id ≡ map (of_job s act q.id wide sound) (jobs_of s q.id)
   new_jobs = ap (λ (w : State). jobs_of w q.id) (after_is s act q.id wide sound) ∙ jobs_after s act q.id wide sound q.id
 
-  abbrev held : List Holder
-  held = holders new
+  abbrev claims : List Claim
+  claims = claims_on (groups_with new waiting) q.id
 
-  shown_same : jobs_data held q.project (jobs_of new q.id) o.rows.items ≡ jobs_data held q.project (jobs_of s q.id) o.rows.items
+  shown_same : jobs_data claims q.project (jobs_of new q.id) o.rows.items ≡ jobs_data claims q.project (jobs_of s q.id) o.rows.items
   shown_same =
-      ap (λ js. jobs_data held q.project js o.rows.items) new_jobs
-      ∙ same_shown held q.project (of_job s act q.id wide sound) (λ status j. keeps s act q.id wide sound (λ i. job_data (printed_status held q.project i status) i) (marked_shown act s held q.project status) j) (jobs_of s q.id) o.rows.items
+      ap (λ js. jobs_data claims q.project js o.rows.items) new_jobs
+      ∙ same_shown claims q.project (of_job s act q.id wide sound) (λ status j. keeps s act q.id wide sound (λ i. job_data (printed_status claims q.project i status) i) (marked_shown act s claims q.project status) j) (jobs_of s q.id) o.rows.items
 
   parts_same : map (λ (j : Job). j.options.part) (jobs_of new q.id) ≡ map (λ (j : Job). j.options.part) (jobs_of s q.id)
   parts_same = ap (map (λ (j : Job). j.options.part)) new_jobs ∙ all_keep s act q.id wide sound (λ (j : Job). j.options.part) (marked_part act s) (jobs_of s q.id)
 
-  pub shows_pipeline : ShowsPipelineAfter s q changes (shows_pipeline_by s changes q (jobs_of s q.id) o.facts.items o.rows.items)
+  pub shows_pipeline : ShowsPipelineAfter s waiting q changes (shows_pipeline_by s waiting changes q (jobs_of s q.id) o.facts.items o.rows.items)
   shows_pipeline =
-      (o.rows.items, outcome.rows, ap (λ (r : Reply). (r, changes)) (shown_alike q held held (jobs_of s q.id) (jobs_of new q.id) o.facts.items (facts_of new q.id) o.rows.items (sym shown_same) (sym parts_same) outcome.facts))
+      (o.rows.items, outcome.rows, ap (λ (r : Reply). (r, changes)) (shown_alike q claims claims (jobs_of s q.id) (jobs_of new q.id) o.facts.items (facts_of new q.id) o.rows.items (sym shown_same) (sym parts_same) outcome.facts))

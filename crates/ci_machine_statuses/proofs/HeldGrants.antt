@@ -28,8 +28,10 @@ use Rattle.ci_machine.specs.Statuses.{jobs_of, numbers_of, facts_of, rows_of, ro
 use Rattle.ci_machine.specs.Redundant.{is_unfinished}
 use Rattle.ci_machine.specs.Eligible.{resource_free}
 use Rattle.ci_machine.specs.Lookups.{job_at, queued, is_pending}
-use Rattle.ci_machine.specs.Holders.{group_held, held_by, held_of, holders, holds_group}
+use Rattle.ci_machine.specs.Holders.{group_held, held_by, held_of, holds_group}
+use Rattle.ci_machine.specs.Waiting.{groups_in}
 use Rattle.ci_machine.specs.Indexes.{is_open_in, AreIndexes}
+use Rattle.ci_machine.proofs.Claims.{free_not_held}
 use Rattle.ci_machine.proofs.Keyed.{Has, find_has, filter_has, has_map, has_put, put_has, unequal}
 use Rattle.ci_machine_steps.proofs.Finished.{some_is, running_open}
 use Rattle.ci_machine_steps.proofs.Sound.{Sound}
@@ -70,7 +72,7 @@ hold_alone n project None k = refl
 hold_alone n project (Some group) k = refl
 
 module _ (k : Kept) (j : Job) (x : Attempt) (sound : Sound k.state) (are : AreBoard k.state k.board) (indexes : AreIndexes k) (has : Has j k.state.jobs) (pending : is_pending k.board j ≡ true)
-    (free : resource_free (holders k.state) (queued k.state j) ≡ true) (at_next : x.id ≡ k.state.next.attempt) (its_job : x.job ≡ j.id) (live : x.state ≡ Live) where
+    (free : resource_free (groups_in k.state k.board) (queued k.state j) ≡ true) (at_next : x.id ≡ k.state.next.attempt) (its_job : x.job ≡ j.id) (live : x.state ≡ Live) where
   abbrev s : State
   s = k.state
 
@@ -126,6 +128,6 @@ module _ (k : Kept) (j : Job) (x : Attempt) (sound : Sound k.state) (are : AreBo
 
   pub granted : AreIndexes (written (numbered (row.Attempt x) counter.Attempt k.state.next.attempt) (started_row k.board j.id ∷ []) (holds_group x.id (queued k.state j)) k)
   granted = subst AreIndexes (sym (hold_alone x.id (queued s j).project j.options.resource_group then)) (record {
-    held = more_rows s t x.id (queued s j).project j.options.resource_group then free more indexes.held;
+    held = more_rows s t x.id (queued s j).project j.options.resource_group then (free_not_held (groups_in s k.board) j.pipeline (queued s j).project j.options.resource_group free) more indexes.held;
     unfinished = indexes.unfinished ∙ (λ i. map number (filter (λ q. sym (same q) i) s.pipelines));
   })

@@ -17,7 +17,9 @@ use Rattle.ci_machine.specs.declared.change.IndexChange.TheVariants.{Hold}
 use Rattle.ci_machine.specs.State.{State, put}
 use Rattle.ci_machine.specs.Kept.{Kept, indexed, indexed_all}
 use Rattle.ci_machine.specs.Eligible.{holds, is_free}
+use Rattle.ci_machine.specs.Groups.{held_claim}
 use Rattle.ci_machine.specs.Holders.{group_held, holders, holder_cmp, AreHolders, without_holder, freed}
+use Rattle.ci_machine.proofs.Claims.{free_held}
 use Rattle.ci_machine.proofs.Keyed.{Has, has_filter, filter_has, has_put, put_has, equal, same, has_from_all, All-from_has, has_from_contains, contains_from_has}
 use Rattle.ci_machine.proofs.Keyed.{not_true}
 use Rattle.ci_machine_steps.proofs.Variables.{Ordered, filter_ordered, put_ordered}
@@ -108,7 +110,7 @@ pub record HoldsMore (s t : State) (n project : ℕ) (group : Option (List ℕ))
   pub comes : (h : Holder) → Has h (group_held n project group) → Has h (holders t)
   pub no_other : (h : Holder) → Has h (holders t) → Has h (holders s) ⊎ Has h (group_held n project group)
 
-pub more_rows : (s t : State) (n project : ℕ) (group : Option (List ℕ)) (k : Kept) → is_free (holders s) project group ≡ true → HoldsMore s t n project group → AreHolders s k.holders
+pub more_rows : (s t : State) (n project : ℕ) (group : Option (List ℕ)) (k : Kept) → is_free (map held_claim (holders s)) project group ≡ true → HoldsMore s t n project group → AreHolders s k.holders
     → AreHolders t (indexed_all (map Hold (group_held n project group)) k).holders
 more_rows s t n project None k free more are = record {
   ascend = are.ascend;
@@ -119,7 +121,7 @@ more_rows s t n project (Some group) k free more are =
     let x : Holder = record { project = project; group = group; attempt = n } in
     let rows : List Holder = put holder_cmp x k.holders in
     let was : (h : Holder) → Has h k.holders → Has h (holders s) = λ h l. has_from_contains h (holders s) (has_from_all (Contains (holders s)) h k.holders are.held l) in
-    let none : (h : Holder) → Has h (holders s) → holds project group h ≡ false = λ h l. none_any (holds project group) h (holders s) (not_true (list_any (holds project group) (holders s)) free) l in
+    let none : (h : Holder) → Has h (holders s) → holds project group h ≡ false = λ h l. none_any (holds project group) h (holders s) (not_true (list_any (holds project group) (holders s)) (sym (free_held (holders s) project group) ∙ free)) l in
     record {
       ascend = ascends holder_cmp rows (put_ordered holder_cmp holder_total x k.holders (ordered holder_cmp k.holders are.ascend));
       held = All-from_has (Contains (holders t)) rows (λ h l. contains_from_has h (holders t)

@@ -75,10 +75,12 @@ module _ (s : State) (ascend : Rising (λ a. a.id) 0 s.attempts) where
   record_put t (row.JobVariable v) n k = record { pipelines = k.pipelines; jobs = k.jobs; needs = k.needs; rise = k.rise; attempts = k.attempts; before = k.before; facts = k.facts }
   record_put t (row.Need w) n k = absurd n
   record_put t (row.Attempt a) n k = attempt_put t a n.0 (has_from_contains n.0 s.attempts n.1) n.2 n.3 n.4 k
+  record_put t (row.Mode m) n k = record { pipelines = k.pipelines; jobs = k.jobs; needs = k.needs; rise = k.rise; attempts = k.attempts; before = k.before; facts = k.facts }
   record_put t (row.Next counter m) n k = record { pipelines = k.pipelines; jobs = k.jobs; needs = k.needs; rise = k.rise; attempts = k.attempts; before = k.before; facts = k.facts }
 
   record_gone : (t : State) (x : Key) → IsNoStatusKey x → IsLike s t → IsLike s (without_record x t)
   record_gone t (key.Variable n name) u k = record { pipelines = k.pipelines; jobs = k.jobs; needs = k.needs; rise = k.rise; attempts = k.attempts; before = k.before; facts = k.facts }
+  record_gone t (key.Mode n name) u k = record { pipelines = k.pipelines; jobs = k.jobs; needs = k.needs; rise = k.rise; attempts = k.attempts; before = k.before; facts = k.facts }
   record_gone t (key.Project n) u k = absurd u
   record_gone t (key.Runner n) u k = absurd u
   record_gone t (key.Pipeline n) u k = absurd u

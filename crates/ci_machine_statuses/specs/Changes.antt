@@ -49,11 +49,13 @@ IsNoStatus s (row.Job j) = ⊥
 IsNoStatus s (row.JobVariable v) = Unit {0}
 IsNoStatus s (row.Need w) = ⊥
 IsNoStatus s (row.Attempt a) = HasLike s a
+IsNoStatus s (row.Mode m) = Unit {0}
 IsNoStatus s (row.Next counter n) = Unit {0}
 
--- no status depends on the record with the key: it is a project's variable
+-- no status depends on the record with the key: it is a project's variable, or the process mode of a resource group
 abbrev pub IsNoStatusKey : Key → Type 0
 IsNoStatusKey (key.Variable project name) = Unit {0}
+IsNoStatusKey (key.Mode project name) = Unit {0}
 IsNoStatusKey _ = ⊥
 
 -- the change leaves all statuses of the state

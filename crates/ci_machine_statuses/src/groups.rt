@@ -4,12 +4,13 @@ ghost use Rattle.std.specs.Prelude.{◌≡◌, ◌∷◌, [], ◌++◌, ◌==◌
 ghost use Rattle.std.specs.List.{list_any};
 ghost use Rattle.std.specs.Option.{option_copied};
 ghost use Rattle.ci_machine_steps.specs.Cancels.{is_lease_on};
+ghost use Rattle.ci_machine.specs.Groups.{held_claim};
 ghost use Rattle.ci_machine.specs.Holders as holders;
 ghost use Rattle.ci_machine.specs.Holders.{holds_group, group_held};
 ghost use Rattle.ci_machine_statuses.specs.HolderChanges.{freed};
 
 use ci_machine::change::IndexChange;
-use ci_machine::records::{Attempt, Holder, Job, QueuedJob};
+use ci_machine::records::{Attempt, Claim, Holder, Job, QueuedJob};
 use std::alloc::{AllocError, Global};
 
 /// What a job holds that is granted as the attempt with this number: its group of its project, if it has one. Errors: memory was
@@ -25,6 +26,20 @@ pub fn held(attempt: u64, queued: &QueuedJob) -> Result<Option<IndexChange>, All
         }))),
         None => Ok(None),
     }
+}
+
+/// The groups for which jobs must wait that these attempts hold, in their order. Errors: memory was refused.
+pub fn claims_of(alloc: Global, held: &[Holder]) -> Result<Vec<Claim>, AllocError>
+    ensures { IfOk result (λ v. v.items ≡ map held_claim held.now) }
+{
+    let mut claims = Vec::with_capacity(alloc, held.len())?;
+    for holder in held {
+        claims.push(Claim {
+            project: holder.project,
+            group: holder.group.clone()?,
+        })?;
+    }
+    Ok(claims)
 }
 
 /// What is free where the leases on the chosen jobs of a project end, of these attempts: what each of them held, in their order.

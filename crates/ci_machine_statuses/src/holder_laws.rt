@@ -19,7 +19,8 @@ ghost use Rattle.ci_machine.specs.Kept.{Kept, cleared, written};
 ghost use Rattle.ci_machine.specs.Statuses.{jobs_of, numbers_of, AreBoard};
 ghost use Rattle.ci_machine.specs.Bodies.{status_of_jobs};
 ghost use Rattle.ci_machine.specs.Eligible.{resource_free};
-ghost use Rattle.ci_machine.specs.Holders.{holders, holds_group};
+ghost use Rattle.ci_machine.specs.Holders.{holds_group};
+ghost use Rattle.ci_machine.specs.Waiting.{groups_in};
 ghost use Rattle.ci_machine.specs.Indexes.{is_open_in, AreIndexes};
 ghost use Rattle.ci_machine.specs.Leases.{is_live};
 ghost use Rattle.ci_machine.specs.declared.request.NewPipeline.{NewPipeline};
@@ -42,10 +43,10 @@ pub fn indexes_stay()
     ensures { (k : Kept) (changes : List RowChange) → IsSound k.state → AreBoard k.state k.board → AreIndexes k → AllByRecursion (LeavesStatuses k.state) changes → AreIndexes (written changes [] [] k) }
 {}
 
-/// A grant of a pending job whose group is free: its group is held, and its pipeline isn't finished, as before.
+/// A grant of a pending job that need not wait for its group: its group is held, which none held before, and its pipeline isn't finished, as before.
 pub fn grant_is_indexed()
     ensures { (k : Kept) (job : Job) (attempt : Attempt) → IsSound k.state → AreBoard k.state k.board → AreIndexes k → Contains k.state.jobs job → is_pending k.board job ≡ true
-        → resource_free (holders k.state) (queued k.state job) ≡ true → attempt.id ≡ k.state.next.attempt → attempt.job ≡ job.id → attempt.state ≡ Live
+        → resource_free (groups_in k.state k.board) (queued k.state job) ≡ true → attempt.id ≡ k.state.next.attempt → attempt.job ≡ job.id → attempt.state ≡ Live
         → AreIndexes (written (numbered (row.Attempt attempt) counter.Attempt k.state.next.attempt) (started_row k.board job.id ∷ []) (holds_group attempt.id (queued k.state job)) k) }
 {}
 

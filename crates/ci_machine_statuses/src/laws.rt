@@ -24,7 +24,7 @@ ghost use Rattle.ci_machine_steps.specs.Retries.{retry};
 ghost use Rattle.ci_machine_steps.specs.Prunes.{pipeline_goes, prune};
 ghost use Rattle.ci_machine_steps.specs.Cancels.{cancellable_jobs, cancel};
 ghost use Rattle.ci_machine_steps.specs.Sound.{IsSound};
-ghost use Rattle.ci_machine.specs.Holders.{holders};
+ghost use Rattle.ci_machine.specs.declared.records.WaitingJob.{WaitingJob};
 ghost use Rattle.ci_machine_steps.specs.Step.{is_pending, queue, queued};
 ghost use Rattle.ci_machine.specs.Ranges.{is_within, attempts_within, row_at, pending_after};
 ghost use Rattle.ci_machine_steps.specs.Plans.{numbered};
@@ -87,13 +87,13 @@ pub fn acts_are_of_records()
         → act_changes Act.Cancel s chosen ≡ cancel attempts chosen }
 {}
 
-/// What an outcome says is what the machine shows after it, where the groups are held that are held then: the job that was asked for,
-/// at its one place; and the pipeline with its jobs.
+/// What an outcome says is what the machine shows after it, where the groups are held that are held then, and any jobs wait: the job that
+/// was asked for, at its one place; and the pipeline with its jobs.
 pub fn outcomes_are_shown()
-    ensures job { (act : Act) (s : State) (board : List BoardRow) (job : Job) (o : Outcome) → IsSound s → Contains s.jobs job → is_permitted act (status_for board job.id) ≡ true → IsOutcome act (Some job.id) s board job.pipeline o
-        → (i : ℕ) × ((o.places.items ≡ i ∷ []) × ShowsJobAfter s job (act_changes act s (job ∷ [])) (shows_job_by s (act_changes act s (job ∷ [])) job (row_of o.rows.items i).status)) }
-    ensures pipeline { (act : Act) (s : State) (board : List BoardRow) (p : Pipeline) (o : Outcome) → IsSound s → IsOutcome act None s board p.id o
-        → ShowsPipelineAfter s p (act_changes act s (acted_jobs act None s board p.id)) (shows_pipeline_by s (act_changes act s (acted_jobs act None s board p.id)) p (jobs_of s p.id) o.facts.items o.rows.items) }
+    ensures job { (act : Act) (s : State) (waiting : List WaitingJob) (board : List BoardRow) (job : Job) (o : Outcome) → IsSound s → Contains s.jobs job → is_permitted act (status_for board job.id) ≡ true → IsOutcome act (Some job.id) s board job.pipeline o
+        → (i : ℕ) × ((o.places.items ≡ i ∷ []) × ShowsJobAfter s waiting job (act_changes act s (job ∷ [])) (shows_job_by s waiting (act_changes act s (job ∷ [])) job (row_of o.rows.items i).status)) }
+    ensures pipeline { (act : Act) (s : State) (waiting : List WaitingJob) (board : List BoardRow) (p : Pipeline) (o : Outcome) → IsSound s → IsOutcome act None s board p.id o
+        → ShowsPipelineAfter s waiting p (act_changes act s (acted_jobs act None s board p.id)) (shows_pipeline_by s waiting (act_changes act s (acted_jobs act None s board p.id)) p (jobs_of s p.id) o.facts.items o.rows.items) }
 {}
 
 /// Where one job is asked for, it is done to this one, or to none if its status doesn't permit it; all jobs of a pipeline that

@@ -11,7 +11,7 @@ use Rattle.ci_board.specs.Texts.{status_text}
 use Rattle.ci_board.specs.PipelineStatus.{pipeline_status}
 use Rattle.ci_machine.specs.declared.records.Pipeline.{Pipeline}
 use Rattle.ci_machine.specs.declared.records.Job.{Job}
-use Rattle.ci_machine.specs.declared.records.Holder.{Holder}
+use Rattle.ci_machine.specs.declared.records.Claim.{Claim}
 use Rattle.ci_machine.specs.declared.reply.Body.TheVariants.{Json}
 use Rattle.ci_machine.specs.declared.reply.Reply.{Reply}
 use Rattle.ci_machine.specs.Bodies.{source_text, jobs_data}
@@ -27,6 +27,6 @@ shown_by p shown parts facts rows =
     (member (codes "source") (string (source_text p.source))
     (member (codes "status") (string (status_text (pipeline_status parts facts (statuses rows)))) no_members))))))))
 
-pub shown_alike : (p : Pipeline) (hs gs : List Holder) (js ks : List Job) (facts fresh : List Facts) (rows : List Row) → jobs_data hs p.project js rows ≡ jobs_data gs p.project ks rows
+pub shown_alike : (p : Pipeline) (hs gs : List Claim) (js ks : List Job) (facts fresh : List Facts) (rows : List Row) → jobs_data hs p.project js rows ≡ jobs_data gs p.project ks rows
     → map (λ j. j.options.part) js ≡ map (λ j. j.options.part) ks → facts ≡ fresh → (pipeline_shown p hs js facts rows).0 ≡ (pipeline_shown p gs ks fresh rows).0
 shown_alike p hs gs js ks facts fresh rows said parts same = λ i. shown_by p (said i) (parts i) (same i) rows

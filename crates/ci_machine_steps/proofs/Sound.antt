@@ -1,5 +1,5 @@
 -- What holds of the numbers of each reached state, in the words of these proofs.
-use Rattle.std.specs.Prelude.{◌≡◌, ℕ, ◌+◌, ◌<◌, ◌≤◌, true, ◌==◌, List, [], ◌∷◌, length, map, Option, Some, None, Contains}
+use Rattle.std.specs.Prelude.{◌≡◌, ℕ, ◌+◌, ◌<◌, ◌≤◌, true, ◌==◌, List, [], ◌∷◌, length, map, Option, Some, None, All, Contains}
 use Rattle.std.specs.List.{last_or, AllByRecursion}
 use Rattle.std.specs.Ordering.{nat_cmp, is_lt}
 use Rattle.std.specs.List.Sorted.{IsStrictlySortedBy}
@@ -58,6 +58,7 @@ pub record Sound (s : State) : Type 0 where
   pub attempts : Rising (λ (a : Attempt). a.id) 0 s.attempts
   pub pipeline_below : Below (λ (p : Pipeline). p.id) s.next.pipeline s.pipelines
   pub positive : (j : Job) → Has j s.jobs → 0 < j.id
+  pub in_turn : (a b : Job) → Has a s.jobs → Has b s.jobs → a.pipeline < b.pipeline → a.id < b.id
   pub job_below : Below (λ (j : Job). j.id) s.next.job s.jobs
   pub below : Below (λ (a : Attempt). a.id) s.next.attempt s.attempts
   pub job_pipeline : (j : Job) → Has j s.jobs → Named (λ (p : Pipeline). p.id) j.pipeline s.pipelines
@@ -80,6 +81,7 @@ sound s i =
       attempts = rise;
       pipeline_below = λ p. has_from_all (λ (q : Pipeline). q.id < s.next.pipeline) p s.pipelines i.pipelines_below;
       positive = λ j. has_from_all (λ (w : Job). 0 < w.id) j s.jobs i.jobs_positive;
+      in_turn = λ a b k l. has_from_all (λ (w : Job). a.pipeline < w.pipeline → a.id < w.id) b s.jobs (has_from_all (λ (v : Job). All (λ w. v.pipeline < w.pipeline → v.id < w.id) s.jobs) a s.jobs i.jobs_in_turn k) l;
       job_below = λ j. has_from_all (λ (w : Job). w.id < s.next.job) j s.jobs i.jobs_below;
       below = λ a. has_from_all (λ (b : Attempt). b.id < s.next.attempt) a s.attempts i.attempts_below;
       job_pipeline = λ j k. named_contains (λ (p : Pipeline). p.id) j.pipeline s.pipelines (has_from_all (λ (w : Job). Contains (map (λ (p : Pipeline). p.id) s.pipelines) w.pipeline) j s.jobs i.linked.job_pipeline k);

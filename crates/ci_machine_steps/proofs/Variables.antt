@@ -26,7 +26,7 @@ use Rattle.ci_machine.specs.declared.change.Key.{Key}
 use Rattle.ci_machine.specs.declared.change.Key.TheVariants as key
 use Rattle.ci_machine.specs.declared.request.Event.{Event}
 use Rattle.ci_machine.specs.declared.request.Event.TheVariants as event
-use Rattle.ci_machine.specs.declared.request.Request.TheVariants.{AddProject, AddRunner, PauseRunner, SetFile, SetVariable, DeleteVariable, CreatePipeline, ShowPipeline, AskJob, UpdateJob, AppendTrace, ShowJob, ShowTrace, Play, CancelJob, CancelPipeline, RetryJob, PruneOne}
+use Rattle.ci_machine.specs.declared.request.Request.TheVariants.{AddProject, AddRunner, PauseRunner, SetFile, SetVariable, DeleteVariable, SetMode, ShowMode, CreatePipeline, ShowPipeline, AskJob, UpdateJob, AppendTrace, ShowJob, ShowTrace, Play, CancelJob, CancelPipeline, RetryJob, PruneOne}
 use Rattle.ci_machine.specs.declared.request.Seed.{Seed}
 use Rattle.ci_machine.specs.declared.reply.Answer.{Answer}
 use Rattle.ci_machine.specs.declared.reply.Answer.TheVariants as answer
@@ -35,7 +35,7 @@ use Rattle.ci_values.specs.declared.limits.TheConstants.{MAX_NUMBER}
 use Rattle.ci_machine.specs.State.{State, job_variable_cmp, placed, others, put, with_record, without_record, changed, applied}
 use Rattle.ci_machine.specs.Bodies.{with_default, granted_variables}
 use Rattle.ci_machine_steps.specs.Plans.{Plan, refused, token_of}
-use Rattle.ci_machine.specs.Holders.{holders}
+use Rattle.ci_machine.specs.Waiting.{groups_in}
 use Rattle.ci_machine_steps.specs.Grants.{granted, ask_job}
 use Rattle.ci_machine.specs.Eligible.{chosen}
 use Rattle.ci_machine_steps.specs.Step.{Happens, runner_with, variables_of, queue, offer, offered_variables}
@@ -162,6 +162,7 @@ recorded (row.Job p) s o = o
 recorded (row.JobVariable v) s o = put_ordered job_variable_cmp variable_total v s.job_variables o
 recorded (row.Need n) s o = o
 recorded (row.Attempt p) s o = o
+recorded (row.Mode m) s o = o
 recorded (row.Next c n) s o = o
 
 removed : (k : Key) (s : State) → Ordered job_variable_cmp s.job_variables → Ordered job_variable_cmp (without_record k s).job_variables
@@ -175,6 +176,7 @@ removed (key.JobVariables n) s o = filter_ordered job_variable_cmp _ s.job_varia
 removed (key.Need n pred) s o = o
 removed (key.Needs n) s o = o
 removed (key.Attempt n) s o = o
+removed (key.Mode n name) s o = o
 removed (key.Trace n) s o = o
 
 one_change : (c : RowChange) (s : State) → Ordered job_variable_cmp s.job_variables → Ordered job_variable_cmp (changed c s).job_variables
@@ -201,7 +203,7 @@ offers s now seed o runner (Some q) =
 asks : (s : State) (board : List BoardRow) (now : ℕ) (seed : Seed) → Ordered job_variable_cmp s.job_variables → (runner : Option Runner)
     → Gives s (ask_job runner (offer s board runner) (offered_variables s (offer s board runner)) s.next.attempt now seed)
 asks s board now seed o None = λ e. absurd (false≢true e)
-asks s board now seed o (Some runner) = offers s now seed o runner (chosen (queue s board) (holders s) runner)
+asks s board now seed o (Some runner) = offers s now seed o runner (chosen (queue s board) (groups_in s board) runner)
 
 pub gives_in_order : (s : State) (board : List BoardRow) (e : Event) (now : ℕ) (seed : Seed) (a : Answer) (changes : List RowChange)
     → Ordered job_variable_cmp s.job_variables → Happens s board e now seed a changes → is_grant e a ≡ true → GivesInOrder s a
@@ -214,6 +216,8 @@ gives_in_order s board (event.Request (PauseRunner x)) now seed (answer.Reply re
 gives_in_order s board (event.Request (SetFile x)) now seed (answer.Reply reply) changes o is g = absurd (false≢true g)
 gives_in_order s board (event.Request (SetVariable x)) now seed (answer.Reply reply) changes o is g = absurd (false≢true g)
 gives_in_order s board (event.Request (DeleteVariable x)) now seed (answer.Reply reply) changes o is g = absurd (false≢true g)
+gives_in_order s board (event.Request (SetMode x)) now seed (answer.Reply reply) changes o is g = absurd (false≢true g)
+gives_in_order s board (event.Request (ShowMode x)) now seed (answer.Reply reply) changes o is g = absurd (false≢true g)
 gives_in_order s board (event.Request (CreatePipeline x)) now seed (answer.Reply reply) changes o is g = absurd (false≢true g)
 gives_in_order s board (event.Request (ShowPipeline x)) now seed (answer.Reply reply) changes o is g = absurd (false≢true g)
 gives_in_order s board (event.Request (UpdateJob x)) now seed (answer.Reply reply) changes o is g = absurd (false≢true g)

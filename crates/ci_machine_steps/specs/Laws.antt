@@ -40,7 +40,8 @@ use Rattle.ci_machine_steps.specs.Plans.{created, asked_project}
 use Rattle.ci_machine_steps.specs.Files.{IsRead}
 use Rattle.ci_machine_steps.specs.Pipelines.{given_by, new_job}
 use Rattle.ci_machine_steps.specs.Prunes.{pruned_reply}
-use Rattle.ci_machine.specs.Holders.{holders, is_in_group}
+use Rattle.ci_machine.specs.Holders.{is_in_group}
+use Rattle.ci_machine.specs.Waiting.{groups_in}
 use Rattle.ci_machine_steps.specs.Step.{project_with, project_variables, is_pending, queued, trace_of, lease_of, variables_of, with_status, was_tried}
 use Rattle.ci_machine_steps.specs.History.{Past}
 
@@ -72,7 +73,7 @@ is_grant _ _ = false
 abbrev pub grants : ℕ → Past → Bool
 grants n p = is_grant p.event p.answer && (p.before.next.attempt == n)
 
--- in that state, by the statuses of its jobs and by what its live attempts hold, the job may be given to the runner, and of the jobs that
+-- in that state, by the statuses of its jobs and by how its resource groups stand, the job may be given to the runner, and of the jobs that
 -- may it has the least number
 pub record IsLeastEligible (s : State) (runner : Runner) (job : Job) : Type 0 where
   pub board : List BoardRow
@@ -80,8 +81,8 @@ pub record IsLeastEligible (s : State) (runner : Runner) (job : Job) : Type 0 wh
   pub is_runner : Contains s.runners runner
   pub is_job : Contains s.jobs job
   pub pending : is_pending board job ≡ true
-  pub allowed : is_eligible runner (holders s) (queued s job) ≡ true
-  pub least : All (λ other. is_pending board other ≡ true → is_eligible runner (holders s) (queued s other) ≡ true → job.id ≤ other.id) s.jobs
+  pub allowed : is_eligible runner (groups_in s board) (queued s job) ≡ true
+  pub least : All (λ other. is_pending board other ≡ true → is_eligible runner (groups_in s board) (queued s other) ≡ true → job.id ≤ other.id) s.jobs
 
 -- what a record has for good, apart from what an event may change of it
 abbrev pub project_for_good : Project → Project

@@ -3,6 +3,7 @@ pub mod Projects
 pub mod Runners
 pub mod Files
 pub mod Variables
+pub mod Modes
 pub mod Pipelines
 pub mod Grants
 pub mod Reports

@@ -31,7 +31,7 @@ use Rattle.ci_machine.specs.declared.records.JobOptions.{JobOptions}
 use Rattle.ci_machine.specs.declared.records.Job.{Job}
 use Rattle.ci_machine.specs.declared.records.JobVariable.{JobVariable}
 use Rattle.ci_machine.specs.declared.records.Need.{Need}
-use Rattle.ci_machine.specs.declared.records.Holder.{Holder}
+use Rattle.ci_machine.specs.declared.records.Claim.{Claim}
 use Rattle.ci_machine.specs.declared.change.RowChange.{RowChange}
 use Rattle.ci_machine.specs.declared.change.RowChange.TheVariants.{Put}
 use Rattle.ci_machine.specs.declared.change.Record.TheVariants as row
@@ -201,24 +201,24 @@ pub record AreFirstRows (jobs : List Job) (needs : List Need) (rows : List Row) 
   pub long : length rows ≡ length jobs
   pub settled : AreRows (graph_by jobs needs) (replicate (length jobs) no_facts) rows
 
--- the pipeline is shown with the statuses of its jobs, which have these rows, where these resource groups are held
-abbrev pub pipeline_created : ℕ → Creation → List Holder → List Row → Plan
-pipeline_created first made holders rows = (created (compact_text (pipeline_data made.pipeline holders made.jobs (replicate (length made.jobs) no_facts) rows)), creation_changes first made)
+-- the pipeline is shown with the statuses of its jobs, which have these rows, where these claims are on resource groups
+abbrev pub pipeline_created : ℕ → Creation → List Claim → List Row → Plan
+pipeline_created first made claims rows = (created (compact_text (pipeline_data made.pipeline claims made.jobs (replicate (length made.jobs) no_facts) rows)), creation_changes first made)
 
 -- the number of the pipeline, or that of the last of so many jobs from the first on, is over the limit
 abbrev pub lacks_numbers : ℕ → ℕ → ℕ → Bool
 lacks_numbers pipeline first count = nat_lt MAX_NUMBER pipeline || nat_lt MAX_NUMBER (first + count - 1)
 
-abbrev pub MakesUnless : Bool → ℕ → Creation → List Holder → Plan → Type 0
-MakesUnless true first made holders plan = plan ≡ refused M15
-MakesUnless false first made holders plan = (rows : List Row) × AreFirstRows made.jobs made.needs rows × (plan ≡ pipeline_created first made holders rows)
+abbrev pub MakesUnless : Bool → ℕ → Creation → List Claim → Plan → Type 0
+MakesUnless true first made claims plan = plan ≡ refused M15
+MakesUnless false first made claims plan = (rows : List Row) × AreFirstRows made.jobs made.needs rows × (plan ≡ pipeline_created first made claims rows)
 
--- it is made of what the file lays out, with these next numbers, where these resource groups are held
-abbrev pub Makes : ℕ → ℕ → List Holder → NewPipeline → Given → ℕ → Result Layout Detail → Plan → Type 0
-Makes id first holders new given now (Err fault) plan = plan ≡ faulted fault
-Makes id first holders new given now (Ok laid) plan = MakesUnless (lacks_numbers id first (length laid.plan.jobs)) first (creation id first new given now laid) holders plan
+-- it is made of what the file lays out, with these next numbers, where these claims are on resource groups
+abbrev pub Makes : ℕ → ℕ → List Claim → NewPipeline → Given → ℕ → Result Layout Detail → Plan → Type 0
+Makes id first claims new given now (Err fault) plan = plan ≡ faulted fault
+Makes id first claims new given now (Ok laid) plan = MakesUnless (lacks_numbers id first (length laid.plan.jobs)) first (creation id first new given now laid) claims plan
 
 -- it is made of this file, if nothing refuses it before
-abbrev pub Creates : ℕ → ℕ → List Holder → NewPipeline → Given → ℕ → Result (List ℕ) Plan → Plan → Type 0
-Creates id first holders new given now (Err refusal) plan = plan ≡ refusal
-Creates id first holders new given now (Ok text) plan = (laid : Result Layout Detail) × IsLaidOut text given laid × Makes id first holders new given now laid plan
+abbrev pub Creates : ℕ → ℕ → List Claim → NewPipeline → Given → ℕ → Result (List ℕ) Plan → Plan → Type 0
+Creates id first claims new given now (Err refusal) plan = plan ≡ refusal
+Creates id first claims new given now (Ok text) plan = (laid : Result Layout Detail) × IsLaidOut text given laid × Makes id first claims new given now laid plan

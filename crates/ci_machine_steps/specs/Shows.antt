@@ -4,7 +4,7 @@ use Rattle.serde_json.specs.Written.{compact_text}
 use Rattle.ci_machine.specs.declared.records.Project.{Project}
 use Rattle.ci_machine.specs.declared.records.Pipeline.{Pipeline}
 use Rattle.ci_machine.specs.declared.records.Job.{Job}
-use Rattle.ci_machine.specs.declared.records.Holder.{Holder}
+use Rattle.ci_machine.specs.declared.records.Claim.{Claim}
 use Rattle.ci_machine.specs.declared.request.JobQuery.{JobQuery}
 use Rattle.ci_machine.specs.declared.reply.Code.{Code}
 use Rattle.ci_machine.specs.declared.reply.Code.TheVariants.{M1, M2, M3}
@@ -26,17 +26,17 @@ abbrev pub asked_job : Option Project → Option Job → Option Pipeline → Job
 asked_job None job pipeline query = Err M1
 asked_job (Some project) job pipeline query = if project.id == query.project then job_within job pipeline project.id else Err M2
 
--- the job of a project with its status, where these resource groups are held
-abbrev pub job_shown : List Holder → ℕ → Job → Status → Plan
-job_shown holders project job status = (fine (Json (compact_text (job_data (printed_status holders project job status) job))), [])
+-- the job of a project with its status, where these claims are on resource groups
+abbrev pub job_shown : List Claim → ℕ → Job → Status → Plan
+job_shown claims project job status = (fine (Json (compact_text (job_data (printed_status claims project job status) job))), [])
 
-abbrev pub shown : List Holder → ℕ → Result Job Code → Status → Plan
-shown holders project (Ok job) status = job_shown holders project job status
-shown holders project (Err code) status = refused code
+abbrev pub shown : List Claim → ℕ → Result Job Code → Status → Plan
+shown claims project (Ok job) status = job_shown claims project job status
+shown claims project (Err code) status = refused code
 
--- a job of a project, and its status, where these resource groups are held
-abbrev pub show_job : Option Project → Option Job → Option Pipeline → List Holder → Status → JobQuery → Plan
-show_job project job pipeline holders status query = shown holders query.project (asked_job project job pipeline query) status
+-- a job of a project, and its status, where these claims are on resource groups
+abbrev pub show_job : Option Project → Option Job → Option Pipeline → List Claim → Status → JobQuery → Plan
+show_job project job pipeline claims status query = shown claims query.project (asked_job project job pipeline query) status
 
 abbrev pub trace_shown : List ℕ → Plan
 trace_shown trace = (fine (Plain trace), [])
@@ -61,10 +61,10 @@ abbrev pub asked_pipeline : Result Project Code → Option Pipeline → Result P
 asked_pipeline (Err code) pipeline = Err code
 asked_pipeline (Ok project) pipeline = pipeline_within pipeline project.id
 
-abbrev pub pipeline_shown : Pipeline → List Holder → List Job → List Facts → List Row → Plan
-pipeline_shown p holders jobs facts rows = (fine (Json (compact_text (pipeline_data p holders jobs facts rows))), [])
+abbrev pub pipeline_shown : Pipeline → List Claim → List Job → List Facts → List Row → Plan
+pipeline_shown p claims jobs facts rows = (fine (Json (compact_text (pipeline_data p claims jobs facts rows))), [])
 
--- a pipeline, and its jobs with their facts and rows, where these resource groups are held
-abbrev pub show_pipeline : Result Pipeline Code → List Holder → List Job → List Facts → List Row → Plan
-show_pipeline (Ok p) holders jobs facts rows = pipeline_shown p holders jobs facts rows
-show_pipeline (Err code) holders jobs facts rows = refused code
+-- a pipeline, and its jobs with their facts and rows, where these claims are on resource groups
+abbrev pub show_pipeline : Result Pipeline Code → List Claim → List Job → List Facts → List Row → Plan
+show_pipeline (Ok p) claims jobs facts rows = pipeline_shown p claims jobs facts rows
+show_pipeline (Err code) claims jobs facts rows = refused code

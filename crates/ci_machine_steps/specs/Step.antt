@@ -7,7 +7,7 @@ use Rattle.ci_machine.specs.declared.records.Job.{Job}
 use Rattle.ci_machine.specs.declared.records.JobVariable.{JobVariable}
 use Rattle.ci_machine.specs.declared.records.QueuedJob.{QueuedJob}
 use Rattle.ci_machine.specs.declared.request.Request.{Request}
-use Rattle.ci_machine.specs.declared.request.Request.TheVariants.{AddProject, AddRunner, PauseRunner, SetFile, SetVariable, DeleteVariable, CreatePipeline, ShowPipeline, AskJob, UpdateJob, AppendTrace, ShowJob, ShowTrace, Play, CancelJob, CancelPipeline, RetryJob, PruneOne}
+use Rattle.ci_machine.specs.declared.request.Request.TheVariants.{AddProject, AddRunner, PauseRunner, SetFile, SetVariable, DeleteVariable, SetMode, ShowMode, CreatePipeline, ShowPipeline, AskJob, UpdateJob, AppendTrace, ShowJob, ShowTrace, Play, CancelJob, CancelPipeline, RetryJob, PruneOne}
 use Rattle.ci_machine.specs.declared.request.JobQuery.{JobQuery}
 use Rattle.ci_machine.specs.declared.request.PipelineQuery.{PipelineQuery}
 use Rattle.ci_machine.specs.declared.request.Event.{Event}
@@ -22,7 +22,8 @@ use Rattle.ci_machine.specs.State.{State, applied}
 use Rattle.ci_machine.specs.Statuses.{jobs_of, attempts_of, facts_of, rows_of, status_for, AreBoard}
 pub use Rattle.ci_machine.specs.Lookups.{project_at, project_with, project_variables, variable_at, runner_at, runner_with, pipeline_at, job_at, demand_of, demand_at, attempt_at, variables_of, last_attempt, trace_of, limit_or_none, lease_of, lease_at, live_attempts, leases, is_pending, pending_jobs, project_or_none, queued, queue, pipeline_of, trace_if_any, next_of}
 pub use Rattle.ci_machine.specs.Indexes.{with_status, was_tried, redundant_in}
-use Rattle.ci_machine.specs.Holders.{holders}
+use Rattle.ci_machine.specs.Groups.{order_of}
+use Rattle.ci_machine.specs.Waiting.{waiting, groups_in, claims_in}
 use Rattle.ci_machine.specs.Eligible.{chosen}
 use Rattle.ci_machine.specs.Leases.{first_due}
 use Rattle.ci_machine_steps.specs.Plans.{Plan, asked_project}
@@ -30,6 +31,7 @@ use Rattle.ci_machine_steps.specs.Projects.{add_project}
 use Rattle.ci_machine_steps.specs.Runners.{add_runner, pause_runner}
 use Rattle.ci_machine_steps.specs.Files.{SetsFile}
 use Rattle.ci_machine_steps.specs.Variables.{set_variable, delete_variable}
+use Rattle.ci_machine_steps.specs.Modes.{set_mode, show_mode}
 use Rattle.ci_machine_steps.specs.Pipelines.{may_create, given_by, Creates}
 use Rattle.ci_machine_steps.specs.Grants.{ask_job}
 use Rattle.ci_machine_steps.specs.Reports.{update_job}
@@ -48,11 +50,16 @@ use Rattle.ci_machine_steps.specs.Prunes.{prunable_in, prune}
 
 -- the job that the runner, if there is one, is offered
 abbrev pub offer : State → List BoardRow → Option Runner → Option QueuedJob
-offer s board runner = option_and_then (chosen (queue s board) (holders s)) runner
+offer s board runner = option_and_then (chosen (queue s board) (groups_in s board)) runner
 
 abbrev pub offered_variables : State → Option QueuedJob → List JobVariable
 offered_variables s None = []
 offered_variables s (Some q) = variables_of s q.job.id
+
+-- the pipeline of a job; where there is none, nothing is asked of it
+abbrev pub pipeline_or_none : Option Job → ℕ
+pipeline_or_none None = 0
+pipeline_or_none (Some job) = job.pipeline
 
 -- the job that a query names, of the project whose token it has
 abbrev pub found_job : State → JobQuery → Result Job Code
@@ -94,8 +101,10 @@ Does s board (PauseRunner pause) now seed plan = plan ≡ pause_runner (runner_a
 Does s board (SetFile new) now seed plan = SetsFile (asked_project (project_with s new.token) new.project) new.text plan
 Does s board (SetVariable new) now seed plan = plan ≡ set_variable (asked_project (project_with s new.token) new.project) (project_variables s new.project) new
 Does s board (DeleteVariable query) now seed plan = plan ≡ delete_variable (asked_project (project_with s query.token) query.project) (variable_at s query.project query.key)
+Does s board (SetMode new) now seed plan = plan ≡ set_mode (asked_project (project_with s new.token) new.project) new
+Does s board (ShowMode query) now seed plan = plan ≡ show_mode (asked_project (project_with s query.token) query.project) (order_of s.modes query.project query.group) query.group
 Does s board (CreatePipeline new) now seed plan =
-    Creates s.next.pipeline s.next.job (holders s) new (given_by new (project_variables s new.project)) now (may_create (asked_project (project_with s new.token) new.project) new) plan
+    Creates s.next.pipeline s.next.job (claims_in s board s.next.pipeline) new (given_by new (project_variables s new.project)) now (may_create (asked_project (project_with s new.token) new.project) new) plan
 Does s board (AskJob token) now seed plan =
     let runner = runner_with s token in
     let offered = offer s board runner in
@@ -104,16 +113,16 @@ Does s board (UpdateJob update) now seed plan = plan ≡ update_job (lease_at s 
 Does s board (AppendTrace part) now seed plan = plan ≡ append_trace (lease_at s part.attempt) (length (trace_of s part.attempt)) part now
 Does s board (ShowPipeline query) now seed plan =
     let n = query.pipeline in
-    plan ≡ show_pipeline (asked_pipeline (asked_project (project_with s query.token) query.project) (pipeline_at s n)) (holders s) (jobs_of s n) (facts_of s n) (rows_of s board n)
+    plan ≡ show_pipeline (asked_pipeline (asked_project (project_with s query.token) query.project) (pipeline_at s n)) (claims_in s board n) (jobs_of s n) (facts_of s n) (rows_of s board n)
 Does s board (ShowJob query) now seed plan =
     let job = job_at s query.job in
-    plan ≡ show_job (project_with s query.token) job (pipeline_of s job) (holders s) (status_for board query.job) query
+    plan ≡ show_job (project_with s query.token) job (pipeline_of s job) (claims_in s board (pipeline_or_none job)) (status_for board query.job) query
 Does s board (ShowTrace query) now seed plan =
     let job = job_at s query.job in
     plan ≡ show_trace (project_with s query.token) job (pipeline_of s job) (trace_if_any s (last_attempt s query.job)) query
-Does s board (Play query) now seed plan = ActsOn s play (permitted board is_playable M10 (found_job s query)) plan
-Does s board (CancelJob query) now seed plan = ActsOn s (λ j. cancel s.attempts (j ∷ [])) (permitted board is_cancellable M12 (found_job s query)) plan
-Does s board (RetryJob query) now seed plan = ActsOn s (λ j. retry (attempts_of s j.id) j) (permitted board is_retryable M11 (found_job s query)) plan
+Does s board (Play query) now seed plan = ActsOn s (waiting s board) play (permitted board is_playable M10 (found_job s query)) plan
+Does s board (CancelJob query) now seed plan = ActsOn s (waiting s board) (λ j. cancel s.attempts (j ∷ [])) (permitted board is_cancellable M12 (found_job s query)) plan
+Does s board (RetryJob query) now seed plan = ActsOn s (waiting s board) (λ j. retry (attempts_of s j.id) j) (permitted board is_retryable M11 (found_job s query)) plan
 Does s board (CancelPipeline query) now seed plan = CancelsPipeline s board (found_pipeline s query) plan
 Does s board (PruneOne before) now seed plan =
     let found = prunable_in s board before in

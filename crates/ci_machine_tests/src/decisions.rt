@@ -6,7 +6,7 @@ use ci_machine::choose::{choose, is_eligible, is_free, may_run, resource_free};
 use ci_machine::lease::{Lease, accept_piece, cause, due, finish, is_over, renew};
 use ci_machine::moment::Moment;
 use ci_machine::records::{
-    Attempt, AttemptState, AttemptWithJob, Cause, Holder, Job, JobOptions, Pipeline,
+    Attempt, AttemptState, AttemptWithJob, Cause, Claim, Job, JobOptions, Pipeline,
     PipelineWithStatus, QueuedJob, RefKind, Runner, Source,
 };
 use ci_machine::redundant::{is_bound_to, is_newer_of, is_redundant, is_unfinished, redundant};
@@ -20,7 +20,7 @@ fn at(seconds: u64) -> Result<Moment, Fail> {
     Ok(Moment::new(seconds).ok_or("moment")?)
 }
 
-fn text(alloc: Global, text: &str) -> Result<Text, AllocError> {
+pub fn text(alloc: Global, text: &str) -> Result<Text, AllocError> {
     Text::copy_of(alloc, text)
 }
 
@@ -195,7 +195,7 @@ fn queued(alloc: Global, id: u64, project: u64) -> Result<QueuedJob, AllocError>
     Ok(QueuedJob { job, project })
 }
 
-fn runner(alloc: Global, project: Option<u64>, paused: bool) -> Result<Runner, AllocError> {
+pub fn runner(alloc: Global, project: Option<u64>, paused: bool) -> Result<Runner, AllocError> {
     Ok(Runner {
         id: 1,
         name: text(alloc, "r")?,
@@ -230,7 +230,7 @@ fn choices(rt: HostRuntime) -> Result<(), Fail> {
     let queue = queue(alloc)?;
     for (project, paused, number) in RUNNERS {
         let runner = runner(alloc, *project, *paused)?;
-        let found = match choose(queue.as_slice(), &[], &runner) {
+        let found = match choose(queue.as_slice(), &[], &[], &[], &runner) {
             Some(queued) => queued.job.id,
             None => 0,
         };
@@ -249,7 +249,7 @@ fn who_may_run_it(rt: HostRuntime) -> Result<(), Fail> {
     for ((project, paused, _), given) in RUNNERS.iter().zip(GIVEN) {
         let runner = runner(alloc, *project, *paused)?;
         assert!(rt; may_run(&runner, queued.project, &[]) == *given);
-        assert!(rt; is_eligible(&queued, &[], &runner) == *given);
+        assert!(rt; is_eligible(&queued, &[], &[], &[], &runner) == *given);
     }
     Ok(())
 }
@@ -285,7 +285,7 @@ fn who_has_the_tags(rt: HostRuntime) -> Result<(), Fail> {
 }
 
 /// An attempt that is made of a job in this resource group, if it is one, of a project.
-fn made_of(
+pub fn made_of(
     alloc: Global,
     id: u64,
     project: u64,
@@ -297,7 +297,8 @@ fn made_of(
     Ok(AttemptWithJob { attempt, queued })
 }
 
-fn grouped(
+/// A job in this resource group, if it is one, of a project.
+pub fn grouped(
     alloc: Global,
     id: u64,
     project: u64,
@@ -324,11 +325,7 @@ fn which_group_is_free(rt: HostRuntime) -> Result<(), Fail> {
     let alloc = rt.alloc();
     let runner = runner(alloc, None, false)?;
     let group = text(alloc, "prod")?;
-    let holders = &[Holder {
-        project: 1,
-        group,
-        attempt: 7,
-    }];
+    let claims = &[Claim { project: 1, group }];
     let live = &[
         made_of(alloc, 6, 1, None, AttemptState::Live)?,
         made_of(alloc, 7, 1, Some("prod"), AttemptState::Live)?,
@@ -337,10 +334,10 @@ fn which_group_is_free(rt: HostRuntime) -> Result<(), Fail> {
         let queue = &[grouped(alloc, 3, *project, *group)?];
         let [queued] = queue;
         let group = &queued.job.options.resource_group;
-        assert!(rt; is_free(holders, *project, group) == *free);
-        assert!(rt; resource_free(queued, live) == *free);
-        assert!(rt; is_eligible(queued, live, &runner) == *free);
-        assert!(rt; choose(queue, live, &runner).is_some() == *free);
+        assert!(rt; is_free(claims, *project, group) == *free);
+        assert!(rt; resource_free(queued, live, &[], &[]) == *free);
+        assert!(rt; is_eligible(queued, live, &[], &[], &runner) == *free);
+        assert!(rt; choose(queue, live, &[], &[], &runner).is_some() == *free);
     }
     Ok(())
 }
@@ -478,19 +475,18 @@ fn grouped_job(alloc: Global) -> Result<Job, AllocError> {
 }
 
 #[test]
-fn a_held_group_is_waited_for(rt: HostRuntime) -> Result<(), Fail> {
+fn a_claimed_group_is_waited_for(rt: HostRuntime) -> Result<(), Fail> {
     let job = grouped_job(rt.alloc())?;
-    let holder = Holder {
+    let claim = Claim {
         project: 1,
         group: text(rt.alloc(), "disk")?,
-        attempt: 7,
     };
-    let holders = [holder];
-    let held = ShownStatus::of(&holders, 1, &job, Status::Pending);
-    assert!(rt; held.as_str() == "waiting_for_resource");
-    let elsewhere = ShownStatus::of(&holders, 2, &job, Status::Pending);
+    let claims = [claim];
+    let waits = ShownStatus::of(&claims, 1, &job, Status::Pending);
+    assert!(rt; waits.as_str() == "waiting_for_resource");
+    let elsewhere = ShownStatus::of(&claims, 2, &job, Status::Pending);
     assert!(rt; elsewhere.as_str() == "pending");
-    let ended = ShownStatus::of(&holders, 1, &job, Status::Canceled);
+    let ended = ShownStatus::of(&claims, 1, &job, Status::Canceled);
     assert!(rt; ended.as_str() == "canceled");
     Ok(())
 }

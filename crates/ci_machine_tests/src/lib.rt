@@ -6,8 +6,12 @@ mod decisions;
 #[cfg(test)]
 mod layouts;
 #[cfg(test)]
+mod modes;
+#[cfg(test)]
 mod outcomes;
 #[cfg(test)]
 mod records;
 #[cfg(test)]
 mod statuses;
+#[cfg(test)]
+mod turns;

@@ -3,10 +3,12 @@
 use crate::records::{are_same, attempt, is_same, job, need, part, row, system_failure};
 use ci_board::facts::Status::{Created, Failed, Manual, Pending, Running, Skipped, Success};
 use ci_graph::part::Part;
-use ci_machine::records::{Attempt, AttemptState, BoardRow, Cause, Job, Need};
+use ci_machine::records::{Attempt, AttemptState, BoardRow, Cause, Holder, Job, Need};
+use ci_machine::text::Text;
 use ci_machine_statuses::creation::rows_of_creation;
 use ci_machine_statuses::end::{Ended, end_of};
 use ci_machine_statuses::fault::StatusFault;
+use ci_machine_statuses::groups::claims_of;
 use ci_machine_statuses::load::{graph_for, range_of};
 use ci_machine_statuses::pending::{started, status_of};
 use ci_values::when::When;
@@ -289,5 +291,28 @@ fn one_row_shows_and_starts_a_job(rt: HostRuntime) -> Result<(), Fail> {
     assert!(rt; status_of(Some(pending)) == Pending);
     assert!(rt; status_of(None) == Created);
     assert!(rt; is_same(started(pending), row(3, Running, 0, 1, 0)));
+    Ok(())
+}
+
+// The attempt holds this group of a project.
+fn holder(alloc: Global, project: u64, group: &str, attempt: u64) -> Result<Holder, Fail> {
+    Ok(Holder {
+        project,
+        group: Text::copy_of(alloc, group)?,
+        attempt,
+    })
+}
+
+#[test]
+fn who_holds_a_group_claims_it(rt: HostRuntime) -> Result<(), Fail> {
+    let alloc = rt.alloc();
+    let holders = [
+        holder(alloc, 2, "disk", 7)?,
+        holder(alloc, 1, "production", 9)?,
+    ];
+    let claims = claims_of(alloc, &holders)?;
+    assert!(rt; claims.len() == 2);
+    assert!(rt; claims[0].project == 2 && claims[0].group.as_str() == "disk");
+    assert!(rt; claims[1].project == 1 && claims[1].group.as_str() == "production");
     Ok(())
 }

@@ -8,6 +8,7 @@ use Rattle.ci_machine.specs.declared.change.Record.TheVariants as row
 use Rattle.ci_machine.specs.declared.change.RowChange.{RowChange}
 use Rattle.ci_machine.specs.declared.change.RowChange.TheVariants.{Put, Append, Remove}
 use Rattle.ci_machine.specs.State.{State, changed, applied}
+use Rattle.ci_memory.specs.Modes.{is_of_mode}
 use Rattle.ci_memory.specs.Runners.{is_of_runner}
 
 -- a change that is not of a runner leaves the runners
@@ -20,6 +21,7 @@ runners_stay (Put (row.Job x)) s e = refl
 runners_stay (Put (row.JobVariable x)) s e = refl
 runners_stay (Put (row.Need x)) s e = refl
 runners_stay (Put (row.Attempt x)) s e = refl
+runners_stay (Put (row.Mode x)) s e = refl
 runners_stay (Put (row.Next counter n)) s e = refl
 runners_stay (Append x) s e = refl
 runners_stay (Remove (key.Project n)) s e = refl
@@ -33,6 +35,33 @@ runners_stay (Remove (key.Need n m)) s e = refl
 runners_stay (Remove (key.Needs n)) s e = refl
 runners_stay (Remove (key.Attempt n)) s e = refl
 runners_stay (Remove (key.Trace n)) s e = refl
+runners_stay (Remove (key.Mode n name)) s e = refl
+
+-- one that is not of a mode leaves the modes
+modes_stay : (c : RowChange) (s : State) → is_of_mode c ≡ false → (changed c s).modes ≡ s.modes
+modes_stay (Put (row.Project x)) s e = refl
+modes_stay (Put (row.Variable x)) s e = refl
+modes_stay (Put (row.Runner x)) s e = refl
+modes_stay (Put (row.Pipeline x)) s e = refl
+modes_stay (Put (row.Job x)) s e = refl
+modes_stay (Put (row.JobVariable x)) s e = refl
+modes_stay (Put (row.Need x)) s e = refl
+modes_stay (Put (row.Attempt x)) s e = refl
+modes_stay (Put (row.Mode x)) s e = absurd (false≢true (sym e))
+modes_stay (Put (row.Next counter n)) s e = refl
+modes_stay (Append x) s e = refl
+modes_stay (Remove (key.Project n)) s e = refl
+modes_stay (Remove (key.Variable n m)) s e = refl
+modes_stay (Remove (key.Runner n)) s e = refl
+modes_stay (Remove (key.Pipeline n)) s e = refl
+modes_stay (Remove (key.Job n)) s e = refl
+modes_stay (Remove (key.JobVariable n m)) s e = refl
+modes_stay (Remove (key.JobVariables n)) s e = refl
+modes_stay (Remove (key.Need n m)) s e = refl
+modes_stay (Remove (key.Needs n)) s e = refl
+modes_stay (Remove (key.Attempt n)) s e = refl
+modes_stay (Remove (key.Trace n)) s e = refl
+modes_stay (Remove (key.Mode n name)) s e = absurd (false≢true (sym e))
 
 pub first : (a b : Bool) → (a || b) ≡ false → a ≡ false
 first true b e = absurd (false≢true (sym e))
@@ -47,3 +76,9 @@ pub all_runners_stay : (cs : List RowChange) (s : State) → list_any is_of_runn
 all_runners_stay [] s none = refl
 all_runners_stay (c ∷ cs) s none =
     all_runners_stay cs (changed c s) (later (is_of_runner c) (list_any is_of_runner cs) none) ∙ runners_stay c s (first (is_of_runner c) (list_any is_of_runner cs) none)
+
+-- nor is one of a mode
+pub all_modes_stay : (cs : List RowChange) (s : State) → list_any is_of_mode cs ≡ false → (applied cs s).modes ≡ s.modes
+all_modes_stay [] s none = refl
+all_modes_stay (c ∷ cs) s none =
+    all_modes_stay cs (changed c s) (later (is_of_mode c) (list_any is_of_mode cs) none) ∙ modes_stay c s (first (is_of_mode c) (list_any is_of_mode cs) none)

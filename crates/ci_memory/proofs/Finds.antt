@@ -49,6 +49,7 @@ stays_found p (Put (row.Job x)) s e is = is
 stays_found p (Put (row.JobVariable x)) s e is = is
 stays_found p (Put (row.Need x)) s e is = is
 stays_found p (Put (row.Attempt x)) s e is = is
+stays_found p (Put (row.Mode x)) s e is = is
 stays_found p (Put (row.Next counter n)) s e is = is
 stays_found p (Append x) s e is = is
 stays_found p (Remove (key.Project n)) s e is =
@@ -63,6 +64,7 @@ stays_found p (Remove (key.Need n m)) s e is = is
 stays_found p (Remove (key.Needs n)) s e is = is
 stays_found p (Remove (key.Attempt n)) s e is = is
 stays_found p (Remove (key.Trace n)) s e is = is
+stays_found p (Remove (key.Mode n name)) s e is = is
 
 none_of : (a : Bool) → not a ≡ true → a ≡ false
 none_of true e = absurd (false≢true e)

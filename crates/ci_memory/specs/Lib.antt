@@ -1,5 +1,6 @@
 pub mod Numbers
 pub mod Projects
 pub mod Runners
+pub mod Modes
 pub mod Remembered
 pub mod Right

@@ -2,8 +2,10 @@
 use Rattle.std.specs.Prelude.{Option}
 use Rattle.ci_memory_boards.specs.declared.boards.Boards.{Boards}
 use Rattle.ci_memory_leases.specs.declared.memory.Leases.{Leases}
+use Rattle.ci_memory_lines.specs.declared.lines.Lines.{Lines}
 use Rattle.ci_memory_pipelines.specs.declared.open.Open.{Open}
 use Rattle.ci_memory_queue.specs.declared.queue.Queue.{Queue}
+use Rattle.ci_memory.specs.declared.modes.Modes.{Modes}
 use Rattle.ci_memory.specs.declared.numbers.NextNumbers.{NextNumbers}
 use Rattle.ci_memory.specs.declared.projects.Projects.{Projects}
 use Rattle.ci_memory.specs.declared.runners.Runners.{Runners}
@@ -12,7 +14,9 @@ pub record Remembered : Type 0 where
   pub numbers : NextNumbers
   pub projects : Projects
   pub runners : Runners
+  pub modes : Modes
   pub queue : Option Queue
+  pub lines : Option Lines
   pub leases : Leases
   pub pipelines : Option Open
   pub boards : Boards

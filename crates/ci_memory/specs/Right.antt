@@ -3,9 +3,11 @@ use Rattle.ci_machine.specs.Kept.{Kept}
 use Rattle.ci_memory_boards.specs.Order.{InOrder}
 use Rattle.ci_memory_boards.specs.Sheets as boards
 use Rattle.ci_memory_leases.specs.Quiet.{AreRight}
+use Rattle.ci_memory_lines.specs.Covers as lines
 use Rattle.ci_memory_pipelines.specs.Alone as alone
 use Rattle.ci_memory_queue.specs.Covers as queue
 use Rattle.ci_memory.specs.Remembered.{Remembered}
+use Rattle.ci_memory.specs.Modes.{AreModes}
 use Rattle.ci_memory.specs.Numbers.{AreNext}
 use Rattle.ci_memory.specs.Projects.{AreProjects}
 use Rattle.ci_memory.specs.Runners.{AreRunners}
@@ -14,7 +16,9 @@ pub record IsRight (m : Remembered) (k : Kept) : Type 0 where
   pub numbers : AreNext m.numbers k.state.next
   pub projects : AreProjects m.projects k.state
   pub runners : AreRunners m.runners k.state
+  pub modes : AreModes m.modes k.state
   pub queue : queue.IsRight m.queue k
+  pub lines : lines.IsRight m.lines k
   pub leases : AreRight m.leases k
   pub pipelines : alone.IsRight m.pipelines k
   pub boards : boards.AreRight m.boards k

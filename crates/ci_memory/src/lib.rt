@@ -2,6 +2,7 @@
 #![tactic(auto)]
 
 pub mod memory;
+pub mod modes;
 pub mod numbers;
 pub mod projects;
 pub mod remembering;

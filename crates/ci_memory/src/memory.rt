@@ -4,11 +4,14 @@ ghost use Rattle.ci_machine.specs.Kept.{Kept, cleared, written};
 ghost use Rattle.ci_memory_boards.specs.Order.{InOrder};
 ghost use Rattle.ci_memory.specs.Right.{IsRight};
 
+use crate::modes::Modes;
 use crate::numbers::NextNumbers;
 use crate::projects::Projects;
 use crate::runners::Runners;
 use ci_memory_boards::boards::Boards;
 use ci_memory_leases::memory::Leases;
+use ci_memory_lines::after::lines_after;
+use ci_memory_lines::lines::Lines;
 use ci_memory_pipelines::after::open_after;
 use ci_memory_pipelines::open::Open;
 use ci_memory_queue::after::queue_after;
@@ -23,8 +26,12 @@ pub struct Memory {
     /// Those that were looked up last.
     pub(crate) projects: Projects,
     pub(crate) runners: Runners,
+    /// The process modes of resource groups.
+    pub(crate) modes: Modes,
     /// The pending jobs, by what they ask of a runner.
     pub(crate) queue: Option<Queue>,
+    /// The jobs that wait for a resource group.
+    pub(crate) lines: Option<Lines>,
     /// Until when no lease is over.
     pub(crate) leases: Leases,
     /// The unfinished pipelines, and of which there is no newer one.
@@ -38,7 +45,7 @@ impl Model for Memory {
 
     ghost Value = { Remembered };
 
-    ghost view = { λ m. record { numbers = m.numbers; projects = m.projects; runners = m.runners; queue = m.queue; leases = m.leases; pipelines = m.pipelines; boards = m.boards } };
+    ghost view = { λ m. record { numbers = m.numbers; projects = m.projects; runners = m.runners; modes = m.modes; queue = m.queue; lines = m.lines; leases = m.leases; pipelines = m.pipelines; boards = m.boards } };
 }
 
 impl Memory {
@@ -50,7 +57,9 @@ impl Memory {
             numbers: NextNumbers::unknown(),
             projects: Projects::unknown(),
             runners: Runners::Unknown,
+            modes: Modes::Unknown,
             queue: None,
+            lines: None,
             leases: Leases::unknown(),
             pipelines: None,
             boards: Boards::nothing(),
@@ -65,7 +74,9 @@ impl Memory {
             numbers,
             projects,
             runners,
+            modes,
             queue,
+            lines,
             leases,
             pipelines,
             boards,
@@ -74,7 +85,9 @@ impl Memory {
             numbers: numbers.after(delta.changes()),
             projects: projects.after(delta.changes()),
             runners: runners.after(delta.changes()),
+            modes: modes.after(delta.changes()),
             queue: queue_after(queue, delta.changes(), delta.rows()),
+            lines: lines_after(lines, delta.changes(), delta.rows()),
             leases: leases.after(delta.changes()),
             pipelines: open_after(pipelines, delta.changes(), delta.indexes()),
             boards: boards.after(delta.changes(), delta.rows(), delta.cleared()),

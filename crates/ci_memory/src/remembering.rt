@@ -3,32 +3,37 @@
 ghost use Rattle.std.specs.Prelude.{◌≡◌};
 ghost use Rattle.ci_machine.specs.Kept.{Kept};
 ghost use Rattle.ci_machine.specs.Lookups.{demand_of};
+ghost use Rattle.ci_machine.specs.Waiting.{waiting};
 ghost use Rattle.ci_store.specs.Store.{LoadsBy};
 ghost use Rattle.ci_server_lookups.specs.Keeps.{IsKept, HoldsKept};
 ghost use Rattle.ci_server_lookups.specs.Search.{IsOffered};
+ghost use Rattle.ci_server_lookups.specs.Turns.{IsTurn};
 ghost use Rattle.ci_memory_boards.specs.Fresh.{IsFresh};
 ghost use Rattle.ci_memory_boards.specs.Order.{InOrder};
 ghost use Rattle.ci_memory.specs.Right.{IsRight};
 
 use crate::memory::Memory;
+use crate::modes::{Modes, with_group};
 use crate::runners::{Runners, with_token};
 use ci_board::facts::Status;
 use ci_machine::change::Counter;
 use ci_machine::lease::Lease;
 use ci_machine::moment::Moment;
 use ci_machine::records::{
-    Attempt, BoardRow, Demand, Holder, Job, JobOptions, JobVariable, Need, Pipeline, Project,
-    Runner, Variable,
+    Attempt, BoardRow, Demand, GroupMode, GroupOrder, Holder, Job, JobOptions, JobVariable, Need,
+    Pipeline, Project, Runner, Variable,
 };
 use ci_machine::text::{Bytes, Text};
 use ci_memory_boards::boards::copies_of_jobs;
 use ci_memory_boards::fresh::Fresh;
 use ci_memory_leases::due;
+use ci_memory_lines::turn;
 use ci_memory_pipelines::redundant;
 use ci_memory_queue::offer;
 use ci_server_lookups::search::Offer;
 use ci_server_lookups::searches::Searches;
 use ci_server_lookups::sheet::{Sheet, sheet_of, sheet_there};
+use ci_server_lookups::turns::Turns;
 use ci_store::delta::Delta;
 use ci_store::fault::StoreFault;
 use ci_store::store::Store;
@@ -96,6 +101,23 @@ impl<T: Store> Store for Remembering<T> {
 
     fn variable(&mut self, project: u64, key: &Text) -> Result<Option<Variable>, StoreFault> {
         self.store.variable(project, key)
+    }
+
+    fn mode(&mut self, project: u64, group: &Text) -> Result<Option<GroupMode>, StoreFault> {
+        match &self.memory.modes {
+            Modes::All(modes) => Ok(with_group(modes.as_slice(), project, group)?),
+            Modes::Many => self.store.mode(project, group),
+            Modes::Unknown => {
+                let modes = self.store.modes()?;
+                let found = with_group(modes.as_slice(), project, group)?;
+                self.memory.modes = Modes::of(modes);
+                Ok(found)
+            }
+        }
+    }
+
+    fn modes(&mut self) -> Result<Vec<GroupMode>, StoreFault> {
+        self.store.modes()
     }
 
     fn runner(&mut self, id: u64) -> Result<Option<Runner>, StoreFault> {
@@ -249,6 +271,18 @@ impl<T: Store> Store for Remembering<T> {
     }
 }
 
+impl<T: Store> Turns for Remembering<T> {
+    fn turn(
+        &mut self,
+        alloc: Global,
+        project: u64,
+        group: &Text,
+        order: GroupOrder,
+    ) -> Result<Option<u64>, StoreFault> {
+        turn_by_lines(self, alloc, project, group, order)
+    }
+}
+
 impl<T: Store> Searches for Remembering<T> {
     fn first_offer(&mut self, alloc: Global, runner: &Runner) -> Result<Option<Offer>, StoreFault> {
         offered(self, alloc, runner)
@@ -342,4 +376,21 @@ fn offered<T: Store>(
     let found = offer::first_offer(alloc, store, &mut queue, runner);
     store.memory.queue = queue;
     found
+}
+
+/// The pipeline whose jobs go first in a resource group by an order, by the lines that are remembered. Meanwhile the lines are taken out, so
+/// that what they look up is answered by all else that is remembered.
+fn turn_by_lines<T: Store>(
+    store: &mut Remembering<T>,
+    alloc: Global,
+    project: u64,
+    group: &Text,
+    order: GroupOrder,
+) -> Result<Option<u64>, StoreFault>
+    ensures { LoadsBy ⟦<Remembering<T> as Store>⟧.honest ⟦<Remembering<T> as Store>⟧.holds ⟦<Remembering<T> as Store>⟧.leaves store.old store.new result (λ k turn. IsKept k → IsTurn order (waiting k.state k.board) project group.now turn) }
+{
+    let mut lines = store.memory.lines.take();
+    let turn = turn::turn(alloc, store, &mut lines, project, group, order);
+    store.memory.lines = lines;
+    turn
 }

@@ -55,6 +55,7 @@ fresh_changed f g (Put (row.Job x)) s raised before is = record { jobs = all_put
 fresh_changed f g (Put (row.JobVariable x)) s raised before is = record { jobs = jobs_under f g s raised is; needs = needs_under f g s raised is; attempts = attempts_under f g s raised is; rows = rows_under f g s raised is }
 fresh_changed f g (Put (row.Need x)) s raised before is = record { jobs = jobs_under f g s raised is; needs = all_put (λ w. w.job < g.job) need_cmp x s.state.needs (needs_under f g s raised is) before; attempts = attempts_under f g s raised is; rows = rows_under f g s raised is }
 fresh_changed f g (Put (row.Attempt x)) s raised before is = record { jobs = jobs_under f g s raised is; needs = needs_under f g s raised is; attempts = all_put (λ a. a.job < g.job) attempt_cmp x s.state.attempts (attempts_under f g s raised is) before; rows = rows_under f g s raised is }
+fresh_changed f g (Put (row.Mode v)) s raised before is = record { jobs = jobs_under f g s raised is; needs = needs_under f g s raised is; attempts = attempts_under f g s raised is; rows = rows_under f g s raised is }
 fresh_changed f g (Put (row.Next counter n)) s raised before is = record { jobs = jobs_under f g s raised is; needs = needs_under f g s raised is; attempts = attempts_under f g s raised is; rows = rows_under f g s raised is }
 fresh_changed f g (Append x) s raised before is = record { jobs = jobs_under f g s raised is; needs = needs_under f g s raised is; attempts = attempts_under f g s raised is; rows = rows_under f g s raised is }
 fresh_changed f g (Remove (key.Project n)) s raised before is = record { jobs = jobs_under f g s raised is; needs = needs_under f g s raised is; attempts = attempts_under f g s raised is; rows = rows_under f g s raised is }
@@ -67,6 +68,7 @@ fresh_changed f g (Remove (key.JobVariables n)) s raised before is = record { jo
 fresh_changed f g (Remove (key.Need n p)) s raised before is = record { jobs = jobs_under f g s raised is; needs = all_filter (λ w. w.job < g.job) (λ w. not (is_eq (ordering_then (nat_cmp w.job n) (nat_cmp w.pred p)))) s.state.needs (needs_under f g s raised is); attempts = attempts_under f g s raised is; rows = rows_under f g s raised is }
 fresh_changed f g (Remove (key.Needs n)) s raised before is = record { jobs = jobs_under f g s raised is; needs = all_filter (λ w. w.job < g.job) (λ w. not (is_eq (nat_cmp w.job n))) s.state.needs (needs_under f g s raised is); attempts = attempts_under f g s raised is; rows = rows_under f g s raised is }
 fresh_changed f g (Remove (key.Attempt n)) s raised before is = record { jobs = jobs_under f g s raised is; needs = needs_under f g s raised is; attempts = all_filter (λ a. a.job < g.job) (λ a. not (is_eq (nat_cmp a.id n))) s.state.attempts (attempts_under f g s raised is); rows = rows_under f g s raised is }
+fresh_changed f g (Remove (key.Mode n name)) s raised before is = record { jobs = jobs_under f g s raised is; needs = needs_under f g s raised is; attempts = attempts_under f g s raised is; rows = rows_under f g s raised is }
 fresh_changed f g (Remove (key.Trace n)) s raised before is = record { jobs = jobs_under f g s raised is; needs = needs_under f g s raised is; attempts = attempts_under f g s raised is; rows = rows_under f g s raised is }
 
 -- a row that is put

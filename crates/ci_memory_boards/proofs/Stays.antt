@@ -113,6 +113,7 @@ module _ (m : Sheet) (k : Kept) (right : IsRight m k) where
   stays (Put (row.JobVariable x)) e never = record { jobs = right.jobs; inside = right.inside; needs = right.needs; attempts = right.attempts; rows = right.rows; graph = right.graph }
   stays (Put (row.Need x)) e never = with_needs (put need_cmp x k.state.needs) (other_put need_cmp of_need x k.state.needs e (λ y has is. then_apart m.first m.last y.job x.job y.pred x.pred is e))
   stays (Put (row.Attempt x)) e never = absurd (some_not_none never)
+  stays (Put (row.Mode v)) e never = record { jobs = right.jobs; inside = right.inside; needs = right.needs; attempts = right.attempts; rows = right.rows; graph = right.graph }
   stays (Put (row.Next counter n)) e never = record { jobs = right.jobs; inside = right.inside; needs = right.needs; attempts = right.attempts; rows = right.rows; graph = right.graph }
   stays (Append x) e never = record { jobs = right.jobs; inside = right.inside; needs = right.needs; attempts = right.attempts; rows = right.rows; graph = right.graph }
   stays (Remove (key.Project n)) e never = record { jobs = right.jobs; inside = right.inside; needs = right.needs; attempts = right.attempts; rows = right.rows; graph = right.graph }
@@ -131,6 +132,7 @@ module _ (m : Sheet) (k : Kept) (right : IsRight m k) where
       with_attempts (without (λ a. a.id) n k.state.attempts)
       (filter_implied of_attempt (λ a. not (is_eq (nat_cmp a.id n))) k.state.attempts
       (λ y has is. none_has n y m.attempts.items e (subst (λ (l : List Attempt). Has y l) (sym right.attempts) (filter_has of_attempt y k.state.attempts has is))))
+  stays (Remove (key.Mode n name)) e never = record { jobs = right.jobs; inside = right.inside; needs = right.needs; attempts = right.attempts; rows = right.rows; graph = right.graph }
   stays (Remove (key.Trace n)) e never = record { jobs = right.jobs; inside = right.inside; needs = right.needs; attempts = right.attempts; rows = right.rows; graph = right.graph }
 
 -- the change that puts an attempt
@@ -143,6 +145,7 @@ put_of (Put (row.Job x)) a e = cc
 put_of (Put (row.JobVariable x)) a e = cc
 put_of (Put (row.Need x)) a e = cc
 put_of (Put (row.Attempt x)) a e = ap (λ (o : Attempt). Put (row.Attempt o)) (some_same e)
+put_of (Put (row.Mode v)) a e = cc
 put_of (Put (row.Next counter n)) a e = cc
 put_of (Append x) a e = cc
 put_of (Remove (key.Project n)) a e = cc
@@ -155,6 +158,7 @@ put_of (Remove (key.JobVariables n)) a e = cc
 put_of (Remove (key.Need n p)) a e = cc
 put_of (Remove (key.Needs n)) a e = cc
 put_of (Remove (key.Attempt n)) a e = cc
+put_of (Remove (key.Mode n name)) a e = cc
 put_of (Remove (key.Trace n)) a e = cc
 
 -- a job of the sheet's own that the change puts
@@ -171,6 +175,7 @@ own_job_of m (Put (row.Job x)) j e =
 own_job_of m (Put (row.JobVariable x)) j e = absurd (some_not_none (sym e))
 own_job_of m (Put (row.Need x)) j e = absurd (some_not_none (sym e))
 own_job_of m (Put (row.Attempt x)) j e = absurd (some_not_none (sym e))
+own_job_of m (Put (row.Mode v)) j e = absurd (some_not_none (sym e))
 own_job_of m (Put (row.Next counter n)) j e = absurd (some_not_none (sym e))
 own_job_of m (Append x) j e = absurd (some_not_none (sym e))
 own_job_of m (Remove (key.Project n)) j e = absurd (some_not_none (sym e))
@@ -183,6 +188,7 @@ own_job_of m (Remove (key.JobVariables n)) j e = absurd (some_not_none (sym e))
 own_job_of m (Remove (key.Need n p)) j e = absurd (some_not_none (sym e))
 own_job_of m (Remove (key.Needs n)) j e = absurd (some_not_none (sym e))
 own_job_of m (Remove (key.Attempt n)) j e = absurd (some_not_none (sym e))
+own_job_of m (Remove (key.Mode n name)) j e = absurd (some_not_none (sym e))
 own_job_of m (Remove (key.Trace n)) j e = absurd (some_not_none (sym e))
 
 -- ---- the order of attempts
@@ -208,6 +214,7 @@ one_ascends (Put (row.Job x)) s a = a
 one_ascends (Put (row.JobVariable x)) s a = a
 one_ascends (Put (row.Need x)) s a = a
 one_ascends (Put (row.Attempt x)) s a = put_ascends x s a
+one_ascends (Put (row.Mode v)) s a = a
 one_ascends (Put (row.Next counter n)) s a = a
 one_ascends (Append x) s a = a
 one_ascends (Remove (key.Project n)) s a = a
@@ -220,6 +227,7 @@ one_ascends (Remove (key.JobVariables n)) s a = a
 one_ascends (Remove (key.Need n p)) s a = a
 one_ascends (Remove (key.Needs n)) s a = a
 one_ascends (Remove (key.Attempt n)) s a = goes_ascends n s a
+one_ascends (Remove (key.Mode n name)) s a = a
 one_ascends (Remove (key.Trace n)) s a = a
 
 pub all_ascend : (cs : List RowChange) (s : State) → AttemptsAscend s → AttemptsAscend (applied cs s)
@@ -249,6 +257,7 @@ one_job_ascends (Put (row.Job x)) s a = put_job_ascends x s a
 one_job_ascends (Put (row.JobVariable x)) s a = a
 one_job_ascends (Put (row.Need x)) s a = a
 one_job_ascends (Put (row.Attempt x)) s a = a
+one_job_ascends (Put (row.Mode v)) s a = a
 one_job_ascends (Put (row.Next counter n)) s a = a
 one_job_ascends (Append x) s a = a
 one_job_ascends (Remove (key.Project n)) s a = a
@@ -261,6 +270,7 @@ one_job_ascends (Remove (key.JobVariables n)) s a = a
 one_job_ascends (Remove (key.Need n p)) s a = a
 one_job_ascends (Remove (key.Needs n)) s a = a
 one_job_ascends (Remove (key.Attempt n)) s a = a
+one_job_ascends (Remove (key.Mode n name)) s a = a
 one_job_ascends (Remove (key.Trace n)) s a = a
 
 pub all_jobs_ascend : (cs : List RowChange) (s : State) → JobsAscend s → JobsAscend (applied cs s)

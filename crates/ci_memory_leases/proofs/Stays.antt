@@ -23,6 +23,7 @@ record_stays (row.Job x) m s a j right = absurd (j x refl)
 record_stays (row.JobVariable x) m s a j right = record { quiet = right.quiet; limit = right.limit }
 record_stays (row.Need x) m s a j right = record { quiet = right.quiet; limit = right.limit }
 record_stays (row.Attempt x) m s a j right = absurd (a x refl)
+record_stays (row.Mode v) m s a j right = record { quiet = right.quiet; limit = right.limit }
 record_stays (row.Next c n) m s a j right = record { quiet = right.quiet; limit = right.limit }
 
 -- where an attempt goes, the leases that are left are still within
@@ -40,4 +41,5 @@ key_stays (key.Attempt n) m s j right = record {
   quiet = IfSome_then m.quiet right.quiet (λ q is. quiet_fewer q (λ (a : Attempt). not (is_eq (nat_cmp a.id n))) s is);
   limit = right.limit;
 }
+key_stays (key.Mode n name) m s j right = record { quiet = right.quiet; limit = right.limit }
 key_stays (key.Trace n) m s j right = record { quiet = right.quiet; limit = right.limit }

@@ -23,6 +23,7 @@ put_is (Put (row.Job x)) p e = absurd (cc)
 put_is (Put (row.JobVariable x)) p e = absurd (cc)
 put_is (Put (row.Need x)) p e = absurd (cc)
 put_is (Put (row.Attempt x)) p e = absurd (cc)
+put_is (Put (row.Mode v)) p e = absurd (cc)
 put_is (Put (row.Next c n)) p e = absurd (cc)
 put_is (Append x) p e = absurd (cc)
 put_is (Remove k) p e = absurd (cc)
@@ -41,6 +42,7 @@ removed_is (Remove (key.JobVariables m)) n e = absurd (cc)
 removed_is (Remove (key.Need m i)) n e = absurd (cc)
 removed_is (Remove (key.Needs m)) n e = absurd (cc)
 removed_is (Remove (key.Attempt m)) n e = absurd (cc)
+removed_is (Remove (key.Mode m name)) n e = absurd (cc)
 removed_is (Remove (key.Trace m)) n e = absurd (cc)
 
 pub pipelines_stay : (c : RowChange) (s : State) → put_pipeline c ≡ None → removed_pipeline c ≡ None → (changed c s).pipelines ≡ s.pipelines
@@ -52,6 +54,7 @@ pipelines_stay (Put (row.Job x)) s e f = refl
 pipelines_stay (Put (row.JobVariable x)) s e f = refl
 pipelines_stay (Put (row.Need x)) s e f = refl
 pipelines_stay (Put (row.Attempt x)) s e f = refl
+pipelines_stay (Put (row.Mode v)) s e f = refl
 pipelines_stay (Put (row.Next c n)) s e f = refl
 pipelines_stay (Append x) s e f = refl
 pipelines_stay (Remove (key.Project n)) s e f = refl
@@ -64,6 +67,7 @@ pipelines_stay (Remove (key.JobVariables n)) s e f = refl
 pipelines_stay (Remove (key.Need n m)) s e f = refl
 pipelines_stay (Remove (key.Needs n)) s e f = refl
 pipelines_stay (Remove (key.Attempt n)) s e f = refl
+pipelines_stay (Remove (key.Mode n name)) s e f = refl
 pipelines_stay (Remove (key.Trace n)) s e f = refl
 
 -- ---- one more change of an index

@@ -1,21 +1,21 @@
 -- The least of the pending jobs that a runner may be given, by classes, is the first of the queue that it may be given.
-use Rattle.std.specs.Prelude.{◌≡◌, ℕ, ◌+◌, ◌≤◌, Bool, true, ◌==◌, cond, false, length, drop, slice_index_or, ◌<◌, List, [], ◌∷◌, map, filter, find, Option, Some, None, IfSome, option_map, option_and_then, Result, Ok}
+use Rattle.std.specs.Prelude.{◌≡◌, ℕ, ◌+◌, ◌≤◌, Bool, true, ◌&&◌, ◌==◌, cond, false, length, drop, slice_index_or, ◌<◌, List, [], ◌∷◌, map, filter, find, Option, Some, None, IfSome, option_map, option_and_then, Result, Ok}
 use Rattle.std.proofs.Common.{refl, sym, ap, subst, ◌∙◌, inl, inr, ⊎_elim, arith, eqb-true}
-use Rattle.std.proofs.lemmas.Bool.{both_ways, cases_Bool, cond_both}
+use Rattle.std.proofs.lemmas.Bool.{and_parts, both_ways, cases_Bool, cond_both}
 use Rattle.std.proofs.lemmas.List.{drop_more}
 use Rattle.ci_machine.specs.declared.records.Job.{Job}
 use Rattle.ci_machine.specs.declared.records.Pipeline.{Pipeline}
 use Rattle.ci_machine.specs.declared.records.BoardRow.{BoardRow}
-use Rattle.ci_machine.specs.declared.records.Holder.{Holder}
 use Rattle.ci_machine.specs.declared.records.QueuedJob.{QueuedJob}
 use Rattle.ci_machine.specs.declared.records.Runner.{Runner}
-use Rattle.ci_machine.specs.Eligible.{is_eligible, chosen}
-use Rattle.ci_machine.specs.Holders.{holders}
+use Rattle.ci_machine.specs.Eligible.{may_run, is_free, is_eligible, chosen}
+use Rattle.ci_machine.specs.Waiting.{groups_in, claims_in}
 use Rattle.ci_machine.specs.State.{State}
 use Rattle.ci_machine.specs.Kept.{Kept}
 use Rattle.ci_machine.specs.Statuses.{row_for, row_or_none}
 use Rattle.ci_machine.specs.Lookups.{job_at, pipeline_at, is_pending, queued, queue, project_or_none}
 use Rattle.ci_machine.proofs.Keyed.{Has, Rising, rising_filter, has_filter, filter_has, has_find, find_has, rising_from, has_from_contains, contains_from_has}
+use Rattle.ci_machine_steps.specs.Step.{pipeline_or_none}
 use Rattle.ci_machine_steps.proofs.Sound.{sound}
 use Rattle.ci_store_tables.specs.declared.fault.StoreFault.{StoreFault}
 use Rattle.ci_store.specs.Store.{LoadsBy}
@@ -28,8 +28,10 @@ use Rattle.ci_memory_queue.specs.declared.queue.Class.{Class}
 use Rattle.ci_memory_queue.specs.Known.{Known}
 use Rattle.ci_memory_queue.specs.Covers.{asked_by, asks_at, is_pending_at, IsAmong, IsSorted, Covers, IsRight}
 use Rattle.ci_memory_queue.specs.Order.{RowsAscend}
-use Rattle.ci_memory_queue.specs.Offers.{is_open, UpTo, IsPendingOf, IsBest}
+use Rattle.ci_memory_queue.specs.Offers.{UpTo, IsPendingOf, IsBest}
+use Rattle.ci_memory_queue.specs.Turns.{is_free_at}
 use Rattle.ci_memory_queue.proofs.Found.{find_none}
+use Rattle.ci_memory_queue.proofs.Waits.{mapped_from}
 
 -- ---- the first of a list that rises is its least
 
@@ -48,17 +50,18 @@ find_mapped : {A B : Type 0} (f : A → B) (p : B → Bool) (xs : List A) → fi
 find_mapped f p [] = refl
 find_mapped f p (x ∷ xs) = mapped_step f x (p (f x)) (find p (map f xs)) (find (λ y. p (f y)) xs) (find_mapped f p xs)
 
-mapped_from : {A B : Type 0} (f : A → B) (o : Option A) (y : B) → option_map f o ≡ Some y → (x : A) × ((o ≡ Some x) × (f x ≡ y))
-mapped_from f None y e = absurd (cc)
-mapped_from f (Some x) y e = let same : f x ≡ y = cc in (x, (refl, same))
-
 -- ---- what a job asks
 
--- the runner may be given the job where it may be given those that ask the same
-eligible_is_open : (s : State) (runner : Runner) (held : List Holder) (j : Job) (asks : Asks) → option_map (asked_by j) (pipeline_at s j.pipeline) ≡ Some asks → is_eligible runner held (queued s j) ≡ is_open runner held asks
-eligible_is_open s runner held j asks e =
+-- the runner may be given the job where it may run those that ask the same, and the job need not wait for its group
+eligible_is_open : (s : State) (board : List BoardRow) (runner : Runner) (j : Job) (asks : Asks) → option_map (asked_by j) (pipeline_at s j.pipeline) ≡ Some asks
+    → is_eligible runner (groups_in s board) (queued s j) ≡ (may_run runner asks.project asks.tags && is_free (claims_in s board j.pipeline) asks.project asks.group)
+eligible_is_open s board runner j asks e =
     let own = mapped_from (asked_by j) (pipeline_at s j.pipeline) asks e in
-    ap (λ (o : Option Pipeline). is_eligible runner held (record { job = j; project = project_or_none o })) own.1.0 ∙ ap (is_open runner held) own.1.1
+    ap (λ (o : Option Pipeline). is_eligible runner (groups_in s board) (record { job = j; project = project_or_none o })) own.1.0
+    ∙ ap (λ (a : Asks). may_run runner a.project a.tags && is_free (claims_in s board j.pipeline) a.project a.group) own.1.1
+
+both : (a b : Bool) → a ≡ true → b ≡ true → (a && b) ≡ true
+both a b e f = ap (λ x. x && b) e ∙ f
 
 -- what a job that was found asks
 asks_found : (s : State) (n : ℕ) (j : Job) (asks : Asks) → job_at s n ≡ Some j → asks_at s n ≡ Some asks → option_map (asked_by j) (pipeline_at s j.pipeline) ≡ Some asks
@@ -71,20 +74,27 @@ module _ (k : Kept) (kept : IsKept k) (runner : Runner) (classes : List Class) (
   pending = filter (is_pending k.board) k.state.jobs
 
   abbrev may : Job → Bool
-  may j = is_eligible runner (holders k.state) (queued k.state j)
+  may j = is_eligible runner (groups_in k.state k.board) (queued k.state j)
 
   rise : Rising (λ (j : Job). j.id) 0 k.state.jobs
   rise = (sound k.state kept.sound).jobs
+
+  -- by the pipeline of the job that is found
+  free_by : (asks : Asks) (n : ℕ) (j : Job) → job_at k.state n ≡ Some j → is_free_at k asks n ≡ is_free (claims_in k.state k.board j.pipeline) asks.project asks.group
+  free_by asks n j found = ap (λ (o : Option Job). is_free (claims_in k.state k.board (pipeline_or_none o)) asks.project asks.group) found
 
   up_to : (best : Option Offer) → IsBest k runner classes best → (j : Job) → Has j pending → may j ≡ true → UpTo best j.id
   up_to best is j h e =
       let own = has_filter (is_pending k.board) j k.state.jobs h in
       let w = all j.id own.1 in
-      let asks = asks_found k.state j.id j w.asks (find_has (λ (x : Job). x.id) j 0 k.state.jobs rise own.0) w.asked in
-      is.least w.asks j.id w.among (sym (eligible_is_open k.state runner (holders k.state) j w.asks asks) ∙ e) own.1
+      let found = find_has (λ (x : Job). x.id) j 0 k.state.jobs rise own.0 in
+      let asks = asks_found k.state j.id j w.asks found w.asked in
+      let parts = and_parts (may_run runner w.asks.project w.asks.tags) (is_free (claims_in k.state k.board j.pipeline) w.asks.project w.asks.group)
+      (sym (eligible_is_open k.state k.board runner j w.asks asks) ∙ e) in
+      is.least w.asks j.id w.among (record { may = parts.0; wanted = (own.1, w.asked); free = free_by w.asks j.id j found ∙ parts.1 })
 
-  as_found : chosen (queue k.state k.board) (holders k.state) runner ≡ option_map (queued k.state) (find may pending)
-  as_found = find_mapped (queued k.state) (is_eligible runner (holders k.state)) pending
+  as_found : chosen (queue k.state k.board) (groups_in k.state k.board) runner ≡ option_map (queued k.state) (find may pending)
+  as_found = find_mapped (queued k.state) (is_eligible runner (groups_in k.state k.board)) pending
 
   none_offered : IsBest k runner classes None → IsOffered k runner None
   none_offered is =
@@ -101,7 +111,10 @@ module _ (k : Kept) (kept : IsKept k) (runner : Runner) (classes : List Class) (
       let there = has_find (λ (x : Job). x.id == offer.row.job) j k.state.jobs own.1.0 in
       let number : j.id ≡ offer.row.job = eqb-true j.id offer.row.job there.1 in
       let its : Has j pending = filter_has (is_pending k.board) j k.state.jobs there.0 (subst (λ n. is_pending_at k.board n ≡ true) (sym number) of.pending) in
-      let eligible : may j ≡ true = eligible_is_open k.state runner (holders k.state) j asks (asks_found k.state offer.row.job j asks own.1.0 of.asked) ∙ is.may.1.1 in
+      let eligible : may j ≡ true =
+      eligible_is_open k.state k.board runner j asks (asks_found k.state offer.row.job j asks own.1.0 of.asked)
+      ∙ both (may_run runner asks.project asks.tags) (is_free (claims_in k.state k.board j.pipeline) asks.project asks.group) is.may.1.1.may
+      (sym (free_by asks offer.row.job j own.1.0) ∙ is.may.1.1.free) in
       let found : find may pending ≡ Some j = find_least (λ (x : Job). x.id) may j 0 pending (rising_filter (λ (x : Job). x.id) (is_pending k.board) 0 k.state.jobs rise) its eligible
       (λ y h e. let l : offer.row.job ≤ y.id = up_to (Some offer) is y h e in omega arith) in
       let queued_number : offer.queued.job.id ≡ j.id = ap (λ (q : QueuedJob). q.job.id) (sym own.1.1) in (

@@ -1,10 +1,9 @@
 -- The least pending job of some classes that a runner may be given, class by class.
-use Rattle.std.specs.Prelude.{◌≡◌, ℕ, ◌+◌, ◌<◌, Bool, true, ◌&&◌, List, [], ◌∷◌, ◌++◌, length, take, Contains, Option, Some, None, slice_index_or, slice_set}
+use Rattle.std.specs.Prelude.{◌≡◌, ℕ, ◌+◌, ◌<◌, true, List, [], ◌∷◌, ◌++◌, length, take, Contains, Option, Some, None, slice_index_or, slice_set}
 use Rattle.std.proofs.Common.{sym, ap, subst, ◌∙◌, inl, inr, ⊎_elim}
 use Rattle.std.proofs.lemmas.List.{take_more_set}
 use Rattle.ci_machine.specs.declared.records.Runner.{Runner}
-use Rattle.ci_machine.specs.Eligible.{may_run, is_free}
-use Rattle.ci_machine.specs.Holders.{holders}
+use Rattle.ci_machine.specs.Eligible.{may_run}
 use Rattle.ci_machine.specs.Kept.{Kept}
 use Rattle.ci_machine.proofs.Keyed.{has_from_contains}
 use Rattle.ci_machine_steps.proofs.Behind.{in_either}
@@ -12,29 +11,29 @@ use Rattle.ci_server_lookups.specs.declared.search.Offer.{Offer}
 use Rattle.ci_memory_queue.specs.declared.queue.Asks.{Asks}
 use Rattle.ci_memory_queue.specs.declared.queue.Class.{Class}
 use Rattle.ci_memory_queue.specs.Covers.{asks_at, is_pending_at, IsAmong}
-use Rattle.ci_memory_queue.specs.Offers.{is_open, IsFirst, IsBetter, IsBest}
+use Rattle.ci_memory_queue.specs.Offers.{IsFirstFree, IsOpen, IsBetter, IsBest}
 use Rattle.ci_memory_queue.proofs.Sets.{among_one, set_has, set_new}
-
-both : (a b : Bool) → a ≡ true → b ≡ true → (a && b) ≡ true
-both a b e f = ap (λ x. x && b) e ∙ f
 
 -- ---- one class
 
 module _ (k : Kept) (runner : Runner) (class : Class) (before : Option Offer) where
-  -- the class is open, and its first job is ahead of what was found before
-  pub better_found : (offer : Offer) → may_run runner class.asks.project class.asks.tags ≡ true → is_free (holders k.state) class.asks.project class.asks.group ≡ true
-      → IsFirst k class.asks class.jobs.keys before (Some offer) → IsBetter k runner class before (Some offer)
-  better_found offer may free first = record {
-    may = λ _. (class.asks, (first.0, both (may_run runner class.asks.project class.asks.tags) (is_free (holders k.state) class.asks.project class.asks.group) may free));
-    earlier = first.2;
-    least = λ may_be job has pending. first.1 job has;
+  -- the first job of the class that need not wait is ahead of what was found before
+  pub better_found : (offer : Offer) → may_run runner class.asks.project class.asks.tags ≡ true → IsFirstFree k class.asks class.jobs.keys before (Some offer) → IsBetter k runner class before (Some offer)
+  better_found offer may first = record {
+    may = λ _. (class.asks, (first.0, record { may = may; wanted = (first.0.pending, first.0.asked); free = first.1 }));
+    earlier = first.3;
+    least = λ job has ready. first.2 job has ready.wanted ready.free;
   }
+
+  -- none of them is
+  pub better_as_before : IsFirstFree k class.asks class.jobs.keys before None → IsBetter k runner class before before
+  better_as_before first = record { may = λ w. w; earlier = λ job up. up; least = λ job has ready. first job has ready.wanted ready.free }
 
 -- ---- all classes so far
 
 module _ (k : Kept) (runner : Runner) where
   pub best_of_none : IsBest k runner [] None
-  best_of_none = record { may = tt; least = λ asks job among may_be pending. absurd (none asks job among) }
+  best_of_none = record { may = tt; least = λ asks job among ready. absurd (none asks job among) }
     where
       none : (asks : Asks) (job : ℕ) → IsAmong [] asks job → ⊥
       none asks job w = has_from_contains w.of [] w.there
@@ -42,11 +41,11 @@ module _ (k : Kept) (runner : Runner) where
   best_append : (classes : List Class) (class : Class) (before after : Option Offer) → IsBest k runner classes before → IsBetter k runner class before after → IsBest k runner (classes ++ class ∷ []) after
   best_append classes class before after best better = record {
     may = better.may best.may;
-    least = λ asks job w may_be pending.
+    least = λ asks job w ready.
         ⊎_elim
-        (λ h. better.earlier job (best.least asks job (among_one classes asks job w.of h w.same w.has) may_be pending))
+        (λ h. better.earlier job (best.least asks job (among_one classes asks job w.of h w.same w.has) ready))
         (λ h. ⊎_elim
-        (λ (e : w.of ≡ class). better.least (subst (λ (a : Asks). is_open runner (holders k.state) a ≡ true) (sym w.same ∙ ap (λ (c : Class). c.asks) e) may_be) job (subst (λ (c : Class). Contains c.jobs.keys job) e w.has) pending)
+        (λ (e : w.of ≡ class). better.least job (subst (λ (c : Class). Contains c.jobs.keys job) e w.has) (subst (λ (a : Asks). IsOpen k runner a job) (sym w.same ∙ ap (λ (c : Class). c.asks) e) ready))
         (λ m. absurd m) h)
         (in_either w.of classes (class ∷ []) (has_from_contains w.of (classes ++ class ∷ []) w.there));
   }

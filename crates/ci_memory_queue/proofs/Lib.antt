@@ -1,7 +1,9 @@
 pub mod Sets
 pub mod Found
 pub mod Commits
+pub mod Waits
 pub mod Firsts
+pub mod Ones
 pub mod Leasts
 pub mod Paged
 pub mod Ordered

@@ -1,4 +1,5 @@
 pub mod Known
 pub mod Covers
 pub mod Order
+pub mod Turns
 pub mod Offers

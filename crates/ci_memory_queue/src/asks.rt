@@ -1,11 +1,11 @@
 //! Whether two jobs ask the same of a runner.
 
 ghost use Rattle.std.specs.Prelude.{◌≡◌, ◌≢◌, IsTrue, false};
-ghost use Rattle.ci_memory_queue.specs.declared.queue.Asks.{Asks};
-ghost use Rattle.ci_memory_queue.specs.Covers.{asked_of};
+ghost use Rattle.ci_machine.specs.declared.records.Pipeline.{Pipeline};
+ghost use Rattle.ci_memory_queue.specs.Covers.{asked_by, asked_of};
 
 use crate::queue::Asks;
-use ci_machine::records::QueuedJob;
+use ci_machine::records::{Job, QueuedJob};
 use ci_machine::text::Text;
 
 /// Are the project, the tags, in their order, and the resource group the same?
@@ -26,6 +26,14 @@ pub fn is_asked(asks: &Asks, queued: &QueuedJob) -> bool
     asks.project == queued.project
         && same_tags(asks.tags.as_slice(), queued.job.options.tags.as_slice())
         && same_group(&asks.group, &queued.job.options.resource_group)
+}
+
+/// May it be that the job asks this? The project of its pipeline is not looked at.
+pub fn may_ask(asks: &Asks, job: &Job) -> bool
+    ensures { result ≡ false → (p : Pipeline) → asks.now ≢ asked_by job.now p }
+{
+    same_tags(asks.tags.as_slice(), job.options.tags.as_slice())
+        && same_group(&asks.group, &job.options.resource_group)
 }
 
 fn same_tags(a: &[Text], b: &[Text]) -> bool

@@ -1,14 +1,16 @@
-//! The first job of a class that is pending still, and asks what the class asks.
+//! The first job that is pending and asks what a class asks: of those that the class has, or of those of a pipeline.
 
 ghost use Rattle.std.specs.Prelude.{◌≡◌, ◌≤◌, ℕ, true, false, IsTrue, IfSome, Contains, Some, slice_get, option_map};
-ghost use Rattle.ci_machine.specs.Lookups.{pipeline_at};
+ghost use Rattle.ci_machine.specs.Lookups.{job_at, pipeline_at};
+ghost use Rattle.ci_machine.specs.Statuses.{jobs_of};
 ghost use Rattle.ci_machine_steps.specs.Step as step;
 ghost use Rattle.ci_machine_statuses.specs.Pages.{queued_at};
 ghost use Rattle.ci_store.specs.Store.{LoadsBy};
+ghost use Rattle.ci_server_lookups.specs.Keeps.{IsKept};
 ghost use Rattle.ci_memory_queue.specs.Covers.{is_pending_at, asked_by, asked_of, asks_at};
-ghost use Rattle.ci_memory_queue.specs.Offers.{UpTo, IsAhead, IsOfferAt, IsFirst};
+ghost use Rattle.ci_memory_queue.specs.Offers.{UpTo, IsAhead, IsOfferAt, IsOfferAhead, IsFirst, IsFirstOf};
 
-use crate::asks::is_asked;
+use crate::asks::{is_asked, may_ask};
 use crate::pending::pending_row;
 use crate::queue::Asks;
 use ci_machine::records::{BoardRow, Job, QueuedJob};
@@ -39,6 +41,57 @@ pub fn first_pending<T: Store>(
         jobs.pop_first();
     }
     Ok(None)
+}
+
+/// The first job of a pipeline that is pending and asks this, where its number is lesser than that of the offer that was found before.
+/// Errors: the store's.
+pub fn first_of_pipeline<T: Store>(
+    store: &mut T,
+    asks: &Asks,
+    pipeline: u64,
+    before: &Option<Offer>,
+) -> Result<Option<Offer>, StoreFault>
+    ensures { LoadsBy T.honest T.holds T.leaves store.old store.new result (λ k found. IsKept k → IsFirstOf k asks.now pipeline before.now found) }
+{
+    let jobs = store.jobs_of(pipeline)?;
+    first_among(store, asks, jobs.as_slice(), before)
+}
+
+/// The first of the jobs of a pipeline.
+fn first_among<T: Store>(
+    store: &mut T,
+    asks: &Asks,
+    jobs: &[Job],
+    before: &Option<Offer>,
+) -> Result<Option<Offer>, StoreFault>
+    ensures { LoadsBy T.honest T.holds T.leaves store.old store.new result (λ k found. IsKept k → (pipeline : ℕ) → jobs.now ≡ jobs_of k.state pipeline → IsFirstOf k asks.now pipeline before.now found) }
+{
+    for job in jobs {
+        let found = offer_ahead(store, asks, job, before)?;
+        if found.is_some() {
+            return Ok(found);
+        }
+    }
+    Ok(None)
+}
+
+/// The job with its row, if it has a lesser number than the offer that was found before, is pending and asks this. One that asks for other
+/// tags or another group is not looked up.
+fn offer_ahead<T: Store>(
+    store: &mut T,
+    asks: &Asks,
+    job: &Job,
+    before: &Option<Offer>,
+) -> Result<Option<Offer>, StoreFault>
+    ensures { LoadsBy T.honest T.holds T.leaves store.old store.new result (λ k found. job_at k.state job.now.id ≡ Some job.now → IsOfferAhead k asks.now job.now.id before.now found) }
+{
+    if !is_ahead(job.id, before) {
+        return Ok(None);
+    }
+    if !may_ask(asks, job) {
+        return Ok(None);
+    }
+    offer_at(store, asks, job.id)
 }
 
 /// Has one of the jobs a lesser number than the offer's, if there is one?

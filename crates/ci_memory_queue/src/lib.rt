@@ -12,3 +12,4 @@ pub mod laws;
 pub mod offer;
 mod pending;
 pub mod queue;
+mod turns;

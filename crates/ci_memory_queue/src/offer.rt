@@ -17,6 +17,7 @@ use crate::pending::pending_row;
 use crate::queue::{Asks, Class, Queue};
 use ci_machine::records::Runner;
 use ci_server_lookups::search::Offer;
+use ci_server_lookups::turns::Turns;
 use ci_store::fault::StoreFault;
 use ci_store::store::Store;
 use std::alloc::Global;
@@ -24,7 +25,7 @@ use std::alloc::Global;
 /// The first pending job that the runner may be given, with its row. What is remembered of the pending jobs is filled where there is
 /// nothing, and jobs that are in no class yet are put into those of what they ask. Where it fails, nothing is remembered. Errors: the
 /// store's, or memory was refused.
-pub fn first_offer<T: Store>(
+pub fn first_offer<T: Turns>(
     alloc: Global,
     store: &mut T,
     queue: &mut Option<Queue>,
@@ -35,7 +36,7 @@ pub fn first_offer<T: Store>(
 {
     let known = known_or_filled(alloc, store, queue.take())?;
     let mut known = sorted(alloc, store, known)?;
-    let found = offer_in(store, runner, &mut known)?;
+    let found = offer_in(alloc, store, runner, &mut known)?;
     *queue = Some(known);
     Ok(found)
 }
@@ -129,7 +130,8 @@ fn demand_of<T: Store>(store: &mut T, job: u64) -> Result<Asked, StoreFault>
 }
 
 /// The first job of the classes that the runner may be given.
-fn offer_in<T: Store>(
+fn offer_in<T: Turns>(
+    alloc: Global,
     store: &mut T,
     runner: &Runner,
     queue: &mut Queue,
@@ -137,5 +139,5 @@ fn offer_in<T: Store>(
     ensures covers { LoadsBy T.honest T.holds T.leaves store.old store.new result (λ k _. (queue.old.fresh ≡ []) × Covers queue.old k.state k.board → Covers queue.new k.state k.board) }
     ensures offered { LoadsBy T.honest T.holds T.leaves store.old store.new result (λ k found. (queue.old.fresh ≡ []) × Covers queue.old k.state k.board → IsKept k → IsOffered k runner.now found) }
 {
-    best_of(store, runner, queue.classes.as_mut_slice())
+    best_of(alloc, store, runner, queue.classes.as_mut_slice())
 }

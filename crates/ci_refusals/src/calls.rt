@@ -2,8 +2,9 @@
 
 use crate::ends::{EACH, End, FROM, TO, mark, rows_left};
 use ci_machine::moment::Moment;
+use ci_machine::records::GroupOrder;
 use ci_machine::reply::{Answer, Code, HttpStatus, Swept};
-use ci_machine::request::{Event, Seed};
+use ci_machine::request::{Event, Report, Seed};
 use ci_server_fixtures::acts::{
     Act, ONE_JOB, RUNNER, SHIP, SHIP_INTERRUPTIBLE, THREE_STAGES, at, calls, event,
 };
@@ -99,6 +100,43 @@ const REDUNDANT: &[Act] = &[
     BUILD,
     ASK,
 ];
+
+/// The process modes of the group `prod`.
+const OLDEST: Act = Act::SetMode(1, "prod", Some(GroupOrder::OldestFirst));
+
+const NEWEST: Act = Act::SetMode(1, "prod", Some(GroupOrder::NewestReadyFirst));
+
+const UNORDERED: Act = Act::SetMode(1, "prod", None);
+
+/// A project whose group `prod` has a mode; and two pipelines of a job with this group, of which the newer one goes first.
+const ORDERED: &[Act] = &[Act::AddProject("p"), OLDEST];
+
+const NEWEST_FIRST: &[Act] = &[
+    Act::AddProject("p"),
+    Act::AddRunner("r"),
+    Act::SetFile(1, SHIP),
+    NEWEST,
+    BUILD,
+    BUILD,
+];
+
+/// Two pipelines of a job that is run and one behind it with the group `prod`, in which the oldest goes first. The newer one's first job
+/// has succeeded, so its second one waits for the older one's.
+const BEHIND: &[Act] = &[
+    Act::AddProject("p"),
+    Act::AddRunner("r"),
+    Act::SetFile(1, PRE_AND_SHIP),
+    OLDEST,
+    BUILD,
+    BUILD,
+    ASK,
+    ASK,
+    Act::Tell(2, Report::Success(None)),
+];
+
+/// A job, and one behind it that has the resource group `prod`.
+const PRE_AND_SHIP: &str =
+    "pre:\n  stage: build\n  script: x\nship:\n  resource_group: prod\n  script: x\n";
 
 /// A job that is started by hand.
 const HAND: &str = "build:\n  stage: build\n  when: manual\n  script: make\n";
@@ -211,7 +249,11 @@ pub fn call_of(name: &str) -> Option<Call> {
         "sweep-stages" => sweep(USERS, More::Stages, true),
         "sweep-hundreds" => sweep(USERS, More::Hundreds, true),
         "sweep-hundreds-none" => sweep(USERS, More::Hundreds, false),
-        _ => return waiting_call_of(name).or(user_call_of(name)),
+        _ => {
+            return waiting_call_of(name)
+                .or(mode_call_of(name))
+                .or(user_call_of(name));
+        }
     })
 }
 
@@ -235,6 +277,35 @@ fn waiting_call_of(name: &str) -> Option<Call> {
         ),
         "sweep-ship" => sweep(SHIPPED, More::Nothing, true),
         "sweep-redundant" => answered(REDUNDANT, Act::Sweep, Want::Cancelled(1)),
+        _ => return None,
+    })
+}
+
+/// The call of a name that sets the process mode of a resource group, or goes by one.
+fn mode_call_of(name: &str) -> Option<Call> {
+    Some(match name {
+        "set-mode" => once(PROJECT, OLDEST),
+        "set-mode-again" => once(ORDERED, NEWEST),
+        "set-mode-none" => once(ORDERED, UNORDERED),
+        "show-mode" => once(PROJECT, Act::ShowMode(1, "prod")),
+        "ask-newest" => answered(
+            NEWEST_FIRST,
+            ASK,
+            Want::Begins("{\"id\":1,\"job_info\":{\"name\":\"ship\","),
+        ),
+        "ask-behind" => answered(BEHIND, ASK, Want::Done("")),
+        "create-behind" => answered(
+            BEHIND,
+            BUILD,
+            Want::Begins("{\"id\":3,\"jobs\":[{\"id\":5,\"name\":\"pre\","),
+        ),
+        "show-behind" => answered(
+            BEHIND,
+            Act::ShowPipeline(2),
+            Want::Done(
+                "{\"id\":2,\"jobs\":[{\"id\":3,\"name\":\"pre\",\"stage\":\"build\",\"status\":\"success\"},{\"id\":4,\"name\":\"ship\",\"stage\":\"test\",\"status\":\"waiting_for_resource\"}],\"ref\":\"main\",\"source\":\"api\",\"status\":\"running\"}",
+            ),
+        ),
         _ => return None,
     })
 }

@@ -59,7 +59,7 @@ impl End {
     }
 }
 
-const QUERIES: [&str; 12] = [
+const QUERIES: [&str; 13] = [
     "SELECT * FROM meta",
     "SELECT * FROM project",
     "SELECT * FROM runner",
@@ -72,6 +72,7 @@ const QUERIES: [&str; 12] = [
     "SELECT * FROM board",
     "SELECT * FROM variable",
     "SELECT * FROM holder",
+    "SELECT * FROM mode",
 ];
 
 /// All rows of a store.

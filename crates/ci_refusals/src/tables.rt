@@ -5,7 +5,9 @@ use crate::ends::{EACH, End, FROM, TO, mark, rows_left};
 use ci_board::facts::{Row, Status};
 use ci_machine::change::{Counter, IndexChange, Key, Record, RowChange};
 use ci_machine::moment::Moment;
-use ci_machine::records::{BoardRow, Holder, JobVariable, Need, Trace, Unfinished};
+use ci_machine::records::{
+    BoardRow, GroupMode, GroupOrder, Holder, JobVariable, Need, Trace, Unfinished,
+};
 use ci_machine::text::{Bytes, Text};
 use ci_server_fixtures::acts::{Act, RUNNER};
 use ci_server_fixtures::servers::{happen, left};
@@ -85,13 +87,14 @@ fn variable(alloc: Global, key: &str) -> Result<RowChange, AllocError> {
     })))
 }
 
-/// The tables of a server with a pipeline of three stages, whose first job has an attempt with a piece, and a variable.
+/// The tables of a server with a pipeline of three stages, whose first job has an attempt with a piece, and a variable; a group has a mode.
 fn filled(alloc: Global) -> Result<Tables<MemStore>, Fail> {
     let mut server = in_memory(alloc, call_of("success-stages").ok_or("no call")?)?;
     let acts = [
         Act::CreatePipeline(1),
         Act::Append(0, "hello"),
         Act::SetVariable("K", "1"),
+        Act::SetMode(1, GROUP, Some(GroupOrder::OldestFirst)),
     ];
     happen(alloc, &mut server, &acts)?;
     let mut tables = opened(left(server), true)?;
@@ -134,6 +137,20 @@ fn removal(alloc: Global) -> Result<RowChange, AllocError> {
     Ok(RowChange::Remove(Key::JobVariable(1, key)))
 }
 
+/// A group of the project has an order.
+fn mode(alloc: Global, group: &str) -> Result<RowChange, AllocError> {
+    Ok(RowChange::Put(Record::Mode(GroupMode {
+        project: 1,
+        group: Text::copy_of(alloc, group)?,
+        order: GroupOrder::NewestReadyFirst,
+    })))
+}
+
+/// The group that has one is to be unordered.
+fn no_mode(alloc: Global) -> Result<RowChange, AllocError> {
+    Ok(RowChange::Remove(Key::Mode(1, Text::copy_of(alloc, GROUP)?)))
+}
+
 /// Changes of each form.
 fn changes(alloc: Global) -> Result<Vec<RowChange>, AllocError> {
     let mut changes = Vec::new(alloc);
@@ -141,6 +158,8 @@ fn changes(alloc: Global) -> Result<Vec<RowChange>, AllocError> {
     changes.push(RowChange::Put(Record::Need(Need { job: 3, pred: 1 })))?;
     changes.push(variable(alloc, "KEY")?)?;
     changes.push(removal(alloc)?)?;
+    changes.push(mode(alloc, "test")?)?;
+    changes.push(no_mode(alloc)?)?;
     changes.push(RowChange::Remove(Key::JobVariables(2)))?;
     changes.push(RowChange::Remove(Key::Needs(2)))?;
     changes.push(RowChange::Remove(Key::Trace(2)))?;
@@ -199,6 +218,8 @@ fn call(
         "project-with" => usize::from(tables.project_with(token)?.is_some()),
         "variables-of" => tables.variables_of(1)?.len(),
         "variable" => usize::from(tables.variable(1, key)?.is_some()),
+        "mode" => usize::from(tables.mode(1, group)?.is_some()),
+        "modes" => tables.modes()?.len(),
         "runner" => usize::from(tables.runner(1)?.is_some()),
         "runner-with" => usize::from(tables.runner_with(token)?.is_some()),
         "pipeline" => usize::from(tables.pipeline(1)?.is_some()),

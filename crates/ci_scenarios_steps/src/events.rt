@@ -5,10 +5,11 @@ use crate::fault::{Fault, unknown};
 use crate::texts::Texts;
 use crate::told::CAUSES;
 use crate::words::{Words, number_in};
-use ci_machine::records::{Cause, RefKind, Source};
+use ci_machine::records::{Cause, GroupOrder, RefKind, Source, process_mode};
 use ci_machine::request::{
-    Event, JobQuery, JobUpdate, NewFile, NewPipeline, NewRunner, NewVariable, PipelineQuery,
-    PipelineVariable, PipelineVariables, Report, Request, RunnerPause, TracePart, VariableQuery,
+    Event, GroupQuery, JobQuery, JobUpdate, NewFile, NewMode, NewPipeline, NewRunner, NewVariable,
+    PipelineQuery, PipelineVariable, PipelineVariables, Report, Request, RunnerPause, TracePart,
+    VariableQuery,
 };
 use ci_machine::text::{Bytes, Text, Texts as TextList};
 use std::alloc::Global;
@@ -24,6 +25,8 @@ enum Verb {
     SetFile,
     SetVariable,
     DeleteVariable,
+    SetMode,
+    ShowMode,
     Create,
     ShowPipeline,
     Statuses,
@@ -50,6 +53,8 @@ const VERBS: &[(&str, Verb)] = &[
     ("set-file", Verb::SetFile),
     ("set-variable", Verb::SetVariable),
     ("delete-variable", Verb::DeleteVariable),
+    ("set-mode", Verb::SetMode),
+    ("show-mode", Verb::ShowMode),
     ("create", Verb::Create),
     ("show-pipeline", Verb::ShowPipeline),
     ("statuses", Verb::Statuses),
@@ -76,6 +81,13 @@ const SOURCES: &[Source] = &[
     Source::Trigger,
 ];
 
+/// The orders of resource groups, and that of one that is unordered.
+const ORDERS: &[Option<GroupOrder>] = &[
+    None,
+    Some(GroupOrder::OldestFirst),
+    Some(GroupOrder::NewestReadyFirst),
+];
+
 fn verb_of(word: &str) -> Option<Verb> {
     let found = VERBS.iter().find(|(name, _)| *name == word)?;
     Some(found.1)
@@ -84,6 +96,11 @@ fn verb_of(word: &str) -> Option<Verb> {
 fn source_of(word: &str) -> Result<Source, Fault> {
     let found = SOURCES.iter().find(|source| source.as_str() == word);
     found.copied().ok_or(Fault::Unread("a pipeline's source"))
+}
+
+fn order_of(word: &str) -> Result<Option<GroupOrder>, Fault> {
+    let found = ORDERS.iter().find(|order| process_mode(**order) == word);
+    found.copied().ok_or(Fault::Unread("a process mode"))
 }
 
 /// The words of an event, and what they may name.
@@ -182,6 +199,26 @@ impl<'w, 't> Reading<'w, 't> {
             project,
             token,
             key,
+        }))
+    }
+
+    fn mode(&mut self) -> Result<Request, Fault> {
+        let (project, token) = self.project()?;
+        Ok(Request::SetMode(NewMode {
+            project,
+            token,
+            group: self.words.text(self.alloc)?,
+            order: order_of(self.words.word()?)?,
+        }))
+    }
+
+    fn group(&mut self) -> Result<Request, Fault> {
+        let (project, token) = self.project()?;
+        let group = self.words.text(self.alloc)?;
+        Ok(Request::ShowMode(GroupQuery {
+            project,
+            token,
+            group,
         }))
     }
 
@@ -314,6 +351,8 @@ impl<'w, 't> Reading<'w, 't> {
             Verb::SetFile => self.file()?,
             Verb::SetVariable => self.variable()?,
             Verb::DeleteVariable => self.no_variable()?,
+            Verb::SetMode => self.mode()?,
+            Verb::ShowMode => self.group()?,
             Verb::Create => self.pipeline()?,
             Verb::ShowPipeline | Verb::Statuses => Request::ShowPipeline(self.pipeline_query()?),
             Verb::CancelPipeline => Request::CancelPipeline(self.pipeline_query()?),

@@ -1,9 +1,11 @@
-//! All that a store keeps of runners, pipelines, jobs and attempts, with how the jobs stand by the rule of the tests' own.
+//! All that a store keeps of runners, pipelines, jobs, attempts and process modes, with how the jobs stand by the rule of the tests' own.
 
 use crate::rule::{is_allowed, worked_out};
 use ci_board::facts::Status;
 use ci_machine::change::Counter;
-use ci_machine::records::{Attempt, BoardRow, Holder, Job, MAX_NUMBER, Pipeline, Runner};
+use ci_machine::records::{
+    Attempt, BoardRow, GroupMode, GroupOrder, Holder, Job, MAX_NUMBER, Pipeline, Runner,
+};
 use ci_store::Alter;
 use ci_store::fault::StoreFault;
 use ci_store::store::Store;
@@ -19,11 +21,12 @@ pub struct Standing {
     pub rows: Vec<BoardRow>,
 }
 
-/// The runners and the pipelines of a store, by their numbers.
+/// The runners and the pipelines of a store, by their numbers, and the modes of resource groups.
 #[derive(Drop)]
 pub struct Whole {
     pub runners: Vec<Runner>,
     pub pipelines: Vec<Standing>,
+    pub modes: Vec<GroupMode>,
 }
 
 /// Why it wasn't found: the store failed, or a record wasn't there.
@@ -84,7 +87,12 @@ fn pipelines<S: Alter>(alloc: Global, tables: &mut Tables<S>) -> Result<Vec<Stan
 pub fn whole_of<S: Alter>(alloc: Global, tables: &mut Tables<S>) -> Result<Whole, StoreFault> {
     let runners = runners(alloc, tables)?;
     let pipelines = pipelines(alloc, tables)?;
-    Ok(Whole { runners, pipelines })
+    let modes = tables.modes()?;
+    Ok(Whole {
+        runners,
+        pipelines,
+        modes,
+    })
 }
 
 /// The rows of statuses that a store keeps.
@@ -166,6 +174,13 @@ impl Whole {
             }
         }
         None
+    }
+
+    /// The order of a resource group of a project. `None`: it is unordered.
+    pub fn order_of(&self, project: u64, group: &str) -> Option<GroupOrder> {
+        let found = self.modes.iter().find(|mode| mode.project == project
+            && mode.group.as_str() == group)?;
+        Some(found.order)
     }
 
     /// The runner with a number, if there is one.

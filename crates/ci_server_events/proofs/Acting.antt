@@ -14,7 +14,9 @@ use Rattle.ci_machine.specs.declared.records.Need.{Need}
 use Rattle.ci_machine.specs.declared.records.Attempt.{Attempt}
 use Rattle.ci_machine.specs.declared.records.Pipeline.{Pipeline}
 use Rattle.ci_machine.specs.declared.records.BoardRow.{BoardRow}
-use Rattle.ci_machine.specs.declared.records.Holder.{Holder}
+use Rattle.ci_machine.specs.declared.records.Claim.{Claim}
+use Rattle.ci_machine.specs.declared.records.GroupMode.{GroupMode}
+use Rattle.ci_machine.specs.declared.records.WaitingJob.{WaitingJob}
 use Rattle.ci_machine.specs.declared.change.RowChange.{RowChange}
 use Rattle.ci_machine.specs.declared.change.RowChange.TheVariants.{Put}
 use Rattle.ci_machine.specs.declared.change.Record.TheVariants as row
@@ -31,7 +33,9 @@ use Rattle.ci_machine.specs.Kept.{Kept, put_rows, indexed_all, written}
 use Rattle.ci_machine_steps.specs.Sound.{IsSound}
 use Rattle.ci_machine.specs.Indexes.{AreIndexes}
 use Rattle.ci_machine.specs.Eligible.{is_free}
+use Rattle.ci_machine.specs.Groups.{Groups, held_claim, waiting_claim, is_first, claims_ahead, claims_on}
 use Rattle.ci_machine.specs.Holders.{holders, AreHolders}
+use Rattle.ci_machine.specs.Waiting.{waiting, groups_with}
 use Rattle.ci_machine.specs.Bodies.{status_of_jobs}
 use Rattle.ci_machine.specs.Statuses.{jobs_of, facts_of, rows_of, status_for, AreBoard}
 use Rattle.ci_machine_steps.specs.Plans.{Plan, refused, asked_project}
@@ -56,10 +60,11 @@ use Rattle.ci_machine_statuses.specs.HolderChanges.{of_pipeline, unleased}
 use Rattle.ci_server_lookups.specs.declared.records.Records.{Records}
 use Rattle.ci_server_lookups.specs.declared.records.Whole.{Whole}
 use Rattle.ci_server_lookups.specs.Records.{AreOf, IsWhole}
-use Rattle.ci_server_lookups.specs.Held.{HoldAlike, still_held}
+use Rattle.ci_server_lookups.specs.Held.{HoldAlike, FreeAlike, still_held}
 use Rattle.ci_server_lookups.specs.Keeps.{IsKept}
 use Rattle.ci_server_lookups.proofs.Loading.{ends, says}
 use Rattle.ci_server_lookups.proofs.Changes.{state_stays}
+use Rattle.ci_server_lookups.proofs.Claiming.{with_alike}
 use Rattle.ci_server_events.specs.declared.planned.Beside.{Beside}
 use Rattle.ci_server_events.specs.Acting.{refusal_of, ActsAs, changes_by, IsDone}
 use Rattle.ci_server_events.specs.Planning.{PlansFor, Settles}
@@ -84,12 +89,12 @@ abbrev AllAreAsked : Type 0
 AllAreAsked = (s : State) (board : List BoardRow) (pipeline : ℕ) → acted_jobs Cancel None s board pipeline ≡ cancellable_jobs s board pipeline
 
 abbrev JobIsShown : Type 0
-JobIsShown = (act : Act) (s : State) (board : List BoardRow) (job : Job) (o : Outcome) → IsSound s → Contains s.jobs job → is_permitted act (status_for board job.id) ≡ true → IsOutcome act (Some job.id) s board job.pipeline o
-    → (i : ℕ) × ((o.places.items ≡ i ∷ []) × ShowsJobAfter s job (act_changes act s (job ∷ [])) (shows_job_by s (act_changes act s (job ∷ [])) job (row_at o.rows.items i).status))
+JobIsShown = (act : Act) (s : State) (waiting : List WaitingJob) (board : List BoardRow) (job : Job) (o : Outcome) → IsSound s → Contains s.jobs job → is_permitted act (status_for board job.id) ≡ true → IsOutcome act (Some job.id) s board job.pipeline o
+    → (i : ℕ) × ((o.places.items ≡ i ∷ []) × ShowsJobAfter s waiting job (act_changes act s (job ∷ [])) (shows_job_by s waiting (act_changes act s (job ∷ [])) job (row_at o.rows.items i).status))
 
 abbrev PipelineIsShown : Type 0
-PipelineIsShown = (act : Act) (s : State) (board : List BoardRow) (p : Pipeline) (o : Outcome) → IsSound s → IsOutcome act None s board p.id o
-    → ShowsPipelineAfter s p (act_changes act s (acted_jobs act None s board p.id)) (shows_pipeline_by s (act_changes act s (acted_jobs act None s board p.id)) p (jobs_of s p.id) o.facts.items o.rows.items)
+PipelineIsShown = (act : Act) (s : State) (waiting : List WaitingJob) (board : List BoardRow) (p : Pipeline) (o : Outcome) → IsSound s → IsOutcome act None s board p.id o
+    → ShowsPipelineAfter s waiting p (act_changes act s (acted_jobs act None s board p.id)) (shows_pipeline_by s waiting (act_changes act s (acted_jobs act None s board p.id)) p (jobs_of s p.id) o.facts.items o.rows.items)
 
 abbrev PlayIs : Type 0
 PlayIs = (s : State) (job : Job) → act_changes Play s (job ∷ []) ≡ play job
@@ -139,14 +144,29 @@ chosen_are act only k n w o chosen whole outcome are =
     no_job : Job
     no_job = record { id = 0; pipeline = 0; position = 0; name = []; stage = []; options = plain_options []; played = false; cancelled = false; set_aside = 0 }
 
+-- what marks jobs, and ends attempts, leaves pipelines and modes
+both_left : (F : Job → Job) (G : Attempt → Attempt) (js : List Job) (attempts : List Attempt) (s : State) → let t = applied (map (λ j. Put (row.Job (F j))) js ++ map (λ a. Put (row.Attempt (G a))) attempts) s in
+    (t.pipelines ≡ s.pipelines) × (t.modes ≡ s.modes)
+both_left F G [] [] s = (refl, refl)
+both_left F G [] (a ∷ rest) s = both_left F G [] rest (changed (Put (row.Attempt (G a))) s)
+both_left F G (j ∷ js) attempts s = both_left F G js attempts (changed (Put (row.Job (F j))) s)
+
+-- so does an act
+act_leaves : (act : Act) (s : State) (js : List Job) → let t = applied (act_changes act s js) s in (t.pipelines ≡ s.pipelines) × (t.modes ≡ s.modes)
+act_leaves act s js = both_left (marked act s) cancelled_attempt js (ended_leases act s.attempts js) s
+
+-- and by the same modes the same waiting jobs go first
+same_ahead : (s t : State) (ws : List WaitingJob) (n : ℕ) → t.modes ≡ s.modes → claims_ahead (groups_with s ws) n ≡ claims_ahead (groups_with t ws) n
+same_ahead s t ws n same = ap (λ (modes : List GroupMode). map waiting_claim (filter (is_first modes n) ws)) (sym same)
+
 -- what was worked out of what was looked up
-pub done_is : ActsAreIndexed → (act : Act) (only : Option ℕ) (k : Kept) (n : ℕ) (w : Whole) (o : Outcome) (chosen : List Job) (before after : Status) (indexes : List IndexChange) (held : List Holder)
+pub done_is : ActsAreIndexed → (act : Act) (only : Option ℕ) (k : Kept) (n : ℕ) (w : Whole) (o : Outcome) (chosen : List Job) (before after : Status) (indexes : List IndexChange) (claims : List Claim)
     → IsKept k → IsWhole k n w → IsOutcome act only k.state k.board n o → ((other : Job) → chosen ≡ map (λ place. slice_index_or w.records.jobs.items place other) o.places.items)
     → before ≡ status_of_jobs (jobs_of k.state n) (facts_of k.state n) (rows_of k.state k.board n) → after ≡ status_of_jobs w.records.jobs.items o.facts.items o.rows.items
-    → indexes ≡ of_pipeline w.pipeline (unleased act chosen) w.records.attempts.items before after → held ≡ still_held indexes w.held.items
-    → IsDone act only k n w o indexes held
-done_is law act only k n w o chosen before after indexes held kept whole outcome are was is indexes_are held_are =
-    record { outcome = outcome; are_indexes = right; alike = its_holders }
+    → indexes ≡ of_pipeline w.pipeline (unleased act chosen) w.records.attempts.items before after → claims ≡ map held_claim (still_held indexes w.held.items) ++ w.ahead.items
+    → IsDone act only k n w o indexes claims
+done_is law act only k n w o chosen before after indexes claims kept whole outcome are was is indexes_are claims_are =
+    record { outcome = outcome; are_indexes = right; alike = its_claims }
   where
     p : Pipeline
     p = w.pipeline
@@ -177,18 +197,32 @@ done_is law act only k n w o chosen before after indexes held kept whole outcome
     right : AreIndexes (written cs o.changed.items indexes k)
     right = subst (λ (l : List IndexChange). AreIndexes (written cs o.changed.items l k)) (sym of_acted) by_law
 
-    its_holders : HoldAlike held (holders (applied cs k.state)) p.project w.records.jobs.items
+    -- how the groups stand then
+    later : Groups
+    later = groups_with (applied cs k.state) (waiting k.state k.board)
+
+    its_holders : HoldAlike (still_held indexes w.held.items) (holders (applied cs k.state)) p.project w.records.jobs.items
     its_holders =
-        subst (λ (l : List Holder). HoldAlike l (holders (applied cs k.state)) p.project w.records.jobs.items) (sym held_are)
-        (still_alike k.state (applied cs k.state) put indexes
+        still_alike k.state (applied cs k.state) put indexes
         (subst (λ (l : List IndexChange). AllByRecursion HoldsNone l) (sym of_acted) (acts_hold_none p (unleased act acted) w.records.attempts.items before after))
-        kept.are_indexes.held (subst (λ (t : State). AreHolders t (indexed_all indexes put).holders) (state_stays indexes put) right.held) p.project w.held.items w.records.jobs.items whole.held)
+        kept.are_indexes.held (subst (λ (t : State). AreHolders t (indexed_all indexes put).holders) (state_stays indexes put) right.held) p.project w.held.items w.records.jobs.items whole.held
+
+    -- others go first as before
+    its_ahead : FreeAlike w.ahead.items (claims_ahead later n) p.project w.records.jobs.items
+    its_ahead =
+        subst (λ (l : List Claim). FreeAlike w.ahead.items l p.project w.records.jobs.items)
+        (same_ahead k.state (applied cs k.state) (waiting k.state k.board) n (act_leaves act k.state acted).1) whole.ahead
+
+    its_claims : FreeAlike claims (claims_on later n) p.project w.records.jobs.items
+    its_claims =
+        subst (λ (l : List Claim). FreeAlike l (claims_on later n) p.project w.records.jobs.items) (sym claims_are)
+        (with_alike later n p.project w.records.jobs.items (still_held indexes w.held.items) w.ahead.items its_holders its_ahead)
 
 -- it settles its changes
-done_settles : (act : Act) (only : Option ℕ) (k : Kept) (n : ℕ) (w : Whole) (o : Outcome) (indexes : List IndexChange) (held : List Holder) → IsDone act only k n w o indexes held
+done_settles : (act : Act) (only : Option ℕ) (k : Kept) (n : ℕ) (w : Whole) (o : Outcome) (indexes : List IndexChange) (claims : List Claim) → IsDone act only k n w o indexes claims
     → (changes : List RowChange) (beside : Beside) → changes ≡ act_changes act k.state (acted_jobs act only k.state k.board n) → beside.rows.items ≡ o.changed.items → beside.indexes.items ≡ indexes
     → Settles k changes beside
-done_settles act only k n w o indexes held done changes beside same same_rows same_indexes =
+done_settles act only k n w o indexes claims done changes beside same same_rows same_indexes =
     settles_by k changes (act_changes act k.state (acted_jobs act only k.state k.board n)) beside o.changed.items indexes same same_rows same_indexes done.outcome.board done.are_indexes
 
 -- it is done to the job where there is a place at which it is done
@@ -202,25 +236,23 @@ not_done true [] f job e l = absurd (cc)
 not_done true (i ∷ is) f job e l = absurd (omega (arith, l))
 not_done false places f job e l = refl
 
--- an act leaves the pipelines
-pipelines_left : (F : Job → Job) (G : Attempt → Attempt) (js : List Job) (attempts : List Attempt) (s : State) → (applied (map (λ j. Put (row.Job (F j))) js ++ map (λ a. Put (row.Attempt (G a))) attempts) s).pipelines ≡ s.pipelines
-pipelines_left F G [] [] s = refl
-pipelines_left F G [] (a ∷ rest) s = pipelines_left F G [] rest (changed (Put (row.Attempt (G a))) s)
-pipelines_left F G (j ∷ js) attempts s = pipelines_left F G js attempts (changed (Put (row.Job (F j))) s)
-
--- so the job is of the same project after it
+-- the job is of the same project after it
 same_project : (act : Act) (s : State) (js : List Job) (job : Job) (p : Pipeline) → pipeline_at s job.pipeline ≡ Some p → p.project ≡ (queued (applied (act_changes act s js) s) job).project
 same_project act s js job p there =
     ap project_or_none (sym there)
-    ∙ ap (λ (ps : List Pipeline). project_or_none (find (λ q. q.id == job.pipeline) ps)) (sym (pipelines_left (marked act s) cancelled_attempt js (ended_leases act s.attempts js) s))
+    ∙ ap (λ (ps : List Pipeline). project_or_none (find (λ q. q.id == job.pipeline) ps)) (sym (act_leaves act s js).0)
 
-module _ (k : Kept) (kept : IsKept k) (act : Act) (job : Job) (has : Contains k.state.jobs job) (w : Whole) (whole : IsWhole k job.pipeline w) (o : Outcome) (indexes : List IndexChange) (held : List Holder)
-    (done : IsDone act (Some job.id) k job.pipeline w o indexes held) (asked : OneIsAsked) where
+module _ (k : Kept) (kept : IsKept k) (act : Act) (job : Job) (has : Contains k.state.jobs job) (w : Whole) (whole : IsWhole k job.pipeline w) (o : Outcome) (indexes : List IndexChange) (claims : List Claim)
+    (done : IsDone act (Some job.id) k job.pipeline w o indexes claims) (asked : OneIsAsked) where
   abbrev its_changes : List RowChange
   its_changes = act_changes act k.state (job ∷ [])
 
   abbrev later : State
   later = applied its_changes k.state
+
+  -- for which groups its pipeline's jobs must wait then
+  abbrev later_claims : List Claim
+  later_claims = claims_on (groups_with later (waiting k.state k.board)) job.pipeline
 
   abbrev does : Job → List RowChange
   does j = act_changes act k.state (j ∷ [])
@@ -228,40 +260,40 @@ module _ (k : Kept) (kept : IsKept k) (act : Act) (job : Job) (has : Contains k.
   abbrev permits : Bool
   permits = is_permitted act (status_for k.board job.id)
 
-  -- by those that hold groups then, as by all, the job's is free or isn't
+  -- by these claims, as by all then, the job's group is free or isn't
   abbrev IsAlike : Job → Type 0
-  IsAlike j = is_free held w.pipeline.project j.options.resource_group ≡ is_free (holders later) w.pipeline.project j.options.resource_group
+  IsAlike j = is_free claims w.pipeline.project j.options.resource_group ≡ is_free later_claims w.pipeline.project j.options.resource_group
 
   one : acted_jobs act (Some job.id) k.state k.board job.pipeline ≡ (if permits then job ∷ [] else [])
   one = asked act k.state k.board job kept.sound has
 
-  -- it is shown as by all holders
-  shown_then : acted_jobs act (Some job.id) k.state k.board job.pipeline ≡ job ∷ [] → (status : Status) → job_shown held w.pipeline.project job status ≡ job_shown (holders later) (queued later job).project job status
+  -- it is shown as by all claims
+  shown_then : acted_jobs act (Some job.id) k.state k.board job.pipeline ≡ job ∷ [] → (status : Status) → job_shown claims w.pipeline.project job status ≡ job_shown later_claims (queued later job).project job status
   shown_then alone status =
-      let alike : HoldAlike held (holders later) w.pipeline.project w.records.jobs.items
-      = subst (λ (js : List Job). HoldAlike held (holders (applied (act_changes act k.state js) k.state)) w.pipeline.project w.records.jobs.items) alone done.alike in
+      let alike : FreeAlike claims later_claims w.pipeline.project w.records.jobs.items
+      = subst (λ (js : List Job). FreeAlike claims (claims_on (groups_with (applied (act_changes act k.state js) k.state) (waiting k.state k.board)) job.pipeline) w.pipeline.project w.records.jobs.items) alone done.alike in
       let its : IsAlike job = has_from_all IsAlike job w.records.jobs.items alike (has_from_contains job w.records.jobs.items (among k job w.records whole.records has)) in
-      job_alike held (holders later) w.pipeline.project job status (All-from_has IsAlike (job ∷ []) (λ j h. ⊎_elim (λ e. subst IsAlike (sym e) its) (λ none. absurd none) h))
-      ∙ ap (λ n. job_shown (holders later) n job status) (same_project act k.state (job ∷ []) job w.pipeline whole.there)
+      job_alike claims later_claims w.pipeline.project job status (All-from_has IsAlike (job ∷ []) (λ j h. ⊎_elim (λ e. subst IsAlike (sym e) its) (λ none. absurd none) h))
+      ∙ ap (λ n. job_shown later_claims n job status) (same_project act k.state (job ∷ []) job w.pipeline whole.there)
 
   -- the job was asked for, and its status permits it
-  pub job_planned : JobIsShown → 0 < length o.places.items → (plan : Plan) → plan ≡ ((job_shown held w.pipeline.project job (row_at o.rows.items (slice_index_or o.places.items 0 0)).status).0, its_changes)
+  pub job_planned : JobIsShown → 0 < length o.places.items → (plan : Plan) → plan ≡ ((job_shown claims w.pipeline.project job (row_at o.rows.items (slice_index_or o.places.items 0 0)).status).0, its_changes)
       → (answer : Reply) (changes : List RowChange) (beside : Beside) → answer ≡ plan.0 → changes ≡ plan.1 → beside.rows.items ≡ o.changed.items → beside.indexes.items ≡ indexes
       → PlansFor k (ActsAs act k.state k.board (Ok job) (answer, changes)) changes beside
   job_planned shown some plan plan_is answer changes beside same_answer same_changes same_rows same_indexes =
       let yes : permits ≡ true = is_done permits o.places.items (λ i. slice_index_or (jobs_of k.state job.pipeline) i job) job (done.outcome.jobs job ∙ one) some in
       let alone : acted_jobs act (Some job.id) k.state k.board job.pipeline ≡ job ∷ [] = one ∙ cond-true permits (job ∷ []) [] yes in
-      let v = shown act k.state k.board job o kept.sound has yes done.outcome in
+      let v = shown act k.state (waiting k.state k.board) k.board job o kept.sound has yes done.outcome in
       let first : slice_index_or o.places.items 0 0 ≡ v.0 = ap (λ (l : List ℕ). slice_index_or l 0 0) v.1.0 in
-      let is : plan ≡ shows_job_by k.state its_changes job (row_at o.rows.items v.0).status
+      let is : plan ≡ shows_job_by k.state (waiting k.state k.board) its_changes job (row_at o.rows.items v.0).status
       = plan_is
-      ∙ (ap (λ i. ((job_shown held w.pipeline.project job (row_at o.rows.items i).status).0, its_changes)) first
+      ∙ (ap (λ i. ((job_shown claims w.pipeline.project job (row_at o.rows.items i).status).0, its_changes)) first
       ∙ ap (λ (q : Plan). (q.0, its_changes)) (shown_then alone (row_at o.rows.items v.0).status)) in
       let made : ActsAs act k.state k.board (Ok job) plan =
-      subst (λ b. ActsOn k.state does (if b then Ok job else Err (refusal_of act)) plan) (sym yes) (subst (ShowsJobAfter k.state job its_changes) (sym is) v.1.1) in
+      subst (λ b. ActsOn k.state (waiting k.state k.board) does (if b then Ok job else Err (refusal_of act)) plan) (sym yes) (subst (ShowsJobAfter k.state (waiting k.state k.board) job its_changes) (sym is) v.1.1) in
       record {
         made = subst (ActsAs act k.state k.board (Ok job)) (sym (pair_is answer changes plan plan same_answer same_changes refl)) made;
-        settled = done_settles act (Some job.id) k job.pipeline w o indexes held done changes beside
+        settled = done_settles act (Some job.id) k job.pipeline w o indexes claims done changes beside
             (same_changes ∙ (ap (λ (p : Plan). p.1) plan_is ∙ ap (act_changes act k.state) (sym alone))) same_rows same_indexes;
       }
 
@@ -269,26 +301,30 @@ module _ (k : Kept) (kept : IsKept k) (act : Act) (job : Job) (has : Contains k.
   pub job_refused : length o.places.items ≡ 0 → (plan : Plan) → plan ≡ refused (refusal_of act) → ActsAs act k.state k.board (Ok job) plan
   job_refused none plan plan_is =
       let no : permits ≡ false = not_done permits o.places.items (λ i. slice_index_or (jobs_of k.state job.pipeline) i job) job (done.outcome.jobs job ∙ one) none in
-      subst (λ b. ActsOn k.state does (if b then Ok job else Err (refusal_of act)) plan) (sym no) plan_is
+      subst (λ b. ActsOn k.state (waiting k.state k.board) does (if b then Ok job else Err (refusal_of act)) plan) (sym no) plan_is
 
 -- ---- a pipeline
 
 -- where there are such jobs they are cancelled
-some_cancelled : (s : State) (p : Pipeline) (jobs : List Job) (plan : Plan) → 0 < length jobs → ShowsPipelineAfter s p (cancel s.attempts jobs) plan → CancelsSome s p jobs plan
-some_cancelled s p [] plan l shows = absurd (omega (arith, l))
-some_cancelled s p (j ∷ js) plan l shows = shows
+some_cancelled : (s : State) (waiting : List WaitingJob) (p : Pipeline) (jobs : List Job) (plan : Plan) → 0 < length jobs → ShowsPipelineAfter s waiting p (cancel s.attempts jobs) plan → CancelsSome s waiting p jobs plan
+some_cancelled s waiting p [] plan l shows = absurd (omega (arith, l))
+some_cancelled s waiting p (j ∷ js) plan l shows = shows
 
-none_cancelled : (s : State) (p : Pipeline) (jobs : List Job) (plan : Plan) → length jobs ≡ 0 → plan ≡ refused M12 → CancelsSome s p jobs plan
-none_cancelled s p [] plan l is = is
-none_cancelled s p (j ∷ js) plan l is = absurd (omega (arith, l))
+none_cancelled : (s : State) (waiting : List WaitingJob) (p : Pipeline) (jobs : List Job) (plan : Plan) → length jobs ≡ 0 → plan ≡ refused M12 → CancelsSome s waiting p jobs plan
+none_cancelled s waiting p [] plan l is = is
+none_cancelled s waiting p (j ∷ js) plan l is = absurd (omega (arith, l))
 
-module _ (k : Kept) (kept : IsKept k) (n : ℕ) (w : Whole) (whole : IsWhole k n w) (o : Outcome) (indexes : List IndexChange) (held : List Holder) (done : IsDone Cancel None k n w o indexes held)
+module _ (k : Kept) (kept : IsKept k) (n : ℕ) (w : Whole) (whole : IsWhole k n w) (o : Outcome) (indexes : List IndexChange) (claims : List Claim) (done : IsDone Cancel None k n w o indexes claims)
     (chosen : List Job) (are_chosen : (other : Job) → chosen ≡ map (λ i. slice_index_or w.records.jobs.items i other) o.places.items) (all : AllAreAsked) where
   abbrev cancellable : List Job
   cancellable = cancellable_jobs k.state k.board n
 
   abbrev acted : List Job
   acted = acted_jobs Cancel None k.state k.board n
+
+  -- the jobs that wait before it
+  abbrev its_waiting : List WaitingJob
+  its_waiting = waiting k.state k.board
 
   chosen_acted : chosen ≡ acted
   chosen_acted = chosen_are Cancel None k n w o chosen whole done.outcome are_chosen
@@ -313,37 +349,38 @@ module _ (k : Kept) (kept : IsKept k) (n : ℕ) (w : Whole) (whole : IsWhole k n
 
   settles_so : CancelIs → (changes : List RowChange) (beside : Beside) → changes ≡ cancel w.records.attempts.items chosen → beside.rows.items ≡ o.changed.items → beside.indexes.items ≡ indexes → Settles k changes beside
   settles_so cancels changes beside same same_rows same_indexes =
-      done_settles Cancel None k n w o indexes held done changes beside (same ∙ looked_up cancels) same_rows same_indexes
+      done_settles Cancel None k n w o indexes claims done changes beside (same ∙ looked_up cancels) same_rows same_indexes
 
   -- some of its jobs can be cancelled
   pub pipeline_planned : PipelineIsShown → CancelsAre → CancelIs → w.pipeline.id ≡ n → 0 < length chosen → (plan : Plan)
-      → plan ≡ ((pipeline_shown w.pipeline held w.records.jobs.items o.facts.items o.rows.items).0, cancel w.records.attempts.items chosen)
+      → plan ≡ ((pipeline_shown w.pipeline claims w.records.jobs.items o.facts.items o.rows.items).0, cancel w.records.attempts.items chosen)
       → (answer : Reply) (changes : List RowChange) (beside : Beside) → answer ≡ plan.0 → changes ≡ plan.1 → beside.rows.items ≡ o.changed.items → beside.indexes.items ≡ indexes
-      → PlansFor k (CancelsSome k.state w.pipeline cancellable (answer, changes)) changes beside
+      → PlansFor k (CancelsSome k.state its_waiting w.pipeline cancellable (answer, changes)) changes beside
   pipeline_planned shown cancels_are cancels number some plan plan_is answer changes beside same_answer same_changes same_rows same_indexes =
       let s = k.state in
       let p = w.pipeline in
       let both : act_changes Cancel s acted ≡ cancel s.attempts cancellable = are_cancelled cancels_are in
-      let by_law : ShowsPipelineAfter s p (act_changes Cancel s acted) (shows_pipeline_by s (act_changes Cancel s acted) p (jobs_of s n) o.facts.items o.rows.items)
-      = subst (λ (m : ℕ). ShowsPipelineAfter s p (act_changes Cancel s (acted_jobs Cancel None s k.board m)) (shows_pipeline_by s (act_changes Cancel s (acted_jobs Cancel None s k.board m)) p (jobs_of s m) o.facts.items o.rows.items)) number
-      (shown Cancel s k.board p o kept.sound (subst (λ (m : ℕ). IsOutcome Cancel None s k.board m o) (sym number) done.outcome)) in
-      let told : (pipeline_shown p held w.records.jobs.items o.facts.items o.rows.items).0 ≡ (pipeline_shown p (holders (applied (act_changes Cancel s acted) s)) (jobs_of s n) o.facts.items o.rows.items).0
-      = ap (λ (q : Plan). q.0) (pipeline_alike held (holders (applied (act_changes Cancel s acted) s)) p w.records.jobs.items done.alike o.facts.items o.rows.items
-      ∙ ap (λ (js : List Job). pipeline_shown p (holders (applied (act_changes Cancel s acted) s)) js o.facts.items o.rows.items) whole.records.are_jobs) in
-      let is : plan ≡ shows_pipeline_by s (act_changes Cancel s acted) p (jobs_of s n) o.facts.items o.rows.items
+      let by_law : ShowsPipelineAfter s its_waiting p (act_changes Cancel s acted) (shows_pipeline_by s its_waiting (act_changes Cancel s acted) p (jobs_of s n) o.facts.items o.rows.items)
+      = subst (λ (m : ℕ). ShowsPipelineAfter s its_waiting p (act_changes Cancel s (acted_jobs Cancel None s k.board m)) (shows_pipeline_by s its_waiting (act_changes Cancel s (acted_jobs Cancel None s k.board m)) p (jobs_of s m) o.facts.items o.rows.items)) number
+      (shown Cancel s its_waiting k.board p o kept.sound (subst (λ (m : ℕ). IsOutcome Cancel None s k.board m o) (sym number) done.outcome)) in
+      let later : Groups = groups_with (applied (act_changes Cancel s acted) s) its_waiting in
+      let told : (pipeline_shown p claims w.records.jobs.items o.facts.items o.rows.items).0 ≡ (pipeline_shown p (claims_on later p.id) (jobs_of s n) o.facts.items o.rows.items).0
+      = ap (λ (q : Plan). q.0) (pipeline_alike claims (claims_on later n) p w.records.jobs.items done.alike o.facts.items o.rows.items
+      ∙ (λ i. pipeline_shown p (claims_on later (sym number i)) (whole.records.are_jobs i) o.facts.items o.rows.items)) in
+      let is : plan ≡ shows_pipeline_by s its_waiting (act_changes Cancel s acted) p (jobs_of s n) o.facts.items o.rows.items
       = plan_is ∙ (λ i. (told i, looked_up cancels i)) in
-      let shows : ShowsPipelineAfter s p (cancel s.attempts cancellable) plan
-      = subst (λ (cs : List RowChange). ShowsPipelineAfter s p cs plan) both (subst (ShowsPipelineAfter s p (act_changes Cancel s acted)) (sym is) by_law) in
-      let made : CancelsSome s p cancellable plan
-      = some_cancelled s p cancellable plan (subst (λ (js : List Job). 0 < length js) chosen_is some) shows in
+      let shows : ShowsPipelineAfter s its_waiting p (cancel s.attempts cancellable) plan
+      = subst (λ (cs : List RowChange). ShowsPipelineAfter s its_waiting p cs plan) both (subst (ShowsPipelineAfter s its_waiting p (act_changes Cancel s acted)) (sym is) by_law) in
+      let made : CancelsSome s its_waiting p cancellable plan
+      = some_cancelled s its_waiting p cancellable plan (subst (λ (js : List Job). 0 < length js) chosen_is some) shows in
       record {
-        made = subst (CancelsSome s p cancellable) (sym (pair_is answer changes plan plan same_answer same_changes refl)) made;
+        made = subst (CancelsSome s its_waiting p cancellable) (sym (pair_is answer changes plan plan same_answer same_changes refl)) made;
         settled = settles_so cancels changes beside (same_changes ∙ ap (λ (q : Plan). q.1) plan_is) same_rows same_indexes;
       }
 
   -- none can be
-  pub pipeline_refused : length chosen ≡ 0 → (plan : Plan) → plan ≡ refused M12 → CancelsSome k.state w.pipeline cancellable plan
-  pipeline_refused none plan is = none_cancelled k.state w.pipeline cancellable plan (sym (ap length chosen_is) ∙ none) is
+  pub pipeline_refused : length chosen ≡ 0 → (plan : Plan) → plan ≡ refused M12 → CancelsSome k.state its_waiting w.pipeline cancellable plan
+  pipeline_refused none plan is = none_cancelled k.state its_waiting w.pipeline cancellable plan (sym (ap length chosen_is) ∙ none) is
 
   -- a sweep cancels those that can be
   pub redundant_planned : CancelsAre → CancelIs → (p : Pipeline) (plan : Swept × List RowChange) → plan ≡ sweep None (Some p) w.records.attempts.items chosen
@@ -369,10 +406,13 @@ module _ (s : State) (query : JobQuery) where
   of_project (Some p) o pipeline job e =
       cond_both (p.id == query.project) (job_within o pipeline p.id) (Err M2) (λ (r : Result Job Code). r ≡ Ok job → o ≡ Some job) (λ _ f. within o pipeline p.id job f) (λ _ f. absurd (cc)) e
 
-  -- the job that was found is one of the state's
+  -- the job that was found is the one with the number
+  pub found_at : (job : Job) → found_job s query ≡ Ok job → job_at s query.job ≡ Some job
+  found_at job e = of_project (project_with s query.token) (job_at s query.job) (pipeline_of s (job_at s query.job)) job e
+
+  -- it is one of the state's
   pub found_has : (job : Job) → found_job s query ≡ Ok job → Contains s.jobs job
-  found_has job e =
-      (found_is_there (λ (j : Job). j.id == query.job) job s.jobs (of_project (project_with s query.token) (job_at s query.job) (pipeline_of s (job_at s query.job)) job e)).0
+  found_has job e = (found_is_there (λ (j : Job). j.id == query.job) job s.jobs (found_at job e)).0
 
 -- the pipeline that was asked for is the one that was found
 asked_for : (r : Result Project Code) (o : Option Pipeline) (p : Pipeline) → asked_pipeline r o ≡ Ok p → o ≡ Some p

@@ -1,20 +1,20 @@
 -- A new pipeline: what its file lays out is made, with what stands beside it.
 use Rattle.std.specs.Prelude.{◌≡◌, ℕ, List, map, length, replicate, option_to_list, Some, Ok}
-use Rattle.std.proofs.Common.{sym, ap, subst}
+use Rattle.std.proofs.Common.{sym, ap, subst, ◌∙◌}
 use Rattle.ci_graph_layout.specs.Inclusion.{Given}
 use Rattle.ci_board.specs.Rows.{no_facts}
 use Rattle.ci_board.specs.declared.facts.Row.{Row}
 use Rattle.ci_machine.specs.declared.change.IndexChange.{IndexChange}
 use Rattle.ci_machine.specs.declared.change.RowChange.{RowChange}
 use Rattle.ci_machine.specs.declared.records.BoardRow.{BoardRow}
-use Rattle.ci_machine.specs.declared.records.Holder.{Holder}
+use Rattle.ci_machine.specs.declared.records.Claim.{Claim}
 use Rattle.ci_machine.specs.declared.records.Variable.{Variable}
 use Rattle.ci_machine.specs.declared.reply.Reply.{Reply}
 use Rattle.ci_machine.specs.declared.request.NewPipeline.{NewPipeline}
 use Rattle.ci_machine.specs.Bodies.{status_of_jobs}
-use Rattle.ci_machine.specs.Holders.{holders}
 use Rattle.ci_machine.specs.Indexes.{AreIndexes}
 use Rattle.ci_machine.specs.Kept.{Kept, written}
+use Rattle.ci_machine.specs.Waiting.{claims_in}
 use Rattle.ci_machine_steps.specs.Pipelines as pipelines
 use Rattle.ci_machine_steps.specs.Pipelines.{Layout, IsLaidOut, creation, creation_changes, given_by, AreFirstRows, pipeline_created, Creates}
 use Rattle.ci_machine_steps.specs.Plans.{Plan}
@@ -41,20 +41,24 @@ CreationIsIndexed = (k : Kept) (new : NewPipeline) (given : Given) (now : ℕ) (
     → AreIndexes (written (creation_changes k.state.next.job made) rows (option_to_list (opened made.pipeline.id (status_of_jobs made.jobs (replicate (length made.jobs) no_facts) (map (λ r. r.row) rows)))) k)
 
 abbrev pub LaidOutCreates : Type 0
-LaidOutCreates = (text : List ℕ) (o : Origin) (made : Creation) (held : List Holder) (rows : List Row) (plan : Plan) → LaysOut text o (Ok (Some made)) → AreFirstRows made.jobs.items made.needs.items rows
-    → plan ≡ pipeline_created o.first_job (creation_view made) held rows → Creates o.id o.first_job held o.asked o.given o.moment (Ok text) plan
+LaidOutCreates = (text : List ℕ) (o : Origin) (made : Creation) (claims : List Claim) (rows : List Row) (plan : Plan) → LaysOut text o (Ok (Some made)) → AreFirstRows made.jobs.items made.needs.items rows
+    → plan ≡ pipeline_created o.first_job (creation_view made) claims rows → Creates o.id o.first_job claims o.asked o.given o.moment (Ok text) plan
 
 module _ (k : Kept) (is : IsKept k) (text : List ℕ) (new : NewPipeline) (variables : List Variable) (now : ℕ) where
   abbrev its_changes : Creation → List RowChange
   its_changes made = creation_changes k.state.next.job (creation_view made)
 
+  -- for which groups the jobs of the next pipeline must wait
+  abbrev its_claims : List Claim
+  its_claims = claims_in k.state k.board k.state.next.pipeline
+
   -- what the file lays out is made, and what stands beside it is right then
   pub creation_planned : LaidOutCreates → CreatedIsMade → CreationIsIndexed → (made : Creation) (beside : Beside) (answer : Reply) (changes : List RowChange)
       → LaysOut text (origin k.state.next.pipeline k.state.next.job new variables now) (Ok (Some made)) → IsMadeBeside made beside
-      → (answer, changes) ≡ pipeline_created k.state.next.job (creation_view made) (holders k.state) (rows_beside beside)
-      → PlansFor k (Creates k.state.next.pipeline k.state.next.job (holders k.state) new (given_by new variables) now (Ok text) (answer, changes)) changes beside
+      → (answer, changes) ≡ pipeline_created k.state.next.job (creation_view made) (claims_in k.state k.board made.pipeline.id) (rows_beside beside)
+      → PlansFor k (Creates k.state.next.pipeline k.state.next.job its_claims new (given_by new variables) now (Ok text) (answer, changes)) changes beside
   creation_planned creates is_made is_indexed made beside answer changes out right planned = record {
-    made = creates text (origin k.state.next.pipeline k.state.next.job new variables now) made (holders k.state) (rows_beside beside) (answer, changes) out (right.first its_made.ascend) planned;
+    made = creates text (origin k.state.next.pipeline k.state.next.job new variables now) made its_claims (rows_beside beside) (answer, changes) out (right.first its_made.ascend) shown;
     settled = subst (λ (cs : List RowChange). Settles k cs beside) (sym (ap (λ (p : Plan). p.1) planned)) (record {
       board = right.board k.state (applied (its_changes made) k.state) k.board k.state.next.pipeline is.sound is.are_board its_made;
       indexes = subst (λ (cs : List IndexChange). AreIndexes (written (its_changes made) beside.rows.items cs k)) (sym right.indexes)
@@ -62,5 +66,11 @@ module _ (k : Kept) (is : IsKept k) (text : List ℕ) (new : NewPipeline) (varia
     });
   }
     where
+      number : made.pipeline.id ≡ k.state.next.pipeline
+      number = ap (λ (c : pipelines.Creation). c.pipeline.id) out.2.0
+
+      shown : (answer, changes) ≡ pipeline_created k.state.next.job (creation_view made) its_claims (rows_beside beside)
+      shown = planned ∙ ap (λ (n : ℕ). pipeline_created k.state.next.job (creation_view made) (claims_in k.state k.board n) (rows_beside beside)) number
+
       its_made : IsMade k.state (applied (its_changes made) k.state) k.state.next.pipeline made.jobs.items made.needs.items
       its_made = is_made k.state new (given_by new variables) now text out.0 (creation_view made) is.sound out.1 out.2.0

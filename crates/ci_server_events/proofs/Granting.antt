@@ -20,9 +20,10 @@ use Rattle.ci_machine.specs.declared.reply.Code.TheVariants.{M15}
 use Rattle.ci_machine.specs.declared.request.Seed.{Seed}
 use Rattle.ci_machine.specs.Eligible.{may_run, resource_free, is_eligible}
 use Rattle.ci_machine_steps.specs.Grants.{grant, granted}
-use Rattle.ci_machine.specs.Holders.{holders, holds_group}
+use Rattle.ci_machine.specs.Holders.{holds_group}
 use Rattle.ci_machine.specs.Indexes.{AreIndexes}
 use Rattle.ci_machine.specs.Kept.{Kept, put_rows, written}
+use Rattle.ci_machine.specs.Waiting.{groups_in}
 use Rattle.ci_machine_steps.specs.Plans.{Plan, refused, numbered}
 use Rattle.ci_machine_steps.specs.Sound.{IsSound}
 use Rattle.ci_machine.specs.State.{State, applied}
@@ -45,7 +46,7 @@ GrantSettles =
 abbrev pub GrantIsIndexed : Type 0
 GrantIsIndexed =
     (k : Kept) (job : Job) (attempt : Attempt) → IsSound k.state → AreBoard k.state k.board → AreIndexes k → Contains k.state.jobs job → is_pending k.board job ≡ true
-    → resource_free (holders k.state) (queued k.state job) ≡ true → attempt.id ≡ k.state.next.attempt → attempt.job ≡ job.id → attempt.state ≡ Live
+    → resource_free (groups_in k.state k.board) (queued k.state job) ≡ true → attempt.id ≡ k.state.next.attempt → attempt.job ≡ job.id → attempt.state ≡ Live
     → AreIndexes (written (numbered (row.Attempt attempt) counter.Attempt k.state.next.attempt) (started_row k.board job.id ∷ []) (holds_group attempt.id (queued k.state job)) k)
 
 -- The job that a runner is offered is one of the state's, is pending, and its group is free.
@@ -53,7 +54,7 @@ record IsPendingOffer (s : State) (board : List BoardRow) (q : QueuedJob) : Type
   pub there : Contains s.jobs q.job
   pub pending : is_pending board q.job ≡ true
   pub is : queued s q.job ≡ q
-  pub free : resource_free (holders s) (queued s q.job) ≡ true
+  pub free : resource_free (groups_in s board) (queued s q.job) ≡ true
 
 second : (a b : Bool) → (a && b) ≡ true → b ≡ true
 second true b e = e
@@ -61,17 +62,17 @@ second false b e = absurd (cc)
 
 offered_is_pending : (s : State) (board : List BoardRow) (runner : Runner) (q : QueuedJob) → offer s board (Some runner) ≡ Some q → IsPendingOffer s board q
 offered_is_pending s board runner q e =
-    let found = found_in_map (queued s) (is_eligible runner (holders s)) (pending_jobs s board) q e in
+    let found = found_in_map (queued s) (is_eligible runner (groups_in s board)) (pending_jobs s board) q e in
     let its : found.0 ≡ q.job = ap (λ (w : QueuedJob). w.job) found.2 in
     let there : Contains s.jobs found.0 = All-contains (Contains s.jobs) (pending_jobs s board) found.0 (All-filter (is_pending board) (Contains s.jobs) s.jobs (All-contains_itself s.jobs)) found.1 in
     let pending : is_pending board found.0 ≡ true = All-contains (λ (j : Job). is_pending board j ≡ true) (pending_jobs s board) found.0 (filter_passes (is_pending board) s.jobs) found.1 in
     let is : queued s q.job ≡ q = ap (queued s) (sym its) ∙ found.2 in
-    let eligible : is_eligible runner (holders s) q ≡ true = (found_is_there (is_eligible runner (holders s)) q (queue s board) e).1 in
+    let eligible : is_eligible runner (groups_in s board) q ≡ true = (found_is_there (is_eligible runner (groups_in s board)) q (queue s board) e).1 in
     record {
       there = subst (Contains s.jobs) its there;
       pending = subst (λ (j : Job). is_pending board j ≡ true) its pending;
       is = is;
-      free = ap (resource_free (holders s)) is ∙ second (may_run runner q.project q.job.options.tags) (resource_free (holders s) q) eligible;
+      free = ap (resource_free (groups_in s board)) is ∙ second (may_run runner q.project q.job.options.tags) (resource_free (groups_in s board) q) eligible;
     }
 
 -- what is put and held beside a grant: nothing, where it is refused

@@ -14,13 +14,13 @@ use Rattle.ci_machine.specs.declared.change.IndexChange.{IndexChange}
 use Rattle.ci_machine.specs.declared.change.IndexChange.TheVariants.{Hold, Free, Open, Close}
 use Rattle.ci_machine.specs.State.{State}
 use Rattle.ci_machine.specs.Kept.{Kept, indexed, indexed_all}
-use Rattle.ci_machine.specs.Eligible.{holds, is_free}
+use Rattle.ci_machine.specs.Eligible.{holds}
 use Rattle.ci_machine.specs.Holders as holders
 use Rattle.ci_machine.specs.Holders.{AreHolders}
 use Rattle.ci_machine.specs.Redundant.{is_unfinished}
 use Rattle.ci_machine.proofs.Keyed.{has_from_all, All-from_has}
 use Rattle.ci_machine_statuses.specs.HolderChanges.{turned_by, of_pipeline}
-use Rattle.ci_server_lookups.specs.Held.{HoldAlike, frees, still_held}
+use Rattle.ci_server_lookups.specs.Held.{is_unheld, HoldAlike, frees, still_held}
 use Rattle.ci_server_lookups.proofs.Holds.{kept_alike}
 
 -- ---- tests
@@ -112,19 +112,19 @@ module _ (project : ℕ) (group : List ℕ) where
 
 module _ (s t : State) (k : Kept) (changes : List IndexChange) (none : AllByRecursion HoldsNone changes) (before : AreHolders s k.holders) (after : AreHolders t (indexed_all changes k).holders)
     (project : ℕ) (found : List Holder) where
-  free_after : (group : Option (List ℕ)) → is_free found project group ≡ is_free (holders.holders s) project group → is_free (still_held changes found) project group ≡ is_free (holders.holders t) project group
-  free_after None same = refl
-  free_after (Some group) same =
+  unheld_after : (group : Option (List ℕ)) → is_unheld found project group ≡ is_unheld (holders.holders s) project group → is_unheld (still_held changes found) project group ≡ is_unheld (holders.holders t) project group
+  unheld_after None same = refl
+  unheld_after (Some group) same =
       let held : list_any (holds project group) found ≡ list_any (holds project group) k.holders
       = same_by_not _ _ (same ∙ sym (kept_alike s k.holders before project (Some group))) in
       ap not (found_after project group changes found ∙ (ap (λ b. b && not (is_freed project group changes)) held ∙ sym (kept_after project group changes k none)))
       ∙ kept_alike t (indexed_all changes k).holders after project (Some group)
 
-  -- by those that still hold what they held, the same groups of the jobs are free as by all
+  -- by those that still hold what they held, the same groups of the jobs are held as by all
   pub still_alike : (jobs : List Job) → HoldAlike found (holders.holders s) project jobs → HoldAlike (still_held changes found) (holders.holders t) project jobs
   still_alike jobs same =
-      All-from_has (λ j. is_free (still_held changes found) project j.options.resource_group ≡ is_free (holders.holders t) project j.options.resource_group) jobs
-      (λ j h. free_after j.options.resource_group (has_from_all (λ i. is_free found project i.options.resource_group ≡ is_free (holders.holders s) project i.options.resource_group) j jobs same h))
+      All-from_has (λ j. is_unheld (still_held changes found) project j.options.resource_group ≡ is_unheld (holders.holders t) project j.options.resource_group) jobs
+      (λ j h. unheld_after j.options.resource_group (has_from_all (λ i. is_unheld found project i.options.resource_group ≡ is_unheld (holders.holders s) project i.options.resource_group) j jobs same h))
 
 -- ---- the changes of an act
 

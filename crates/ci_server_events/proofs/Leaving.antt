@@ -19,7 +19,8 @@ use Rattle.ci_machine.specs.declared.lease.Lease.{Lease}
 use Rattle.ci_machine.specs.declared.lease.PieceFault.{PieceFault}
 use Rattle.ci_machine.specs.declared.records.Attempt.{Attempt}
 use Rattle.ci_machine.specs.declared.records.BoardRow.{BoardRow}
-use Rattle.ci_machine.specs.declared.records.Holder.{Holder}
+use Rattle.ci_machine.specs.declared.records.Claim.{Claim}
+use Rattle.ci_machine.specs.declared.records.GroupOrder.{GroupOrder}
 use Rattle.ci_machine.specs.declared.records.Job.{Job}
 use Rattle.ci_machine.specs.declared.records.Pipeline.{Pipeline}
 use Rattle.ci_machine.specs.declared.records.Project.{Project}
@@ -31,17 +32,20 @@ use Rattle.ci_machine.specs.declared.reply.Detail.{Detail}
 use Rattle.ci_machine.specs.declared.reply.Detail.TheVariants as detail
 use Rattle.ci_machine.specs.declared.reply.FaultCode.TheVariants.{K}
 use Rattle.ci_machine.specs.declared.reply.Reply.{Reply}
+use Rattle.ci_machine.specs.declared.request.NewMode.{NewMode}
 use Rattle.ci_machine.specs.declared.request.NewRunner.{NewRunner}
 use Rattle.ci_machine.specs.declared.request.NewVariable.{NewVariable}
 use Rattle.ci_machine.specs.declared.request.Request.{Request}
-use Rattle.ci_machine.specs.declared.request.Request.TheVariants.{AddProject, AddRunner, PauseRunner, SetFile, SetVariable, DeleteVariable, CreatePipeline, ShowPipeline, AskJob, UpdateJob, AppendTrace, ShowJob, ShowTrace, Play, CancelJob, RetryJob, CancelPipeline, PruneOne}
+use Rattle.ci_machine.specs.declared.request.Request.TheVariants.{AddProject, AddRunner, PauseRunner, SetFile, SetVariable, DeleteVariable, SetMode, ShowMode, CreatePipeline, ShowPipeline, AskJob, UpdateJob, AppendTrace, ShowJob, ShowTrace, Play, CancelJob, RetryJob, CancelPipeline, PruneOne}
 use Rattle.ci_machine.specs.declared.request.Seed.{Seed}
 use Rattle.ci_machine.specs.declared.request.TracePart.{TracePart}
 use Rattle.ci_machine_steps.specs.Files.{SetsFile, set_file}
-use Rattle.ci_machine.specs.Holders.{holders}
+use Rattle.ci_machine.specs.Groups.{order_of}
 use Rattle.ci_machine.specs.Indexes.{AreIndexes}
 use Rattle.ci_machine.specs.Kept.{Kept, cleared, put_rows, written}
 use Rattle.ci_machine.specs.Leases.{accepted}
+use Rattle.ci_machine.specs.Waiting.{claims_in}
+use Rattle.ci_machine_steps.specs.Modes.{mode_change, set_mode, show_mode}
 use Rattle.ci_machine_steps.specs.Plans.{Plan, asked_project, refused, faulted}
 use Rattle.ci_machine_steps.specs.Projects.{add_project, made_project}
 use Rattle.ci_machine_steps.specs.Runners.{are_names, lacks_project, add_runner, made_runner, pause_runner}
@@ -49,7 +53,7 @@ use Rattle.ci_machine_steps.specs.Shows.{asked_pipeline, shown, show_pipeline, t
 use Rattle.ci_machine_steps.specs.Sound.{IsSound}
 use Rattle.ci_machine.specs.State.{State, applied}
 use Rattle.ci_machine.specs.Statuses.{jobs_of, facts_of, rows_of, status_for, AreBoard}
-use Rattle.ci_machine_steps.specs.Step.{Does, project_with, project_named, project_variables, variable_at, runner_at, pipeline_at, lease_at, last_attempt, trace_of, trace_if_any, found_job}
+use Rattle.ci_machine_steps.specs.Step.{Does, project_with, project_named, project_variables, variable_at, runner_at, pipeline_at, job_at, lease_at, last_attempt, trace_of, trace_if_any, pipeline_or_none, found_job}
 use Rattle.ci_machine_steps.specs.Traces.{append_trace, appended}
 use Rattle.ci_machine_steps.specs.Variables.{set_variable, variable_set, delete_variable, count_with}
 use Rattle.ci_machine_plans.specs.Refusals.{unmade}
@@ -123,19 +127,33 @@ deletion_leaves s (Err code) found = tt
 deletion_leaves s (Ok project) None = tt
 deletion_leaves s (Ok project) (Some v) = (tt, tt)
 
+-- ---- process modes
+
+mode_leaves : (s : State) (r : Result Project Code) (new : NewMode) → Leaves s (set_mode r new)
+mode_leaves s (Err code) new = tt
+mode_leaves s (Ok project) new = (by_order new.order, tt)
+  where
+    by_order : (order : Option GroupOrder) → LeavesStatuses s (mode_change project.id new.group order)
+    by_order None = tt
+    by_order (Some order) = tt
+
+mode_shown_leaves : (s : State) (r : Result Project Code) (order : Option GroupOrder) (group : List ℕ) → Leaves s (show_mode r order group)
+mode_shown_leaves s (Err code) order group = tt
+mode_shown_leaves s (Ok project) order group = tt
+
 -- ---- questions
 
-shown_leaves : (s : State) (held : List Holder) (project : ℕ) (r : Result Job Code) (status : Status) → Leaves s (shown held project r status)
-shown_leaves s held project (Ok job) status = tt
-shown_leaves s held project (Err code) status = tt
+shown_leaves : (s : State) (claims : List Claim) (project : ℕ) (r : Result Job Code) (status : Status) → Leaves s (shown claims project r status)
+shown_leaves s claims project (Ok job) status = tt
+shown_leaves s claims project (Err code) status = tt
 
 traced_leaves : (s : State) (r : Result Job Code) (trace : List ℕ) → Leaves s (traced r trace)
 traced_leaves s (Ok job) trace = tt
 traced_leaves s (Err code) trace = tt
 
-pipeline_shown_leaves : (s : State) (r : Result Pipeline Code) (held : List Holder) (jobs : List Job) (facts : List Facts) (rows : List Row) → Leaves s (show_pipeline r held jobs facts rows)
-pipeline_shown_leaves s (Ok p) held jobs facts rows = tt
-pipeline_shown_leaves s (Err code) held jobs facts rows = tt
+pipeline_shown_leaves : (s : State) (r : Result Pipeline Code) (claims : List Claim) (jobs : List Job) (facts : List Facts) (rows : List Row) → Leaves s (show_pipeline r claims jobs facts rows)
+pipeline_shown_leaves s (Ok p) claims jobs facts rows = tt
+pipeline_shown_leaves s (Err code) claims jobs facts rows = tt
 
 -- ---- what is planned so
 
@@ -195,6 +213,9 @@ leaves_rows s board (SetVariable new) now seed plan keeps does =
     leaves_so s plan _ does (variable_leaves s (asked_project (project_with s new.token) new.project) (project_variables s new.project) new)
 leaves_rows s board (DeleteVariable query) now seed plan keeps does =
     leaves_so s plan _ does (deletion_leaves s (asked_project (project_with s query.token) query.project) (variable_at s query.project query.key))
+leaves_rows s board (SetMode new) now seed plan keeps does = leaves_so s plan _ does (mode_leaves s (asked_project (project_with s new.token) new.project) new)
+leaves_rows s board (ShowMode query) now seed plan keeps does =
+    leaves_so s plan _ does (mode_shown_leaves s (asked_project (project_with s query.token) query.project) (order_of s.modes query.project query.group) query.group)
 leaves_rows s board (CreatePipeline new) now seed plan keeps does = absurd keeps
 leaves_rows s board (AskJob token) now seed plan keeps does = absurd keeps
 leaves_rows s board (UpdateJob update) now seed plan keeps does = absurd keeps
@@ -205,8 +226,8 @@ leaves_rows s board (CancelPipeline query) now seed plan keeps does = absurd kee
 leaves_rows s board (PruneOne before) now seed plan keeps does = absurd keeps
 leaves_rows s board (AppendTrace part) now seed plan keeps does = leaves_so s plan _ does (part_leaves s part now)
 leaves_rows s board (ShowPipeline query) now seed plan keeps does = leaves_so s plan _ does
-    (pipeline_shown_leaves s (asked_pipeline (asked_project (project_with s query.token) query.project) (pipeline_at s query.pipeline)) (holders s) (jobs_of s query.pipeline) (facts_of s query.pipeline) (rows_of s board query.pipeline))
-leaves_rows s board (ShowJob query) now seed plan keeps does = leaves_so s plan _ does (shown_leaves s (holders s) query.project (found_job s query) (status_for board query.job))
+    (pipeline_shown_leaves s (asked_pipeline (asked_project (project_with s query.token) query.project) (pipeline_at s query.pipeline)) (claims_in s board query.pipeline) (jobs_of s query.pipeline) (facts_of s query.pipeline) (rows_of s board query.pipeline))
+leaves_rows s board (ShowJob query) now seed plan keeps does = leaves_so s plan _ does (shown_leaves s (claims_in s board (pipeline_or_none (job_at s query.job))) query.project (found_job s query) (status_for board query.job))
 leaves_rows s board (ShowTrace query) now seed plan keeps does = leaves_so s plan _ does (traced_leaves s (found_job s query) (trace_if_any s (last_attempt s query.job)))
 
 -- what a request does with a plan by which these rows go first

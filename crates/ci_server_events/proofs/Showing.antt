@@ -1,4 +1,4 @@
--- What is shown by the holders that were looked up is what is shown by those of the state.
+-- What is shown by the claims that were looked up is what is shown by those of the state.
 use Rattle.std.specs.Prelude.{◌≡◌, ℕ, List, [], ◌∷◌, if◌then◌else◌, codes, length, replicate}
 use Rattle.std.proofs.Common.{refl, ap, inl, inr}
 use Rattle.serde_json.specs.Data.{Data, array, object, member, no_members, string, number, unsigned}
@@ -10,7 +10,7 @@ use Rattle.ci_board.specs.declared.facts.Facts.{Facts}
 use Rattle.ci_board.specs.declared.facts.Row.{Row}
 use Rattle.ci_board.specs.declared.facts.Status.{Status}
 use Rattle.ci_board.specs.declared.facts.Status.TheVariants as status
-use Rattle.ci_machine.specs.declared.records.Holder.{Holder}
+use Rattle.ci_machine.specs.declared.records.Claim.{Claim}
 use Rattle.ci_machine.specs.declared.records.Job.{Job}
 use Rattle.ci_machine.specs.declared.records.Pipeline.{Pipeline}
 use Rattle.ci_machine.specs.declared.reply.Body.TheVariants.{Json}
@@ -20,14 +20,14 @@ use Rattle.ci_machine_steps.specs.Pipelines.{Creation, creation_changes, pipelin
 use Rattle.ci_machine_steps.specs.Plans.{created, fine}
 use Rattle.ci_machine_steps.specs.Shows.{job_shown, pipeline_shown}
 use Rattle.ci_machine.proofs.Keyed.{Has, has_from_all}
-use Rattle.ci_server_lookups.specs.Held.{HoldAlike}
+use Rattle.ci_server_lookups.specs.Held.{FreeAlike}
 
-module _ (hs gs : List Holder) (project : ℕ) where
+module _ (cs ds : List Claim) (project : ℕ) where
   -- by both the job's group is free, or by neither
   abbrev IsAlike : Job → Type 0
-  IsAlike j = is_free hs project j.options.resource_group ≡ is_free gs project j.options.resource_group
+  IsAlike j = is_free cs project j.options.resource_group ≡ is_free ds project j.options.resource_group
 
-  printed_alike : (j : Job) (s : Status) → IsAlike j → printed_status hs project j s ≡ printed_status gs project j s
+  printed_alike : (j : Job) (s : Status) → IsAlike j → printed_status cs project j s ≡ printed_status ds project j s
   printed_alike j status.Created same = refl
   printed_alike j status.Pending same = ap (λ b. if b then status_text status.Pending else codes "waiting_for_resource") same
   printed_alike j status.Running same = refl
@@ -37,16 +37,16 @@ module _ (hs gs : List Holder) (project : ℕ) where
   printed_alike j status.Skipped same = refl
   printed_alike j status.Manual same = refl
 
-  jobs_alike : (js : List Job) (rows : List Row) → ((j : Job) → Has j js → IsAlike j) → jobs_data hs project js rows ≡ jobs_data gs project js rows
+  jobs_alike : (js : List Job) (rows : List Row) → ((j : Job) → Has j js → IsAlike j) → jobs_data cs project js rows ≡ jobs_data ds project js rows
   jobs_alike [] rows same = refl
   jobs_alike (j ∷ js) [] same = refl
   jobs_alike (j ∷ js) (r ∷ rows) same = λ i. job_data (printed_alike j r.status (same j (inl refl)) i) j ∷ jobs_alike js rows (λ k h. same k (inr h)) i
 
   -- the job is shown alike
-  pub job_alike : (j : Job) (s : Status) → HoldAlike hs gs project (j ∷ []) → job_shown hs project j s ≡ job_shown gs project j s
+  pub job_alike : (j : Job) (s : Status) → FreeAlike cs ds project (j ∷ []) → job_shown cs project j s ≡ job_shown ds project j s
   job_alike j s same = ap (λ (text : List ℕ). (fine (Json (compact_text (job_data text j))), [])) (printed_alike j s (has_from_all IsAlike j (j ∷ []) same (inl refl)))
 
-  jobs_said : (js : List Job) (rows : List Row) → HoldAlike hs gs project js → jobs_data hs project js rows ≡ jobs_data gs project js rows
+  jobs_said : (js : List Job) (rows : List Row) → FreeAlike cs ds project js → jobs_data cs project js rows ≡ jobs_data ds project js rows
   jobs_said js rows same = jobs_alike js rows (λ j h. has_from_all IsAlike j js same h)
 
 -- a pipeline with what is said of its jobs
@@ -58,15 +58,15 @@ said p jobs status =
     (member (codes "source") (string (source_text p.source))
     (member (codes "status") (string status) no_members)))))
 
-module _ (hs gs : List Holder) (p : Pipeline) (js : List Job) (same : HoldAlike hs gs p.project js) where
-  data_alike : (facts : List Facts) (rows : List Row) → pipeline_data p hs js facts rows ≡ pipeline_data p gs js facts rows
-  data_alike facts rows = ap (λ (ds : List Data). said p ds (status_text (status_of_jobs js facts rows))) (jobs_said hs gs p.project js rows same)
+module _ (cs ds : List Claim) (p : Pipeline) (js : List Job) (same : FreeAlike cs ds p.project js) where
+  data_alike : (facts : List Facts) (rows : List Row) → pipeline_data p cs js facts rows ≡ pipeline_data p ds js facts rows
+  data_alike facts rows = ap (λ (ds : List Data). said p ds (status_text (status_of_jobs js facts rows))) (jobs_said cs ds p.project js rows same)
 
   -- the pipeline is shown alike
-  pub pipeline_alike : (facts : List Facts) (rows : List Row) → pipeline_shown p hs js facts rows ≡ pipeline_shown p gs js facts rows
+  pub pipeline_alike : (facts : List Facts) (rows : List Row) → pipeline_shown p cs js facts rows ≡ pipeline_shown p ds js facts rows
   pipeline_alike facts rows = ap (λ (d : Data). (fine (Json (compact_text d)), [])) (data_alike facts rows)
 
 -- and where it is made
-pub created_alike : (first : ℕ) (made : Creation) (hs gs : List Holder) (rows : List Row) → HoldAlike hs gs made.pipeline.project made.jobs → pipeline_created first made hs rows ≡ pipeline_created first made gs rows
-created_alike first made hs gs rows same =
-    ap (λ (d : Data). (created (compact_text d), creation_changes first made)) (data_alike hs gs made.pipeline made.jobs same (replicate (length made.jobs) no_facts) rows)
+pub created_alike : (first : ℕ) (made : Creation) (cs ds : List Claim) (rows : List Row) → FreeAlike cs ds made.pipeline.project made.jobs → pipeline_created first made cs rows ≡ pipeline_created first made ds rows
+created_alike first made cs ds rows same =
+    ap (λ (d : Data). (created (compact_text d), creation_changes first made)) (data_alike cs ds made.pipeline made.jobs same (replicate (length made.jobs) no_facts) rows)

@@ -3,7 +3,7 @@ use Rattle.std.specs.Prelude.{ℕ, ◌==◌, List, [], ◌∷◌, filter, Option
 use Rattle.ci_machine.specs.declared.records.Job.{Job}
 use Rattle.ci_machine.specs.declared.records.Attempt.{Attempt}
 use Rattle.ci_machine.specs.declared.records.BoardRow.{BoardRow}
-use Rattle.ci_machine.specs.declared.records.Holder.{Holder}
+use Rattle.ci_machine.specs.declared.records.Claim.{Claim}
 use Rattle.ci_machine.specs.declared.change.RowChange.{RowChange}
 use Rattle.ci_machine.specs.declared.change.IndexChange.{IndexChange}
 use Rattle.ci_machine.specs.declared.reply.Code.{Code}
@@ -11,7 +11,8 @@ use Rattle.ci_machine.specs.declared.reply.Code.TheVariants.{M10, M11, M12}
 use Rattle.ci_machine.specs.State.{State}
 use Rattle.ci_machine.specs.Kept.{Kept, written}
 use Rattle.ci_machine.specs.Indexes.{AreIndexes}
-use Rattle.ci_machine.specs.Holders.{holders}
+use Rattle.ci_machine.specs.Groups.{claims_on}
+use Rattle.ci_machine.specs.Waiting.{waiting, groups_with}
 use Rattle.ci_machine_steps.specs.Plans.{Plan}
 use Rattle.ci_machine_steps.specs.Acts.{permitted, ActsOn}
 use Rattle.ci_machine_steps.specs.Plays.{play}
@@ -22,7 +23,7 @@ use Rattle.ci_machine_statuses.specs.declared.act.Act.TheVariants.{Play, Retry, 
 use Rattle.ci_machine_statuses.specs.declared.outcome.Outcome.{Outcome}
 use Rattle.ci_machine_statuses.specs.Acts.{is_permitted, act_changes, acted_jobs, acted_state, IsOutcome}
 use Rattle.ci_server_lookups.specs.declared.records.Whole.{Whole}
-use Rattle.ci_server_lookups.specs.Held.{HoldAlike}
+use Rattle.ci_server_lookups.specs.Held.{FreeAlike}
 
 -- the code that refuses it to a job whose status doesn't permit it
 abbrev pub refusal_of : Act → Code
@@ -32,7 +33,7 @@ refusal_of Cancel = M12
 
 -- it is done to the job that was found, unless a code refuses it
 abbrev pub ActsAs : Act → State → List BoardRow → Result Job Code → Plan → Type 0
-ActsAs act s board found plan = ActsOn s (λ j. act_changes act s (j ∷ [])) (permitted board (λ status. is_permitted act status) (refusal_of act) found) plan
+ActsAs act s board found plan = ActsOn s (waiting s board) (λ j. act_changes act s (j ∷ [])) (permitted board (λ status. is_permitted act status) (refusal_of act) found) plan
 
 -- the changes by which it is done to a job, of attempts that are at least its own
 abbrev pub changes_by : Act → List Attempt → Job → List RowChange
@@ -41,8 +42,9 @@ changes_by Retry attempts j = retry (filter (λ a. a.job == j.id) attempts) j
 changes_by Cancel attempts j = cancel attempts (j ∷ [])
 
 -- What is done to jobs of a pipeline, of what was looked up of it: what becomes of its jobs, which of the groups that are held and
--- of the pipelines that aren't finished change, and who holds the groups of its jobs after it.
-pub record IsDone (act : Act) (only : Option ℕ) (k : Kept) (pipeline : ℕ) (w : Whole) (o : Outcome) (indexes : List IndexChange) (held : List Holder) : Type 0 where
+-- of the pipelines that aren't finished change, and for which of their groups its jobs must wait after it, where the jobs wait that waited
+-- before.
+pub record IsDone (act : Act) (only : Option ℕ) (k : Kept) (pipeline : ℕ) (w : Whole) (o : Outcome) (indexes : List IndexChange) (claims : List Claim) : Type 0 where
   pub outcome : IsOutcome act only k.state k.board pipeline o
   pub are_indexes : AreIndexes (written (act_changes act k.state (acted_jobs act only k.state k.board pipeline)) o.changed.items indexes k)
-  pub alike : HoldAlike held (holders (acted_state act only k.state k.board pipeline)) w.pipeline.project w.records.jobs.items
+  pub alike : FreeAlike claims (claims_on (groups_with (acted_state act only k.state k.board pipeline) (waiting k.state k.board)) pipeline) w.pipeline.project w.records.jobs.items

@@ -1,10 +1,12 @@
 //! What a user's act on jobs does, from what the store holds: a job is played, tried again or cancelled, or a pipeline is cancelled.
 
-ghost use Rattle.std.specs.Prelude.{◌≡◌, ◌<◌, ℕ, List, length, map, All, Contains, Some, None, Ok, IfOk, slice_index_or};
+ghost use Rattle.std.specs.Prelude.{◌≡◌, ◌<◌, ◌++◌, ℕ, List, length, map, All, Contains, Some, None, Ok, IfOk, slice_index_or};
 ghost use Rattle.ci_machine.specs.declared.records.Job.{Job};
 ghost use Rattle.ci_machine.specs.declared.records.BoardRow.{BoardRow};
 ghost use Rattle.ci_machine_steps.specs.Cancels.{CancelsPipeline, CancelsSome, cancellable_jobs};
+ghost use Rattle.ci_machine.specs.Groups.{held_claim};
 ghost use Rattle.ci_machine.specs.Kept.{Kept};
+ghost use Rattle.ci_machine.specs.Waiting.{waiting};
 ghost use Rattle.ci_machine_steps.specs.Shows.{job_shown};
 ghost use Rattle.ci_machine_steps.specs.Sound.{IsSound};
 ghost use Rattle.ci_machine.specs.State.{State};
@@ -14,6 +16,7 @@ ghost use Rattle.ci_machine_steps.specs.Sweeps.{sweep};
 ghost use Rattle.ci_machine_statuses.specs.Acts.{IsOutcome};
 ghost use Rattle.ci_machine_statuses.specs.Lookups.{AreRecords};
 ghost use Rattle.ci_store.specs.Store.{LoadsBy};
+ghost use Rattle.ci_server_lookups.specs.Held.{still_held};
 ghost use Rattle.ci_server_lookups.specs.Records.{IsWhole};
 ghost use Rattle.ci_machine_statuses.specs.HolderChanges.{unleased};
 ghost use Rattle.ci_server_events.specs.Acting.{refusal_of, ActsAs, changes_by, IsDone};
@@ -25,7 +28,7 @@ use crate::planned::{Beside, Planned};
 use crate::shows::{asked, asked_pipeline, load_named};
 use ci_board::facts::Status;
 use ci_machine::change::{Changes, IndexChange};
-use ci_machine::records::{Holder, Job, Pipeline};
+use ci_machine::records::{Claim, Job, Pipeline};
 use ci_machine::reply::{Code, Reply, Swept};
 use ci_machine::request::{JobQuery, PipelineQuery};
 use ci_machine_plans::body::status_of;
@@ -41,15 +44,16 @@ use ci_machine_statuses::laws::{
 };
 use ci_machine_statuses::outcome::{Outcome, outcome_of};
 use ci_machine_statuses::unfinished::of_pipeline;
+use ci_server_lookups::claims::claims_with;
 use ci_server_lookups::holders::still_held;
 use ci_server_lookups::records::{Records, Whole, whole_of};
+use ci_server_lookups::turns::Turns;
 use ci_store::fault::StoreFault;
-use ci_store::store::Store;
 use std::alloc::{AllocError, Global};
 
 /// A user acts on the job that a query names. Refusals: those of the machine's `asked_job`, and then the act's own where the job's
 /// status doesn't permit it.
-pub(crate) fn act_on<T: Store>(
+pub(crate) fn act_on<T: Turns>(
     alloc: Global,
     store: &mut T,
     act: Act,
@@ -66,7 +70,7 @@ pub(crate) fn act_on<T: Store>(
 }
 
 /// A user acts on the job that was found. Its pipeline's records are looked up.
-fn act_on_found<T: Store>(
+fn act_on_found<T: Turns>(
     alloc: Global,
     store: &mut T,
     act: Act,
@@ -93,7 +97,7 @@ fn acted(alloc: Global, act: Act, job: &Job, whole: &Whole) -> Result<Planned<Re
         return Ok(Planned::alone(alloc, refused(alloc, refusal_of(act))));
     }
     let after = done.outcome.rows[done.outcome.places[0]].status;
-    let plan = plan_of(alloc, act, whole, done.held.as_slice(), job, after)?;
+    let plan = plan_of(alloc, act, whole, done.claims.as_slice(), job, after)?;
     Planned::with(plan, Ok(done.into_beside()))
 }
 
@@ -108,23 +112,24 @@ fn refusal_of(act: Act) -> Code
     }
 }
 
-/// The plan by which it is done to a job: the reply shows the job with its status after it, where these resource groups are held then.
+/// The plan by which it is done to a job: the reply shows the job with its status after it, where these are the resource groups for which
+/// it must wait then.
 fn plan_of(
     alloc: Global,
     act: Act,
     whole: &Whole,
-    held: &[Holder],
+    claims: &[Claim],
     job: &Job,
     after: Status,
 ) -> Result<(Reply, Changes), AllocError>
-    ensures { IfOk result (λ plan. plan ≡ ((job_shown held.now whole.now.pipeline.project job.now after).0, changes_by act whole.now.records.attempts.items job.now)) }
+    ensures { IfOk result (λ plan. plan ≡ ((job_shown claims.now whole.now.pipeline.project job.now after).0, changes_by act whole.now.records.attempts.items job.now)) }
 {
     let project = whole.pipeline.project;
     let attempts = whole.records.attempts.as_slice();
     match act {
-        Act::Play => play(alloc, held, project, job, after),
-        Act::Retry => retry(alloc, attempts, held, project, job, after),
-        Act::Cancel => cancel_job(alloc, attempts, held, project, job, after),
+        Act::Play => play(alloc, claims, project, job, after),
+        Act::Retry => retry(alloc, attempts, claims, project, job, after),
+        Act::Cancel => cancel_job(alloc, attempts, claims, project, job, after),
     }
 }
 
@@ -135,8 +140,8 @@ struct Done {
     /// The jobs to which it is done.
     chosen: Vec<Job>,
     indexes: Vec<IndexChange>,
-    /// Who holds the resource groups of the pipeline's jobs after it.
-    held: Vec<Holder>,
+    /// For which of their resource groups the pipeline's jobs must wait after it.
+    claims: Vec<Claim>,
 }
 
 impl Done {
@@ -149,7 +154,7 @@ impl Done {
             outcome,
             chosen: _,
             indexes,
-            held: _,
+            claims: _,
         } = self;
         Beside {
             rows: outcome.changed,
@@ -163,7 +168,7 @@ fn done_among(alloc: Global, whole: &Whole, act: Act, only: Option<u64>) -> Resu
     ensures places { IfOk result (λ d. All (λ place. place < length whole.now.records.jobs.items) d.outcome.places.items) }
     ensures long { IfOk result (λ d. (length d.outcome.facts.items ≡ length whole.now.records.jobs.items) × (length d.outcome.rows.items ≡ length whole.now.records.jobs.items)) }
     ensures chosen { IfOk result (λ d. (other : Job) → d.chosen.items ≡ map (λ place. slice_index_or whole.now.records.jobs.items place other) d.outcome.places.items) }
-    ensures done { IfOk result (λ d. (k : Kept) (pipeline : ℕ) → IsKept k → IsWhole k pipeline whole.now → IsDone act only k pipeline whole.now d.outcome d.indexes.items d.held.items) }
+    ensures done { IfOk result (λ d. (k : Kept) (pipeline : ℕ) → IsKept k → IsWhole k pipeline whole.now → IsDone act only k pipeline whole.now d.outcome d.indexes.items d.claims.items) }
 {
     acts_are_indexed();
     let jobs = whole.records.jobs.as_slice();
@@ -184,13 +189,26 @@ fn done_among(alloc: Global, whole: &Whole, act: Act, only: Option<u64>) -> Resu
         before,
         then,
     )?;
-    let held = still_held(alloc, whole.held.as_slice(), indexes.as_slice())?;
+    let claims = claims_after(alloc, whole, indexes.as_slice())?;
     Ok(Done {
         outcome,
         chosen,
         indexes,
-        held,
+        claims,
     })
+}
+
+/// For which of their resource groups the pipeline's jobs must wait after these changes, which hold no group: for those that are held still,
+/// and for those in which other jobs go first, as before.
+fn claims_after(
+    alloc: Global,
+    whole: &Whole,
+    changes: &[IndexChange],
+) -> Result<Vec<Claim>, AllocError>
+    ensures { IfOk result (λ v. v.items ≡ map held_claim (still_held changes.now whole.now.held.items) ++ whole.now.ahead.items) }
+{
+    let held = still_held(alloc, whole.held.as_slice(), changes)?;
+    claims_with(alloc, held.as_slice(), whole.ahead.as_slice())
 }
 
 /// The jobs whose leases end where it is done to these.
@@ -229,7 +247,7 @@ fn outcome_among(
 
 /// The pipeline that a query names is cancelled: all its jobs that can be. Refusals: those of the machine's `asked_pipeline`, and then
 /// M12 where no job can be.
-pub(crate) fn cancel_pipeline<T: Store>(
+pub(crate) fn cancel_pipeline<T: Turns>(
     alloc: Global,
     store: &mut T,
     query: &PipelineQuery,
@@ -246,13 +264,13 @@ pub(crate) fn cancel_pipeline<T: Store>(
 }
 
 /// The pipeline that was found is cancelled. Its records are looked up.
-fn cancel_found<T: Store>(
+fn cancel_found<T: Turns>(
     alloc: Global,
     store: &mut T,
     pipeline: &Pipeline,
 ) -> Result<Planned<Reply>, StoreFault>
     ensures { LoadsBy T.honest T.holds T.leaves store.old store.new result
-        (λ k p. IsKept k → Contains k.state.pipelines pipeline.now → PlansFor k (CancelsSome k.state pipeline.now (cancellable_jobs k.state k.board pipeline.now.id) (p.answer, p.changes)) p.changes p.beside) }
+        (λ k p. IsKept k → Contains k.state.pipelines pipeline.now → PlansFor k (CancelsSome k.state (waiting k.state k.board) pipeline.now (cancellable_jobs k.state k.board pipeline.now.id) (p.answer, p.changes)) p.changes p.beside) }
 {
     let whole = whole_of(alloc, store, pipeline.id)?;
     cancelled(alloc, &whole)
@@ -261,7 +279,7 @@ fn cancel_found<T: Store>(
 /// What is planned where a pipeline is cancelled.
 fn cancelled(alloc: Global, whole: &Whole) -> Result<Planned<Reply>, StoreFault>
     ensures { IfOk result (λ p. (k : Kept) → IsKept k → IsWhole k whole.now.pipeline.id whole.now
-        → PlansFor k (CancelsSome k.state whole.now.pipeline (cancellable_jobs k.state k.board whole.now.pipeline.id) (p.answer, p.changes)) p.changes p.beside) }
+        → PlansFor k (CancelsSome k.state (waiting k.state k.board) whole.now.pipeline (cancellable_jobs k.state k.board whole.now.pipeline.id) (p.answer, p.changes)) p.changes p.beside) }
 {
     acts_settle();
     acts_are_of_records();
@@ -276,7 +294,7 @@ fn cancelled(alloc: Global, whole: &Whole) -> Result<Planned<Reply>, StoreFault>
         whole.records.attempts.as_slice(),
         done.chosen.as_slice(),
         &whole.pipeline,
-        done.held.as_slice(),
+        done.claims.as_slice(),
         whole.records.jobs.as_slice(),
         done.outcome.facts.as_slice(),
         done.outcome.rows.as_slice(),
@@ -285,7 +303,7 @@ fn cancelled(alloc: Global, whole: &Whole) -> Result<Planned<Reply>, StoreFault>
 }
 
 /// A sweep cancels the redundant pipeline: all its jobs that can be.
-pub(crate) fn cancel_redundant<T: Store>(
+pub(crate) fn cancel_redundant<T: Turns>(
     alloc: Global,
     store: &mut T,
     pipeline: &Pipeline,

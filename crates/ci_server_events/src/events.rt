@@ -10,6 +10,7 @@ ghost use Rattle.ci_server_events.specs.Planning.{PlansFor};
 use crate::acts::{act_on, cancel_pipeline};
 use crate::files::set_file;
 use crate::grants::ask_job;
+use crate::modes::{set_mode, show_mode};
 use crate::pipelines::create_pipeline;
 use crate::planned::{Clearing, Planned};
 use crate::projects::add_project;
@@ -58,6 +59,8 @@ pub fn plan_request<T: Searches>(
         Request::SetFile(new) => alone(alloc, set_file(alloc, store, new)),
         Request::SetVariable(new) => alone(alloc, set_variable(alloc, store, new)),
         Request::DeleteVariable(query) => alone(alloc, delete_variable(alloc, store, &query)),
+        Request::SetMode(new) => alone(alloc, set_mode(alloc, store, new)),
+        Request::ShowMode(query) => alone(alloc, show_mode(alloc, store, &query)),
         Request::AppendTrace(part) => alone(alloc, append_trace(alloc, store, part, now)),
         Request::ShowPipeline(query) => alone(alloc, show_pipeline(alloc, store, &query)),
         Request::ShowJob(query) => alone(alloc, show_job(alloc, store, &query)),

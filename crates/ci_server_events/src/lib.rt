@@ -6,6 +6,7 @@ mod ends;
 pub mod events;
 mod files;
 mod grants;
+mod modes;
 mod pipelines;
 pub mod planned;
 mod projects;

@@ -3,7 +3,7 @@
 
 ghost use Rattle.std.specs.Prelude.{◌≡◌, ◌≤◌, ◌+◌, length, Ok, IfOk};
 ghost use Rattle.std.specs.Result.{result_map_both};
-ghost use Rattle.ci_machine.specs.Holders.{holders};
+ghost use Rattle.ci_machine.specs.Waiting.{claims_in};
 ghost use Rattle.ci_machine_steps.specs.Pipelines as machine;
 ghost use Rattle.ci_machine_steps.specs.Plans.{asked_project};
 ghost use Rattle.ci_machine_steps.specs.Step.{project_with, project_variables};
@@ -33,20 +33,20 @@ use ci_machine_statuses::creation::rows_of_creation;
 use ci_machine_statuses::holder_laws::creation_is_indexed;
 use ci_machine_statuses::laws::created_is_made;
 use ci_machine_statuses::unfinished::opened;
-use ci_server_lookups::holders::holders_of;
+use ci_server_lookups::claims::claims_on;
+use ci_server_lookups::turns::Turns;
 use ci_store::fault::StoreFault;
-use ci_store::store::Store;
 use std::alloc::Global;
 
 /// A pipeline is to be made from its project's file, with the rows of its jobs.
-pub(crate) fn create_pipeline<T: Store>(
+pub(crate) fn create_pipeline<T: Turns>(
     alloc: Global,
     store: &mut T,
     new: &NewPipeline,
     now: Moment,
 ) -> Result<Planned<Reply>, StoreFault>
     ensures { LoadsBy T.honest T.holds T.leaves store.old store.new result
-        (λ k p. IsKept k → PlansFor k (machine.Creates k.state.next.pipeline k.state.next.job (holders k.state) new.now (machine.given_by new.now (project_variables k.state new.now.project)) now (machine.may_create (asked_project (project_with k.state new.now.token) new.now.project) new.now) (p.answer, p.changes)) p.changes p.beside) }
+        (λ k p. IsKept k → PlansFor k (machine.Creates k.state.next.pipeline k.state.next.job (claims_in k.state k.board k.state.next.pipeline) new.now (machine.given_by new.now (project_variables k.state new.now.project)) now (machine.may_create (asked_project (project_with k.state new.now.token) new.now.project) new.now) (p.answer, p.changes)) p.changes p.beside) }
 {
     let project = store.project_with(&new.token)?;
     match file_for(&project, new) {
@@ -66,7 +66,7 @@ fn file_for<'a>(project: &'a Option<Project>, new: &NewPipeline) -> Result<&'a T
 }
 
 /// The pipeline is to be made by this file of its project.
-fn create_by<T: Store>(
+fn create_by<T: Turns>(
     alloc: Global,
     store: &mut T,
     text: &Text,
@@ -74,7 +74,7 @@ fn create_by<T: Store>(
     now: Moment,
 ) -> Result<Planned<Reply>, StoreFault>
     ensures { LoadsBy T.honest T.holds T.leaves store.old store.new result
-        (λ k p. IsKept k → PlansFor k (machine.Creates k.state.next.pipeline k.state.next.job (holders k.state) new.now (machine.given_by new.now (project_variables k.state new.now.project)) now (Ok text.now) (p.answer, p.changes)) p.changes p.beside) }
+        (λ k p. IsKept k → PlansFor k (machine.Creates k.state.next.pipeline k.state.next.job (claims_in k.state k.board k.state.next.pipeline) new.now (machine.given_by new.now (project_variables k.state new.now.project)) now (Ok text.now) (p.answer, p.changes)) p.changes p.beside) }
 {
     laid_out_creates();
     created_is_made();
@@ -102,7 +102,7 @@ fn create_by<T: Store>(
 }
 
 /// The plan that makes these records, whose first job has this number, with what changes beside them.
-fn made<T: Store>(
+fn made<T: Turns>(
     alloc: Global,
     store: &mut T,
     creation: Creation,
@@ -111,16 +111,17 @@ fn made<T: Store>(
     requires pipeline { creation.pipeline.id ≤ MAX_NUMBER }
     requires jobs { first + length creation.jobs.items ≤ MAX_NUMBER + 1 }
     ensures { LoadsBy T.honest T.holds T.leaves store.old store.new result
-        (λ k p. IsKept k → IsMadeBeside creation p.beside × ((p.answer, p.changes) ≡ machine.pipeline_created first (creation_view creation) (holders k.state) (rows_beside p.beside))) }
+        (λ k p. IsKept k → IsMadeBeside creation p.beside × ((p.answer, p.changes) ≡ machine.pipeline_created first (creation_view creation) (claims_in k.state k.board creation.pipeline.id) (rows_beside p.beside))) }
 {
-    let held = holders_of(
+    let claims = claims_on(
         alloc,
         store,
         creation.pipeline.project,
+        creation.pipeline.id,
         creation.jobs.as_slice(),
     )?;
     let beside = beside_creation(alloc, &creation)?;
-    let plan = creation.into_plan(alloc, first, held.as_slice(), beside.rows.as_slice())?;
+    let plan = creation.into_plan(alloc, first, claims.as_slice(), beside.rows.as_slice())?;
     Planned::with(plan, Ok(beside))
 }
 

@@ -6,7 +6,7 @@ ghost use Rattle.std.specs.Option.{option_copied};
 ghost use Rattle.std.specs.Result.{result_map_both};
 ghost use Rattle.ci_machine.specs.declared.records.BoardRow.{BoardRow};
 ghost use Rattle.ci_machine.specs.declared.records.Need.{Need};
-ghost use Rattle.ci_machine.specs.Holders.{holders};
+ghost use Rattle.ci_machine.specs.Waiting.{claims_in};
 ghost use Rattle.ci_machine.specs.State.{State};
 ghost use Rattle.ci_machine.specs.Kept.{Kept};
 ghost use Rattle.ci_machine_steps.specs.Plans.{asked_project};
@@ -22,14 +22,15 @@ use crate::ends::or_store_fault;
 use crate::projects;
 use ci_board::facts::{Facts, Row};
 use ci_machine::change::Changes;
-use ci_machine::records::{Attempt, BoardRow, Holder, Job, Pipeline, Project};
+use ci_machine::records::{Attempt, BoardRow, Claim, Job, Pipeline, Project};
 use ci_machine::reply::{Code, Reply};
 use ci_machine::request::{JobQuery, PipelineQuery};
 use ci_machine::text::Bytes;
 use ci_machine_plans::{replies, shows};
 use ci_machine_statuses::load::{facts_and_rows, range_of};
 use ci_machine_statuses::pending::status_of;
-use ci_server_lookups::holders::holders_of;
+use ci_server_lookups::claims::claims_on;
+use ci_server_lookups::turns::Turns;
 use ci_store::fault::StoreFault;
 use ci_store::store::Store;
 use std::alloc::Global;
@@ -81,22 +82,23 @@ pub(crate) fn asked<'a>(named: &'a Named, query: &JobQuery) -> Result<&'a Job, C
 }
 
 /// A job with its status is asked for.
-pub(crate) fn show_job<T: Store>(
+pub(crate) fn show_job<T: Turns>(
     alloc: Global,
     store: &mut T,
     query: &JobQuery,
 ) -> Result<(Reply, Changes), StoreFault>
     ensures { LoadsBy T.honest T.holds T.leaves store.old store.new result
         (λ k plan. let job = step.job_at k.state query.now.job in
-        IsKept k → plan ≡ machine.show_job (step.project_with k.state query.now.token) job (step.pipeline_of k.state job) (holders k.state) (status_for k.board query.now.job) query.now) }
+        IsKept k → plan ≡ machine.show_job (step.project_with k.state query.now.token) job (step.pipeline_of k.state job) (claims_in k.state k.board (step.pipeline_or_none job)) (status_for k.board query.now.job) query.now) }
 {
     let named = load_named(store, query)?;
     match asked(&named, query) {
         Ok(job) => {
             let row = store.row(query.job)?;
-            let held = holders_of(alloc, store, query.project, slice::from_ref(job))?;
+            let jobs = slice::from_ref(job);
+            let claims = claims_on(alloc, store, query.project, job.pipeline, jobs)?;
             let status = status_of(row);
-            Ok(shows::job_shown(alloc, held.as_slice(), query.project, job, status)?)
+            Ok(shows::job_shown(alloc, claims.as_slice(), query.project, job, status)?)
         }
         Err(code) => Ok(replies::refused(alloc, code)),
     }
@@ -149,14 +151,14 @@ fn last(attempts: Vec<Attempt>) -> Option<Attempt>
 }
 
 /// A pipeline with its jobs and their statuses is asked for. Its jobs are looked up only where it is the asking project's.
-pub(crate) fn show_pipeline<T: Store>(
+pub(crate) fn show_pipeline<T: Turns>(
     alloc: Global,
     store: &mut T,
     query: &PipelineQuery,
 ) -> Result<(Reply, Changes), StoreFault>
     ensures { LoadsBy T.honest T.holds T.leaves store.old store.new result
         (λ k plan. IsKept k → let n = query.now.pipeline in
-        plan ≡ machine.show_pipeline (machine.asked_pipeline (asked_project (step.project_with k.state query.now.token) query.now.project) (step.pipeline_at k.state n)) (holders k.state) (jobs_of k.state n) (facts_of k.state n) (rows_of k.state k.board n)) }
+        plan ≡ machine.show_pipeline (machine.asked_pipeline (asked_project (step.project_with k.state query.now.token) query.now.project) (step.pipeline_at k.state n)) (claims_in k.state k.board n) (jobs_of k.state n) (facts_of k.state n) (rows_of k.state k.board n)) }
 {
     let project = store.project_with(&query.token)?;
     let pipeline = store.pipeline(query.pipeline)?;
@@ -177,15 +179,16 @@ pub(crate) fn asked_pipeline<'a>(
     shows::asked_pipeline(projects::asked(project, named), pipeline.as_ref())
 }
 
-/// The pipeline with this number is shown, with what is looked up of its jobs: their attempts and rows.
-fn pipeline_shown<T: Store>(
+/// The pipeline with this number is shown, with what is looked up of its jobs: their attempts and rows, and for which of their resource
+/// groups they must wait.
+fn pipeline_shown<T: Turns>(
     alloc: Global,
     store: &mut T,
     pipeline: &Pipeline,
     number: u64,
 ) -> Result<(Reply, Changes), StoreFault>
     ensures { LoadsBy T.honest T.holds T.leaves store.old store.new result
-        (λ k plan. IsKept k → plan ≡ machine.pipeline_shown pipeline.now (holders k.state) (jobs_of k.state number) (facts_of k.state number) (rows_of k.state k.board number)) }
+        (λ k plan. IsKept k → plan ≡ machine.pipeline_shown pipeline.now (claims_in k.state k.board number) (jobs_of k.state number) (facts_of k.state number) (rows_of k.state k.board number)) }
 {
     let jobs = store.jobs_of(number)?;
     let Some((first, last)) = range_of(jobs.as_slice()) else {
@@ -193,11 +196,11 @@ fn pipeline_shown<T: Store>(
     };
     let attempts = store.attempts_within(first, last)?;
     let rows = store.rows_within(first, last)?;
-    let held = holders_of(alloc, store, pipeline.project, jobs.as_slice())?;
+    let claims = claims_on(alloc, store, pipeline.project, number, jobs.as_slice())?;
     jobs_shown(
         alloc,
         pipeline,
-        held.as_slice(),
+        claims.as_slice(),
         jobs.as_slice(),
         attempts.as_slice(),
         rows.as_slice(),
@@ -208,19 +211,19 @@ fn pipeline_shown<T: Store>(
 fn jobs_shown(
     alloc: Global,
     pipeline: &Pipeline,
-    held: &[Holder],
+    claims: &[Claim],
     jobs: &[Job],
     attempts: &[Attempt],
     rows: &[BoardRow],
 ) -> Result<(Reply, Changes), StoreFault>
     ensures { IfOk result (λ plan. (k : Kept) (number : ℕ) (needs : List Need) → IsKept k → AreRecords k.state k.board number jobs.now needs attempts.now rows.now
-        → plan ≡ machine.pipeline_shown pipeline.now held.now jobs.now (facts_of k.state number) (rows_of k.state k.board number)) }
+        → plan ≡ machine.pipeline_shown pipeline.now claims.now jobs.now (facts_of k.state number) (rows_of k.state k.board number)) }
 {
     let found = loaded(alloc, jobs, attempts, rows)?;
     let plan = shows::pipeline_shown(
         alloc,
         pipeline,
-        held,
+        claims,
         jobs,
         found.0.as_slice(),
         found.1.as_slice(),

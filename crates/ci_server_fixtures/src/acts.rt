@@ -1,11 +1,11 @@
 //! What happens to a server in the tests.
 
 use ci_machine::moment::Moment;
-use ci_machine::records::{RefKind, Source};
+use ci_machine::records::{GroupOrder, RefKind, Source};
 use ci_machine::request::{
-    Event, JobQuery, JobUpdate, NewFile, NewPipeline, NewRunner, NewVariable, PipelineQuery,
-    PipelineVariable, PipelineVariables, Report, Request, RunnerPause, Seed, TracePart,
-    VariableQuery,
+    Event, GroupQuery, JobQuery, JobUpdate, NewFile, NewMode, NewPipeline, NewRunner, NewVariable,
+    PipelineQuery, PipelineVariable, PipelineVariables, Report, Request, RunnerPause, Seed,
+    TracePart, VariableQuery,
 };
 use ci_machine::text::{Bytes, Text, Texts};
 use std::alloc::{AllocError, Global};
@@ -36,6 +36,10 @@ pub enum Act {
     SetVariable(&'static str, &'static str),
     /// A variable of the first project goes.
     DeleteVariable(&'static str),
+    /// A resource group of the project of this number gets this order, or is unordered.
+    SetMode(u64, &'static str, Option<GroupOrder>),
+    /// The process mode of a resource group of the project of this number is asked for.
+    ShowMode(u64, &'static str),
     /// A pipeline of `main` is made in the project of this number.
     CreatePipeline(u64),
     /// One is made in the first project, with variables of its own.
@@ -181,6 +185,28 @@ fn gone_variable(alloc: Global, key: &str) -> Result<Request, AllocError> {
     }))
 }
 
+fn new_mode(
+    alloc: Global,
+    project: u64,
+    group: &str,
+    order: Option<GroupOrder>,
+) -> Result<Request, AllocError> {
+    Ok(Request::SetMode(NewMode {
+        project,
+        token: token(alloc, "p", project)?,
+        group: text(alloc, group)?,
+        order,
+    }))
+}
+
+fn group_query(alloc: Global, project: u64, group: &str) -> Result<Request, AllocError> {
+    Ok(Request::ShowMode(GroupQuery {
+        project,
+        token: token(alloc, "p", project)?,
+        group: text(alloc, group)?,
+    }))
+}
+
 fn variables(alloc: Global, pairs: &[(&str, &str)]) -> Result<PipelineVariables, AllocError> {
     let mut variables = Vec::new(alloc);
     for (key, value) in pairs {
@@ -268,6 +294,8 @@ pub fn event(alloc: Global, act: Act) -> Result<Event, Fail> {
         Act::SetJobs(project, jobs) => new_jobs(alloc, project, jobs)?,
         Act::SetVariable(key, value) => new_variable(alloc, key, value)?,
         Act::DeleteVariable(key) => gone_variable(alloc, key)?,
+        Act::SetMode(project, group, order) => new_mode(alloc, project, group, order)?,
+        Act::ShowMode(project, group) => group_query(alloc, project, group)?,
         Act::CreatePipeline(project) => Request::CreatePipeline(new_pipeline(alloc, project, &[])?),
         Act::CreateWith(pairs) => Request::CreatePipeline(new_pipeline(alloc, 1, pairs)?),
         Act::CreateFor(project, git_ref, kind) => pipeline_for(alloc, project, git_ref, kind)?,

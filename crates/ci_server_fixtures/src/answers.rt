@@ -1,7 +1,7 @@
 //! What a server is to answer.
 
 use crate::acts::Act;
-use ci_machine::records::Cause;
+use ci_machine::records::{Cause, GroupOrder};
 use ci_machine::reply::{Answer, Code, HttpStatus, JobStatus, Reply, Swept};
 use ci_machine::request::Report;
 
@@ -110,6 +110,17 @@ fn shown(status: JobStatus) -> &'static str {
     }
 }
 
+/// The resource group `prod` as it is told with its process mode.
+fn prod(order: Option<GroupOrder>) -> Want {
+    Want::Done(match order {
+        None => "{\"key\":\"prod\",\"process_mode\":\"unordered\"}",
+        Some(GroupOrder::OldestFirst) => { "{\"key\":\"prod\",\"process_mode\":\"oldest_first\"}" }
+        Some(GroupOrder::NewestReadyFirst) => {
+            "{\"key\":\"prod\",\"process_mode\":\"newest_ready_first\"}"
+        }
+    })
+}
+
 /// The first job, where it waits for a runner.
 const PENDING: &str = "{\"id\":1,\"name\":\"build\",\"stage\":\"build\",\"status\":\"pending\"}";
 
@@ -123,7 +134,7 @@ pub const BUILD_GRANTED: Want = Want::Done(
     "{\"id\":1,\"job_info\":{\"name\":\"build\",\"project_id\":1,\"stage\":\"build\"},\"script\":[\"make\"],\"timeout\":3600,\"token\":\"j1-abababababababababababababababab\",\"variables\":[{\"key\":\"CI\",\"value\":\"true\"},{\"key\":\"CI_COMMIT_BRANCH\",\"value\":\"main\"},{\"key\":\"CI_COMMIT_REF_NAME\",\"value\":\"main\"},{\"key\":\"CI_JOB_ID\",\"value\":\"1\"},{\"key\":\"CI_JOB_NAME\",\"value\":\"build\"},{\"key\":\"CI_JOB_STAGE\",\"value\":\"build\"},{\"key\":\"CI_PIPELINE_ID\",\"value\":\"1\"},{\"key\":\"CI_PIPELINE_SOURCE\",\"value\":\"api\"},{\"key\":\"CI_PROJECT_ID\",\"value\":\"1\"}]}",
 );
 
-/// What the first thing of its kind is answered, where the things of the first path before it have happened.
+/// What the first thing of its kind is answered, where the things of the first path before it have happened. A resource group is `prod`.
 pub fn first(act: Act) -> Want {
     match act {
         Act::AddProject(_) => {
@@ -137,6 +148,8 @@ pub fn first(act: Act) -> Want {
         Act::SetFile(_, _) | Act::SetJobs(_, _) => Want::Done("{\"jobs\":1}"),
         Act::SetVariable(_, _) => Want::Empty(HttpStatus::Fine),
         Act::DeleteVariable(_) => Want::Empty(HttpStatus::NoContent),
+        Act::SetMode(_, _, order) => prod(order),
+        Act::ShowMode(_, _) => prod(None),
         Act::CreatePipeline(_) | Act::CreateWith(_) | Act::CreateFor(_, _, _) => BUILD_CREATED,
         Act::AskJob(_) | Act::AskAs(_) => BUILD_GRANTED,
         Act::Running | Act::Tell(_, Report::Running) => Want::Taken(JobStatus::Running),
@@ -182,6 +195,8 @@ pub fn again(act: Act) -> Want {
         | Act::SetFile(_, _)
         | Act::SetJobs(_, _)
         | Act::SetVariable(_, _)
+        | Act::SetMode(_, _, _)
+        | Act::ShowMode(_, _)
         | Act::Running
         | Act::Success
         | Act::Tell(_, _)

@@ -8,12 +8,12 @@ use Rattle.std.proofs.lemmas.List.Elements.{filter_more}
 use Rattle.ci_machine.specs.declared.records.Holder.{Holder}
 use Rattle.ci_machine.specs.declared.records.Job.{Job}
 use Rattle.ci_machine.specs.State.{State}
-use Rattle.ci_machine.specs.Eligible.{holds, is_free}
+use Rattle.ci_machine.specs.Eligible.{holds}
 use Rattle.ci_machine.specs.Holders.{holders, holder_at, AreHolders}
 use Rattle.ci_machine.proofs.Keyed.{Has, has_find, has_from_all, has_from_contains, All-from_has}
 use Rattle.ci_machine.proofs.Tests.{any_has, has_any}
 use Rattle.ci_machine.specs.declared.change.IndexChange.{IndexChange}
-use Rattle.ci_server_lookups.specs.Held.{HoldAlike, holder_for, frees, still_held}
+use Rattle.ci_server_lookups.specs.Held.{is_unheld, HoldAlike, holder_for, frees, still_held}
 
 -- ---- lists
 
@@ -37,12 +37,12 @@ either_side : {A : Type 0} (x : A) (xs ys : List A) → Has x (xs ++ ys) → Has
 either_side x [] ys h = inr h
 either_side x (y ∷ xs) ys h = ⊎_elim (λ e. inl (inl e)) (λ m. ⊎_elim (λ k. inl (inr k)) (λ k. inr k) (either_side x xs ys m)) h
 
-has_flat : {A B : Type 0} (f : A → List B) (y : B) (x : A) (xs : List A) → Has x xs → Has y (f x) → Has y (flat_map f xs)
+pub has_flat : {A B : Type 0} (f : A → List B) (y : B) (x : A) (xs : List A) → Has x xs → Has y (f x) → Has y (flat_map f xs)
 has_flat f y x [] h k = absurd h
 has_flat f y x (z ∷ zs) h k =
     ⊎_elim (λ e. has_left y (f z) (flat_map f zs) (subst (λ (w : _). Has y (f w)) e k)) (λ m. has_right y (f z) (flat_map f zs) (has_flat f y x zs m k)) h
 
-flat_has : {A B : Type 0} (f : A → List B) (y : B) (xs : List A) → Has y (flat_map f xs) → (x : A) × (Has x xs × Has y (f x))
+pub flat_has : {A B : Type 0} (f : A → List B) (y : B) (xs : List A) → Has y (flat_map f xs) → (x : A) × (Has x xs × Has y (f x))
 flat_has f y [] h = absurd h
 flat_has f y (z ∷ zs) h =
     ⊎_elim (λ k. (z, (inl refl, k))) (λ m. let w = flat_has f y zs m in (w.0, (inr w.1.0, w.1.1))) (either_side y (f z) (flat_map f zs) h)
@@ -50,7 +50,7 @@ flat_has f y (z ∷ zs) h =
 -- ---- the rows, and the holders of the state
 
 -- the rows that are kept hold the same groups as the state's live attempts
-pub kept_alike : (s : State) (rows : List Holder) → AreHolders s rows → (project : ℕ) (group : Option (List ℕ)) → is_free rows project group ≡ is_free (holders s) project group
+pub kept_alike : (s : State) (rows : List Holder) → AreHolders s rows → (project : ℕ) (group : Option (List ℕ)) → is_unheld rows project group ≡ is_unheld (holders s) project group
 kept_alike s rows are project None = refl
 kept_alike s rows are project (Some group) =
     let p = holds project group in
@@ -68,10 +68,10 @@ none_any p (x ∷ xs) e =
     (λ f. ap (λ b. b || list_any p xs) f ∙ none_any p xs (sym (ap (λ b. cond b (Some x) (find p xs)) f) ∙ e)) (cases_Bool (p x))
 
 -- a group is free where no row of it is found
-pub free_if_none : (rows : List Holder) (project : ℕ) (group : List ℕ) → holder_at project group rows ≡ None → is_free rows project (Some group) ≡ true
+pub free_if_none : (rows : List Holder) (project : ℕ) (group : List ℕ) → holder_at project group rows ≡ None → is_unheld rows project (Some group) ≡ true
 free_if_none rows project group e = ap not (none_any (holds project group) rows e)
 
-pub held_if_some : (rows : List Holder) (project : ℕ) (group : List ℕ) (h : Holder) → holder_at project group rows ≡ Some h → is_free rows project (Some group) ≡ false
+pub held_if_some : (rows : List Holder) (project : ℕ) (group : List ℕ) (h : Holder) → holder_at project group rows ≡ Some h → is_unheld rows project (Some group) ≡ false
 held_if_some rows project group h e = ap not (found_any (holds project group) h rows e)
 
 -- what is looked up is there where one passes
@@ -79,14 +79,14 @@ pub any_if_some : {A : Type 0} (p : A → Bool) (xs : List A) (o : Option A) →
 any_if_some p xs None e = sym (none_any p xs (sym e))
 any_if_some p xs (Some x) e = sym (found_any p x xs (sym e))
 
--- a group is free where there is no row of it
-pub free_by_row : (s : State) (rows : List Holder) → AreHolders s rows → (project : ℕ) (group : List ℕ) (o : Option Holder) (b : Bool) → o ≡ holder_at project group rows → is_some o ≡ not b
-    → b ≡ is_free (holders s) project (Some group)
-free_by_row s rows are project group o b its is = turned b (list_any (holds project group) rows) (sym is ∙ any_if_some (holds project group) rows o its) ∙ kept_alike s rows are project (Some group)
-  where
-    turned : (b c : Bool) → not b ≡ c → b ≡ not c
-    turned true c e = ap not e
-    turned false c e = ap not e
+-- a group is held where there is a row of it
+pub held_by_row : (s : State) (rows : List Holder) → AreHolders s rows → (project : ℕ) (group : List ℕ) (o : Option Holder) → o ≡ holder_at project group rows
+    → is_some o ≡ list_any (holds project group) (holders s)
+held_by_row s rows are project group o its =
+    any_if_some (holds project group) rows o its
+    ∙ same_any (holds project group) rows (holders s)
+    (one_way (holds project group) rows (holders s) (λ h k _. has_from_contains h (holders s) (has_from_all (Contains (holders s)) h rows are.held k)))
+    (one_way (holds project group) (holders s) rows (λ h k _. has_from_contains h rows (has_from_all (Contains rows) h (holders s) are.all k)))
 
 -- ---- the holders of jobs' groups
 
@@ -121,7 +121,7 @@ module _ (project : ℕ) (rows : List Holder) (jobs : List Job) where
           (has_flat for_job h j jobs k (subst (λ (o : Option (List ℕ)). Has h (holder_for project rows o)) (sym its) (listed_has (holder_at project group rows) h is)))
           there.1
 
-  alike_for : (j : Job) (group : Option (List ℕ)) → Has j jobs → j.options.resource_group ≡ group → is_free gathered project group ≡ is_free rows project group
+  alike_for : (j : Job) (group : Option (List ℕ)) → Has j jobs → j.options.resource_group ≡ group → is_unheld gathered project group ≡ is_unheld rows project group
   alike_for j None k its = refl
   alike_for j (Some group) k its =
       ap not (same_any (holds project group) gathered rows
@@ -149,7 +149,7 @@ gathered_more project rows jobs i j found next within at before more =
 pub found_alike : (s : State) (rows : List Holder) → AreHolders s rows → (project : ℕ) (jobs : List Job) (found : List Holder) → found ≡ gathered_in project rows jobs → HoldAlike found (holders s) project jobs
 found_alike s rows are project jobs found same =
     All-from_has _ jobs
-    (λ j k. ap (λ (hs : List Holder). is_free hs project j.options.resource_group) same
+    (λ j k. ap (λ (hs : List Holder). is_unheld hs project j.options.resource_group) same
     ∙ (alike_for project rows jobs j j.options.resource_group k refl ∙ kept_alike s rows are project j.options.resource_group))
 
 -- ---- those that still hold what they held

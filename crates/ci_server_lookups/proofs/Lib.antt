@@ -5,3 +5,4 @@ pub mod Pages
 pub mod Changes
 pub mod Opens
 pub mod OpenRows
+pub mod Claiming

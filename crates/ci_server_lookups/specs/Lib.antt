@@ -4,3 +4,4 @@ pub mod Records
 pub mod Search
 pub mod Sheets
 pub mod Unfinished
+pub mod Turns

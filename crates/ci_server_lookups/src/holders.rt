@@ -2,7 +2,6 @@
 
 ghost use Rattle.std.specs.Prelude.{◌≡◌, ◌++◌, IfOk};
 ghost use Rattle.std.specs.List.{list_any};
-ghost use Rattle.ci_machine.specs.Eligible.{is_free};
 ghost use Rattle.ci_machine.specs.Holders.{holders};
 ghost use Rattle.ci_store.specs.Store.{LoadsBy};
 ghost use Rattle.ci_server_lookups.specs.Held.{HoldAlike, holder_for, frees, still_held};
@@ -14,20 +13,6 @@ use ci_machine::text::Text;
 use ci_store::fault::StoreFault;
 use ci_store::store::Store;
 use std::alloc::{AllocError, Global};
-
-/// Does no live attempt hold this resource group, if it is one, of a project that was found?
-pub fn is_group_free<T: Store>(
-    store: &mut T,
-    project: u64,
-    group: &Option<Text>,
-) -> Result<bool, StoreFault>
-    ensures { LoadsBy T.honest T.holds T.leaves store.old store.new result (λ k free. IsKept k → free ≡ is_free (holders k.state) project group.now) }
-{
-    match group {
-        None => Ok(true),
-        Some(group) => Ok(store.holder(project, group)?.is_none()),
-    }
-}
 
 /// Who holds the resource groups of these jobs of a project that was found.
 pub fn holders_of<T: Store>(

@@ -2,6 +2,7 @@
 //! pipeline with its records, those that aren't finished, and the one that is to be pruned; and what a store that searches finds.
 #![tactic(auto)]
 
+pub mod claims;
 pub mod holders;
 pub mod leases;
 pub mod prunable;
@@ -9,4 +10,5 @@ pub mod records;
 pub mod search;
 pub mod searches;
 pub mod sheet;
+pub mod turns;
 pub mod unfinished;

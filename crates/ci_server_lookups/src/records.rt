@@ -4,8 +4,10 @@ ghost use Rattle.ci_store.specs.Store.{LoadsBy};
 ghost use Rattle.ci_server_lookups.specs.Records.{AreOf, IsWhole};
 ghost use Rattle.ci_server_lookups.specs.Keeps.{IsKept};
 
+use crate::claims::ahead_of;
 use crate::holders::holders_of;
-use ci_machine::records::{Attempt, BoardRow, Holder, Job, Need, Pipeline};
+use crate::turns::Turns;
+use ci_machine::records::{Attempt, BoardRow, Claim, Holder, Job, Need, Pipeline};
 use ci_machine_statuses::load::range_of;
 use ci_store::fault::StoreFault;
 use ci_store::store::Store;
@@ -39,26 +41,30 @@ pub fn records_of<T: Store>(store: &mut T, pipeline: u64) -> Result<Records, Sto
     })
 }
 
-/// A pipeline with its records, and with who holds the resource groups of its jobs.
+/// A pipeline with its records, with who holds the resource groups of its jobs, and with those of them in which other jobs go first.
 #[derive(Drop)]
 pub struct Whole {
     pub pipeline: Pipeline,
     pub records: Records,
     pub held: Vec<Holder>,
+    pub ahead: Vec<Claim>,
 }
 
 /// The pipeline with a number that a record has. Errors: the store's.
-pub fn whole_of<T: Store>(alloc: Global, store: &mut T, pipeline: u64) -> Result<Whole, StoreFault>
-    ensures { LoadsBy T.honest T.holds T.leaves store.old store.new result (λ k w. IsKept k → IsWhole k pipeline w) }
+pub fn whole_of<T: Turns>(alloc: Global, store: &mut T, number: u64) -> Result<Whole, StoreFault>
+    ensures { LoadsBy T.honest T.holds T.leaves store.old store.new result (λ k w. IsKept k → IsWhole k number w) }
 {
-    let records = records_of(store, pipeline)?;
-    let Some(pipeline) = store.pipeline(pipeline)? else {
+    let records = records_of(store, number)?;
+    let Some(pipeline) = store.pipeline(number)? else {
         return Err(StoreFault::Broken);
     };
-    let held = holders_of(alloc, store, pipeline.project, records.jobs.as_slice())?;
+    let jobs = records.jobs.as_slice();
+    let held = holders_of(alloc, store, pipeline.project, jobs)?;
+    let ahead = ahead_of(alloc, store, pipeline.project, number, jobs)?;
     Ok(Whole {
         pipeline,
         records,
         held,
+        ahead,
     })
 }

@@ -12,6 +12,7 @@ ghost use Rattle.ci_server_lookups.specs.Unfinished.{AreOpen};
 
 use crate::search::Offer;
 use crate::sheet::Sheet;
+use crate::turns::Turns;
 use ci_machine::lease::Lease;
 use ci_machine::moment::Moment;
 use ci_machine::records::{Pipeline, Runner};
@@ -20,7 +21,7 @@ use ci_store::store::Store;
 use std::alloc::Global;
 
 /// A store that finds the first of many: it may look through its tables, or remember where to look.
-pub trait Searches: Store {
+pub trait Searches: Turns {
     /// The first pending job, by number, that the runner may be given, with its row.
     fn first_offer(&mut self, alloc: Global, runner: &Runner) -> Result<Option<Offer>, StoreFault>
         ensures { LoadsBy Self.honest Self.holds Self.leaves self.old self.new result (λ k found. IsKept k → IsOffered k runner.now found) };

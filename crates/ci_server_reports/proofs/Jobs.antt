@@ -1,44 +1,47 @@
 -- The jobs of a pipeline, as what was looked up tells them.
-use Rattle.std.specs.Prelude.{◌≡◌, ℕ, Bool, true, List, [], ◌∷◌, length, map, filter, ◌==◌}
+use Rattle.std.specs.Prelude.{◌≡◌, ℕ, Bool, true, List, [], ◌∷◌, ◌++◌, length, map, filter, ◌==◌}
 use Rattle.std.proofs.Common.{refl, sym, ap, subst, ◌∙◌, eqb-true}
 use Rattle.ci_board.specs.declared.facts.Facts.{Facts}
 use Rattle.ci_board.specs.declared.facts.Row.{Row}
 use Rattle.ci_board.specs.declared.facts.Status.{Status}
 use Rattle.ci_board.specs.declared.facts.Status.TheVariants as status
 use Rattle.ci_machine.specs.declared.records.Attempt.{Attempt}
-use Rattle.ci_machine.specs.declared.records.Holder.{Holder}
+use Rattle.ci_machine.specs.declared.records.Claim.{Claim}
 use Rattle.ci_machine.specs.declared.records.Job.{Job}
 use Rattle.ci_machine.specs.declared.records.Pipeline.{Pipeline}
 use Rattle.ci_machine.specs.declared.records.PipelineWithStatus.{PipelineWithStatus}
 use Rattle.ci_machine.specs.Bodies.{status_of_jobs}
 use Rattle.ci_machine.specs.Eligible.{is_free}
-use Rattle.ci_machine.specs.Holders.{holders}
+use Rattle.ci_machine.specs.Groups.{held_claim}
 use Rattle.ci_machine.specs.Indexes.{with_status}
 use Rattle.ci_machine.specs.Kept.{Kept}
 use Rattle.ci_machine.specs.Ranges.{is_within}
 use Rattle.ci_machine.specs.ReportRows.{pending_status, shown_status, job_row, job_rows}
+use Rattle.ci_machine.specs.Waiting.{groups_in, claims_in}
 use Rattle.ci_machine.specs.Statuses.{jobs_of, attempts_of, facts_of, rows_of, row_for, status_for}
 use Rattle.ci_machine.proofs.Keyed.{Has, has_find, has_from_all}
 use Rattle.ci_machine.proofs.Filters.{filter_implied}
 use Rattle.ci_machine_statuses.proofs.Puts.{map_same}
+use Rattle.ci_server_lookups.specs.Held.{FreeAlike}
 use Rattle.ci_server_lookups.specs.Records.{IsWhole}
 use Rattle.ci_server_lookups.specs.declared.records.Whole.{Whole}
+use Rattle.ci_server_lookups.proofs.Claiming.{with_alike}
 use Rattle.ci_server_reports.specs.Told.{job_told}
 
 map_map : {A B C : Type 0} (g : B → C) (f : A → B) (xs : List A) → map g (map f xs) ≡ map (λ x. g (f x)) xs
 map_map g f [] = refl
 map_map g f (x ∷ xs) = ap (λ l. g (f x) ∷ l) (map_map g f xs)
 
--- by holders that hold alike a job is told alike
-shown_alike : (hs gs : List Holder) (project : ℕ) (j : Job) (s : Status) → is_free hs project j.options.resource_group ≡ is_free gs project j.options.resource_group → shown_status hs project j s ≡ shown_status gs project j s
-shown_alike hs gs project j status.Created same = refl
-shown_alike hs gs project j status.Pending same = ap pending_status same
-shown_alike hs gs project j status.Running same = refl
-shown_alike hs gs project j status.Success same = refl
-shown_alike hs gs project j status.Failed same = refl
-shown_alike hs gs project j status.Canceled same = refl
-shown_alike hs gs project j status.Skipped same = refl
-shown_alike hs gs project j status.Manual same = refl
+-- by claims on the same of its groups a job is told alike
+shown_alike : (cs ds : List Claim) (project : ℕ) (j : Job) (s : Status) → is_free cs project j.options.resource_group ≡ is_free ds project j.options.resource_group → shown_status cs project j s ≡ shown_status ds project j s
+shown_alike cs ds project j status.Created same = refl
+shown_alike cs ds project j status.Pending same = ap pending_status same
+shown_alike cs ds project j status.Running same = refl
+shown_alike cs ds project j status.Success same = refl
+shown_alike cs ds project j status.Failed same = refl
+shown_alike cs ds project j status.Canceled same = refl
+shown_alike cs ds project j status.Skipped same = refl
+shown_alike cs ds project j status.Manual same = refl
 
 module _ (k : Kept) (id : ℕ) (w : Whole) (whole : IsWhole k id w) where
   number : w.pipeline.id ≡ id
@@ -53,18 +56,29 @@ module _ (k : Kept) (id : ℕ) (w : Whole) (whole : IsWhole k id w) where
       ∙ ap length (filter_implied own (λ a. is_within first last a.job) k.state.attempts
       (λ a k e. subst (λ m. is_within first last m ≡ true) (sym (eqb-true a.job j.id e)) (has_from_all (λ (i : Job). is_within first last i.id ≡ true) j w.records.jobs.items whole.records.inside h)))
 
-  one_told : (j : Job) → Has j w.records.jobs.items → job_told w.held.items w.pipeline.project w.records.attempts.items k.board j ≡ job_row k.state k.board w.pipeline.project j
+  -- for which groups its jobs must wait, as it was looked up
+  abbrev claims : List Claim
+  claims = map held_claim w.held.items ++ w.ahead.items
+
+  claims_alike : FreeAlike claims (claims_in k.state k.board w.pipeline.id) w.pipeline.project w.records.jobs.items
+  claims_alike =
+      subst (λ n. FreeAlike claims (claims_in k.state k.board n) w.pipeline.project w.records.jobs.items) (sym number)
+      (with_alike (groups_in k.state k.board) id w.pipeline.project w.records.jobs.items w.held.items w.ahead.items whole.held whole.ahead)
+
+  one_told : (j : Job) → Has j w.records.jobs.items → job_told claims w.pipeline.project w.records.attempts.items k.board j ≡ job_row k.state k.board (claims_in k.state k.board w.pipeline.id) w.pipeline.project j
   one_told j h =
-      let free = has_from_all (λ (i : Job). is_free w.held.items w.pipeline.project i.options.resource_group ≡ is_free (holders k.state) w.pipeline.project i.options.resource_group) j w.records.jobs.items whole.held h in
-      let shown = shown_alike w.held.items (holders k.state) w.pipeline.project j (status_for k.board j.id) free in
+      let own = claims_in k.state k.board w.pipeline.id in
+      let free = has_from_all (λ (i : Job). is_free claims w.pipeline.project i.options.resource_group ≡ is_free own w.pipeline.project i.options.resource_group) j w.records.jobs.items claims_alike h in
+      let shown = shown_alike claims own w.pipeline.project j (status_for k.board j.id) free in
       let count = tries j h in
       λ i. record { job = j.id; status = shown i; tries = count i; name = j.name }
 
   -- its jobs are told as they are
-  pub jobs_told : map (job_told w.held.items w.pipeline.project w.records.attempts.items k.board) w.records.jobs.items ≡ job_rows k.state k.board w.pipeline
+  pub jobs_told : map (job_told claims w.pipeline.project w.records.attempts.items k.board) w.records.jobs.items ≡ job_rows k.state k.board w.pipeline
   jobs_told =
-      map_same (job_told w.held.items w.pipeline.project w.records.attempts.items k.board) (job_row k.state k.board w.pipeline.project) w.records.jobs.items one_told
-      ∙ ap (map (job_row k.state k.board w.pipeline.project)) (whole.records.are_jobs ∙ ap (jobs_of k.state) (sym number))
+      let own = claims_in k.state k.board w.pipeline.id in
+      map_same (job_told claims w.pipeline.project w.records.attempts.items k.board) (job_row k.state k.board own w.pipeline.project) w.records.jobs.items one_told
+      ∙ ap (map (job_row k.state k.board own w.pipeline.project)) (whole.records.are_jobs ∙ ap (jobs_of k.state) (sym number))
 
   -- with these rows of their statuses
   pub rows_told : (rows : List Row) → rows ≡ rows_of k.state k.board id → rows ≡ map (λ j. row_for k.board j.id) w.records.jobs.items

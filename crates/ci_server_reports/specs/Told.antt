@@ -2,28 +2,28 @@
 use Rattle.std.specs.Prelude.{◌≡◌, ℕ, List, length, filter, ◌==◌, Option, Some, None, option_map}
 use Rattle.ci_machine.specs.declared.records.Attempt.{Attempt}
 use Rattle.ci_machine.specs.declared.records.BoardRow.{BoardRow}
-use Rattle.ci_machine.specs.declared.records.Holder.{Holder}
+use Rattle.ci_machine.specs.declared.records.Claim.{Claim}
 use Rattle.ci_machine.specs.declared.records.Job.{Job}
 use Rattle.ci_machine.specs.declared.records.Pipeline.{Pipeline}
 use Rattle.ci_machine.specs.declared.report.QueueRow.{QueueRow}
 use Rattle.ci_machine.specs.declared.report.JobRow.{JobRow}
 use Rattle.ci_machine.specs.declared.report.PipelineRows.{PipelineRows}
-use Rattle.ci_machine.specs.Holders.{holders}
 use Rattle.ci_machine.specs.Indexes.{with_status}
 use Rattle.ci_machine.specs.ReportRows.{queue_row, shown_status, job_rows}
 use Rattle.ci_machine.specs.State.{State}
 use Rattle.ci_machine.specs.Statuses.{status_for}
+use Rattle.ci_machine.specs.Waiting.{groups_in}
 use Rattle.ci_machine_statuses.specs.Pages.{queued_at}
 
 -- the job of a row, which is pending
-abbrev pub row_told : State → BoardRow → Option QueueRow
-row_told s r = option_map (queue_row (holders s)) (queued_at s r)
+abbrev pub row_told : State → List BoardRow → BoardRow → Option QueueRow
+row_told s board r = option_map (queue_row (groups_in s board)) (queued_at s r)
 
--- a job of a project, by these attempts, rows and holders
-abbrev pub job_told : List Holder → ℕ → List Attempt → List BoardRow → Job → JobRow
-job_told held project attempts board j = record {
+-- a job of a project, by these attempts and rows, and the claims for which it must wait
+abbrev pub job_told : List Claim → ℕ → List Attempt → List BoardRow → Job → JobRow
+job_told claims project attempts board j = record {
   job = j.id;
-  status = shown_status held project j (status_for board j.id);
+  status = shown_status claims project j (status_for board j.id);
   tries = length (filter (λ a. a.job == j.id) attempts);
   name = j.name;
 }

@@ -1,7 +1,7 @@
 //! Which job a runner is given, what a sweep does and which pipeline is pruned, by a rule of the tests' own over all that a store keeps.
 
 use ci_board::facts::Status;
-use ci_machine::records::{Attempt, Cause, Holder, Job, Runner};
+use ci_machine::records::{Attempt, Cause, GroupOrder, Holder, Job, Runner};
 use ci_machine::reply::Swept;
 use ci_machine::text::Text;
 use ci_scenarios_steps::whole::{Standing, Whole};
@@ -32,13 +32,72 @@ fn is_barred(held: &[Holder], project: u64, job: &Job) -> bool {
     }
 }
 
+fn has_group(job: &Job, group: &Text) -> bool {
+    match &job.options.resource_group {
+        Some(own) => own.is_same(group),
+        None => false,
+    }
+}
+
+/// Is a job of the pipeline with this group pending, or, where these count, created?
+fn has_waiting(standing: &Standing, group: &Text, created: bool) -> bool {
+    standing.jobs.iter().zip(&standing.rows).any(|(job, row)| {
+        let waits = match row.row.status {
+            Status::Pending => true,
+            Status::Created => created,
+            _ => false,
+        };
+        waits && has_group(job, group)
+    })
+}
+
+/// Does a job of the other pipeline go before those that this one has in the group, which has this order?
+fn goes_before(one: &Standing, other: &Standing, group: &Text, order: GroupOrder) -> bool {
+    let (this, that) = (&one.pipeline, &other.pipeline);
+    this.project == that.project
+        && match order {
+            GroupOrder::OldestFirst => that.id < this.id && has_waiting(other, group, true),
+            GroupOrder::NewestReadyFirst => this.id < that.id && has_waiting(other, group, false),
+        }
+}
+
+/// Must the job of the pipeline wait for one of another pipeline, by the mode of its group?
+fn is_behind(whole: &Whole, standing: &Standing, job: &Job) -> bool {
+    let Some(group) = &job.options.resource_group else {
+        return false;
+    };
+    match whole.order_of(standing.pipeline.project, group.as_str()) {
+        None => false,
+        Some(order) => whole
+            .pipelines
+            .iter()
+            .any(|other| goes_before(standing, other, group, order)),
+    }
+}
+
+/// Must a pending job of the pipeline wait so?
+fn has_one_behind(whole: &Whole, standing: &Standing) -> bool {
+    standing.jobs.iter().zip(&standing.rows).any(|(job, row)| {
+        row.row.status == Status::Pending && is_behind(whole, standing, job)
+    })
+}
+
+/// Must a pending job wait for one of another pipeline, by the mode of its group?
+pub(crate) fn holds_back(whole: &Whole) -> bool {
+    whole
+        .pipelines
+        .iter()
+        .any(|standing| has_one_behind(whole, standing))
+}
+
 /// The first job of the pipeline that is pending and that the runner may be given.
-fn offer_in(standing: &Standing, held: &[Holder], runner: &Runner) -> Option<u64> {
+fn offer_in(whole: &Whole, standing: &Standing, held: &[Holder], runner: &Runner) -> Option<u64> {
     let project = standing.pipeline.project;
     let found = standing.jobs.iter().zip(&standing.rows).find(|(job, row)| {
         row.row.status == Status::Pending
             && may_run(runner, project, job)
             && !is_barred(held, project, job)
+            && !is_behind(whole, standing, job)
     });
     found.map(|(job, _)| job.id)
 }
@@ -46,7 +105,7 @@ fn offer_in(standing: &Standing, held: &[Holder], runner: &Runner) -> Option<u64
 /// The number of the job that the runner is given, where these hold resource groups.
 pub(crate) fn offer(whole: &Whole, held: &[Holder], runner: &Runner) -> Option<u64> {
     for standing in &whole.pipelines {
-        let found = offer_in(standing, held, runner);
+        let found = offer_in(whole, standing, held, runner);
         if found.is_some() {
             return found;
         }

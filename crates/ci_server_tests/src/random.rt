@@ -1,10 +1,11 @@
 //! Thousands of random events. After each one the rows that the store keeps beside its records are those that the records give: of
 //! statuses, of groups that are held, and of pipelines that aren't finished. Each runner is given the job that a rule of the tests' own
-//! chooses, each sweep does what that rule says, and each pipeline that is pruned is the one that it names. The server is opened anew after
-//! each event, so it remembers nothing; another one, which goes on and remembers what came before, must answer the same.
+//! chooses, by the process modes that groups have by then, each sweep does what that rule says, and each pipeline that is pruned is the one
+//! that it names. The server is opened anew after each event, so it remembers nothing; another one, which goes on and remembers what came
+//! before, must answer the same.
 
-use crate::choices::{offer, prunable, sweep};
-use ci_machine::records::{Cause, Holder, RefKind};
+use crate::choices::{holds_back, offer, prunable, sweep};
+use ci_machine::records::{Cause, GroupOrder, Holder, RefKind};
 use ci_machine::reply::{Answer, Code, HttpStatus, Reply, Swept};
 use ci_machine::request::Report;
 use ci_scenarios_steps::rows::rightly_whole;
@@ -46,6 +47,8 @@ struct Course {
     attempts: u64,
     /// So often a runner that asked was given none.
     refused: u64,
+    /// So often one asked while a pending job had to wait by the mode of its group.
+    held_back: u64,
     /// So many pipelines did sweeps cancel.
     cancelled: u64,
     /// So many were pruned.
@@ -94,14 +97,27 @@ impl Course {
         }
     }
 
+    /// A resource group of one of the projects gets a mode.
+    fn mode(&mut self) -> Act {
+        let project = self.below(2).saturating_add(1);
+        let group = if self.below(3) == 0 { "test" } else { "prod" };
+        let order = match self.below(3) {
+            0 => None,
+            1 => Some(GroupOrder::OldestFirst),
+            _ => Some(GroupOrder::NewestReadyFirst),
+        };
+        Act::SetMode(project, group, order)
+    }
+
     /// What a user or the owner of a runner does.
     fn act_of_user(&mut self) -> Act {
-        match self.below(9) {
+        match self.below(11) {
             0 | 1 => Act::Play(self.job()),
             2 => Act::CancelJob(self.job()),
             3 | 4 => Act::RetryJob(self.job()),
             5 => Act::CancelPipeline(self.below(PIPELINES.saturating_add(2))),
             6 => Act::Pause(self.below(6), true),
+            7 | 8 => self.mode(),
             _ => Act::Pause(self.below(6), false),
         }
     }
@@ -121,6 +137,13 @@ impl Course {
     /// When it comes: moments go back too.
     fn moment(&mut self) -> u64 {
         self.below(150).saturating_add(1000)
+    }
+
+    /// What comes before the event: does a runner ask while a job must wait by the mode of its group?
+    fn weigh(&mut self, act: Act, before: &Whole) {
+        if matches!(act, Act::AskAs(_)) && holds_back(before) {
+            self.held_back = self.held_back.saturating_add(1);
+        }
     }
 
     /// What the reply tells: an attempt was made, or none, or a pipeline, or one went.
@@ -196,7 +219,7 @@ fn is_pruned(alloc: Global, pipeline: Option<u64>, reply: &Reply) -> Result<bool
     }
 }
 
-/// Is the event answered as the rule has it? Only requests for jobs, those to prune and sweeps are looked at.
+/// Is the event answered as the rule has it? Only requests for jobs, those to prune, modes that are set and sweeps are looked at.
 fn is_foretold(
     alloc: Global,
     before: &Whole,
@@ -212,6 +235,9 @@ fn is_foretold(
         }
         (Act::Prune(moment), Answer::Reply(reply)) => {
             is_pruned(alloc, prunable(before, moment), reply)
+        }
+        (Act::SetMode(project, group, order), Answer::Reply(reply)) => {
+            Ok(reply.status == HttpStatus::Fine && after.order_of(project, group) == order)
         }
         (Act::Sweep, Answer::Swept(found)) => Ok(is_swept(found, &sweep(before, seconds))),
         _ => Ok(true),
@@ -256,6 +282,7 @@ fn one_more(
     course: &mut Course,
 ) -> Result<(InMemory, Whole), Fail> {
     let act = course.act();
+    course.weigh(act, before);
     let moment = course.moment();
     let attempt = course.attempts.saturating_add(1);
     let answer = match told_twice(alloc, &mut server, going, moment, act) {
@@ -309,6 +336,7 @@ fn many(alloc: Global, going: &mut InMemory, seed: u64, events: usize) -> Result
         pipelines: 2,
         attempts: 0,
         refused: 0,
+        held_back: 0,
         cancelled: 0,
         pruned: 0,
     };
@@ -328,9 +356,10 @@ fn go_right(rt: &impl Abort, alloc: Global, seed: u64) -> Result<(), Fail> {
     let_go(going);
     let course = course?;
     let (attempts, refused, cancelled) = (course.attempts, course.refused, course.cancelled);
-    let pruned = course.pruned;
+    let (held_back, pruned) = (course.held_back, course.pruned);
     assert!(rt; attempts > 20, "{attempts} attempts");
     assert!(rt; refused > 20, "{refused} refused");
+    assert!(rt; held_back > 20, "{held_back} held back");
     assert!(rt; cancelled > 0, "{cancelled} cancelled");
     assert!(rt; pruned > 2, "{pruned} pruned");
     Ok(())

@@ -1,5 +1,5 @@
 -- A life with one operation more.
-use Rattle.std.specs.Prelude.{ℕ, suc, Bool, true, false, map, length, if◌then◌else◌, Option, Some, None, codes, option_and_then, Result, Ok, Err, IfErr}
+use Rattle.std.specs.Prelude.{ℕ, suc, true, false, map, length, if◌then◌else◌, flat_map, Option, Some, None, codes, option_and_then, Result, Ok, Err, IfErr}
 use Rattle.std.specs.Str.Lines.{lines}
 use Rattle.std.specs.Result.{IsErrAnd}
 use Rattle.std.proofs.Common.{◌≡◌, ◌⊎◌, inl, inr, List, [], ◌∷◌, refl, sym, ap, subst, ◌∙◌, arith}
@@ -55,7 +55,7 @@ use Rattle.ci_machine.specs.State.{State, empty, applied}
 use Rattle.ci_machine.specs.Statuses.{row_for, facts_in, AreBoard}
 use Rattle.ci_machine_steps.specs.Step.{runner_with, queued, offered_variables}
 use Rattle.ci_machine.specs.Eligible.{chosen}
-use Rattle.ci_machine.specs.Holders.{holders}
+use Rattle.ci_machine.specs.Waiting.{waits_as, groups_with, claims_in}
 use Rattle.ci_machine_steps.specs.History.{IsReached}
 use Rattle.ci_machine_laws.specs.Examples.{seed, token, pipeline, new_runner, with_project, with_runner, project_added, runner_added, laid_by, job}
 use Rattle.ci_store.specs.declared.tables.OpenFault.{OpenFault}
@@ -252,19 +252,19 @@ module _ (one_tree : HasOneTree) (not_both : HasNotBoth) (reads : ReadsTrees) (o
       ap (λ (d : Config). laid_out d p) its ∙ ap (laid_out configured) its_plan
 
   -- its one row says that it is pending, and what the reply shows of it is no more
-  rows_so : (rows : List Row) → AreFirstRows made.jobs made.needs rows → pipeline_created 1 made (holders with_file) rows ≡ pipeline_made
+  rows_so : (rows : List Row) → AreFirstRows made.jobs made.needs rows → pipeline_created 1 made (claims_in with_file [] 1) rows ≡ pipeline_made
   rows_so [] are = let bad : ◌≡◌ {A = ℕ} 0 1 = are.long in absurd (omega (arith, bad))
   rows_so (row ∷ []) are =
       let status : row.status ≡ Pending = are.settled.is 0 (omega arith) in
       let same : row ≡ record no_row { status = Pending } = are.settled.each 0 (omega arith) ∙ ap (λ (s : Status). record no_row { status = s }) status in
-      ap (λ (w : Row). pipeline_created 1 made (holders with_file) (w ∷ [])) same
+      ap (λ (w : Row). pipeline_created 1 made (claims_in with_file [] 1) (w ∷ [])) same
   rows_so (a ∷ b ∷ rows) are = let bad : ◌≡◌ {A = ℕ} (suc (suc (length rows))) 1 = are.long in absurd (omega (arith, bad))
 
   pub plans_pipeline : IsPlanned with_file (CreatePipeline pipeline) pipeline_made
   unfolding digits hex_on_literals
   plans_pipeline = record {
     only = λ board are p does.
-        let makes = subst (λ (r : Result Layout Detail). pipelines.Makes 1 1 (holders with_file) pipeline given 1000 r p) (laid_so does.0 does.1) does.2 in
+        let makes = subst (λ (r : Result Layout Detail). pipelines.Makes 1 1 (claims_in with_file [] 1) pipeline given 1000 r p) (laid_so does.0 does.1) does.2 in
         makes.2 ∙ rows_so makes.0 makes.1;
     taken = refl;
   }
@@ -275,17 +275,18 @@ unfolding digits hex_on_literals
 is_waiting board are =
     (are.each 1).is 0 (omega arith)
 
--- what the runner's request comes to, by whether the job is pending
-abbrev by_pending : Bool → Plan
-by_pending pending =
+-- what the runner's request comes to, by the status of the job
+abbrev by_status : Status → Plan
+by_status status =
     let runner = runner_with with_pipeline token in
-    let offered = option_and_then (chosen (map (queued with_pipeline) (if pending then build ∷ [] else [])) (holders with_pipeline)) runner in
+    let groups = groups_with with_pipeline (flat_map (λ (j : Job). waits_as (queued with_pipeline j) status) (build ∷ [])) in
+    let offered = option_and_then (chosen (map (queued with_pipeline) (if is_status status Pending then build ∷ [] else [])) groups) runner in
     ask_job runner offered (offered_variables with_pipeline offered) with_pipeline.next.attempt 1000 seed
 
 pub plans_grant : IsPlanned with_pipeline (AskJob token) granted
 unfolding digits hex_on_literals
 plans_grant = record {
-  only = λ board are p does. does ∙ ap (λ (s : Status). by_pending (is_status s Pending)) (is_waiting board are);
+  only = λ board are p does. does ∙ ap by_status (is_waiting board are);
   taken = refl;
 }
 

@@ -131,13 +131,13 @@ format_row : (next : Numbers) → filter (has_key (Text (codes "format") ∷ [])
 unfolding binary value_cmp lib.Ieee.is_nan lib.Ieee.lt
 format_row next = refl
 
-version_row : (next : Numbers) → filter (has_key (Text (codes "version") ∷ [])) (meta_rows next) ≡ meta_row (codes "version") 1 ∷ []
+version_row : (next : Numbers) → filter (has_key (Text (codes "version") ∷ [])) (meta_rows next) ≡ meta_row (codes "version") 2 ∷ []
 unfolding binary value_cmp lib.Ieee.is_nan lib.Ieee.lt
 version_row next = refl
 
 pub never_blamed : (k : Kept) (db : Database) → Stands k db → (fault : OpenFault) → Blames fault db → IsFailure fault
 never_blamed k db stands O1 lacks = never_lacks k db stands (codes "format") 1128878163 (format_row k.state.next) lacks
-never_blamed k db stands O2 h = never_lacks k db stands (codes "version") 1 (version_row k.state.next) h.1
+never_blamed k db stands O2 h = never_lacks k db stands (codes "version") 2 (version_row k.state.next) h.1
 never_blamed k db stands O3 h = tt
 never_blamed k db stands Memory h = tt
 

@@ -44,12 +44,12 @@ LacksNumber key num db = ((fault : CompileError) × (understood db.schema SELECT
 -- `meta` has the number of this format, and that of its version
 pub record IsOurs (db : Database) : Type 0 where
   pub format : HasNumber (codes "format") 1128878163 db
-  pub version : HasNumber (codes "version") 1 db
+  pub version : HasNumber (codes "version") 2 db
 
 -- what a refusal to open says of the database
 abbrev pub Blames : OpenFault → Database → Type 0
 Blames O1 db = LacksNumber (codes "format") 1128878163 db
-Blames O2 db = HasNumber (codes "format") 1128878163 db × LacksNumber (codes "version") 1 db
+Blames O2 db = HasNumber (codes "format") 1128878163 db × LacksNumber (codes "version") 2 db
 Blames O3 db = Unit {0}
 Blames Memory db = Unit {0}
 

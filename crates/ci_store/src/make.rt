@@ -66,6 +66,7 @@ fn put_record<S: Alter>(
         Record::JobVariable(variable) => variable.put(tx, alloc, variable.job >= first_new),
         Record::Need(need) => need.put(tx, alloc, need.job >= first_new),
         Record::Attempt(attempt) => attempt.put(tx, alloc, false),
+        Record::Mode(mode) => mode.put(tx, alloc, false),
         Record::Next(counter, next) => set_next(tx, *counter, *next),
     }
 }
@@ -196,6 +197,7 @@ fn remove_record<S: Alter>(tx: &mut Transaction<'_, S>, key: &Key) -> Result<(),
             *id,
         ),
         Key::Trace(attempt) => remove_at(tx, &[], texts::DELETE_BLOCKS, *attempt),
+        Key::Mode(project, group) => remove_named(tx, texts::DELETE_MODE, *project, group),
     }
 }
 

@@ -6,6 +6,7 @@ ghost use Rattle.ci_machine.specs.Statuses.{attempts_of, jobs_of};
 ghost use Rattle.ci_machine.specs.Lookups.{project_at, project_with, project_variables, variable_at, runner_at, runner_with, pipeline_at, job_at, demand_at, variables_of, attempt_at, last_attempt_by, live_attempts, trace_of, next_of};
 ghost use Rattle.ci_machine.specs.Ranges.{needs_within, attempts_within, rows_within, row_at, rows_with, pending_after};
 ghost use Rattle.ci_machine.specs.Holders.{holder_at};
+ghost use Rattle.ci_machine.specs.Waiting.{mode_at};
 ghost use Rattle.ci_machine.specs.Indexes.{newer_in};
 ghost use Rattle.ci_store.specs.Made.{made_before, AreSome};
 ghost use Rattle.ci_store.specs.Store.{LoadsBy, Ends};
@@ -15,7 +16,8 @@ use ci_board::facts::Status;
 use ci_machine::change::Counter;
 use ci_machine::moment::Moment;
 use ci_machine::records::{
-    Attempt, BoardRow, Demand, Holder, Job, JobVariable, Need, Pipeline, Project, Runner, Variable,
+    Attempt, BoardRow, Demand, GroupMode, Holder, Job, JobVariable, Need, Pipeline, Project,
+    Runner, Variable,
 };
 use ci_machine::text::{Bytes, Text};
 use ci_store_tables::fault::StoreFault;
@@ -55,6 +57,14 @@ pub trait Store {
     /// The variable with a key, of a project that was found.
     fn variable(&mut self, project: u64, key: &Text) -> Result<Option<Variable>, StoreFault>
         ensures { LoadsBy honest holds leaves self.old self.new result (λ k v. v ≡ variable_at k.state project key.now) };
+
+    /// The process mode of a resource group of a project that was found. A group that is unordered has none.
+    fn mode(&mut self, project: u64, group: &Text) -> Result<Option<GroupMode>, StoreFault>
+        ensures { LoadsBy honest holds leaves self.old self.new result (λ k m. m ≡ mode_at k.state project group.now) };
+
+    /// The process modes of all resource groups that aren't unordered, by the project and then by the bytes of the group.
+    fn modes(&mut self) -> Result<Vec<GroupMode>, StoreFault>
+        ensures { LoadsBy honest holds leaves self.old self.new result (λ k ms. ms.items ≡ k.state.modes) };
 
     /// The runner with a number.
     fn runner(&mut self, id: u64) -> Result<Option<Runner>, StoreFault>

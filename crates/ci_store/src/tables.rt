@@ -24,13 +24,14 @@ use ci_board::facts::Status;
 use ci_machine::change::Counter;
 use ci_machine::moment::Moment;
 use ci_machine::records::{
-    Attempt, AttemptState, BoardRow, Demand, Holder, Job, JobVariable, Need, Pipeline, Project,
-    Runner, Variable,
+    Attempt, AttemptState, BoardRow, Demand, GroupMode, Holder, Job, JobVariable, Need, Pipeline,
+    Project, Runner, Variable,
 };
 use ci_machine::text::{Bytes, Text};
 use ci_store_rows::columns::{state_numbers, text};
 use ci_store_rows::texts;
 use ci_store_rows::version1::SCHEMA;
+use ci_store_rows::version2::CREATE_MODE;
 use ci_store_tables::fault::StoreFault;
 use ci_store_tables::read::rows;
 use ci_store_tables::values::number;
@@ -43,7 +44,7 @@ use std::marker::Model;
 pub const FORMAT: u64 = 1_128_878_163;
 
 /// The version of the format, under the key `version`.
-pub const VERSION: u64 = 1;
+pub const VERSION: u64 = 2;
 
 /// Why the tables were not opened.
 #[derive(Clone, Copy, Debug, PartialEq, Eq)]
@@ -109,6 +110,7 @@ fn define<S: Alter>(tx: &mut Transaction<'_, S>) -> Result<(), StoreFault>
     for text in SCHEMA {
         change(tx, text, &[])?;
     }
+    change(tx, CREATE_MODE, &[])?;
     Ok(())
 }
 
@@ -317,6 +319,14 @@ impl<S: Alter> Store for Tables<S> {
 
     fn variable(&mut self, project: u64, key: &Text) -> Result<Option<Variable>, StoreFault> {
         load::one_of(&mut self.conn, texts::SELECT_VARIABLE, project, key)
+    }
+
+    fn mode(&mut self, project: u64, group: &Text) -> Result<Option<GroupMode>, StoreFault> {
+        load::one_of(&mut self.conn, texts::SELECT_MODE, project, group)
+    }
+
+    fn modes(&mut self) -> Result<Vec<GroupMode>, StoreFault> {
+        load::list(&mut self.conn, texts::SELECT_MODES, &[])
     }
 
     fn runner(&mut self, id: u64) -> Result<Option<Runner>, StoreFault> {

@@ -15,6 +15,7 @@ use Rattle.sqlite_tied.specs.Compute.{everything}
 use Rattle.sqlite.specs.Command.TheVariants.{CreateTable, CreateIndex}
 use Rattle.sqlite.proofs.Callers.{IsPlain, command_of, statement_of, runs_as}
 use Rattle.ci_store_rows.specs.declared.version1.TheConstants.{SCHEMA}
+use Rattle.ci_store_rows.specs.declared.version2.TheConstants.{CREATE_MODE}
 use Rattle.ci_store_rows.specs.Schema as table
 use Rattle.ci_store_rows.specs.Schema.{the_schema}
 use Rattle.ci_store_rows.specs.Create.{IsBare}
@@ -95,12 +96,12 @@ creates_index before after at table text index means old new count bare h =
 
 -- how many tables and indexes there are after the first texts
 abbrev counts : List (ℕ × ℕ)
-counts = (0, 0) ∷ (1, 1) ∷ (2, 2) ∷ (3, 3) ∷ (4, 3) ∷ (5, 3) ∷ (5, 4) ∷ (6, 5) ∷ (7, 5) ∷ (7, 6) ∷ (7, 7) ∷ (8, 8) ∷ (9, 9) ∷ (9, 10) ∷ (10, 10) ∷ (10, 11) ∷ (11, 12) ∷ (12, 13) ∷ (12, 14) ∷ (12, 15) ∷ (12, 16) ∷ []
+counts = (0, 0) ∷ (1, 1) ∷ (2, 2) ∷ (3, 3) ∷ (4, 3) ∷ (5, 3) ∷ (5, 4) ∷ (6, 5) ∷ (7, 5) ∷ (7, 6) ∷ (7, 7) ∷ (8, 8) ∷ (9, 9) ∷ (9, 10) ∷ (10, 10) ∷ (10, 11) ∷ (11, 12) ∷ (12, 13) ∷ (12, 14) ∷ (12, 15) ∷ (12, 16) ∷ (12, 17) ∷ []
 
 -- the schema after the first texts
 abbrev pub schema_after : ℕ → Schema
 schema_after k =
-    let count = slice_index_or counts k (12, 17) in
+    let count = slice_index_or counts k (13, 18) in
     record { tables = take count.0 the_schema.tables; indexes = take count.1 the_schema.indexes; views = [] }
 
 abbrev pub text_at : ℕ → List ℕ
@@ -242,3 +243,12 @@ below_twenty_one (suc (suc (suc (suc (suc (suc (suc (suc (suc (suc (suc (suc (su
 
 pub runs_next : (k : ℕ) → k < 21 → (text : List ℕ) (old new : State) (count : ℕ) → IsBare (schema_after k) old.now → Executes text [] old new (Ok count) → text ≡ text_at k → IsBare (schema_after (k + 1)) new.now
 runs_next k low text old new count bare h is = makes_next k low old new count bare (subst (λ t. Executes t [] old new (Ok count)) is h)
+
+-- ---- what version 2 has more
+
+makes_mode : MeansTable (schema_after 21) the_schema CREATE_MODE.now (record table.mode { tree = 0 })
+unfolding understood everything
+makes_mode = record { command = refl; plain = (refl, refl); whole = refl; defined = refl; is = refl; uncounted = refl }
+
+pub runs_mode : (old new : State) (count : ℕ) → IsBare (schema_after 21) old.now → Executes CREATE_MODE.now [] old new (Ok count) → IsBare the_schema new.now
+runs_mode = creates_table (schema_after 21) the_schema CREATE_MODE.now _ makes_mode

@@ -48,7 +48,7 @@ begins db bare = record {
 pub ends : (db : Database) → IsOf the_schema (rows_after 7) db → Stands nothing_kept db
 ends db it = record {
   listed = it.listed;
-  inside = record { tables = record { sound = it.inside.sound; holds = it.inside.holds }; regular = record { projects = tt; variables = tt; runners = tt; pipelines = tt; jobs = tt; job_variables = tt; needs = tt; attempts = tt; traces = tt; board = tt; holders = tt; tags = tt; specs = tt } };
+  inside = record { tables = record { sound = it.inside.sound; holds = it.inside.holds }; regular = record { projects = tt; variables = tt; runners = tt; pipelines = tt; jobs = tt; job_variables = tt; needs = tt; attempts = tt; traces = tt; modes = tt; board = tt; holders = tt; tags = tt; specs = tt } };
 }
 
 -- a row that is new is put after those that are there
@@ -59,7 +59,7 @@ abbrev pub key_at : ℕ → List ℕ
 key_at k = slice_index_or (codes "format" ∷ codes "version" ∷ codes "next_project" ∷ codes "next_runner" ∷ codes "next_pipeline" ∷ codes "next_job" ∷ codes "next_attempt" ∷ []) k []
 
 abbrev pub number_at : ℕ → ℕ
-number_at k = slice_index_or (1128878163 ∷ 1 ∷ 1 ∷ 1 ∷ 1 ∷ 1 ∷ 1 ∷ []) k 0
+number_at k = slice_index_or (1128878163 ∷ 2 ∷ 1 ∷ 1 ∷ 1 ∷ 1 ∷ 1 ∷ []) k 0
 
 -- no row has the key before it is put
 grown : (k : ℕ) → k < 7 → IsPermutation (meta_row (key_at k) (number_at k) ∷ without (Text (key_at k) ∷ []) (rows_after k meta.tree)) (rows_after (k + 1) meta.tree)

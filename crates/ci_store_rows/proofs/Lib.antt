@@ -13,6 +13,7 @@ pub mod Blocks
 pub mod Needs
 pub mod Board
 pub mod Holders
+pub mod Modes
 pub mod Meta
 pub mod OneList
 pub mod Creates

@@ -62,17 +62,17 @@ gives key num = record {
 
 moved : (c : Counter) (n : ℕ) (next : Numbers) → IsPermutation (meta_row (counter_key c) n ∷ without (Text (counter_key c) ∷ []) (meta_rows next)) (meta_rows (with_next c n next))
 unfolding binary value_cmp lib.Ieee.is_nan lib.Ieee.lt
-moved counter.Project n next = IsPermutation-sym _ _ (IsPermutation-middle (meta_row (codes "format") 1128878163 ∷ meta_row (codes "version") 1 ∷ []) _ _)
-moved counter.Runner n next = IsPermutation-sym _ _ (IsPermutation-middle (meta_row (codes "format") 1128878163 ∷ meta_row (codes "version") 1 ∷ meta_row (codes "next_project") next.project ∷ []) _ _)
+moved counter.Project n next = IsPermutation-sym _ _ (IsPermutation-middle (meta_row (codes "format") 1128878163 ∷ meta_row (codes "version") 2 ∷ []) _ _)
+moved counter.Runner n next = IsPermutation-sym _ _ (IsPermutation-middle (meta_row (codes "format") 1128878163 ∷ meta_row (codes "version") 2 ∷ meta_row (codes "next_project") next.project ∷ []) _ _)
 moved counter.Pipeline n next =
-    IsPermutation-sym _ _ (IsPermutation-middle (meta_row (codes "format") 1128878163 ∷ meta_row (codes "version") 1 ∷ meta_row (codes "next_project") next.project ∷ meta_row (codes "next_runner") next.runner ∷ []) _ _)
+    IsPermutation-sym _ _ (IsPermutation-middle (meta_row (codes "format") 1128878163 ∷ meta_row (codes "version") 2 ∷ meta_row (codes "next_project") next.project ∷ meta_row (codes "next_runner") next.runner ∷ []) _ _)
 moved counter.Job n next =
     IsPermutation-sym _ _
-    (IsPermutation-middle (meta_row (codes "format") 1128878163 ∷ meta_row (codes "version") 1 ∷ meta_row (codes "next_project") next.project ∷ meta_row (codes "next_runner") next.runner ∷ meta_row (codes "next_pipeline") next.pipeline ∷ []) _ _)
+    (IsPermutation-middle (meta_row (codes "format") 1128878163 ∷ meta_row (codes "version") 2 ∷ meta_row (codes "next_project") next.project ∷ meta_row (codes "next_runner") next.runner ∷ meta_row (codes "next_pipeline") next.pipeline ∷ []) _ _)
 moved counter.Attempt n next =
     IsPermutation-sym _ _
     (IsPermutation-middle
-    (meta_row (codes "format") 1128878163 ∷ meta_row (codes "version") 1 ∷ meta_row (codes "next_project") next.project ∷ meta_row (codes "next_runner") next.runner ∷ meta_row (codes "next_pipeline") next.pipeline
+    (meta_row (codes "format") 1128878163 ∷ meta_row (codes "version") 2 ∷ meta_row (codes "next_project") next.project ∷ meta_row (codes "next_runner") next.runner ∷ meta_row (codes "next_pipeline") next.pipeline
     ∷ meta_row (codes "next_job") next.job ∷ []) _ _)
 
 pub next_sets : {S : Type 0} (ghosts : Ghosts S) (before after : Held S) (c : Counter) (n : ℕ) (k : Kept) → Stands k (state ghosts before).now → Changes ghosts UPDATE_META.now (meta_row (counter_key c) n) 1 before after

@@ -7,7 +7,7 @@ use Rattle.sqlite_rules.proofs.ListLemmas.{all_from}
 use Rattle.serde_json.specs.Read.{read}
 use Rattle.ci_machine.specs.Kept.{Kept, row_cmp}
 use Rattle.ci_machine.specs.Holders.{holder_cmp}
-use Rattle.ci_machine.specs.State.{project_cmp, variable_cmp, runner_cmp, pipeline_cmp, job_cmp, job_variable_cmp, need_cmp, attempt_cmp, trace_cmp}
+use Rattle.ci_machine.specs.State.{project_cmp, variable_cmp, runner_cmp, pipeline_cmp, job_cmp, job_variable_cmp, need_cmp, attempt_cmp, trace_cmp, mode_cmp}
 use Rattle.ci_machine.specs.declared.records.Numbers.{Numbers}
 use Rattle.ci_machine.specs.declared.records.Project.{Project}
 use Rattle.ci_machine.specs.declared.records.Variable.{Variable}
@@ -20,6 +20,7 @@ use Rattle.ci_machine.specs.declared.records.Attempt.{Attempt}
 use Rattle.ci_machine.specs.declared.records.Trace.{Trace}
 use Rattle.ci_machine.specs.declared.records.BoardRow.{BoardRow}
 use Rattle.ci_machine.specs.declared.records.Holder.{Holder}
+use Rattle.ci_machine.specs.declared.records.GroupMode.{GroupMode}
 use Rattle.ci_machine.specs.declared.records.Unfinished.{Unfinished}
 use Rattle.ci_store_rows.specs.Schema.{the_schema}
 use Rattle.ci_store_records.specs.JsonText.{list_text, list_data, spec_text, spec_data}
@@ -76,6 +77,9 @@ regular_with_attempts k xs up o = search rules
 
 pub regular_with_traces : (k : Kept) (xs : List Trace) → Rises trace_cmp xs → IsRegular k → IsRegular (record k { state = record k.state { traces = xs } })
 regular_with_traces k xs up o = search rules
+
+pub regular_with_modes : (k : Kept) (xs : List GroupMode) → Rises mode_cmp xs → IsRegular k → IsRegular (record k { state = record k.state { modes = xs } })
+regular_with_modes k xs up o = search rules
 
 pub regular_with_holders : (k : Kept) (xs : List Holder) → Rises holder_cmp xs → IsRegular k → IsRegular (record k { holders = xs })
 regular_with_holders k xs up o = search rules

@@ -379,6 +379,16 @@ rising_two a b c d h = (λ i. ordering_then (first i) (second i)) ∙ h
     second : ordering_then (by_key (ascending Binary) (number c) (number d)) Equal ≡ nat_cmp c d
     second = then-Equal _ ∙ value_cmp-Int (pos c) (pos d) ∙ int_nat c d
 
+-- what is in order by a number and a text is so by the columns
+pub rising_named : (a b : ℕ) (c d : List ℕ) → ordering_then (nat_cmp a b) (slice_cmp nat_cmp c d) ≡ Less → ordering_then (by_key (ascending Binary) (number a) (number b)) (ordering_then (by_key (ascending Binary) (Text c) (Text d)) Equal) ≡ Less
+rising_named a b c d h = (λ i. ordering_then (first i) (second i)) ∙ h
+  where
+    first : by_key (ascending Binary) (number a) (number b) ≡ nat_cmp a b
+    first = value_cmp-Int (pos a) (pos b) ∙ int_nat a b
+
+    second : ordering_then (by_key (ascending Binary) (Text c) (Text d)) Equal ≡ slice_cmp nat_cmp c d
+    second = then-Equal _ ∙ value_cmp-Text c d
+
 pub rising_text : (a b : List ℕ) → slice_cmp nat_cmp a b ≡ Less → ordering_then (by_key (ascending Binary) (Text a) (Text b)) Equal ≡ Less
 rising_text a b h = then-Equal _ ∙ value_cmp-Text a b ∙ h
 

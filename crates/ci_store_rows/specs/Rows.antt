@@ -14,6 +14,9 @@ use Rattle.ci_machine.specs.declared.records.Need.{Need}
 use Rattle.ci_machine.specs.declared.records.Attempt.{Attempt}
 use Rattle.ci_machine.specs.declared.records.BoardRow.{BoardRow}
 use Rattle.ci_machine.specs.declared.records.Holder.{Holder}
+use Rattle.ci_machine.specs.declared.records.GroupMode.{GroupMode}
+use Rattle.ci_machine.specs.declared.records.GroupOrder.{GroupOrder}
+use Rattle.ci_machine.specs.declared.records.GroupOrder.TheVariants.{OldestFirst, NewestReadyFirst}
 use Rattle.ci_board.specs.Effects.{status_number}
 use Rattle.ci_machine.specs.declared.records.RefKind.{RefKind}
 use Rattle.ci_machine.specs.declared.records.RefKind.TheVariants.{Branch, Tag}
@@ -66,6 +69,11 @@ exit_in (Succeeded exit) = exit
 exit_in (Failed cause exit) = exit
 exit_in _ = None
 
+-- a group that isn't unordered; an unordered one has no row
+abbrev pub order_number : GroupOrder → ℕ
+order_number OldestFirst = 1
+order_number NewestReadyFirst = 2
+
 abbrev pub project_row : Project → Row
 project_row p = number p.id ∷ Text p.name ∷ Text p.token ∷ or_null Text p.file ∷ []
 
@@ -99,3 +107,6 @@ board_row r = number r.job ∷ number (status_number r.row.status) ∷ number r.
 
 abbrev pub holder_row : Holder → Row
 holder_row h = number h.project ∷ Text h.group ∷ number h.attempt ∷ []
+
+abbrev pub mode_row : GroupMode → Row
+mode_row m = number m.project ∷ Text m.group ∷ number (order_number m.order) ∷ []

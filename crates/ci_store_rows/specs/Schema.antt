@@ -242,9 +242,22 @@ attempt_runner = record { name = codes "attempt_runner"; tree = 27; table = 11; 
 abbrev pub pipeline_created : Index
 pipeline_created = record { name = codes "pipeline_created"; tree = 28; table = 6; columns = 6 ∷ []; order = plain; is_unique = false }
 
+-- the process modes of resource groups that aren't unordered
+abbrev pub mode : Table
+mode =
+    keyed (codes "mode") 29
+    (column (codes "project") Integer true
+    ∷ column (codes "grp") Text true
+    ∷ column (codes "mode") Integer true
+    ∷ [])
+    (1 ∷ 2 ∷ []) (refers 1 (codes "project") NoAction ∷ [])
+
+abbrev pub mode_index_1 : Index
+mode_index_1 = automatic mode 0 (1 ∷ 2 ∷ []) 30
+
 abbrev pub the_schema : Schema
 the_schema = record {
-  tables = meta ∷ project ∷ runner ∷ pipeline ∷ job ∷ jobvar ∷ attempt ∷ piece ∷ need ∷ board ∷ variable ∷ holder ∷ [];
-  indexes = meta_index_1 ∷ project_index_1 ∷ runner_index_1 ∷ job_pipeline ∷ jobvar_index_1 ∷ attempt_job ∷ attempt_state ∷ piece_index_1 ∷ need_index_1 ∷ need_pred ∷ board_status ∷ variable_index_1 ∷ holder_index_1 ∷ holder_attempt ∷ pipeline_ref ∷ attempt_runner ∷ pipeline_created ∷ [];
+  tables = meta ∷ project ∷ runner ∷ pipeline ∷ job ∷ jobvar ∷ attempt ∷ piece ∷ need ∷ board ∷ variable ∷ holder ∷ mode ∷ [];
+  indexes = meta_index_1 ∷ project_index_1 ∷ runner_index_1 ∷ job_pipeline ∷ jobvar_index_1 ∷ attempt_job ∷ attempt_state ∷ piece_index_1 ∷ need_index_1 ∷ need_pred ∷ board_status ∷ variable_index_1 ∷ holder_index_1 ∷ holder_attempt ∷ pipeline_ref ∷ attempt_runner ∷ pipeline_created ∷ mode_index_1 ∷ [];
   views = [];
 }

@@ -13,7 +13,7 @@ use Rattle.sqlite.specs.Held.{Held, state}
 use Rattle.sqlite_trees.specs.Tree.{IsAscending}
 use Rattle.ci_machine.specs.Kept.{Kept, row_cmp}
 use Rattle.ci_machine.specs.Holders.{holder_cmp}
-use Rattle.ci_machine.specs.State.{project_cmp, variable_cmp, runner_cmp, pipeline_cmp, job_cmp, job_variable_cmp, need_cmp, attempt_cmp, trace_cmp}
+use Rattle.ci_machine.specs.State.{project_cmp, variable_cmp, runner_cmp, pipeline_cmp, job_cmp, job_variable_cmp, need_cmp, attempt_cmp, trace_cmp, mode_cmp}
 use Rattle.ci_machine.specs.declared.records.Numbers.{Numbers}
 use Rattle.ci_machine.specs.declared.change.Counter.{Counter}
 use Rattle.ci_machine.specs.declared.change.Counter.TheVariants as counter
@@ -23,7 +23,7 @@ use Rattle.ci_store_records.specs.JsonText.{list_data, list_text, spec_data, spe
 use Rattle.ci_store_rows.specs.Schema as table
 use Rattle.ci_store_rows.specs.Schema.{the_schema}
 use Rattle.ci_store_rows.specs.Blocks.{all_blocks}
-use Rattle.ci_store_rows.specs.Rows.{number, project_row, variable_row, runner_row, pipeline_row, job_row, job_variable_row, need_row, attempt_row, block_row, board_row, holder_row}
+use Rattle.ci_store_rows.specs.Rows.{number, project_row, variable_row, runner_row, pipeline_row, job_row, job_variable_row, need_row, attempt_row, block_row, board_row, holder_row, mode_row}
 
 abbrev pub meta_row : List ℕ → ℕ → Row
 meta_row key num = Text key ∷ number num ∷ []
@@ -39,7 +39,7 @@ counter_key counter.Attempt = codes "next_attempt"
 -- the format, the version and the next numbers
 abbrev pub meta_rows : Numbers → List Row
 meta_rows next =
-    meta_row (codes "format") 1128878163 ∷ meta_row (codes "version") 1 ∷ meta_row (codes "next_project") next.project ∷ meta_row (codes "next_runner") next.runner
+    meta_row (codes "format") 1128878163 ∷ meta_row (codes "version") 2 ∷ meta_row (codes "next_project") next.project ∷ meta_row (codes "next_runner") next.runner
     ∷ meta_row (codes "next_pipeline") next.pipeline ∷ meta_row (codes "next_job") next.job ∷ meta_row (codes "next_attempt") next.attempt ∷ []
 
 -- the rows of each table, with its tree
@@ -57,6 +57,7 @@ rows_by_tree k =
     ∷ (table.board.tree, map board_row k.board)
     ∷ (table.variable.tree, map variable_row k.state.variables)
     ∷ (table.holder.tree, map holder_row k.holders)
+    ∷ (table.mode.tree, map mode_row k.state.modes)
     ∷ []
 
 -- the rows of this tree, and none where it is no table's
@@ -83,6 +84,7 @@ pub record IsRegular (k : Kept) : Type 0 where
   pub needs : Rises need_cmp k.state.needs
   pub attempts : Rises attempt_cmp k.state.attempts
   pub traces : Rises trace_cmp k.state.traces
+  pub modes : Rises mode_cmp k.state.modes
   pub board : Rises row_cmp k.board
   pub holders : Rises holder_cmp k.holders
   pub tags : AllByRecursion (λ r. read (list_text r.tags) ≡ Some (list_data r.tags)) k.state.runners

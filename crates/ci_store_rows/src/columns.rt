@@ -5,10 +5,10 @@ ghost use Rattle.sqlite.specs.Value.{owned};
 ghost use Rattle.sqlite.specs.Values.{or_null};
 ghost use Rattle.sqlite.specs.declared.types.Value.TheVariants.{Text as Words};
 ghost use Rattle.ci_store_rows.specs.Stands.{counter_key};
-ghost use Rattle.ci_store_rows.specs.Rows.{kind_number, source_number, cause_number, state_number, cause_in, exit_in};
+ghost use Rattle.ci_store_rows.specs.Rows.{kind_number, source_number, cause_number, state_number, cause_in, exit_in, order_number};
 
 use ci_machine::change::Counter;
-use ci_machine::records::{AttemptState, Cause, RefKind, Source};
+use ci_machine::records::{AttemptState, Cause, GroupOrder, RefKind, Source};
 use ci_machine::text::Text;
 use sqlite::types::{ToSql, ValueRef};
 
@@ -74,6 +74,16 @@ pub fn state_numbers(state: AttemptState) -> (u32, Option<u32>, Option<u32>)
         AttemptState::Succeeded(exit) => (1, None, exit),
         AttemptState::Failed(cause, exit) => (2, Some(cause_number(cause)), exit),
         AttemptState::Cancelled => (3, None, None),
+    }
+}
+
+/// The column `mode` of a resource group that isn't unordered.
+pub fn order_number(order: GroupOrder) -> u32
+    ensures { result ≡ order_number order }
+{
+    match order {
+        GroupOrder::OldestFirst => 1,
+        GroupOrder::NewestReadyFirst => 2,
     }
 }
 

@@ -193,3 +193,14 @@ pub const SELECT_HOLDER: &str =
     "SELECT project, grp, attempt FROM holder WHERE project = ?1 AND grp = ?2";
 
 pub const SELECT_HOLDERS_OF: &str = "SELECT project, grp, attempt FROM holder WHERE attempt = ?1";
+
+pub const INSERT_MODE: &str = "INSERT INTO mode (project, grp, mode) VALUES (?1, ?2, ?3)";
+
+pub const UPDATE_MODE: &str =
+    "UPDATE mode SET project = ?1, grp = ?2, mode = ?3 WHERE project = ?1 AND grp = ?2";
+
+pub const DELETE_MODE: &str = "DELETE FROM mode WHERE project = ?1 AND grp = ?2";
+
+pub const SELECT_MODE: &str = "SELECT project, grp, mode FROM mode WHERE project = ?1 AND grp = ?2";
+
+pub const SELECT_MODES: &str = "SELECT project, grp, mode FROM mode ORDER BY project, grp";

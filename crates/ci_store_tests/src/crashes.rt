@@ -3,10 +3,10 @@
 
 use crate::plain;
 use crate::plain::Load;
-use crate::records::{Change, Made};
+use crate::records::{Change, Gone, Made};
 use ci_board::facts::Status;
 use ci_machine::change::Counter;
-use ci_machine::records::{AttemptState, RefKind};
+use ci_machine::records::{AttemptState, GroupOrder, RefKind};
 use ci_store::Connection;
 use ci_store::tables::{OpenFault, Tables};
 use ci_store_disks::{closed, connected, empty, fused, stopped};
@@ -19,7 +19,7 @@ use std::test::Fail;
 /// Files that fail.
 type Failing = Fuse<Memory>;
 
-/// Project 1 and a job of it, of which an attempt is live and has a trace.
+/// Project 1 with a process mode, and a job of it, of which an attempt is live and has a trace.
 const FIRST: &[Change] = &[
     Change::Put(Made::Project(1, "one", "p1")),
     Change::Put(Made::Runner(1)),
@@ -27,13 +27,17 @@ const FIRST: &[Change] = &[
     Change::Put(Made::Job(1, 1)),
     Change::Put(Made::Attempt(1, 1, AttemptState::Live)),
     Change::Append(b"one, "),
+    Change::Put(Made::Mode(1, "test", GroupOrder::OldestFirst)),
 ];
 
-/// Of the second commit: records, bytes behind a trace, a row, a group that is held and a pipeline that isn't finished.
+/// Of the second commit: records, bytes behind a trace, a process mode that is set and one that goes, a row, a group that is held
+/// and a pipeline that isn't finished.
 const SECOND: &[Change] = &[
     Change::Put(Made::Project(1, "uno", "p1")),
     Change::Put(Made::Project(2, "two", "p2")),
     Change::Append(b"two"),
+    Change::Put(Made::Mode(1, "prod", GroupOrder::NewestReadyFirst)),
+    Change::Remove(Gone::Mode(1, "test")),
     Change::Row(1, Status::Pending),
     Change::Hold(1, "prod", 1),
     Change::Open(1),
@@ -47,6 +51,7 @@ const NOTHING: &[(Load, &str)] = &[
     (Load::Next(Counter::Job), "1"),
     (Load::Next(Counter::Attempt), "1"),
     (Load::Project(1), ""),
+    (Load::Modes, ""),
     (Load::Row(1), ""),
 ];
 
@@ -55,6 +60,7 @@ const BEFORE: &[(Load, &str)] = &[
     (Load::Project(1), "1 one p1 -"),
     (Load::Project(2), ""),
     (Load::TraceOf(1), "0 one, "),
+    (Load::Modes, "1 test oldest_first"),
     (Load::Row(1), ""),
     (Load::Holder(1, "prod"), ""),
 ];
@@ -64,6 +70,7 @@ const AFTER: &[(Load, &str)] = &[
     (Load::Project(1), "1 uno p1 -"),
     (Load::Project(2), "2 two p2 -"),
     (Load::TraceOf(1), "0 one, two"),
+    (Load::Modes, "1 prod newest_ready_first"),
     (Load::Row(1), "1 pending 2 1 3"),
     (Load::Holder(1, "prod"), "1 prod 1"),
 ];

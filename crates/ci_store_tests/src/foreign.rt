@@ -86,6 +86,14 @@ const BROKEN: &[(&str, Load)] = &[
         "UPDATE meta SET num = -1 WHERE key = 'next_job'",
         Load::Next(Counter::Job),
     ),
+    ("UPDATE mode SET mode = 0", Load::Mode(1, "prod")),
+    ("UPDATE mode SET mode = 3", Load::Mode(1, "prod")),
+    ("UPDATE mode SET mode = -1", Load::Mode(1, "prod")),
+    ("UPDATE mode SET mode = 0", Load::Modes),
+    (
+        "INSERT INTO mode (project, grp, mode) VALUES (1, 'test', 3)",
+        Load::Modes,
+    ),
 ];
 
 /// Is the load broken after the statement, while project 1 is there still?
@@ -111,7 +119,11 @@ const FOREIGN: &[(&str, OpenFault)] = &[
     ("DELETE FROM meta WHERE key = 'format'", OpenFault::O1),
     ("DROP TABLE meta", OpenFault::O1),
     (
-        "UPDATE meta SET num = 2 WHERE key = 'version'",
+        "UPDATE meta SET num = 1 WHERE key = 'version'",
+        OpenFault::O2,
+    ),
+    (
+        "UPDATE meta SET num = 3 WHERE key = 'version'",
         OpenFault::O2,
     ),
     ("DELETE FROM meta WHERE key = 'version'", OpenFault::O2),
@@ -151,5 +163,94 @@ fn tables_are_not_made_among_others(rt: HostRuntime) -> Result<(), Fail> {
     assert_eq!(rt; not_created(noted(alloc)?), Some(OpenFault::O1));
     let begun = altered(alloc, "BEGIN")?;
     assert_eq!(rt; not_created(begun), Some(OpenFault::O3));
+    Ok(())
+}
+
+/// A statement that gives a store another number, the fault of its opening, and a statement that gives it its own again if it has the other one.
+const RENUMBERED: &[(&str, OpenFault, &str)] = &[
+    (
+        "UPDATE meta SET num = 1 WHERE key = 'version'",
+        OpenFault::O2,
+        "UPDATE meta SET num = 2 WHERE key = 'version' AND num = 1",
+    ),
+    (
+        "UPDATE meta SET num = 3 WHERE key = 'version'",
+        OpenFault::O2,
+        "UPDATE meta SET num = 2 WHERE key = 'version' AND num = 3",
+    ),
+    (
+        "UPDATE meta SET num = 7 WHERE key = 'format'",
+        OpenFault::O1,
+        "UPDATE meta SET num = 1128878163 WHERE key = 'format' AND num = 7",
+    ),
+];
+
+/// What of the records is there in a store that was filled.
+const FILLED: &[(Load, &str)] = &[
+    (Load::Project(1), "1 one p1 -"),
+    (Load::VariablesOf(1), "1 LEVEL=0"),
+    (Load::Modes, "1 prod oldest_first"),
+    (Load::Pipeline(1), "1 1 main tag schedule 60"),
+    (Load::JobVariables(1), "1 CI=1; 1 KEY=1"),
+    (Load::Row(1), "1 manual 2 1 3"),
+    (Load::Next(Counter::Job), "3"),
+];
+
+/// Is the store refused with this fault, and has its other number still, and its records?
+fn is_refused_and_left(
+    alloc: Global,
+    statement: &str,
+    wants: OpenFault,
+    back: &str,
+) -> Result<bool, Fail> {
+    let (fault, mut conn) = parted(open(altered(alloc, statement)?));
+    let changed = conn.execute(back, &[])?;
+    let mut tables = found(open(conn)).ok_or("not opened with its own number")?;
+    Ok(fault == Some(wants) && changed == 1 && are_shown(alloc, &mut tables, FILLED)?)
+}
+
+#[test]
+fn another_version_is_refused_and_left_as_it_is(rt: HostRuntime) -> Result<(), Fail> {
+    for (statement, wants, back) in RENUMBERED {
+        assert!(rt;
+            is_refused_and_left(rt.alloc(), statement, *wants, back)?,
+            "{statement}"
+        );
+    }
+    Ok(())
+}
+
+/// A store of version 1, which has no table of process modes.
+fn of_version_1(alloc: Global) -> Result<Connection<MemStore>, Fail> {
+    let mut conn = altered(alloc, "DROP TABLE mode")?;
+    let _ = conn.execute("UPDATE meta SET num = 1 WHERE key = 'version'", &[])?;
+    Ok(conn)
+}
+
+#[test]
+fn version_1_is_refused_and_gets_no_table(rt: HostRuntime) -> Result<(), Fail> {
+    let (fault, mut conn) = parted(open(of_version_1(rt.alloc())?));
+    assert_eq!(rt; fault, Some(OpenFault::O2));
+    let modes = conn.query_all("SELECT sql FROM sqlite_schema WHERE name = 'mode'", &[])?;
+    assert!(rt; modes.is_empty());
+    let versions = conn.query_all("SELECT num FROM meta WHERE key = 'version'", &[])?;
+    let version: u64 = versions.as_slice().first().ok_or("no version")?.get(0)?;
+    assert_eq!(rt; version, 1);
+    discard(conn);
+    Ok(())
+}
+
+/// Another program puts a mode of each number.
+const MODES_PUT: &str =
+    "INSERT INTO mode (project, grp, mode) VALUES (1, 'first', 1), (1, 'second', 2)";
+
+#[test]
+fn a_mode_is_1_or_2(rt: HostRuntime) -> Result<(), Fail> {
+    let mut tables = found(open(altered(rt.alloc(), MODES_PUT)?)).ok_or("not opened")?;
+    let wants = [(
+        Load::Modes,
+        "1 first oldest_first; 1 prod oldest_first; 1 second newest_ready_first",
+    )];
+    assert!(rt; are_shown(rt.alloc(), &mut tables, &wants)?);
     Ok(())
 }

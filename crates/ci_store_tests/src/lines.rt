@@ -1,8 +1,8 @@
 //! What a load answers, as a text: a line for each record, with its fields in the order of the columns.
 
 use ci_machine::records::{
-    Attempt, AttemptState, BoardRow, Cause, Demand, Holder, Job, JobOptions, JobVariable, Need,
-    Pipeline, Project, RefKind, Runner, Variable,
+    Attempt, AttemptState, BoardRow, Cause, Demand, GroupMode, Holder, Job, JobOptions,
+    JobVariable, Need, Pipeline, Project, RefKind, Runner, Variable, process_mode,
 };
 use ci_machine::text::{Bytes, Text, Texts};
 use ci_store::fault::StoreFault;
@@ -375,5 +375,16 @@ impl Shown for Holder {
     fn line(&self, alloc: Global) -> Result<String, Fail> {
         let group = self.group.as_str();
         Ok(format!(in alloc; "{} {group} {}", self.project, self.attempt)?)
+    }
+}
+
+impl Shown for GroupMode {
+    fn number(&self) -> u64 {
+        self.project
+    }
+
+    fn line(&self, alloc: Global) -> Result<String, Fail> {
+        let (group, mode) = (self.group.as_str(), process_mode(Some(self.order)));
+        Ok(format!(in alloc; "{} {group} {mode}", self.project)?)
     }
 }

@@ -102,6 +102,8 @@ pub enum Load {
     ProjectWith(&'static str),
     VariablesOf(u64),
     Variable(u64, &'static str),
+    Mode(u64, &'static str),
+    Modes,
     Runner(u64),
     RunnerWith(&'static str),
     Pipeline(u64),
@@ -195,6 +197,10 @@ pub fn shown<S: Alter>(alloc: Global, tables: &mut Tables<S>, load: Load) -> Res
         Load::Variable(project, key) => {
             Answer::of_one(alloc, tables.variable(project, &text(alloc, key)?))
         }
+        Load::Mode(project, group) => {
+            Answer::of_one(alloc, tables.mode(project, &text(alloc, group)?))
+        }
+        Load::Modes => Answer::of_all(alloc, tables.modes()),
         Load::Runner(id) => Answer::of_one(alloc, tables.runner(id)),
         Load::RunnerWith(token) => Answer::of_one(alloc, tables.runner_with(&text(alloc, token)?)),
         _ => shown_of_pipelines(alloc, tables, load),

@@ -5,8 +5,8 @@ use ci_graph::part::Part;
 use ci_machine::change::{Counter, IndexChange, Key, Record, RowChange};
 use ci_machine::moment::Moment;
 use ci_machine::records::{
-    Attempt, AttemptState, BoardRow, Cause, Holder, Job, JobOptions, JobVariable, Need, Pipeline,
-    Project, RefKind, Runner, Source, Trace, Unfinished, Variable,
+    Attempt, AttemptState, BoardRow, Cause, GroupMode, GroupOrder, Holder, Job, JobOptions,
+    JobVariable, Need, Pipeline, Project, RefKind, Runner, Source, Trace, Unfinished, Variable,
 };
 use ci_machine::text::{Bytes, Text, Texts};
 use ci_values::items::Items;
@@ -35,6 +35,8 @@ pub enum Made {
     Attempt(u64, u64, AttemptState),
     /// A job, and the one that it waits for.
     Need(u64, u64),
+    /// Its project and group.
+    Mode(u64, &'static str, GroupOrder),
 }
 
 /// The key of a row that is removed.
@@ -50,6 +52,7 @@ pub enum Gone {
     Needs(u64),
     Attempt(u64),
     Trace(u64),
+    Mode(u64, &'static str),
 }
 
 /// A change of what the tables keep.
@@ -222,6 +225,11 @@ fn record(alloc: Global, made: &Made) -> Result<Record, Fail> {
             job: *job,
             pred: *pred,
         }),
+        Made::Mode(project, group, order) => Record::Mode(GroupMode {
+            project: *project,
+            group: text(alloc, group)?,
+            order: *order,
+        }),
     })
 }
 
@@ -237,6 +245,7 @@ fn key(alloc: Global, gone: &Gone) -> Result<Key, Fail> {
         Gone::Needs(job) => Key::Needs(*job),
         Gone::Attempt(id) => Key::Attempt(*id),
         Gone::Trace(attempt) => Key::Trace(*attempt),
+        Gone::Mode(project, group) => Key::Mode(*project, text(alloc, group)?),
     })
 }
 
@@ -315,6 +324,7 @@ pub const ONE_OF_EACH: &[Change] = &[
     Change::Put(Made::Attempt(1, 1, AttemptState::Failed(Cause::ScriptFailure, Some(2)))),
     Change::Put(Made::JobVariable("KEY")),
     Change::Put(Made::JobVariable("CI")),
+    Change::Put(Made::Mode(1, "prod", GroupOrder::OldestFirst)),
     Change::SetNext(Counter::Job, 3),
     Change::Row(1, Status::Manual),
 ];

@@ -4,7 +4,7 @@ use crate::plain::{Load, close, filled, is_committed, is_made, let_go, reopened,
 use crate::records::{Change, Gone, Made, Work, row_of};
 use ci_board::facts::Status;
 use ci_machine::change::Counter;
-use ci_machine::records::{AttemptState, RefKind};
+use ci_machine::records::{AttemptState, GroupOrder, RefKind};
 use ci_store::Alter;
 use ci_store::tables::Tables;
 use ci_store_disks::discard;
@@ -99,6 +99,8 @@ const RECORDS: &[Step] = &[
     Step::Finds(Load::JobsOf(1), &[1, 2]),
     Step::Shows(Load::Next(Counter::Job), "3"),
     Step::Shows(Load::Attempt(1), "1 1 1 j1 100 130 script_failure Some(2)"),
+    Step::Shows(Load::Mode(1, "prod"), "1 prod oldest_first"),
+    Step::Shows(Load::Modes, "1 prod oldest_first"),
 ];
 
 #[test]
@@ -193,6 +195,95 @@ fn a_project_with_a_variable_is_not_removed(rt: HostRuntime) -> Result<(), Fail>
         &[Step::Makes(FOUR_VARIABLES)],
         VARIABLES_GO,
     )
+}
+
+// ---- process modes
+
+/// Two more of project 1 and one of project 2, not in the order of their keys.
+const FOUR_MODES: &[Change] = &[
+    Change::Put(Made::Project(2, "two", "p2")),
+    Change::Put(Made::Mode(2, "prod", GroupOrder::NewestReadyFirst)),
+    Change::Put(Made::Mode(1, "test", GroupOrder::NewestReadyFirst)),
+    Change::Put(Made::Mode(1, "Prod", GroupOrder::OldestFirst)),
+];
+
+/// By the project and then by the bytes of the group; and those groups have none that are of another case, of another project or of none.
+const MODES: &[Step] = &[
+    Step::Shows(
+        Load::Modes,
+        "1 Prod oldest_first; 1 prod oldest_first; 1 test newest_ready_first; 2 prod newest_ready_first",
+    ),
+    Step::Shows(Load::Mode(1, "prod"), "1 prod oldest_first"),
+    Step::Shows(Load::Mode(1, "test"), "1 test newest_ready_first"),
+    Step::Shows(Load::Mode(2, "prod"), "2 prod newest_ready_first"),
+    Step::Shows(Load::Mode(1, "Test"), ""),
+    Step::Shows(Load::Mode(1, "pro"), ""),
+    Step::Shows(Load::Mode(2, "test"), ""),
+    Step::Shows(Load::Mode(2, "Prod"), ""),
+    Step::Shows(Load::Mode(3, "prod"), ""),
+];
+
+#[test]
+fn modes_come_by_project_and_group(rt: HostRuntime) -> Result<(), Fail> {
+    tells(&rt, rt.alloc(), &[Step::Makes(FOUR_MODES)], MODES)
+}
+
+/// Each order is put in the place of the other, in two commits and in one. Two modes go, and then again, with some that were never there.
+const MODES_CHANGE: &[Step] = &[
+    Step::Makes(FOUR_MODES),
+    Step::Makes(&[
+        Change::Put(Made::Mode(1, "prod", GroupOrder::NewestReadyFirst)),
+        Change::Put(Made::Mode(1, "test", GroupOrder::OldestFirst)),
+        Change::Put(Made::Mode(1, "late", GroupOrder::OldestFirst)),
+        Change::Put(Made::Mode(1, "late", GroupOrder::NewestReadyFirst)),
+    ]),
+    Step::Makes(&[
+        Change::Remove(Gone::Mode(1, "Prod")),
+        Change::Remove(Gone::Mode(2, "prod")),
+    ]),
+    Step::Shows(Load::Mode(1, "prod"), "1 prod newest_ready_first"),
+    Step::Shows(Load::Mode(2, "prod"), ""),
+    Step::Makes(&[
+        Change::Remove(Gone::Mode(2, "prod")),
+        Change::Remove(Gone::Mode(2, "test")),
+        Change::Remove(Gone::Mode(1, "pro")),
+        Change::Remove(Gone::Mode(3, "prod")),
+    ]),
+];
+
+const MODES_THEN: &[Step] = &[
+    Step::Shows(
+        Load::Modes,
+        "1 late newest_ready_first; 1 prod newest_ready_first; 1 test oldest_first",
+    ),
+    Step::Shows(Load::Mode(1, "Prod"), ""),
+    Step::Shows(Load::Mode(1, "test"), "1 test oldest_first"),
+    Step::Shows(Load::Mode(2, "prod"), ""),
+];
+
+#[test]
+fn a_mode_is_put_in_the_place_of_another_and_removed(rt: HostRuntime) -> Result<(), Fail> {
+    tells(&rt, rt.alloc(), MODES_CHANGE, MODES_THEN)
+}
+
+/// Project 2 stays as long as it has a mode; and a project that isn't there gets none.
+const MODES_GO: &[Step] = &[
+    Step::Refuses(&[Change::Remove(Gone::Project(2))]),
+    Step::Makes(&[Change::Remove(Gone::Mode(1, "prod"))]),
+    Step::Refuses(&[Change::Remove(Gone::Project(2))]),
+    Step::Makes(&[Change::Remove(Gone::Mode(2, "prod"))]),
+    Step::Makes(&[Change::Remove(Gone::Project(2))]),
+    Step::Refuses(&[Change::Put(Made::Mode(2, "prod", GroupOrder::OldestFirst))]),
+    Step::Shows(
+        Load::Modes,
+        "1 Prod oldest_first; 1 test newest_ready_first",
+    ),
+    Step::Shows(Load::Project(2), ""),
+];
+
+#[test]
+fn a_project_with_a_mode_is_not_removed(rt: HostRuntime) -> Result<(), Fail> {
+    tells(&rt, rt.alloc(), &[Step::Makes(FOUR_MODES)], MODES_GO)
 }
 
 // ---- traces
@@ -670,6 +761,10 @@ const TEXTS: &[(&str, &str)] = &[
     (
         "SELECT sql FROM sqlite_schema WHERE name = 'pipeline_created'",
         "CREATE INDEX pipeline_created ON pipeline (created)",
+    ),
+    (
+        "SELECT sql FROM sqlite_schema WHERE name = 'mode'",
+        "CREATE TABLE mode (project INTEGER NOT NULL REFERENCES project (id), grp TEXT NOT NULL, mode INTEGER NOT NULL, PRIMARY KEY (project, grp)) STRICT",
     ),
 ];
 

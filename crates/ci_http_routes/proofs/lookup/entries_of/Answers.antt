@@ -1,5 +1,5 @@
 use Rattle.std.proofs.Common.{rules}
-use Rattle.ci_http_routes.proofs.lookup.entries_of.Goals.{in-Queue, in-Attempt+in_ok-n-in-Attempt, in-AttemptTrace+in_ok-n-in-AttemptTrace, in-CiFile+in_ok-id-in-CiFile, in-Variable+in_ok-id-in-Variable+in_ok-place-in-Variable, in-Creation+in_ok-id-in-Creation, in-Pipeline+in_ok-id-in-Pipeline+in_ok-n-in-Pipeline, in-PipelineCancel+in_ok-id-in-PipelineCancel+in_ok-n-in-PipelineCancel, in-Job+in_ok-id-in-Job+in_ok-n-in-Job, in-JobTrace+in_ok-id-in-JobTrace+in_ok-n-in-JobTrace, in-JobPlay+in_ok-id-in-JobPlay+in_ok-n-in-JobPlay, in-JobCancel+in_ok-id-in-JobCancel+in_ok-n-in-JobCancel, in-JobRetry+in_ok-id-in-JobRetry+in_ok-n-in-JobRetry}
+use Rattle.ci_http_routes.proofs.lookup.entries_of.Goals.{in-Queue, in-Attempt+in_ok-n-in-Attempt, in-AttemptTrace+in_ok-n-in-AttemptTrace, in-CiFile+in_ok-id-in-CiFile, in-Variable+in_ok-id-in-Variable+in_ok-place-in-Variable, in-ResourceGroup+in_ok-id-in-ResourceGroup+in_ok-place-in-ResourceGroup, in-Creation+in_ok-id-in-Creation, in-Pipeline+in_ok-id-in-Pipeline+in_ok-n-in-Pipeline, in-PipelineCancel+in_ok-id-in-PipelineCancel+in_ok-n-in-PipelineCancel, in-Job+in_ok-id-in-Job+in_ok-n-in-Job, in-JobTrace+in_ok-id-in-JobTrace+in_ok-n-in-JobTrace, in-JobPlay+in_ok-id-in-JobPlay+in_ok-n-in-JobPlay, in-JobCancel+in_ok-id-in-JobCancel+in_ok-n-in-JobCancel, in-JobRetry+in_ok-id-in-JobRetry+in_ok-n-in-JobRetry}
 use Rattle.ci_http_routes.proofs.lookup.entries_of.Goals as goal
 
 pub returns : goal.returns
@@ -10,6 +10,7 @@ returns c =
       | in-AttemptTrace+in_ok-n-in-AttemptTrace w ↦ search rules
       | in-CiFile+in_ok-id-in-CiFile w ↦ search rules
       | in-Variable+in_ok-id-in-Variable+in_ok-place-in-Variable w ↦ search rules
+      | in-ResourceGroup+in_ok-id-in-ResourceGroup+in_ok-place-in-ResourceGroup w ↦ search rules
       | in-Creation+in_ok-id-in-Creation w ↦ search rules
       | in-Pipeline+in_ok-id-in-Pipeline+in_ok-n-in-Pipeline w ↦ search rules
       | in-PipelineCancel+in_ok-id-in-PipelineCancel+in_ok-n-in-PipelineCancel w ↦ search rules

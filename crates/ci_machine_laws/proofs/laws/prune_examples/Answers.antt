@@ -1,4 +1,4 @@
-use Rattle.std.specs.Prelude.{List, map}
+use Rattle.std.specs.Prelude.{List, [], ◌∷◌, map}
 use Rattle.std.proofs.Common.{refl, inl, inr}
 use Rattle.std.specs.Fmt.{digits}
 use Rattle.serde_json.proofs.OnLiterals.{serde_json_on_literals}
@@ -6,22 +6,22 @@ use Rattle.ci_board.specs.declared.facts.Status.TheVariants.{Pending, Running}
 use Rattle.ci_machine.specs.declared.records.Job.{Job}
 use Rattle.ci_machine.specs.declared.records.BoardRow.{BoardRow}
 use Rattle.ci_machine.specs.State.{State}
-use Rattle.ci_machine.specs.Statuses.{jobs_of, graph_by, facts_in, row_for}
+use Rattle.ci_machine.specs.Statuses.{graph_by, facts_in, row_for}
 use Rattle.ci_machine_laws.specs.PruneExamples.{both_done, both_board, second_left, second_board, running, waiting, with_second}
-use Rattle.ci_machine_laws.proofs.Computed.{computed_rows, one_pipeline, two_pipelines}
+use Rattle.ci_machine_laws.proofs.Computed.{computed_rows, one_pipeline, rows_of_one, some_pipelines}
 use Rattle.ci_machine_laws.proofs.laws.prune_examples.Goals as goal
 
 pub returns-clause-before : goal.returns-clause-before
 returns-clause-before c =
     let s : State = both_done in
     let b : List BoardRow = both_board in
-    two_pipelines s b 1 2 (inl refl, (inl refl, (inr refl, tt))) refl
-    (computed_rows (graph_by (jobs_of s 1) s.needs) (map (facts_in s) (jobs_of s 1)) (map (row_for b) (map (λ (j : Job). j.id) (jobs_of s 1)))
-    (record { opens = refl; failed = refl; barred = refl }, (record { opens = refl; failed = refl; barred = refl }, tt))
-    (refl, (refl, tt)))
-    (computed_rows (graph_by (jobs_of s 2) s.needs) (map (facts_in s) (jobs_of s 2)) (map (row_for b) (map (λ (j : Job). j.id) (jobs_of s 2)))
-    (record { opens = refl; failed = refl; barred = refl }, tt)
-    (refl, tt))
+    some_pipelines s b (1 ∷ 2 ∷ []) (inl refl, (inl refl, (inr (inl refl), tt))) refl (
+      rows_of_one s b 1 (record { opens = refl; failed = refl; barred = refl }, (record { opens = refl; failed = refl; barred = refl }, tt)) (refl, (refl, tt)),
+      (
+        rows_of_one s b 2 (record { opens = refl; failed = refl; barred = refl }, tt) (refl, tt),
+        tt,
+      ),
+    )
 
 pub returns-clause-reply : goal.returns-clause-reply
 unfolding digits serde_json_on_literals
@@ -44,22 +44,22 @@ pub returns-clause-runs : goal.returns-clause-runs
 returns-clause-runs c =
     let s : State = running in
     let b : List BoardRow = with_second Running in
-    two_pipelines s b 1 2 (inl refl, (inl refl, (inr refl, tt))) refl
-    (computed_rows (graph_by (jobs_of s 1) s.needs) (map (facts_in s) (jobs_of s 1)) (map (row_for b) (map (λ (j : Job). j.id) (jobs_of s 1)))
-    (record { opens = refl; failed = refl; barred = refl }, (record { opens = refl; failed = refl; barred = refl }, tt))
-    (refl, (refl, tt)))
-    (computed_rows (graph_by (jobs_of s 2) s.needs) (map (facts_in s) (jobs_of s 2)) (map (row_for b) (map (λ (j : Job). j.id) (jobs_of s 2)))
-    (record { opens = refl; failed = refl; barred = refl }, tt)
-    (refl, tt))
+    some_pipelines s b (1 ∷ 2 ∷ []) (inl refl, (inl refl, (inr (inl refl), tt))) refl (
+      rows_of_one s b 1 (record { opens = refl; failed = refl; barred = refl }, (record { opens = refl; failed = refl; barred = refl }, tt)) (refl, (refl, tt)),
+      (
+        rows_of_one s b 2 (record { opens = refl; failed = refl; barred = refl }, tt) (refl, tt),
+        tt,
+      ),
+    )
 
 pub returns-clause-waits : goal.returns-clause-waits
 returns-clause-waits c =
     let s : State = waiting in
     let b : List BoardRow = with_second Pending in
-    two_pipelines s b 1 2 (inl refl, (inl refl, (inr refl, tt))) refl
-    (computed_rows (graph_by (jobs_of s 1) s.needs) (map (facts_in s) (jobs_of s 1)) (map (row_for b) (map (λ (j : Job). j.id) (jobs_of s 1)))
-    (record { opens = refl; failed = refl; barred = refl }, (record { opens = refl; failed = refl; barred = refl }, tt))
-    (refl, (refl, tt)))
-    (computed_rows (graph_by (jobs_of s 2) s.needs) (map (facts_in s) (jobs_of s 2)) (map (row_for b) (map (λ (j : Job). j.id) (jobs_of s 2)))
-    (record { opens = refl; failed = refl; barred = refl }, tt)
-    (refl, tt))
+    some_pipelines s b (1 ∷ 2 ∷ []) (inl refl, (inl refl, (inr (inl refl), tt))) refl (
+      rows_of_one s b 1 (record { opens = refl; failed = refl; barred = refl }, (record { opens = refl; failed = refl; barred = refl }, tt)) (refl, (refl, tt)),
+      (
+        rows_of_one s b 2 (record { opens = refl; failed = refl; barred = refl }, tt) (refl, tt),
+        tt,
+      ),
+    )

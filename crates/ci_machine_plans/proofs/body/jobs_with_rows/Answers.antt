@@ -8,7 +8,7 @@ use Rattle.ci_machine_plans.proofs.body.jobs_with_rows.Goals as goal
 
 pub loop-i-preserved : goal.loop-i-preserved
 loop-i-preserved c =
-    jobs_further c.args.holders.now c.args.project c.args.jobs.now c.args.rows.now c.loop-i.i c.index-jobs-i.result _ (map view c.loop-i.items.items) (map view c.push.new.self.items) (omega arith) (omega arith) c.index-jobs-i.is
+    jobs_further c.args.claims.now c.args.project c.args.jobs.now c.args.rows.now c.loop-i.i c.index-jobs-i.result _ (map view c.loop-i.items.items) (map view c.push.new.self.items) (omega arith) (omega arith) c.index-jobs-i.is
     (pushed_as view c.loop-i.items.items c.push.new.self.items c.into_value.result _ c.in_ok-push.ensures.items
     (c.into_value.ensures ∙ (c.in_ok-shown.ensures ∙ ap (λ (s : List ℕ). job_data s c.index-jobs-i.result) (c.as_str-status.ensures ∙ c.of.ensures.printed))))
     c.loop-i.invariant
@@ -16,4 +16,4 @@ loop-i-preserved c =
 pub returns : goal.returns
 returns c =
     view-Array _
-    ∙ ap (λ ds. array (items_of ds)) (jobs_ended c.args.holders.now c.args.project c.args.jobs.now c.args.rows.now c.loop-i.i (map view c.loop-i.items.items) (omega arith) c.loop-i.invariant)
+    ∙ ap (λ ds. array (items_of ds)) (jobs_ended c.args.claims.now c.args.project c.args.jobs.now c.args.rows.now c.loop-i.i (map view c.loop-i.items.items) (omega arith) c.loop-i.invariant)

@@ -5,4 +5,4 @@ use Rattle.ci_machine_plans.proofs.body.jobs_with_rows.Given as goal
 
 -- the jobs so far, and those that are left, are all of them
 abbrev pub invariant-loop-i : goal.invariant-loop-i
-invariant-loop-i l = map view l.items.items ++ jobs_data l.holders l.project (drop l.i l.jobs) (drop l.i l.rows) ≡ jobs_data l.holders l.project l.jobs l.rows
+invariant-loop-i l = map view l.items.items ++ jobs_data l.claims l.project (drop l.i l.jobs) (drop l.i l.rows) ≡ jobs_data l.claims l.project l.jobs l.rows

@@ -22,7 +22,7 @@ returns-then-is_empty c = λ k kept has whole.
     let told : c.refused.result ≡ refused (refusal_of c.args.act) = c.refused.ensures ∙ ap refused c.refusal_of.ensures in
     nothing_changes k kept (λ (p : Plan). ActsAs c.args.act k.state k.board (Ok job) p)
     c.refused.result made.result.answer made.result.changes made.result.beside made.ensures.answer made.ensures.changes made.ensures.rows made.ensures.indexes
-    (job_refused k kept c.args.act job has c.args.whole.now whole d.outcome d.indexes.items d.held.items (c.in_ok-done.ensures.done k job.pipeline kept whole) c.acted_jobs_are_asked.ensures.one
+    (job_refused k kept c.args.act job has c.args.whole.now whole d.outcome d.indexes.items d.claims.items (c.in_ok-done.ensures.done k job.pipeline kept whole) c.acted_jobs_are_asked.ensures.one
     (is_empty _ _ c.is_empty.result c.is_empty.ensures c.if-is_empty.true d.outcome.places.ok.0) c.refused.result told)
     (ap (λ (p : Plan). p.1) told)
 
@@ -42,7 +42,7 @@ returns c =
     ap (λ (r : Row). r.status) (status_at o _ c.index.result.now c.index-2.result.now some c.in_ok-done.ensures.places c.in_ok-done.ensures.long.1 c.index.ensures c.index-2.ensures) in
     let changes : changes_by c.args.act w.records.attempts.items job ≡ act_changes c.args.act k.state (job ∷ []) =
     changes_are c.acts_settle.ensures.play c.acts_are_of_records.ensures.retry c.acts_are_of_records.ensures.cancel c.args.act k job w.records whole.records has in
-    job_planned k kept c.args.act job has w whole o d.indexes.items d.held.items (c.in_ok-done.ensures.done k job.pipeline kept whole) c.acted_jobs_are_asked.ensures.one c.outcomes_are_shown.ensures.job some plan
+    job_planned k kept c.args.act job has w whole o d.indexes.items d.claims.items (c.in_ok-done.ensures.done k job.pipeline kept whole) c.acted_jobs_are_asked.ensures.one c.outcomes_are_shown.ensures.job some plan
     (c.in_ok-plan.ensures ∙ (λ i. ((job_shown (c.as_slice.ensures.value i) w.pipeline.project job (after i)).0, changes i)))
     y.answer y.changes y.beside planned.0 planned.1
     (ap (λ (b : Beside). b.rows.items) beside ∙ ap (λ v. v.items) c.into_beside.ensures.rows)

@@ -1,5 +1,6 @@
 use Rattle.std.specs.Prelude.{length}
 use Rattle.std.proofs.Common.{refl, sym, ap, ◌∙◌}
+use Rattle.ci_machine.specs.Waiting.{waiting}
 use Rattle.ci_machine_steps.specs.Cancels.{cancel, cancellable_jobs, CancelsSome}
 use Rattle.ci_machine_steps.specs.Plans.{Plan}
 use Rattle.ci_machine_steps.specs.Shows.{pipeline_shown}
@@ -17,9 +18,9 @@ returns-then-is_empty c = λ k kept whole.
     let p = w.pipeline in
     let d = c.in_ok-done.done in
     let made = c.alone in
-    nothing_changes k kept (λ (q : Plan). CancelsSome k.state p (cancellable_jobs k.state k.board p.id) q)
+    nothing_changes k kept (λ (q : Plan). CancelsSome k.state (waiting k.state k.board) p (cancellable_jobs k.state k.board p.id) q)
     c.refused.result made.result.answer made.result.changes made.result.beside made.ensures.answer made.ensures.changes made.ensures.rows made.ensures.indexes
-    (pipeline_refused k kept p.id w whole d.outcome d.indexes.items d.held.items (c.in_ok-done.ensures.done k p.id kept whole) d.chosen.items c.in_ok-done.ensures.chosen c.acted_jobs_are_asked.ensures.all
+    (pipeline_refused k kept p.id w whole d.outcome d.indexes.items d.claims.items (c.in_ok-done.ensures.done k p.id kept whole) d.chosen.items c.in_ok-done.ensures.chosen c.acted_jobs_are_asked.ensures.all
     (is_empty _ _ c.is_empty.result c.is_empty.ensures c.if-is_empty.true d.chosen.ok.0) c.refused.result c.refused.ensures)
     (ap (λ (q : Plan). q.1) c.refused.ensures)
 
@@ -40,7 +41,7 @@ returns c =
     on_ok c.with.result (λ y is k kept whole.
     let planned = at_ok _ _ _ is c.with.ensures.planned in
     let beside = ok_same (λ (b : Beside). b) c.into_beside.result y.beside planned.2 in
-    pipeline_planned k kept p.id w whole d.outcome d.indexes.items d.held.items (c.in_ok-done.ensures.done k p.id kept whole) d.chosen.items c.in_ok-done.ensures.chosen c.acted_jobs_are_asked.ensures.all
+    pipeline_planned k kept p.id w whole d.outcome d.indexes.items d.claims.items (c.in_ok-done.ensures.done k p.id kept whole) d.chosen.items c.in_ok-done.ensures.chosen c.acted_jobs_are_asked.ensures.all
     c.outcomes_are_shown.ensures.pipeline c.acts_settle.ensures.cancel c.acts_are_of_records.ensures.cancel refl (not_empty _ _ c.is_empty.result c.is_empty.ensures c.if-is_empty.false d.chosen.ok.0) plan
     (c.in_ok-plan.ensures
     ∙ (λ i. ((pipeline_shown p (c.as_slice-3.ensures.value i) (c.as_slice-4.ensures.value i) (c.as_slice-5.ensures.value i) (c.as_slice-6.ensures.value i)).0, cancel (c.as_slice.ensures.value i) (c.as_slice-2.ensures.value i))))

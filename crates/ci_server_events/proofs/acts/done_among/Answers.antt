@@ -1,7 +1,8 @@
-use Rattle.std.specs.Prelude.{◌<◌, List, length, map, All, slice_index_or}
+use Rattle.std.specs.Prelude.{◌<◌, List, ◌++◌, length, map, All, slice_index_or}
 use Rattle.std.proofs.Common.{subst, sym, ap, ◌∙◌}
 use Rattle.ci_machine.specs.declared.records.Job.{Job}
 use Rattle.ci_machine.specs.Bodies.{status_of_jobs}
+use Rattle.ci_machine.specs.Groups.{held_claim}
 use Rattle.ci_machine_statuses.specs.HolderChanges.{of_pipeline, unleased}
 use Rattle.ci_server_lookups.specs.Held.{still_held}
 use Rattle.ci_server_events.proofs.Acting.{done_is}
@@ -29,11 +30,11 @@ returns-clause-done c = λ k n kept whole.
     let w = c.args.whole.now in
     let o = c.in_ok-outcome.outcome in
     let chosen = c.in_ok-chosen.chosen in
-    done_is c.acts_are_indexed.ensures c.args.act c.args.only k n w o chosen.items c.in_ok-before.before c.in_ok-then.then c.in_ok-indexes.indexes.items c.in_ok-held.held.items kept whole
+    done_is c.acts_are_indexed.ensures c.args.act c.args.only k n w o chosen.items c.in_ok-before.before c.in_ok-then.then c.in_ok-indexes.indexes.items c.in_ok-claims.claims.items kept whole
     (c.in_ok-outcome.ensures.outcome k.state k.board n kept.sound kept.are_board whole.records)
     (λ other. c.in_ok-chosen.ensures other ∙ (λ i. map (λ place. slice_index_or (c.as_slice-jobs.ensures.value i) place other) (c.as_slice.ensures.value i)))
     (c.in_ok-before.ensures k n kept whole.records)
     (c.in_ok-then.ensures ∙ (λ i. status_of_jobs (c.as_slice-jobs.ensures.value i) (c.as_slice-2.ensures.value i) (c.as_slice-3.ensures.value i)))
     (c.in_ok-indexes.ensures
     ∙ (λ i. of_pipeline w.pipeline ((c.unleased.ensures ∙ ap (unleased c.args.act) c.as_slice-4.ensures.value) i) (c.as_slice-5.ensures.value i) c.in_ok-before.before c.in_ok-then.then))
-    (c.in_ok-held.ensures ∙ (λ i. still_held (c.as_slice-7.ensures.value i) (c.as_slice-6.ensures.value i)))
+    (c.in_ok-claims.ensures ∙ (λ i. map held_claim (still_held (c.as_slice-6.ensures.value i) w.held.items) ++ w.ahead.items))

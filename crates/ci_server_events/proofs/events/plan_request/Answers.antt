@@ -32,6 +32,16 @@ returns-in-DeleteVariable g c =
     let made = c.alone-in-DeleteVariable.ensures in
     of_kept g.T.Store.honest g.T.Store.holds g.T.Store.leaves _ _ _ (planned_alone g.T.Store.honest g.T.Store.holds g.T.Store.leaves c.args.request _ c.args.now c.args.seed c.in-DeleteVariable.is _ _ c.delete_variable.result c.alone-in-DeleteVariable.result c.rows_stay.ensures c.indexes_stay.ensures tt c.delete_variable.ensures (λ k p kept planned. planned) made.plan made.fault made.beside made.cleared)
 
+pub returns-in-SetMode : goal.returns-in-SetMode
+returns-in-SetMode g c =
+    let made = c.alone-in-SetMode.ensures in
+    of_kept g.T.Store.honest g.T.Store.holds g.T.Store.leaves _ _ _ (planned_alone g.T.Store.honest g.T.Store.holds g.T.Store.leaves c.args.request _ c.args.now c.args.seed c.in-SetMode.is _ _ c.set_mode.result c.alone-in-SetMode.result c.rows_stay.ensures c.indexes_stay.ensures tt c.set_mode.ensures (λ k p kept planned. planned) made.plan made.fault made.beside made.cleared)
+
+pub returns-in-ShowMode : goal.returns-in-ShowMode
+returns-in-ShowMode g c =
+    let made = c.alone-in-ShowMode.ensures in
+    of_kept g.T.Store.honest g.T.Store.holds g.T.Store.leaves _ _ _ (planned_alone g.T.Store.honest g.T.Store.holds g.T.Store.leaves c.args.request _ c.args.now c.args.seed c.in-ShowMode.is _ _ c.show_mode.result c.alone-in-ShowMode.result c.rows_stay.ensures c.indexes_stay.ensures tt c.show_mode.ensures (λ k p kept planned. planned) made.plan made.fault made.beside made.cleared)
+
 pub returns-in-AppendTrace : goal.returns-in-AppendTrace
 returns-in-AppendTrace g c =
     let made = c.alone-in-AppendTrace.ensures in

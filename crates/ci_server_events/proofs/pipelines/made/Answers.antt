@@ -2,13 +2,13 @@ use Rattle.std.specs.Prelude.{◌≡◌, List, Ok, IfOk, Result, length, map}
 use Rattle.std.proofs.Common.{subst, sym, ap, ◌∙◌}
 use Rattle.std.proofs.lemmas.List.{length-map}
 use Rattle.ci_machine.specs.declared.records.BoardRow.{BoardRow}
-use Rattle.ci_machine.specs.declared.records.Holder.{Holder}
+use Rattle.ci_machine.specs.declared.records.Claim.{Claim}
 use Rattle.ci_machine.specs.declared.records.Job.{Job}
-use Rattle.ci_machine.specs.Holders.{holders}
+use Rattle.ci_machine.specs.Waiting.{claims_in}
 use Rattle.ci_machine_steps.specs.Pipelines.{pipeline_created}
 use Rattle.ci_machine_pipelines.specs.Creations.{creation_view}
 use Rattle.ci_store_tables.specs.declared.fault.StoreFault.{StoreFault}
-use Rattle.ci_server_lookups.specs.Held.{HoldAlike}
+use Rattle.ci_server_lookups.specs.Held.{FreeAlike}
 use Rattle.ci_server_lookups.proofs.Loading.{ends, says}
 use Rattle.ci_server_events.specs.declared.planned.Beside.{Beside}
 use Rattle.ci_server_events.specs.Creating.{rows_beside, IsMadeBeside}
@@ -23,7 +23,7 @@ into_plan-requires-clause-rows g c =
     let jobs = c.args.creation.jobs.items in
     ap length c.as_slice-3.ensures.value ∙ (sym (length-map rows (λ (r : BoardRow). r.job)) ∙ (ap length c.in_ok-beside.ensures.keys ∙ length-map jobs (λ (j : Job). j.id)))
 
--- the reply shows the rows that are put, and by the holders that were looked up what those of the state show
+-- the reply shows the rows that are put, and by the claims that were looked up what those of the state show
 pub returns : goal.returns
 returns g c =
     let honest = g.T.Store.honest in
@@ -31,17 +31,18 @@ returns g c =
     let leaves = g.T.Store.leaves in
     let r = c.with.result in
     let it = c.args.creation in
-    let held = c.in_ok-held.held in
+    let claims = c.in_ok-claims.claims in
     let beside = c.in_ok-beside.beside in
     let plan = c.in_ok-plan.plan in
-    says honest holds leaves _ _ _ r (ends honest holds leaves _ _ c.holders_of.result held r c.in_ok-held.was c.holders_of.ensures)
+    says honest holds leaves _ _ _ r (ends honest holds leaves _ _ c.claims_on.result claims r c.in_ok-claims.was c.claims_on.ensures)
     (λ k y is alike kept.
     let w = subst (λ z. IfOk z (λ p. (p.answer ≡ plan.0) × (p.changes ≡ plan.1) × (◌≡◌ {A = Result Beside StoreFault} (Ok beside) (Ok p.beside)))) is c.with.ensures.planned in
-    let same : HoldAlike held.items (holders k.state) it.pipeline.project it.jobs.items = subst (λ (js : List Job). HoldAlike held.items (holders k.state) it.pipeline.project js) c.as_slice.ensures.value (alike kept) in
-    let shown : plan ≡ pipeline_created c.args.first (creation_view it) (holders k.state) (rows_beside beside) =
+    let its = claims_in k.state k.board it.pipeline.id in
+    let same : FreeAlike claims.items its it.pipeline.project it.jobs.items = subst (λ (js : List Job). FreeAlike claims.items its it.pipeline.project js) c.as_slice.ensures.value (alike kept) in
+    let shown : plan ≡ pipeline_created c.args.first (creation_view it) its (rows_beside beside) =
     c.in_ok-plan.ensures
-    ∙ (ap (λ (hs : List Holder). pipeline_created c.args.first (creation_view it) hs (map (λ r. r.row) c.as_slice-3.result.now)) c.as_slice-2.ensures.value
-    ∙ (ap (λ (rs : List BoardRow). pipeline_created c.args.first (creation_view it) held.items (map (λ r. r.row) rs)) c.as_slice-3.ensures.value
-    ∙ created_alike c.args.first (creation_view it) held.items (holders k.state) (rows_beside beside) same)) in
-    subst (λ (b : Beside). IsMadeBeside it b × ((y.answer, y.changes) ≡ pipeline_created c.args.first (creation_view it) (holders k.state) (rows_beside b))) (ok_is beside y.beside w.2)
+    ∙ (ap (λ (cs : List Claim). pipeline_created c.args.first (creation_view it) cs (map (λ r. r.row) c.as_slice-3.result.now)) c.as_slice-2.ensures.value
+    ∙ (ap (λ (rs : List BoardRow). pipeline_created c.args.first (creation_view it) claims.items (map (λ r. r.row) rs)) c.as_slice-3.ensures.value
+    ∙ created_alike c.args.first (creation_view it) claims.items its (rows_beside beside) same)) in
+    subst (λ (b : Beside). IsMadeBeside it b × ((y.answer, y.changes) ≡ pipeline_created c.args.first (creation_view it) its (rows_beside b))) (ok_is beside y.beside w.2)
     (c.in_ok-beside.ensures, pair_is y.answer y.changes plan _ w.0 w.1 shown))

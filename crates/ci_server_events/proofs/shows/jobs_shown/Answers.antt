@@ -25,12 +25,12 @@ pipeline_shown-requires-clause-rows c =
 -- what was found is the pipeline's
 pub returns : goal.returns
 returns c = λ k number needs kept are.
-    let plan = subst (λ z. IfOk z (λ p. p ≡ machine.pipeline_shown c.args.pipeline.now c.args.held.now c.args.jobs.now c.as_slice.result.now c.as_slice-2.result.now)) c.in_ok-plan.was c.pipeline_shown.ensures in
+    let plan = subst (λ z. IfOk z (λ p. p ≡ machine.pipeline_shown c.args.pipeline.now c.args.claims.now c.args.jobs.now c.as_slice.result.now c.as_slice-2.result.now)) c.in_ok-plan.was c.pipeline_shown.ensures in
     let its_facts = subst (λ z. IfOk z (λ r. (s : State) (board : List BoardRow) (n : ℕ) (ws : List Need) → IsSound s → AreBoard s board
     → AreRecords s board n c.args.jobs.now ws c.args.attempts.now c.args.rows.now → r.0.items ≡ facts_of s n)) c.in_ok-found.was c.loaded.ensures.facts in
     let its_rows = subst (λ z. IfOk z (λ r. (s : State) (board : List BoardRow) (n : ℕ) (ws : List Need) → IsSound s → AreBoard s board
     → AreRecords s board n c.args.jobs.now ws c.args.attempts.now c.args.rows.now → r.1.items ≡ rows_of s board n)) c.in_ok-found.was c.loaded.ensures.rows in
     let facts : c.as_slice.result.now ≡ facts_of k.state number = c.as_slice.ensures.value ∙ its_facts k.state k.board number needs kept.sound kept.are_board are in
     let rows : c.as_slice-2.result.now ≡ rows_of k.state k.board number = c.as_slice-2.ensures.value ∙ its_rows k.state k.board number needs kept.sound kept.are_board are in
-    plan ∙ (ap (λ (fs : List Facts). machine.pipeline_shown c.args.pipeline.now c.args.held.now c.args.jobs.now fs c.as_slice-2.result.now) facts
-    ∙ ap (λ (rs : List Row). machine.pipeline_shown c.args.pipeline.now c.args.held.now c.args.jobs.now (facts_of k.state number) rs) rows)
+    plan ∙ (ap (λ (fs : List Facts). machine.pipeline_shown c.args.pipeline.now c.args.claims.now c.args.jobs.now fs c.as_slice-2.result.now) facts
+    ∙ ap (λ (rs : List Row). machine.pipeline_shown c.args.pipeline.now c.args.claims.now c.args.jobs.now (facts_of k.state number) rs) rows)

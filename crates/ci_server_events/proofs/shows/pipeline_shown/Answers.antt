@@ -1,17 +1,17 @@
 use Rattle.std.specs.Prelude.{◌≡◌, IfOk, IfSome, List, All, true, ℕ}
 use Rattle.std.proofs.Common.{refl, subst, sym, ap, ◌∙◌}
-use Rattle.ci_machine.specs.declared.records.Holder.{Holder}
+use Rattle.ci_machine.specs.declared.records.Claim.{Claim}
 use Rattle.ci_machine.specs.declared.records.Job.{Job}
 use Rattle.ci_machine.specs.declared.records.Need.{Need}
-use Rattle.ci_machine.specs.Holders.{holders}
 use Rattle.ci_machine.specs.Kept.{Kept}
 use Rattle.ci_machine.specs.Ranges.{is_within, needs_within}
 use Rattle.ci_machine_steps.specs.Shows as machine
 use Rattle.ci_machine_steps.specs.Sound.{IsSound}
 use Rattle.ci_machine.specs.State.{State}
 use Rattle.ci_machine.specs.Statuses.{jobs_of, facts_of, rows_of}
+use Rattle.ci_machine.specs.Waiting.{claims_in}
 use Rattle.ci_machine_statuses.specs.Lookups.{AreRecords}
-use Rattle.ci_server_lookups.specs.Held.{HoldAlike}
+use Rattle.ci_server_lookups.specs.Held.{FreeAlike}
 use Rattle.ci_server_lookups.specs.Keeps.{IsKept}
 use Rattle.ci_server_lookups.proofs.Loading.{ends, goes_on}
 use Rattle.ci_server_events.proofs.Showing.{pipeline_alike}
@@ -26,11 +26,11 @@ returns g c =
     let r = c.jobs_shown.result in
     let n = c.args.number in
     let p = c.args.pipeline.now in
-    let held = c.in_ok-held.held in
+    let claims = c.in_ok-claims.claims in
     goes_on honest holds leaves _ _ _ _ c.jobs_of.result c.in_ok-jobs.jobs r c.in_ok-jobs.was c.jobs_of.ensures
     (goes_on honest holds leaves (λ k y. (c.in_ok-attempts.attempts.items ≡ _) × ((c.in_ok-rows.rows.items ≡ _) × _)) _ _ _ c.attempts_within.result c.in_ok-attempts.attempts r c.in_ok-attempts.was c.attempts_within.ensures
     (goes_on honest holds leaves (λ k y. (c.in_ok-rows.rows.items ≡ _) × _) _ _ _ c.rows_within.result c.in_ok-rows.rows r c.in_ok-rows.was c.rows_within.ensures
-    (ends honest holds leaves _ _ c.holders_of.result held r c.in_ok-held.was c.holders_of.ensures)
+    (ends honest holds leaves _ _ c.claims_on.result claims r c.in_ok-claims.was c.claims_on.ensures)
     (λ k y is rows alike. (rows, alike)))
     (λ k y is attempts more. (attempts, more)))
     (λ k y is jobs more kept.
@@ -38,7 +38,8 @@ returns g c =
     → plan ≡ machine.pipeline_shown p c.as_slice-3.result.now c.as_slice-4.result.now (facts_of l.state number) (rows_of l.state l.board number))) is c.jobs_shown.ensures in
     let inside = subst (λ z. IfSome z (λ q. (s : State) (pipeline : ℕ) → IsSound s → c.as_slice.result.now ≡ jobs_of s pipeline → All (λ j. is_within q.0 q.1 j.id ≡ true) c.as_slice.result.now)) c.in-Some.is c.range_of.ensures.within in
     let same : c.as_slice-4.result.now ≡ jobs_of k.state n = c.as_slice-4.ensures.value ∙ jobs in
-    let alike : HoldAlike held.items (holders k.state) p.project (jobs_of k.state n) = subst (λ (js : List Job). HoldAlike held.items (holders k.state) p.project js) (c.as_slice-2.ensures.value ∙ jobs) (more.1.1 kept) in
+    let its = claims_in k.state k.board n in
+    let alike : FreeAlike claims.items its p.project (jobs_of k.state n) = subst (λ (js : List Job). FreeAlike claims.items its p.project js) (c.as_slice-2.ensures.value ∙ jobs) (more.1.1 kept) in
     shown k n (needs_within c.in-Some.first c.in-Some.last k.state.needs) kept
     (record {
       first = c.in-Some.first;
@@ -50,5 +51,5 @@ returns g c =
       are_rows = c.as_slice-6.ensures.value ∙ more.1.0;
     })
     ∙ (ap (λ (js : List Job). machine.pipeline_shown p c.as_slice-3.result.now js (facts_of k.state n) (rows_of k.state k.board n)) same
-    ∙ (ap (λ (hs : List Holder). machine.pipeline_shown p hs (jobs_of k.state n) (facts_of k.state n) (rows_of k.state k.board n)) c.as_slice-3.ensures.value
-    ∙ pipeline_alike held.items (holders k.state) p (jobs_of k.state n) alike (facts_of k.state n) (rows_of k.state k.board n))))
+    ∙ (ap (λ (cs : List Claim). machine.pipeline_shown p cs (jobs_of k.state n) (facts_of k.state n) (rows_of k.state k.board n)) c.as_slice-3.ensures.value
+    ∙ pipeline_alike claims.items its p (jobs_of k.state n) alike (facts_of k.state n) (rows_of k.state k.board n))))

@@ -5,7 +5,7 @@ use Rattle.std.proofs.Common.{sym, ap, ◌∙◌}
 use Rattle.ci_machine.specs.declared.records.Pipeline.{Pipeline}
 use Rattle.ci_machine.specs.declared.records.Project.{Project}
 use Rattle.ci_machine.specs.declared.reply.Code.{Code}
-use Rattle.ci_machine.specs.Holders.{holders}
+use Rattle.ci_machine.specs.Waiting.{claims_in}
 use Rattle.ci_machine_steps.specs.Plans.{asked_project}
 use Rattle.ci_machine_steps.specs.Shows as machine
 use Rattle.ci_machine.specs.Statuses.{jobs_of, facts_of, rows_of}
@@ -30,4 +30,4 @@ returns-in-Ok g c =
     ∙ (ap (λ (o : Option Pipeline). machine.asked_pipeline (asked_project c.in_ok-project.project query.project) o) (sym more.0)
     ∙ (sym c.asked_pipeline.ensures ∙ ap (result_map_both (λ (p : Bor Pipeline). p.now) (λ (e : Code). e)) c.in-Ok.is)) in
     more.1 kept
-    ∙ ap (λ (found : Result Pipeline Code). machine.show_pipeline found (holders k.state) (jobs_of k.state query.pipeline) (facts_of k.state query.pipeline) (rows_of k.state k.board query.pipeline)) (sym asked))
+    ∙ ap (λ (found : Result Pipeline Code). machine.show_pipeline found (claims_in k.state k.board query.pipeline) (jobs_of k.state query.pipeline) (facts_of k.state query.pipeline) (rows_of k.state k.board query.pipeline)) (sym asked))

@@ -7,4 +7,4 @@ use Rattle.ci_server_reports.proofs.pipeline.job_rows.Given as goal
 -- the jobs that are told, with those that are left, are all
 abbrev pub invariant-loop-i : goal.invariant-loop-i
 invariant-loop-i l =
-    (board : List BoardRow) → l.rows ≡ map (λ j. row_for board j.id) l.jobs → l.told.items ++ map (job_told l.held l.project l.attempts board) (drop l.i l.jobs) ≡ map (job_told l.held l.project l.attempts board) l.jobs
+    (board : List BoardRow) → l.rows ≡ map (λ j. row_for board j.id) l.jobs → l.told.items ++ map (job_told l.claims l.project l.attempts board) (drop l.i l.jobs) ≡ map (job_told l.claims l.project l.attempts board) l.jobs

@@ -12,10 +12,10 @@ returns c = λ k id kept whole.
     let jobs = c.as_slice-jobs.ensures.value in
     let facts = c.in_ok-facts.ensures.facts k id kept whole.records in
     let rows = c.in_ok-facts.ensures.rows k id kept whole.records in
-    let held = c.as_slice-3.ensures.value in
+    let claims = c.as_slice-3.ensures.value ∙ c.in_ok-claims.ensures in
     let attempts = c.as_slice-4.ensures.value in
     let its_rows = c.as_slice-5.ensures.value ∙ rows_told k id w whole _ rows ∙ ap (map (λ (j : Job). row_for k.board j.id)) (sym jobs) in (
       head_told k id w whole c.in_ok-status.status c.in_ok-facts.facts.items c.in_ok-facts.rows.items facts rows
           (c.in_ok-status.ensures ∙ (λ i. status_of_jobs (jobs i) (c.as_slice.ensures.value i) (c.as_slice-2.ensures.value i))),
-      c.in_ok-told.ensures k.board its_rows ∙ (λ i. map (job_told (held i) w.pipeline.project (attempts i) k.board) (jobs i)) ∙ jobs_told k id w whole,
+      c.in_ok-told.ensures k.board its_rows ∙ (λ i. map (job_told (claims i) w.pipeline.project (attempts i) k.board) (jobs i)) ∙ jobs_told k id w whole,
     )

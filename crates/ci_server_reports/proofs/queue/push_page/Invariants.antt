@@ -9,4 +9,4 @@ use Rattle.ci_server_reports.proofs.queue.push_page.Given as goal
 abbrev pub invariant-loop-row : goal.invariant-loop-row
 invariant-loop-row g l =
     LoadsBy {A = Unit {0}} g.T.Store.honest g.T.Store.holds g.T.Store.leaves l.fn.store l.store (Ok tt)
-    (λ k _. IsKept k → map (λ x. Some x) l.told.items ++ map (row_told k.state) (drop l.row-index l.page) ≡ map (λ x. Some x) l.fn.told.items ++ map (row_told k.state) l.page)
+    (λ k _. IsKept k → map (λ x. Some x) l.told.items ++ map (row_told k.state k.board) (drop l.row-index l.page) ≡ map (λ x. Some x) l.fn.told.items ++ map (row_told k.state k.board) l.page)

@@ -1,8 +1,8 @@
 use Rattle.std.specs.Prelude.{◌≡◌, ◌<◌, ◌++◌, ℕ, List, length, map, Option, Some, Result, Ok, IfOk}
 use Rattle.std.proofs.Common.{refl, sym, subst, ap, ◌∙◌}
 use Rattle.ci_machine.specs.declared.records.BoardRow.{BoardRow}
-use Rattle.ci_machine.specs.Holders.{holders}
 use Rattle.ci_machine.specs.ReportRows.{queue_row, queue_rows}
+use Rattle.ci_machine.specs.Waiting.{groups_in}
 use Rattle.ci_machine_statuses.specs.Pages.{queue_behind, end_of_page}
 use Rattle.ci_store.specs.declared.store.TheConstants.{PAGE_ROWS}
 use Rattle.ci_store_tables.specs.declared.fault.StoreFault.{StoreFault}
@@ -31,7 +31,7 @@ returns-in-None g c =
     (λ k known told kept.
     let page = c.as_slice.ensures.value ∙ known.1 in
     let none = ap (λ rs. queue_behind k.state k.board (end_of_page n rs)) page ∙ c.the_queue_is_its_pages.ensures.end k.state k.board PAGE_ROWS n kept.sound kept.are_board (subst (λ (rs : List BoardRow). length rs < PAGE_ROWS) page few) in
-    last_page_told k.state c.push_page.new.told.items (queue_rows k.state k.board) (queue_behind k.state k.board (end_of_page n rows)) none
+    last_page_told k.state k.board c.push_page.new.told.items (queue_rows k.state k.board) (queue_behind k.state k.board (end_of_page n rows)) none
     (told_on c.the_queue_is_its_pages.ensures.page k n rows c.pages.told.items c.push_page.new.told.items (queue_rows k.state k.board) kept page (told kept) (known.0 kept)))
 
 -- the next page begins behind this one
@@ -48,5 +48,5 @@ pages-preserved g c =
     (with_both honest holds leaves {A = Unit {0}} _ _ _ (Ok tt) tt c.pending_after.result refl c.pages.invariant c.pending_after.ensures)
     c.push_page.ensures
     (λ k known told kept.
-    subst (λ m. c.push_page.new.told.items ++ map (queue_row (holders k.state)) (queue_behind k.state k.board m) ≡ queue_rows k.state k.board) (sym on.0)
+    subst (λ m. c.push_page.new.told.items ++ map (queue_row (groups_in k.state k.board)) (queue_behind k.state k.board m) ≡ queue_rows k.state k.board) (sym on.0)
     (told_on c.the_queue_is_its_pages.ensures.page k n rows c.pages.told.items c.push_page.new.told.items (queue_rows k.state k.board) kept (c.as_slice.ensures.value ∙ known.1) (told kept) (known.0 kept)))

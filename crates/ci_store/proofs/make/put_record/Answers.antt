@@ -27,5 +27,8 @@ returns-in-Attempt-clause-makes g c clean inside = by_item g.S.Store c.args.tx.n
 pub returns-in-Need-clause-makes : goal.returns-in-Need-clause-makes
 returns-in-Need-clause-makes g c clean inside = by_item g.S.Store c.args.tx.now.conn.now c.put-in-Need.new.tx.conn.now (λ r. in_state (with_record r)) c.in-Need.is c.put-in-Need.result (c.put-in-Need.ensures.makes clean inside)
 
+pub returns-in-Mode-clause-makes : goal.returns-in-Mode-clause-makes
+returns-in-Mode-clause-makes g c clean inside = by_item g.S.Store c.args.tx.now.conn.now c.put-in-Mode.new.tx.conn.now (λ r. in_state (with_record r)) c.in-Mode.is c.put-in-Mode.result (c.put-in-Mode.ensures.makes clean inside)
+
 pub returns-in-Next-clause-makes : goal.returns-in-Next-clause-makes
 returns-in-Next-clause-makes g c clean inside = by_item g.S.Store c.args.tx.now.conn.now c.set_next.new.tx.conn.now (λ r. in_state (with_record r)) c.in-Next.is c.set_next.result (c.set_next.ensures.makes clean inside)

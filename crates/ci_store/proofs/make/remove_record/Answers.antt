@@ -11,6 +11,7 @@ use Rattle.ci_store_rows.proofs.Blocks.{trace_removed, refers_to_attempt}
 use Rattle.ci_store_rows.proofs.Holders.{holders_refer}
 use Rattle.ci_store_rows.proofs.Needs.{need_removed, needs_removed, needs_refer, needed_refer}
 use Rattle.ci_store_rows.proofs.Board.{rows_refer}
+use Rattle.ci_store_rows.proofs.Modes.{mode_removed}
 use Rattle.ci_store.proofs.make.remove_record.Goals as goal
 
 pub returns-in-Project-clause-makes : goal.returns-in-Project-clause-makes
@@ -56,3 +57,7 @@ returns-in-Needs-clause-makes g c clean inside =
 pub returns-in-Trace-clause-makes : goal.returns-in-Trace-clause-makes
 returns-in-Trace-clause-makes g c clean inside =
     removed_by g.S.Store c.args.tx.now.conn.now c.remove_at-in-Trace.new.tx.conn.now c.in-Trace.is c.remove_at-in-Trace.result [] _ refl (trace_removed g.S.Store c.args.tx.now.conn.now c.remove_at-in-Trace.new.tx.conn.now _) (c.remove_at-in-Trace.ensures.removes clean inside)
+
+pub returns-in-Mode-clause-makes : goal.returns-in-Mode-clause-makes
+returns-in-Mode-clause-makes g c clean inside =
+    removed_by g.S.Store c.args.tx.now.conn.now c.remove_named-in-Mode.new.tx.conn.now c.in-Mode.is c.remove_named-in-Mode.result [] _ refl (mode_removed g.S.Store c.args.tx.now.conn.now c.remove_named-in-Mode.new.tx.conn.now _ _) (c.remove_named-in-Mode.ensures.removes clean inside)

@@ -2,7 +2,7 @@ use Rattle.std.proofs.Common.{inl, inr, ◌≡◌, ◌∙◌, refl, subst, arith
 use Rattle.sqlite.specs.State.{HasCleanDisk}
 use Rattle.sqlite.specs.Held.{state}
 use Rattle.sqlite.proofs.StateLemmas.{survives_then}
-use Rattle.ci_store_rows.proofs.Creates.{runs_next, below_twenty_one, schema_after}
+use Rattle.ci_store_rows.proofs.Creates.{runs_next, runs_mode, below_twenty_one, schema_after}
 use Rattle.ci_store.proofs.Committing.{survives_same}
 use Rattle.ci_store_rows.specs.Create.{IsBare}
 use Rattle.ci_store.proofs.tables.define.Goals as goal
@@ -52,6 +52,12 @@ pub loop-text-init : goal.loop-text-init
 loop-text-init g c = (refl, (λ clean inside. (inside, λ blank. record { listed = blank; rows = tt; sound = λ ne. absurd (ne refl) })), survives_same _ _)
 
 pub returns-clause-makes : goal.returns-clause-makes
-returns-clause-makes g c = λ clean inside. let it = c.loop-text.invariant.1 clean inside in
+returns-clause-makes g c clean inside =
+    let mid = c.loop-text.tx.conn.now in
+    let new = c.change-2.new.tx.conn.now in
+    let one = c.in_ok-change-2.ensures in
+    let early : HasCleanDisk (state g.S.Store mid) = omega (arith, clean, one.survives.clean) in
+    let it = c.loop-text.invariant.1 early inside in
+    let ran = one.changed clean it.0 in
     let all : c.loop-text.text-index ≡ 21 = omega (arith, c.loop-text-test.false, c.loop-text.auto.text-index-end) in
-    (it.0, λ blank. subst (λ k. IsBare (schema_after k) (state g.S.Store c.loop-text.tx.conn.now).now) all (it.1 blank))
+    (ran.0, λ blank. runs_mode (state g.S.Store mid) (state g.S.Store new) c.in_ok-change-2.field-0 (subst (λ k. IsBare (schema_after k) (state g.S.Store mid).now) all (it.1 blank)) ran.1)

@@ -22,4 +22,4 @@ returns c =
     let jobs = c.as_slice-jobs.ensures.value in
     let facts = c.as_slice.ensures.value ∙ (c.in_ok-facts.ensures ∙ ap (λ (n : ℕ). replicate n no_facts) count) in
     let rows = c.as_slice-2.ensures.value ∙ c.in_ok-rows.ensures in
-    IfOk-weaker c.pipeline.result _ _ (λ t is. is ∙ (λ i. compact_text (pipeline_data c.args.self.now.pipeline c.args.holders.now (jobs i) (facts i) (rows i)))) c.pipeline.ensures
+    IfOk-weaker c.pipeline.result _ _ (λ t is. is ∙ (λ i. compact_text (pipeline_data c.args.self.now.pipeline c.args.claims.now (jobs i) (facts i) (rows i)))) c.pipeline.ensures

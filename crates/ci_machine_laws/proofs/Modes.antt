@@ -1,0 +1,242 @@
+-- A request that sets the process mode of a resource group changes that of no other group, and nothing else; and no other event changes one.
+use Rattle.std.specs.Prelude.{◌≡◌, ℕ, Bool, true, false, cond, ◌==◌, ◌&&◌, not, List, [], ◌∷◌, filter, find, Option, Some, None, option_map, Result, Ok, Err}
+use Rattle.std.specs.Str.{bytes_eq}
+use Rattle.std.specs.declared.cmp.Ordering.{Ordering}
+use Rattle.std.specs.declared.cmp.Ordering.TheVariants.{Less, Equal, Greater}
+use Rattle.std.specs.Ordering.{nat_cmp, is_eq, is_lt, ordering_then}
+use Rattle.std.specs.Cmp.Lexicographic.{slice_cmp}
+use Rattle.std.proofs.Common.{refl, sym, ap, subst, ◌∙◌, inl, inr, ⊎_elim, eqb-true, eq-eqb}
+use Rattle.std.proofs.lemmas.Bool.{cond_both, cond-true, cond-false, cases_Bool, both_ways, and_parts}
+use Rattle.std.proofs.lemmas.Map.Text.{is_eq-slice_cmp}
+use Rattle.std.proofs.lemmas.Slice.Eq.{bytes_eq-Decides}
+use Rattle.ci_machine.specs.declared.lease.Lease.{Lease}
+use Rattle.ci_machine.specs.declared.records.Attempt.{Attempt}
+use Rattle.ci_machine.specs.declared.records.BoardRow.{BoardRow}
+use Rattle.ci_machine.specs.declared.records.Job.{Job}
+use Rattle.ci_machine.specs.declared.records.Pipeline.{Pipeline}
+use Rattle.ci_machine.specs.declared.records.Project.{Project}
+use Rattle.ci_machine.specs.declared.records.GroupMode.{GroupMode}
+use Rattle.ci_machine.specs.declared.records.GroupOrder.{GroupOrder}
+use Rattle.ci_machine.specs.declared.request.Event.TheVariants as event
+use Rattle.ci_machine.specs.declared.request.NewMode.{NewMode}
+use Rattle.ci_machine.specs.declared.request.Request.{Request}
+use Rattle.ci_machine.specs.declared.request.Request.TheVariants.{AddProject, AddRunner, PauseRunner, SetFile, SetVariable, DeleteVariable, SetMode, ShowMode, CreatePipeline, ShowPipeline, AskJob, UpdateJob, AppendTrace, ShowJob, ShowTrace, Play, CancelJob, CancelPipeline, RetryJob, PruneOne}
+use Rattle.ci_machine.specs.declared.request.Event.{Event}
+use Rattle.ci_machine.specs.declared.request.Seed.{Seed}
+use Rattle.ci_machine.specs.declared.reply.Answer.{Answer}
+use Rattle.ci_machine.specs.declared.reply.Answer.TheVariants as answer
+use Rattle.ci_machine.specs.declared.reply.Code.{Code}
+use Rattle.ci_machine.specs.declared.reply.Swept.{Swept}
+use Rattle.ci_machine.specs.declared.change.RowChange.{RowChange}
+use Rattle.ci_machine.specs.declared.change.RowChange.TheVariants.{Put}
+use Rattle.ci_machine.specs.declared.change.Record.TheVariants as row
+use Rattle.ci_machine.specs.Leases.{is_live, first_due}
+use Rattle.ci_machine.specs.State.{State, placed, mode_cmp, applied}
+use Rattle.ci_machine.specs.Groups.{is_mode_of}
+use Rattle.ci_machine_steps.specs.Plans.{Plan}
+use Rattle.ci_machine_steps.specs.Modes.{mode_change, set_mode}
+use Rattle.ci_machine_steps.specs.Pipelines.{creation}
+use Rattle.ci_machine_steps.specs.Cancels.{cancellable_jobs, cancel}
+use Rattle.ci_machine_steps.specs.Sweeps.{sweep}
+use Rattle.ci_machine_steps.specs.Step.{Happens, Step, leases, redundant_in, cancellable_in}
+use Rattle.ci_machine_steps.specs.History.{IsReached}
+use Rattle.ci_machine_steps.specs.Laws.{IsRefusal}
+use Rattle.ci_machine.proofs.Keyed.{Has, Rising, has_filter, same, equal}
+use Rattle.ci_machine.proofs.Filters.{find_implied}
+use Rattle.ci_machine_laws.specs.Modes.{SetsMode}
+use Rattle.ci_machine_steps.proofs.Created.{after_creation}
+use Rattle.ci_machine_steps.proofs.Pruned.{pruned_state}
+use Rattle.ci_machine_laws.proofs.Acts.{cancels, cancellable_within, after_act}
+use Rattle.ci_machine_laws.proofs.EachPlan.{Asked, of_asked, is_asked, given_in, Each, does}
+use Rattle.ci_machine_laws.proofs.Reached.{reached}
+
+-- ---- keys
+
+then_equal : (o r : Ordering) → is_eq (ordering_then o r) ≡ (is_eq o && is_eq r)
+then_equal Less r = refl
+then_equal Equal r = refl
+then_equal Greater r = refl
+
+compared : (a b : ℕ) → is_eq (nat_cmp a b) ≡ (a == b)
+compared a b =
+    ⊎_elim
+    (λ (t : is_eq (nat_cmp a b) ≡ true). t ∙ sym (eq-eqb a b (same a b t)))
+    (λ (f : is_eq (nat_cmp a b) ≡ false). ⊎_elim
+    (λ (t : (a == b) ≡ true). absurd (both_ways (is_eq (nat_cmp a b)) f (equal a b (eqb-true a b t))))
+    (λ (g : (a == b) ≡ false). f ∙ sym g)
+    (cases_Bool (a == b)))
+    (cases_Bool (is_eq (nat_cmp a b)))
+
+-- a mode has this key where it is that of this group of the project
+has_key : (project : ℕ) (group : List ℕ) (m : GroupMode) → is_eq (ordering_then (nat_cmp m.project project) (slice_cmp nat_cmp m.group group)) ≡ is_mode_of project group m
+has_key project group m =
+    then_equal (nat_cmp m.project project) (slice_cmp nat_cmp m.group group) ∙ (λ i. compared m.project project i && is_eq-slice_cmp m.group group i)
+
+-- ---- what is found
+
+found_first : {A : Type 0} (p : A → Bool) (cmp : A → A → Ordering) (x : A) (xs : List A) → p x ≡ true → ((y : A) → Has y xs → p y ≡ false) → find p (placed cmp x xs) ≡ Some x
+found_first p cmp x [] is none = cond-true (p x) (Some x) None is
+found_first p cmp x (y ∷ ys) is none =
+    cond_both (is_lt (cmp y x)) (y ∷ placed cmp x ys) (x ∷ y ∷ ys) (λ l. find p l ≡ Some x)
+    (λ _. cond-false (p y) (Some y) (find p (placed cmp x ys)) (none y (inl refl)) ∙ found_first p cmp x ys is (λ z k. none z (inr k)))
+    (λ _. cond-true (p x) (Some x) (find p (y ∷ ys)) is)
+
+found_past : {A : Type 0} (p : A → Bool) (cmp : A → A → Ordering) (x : A) (xs : List A) → p x ≡ false → find p (placed cmp x xs) ≡ find p xs
+found_past p cmp x [] isnt = cond-false (p x) (Some x) None isnt
+found_past p cmp x (y ∷ ys) isnt =
+    cond_both (is_lt (cmp y x)) (y ∷ placed cmp x ys) (x ∷ y ∷ ys) (λ l. find p l ≡ find p (y ∷ ys))
+    (λ _. ap (λ o. cond (p y) (Some y) o) (found_past p cmp x ys isnt))
+    (λ _. cond-false (p x) (Some x) (find p (y ∷ ys)) isnt)
+
+found_none : {A : Type 0} (p : A → Bool) (xs : List A) → ((y : A) → Has y xs → p y ≡ false) → find p xs ≡ None
+found_none p [] none = refl
+found_none p (y ∷ ys) none = cond-false (p y) (Some y) (find p ys) (none y (inl refl)) ∙ found_none p ys (λ z k. none z (inr k))
+
+-- ---- the modes of a state
+
+-- those of other groups
+abbrev left : ℕ → List ℕ → List GroupMode → List GroupMode
+left project group modes = filter (λ m. not (is_eq (ordering_then (nat_cmp m.project project) (slice_cmp nat_cmp m.group group)))) modes
+
+isnt : (b : Bool) → not b ≡ true → b ≡ false
+isnt true e = sym e
+isnt false e = refl
+
+not_left : (project : ℕ) (group : List ℕ) (modes : List GroupMode) (m : GroupMode) → Has m (left project group modes) → is_mode_of project group m ≡ false
+not_left project group modes m k =
+    let of = has_filter (λ (w : GroupMode). not (is_eq (ordering_then (nat_cmp w.project project) (slice_cmp nat_cmp w.group group)))) m modes k in
+    isnt (is_mode_of project group m) (sym (ap not (has_key project group m)) ∙ of.1)
+
+-- a mode of one group isn't that of another
+not_of : (project other : ℕ) (group name : List ℕ) → ((other ≡ project) × (name ≡ group) → ⊥) → (m : GroupMode) → is_mode_of other name m ≡ true → is_mode_of project group m ≡ false
+not_of project other group name apart m is =
+    ⊎_elim
+    (λ t.
+    let of = and_parts (m.project == other) (bytes_eq m.group name) is in
+    let by = and_parts (m.project == project) (bytes_eq m.group group) t in
+    absurd (apart (sym (eqb-true m.project other of.0) ∙ eqb-true m.project project by.0, sym ((bytes_eq-Decides m.group name).0 of.1) ∙ (bytes_eq-Decides m.group group).0 by.1)))
+    (λ f. f)
+    (cases_Bool (is_mode_of project group m))
+
+others_left : (project other : ℕ) (group name : List ℕ) → ((other ≡ project) × (name ≡ group) → ⊥) → (modes : List GroupMode) → find (is_mode_of other name) (left project group modes) ≡ find (is_mode_of other name) modes
+others_left project other group name apart modes =
+    find_implied (is_mode_of other name) (λ (m : GroupMode). not (is_eq (ordering_then (nat_cmp m.project project) (slice_cmp nat_cmp m.group group)))) modes
+    (λ m k is. ap not (has_key project group m ∙ not_of project other group name apart m is))
+
+-- it is that of its own group
+own : (m : GroupMode) → is_mode_of m.project m.group m ≡ true
+own m = (λ i. eq-eqb m.project m.project refl i && (bytes_eq-Decides m.group m.group).1 refl i)
+
+-- ---- the request that sets it
+
+sets : (s : State) (new : NewMode) (project : ℕ) → project ≡ new.project → (order : Option GroupOrder) → order ≡ new.order → SetsMode s (applied (mode_change project new.group order ∷ []) s) new
+sets s new project is None e = record {
+  rest = refl;
+  its = ap (λ o. option_map (λ (m : GroupMode). m.order) o) (ap (λ n. find (is_mode_of n new.group) (left project new.group s.modes)) (sym is) ∙ found_none (is_mode_of project new.group) (left project new.group s.modes) (not_left project new.group s.modes)) ∙ e;
+  others = λ other name apart. ap (λ o. option_map (λ (m : GroupMode). m.order) o) (others_left project other new.group name (λ both. apart (both.0 ∙ is, both.1)) s.modes);
+}
+sets s new project is (Some order) e =
+    let m : GroupMode = record { project = project; group = new.group; order = order } in
+    let rest = left project new.group s.modes in
+    record {
+      rest = refl;
+      its = ap (λ o. option_map (λ (w : GroupMode). w.order) o)
+          (ap (λ n. find (is_mode_of n new.group) (placed mode_cmp m rest)) (sym is) ∙ found_first (is_mode_of project new.group) mode_cmp m rest (own m) (not_left project new.group s.modes)) ∙ e;
+      others = λ other name apart. let apart_from : (other ≡ project) × (name ≡ new.group) → ⊥ = λ both. apart (both.0 ∙ is, both.1) in
+          ap (λ o. option_map (λ (w : GroupMode). w.order) o)
+          (found_past (is_mode_of other name) mode_cmp m rest (⊎_elim (λ t. absurd (both_ways (is_mode_of project new.group m) (not_of project other new.group name apart_from m t) (own m))) (λ f. f) (cases_Bool (is_mode_of other name m)))
+          ∙ others_left project other new.group name apart_from s.modes);
+    }
+
+by_plan : (s : State) (new : NewMode) (r : Result Project Code) → Asked s new.project r → (IsRefusal (answer.Reply (set_mode r new).0) → ⊥) → SetsMode s (applied (set_mode r new).1 s) new
+by_plan s new (Err code) asked fine = absurd (fine refl)
+by_plan s new (Ok project) asked fine = sets s new project.id asked.1 new.order refl
+
+pub sets_mode : (s t : State) (new : NewMode) (now : ℕ) (seed : Seed) (a : Answer) → Step s (event.Request (SetMode new)) now seed a t → (IsRefusal a → ⊥) → SetsMode s t new
+sets_mode s t new now seed (answer.Reply reply) step fine =
+    let P : Plan → Type 0 = λ plan. (IsRefusal (answer.Reply plan.0) → ⊥) → SetsMode s (applied plan.1 s) new in
+    let is : P (reply, step.changes) = subst P (sym step.happens) (by_plan s new (of_asked s new.token new.project) (is_asked s new.token new.project)) in
+    subst (λ (w : State). SetsMode s w new) (sym step.state) (is fine)
+sets_mode s t new now seed (answer.Swept swept) step fine = absurd step.happens
+
+-- ---- each other event
+
+abbrev IsSetting : Request → Type 0
+IsSetting (SetMode new) = Unit {0}
+IsSetting _ = ⊥
+
+abbrev Keeps : State → Request → Plan → Type 0
+Keeps s request plan = (IsSetting request → ⊥) → (applied plan.1 s).modes ≡ s.modes
+
+each : (s : State) (board : List BoardRow) (request : Request) → Rising (λ (j : Job). j.id) 0 s.jobs → Rising (λ (a : Attempt). a.id) 0 s.attempts → Each s board request (Keeps s request)
+each s board request jobs_rise rise = record {
+  refused = λ c m _. refl;
+  faulted = λ d _. refl;
+  project = λ name seed _. refl;
+  runner = λ new seed _. refl;
+  paused = λ runner paused has _. refl;
+  file = λ project text c has _. refl;
+  variable = λ project new _. refl;
+  gone = λ v _. refl;
+  mode = λ new is m other. absurd (other (subst IsSetting (sym is) tt));
+  unordered = λ new is project group other. absurd (other (subst IsSetting (sym is) tt));
+  mode_shown = λ group order _. refl;
+  pipeline = λ new now is project text laid rows asked has named file lays _. ap (λ (t : State). t.modes) (after_creation s.next.job (creation s.next.pipeline s.next.job new (given_in s new) now laid) s);
+  nothing = λ _. refl;
+  granted = λ runner job q variables now seed has_runner has_job pending is_queued free _. refl;
+  turned_away = λ fault _. refl;
+  heard = λ a seen has _. refl;
+  ended = λ a state has.
+      cond_both (is_live a) (Put (row.Attempt (record a { state = state })) ∷ []) [] (λ cs. (IsSetting request → ⊥) → (applied cs s).modes ≡ s.modes) (λ _ _. refl) (λ _ _. refl);
+  misplaced = λ fault _. refl;
+  grown = λ a bytes now size has _. refl;
+  pipeline_shown = λ p claims jobs facts rows _. refl;
+  shown = λ claims project job status _. refl;
+  traced = λ trace _. refl;
+  acted = λ text changes act _. ap (λ (t : State). t.modes) (after_act s changes act);
+  pruned = λ p before asks found _. ap (λ (t : State). t.modes) (pruned_state s p.id jobs_rise rise p refl);
+}
+
+swept : (s : State) (board : List BoardRow) (o : Option Lease) (redundant : Option Pipeline) → (applied (sweep o redundant s.attempts (cancellable_in s board redundant)).1 s).modes ≡ s.modes
+swept s board None None = refl
+swept s board None (Some p) =
+    let jobs = cancellable_jobs s board p.id in
+    ap (λ (t : State). t.modes) (after_act s (cancel s.attempts jobs) (cancels s jobs (cancellable_within s board p.id)))
+swept s board (Some l) redundant = refl
+
+setting : (e : Event) → ((new : NewMode) → e ≡ event.Request (SetMode new) → ⊥) → (request : Request) → e ≡ event.Request request → IsSetting request → ⊥
+setting e other (SetMode new) is it = other new is
+setting e other (AddProject x) is it = it
+setting e other (AddRunner x) is it = it
+setting e other (PauseRunner x) is it = it
+setting e other (SetFile x) is it = it
+setting e other (SetVariable x) is it = it
+setting e other (DeleteVariable x) is it = it
+setting e other (ShowMode x) is it = it
+setting e other (CreatePipeline x) is it = it
+setting e other (ShowPipeline x) is it = it
+setting e other (AskJob x) is it = it
+setting e other (UpdateJob x) is it = it
+setting e other (AppendTrace x) is it = it
+setting e other (ShowJob x) is it = it
+setting e other (ShowTrace x) is it = it
+setting e other (Play x) is it = it
+setting e other (CancelJob x) is it = it
+setting e other (CancelPipeline x) is it = it
+setting e other (RetryJob x) is it = it
+setting e other (PruneOne x) is it = it
+
+stay : (s : State) (board : List BoardRow) (e : Event) (now : ℕ) (seed : Seed) (a : Answer) (changes : List RowChange) → Rising (λ (j : Job). j.id) 0 s.jobs → Rising (λ (w : Attempt). w.id) 0 s.attempts
+    → ((new : NewMode) → e ≡ event.Request (SetMode new) → ⊥) → Happens s board e now seed a changes → (applied changes s).modes ≡ s.modes
+stay s board (event.Request request) now seed (answer.Reply reply) changes jobs_rise rise other is =
+    does s board (Keeps s request) request (each s board request jobs_rise rise) now seed (reply, changes) is (setting (event.Request request) other request refl)
+stay s board event.Sweep now seed (answer.Swept out) changes jobs_rise rise other is =
+    let P : Swept × List RowChange → Type 0 = λ f. (applied f.1 s).modes ≡ s.modes in
+    subst P (sym is) (swept s board (first_due (leases s) now) (redundant_in s board))
+stay s board (event.Request request) now seed (answer.Swept out) changes jobs_rise rise other is = absurd is
+stay s board event.Sweep now seed (answer.Reply reply) changes jobs_rise rise other is = absurd is
+
+pub modes_stay : (s t : State) (e : Event) (now : ℕ) (seed : Seed) (a : Answer) → IsReached s → ((new : NewMode) → e ≡ event.Request (SetMode new) → ⊥) → Step s e now seed a t → t.modes ≡ s.modes
+modes_stay s t e now seed a reaches other step =
+    let grants = (reached reaches.0 s reaches.1).grants in
+    ap (λ (w : State). w.modes) step.state ∙ stay s step.before e now seed a step.changes grants.jobs_rise grants.rise other step.happens

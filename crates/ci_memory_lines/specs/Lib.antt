@@ -1,0 +1,4 @@
+pub mod Known
+pub mod Places
+pub mod Covers
+pub mod First

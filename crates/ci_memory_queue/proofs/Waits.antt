@@ -1,0 +1,189 @@
+-- Whose turn it is in a resource group tells which of the jobs that ask for it need not wait.
+use Rattle.std.specs.Prelude.{◌≡◌, ℕ, ◌<◌, ◌≤◌, Bool, true, false, not, ◌==◌, ◌&&◌, ◌||◌, nat_lt, List, Option, Some, None, is_some, option_map, option_and_then}
+use Rattle.std.specs.Str.{bytes_eq}
+use Rattle.std.proofs.Common.{refl, sym, ap, subst, ◌∙◌, inl, ⊎_elim, arith, eqb-true, eq-eqb, ne_eqb, ltb-true, ltb-false}
+use Rattle.std.proofs.lemmas.Bool.{both_ways, cases_Bool}
+use Rattle.std.proofs.lemmas.Slice.Eq.{bytes_eq-Decides}
+use Rattle.ci_board.specs.declared.facts.Status.{Status}
+use Rattle.ci_board.specs.declared.facts.Status.TheVariants.{Pending}
+use Rattle.ci_machine.specs.declared.records.GroupMode.{GroupMode}
+use Rattle.ci_machine.specs.declared.records.GroupOrder.{GroupOrder}
+use Rattle.ci_machine.specs.declared.records.GroupOrder.TheVariants.{OldestFirst, NewestReadyFirst}
+use Rattle.ci_machine.specs.declared.records.Holder.{Holder}
+use Rattle.ci_machine.specs.declared.records.Job.{Job}
+use Rattle.ci_machine.specs.declared.records.Pipeline.{Pipeline}
+use Rattle.ci_machine.specs.declared.records.WaitingJob.{WaitingJob}
+use Rattle.ci_machine.specs.Eligible.{is_free}
+use Rattle.ci_machine.specs.Groups.{order_of, goes_before, is_in_line, is_behind}
+use Rattle.ci_machine.specs.Holders.{holder_at}
+use Rattle.ci_machine.specs.Kept.{Kept}
+use Rattle.ci_machine.specs.Lookups.{job_at, pipeline_at, project_or_none, queued}
+use Rattle.ci_machine.specs.State.{State}
+use Rattle.ci_machine.specs.Statuses.{status_for}
+use Rattle.ci_machine.specs.Waiting.{waits_for, waits_as, waiting, groups_in, claims_in, mode_at}
+use Rattle.ci_machine.proofs.Claims.{any_claim, none_ahead}
+use Rattle.ci_machine.proofs.Keyed.{Has, has_find}
+use Rattle.ci_machine.proofs.Tests.{has_any}
+use Rattle.ci_machine_steps.specs.Step.{pipeline_or_none}
+use Rattle.ci_machine_statuses.proofs.Grants.{pending_is}
+use Rattle.ci_server_lookups.specs.Keeps.{IsKept}
+use Rattle.ci_server_lookups.specs.Turns.{is_past, IsTurn}
+use Rattle.ci_server_lookups.proofs.Holds.{has_flat, held_by_row}
+use Rattle.ci_memory_queue.specs.declared.queue.Asks.{Asks}
+use Rattle.ci_memory_queue.specs.declared.turns.Turn.{Turn}
+use Rattle.ci_memory_queue.specs.declared.turns.Turn.TheVariants as turn
+use Rattle.ci_memory_queue.specs.Covers.{asked_by, asks_at, is_pending_at}
+use Rattle.ci_memory_queue.specs.Turns.{pipeline_for, is_free_at, IsTurnOf, turn_by, GoesFirst}
+
+-- ---- numbers
+
+-- neither of two numbers is lesser where they are the same
+not_less_same : (a b : ℕ) → nat_lt a b ≡ false → not (nat_lt b a) ≡ (a == b)
+not_less_same a b f =
+    let least : b ≤ a = ltb-false a b f in
+    ⊎_elim
+    (λ t. let l : b < a = ltb-true b a t in ap not t ∙ sym (ne_eqb a b (λ e. absurd (omega arith))))
+    (λ g. let most : a ≤ b = ltb-false b a g in ap not g ∙ sym (eq-eqb a b (omega arith)))
+    (cases_Bool (nat_lt b a))
+
+turned : (a b : ℕ) → (a == b) ≡ (b == a)
+turned a b =
+    ⊎_elim
+    (λ t. t ∙ sym (eq-eqb b a (sym (eqb-true a b t))))
+    (λ f. f ∙ sym (ne_eqb b a (λ e. absurd (both_ways (a == b) f (eq-eqb a b (sym e))))))
+    (cases_Bool (a == b))
+
+left : (b : Bool) → (b && true) ≡ false → b ≡ false
+left true f = f
+left false f = f
+
+not_less_itself : (a : ℕ) → nat_lt a a ≡ false
+not_less_itself a = ⊎_elim (λ t. absurd (let l : a < a = ltb-true a a t in omega arith)) (λ f. f) (cases_Bool (nat_lt a a))
+
+-- no pipeline is past its own turn
+own_turn : (order : GroupOrder) (n : ℕ) → is_past order (Some n) n ≡ false
+own_turn OldestFirst n = not_less_itself n
+own_turn NewestReadyFirst n = not_less_itself n
+
+-- ---- what a job asks
+
+then_from : {A B : Type 0} (f : A → Option B) (o : Option A) (y : B) → option_and_then f o ≡ Some y → (x : A) × ((o ≡ Some x) × (f x ≡ Some y))
+then_from f None y e = absurd (cc)
+then_from f (Some x) y e = (x, (refl, e))
+
+pub mapped_from : {A B : Type 0} (f : A → B) (o : Option A) (y : B) → option_map f o ≡ Some y → (x : A) × ((o ≡ Some x) × (f x ≡ y))
+mapped_from f None y e = absurd (cc)
+mapped_from f (Some x) y e = let same : f x ≡ y = cc in (x, (refl, same))
+
+-- the job that asks this, with its pipeline
+pub asker : (s : State) (n : ℕ) (asks : Asks) → asks_at s n ≡ Some asks → (j : Job) × ((job_at s n ≡ Some j) × ((p : Pipeline) × ((pipeline_at s j.pipeline ≡ Some p) × (asked_by j p ≡ asks))))
+asker s n asks e =
+    let own = then_from (λ (j : Job). option_map (asked_by j) (pipeline_at s j.pipeline)) (job_at s n) asks e in
+    (own.0, (own.1.0, mapped_from (asked_by own.0) (pipeline_at s own.0.pipeline) asks own.1.1))
+
+-- ---- a job that waits
+
+-- the job, which is pending and asks for this group, waits
+abbrev waits : ℕ → ℕ → List ℕ → WaitingJob
+waits project pipeline group = record { project = project; group = group; pipeline = pipeline; pending = true }
+
+module _ (s : State) (board : List _) (n : ℕ) (asks : Asks) (group : List ℕ) (its : asks.group ≡ Some group) (pending : is_pending_at board n ≡ true) (asked : asks_at s n ≡ Some asks) where
+  -- a pending job that asks for the group is one of those that wait
+  in_waiting : Has (waits asks.project (pipeline_for s n) group) (waiting s board)
+  in_waiting =
+      let own = asker s n asks asked in
+      let j : Job = own.0 in
+      let there = has_find (λ (x : Job). x.id == n) j s.jobs own.1.0 in
+      let number : j.id ≡ n = eqb-true j.id n there.1 in
+      let p : Pipeline = own.1.1.0 in
+      let project : project_or_none (pipeline_at s j.pipeline) ≡ asks.project = ap project_or_none own.1.1.1.0 ∙ ap (λ (a : Asks). a.project) own.1.1.1.1 in
+      let grouped : j.options.resource_group ≡ Some group = ap (λ (a : Asks). a.group) own.1.1.1.1 ∙ its in
+      let status : status_for board j.id ≡ Pending = ap (status_for board) number ∙ pending_is (status_for board n) pending in
+      let line : pipeline_for s n ≡ j.pipeline = ap pipeline_or_none own.1.0 in
+      let one : Has (waits asks.project (pipeline_for s n) group) (waits_for (project_or_none (pipeline_at s j.pipeline)) j.pipeline true j.options.resource_group) =
+      subst (λ (o : Option (List ℕ)). Has (waits asks.project (pipeline_for s n) group) (waits_for (project_or_none (pipeline_at s j.pipeline)) j.pipeline true o)) (sym grouped)
+      (inl (λ i. waits (sym project i) (line i) group)) in
+      has_flat (λ (x : Job). waits_as (queued s x) (status_for board x.id)) (waits asks.project (pipeline_for s n) group) j s.jobs there.0
+      (subst (λ (t : Status). Has (waits asks.project (pipeline_for s n) group) (waits_as (queued s j) t)) (sym status) one)
+
+  -- so it goes before those of the pipelines that its own goes before
+  pub behind_it : (order : GroupOrder) (m : ℕ) → goes_before order m (waits asks.project (pipeline_for s n) group) ≡ true → is_behind (Some order) (waiting s board) asks.project m group ≡ true
+  behind_it order m e =
+      let w : WaitingJob = waits asks.project (pipeline_for s n) group in
+      has_any (λ (x : WaitingJob). is_in_line asks.project group x && goes_before order m x) w (waiting s board) in_waiting
+      (ap (λ b. (b && bytes_eq group group) && goes_before order m w) (eq-eqb asks.project asks.project refl)
+      ∙ (ap (λ b. b && goes_before order m w) ((bytes_eq-Decides group group).1 refl) ∙ e))
+
+  -- and it doesn't go before those whose turn it is
+  not_before : (order : GroupOrder) (first : ℕ) → IsTurn order (waiting s board) asks.project group (Some first) → goes_before order first (waits asks.project (pipeline_for s n) group) ≡ false
+  not_before order first is =
+      ⊎_elim
+      (λ t. absurd (both_ways (is_past order (Some first) first) (own_turn order first) (sym (is first) ∙ behind_it order first t)))
+      (λ f. f)
+      (cases_Bool (goes_before order first (waits asks.project (pipeline_for s n) group)))
+
+  -- where it is the turn of a pipeline, it must wait unless it is of that
+  pub oldest_waits : (first : ℕ) → IsTurn OldestFirst (waiting s board) asks.project group (Some first) → (first ≤ pipeline_for s n) × (not (is_past OldestFirst (Some first) (pipeline_for s n)) ≡ (pipeline_for s n == first))
+  oldest_waits first is =
+      let no_older = not_before OldestFirst first is in
+      (ltb-false (pipeline_for s n) first no_older, not_less_same (pipeline_for s n) first no_older)
+
+  pub newest_waits : (first : ℕ) → IsTurn NewestReadyFirst (waiting s board) asks.project group (Some first) → not (is_past NewestReadyFirst (Some first) (pipeline_for s n)) ≡ (pipeline_for s n == first)
+  newest_waits first is = not_less_same first (pipeline_for s n) (left (nat_lt first (pipeline_for s n)) (not_before NewestReadyFirst first is)) ∙ turned first (pipeline_for s n)
+
+-- ---- the turn
+
+module _ (k : Kept) (kept : IsKept k) (asks : Asks) (group : List ℕ) (its : asks.group ≡ Some group) where
+  abbrev behind : ℕ → Bool
+  behind n = is_behind (order_of k.state.modes asks.project group) (waiting k.state k.board) asks.project n group
+
+  -- a job need not wait where the group isn't held and none goes before those of its pipeline
+  free_by : (held : Option Holder) → held ≡ holder_at asks.project group k.holders → (job : ℕ) → is_free_at k asks job ≡ not (is_some held || behind (pipeline_for k.state job))
+  free_by held at job =
+      let n : ℕ = pipeline_for k.state job in
+      ap (is_free (claims_in k.state k.board n) asks.project) its
+      ∙ ap not (any_claim (groups_in k.state k.board) n asks.project group ∙ ap (λ b. b || behind n) (sym (held_by_row k.state k.holders kept.are_indexes.held asks.project group held at)))
+
+  pub held_turn : (held : Option Holder) → held ≡ holder_at asks.project group k.holders → true ≡ is_some held → IsTurnOf k asks turn.Nobody
+  held_turn held at is = λ job. free_by held at job ∙ ap (λ b. not (b || behind (pipeline_for k.state job))) (sym is)
+
+  module _ (held : Option Holder) (at : held ≡ holder_at asks.project group k.holders) (is : false ≡ is_some held) where
+    unheld : (job : ℕ) → is_free_at k asks job ≡ not (behind (pipeline_for k.state job))
+    unheld job = free_by held at job ∙ ap (λ b. not (b || behind (pipeline_for k.state job))) (sym is)
+
+    -- by what its mode says
+    past : (order : GroupOrder) (first : ℕ) → order_of k.state.modes asks.project group ≡ Some order → IsTurn order (waiting k.state k.board) asks.project group (Some first)
+        → (job : ℕ) → is_free_at k asks job ≡ not (is_past order (Some first) (pipeline_for k.state job))
+    past order first ordered is job =
+        unheld job ∙ ap not (ap (λ o. is_behind o (waiting k.state k.board) asks.project (pipeline_for k.state job) group) ordered ∙ is (pipeline_for k.state job))
+
+    pub turn_is : (its_turn : Turn) → GoesFirst k asks.project group its_turn → IsTurnOf k asks its_turn
+    turn_is turn.Anyone none = λ job. unheld job ∙ ap not (none (pipeline_for k.state job))
+    turn_is turn.Nobody goes = absurd goes
+    turn_is (turn.Oldest first) goes = λ job wanted.
+        let waits = oldest_waits k.state k.board job asks group its wanted.0 wanted.1 first goes.1 in
+        (waits.0, past OldestFirst first goes.0 goes.1 job ∙ waits.1)
+    turn_is (turn.Newest first) goes = λ job wanted.
+        past NewestReadyFirst first goes.0 goes.1 job ∙ newest_waits k.state k.board job asks group its wanted.0 wanted.1 first goes.1
+
+module _ (k : Kept) (project : ℕ) (group : List ℕ) where
+  order_is : (found : Option GroupMode) → found ≡ mode_at k.state project group → order_of k.state.modes project group ≡ option_map (λ m. m.order) found
+  order_is found at = ap (option_map (λ (m : GroupMode). m.order)) (sym at)
+
+  -- none goes before others in a group without a mode
+  pub unordered : None ≡ mode_at k.state project group → GoesFirst k project group turn.Anyone
+  unordered at = λ n. ap (λ o. is_behind o (waiting k.state k.board) project n group) (order_is None at) ∙ none_ahead (waiting k.state k.board) project n group
+
+  -- in one with a mode it is as its order tells
+  pub ordered : (mode : GroupMode) (first : Option ℕ) → Some mode ≡ mode_at k.state project group → IsTurn mode.order (waiting k.state k.board) project group first
+      → GoesFirst k project group (turn_by mode.order first)
+  ordered mode first at is = by mode.order first (order_is (Some mode) at) is
+    where
+      by : (order : GroupOrder) (o : Option ℕ) → order_of k.state.modes project group ≡ Some order → IsTurn order (waiting k.state k.board) project group o → GoesFirst k project group (turn_by order o)
+      by order None e its = λ n. ap (λ x. is_behind x (waiting k.state k.board) project n group) e ∙ its n
+      by OldestFirst (Some n) e its = (e, its)
+      by NewestReadyFirst (Some n) e its = (e, its)
+
+-- none waits for what is no group
+pub no_group : (k : Kept) (asks : Asks) → asks.group ≡ None → IsTurnOf k asks turn.Anyone
+no_group k asks none = λ job. ap (is_free (claims_in k.state k.board (pipeline_for k.state job)) asks.project) none

@@ -1,0 +1,74 @@
+//! What a request that sets the process mode of a resource group does, or one that asks for it, from what the store holds.
+
+ghost use Rattle.std.specs.Prelude.{◌≡◌, Ok, option_map};
+ghost use Rattle.ci_machine.specs.Groups.{order_of};
+ghost use Rattle.ci_machine_steps.specs.Modes as machine;
+ghost use Rattle.ci_machine_steps.specs.Plans.{asked_project};
+ghost use Rattle.ci_machine_steps.specs.Step.{project_with};
+ghost use Rattle.ci_store.specs.Store.{LoadsBy};
+
+use crate::projects::asked;
+use ci_machine::change::Changes;
+use ci_machine::records::{GroupMode, GroupOrder, Project};
+use ci_machine::reply::Reply;
+use ci_machine::request::{GroupQuery, NewMode};
+use ci_machine_plans::modes;
+use ci_machine_plans::replies::refused;
+use ci_store::fault::StoreFault;
+use ci_store::store::Store;
+use std::alloc::Global;
+
+/// A resource group of a project is to have a process mode, whichever it has.
+pub(crate) fn set_mode<T: Store>(
+    alloc: Global,
+    store: &mut T,
+    new: NewMode,
+) -> Result<(Reply, Changes), StoreFault>
+    ensures { LoadsBy T.honest T.holds T.leaves store.old store.new result
+        (λ k plan. plan ≡ machine.set_mode (asked_project (project_with k.state new.token) new.project) new) }
+{
+    let project = store.project_with(&new.token)?;
+    let found = asked(&project, new.project);
+    Ok(modes::set_mode(alloc, found, new)?)
+}
+
+/// The process mode of a resource group of a project is asked for. It is looked up only where the token is the project's.
+pub(crate) fn show_mode<T: Store>(
+    alloc: Global,
+    store: &mut T,
+    query: &GroupQuery,
+) -> Result<(Reply, Changes), StoreFault>
+    ensures { LoadsBy T.honest T.holds T.leaves store.old store.new result
+        (λ k plan. plan ≡ machine.show_mode (asked_project (project_with k.state query.now.token) query.now.project) (order_of k.state.modes query.now.project query.now.group) query.now.group) }
+{
+    let project = store.project_with(&query.token)?;
+    match asked(&project, query.project) {
+        Ok(found) => mode_shown(alloc, store, found, query),
+        Err(code) => Ok(refused(alloc, code)),
+    }
+}
+
+/// The process mode of a resource group of this project is told.
+fn mode_shown<T: Store>(
+    alloc: Global,
+    store: &mut T,
+    project: &Project,
+    query: &GroupQuery,
+) -> Result<(Reply, Changes), StoreFault>
+    ensures { LoadsBy T.honest T.holds T.leaves store.old store.new result
+        (λ k plan. plan ≡ machine.show_mode (Ok project.now) (order_of k.state.modes query.now.project query.now.group) query.now.group) }
+{
+    let mode = store.mode(query.project, &query.group)?;
+    let order = order_in(mode);
+    Ok(modes::show_mode(alloc, Ok(project), order, &query.group)?)
+}
+
+/// The order of a group with this mode, if it has one.
+fn order_in(mode: Option<GroupMode>) -> Option<GroupOrder>
+    ensures { result ≡ option_map (λ m. m.order) mode }
+{
+    match mode {
+        Some(mode) => Some(mode.order),
+        None => None,
+    }
+}

@@ -1,0 +1,7 @@
+use Rattle.std.specs.Prelude.{◌≡◌, ◌++◌, map, take}
+use Rattle.ci_machine.specs.Groups.{held_claim}
+use Rattle.ci_server_lookups.proofs.claims.claims_with.Given as goal
+
+-- those so far stand behind the claims of those who hold
+abbrev pub invariant-loop-claim : goal.invariant-loop-claim
+invariant-loop-claim l = l.claims.items ≡ map held_claim l.held ++ take l.claim-index l.ahead

@@ -1,0 +1,17 @@
+use Rattle.std.proofs.Common.{[], ◌∷◌, subst, ◌∙◌}
+use Rattle.sqlite.specs.declared.types.Value.TheVariants.{Text}
+use Rattle.sqlite.specs.Values.{bound_value}
+use Rattle.ci_store_tables.specs.Statements.{HasPut}
+use Rattle.ci_store_tables.proofs.Scalars.{on_ok}
+use Rattle.ci_store_rows.specs.declared.texts.TheConstants.{UPDATE_MODE, INSERT_MODE}
+use Rattle.ci_store_rows.specs.Rows.{number}
+use Rattle.ci_store_rows.proofs.Modes.{mode_puts}
+use Rattle.ci_store_rows.proofs.mode.GroupModeStored.put.Goals as goal
+
+pub returns-clause-makes : goal.returns-clause-makes
+returns-clause-makes g c clean inside =
+    let old = c.args.tx.now.conn.now in
+    let new = c.put.new.tx.conn.now in
+    let x = c.args.self.now in
+    let row = (λ i. bound_value (c.in_ok-project.ensures i) ∷ bound_value (c.text.ensures i) ∷ bound_value (c.to_sql.ensures i) ∷ []) ∙ (λ i. number x.project ∷ Text x.group ∷ number (c.order_number.ensures i) ∷ []) in
+    on_ok c.put.result (λ ran. (ran.0, λ k stands. mode_puts g.S.Store old new x k stands (subst (λ row. HasPut g.S.Store UPDATE_MODE.now INSERT_MODE.now row old new) row ran.1))) (c.put.ensures.put clean inside)
