@@ -7,11 +7,12 @@ and its reply than in /dev/shm.
 
 Requests are sent one after the other, of a project with some variables and pipelines of four jobs, and each answer must be the one
 that a model of these few events has. Now and then the server is killed (SIGKILL) while one is on its way: before it, within its
-bytes, or up to half as long again behind them as such a request takes. In its place it may be an opening, or a command of the
-program (`prune`, `runner-add`, `runner-pause`, `project-add`). Then the C library opens a copy of the file and its log. It must be
-sound, and its variables, jobs, attempts, traces, rows of statuses and held groups must be those of the state before the request, or
-of one that it goes through: behind each sweep that comes before it, and behind itself; the last of them, where the reply had come.
-The server is started again and shows the same by its routes. Every forty kills there is a new file.
+bytes, or up to half as long again behind them as such a request takes. In its place it may be an opening, half of them of a file of
+version 1, or a command of the program (`prune`, `runner-add`, `runner-pause`, `project-add`). Then the C library opens a copy of the
+file and its log. It must be sound, of version 1 or of version 2, with the tables of that, and its variables, jobs, attempts, traces,
+rows of statuses and held groups must be those of the state before the request, or of one that it goes through: behind each sweep that
+comes before it, and behind itself; the last of them, where the reply had come. The server is started again and shows the same by its
+routes. Every forty kills there is a new file.
 
 It ends with a line of counts, and with 1 where something else stands there, or an opening or an answer takes more than twenty
 seconds. It wants nothing but Python's own library, and sends to 127.0.0.1 alone.
@@ -424,6 +425,14 @@ class Killed(Server):
         self.process.wait()
         self.process.stdout.close()
 
+    def leave_modes_out(self):
+        """Makes the file one of version 1: the C library removes the table of process modes, which is empty."""
+        file = sqlite3.connect(self.db, isolation_level=None)
+        try:
+            file.executescript("BEGIN; DROP TABLE mode; UPDATE meta SET num = 1 WHERE key = 'version'; COMMIT")
+        finally:
+            file.close()
+
     def send(self, wanted, dies=None):
         """Sends a request; gives the status and the body of its reply, or None where no whole one came. `dies` says behind how many bytes
         the server is killed, and how many seconds later."""
@@ -444,16 +453,17 @@ class Killed(Server):
                 pass
         return answer_in(reply)
 
-    def tables(self):
+    def look(self, what):
         """What stands in the file, by a copy that the C library opens."""
         for part in ("copy.db", "copy.db-wal", "copy.db-shm"):
             if os.path.exists(os.path.join(self.folder, part)):
                 os.remove(os.path.join(self.folder, part))
         for part in ("", "-wal"):
-            shutil.copy(self.db + part, os.path.join(self.folder, "copy.db" + part))
+            if os.path.exists(self.db + part):
+                shutil.copy(self.db + part, os.path.join(self.folder, "copy.db" + part))
         file = sqlite3.connect(os.path.join(self.folder, "copy.db"))
         try:
-            return tables_of(lambda text: file.execute(text).fetchall())
+            return what(lambda text: file.execute(text).fetchall())
         finally:
             file.close()
 
@@ -471,6 +481,8 @@ def tables_of(ask):
     """What the tables hold; and of attempts the tokens, and when they were heard of."""
     if ask("PRAGMA integrity_check") != [("ok",)] or ask("PRAGMA foreign_key_check"):
         raise Wrong("the file isn't sound")
+    if version_of(ask) is None:
+        raise Wrong("the file is of no version, or a group has a process mode")
     def rows(text):
         return {row[0]: row[1:] if len(row) > 2 else row[1] for row in ask(text)}
     traces = collections.defaultdict(bytes)
@@ -485,6 +497,14 @@ def tables_of(ask):
         "board": rows("SELECT job, status, open, failed, barred FROM board"), "holder": rows("SELECT grp, attempt FROM holder"),
         "next": numbers,
     }, rows("SELECT id, token, seen FROM attempt")
+
+
+def version_of(ask):
+    """Of which version the file is, 1 or 2; or None."""
+    version = ask("SELECT num FROM meta WHERE key = 'version'")
+    if ask("SELECT 1 FROM sqlite_schema WHERE name = 'mode'"):
+        return 2 if version == [(2,)] and not ask("SELECT 1 FROM mode") else None
+    return 1 if version == [(1,)] else None
 
 
 class Trial:
@@ -552,14 +572,19 @@ class Trial:
 
     def kill_opening(self):
         self.server.kill()
+        is_old = self.chance.random() < 0.5
+        if is_old:
+            self.server.leave_modes_out()
         self.server.serve()
         time.sleep(self.chance.uniform(0, 1.2) * statistics.median(self.server.took))
         self.server.kill()
+        if is_old:
+            self.counts[f"version {self.server.look(version_of)}"] += 1
         self.settle([self.state], 0)
 
     def settle(self, states, first):
         """The file must stand for one of these states, and not for one before the first that was answered."""
-        tables, tokens = self.server.tables()
+        tables, tokens = self.server.look(tables_of)
         found = [place for place, state in enumerate(states) if state.tables() == tables]
         if not found or found[-1] < first:
             last = states[-1].tables()
@@ -622,9 +647,10 @@ def main():
     except (Wrong, OSError, ValueError) as fault:
         wrong = fault
         print(f"wrong: {type(fault).__name__}: {fault}")
-    calls = counts.pop("answered", 0)
+    calls, before, behind = (counts.pop(kind, 0) for kind in ("answered", "version 1", "version 2"))
     said = ", ".join(f"{counts[kind]} {kind}" for kind in sorted(counts))
-    print(f"seed {seed}: {sum(counts.values())} kills in {time.monotonic() - begin:.0f} s: {said}; {calls} answered calls")
+    print(f"seed {seed}: {sum(counts.values())} kills in {time.monotonic() - begin:.0f} s: {said}; {calls} answered calls; "
+          f"of {before + behind} migrations {behind} had happened")
     sys.exit(wrong is not None)
 
 

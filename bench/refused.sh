@@ -59,7 +59,7 @@ trials() {
     for call in $loads commit $events; do echo "0,10 one $call memory $look"; done
     for call in create-pipeline ask-job append sweep; do echo "0,10 one $call memory $look run"; done
   done
-  for call in create open serve-ask serve-unknown serve-body; do echo "0,10 one $call memory again"; done
+  for call in create open migrate serve-ask serve-unknown serve-body; do echo "0,10 one $call memory again"; done
   echo "0,10,12 one serve-swept memory again"
   # Its answer needs no memory at all.
   echo "0 one serve-path memory again"
@@ -72,7 +72,7 @@ rest() {
     for call in $loads $idle; do echo "0,10 rest $call memory $look"; done
     for call in commit $changing; do echo "0,10,11 rest $call memory $look"; done
   done
-  for call in create open; do echo "0,10 one $call file again"; done
+  for call in create open migrate; do echo "0,10 one $call file again"; done
 }
 
 {

@@ -1,5 +1,5 @@
 #!/usr/bin/env bash
-# Has examples/page.py write pages of a file that was written by hand (.ci/version1, what version 2 has more, and rows.sql behind it): each is a whole page that fetches and
+# Has examples/page.py write pages of a file that was written by hand (.ci/version1, made one of version 2 by the program, and rows.sql behind it): each is a whole page that fetches and
 # runs nothing, its statuses are those that the program reports, and what a page is to show stands in it. Then of files and words that are refused.
 #
 #   examples/page/test.sh [CISERVER]        as in: examples/page/test.sh bin/ciserver
@@ -51,8 +51,7 @@ reported() {
 db=$work/ci.db
 "$here/../../.ci/version1" "$db"
 passes 'a file of version 1' written 0 "$db" 1
-sqlite3 "$db" "CREATE TABLE mode (project INTEGER NOT NULL REFERENCES project (id), grp TEXT NOT NULL, mode INTEGER NOT NULL, PRIMARY KEY (project, grp)) STRICT;
-  UPDATE meta SET num = 2 WHERE key = 'version'"
+passes 'it is made one of version 2' "$ciserver" migrate --db "$db"
 passes 'the first page' written 0 "$db" 1
 passes 'the first page is whole' reads
 passes 'its statuses' reported 1

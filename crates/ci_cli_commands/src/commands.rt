@@ -5,7 +5,7 @@ use crate::file::{let_go, make, open};
 use crate::plan::plan;
 use crate::prune::prune;
 use crate::report::report;
-use crate::server::{ask, is_closed};
+use crate::server::{ask, is_closed, was_migrated};
 use crate::serving::serve_connections;
 use crate::sources::Sources;
 use ci_cli_check::{check_word, exit_status};
@@ -79,6 +79,7 @@ fn perform<C: Clock, R: RandomSource, I: Read + Drop, O: Write, E: Write>(
         Task::Explain(file) => explain_word(rt, rt.alloc(), file, input, output),
         Task::Plan(options) => plan(rt, options, input, output),
         Task::Init(file) => init(rt, file, output),
+        Task::Migrate(file) => migrate(rt, file, output),
         Task::Send(file, asked) => send(rt, file, *asked, sources, output),
         Task::Report(file, kind) => report(rt, file, *kind, output),
         Task::Prune(file, before) => prune(rt, file, *before, sources, output, errors),
@@ -89,6 +90,22 @@ fn perform<C: Clock, R: RandomSource, I: Read + Drop, O: Write, E: Write>(
 fn init<O: Write>(rt: &HostRuntime, file: &str, output: &mut O) -> u8 {
     match make(rt, file) {
         Ok(()) => say(output, Line::Fine),
+        Err(line) => say(output, line),
+    }
+}
+
+/// Opens a server's file, by which one of version 1 is made one of version 2, and says which it was of.
+fn migrate<O: Write>(rt: &HostRuntime, file: &str, output: &mut O) -> u8 {
+    match open(rt, file) {
+        Ok(server) => {
+            let line = if was_migrated(&server) {
+                Line::Migrated
+            } else {
+                Line::Current
+            };
+            let_go(server);
+            say(output, line)
+        }
         Err(line) => say(output, line),
     }
 }

@@ -94,7 +94,8 @@ impl Making {
     }
 }
 
-/// Opens the server's file at a path. Errors: the line that says why it isn't opened; a file that isn't there isn't made.
+/// Opens the server's file at a path. One of version 1 is made one of version 2. Errors: the line that says why it isn't opened; a file that
+/// isn't there isn't made.
 pub fn open(rt: &HostRuntime, path: &str) -> Result<FileServer, Line> {
     if !is_there(rt, path)? {
         return Err(Line::NotOpened(OpenFault::O3));

@@ -12,7 +12,7 @@ use ci_store::Alter;
 use std::alloc::{AllocError, Global};
 use std::io::Write;
 
-/// Prints a report of the server of a file, and gives the exit status. Nothing changes in the file.
+/// Prints a report of the server of a file, and gives the exit status. Once it is opened, nothing changes in the file.
 pub fn report<O: Write>(rt: &HostRuntime, file: &str, kind: ReportKind, output: &mut O) -> u8 {
     match open(rt, file) {
         Ok(mut server) => {

@@ -28,6 +28,11 @@ pub fn is_closed<S: Alter>(server: &Server<S>) -> bool {
     server.closed()
 }
 
+/// Was the file of a server of the version before this one, and made one of this version as it was opened?
+pub fn was_migrated<S: Alter>(server: &Server<S>) -> bool {
+    server.migrated()
+}
+
 /// The bytes of the reply to the request of these: it gets a moment and a seed of its own, the server is swept, and it is handled. None
 /// where there is no reply.
 ///

@@ -12,6 +12,8 @@ use Rattle.ci_cli_words.specs.declared.line.Line.TheVariants as line
 -- the text of a line, without its end
 abbrev pub said : Line → List ℕ
 said line.Fine = codes "ok"
+said line.Migrated = codes "migrated: 1 to 2"
+said line.Current = codes "version: 2"
 said (line.Listening port) = codes "listening on 127.0.0.1:" ++ decimal port
 said line.FileExists = codes "refused: file exists"
 said line.NoClock = codes "refused: clock"
@@ -31,6 +33,8 @@ line_text l = said l ++ codes "\n"
 -- 0 what was asked for was done; 1 it was refused; 3 the store failed, or nothing can be heard
 abbrev pub line_status : Line → ℕ
 line_status line.Fine = 0
+line_status line.Migrated = 0
+line_status line.Current = 0
 line_status (line.Listening port) = 0
 line_status line.FileExists = 1
 line_status line.NoClock = 1

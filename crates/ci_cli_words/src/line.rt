@@ -27,6 +27,10 @@ pub const BROKEN_OFF: u8 = 3;
 pub enum Line {
     /// The file was made.
     Fine,
+    /// The file was of version 1, and is of version 2 now.
+    Migrated,
+    /// The file was of version 2 already.
+    Current,
     /// The program listens on this port.
     Listening(u16),
     /// There is a file where one was to be made.
@@ -53,7 +57,7 @@ impl Line {
         ensures { result ≡ line_status self }
     {
         match self {
-            Line::Fine | Line::Listening(_) => DONE,
+            Line::Fine | Line::Migrated | Line::Current | Line::Listening(_) => DONE,
             Line::FileExists | Line::NoClock | Line::NoSeed | Line::NoMemory | Line::NoPipeline =>
                 REFUSED,
             Line::NotOpened(OpenFault::Memory) => REFUSED,
@@ -69,6 +73,8 @@ impl fmt::Display for Line {
     fn fmt<W: fmt::Write>(&self, f: &mut fmt::Formatter<W>) -> fmt::Result {
         match *self {
             Line::Fine => writeln!(f, "ok"),
+            Line::Migrated => writeln!(f, "migrated: 1 to 2"),
+            Line::Current => writeln!(f, "version: 2"),
             Line::Listening(port) => writeln!(f, "listening on 127.0.0.1:{port}"),
             Line::FileExists => writeln!(f, "refused: file exists"),
             Line::NoClock => writeln!(f, "refused: clock"),

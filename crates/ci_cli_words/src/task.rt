@@ -15,6 +15,8 @@ pub enum Task<'a> {
     Plan(PlanOptions<'a>),
     /// To make a file for a server.
     Init(&'a str),
+    /// To make the file of a server one of this version, and tell which version it was of.
+    Migrate(&'a str),
     /// To send the server of a file a request.
     Send(&'a str, AdminRequest<'a>),
     /// To tell what the server of a file has.

@@ -26,6 +26,8 @@ const PLAN: &str = "plan";
 
 const INIT: &str = "init";
 
+const MIGRATE: &str = "migrate";
+
 const PROJECT_ADD: &str = "project-add";
 
 const RUNNER_ADD: &str = "runner-add";
@@ -102,6 +104,7 @@ fn command_line<'a>(alloc: Global) -> Result<Command<'a>, AllocError> {
         .subcommand(explain(alloc)?)?
         .subcommand(plan(alloc)?)?
         .subcommand(init(alloc)?)?
+        .subcommand(migrate(alloc)?)?
         .subcommand(project_add(alloc)?)?
         .subcommand(runner_add(alloc)?)?
         .subcommand(runner_pause(alloc)?)?
@@ -180,6 +183,12 @@ fn flag<'a>(alloc: Global, name: &'a str) -> Arg<'a> {
 fn init<'a>(alloc: Global) -> Result<Command<'a>, AllocError> {
     Command::new(alloc, INIT)
         .about("Makes the file of a server")
+        .arg(file_option(alloc))
+}
+
+fn migrate<'a>(alloc: Global) -> Result<Command<'a>, AllocError> {
+    Command::new(alloc, MIGRATE)
+        .about("Makes the file of an earlier version one of this version")
         .arg(file_option(alloc))
 }
 
@@ -286,6 +295,9 @@ fn plain_task_named<'a>(matches: &ArgMatches<'a>) -> Option<Task<'a>>
     }
     if let Some(found) = matches.subcommand_matches(INIT) {
         return Some(Task::Init(text_in(found, DB)?));
+    }
+    if let Some(found) = matches.subcommand_matches(MIGRATE) {
+        return Some(Task::Migrate(text_in(found, DB)?));
     }
     if let Some(found) = matches.subcommand_matches(REPORT) {
         let kind = report_kind_in(found)?;

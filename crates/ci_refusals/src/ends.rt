@@ -59,6 +59,7 @@ impl End {
     }
 }
 
+/// The tables of version 1, and then that which version 2 has more.
 const QUERIES: [&str; 13] = [
     "SELECT * FROM meta",
     "SELECT * FROM project",
@@ -75,15 +76,33 @@ const QUERIES: [&str; 13] = [
     "SELECT * FROM mode",
 ];
 
-/// All rows of a store.
-pub fn rows_in<S: Alter>(alloc: Global, conn: &mut Connection<S>) -> Result<String, Fail> {
+fn rows_by<S: Alter>(
+    alloc: Global,
+    conn: &mut Connection<S>,
+    queries: &[&str],
+) -> Result<String, Fail> {
     let mut text = String::new(alloc);
-    for query in QUERIES {
+    for query in queries {
         let rows = conn.query_all(query, &[])?;
         let line = format!(in alloc; "{rows:?}\n")?;
         text.push_str(line.as_str())?;
     }
     Ok(text)
+}
+
+/// All rows of a store.
+pub fn rows_in<S: Alter>(alloc: Global, conn: &mut Connection<S>) -> Result<String, Fail> {
+    rows_by(alloc, conn, &QUERIES)
+}
+
+/// Has a store no table but those of version 1?
+pub fn is_of_1<S: Alter>(conn: &mut Connection<S>) -> bool {
+    conn.prepare("SELECT * FROM mode").is_err()
+}
+
+/// All rows of a store of version 1.
+pub fn rows_of_1<S: Alter>(alloc: Global, conn: &mut Connection<S>) -> Result<String, Fail> {
+    rows_by(alloc, conn, &QUERIES[..12])
 }
 
 /// All rows of a store that goes.

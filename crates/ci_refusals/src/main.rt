@@ -5,11 +5,13 @@
 
 mod calls;
 mod ends;
+mod migrated;
 mod served;
 mod tables;
 
 use calls::{Call, Way, call_of, expected_rows, try_call};
 use ends::{EACH, End, mark};
+use migrated::try_migrate;
 use served::{row_of, try_serve, try_swept};
 use sqlite::{Connection, File, FileStore};
 use std::alloc::Global;
@@ -46,6 +48,15 @@ fn opening(rt: &HostRuntime, are_there: bool, is_file: bool) -> Result<End, Fail
     try_open(rt.alloc(), new_file(rt)?, are_there)
 }
 
+/// Tries to open a store of version 1.
+fn migration(rt: &HostRuntime, is_file: bool) -> Result<End, Fail> {
+    if !is_file {
+        return try_migrate(rt.alloc(), Connection::open_in_memory(rt.alloc())?);
+    }
+    mark(rt.alloc(), EACH);
+    try_migrate(rt.alloc(), new_file(rt)?)
+}
+
 fn tried(rt: &HostRuntime, words: &[String]) -> Result<End, Fail> {
     let (what, is_file, way) = match words {
         [_] => return Ok(End::Answered),
@@ -65,6 +76,9 @@ fn tried(rt: &HostRuntime, words: &[String]) -> Result<End, Fail> {
     }
     if what == "create" || what == "open" {
         return opening(rt, what == "open", is_file);
+    }
+    if what == "migrate" {
+        return migration(rt, is_file);
     }
     if what == "serve-swept" {
         return try_swept(rt.alloc());

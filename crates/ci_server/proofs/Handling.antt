@@ -69,12 +69,13 @@ module _ {T : Type 0} (honest : T → Type 0) (holds : T → State → Type 0) (
 
   -- an event of an open server, by what it did to the store
   pub handled : AllStep → ((s : State) → IsReached s → IsSound s) → (old new : FailStop T) (r : Result A StoreFault) (a : Answer) → old.closed ≡ false → a ≡ answer_by as_answer c.0 r → new.closed ≡ closed_by (outcome_of a) false
-      → (honest new.store → honest old.store) → (honest new.store → (s : State) → IsSound s → holds old.store s → Performs holds leaves as_answer c s new.store r) → HandlesBy honest holds leaves old c new a
-  handled steps sound old new r a was is closes back does = record {
+      → new.migrated ≡ old.migrated → (honest new.store → honest old.store) → (honest new.store → (s : State) → IsSound s → holds old.store s → Performs holds leaves as_answer c s new.store r) → HandlesBy honest holds leaves old c new a
+  handled steps sound old new r a was is closes same back does = record {
     was_honest = back;
     while_open = λ _ h s reached held. ended steps s new.store new.closed r a is closes (does h s (sound s reached) held);
     once_closed = λ shut. absurd (false≢true (sym was ∙ shut));
     closes = closes ∙ ap (closed_by (outcome_of a)) (sym was);
+    same_opening = same;
   }
 
 -- an event that is this one was handled as this one

@@ -3,7 +3,7 @@ use Rattle.std.specs.List.{AllByRecursion}
 use Rattle.std.specs.List.Sorted.{IsStrictlySortedBy}
 use Rattle.std.specs.Ordering.{nat_cmp}
 use Rattle.std.specs.declared.cmp.Ordering.TheVariants.{Less}
-use Rattle.std.proofs.Common.{◌≡◌, ℕ, false, List, [], ◌∷◌, map, refl, sym, subst, arith}
+use Rattle.std.proofs.Common.{◌≡◌, inl, inr, ⊎_elim, ℕ, Bool, true, false, List, [], ◌∷◌, map, IsTrue, refl, sym, subst, arith}
 use Rattle.sqlite.specs.Tree.{Trees}
 use Rattle.sqlite.specs.Store.{Ghosts}
 use Rattle.sqlite.specs.Held.{Held, state}
@@ -20,14 +20,20 @@ use Rattle.ci_machine.specs.Kept.{Kept, nothing_kept, row_cmp, put_rows, written
 use Rattle.ci_machine_steps.specs.Sound.{IsSound}
 use Rattle.ci_machine.specs.Statuses.{AreBoard}
 use Rattle.ci_machine.specs.Holders.{AreHolders}
+use Rattle.ci_store_tables.specs.Stands as tables
 use Rattle.ci_store.specs.Create.{IsBlank}
-use Rattle.ci_store.specs.Stands.{IsAt, LeavesOnly, Rises}
+use Rattle.ci_store.specs.Schema as table
+use Rattle.ci_store.specs.Rows.{holder_row}
+use Rattle.ci_store.specs.Stands.{StandsIn, IsAt, LeavesOnly, Rises}
+use Rattle.ci_store_versions.specs.Version1.{StandsIn1, StandsInAny, LeavesAny}
+use Rattle.ci_store_versions.specs.Open.{HadVersion}
 use Rattle.ci_server_lookups.specs.Keeps.{IsKept}
 use Rattle.ci_server_lookups.proofs.Changes.{state_stays, board_stays}
 use Rattle.ci_server_events.specs.declared.planned.Beside.{Beside}
 use Rattle.ci_server_events.specs.Planning.{Settles}
-use Rattle.ci_server.specs.Holding.{IsKeptOf, StandsFor, KeepsGroups}
-use Rattle.ci_server.specs.Server.{IsHonest, Creates, Opens}
+use Rattle.ci_server.specs.Holding.{IsKeptOf, StandsAs, StandsFor, KeepsGroups}
+use Rattle.ci_server.specs.declared.fail_stop.FailStop.{FailStop}
+use Rattle.ci_server.specs.Server.{IsHonest, Creates, Opens, FailsToOpen}
 
 -- ---- the empty state
 
@@ -66,13 +72,42 @@ settled k changes beside settles =
 
 -- ---- a file
 
--- of the tables that a file has, `holder` is the twelfth
-pub groups_in : (s : State) (db : Trees) → StandsFor s db → KeepsGroups s db
-groups_in s db stands = record {
+-- one of version 2 is one of version 1 or 2
+pub as_of_2 : (of_2 : Bool) (k : Kept) (db : Trees) → StandsIn k db → StandsAs of_2 k db
+as_of_2 true k db stands = stands
+as_of_2 false k db stands = inl stands
+
+pub as_any : (of_2 : Bool) (k : Kept) (db : Trees) → StandsAs of_2 k db → StandsInAny k db
+as_any true k db stands = inl stands
+as_any false k db stands = stands
+
+-- of the tables that a file has, of either version, `holder` is the twelfth
+holder_rows : (k : Kept) (db : Trees) → StandsInAny k db → tables.Holds table.holder (map holder_row k.holders) db
+holder_rows k db stands =
+    ⊎_elim
+    (λ (two : StandsIn k db). two.tables.holds.1.1.1.1.1.1.1.1.1.1.1.0)
+    (λ (one : StandsIn1 k db). one.tables.holds.1.1.1.1.1.1.1.1.1.1.1.0)
+    stands
+
+pub groups_in : (of_2 : Bool) (s : State) (db : Trees) → StandsFor of_2 s db → KeepsGroups s db
+groups_in of_2 s db stands = record {
   holders = stands.kept.holders;
   are_holders = subst (λ t. AreHolders t stands.kept.holders) stands.is_of.state stands.is_of.are_indexes.held;
-  rows = stands.stands.tables.holds.1.1.1.1.1.1.1.1.1.1.1.0;
+  rows = holder_rows stands.kept db (as_any of_2 stands.kept db stands.stands);
 }
+
+-- ---- an opening, over what a stop left
+
+module _ {S : Type 0} (g : Ghosts S) (settled : (s : S) (db : Trees) → IsTrue (g.view s).is_open → g.recovers s db → db ≡ (g.view s).committed) where
+  -- what an open connection has stands for what the file did
+  pub leaves_any : (of_2 : Bool) (k : Kept) (conn : Held S) → IsTrue (state g conn).is_open → StandsAs of_2 k (state g conn).committed.trees → LeavesAny g k conn
+  leaves_any of_2 k conn is_open stands = λ db may. subst (StandsInAny k) (sym (settled conn.store db is_open may)) (as_any of_2 k (state g conn).committed.trees stands)
+
+  -- and so does what is left of it by an opening that fails
+  pub still_stands : (of_2 : Bool) (k : Kept) (conn : Held S) (new : FailStop (Remembering (Held S))) → IsTrue (state g conn).is_open → StandsAs of_2 k (state g conn).committed.trees
+      → FailsToOpen g conn new → IsHonest g new.store → (db : Trees) → (state g new.store.store).may_leave db → StandsAs of_2 k db
+  still_stands true k conn new is_open stands fails honest = fails.left_of_2 honest k (λ db may. subst (StandsIn k) (sym (settled conn.store db is_open may)) stands)
+  still_stands false k conn new is_open stands fails honest = fails.left honest k (leaves_any false k conn is_open stands)
 
 -- ---- a new server
 
@@ -96,9 +131,10 @@ in_order k jobs attempts rows = record {
 module _ {S : Type 0} (g : Ghosts S) (conn : Held S) (store : Remembering (Held S)) (right : (k : Kept) → InOrder k → IsRight store.memory k) where
   -- it is over tables that keep nothing
   pub creates : (IsHonest g store → HasCleanDisk (state g conn)) → IsBlank g conn → (IsHonest g store → IsBlank g conn → IsAt g nothing_kept store.store)
-      → Creates g conn (record { store = store; closed = false })
+      → Creates g conn (record { store = store; closed = false; migrated = false })
   creates back blank made = record {
     is_open = refl;
+    is_made = refl;
     was_honest = back;
     was_blank = blank;
     made = made;
@@ -106,11 +142,13 @@ module _ {S : Type 0} (g : Ghosts S) (conn : Held S) (store : Remembering (Held 
   }
 
   -- it is over the tables that were found
-  pub opens : (IsHonest g store → (k : Kept) → LeavesOnly g k conn → IsAt g k store.store) → Opens g conn (record { store = store; closed = false })
-  opens found = record {
+  pub opens : (migrated : Bool) → (IsHonest g store → HadVersion migrated (state g conn).now) → (IsHonest g store → (k : Kept) → LeavesAny g k conn → IsAt g k store.store)
+      → Opens g conn (record { store = store; closed = false; migrated = migrated })
+  opens migrated had found = record {
     is_open = refl;
+    found = had;
     opened = found;
-    holds = λ honest s k of only.
-        let at = found honest k only in
+    holds = λ honest s k of any.
+        let at = found honest k any in
         record { kept = k; is_of = of; held = (at.left, right k (in_order k at.now.inside.regular.jobs at.now.inside.regular.attempts at.now.inside.regular.board)) };
   }

@@ -25,9 +25,9 @@ module _ {T : Type 0} (honest : T → Type 0) (holds : T → Kept → Type 0) (l
 
   -- a report of an open server, by what was looked up
   pub reported : ((s : State) → IsReached s → IsSound s) → (old new : FailStop T) (P : Kept → A → Type 0) (r : Result A StoreFault) (answer : Result A Code) → old.closed ≡ false → answer ≡ report_of r → new.closed ≡ closed_after answer false
-      → LoadsBy honest holds leaves old.store new.store r P → ((s : State) (k : Kept) → IsKeptOf s k → IsKept k → (x : A) → P k x → Tells s x)
+      → new.migrated ≡ old.migrated → LoadsBy honest holds leaves old.store new.store r P → ((s : State) (k : Kept) → IsKeptOf s k → IsKept k → (x : A) → P k x → Tells s x)
       → ReportsBy honest (Holds holds) (Leaves leaves) old new Tells answer
-  reported sound old new P r answer was is closes load so = record {
+  reported sound old new P r answer was is closes same load so = record {
     was_honest = load.was_honest;
     while_open = λ _ clean s reached held.
         subst (Reported (Holds holds) (Leaves leaves) Tells s new.store new.closed) (sym is)
@@ -35,6 +35,7 @@ module _ {T : Type 0} (honest : T → Type 0) (holds : T → Kept → Type 0) (l
         (closes ∙ ap (λ (a : Result A Code). closed_after a false) is));
     once_closed = λ shut. absurd (false≢true (sym was ∙ shut));
     closes = closes ∙ ap (closed_after answer) (sym was);
+    same_opening = same;
   }
 
 -- a report of a closed server
@@ -45,4 +46,5 @@ refused honest holds leaves Tells old shut = record {
   while_open = λ still. absurd (false≢true (sym still ∙ shut));
   once_closed = λ _. (refl, refl);
   closes = shut;
+  same_opening = refl;
 }

@@ -68,6 +68,6 @@ pub repeats_of_each : {S : Type 0} (g : Ghosts S) → AllRepeat → (old new : F
 repeats_of_each g repeats old new cs rs runs = λ honest h s leads at. let r = runs honest h s leads at in record { run = r; repeats = repeats r.history r.state r.leads }
 
 pub repeats_of_lives : {S : Type 0} (g : Ghosts S) → AllRepeat → LivesRepeat g
-repeats_of_lives g repeats history settled operations server came honest =
-    let stands = settled.stands operations server came honest in
-    repeats (history operations server came honest) stands.state stands.leads
+repeats_of_lives g repeats history settled began operations server came honest =
+    let stands = settled.stands began operations server came honest in
+    repeats (history began operations server came honest) stands.state stands.leads

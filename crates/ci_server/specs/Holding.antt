@@ -1,6 +1,6 @@
 -- What the store of a server holds: a state, and beside it what follows from it: the rows of its jobs' statuses, the resource groups that
 -- are held, and the pipelines that aren't finished.
-use Rattle.std.specs.Prelude.{◌≡◌, List, map}
+use Rattle.std.specs.Prelude.{◌≡◌, Bool, true, false, List, map}
 use Rattle.sqlite.specs.Tree.{Trees}
 use Rattle.sqlite.specs.Store.{Ghosts}
 use Rattle.sqlite.specs.Held.{Held}
@@ -16,6 +16,7 @@ use Rattle.ci_store_tables.specs.Stands as tables
 use Rattle.ci_store.specs.Schema as table
 use Rattle.ci_store.specs.Rows.{holder_row}
 use Rattle.ci_store.specs.Stands.{StandsIn, LeavesOnly, LeavesEither}
+use Rattle.ci_store_versions.specs.Version1.{StandsInAny}
 
 -- what is kept is this state, and all that is beside it follows from it
 pub record IsKeptOf (s : State) (k : Kept) : Type 0 where
@@ -48,12 +49,17 @@ HoldsIn g s h = Holds (λ t k. LeavesOnly g k t.store × IsRight t.memory k) h s
 abbrev pub LeavesIn : {S : Type 0} → Ghosts S → State → State → Remembering (Held S) → Type 0
 LeavesIn g s t h = Leaves (λ u k l. LeavesEither g k l u.store) h s t
 
+-- the file stands for what is kept: as one of version 2 where it must be of that, and else as one of version 1 or 2
+abbrev pub StandsAs : Bool → Kept → Trees → Type 0
+StandsAs true k db = StandsIn k db
+StandsAs false k db = StandsInAny k db
+
 -- The file stands for the state: what is in it beside the state is what follows from the state, the rows of statuses from its jobs, needs
 -- and attempts, the groups that are held from its live attempts, and the pipelines that aren't finished from these rows.
-pub record StandsFor (s : State) (db : Trees) : Type 0 where
+pub record StandsFor (of_2 : Bool) (s : State) (db : Trees) : Type 0 where
   pub kept : Kept
   pub is_of : IsKeptOf s kept
-  pub stands : StandsIn kept db
+  pub stands : StandsAs of_2 kept db
 
 -- The table `holder` of the file has a row for each live attempt whose job has a resource group, once, and no other row; and no two of them
 -- are of the same group of a project.

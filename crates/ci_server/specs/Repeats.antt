@@ -13,7 +13,7 @@ use Rattle.ci_server.specs.Holding.{HoldsIn, LeavesIn}
 use Rattle.ci_server.specs.Handling.{Call}
 use Rattle.ci_server.specs.Server.{IsHonest}
 use Rattle.ci_server.specs.Runs.{line, IsRun}
-use Rattle.ci_server.specs.Lifetime.{Operation, ComesOf}
+use Rattle.ci_server.specs.Lifetime.{Beginning, Operation, ComesOf}
 use Rattle.ci_server.specs.Settled.{Histories, AreSettled}
 
 module _ {T : Type 0} (holds : T → State → Type 0) (leaves : T → State → State → Type 0) where
@@ -51,6 +51,6 @@ RunsRepeats {S} g old cs rs new =
 -- in the one history of each life, over its stops and openings, what a runner sent again changed nothing
 abbrev pub LivesRepeat : {S : Type 0} → Ghosts S → Type 0
 LivesRepeat {S} g =
-    (history : Histories g) (settled : AreSettled g history) (operations : List Operation) (server : FailStop (Remembering (Held S)))
-    (came : ComesOf g operations server) (honest : IsHonest g server.store)
-    → RepeatsChangeNothing (history operations server came honest) (settled.stands operations server came honest).state
+    (history : Histories g) (settled : AreSettled g history) (began : Beginning) (operations : List Operation) (server : FailStop (Remembering (Held S)))
+    (came : ComesOf g began operations server) (honest : IsHonest g server.store)
+    → RepeatsChangeNothing (history began operations server came honest) (settled.stands began operations server came honest).state

@@ -64,6 +64,8 @@ pub record ReportsBy {T A : Type 0} (honest : T → Type 0) (holds : T → State
   pub while_open : old.closed ≡ false → honest new.store → (s : State) → IsReached s → holds old.store s → Reported holds leaves Tells s new.store new.closed answer
   pub once_closed : old.closed ≡ true → (answer ≡ Err M17) × (new ≡ old)
   pub closes : new.closed ≡ closed_after answer old.closed
+  -- whether the opening migrated the store stays
+  pub same_opening : new.migrated ≡ old.migrated
 
 -- over tables
 abbrev pub Reports : {S A : Type 0} → Ghosts S → FailStop (Remembering (Held S)) → FailStop (Remembering (Held S)) → (State → A → Type 0) → Result A Code → Type 0

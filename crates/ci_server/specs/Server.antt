@@ -1,4 +1,5 @@
--- What a call does to a server: a store, and whether it is closed, as it is from the first fault of the store on.
+-- What a call does to a server: a store; whether it is closed, as it is from the first fault of the store on; and whether its store was
+-- migrated as it was opened.
 use Rattle.std.specs.Prelude.{◌≡◌, Bool, true, false, List, [], ◌∷◌, map}
 use Rattle.std.specs.Coded.{Coded, coded×, coded_bool}
 use base.Stored.{coded_via}
@@ -15,13 +16,16 @@ use Rattle.ci_machine.specs.Kept.{Kept, nothing_kept}
 use Rattle.ci_machine_steps.specs.History.{IsReached}
 use Rattle.ci_store.specs.Create.{IsBlank}
 use Rattle.ci_store.specs.Stands.{IsAt, LeavesOnly}
+use Rattle.ci_store_versions.specs.Version1.{LeavesAny}
+use Rattle.ci_store_versions.specs.Open.{HadVersion}
 use Rattle.ci_server.specs.declared.fail_stop.FailStop.{FailStop}
 use Rattle.ci_machine.specs.Reply.{outcome_of}
 use Rattle.ci_server.specs.Holding.{IsKeptOf, HoldsIn, LeavesIn}
 use Rattle.ci_server.specs.Handling.{Call, refused, Handled, closed_by}
 
 abbrev pub fail_stop_code : {T : Type 0} → Coded T → Coded (FailStop T)
-fail_stop_code code = coded_via (coded× code coded_bool) (λ s. (s.store, s.closed)) (λ x y e. ap (λ p. record { store = p.0; closed = p.1 }) e)
+fail_stop_code code =
+    coded_via (coded× code (coded× coded_bool coded_bool)) (λ s. (s.store, (s.closed, s.migrated))) (λ x y e. ap (λ p. record { store = p.0; closed = p.1.0; migrated = p.1.1 }) e)
 
 abbrev pub remembering_code : {T : Type 0} → Coded T → Coded (Remembering T)
 remembering_code code = coded_via (coded× code memory.the_code) (λ m. (m.store, m.memory)) (λ x y e. ap (λ p. record { store = p.0; memory = p.1 }) e)
@@ -34,6 +38,8 @@ module _ {T : Type 0} (honest : T → Type 0) (holds : T → State → Type 0) (
     pub while_open : old.closed ≡ false → honest new.store → (s : State) → IsReached s → holds old.store s → Handled holds leaves c s new.store new.closed a
     pub once_closed : old.closed ≡ true → (a ≡ refused c.0 M17) × (new ≡ old)
     pub closes : new.closed ≡ closed_by (outcome_of a) old.closed
+    -- whether the opening migrated the store stays
+    pub same_opening : new.migrated ≡ old.migrated
 
   -- calls one after the other, each with its answer
   abbrev pub HandlesEachBy : FailStop T → List Call → List Answer → FailStop T → Type 0
@@ -66,15 +72,26 @@ HandlesEach g old cs rs new = HandlesEachBy (IsHonest g) (λ h s. HoldsIn g s h)
 -- the store listed nothing, and the server is new over the tables that it made in it, which keep nothing
 pub record Creates {S : Type 0} (g : Ghosts S) (conn : Held S) (new : FailStop (Remembering (Held S))) : Type 0 where
   pub is_open : new.closed ≡ false
+  pub is_made : new.migrated ≡ false
   pub was_honest : IsHonest g new.store → HasCleanDisk (state g conn)
   pub was_blank : IsBlank g conn
   pub made : IsHonest g new.store → IsBlank g conn → IsAt g nothing_kept new.store.store
   -- this is the empty state, with what follows from it
   pub holds : IsHonest g new.store → HoldsIn g empty new.store
 
--- the server is new over the tables that this store has, and keeps what each file that a stop may leave stands for
+-- The server is new over the tables that this store has, and keeps what each file that a stop may leave stands for, as one of version 1 or 2. Its own
+-- files are of version 2.
 pub record Opens {S : Type 0} (g : Ghosts S) (conn : Held S) (new : FailStop (Remembering (Held S))) : Type 0 where
   pub is_open : new.closed ≡ false
-  pub opened : IsHonest g new.store → (k : Kept) → LeavesOnly g k conn → IsAt g k new.store.store
+  -- the store was migrated where its version was 1; else its version was 2
+  pub found : IsHonest g new.store → HadVersion new.migrated (state g conn).now
+  pub opened : IsHonest g new.store → (k : Kept) → LeavesAny g k conn → IsAt g k new.store.store
   -- so it holds the state that this is kept of
-  pub holds : IsHonest g new.store → (s : State) (k : Kept) → IsKeptOf s k → LeavesOnly g k conn → HoldsIn g s new.store
+  pub holds : IsHonest g new.store → (s : State) (k : Kept) → IsKeptOf s k → LeavesAny g k conn → HoldsIn g s new.store
+
+-- The opening failed, and what comes back is closed. What each file that a stop might have left stood for, each that it may leave now stands for:
+-- as of version 1 or 2, and as of version 2 alone where they did.
+pub record FailsToOpen {S : Type 0} (g : Ghosts S) (conn : Held S) (new : FailStop (Remembering (Held S))) : Type 0 where
+  pub is_closed : new.closed ≡ true
+  pub left : IsHonest g new.store → (k : Kept) → LeavesAny g k conn → LeavesAny g k new.store.store
+  pub left_of_2 : IsHonest g new.store → (k : Kept) → LeavesOnly g k conn → LeavesOnly g k new.store.store

@@ -30,6 +30,8 @@ use std::alloc::{AllocError, Global};
 pub struct FailStop<T> {
     pub store: T,
     pub closed: bool,
+    /// Was the store migrated as it was opened?
+    pub migrated: bool,
 }
 
 impl<T: Searches> FailStop<T> {

@@ -1,6 +1,6 @@
 //! The server: requests and sweeps over the tables.
 
-ghost use Rattle.std.specs.Prelude.{◌≡◌, ◌≢◌, ◌⊎◌, ◌∷◌, [], false, true, IfOk, IfErr, OnErr};
+ghost use Rattle.std.specs.Prelude.{◌≡◌, ◌≢◌, ◌⊎◌, ◌∷◌, [], false, true, codes, IfOk, IfErr, OnErr};
 ghost use Rattle.sqlite.specs.State.{HasCleanDisk};
 ghost use Rattle.sqlite.specs.Held.{state};
 ghost use Rattle.ci_memory.specs.declared.remembering.Remembering.{Remembering};
@@ -10,8 +10,10 @@ ghost use Rattle.ci_machine.specs.declared.request.Event.TheVariants as event;
 ghost use Rattle.ci_machine.specs.declared.request.Seed.{Seed};
 ghost use Rattle.ci_machine.specs.Kept.{Kept, nothing_kept};
 ghost use Rattle.ci_store.specs.Create.{IsBlank};
-ghost use Rattle.ci_store.specs.Open.{Blames, IsFailure, LeavesNoMore};
+ghost use Rattle.ci_store.specs.Open.{HasNumber, IsFailure, LeavesNoMore};
 ghost use Rattle.ci_store.specs.Stands.{StandsIn, LeavesOnly};
+ghost use Rattle.ci_store_versions.specs.Version1.{LeavesAny};
+ghost use Rattle.ci_store_versions.specs.Open.{BlamesAny};
 ghost use Rattle.ci_memory_boards.specs.Order.{InOrder};
 ghost use Rattle.ci_memory.specs.Right.{IsRight};
 ghost use Rattle.ci_server.specs.Reports.{Reports, TellsQueue, TellsPipelineAt, TellsRunners};
@@ -29,6 +31,7 @@ use ci_machine_laws::repeats::repeats_change_nothing;
 use ci_memory::remembering::Remembering;
 use ci_store::tables::{OpenFault, Tables};
 use ci_store::{Alter, Connection};
+use ci_store_versions::open::{Opened, open};
 use std::alloc::{AllocError, Global};
 use std::marker::Model;
 
@@ -66,37 +69,43 @@ impl<S: Alter> Server<S> {
         ensures unversioned { IfErr result (λ e. e.0 ≢ OpenFault.O2) }
     {
         match Tables::create(conn) {
-            Ok(store) => Ok(Server::over(store)),
+            Ok(store) => Ok(Server::over(store, false)),
             Err(fault) => Err(fault),
         }
     }
 
     /// A server over the tables that a store has. It holds the state, with what follows from it, that each file which a stop may
-    /// leave stands for.
-    /// Errors: O1, the store is not of this format; O2, it is of another version; O3, it failed; Memory, memory was refused.
-    /// The connection comes back, and a stop leaves of it no more than before.
+    /// leave stands for. A store of version 1 is migrated first, in one transaction: it is of version 2 then, stands for the same, and
+    /// no resource group has an order.
+    ///
+    /// Errors: O1, the store is not of this format; O2, it is of another version than 1 and 2; O3, it failed; Memory, memory was refused.
+    /// The connection comes back. What a stop leaves of it stands for what it stood for, as of version 1 or 2, and as of version 2 alone where it
+    /// was so. It is no more than before where the store isn't of version 1, and at O1 and O2.
     pub fn open(conn: Connection<S>) -> Result<Server<S>, (OpenFault, Connection<S>)>
         ensures opened { IfOk result (Opens S.Store conn) }
-        ensures left { IfErr result (λ e. HasCleanDisk (state S.Store e.1) → (k : Kept) → LeavesOnly S.Store k conn → LeavesOnly S.Store k e.1) }
-        ensures less { IfErr result (λ e. LeavesNoMore S.Store conn e.1) }
-        ensures blamed { IfErr result (λ e. HasCleanDisk (state S.Store e.1) → Blames e.0 (state S.Store conn).now) }
-        ensures own { IfErr result (λ e. HasCleanDisk (state S.Store e.1) → (k : Kept) → LeavesOnly S.Store k conn → IsFailure e.0) }
+        ensures left { IfErr result (λ e. HasCleanDisk (state S.Store e.1) → (k : Kept) → LeavesAny S.Store k conn → LeavesAny S.Store k e.1) }
+        ensures left_of_2 { IfErr result (λ e. HasCleanDisk (state S.Store e.1) → (k : Kept) → LeavesOnly S.Store k conn → LeavesOnly S.Store k e.1) }
+        ensures less { IfErr result (λ e. ¬ HasNumber (codes "version") 1 (state S.Store conn).now → LeavesNoMore S.Store conn e.1) }
+        ensures refused { IfErr result (λ e. ¬ IsFailure e.0 → LeavesNoMore S.Store conn e.1) }
+        ensures blamed { IfErr result (λ e. HasCleanDisk (state S.Store e.1) → BlamesAny e.0 (state S.Store conn).now) }
+        ensures own { IfErr result (λ e. HasCleanDisk (state S.Store e.1) → (k : Kept) → LeavesAny S.Store k conn → IsFailure e.0) }
     {
-        match Tables::open(conn) {
-            Ok(store) => Ok(Server::over(store)),
+        match open(conn) {
+            Ok(Opened { tables, migrated }) => Ok(Server::over(tables, migrated)),
             Err(fault) => Err(fault),
         }
     }
 
     /// An open server over tables, of which nothing is remembered yet.
-    fn over(tables: Tables<S>) -> Server<S>
-        ensures open { result ≡ record { store = record { store = tables; memory = result.store.memory }; closed = false } }
+    fn over(tables: Tables<S>, migrated: bool) -> Server<S>
+        ensures open { result ≡ record { store = record { store = tables; memory = result.store.memory }; closed = false; migrated = migrated } }
         ensures right { (k : Kept) → InOrder k → IsRight result.store.memory k }
     {
         Server {
             inner: FailStop {
                 store: Remembering::over(tables),
                 closed: false,
+                migrated,
             },
         }
     }
@@ -108,13 +117,25 @@ impl<S: Alter> Server<S> {
         self.inner.closed
     }
 
+    /// Did the opening find a store of version 1, of which it made one of version 2? It is so exactly where it did (`found` of `Opens`), and
+    /// stays so whatever is handled. It isn't so of a server that was made.
+    pub fn migrated(&self) -> bool
+        ensures migrated { result ≡ self.now.migrated }
+    {
+        self.inner.migrated
+    }
+
     /// Gives the connection back, for a reopening.
     pub fn close(self) -> Connection<S>
         ensures same { result ≡ self.store.store }
         ensures idle { result.in_transaction ≡ false }
     {
         let Server { inner } = self;
-        let FailStop { store, closed: _ } = inner;
+        let FailStop {
+            store,
+            closed: _,
+            migrated: _,
+        } = inner;
         let Remembering { store, memory: _ } = store;
         store.close()
     }

@@ -7,3 +7,4 @@ pub mod answers;
 pub mod clock;
 pub mod links;
 pub mod servers;
+pub mod version1;

@@ -15,7 +15,7 @@ use Rattle.ci_board.specs.declared.facts.Status.{Status}
 use Rattle.ci_board.specs.declared.facts.Status.TheVariants.{Pending}
 use Rattle.ci_board.specs.declared.facts.Row.{Row}
 use Rattle.ci_board.specs.Effects.{is_status}
-use Rattle.ci_board.specs.Rows.{no_row, no_facts}
+use Rattle.ci_board.specs.Rows.{no_row}
 use Rattle.ci_yaml_lines.specs.declared.code.Code.{Code}
 use Rattle.ci_yaml_lines.specs.Tree.{Value, null}
 use Rattle.ci_yaml_lines.specs.Entry.{Entry}
@@ -52,7 +52,7 @@ use Rattle.ci_machine.specs.Reply.{refusal}
 use Rattle.ci_machine_steps.specs.Plans.{Plan, token_of}
 use Rattle.ci_machine_steps.specs.Grants.{ask_job}
 use Rattle.ci_machine.specs.State.{State, empty, applied}
-use Rattle.ci_machine.specs.Statuses.{row_for, facts_in, AreBoard}
+use Rattle.ci_machine.specs.Statuses.{row_for, AreBoard}
 use Rattle.ci_machine_steps.specs.Step.{runner_with, queued, offered_variables}
 use Rattle.ci_machine.specs.Eligible.{chosen}
 use Rattle.ci_machine.specs.Waiting.{waits_as, groups_with, claims_in}
@@ -72,7 +72,7 @@ use Rattle.ci_server_witness.specs.Life.{file_text, new_file, owner, configured,
 
 pub created_at : (conn : Held MemStore) (new : InMemory) → Creates over_memory conn new → IsOpenAt [] empty new
 created_at conn new made = record {
-  came = (conn, inl made);
+  came = (conn, made);
   honest = memory_is_clean new.store.store;
   is_open = made.is_open;
   reached = ([], refl);
@@ -300,7 +300,7 @@ reopened_at ops s old new was opens =
       honest = memory_is_clean new.store.store;
       is_open = opens.is_open;
       reached = was.reached;
-      holds = opens.holds (memory_is_clean new.store.store) s was.holds.kept was.holds.is_of was.holds.held.0;
+      holds = opens.holds (memory_is_clean new.store.store) s was.holds.kept was.holds.is_of (λ db may. inl (was.holds.held.0 db may));
     }
 
 -- ---- the state after the grant, computed

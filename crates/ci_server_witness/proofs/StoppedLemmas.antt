@@ -1,9 +1,10 @@
 -- The states and the histories of a life that was stopped within a grant.
-use Rattle.std.specs.Prelude.{Option, Some, None, codes}
-use Rattle.std.proofs.Common.{◌≡◌, ◌⊎◌, inl, inr, ⊎_elim, List, [], ◌∷◌, IsTrue, sym, ap, subst, ◌∙◌}
+use Rattle.std.specs.Prelude.{true, false, not, Option, Some, None, codes}
+use Rattle.std.proofs.Common.{◌≡◌, ◌⊎◌, inl, inr, ⊎_elim, List, [], ◌∷◌, IsTrue, refl, sym, ap, subst, ◌∙◌}
+use Rattle.std.proofs.lemmas.Bool.{false≢true}
 use Rattle.sqlite.specs.Tree.{Trees}
 use Rattle.sqlite.specs.Store.{Ghosts}
-use Rattle.sqlite.specs.Held.{Held, state}
+use Rattle.sqlite.specs.Held.{Held}
 use Rattle.ci_memory.specs.declared.remembering.Remembering.{Remembering}
 use Rattle.ci_machine.specs.declared.request.Request.{Request}
 use Rattle.ci_machine.specs.declared.request.Request.TheVariants.{AddProject, AddRunner, SetFile, CreatePipeline, AskJob}
@@ -17,13 +18,14 @@ use Rattle.ci_machine.specs.State.{State, empty, applied}
 use Rattle.ci_machine_steps.specs.Step.{Step}
 use Rattle.ci_machine_steps.specs.History.{Past, Leads}
 use Rattle.ci_machine_laws.specs.Examples.{seed, token, pipeline, new_runner, with_runner, with_project, project_added, runner_added}
-use Rattle.ci_store.specs.Stands.{StandsIn, LeavesOnly}
+use Rattle.ci_store.specs.Stands.{StandsIn}
+use Rattle.ci_store_versions.specs.Version1.{LeavesAny}
 use Rattle.ci_server.specs.declared.fail_stop.FailStop.{FailStop}
 use Rattle.ci_server.specs.Holding.{HoldsIn}
 use Rattle.ci_server.specs.Handling.{Call}
 use Rattle.ci_server.specs.Server.{IsHonest}
 use Rattle.ci_server.specs.Runs.{line, by_outcome}
-use Rattle.ci_server.specs.Lifetime.{Operation, ComesOf}
+use Rattle.ci_server.specs.Lifetime.{Beginning, was_made, was_found, was_found_shut, earlier_of, begins_shut, Operation, ComesOf}
 use Rattle.ci_server.specs.Settled.{unanswered, IsFileOf, Histories, AreSettled, HasOneHistory}
 use Rattle.ci_server_witness.specs.Life.{new_file, file_added, with_file, pipeline_made, with_pipeline, granted, with_attempt, at_1000, planned, before_grant, IsPlanned}
 use Rattle.ci_server_witness.specs.Stopped.{until_failure, stopped_life, grant_line, IsStopped, IsSettledAs, not_granted, was_granted, NamesStoppedLife}
@@ -64,20 +66,26 @@ leads_on h k s request plan is was u same t leads =
     let step : Step s (event.Request request) 1000 seed (answer.Reply plan.0) t = subst (λ (w : State). Step w (event.Request request) 1000 seed (answer.Reply plan.0) t) at now.1 in
     (of_reply s t request plan (answer.Reply plan.0) is step).1
 
-module _ {S : Type 0} (g : Ghosts S) (history : Histories g) (are : AreSettled g history) where
+-- the one unanswered call asked for the job
+one_unanswered : (began : Beginning) → begins_shut began ≡ false → unanswered began until_failure ≡ Some (at_1000 (AskJob token))
+one_unanswered was_made is_open = refl
+one_unanswered (was_found earlier) is_open = refl
+one_unanswered (was_found_shut earlier) shut = absurd (false≢true (sym shut))
+
+module _ {S : Type 0} (g : Ghosts S) (began : Beginning) (is_new : earlier_of began ≡ []) (is_open : begins_shut began ≡ false) (history : Histories g) (are : AreSettled g history) where
   -- the history of each server that came of the operations leads to this state alone
   abbrev AllLead : List Operation → State → Type 0
-  AllLead ops s = (server : FailStop (Remembering (Held S))) (came : ComesOf g ops server) (honest : IsHonest g server.store) → LeadsTo (history ops server came honest) s
+  AllLead ops s = (server : FailStop (Remembering (Held S))) (came : ComesOf g began ops server) (honest : IsHonest g server.store) → LeadsTo (history began ops server came honest) s
 
   begins : AllLead [] empty
-  begins server came honest t leads = subst (λ (l : List Past). Leads l t) (are.new server came honest) leads
+  begins server came honest t leads = subst (λ (l : List Past). Leads l t) (are.new began server came honest ∙ is_new) leads
 
   next_leads : (ops : List Operation) (s : State) (request : Request) (plan : Plan) → IsPlanned s request plan → AllLead ops s → AllLead (planned request plan ∷ ops) (applied plan.1 s)
   next_leads ops s request plan is was server came honest =
-      let before = history ops came.0 came.1 (came.2.was_honest honest) in
-      let now = history (planned request plan ∷ ops) server came honest in
+      let before = history began ops came.0 came.1 (came.2.was_honest honest) in
+      let now = history began (planned request plan ∷ ops) server came honest in
       let a = answer.Reply plan.0 in
-      let goes = are.call (at_1000 request) a ops server came honest in
+      let goes = are.call began (at_1000 request) a ops server came honest in
       let steps : outcome_of a ≡ Stepped = ap outcome_by is.taken in
       let one : (u : State) × (now ≡ line u (at_1000 request) a ∷ before)
       = subst (λ (o : Outcome). by_outcome o ((u : State) × (now ≡ line u (at_1000 request) a ∷ before)) (now ≡ before) (now ≡ before)) steps goes in
@@ -93,47 +101,50 @@ module _ {S : Type 0} (g : Ghosts S) (history : Histories g) (are : AreSettled g
 
     -- ---- the failure
 
-    failed_same : (server : FailStop (Remembering (Held S))) (came : ComesOf g until_failure server) (honest : IsHonest g server.store)
-        → history until_failure server came honest ≡ history before_grant came.0 came.1 (came.2.was_honest honest)
-    failed_same server came honest = are.call (at_1000 (AskJob token)) (answer.Reply (refusal M17)) before_grant server came honest
+    failed_same : (server : FailStop (Remembering (Held S))) (came : ComesOf g began until_failure server) (honest : IsHonest g server.store)
+        → history began until_failure server came honest ≡ history began before_grant came.0 came.1 (came.2.was_honest honest)
+    failed_same server came honest = are.call began (at_1000 (AskJob token)) (answer.Reply (refusal M17)) before_grant server came honest
 
     failed_leads : AllLead until_failure with_pipeline
     failed_leads server came honest = subst (λ h. LeadsTo h with_pipeline) (sym (failed_same server came honest)) (before_leads came.0 came.1 (came.2.was_honest honest))
 
-    -- the line of the one unanswered call is that of the grant
-    is_grant : (h : List Past) → LeadsTo h with_pipeline → (c : Call) (s : State) (a : Answer) (t : State) → unanswered until_failure ≡ Some c → Leads (line s c a ∷ h) t
+    -- its line is that of the grant
+    is_grant : (h : List Past) → LeadsTo h with_pipeline → (c : Call) (s : State) (a : Answer) (t : State) → unanswered began until_failure ≡ Some c → Leads (line s c a ∷ h) t
         → (line s c a ≡ grant_line) × (t ≡ with_attempt)
     is_grant h was c s a t is leads =
-        let its : c ≡ at_1000 (AskJob token) = sym (ap call_or is) in
+        let its : c ≡ at_1000 (AskJob token) = ap call_or (sym is ∙ one_unanswered began is_open) in
         let at : s ≡ with_pipeline = was s leads.0 in
         let step : Step with_pipeline (event.Request (AskJob token)) 1000 seed a t
         = subst (λ (w : State). Step w (event.Request (AskJob token)) 1000 seed a t) at (subst (λ (d : Call). Step s d.0 d.1 d.2 a t) its leads.1) in
         let of = of_reply with_pipeline t (AskJob token) granted a plans_grant step in
         ((λ i. line (at i) (its i) (of.0 i)), of.1)
 
-    stopped_at : (server : FailStop (Remembering (Held S))) → ComesOf g until_failure server → IsHonest g server.store → IsStopped g server
+    stopped_at : (server : FailStop (Remembering (Held S))) → ComesOf g began until_failure server → IsHonest g server.store → IsStopped g server
     stopped_at server came honest =
-        let stands = are.stands until_failure server came honest in
+        let stands = are.stands began until_failure server came honest in
         let leads = failed_leads server came honest in
         let at : stands.state ≡ with_pipeline = leads stands.state stands.leads in
-        let before : (db : Trees) → IsFileOf stands.state db → IsFileOf with_pipeline db ⊎ IsFileOf with_attempt db = λ db file. inl (subst (λ s. IsFileOf s db) at file) in
+        let of_2 = not (begins_shut began) in
+        let new : of_2 ≡ true = ap not is_open in
+        let before : (db : Trees) → IsFileOf of_2 stands.state db → IsFileOf true with_pipeline db ⊎ IsFileOf true with_attempt db
+        = λ db file. inl (subst (λ s. IsFileOf true s db) at (subst (λ v. IsFileOf v stands.state db) new file)) in
         record {
           is_closed = came.2.closes;
           left = λ db may. ⊎_elim
               (λ one. before db (one db may))
               (λ two. let l = two.is_after in ⊎_elim
               (λ file. before db file)
-              (λ file. inr (subst (λ s. IsFileOf s db) (is_grant _ leads l.call l.before l.answer two.after l.is l.leads).1 file))
+              (λ file. inr (subst (λ s. IsFileOf true s db) (is_grant _ leads l.call l.before l.answer two.after l.is l.leads).1 (subst (λ v. IsFileOf v two.after db) new file)))
               (two.each db may))
               stands.left;
         }
 
     -- ---- the opening
 
-    settled_at : (server : FailStop (Remembering (Held S))) (came : ComesOf g stopped_life server) (honest : IsHonest g server.store)
-        → IsSettledAs g (history before_grant came.2.0 came.2.1 (came.2.2.was_honest came.3)) (history stopped_life server came honest) server
+    settled_at : (server : FailStop (Remembering (Held S))) (came : ComesOf g began stopped_life server) (honest : IsHonest g server.store)
+        → IsSettledAs g (history began before_grant came.2.0 came.2.1 (came.2.2.was_honest came.3)) (history began stopped_life server came honest) server
     settled_at server came honest =
-        let stands = are.stands stopped_life server came honest in
+        let stands = are.stands began stopped_life server came honest in
         let holds : HoldsIn g stands.state server.store = stands.held came.5.is_open in
         let same = failed_same came.0 came.2 came.3 in
         let leads = failed_leads came.0 came.2 came.3 in
@@ -142,16 +153,16 @@ module _ {S : Type 0} (g : Ghosts S) (history : Histories g) (are : AreSettled g
         (λ more.
         let one = is_grant _ leads more.0 more.1 more.2 stands.state more.3 (subst (λ (h : List Past). Leads h stands.state) more.4 stands.leads) in
         was_granted (more.4 ∙ (λ i. one.0 i ∷ same i)) (subst (λ s. HoldsIn g s server.store) one.1 holds))
-        (are.opening until_failure server came honest)
+        (are.opening began until_failure server came honest)
 
 -- ---- all of it
 
 pub names : {S : Type 0} (g : Ghosts S) → ((s : S) (db : Trees) → IsTrue (g.view s).is_open → g.recovers s db → db ≡ (g.view s).committed) → HasOneHistory g
-    → HasOneTree → HasNotBoth → ReadsTrees → AnswersOnce → NamesStoppedLife g
-names g settled one one_tree not_both reads once = record {
-  stopped = stopped_at g one.0 one.1 one_tree not_both reads once;
-  settled = λ history are. settled_at g history are one_tree not_both reads once;
+    → HasOneTree → HasNotBoth → ReadsTrees → AnswersOnce → (began : Beginning) → earlier_of began ≡ [] → begins_shut began ≡ false → NamesStoppedLife g began
+names g settled one one_tree not_both reads once began is_new is_open = record {
+  stopped = stopped_at g began is_new is_open one.0 one.1 one_tree not_both reads once;
+  settled = λ history are. settled_at g began is_new is_open history are one_tree not_both reads once;
   committed = λ server came honest file.
-      let only : LeavesOnly g file.kept came.1 = λ db may. subst (StandsIn file.kept) (sym (settled came.1.store db came.4.is_open may)) file.stands in
-      came.5.holds honest with_attempt file.kept file.is_of only;
+      let any : LeavesAny g file.kept came.1 = λ db may. inl (subst (StandsIn file.kept) (sym (settled came.1.store db came.4.is_open may)) file.stands) in
+      came.5.holds honest with_attempt file.kept file.is_of any;
 }

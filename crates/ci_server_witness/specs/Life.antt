@@ -38,7 +38,7 @@ use Rattle.ci_server.specs.declared.fail_stop.FailStop.{FailStop}
 use Rattle.ci_server.specs.Holding.{HoldsIn}
 use Rattle.ci_server.specs.Handling.{Call}
 use Rattle.ci_server.specs.Server.{IsHonest}
-use Rattle.ci_server.specs.Lifetime.{Operation, called, opened, ComesOf}
+use Rattle.ci_server.specs.Lifetime.{was_made, Operation, called, opened, ComesOf}
 use Rattle.ci_server_witness.specs.declared.life.Stop.{Stop}
 use Rattle.ci_server_witness.specs.declared.life.Stop.TheVariants as stop
 
@@ -114,9 +114,9 @@ life = opened ∷ until_grant
 abbrev pub InMemory : Type 0
 InMemory = FailStop (Remembering (Held MemStore))
 
--- The server came of these operations, and its disk returned what was written; it is open, and holds this state, to which a history leads.
+-- The server was made and came of these operations, and its disk returned what was written; it is open, and holds this state, to which a history leads.
 pub record IsOpenAt (operations : List Operation) (s : State) (server : InMemory) : Type 0 where
-  pub came : ComesOf over_memory operations server
+  pub came : ComesOf over_memory was_made operations server
   pub honest : IsHonest over_memory server.store
   pub is_open : server.closed ≡ false
   pub reached : IsReached s

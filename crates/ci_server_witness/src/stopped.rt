@@ -1,5 +1,7 @@
 //! A server that is stopped within a commit, and opened again.
 
+ghost use Rattle.std.specs.Prelude.{[]};
+ghost use Rattle.ci_server.specs.Lifetime.{was_made, was_found};
 ghost use Rattle.ci_server_witness.specs.Stopped.{NamesStoppedLife};
 
 use ci_config::laws::answers_once_without_patterns;
@@ -17,9 +19,12 @@ use ci_yaml::laws::{has_not_both, has_one_tree, reads_trees};
 /// its line is, and the server holds the state after it. The latter is so where a stop left the file that the commit was to make
 /// (`committed`).
 ///
+/// The server was made (`made`), or opened over the empty tables that a creation had left (`found`).
+///
 /// Of the store it is assumed that it may fail in that call, and that it returns what was written.
 pub fn stopped_within_a_grant<S: Alter>()
-    ensures { NamesStoppedLife S.Store }
+    ensures made { NamesStoppedLife S.Store was_made }
+    ensures found { NamesStoppedLife S.Store (was_found []) }
 {
     has_one_tree();
     has_not_both();

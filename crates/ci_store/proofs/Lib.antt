@@ -1,6 +1,6 @@
 mod Appending
 mod Applied
-mod Committing
+pub mod Committing
 mod Loading
 mod Looking
-mod Openings
+pub mod Openings

@@ -106,6 +106,11 @@ not_understood params old new fault (inl (inr (c, is, inr (inl h)), same)) = abs
 not_understood params old new fault (inl (inr (c, is, inr (inr h)), same)) = absurd (let e = h.1 in cc)
 not_understood params old new fault (inr fails) = absurd (not_as_store fails.0 fault fails.1)
 
+pub not_run_same : (params : Row) (old new : Seen) (fault : CompileError) → IsNotRun old new SELECT_META.now params (SqlInputError fault) → IsUnchanged old new
+unfolding IsNotRun
+not_run_same params old new fault (inl h) = h.1
+not_run_same params old new fault (inr fails) = absurd (not_as_store fails.0 fault fails.1)
+
 -- ---- a column without a number
 
 pub no_number : (row : Row) (num : ℕ) → (1 < length row → ¬ ((n : ℕ) × (column row 1 ≡ Int (pos n)))) → column row 1 ≢ number num
@@ -115,7 +120,7 @@ no_number (x ∷ y ∷ row) num none is = none (omega arith) (num, is)
 
 -- ---- a store that holds a state is of this format and version
 
-of_state : (k : Kept) (db : Database) → Stands k db → (key : List ℕ) (num : ℕ) → filter (has_key (Text key ∷ [])) (meta_rows k.state.next) ≡ meta_row key num ∷ [] → (rows : List Row) → SelectsMeta key rows db → rows ≡ meta_row key num ∷ []
+pub of_state : (k : Kept) (db : Database) → Stands k db → (key : List ℕ) (num : ℕ) → filter (has_key (Text key ∷ [])) (meta_rows k.state.next) ≡ meta_row key num ∷ [] → (rows : List Row) → SelectsMeta key rows db → rows ≡ meta_row key num ∷ []
 of_state k db stands key num one rows it =
     let known = sym it.is ∙ ap (λ (schema : Schema). understood schema SELECT_META.now) stands.listed in
     let source : it.source ≡ db = subst (λ b. IsSourceOf b db it.source) (ap (λ (schema : Schema). reads_listing schema SELECT_META.now) stands.listed ∙ means_meta.unlisted) it.from in
@@ -131,7 +136,7 @@ format_row : (next : Numbers) → filter (has_key (Text (codes "format") ∷ [])
 unfolding binary value_cmp lib.Ieee.is_nan lib.Ieee.lt
 format_row next = refl
 
-version_row : (next : Numbers) → filter (has_key (Text (codes "version") ∷ [])) (meta_rows next) ≡ meta_row (codes "version") 2 ∷ []
+pub version_row : (next : Numbers) → filter (has_key (Text (codes "version") ∷ [])) (meta_rows next) ≡ meta_row (codes "version") 2 ∷ []
 unfolding binary value_cmp lib.Ieee.is_nan lib.Ieee.lt
 version_row next = refl
 

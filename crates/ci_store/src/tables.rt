@@ -162,6 +162,7 @@ fn understands<S: Alter>(conn: &mut Connection<S>) -> Result<(), OpenFault>
     ensures idle { conn.new.in_transaction ≡ false }
     ensures same { HasCleanDisk (state S.Store conn.new) → OnOk result (IsUnchanged (state S.Store conn.old) (state S.Store conn.new)) }
     ensures blamed { HasCleanDisk (state S.Store conn.new) → IfErr result (λ fault. Blames fault (state S.Store conn.old).now) }
+    ensures unchanged { HasCleanDisk (state S.Store conn.new) → IfErr result (λ fault. ¬ IsFailure fault → IsUnchanged (state S.Store conn.old) (state S.Store conn.new)) }
     ensures survives { Survives (state S.Store conn.old) (state S.Store conn.new) (λ _. ⊥) }
 {
     match conn.prepare(texts::SELECT_META) {
@@ -183,8 +184,12 @@ fn is_number(row: &Row, num: u64) -> Result<bool, StoreFault>
     }
 }
 
-/// Has `meta` this number alone under the key?
-fn has_number<S: Alter>(conn: &mut Connection<S>, key: &str, num: u64) -> Result<bool, StoreFault>
+/// Has `meta` this number alone under the key? Errors: the store failed, or has no table as `meta` is; or memory was refused.
+pub fn has_number<S: Alter>(
+    conn: &mut Connection<S>,
+    key: &str,
+    num: u64,
+) -> Result<bool, StoreFault>
     requires { conn.old.in_transaction ≡ false }
     ensures idle { conn.new.in_transaction ≡ false }
     ensures same { HasCleanDisk (state S.Store conn.new) → OnOk result (IsUnchanged (state S.Store conn.old) (state S.Store conn.new)) }
@@ -206,6 +211,7 @@ fn recognize<S: Alter>(conn: &mut Connection<S>) -> Result<(), OpenFault>
     ensures same { HasCleanDisk (state S.Store conn.new) → OnOk result (IsUnchanged (state S.Store conn.old) (state S.Store conn.new)) }
     ensures ours { HasCleanDisk (state S.Store conn.new) → OnOk result (IsOurs (state S.Store conn.old).now) }
     ensures blamed { HasCleanDisk (state S.Store conn.new) → IfErr result (λ fault. Blames fault (state S.Store conn.old).now) }
+    ensures unchanged { HasCleanDisk (state S.Store conn.new) → IfErr result (λ fault. ¬ IsFailure fault → IsUnchanged (state S.Store conn.old) (state S.Store conn.new)) }
     ensures survives { Survives (state S.Store conn.old) (state S.Store conn.new) (λ _. ⊥) }
 {
     understands(conn)?;
@@ -252,11 +258,14 @@ impl<S: Alter> Tables<S> {
         ensures clean_fault { IfErr result (λ e. doubt (state S.Store conn).is_clean ≤ doubt (state S.Store e.1).is_clean) }
         ensures opened { IfOk result (λ t. HasCleanDisk (state S.Store t) → (k : Kept) → LeavesOnly S.Store k conn → IsAt S.Store k t) }
         ensures ours { IfOk result (λ t. HasCleanDisk (state S.Store t) → IsOurs (state S.Store t).now) }
+        ensures same { IfOk result (λ t. HasCleanDisk (state S.Store t) → IsUnchanged (state S.Store conn) (state S.Store t)) }
         ensures left { IfErr result (λ e. HasCleanDisk (state S.Store e.1) → (k : Kept) → LeavesOnly S.Store k conn → LeavesOnly S.Store k e.1) }
         ensures less { IfOk result (λ t. LeavesNoMore S.Store conn t) }
         ensures less_fault { IfErr result (λ e. LeavesNoMore S.Store conn e.1) }
         ensures blamed { IfErr result (λ e. HasCleanDisk (state S.Store e.1) → Blames e.0 (state S.Store conn).now) }
         ensures own { IfErr result (λ e. HasCleanDisk (state S.Store e.1) → (k : Kept) → LeavesOnly S.Store k conn → IsFailure e.0) }
+        ensures idle { IfErr result (λ e. ¬ IsFailure e.0 → e.1.in_transaction ≡ false) }
+        ensures unchanged { IfErr result (λ e. HasCleanDisk (state S.Store e.1) → ¬ IsFailure e.0 → IsUnchanged (state S.Store conn) (state S.Store e.1)) }
     {
         if !conn.is_autocommit() {
             return Err((OpenFault::O3, conn));
@@ -269,6 +278,17 @@ impl<S: Alter> Tables<S> {
                 conn: Asked::open(conn),
             }),
             Err(fault) => Err((fault, conn)),
+        }
+    }
+
+    /// The tables of a store that is open, of this version, and in no transaction. Nothing is asked of it.
+    pub fn over(conn: Connection<S>) -> Tables<S>
+        requires idle { conn.in_transaction ≡ false }
+        requires is_open { HasCleanDisk (state S.Store conn) → IsTrue (state S.Store conn).is_open }
+        ensures same { result ≡ conn }
+    {
+        Tables {
+            conn: Asked::open(conn),
         }
     }
 

@@ -21,11 +21,11 @@ use Rattle.ci_store_rows.specs.Schema.{the_schema}
 use Rattle.ci_store_rows.specs.Create.{IsBare}
 
 -- a part that gave a value did not stop on the way
-went : {B E R : Type 0} {b : B} {Stops : E → Type 0} → ((stop : E) × Stops stop × (Ok b ≡ Err stop)) ⊎ R → R
+pub went : {B E R : Type 0} {b : B} {Stops : E → Type 0} → ((stop : E) × Stops stop × (Ok b ≡ Err stop)) ⊎ R → R
 went (inl stopped) = absurd (let e = stopped.2 in cc)
 went (inr on) = on
 
-same_value : {B E : Type 0} {a b : B} → ◌≡◌ {A = Result B E} (Ok a) (Ok b) → a ≡ b
+pub same_value : {B E : Type 0} {a b : B} → ◌≡◌ {A = Result B E} (Ok a) (Ok b) → a ≡ b
 same_value e = cc
 
 kept_bare : (tables : List Table) (old new : Trees) → AllByRecursion (λ t. old t.tree ≡ []) tables → KeepsRows tables old new → AllByRecursion (λ t. new t.tree ≡ []) tables
@@ -246,7 +246,7 @@ runs_next k low text old new count bare h is = makes_next k low old new count ba
 
 -- ---- what version 2 has more
 
-makes_mode : MeansTable (schema_after 21) the_schema CREATE_MODE.now (record table.mode { tree = 0 })
+pub makes_mode : MeansTable (schema_after 21) the_schema CREATE_MODE.now (record table.mode { tree = 0 })
 unfolding understood everything
 makes_mode = record { command = refl; plain = (refl, refl); whole = refl; defined = refl; is = refl; uncounted = refl }
 

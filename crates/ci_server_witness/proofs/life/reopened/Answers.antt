@@ -1,7 +1,7 @@
-use Rattle.std.proofs.Common.{subst, sym}
+use Rattle.std.proofs.Common.{subst, sym, inl}
 use Rattle.sqlite.specs.Steps.{over_memory}
 use Rattle.sqlite.proofs.Callers.{memory_is_clean}
-use Rattle.ci_store.specs.Stands.{LeavesOnly}
+use Rattle.ci_store_versions.specs.Version1.{LeavesAny}
 use Rattle.ci_server.specs.Server.{Opens}
 use Rattle.ci_server_witness.proofs.LifeLemmas.{reopened_at}
 use Rattle.ci_server_witness.proofs.life.reopened.Goals as goal
@@ -13,4 +13,4 @@ returns-in-Ok-clause-reopened c ops s was =
 pub returns-clause-stopped : goal.returns-clause-stopped
 returns-clause-stopped c ops s was =
     let kept = was.holds.kept in
-    c.in-Err.ensures.own (memory_is_clean c.in-Err.field-0-1) kept (subst (LeavesOnly over_memory kept) (sym c.close.ensures.same) was.holds.held.0)
+    c.in-Err.ensures.own (memory_is_clean c.in-Err.field-0-1) kept (subst (LeavesAny over_memory kept) (sym c.close.ensures.same) (λ db may. inl (was.holds.held.0 db may)))

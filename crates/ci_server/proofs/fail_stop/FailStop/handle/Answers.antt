@@ -1,3 +1,4 @@
+use Rattle.std.proofs.Common.{refl}
 use Rattle.ci_machine.specs.declared.reply.Answer.TheVariants as answer
 use Rattle.ci_machine.specs.declared.request.Event.TheVariants as event
 use Rattle.ci_server.specs.Holding.{Holds, Leaves}
@@ -8,4 +9,4 @@ pub returns : goal.returns
 returns g c =
     handled g.T.Store.honest (Holds g.T.Store.holds) (Leaves g.T.Store.leaves) answer.Reply (event.Request c.args.request, c.args.now, c.args.seed) c.a_step_is_answered.ensures c.sound_of_each_reached_state.ensures
     c.args.self.now _ c.handle.result (answer.Reply c.reply_by-reply.result) c.if-self.false (c.reply_by-reply.ensures c.args.request) c.is_store_fault-self.ensures
-    c.handle.ensures.was_honest c.handle.ensures.performed
+    refl c.handle.ensures.was_honest c.handle.ensures.performed

@@ -1,4 +1,4 @@
-use Rattle.std.proofs.Common.{subst}
+use Rattle.std.proofs.Common.{subst, refl}
 use Rattle.ci_machine.specs.Lookups.{pipeline_at}
 use Rattle.ci_server_reports.specs.Told.{TellsPipeline}
 use Rattle.ci_server_lookups.specs.Keeps.{IsKept}
@@ -9,4 +9,4 @@ use Rattle.ci_server.proofs.fail_stop.FailStop.pipeline.Goals as goal
 pub returns : goal.returns
 returns g c =
     reported g.T.Store.honest g.T.Store.holds g.T.Store.leaves (TellsPipelineAt c.args.id) c.sound_of_each_reached_state.ensures c.args.self.now _ (λ k told. IsKept k → TellsPipeline k.state k.board (pipeline_at k.state c.args.id) told) c.pipeline_rows.result c.report_of-told.result c.if-self.false c.report_of-told.ensures c.is_report_fault-self.ensures
-    c.pipeline_rows.ensures (λ s k of kept told is. (k.board, of.are_board, subst (λ t. TellsPipeline t k.board (pipeline_at t c.args.id) told) of.state (is kept)))
+    refl c.pipeline_rows.ensures (λ s k of kept told is. (k.board, of.are_board, subst (λ t. TellsPipeline t k.board (pipeline_at t c.args.id) told) of.state (is kept)))

@@ -1,3 +1,4 @@
+use Rattle.std.proofs.Common.{refl}
 use Rattle.ci_machine.specs.declared.reply.Answer.TheVariants as answer
 use Rattle.ci_machine.specs.declared.request.Event.TheVariants as event
 use Rattle.ci_server.specs.Holding.{Holds, Leaves}
@@ -8,4 +9,4 @@ pub returns : goal.returns
 returns g c = λ seed.
     handled g.T.Store.honest (Holds g.T.Store.holds) (Leaves g.T.Store.leaves) answer.Swept (event.Sweep, c.args.now, seed) c.a_step_is_answered.ensures c.sound_of_each_reached_state.ensures
     c.args.self.now _ c.sweep.result (answer.Swept c.swept_by-swept.result) c.if-self.false c.swept_by-swept.ensures c.is_swept_fault-self.ensures
-    c.sweep.ensures.was_honest (λ h s sound held. c.sweep.ensures.performed h s sound held seed)
+    refl c.sweep.ensures.was_honest (λ h s sound held. c.sweep.ensures.performed h s sound held seed)

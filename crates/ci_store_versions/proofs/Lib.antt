@@ -1,0 +1,3 @@
+pub mod Migrates
+pub mod Versions
+pub mod Openings

@@ -1,0 +1,2 @@
+pub mod Version1
+pub mod Open
