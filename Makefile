@@ -1,20 +1,24 @@
-# make build  proves the crates below the program side by side, builds it, and leaves it at bin/ciserver
-# make demo   the same, has it check the stored CI files and serve requests, and runs a whole pipeline with it
-# make test   the gate: every proof from nothing, the must-fail edits, the tests, the programs' stored runs, and memory refused
+# make build    proves the crates below the program side by side, builds it, leaves it at bin/ciserver, and compares it with dist's program
+# make demo     takes dist's program where it was built of these sources, has it check CI files, and runs a whole pipeline with it; else it builds first
+# make test     the gate: every proof from nothing, the must-fail edits, the tests, the programs' stored runs, and memory refused
+# make release  puts the program that was built into dist/
 
-.PHONY: build demo test
+.PHONY: build demo test release
 
 build:
 	.ci/build
+	.ci/compare
 
-demo: build
+demo:
+	.ci/provide
 	@echo
 	bin/ciserver check crates/ci_config_texts/data/pipeline.yml
 	bin/ciserver check crates/ci_config_texts/data/job_named_twice.yml; test $$? = 1
-	.ci/texts
-	.ci/program
 	@echo
 	examples/demo.sh
 
 test:
 	.ci/gate
+
+release:
+	.ci/release
