@@ -24,7 +24,7 @@ done
 if command -v valgrind > /dev/null; then
   count="valgrind --tool=callgrind --callgrind-out-file=/dev/null"
   rm -f bench.db*
-  $count --toggle-collect='bench_grant::grants*' "$program" 2>&1 | sed -n 's/.*Collected : /ci_store, instructions of all grants: /p'
+  $count --toggle-collect='bench_grant::grants*' "$program" 2>&1 | sed -n 's/.*Collected : /ci_store_sqlite, instructions of all grants: /p'
   $count --toggle-collect=main "$work/grant_c" bench.db 2>&1 | sed -n 's/.*Collected : /C sqlite, instructions of all grants: /p'
 fi
 rm -f bench.db*

@@ -32,11 +32,11 @@ build() {
   [ -d "$2" ] || stop "there is no folder $2"
   need rt sqlite3
   mkdir -p "$crate/src" "$crate/specs"
-  for low in $(for part in ci_store "${@:3}"; do below "$part"; done | sort -u); do
+  for low in $(for part in ci_store_sqlite "${@:3}"; do below "$part"; done | sort -u); do
     cp -r "$root/crates/$low" "$work/crates/"
     grep "^$low:" "$root/crates.txt" >> "$work/crates.txt"
   done
-  echo "bench_$1: ci_board ci_machine ci_store ${*:3} sqlite anyhow" >> "$work/crates.txt"
+  echo "bench_$1: ci_board ci_machine ci_store ci_store_sqlite ${*:3} sqlite anyhow" >> "$work/crates.txt"
   cp "$root/bench/$1.rt.txt" "$crate/src/main.rt"
   for part in $(sed -n 's/^mod \(.*\);$/\1/p' "$crate/src/main.rt"); do
     cp "$root/bench/$part.rt.txt" "$crate/src/$part.rt"

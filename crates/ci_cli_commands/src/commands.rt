@@ -15,7 +15,7 @@ use ci_cli_words::words::task_of;
 use ci_explain::explain_word;
 use ci_http_routes::paths::Paths;
 use ci_http_service::Server;
-use ci_store::Alter;
+use ci_store_sqlite::Alter;
 use clap::Error;
 use clap::error::ErrorKind;
 use mio::net::TcpListener;

@@ -3,7 +3,7 @@
 use crate::blank::first_page;
 use ci_cli_words::line::Line;
 use ci_http_service::Server;
-use ci_store::tables::OpenFault;
+use ci_store_sqlite::tables::OpenFault;
 use sqlite::{Connection, Error, ErrorCode, File, FileStore};
 use std::alloc::{AllocError, Global};
 use std::fs::{self, OpenOptions};

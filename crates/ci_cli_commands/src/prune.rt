@@ -9,7 +9,7 @@ use ci_machine::moment::Moment;
 use ci_machine::records::MAX_NUMBER;
 use ci_machine::reply::HttpStatus;
 use ci_machine::request::Request;
-use ci_store::Alter;
+use ci_store_sqlite::Alter;
 use std::alloc::Global;
 use std::io::{IsTerminal, Write};
 use std::random::RandomSource;

@@ -8,7 +8,7 @@ use ci_machine::reply::Code;
 use ci_report::pipeline::pipeline_report;
 use ci_report::queue::queue_report;
 use ci_report::runner::runner_report;
-use ci_store::Alter;
+use ci_store_sqlite::Alter;
 use std::alloc::{AllocError, Global};
 use std::io::Write;
 

@@ -8,7 +8,7 @@ use ci_http_service::Server;
 use ci_http_service::attend::{Unanswered, attend};
 use ci_machine::reply::Reply;
 use ci_machine::request::Request;
-use ci_store::Alter;
+use ci_store_sqlite::Alter;
 use std::alloc::Global;
 use std::random::RandomSource;
 use std::time::Clock;

@@ -8,7 +8,7 @@ use ci_http_peers::serve::{Terms, Unserved, serve_peers};
 use ci_http_routes::paths::Paths;
 use ci_http_service::Server;
 use ci_http_service::due::bytes_due;
-use ci_store::Alter;
+use ci_store_sqlite::Alter;
 use mio::net::TcpListener;
 use std::alloc::Global;
 use std::net::Net;

@@ -5,7 +5,7 @@ use ci_cli_commands::serving::serve_connections;
 use ci_http_routes::paths::Paths;
 use ci_server_fixtures::clock::Still;
 use ci_server_fixtures::servers::Server;
-use ci_store::Alter;
+use ci_store_sqlite::Alter;
 use mio::net::TcpListener;
 use std::io::{Read, Write};
 use std::net::{Ipv4Addr, Shutdown, SocketAddr, TcpStream};

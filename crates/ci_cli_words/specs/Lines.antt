@@ -1,7 +1,7 @@
 -- The lines that the program prints, and the exit statuses that go with them.
 use Rattle.std.specs.Prelude.{ℕ, List, ◌≡◌, ◌⊎◌, ◌++◌, None, Some, Option, codes, decimal}
 use Rattle.std.specs.Io.KnownBytes.{Appends}
-use Rattle.ci_store.specs.declared.tables.OpenFault.TheVariants.{O1, O2, O3, Memory}
+use Rattle.ci_store_sqlite.specs.declared.tables.OpenFault.TheVariants.{O1, O2, O3, Memory}
 use Rattle.ci_machine.specs.declared.reply.Code.{Code}
 use Rattle.ci_machine.specs.declared.reply.Code.TheVariants.{M17}
 use Rattle.ci_machine.specs.declared.reply.Reply.{Reply}

@@ -6,7 +6,7 @@ ghost use Rattle.ci_machine.specs.Reply.{body_text};
 ghost use Rattle.ci_cli_words.specs.Lines.{line_text, line_status, reply_status, told, Told};
 
 use ci_machine::reply::{Code, Reply};
-use ci_store::tables::OpenFault;
+use ci_store_sqlite::tables::OpenFault;
 use std::fmt;
 use std::io::{self, Write};
 

@@ -20,7 +20,7 @@ use ci_machine::moment::Moment;
 use ci_machine::reply::{Code, Reply};
 use ci_machine::request::Seed;
 use ci_server::server::Server;
-use ci_store::Alter;
+use sqlite::Alter;
 use std::alloc::Global;
 
 /// The longest reply that is written by one call, in bytes: its head and its body.

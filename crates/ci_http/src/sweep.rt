@@ -6,7 +6,7 @@ ghost use Rattle.ci_http.specs.Sweeping.{DidSomething, SweepsUpTo};
 use ci_machine::moment::Moment;
 use ci_machine::reply::Swept;
 use ci_server::server::Server;
-use ci_store::Alter;
+use sqlite::Alter;
 use std::alloc::Global;
 
 /// How many sweeps come before a request, at most.

@@ -17,7 +17,7 @@ use ci_http::sweep::sweep_all;
 use ci_http_routes::paths::Paths;
 use ci_machine::moment::Moment;
 use ci_machine::request::Seed;
-use ci_store::Alter;
+use sqlite::Alter;
 use std::alloc::Global;
 use std::marker::Brand;
 use std::sync::ledger::{Blank, Ledger};

@@ -6,7 +6,7 @@ use ci_machine::reply::{HttpStatus, JobStatus};
 use ci_server_fixtures::acts::Act;
 use ci_server_fixtures::answers::{Want, is};
 use ci_server_fixtures::servers::{Server, left, tell};
-use ci_store::{Alter, Connection};
+use ci_store_sqlite::{Alter, Connection};
 use std::alloc::Global;
 use std::test::Fail;
 

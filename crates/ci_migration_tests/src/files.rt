@@ -3,9 +3,9 @@
 
 use ci_server_fixtures::servers::{Server, left};
 use ci_server_fixtures::version1::fill_version_1;
-use ci_store::tables::OpenFault;
-use ci_store::{Alter, Connection};
 use ci_store_disks::{Disks, FailingDisks, closed, connected, discard, empty, stopped};
+use ci_store_sqlite::tables::OpenFault;
+use ci_store_sqlite::{Alter, Connection};
 use sqlite::{FileStore, Files};
 use sqlite_disk::{Disk, Fuse, Memory};
 use std::alloc::Global;

@@ -1,8 +1,8 @@
 //! What files have, by plain SQL.
 
 use crate::files::{connection, files_of, together};
-use ci_store::{Alter, Connection};
 use ci_store_disks::Disks;
+use ci_store_sqlite::{Alter, Connection};
 use std::alloc::Global;
 use std::test::Fail;
 

@@ -2,9 +2,9 @@
 
 use crate::files::{OnDisks, connection, files_of, opening, version_1};
 use crate::holding::all;
-use ci_store::Connection;
-use ci_store::tables::OpenFault;
 use ci_store_disks::discard;
+use ci_store_sqlite::Connection;
+use ci_store_sqlite::tables::OpenFault;
 use std::alloc::Global;
 use std::process::Abort;
 use std::test::Fail;

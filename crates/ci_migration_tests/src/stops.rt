@@ -7,9 +7,9 @@ use crate::files::{
 };
 use crate::holding::{Holding, held_by};
 use ci_server_fixtures::servers::over;
-use ci_store::Connection;
-use ci_store::tables::OpenFault;
 use ci_store_disks::{Disks, connected, discard, fused};
+use ci_store_sqlite::Connection;
+use ci_store_sqlite::tables::OpenFault;
 use std::alloc::Global;
 use std::process::Abort;
 use std::test::Fail;

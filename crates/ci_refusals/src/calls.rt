@@ -10,7 +10,7 @@ use ci_server_fixtures::acts::{
 };
 use ci_server_fixtures::answers::{Want, first, is};
 use ci_server_fixtures::servers::{InMemory, Server, asked, happen, is_closed, left, over, tell};
-use ci_store::{Alter, Connection};
+use ci_store_sqlite::{Alter, Connection};
 use std::alloc::Global;
 use std::test::Fail;
 

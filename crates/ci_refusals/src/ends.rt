@@ -1,6 +1,6 @@
 //! How a trial ends, what is looked at then, and the marks for refuse.c.
 
-use ci_store::{Alter, Connection};
+use ci_store_sqlite::{Alter, Connection};
 use std::alloc::Global;
 use std::test::Fail;
 

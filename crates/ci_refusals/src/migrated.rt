@@ -3,8 +3,8 @@
 use crate::ends::{EACH, End, FROM, TO, is_of_1, mark, rows_in, rows_left, rows_of_1};
 use ci_server_fixtures::servers::{Server, left};
 use ci_server_fixtures::version1::fill_version_1;
-use ci_store::tables::OpenFault;
-use ci_store::{Alter, Connection};
+use ci_store_sqlite::tables::OpenFault;
+use ci_store_sqlite::{Alter, Connection};
 use std::alloc::Global;
 use std::test::Fail;
 

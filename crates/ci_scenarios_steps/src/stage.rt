@@ -13,8 +13,8 @@ use crate::steps::{Action, Step, steps_of};
 use crate::stops::{StopEach, stop_each};
 use crate::tables::{changed, shown};
 use ci_machine::moment::Moment;
-use ci_store::Connection;
 use ci_store_disks::{discard, stopped};
+use ci_store_sqlite::Connection;
 use std::alloc::Global;
 
 /// The server of a scenario, while there is one.

@@ -2,7 +2,7 @@
 
 use crate::fault::Fault;
 use crate::told::quoted;
-use ci_store::{Alter, Connection};
+use ci_store_sqlite::{Alter, Connection};
 use sqlite::Row;
 use sqlite_value::value::ValueRef;
 use std::alloc::Global;

@@ -6,10 +6,10 @@ use ci_machine::change::Counter;
 use ci_machine::records::{
     Attempt, BoardRow, GroupMode, GroupOrder, Holder, Job, MAX_NUMBER, Pipeline, Runner,
 };
-use ci_store::Alter;
 use ci_store::fault::StoreFault;
 use ci_store::store::Store;
-use ci_store::tables::Tables;
+use ci_store_sqlite::Alter;
+use ci_store_sqlite::tables::Tables;
 use std::alloc::{AllocError, Global};
 
 /// A pipeline with its jobs, their attempts, and how the jobs stand: a row for each of them.

@@ -10,7 +10,7 @@ use Rattle.ci_machine.specs.Reply.{Outcome, LackedMemory, StoreFailed, outcome_o
 use Rattle.ci_machine.specs.State.{State, empty}
 use Rattle.ci_machine.specs.Kept.{Kept}
 use Rattle.ci_machine_steps.specs.History.{Past, Leads}
-use Rattle.ci_store.specs.Stands.{StandsIn}
+use Rattle.ci_store_sqlite.specs.Stands.{StandsIn}
 use Rattle.ci_server.specs.declared.fail_stop.FailStop.{FailStop}
 use Rattle.ci_server.specs.Holding.{IsKeptOf, HoldsIn, LeavesIn, StandsFor}
 use Rattle.ci_server.specs.Handling.{Call, Handled, answered, no_memory, look_failed, commit_failed}

@@ -13,9 +13,9 @@ use Rattle.ci_machine.specs.Statuses.{AreBoard}
 use Rattle.ci_machine.specs.Holders.{AreHolders}
 use Rattle.ci_machine.specs.Indexes.{AreIndexes}
 use Rattle.ci_store_tables.specs.Stands as tables
-use Rattle.ci_store.specs.Schema as table
-use Rattle.ci_store.specs.Rows.{holder_row}
-use Rattle.ci_store.specs.Stands.{StandsIn, LeavesOnly, LeavesEither}
+use Rattle.ci_store_sqlite.specs.Schema as table
+use Rattle.ci_store_sqlite.specs.Rows.{holder_row}
+use Rattle.ci_store_sqlite.specs.Stands.{StandsIn, LeavesOnly, LeavesEither}
 use Rattle.ci_store_versions.specs.Version1.{StandsInAny}
 
 -- what is kept is this state, and all that is beside it follows from it

@@ -14,8 +14,8 @@ use Rattle.ci_machine.specs.declared.reply.Code.TheVariants.{M17}
 use Rattle.ci_machine.specs.State.{State, empty}
 use Rattle.ci_machine.specs.Kept.{Kept, nothing_kept}
 use Rattle.ci_machine_steps.specs.History.{IsReached}
-use Rattle.ci_store.specs.Create.{IsBlank}
-use Rattle.ci_store.specs.Stands.{IsAt, LeavesOnly}
+use Rattle.ci_store_sqlite.specs.Create.{IsBlank}
+use Rattle.ci_store_sqlite.specs.Stands.{IsAt, LeavesOnly}
 use Rattle.ci_store_versions.specs.Version1.{LeavesAny}
 use Rattle.ci_store_versions.specs.Open.{HadVersion}
 use Rattle.ci_server.specs.declared.fail_stop.FailStop.{FailStop}

@@ -13,7 +13,7 @@ ghost use Rattle.ci_server.specs.Repeats.{LivesRepeat};
 
 use ci_machine_laws::laws::{a_step_is_answered, laws_of_each_reached_state};
 use ci_machine_laws::repeats::repeats_change_nothing;
-use ci_store::Alter;
+use ci_store_sqlite::Alter;
 
 /// No step is lost. A server was made in a store that listed nothing (`Server::create`), or opened over a store that an earlier
 /// program left, of version 1 or of this one, or over the empty state that a failed creation left; then came requests and sweeps

@@ -8,7 +8,7 @@ use ci_http::link::Link;
 use ci_http::serve::{Served, serve_one};
 use ci_http_routes::paths::Paths;
 use ci_machine::moment::Moment;
-use ci_store::Alter;
+use ci_store_sqlite::Alter;
 use std::alloc::Global;
 use std::marker::Brand;
 use std::sync::ledger::{Blank, Ledger};

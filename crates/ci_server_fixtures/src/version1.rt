@@ -1,7 +1,7 @@
 //! A file of version 1: the tables of that version, and rows that were written by hand.
 
-use ci_store::{Alter, Connection};
 use ci_store_rows::version1::SCHEMA;
+use ci_store_sqlite::{Alter, Connection};
 use std::test::Fail;
 
 /// The rows. Project 1 has three pipelines, of the branches `a`, `b` and `c`, each with a job `ship` in the resource group `prod`: jobs 1,

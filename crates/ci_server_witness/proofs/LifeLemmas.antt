@@ -58,9 +58,9 @@ use Rattle.ci_machine.specs.Eligible.{chosen}
 use Rattle.ci_machine.specs.Waiting.{waits_as, groups_with, claims_in}
 use Rattle.ci_machine_steps.specs.History.{IsReached}
 use Rattle.ci_machine_laws.specs.Examples.{seed, token, pipeline, new_runner, with_project, with_runner, project_added, runner_added, laid_by, job}
-use Rattle.ci_store.specs.declared.tables.OpenFault.{OpenFault}
-use Rattle.ci_store.specs.declared.tables.OpenFault.TheVariants.{O1, O2, O3, Memory}
-use Rattle.ci_store.specs.Open.{IsFailure}
+use Rattle.ci_store_sqlite.specs.declared.tables.OpenFault.{OpenFault}
+use Rattle.ci_store_sqlite.specs.declared.tables.OpenFault.TheVariants.{O1, O2, O3, Memory}
+use Rattle.ci_store_sqlite.specs.Open.{IsFailure}
 use Rattle.ci_server.specs.Holding.{HoldsIn, LeavesIn}
 use Rattle.ci_server.specs.Handling.{Handled, answered, no_memory, look_failed, commit_failed}
 use Rattle.ci_server.specs.Server.{Handles, Creates, Opens}

@@ -33,7 +33,7 @@ use Rattle.ci_machine.specs.Waiting.{claims_in}
 use Rattle.ci_machine_steps.specs.Step.{Does, project_variables}
 use Rattle.ci_machine_steps.specs.History.{IsReached}
 use Rattle.ci_machine_laws.specs.Examples.{seed, pipeline, token, project_added, new_runner, runner_added, with_runner, after, laid_by, asked, rows}
-use Rattle.ci_store.specs.Open.{IsFailure}
+use Rattle.ci_store_sqlite.specs.Open.{IsFailure}
 use Rattle.ci_server.specs.declared.fail_stop.FailStop.{FailStop}
 use Rattle.ci_server.specs.Holding.{HoldsIn}
 use Rattle.ci_server.specs.Handling.{Call}

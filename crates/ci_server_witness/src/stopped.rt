@@ -6,7 +6,7 @@ ghost use Rattle.ci_server_witness.specs.Stopped.{NamesStoppedLife};
 
 use ci_config::laws::answers_once_without_patterns;
 use ci_server::lifetime::no_step_is_lost;
-use ci_store::Alter;
+use ci_store_sqlite::Alter;
 use ci_yaml::laws::{has_not_both, has_one_tree, reads_trees};
 
 /// What becomes of a grant in whose commit the store fails. A project and a runner were made, the project got a file of one job, and a

@@ -91,7 +91,7 @@ impl Delta {
     }
 
     /// Spends the delta, and gives its lists: the changes, the rows that are put, the changes of indexes, and the jobs whose rows go.
-    pub(crate) fn into_parts(self) -> (Vec<RowChange>, Vec<BoardRow>, Vec<IndexChange>, Vec<u64>)
+    pub fn into_parts(self) -> (Vec<RowChange>, Vec<BoardRow>, Vec<IndexChange>, Vec<u64>)
         ensures changes { result.0.items ≡ self.changes }
         ensures rows { result.1.items ≡ self.rows }
         ensures indexes { result.2.items ≡ self.indexes }

@@ -2,8 +2,8 @@
 
 use crate::plain::{Load, close, filled, is_made, shown};
 use crate::records::Change;
-use ci_store::tables::Tables;
 use ci_store_disks::discard;
+use ci_store_sqlite::tables::Tables;
 use sqlite::MemStore;
 use std::alloc::Global;
 use std::test::Fail;

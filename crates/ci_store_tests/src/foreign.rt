@@ -3,9 +3,9 @@
 use crate::plain::{Load, are_shown, close, create, filled, found, open, parted};
 use ci_board::facts::Status;
 use ci_machine::change::Counter;
-use ci_store::Connection;
-use ci_store::tables::OpenFault;
 use ci_store_disks::discard;
+use ci_store_sqlite::Connection;
+use ci_store_sqlite::tables::OpenFault;
 use sqlite::MemStore;
 use std::alloc::Global;
 use std::test::Fail;

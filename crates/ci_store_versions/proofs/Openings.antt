@@ -7,9 +7,9 @@ use Rattle.sqlite.specs.Store.{Ghosts}
 use Rattle.sqlite.specs.Held.{Held, state}
 use Rattle.ci_machine.specs.Kept.{Kept}
 use Rattle.ci_store_rows.specs.Stands.{StandsIn, LeavesOnly}
-use Rattle.ci_store.specs.Open.{HasNumber, LacksNumber, Blames, IsFailure, LeavesNoMore}
-use Rattle.ci_store.specs.declared.tables.OpenFault.{OpenFault}
-use Rattle.ci_store.specs.declared.tables.OpenFault.TheVariants.{O1, O2, O3, Memory}
+use Rattle.ci_store_sqlite.specs.Open.{HasNumber, LacksNumber, Blames, IsFailure, LeavesNoMore}
+use Rattle.ci_store_sqlite.specs.declared.tables.OpenFault.{OpenFault}
+use Rattle.ci_store_sqlite.specs.declared.tables.OpenFault.TheVariants.{O1, O2, O3, Memory}
 use Rattle.ci_store_versions.specs.Version1.{LeavesAny}
 use Rattle.ci_store_versions.specs.Open.{BlamesAny}
 use Rattle.ci_store_versions.proofs.Versions.{StandsAny, open_any, never_blamed_any, is_of_2}

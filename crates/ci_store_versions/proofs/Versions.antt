@@ -29,10 +29,10 @@ use Rattle.ci_store_rows.specs.Rows.{number}
 use Rattle.ci_store_rows.proofs.Records.{is}
 use Rattle.ci_store_rows.proofs.Shows.{columns_of, names_of}
 use Rattle.ci_store_rows.proofs.Whole.{stands_whole}
-use Rattle.ci_store.specs.Open.{SelectsMeta, HasNumber, LacksNumber, IsFailure}
-use Rattle.ci_store.specs.declared.tables.OpenFault.{OpenFault}
-use Rattle.ci_store.specs.declared.tables.OpenFault.TheVariants.{O1, O2, O3, Memory}
-use Rattle.ci_store.proofs.Openings.{of_state, version_row, never_blamed}
+use Rattle.ci_store_sqlite.specs.Open.{SelectsMeta, HasNumber, LacksNumber, IsFailure}
+use Rattle.ci_store_sqlite.specs.declared.tables.OpenFault.{OpenFault}
+use Rattle.ci_store_sqlite.specs.declared.tables.OpenFault.TheVariants.{O1, O2, O3, Memory}
+use Rattle.ci_store_sqlite.proofs.Openings.{of_state, version_row, never_blamed}
 use Rattle.ci_store_versions.specs.Version1.{schema_of_1, meta_rows_of_1, StandsIn1, Stands1, StandsInAny, LeavesAny}
 use Rattle.ci_store_versions.specs.Open.{BlamesAny}
 

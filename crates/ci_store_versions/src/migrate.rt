@@ -7,12 +7,12 @@ ghost use Rattle.sqlite.specs.Tree.{Trees};
 ghost use Rattle.ci_machine.specs.Kept.{Kept};
 ghost use Rattle.ci_store_tables.specs.Statements.{CommitsNothing};
 ghost use Rattle.ci_store_rows.specs.Stands.{Stands, StandsIn, IsAt, LeavesOnly};
-ghost use Rattle.ci_store.specs.Open.{HasNumber, LacksNumber, LeavesNoMore};
+ghost use Rattle.ci_store_sqlite.specs.Open.{HasNumber, LacksNumber, LeavesNoMore};
 ghost use Rattle.ci_store_versions.specs.Version1.{Stands1, HasTable, LeavesAny};
 
-use ci_store::tables::{OpenFault, VERSION, has_number};
 use ci_store_rows::texts::UPDATE_META;
 use ci_store_rows::version2::CREATE_MODE;
+use ci_store_sqlite::tables::{OpenFault, VERSION, has_number};
 use ci_store_tables::fault::StoreFault;
 use ci_store_tables::values::number;
 use ci_store_tables::write::change;

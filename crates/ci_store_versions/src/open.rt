@@ -6,13 +6,13 @@ ghost use Rattle.sqlite.specs.Held.{state};
 ghost use Rattle.sqlite_trees.specs.View.{doubt};
 ghost use Rattle.ci_machine.specs.Kept.{Kept};
 ghost use Rattle.ci_store_rows.specs.Stands.{IsAt, LeavesOnly};
-ghost use Rattle.ci_store.specs.Open.{HasNumber, IsOurs, IsFailure, LeavesNoMore};
+ghost use Rattle.ci_store_sqlite.specs.Open.{HasNumber, IsOurs, IsFailure, LeavesNoMore};
 ghost use Rattle.ci_store_versions.specs.Version1.{LeavesAny};
 ghost use Rattle.ci_store_versions.specs.Open.{HadVersion, BlamesAny};
 
 use crate::migrate::migrate;
-use ci_store::tables::{OpenFault, Tables};
-use ci_store::{Alter, Connection};
+use ci_store_sqlite::tables::{OpenFault, Tables};
+use ci_store_sqlite::{Alter, Connection};
 
 /// Tables that were opened.
 #[derive(Drop)]

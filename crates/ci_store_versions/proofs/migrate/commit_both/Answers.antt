@@ -4,7 +4,7 @@ use Rattle.sqlite.specs.Held.{state}
 use Rattle.sqlite.proofs.StateLemmas.{survives_then}
 use Rattle.ci_machine.specs.Kept.{Kept}
 use Rattle.ci_store_rows.specs.Stands.{StandsIn}
-use Rattle.ci_store.proofs.Committing.{survives_all}
+use Rattle.ci_store_sqlite.proofs.Committing.{survives_all}
 use Rattle.ci_store_versions.specs.Version1.{Stands1}
 use Rattle.ci_store_versions.proofs.Migrates.{commits_both, is_at_both}
 use Rattle.ci_store_versions.proofs.migrate.commit_both.Goals as goal

@@ -1,7 +1,7 @@
 use Rattle.std.proofs.Common.{rules, ◌∙◌, codes, not, ap, arith}
 use Rattle.sqlite.specs.State.{HasCleanDisk, IsUnchanged}
 use Rattle.sqlite.specs.Held.{state}
-use Rattle.ci_store.specs.Open.{HasNumber}
+use Rattle.ci_store_sqlite.specs.Open.{HasNumber}
 use Rattle.ci_store_versions.proofs.Versions.{stands_as_1, leaves_any, survives_both}
 use Rattle.ci_store_versions.proofs.migrate.migrate.Goals as goal
 

@@ -1,6 +1,0 @@
-use Rattle.ci_store.proofs.Loading.{begun}
-use Rattle.ci_store.proofs.Looking.{loads_so}
-use Rattle.ci_store.proofs.tables.TablesStore.last_attempt_by.Goals as goal
-
-pub returns : goal.returns
-returns g c = begun c.self.view_is (loads_so c.last_by.ensures (λ k at x is. is))

@@ -1,0 +1,15 @@
+use Rattle.std.proofs.Common.{◌≡◌, take, IsTrue}
+use Rattle.sqlite.specs.State.{HasCleanDisk, KeepsCommit, Survives}
+use Rattle.sqlite.specs.Held.{state}
+use Rattle.ci_machine.specs.Kept.{indexed_all}
+use Rattle.ci_store_rows.specs.Changes.{Makes}
+use Rattle.ci_store_sqlite.proofs.commit.change_indexes.Given as goal
+
+abbrev pub invariant-loop-change : goal.invariant-loop-change
+invariant-loop-change g l =
+    let old = l.fn.tx.conn.now in
+    let now = l.tx.conn.now in
+    (l.tx.conn.ghost_name ≡ l.fn.tx.conn.ghost_name)
+    × (HasCleanDisk (state g.S.Store now) → IsTrue old.in_transaction → Makes g.S.Store (indexed_all (take l.change-index l.indexes)) old now)
+    × (HasCleanDisk (state g.S.Store now) → IsTrue old.in_transaction → KeepsCommit (state g.S.Store old) (state g.S.Store now))
+    × Survives (state g.S.Store old) (state g.S.Store now) (λ _. ⊥)

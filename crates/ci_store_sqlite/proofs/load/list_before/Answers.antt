@@ -1,0 +1,10 @@
+use Rattle.std.proofs.Common.{◌∙◌, [], ◌∷◌}
+use Rattle.sqlite.specs.Values.{bound_value}
+use Rattle.ci_store_rows.specs.Rows.{number}
+use Rattle.ci_store_sqlite.proofs.Looking.{looked_so, by_params}
+use Rattle.ci_store_sqlite.proofs.load.list_before.Goals as goal
+
+pub returns : goal.returns
+returns g c =
+    looked_so c.list.ensures
+    (λ k at found. by_params ((λ i. bound_value (c.in_ok-before.ensures i) ∷ bound_value (c.in_ok-count.ensures i) ∷ []) ∙ (λ i. number (c.seconds.ensures.is i) ∷ number c.args.count ∷ [])))

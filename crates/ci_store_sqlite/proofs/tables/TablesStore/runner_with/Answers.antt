@@ -1,0 +1,14 @@
+use Rattle.std.proofs.Common.{[], ◌∷◌}
+use Rattle.sqlite.specs.Values.{bound_value}
+use Rattle.ci_store_sqlite.proofs.Loading.{begun}
+use Rattle.ci_store_sqlite.proofs.Looking.{loads_so}
+use Rattle.ci_store_sqlite.proofs.Looking.{by_params}
+use Rattle.ci_store_rows.proofs.Runners.{plain_select_with, runner_with_found}
+use Rattle.ci_store_sqlite.proofs.tables.TablesStore.runner_with.Goals as goal
+
+pub one-requires : goal.one-requires
+one-requires g c = plain_select_with
+
+pub returns : goal.returns
+returns g c =
+    begun c.self.view_is (loads_so c.one.ensures (λ k at found h. runner_with_found g.S.Store c.self.inside.conn c.one.new.conn k at c.args.token.now found (by_params (λ i. bound_value (c.text.ensures i) ∷ []) h)))

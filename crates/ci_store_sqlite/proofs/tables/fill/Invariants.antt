@@ -1,0 +1,16 @@
+use Rattle.std.proofs.Common.{◌≡◌, IsTrue}
+use Rattle.sqlite.specs.State.{HasCleanDisk, Survives}
+use Rattle.sqlite.specs.Held.{state}
+use Rattle.ci_store_tables.specs.Stands.{IsOf}
+use Rattle.ci_store_rows.specs.Schema.{the_schema}
+use Rattle.ci_store_rows.specs.Create.{IsBare}
+use Rattle.ci_store_rows.proofs.Fills.{rows_after}
+use Rattle.ci_store_sqlite.proofs.tables.fill.Given as goal
+
+abbrev pub invariant-loop-key : goal.invariant-loop-key
+invariant-loop-key g l =
+    let old = l.fn.tx.conn.now in
+    let now = l.tx.conn.now in
+    (l.tx.conn.ghost_name ≡ l.fn.tx.conn.ghost_name)
+    × (HasCleanDisk (state g.S.Store now) → IsTrue old.in_transaction → IsTrue now.in_transaction × (IsBare the_schema (state g.S.Store old).now → IsOf the_schema (rows_after l.key-index) (state g.S.Store now).now))
+    × Survives (state g.S.Store old) (state g.S.Store now) (λ _. ⊥)
