@@ -6,12 +6,12 @@ set -eu
 need rt
 crate=$work/crates/bench_layout
 mkdir -p "$crate/src" "$crate/specs"
-for low in $(for top in ci_graph_layout ci_yaml; do below "$top"; done | sort -u); do
+for low in $(for top in ci_graph_layout ci_config_reader ci_yaml; do below "$top"; done | sort -u); do
   [ -d "$root/crates/$low" ] || continue
   cp -r "$root/crates/$low" "$work/crates/"
   grep "^$low:" "$root/crates.txt" >> "$work/crates.txt"
 done
-echo "bench_layout: ci_graph_layout ci_config ci_yaml anyhow" >> "$work/crates.txt"
+echo "bench_layout: ci_graph_layout ci_config_reader ci_yaml anyhow" >> "$work/crates.txt"
 cp "$root/bench/layout.rt.txt" "$crate/src/main.rt"
 : > "$crate/specs/Lib.antt"
 cd "$crate"

@@ -7,12 +7,12 @@ set -eu
 need rt python3
 crate=$work/crates/bench_patterns
 mkdir -p "$crate/src" "$crate/specs"
-for low in $(for top in ci_graph_layout ci_config ci_yaml ci_expr; do below "$top"; done | sort -u); do
+for low in $(for top in ci_graph_layout ci_config_reader ci_yaml ci_expr; do below "$top"; done | sort -u); do
   [ -d "$root/crates/$low" ] || continue
   cp -r "$root/crates/$low" "$work/crates/"
   grep "^$low:" "$root/crates.txt" >> "$work/crates.txt"
 done
-echo "bench_patterns: ci_config ci_expr ci_graph_layout ci_yaml anyhow" >> "$work/crates.txt"
+echo "bench_patterns: ci_config ci_config_reader ci_expr ci_graph_layout ci_yaml anyhow" >> "$work/crates.txt"
 cp "$root/bench/patterns.rt.txt" "$crate/src/main.rt"
 : > "$crate/specs/Lib.antt"
 cd "$crate"

@@ -7,7 +7,8 @@ ghost use Rattle.ci_yaml.specs.declared.fault.YamlFault.TheVariants.{Fault};
 ghost use Rattle.ci_cli_check.specs.Verdicts.{Fits, FitsText, FitsTree, IsTooLong, status};
 ghost use Rattle.ci_cli_check.specs.declared.verdict.Verdict.TheVariants.{Refused, Unread};
 
-use ci_config::{ConfigFault, config};
+use ci_config::ConfigFault;
+use ci_config_reader::config;
 use ci_values::limits::MAX_FILE_BYTES;
 use ci_yaml::{Code, Tree, YamlFault, read};
 use std::alloc::Global;

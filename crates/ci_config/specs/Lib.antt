@@ -15,6 +15,5 @@ pub mod Meaning
 pub mod FaultView
 pub mod View
 pub mod Budget
-pub mod Answer
 pub mod Laws
 pub mod Examples

@@ -9,16 +9,10 @@ use Rattle.ci_yaml_lines.specs.declared.tree.Text.{Text}
 use Rattle.ci_yaml_lines.specs.declared.tree.Tree.{Tree}
 use Rattle.ci_expr.specs.Built.{formula_of}
 use Rattle.ci_config.specs.Config as config
-use Rattle.ci_config.specs.Files.{FileSaid}
-use Rattle.ci_config.specs.Needs.{NeedSaid}
-use Rattle.ci_config.specs.Retries.{RetrySaid}
 use Rattle.ci_config.specs.declared.value.Variable.{Variable}
-use Rattle.ci_config.specs.declared.retry.RetryParts.{RetryParts}
 use Rattle.ci_config.specs.declared.need.Need.{Need}
-use Rattle.ci_config.specs.declared.need.NeedParts.{NeedParts}
 use Rattle.ci_config.specs.declared.rule.Rule.{Rule}
 use Rattle.ci_config.specs.declared.job.JobSpec.{JobSpec}
-use Rattle.ci_config.specs.declared.file.FileParts.{FileParts}
 use Rattle.ci_config.specs.declared.file.Config.{Config}
 
 -- ---- trees
@@ -46,19 +40,13 @@ variable_view v = (v.name.now, words_of v.value)
 abbrev pub variables_view : Vec Variable → List (List ℕ × List ℕ)
 variables_view v = map variable_view v.items
 
--- ---- retries and needs
-
-abbrev pub retry_parts_view : RetryParts → RetrySaid
-retry_parts_view p = record { max = p.max; causes = p.causes }
+-- ---- needs
 
 abbrev pub need_view : Need → config.Need
 need_view n = record { job = n.job.now; optional = n.optional }
 
 abbrev pub needs_view : Vec Need → List config.Need
 needs_view v = map need_view v.items
-
-abbrev pub need_parts_view : NeedParts → NeedSaid
-need_parts_view p = record { job = option_map text_view p.job; optional = p.optional }
 
 -- ---- rules
 
@@ -91,9 +79,6 @@ abbrev pub jobs_view : Vec JobSpec → List config.Job
 jobs_view v = map job_view v.items
 
 -- ---- files
-
-abbrev pub file_parts_view : FileParts → FileSaid
-file_parts_view p = record { stages = option_map texts_view p.stages; variables = variables_view p.variables; jobs = jobs_view p.jobs }
 
 abbrev pub config_view : Config → config.Config
 config_view c = record { stages = texts_view c.stages; variables = variables_view c.variables; jobs = jobs_view c.jobs }

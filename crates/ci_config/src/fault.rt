@@ -1,14 +1,11 @@
 //! Why a tree configures nothing.
 
-ghost use Rattle.std.specs.Prelude.{◌≡◌, Some, Ok};
-ghost use Rattle.ci_values.specs.Table.{table_view, words_view};
+ghost use Rattle.std.specs.Prelude.{◌≡◌, Some};
 ghost use Rattle.ci_config.specs.declared.fault.ConfigFault.TheVariants.{Memory};
 ghost use Rattle.ci_config.specs.Fault.{said};
-ghost use Rattle.ci_config.specs.FaultView.{code_view, Gives};
-ghost use Rattle.ci_config.specs.Reading.{other_key, keyword_of};
+ghost use Rattle.ci_config.specs.FaultView.{code_view};
 
 use ci_expr::ExprCode;
-use ci_values::{meaning_of, word_in};
 use std::alloc::{AllocError, AllocFailed};
 use std::fmt;
 
@@ -96,29 +93,5 @@ impl<T: Drop> From<AllocFailed<T>> for ConfigFault {
 
     fn from(_refused: AllocFailed<T>) -> ConfigFault {
         ConfigFault::Memory
-    }
-}
-
-/// The fault of a key that is no keyword: it is left out by its name, or unknown.
-fn other_key(left_out: &[&'static str], key: &str) -> ConfigCode
-    ensures { code_view result ≡ other_key (words_view left_out.now) key.now }
-{
-    match word_in(left_out, key) {
-        Some(name) => ConfigCode::K2(name),
-        None => ConfigCode::K3,
-    }
-}
-
-/// The keyword that a key is.
-pub fn keyword_of<T: Copy>(
-    keywords: &[(&str, T)],
-    left_out: &[&'static str],
-    key: &str,
-) -> Result<T, ConfigFault>
-    ensures { Gives (λ k. k) result (keyword_of (table_view keywords.now) (words_view left_out.now) key.now) }
-{
-    match meaning_of(keywords, key) {
-        Some(keyword) => Ok(keyword),
-        None => Err(ConfigFault::Fault(other_key(left_out, key))),
     }
 }

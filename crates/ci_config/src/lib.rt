@@ -1,24 +1,18 @@
-//! What a CI file configures: its keywords, and the record of each job.
+//! What a CI file configures: its keywords, the record of each job, and in definitions what a file means.
 //!
 //! docs/PROFILE.md describes the keywords for those who write such files.
 #![tactic(auto)]
 
-mod allow_failure;
-mod budget;
 pub mod examples;
 mod fault;
 mod file;
 mod job;
-mod keyword;
+pub mod keyword;
 pub mod laws;
 mod limits;
 mod need;
-mod read;
-mod retry;
 mod rule;
-mod tree;
 mod value;
-mod when;
 
 pub use ci_values::{Layers, lookup};
 pub use fault::{ConfigCode, ConfigFault};
@@ -30,6 +24,5 @@ pub use limits::{
     MAX_SCRIPT_ITEMS, MAX_STAGES, MAX_TAGS, MAX_VARIABLES,
 };
 pub use need::Need;
-pub use read::config;
 pub use rule::Rule;
-pub use value::{Variable, duration};
+pub use value::Variable;

@@ -11,7 +11,8 @@ ghost use Rattle.ci_config_places.specs.Numbers.{number};
 ghost use Rattle.ci_config_places.specs.Search.{IsAnswer};
 
 use ci_config::laws::has_one_answer;
-use ci_config::{ConfigCode, ConfigFault, config};
+use ci_config::{ConfigCode, ConfigFault};
+use ci_config_reader::config;
 use ci_expr::ExprCode;
 use ci_yaml_lines::tree::Tree;
 use std::alloc::{AllocError, Global};

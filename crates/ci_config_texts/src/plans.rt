@@ -2,7 +2,8 @@
 
 use crate::begun::begun;
 use crate::lists::{first_text, variables};
-use ci_config::{ConfigCode, ConfigFault, config};
+use ci_config::{ConfigCode, ConfigFault};
+use ci_config_reader::config;
 use ci_config_rows::{Part, RowFault};
 use ci_expr::ExprCode;
 use ci_graph_layout::{

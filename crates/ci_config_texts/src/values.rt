@@ -1,7 +1,8 @@
 //! Durations, and the values of variables.
 
 use crate::lists::{only_text, variables};
-use ci_config::{ConfigFault, Layers, duration, lookup};
+use ci_config::{ConfigFault, Layers, lookup};
+use ci_config_reader::duration;
 use ci_config_rows::{Part, RowFault};
 use std::alloc::Global;
 

@@ -7,7 +7,8 @@ ghost use Rattle.ci_config.specs.FaultView.{code_view};
 ghost use Rattle.ci_machine_steps.specs.Files as files;
 ghost use Rattle.ci_machine_pipelines.specs.Readings.{yaml_fault, Shows, Counts, CountsTree};
 
-use ci_config::{ConfigCode, ConfigFault, config};
+use ci_config::{ConfigCode, ConfigFault};
+use ci_config_reader::config;
 use ci_expr::ExprCode;
 use ci_machine::change::{Changes, Record, RowChange};
 use ci_machine::records::Project;

@@ -20,8 +20,9 @@ ghost use Rattle.ci_machine_pipelines.specs.Creations.{layout_view, origin, orig
 use crate::creation::{Creation, records_of};
 use crate::files::{FileFault, config_fault, yaml_fault};
 use crate::layers::Brought;
+use ci_config::Config;
 use ci_config::laws::may_refuse_patterns;
-use ci_config::{Config, config};
+use ci_config_reader::config;
 use ci_expr::Answers;
 use ci_graph_layout::laws::searches_for_patterns_alone;
 use ci_graph_layout::{Given, GraphCode, PipelinePlan, PlanFault, is_affordable, looks, plan_by};

@@ -1,8 +1,0 @@
-use Rattle.std.proofs.Common.{◌≡◌, drop}
-use Rattle.ci_config.specs.Reading.{entries}
-use Rattle.ci_config.specs.Needs.{need_entry, blank_need}
-use Rattle.ci_config.specs.View.{pairs_view, need_parts_view}
-use Rattle.ci_config.proofs.need.need_from.Given as goal
-
-abbrev pub invariant-loop-pair : goal.invariant-loop-pair
-invariant-loop-pair l = entries need_entry (need_parts_view l.parts) (pairs_view (drop l.pair-index l.pairs)) ≡ entries need_entry blank_need (pairs_view l.pairs)

@@ -1,8 +1,0 @@
-use Rattle.std.proofs.Common.{◌≡◌, drop}
-use Rattle.ci_config.specs.Reading.{entries}
-use Rattle.ci_config.specs.Retries.{retry_entry, blank_retry}
-use Rattle.ci_config.specs.View.{pairs_view, retry_parts_view}
-use Rattle.ci_config.proofs.retry.retry_from.Given as goal
-
-abbrev pub invariant-loop-pair : goal.invariant-loop-pair
-invariant-loop-pair l = entries retry_entry (retry_parts_view l.parts) (pairs_view (drop l.pair-index l.pairs)) ≡ entries retry_entry blank_retry (pairs_view l.pairs)

@@ -1,5 +1,0 @@
-use Rattle.ci_config.proofs.Trees.{list_of-List}
-use Rattle.ci_config.proofs.tree.list_of.Goals as goal
-
-pub returns-in-List : goal.returns-in-List
-returns-in-List c = list_of-List c.args.tree.now c.in-List.items c.as_slice.result.now c.in-List.is c.as_slice.ensures.value

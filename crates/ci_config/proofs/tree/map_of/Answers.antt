@@ -1,5 +1,0 @@
-use Rattle.ci_config.proofs.Trees.{map_of-Map}
-use Rattle.ci_config.proofs.tree.map_of.Goals as goal
-
-pub returns-in-Map : goal.returns-in-Map
-returns-in-Map c = map_of-Map c.args.tree.now c.in-Map.pairs c.as_slice.result.now c.in-Map.is c.as_slice.ensures.value
