@@ -5,7 +5,6 @@
  * The store's files are all regular files that the program reads and writes by place; the log is the one whose name ends by `-wal`.
  */
 #define _GNU_SOURCE
-#include <dlfcn.h>
 #include <errno.h>
 #include <fcntl.h>
 #include <signal.h>
@@ -15,8 +14,8 @@
 #include <string.h>
 #include <sys/mman.h>
 #include <sys/prctl.h>
-#include <sys/random.h>
 #include <sys/stat.h>
+#include <sys/syscall.h>
 #include <time.h>
 #include <unistd.h>
 
@@ -64,11 +63,6 @@ __attribute__((constructor)) static void begin(void) {
   prctl(PR_SET_PDEATHSIG, SIGKILL); /* it doesn't outlive the test */
 }
 
-/* The C library's function of this name. */
-#define NEXT(name)                  \
-  static __typeof__(name) *next;    \
-  if (!next) next = (__typeof__(name) *)dlsym(RTLD_NEXT, #name)
-
 /* Which of the store's files it is; 0 if none. */
 static int64_t file_of(int fd) {
   struct stat found;
@@ -94,20 +88,18 @@ static int fails(int fd, int is_read) {
 }
 
 static void note(char kind, int fd, int64_t offset, int64_t length, const void *bytes) {
-  static __typeof__(pread) *read_at;
   struct stat found;
   struct note head = {kind, 0, offset, length, 0, 0};
   size_t new_length = kind == 'W' ? length : 0;
   char *room;
   if (notes < 0 || !file_of(fd) || fstat(fd, &found)) return;
-  if (!read_at) read_at = (__typeof__(pread) *)dlsym(RTLD_NEXT, "pread");
   head.inode = found.st_ino;
   head.size = found.st_size;
   if (kind == 'W') head.old_length = length;
   if (kind == 'T' && found.st_size > length) head.old_length = found.st_size - length;
   room = malloc(sizeof head + head.old_length + new_length);
   if (!room) abort();
-  if (head.old_length) head.old_length = read_at(fd, room + sizeof head, head.old_length, kind == 'T' ? length : offset);
+  if (head.old_length) head.old_length = syscall(SYS_pread64, fd, room + sizeof head, head.old_length, kind == 'T' ? length : offset);
   if (head.old_length < 0) abort();
   memcpy(room, &head, sizeof head);
   if (new_length) memcpy(room + sizeof head + head.old_length, bytes, new_length);
@@ -116,8 +108,7 @@ static void note(char kind, int fd, int64_t offset, int64_t length, const void *
 }
 
 int clock_gettime(clockid_t clock, struct timespec *moment) {
-  NEXT(clock_gettime);
-  if (!page || clock != CLOCK_REALTIME || page->clock == REAL) return next(clock, moment);
+  if (!page || clock != CLOCK_REALTIME || page->clock == REAL) return syscall(SYS_clock_gettime, clock, moment);
   if (page->clock == FAILS) {
     errno = EINVAL;
     return -1;
@@ -128,8 +119,7 @@ int clock_gettime(clockid_t clock, struct timespec *moment) {
 }
 
 int getentropy(void *room, size_t size) {
-  NEXT(getentropy);
-  if (!page || page->seeds == REAL) return next(room, size);
+  if (!page || page->seeds == REAL) return syscall(SYS_getrandom, room, size, 0) == (ssize_t)size ? 0 : -1;
   if (page->seeds == FAILS) {
     errno = EIO;
     return -1;
@@ -138,46 +128,41 @@ int getentropy(void *room, size_t size) {
   return 0;
 }
 
-#define WRITE(name, place)                                                \
-  ssize_t name(int fd, const void *bytes, size_t size, place offset) {    \
-    NEXT(name);                                                           \
-    int failure = fails(fd, 0);                                           \
-    if (failure == 1 && page->torn && size > 1) {                         \
-      note('W', fd, offset, size / 2, bytes);                             \
-      if (next(fd, bytes, size / 2, offset) < 0) abort();                 \
-      errno = EIO;                                                        \
-    }                                                                     \
-    if (failure) return -1;                                               \
-    note('W', fd, offset, size, bytes);                                   \
-    return next(fd, bytes, size, offset);                                 \
+ssize_t pwrite64(int fd, const void *bytes, size_t size, off64_t offset) {
+  int failure = fails(fd, 0);
+  if (failure == 1 && page->torn) {
+    note('W', fd, offset, size / 2, bytes);
+    if (syscall(SYS_pwrite64, fd, bytes, size / 2, offset) < 0) abort();
+    errno = EIO;
   }
-#define READ(name, place)                                                 \
-  ssize_t name(int fd, void *room, size_t size, place offset) {           \
-    NEXT(name);                                                           \
-    return fails(fd, 1) ? -1 : next(fd, room, size, offset);              \
-  }
-#define CUT(name, place)                                                  \
-  int name(int fd, place size) {                                          \
-    NEXT(name);                                                           \
-    if (fails(fd, 0)) return -1;                                          \
-    note('T', fd, 0, size, 0);                                            \
-    return next(fd, size);                                                \
-  }
-#define SYNC(name)                                                        \
-  int name(int fd) {                                                      \
-    NEXT(name);                                                           \
-    if (fails(fd, 0)) return -1;                                          \
-    if (page && page->without_sync) return 0;                             \
-    int answer = next(fd);                                                \
-    if (!answer) note('S', fd, 0, 0, 0);                                  \
-    return answer;                                                        \
-  }
+  if (failure) return -1;
+  note('W', fd, offset, size, bytes);
+  return syscall(SYS_pwrite64, fd, bytes, size, offset);
+}
 
-WRITE(pwrite, off_t)
-WRITE(pwrite64, off64_t)
-READ(pread, off_t)
-READ(pread64, off64_t)
-CUT(ftruncate, off_t)
-CUT(ftruncate64, off64_t)
-SYNC(fdatasync)
-SYNC(fsync)
+ssize_t pread64(int fd, void *room, size_t size, off64_t offset) {
+  return fails(fd, 1) ? -1 : syscall(SYS_pread64, fd, room, size, offset);
+}
+
+int ftruncate64(int fd, off64_t size) {
+  if (fails(fd, 0)) return -1;
+  note('T', fd, 0, size, 0);
+  return syscall(SYS_ftruncate, fd, size);
+}
+
+static int synced(int fd, long call) {
+  int answer;
+  if (fails(fd, 0)) return -1;
+  if (page && page->without_sync) return 0;
+  answer = syscall(call, fd);
+  if (!answer) note('S', fd, 0, 0, 0);
+  return answer;
+}
+
+int fdatasync(int fd) { return synced(fd, SYS_fdatasync); }
+int fsync(int fd) { return synced(fd, SYS_fsync); }
+
+/* The same, as a program names them that asks for no places of 64 bits. */
+ssize_t pwrite(int fd, const void *bytes, size_t size, off_t offset) { return pwrite64(fd, bytes, size, offset); }
+ssize_t pread(int fd, void *room, size_t size, off_t offset) { return pread64(fd, room, size, offset); }
+int ftruncate(int fd, off_t size) { return ftruncate64(fd, size); }

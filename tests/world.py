@@ -61,7 +61,7 @@ def shim():
         folder = tempfile.mkdtemp(prefix='ciserver-shim-')
         atexit.register(shutil.rmtree, folder, ignore_errors=True)
         path = os.path.join(folder, 'shim.so')
-        subprocess.run(['gcc', '-O2', '-shared', '-fPIC', '-o', path, os.path.join(HERE, 'shim.c'), '-ldl'], check=True)
+        subprocess.run(['gcc', '-O2', '-shared', '-fPIC', '-o', path, os.path.join(HERE, 'shim.c')], check=True)
         os.environ['CISERVER_SHIM'] = path
     return path
 
