@@ -6,7 +6,7 @@ import sqlite3
 from contextlib import closing
 
 from events import SEED
-from scenarios import Differs, Fault, Unread, number_in, words_of
+from lines import Differs, Fault, Unread, number_in, words_of
 from world import World
 
 

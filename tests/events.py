@@ -4,7 +4,7 @@ import json
 import re
 from datetime import date, timedelta
 
-from scenarios import Fault, Unread, number_in
+from lines import Fault, Unread, number_in
 
 CAUSES = ['unknown_failure', 'script_failure', 'api_failure', 'stuck_or_timeout_failure', 'runner_system_failure',
           'job_execution_timeout']

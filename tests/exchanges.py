@@ -5,7 +5,7 @@ import socket
 import struct
 
 from events import quoted
-from scenarios import Differs, Fault
+from lines import Differs, Fault
 
 SECONDS = 60
 

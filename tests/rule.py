@@ -3,7 +3,7 @@
 import json
 from collections import namedtuple
 
-from scenarios import Fault
+from lines import Fault
 from transactions import copied
 
 CREATED, PENDING, RUNNING, SUCCESS, FAILED, CANCELED, SKIPPED, MANUAL = range(8)
@@ -107,14 +107,3 @@ def check(world):
         raise Fault('other rows of statuses than the records give')
     if holders != records.held():
         raise Fault('other groups than the records give')
-
-
-def check_pipeline(world, pipeline):
-    """The status of each job of a pipeline must be the one that its facts alone give."""
-    with copied(world) as connection:
-        records = Records(connection)
-        kept = dict(connection.execute('SELECT job, status FROM board'))
-    wanted = records.rows()
-    jobs = [job.id for job in records.jobs if job.pipeline == pipeline]
-    if not jobs or any(kept.get(job) != wanted[job][0] for job in jobs):
-        raise Fault('other statuses than by the slow rule')

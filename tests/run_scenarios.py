@@ -13,7 +13,7 @@ import traceback
 from concurrent.futures import ProcessPoolExecutor
 
 from commands import perform as perform_runs
-from scenarios import Fault, scenarios_of
+from lines import Fault, scenarios_of
 from stage import perform
 from stops import Difference
 from world import World, Wrong, shim

@@ -7,8 +7,8 @@ import rule
 import transactions
 from events import POLL, SEED, Reply, is_accepted, quoted, told_command, told_reply
 from exchanges import carry_out
-from scenarios import Differs, Fault
-from steps import Ask, Exchange, Reopen, Repeat, Report, Rows, Run, Slow, Statement, StopEach, steps_of
+from lines import Differs, Fault
+from steps import Ask, Exchange, Reopen, Repeat, Report, Rows, Statement, StopEach, steps_of
 from stops import Difference, stop_each
 
 CLOSED = '503 M17'
@@ -144,17 +144,11 @@ class Stage:
         with closing(sqlite3.connect(self.world.db)) as connection, connection:
             connection.execute(step.statement)
 
-    def reopen(self):
+    def reopen(self, _):
         """The server is killed; a command that opens the file and closes it in good order leaves its log empty."""
         ran = self.command('report', '--kind', 'queue')
         if ran.status:
             raise Fault(f"the file doesn't open: {ran}")
-
-    def run(self, step):
-        if step.is_open or not step.asks:
-            raise Fault('a run without an end, or without an event')
-        for ask in step.asks:
-            self.follow(ask)
 
     def stop_each(self, step):
         self.served()
@@ -181,21 +175,14 @@ class Stage:
         compare(ask, told)
         return told
 
+    def repeat(self, step):
+        for _ in range(step.count):
+            self.follow(step.ask)
+
     def play(self, step):
-        if not isinstance(step, (Ask, Repeat, Run)):
+        if not isinstance(step, (Ask, Repeat)):
             self.nothing_left()
-        kind = type(step)
-        if kind is Ask:
-            self.follow(step)
-        elif kind is Repeat:
-            for _ in range(step.count):
-                self.follow(step.ask)
-        elif kind is Slow:
-            rule.check_pipeline(self.world, step.pipeline)
-        elif kind is Reopen:
-            self.reopen()
-        else:
-            PLAYS[kind](self, step)
+        PLAYS[type(step)](self, step)
 
     def close(self):
         """All that was swept or pruned was asked for, the rows are right, and the server is open."""
@@ -209,7 +196,8 @@ class Stage:
             raise Fault(f'the server is closed: {told}')
 
 
-PLAYS = {Run: Stage.run, StopEach: Stage.stop_each, Exchange: Stage.exchange, Rows: Stage.rows, Report: Stage.report, Statement: Stage.alter}
+PLAYS = {Ask: Stage.follow, Repeat: Stage.repeat, StopEach: Stage.stop_each, Exchange: Stage.exchange, Rows: Stage.rows, Report: Stage.report,
+         Statement: Stage.alter, Reopen: Stage.reopen}
 
 
 def prune_told(ask, told):

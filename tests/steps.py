@@ -3,7 +3,7 @@
 from dataclasses import dataclass, field
 
 from events import Event, Reading
-from scenarios import Fault, Texts, Unread, Wanted, Words, number_in, words_of
+from lines import Fault, Texts, Unread, Wanted, Words, number_in, words_of
 
 BEGINNING = 1000
 SERVED = ['replied', 'ended', 'read-failed', 'write-failed']
@@ -23,13 +23,6 @@ class Repeat:
     line: int
     count: int
     ask: Ask
-
-
-@dataclass
-class Run:
-    line: int
-    asks: list = field(default_factory=list)
-    is_open: bool = True
 
 
 @dataclass
@@ -85,12 +78,6 @@ class Statement:
 @dataclass
 class Reopen:
     line: int
-
-
-@dataclass
-class Slow:
-    line: int
-    pipeline: int
 
 
 def head_of(text):
@@ -186,11 +173,7 @@ class Reader:
         return Ask(line, moment, Reading(words, self.texts).event(), wanted)
 
     def ask_line(self, line, text):
-        ask = self.ask(line, text)
-        if self.steps and isinstance(self.steps[-1], Run) and self.steps[-1].is_open:
-            self.steps[-1].asks.append(ask)
-        else:
-            self.steps.append(ask)
+        self.steps.append(self.ask(line, text))
 
     def at_line(self, line, rest):
         seconds, event = head_of(rest)
@@ -202,16 +185,10 @@ class Reader:
         count, event = head_of(rest)
         self.steps.append(Repeat(line, number_in(count), self.ask(line, event)))
 
-    def alone(self, step, rest):
+    def reopen(self, line, rest):
         if rest:
             raise Fault(f'unknown: {rest}')
-        self.steps.append(step)
-
-    def end_run(self):
-        run = self.last(Run, 'the end of no run')
-        if not run.is_open:
-            raise Unread('the end of no run')
-        run.is_open = False
+        self.steps.append(Reopen(line))
 
     def rows(self, step):
         self.bar = 'rows'
@@ -287,8 +264,6 @@ KEYWORDS = {
     'text': lambda self, line, rest: self.begin_text(rest, ''),
     'at': Reader.at_line,
     'repeat': Reader.repeat,
-    'run': lambda self, line, rest: self.alone(Run(line), rest),
-    'end': lambda self, line, rest: self.end_run(),
     'stop-each': Reader.stop_line,
     'after': lambda self, line, rest: self.sign_line(line, rest, 'after'),
     'then': lambda self, line, rest: self.sign_line(line, rest, 'then'),
@@ -302,8 +277,7 @@ KEYWORDS = {
     'rows': lambda self, line, rest: self.rows(Rows(line, rest)),
     'report': lambda self, line, rest: self.rows(Report(line, rest)),
     'sql': lambda self, line, rest: self.steps.append(Statement(line, rest)),
-    'reopen': lambda self, line, rest: self.alone(Reopen(line), rest),
-    'slow': lambda self, line, rest: self.steps.append(Slow(line, number_in(rest))),
+    'reopen': Reader.reopen,
 }
 
 
