@@ -32,7 +32,8 @@ struct page {
   int64_t fails_from; /* 0, or the number of the call from which all fail */
   int64_t failing;    /* of which files: DATABASE, LOG or both */
   int64_t reads;      /* whether reads count */
-  int64_t torn;       /* whether the first write that fails writes its first half */
+  int64_t torn;       /* whether the first one that fails writes its first half, if it is a write */
+  int64_t dies;       /* whether the program is killed there */
   int64_t calls[2];   /* so many calls were made of the database, and of the log */
   int64_t without_sync; /* whether a sync does nothing, and is answered as ever */
 };
@@ -82,9 +83,14 @@ static int fails(int fd, int is_read) {
   if (!page->fails_from || !(page->failing & file)) return 0;
   if (page->failing & DATABASE) number += page->calls[DATABASE - 1];
   if (page->failing & LOG) number += page->calls[LOG - 1];
-  if (number < page->fails_from) return 0;
+  return number < page->fails_from ? 0 : number == page->fails_from ? 1 : 2;
+}
+
+/* What a call answers that fails, if the program goes on. */
+static int failed(void) {
+  if (page->dies) kill(getpid(), SIGKILL);
   errno = EIO;
-  return number == page->fails_from ? 1 : 2;
+  return -1;
 }
 
 static void note(char kind, int fd, int64_t offset, int64_t length, const void *bytes) {
@@ -133,26 +139,25 @@ ssize_t pwrite64(int fd, const void *bytes, size_t size, off64_t offset) {
   if (failure == 1 && page->torn) {
     note('W', fd, offset, size / 2, bytes);
     if (syscall(SYS_pwrite64, fd, bytes, size / 2, offset) < 0) abort();
-    errno = EIO;
   }
-  if (failure) return -1;
+  if (failure) return failed();
   note('W', fd, offset, size, bytes);
   return syscall(SYS_pwrite64, fd, bytes, size, offset);
 }
 
 ssize_t pread64(int fd, void *room, size_t size, off64_t offset) {
-  return fails(fd, 1) ? -1 : syscall(SYS_pread64, fd, room, size, offset);
+  return fails(fd, 1) ? failed() : syscall(SYS_pread64, fd, room, size, offset);
 }
 
 int ftruncate64(int fd, off64_t size) {
-  if (fails(fd, 0)) return -1;
+  if (fails(fd, 0)) return failed();
   note('T', fd, 0, size, 0);
   return syscall(SYS_ftruncate, fd, size);
 }
 
 static int synced(int fd, long call) {
   int answer;
-  if (fails(fd, 0)) return -1;
+  if (fails(fd, 0)) return failed();
   if (page && page->without_sync) return 0;
   answer = syscall(call, fd);
   if (!answer) note('S', fd, 0, 0, 0);

@@ -36,7 +36,7 @@ class Page(ctypes.Structure):
     """As `struct page` of shim.c has it."""
     _fields_ = [('clock', ctypes.c_int64), ('seconds', ctypes.c_int64), ('seeds', ctypes.c_int64), ('seed', ctypes.c_ubyte * 16),
                 ('fails_from', ctypes.c_int64), ('failing', ctypes.c_int64), ('reads', ctypes.c_int64), ('torn', ctypes.c_int64),
-                ('calls', ctypes.c_int64 * 2), ('without_sync', ctypes.c_int64)]
+                ('dies', ctypes.c_int64), ('calls', ctypes.c_int64 * 2), ('without_sync', ctypes.c_int64)]
 
 
 class Ran(NamedTuple):
@@ -193,9 +193,10 @@ class World:
         with self.connect() as peer:
             peer.setsockopt(socket.IPPROTO_TCP, socket.TCP_NODELAY, 1)
             sent = request if close_after is None else request[:close_after]
+            step = pieces or len(sent) or 1
             try:
-                for place in range(0, len(sent), pieces or len(sent)):
-                    peer.sendall(sent[place:place + (pieces or len(sent))])
+                for place in range(0, len(sent), step):
+                    peer.sendall(sent[place:place + step])
                 if close_after is not None:
                     peer.shutdown(socket.SHUT_WR)
             except (BrokenPipeError, ConnectionResetError):
@@ -257,11 +258,11 @@ class World:
 
     # ---- calls of the store that fail
 
-    def fail_from(self, call, files=('db', 'log'), reads=False, torn=False):
+    def fail_from(self, call, files=('db', 'log'), reads=False, torn=False, dies=False):
         """Has call `call` of these files, counted from 1 since `forget_calls`, and all behind it fail: writes, cuts and syncs, with `reads` reads too. With
-        `torn` the first of them that is a write writes its half. None: none fails."""
+        `torn` the first of them writes its half, if it is a write; with `dies` the program is killed there. None: none fails."""
         self.page.failing = sum(FILES[file] for file in files)
-        self.page.reads, self.page.torn = reads, torn
+        self.page.reads, self.page.torn, self.page.dies = reads, torn, dies
         self.page.fails_from = call or 0
 
     def calls(self, file):
