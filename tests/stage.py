@@ -8,10 +8,24 @@ import transactions
 from events import POLL, SEED, Reply, is_accepted, quoted, told_command, told_reply
 from exchanges import carry_out
 from lines import Differs, Fault
-from steps import Ask, Exchange, Reopen, Repeat, Report, Rows, Statement, StopEach, steps_of
+from steps import BEGINNING, Ask, Exchange, Reopen, Repeat, Report, Rows, Statement, StopEach, steps_of
 from stops import Difference, stop_each
 
 CLOSED = '503 M17'
+
+
+# A new file of a server, once one was made.
+made = {}
+
+
+def make_file(world):
+    if made:
+        world.restore(made)
+        return
+    ran = world.init()
+    if ran.status:
+        raise Fault(f'no file is made: {ran}')
+    made.update(world.save())
 
 
 class Stage:
@@ -26,10 +40,8 @@ class Stage:
         self.left = []
         self.left_of = None
         world.seed(SEED)
-        world.at(1000)
-        ran = world.init()
-        if ran.status:
-            raise Fault(f'no file is made: {ran}')
+        world.at(BEGINNING)
+        make_file(world)
 
     # ---- the program
 
