@@ -1,8 +1,8 @@
 #!/usr/bin/env python3
 """Runs the scenarios of the files that are named, or of all in scenarios/ and stops/, over the program, as many at a time as there are processors.
 
-It prints `ok NAME` for each, or where it differs: file and line, what was wanted and what came; and at the end how many passed and failed. A file
-`differs..` is there to fail: each of its scenarios must differ at the line that `differs at LINE` names.
+It prints `ok NAME` for each, or where it differs: file and line, what was wanted and what came; and at the end how many passed and failed. The scenarios
+of a file `differs..` are there to fail, so that a comparison that always agrees is seen: each must differ at its last step.
 """
 
 import os
@@ -15,6 +15,7 @@ from concurrent.futures import ProcessPoolExecutor
 from commands import perform as perform_runs
 from lines import Fault, scenarios_of
 from stage import perform
+from steps import steps_of
 from stops import Difference
 from world import World, Wrong, shim
 
@@ -52,8 +53,22 @@ def played(path, index):
     return play(path, scenarios_of(path)[index])
 
 
-def is_to_fail(path):
-    return os.path.basename(path).startswith('differs')
+def last_step(path, scenario):
+    """The line of its last step, or the one that isn't read."""
+    if path.endswith('.runs'):
+        return [line.number for line in scenario.lines if not line.text.startswith('|')][-1]
+    try:
+        return steps_of(scenario)[-1].line
+    except Fault as fault:
+        return fault.line
+
+
+def as_wanted(path, scenario, differs):
+    """How a scenario differs from what it is there for, if it does."""
+    if not os.path.basename(path).startswith('differs'):
+        return differs
+    line = last_step(path, scenario)
+    return None if differs and differs[0] == line else (line, f'it is there to differ here: {differs}')
 
 
 def main(paths):
@@ -65,9 +80,7 @@ def main(paths):
             for index, scenario in enumerate(scenarios_of(path)):
                 ended.append((path, scenario, pool.submit(played, path, index)))
         for path, scenario, future in ended:
-            differs = future.result()
-            if is_to_fail(path):
-                differs = None if differs and differs[0] == scenario.lines[-1].number else (scenario.line, f'it must differ at its last line: {differs}')
+            differs = as_wanted(path, scenario, future.result())
             if differs:
                 print(f'differs {scenario.name}\n  {os.path.relpath(path)}:{differs[0]}: {differs[1]}')
             else:

@@ -39,6 +39,7 @@ class Stage:
         # What was swept or pruned at once, and is still to be asked for, one by one.
         self.left = []
         self.left_of = None
+        self.left_line = None
         world.seed(SEED)
         world.at(BEGINNING)
         make_file(world)
@@ -95,7 +96,7 @@ class Stage:
             self.nothing_left()
         if not self.left:
             self.left = self.tell(ask).split('\n')
-            self.left_of = (of, ask.moment)
+            self.left_of, self.left_line = (of, ask.moment), ask.line
         came = self.left.pop(0)
         if event.before is not None and came.startswith('{'):
             came = f'200 {came}'
@@ -104,7 +105,7 @@ class Stage:
     def nothing_left(self):
         if self.left:
             left, self.left = self.left, []
-            raise Fault(f'more was done at once than the scenario asks for: {left}')
+            raise Fault(f'more was done at once than the scenario asks for: {left}', self.left_line)
 
     def follow_alone(self, ask):
         """Has an event handled before which nothing is due: a sweep that is has a step of its own."""
