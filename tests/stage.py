@@ -171,7 +171,8 @@ class Stage:
             asks.append((sign.kind, ask, sign.ask.wanted.allows))
             if sign.before:
                 asks.append(('before', ask, sign.before.allows))
-        stop_each(self.world, step.files, lambda: self.met(step.ask), asks, rule.check)
+        stop_each(self.world, step.files, lambda: self.met(step.ask), asks, rule.check,
+                  is_command=step.ask.event.command is not None)
         self.stopped()
 
     def tell_now(self, ask):
