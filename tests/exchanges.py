@@ -5,7 +5,7 @@ import socket
 import struct
 
 from events import quoted
-from lines import Differs, Fault
+from lines import Differs, Fault, Unread
 
 SECONDS = 60
 
@@ -46,25 +46,32 @@ def await_reply(peer):
 
 
 def bytes_sent(exchange):
-    """So much of the request is sent: all of it, or what the calls of a reader give that ends or fails."""
-    calls = exchange.way.get('end_read', exchange.way.get('fail_read'))
-    if calls is None:
+    """So much of the request is sent: all of it, or so many pieces."""
+    pieces = exchange.way.get('end_read', exchange.way.get('fail_read'))
+    if pieces is None:
         return bytes(exchange.request)
-    chunk = exchange.way['chunk'] or len(exchange.request)
-    return bytes(exchange.request[:calls * chunk])
+    return bytes(exchange.request[:pieces * (exchange.way['chunk'] or len(exchange.request))])
+
+
+def read_of(exchange):
+    """So many bytes of the reply are read: None where all."""
+    pieces = exchange.way.get('fail_write')
+    if pieces is None or (pieces and not exchange.way['chunk']):
+        return None
+    return pieces * (exchange.way['chunk'] or 0)
 
 
 def received(world, exchange):
-    """What comes back. Where the reply is lost, as much is read of it as the scenario has, and then the connection is broken off."""
+    """What comes back. Where the reply is lost so much of it is read, and then the connection is broken off."""
     with world.connect() as peer:
         peer.setsockopt(socket.IPPROTO_TCP, socket.TCP_NODELAY, 1)
         send(peer, bytes_sent(exchange), exchange.way['chunk'])
-        if exchange.served == 'read-failed':
+        if 'fail_read' in exchange.way:
             reset(peer)
             return b''
-        if exchange.served == 'write-failed':
+        if 'fail_write' in exchange.way:
             await_reply(peer)
-            got = read(peer, len(exchange.reply))
+            got = read(peer, read_of(exchange))
             reset(peer)
             return got
         try:
@@ -74,8 +81,14 @@ def received(world, exchange):
         return read(peer)
 
 
+# What must stand before a request of which this became.
+NEEDED = {'read-failed': 'fail_read', 'write-failed': 'fail_write', 'ended': 'end_read'}
+
+
 def carry_out(world, exchange):
     """Serves a request. Its reply must be the bytes that are wanted."""
+    if exchange.served in NEEDED and NEEDED[exchange.served] not in exchange.way:
+        raise Unread('a request of which nothing is cut')
     came = received(world, exchange)
     if came != exchange.reply:
         raise Differs(quoted(exchange.reply), quoted(came), exchange.line)

@@ -33,6 +33,7 @@ class Stage:
 
     def __init__(self, world):
         self.world = world
+        self.log = transactions.Log(world)
         self.is_running = False
         # Were its tables changed by hand?
         self.is_altered = False
@@ -76,13 +77,13 @@ class Stage:
 
     def sweep(self):
         """What a request sweeps that does nothing else."""
-        mark = transactions.Mark(self.world)
+        mark = self.log.mark()
         told = Reply(self.world.exchange(POLL)).told()
         if told == CLOSED:
             return CLOSED
         if told != '403 M4':
             raise Differs('403 M4', told)
-        return '\n'.join(transactions.sweeps_since(self.world, mark)) or 'nothing'
+        return '\n'.join(transactions.sweeps_since(self.world, self.log, mark)) or 'nothing'
 
     def follow(self, ask):
         """Has an event handled, which must be answered as it says. A sweep, and a command that prunes, do all at once that they find, and the steps
@@ -114,16 +115,16 @@ class Stage:
             compare(ask, self.tell(ask))
             return
         self.served()
-        mark = transactions.Mark(self.world)
+        mark = self.log.mark()
         came = self.tell(ask)
         self.unswept(mark, 1 if changes(ask.event, came) else 0)
         compare(ask, came)
 
     def unswept(self, mark, most):
         """There may be so many transactions since then, of the event itself; one more is a sweep's."""
-        ends, _ = mark.since()
+        ends, _ = self.log.since(mark)
         if len(ends) > most:
-            raise Fault(f'a sweep did something before the event: {transactions.sweeps_since(self.world, mark)}')
+            raise Fault(f'a sweep did something before the event: {transactions.sweeps_since(self.world, self.log, mark)}')
 
     # ---- steps
 
@@ -131,7 +132,7 @@ class Stage:
         self.nothing_left()
         self.world.at(exchange.moment)
         self.served()
-        mark = transactions.Mark(self.world)
+        mark = self.log.mark()
         carry_out(self.world, exchange)
         self.unswept(mark, 1)
 
@@ -178,6 +179,7 @@ class Stage:
     def tell_now(self, ask):
         """The answer of a server that was started or stopped meanwhile."""
         self.is_running = self.world.server is not None
+        self.log = transactions.Log(self.world)
         told = self.tell(ask)
         return prune_told(ask, told)
 

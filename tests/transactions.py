@@ -12,39 +12,49 @@ STUCK, TIMED_OUT = 3, 5
 CAUSES = {STUCK: 'stuck_or_timeout_failure', TIMED_OUT: 'job_execution_timeout'}
 
 
-def commits_of(path):
-    """What tells a log from the one before it, and where each transaction in it ends."""
-    try:
-        with open(path, 'rb') as file:
-            data = file.read()
-    except FileNotFoundError:
-        data = b''
-    if len(data) < HEAD_BYTES:
-        return None, []
-    salts = data[16:24]
-    step = FRAME_BYTES + int.from_bytes(data[8:12], 'big')
-    ends = []
-    for place in range(HEAD_BYTES, len(data) - step + 1, step):
-        frame = data[place:place + FRAME_BYTES]
-        if frame[8:16] != salts:
-            break
-        if frame[4:8] != bytes(4):
-            ends.append(place + step)
-    return salts, ends
-
-
-class Mark:
-    """Where a store's log ended."""
+class Log:
+    """A store's log: where each transaction in it ends. What was read of it once isn't read again."""
 
     def __init__(self, world):
         self.path = world.db + '-wal'
-        self.salts, self.ends = commits_of(self.path)
+        self.salts, self.ends = None, []
 
-    def since(self):
-        """Where the transactions end that came since, and where the one before them."""
-        salts, ends = commits_of(self.path)
-        known = len(self.ends) if salts == self.salts else 0
-        return ends[known:], (ends[known - 1] if known else HEAD_BYTES)
+    def read(self):
+        try:
+            with open(self.path, 'rb') as file:
+                self.read_on(file)
+        except FileNotFoundError:
+            self.salts, self.ends = None, []
+
+    def read_on(self, file):
+        head = file.read(HEAD_BYTES)
+        if head[16:24] != self.salts or os.fstat(file.fileno()).st_size < self.end():
+            self.salts, self.ends = head[16:24], []
+        step = FRAME_BYTES + int.from_bytes(head[8:12], 'big')
+        place = self.end()
+        while True:
+            file.seek(place)
+            frame = file.read(FRAME_BYTES)
+            if len(frame) < FRAME_BYTES or frame[8:16] != self.salts:
+                return
+            place += step
+            if frame[4:8] != bytes(4):
+                self.ends.append(place)
+
+    def end(self):
+        """Where the last transaction ends."""
+        return self.ends[-1] if self.ends else HEAD_BYTES
+
+    def mark(self):
+        """What tells the transactions that are there from those that come."""
+        self.read()
+        return self.salts, len(self.ends)
+
+    def since(self, mark):
+        """Where the transactions end that came since then, and where the one before them."""
+        self.read()
+        known = mark[1] if mark[0] == self.salts else 0
+        return self.ends[known:], (self.ends[known - 1] if known else HEAD_BYTES)
 
 
 @contextmanager
@@ -82,9 +92,9 @@ def swept(before, after):
     return 'something that no sweep does'
 
 
-def sweeps_since(world, mark):
+def sweeps_since(world, log, mark):
     """What each transaction since then did, where all were sweeps."""
-    ends, begin = mark.since()
+    ends, begin = log.since(mark)
     if not ends:
         return []
     states = [standing(world, end) for end in [begin, *ends]]
