@@ -4,7 +4,8 @@
 An event is tried as the server stands then, and once more by one that was opened just before. Each trial must end in one of these ways:
   answered   it was answered as ever, and left the rows that it should
   M16        it told of refused memory, and the rows were as before; the same once more was answered as ever, and left the rows that it should
-  silent     its connection ended without a reply, and then the same. Only where its reply is over 4,096 bytes it may have happened
+  silent     its connection ended without a reply, and then the same
+  unheard    so, and it has happened: only where its reply is over 4,096 bytes
   wordless   a command said that its words can't be read, and then the same
   unswept    it was answered as before the sweep that goes before it; the same once more found all swept
   M17        with --all only: the same once more was M17, and over what it left a server opens, with the rows from before, or those that it should leave
@@ -21,8 +22,10 @@ import sys
 import tempfile
 from concurrent.futures import ProcessPoolExecutor
 
+from lines import Fault
 from refused_kinds import kinds_of
 from refused_trials import Difference, Trials
+from world import Wrong, shim
 
 HERE = os.path.dirname(os.path.abspath(__file__))
 KINDS = {kind.name: kind for kind in kinds_of(os.path.join(HERE, 'refused.txt'))}
@@ -42,7 +45,7 @@ def tried(name, is_cold, is_rest, refuse, room):
     try:
         with Trials(folder, refuse, kind, is_cold, is_rest) as trials:
             trials.run()
-    except Difference as why:
+    except (Difference, Fault, Wrong, OSError, subprocess.SubprocessError) as why:
         return f'{label}: NOT AS WANTED: {why}', 0, False
     finally:
         shutil.rmtree(folder, ignore_errors=True)
@@ -59,6 +62,7 @@ def main():
              for is_rest in (False, True)[:1 + words.all]]
     shared = '/dev/shm' if os.access('/dev/shm', os.W_OK) else None
     with tempfile.TemporaryDirectory(prefix='refused-', dir=shared) as room, ProcessPoolExecutor() as pool:
+        shim()
         refuse = library(room)
         told = [pool.submit(tried, *task, refuse, room) for task in tasks]
         good = refusals = 0

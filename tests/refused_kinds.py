@@ -6,10 +6,10 @@ START = 1000
 
 
 class Event:
-    """What is sent at a moment: a request of bytes, or the words of a command; and how its answer is told."""
+    """What is sent at a moment: a request of bytes, or the words of a command, and how its answer is told; or a statement that alters the file."""
 
-    def __init__(self, moment, *, request=None, command=None, tells=None):
-        self.moment, self.request, self.command, self.tells = moment, request, command, tells
+    def __init__(self, moment, *, request=None, command=None, tells=None, sql=None):
+        self.moment, self.request, self.command, self.tells, self.sql = moment, request, command, tells, sql
 
 
 class Kind:
@@ -40,6 +40,8 @@ class Reader:
         self.kind, self.texts, self.moment = kind, Texts(), START
 
     def event_of(self, text):
+        if text.startswith('sql '):
+            return Event(self.moment, sql=text[4:])
         words = Words(words_of(text))
         if words.takes('run'):
             command = [word.decode() for word in words.rest]
@@ -58,7 +60,7 @@ class Reader:
         return Wanted(text)
 
     def step(self, text):
-        text, sign, wanted = text.partition(' = ')
+        text, sign, wanted = (text, '', '') if text.startswith('sql ') else text.partition(' = ')
         words = text.split()
         moment = self.moment
         if words[0] == 'at':

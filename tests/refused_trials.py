@@ -49,6 +49,8 @@ class RefusedWorld(World):
     def run(self, event):
         """The answer to an event, and how it is told."""
         self.at(event.moment)
+        if event.sql:
+            return None, self.alter(event.sql)
         if event.request:
             if not self.server and self.start():
                 raise Difference('no server')
@@ -57,6 +59,14 @@ class RefusedWorld(World):
         self.stop()
         ran = self.command(*event.command, '--db', self.db)
         return ran, event.tells(ran)
+
+    def alter(self, statement):
+        """Has a statement run on the file."""
+        self.stop()
+        connection = sqlite3.connect(self.db)
+        connection.executescript(statement)
+        connection.close()
+        return '200'
 
     def put_back(self, files):
         """Has the files these bytes again; the server that has them open sees no difference."""
@@ -194,7 +204,7 @@ class Trials:
         try:
             if end in self.kind.never:
                 raise Difference(f'it ended with {end}')
-            self.look(end)
+            end = self.look(end)
         except Difference as why:
             raise Difference(f'request {number} was refused: {why}') from None
         self.over()
@@ -223,31 +233,34 @@ class Trials:
         return any(ran.out.endswith(line) and self.answer.out.startswith(ran.out[:-len(line)]) for line in LACKING_LINES)
 
     def look(self, end):
-        """Demands what must be found after a trial that ended so."""
+        """Demands what must be found after a trial that ended so. How it ended, if that is told by the rows."""
         rows = self.rows()
         if end == 'answered':
             if rows != self.after:
                 raise Difference('it was answered as ever, and the rows are others')
-            return
-        if end == 'M17':
+        elif end == 'M17':
             self.look_reopened()
-            return
-        has_happened = rows != self.before
-        if has_happened and not (rows == self.after and self.may_have_happened(end)):
+        elif rows == self.before:
+            self.look_again(end, self.kind.wanted, self.answer)
+        elif rows != self.after:
             raise Difference(f'{end}, and the rows are others')
-        again = self.sent_again()
-        if has_happened and self.kind.repeated:
-            if not self.kind.repeated.allows(self.told(again)):
-                raise Difference(f'{end}, and once more {self.told(again)}')
-        elif again != self.answer and not (has_happened and end == 'silent'):
-            raise Difference(f'{end}, and once more {self.told(again)}')
-        if again == self.answer and self.rows() != self.after:
-            raise Difference(f'{end}, and once more it left other rows')
+        elif self.kind.unswept:
+            self.look_again(end, self.kind.wanted, self.answer)
+        elif self.kind.repeated:
+            self.look_again(end, self.kind.repeated)
+        elif end == 'silent' and isinstance(self.answer, bytes) and len(self.answer) > ROOM_BYTES:
+            return 'unheard'
+        else:
+            raise Difference(f'{end}, and it has happened')
+        return end
 
-    def may_have_happened(self, end):
-        """May it have happened, though it wasn't answered? So may a sweep that went before it, and what was refused memory as it was answered."""
-        is_long = isinstance(self.answer, bytes) and len(self.answer) > ROOM_BYTES
-        return bool(self.kind.unswept or self.kind.repeated or (end == 'silent' and is_long))
+    def look_again(self, end, wanted, answer=None):
+        """Demands that the same once more is answered so, and leaves the rows that it should."""
+        again = self.sent_again()
+        if not wanted.allows(self.told(again)) or answer not in (None, again):
+            raise Difference(f'{end}, and once more {self.told(again)}')
+        if self.rows() != self.after:
+            raise Difference(f'{end}, and once more it left other rows')
 
     def look_reopened(self):
         """After M17: the server is closed, and one that opens what it left finds the rows from before, or those that it should leave."""
