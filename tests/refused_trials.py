@@ -111,7 +111,7 @@ class Trials:
                 raise Difference(f'nothing was refused, and it ended with {end}')
             number += 1
         for end in self.kind.some:
-            if end not in self.ends:
+            if end not in self.ends and not self.is_rest:
                 raise Difference(f'none ended with {end}')
 
     # ---- what is there before, and what is wanted
