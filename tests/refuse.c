@@ -1,11 +1,12 @@
 /* Loaded before the C library into the program that is tested (tests/refused.py): it counts the program's requests for memory, and refuses
  * one of them, or that one and all behind it.
  *
- * REFUSALS in the environment names a file of which the test and the program share the first page. A command is counted from its start. A
- * server that `forks` goes on in a child of its own once it hears of a connection, and is counted there until that connection is closed; once
- * the child has ended, it is where it was before, and hears of the next one.
+ * REFUSALS in the environment names a file of which the test and the program share the first page. A command is counted from its start, or once it
+ * has read the clock. A server that `forks` goes on in a child of its own once it hears of a connection, and is counted there until that connection is
+ * closed; once the child has ended, it is where it was before, and hears of the next one.
  */
 #define _GNU_SOURCE
+#include <dlfcn.h>
 #include <errno.h>
 #include <fcntl.h>
 #include <signal.h>
@@ -17,6 +18,7 @@
 #include <sys/socket.h>
 #include <sys/syscall.h>
 #include <sys/wait.h>
+#include <time.h>
 #include <unistd.h>
 
 enum { PAGE_BYTES = 4096, SECONDS = 60 };
@@ -26,6 +28,7 @@ struct page {
   int64_t refused; /* the number of the request that is refused; 0: none is */
   int64_t is_rest; /* whether all behind it are refused too */
   int64_t counts;  /* whether requests count */
+  int64_t clocked; /* whether they do once the clock was read */
   int64_t asked;   /* so many were made while they counted */
   int64_t forks;   /* whether a server goes on in a child */
   int64_t waits;   /* whether the server waits for connections */
@@ -63,6 +66,13 @@ void *malloc(size_t size) { return refuses() ? 0 : __libc_malloc(size); }
 void *calloc(size_t count, size_t size) { return refuses() ? 0 : __libc_calloc(count, size); }
 
 void *realloc(void *block, size_t size) { return refuses() ? 0 : __libc_realloc(block, size); }
+
+int clock_gettime(clockid_t clock, struct timespec *moment) {
+  static __typeof__(clock_gettime) *next;
+  if (!next) next = (__typeof__(next))dlsym(RTLD_NEXT, "clock_gettime");
+  if (page && page->clocked && clock == CLOCK_REALTIME) page->counts = 1;
+  return next(clock, moment);
+}
 
 /* Goes on in a child. Returns in it, and in the server whether there was one, once it has ended. */
 static int has_forked(void) {

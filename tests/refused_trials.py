@@ -29,7 +29,7 @@ class Difference(Exception):
 
 class Page(ctypes.Structure):
     """As `struct page` of refuse.c has it."""
-    _fields_ = [(name, ctypes.c_int64) for name in ('refused', 'is_rest', 'counts', 'asked', 'forks', 'waits', 'child', 'ended', 'status')]
+    _fields_ = [(name, ctypes.c_int64) for name in ('refused', 'is_rest', 'counts', 'clocked', 'asked', 'forks', 'waits', 'child', 'ended', 'status')]
 
 
 class RefusedWorld(World):
@@ -42,7 +42,7 @@ class RefusedWorld(World):
             file.write(bytes(PAGE_BYTES))
         with open(path, 'r+b') as file:
             self.refusals = Page.from_buffer(mmap.mmap(file.fileno(), PAGE_BYTES))
-        self.environment['LD_PRELOAD'] += f' {library}'
+        self.environment['LD_PRELOAD'] = f'{library} {self.environment["LD_PRELOAD"]}'
         self.environment['REFUSALS'] = path
         del self.environment['NOTES']  # writing them takes memory
 
@@ -90,6 +90,7 @@ class Trials:
         self.refused = 0
         self.ends = {}  # of each end how often it came, and the first number for which
         self.rows_of = {}  # the rows of files that were looked at
+        self.agains = {}  # of such files the answer of the command that is tried, and the rows that it leaves
 
     def __enter__(self):
         return self
@@ -142,6 +143,7 @@ class Trials:
         if not self.kind.wanted.allows(told):
             raise Difference(f'wanted {self.kind.wanted}, came {told}')
         self.after = self.rows()
+        self.agains[tuple(sorted(self.files.items()))] = self.answer, self.after
         self.over()
 
     def rows(self):
@@ -170,18 +172,22 @@ class Trials:
             page.forks = 1
             answer = self.world.exchange(event.request)
         else:
-            page.counts = 1
+            page.clocked, page.counts = self.kind.is_clocked, not self.kind.is_clocked
             answer = self.world.command(*event.command, '--db', self.world.db)
-            page.counts = 0
+            page.clocked = page.counts = 0
         page.refused = 0
         return answer, 0 < number <= page.asked
 
     def sent_again(self):
-        """The answer to the same once more, where no memory is refused."""
+        """The answer to the same once more, where no memory is refused, and the rows that it leaves."""
         event = self.kind.event
         if event.request:
-            return self.world.exchange(event.request)
-        return self.world.command(*event.command, '--db', self.world.db)
+            return self.world.exchange(event.request), self.rows()
+        # A command does over the same files what it did before.
+        key = tuple(sorted(self.world.save().items()))
+        if key not in self.agains:
+            self.agains[key] = self.world.command(*event.command, '--db', self.world.db), self.rows()
+        return self.agains[key]
 
     def over(self):
         """The server is where it was before the trial, and so are the files."""
@@ -256,17 +262,17 @@ class Trials:
 
     def look_again(self, end, wanted, answer=None):
         """Demands that the same once more is answered so, and leaves the rows that it should."""
-        again = self.sent_again()
+        again, rows = self.sent_again()
         if not wanted.allows(self.told(again)) or answer not in (None, again):
             raise Difference(f'{end}, and once more {self.told(again)}')
-        if self.rows() != self.after:
+        if rows != self.after:
             raise Difference(f'{end}, and once more it left other rows')
 
     def look_reopened(self):
         """After M17: the server is closed, and one that opens what it left finds the rows from before, or those that it should leave."""
         if not self.is_rest:
             raise Difference('M17')
-        if self.sent_again() != CLOSED:
+        if self.sent_again()[0] != CLOSED:
             raise Difference('M17, and once more another answer')
         rows = self.rows()
         if rows not in (self.before, self.after):
