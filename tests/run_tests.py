@@ -1,0 +1,49 @@
+#!/usr/bin/env python3
+"""Runs the tests of test_*.py, or of the modules that are named, over the program, as many at a time as there are processors.
+
+It prints `ok NAME` for each, or why it failed; and at the end how many passed and failed.
+"""
+import io
+import os
+import sys
+import time
+import unittest
+from concurrent.futures import ProcessPoolExecutor, as_completed
+
+from world import shim
+
+HERE = os.path.dirname(os.path.abspath(__file__))
+
+
+def names(suite):
+    for test in suite:
+        if isinstance(test, unittest.TestSuite):
+            yield from names(test)
+        else:
+            yield test.id()
+
+
+def ran(name):
+    """A test: its seconds, and why it failed, if it did."""
+    begin, told = time.monotonic(), io.StringIO()
+    result = unittest.TextTestRunner(told, verbosity=0).run(unittest.defaultTestLoader.loadTestsFromName(name))
+    is_good = result.wasSuccessful() and result.testsRun == 1 and not result.skipped
+    return name, time.monotonic() - begin, None if is_good else told.getvalue()
+
+
+def main(modules):
+    shim()
+    modules = modules or sorted(name[:-3] for name in os.listdir(HERE) if name.startswith('test_') and name.endswith('.py'))
+    tests = list(names(unittest.defaultTestLoader.loadTestsFromNames(modules)))
+    failed = 0
+    with ProcessPoolExecutor(os.cpu_count()) as pool:
+        for future in as_completed([pool.submit(ran, name) for name in tests]):
+            name, seconds, why = future.result()
+            failed += why is not None
+            print(f'ok {name} ({seconds:.1f} s)' if why is None else f'failed {name}\n{why}', flush=True)
+    print(f'{len(tests) - failed} passed, {failed} failed')
+    return 1 if failed or not tests else 0
+
+
+if __name__ == '__main__':
+    sys.exit(main(sys.argv[1:]))
