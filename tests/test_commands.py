@@ -31,10 +31,12 @@ class Commands(Case):
         self.assertEqual(int.from_bytes(content[28:32], 'big') * 1024, len(content))
 
     def test_without_seeds_no_token_is_made(self):
-        self.begin()
+        """A file with an empty log needs a seed too, for a new one: it is looked at first."""
+        self.begin('add-project p', 'set-file 1 one')
+        self.world.stop()
         self.world.seed_fails()
-        self.ran(1, 'refused: seed\n', 'project-add', '--db', self.world.db, '--name', 'p')
-        self.assertEqual(self.world.rows('SELECT * FROM project'), [])
+        self.ran(1, 'refused: seed\n', 'project-add', '--db', self.world.db, '--name', 'q')
+        self.assertEqual(self.world.rows('SELECT id FROM project'), [(1,)])
 
 
 class Inits(Case):
