@@ -3,6 +3,7 @@ import json
 from collections import namedtuple
 
 from rule import CREATED, LIVE, MANUAL, PENDING, RUNNING, Records
+from transactions import copied
 
 Pipeline = namedtuple('Pipeline', 'id project ref kind created')
 Runner = namedtuple('Runner', 'id project tags untagged paused')
@@ -103,6 +104,12 @@ class Whole(Records):
     def prunable(self, before):
         """The finished pipelines that were made before a moment."""
         return [pipeline.id for pipeline in self.pipelines if pipeline.created < before and not self.is_unfinished(pipeline)]
+
+
+def state(world, end=None):
+    """All that the store of a world keeps, or that it kept where its log ended there."""
+    with copied(world, end) as connection:
+        return Whole(connection)
 
 
 def may_run(runner, project, job):

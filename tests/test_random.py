@@ -9,10 +9,10 @@ import json
 import random
 
 from cases import Case, tell
-from choices import Whole
+from choices import state
 from events import DAY, MODES
 from lines import Fault
-from transactions import Log, copied, swept
+from transactions import Log, swept
 
 EVENTS = 500
 STOPS = 8  # events, on an average, between two stops of the server that goes on
@@ -141,11 +141,6 @@ class Course:
 
     def count(self, what, more=1):
         self.counts[what] += more
-
-
-def state(world, end=None):
-    with copied(world, end) as connection:
-        return Whole(connection)
 
 
 class RandomEvents(Case):
