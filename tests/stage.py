@@ -124,7 +124,7 @@ class Stage:
         self.served()
         mark = self.log.mark()
         carry_out(self.world, exchange)
-        self.unswept(mark, 1)
+        self.unswept(mark, 1 if exchange.served in ('replied', 'write-failed') else 0)
 
     def rows(self, step):
         query = step.query if step.query.startswith('SELECT ') else f'SELECT * FROM {step.query}'
