@@ -30,6 +30,7 @@ PAGE_BYTES = 4096
 REAL, SET, FAILS = range(3)
 FILES = {'db': 1, 'log': 2}
 REQUESTS = 1000000  # that a server serves where the test says nothing else
+ROOM = '/dev/shm' if os.access('/dev/shm', os.W_OK) else None  # where a sync costs nothing
 
 
 class Page(ctypes.Structure):
