@@ -10,6 +10,7 @@ import tempfile
 from contextlib import closing
 
 from cases import Case, alter, drawn, tell
+from transactions import copied
 from world import HERE
 
 ROOT = os.path.join(HERE, '..')
@@ -76,28 +77,30 @@ def make(path, rows=os.path.join(HERE, 'version1.sql'), in_log=False):
 class Files(Case):
     """Tests over a file of version 1."""
 
-    def rows_of(self):
-        """The rows of all tables of version 1, but for that of the version."""
-        return {table: self.world.rows(f'SELECT * FROM {table}' + (" WHERE key <> 'version'" if table == 'meta' else '')) for table in TABLES}
-
-    def version(self):
-        """The version, and whether the table of process modes is there."""
-        return (self.world.rows("SELECT num FROM meta WHERE key = 'version'")[0][0],
-                len(self.world.rows("SELECT * FROM sqlite_schema WHERE name = 'mode'")))
-
     def made(self, **how):
         make(self.world.db, **how)
-        self.rows = self.rows_of()
-        self.assertEqual(self.version(), (1, 0))
+        self.rows = self.held()['rows']
+        self.is_whole(1)
+
+    def held(self):
+        """What the file has: its version, what it lists, the rows of all tables of version 1 but for that of the version, and those of `mode`."""
+        with copied(self.world) as connection:
+            ask = lambda query: connection.execute(query).fetchall()
+            listed = ask(LISTED)
+            return {
+                'version': ask("SELECT num FROM meta WHERE key = 'version'"), 'listed': listed,
+                'rows': {table: ask(f'SELECT * FROM {table}' + (" WHERE key <> 'version'" if table == 'meta' else '')) for table in TABLES},
+                'modes': ask('SELECT * FROM mode') if any(row[1] == b'mode' for row in listed) else None,
+                'sound': ask('PRAGMA integrity_check') + ask('PRAGMA foreign_key_check'),
+            }
 
     def is_whole(self, version):
         """It is a whole file of this version, with each row that was there; no group has a mode."""
-        self.assertEqual(self.version(), (version, version - 1))
-        self.assertEqual(self.rows_of(), self.rows)
-        self.assertEqual(self.world.rows('PRAGMA integrity_check'), [('ok',)])
-        self.assertEqual(self.world.rows('PRAGMA foreign_key_check'), [])
-        if version == 2:
-            self.assertEqual(self.world.rows('SELECT * FROM mode'), [])
+        held = self.held()
+        self.assertEqual(held['version'], [(version,)])
+        self.assertEqual(held['rows'], self.rows)
+        self.assertEqual(held['modes'], [] if version == 2 else None)
+        self.assertEqual(held['sound'], [(b'ok',)])
 
     def migrates(self, out):
         self.ran(0, out, 'migrate', '--db', self.world.db)
@@ -145,13 +148,13 @@ class Openings(Files):
 
     def test_a_migrated_file_lists_what_a_new_one_does(self):
         self.made()
-        old = self.world.rows(LISTED)
+        old = self.held()['listed']
         self.migrates(MIGRATED)
-        migrated = self.world.rows(LISTED)
+        migrated = self.held()['listed']
         self.world.restore({})
         self.begin()
         self.assertEqual((len(old), len(migrated)), (29, 31))
-        self.assertEqual(migrated, self.world.rows(LISTED))
+        self.assertEqual(migrated, self.held()['listed'])
 
     def test_a_new_file_was_not_migrated(self):
         self.begin()
@@ -175,7 +178,7 @@ jobs: 2
                 self.world.restore({})
                 self.made()
                 self.ran(status, out, words[0], '--db', self.world.db, *words[1:])
-                self.assertEqual(self.version(), (2, 1))
+                self.assertEqual(self.held()['version'], [(2,)])
                 self.migrates(CURRENT)
 
     def test_a_migration_that_nobody_hears(self):
@@ -201,7 +204,7 @@ class Stops(Files):
         key = tuple(sorted(image.items()))
         if key not in self.seen:
             self.world.restore(image)
-            version = self.version()[0]
+            version, = self.held()['version'][0]
             self.is_whole(version)
             self.migrates(MIGRATED if version == 1 else CURRENT)
             self.is_whole(2)
@@ -272,9 +275,6 @@ class Refusals(Files):
         # It has a table of this name already, of another form.
         ('CREATE TABLE mode (text TEXT)', 'O3'),
     ]
-
-    def held(self):
-        return [self.world.rows(LISTED), self.world.rows("SELECT * FROM meta"), self.rows_of()]
 
     def test_other_files_are_refused_and_left_as_they_were(self):
         for statement, code in self.REFUSED:
