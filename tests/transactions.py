@@ -6,6 +6,8 @@ import sqlite3
 import tempfile
 from contextlib import closing, contextmanager
 
+from lines import Fault
+
 HEAD_BYTES = 32
 FRAME_BYTES = 24
 STUCK, TIMED_OUT = 3, 5
@@ -86,10 +88,11 @@ def swept(before, after):
     cancelled = {pipeline for job, pipeline in after[1].items() if job not in before[1]}
     if len(ended) == 1 and not cancelled:
         number, (_, cause) = ended[0]
-        return f'ended {number} {CAUSES.get(cause, cause)}'
+        if cause in CAUSES:
+            return f'ended {number} {CAUSES[cause]}'
     if len(cancelled) == 1 and not ended:
         return f'cancelled {cancelled.pop()}'
-    return 'something that no sweep does'
+    raise Fault('a transaction that no sweep makes')
 
 
 def sweeps_since(world, log, mark):
