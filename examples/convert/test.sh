@@ -1,5 +1,5 @@
 #!/usr/bin/env bash
-# Has examples/convert.py write out each NAME.yml of this folder, with the words of NAME.args, and compares what it prints with NAME.stdout and
+# Has examples/convert.py write out each NAME.yml of the folder cases, with the words of NAME.args, and compares what it prints with NAME.stdout and
 # NAME.stderr and how it ends with NAME.status (0 where there is none). What ended with 0 has to be a file that the program takes. And the examples
 # of docs/CONVERTING.md have to be answered as they say.
 #
@@ -8,7 +8,7 @@
 # It ends with 0 where all passed. It wants python3 with python3-yaml.
 set -u
 ciserver=$(realpath "${1-$(dirname "$0")/../../bin/ciserver}")
-cd "$(dirname "$0")" || exit 1
+cd "$(dirname "$0")/cases" || exit 1
 if [ ! -x "$ciserver" ]; then
   echo "there is no bin/ciserver: make build" >&2
   exit 1
@@ -34,7 +34,7 @@ for file in *.yml; do
   if [ -e "$name.args" ]; then read -r -a words < "$name.args"; fi
   wanted=0
   if [ -e "$name.status" ]; then wanted=$(< "$name.status"); fi
-  python3 ../convert.py "${words[@]}" "$file" > "$work/stdout" 2> "$work/stderr"
+  python3 ../../convert.py "${words[@]}" "$file" > "$work/stdout" 2> "$work/stderr"
   is "$file" "$wanted" "$name.stdout" "$name.stderr" "$?"
   if [ "$wanted" = 0 ]; then
     said=$("$ciserver" check "$name.stdout" 2>&1)
@@ -49,7 +49,7 @@ for file in *.yml; do
 done
 # ends STATUS WORD..: a run with these words prints no file, and ends so.
 ends() {
-  python3 ../convert.py "${@:2}" > "$work/stdout" 2> "$work/said" < starter.yml
+  python3 ../../convert.py "${@:2}" > "$work/stdout" 2> "$work/said" < starter.yml
   ended=$?
   if [ "$ended" = "$1" ] && [ ! -s "$work/stdout" ] && [ -s "$work/said" ]; then
     passed=$((passed + 1))
@@ -64,13 +64,13 @@ ends 2 --strict starter.yml
 ends 3 nothing.yml
 ends 3 .
 # The same from standard input, and from another folder.
-python3 ../convert.py - < starter.yml > "$work/stdout" 2> "$work/stderr"
+python3 ../../convert.py - < starter.yml > "$work/stdout" 2> "$work/stderr"
 ended=$?
 sed 's/^starter.yml:/-:/' starter.stderr > "$work/wanted"
 is 'standard input' 0 starter.stdout "$work/wanted" "$ended"
 # The last line of each example of docs/CONVERTING.md is what the program prints of it.
 awk -v at="$work/example" '/^```yaml$/ { file = sprintf("%s%03d.yml", at, ++n); inside = 1; next } /^```$/ { inside = 0 } inside { print > file }' \
-  ../../docs/CONVERTING.md
+  ../../../docs/CONVERTING.md
 for example in "$work"/example*.yml; do
   said="# $("$ciserver" check "$example" 2>&1)"
   if [ "$said" = "$(tail -n 1 "$example")" ]; then

@@ -1,0 +1,90 @@
+"""Expressions of rules."""
+from __future__ import annotations
+
+import re
+
+TOKEN = re.compile(
+    r"""\s*(&&|\|\||==|!=|=~|!~|[()]|\$[A-Za-z_][A-Za-z0-9_]*|"[^"]*"|'[^']*'|null\b|/(?:[^/\\]|\\.)*/[ismU]*)""", re.S
+)
+PATTERN = re.compile(r"/(.*)/([ismU]*)", re.S)
+
+
+def tokens_of(source: str) -> list[str] | None:
+    found, at = [], 0
+    source = source.strip()
+    while at < len(source):
+        token = TOKEN.match(source, at)
+        if not token:
+            return None
+        found.append(token[1])
+        at = token.end()
+    return found
+
+
+def spelled(tokens: list[str]) -> str:
+    made = ""
+    for token in tokens:
+        made += ("" if made[-1:] in ("", "(") or token == ")" else " ") + token
+    return made
+
+
+def pattern_of(token: str, values: dict[str, str]) -> str | None:
+    """The pattern that stands behind a `=~`, also where it is in quotes or is the value of a variable of the file."""
+    if token[0] == "$":
+        token = values.get(token[1:], "")
+    elif token[0] in "\"'":
+        token = token[1:-1]
+    found = PATTERN.fullmatch(token)
+    if not found:
+        return None
+    source, flags = found[1], found[2]
+    others = "".join(sorted(set(flags) - {"i"}))
+    return f"/{f'(?{others})' if others else ''}{source}/{'i' if 'i' in flags else ''}"
+
+
+def expression(source: str, values: dict[str, str]) -> str | None:
+    """The same expression in the profile's language; None where it can't be said there."""
+    tokens = tokens_of(source)
+    if not tokens:
+        return None
+    made: list[str] = []
+    while tokens:
+        if tokens[0] in ("&&", "||", "(", ")"):
+            made.append(tokens.pop(0))
+            continue
+        if len(tokens) < 3 or tokens[1] not in ("==", "!=", "=~", "!~"):
+            if tokens[0][0] != "$":
+                return None
+            made.append(tokens.pop(0))
+            continue
+        left, sign, right = tokens[:3]
+        del tokens[:3]
+        if sign in ("==", "!=") and left[0] != "$":
+            left, right = right, left
+        if sign in ("=~", "!~"):
+            right = pattern_of(right, values) or ""
+        if left[0] != "$" or not right or right[0] in "&|()=!" or sign[1] == "=" and right[0] == "/":
+            return None
+        made += [left, sign, right]
+    return spelled(made) if made != tokens_of(source) or "\n" in source else source.strip()
+
+
+def alternatives(source: str) -> list[str]:
+    """The parts of an expression that is too long, of which one has to be true: rules in the place of one rule."""
+    if len(source.encode()) <= 1024:
+        return [source]
+    parts, depth = [[]], 0
+    for token in tokens_of(source) or []:
+        depth += {"(": 1, ")": -1}.get(token, 0)
+        if token == "||" and depth == 0:
+            parts.append([])
+        else:
+            parts[-1].append(token)
+    made = [spelled(parts[0])]
+    for part in map(spelled, parts[1:]):
+        joined = f"{made[-1]} || {part}"
+        if len(joined.encode()) <= 1024:
+            made[-1] = joined
+        else:
+            made.append(part)
+    return made

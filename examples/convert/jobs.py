@@ -1,0 +1,215 @@
+"""Makes the jobs of the profile of those of GitLab's file."""
+from __future__ import annotations
+
+import re
+
+from .durations import duration
+from .keywords import CAUSES, DEFAULTS, LEFT_OUT, ORDER, TAKEN, TOP_LEFT_OUT
+from .notes import Notes
+from .rules import Rules
+from .scripts import Scripts
+from .tree import List, Map, Place, Refused, Text, boolean, flat, is_null, number, rows_of, words_of
+from .unknown import tell_unknown
+from .variables import Variables
+
+MOST_JOBS = 1_000
+
+
+class Converter:
+    """Makes the map that is written of the map of GitLab's file."""
+
+    def __init__(self, config: Map, notes: Notes, default_branch: str | None):
+        self.config = config
+        self.notes = notes
+        self.names: dict[str, list[str]] = {}
+        self.made: dict = {}
+        self.defaults = self.all_defaults()
+        self.variables = Variables(notes)
+        self.globals = self.variables.of(config.get("variables"), {})
+        if default_branch and "CI_DEFAULT_BRANCH" not in self.globals:
+            self.globals["CI_DEFAULT_BRANCH"] = default_branch
+        self.variables.globals = self.globals
+        self.rules = Rules(notes, self.variables)
+        self.scripts = Scripts(notes)
+
+    def whole(self) -> dict:
+        for key in TOP_LEFT_OUT:
+            if key in self.config:
+                self.notes.add(self.config.places[key], f"{key}: dropped: {TOP_LEFT_OUT[key]}")
+        stages = self.config.get("stages", self.config.get("types"))
+        if stages is not None and not is_null(stages):
+            self.made["stages"] = words_of(stages, "stages")
+        if self.globals:
+            self.made["variables"] = self.globals
+        sources = {}
+        for key, value in self.config.items():
+            if self.is_job(key):
+                sources.update(self.jobs_of(key, value))
+        for name, source in sources.items():
+            self.put_needs(self.made[name], source)
+        tell_unknown(self.made, sources, self.notes)
+        return self.made
+
+    def is_job(self, key: str) -> bool:
+        return key[0:1] != "." and key not in TOP_LEFT_OUT and key not in ("stages", "types", "variables", "default", *DEFAULTS[:2])
+
+    def all_defaults(self) -> Map:
+        """What jobs take that don't say it themselves."""
+        given = self.config.get("default")
+        defaults = Map()
+        for key in DEFAULTS[:2]:
+            if key in self.config:
+                defaults.put(key, self.config[key], self.config.places[key])
+        if isinstance(given, Map):
+            for key in given:
+                if key in DEFAULTS:
+                    defaults.put(key, given[key], given.places[key])
+                else:
+                    self.tell_left_out(key, given.places[key])
+        return defaults
+
+    def tell_left_out(self, key: str, place: Place) -> None:
+        self.notes.add(place, f"{key}: dropped: {LEFT_OUT.get(key, 'there is no such keyword here')}")
+
+    def jobs_of(self, name: str, source) -> dict[str, Map]:
+        """Makes the jobs that one of GitLab's stands for, with the map that each is made of."""
+        place = self.config.places[name]
+        if not isinstance(source, Map):
+            raise Refused(place, f"job `{name}` is no map")
+        if re.search(r"[\x00-\x1f\x7f]", name) or not 1 <= len(name.encode(errors="replace")) <= 255:
+            raise Refused(place, f"`{name[:40]}` is no name: that has 1 to 255 bytes, and no control characters")
+        job = self.inherited(source)
+        for key in job:
+            if key not in TAKEN:
+                self.tell_left_out(key, job.places[key])
+        self.names[name] = []
+        if not self.scripts.lines(job.get("script")):
+            cause = "it starts another pipeline" if "trigger" in job else "it has no script"
+            self.notes.add(place, f"job `{name}` is left out: {cause}")
+            return {}
+        if name == "pages":
+            self.notes.add(place, "job `pages` is named `pages-job`: that name is a keyword")
+        jobs = self.parallel("pages-job" if name == "pages" else name, job)
+        for each, extra in jobs.items():
+            if each in self.made:
+                raise Refused(place, f"two jobs would be named `{each}`")
+            if len(self.made) > MOST_JOBS:
+                raise Refused(place, f"there are over {MOST_JOBS} jobs")
+            self.made[each] = self.job(job, extra)
+        self.names[name] = list(jobs)
+        return dict.fromkeys(jobs, job)
+
+    def inherited(self, source: Map) -> Map:
+        """A job with the defaults that it inherits, and without what is null."""
+        inherit = source.get("inherit")
+        wanted = inherit.get("default") if isinstance(inherit, Map) else None
+        if isinstance(inherit, Map) and "variables" in inherit:
+            self.notes.add(inherit.places["variables"], "inherit: dropped: each job sees all variables of the top level")
+        job = Map(source.place)
+        for key, value in self.defaults.items():
+            if boolean(wanted) is not False and (not isinstance(wanted, List) or key in wanted):
+                job.put(key, value, self.defaults.places[key])
+        job.join(source)
+        return job.without(*[key for key, value in job.items() if is_null(value)])
+
+    def parallel(self, name: str, job: Map) -> dict[str, dict[str, str]]:
+        """The names of a job's copies, each with the variables that it has besides."""
+        given = job.get("parallel")
+        if given is None:
+            return {name: {}}
+        place = job.places["parallel"]
+        count = number(given)
+        if count is not None and 1 <= count <= 200:
+            return {f"{name} {i}/{count}": {"CI_NODE_INDEX": str(i), "CI_NODE_TOTAL": str(count)} for i in range(1, count + 1)}
+        if not isinstance(given, Map) or "matrix" not in given:
+            raise Refused(place, f"parallel of job `{name}` is neither a number from 1 to 200 nor a matrix")
+        return {f"{name}: [{', '.join(row.values())}]": row for row in rows_of(given["matrix"], place)}
+
+    def job(self, job: Map, extra: dict[str, str]) -> dict:
+        made: dict = {}
+        for key in ("stage", "resource_group"):
+            if isinstance(job.get(key), Text):
+                made[key] = str(job[key])
+        tags = words_of(job.get("tags"), "tags")
+        if tags:
+            made["tags"] = tags
+        for key, values in (("resource_group", [made.get("resource_group", "")]), ("tags", tags)):
+            if any("$" in it for it in values):
+                self.notes.add(job.places[key], f"{key}: variables in it stay as they are written")
+        variables = self.variables.of(job.get("variables"), extra) | extra
+        if variables:
+            made["variables"] = variables
+        self.rules.put_when(made, job)
+        self.put_retry(made, job)
+        self.put_timeout(made, job)
+        interruptible = boolean(job.get("interruptible"))
+        if interruptible is not None:
+            made["interruptible"] = interruptible
+        made["script"] = self.scripts.script(job)
+        return {key: made[key] for key in ORDER if key in made}
+
+    # Scripts.
+
+    def put_retry(self, made: dict, job: Map) -> None:
+        given = job.get("retry")
+        if given is None:
+            return
+        count = number(given.get("max") if isinstance(given, Map) else given)
+        if count is None or not 0 <= count <= 2:
+            self.notes.add(job.places["retry"], "retry: dropped: it has no number from 0 to 2")
+            return
+        if not isinstance(given, Map):
+            made["retry"] = count
+            return
+        for key in given.without("max", "when"):
+            self.notes.add(given.places[key], f"retry: `{key}` is dropped")
+        causes = words_of(given.get("when"), "retry")
+        for it in causes:
+            if it not in CAUSES:
+                self.notes.add(given.places["when"], f"retry: the cause `{it}` is dropped: it doesn't come about here")
+        kept = [it for it in causes if it in CAUSES]
+        if kept or not causes:
+            made["retry"] = {"max": count, "when": kept} if kept else count
+
+    def put_timeout(self, made: dict, job: Map) -> None:
+        given = job.get("timeout")
+        if given is None:
+            return
+        made_of = duration(given) if isinstance(given, Text) else None
+        if made_of is None:
+            self.notes.add(job.places["timeout"], f"timeout: `{given}` is dropped: it is no time from a minute to 30 days")
+        else:
+            made["timeout"] = made_of
+
+    def put_needs(self, made: dict, job: Map) -> None:
+        """The needs of a job, once all jobs are known."""
+        if "needs" not in job:
+            return
+        needs: list = []
+        for item in flat(job["needs"]):
+            name, optional = item, False
+            if isinstance(item, Map):
+                name, optional = item.get("job"), boolean(item.get("optional")) or False
+                if not isinstance(name, Text) or "project" in item or "pipeline" in item:
+                    self.notes.add(item.place, "needs: dropped: it is no job of this file")
+                    continue
+            names = self.needed(item, name)
+            if not names:
+                self.notes.add(item.place, f"needs: `{name}` is dropped: there is no such job")
+            needs += [{"job": it, "optional": True} if optional else it for it in names if it not in needs]
+        made["needs"] = needs
+        script = made.pop("script")
+        for key in [it for it in ORDER if it in made]:
+            made[key] = made.pop(key)
+        made["script"] = script
+
+    def needed(self, item, name: Text) -> list[str]:
+        """The jobs that one need stands for: all copies of a job, or those of the rows that it names."""
+        names = self.names.get(name, [str(name)] if name in self.made else [])
+        rows = item.get("parallel") if isinstance(item, Map) else None
+        if not isinstance(rows, Map) or "matrix" not in rows:
+            return names
+        wanted = rows_of(rows["matrix"], item.place)
+        return [it for it in names if any(row.items() <= self.made[it].get("variables", {}).items() for row in wanted)]
+
+    # What is said of variables.

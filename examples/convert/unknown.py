@@ -1,0 +1,35 @@
+"""Names the predefined variables of GitLab that a file uses and that nothing defines here."""
+from __future__ import annotations
+
+import re
+
+from .keywords import PREDEFINED
+from .notes import Notes
+from .tree import Map, Text, flat
+
+
+def tell_unknown(made: dict, sources: dict[str, Map], notes: Notes) -> None:
+    """Names the predefined variables of GitLab that jobs use and that nothing defines here, each once."""
+    told = set()
+    for name, job in sources.items():
+        known = PREDEFINED | made.get("variables", {}).keys() | made[name].get("variables", {}).keys()
+        for key in ("rules", "only", "except", "before_script", "script", "after_script"):
+            for it in texts(job.get(key)):
+                for used in re.findall(r"\$\{?(CI_[A-Z0-9_]+|GITLAB_[A-Z0-9_]+)", it):
+                    if used not in known and used not in told:
+                        told.add(used)
+                        notes.add(it.place, unknown(used, key))
+
+
+def texts(value) -> list[Text]:
+    if isinstance(value, Map):
+        return [it for part in value.values() for it in texts(part)]
+    found = flat(value)
+    return [it for part in found for it in ([part] if isinstance(part, Text) else texts(part))]
+
+
+def unknown(name: str, key: str) -> str:
+    if name == "CI_DEFAULT_BRANCH":
+        found = "nothing defines `$CI_DEFAULT_BRANCH` here: no branch is equal to it, and a tag's missing `$CI_COMMIT_BRANCH` is"
+        return found + "; set the variable of the project, or give --default-branch"
+    return f"nothing defines `${name}` here" + (": in rules it is null" if key in ("rules", "only", "except") else "")
