@@ -24,7 +24,7 @@ if importlib.util.find_spec("yaml") is None:
 
 from convert.jobs import Converter
 from convert.linking import Linker
-from convert.notes import Notes, shown
+from convert.notes import Notes, named, shown
 from convert.reading import Reader
 from convert.tree import Refused, Unread
 from convert.writing import over_limits, written
@@ -48,7 +48,7 @@ def main() -> int:
         content = written(made)
     except Refused as fault:
         (file, line), cause = fault.args
-        print(shown(f"{file}:{line}: refused: {cause}"), file=sys.stderr)
+        print(shown(f"{file}:{line}: {named([notes.job] if notes.job else [])}refused: {cause}"), file=sys.stderr)
         return 1
     except RecursionError:
         print(f"{words.file}:1: refused: it goes too deep", file=sys.stderr)

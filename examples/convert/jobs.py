@@ -21,7 +21,8 @@ class Converter:
     def __init__(self, config: Map, notes: Notes, default_branch: str | None):
         self.config = config
         self.notes = notes
-        self.names: dict[str, list[str]] = {}
+        self.names: dict[str, list[str]] = {}  # those of the jobs that one of GitLab's stands for
+        self.sources: dict[str, Map] = {}
         self.made: dict = {}
         self.defaults = self.all_defaults()
         self.variables = Variables(notes)
@@ -41,13 +42,16 @@ class Converter:
             self.made["stages"] = words_of(stages, "stages")
         if self.globals:
             self.made["variables"] = self.globals
-        sources = {}
-        for key, value in self.config.items():
-            if self.is_job(key):
-                sources.update(self.jobs_of(key, value))
-        for name, source in sources.items():
-            self.put_needs(self.made[name], source)
-        tell_unknown(self.made, sources, self.notes)
+        for name, value in self.config.items():
+            if self.is_job(name):
+                self.notes.job = name
+                self.add_jobs(name, value)
+        for name, source in self.sources.items():
+            self.notes.job = name
+            for each in self.names[name]:
+                self.put_needs(self.made[each], source)
+        tell_unknown(self.made, self.sources, self.names, self.notes)
+        self.notes.job = None
         return self.made
 
     def is_job(self, key: str) -> bool:
@@ -71,11 +75,11 @@ class Converter:
     def tell_left_out(self, key: str, place: Place) -> None:
         self.notes.add(place, f"{key}: dropped: {LEFT_OUT.get(key, 'there is no such keyword here')}")
 
-    def jobs_of(self, name: str, source) -> dict[str, Map]:
-        """Makes the jobs that one of GitLab's stands for, with the map that each is made of."""
+    def add_jobs(self, name: str, source) -> None:
+        """Makes the jobs that one of GitLab's stands for."""
         place = self.config.places[name]
         if not isinstance(source, Map):
-            raise Refused(place, f"job `{name}` is no map")
+            raise Refused(place, "it is no map")
         if re.search(r"[\x00-\x1f\x7f]", name) or not 1 <= len(name.encode(errors="replace")) <= 255:
             raise Refused(place, f"`{name[:40]}` is no name: that has 1 to 255 bytes, and no control characters")
         job = self.inherited(source)
@@ -84,20 +88,19 @@ class Converter:
                 self.tell_left_out(key, job.places[key])
         self.names[name] = []
         if not self.scripts.lines(job.get("script")):
-            cause = "it starts another pipeline" if "trigger" in job else "it has no script"
-            self.notes.add(place, f"job `{name}` is left out: {cause}")
-            return {}
+            self.notes.add(place, f"left out: {'it starts another pipeline' if 'trigger' in job else 'it has no script'}")
+            return
         if name == "pages":
-            self.notes.add(place, "job `pages` is named `pages-job`: that name is a keyword")
+            self.notes.add(place, "named `pages-job`: `pages` is a keyword")
         jobs = self.parallel("pages-job" if name == "pages" else name, job)
         for each, extra in jobs.items():
             if each in self.made:
                 raise Refused(place, f"two jobs would be named `{each}`")
             if len(self.made) > MOST_JOBS:
                 raise Refused(place, f"there are over {MOST_JOBS} jobs")
-            self.made[each] = self.job(job, extra)
+            self.made[each] = self.made_of(job, extra)
         self.names[name] = list(jobs)
-        return dict.fromkeys(jobs, job)
+        self.sources[name] = job
 
     def inherited(self, source: Map) -> Map:
         """A job with the defaults that it inherits, and without what is null."""
@@ -122,10 +125,10 @@ class Converter:
         if count is not None and 1 <= count <= 200:
             return {f"{name} {i}/{count}": {"CI_NODE_INDEX": str(i), "CI_NODE_TOTAL": str(count)} for i in range(1, count + 1)}
         if not isinstance(given, Map) or "matrix" not in given:
-            raise Refused(place, f"parallel of job `{name}` is neither a number from 1 to 200 nor a matrix")
+            raise Refused(place, "parallel: it is neither a number from 1 to 200 nor a matrix")
         return {f"{name}: [{', '.join(row.values())}]": row for row in rows_of(given["matrix"], place)}
 
-    def job(self, job: Map, extra: dict[str, str]) -> dict:
+    def made_of(self, job: Map, extra: dict[str, str]) -> dict:
         made: dict = {}
         for key in ("stage", "resource_group"):
             if isinstance(job.get(key), Text):

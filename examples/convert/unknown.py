@@ -5,20 +5,21 @@ import re
 
 from .keywords import PREDEFINED
 from .notes import Notes
-from .tree import Map, Text, flat
+from .tree import Map, Place, Text, flat
 
 
-def tell_unknown(made: dict, sources: dict[str, Map], notes: Notes) -> None:
-    """Names the predefined variables of GitLab that jobs use and that nothing defines here, each once."""
-    told = set()
+def tell_unknown(made: dict, sources: dict[str, Map], names: dict[str, list[str]], notes: Notes) -> None:
+    """Each is told at its first place, with all jobs that use it."""
+    told: dict[str, tuple[Place, str]] = {}
     for name, job in sources.items():
-        known = PREDEFINED | made.get("variables", {}).keys() | made[name].get("variables", {}).keys()
+        notes.job = name
+        known = PREDEFINED | made.get("variables", {}).keys() | made[names[name][0]].get("variables", {}).keys()
         for key in ("rules", "only", "except", "before_script", "script", "after_script"):
             for it in texts(job.get(key)):
                 for used in re.findall(r"\$\{?(CI_[A-Z0-9_]+|GITLAB_[A-Z0-9_]+)", it):
-                    if used not in known and used not in told:
-                        told.add(used)
-                        notes.add(it.place, unknown(used, key))
+                    if used not in known:
+                        said = unknown(used, key)
+                        notes.add(*told.setdefault(said, (it.place, said)))
 
 
 def texts(value) -> list[Text]:
