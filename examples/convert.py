@@ -26,7 +26,7 @@ from convert.jobs import Converter
 from convert.linking import Linker
 from convert.notes import Notes, named, shown
 from convert.reading import Reader
-from convert.tree import Refused, Unread
+from convert.tree import Place, Refused, Unread
 from convert.writing import over_limits, written
 
 
@@ -38,29 +38,37 @@ def arguments() -> argparse.Namespace:
     return parser.parse_args()
 
 
+def placed(place: Place | None, what: str) -> str:
+    return f"{place[0]}:{place[1]}: {what}" if place else what
+
+
+def convert(words: argparse.Namespace, notes: Notes) -> tuple[str, list[str]]:
+    """The text that is written, and what is over a limit."""
+    reader = Reader(words.root or (os.path.dirname(words.file) if words.file != "-" else "") or ".", notes)
+    config = reader.with_includes(reader.read(words.file, words.file))
+    made = Converter(Linker(config).whole(), notes, words.default_branch).whole()
+    content = written(made)
+    return content, [f"{words.file}: over a limit: {it}" for it in over_limits(made, content)]
+
+
 def main() -> int:
     words = arguments()
     notes = Notes()
-    reader = Reader(words.root or (os.path.dirname(words.file) if words.file != "-" else "") or ".", notes)
+    content, told = "", []
     try:
-        config = reader.with_includes(reader.read(words.file, words.file))
-        made = Converter(Linker(config).whole(), notes, words.default_branch).whole()
-        content = written(made)
+        content, told = convert(words, notes)
+        status = 1 if told else 0
     except Refused as fault:
-        (file, line), cause = fault.args
-        print(shown(f"{file}:{line}: {named([notes.job] if notes.job else [])}refused: {cause}"), file=sys.stderr)
-        return 1
+        place, cause = fault.args
+        told, status = [placed(place, f"{named([notes.job] if notes.job else [])}refused: {cause}")], 1
     except RecursionError:
-        print(f"{words.file}:1: refused: it goes too deep", file=sys.stderr)
-        return 1
+        told, status = [placed((words.file, 1), "refused: it goes too deep")], 1
     except Unread as fault:
-        print(shown(str(fault)), file=sys.stderr)
-        return 3
-    over = over_limits(made, content)
-    for line in notes.lines() + [f"{words.file}: over a limit: {it}" for it in over]:
+        told, status = [placed(*fault.args)], 3
+    for line in notes.lines() + told:
         print(shown(line), file=sys.stderr)
     sys.stdout.buffer.write(content.encode(errors="replace"))
-    return 1 if over else 0
+    return status
 
 
 if __name__ == "__main__":

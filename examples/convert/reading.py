@@ -71,7 +71,8 @@ class Reader:
             made.put(key_node.value, value, key_place)
         return made
 
-    def read(self, path: str, name: str) -> Map:
+    def read(self, path: str, name: str, by: Place | None = None) -> Map:
+        """A file's map; the place that includes it is told where it can't be read."""
         self.files += 1
         if self.files > MOST_FILES:
             raise Refused((name, 1), f"over {MOST_FILES} files are included")
@@ -83,9 +84,9 @@ class Reader:
                     content = file.read()
             return self.load(name, content.decode())
         except OSError as fault:
-            raise Unread(f"cannot read {name}: {fault.strerror}") from None
+            raise Unread(by, f"cannot read {name}: {fault.strerror}") from None
         except UnicodeDecodeError:
-            raise Unread(f"cannot read {name}: it is not UTF-8") from None
+            raise Unread(by, f"cannot read {name}: it is not UTF-8") from None
 
     def with_includes(self, config: Map, above: tuple[str, ...] = ()) -> Map:
         """A file's map with those that it includes below it."""
@@ -94,7 +95,7 @@ class Reader:
             for path in self.included(item, config.places["include"]):
                 if path in above:
                     raise Refused(config.places["include"], f"`{os.path.relpath(path, self.root)}` includes itself")
-                found = self.read(path, os.path.relpath(path, self.root))
+                found = self.read(path, os.path.relpath(path, self.root), item.place or config.places["include"])
                 lower = merged(lower, self.with_includes(found, above + (path,)))
         return merged(lower, config.without("include"))
 

@@ -13,7 +13,7 @@ class Refused(Exception):
 
 
 class Unread(Exception):
-    """A file can't be read."""
+    """A file can't be read: with the place that includes it, if any, and the cause."""
 
 
 class Text(str):
