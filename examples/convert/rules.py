@@ -29,11 +29,11 @@ class Rules:
             made["allow_failure"] = boolean(allowed)
         values = self.variables.globals | made.get("variables", {})
         if "rules" in job:
-            made["rules"] = self.rules(job["rules"], values)
+            made["rules"] = self.rules(job["rules"], values, when or "on_success")
         elif "only" in job or "except" in job:
             made["rules"] = self.rules_of_refs(job, values, when or "on_success")
-            if when == "manual" and allowed is None:
-                made["allow_failure"] = True
+        if "rules" in made and when == "manual" and allowed is None:
+            made["allow_failure"] = True
 
     def when(self, value) -> str | None:
         if value == "delayed":
@@ -41,7 +41,8 @@ class Rules:
             return "on_success"
         return str(value) if isinstance(value, Text) else None
 
-    def rules(self, given, values: dict[str, str]) -> list[dict]:
+    def rules(self, given, values: dict[str, str], when: str) -> list[dict]:
+        """The rules; one of which nothing is left says what the job does by itself."""
         made = []
         for rule in flat(given):
             if not isinstance(rule, Map):
@@ -51,7 +52,7 @@ class Rules:
             if parts is None:
                 continue
             rest = self.rule_rest(rule, values)
-            made += [part | rest if part | rest else {"when": "on_success"} for part in parts]
+            made += [part | rest if part | rest else {"when": when} for part in parts]
         return made
 
     def if_parts(self, rule: Map, values: dict[str, str]) -> list[dict] | None:
