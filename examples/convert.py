@@ -1,12 +1,13 @@
 #!/usr/bin/env python3
 """Writes a GitLab CI file out into the profile that ciserver reads (docs/PROFILE.md).
 
-convert.py [--root FOLDER] [--default-branch NAME] FILE > .gitlab-ci.yml
+convert.py [--root FOLDER] [--set NAME=VALUE].. [--default-branch NAME] FILE > .gitlab-ci.yml
 
 It writes out anchors and merge keys, local includes, extends, !reference, default, before_script, after_script, only and except of
 refs and variables, parallel, and texts over several lines. What was dropped or changed it says on standard error, each with its
 place, as `FILE:LINE: what`. FILE may be - for standard input; local includes are looked for in FOLDER, which is the folder of FILE
-where it isn't given. With --default-branch the file gets the variable CI_DEFAULT_BRANCH.
+where it isn't given. With --set the file gets this variable, where it has none of the name: --set CI_PROJECT_PATH=group/project for
+one that GitLab would set. --default-branch NAME is --set CI_DEFAULT_BRANCH=NAME.
 
 Status: 0 written; 1 refused (nothing is written), or what was written is over a limit of the profile; 2 wrong words; 3 a file can't be
 read, or there is no python3-yaml, which it wants. Its modules are in the folder convert beside it.
@@ -16,6 +17,7 @@ from __future__ import annotations
 import argparse
 import importlib.util
 import os
+import re
 import sys
 
 if importlib.util.find_spec("yaml") is None:
@@ -30,9 +32,18 @@ from convert.tree import Place, Refused, Unread
 from convert.writing import over_limits, written
 
 
+def variable(word: str) -> tuple[str, str]:
+    """The name and the value of a --set."""
+    found = re.fullmatch(r"([A-Za-z_][A-Za-z0-9_]{0,254})=(.*)", word, re.S)
+    if not found:
+        raise argparse.ArgumentTypeError(f"`{word}` is no NAME=VALUE")
+    return found[1], found[2]
+
+
 def arguments() -> argparse.Namespace:
     parser = argparse.ArgumentParser(description="Writes a GitLab CI file out into the profile that ciserver reads.")
     parser.add_argument("--root", help="the folder of the project, in which local includes are looked for")
+    parser.add_argument("--set", metavar="NAME=VALUE", action="append", default=[], type=variable, help="gives the file a variable")
     parser.add_argument("--default-branch", metavar="NAME", help="gives the file the variable CI_DEFAULT_BRANCH")
     parser.add_argument("file", metavar="FILE", help="the file, or - for standard input")
     return parser.parse_args()
@@ -46,7 +57,8 @@ def convert(words: argparse.Namespace, notes: Notes) -> tuple[str, list[str]]:
     """The text that is written, and what is over a limit."""
     reader = Reader(words.root or (os.path.dirname(words.file) if words.file != "-" else "") or ".", notes)
     config = reader.with_includes(reader.read(words.file, words.file))
-    made = Converter(Linker(config).whole(), notes, words.default_branch).whole()
+    values = ({"CI_DEFAULT_BRANCH": words.default_branch} if words.default_branch else {}) | dict(words.set)
+    made = Converter(Linker(config).whole(), notes, values).whole()
     content = written(made)
     return content, [f"{words.file}: over a limit: {it}" for it in over_limits(made, content)]
 

@@ -18,7 +18,7 @@ MOST_JOBS = 1_000
 class Converter:
     """Makes the map that is written of the map of GitLab's file."""
 
-    def __init__(self, config: Map, notes: Notes, default_branch: str | None):
+    def __init__(self, config: Map, notes: Notes, values: dict[str, str]):
         self.config = config
         self.notes = notes
         self.names: dict[str, list[str]] = {}  # those of the jobs that one of GitLab's stands for
@@ -27,8 +27,7 @@ class Converter:
         self.defaults = self.all_defaults()
         self.variables = Variables(notes)
         self.globals = self.variables.of(config.get("variables"), {})
-        if default_branch and "CI_DEFAULT_BRANCH" not in self.globals:
-            self.globals["CI_DEFAULT_BRANCH"] = default_branch
+        self.globals |= {key: it for key, it in values.items() if key not in self.globals}
         self.variables.globals = self.globals
         self.rules = Rules(notes, self.variables)
         self.scripts = Scripts(notes)

@@ -60,7 +60,9 @@ ends() {
 }
 ends 2
 ends 2 starter.yml other.yml
-ends 2 --strict starter.yml
+ends 2 --fast starter.yml
+ends 2 --set 1A=x starter.yml
+ends 2 --set A starter.yml
 ends 3 nothing.yml
 ends 3 .
 # The same from standard input, and from another folder.
