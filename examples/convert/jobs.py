@@ -8,9 +8,9 @@ from .keywords import CAUSES, DEFAULTS, LEFT_OUT, ORDER, TAKEN, TOP_LEFT_OUT
 from .notes import Notes
 from .rules import Rules
 from .scripts import Scripts
-from .tree import List, Map, Place, Refused, Text, boolean, flat, is_null, number, rows_of, words_of
+from .tree import List, Map, Place, Refused, Text, boolean, flat, is_null, number, rows_of, text, words_of
 from .unknown import tell_unknown
-from .variables import Variables
+from .variables import NAMED, Putting, Variables, names_in
 
 MOST_JOBS = 1_000
 
@@ -26,10 +26,9 @@ class Converter:
         self.made: dict = {}
         self.defaults = self.all_defaults()
         self.variables = Variables(notes)
-        self.globals = self.variables.of(config.get("variables"), {})
-        self.globals |= {key: it for key, it in values.items() if key not in self.globals}
-        self.variables.globals = self.globals
-        self.rules = Rules(notes, self.variables)
+        self.globals = self.variables.of(config.get("variables"))
+        self.globals |= {key: text(it, ("", 0), raw=True) for key, it in values.items() if key not in self.globals}
+        self.rules = Rules(notes, self.globals, self.variables)
         self.scripts = Scripts(notes)
 
     def whole(self) -> dict:
@@ -49,7 +48,7 @@ class Converter:
             self.notes.job = name
             for each in self.names[name]:
                 self.put_needs(self.made[each], source)
-        tell_unknown(self.made, self.sources, self.names, self.notes)
+        tell_unknown(self.config, self.made, self.sources, self.names, self.notes)
         self.notes.job = None
         return self.made
 
@@ -114,7 +113,7 @@ class Converter:
         job.join(source)
         return job.without(*[key for key, value in job.items() if is_null(value)])
 
-    def parallel(self, name: str, job: Map) -> dict[str, dict[str, str]]:
+    def parallel(self, name: str, job: Map) -> dict[str, dict[str, Text]]:
         """The names of a job's copies, each with the variables that it has besides."""
         given = job.get("parallel")
         if given is None:
@@ -122,35 +121,49 @@ class Converter:
         place = job.places["parallel"]
         count = number(given)
         if count is not None and 1 <= count <= 200:
-            return {f"{name} {i}/{count}": {"CI_NODE_INDEX": str(i), "CI_NODE_TOTAL": str(count)} for i in range(1, count + 1)}
-        if not isinstance(given, Map) or "matrix" not in given:
+            rows = {f"{name} {i}/{count}": {"CI_NODE_INDEX": str(i), "CI_NODE_TOTAL": str(count)} for i in range(1, count + 1)}
+        elif isinstance(given, Map) and "matrix" in given:
+            rows = {f"{name}: [{', '.join(row.values())}]": row for row in rows_of(given["matrix"], place)}
+        else:
             raise Refused(place, "parallel: it is neither a number from 1 to 200 nor a matrix")
-        return {f"{name}: [{', '.join(row.values())}]": row for row in rows_of(given["matrix"], place)}
+        return {each: {key: text(it, place, raw=not names_in(it)) for key, it in row.items()} for each, row in rows.items()}
 
-    def made_of(self, job: Map, extra: dict[str, str]) -> dict:
+    def made_of(self, job: Map, extra: dict[str, Text]) -> dict:
         made: dict = {}
-        for key in ("stage", "resource_group"):
-            if isinstance(job.get(key), Text):
-                made[key] = str(job[key])
-        tags = words_of(job.get("tags"), "tags")
-        if tags:
-            made["tags"] = tags
-        for key, values in (("resource_group", [made.get("resource_group", "")]), ("tags", tags)):
-            if any("$" in it for it in values):
-                self.notes.add(job.places[key], f"{key}: variables in it stay as they are written")
-        variables = self.variables.of(job.get("variables"), extra) | extra
+        if isinstance(job.get("stage"), Text):
+            made["stage"] = str(job["stage"])
+        variables = self.variables.of(job.get("variables")) | extra
         if variables:
             made["variables"] = variables
+        known = self.globals | variables
+        tags = words_of(job.get("tags"), "tags")
+        if tags:
+            made["tags"] = [self.put_in("tags", job, it, known) for it in tags]
+        if isinstance(job.get("resource_group"), Text):
+            made["resource_group"] = self.put_in("resource_group", job, job["resource_group"], known)
         self.rules.put_when(made, job)
         self.put_retry(made, job)
         self.put_timeout(made, job)
         interruptible = boolean(job.get("interruptible"))
         if interruptible is not None:
             made["interruptible"] = interruptible
-        made["script"] = self.scripts.script(job)
+        putting = Putting(self.notes, self.globals, variables, [it.get("variables", {}) for it in made.get("rules", [])])
+        made["script"] = self.scripts.script(job, putting.lines)
         return {key: made[key] for key in ORDER if key in made}
 
-    # Scripts.
+    def put_in(self, keyword: str, job: Map, value: str, known: dict[str, Text]) -> str:
+        """A value that the server takes as it is written, with the variables of the file put in."""
+        place = job.places[keyword]
+
+        def put(found: re.Match) -> str:
+            name = found[1] or found[2]
+            if name not in known:
+                self.notes.add(place, f"{keyword}: `{found[0]}` stays as it is written")
+                return found[0]
+            self.notes.add(place, f"{keyword}: `{name}` is put in as the file has it: what a project or a request sets changes nothing of it")
+            return known[name]
+
+        return NAMED.sub(put, value)
 
     def put_retry(self, made: dict, job: Map) -> None:
         given = job.get("retry")

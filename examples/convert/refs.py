@@ -53,6 +53,8 @@ class Refs:
         if found is None:
             raise Refused(given.place, f"{keyword}: `{given}` can't be said here")
         tell_sources(self.notes, found, given.place)
+        if key == "variables":
+            tell_patterns(self.notes, given, given.place)
         return found
 
     def is_of_project(self, keyword: str, given: Text) -> bool:
@@ -85,3 +87,8 @@ def tell_sources(notes: Notes, source: str, place: Place) -> None:
     for word in re.findall(r"[\"']([a-z_]+)[\"']", source):
         if word in SOURCES_ELSEWHERE:
             notes.add(place, f"a pipeline has the source `{word}` only where its request sets the variable `CI_PIPELINE_SOURCE` so")
+
+
+def tell_patterns(notes: Notes, source: str, place: Place) -> None:
+    for name in re.findall(r"[=!]~\s*\$([A-Za-z0-9_]+)", source):
+        notes.add(place, f"the pattern in `{name}` is put in as it stands in the file: what a project or a request sets changes nothing of it")

@@ -3,14 +3,15 @@ from __future__ import annotations
 
 from .expressions import alternatives, expression
 from .notes import Notes
-from .refs import Refs, tell_sources
+from .refs import Refs, tell_patterns, tell_sources
 from .tree import Map, Refused, Text, boolean, flat, is_null, number
 from .variables import Variables
 
 
 class Rules:
-    def __init__(self, notes: Notes, variables: Variables):
+    def __init__(self, notes: Notes, globals: dict[str, Text], variables: Variables):
         self.notes = notes
+        self.globals = globals
         self.variables = variables
 
     def put_when(self, made: dict, job: Map) -> None:
@@ -25,7 +26,7 @@ class Rules:
             made["allow_failure"] = {"exit_codes": codes}
         elif boolean(allowed) is not None:
             made["allow_failure"] = boolean(allowed)
-        values = self.variables.globals | made.get("variables", {})
+        values = self.globals | made.get("variables", {})
         if "rules" in job:
             made["rules"] = self.rules(job["rules"], values, when or "on_success")
         elif "only" in job or "except" in job:
@@ -49,7 +50,7 @@ class Rules:
             parts = self.if_parts(rule, values)
             if parts is None:
                 continue
-            rest = self.rule_rest(rule, values)
+            rest = self.rule_rest(rule)
             made += [part | rest if part | rest else {"when": when} for part in parts]
         return made
 
@@ -66,9 +67,10 @@ class Rules:
             self.notes.add(rule.places["if"], f"rules: the rule is left out: `{rule['if']}` can't be said here")
             return None
         tell_sources(self.notes, found, rule.places["if"])
+        tell_patterns(self.notes, rule["if"], rule.places["if"])
         return [{"if": it} for it in alternatives(found)]
 
-    def rule_rest(self, rule: Map, values: dict[str, str]) -> dict:
+    def rule_rest(self, rule: Map) -> dict:
         made: dict = {}
         for key, value in rule.items():
             if key == "when" and isinstance(value, Text):
@@ -76,7 +78,7 @@ class Rules:
             elif key == "allow_failure" and boolean(value) is not None:
                 made["allow_failure"] = boolean(value)
             elif key == "variables":
-                variables = self.variables.of(value, values)
+                variables = self.variables.of(value)
                 made |= {"variables": variables} if variables else {}
             elif key in ("changes", "exists"):
                 self.notes.add(rule.places[key], f"rules: `{key}` is dropped, as if it were true: there are no files to look at")

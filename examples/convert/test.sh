@@ -1,11 +1,11 @@
 #!/usr/bin/env bash
 # Has examples/convert.py write out each NAME.yml of the folder cases, with the words of NAME.args, and compares what it prints with NAME.stdout and
 # NAME.stderr and how it ends with NAME.status (0 where there is none). What ended with 0 has to be a file that the program takes. And the examples
-# of docs/CONVERTING.md have to be answered as they say.
+# of docs/CONVERTING.md have to be answered as they say. Then come the tests of test_convert.py.
 #
 #   examples/convert/test.sh [CISERVER]        as in: examples/convert/test.sh bin/ciserver
 #
-# It ends with 0 where all passed. It wants python3 with python3-yaml.
+# It ends with 0 where all passed. It wants python3 with python3-yaml, and bash.
 set -u
 ciserver=$(realpath "${1-$(dirname "$0")/../../bin/ciserver}")
 cd "$(dirname "$0")/cases" || exit 1
@@ -83,5 +83,15 @@ for example in "$work"/example*.yml; do
     cat "$example"
   fi
 done
+# The tests of test_convert.py: what the written scripts do in a shell, and what the parts of convert.py answer.
+(cd .. && python3 -m unittest -v test_convert) 2> "$work/tests"
+right=$(grep -c ' \.\.\. ok$' "$work/tests")
+wrong=$(grep -cE ' \.\.\. (FAIL|ERROR)$' "$work/tests")
+if [ "$wrong" != 0 ] || [ "$right" = 0 ]; then
+  wrong=$((wrong > 0 ? wrong : 1))
+  cat "$work/tests"
+fi
+passed=$((passed + right))
+failed=$((failed + wrong))
 echo "$passed passed, $failed failed"
 [ "$failed" = 0 ]

@@ -17,10 +17,11 @@ class Unread(Exception):
 
 
 class Text(str):
-    """A scalar, as it was written; `plain` where it stood without quotes."""
+    """A scalar, as it was written; `plain` where it stood without quotes, `raw` where a `$` in it is a `$`."""
 
     place: Place = ("", 0)
     plain = False
+    raw = False
 
 
 class List(list):
@@ -58,9 +59,9 @@ class Map(dict):
         return rest
 
 
-def text(value: str, place: Place, plain: bool = False) -> Text:
+def text(value: str, place: Place, plain: bool = False, raw: bool = False) -> Text:
     made = Text(value)
-    made.place, made.plain = place, plain
+    made.place, made.plain, made.raw = place, plain, raw
     return made
 
 

@@ -8,18 +8,24 @@ from .notes import Notes
 from .tree import Map, Place, Text, flat
 
 
-def tell_unknown(made: dict, sources: dict[str, Map], names: dict[str, list[str]], notes: Notes) -> None:
+def tell_unknown(config: Map, made: dict, sources: dict[str, Map], names: dict[str, list[str]], notes: Notes) -> None:
     """Each is told at its first place, with all jobs that use it."""
     told: dict[str, tuple[Place, str]] = {}
+
+    def tell(key: str, value, known: set[str]) -> None:
+        for it in texts(value):
+            for used in re.findall(r"\$\{?(CI_[A-Z0-9_]+|GITLAB_[A-Z0-9_]+)", it):
+                if used not in known:
+                    said = unknown(used, key)
+                    notes.add(*told.setdefault(said, (it.place, said)))
+
+    common = PREDEFINED | made.get("variables", {}).keys()
+    notes.job = None
+    tell("variables", config.get("variables"), common)
     for name, job in sources.items():
         notes.job = name
-        known = PREDEFINED | made.get("variables", {}).keys() | made[names[name][0]].get("variables", {}).keys()
-        for key in ("rules", "only", "except", "before_script", "script", "after_script"):
-            for it in texts(job.get(key)):
-                for used in re.findall(r"\$\{?(CI_[A-Z0-9_]+|GITLAB_[A-Z0-9_]+)", it):
-                    if used not in known:
-                        said = unknown(used, key)
-                        notes.add(*told.setdefault(said, (it.place, said)))
+        for key in ("variables", "rules", "only", "except", "before_script", "script", "after_script"):
+            tell(key, job.get(key), common | made[names[name][0]].get("variables", {}).keys())
 
 
 def texts(value) -> list[Text]:

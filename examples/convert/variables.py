@@ -4,37 +4,36 @@ from __future__ import annotations
 import re
 
 from .notes import Notes
-from .tree import MOST_NODES, Map, Place, Refused, Text, boolean, is_null, text
+from .tree import Map, Place, Refused, Text, boolean, is_null, text
+
+NAMED = re.compile(r"\$\$|\$\{([A-Za-z_][A-Za-z0-9_]*)\}|\$([A-Za-z_][A-Za-z0-9_]*)")
+IS_NAME = re.compile(r"[A-Za-z_][A-Za-z0-9_]{0,254}")
 
 
 class Variables:
     def __init__(self, notes: Notes):
         self.notes = notes
-        self.globals: dict[str, str] = {}
-        self.puts = 0
 
-    def of(self, given, others: dict[str, str]) -> dict[str, str]:
-        """The variables of a map, with what they say of one another put in, and of others and of those of the top level."""
-        values: dict[str, str] = {}
-        places: dict[str, Place] = {}
-        raw: set[str] = set()
+    def of(self, given) -> dict[str, Text]:
+        """The variables of a map, each as it is handed out."""
+        values: dict[str, Text] = {}
         for key, value in given.items() if isinstance(given, Map) else ():
-            place = given.places[key]
+            place, raw = given.places[key], False
             if isinstance(value, Map):
                 for word in value.without("value", "description", "options", "expand"):
                     self.notes.add(value.places[word], f"variables: `{word}` is dropped")
-                raw |= {key} if boolean(value.get("expand")) is False else set()
+                raw = boolean(value.get("expand")) is False
                 value = value.get("value", text("", place))
-            if not re.fullmatch(r"[A-Za-z_][A-Za-z0-9_]{0,254}", key):
+            if not IS_NAME.fullmatch(key):
                 self.notes.add(place, f"variables: `{key}` is dropped: it is no name of a variable")
             elif not isinstance(value, Text):
                 raise Refused(place, f"the value of the variable `{key}` is no text")
             else:
-                values[key], places[key] = self.variable(value, place), place
-        known = self.globals | others | values
-        return {key: it if key in raw else self.expanded(key, known, places[key]) for key, it in values.items()}
+                made = self.handed_out(value, place)
+                values[key] = text(made if raw or names_in(made) else made.replace("$$", "$"), place, raw=raw or not names_in(made))
+        return values
 
-    def variable(self, value: Text, place: Place) -> str:
+    def handed_out(self, value: Text, place: Place) -> str:
         """The text that GitLab hands out for a scalar; of a number, the one that is written."""
         if is_null(value):
             return ""
@@ -45,22 +44,56 @@ class Variables:
             self.notes.add(place, f"variables: `{value}` is a number to GitLab, which may hand out another text for it")
         return str(value)
 
-    def expanded(self, name: str, values: dict[str, str], place: Place, above: tuple[str, ...] = ()) -> str:
-        """A value with those of the file's variables put in: the server puts none in."""
 
-        def put(found: re.Match) -> str:
-            key = found[1] or found[2]
-            if key is None:
-                return "$"
-            if key in values and key != name and key not in above and len(above) < 10:
-                return self.expanded(key, values, place, above + (name,))
-            self.notes.add(place, f"variables: the value of `{name}` holds `${key}`, and no variable is put in here")
-            return found[0]
+def names_in(value: str) -> list[str]:
+    """The variables that a value names."""
+    return [it[1] or it[2] for it in NAMED.finditer(value) if it[0] != "$$"]
 
-        self.puts += 1
-        if self.puts > MOST_NODES:
-            raise Refused(place, "the values of variables are too long, written out")
-        value = re.sub(r"\$\$|\$\{([A-Za-z_][A-Za-z0-9_]*)\}|\$([A-Za-z_][A-Za-z0-9_]*)", put, values[name])
-        if len(value) > 65536:
-            raise Refused(place, f"the value of `{name}` is too long, written out")
-        return value
+
+class Putting:
+    """The lines of a script that put into values what they name. The server hands values out as they are written, and a variable of the
+    project, of the request or of a rule may be another than that of the file: only the shell of the job sees which one it is."""
+
+    def __init__(self, notes: Notes, below: dict[str, Text], own: dict[str, Text], above: list[dict[str, Text]]):
+        """The variables of the top level, of the job and of its rules."""
+        self.notes = notes
+        self.lines: list[str] = []
+        self.seen: dict[str, bool] = {}
+        self.values: dict[str, dict[str, Text]] = {}
+        for layer in [{key: it for key, it in below.items() if key not in own}, own, *above]:
+            for name, value in layer.items():
+                if not value.raw and names_in(value):
+                    self.values.setdefault(name, {})[str(value)] = value
+        for name in self.values:
+            self.visit(name)
+
+    def visit(self, name: str) -> bool:
+        """Adds the lines for a variable behind those for what it names; false where it names itself."""
+        if name in self.seen or name not in self.values:
+            return self.seen.get(name, True)
+        self.seen[name] = False
+        sound = True
+        for source, value in self.values[name].items():
+            if all([self.visit(it) for it in names_in(source)]):
+                self.lines.append(f'[ "${name}" != {quoted(source)} ] || export {name}="{in_double_quotes(source)}"')
+                self.notes.add(value.place, f"variables: `{name}` is put together where a script begins: rules see it as it is written")
+            else:
+                sound = False
+                self.notes.add(value.place, f"variables: `{name}` names itself: nothing is put in")
+        self.seen[name] = sound
+        return sound
+
+
+def quoted(value: str) -> str:
+    """A text as one word of a shell."""
+    return "'" + value.replace("'", "'\\''") + "'"
+
+
+def in_double_quotes(value: str) -> str:
+    """A value between the double quotes of a shell, with its variables put in there; one that isn't there is empty."""
+    made, at = "", 0
+    for it in NAMED.finditer(value):
+        made += re.sub(r'([\\"`$])', r"\\\1", value[at : it.start()])
+        made += "\\$" if it[0] == "$$" else f"${{{it[1] or it[2]}-}}"
+        at = it.end()
+    return made + re.sub(r'([\\"`$])', r"\\\1", value[at:])
