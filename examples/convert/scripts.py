@@ -6,6 +6,20 @@ import re
 from .notes import Notes
 from .tree import Map, Refused, Text, flat
 
+# Round a script and its after_script: each runs in a shell of its own, and the second one also where the first one failed or was asked to end.
+BEFORE = """trap : TERM
+set +e
+(
+set -e"""
+BETWEEN = """)
+job_exit_code=$?
+(
+set -e
+export CI_JOB_STATUS=success
+[ $job_exit_code = 0 ] || CI_JOB_STATUS=failed"""
+BEHIND = """)
+exit $job_exit_code"""
+
 
 class Scripts:
     def __init__(self, notes: Notes):
@@ -15,9 +29,9 @@ class Scripts:
         lines = self.lines(job.get("before_script")) + self.lines(job.get("script"))
         after = self.lines(job.get("after_script"))
         if after:
-            head = "\n".join(["after_script() {", *[it.rstrip("\n") for it in after], "}"])
-            lines.insert(0, head + "\ntrap 'set +e; (set -e; after_script); :' EXIT\n")
-            self.notes.add(job.places["after_script"], "after_script: it is a trap now, which a job that is killed doesn't come to")
+            lines = [block([BEFORE, *lines, BETWEEN, *after, BEHIND])]
+            cause = "in one block with it: a job that is killed at once doesn't come to it"
+            self.notes.add(job.places["after_script"], f"after_script: it stands behind the script now, {cause}")
         if putting:
             lines.insert(0, block(putting))
         if len(lines) > 256:

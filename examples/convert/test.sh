@@ -84,14 +84,15 @@ for example in "$work"/example*.yml; do
   fi
 done
 # The tests of test_convert.py: what the written scripts do in a shell, and what the parts of convert.py answer.
-(cd .. && python3 -m unittest -v test_convert) 2> "$work/tests"
-right=$(grep -c ' \.\.\. ok$' "$work/tests")
-wrong=$(grep -cE ' \.\.\. (FAIL|ERROR)$' "$work/tests")
-if [ "$wrong" != 0 ] || [ "$right" = 0 ]; then
+(cd .. && python3 -m unittest test_convert) 2> "$work/tests"
+ran=$(sed -n 's/^Ran \([0-9]*\) tests* .*/\1/p' "$work/tests")
+wrong=0
+if ! grep -q '^OK$' "$work/tests"; then
+  wrong=$(($(grep -oE '(failures|errors)=[0-9]+' "$work/tests" | sed 's/.*=/+/' | tr -d '\n') + 0))
   wrong=$((wrong > 0 ? wrong : 1))
   cat "$work/tests"
 fi
-passed=$((passed + right))
+passed=$((passed + ${ran:-0} - wrong))
 failed=$((failed + wrong))
 echo "$passed passed, $failed failed"
 [ "$failed" = 0 ]

@@ -5,6 +5,7 @@ python3 -m unittest examples/convert/test_convert.py; test.sh runs it too. It wa
 from __future__ import annotations
 
 import os
+import signal
 import subprocess
 import sys
 import tempfile
@@ -84,6 +85,43 @@ each:
     def test_each_row_of_a_matrix_has_its_own(self) -> None:
         self.says("https://one.example.com/x", "each: [one]")
         self.says("https://two.example.com/x", "each: [two]")
+
+
+class AfterScripts(unittest.TestCase):
+    """An after_script runs in the job's first folder, in a shell of its own, always, and its exit code doesn't count."""
+
+    def ends(self, script: str, after: str) -> tuple[int, str]:
+        made = converted(f"job:\n  variables: {{A: set}}\n  script:\n{script}\n  after_script:\n{after}\n")
+        ended = run(made, "job")
+        return ended.returncode, ended.stdout
+
+    def test_it_runs_in_the_first_folder(self) -> None:
+        self.assertEqual(self.ends("    - mkdir deep\n    - cd deep", "    - ls"), (0, "deep\n"))
+
+    def test_it_has_a_shell_of_its_own(self) -> None:
+        self.assertEqual(self.ends("    - export A=changed B=new", "    - echo $A $B."), (0, "set .\n"))
+
+    def test_it_runs_where_the_script_fails(self) -> None:
+        self.assertEqual(self.ends("    - echo one\n    - (exit 7)\n    - echo never", "    - echo $CI_JOB_STATUS"), (7, "one\nfailed\n"))
+        self.assertEqual(self.ends("    - false | true\n    - echo never", "    - echo $CI_JOB_STATUS"), (1, "failed\n"))
+        self.assertEqual(self.ends("    - exit 3", "    - echo $CI_JOB_STATUS"), (3, "failed\n"))
+
+    def test_a_trap_of_the_script_stays_beside_it(self) -> None:
+        self.assertEqual(self.ends("    - trap 'echo trapped' EXIT\n    - echo one", "    - echo $CI_JOB_STATUS"), (0, "one\ntrapped\nsuccess\n"))
+
+    def test_its_exit_code_doesn_t_count(self) -> None:
+        self.assertEqual(self.ends("    - echo one", "    - echo two\n    - exit 9"), (0, "one\ntwo\n"))
+        self.assertEqual(self.ends("    - echo one", "    - false\n    - echo never"), (0, "one\n"))
+
+    def test_it_runs_where_the_job_s_group_is_asked_to_end(self) -> None:
+        made = converted("job:\n  script: [echo one, sleep 60]\n  after_script: [echo two]\n")
+        lines = "set -eo pipefail\neval '" + made["job"]["script"][0].replace("'", "'\\''") + "'"
+        with subprocess.Popen(["bash", "-c", lines], stdout=subprocess.PIPE, stderr=subprocess.DEVNULL, text=True,
+                              start_new_session=True) as job:
+            self.assertEqual(job.stdout.readline(), "one\n")
+            os.killpg(job.pid, signal.SIGTERM)
+            self.assertEqual(job.communicate(timeout=20)[0], "two\n")
+        self.assertEqual(job.returncode, 143)
 
 
 if __name__ == "__main__":

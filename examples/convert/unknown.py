@@ -25,7 +25,8 @@ def tell_unknown(config: Map, made: dict, sources: dict[str, Map], names: dict[s
     for name, job in sources.items():
         notes.job = name
         for key in ("variables", "rules", "only", "except", "before_script", "script", "after_script"):
-            tell(key, job.get(key), common | made[names[name][0]].get("variables", {}).keys())
+            given = {"CI_JOB_STATUS"} if key == "after_script" else set()
+            tell(key, job.get(key), given | common | made[names[name][0]].get("variables", {}).keys())
 
 
 def texts(value) -> list[Text]:
