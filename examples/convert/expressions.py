@@ -88,3 +88,66 @@ def alternatives(source: str) -> list[str]:
         else:
             made.append(part)
     return made
+
+
+# Formulas: ("is", tokens) of a variable or a comparison, ("&&", formulas) and ("||", formulas).
+
+OPPOSITE = {"==": "!=", "!=": "==", "=~": "!~", "!~": "=~"}
+
+
+def formula(source: str):
+    """What an expression of the profile says; None where it is none."""
+    tokens = tokens_of(source) or []
+    found = part_of(tokens, "||")
+    return None if tokens else found
+
+
+def part_of(tokens: list[str], sign: str):
+    """Takes what stands at the beginning of the tokens: parts joined by this sign, which may be parts joined by `&&` themselves."""
+    parts = []
+    while True:
+        part = part_of(tokens, "&&") if sign == "||" else atom_of(tokens)
+        if part is None:
+            return None
+        parts.append(part)
+        if tokens[:1] != [sign]:
+            return parts[0] if len(parts) == 1 else (sign, parts)
+        del tokens[0]
+
+
+def atom_of(tokens: list[str]):
+    if tokens[:1] == ["("]:
+        del tokens[0]
+        inside = part_of(tokens, "||")
+        if inside is None or tokens[:1] != [")"]:
+            return None
+        del tokens[0]
+        return inside
+    if not tokens or tokens[0][0] != "$":
+        return None
+    count = 3 if tokens[1:2] and tokens[1] in OPPOSITE else 1
+    atom, tokens[:count] = tokens[:count], []
+    return ("is", atom) if len(atom) == count else None
+
+
+def negated(said):
+    kind, parts = said
+    if kind != "is":
+        return ("||" if kind == "&&" else "&&", [negated(it) for it in parts])
+    if len(parts) == 1:
+        return ("||", [("is", [parts[0], "==", "null"]), ("is", [parts[0], "==", '""'])])
+    return ("is", [parts[0], OPPOSITE[parts[1]], parts[2]])
+
+
+def joined(sign: str, formulas: list):
+    """Formulas joined by a sign, without more parentheses than they need."""
+    parts = [part for it in formulas for part in (it[1] if it[0] == sign else [it])]
+    return parts[0] if len(parts) == 1 else (sign, parts)
+
+
+def words_of_formula(said, within: str = "||") -> str:
+    kind, parts = said
+    if kind == "is":
+        return " ".join(parts)
+    made = f" {kind} ".join(words_of_formula(it, kind) for it in parts)
+    return f"({made})" if kind == "||" and within == "&&" else made

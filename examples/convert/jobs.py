@@ -11,6 +11,7 @@ from .scripts import Scripts
 from .tree import List, Map, Place, Refused, Text, boolean, flat, is_null, number, rows_of, text, words_of
 from .unknown import tell_unknown
 from .variables import NAMED, Putting, Variables, names_in
+from .workflow import Workflow
 
 MOST_JOBS = 1_000
 
@@ -28,12 +29,12 @@ class Converter:
         self.variables = Variables(notes)
         self.globals = self.variables.of(config.get("variables"))
         self.globals |= {key: text(it, ("", 0), raw=True) for key, it in values.items() if key not in self.globals}
-        self.rules = Rules(notes, self.globals, self.variables)
+        self.rules = Rules(notes, self.globals, self.variables, Workflow(notes, config.get("workflow"), self.globals, self.variables))
         self.scripts = Scripts(notes)
 
     def whole(self) -> dict:
         for key in TOP_LEFT_OUT:
-            if key in self.config:
+            if key in self.config and key != "workflow":
                 self.notes.add(self.config.places[key], f"{key}: dropped: {TOP_LEFT_OUT[key]}")
         stages = self.config.get("stages", self.config.get("types"))
         if stages is not None and not is_null(stages):

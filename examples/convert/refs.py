@@ -3,10 +3,11 @@ from __future__ import annotations
 
 import re
 
+from .conditions import tell_patterns, tell_sources
 from .expressions import PATTERN, expression, pattern_of
-from .keywords import SOURCES, SOURCES_ELSEWHERE
+from .keywords import SOURCES
 from .notes import Notes
-from .tree import Map, Place, Refused, Text, flat
+from .tree import Map, Refused, Text, flat
 
 OF_PROJECT = re.compile(r"(/.*/[ismU]*|[^/@][^@]*)@(.*)", re.S)
 
@@ -81,14 +82,3 @@ def ref(given: str) -> str | None:
         return f"$CI_COMMIT_REF_NAME =~ {pattern_of(name, {})}"
     quote = "'" if '"' in name else '"'
     return None if quote in name else f"$CI_COMMIT_REF_NAME == {quote}{name}{quote}"
-
-
-def tell_sources(notes: Notes, source: str, place: Place) -> None:
-    for word in re.findall(r"[\"']([a-z_]+)[\"']", source):
-        if word in SOURCES_ELSEWHERE:
-            notes.add(place, f"a pipeline has the source `{word}` only where its request sets the variable `CI_PIPELINE_SOURCE` so")
-
-
-def tell_patterns(notes: Notes, source: str, place: Place) -> None:
-    for name in re.findall(r"[=!]~\s*\$([A-Za-z0-9_]+)", source):
-        notes.add(place, f"the pattern in `{name}` is put in as it stands in the file: what a project or a request sets changes nothing of it")

@@ -1,16 +1,19 @@
 """When a job runs."""
 from __future__ import annotations
 
-from .expressions import alternatives, expression
+from .conditions import condition
+from .expressions import alternatives
 from .notes import Notes
-from .refs import Refs, tell_patterns, tell_sources
+from .refs import Refs
 from .tree import Map, Refused, Text, boolean, flat, is_null, number
 from .variables import Variables
+from .workflow import Workflow
 
 
 class Rules:
-    def __init__(self, notes: Notes, globals: dict[str, Text], variables: Variables):
+    def __init__(self, notes: Notes, globals: dict[str, Text], variables: Variables, workflow: Workflow):
         self.notes = notes
+        self.workflow = workflow
         self.globals = globals
         self.variables = variables
 
@@ -27,11 +30,16 @@ class Rules:
         elif boolean(allowed) is not None:
             made["allow_failure"] = boolean(allowed)
         values = self.globals | made.get("variables", {})
+        rules = None
         if "rules" in job:
-            made["rules"] = self.rules(job["rules"], values, when or "on_success")
+            rules = self.rules(job["rules"], values, when or "on_success")
         elif "only" in job or "except" in job:
-            made["rules"] = Refs(self.notes, values).rules(job, when or "on_success")
-        if "rules" in made and when == "manual" and allowed is None:
+            rules = Refs(self.notes, values).rules(job, when or "on_success")
+        rules = self.workflow.rules(rules, when or "on_success", made.get("variables", {}))
+        if rules is None:
+            return
+        made["rules"] = rules
+        if when == "manual" and allowed is None:
             made["allow_failure"] = True
 
     def when(self, value) -> str | None:
@@ -40,7 +48,7 @@ class Rules:
             return "on_success"
         return str(value) if isinstance(value, Text) else None
 
-    def rules(self, given, values: dict[str, str], when: str) -> list[dict]:
+    def rules(self, given, values: dict[str, Text], when: str) -> list[dict]:
         """The rules; one of which nothing is left says what the job does by itself."""
         made = []
         for rule in flat(given):
@@ -54,21 +62,12 @@ class Rules:
             made += [part | rest if part | rest else {"when": when} for part in parts]
         return made
 
-    def if_parts(self, rule: Map, values: dict[str, str]) -> list[dict] | None:
+    def if_parts(self, rule: Map, values: dict[str, Text]) -> list[dict] | None:
         """The condition of a rule, or of several in its place; None where the rule goes."""
-        for key in ("changes", "exists"):
-            if key in rule and rule.get("when") == "never":
-                self.notes.add(rule.places[key], f"rules: the rule is left out: there are no files to look at for `{key}`")
-                return None
-        if "if" not in rule:
-            return [{}]
-        found = expression(rule["if"], values) if isinstance(rule["if"], Text) else None
-        if found is None:
-            self.notes.add(rule.places["if"], f"rules: the rule is left out: `{rule['if']}` can't be said here")
+        kept, found = condition(self.notes, "rules", rule, values)
+        if not kept:
             return None
-        tell_sources(self.notes, found, rule.places["if"])
-        tell_patterns(self.notes, rule["if"], rule.places["if"])
-        return [{"if": it} for it in alternatives(found)]
+        return [{}] if found is None else [{"if": it} for it in alternatives(found)]
 
     def rule_rest(self, rule: Map) -> dict:
         made: dict = {}
@@ -80,8 +79,6 @@ class Rules:
             elif key == "variables":
                 variables = self.variables.of(value)
                 made |= {"variables": variables} if variables else {}
-            elif key in ("changes", "exists"):
-                self.notes.add(rule.places[key], f"rules: `{key}` is dropped, as if it were true: there are no files to look at")
-            elif key != "if":
+            elif key not in ("if", "changes", "exists"):
                 self.notes.add(rule.places[key], f"rules: `{key}` is dropped")
         return made

@@ -22,6 +22,7 @@ def tell_unknown(config: Map, made: dict, sources: dict[str, Map], names: dict[s
     common = PREDEFINED | made.get("variables", {}).keys()
     notes.job = None
     tell("variables", config.get("variables"), common)
+    tell("rules", config.get("workflow"), common)
     for name, job in sources.items():
         notes.job = name
         for key in ("variables", "rules", "only", "except", "before_script", "script", "after_script"):
