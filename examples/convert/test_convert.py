@@ -4,7 +4,9 @@ python3 -m unittest examples/convert/test_convert.py; test.sh runs it too. It wa
 """
 from __future__ import annotations
 
+import itertools
 import os
+import random
 import signal
 import subprocess
 import sys
@@ -14,6 +16,7 @@ import unittest
 sys.dont_write_bytecode = True
 sys.path.insert(0, os.path.join(os.path.dirname(os.path.abspath(__file__)), ".."))
 
+from convert.expressions import formula  # noqa: E402
 from convert.jobs import Converter  # noqa: E402
 from convert.linking import Linker  # noqa: E402
 from convert.notes import Notes  # noqa: E402
@@ -122,6 +125,53 @@ class AfterScripts(unittest.TestCase):
             os.killpg(job.pid, signal.SIGTERM)
             self.assertEqual(job.communicate(timeout=20)[0], "two\n")
         self.assertEqual(job.returncode, 143)
+
+
+class Workflows(unittest.TestCase):
+    """The rules of a job, as they are written, decide as those of the workflow and of the job do one after the other."""
+
+    CONDITIONS = ("$A", '$A == "x"', '$B != "x" || $C', "$A && ($B || $C)", "($A || $B) && $C =~ /x/", None)
+    VALUES = (None, "", "x", "y")
+
+    def holds(self, said, values: dict) -> bool:
+        kind, parts = said
+        if kind != "is":
+            return (any if kind == "||" else all)(self.holds(it, values) for it in parts)
+        value = values[parts[0][1:]]
+        if len(parts) == 1:
+            return bool(value)
+        other = None if parts[2] == "null" else parts[2][1:-1]
+        equal = other in (value or "") if parts[1] in ("=~", "!~") else value == other
+        return equal == (parts[1] in ("==", "=~"))
+
+    def first(self, rules: list[tuple], values: dict) -> tuple | None:
+        """The first rule that holds."""
+        return next((it for it in rules if it[0] is None or self.holds(formula(it[0]), values)), None)
+
+    def rules(self, rules: list[tuple], variables: str) -> str:
+        heads = [f"if: '{said}', " if said else "" for said, _ in rules]
+        return "".join(f"    - {{{head}when: {when}{variables % i}}}\n" for i, (head, (_, when)) in enumerate(zip(heads, rules)))
+
+    def decided(self, outer: list[tuple], inner: list[tuple], values: dict) -> tuple | None:
+        """The word and the variable with which a job is in the pipeline."""
+        gate, own = self.first(outer, values), self.first(inner, values)
+        if gate is None or gate[1] == "never" or own is None or own[1] == "never":
+            return None
+        return own[1], str(outer.index(gate))
+
+    def test_they_decide_alike(self) -> None:
+        chance = random.Random(1)
+        for _ in range(100):
+            outer = [(chance.choice(self.CONDITIONS), chance.choice(("always", "never"))) for _ in range(chance.randint(1, 4))]
+            outer = list(dict.fromkeys(outer))
+            inner = [(chance.choice(self.CONDITIONS), chance.choice(("manual", "on_success", "never"))) for _ in range(chance.randint(1, 3))]
+            content = "workflow:\n  rules:\n" + self.rules(outer, ", variables: {GATE: '%d'}")
+            made = converted(content + "job:\n  script: make\n  rules:\n" + self.rules(inner, "%.0s"))["job"]["rules"]
+            for row in itertools.product(self.VALUES, repeat=3):
+                values = dict(zip("ABC", row))
+                rule = self.first([(it.get("if"), it["when"], it.get("variables", {}).get("GATE")) for it in made], values)
+                got = None if rule is None or rule[1] == "never" else rule[1:]
+                self.assertEqual(got, self.decided(outer, inner, values), (outer, inner, values))
 
 
 if __name__ == "__main__":
