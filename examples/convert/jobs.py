@@ -5,10 +5,11 @@ import re
 
 from .durations import duration
 from .keywords import CAUSES, DEFAULTS, LEFT_OUT, ORDER, TAKEN, TOP_LEFT_OUT
+from .needs import Needs
 from .notes import Notes
 from .rules import Rules
 from .scripts import Scripts
-from .tree import List, Map, Place, Refused, Text, boolean, flat, is_null, number, rows_of, text, words_of
+from .tree import List, Map, Place, Refused, Text, boolean, is_null, number, rows_of, text, words_of
 from .unknown import tell_unknown
 from .variables import NAMED, Putting, Variables, names_in
 from .workflow import Workflow
@@ -24,6 +25,7 @@ class Converter:
         self.notes = notes
         self.names: dict[str, list[str]] = {}  # those of the jobs that one of GitLab's stands for
         self.sources: dict[str, Map] = {}
+        self.left_out: dict[str, str] = {}
         self.made: dict = {}
         self.defaults = self.all_defaults()
         self.variables = Variables(notes)
@@ -45,12 +47,11 @@ class Converter:
             if self.is_job(name):
                 self.notes.job = name
                 self.add_jobs(name, value)
-        for name, source in self.sources.items():
-            self.notes.job = name
-            for each in self.names[name]:
-                self.put_needs(self.made[each], source)
+        Needs(self.notes, self.made, self.names, self.sources, self.left_out).put()
         tell_unknown(self.config, self.made, self.sources, self.names, self.notes)
         self.notes.job = None
+        for name in set(self.made) - {"stages", "variables"}:
+            self.made[name] = {key: self.made[name][key] for key in ORDER if key in self.made[name]}
         return self.made
 
     def is_job(self, key: str) -> bool:
@@ -87,7 +88,8 @@ class Converter:
                 self.tell_left_out(key, job.places[key])
         self.names[name] = []
         if not self.scripts.lines(job.get("script")):
-            self.notes.add(place, f"left out: {'it starts another pipeline' if 'trigger' in job else 'it has no script'}")
+            self.left_out[name] = "it starts another pipeline" if "trigger" in job else "it has no script"
+            self.notes.add(place, f"left out: {self.left_out[name]}; jobs of later stages don't wait for it")
             return
         if name == "pages":
             self.notes.add(place, "named `pages-job`: `pages` is a keyword")
@@ -150,7 +152,7 @@ class Converter:
             made["interruptible"] = interruptible
         putting = Putting(self.notes, self.globals, variables, [it.get("variables", {}) for it in made.get("rules", [])])
         made["script"] = self.scripts.script(job, putting.lines)
-        return {key: made[key] for key in ORDER if key in made}
+        return made
 
     def put_in(self, keyword: str, job: Map, value: str, known: dict[str, Text]) -> str:
         """A value that the server takes as it is written, with the variables of the file put in."""
@@ -196,36 +198,3 @@ class Converter:
             self.notes.add(job.places["timeout"], f"timeout: `{given}` is dropped: it is no time from a minute to 30 days")
         else:
             made["timeout"] = made_of
-
-    def put_needs(self, made: dict, job: Map) -> None:
-        """The needs of a job, once all jobs are known."""
-        if "needs" not in job:
-            return
-        needs: list = []
-        for item in flat(job["needs"]):
-            name, optional = item, False
-            if isinstance(item, Map):
-                name, optional = item.get("job"), boolean(item.get("optional")) or False
-                if not isinstance(name, Text) or "project" in item or "pipeline" in item:
-                    self.notes.add(item.place, "needs: dropped: it is no job of this file")
-                    continue
-            names = self.needed(item, name)
-            if not names:
-                self.notes.add(item.place, f"needs: `{name}` is dropped: there is no such job")
-            needs += [{"job": it, "optional": True} if optional else it for it in names if it not in needs]
-        made["needs"] = needs
-        script = made.pop("script")
-        for key in [it for it in ORDER if it in made]:
-            made[key] = made.pop(key)
-        made["script"] = script
-
-    def needed(self, item, name: Text) -> list[str]:
-        """The jobs that one need stands for: all copies of a job, or those of the rows that it names."""
-        names = self.names.get(name, [str(name)] if name in self.made else [])
-        rows = item.get("parallel") if isinstance(item, Map) else None
-        if not isinstance(rows, Map) or "matrix" not in rows:
-            return names
-        wanted = rows_of(rows["matrix"], item.place)
-        return [it for it in names if any(row.items() <= self.made[it].get("variables", {}).items() for row in wanted)]
-
-    # What is said of variables.
