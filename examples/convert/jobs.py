@@ -4,7 +4,8 @@ from __future__ import annotations
 import re
 
 from .durations import duration
-from .keywords import CAUSES, DEFAULTS, LEFT_OUT, ORDER, TAKEN, TOP_LEFT_OUT
+from .for_runner import ForRunner, put_dependencies
+from .keywords import CAUSES, DEFAULTS, LEFT_OUT, ORDER, TAKEN, TOP, TOP_DEFAULTS
 from .needs import Needs
 from .notes import Notes
 from .rules import Rules
@@ -33,11 +34,11 @@ class Converter:
         self.globals |= {key: text(it, ("", 0), raw=True) for key, it in values.items() if key not in self.globals}
         self.rules = Rules(notes, self.globals, self.variables, Workflow(notes, config.get("workflow"), self.globals, self.variables))
         self.scripts = Scripts(notes)
+        self.for_runner = ForRunner(notes)
 
     def whole(self) -> dict:
-        for key in TOP_LEFT_OUT:
-            if key in self.config and key != "workflow":
-                self.notes.add(self.config.places[key], f"{key}: dropped: {TOP_LEFT_OUT[key]}")
+        if "spec" in self.config:
+            self.tell_left_out("spec", self.config.places["spec"])
         stages = self.config.get("stages", self.config.get("types"))
         if stages is not None and not is_null(stages):
             self.made["stages"] = words_of(stages, "stages")
@@ -48,6 +49,7 @@ class Converter:
                 self.notes.job = name
                 self.add_jobs(name, value)
         Needs(self.notes, self.made, self.names, self.sources, self.left_out).put()
+        put_dependencies(self.notes, self.made, self.names, self.sources)
         tell_unknown(self.config, self.made, self.sources, self.names, self.notes)
         self.notes.job = None
         for name in set(self.made) - {"stages", "variables"}:
@@ -55,13 +57,13 @@ class Converter:
         return self.made
 
     def is_job(self, key: str) -> bool:
-        return key[0:1] != "." and key not in TOP_LEFT_OUT and key not in ("stages", "types", "variables", "default", *DEFAULTS[:2])
+        return key[0:1] != "." and key not in TOP
 
     def all_defaults(self) -> Map:
         """What jobs take that don't say it themselves."""
         given = self.config.get("default")
         defaults = Map()
-        for key in DEFAULTS[:2]:
+        for key in TOP_DEFAULTS:
             if key in self.config:
                 defaults.put(key, self.config[key], self.config.places[key])
         if isinstance(given, Map):
@@ -152,6 +154,9 @@ class Converter:
             made["interruptible"] = interruptible
         putting = Putting(self.notes, self.globals, variables, [it.get("variables", {}) for it in made.get("rules", [])])
         made["script"] = self.scripts.script(job, putting.lines)
+        told = self.for_runner.variables(job)
+        if told:
+            made["variables"] = variables | told
         return made
 
     def put_in(self, keyword: str, job: Map, value: str, known: dict[str, Text]) -> str:

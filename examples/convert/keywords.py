@@ -1,16 +1,10 @@
 """Keywords of GitLab's files: which are taken, and what is said of those that are left out."""
 from __future__ import annotations
 
-TOP_LEFT_OUT = {
-    "workflow": "who asks for a pipeline decides whether there is one",
-    "image": "there are no images here: `tags` choose the runner's machine",
-    "services": "there are no services here: a script starts what it needs",
-    "cache": "nothing is kept between jobs",
+import re
+
+LEFT_OUT = {
     "spec": "there are no inputs here",
-}
-LEFT_OUT = TOP_LEFT_OUT | {
-    "artifacts": "no files are kept or passed on between jobs: a script brings them to a place of your own",
-    "dependencies": "no files are passed on between jobs",
     "environment": "there are no environments here: `resource_group` keeps two deployments apart",
     "coverage": "nothing reads figures out of traces",
     "release": "nothing is released by the server: a script does it",
@@ -18,11 +12,14 @@ LEFT_OUT = TOP_LEFT_OUT | {
     "id_tokens": "there are no tokens for others here: set a variable of the project",
     "secrets": "there are no secrets here: set a variable of the project",
     "start_in": "a job begins as soon as it may",
+    "hooks": "a runner runs nothing before the script",
 }
-DEFAULTS = ("before_script", "after_script", "retry", "tags", "timeout", "interruptible")
+TOP_DEFAULTS = ("before_script", "after_script", "image", "services", "cache")  # what `default` has, also at the top level
+DEFAULTS = TOP_DEFAULTS + ("artifacts", "retry", "tags", "timeout", "interruptible")
+TOP = TOP_DEFAULTS + ("stages", "types", "variables", "default", "workflow", "spec")
 TAKEN = DEFAULTS + (
     "script", "stage", "needs", "rules", "when", "allow_failure", "resource_group", "variables", "only", "except", "parallel",
-    "extends", "inherit", "trigger",
+    "extends", "inherit", "trigger", "dependencies",
 )
 ORDER = (
     "stage", "tags", "variables", "needs", "rules", "when", "allow_failure", "retry", "timeout", "resource_group", "interruptible",
@@ -42,3 +39,10 @@ SOURCES = {
     "chat": "chat", "pipelines": "pipeline",
 }
 SOURCES_ELSEWHERE = set(SOURCES.values()) - {"push", "web", "schedule", "api", "trigger"} | {"parent_pipeline", "ondemand_dast_scan"}
+GIT = re.compile(r"GIT_(STRATEGY|DEPTH|CHECKOUT|CLEAN_FLAGS|CLONE_PATH|CLONE_EXTRA_FLAGS|FETCH_EXTRA_FLAGS|SUBMODULE_[A-Z_]+)|GET_SOURCES_ATTEMPTS")
+GIT_READ = ("GIT_STRATEGY", "GIT_SUBMODULE_STRATEGY")  # by ciserver-runner
+SET_BY_RUNNER = {
+    "CI_PROJECT_DIR", "CI_BUILDS_DIR", "CI_COMMIT_SHA", "CI_COMMIT_SHORT_SHA", "CI_COMMIT_TITLE", "CI_COMMIT_MESSAGE", "CI_COMMIT_DESCRIPTION",
+    "CI_COMMIT_AUTHOR", "CI_COMMIT_TIMESTAMP", "CI_COMMIT_REF_SLUG", "CI_REPOSITORY_URL", "CI_SERVER_URL", "CI_SERVER_HOST", "CI_API_V4_URL",
+    "CI_RUNNER_ID", "CI_RUNNER_DESCRIPTION", "CI_CONCURRENT_ID", "CI_JOB_STARTED_AT",
+}

@@ -3,7 +3,7 @@ from __future__ import annotations
 
 import re
 
-from .keywords import PREDEFINED
+from .keywords import PREDEFINED, SET_BY_RUNNER
 from .notes import Notes
 from .tree import Map, Place, Text, flat
 
@@ -41,4 +41,6 @@ def unknown(name: str, key: str) -> str:
     if name == "CI_DEFAULT_BRANCH":
         found = "nothing defines `$CI_DEFAULT_BRANCH` here: no branch is equal to it, and a tag's missing `$CI_COMMIT_BRANCH` is"
         return found + "; set the variable of the project, or give --default-branch"
-    return f"nothing defines `${name}` here" + (": in rules it is null" if key in ("rules", "only", "except") else "")
+    if key in ("rules", "only", "except"):
+        return f"nothing defines `${name}` here: in rules it is null"
+    return f"`${name}` is set by ciserver-runner, and not by examples/runner.sh" if name in SET_BY_RUNNER else f"nothing defines `${name}` here"

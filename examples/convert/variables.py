@@ -3,6 +3,7 @@ from __future__ import annotations
 
 import re
 
+from .keywords import GIT, GIT_READ
 from .notes import Notes
 from .tree import Map, Place, Refused, Text, boolean, is_null, text
 
@@ -29,9 +30,16 @@ class Variables:
             elif not isinstance(value, Text):
                 raise Refused(place, f"the value of the variable `{key}` is no text")
             else:
+                self.tell_git(key, place)
                 made = self.handed_out(value, place)
                 values[key] = text(made if raw or names_in(made) else made.replace("$$", "$"), place, raw=raw or not names_in(made))
         return values
+
+    def tell_git(self, key: str, place: Place) -> None:
+        if key in GIT_READ:
+            self.notes.add(place, f"variables: `{key}`: ciserver-runner does as it says, examples/runner.sh doesn't")
+        elif GIT.fullmatch(key):
+            self.notes.add(place, f"variables: no runner here looks at `{key}`")
 
     def handed_out(self, value: Text, place: Place) -> str:
         """The text that GitLab hands out for a scalar; of a number, the one that is written."""

@@ -36,7 +36,7 @@ def scalar(value) -> str:
         return str(value)
     if is_plain(value):
         return value
-    if not re.search(r"[^\t -~\u00a0-\ufefe\uff00-\U0010ffff]|[\u2028\u2029]", value):
+    if not re.search(r"[^ -~\u00a0-\ufefe\uff00-\U0010ffff]|[\u2028\u2029]", value):
         return "'" + value.replace("'", "''") + "'"
     kept = re.sub(r"[\x00-\x08\x0b-\x1f\x7f\ufeff]", "", value)
     return '"' + kept.replace("\\", "\\\\").replace('"', '\\"').replace("\n", "\\n").replace("\t", "\\t") + '"'
