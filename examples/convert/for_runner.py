@@ -5,6 +5,10 @@ from .durations import seconds_of
 from .notes import Notes
 from .tree import Map, Place, Refused, Text, flat, text, words_of
 
+KEYS = (
+    "CI_JOB_IMAGE", "CI_JOB_SERVICES", "CI_JOB_CACHE", "CI_JOB_ARTIFACTS", "CI_JOB_ARTIFACTS_EXCLUDE", "CI_JOB_ARTIFACTS_WHEN",
+    "CI_JOB_ARTIFACTS_EXPIRE", "CI_JOB_ARTIFACTS_NAME", "CI_JOB_DEPENDENCIES",
+)
 POLICIES = ("pull-push", "pull", "push")
 MOST_DEPENDENCIES = 1_000  # bytes; where a job has no `needs`, the runner lays out the artifacts of earlier stages by itself
 
@@ -143,3 +147,17 @@ def wanted_by(notes: Notes, made: dict, job: Map, names: dict[str, list[str]]) -
     refused = {each for it in without for each in names.get(it, [it])}
     needed = [it["job"] if isinstance(it, dict) else it for it in made["needs"]]
     return [it for it in needed if it not in refused]
+
+
+def share(made: dict) -> None:
+    """Puts at the top level what all jobs have: the value that most of them have."""
+    jobs = [it for key, it in made.items() if key not in ("stages", "variables")]
+    for key in KEYS:
+        values = [job.get("variables", {}).get(key) for job in jobs]
+        common = max(values, key=values.count, default=None)
+        if None in values or values.count(common) < 2 or key in made.get("variables", {}):
+            continue
+        made["variables"] = made.get("variables", {}) | {key: common}
+        for job in jobs:
+            if job["variables"][key] == common:
+                job["variables"] = {name: it for name, it in job["variables"].items() if name != key}

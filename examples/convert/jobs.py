@@ -4,7 +4,7 @@ from __future__ import annotations
 import re
 
 from .durations import duration
-from .for_runner import ForRunner, put_dependencies
+from .for_runner import ForRunner, put_dependencies, share
 from .keywords import CAUSES, DEFAULTS, LEFT_OUT, ORDER, TAKEN, TOP, TOP_DEFAULTS
 from .needs import Needs
 from .notes import Notes
@@ -50,11 +50,17 @@ class Converter:
                 self.add_jobs(name, value)
         Needs(self.notes, self.made, self.names, self.sources, self.left_out).put()
         put_dependencies(self.notes, self.made, self.names, self.sources)
+        share(self.made)
         tell_unknown(self.config, self.made, self.sources, self.names, self.notes)
         self.notes.job = None
-        for name in set(self.made) - {"stages", "variables"}:
-            self.made[name] = {key: self.made[name][key] for key in ORDER if key in self.made[name]}
-        return self.made
+        return self.in_order()
+
+    def in_order(self) -> dict:
+        """What was made, with the keys of each map in their order; empty ones are left out."""
+        made = {key: self.made.pop(key) for key in ("stages", "variables") if self.made.get(key)}
+        for name, job in self.made.items():
+            made[name] = {key: job[key] for key in ORDER if key in job and (key != "variables" or job[key])}
+        return made
 
     def is_job(self, key: str) -> bool:
         return key[0:1] != "." and key not in TOP
