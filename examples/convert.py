@@ -1,12 +1,13 @@
 #!/usr/bin/env python3
 """Writes a GitLab CI file out into the profile that ciserver reads (docs/PROFILE.md).
 
-convert.py [--root FOLDER] [--set NAME=VALUE].. [--default-branch NAME] FILE > .gitlab-ci.yml
+convert.py [--root FOLDER] [--set NAME=VALUE].. [--default-branch NAME] [--strict] FILE > .gitlab-ci.yml
 
 It writes out anchors and merge keys, local includes, extends, !reference, default, before_script, after_script, only and except of
 refs and variables, parallel, and texts over several lines. What was dropped or changed it says on standard error, each with its
 place, as `FILE:LINE: what`. FILE may be - for standard input; local includes are looked for in FOLDER, which is the folder of FILE
-where it isn't given. With --set the file gets this variable, where it has none of the name: --set CI_PROJECT_PATH=group/project for
+where it isn't given. What another file would bring, one of another project, of a template or of an address, isn't fetched: a job that needs it is
+left out, or with --strict refused. With --set the file gets this variable, where it has none of the name: --set CI_PROJECT_PATH=group/project for
 one that GitLab would set. --default-branch NAME is --set CI_DEFAULT_BRANCH=NAME.
 
 Status: 0 written; 1 refused (nothing is written), or what was written is over a limit of the profile; 2 wrong words; 3 a file can't be
@@ -45,6 +46,7 @@ def arguments() -> argparse.Namespace:
     parser.add_argument("--root", help="the folder of the project, in which local includes are looked for")
     parser.add_argument("--set", metavar="NAME=VALUE", action="append", default=[], type=variable, help="gives the file a variable")
     parser.add_argument("--default-branch", metavar="NAME", help="gives the file the variable CI_DEFAULT_BRANCH")
+    parser.add_argument("--strict", action="store_true", help="refuses a file where a job would be left out for what isn't there")
     parser.add_argument("file", metavar="FILE", help="the file, or - for standard input")
     return parser.parse_args()
 
@@ -58,7 +60,8 @@ def convert(words: argparse.Namespace, notes: Notes) -> tuple[str, list[str]]:
     reader = Reader(words.root or (os.path.dirname(words.file) if words.file != "-" else "") or ".", notes)
     config = reader.with_includes(reader.read(words.file, words.file))
     values = ({"CI_DEFAULT_BRANCH": words.default_branch} if words.default_branch else {}) | dict(words.set)
-    made = Converter(Linker(config).whole(), notes, values).whole()
+    linker = Linker(config, notes, reader.lacks and not words.strict)
+    made = Converter(linker.whole(), notes, values, linker.left_out if linker.lenient else None, words.strict).whole()
     content = written(made)
     return content, [f"{words.file}: over a limit: {it}" for it in over_limits(made, content)]
 

@@ -21,12 +21,14 @@ MOST_JOBS = 1_000
 class Converter:
     """Makes the map that is written of the map of GitLab's file."""
 
-    def __init__(self, config: Map, notes: Notes, values: dict[str, str]):
+    def __init__(self, config: Map, notes: Notes, values: dict[str, str], lacks: dict[str, str] | None = None, strict: bool = False):
+        """`lacks` has the jobs that take what isn't there, where a file that is included isn't here, each with the cause."""
         self.config = config
         self.notes = notes
         self.names: dict[str, list[str]] = {}  # those of the jobs that one of GitLab's stands for
         self.sources: dict[str, Map] = {}
-        self.left_out: dict[str, str] = {}
+        self.left_out = dict(lacks or {})
+        self.lacks, self.strict = lacks is not None, strict
         self.made: dict = {}
         self.defaults = self.all_defaults()
         self.variables = Variables(notes)
@@ -48,7 +50,7 @@ class Converter:
             if self.is_job(name):
                 self.notes.job = name
                 self.add_jobs(name, value)
-        Needs(self.notes, self.made, self.names, self.sources, self.left_out).put()
+        Needs(self.notes, self.made, self.names, self.sources, self.left_out, self.strict).put(self.lacks)
         put_dependencies(self.notes, self.made, self.names, self.sources)
         share(self.made)
         tell_unknown(self.config, self.made, self.sources, self.names, self.notes)

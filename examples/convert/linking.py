@@ -1,27 +1,48 @@
 """Puts in what `extends` and !reference name."""
 from __future__ import annotations
 
+from typing import Callable
+
+from .keywords import TOP
+from .notes import Notes
 from .tree import MOST_NODES, List, Map, Reference, Refused, merged, words_of
 
 DEEPEST_EXTENDS = 11
 
 
-class Linker:
-    """Puts in what `extends` and !reference name."""
+class Missing(Exception):
+    """What a job takes from elsewhere isn't there: with the place and the cause."""
 
-    def __init__(self, config: Map):
+
+class Linker:
+    def __init__(self, config: Map, notes: Notes, lenient: bool):
+        """Where it is lenient, a file that is included isn't here: a job that takes what isn't there is left out."""
         self.config = config
+        self.notes = notes
+        self.lenient = lenient
+        self.left_out: dict[str, str] = {}
         self.values = 0
 
     def whole(self) -> Map:
-        extended = Map(self.config.place)
+        self.config = self.each(lambda key, value: self.extended(key, ()))
+        return self.each(lambda key, value: self.resolved(value, ()))
+
+    def each(self, linked: Callable) -> Map:
+        """The values of all keys with what they name put in, but for those that name what isn't there."""
+        made = Map(self.config.place)
         for key, value in self.config.items():
-            extended.put(key, self.extended(key, ()), self.config.places[key])
-        self.config = extended
-        linked = Map(extended.place)
-        for key, value in extended.items():
-            linked.put(key, self.resolved(value, ()), extended.places[key])
-        return linked
+            self.notes.job = key if key[0:1] != "." and key not in TOP else None
+            try:
+                made.put(key, linked(key, value), self.config.places[key])
+            except Missing as fault:
+                place, cause = fault.args
+                if not self.lenient or key in TOP:
+                    raise Refused(place, cause) from None
+                if self.notes.job:
+                    self.left_out[key] = cause
+                    self.notes.add(place, f"left out: {cause}; jobs of later stages don't wait for it")
+        self.notes.job = None
+        return made
 
     def extended(self, key: str, above: tuple[str, ...]):
         job = self.config[key]
@@ -33,7 +54,7 @@ class Linker:
         base = Map(job.place)
         for name in words_of(job["extends"], "extends"):
             if not isinstance(self.config.get(name), Map):
-                raise Refused(place, f"`{name}`, which is extended, isn't there")
+                raise Missing(place, f"`{name}`, which is extended, isn't there")
             base = merged(base, self.extended(name, above + (key,)))
         return merged(base, job.without("extends"))
 
@@ -49,7 +70,7 @@ class Linker:
             found = self.config
             for key in path:
                 if not isinstance(found, Map) or key not in found:
-                    raise Refused(value.place, f"!reference [{', '.join(path)}] leads nowhere")
+                    raise Missing(value.place, f"!reference [{', '.join(path)}] leads nowhere")
                 found = found[key]
             return self.resolved(found, above + (path,))
         if isinstance(value, Map):

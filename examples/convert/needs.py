@@ -1,19 +1,27 @@
 """Which jobs wait for which, once all jobs are known."""
 from __future__ import annotations
 
+from .for_runner import stages_of
 from .notes import Notes
 from .tree import Map, Place, Refused, Text, boolean, flat, rows_of
 
 
 class Needs:
-    def __init__(self, notes: Notes, made: dict, names: dict[str, list[str]], sources: dict[str, Map], left_out: dict[str, str]):
+    def __init__(self, notes: Notes, made: dict, names: dict[str, list[str]], sources: dict[str, Map], left_out: dict[str, str],
+                 strict: bool):
         self.notes = notes
         self.made = made
         self.names = names  # of the jobs that one of GitLab's stands for
         self.sources = sources
+        self.strict = strict
         self.left_out = left_out  # the jobs that are no more there, each with the cause
 
-    def put(self) -> None:
+    def put(self, lacks: bool) -> None:
+        for name, job in list(self.sources.items()) if lacks else ():
+            stage = job.get("stage", "test")
+            if stage not in stages_of(self.made):
+                self.notes.job = name
+                self.leave_out(name, job.places.get("stage", job.place), f"its stage `{stage}` isn't there")
         while any([self.leave_out_without_needs(name) for name in list(self.sources)]):
             pass
         for name, job in self.sources.items():
@@ -48,6 +56,8 @@ class Needs:
         return False
 
     def leave_out(self, name: str, place: Place, cause: str) -> None:
+        if self.strict:
+            raise Refused(place, cause)
         self.notes.add(place, f"left out: {cause}; jobs of later stages don't wait for it")
         self.left_out[name] = cause
         del self.sources[name]

@@ -14,17 +14,26 @@ from .tree import MOST_NODES, List, Map, Place, Reference, Refused, Text, Unread
 MOST_FILES = 150
 
 
+class Loader(yaml.SafeLoader):
+    def compose_node(self, parent, index):
+        """An anchor may be defined again: an alias names the last one before it."""
+        anchor = None if self.check_event(yaml.AliasEvent) else self.peek_event().anchor
+        self.anchors.pop(anchor, None)
+        return super().compose_node(parent, index)
+
+
 class Reader:
     def __init__(self, root: str, notes: Notes):
         self.root = os.path.realpath(root)
         self.notes = notes
         self.nodes = 0
         self.files = 0
+        self.lacks = False  # whether a file that is included isn't here
 
     def load(self, name: str, content: str) -> Map:
         """The map that a file's text is."""
         try:
-            nodes = list(yaml.compose_all(content, Loader=yaml.SafeLoader))
+            nodes = list(yaml.compose_all(content, Loader=Loader))
         except yaml.MarkedYAMLError as fault:
             mark = fault.problem_mark or fault.context_mark
             raise Refused((name, mark.line + 1 if mark else 1), f"this is no YAML: {fault.problem or fault.context}") from None
@@ -104,12 +113,14 @@ class Reader:
         place = item.place or place
         if isinstance(item, Map):
             if not isinstance(item.get("local"), Text):
+                self.lacks = True
                 self.notes.add(place, f"include: dropped: nothing of `{', '.join(item)}` is fetched; save the file and include it as local")
                 return []
             for key in item.without("local"):
                 self.notes.add(item.places[key], f"include: `{key}` is dropped: the file is always included")
             item = item["local"]
         if re.match(r"https?://", item):
+            self.lacks = True
             self.notes.add(place, "include: dropped: nothing is fetched; save the file and include it as local")
             return []
         pattern = os.path.join(self.root, item.lstrip("/"))

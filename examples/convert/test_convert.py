@@ -26,7 +26,7 @@ from convert.reading import Reader  # noqa: E402
 def converted(content: str, **values: str) -> dict:
     notes = Notes()
     config = Reader(".", notes).load("ci.yml", content)
-    return Converter(Linker(config).whole(), notes, values).whole()
+    return Converter(Linker(config, notes, False).whole(), notes, values).whole()
 
 
 def run(made: dict, name: str, rule: int | None = None, **above: str) -> subprocess.CompletedProcess:
