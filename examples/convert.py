@@ -30,7 +30,7 @@ from convert.linking import Linker
 from convert.notes import Notes, named, shown
 from convert.reading import Reader
 from convert.tree import Place, Refused, Unread
-from convert.writing import over_limits, written
+from convert.writing import MOST_BYTES, over_limits, written
 
 
 def variable(word: str) -> tuple[str, str]:
@@ -61,8 +61,14 @@ def convert(words: argparse.Namespace, notes: Notes) -> tuple[str, list[str]]:
     config = reader.with_includes(reader.read(words.file, words.file))
     values = ({"CI_DEFAULT_BRANCH": words.default_branch} if words.default_branch else {}) | dict(words.set)
     linker = Linker(config, notes, reader.lacks and not words.strict)
-    made = Converter(linker.whole(), notes, values, linker.left_out if linker.lenient else None, words.strict).whole()
+    converter = Converter(linker.whole(), notes, values, linker.left_out if linker.lenient else None, words.strict)
+    made = converter.whole()
     content = written(made)
+    size = len(content.encode())
+    if size > MOST_BYTES:
+        made = converter.shorter()
+        content = written(made)
+        notes.add((words.file, 1), f"written out it would have {size} bytes: what stands in several scripts is in variables now, which jobs `eval`")
     return content, [f"{words.file}: over a limit: {it}" for it in over_limits(made, content)]
 
 

@@ -8,6 +8,7 @@ from .for_runner import ForRunner, put_dependencies, share
 from .keywords import CAUSES, DEFAULTS, LEFT_OUT, ORDER, TAKEN, TOP, TOP_DEFAULTS
 from .needs import Needs
 from .notes import Notes
+from .repeated import MOST_VARIABLES, Repeated
 from .rules import Rules
 from .scripts import Scripts
 from .tree import List, Map, Place, Refused, Text, boolean, is_null, number, rows_of, text, words_of
@@ -57,12 +58,27 @@ class Converter:
         self.notes.job = None
         return self.in_order()
 
+    def jobs(self) -> dict[str, dict]:
+        return {key: it for key, it in self.made.items() if key not in ("stages", "variables")}
+
     def in_order(self) -> dict:
         """What was made, with the keys of each map in their order; empty ones are left out."""
-        made = {key: self.made.pop(key) for key in ("stages", "variables") if self.made.get(key)}
-        for name, job in self.made.items():
+        made = {key: self.made[key] for key in ("stages", "variables") if self.made.get(key)}
+        for name, job in self.jobs().items():
             made[name] = {key: job[key] for key in ORDER if key in job and (key != "variables" or job[key])}
+            made[name]["script"] = job["script"].parts()
         return made
+
+    def shorter(self) -> dict:
+        """The same with what stands in several scripts written once."""
+        jobs = list(self.jobs().values())
+        variables = self.made.get("variables", {})
+        taken = {key for it in [self.made, *jobs] for key in it.get("variables", {})}
+        repeated = Repeated([it["script"] for it in jobs], taken, MOST_VARIABLES - len(variables))
+        self.made["variables"] = variables | repeated.variables
+        for job in jobs:
+            job["script"] = repeated.without(job["script"])
+        return self.in_order()
 
     def is_job(self, key: str) -> bool:
         return key[0:1] != "." and key not in TOP

@@ -70,6 +70,23 @@ python3 ../../convert.py - < starter.yml > "$work/stdout" 2> "$work/stderr"
 ended=$?
 sed 's/^starter.yml:/-:/' starter.stderr > "$work/wanted"
 is 'standard input' 0 starter.stdout "$work/wanted" "$ended"
+# A file that is too long, written out: what stands in several scripts stands once, and the file is taken.
+awk 'BEGIN {
+  for (i = 1; i <= 75; i++) {
+    printf "job%d:\n  script:\n", i
+    for (j = 1; j <= 20; j++) printf "    - echo a line that stands in each of these scripts, number %d of it\n", j
+    printf "    - echo %d\n", i
+  }
+}' > "$work/repeated.yml"
+python3 ../../convert.py "$work/repeated.yml" > "$work/stdout" 2> "$work/said"
+said=$("$ciserver" check "$work/stdout" 2>&1)
+if [ "$said" = "jobs: 75" ] && grep -q 'is in variables now' "$work/said"; then
+  passed=$((passed + 1))
+else
+  failed=$((failed + 1))
+  echo "a long file is told as '$said':"
+  cat "$work/said"
+fi
 # The last line of each example of docs/CONVERTING.md is what the program prints of it.
 awk -v at="$work/example" '/^```yaml$/ { file = sprintf("%s%03d.yml", at, ++n); inside = 1; next } /^```$/ { inside = 0 } inside { print > file }' \
   ../../../docs/CONVERTING.md

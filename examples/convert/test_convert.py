@@ -21,12 +21,17 @@ from convert.jobs import Converter  # noqa: E402
 from convert.linking import Linker  # noqa: E402
 from convert.notes import Notes  # noqa: E402
 from convert.reading import Reader  # noqa: E402
+from convert.writing import written  # noqa: E402
+
+
+def converter_of(content: str, **values: str) -> Converter:
+    notes = Notes()
+    config = Reader(".", notes).load("ci.yml", content)
+    return Converter(Linker(config, notes, False).whole(), notes, values)
 
 
 def converted(content: str, **values: str) -> dict:
-    notes = Notes()
-    config = Reader(".", notes).load("ci.yml", content)
-    return Converter(Linker(config, notes, False).whole(), notes, values).whole()
+    return converter_of(content, **values).whole()
 
 
 def run(made: dict, name: str, rule: int | None = None, **above: str) -> subprocess.CompletedProcess:
@@ -172,6 +177,32 @@ class Workflows(unittest.TestCase):
                 rule = self.first([(it.get("if"), it["when"], it.get("variables", {}).get("GATE")) for it in made], values)
                 got = None if rule is None or rule[1] == "never" else rule[1:]
                 self.assertEqual(got, self.decided(outer, inner, values), (outer, inner, values))
+
+
+class RepeatedScripts(unittest.TestCase):
+    """What stands in several scripts can stand once, and the jobs do the same."""
+
+    SHARED = "".join(f"    - echo shared line {i} of a long script \"$A\" 'b'\n" for i in range(20))
+    TAIL = "    - |\n      cat <<END\n      of a text\n      END\n    - local=1; echo $local that stands in two scripts and no more than that\n"
+
+    def content(self, count: int) -> str:
+        jobs = [f"job{i}:\n  variables: {{A: '{i}'}}\n  script:\n{self.SHARED}    - echo own {i}\n{self.TAIL if i < 2 else ''}" for i in range(count)]
+        failing = f"failing:\n  after_script: [echo after]\n  script:\n{self.SHARED}    - false\n    - echo never\n"
+        return "variables: {URL: $A/x}\nafter_script: []\n" + "\n".join([*jobs, failing])
+
+    def test_the_jobs_do_the_same(self) -> None:
+        converter = converter_of(self.content(4))
+        long, short = converter.whole(), converter.shorter()
+        self.assertEqual([key for key in short["variables"] if key != "URL"], ["SCRIPT_1", "SCRIPT_2", "SCRIPT_3"])
+        for name in ("job0", "job1", "job3", "failing"):
+            wanted, got = run(long, name), run(short, name)
+            self.assertEqual((got.returncode, got.stdout), (wanted.returncode, wanted.stdout))
+        self.assertEqual(short["job3"]["script"], ['eval "$SCRIPT_3"\n', 'eval "$SCRIPT_1"', "echo own 3"])
+
+    def test_a_long_file_is_short_enough(self) -> None:
+        converter = converter_of(self.content(75))
+        self.assertGreater(len(written(converter.whole())), 75 * len(self.SHARED))
+        self.assertLess(len(written(converter.shorter())), 65_536)
 
 
 if __name__ == "__main__":

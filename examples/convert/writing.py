@@ -3,6 +3,7 @@ from __future__ import annotations
 
 import re
 
+MOST_BYTES = 65_536
 NUMBER_LIKE = re.compile(
     r"[-+]?(\.[0-9]+|[0-9][0-9_,:.]*)([eE][-+]?[0-9]+)?|[-+]?0[xo][0-9a-fA-F]+|[-+]?\.(inf|nan)|[0-9]{4}-[0-9][0-9]?-.*", re.I
 )
@@ -81,7 +82,7 @@ def written(made: dict) -> str:
 def over_limits(made: dict, content: str) -> list[str]:
     """What is over a limit of the profile."""
     jobs = {key: it for key, it in made.items() if key not in ("stages", "variables")}
-    counts = [("bytes", len(content.encode()), 65536), ("jobs", len(jobs), 200)]
+    counts = [("bytes", len(content.encode()), MOST_BYTES), ("jobs", len(jobs), 200)]
     counts += [("stages", len(made.get("stages", [])), 32), ("variables", len(made.get("variables", {})), 100)]
     for name, job in jobs.items():
         for key, most in (("variables", 100), ("rules", 64), ("tags", 32), ("needs", 50)):
