@@ -151,3 +151,43 @@ def words_of_formula(said, within: str = "||") -> str:
         return " ".join(parts)
     made = f" {kind} ".join(words_of_formula(it, kind) for it in parts)
     return f"({made})" if kind == "||" and within == "&&" else made
+
+
+def variables_in(said) -> set[str]:
+    kind, parts = said
+    if kind != "is":
+        return {it for part in parts for it in variables_in(part)}
+    return {it[1:] for it in parts if it[0] == "$"}
+
+
+def with_values(said, values: dict[str, str]):
+    """A formula in which these variables have these values: a formula, or whether it holds."""
+    kind, parts = said
+    if kind == "is":
+        return comparison(parts, values)
+    made = [with_values(it, values) for it in parts]
+    strong = kind == "||"  # the truth that decides all
+    if strong in made:
+        return strong
+    made = [it for it in made if not isinstance(it, bool)]
+    return joined(kind, made) if made else not strong
+
+
+def comparison(parts: list[str], values: dict[str, str]):
+    left, right = parts[0], parts[2] if len(parts) > 1 else ""
+    known = [values.get(it[1:]) if it[:1] == "$" else None for it in (left, right)]
+    if known == [None, None]:
+        return ("is", parts)
+    if len(parts) == 1:
+        return known[0] != ""
+    if parts[1] in ("=~", "!~"):
+        source, flags = PATTERN.fullmatch(right).groups()
+        return bool(re.search(source, known[0], re.I if "i" in flags else 0)) == (parts[1] == "=~")
+    if known[0] is None or (right[0] == "$" and known[1] is None):
+        return ("is", [left if known[0] is None else right, parts[1], quoted(known[1] if known[0] is None else known[0])])
+    other = known[1] if right[0] == "$" else None if right == "null" else right[1:-1]
+    return (known[0] == other) == (parts[1] == "==")
+
+
+def quoted(value: str) -> str:
+    return f"'{value}'" if '"' in value else f'"{value}"'

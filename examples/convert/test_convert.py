@@ -7,6 +7,7 @@ from __future__ import annotations
 import itertools
 import os
 import random
+import re
 import signal
 import subprocess
 import sys
@@ -136,7 +137,8 @@ class Workflows(unittest.TestCase):
     """The rules of a job, as they are written, decide as those of the workflow and of the job do one after the other."""
 
     CONDITIONS = ("$A", '$A == "x"', '$B != "x" || $C', "$A && ($B || $C)", "($A || $B) && $C =~ /x/", None)
-    VALUES = (None, "", "x", "y")
+    OF_GATE = ('$GATE == "1"', '$GATE != "0" && $A', '$A == $GATE || $GATE =~ /^[12]/')
+    VALUES = (None, "", "x", "1")
 
     def holds(self, said, values: dict) -> bool:
         kind, parts = said
@@ -145,9 +147,10 @@ class Workflows(unittest.TestCase):
         value = values[parts[0][1:]]
         if len(parts) == 1:
             return bool(value)
-        other = None if parts[2] == "null" else parts[2][1:-1]
-        equal = other in (value or "") if parts[1] in ("=~", "!~") else value == other
-        return equal == (parts[1] in ("==", "=~"))
+        if parts[1] in ("=~", "!~"):
+            return bool(re.search(parts[2][1:-1], value or "")) == (parts[1] == "=~")
+        other = None if parts[2] == "null" else values[parts[2][1:]] if parts[2][0] == "$" else parts[2][1:-1]
+        return (value == other) == (parts[1] == "==")
 
     def first(self, rules: list[tuple], values: dict) -> tuple | None:
         """The first rule that holds."""
@@ -159,7 +162,8 @@ class Workflows(unittest.TestCase):
 
     def decided(self, outer: list[tuple], inner: list[tuple], values: dict) -> tuple | None:
         """The word and the variable with which a job is in the pipeline."""
-        gate, own = self.first(outer, values), self.first(inner, values)
+        gate = self.first(outer, values)
+        own = self.first(inner, values | {"GATE": str(outer.index(gate)) if gate else None})
         if gate is None or gate[1] == "never" or own is None or own[1] == "never":
             return None
         return own[1], str(outer.index(gate))
@@ -169,7 +173,7 @@ class Workflows(unittest.TestCase):
         for _ in range(100):
             outer = [(chance.choice(self.CONDITIONS), chance.choice(("always", "never"))) for _ in range(chance.randint(1, 4))]
             outer = list(dict.fromkeys(outer))
-            inner = [(chance.choice(self.CONDITIONS), chance.choice(("manual", "on_success", "never"))) for _ in range(chance.randint(1, 3))]
+            inner = [(chance.choice(self.CONDITIONS + self.OF_GATE), chance.choice(("manual", "on_success", "never"))) for _ in range(chance.randint(1, 3))]
             content = "workflow:\n  rules:\n" + self.rules(outer, ", variables: {GATE: '%d'}")
             made = converted(content + "job:\n  script: make\n  rules:\n" + self.rules(inner, "%.0s"))["job"]["rules"]
             for row in itertools.product(self.VALUES, repeat=3):

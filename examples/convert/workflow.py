@@ -2,7 +2,7 @@
 from __future__ import annotations
 
 from .conditions import condition
-from .expressions import alternatives, formula, joined, negated, words_of_formula
+from .expressions import alternatives, formula, joined, negated, variables_in, with_values, words_of_formula
 from .notes import Notes
 from .tree import Map, Refused, Text, flat, is_null
 from .variables import Variables
@@ -48,22 +48,56 @@ class Workflow:
         if None in self.never:
             return made
         for rule in [{}] if rules is None else rules:
-            made += [rule] if rule.get("when") == "never" else self.split(rule, when, own)
+            found = self.asked(rule, when, own)
+            if found is None:
+                found = [rule] if rule.get("when") == "never" else self.split(rule, when, own)
+            made += found
         return made
 
     def split(self, rule: dict, when: str, own: dict[str, Text]) -> list[dict]:
         """A rule for each set of variables that a pipeline may have where it holds."""
-        given = rule.get("variables", {})
-        cases = [(said, {key: it for key, it in values.items() if key not in own} | given) for said, values in self.cases]
+        cases = [(said, given(values, rule, own)) for said, values in self.cases]
         while len(cases) > 1 and cases[-2][1] == cases[-1][1]:
             del cases[-2]
+        asked = formula(rule["if"]) if "if" in rule else None
         made = []
         for said, values in cases[:-1] + [(None, cases[-1][1])]:
-            asked = [it for it in (said, formula(rule["if"]) if "if" in rule else None) if it is not None]
-            head = {"if": words_of_formula(joined("&&", asked))} if asked else {"when": when}
-            rest = {key: it for key, it in rule.items() if key not in ("if", "variables")}
-            made.append(head | rest | ({"variables": values} if values else {}))
+            asks = [it for it in (said, asked) if it is not None]
+            head = {"if": words_of_formula(joined("&&", asks))} if asks else {"when": when}
+            made.append(written(head, rule, values))
         return made
+
+    def asked(self, rule: dict, when: str, own: dict[str, Text]) -> list[dict] | None:
+        """The rules in the place of one that asks for variables of the workflow: one for each case, with the values that they have there.
+        None where it doesn't."""
+        asked = formula(rule.get("if", ""))
+        names = variables_in(asked) - own.keys() if asked else set()
+        if not any(names & values.keys() for _, values in self.cases):
+            return None
+        made, before = [], []
+        for said, values in self.cases:
+            known = {key: it for key, it in values.items() if key in names}
+            for key, it in known.items():
+                cause = "what a project or a request sets changes nothing of it"
+                self.notes.add(it.place, f"workflow: `{key}` is put into rules as the workflow has it: {cause}")
+            rest = with_values(asked, known)
+            asks = [it for it in (said, *before, None if rest is True else rest) if it is not None]
+            if rest is not False:
+                head = {"if": words_of_formula(joined("&&", asks))} if asks else {"when": when}
+                made.append(written(head, rule, {} if rule.get("when") == "never" else given(values, rule, own)))
+            if said is not None:
+                before.append(negated(said))
+        return made
+
+
+def given(values: dict[str, Text], rule: dict, own: dict[str, Text]) -> dict[str, Text]:
+    """The variables of a rule with those of the workflow."""
+    return {key: it for key, it in values.items() if key not in own} | rule.get("variables", {})
+
+
+def written(head: dict, rule: dict, values: dict[str, Text]) -> dict:
+    rest = {key: it for key, it in rule.items() if key not in ("if", "variables")}
+    return head | rest | ({"variables": values} if values else {})
 
 
 def never_by(ends: list[tuple]) -> list[str | None]:
