@@ -1,0 +1,1 @@
+"""Writes a GitLab CI file out into the profile that ciserver reads."""

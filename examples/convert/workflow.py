@@ -1,0 +1,118 @@
+"""Which pipelines there are, by the rules of `workflow`, said as rules of each job."""
+from __future__ import annotations
+
+from .conditions import condition
+from .expressions import alternatives, formula, joined, negated, variables_in, with_values, words_of_formula
+from .notes import Notes
+from .tree import Map, Refused, Text, flat, is_null
+from .variables import Variables
+
+
+class Workflow:
+    def __init__(self, notes: Notes, given, globals: dict[str, Text], variables: Variables):
+        self.notes = notes
+        self.never: list[str | None] = []  # what leaves each job out; None is always
+        self.cases: list[tuple] = []  # the rules that let a pipeline be: each with its formula, if any, and its variables
+        if not isinstance(given, Map):
+            return
+        for key in given.without("rules"):
+            notes.add(given.places[key], f"workflow: `{key}` is dropped")
+        if "rules" in given and not is_null(given["rules"]):
+            self.read(flat(given["rules"]), globals, variables)
+
+    def read(self, rules: list, globals: dict[str, Text], variables: Variables) -> None:
+        ends: list[tuple] = []  # the rules in their order: each with whether it lets a pipeline be, and its formula
+        for rule in rules:
+            if not isinstance(rule, Map):
+                raise Refused(rule.place, "a rule is no map")
+            for key in rule.without("if", "when", "variables", "changes", "exists"):
+                self.notes.add(rule.places[key], f"workflow: `{key}` is dropped")
+            kept, said = condition(self.notes, "workflow", rule, globals)
+            found = formula(said) if said is not None else None
+            if kept and said is not None and found is None:
+                self.notes.add(rule.places["if"], f"workflow: the rule is left out: `{rule['if']}` can't be said here")
+            if not kept or (said is not None and found is None):
+                continue
+            ends.append((rule.get("when") != "never", found))
+            if rule.get("when") != "never":
+                self.cases.append((found, variables.of(rule.get("variables"))))
+            if found is None:
+                break
+        self.never = never_by(ends)
+
+    def rules(self, rules: list[dict] | None, when: str, own: dict[str, Text]) -> list[dict] | None:
+        """The rules of a job, or none, with those of the workflow before and in them."""
+        if rules == [] or not self.never and not any(values for _, values in self.cases):
+            return rules
+        made = [{"if": it, "when": "never"} if it else {"when": "never"} for it in self.never]
+        if None in self.never:
+            return made
+        for rule in [{}] if rules is None else rules:
+            found = self.asked(rule, when, own)
+            if found is None:
+                found = [rule] if rule.get("when") == "never" else self.split(rule, when, own)
+            made += found
+        return made
+
+    def split(self, rule: dict, when: str, own: dict[str, Text]) -> list[dict]:
+        """A rule for each set of variables that a pipeline may have where it holds."""
+        cases = [(said, given(values, rule, own)) for said, values in self.cases]
+        while len(cases) > 1 and cases[-2][1] == cases[-1][1]:
+            del cases[-2]
+        asked = formula(rule["if"]) if "if" in rule else None
+        made = []
+        for said, values in cases[:-1] + [(None, cases[-1][1])]:
+            asks = [it for it in (said, asked) if it is not None]
+            head = {"if": words_of_formula(joined("&&", asks))} if asks else {"when": when}
+            made.append(written(head, rule, values))
+        return made
+
+    def asked(self, rule: dict, when: str, own: dict[str, Text]) -> list[dict] | None:
+        """The rules in the place of one that asks for variables of the workflow: one for each case, with the values that they have there.
+        None where it doesn't."""
+        asked = formula(rule.get("if", ""))
+        names = variables_in(asked) - own.keys() if asked else set()
+        if not any(names & values.keys() for _, values in self.cases):
+            return None
+        made, before = [], []
+        for said, values in self.cases:
+            known = {key: it for key, it in values.items() if key in names}
+            for key, it in known.items():
+                cause = "what a project or a request sets changes nothing of it"
+                self.notes.add(it.place, f"workflow: `{key}` is put into rules as the workflow has it: {cause}")
+            rest = with_values(asked, known)
+            asks = [it for it in (said, *before, None if rest is True else rest) if it is not None]
+            if rest is not False:
+                head = {"if": words_of_formula(joined("&&", asks))} if asks else {"when": when}
+                made.append(written(head, rule, {} if rule.get("when") == "never" else given(values, rule, own)))
+            if said is not None:
+                before.append(negated(said))
+        return made
+
+
+def given(values: dict[str, Text], rule: dict, own: dict[str, Text]) -> dict[str, Text]:
+    """The variables of a rule with those of the workflow."""
+    return {key: it for key, it in values.items() if key not in own} | rule.get("variables", {})
+
+
+def written(head: dict, rule: dict, values: dict[str, Text]) -> dict:
+    rest = {key: it for key, it in rule.items() if key not in ("if", "variables")}
+    return head | rest | ({"variables": values} if values else {})
+
+
+def never_by(ends: list[tuple]) -> list[str | None]:
+    """The conditions of which each says that there is no pipeline: that the first rule which holds is `never`, or none does."""
+    if not ends:
+        return [None]
+    lets, found = ends[0]
+    if found is None:
+        return [] if lets else [None]
+    rest = never_by(ends[1:])
+    if not lets:
+        return [None] if None in rest else [*alternatives(words_of_formula(found)), *rest]
+    none_before = negated(found)
+    if rest == []:
+        return []
+    later = [formula(it) for it in rest if it is not None]
+    asked = [none_before] if None in rest else [none_before, joined("||", later)]
+    return alternatives(words_of_formula(joined("&&", asked)))
