@@ -15,17 +15,15 @@ class Command:
     def __init__(self, words: list[str], folder: str, environment: dict[str, str], until: float, stdin: bytes = b"",
                  after: list[list[str]] | None = None, leave: bool = False):
         self.lock = threading.Lock()
-        told = os.memfd_create("stdin")
+        asked = {"words": words, "folder": folder, "environment": environment, "until": until, "after": after or [], "leave": leave}
+        files = [_file(stdin), _file(json.dumps(asked).encode())]
         try:
-            with open(told, "wb", closefd=False) as file:
-                file.write(stdin)
-            os.lseek(told, 0, os.SEEK_SET)
-            asked = json.dumps({"words": words, "folder": folder, "stdin": told, "until": until, "after": after or [], "leave": leave})
             self.process = subprocess.Popen(
-                [sys.executable, "-I", "-S", KEEPER, asked], env=environment, pass_fds=[told], start_new_session=True,
+                [sys.executable, "-I", "-S", KEEPER, *map(str, files)], pass_fds=files, start_new_session=True,
                 stdin=subprocess.PIPE, stdout=subprocess.PIPE, stderr=subprocess.STDOUT)
         finally:
-            os.close(told)
+            for file in files:
+                os.close(file)
 
     def extend(self, until: float) -> None:
         """All of it may go on until this second."""
@@ -51,3 +49,12 @@ class Command:
                 os.write(self.process.stdin.fileno(), line.encode())
             except (OSError, ValueError):
                 pass  # it has ended
+
+
+def _file(data: bytes) -> int:
+    """A file in memory with these bytes, read from its beginning."""
+    file = os.memfd_create("told")
+    with open(file, "wb", closefd=False) as writer:
+        writer.write(data)
+    os.lseek(file, 0, os.SEEK_SET)
+    return file

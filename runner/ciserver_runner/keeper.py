@@ -1,7 +1,7 @@
 """A process that keeps one command: it runs it, and ends it with all that it has started.
 
-It is a program of its own, so that no job outlives its runner or its lease, whatever becomes of the runner. Its one word is JSON: `words`,
-`folder`, `stdin` (a descriptor), `until` (the second of the clock by which all must be gone), `after` (commands that take away what isn't
+It is a program of its own, so that no job outlives its runner or its lease, whatever becomes of the runner. Its words are two descriptors: what
+the command has on standard input, and what is asked, as JSON: `words`, `folder`, `environment`, `until` (the second of the clock by which all must be gone), `after` (commands that take away what isn't
 below this process, as containers), `leave` (what it started stays where it ends by itself). On standard input it is told `until SECOND`, `end SECONDS`; that this closes means that the runner is gone.
 It ends as the command did; by a signal N with 128 + N.
 """
@@ -24,7 +24,7 @@ def now():
 
 
 class Keeper:
-    def __init__(self, asked):
+    def __init__(self, asked, stdin):
         self.until = asked["until"]
         self.after = asked["after"]
         self.leave = asked["leave"]
@@ -37,8 +37,8 @@ class Keeper:
         self.heard = True
         self.status = None
         self.child = subprocess.Popen(
-            asked["words"], cwd=asked["folder"], stdin=asked["stdin"], start_new_session=True, preexec_fn=die_with_parent)
-        os.close(asked["stdin"])
+            asked["words"], cwd=asked["folder"], env=asked["environment"], stdin=stdin, start_new_session=True, preexec_fn=die_with_parent)
+        os.close(stdin)
 
     def keep(self):
         while not self.has_ended():
@@ -145,12 +145,14 @@ def die_with_parent():
 
 
 def main():
-    asked = json.loads(sys.argv[1])
+    stdin = int(sys.argv[1])
+    with open(int(sys.argv[2]), encoding="utf-8") as file:
+        asked = json.load(file)
     prctl(PR_SET_CHILD_SUBREAPER, 1)
     for number in (signal.SIGTERM, signal.SIGINT, signal.SIGHUP):
         signal.signal(number, lambda *_: None)  # the runner says when to end; a command has these signals as ever
     try:
-        keeper = Keeper(asked)
+        keeper = Keeper(asked, stdin)
     except OSError as fault:
         print(f"cannot run {asked['words'][0]}: {fault.strerror}", flush=True)
         return 127

@@ -31,7 +31,7 @@ class Clock:
 
     def __init__(self, folder: str):
         library = os.path.join(folder, "clock.so")
-        run("gcc", "-shared", "-fPIC", "-O1", "-o", library, os.path.join(HERE, "clock.c"), "-ldl")
+        run("gcc", "-shared", "-fPIC", "-O1", "-o", library, os.path.join(HERE, "clock.c"))
         path = os.path.join(folder, "clock")
         with open(path, "wb") as file:
             file.write(bytes(8))
@@ -215,6 +215,10 @@ class Case(unittest.TestCase):
         for runner in self.runners:
             if runner.poll() is None:
                 runner.send_signal(signal.SIGTERM)
+                runner.send_signal(signal.SIGCONT)
+        if self.clock:
+            time.sleep(0.5)
+            self.clock.put_on(60)
         for runner in self.runners:
             try:
                 runner.wait(15)
