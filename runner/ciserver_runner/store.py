@@ -21,6 +21,10 @@ def _lines(job: Job, name: str) -> list[str]:
     return [line.strip() for line in job.expanded(name).splitlines() if line.strip()]
 
 
+def _files(count: int) -> str:
+    return f"{count} file{'s' if count != 1 else ''}"
+
+
 def lay_artifacts(job: Job) -> None:
     """Lays the artifacts of earlier jobs into the job's folder: of those that CI_JOB_DEPENDENCIES names, else of all of other stages."""
     latest: dict[str, dict] = {}
@@ -41,7 +45,7 @@ def lay_artifacts(job: Job) -> None:
         path = os.path.join(_folder(job), f"{record['attempt']}.tar")
         if record["kept"] and os.path.exists(path):
             count = unpack(path, job.folder, job.check)
-            job.trace.line(f"artifacts of {record['job']}: {count} files")
+            job.trace.line(f"artifacts of {record['job']}: {_files(count)}")
 
 
 def keep_artifacts(job: Job, success: bool) -> None:
@@ -58,7 +62,7 @@ def keep_artifacts(job: Job, success: bool) -> None:
         names = matching(job.folder, patterns, _lines(job, "CI_JOB_ARTIFACTS_EXCLUDE"))
         _pack(job, names, path + ".tar", job.config.artifacts_limit)
         files = sum(not os.path.isdir(os.path.join(job.folder, name)) for name in names)
-        job.trace.line(f"artifacts: {files} files are kept" if files else "artifacts: no file matches")
+        job.trace.line(f"artifacts: {_files(files)} kept" if files else "artifacts: no file matches")
     record = {"job": job.name, "stage": job.stage, "attempt": job.attempt, "kept": kept, "expires": time.time() + _seconds(job)}
     with open(path + ".new", "w", encoding="utf-8") as file:
         json.dump(record, file)
@@ -122,7 +126,7 @@ def lay_caches(job: Job) -> None:
         path = _cache(job, key)
         if policy != "push" and os.path.exists(path):
             os.utime(path)
-            job.trace.line(f"cache {key}: {unpack(path, job.folder, job.check)} files")
+            job.trace.line(f"cache {key}: {_files(unpack(path, job.folder, job.check))}")
 
 
 def keep_caches(job: Job) -> None:

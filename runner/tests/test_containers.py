@@ -94,12 +94,14 @@ def podman_runs() -> bool:
         return False
     folder = run("mktemp", "-d")
     os.makedirs(f"{folder}/bin")
-    os.makedirs(f"{folder}/tmp")
+    os.makedirs(f"{folder}/www")
+    with open(f"{folder}/www/told", "w", encoding="utf-8") as file:
+        file.write("by the service\n")
     shutil.copy(shutil.which("busybox"), f"{folder}/bin/busybox")
     for name in ("sh", "cat", "echo", "ls", "sleep", "test", "touch", "trap", "wget", "httpd", "id", "mkdir"):
         os.symlink("busybox", f"{folder}/bin/{name}")
     with subprocess.Popen(["tar", "-C", folder, "-c", "."], stdout=subprocess.PIPE) as tar:
-        subprocess.run(["podman", "import", "-", IMAGE], stdin=tar.stdout, stdout=subprocess.DEVNULL, stderr=subprocess.DEVNULL, check=False)
+        subprocess.run(["podman", "import", "--change", 'CMD ["/bin/httpd", "-f", "-h", "/www"]', "-", IMAGE], stdin=tar.stdout, stdout=subprocess.DEVNULL, stderr=subprocess.DEVNULL, check=False)
     shutil.rmtree(folder)
     done = subprocess.run(["podman", "run", "--rm", IMAGE, "echo", "it runs"], stdout=subprocess.PIPE, stderr=subprocess.DEVNULL, check=False)
     return done.stdout == b"it runs\n"
@@ -133,9 +135,10 @@ class Podman(Case):
 
     def test_a_service_is_found_by_its_name(self) -> None:
         self.begin('network = "none"\n')
-        number = self.project.pipeline("a:\n  timeout: 1 minute\n  variables:\n    CI_JOB_SERVICES: " + IMAGE + " web\n    KEY: value\n  script:\n    - ls /bin; echo there\n")
+        number = self.project.pipeline("a:\n  timeout: 1 minute\n  variables:\n    CI_JOB_SERVICES: " + IMAGE + " web\n    KEY: value\n  script: until wget -q -O - http://web/told; do sleep 0.2; done\n")
         self.assertEqual(self.project.ends(number), "success", self.project.trace(1, "a"))
-        self.assert_line(self.project.trace(1, "a"), "there")
+        self.assert_line(self.project.trace(1, "a"), "by the service")
+        self.assertEqual(run("podman", "network", "ls", "--quiet", "--filter", "name=ciserver-"), "")
 
     def begin_long_job(self):
         runner = self.begin()

@@ -36,7 +36,7 @@ class Artifacts(Case):
     def test_artifacts_go_to_later_stages(self) -> None:
         self.ended(BUILD + "unit:\n  script:\n    - test -x out/program -a ! -e out/deep/a.o -a -e out/deep/b -a \"$(readlink out/link)\" = program\n"
                    "    - test -e build.log -a ! -e build.txt; cat out/program\n")
-        self.assert_line(self.project.trace(1, "build"), "artifacts: 4 files are kept")
+        self.assert_line(self.project.trace(1, "build"), "artifacts: 4 files kept")
         self.assert_line(self.project.trace(1, "unit"), "artifacts of build: 4 files")
 
     def test_dependencies_say_whose_are_laid(self) -> None:
@@ -100,7 +100,7 @@ class Artifacts(Case):
             number = self.project.pipeline(file)
             self.assertEqual(self.project.ends(number), "success")
             self.assertEqual(self.project.trace(number, "a").count("\nx"), count - 1)
-        self.assert_line(self.project.trace(3, "a"), "cache main-deps: 1 files")
+        self.assert_line(self.project.trace(3, "a"), "cache main-deps: 1 file")
 
 
 if __name__ == "__main__":
