@@ -10,7 +10,7 @@ from typing import TYPE_CHECKING
 
 from .config import Config
 from .git import clone_of
-from .refused import Refused
+from .refused import Refused, Stopped
 from .script import IN_BASH_OR_SH, READ_ALL, text_of
 
 if TYPE_CHECKING:
@@ -62,9 +62,10 @@ def _in_container(job: Job, image: str) -> int:
         # Git refuses a folder of another user, as it may be for a container's.
         trusted = {"GIT_CONFIG_COUNT": "1", "GIT_CONFIG_KEY_0": "safe.directory", "GIT_CONFIG_VALUE_0": "*"}
         return job.run(words, dict(os.environ), stdin=text_of(trusted | job.variables, job.script), after=after)
-    finally:
-        for command in after[1:]:
+    except Stopped:  # it may not have begun
+        for command in after:
             _quiet(command)
+        raise
 
 
 def _begin_services(job: Job, services: list[list[str]]) -> list[list[str]]:
@@ -123,7 +124,9 @@ def _removal(engine: str, name: str) -> list[str]:
 
 
 def _must(job: Job, words: list[str]) -> None:
-    if job.run(words, dict(os.environ), leave=True) != 0:
+    printed: list[bytes] = []
+    if job.run(words, dict(os.environ), printed.append, leave=True) != 0:
+        job.trace.write(b"".join(printed))
         raise Refused(f"{' '.join(words[:3])} failed")
 
 

@@ -185,6 +185,12 @@ class Case(unittest.TestCase):
         return subprocess.run(["git", *words], cwd=folder or self.work, env=environment, stdout=subprocess.PIPE, stderr=subprocess.PIPE,
                               text=True, check=True).stdout.strip()
 
+    def git_says(self, *words: str, folder: str = "") -> str:
+        """What git says on standard error."""
+        environment = {"PATH": os.environ["PATH"], "HOME": self.home}
+        return subprocess.run(["git", *words], cwd=folder or self.work, env=environment, stdout=subprocess.PIPE, stderr=subprocess.PIPE,
+                              text=True, check=True).stderr
+
     def repository(self, name: str, files: dict[str, str]) -> str:
         """Makes a repository with a commit of these files on `main`."""
         path = self.folder(name)
