@@ -1,0 +1,144 @@
+"""A project's commit in a job's folder: fetched into a clone that is kept, and checked out from there."""
+from __future__ import annotations
+
+import fcntl
+import os
+import re
+import urllib.parse
+from typing import TYPE_CHECKING
+
+from .config import Project
+from .refused import Refused
+
+if TYPE_CHECKING:
+    from .job import Job
+
+TRIES = 3
+COMMIT = r"[0-9a-f]{40}|[0-9a-f]{64}"
+FIELDS = {"CI_COMMIT_TITLE": "%s", "CI_COMMIT_AUTHOR": "%an <%ae>", "CI_COMMIT_TIMESTAMP": "%cI", "CI_COMMIT_MESSAGE": "%B",
+          "CI_COMMIT_DESCRIPTION": "%b"}
+
+
+def clone_of(job: Job) -> str:
+    """The clone of a job's project that is kept."""
+    return os.path.join(job.config.folder, "repositories", f"{job.project}.git")
+
+
+def lay(job: Job, project: Project) -> None:
+    """Lays the commit of a job's pipeline into the job's folder, and tells the variables of the commit."""
+    strategy = job.variables.get("GIT_STRATEGY", "clone")
+    if strategy in ("none", "empty"):
+        job.trace.line(f"no repository is laid: GIT_STRATEGY is {strategy}")
+        return
+    if strategy not in ("clone", "fetch"):
+        raise Refused(f"GIT_STRATEGY is clone, fetch, none or empty, and not {strategy!r}")
+    kept = clone_of(job)
+    with _Locked(job, kept + ".lock"):
+        commit = _fetched(job, project, kept)
+        _run(job, ["clone", "--quiet", "--shared", "--no-checkout", kept, job.folder])
+    _run(job, ["-C", job.folder, "remote", "set-url", "origin", project.repository])
+    _run(job, ["-C", job.folder, "-c", "advice.detachedHead=false", "checkout", "--quiet", "--detach", commit])
+    _submodules(job, project)
+    job.learn({"CI_COMMIT_SHA": commit, "CI_COMMIT_SHORT_SHA": commit[:8], "CI_REPOSITORY_URL": project.repository, **_told(job, commit)})
+    job.trace.line(f"commit {commit} of {_ref(job)[1]} from {project.repository}")
+
+
+def _fetched(job: Job, project: Project, kept: str) -> str:
+    """The commit of a job's pipeline, which the kept clone has then."""
+    if not os.path.exists(os.path.join(kept, "HEAD")):
+        _run(job, ["init", "--quiet", "--bare", "--shared=0644", kept])
+    wanted = job.variables.get("CI_COMMIT_SHA", "")
+    if wanted and not re.fullmatch(COMMIT, wanted):
+        raise Refused("CI_COMMIT_SHA is no full number of a commit")
+    fetch = ["--git-dir", kept, "-c", "gc.autoDetach=false", "fetch", "--quiet", "--force", project.repository]
+    for left in reversed(range(TRIES)):
+        code = job.run(["git", *fetch, "--prune", "+refs/heads/*:refs/heads/*", "+refs/tags/*:refs/tags/*"], _environment(project))
+        if code == 0:
+            break
+        if not left:
+            raise Refused(f"{project.repository} can't be fetched")
+        job.pause(2)
+    if wanted:
+        if _asked(job, kept, "cat-file", "-t", wanted) != "commit":
+            job.run(["git", *fetch, wanted], _environment(project))  # no branch leads to it any more
+        if _asked(job, kept, "cat-file", "-t", wanted) != "commit":
+            raise Refused(f"commit {wanted} isn't in {project.repository}")
+        return wanted
+    name, shown = _ref(job)
+    commit = _asked(job, kept, "rev-parse", "--verify", "--quiet", "--end-of-options", f"{name}^{{commit}}")
+    if not re.fullmatch(COMMIT, commit):
+        raise Refused(f"{shown} isn't in {project.repository}")
+    return commit
+
+
+def _ref(job: Job) -> tuple[str, str]:
+    """The full name of the ref of a job's pipeline, and how it is told."""
+    tag = job.granted.get("CI_COMMIT_TAG")
+    if tag is not None:
+        return f"refs/tags/{tag}", f"tag {tag}"
+    branch = job.granted.get("CI_COMMIT_BRANCH", job.granted.get("CI_COMMIT_REF_NAME", ""))
+    return f"refs/heads/{branch}", f"branch {branch}"
+
+
+def _told(job: Job, commit: str) -> dict[str, str]:
+    text = _asked(job, os.path.join(job.folder, ".git"), "log", "-1", "--format=" + "%x00".join(FIELDS.values()), commit)
+    return dict(zip(FIELDS, (value.strip("\n") for value in text.split("\0"))))
+
+
+def _submodules(job: Job, project: Project) -> None:
+    strategy = job.variables.get("GIT_SUBMODULE_STRATEGY", "none")
+    if strategy not in ("none", "normal", "recursive"):
+        raise Refused(f"GIT_SUBMODULE_STRATEGY is none, normal or recursive, and not {strategy!r}")
+    if strategy != "none":
+        recursive = ["--recursive"] if strategy == "recursive" else []
+        _run(job, ["-C", job.folder, "submodule", "--quiet", "update", "--init", *recursive], _environment(project))
+
+
+def _run(job: Job, words: list[str], environment: dict[str, str] | None = None) -> None:
+    if job.run(["git", *words], environment or _environment(Project(""))) != 0:
+        raise Refused("git failed")
+
+
+def _asked(job: Job, kept: str, *words: str) -> str:
+    """What git prints, without the last line end; nothing where it fails."""
+    out: list[bytes] = []
+    code = job.run(["git", "--git-dir", kept, *words], _environment(Project("")), out.append)
+    return b"".join(out).decode(errors="replace").rstrip("\n") if code == 0 else ""
+
+
+def _environment(project: Project) -> dict[str, str]:
+    """The environment of git. A password is for the repository's own host alone, and on no command line."""
+    values = {name: os.environ[name] for name in ("PATH", "HOME") if name in os.environ}
+    values |= {"LANG": "C.UTF-8", "GIT_TERMINAL_PROMPT": "0"}
+    if project.ssh_key:
+        values["GIT_SSH_COMMAND"] = f"ssh -i '{project.ssh_key}' -o IdentitiesOnly=yes -o BatchMode=yes"
+    if project.password:
+        parts = urllib.parse.urlsplit(project.repository)
+        helper = "!f() { test \"$1\" != get || printf 'username=%s\\npassword=%s\\n' \"$RUNNER_USER\" \"$RUNNER_PASSWORD\"; }; f"
+        host = parts.netloc.rpartition("@")[2]
+        values |= {"RUNNER_USER": project.user, "RUNNER_PASSWORD": project.password, "GIT_CONFIG_COUNT": "1",
+                   "GIT_CONFIG_KEY_0": f"credential.{parts.scheme}://{host}.helper", "GIT_CONFIG_VALUE_0": helper}
+    return values
+
+
+class _Locked:
+    """Holds a file's lock, so that one job at a time changes a kept clone."""
+
+    def __init__(self, job: Job, path: str):
+        self.job, self.path = job, path
+
+    def __enter__(self) -> None:
+        os.makedirs(os.path.dirname(self.path), exist_ok=True)
+        self.file = open(self.path, "w", encoding="utf-8")
+        while True:
+            try:
+                fcntl.flock(self.file, fcntl.LOCK_EX | fcntl.LOCK_NB)
+                return
+            except BlockingIOError:
+                self.job.pause(0.1)
+            except BaseException:
+                self.file.close()
+                raise
+
+    def __exit__(self, *_: object) -> None:
+        self.file.close()

@@ -1,0 +1,36 @@
+"""The text that a shell runs for a job."""
+from __future__ import annotations
+
+import re
+import shlex
+
+DEEPEST = 10
+
+# The script comes on standard input: its values are in no file, and on no command line that others see.
+READ_ALL = 'eval "$(cat)"'
+IN_BASH_OR_SH = f"if command -v bash > /dev/null; then exec bash -c {shlex.quote(READ_ALL)}; fi; {READ_ALL}"
+
+
+def text_of(variables: dict[str, str], lines: list[str]) -> bytes:
+    """Exports the variables, but for those that are the shell's own, and runs the lines until one fails; each is printed before it runs."""
+    text = [f"command export {name}={_quoted(value)} 2> /dev/null || :" for name, value in variables.items()]
+    text += ["set -e", "if (set -o pipefail) 2> /dev/null; then set -o pipefail; fi"]
+    for line in lines:
+        text += [f"printf '$ %s\\n' {_quoted(line)}", f"eval {_quoted(line)}"]
+    return "\n".join(text).encode(errors="replace") + b"\n"
+
+
+def expanded(text: str, variables: dict[str, str], within: tuple[str, ...] = ()) -> str:
+    """A text with the values of the variables that it names, as $NAME or ${NAME}, and what these name, ten deep; `$$` is a dollar."""
+    def value(match: re.Match) -> str:
+        name = match[1] or match[2]
+        if match[0] == "$$":
+            return "$"
+        if name in within or len(within) == DEEPEST:
+            return match[0]
+        return expanded(variables.get(name, ""), variables, (*within, name))
+    return re.sub(r"\$(?:\$|([A-Za-z_]\w*)|\{([A-Za-z_]\w*)\})", value, text, flags=re.ASCII)
+
+
+def _quoted(text: str) -> str:
+    return "'" + text.replace("'", "'\\''") + "'"

@@ -1,0 +1,194 @@
+"""What is kept between jobs: artifacts of a pipeline's jobs, and caches."""
+from __future__ import annotations
+
+import glob
+import hashlib
+import json
+import os
+import shutil
+import subprocess
+import time
+from typing import TYPE_CHECKING
+
+from .pack import matching, pack, unpack
+from .refused import Refused
+
+if TYPE_CHECKING:
+    from .job import Job
+
+
+def _lines(job: Job, name: str) -> list[str]:
+    return [line.strip() for line in job.expanded(name).splitlines() if line.strip()]
+
+
+def _files(count: int) -> str:
+    return f"{count} file{'s' if count != 1 else ''}"
+
+
+def lay_artifacts(job: Job) -> None:
+    """Lays the artifacts of earlier jobs into the job's folder: of those that CI_JOB_DEPENDENCIES names, else of all of other stages."""
+    latest: dict[str, dict] = {}
+    for path in glob.glob(os.path.join(glob.escape(_folder(job)), "*.json")):
+        record = _record(path)
+        if record and record["attempt"] > latest.get(record["job"], {"attempt": 0})["attempt"]:
+            latest[record["job"]] = record
+    named = job.variables.get("CI_JOB_DEPENDENCIES")
+    if named is None:
+        records = [record for record in latest.values() if record["stage"] != job.stage]
+    else:
+        names = [line.strip() for line in named.splitlines() if line.strip()]
+        for name in names:
+            if name not in latest:
+                job.trace.line(f"artifacts of {name}: none are here")
+        records = [latest[name] for name in names if name in latest]
+    for record in sorted(records, key=lambda record: record["attempt"]):
+        path = os.path.join(_folder(job), f"{record['attempt']}.tar")
+        if record["kept"] and os.path.exists(path):
+            count = unpack(path, job.folder, job.check)
+            job.trace.line(f"artifacts of {record['job']}: {_files(count)}")
+
+
+def keep_artifacts(job: Job, success: bool) -> None:
+    """Keeps the files that the job's variables name, and notes for later jobs whether there are any."""
+    patterns = _lines(job, "CI_JOB_ARTIFACTS")
+    if not patterns:
+        return
+    when = job.variables.get("CI_JOB_ARTIFACTS_WHEN", "on_success").strip()
+    kept = when == "always" or (when == "on_failure") != success
+    os.makedirs(_folder(job), exist_ok=True)
+    job.has_kept = True
+    path = os.path.join(_folder(job), str(job.attempt))
+    if kept:
+        names = matching(job.folder, patterns, _lines(job, "CI_JOB_ARTIFACTS_EXCLUDE"))
+        _pack(job, names, path + ".tar", job.config.artifacts_limit)
+        files = sum(not os.path.isdir(os.path.join(job.folder, name)) for name in names)
+        job.trace.line(f"artifacts: {_files(files)} kept" if files else "artifacts: no file matches")
+    record = {"job": job.name, "stage": job.stage, "attempt": job.attempt, "kept": kept, "expires": time.time() + _seconds(job)}
+    with open(path + ".new", "w", encoding="utf-8") as file:
+        json.dump(record, file)
+    os.rename(path + ".new", path + ".json")
+
+
+def drop_artifacts(job: Job) -> None:
+    """Takes back what an attempt kept that the server didn't take the end of."""
+    for end in (".json", ".tar"):
+        _remove(os.path.join(_folder(job), f"{job.attempt}{end}"))
+
+
+def remove_expired(root: str) -> None:
+    """Removes artifacts whose time is over, and folders of pipelines that are left without any."""
+    for path in glob.glob(os.path.join(glob.escape(root), "*", "*", "*.json")):
+        record = _record(path)
+        if not record or record["expires"] < time.time():
+            _remove(path)
+            _remove(path.removesuffix(".json") + ".tar")
+    for folder in glob.glob(os.path.join(glob.escape(root), "*", "*")):
+        try:
+            os.rmdir(folder)
+        except OSError:
+            pass  # it isn't empty
+
+
+def _seconds(job: Job) -> int:
+    asked = job.variables.get("CI_JOB_ARTIFACTS_EXPIRE", "").strip()
+    return min(int(asked), job.config.artifacts_keep) if asked.isdecimal() else job.config.artifacts_keep
+
+
+def _folder(job: Job) -> str:
+    pipeline = job.granted.get("CI_PIPELINE_ID", "")
+    if not pipeline.isdecimal():
+        raise Refused("CI_PIPELINE_ID is no number: some variable of the project or the file has its name")
+    return os.path.join(job.config.artifacts_folder, str(job.project), pipeline)
+
+
+def _record(path: str) -> dict | None:
+    try:
+        with open(path, encoding="utf-8") as file:
+            return json.load(file)
+    except (OSError, ValueError):
+        return None
+
+
+def caches(job: Job) -> list[tuple[str, str, list[str]]]:
+    """The key, the policy and the paths of each cache of a job."""
+    found = []
+    for line in job.expanded("CI_JOB_CACHE").splitlines():
+        key, *rest = line.split("\t")
+        if line.strip():
+            if len(rest) < 2 or rest[0] not in ("pull-push", "pull", "push"):
+                raise Refused("a line of CI_JOB_CACHE is KEY, POLICY and paths, with tabs between them")
+            found.append((key, rest[0], [path for path in rest[1:] if path]))
+    return found
+
+
+def lay_caches(job: Job) -> None:
+    for key, policy, _ in caches(job):
+        path = _cache(job, key)
+        if policy != "push" and os.path.exists(path):
+            os.utime(path)
+            job.trace.line(f"cache {key}: {_files(unpack(path, job.folder, job.check))}")
+
+
+def keep_caches(job: Job) -> None:
+    for key, policy, paths in caches(job):
+        if policy == "pull":
+            continue
+        path = _cache(job, key)
+        os.makedirs(os.path.dirname(path), exist_ok=True)
+        names = matching(job.folder, paths, [])
+        try:
+            if names:
+                _pack(job, names, path, job.config.cache_limit)
+            job.trace.line(f"cache {key}: kept" if names else f"cache {key}: no file matches")
+        except Refused as fault:
+            job.trace.line(f"cache {key} isn't kept: {fault}")
+    _make_room(job.config.cache_folder, job.config.cache_total)
+
+
+def _make_room(root: str, limit: int) -> None:
+    """Removes the caches that were used longest ago, until the others are within a limit."""
+    left = limit
+    paths = glob.glob(os.path.join(glob.escape(root), "*", "*.tar"))
+    for path in sorted(paths, key=_used, reverse=True):
+        try:
+            left -= os.stat(path).st_size
+        except OSError:
+            continue
+        if left < 0:
+            _remove(path)
+
+
+def _used(path: str) -> float:
+    try:
+        return os.stat(path).st_mtime
+    except OSError:
+        return 0
+
+
+def _cache(job: Job, key: str) -> str:
+    return os.path.join(job.config.cache_folder, str(job.project), hashlib.sha256(key.encode(errors="replace")).hexdigest() + ".tar")
+
+
+def _pack(job: Job, names: list[str], path: str, limit: int) -> None:
+    """Makes a tar file whole, or not at all."""
+    new = f"{path}.{job.attempt}.new"
+    try:
+        pack(job.folder, names, new, limit, job.check)
+        os.rename(new, path)
+    finally:
+        _remove(new)
+
+
+def _remove(path: str) -> None:
+    try:
+        os.unlink(path)
+    except FileNotFoundError:
+        pass
+
+
+def remove_tree(path: str) -> None:
+    """Removes a folder with all that a job left in it, folders that may not be written too."""
+    shutil.rmtree(path, ignore_errors=True)
+    if os.path.lexists(path):
+        subprocess.run(["chmod", "-R", "u+rwX", path], stderr=subprocess.DEVNULL, check=False)
+        shutil.rmtree(path, ignore_errors=True)

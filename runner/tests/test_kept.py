@@ -1,0 +1,107 @@
+"""What goes from job to job: artifacts and caches; and what a job may not do by them."""
+import glob
+import os
+import time
+import unittest
+
+from support import Case
+
+BUILD = """\
+build:
+  stage: build
+  variables:
+    CI_JOB_ARTIFACTS: |
+      out
+      $CI_PROJECT_DIR/*.log
+      nothing/**
+    CI_JOB_ARTIFACTS_EXCLUDE: out/**/*.o
+  script:
+    - mkdir -p out/deep; echo program > out/program; chmod +x out/program; echo o > out/deep/a.o; echo b > out/deep/b; ln -s program out/link
+    - echo log > build.log; echo no > build.txt
+"""
+
+
+class Artifacts(Case):
+    def setUp(self) -> None:
+        super().setUp()
+        self.token = self.server.runner()
+        self.server.start()
+
+    def ended(self, file: str, **words) -> int:
+        self.begin_runner(self.token, **words)
+        number = self.project.pipeline(file)
+        self.assertEqual(self.project.ends(number), "success", "\n".join(self.project.trace(number, job["name"]) for job in self.project.shown(number)["jobs"]))
+        return number
+
+    def test_artifacts_go_to_later_stages(self) -> None:
+        self.ended(BUILD + "unit:\n  script:\n    - test -x out/program -a ! -e out/deep/a.o -a -e out/deep/b -a \"$(readlink out/link)\" = program\n"
+                   "    - test -e build.log -a ! -e build.txt; cat out/program\n")
+        self.assert_line(self.project.trace(1, "build"), "artifacts: 4 files kept")
+        self.assert_line(self.project.trace(1, "unit"), "artifacts of build: 4 files")
+
+    def test_dependencies_say_whose_are_laid(self) -> None:
+        wants = "    - test \"$(ls *.txt | grep -v hello | tr '\\n' ' ')\" = '{}'\n"
+        file = "stages: [build, test]\n"
+        for name in ("a", "b 1/2"):
+            file += f"{name}:\n  stage: build\n  variables:\n    CI_JOB_ARTIFACTS: '{name[0]}.txt'\n  script: echo {name} > {name[0]}.txt\n"
+        file += "c:\n  variables:\n    CI_JOB_ARTIFACTS: c.txt\n  script: echo > c.txt\n"
+        file += "all:\n  script:\n" + wants.format("a.txt b.txt ")
+        file += "one:\n  variables:\n    CI_JOB_DEPENDENCIES: |\n      b 1/2\n      gone\n  script:\n" + wants.format("b.txt ")
+        file += "same:\n  needs: [c]\n  variables:\n    CI_JOB_DEPENDENCIES: c\n  script:\n" + wants.format("c.txt ")
+        file += "none:\n  variables:\n    CI_JOB_DEPENDENCIES: ''\n  script: test ! -e a.txt -a ! -e b.txt\n"
+        self.ended(file)
+        self.assert_line(self.project.trace(1, "one"), "artifacts of gone: none are here")
+
+    def test_when_and_expiry(self) -> None:
+        job = "{}:\n  stage: build\n  allow_failure: true\n  variables:\n    CI_JOB_ARTIFACTS: {}.txt\n    CI_JOB_ARTIFACTS_WHEN: {}\n{}  script: echo > {}.txt; {}\n"
+        file = job.format("a", "a", "always", "    CI_JOB_ARTIFACTS_EXPIRE: 60\n", "a", "false") + job.format("b", "b", "on_success", "", "b", "false")
+        file += job.format("c", "c", "on_failure", "", "c", "false") + job.format("d", "d", "on_failure", "", "d", "true")
+        self.ended(file + "unit:\n  script: ls; test -e a.txt -a ! -e b.txt -a -e c.txt -a ! -e d.txt\n")
+        records = [self.read(os.path.relpath(path, self.room)) for path in sorted(glob.glob(self.path("one/artifacts/1/1/*.json")))]
+        self.assertEqual(['"kept": true' in record for record in records], [True, False, True, False])
+        left = [float(record.partition('"expires": ')[2].rstrip("}")) - time.time() for record in records]
+        self.assertTrue(0 < left[0] <= 60 and 6 * 86_400 < left[1] <= 7 * 86_400, left)
+
+    def test_a_limit_of_artifacts(self) -> None:
+        self.begin_runner(self.token, rest="[artifacts]\nlimit_megabytes = 1\n")
+        number = self.project.pipeline("a:\n  variables:\n    CI_JOB_ARTIFACTS: big\n  script: head -c 1048577 /dev/zero > big\n")
+        self.assertEqual(self.project.ends(number), "failed")
+        self.assert_line(self.project.trace(1, "a"), "the runner failed: the files have over 1048576 bytes")
+        self.assertEqual(glob.glob(self.path("one/artifacts/1/1/*")), [])
+
+    def test_two_runners_share_a_folder(self) -> None:
+        shared = f'[artifacts]\nfolder = "{self.path("shared")}"\n'
+        self.server.kill()
+        tagged = self.server.runner("--tags", "second")
+        self.server.start()
+        self.begin_runner(tagged, "two", rest=shared)
+        self.ended(BUILD + "unit:\n  tags: [second]\n  script: test -x out/program\n", rest=shared)
+        self.assert_line(self.project.trace(1, "unit"), r"runner 2 \(two\), attempt 2: unit")
+
+    def test_nothing_is_laid_or_taken_outside_of_the_folder(self) -> None:
+        outside = self.write("outside/secret.txt", "secret\n")
+        file = "stages: [a, b, c]\n"
+        file += f"link:\n  stage: a\n  variables:\n    CI_JOB_ARTIFACTS: out\n  script: ln -s {self.path('outside')} out\n"
+        file += "steal:\n  stage: a\n  variables:\n    CI_JOB_ARTIFACTS: in/*.txt\n" f"  script: ln -s {self.path('outside')} in\n"
+        file += "put:\n  stage: b\n  variables:\n    CI_JOB_DEPENDENCIES: ''\n    CI_JOB_ARTIFACTS: out\n  script: mkdir out; echo > out/put.txt\n"
+        file += "up:\n  stage: b\n  allow_failure: true\n  variables:\n    CI_JOB_ARTIFACTS: ../../../outside\n  script: echo\n"
+        file += "both:\n  stage: c\n  allow_failure: true\n  script: echo\n"
+        self.ended(file)
+        self.assert_line(self.project.trace(1, "steal"), "artifacts: no file matches")
+        self.assert_line(self.project.trace(1, "up"), r"the runner failed: the path '../../../outside' is outside of the project's folder")
+        self.assert_line(self.project.trace(1, "both"), "the runner failed: out is to be a folder, and is something else")
+        self.assertEqual(os.listdir(os.path.dirname(outside)), ["secret.txt"])
+
+    def test_cache(self) -> None:
+        file = ("a:\n  stage: build\n  variables:\n    CI_JOB_CACHE: \"$CI_COMMIT_REF_NAME-deps\\tpull-push\\tdeps\\nread\\tpull\\tr\\nwrite\\tpush\\tw\"\n"
+                "  script: cat deps/count || true; mkdir -p deps w r; echo x >> deps/count; echo x >> w/count; test ! -e r/count; echo > r/count; test $(wc -l < w/count) = 1\n")
+        self.begin_runner(self.token)
+        for count in (1, 2, 3):
+            number = self.project.pipeline(file)
+            self.assertEqual(self.project.ends(number), "success")
+            self.assertEqual(self.project.trace(number, "a").count("\nx"), count - 1)
+        self.assert_line(self.project.trace(3, "a"), "cache main-deps: 1 file")
+
+
+if __name__ == "__main__":
+    unittest.main()

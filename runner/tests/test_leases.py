@@ -1,0 +1,216 @@
+"""What becomes of jobs where servers, runners and lines fail: no job runs on beside its next attempt."""
+import os
+import random
+import signal
+import socket
+import threading
+import time
+import unittest
+
+from support import Case, until
+
+# A job that leaves marks while it runs, and goes on after SIGTERM.
+MARKS = "    - trap 'echo \"$CI_JOB_ID told\" >> {0}/marks' TERM\n    - while :; do echo $CI_JOB_ID >> {0}/marks; sleep 0.1 || :; done\n"
+
+
+class Leases(Case):
+    with_clock = True
+
+    def setUp(self) -> None:
+        super().setUp()
+        self.tokens = [self.server.runner(), self.server.runner()]
+        self.server.start()
+
+    def begin_long_job(self, more: str = ""):
+        """Has the first runner run a job that doesn't end by itself."""
+        runner = self.begin_runner(self.tokens[0])
+        self.project.pipeline(f"long:\n{more}  script:\n" + MARKS.format(self.room))
+        until(lambda: self.lines("marks"))
+        return runner
+
+    def put_on(self, seconds: int) -> None:
+        """Has the clock go faster, for so many seconds: five of them in a quarter of one."""
+        for _ in range(seconds // 5):
+            self.clock.put_on(5)
+            time.sleep(0.25)
+
+    def assert_gone(self, attempt: str = "1") -> None:
+        """No more marks of an attempt come."""
+        count = len([line for line in self.lines("marks") if line == attempt])
+        time.sleep(0.4)
+        self.assertEqual(len([line for line in self.lines("marks") if line == attempt]), count)
+
+    def assert_one_after_another(self) -> None:
+        attempts = [int(line.split()[0]) for line in self.lines("marks")]
+        self.assertEqual(attempts, sorted(attempts))
+
+    def cause(self) -> list[str]:
+        self.server.kill()
+        return self.server.rows("SELECT state, cause FROM attempt WHERE id = 1")
+
+    def test_cancelled_job_is_told_to_end_and_killed_ten_seconds_later(self) -> None:
+        self.begin_long_job()
+        self.project.ask("POST", "/jobs/1/cancel")
+        self.clock.put_on(8)  # the runner says that its job runs once ten seconds have passed
+        until(lambda: "1 told" in self.lines("marks"), 15)
+        self.clock.put_on(8)
+        count = len(self.lines("marks"))
+        until(lambda: len(self.lines("marks")) > count)
+        self.clock.put_on(3)
+        time.sleep(1)
+        self.assert_gone()
+        until(lambda: "attempt 1 of long, project 1: it was cancelled" in self.read("one.log"))
+
+    def test_time_limit(self) -> None:
+        self.begin_long_job("  timeout: 1 minute\n")
+        self.put_on(65)
+        self.assertEqual(self.project.ends(1), "failed")
+        self.assertTrue(self.project.trace(1, "long").endswith("\nended: its time limit\n"))
+        self.assert_gone()
+        self.assertEqual(self.cause(), ["2|5"])
+
+    def test_end_of_the_runner(self) -> None:
+        runner = self.begin_long_job()
+        runner.send_signal(signal.SIGTERM)
+        until(lambda: "1 told" in self.lines("marks"))
+        self.clock.put_on(10)
+        self.assertEqual(runner.wait(10), 0)
+        self.assert_gone()
+        self.assertTrue(self.project.trace(1, "long").endswith("\nended: the runner was told to end\n"))
+        self.assertEqual(self.cause(), ["2|4"])
+
+    def test_runner_takes_no_more_and_lets_its_job_end(self) -> None:
+        runner = self.begin_runner(self.tokens[0])
+        self.project.pipeline(f"a:\n  script: touch {self.room}/begun; sleep 2\nb:\n  script: echo\n")
+        until(lambda: os.path.exists(self.path("begun")))
+        runner.send_signal(signal.SIGQUIT)
+        self.assertEqual(runner.wait(20), 0)
+        self.assertEqual([job["status"] for job in self.project.shown(1)["jobs"]], ["success", "pending"])
+
+    def test_killed_runner(self) -> None:
+        runner = self.begin_long_job("  retry: 1\n")
+        runner.kill()
+        self.put_on(15)
+        self.assert_gone()
+        self.begin_runner(self.tokens[1], "two")
+        self.put_on(110)
+        until(lambda: "2" in self.lines("marks"))
+        self.assert_one_after_another()
+        self.assertEqual(self.cause(), ["2|3"])
+
+    def test_stopped_runner(self) -> None:
+        runner = self.begin_long_job("  retry: 1\n")
+        runner.send_signal(signal.SIGSTOP)
+        self.put_on(100)
+        self.assertNotIn("1 told", self.lines("marks"))
+        self.put_on(20)
+        self.assert_gone()
+        self.assertIn("1 told", self.lines("marks"))
+        self.begin_runner(self.tokens[1], "two")
+        self.put_on(10)
+        until(lambda: "2" in self.lines("marks"))
+        runner.send_signal(signal.SIGCONT)
+        time.sleep(2)
+        self.assert_one_after_another()
+
+    def test_outage_of_over_two_minutes(self) -> None:
+        self.begin_long_job("  retry: 1\n")
+        self.server.kill()
+        self.put_on(100)
+        self.assertNotIn("1 told", self.lines("marks"))
+        self.put_on(20)
+        self.assert_gone()
+        self.put_on(10)
+        self.server.start()
+        self.begin_runner(self.tokens[1], "two")
+        until(lambda: "2" in self.lines("marks"))
+        self.assert_one_after_another()
+        self.assertEqual(self.cause(), ["2|3"])
+
+    def test_shorter_outage_is_bridged(self) -> None:
+        self.begin_runner(self.tokens[0])
+        self.project.pipeline(f"build:\n  script: for i in $(seq 20); do echo line $i; touch {self.room}/begun; sleep 0.1; done\n")
+        until(lambda: os.path.exists(self.path("begun")))
+        self.server.kill()
+        self.put_on(90)
+        self.server.start()
+        self.assertEqual(self.project.ends(1), "success")
+        self.assertEqual([line for line in self.project.trace(1, "build").splitlines() if line.startswith("line")], [f"line {i}" for i in range(1, 21)])
+
+    def test_kills_of_the_server_and_two_runners_on_one_resource_group(self) -> None:
+        for name, token in zip(("one", "two"), self.tokens):
+            self.begin_runner(token, name, "concurrent = 2")
+        marks = f"    - for i in $(seq 10); do echo $CI_JOB_ID >> {self.room}/marks; sleep 0.05; done\n    - seq 2000\n"
+        numbers = []
+        for ref in range(4):
+            numbers.append(self.project.pipeline(f"ship:\n  retry: 2\n  resource_group: prod\n  script:\n{marks}", f"main{ref}", {"CI_COMMIT_SHA": self.git("rev-parse", "HEAD")}))
+            time.sleep(random.random())
+            self.server.kill()
+            self.server.start()
+        statuses = []
+        for number in numbers:
+            until(lambda: self.project.shown(number)["status"] == "success" or (self.put_on(20), False)[1], 40)
+            self.assertIn("\n1999\n2000\nended: exit code 0\n", self.project.trace(number, "ship"))
+        attempts = [line for line in self.lines("marks")]
+        changes = [line for place, line in enumerate(attempts) if place == 0 or attempts[place - 1] != line]
+        self.assertEqual(len(changes), len(set(changes)), changes)
+        self.assertEqual(statuses, [])
+
+    def test_replies_that_are_lost(self) -> None:
+        proxy = LossyProxy(self.server.port)
+        self.addCleanup(proxy.close)
+        real, self.server.port = self.server.port, proxy.port
+        self.begin_runner(self.tokens[0])
+        self.server.port = real
+        self.project.pipeline("build:\n  script: for i in $(seq 60); do seq 2000; sleep 0.1; done\n")
+        self.assertEqual(self.project.ends(1, 60), "success")
+        printed = self.project.trace(1, "build").partition("done\n")[2]
+        self.assertEqual(printed, "".join(f"{n}\n" for n in range(1, 2001)) * 60 + "ended: exit code 0\n")
+        self.assertGreater(proxy.lost, 3)
+
+
+class LossyProxy:
+    """Hands requests on to a server, and every second reply to what is said of an attempt to nobody."""
+
+    def __init__(self, server: int):
+        self.server, self.lost, self.count = server, 0, 0
+        self.place = socket.create_server(("127.0.0.1", 0))
+        self.port = self.place.getsockname()[1]
+        threading.Thread(target=self.serve, daemon=True).start()
+
+    def close(self) -> None:
+        self.place.close()
+
+    def serve(self) -> None:
+        while True:
+            try:
+                peer = self.place.accept()[0]
+            except OSError:
+                return
+            with peer:
+                request = self.request(peer)
+                with socket.create_connection(("127.0.0.1", self.server)) as server:
+                    server.sendall(request)
+                    reply = b""
+                    while data := server.recv(65_536):
+                        reply += data
+                self.count += 1
+                if self.count % 2 and b"/jobs/request" not in request.partition(b"\r\n")[0]:
+                    self.lost += 1
+                else:
+                    peer.sendall(reply)
+
+    @staticmethod
+    def request(peer: socket.socket) -> bytes:
+        data = b""
+        while b"\r\n\r\n" not in data:
+            data += peer.recv(65_536)
+        head, _, body = data.partition(b"\r\n\r\n")
+        length = next((int(line.split(b":")[1]) for line in head.split(b"\r\n") if line.lower().startswith(b"content-length:")), 0)
+        while len(body) < length:
+            body += peer.recv(65_536)
+        return head + b"\r\n\r\n" + body
+
+
+if __name__ == "__main__":
+    unittest.main()

@@ -1,0 +1,173 @@
+"""Parts of the runner by themselves."""
+import os
+import random
+import shutil
+import subprocess
+import sys
+import tempfile
+import unittest
+
+from support import RUNNER, run
+
+sys.path.insert(0, os.path.dirname(RUNNER))
+
+from ciserver_runner import config, pack, script, store, where  # noqa: E402
+from ciserver_runner.refused import Refused  # noqa: E402
+from ciserver_runner.trace import HEAD, LIMIT, TAIL, Mask, Trace, values_to_mask  # noqa: E402
+
+
+class Masks(unittest.TestCase):
+    def masked(self, values: list[bytes], pieces: list[bytes]) -> bytes:
+        mask = Mask(values)
+        return b"".join(map(mask.feed, pieces)) + mask.flush()
+
+    def test_values_in_pieces(self) -> None:
+        for pieces in ([b"a secret b"], [b"a sec", b"ret b"], [b"a ", b"s", b"e", b"c", b"r", b"e", b"t", b" b"]):
+            self.assertEqual(self.masked([b"secret"], pieces), b"a [MASKED] b")
+
+    def test_the_longer_value_goes_first(self) -> None:
+        self.assertEqual(self.masked([b"abcd", b"abcdefgh"], [b"abcd", b"efgh abcd", b"ef"]), b"[MASKED] [MASKED]ef")
+
+    def test_the_beginning_of_a_value_that_doesnt_go_on(self) -> None:
+        self.assertEqual(self.masked([b"secret"], [b"sec", b"ond secre"]), b"second secre")
+
+    def test_any_pieces_give_the_same(self) -> None:
+        chance = random.Random(1)
+        values = [b"abab", b"babb", b"aaaaaa", b"ab\nab"]
+        for _ in range(500):
+            text = bytes(chance.choice(b"ab\n") for _ in range(40))
+            cuts = sorted(chance.randrange(41) for _ in range(5))
+            pieces = [text[start:end] for start, end in zip([0, *cuts], [*cuts, 40])]
+            self.assertEqual(self.masked(values, pieces), self.masked(values, [text]))
+            self.assertFalse(any(value in self.masked(values, pieces) for value in values))
+
+    def test_what_is_looked_for(self) -> None:
+        self.assertEqual(values_to_mask(["abc", "", "key", "first line\n  x\nlong enough"]), [b"first line\n  x\nlong enough", b"long enough", b"first line"])
+
+
+class Traces(unittest.TestCase):
+    def whole(self, size: int) -> bytes:
+        trace = Trace(Mask())
+        data = random.Random(1).randbytes(size)
+        for start in range(0, size, 50_000):
+            trace.write(data[start:start + 50_000])
+        trace.close()
+        out = b""
+        while piece := trace.piece(len(out)):
+            self.assertLessEqual(len(piece), 65_536)
+            out += piece
+        self.assertLessEqual(len(out), LIMIT)
+        self.assertEqual(out[:min(size, HEAD)], data[:HEAD])
+        self.assertEqual(out[-min(size, TAIL):], data[-min(size, TAIL):])
+        return out
+
+    def test_sizes_about_the_limit(self) -> None:
+        for size in (1, HEAD - 1, HEAD, HEAD + 1, HEAD + TAIL):
+            self.assertEqual(len(self.whole(size)), size)
+        for size in (HEAD + TAIL + 1, LIMIT, LIMIT + 100_000):
+            self.assertIn(b"\n[%d bytes are left out here" % (size - HEAD - TAIL), self.whole(size))
+
+    def test_lines_of_the_runner_begin_a_line(self) -> None:
+        trace = Trace(Mask([b"secret"]))
+        trace.line("one")
+        trace.write(b"two sec")
+        trace.line("three secret")
+        trace.close()
+        self.assertEqual(trace.piece(0), b"one\ntwo sec\nthree [MASKED]\n")
+
+
+class Patterns(unittest.TestCase):
+    def test_which_paths_match(self) -> None:
+        names = ["a.txt", "b/a.txt", "b/c/a.txt", "b/c/x.o", "d.log", "[x]", "{a", ".hidden/f", "a,b"]
+        for pattern, wanted in (("*.txt", ["a.txt"]), ("**/*.txt", ["a.txt", "b/a.txt", "b/c/a.txt"]), ("b/*", ["b/a.txt"]), ("b/**", ["b/a.txt", "b/c/a.txt", "b/c/x.o"]),
+                                ("?.{txt,log}", ["a.txt", "d.log"]), ("[ab].txt", ["a.txt"]), ("[!a].log", ["d.log"]), ("*/f", [".hidden/f"]),
+                                ("[[]x]", ["[x]"]), ("a,b", ["a,b"]), ("b/**/x.o", ["b/c/x.o"])):
+            looked = pack.compiled(pattern)
+            self.assertEqual([name for name in names if looked.fullmatch(name)], wanted, pattern)
+
+    def test_paths_outside_are_refused(self) -> None:
+        self.assertEqual(pack.normal("./a//b/", "/r"), "a/b")
+        self.assertEqual(pack.normal("/r/a", "/r"), "a")
+        for path in ("/etc", "..", "a/../../b", "/rest"):
+            self.assertRaises(Refused, pack.normal, path, "/r")
+
+    def test_all_that_is_there_but_git(self) -> None:
+        with tempfile.TemporaryDirectory() as root:
+            for name in (".git/config", "a/.git/config", "a/b"):
+                os.makedirs(os.path.dirname(os.path.join(root, name)), exist_ok=True)
+                open(os.path.join(root, name), "w", encoding="utf-8").close()
+            os.mkfifo(os.path.join(root, "pipe"))
+            names = pack.matching(root, ["."], [])
+            self.assertEqual(names, ["a", "a/.git", "a/.git/config", "a/b", "pipe"])
+            pack.pack(root, names, root + "/x.tar", 10, lambda: None)
+            self.assertEqual(run("tar", "-tf", root + "/x.tar").splitlines(), ["a/", "a/.git/", "a/.git/config", "a/b"])
+
+
+class Texts(unittest.TestCase):
+    def test_variables_are_put_in(self) -> None:
+        values = {"A": "1", "B": "$A-${C}", "C": "<$B>", "E": ""}
+        for text, wanted in (("$A", "1"), ("${A}b$$A", "1b$A"), ("$NONE/$E/x$", "//x$"), ("$B", "1-<$B>"), ("${A", "${A")):
+            self.assertEqual(script.expanded(text, values), wanted)
+
+    def test_the_script_in_each_shell(self) -> None:
+        values = {"A": "it's\n$HOME `x` \\", "PATH2": "", "PPID": "1", "UID": "x", "IFS": "a"}
+        text = script.text_of(values, ["printf '<%s>' \"$A\"", "x=1; y=2", "echo $x$y; cat", "false | true", "exit 7", "echo no"])
+        for shell in filter(shutil.which, ("bash", "dash", "busybox")):
+            words = ["busybox", "sh"] if shell == "busybox" else [shell]
+            done = subprocess.run([*words, "-c", script.READ_ALL], input=text, stdout=subprocess.PIPE, stderr=subprocess.PIPE, check=False)
+            self.assertIn(b"<it's\n$HOME `x` \\>", done.stdout, shell)
+            self.assertIn(b"\n12\n", done.stdout, shell)
+            self.assertEqual(done.returncode, 7 if shell == "dash" else 1, shell)  # dash has no pipefail
+
+    def test_names_of_services(self) -> None:
+        self.assertEqual(where.aliases_of("postgres:15"), ["postgres"])
+        self.assertEqual(where.aliases_of("host:5000/group/db:1@sha256:ab"), ["host5000-group-db", "host5000__group__db"])
+
+
+class Configurations(unittest.TestCase):
+    GOOD = {"url": "http://h", "token": "r7-ab", "folder": "/f", "projects": {"1": {"repository": "/r"}}}
+
+    def test_a_good_one(self) -> None:
+        made = config.from_table(self.GOOD | {"artifacts": {"keep_days": 2}, "concurrent": 3})
+        self.assertEqual((made.number, made.artifacts_keep, made.concurrent, made.cache_folder), ("7", 172_800, 3, "/f/cache"))
+
+    def test_faults(self) -> None:
+        for more, told in (({"urls": "x"}, "`urls` is unknown"), ({"url": "h:80"}, "`url` is http"), ({"concurrent": 0}, "`concurrent` is a whole number"),
+                           ({"concurrent": True}, "`concurrent` is a whole number"), ({"masked": ["A", 1]}, "`masked` is a list of texts"),
+                           ({"where": "vm"}, "`where` is"), ({"cache": {"limit": 1}}, "`cache.limit` is unknown"), ({"cache": 1}, "`cache` is a table"),
+                           ({"projects": {"x": {}}}, "a project is told by its number"), ({"projects": {"1": {}}}, "the address of a Git repository"),
+                           ({"projects": {"1": {"repository": "https://a:b@h/r"}}}, "has a password"), ({"projects": {"1": {"repository": "r", "branch": "x"}}}, "unknown"),
+                           ({"token": ""}, "`token` is missing"), ({"token": "", "token_file": "/none"}, "cannot read /none")):
+            with self.assertRaisesRegex(config.Fault, told):
+                config.from_table(self.GOOD | more)
+
+    def test_words_and_the_example(self) -> None:
+        with tempfile.NamedTemporaryFile("w", suffix=".token") as file:
+            file.write("r3-ab\n")
+            file.flush()
+            made = config.from_words(["--url", "https://h/", "--token-file", file.name, "--folder", "f", "--project", "2=/r=x", "--concurrent", "2"])
+            self.assertEqual((made.url, made.token, made.folder, made.projects[2].repository), ("https://h", "r3-ab", os.path.abspath("f"), "/r=x"))
+            example = os.path.join(os.path.dirname(RUNNER), "config.example.toml")
+            made = config.from_words(["--config", example, "--token-file", file.name])
+            self.assertEqual(made.number, "3")
+
+    def test_the_program_says_what_is_wrong(self) -> None:
+        done = subprocess.run([RUNNER, "--url", "http://h", "--folder", "f"], stderr=subprocess.PIPE, text=True, check=False)
+        self.assertEqual((done.returncode, done.stderr), (2, "ciserver-runner: `token` is missing\n"))
+
+
+class Room(unittest.TestCase):
+    def test_folders_that_may_not_be_written_are_removed(self) -> None:
+        root = tempfile.mkdtemp()
+        os.makedirs(root + "/a/b")
+        open(root + "/a/b/c", "w", encoding="utf-8").close()
+        os.symlink("/etc", root + "/a/link")
+        os.chmod(root + "/a/b", 0o500)
+        os.chmod(root + "/a", 0o0)
+        store.remove_tree(root)
+        self.assertFalse(os.path.lexists(root))
+        self.assertTrue(os.path.exists("/etc/passwd"))
+
+
+if __name__ == "__main__":
+    unittest.main()
