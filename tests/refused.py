@@ -20,7 +20,7 @@ import shutil
 import subprocess
 import sys
 import tempfile
-from concurrent.futures import ProcessPoolExecutor
+from concurrent.futures import ProcessPoolExecutor, as_completed
 
 from lines import Fault
 from refused_kinds import kinds_of
@@ -66,7 +66,7 @@ def main():
         refuse = library(room)
         told = [pool.submit(tried, *task, refuse, room) for task in tasks]
         good = refusals = 0
-        for one in told:
+        for one in as_completed(told):
             line, count, is_good = one.result()
             print(line, flush=True)
             refusals += count
