@@ -12,7 +12,7 @@ An event is tried as the server stands then, and once more by one that was opene
 Each has a line: its name, how many requests of memory were refused, and how these trials ended, with the first number of each end. The last line
 counts; the status is 0 where all were as wanted.
 
-    refused.py [--all] [NAME..]     --all: with all memory refused from that request on, too
+    refused.py [--all] [NAME..]     --all: beside 300 leases too, and with all memory refused from that request on
 """
 import argparse
 import os
@@ -20,7 +20,7 @@ import shutil
 import subprocess
 import sys
 import tempfile
-from concurrent.futures import ProcessPoolExecutor
+from concurrent.futures import ProcessPoolExecutor, as_completed
 
 from lines import Fault
 from refused_kinds import kinds_of
@@ -59,14 +59,14 @@ def main():
     parser.add_argument('names', nargs='*')
     words = parser.parse_args()
     tasks = [(name, is_cold, is_rest) for name in words.names or KINDS for is_cold in KINDS[name].colds()
-             for is_rest in (False, True)[:1 + words.all]]
+             for is_rest in (False, True)[:1 + words.all] if not KINDS[name].is_large or (words.all and not is_rest)]
     shared = '/dev/shm' if os.access('/dev/shm', os.W_OK) else None
     with tempfile.TemporaryDirectory(prefix='refused-', dir=shared) as room, ProcessPoolExecutor() as pool:
         shim()
         refuse = library(room)
         told = [pool.submit(tried, *task, refuse, room) for task in tasks]
         good = refusals = 0
-        for one in told:
+        for one in as_completed(told):
             line, count, is_good = one.result()
             print(line, flush=True)
             refusals += count

@@ -23,7 +23,7 @@ class Kind:
         self.wanted = None
         self.unswept = self.repeated = None
         self.some, self.never = [], []
-        self.is_clocked = False
+        self.is_clocked = self.is_large = False
 
     def colds(self):
         """Is it tried by a server that was just opened? A command always is one."""
@@ -78,8 +78,8 @@ class Reader:
             self.texts.begin(name, first, '\n' if word == 'file' else '')
         elif word == '|':
             self.texts.put(rest)
-        elif word == 'clocked':
-            self.kind.is_clocked = True
+        elif word in ('clocked', 'large'):
+            setattr(self.kind, f'is_{word}', True)
         elif word in ('blank', 'version1'):
             self.kind.start = word
         elif word == 'from':

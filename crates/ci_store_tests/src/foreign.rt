@@ -239,18 +239,3 @@ fn version_1_is_refused_and_gets_no_table(rt: HostRuntime) -> Result<(), Fail> {
     discard(conn);
     Ok(())
 }
-
-/// Another program puts a mode of each number.
-const MODES_PUT: &str =
-    "INSERT INTO mode (project, grp, mode) VALUES (1, 'first', 1), (1, 'second', 2)";
-
-#[test]
-fn a_mode_is_1_or_2(rt: HostRuntime) -> Result<(), Fail> {
-    let mut tables = found(open(altered(rt.alloc(), MODES_PUT)?)).ok_or("not opened")?;
-    let wants = [(
-        Load::Modes,
-        "1 first oldest_first; 1 prod oldest_first; 1 second newest_ready_first",
-    )];
-    assert!(rt; are_shown(rt.alloc(), &mut tables, &wants)?);
-    Ok(())
-}

@@ -1,10 +1,6 @@
-//! Tests of the tables over memory and over disks that fail.
+//! Tests of the tables over memory.
 #![tactic(auto)]
 
-#[cfg(test)]
-mod blocks;
-#[cfg(test)]
-mod crashes;
 #[cfg(test)]
 mod foreign;
 #[cfg(test)]

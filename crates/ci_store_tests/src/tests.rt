@@ -714,58 +714,6 @@ const TEXTS: &[(&str, &str)] = &[
         "SELECT spec FROM job WHERE id = 1",
         r#"{"allow_failure":[1,137],"interruptible":true,"needs":true,"resource_group":"prod","retry":{"causes":["script_failure","job_execution_timeout"],"max":2},"script":["make","make check"],"tags":["gpu"],"timeout":3600,"when":"always"}"#,
     ),
-    (
-        "SELECT sql FROM sqlite_schema WHERE name = 'job'",
-        "CREATE TABLE job (id INTEGER PRIMARY KEY, pipeline INTEGER NOT NULL REFERENCES pipeline (id) ON DELETE CASCADE, pos INTEGER NOT NULL, name TEXT NOT NULL, stage TEXT NOT NULL, spec TEXT NOT NULL, played INTEGER NOT NULL, cancelled INTEGER NOT NULL, aside INTEGER NOT NULL) STRICT",
-    ),
-    (
-        "SELECT sql FROM sqlite_schema WHERE name = 'attempt'",
-        "CREATE TABLE attempt (id INTEGER PRIMARY KEY, job INTEGER NOT NULL REFERENCES job (id) ON DELETE CASCADE, runner INTEGER NOT NULL REFERENCES runner (id), token TEXT NOT NULL, granted INTEGER NOT NULL, seen INTEGER NOT NULL, state INTEGER NOT NULL, cause INTEGER, exit INTEGER) STRICT",
-    ),
-    (
-        "SELECT sql FROM sqlite_schema WHERE name = 'piece'",
-        "CREATE TABLE piece (attempt INTEGER NOT NULL REFERENCES attempt (id) ON DELETE CASCADE, seq INTEGER NOT NULL, bytes BLOB NOT NULL, PRIMARY KEY (attempt, seq)) STRICT",
-    ),
-    (
-        "SELECT sql FROM sqlite_schema WHERE name = 'need'",
-        "CREATE TABLE need (job INTEGER NOT NULL REFERENCES job (id) ON DELETE CASCADE, pred INTEGER NOT NULL REFERENCES job (id) ON DELETE CASCADE, PRIMARY KEY (job, pred)) STRICT",
-    ),
-    (
-        "SELECT sql FROM sqlite_schema WHERE name = 'board'",
-        "CREATE TABLE board (job INTEGER PRIMARY KEY REFERENCES job (id) ON DELETE CASCADE, status INTEGER NOT NULL, open INTEGER NOT NULL, failed INTEGER NOT NULL, barred INTEGER NOT NULL) STRICT",
-    ),
-    (
-        "SELECT sql FROM sqlite_schema WHERE name = 'board_status'",
-        "CREATE INDEX board_status ON board (status, job)",
-    ),
-    (
-        "SELECT sql FROM sqlite_schema WHERE name = 'need_pred'",
-        "CREATE INDEX need_pred ON need (pred)",
-    ),
-    (
-        "SELECT sql FROM sqlite_schema WHERE name = 'variable'",
-        "CREATE TABLE variable (project INTEGER NOT NULL REFERENCES project (id), key TEXT NOT NULL, value TEXT NOT NULL, PRIMARY KEY (project, key)) STRICT",
-    ),
-    (
-        "SELECT sql FROM sqlite_schema WHERE name = 'holder'",
-        "CREATE TABLE holder (project INTEGER NOT NULL REFERENCES project (id), grp TEXT NOT NULL, attempt INTEGER NOT NULL REFERENCES attempt (id) ON DELETE CASCADE, PRIMARY KEY (project, grp)) STRICT",
-    ),
-    (
-        "SELECT sql FROM sqlite_schema WHERE name = 'holder_attempt'",
-        "CREATE INDEX holder_attempt ON holder (attempt)",
-    ),
-    (
-        "SELECT sql FROM sqlite_schema WHERE name = 'pipeline_ref'",
-        "CREATE INDEX pipeline_ref ON pipeline (project, ref, kind, id)",
-    ),
-    (
-        "SELECT sql FROM sqlite_schema WHERE name = 'pipeline_created'",
-        "CREATE INDEX pipeline_created ON pipeline (created)",
-    ),
-    (
-        "SELECT sql FROM sqlite_schema WHERE name = 'mode'",
-        "CREATE TABLE mode (project INTEGER NOT NULL REFERENCES project (id), grp TEXT NOT NULL, mode INTEGER NOT NULL, PRIMARY KEY (project, grp)) STRICT",
-    ),
 ];
 
 #[test]
