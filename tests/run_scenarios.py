@@ -17,7 +17,7 @@ from lines import Fault, scenarios_of
 from stage import perform
 from steps import steps_of
 from stops import Difference
-from world import World, Wrong, shim
+from world import PROGRAM, World, Wrong, shim
 
 HERE = os.path.dirname(os.path.abspath(__file__))
 # Where the files of scenarios lie: in memory, where a sync costs nothing.
@@ -74,6 +74,9 @@ def as_wanted(path, scenario, differs):
 
 
 def main(paths):
+    if not os.access(PROGRAM, os.X_OK):
+        print(f'there is no {PROGRAM}: make build', file=sys.stderr)
+        return 1
     shim()
     passed = failed = 0
     with ProcessPoolExecutor(os.cpu_count()) as pool:

@@ -70,13 +70,13 @@ class Stage:
 
     def sweep(self):
         """What a request sweeps that does nothing else."""
-        mark = self.log.mark()
+        mark, before = self.log.mark(), transactions.standing(self.world)
         told = Reply(self.world.exchange(POLL)).told()
         if told == CLOSED:
             return CLOSED
         if told != '403 M4':
             raise Differs('403 M4', told)
-        return '\n'.join(transactions.sweeps_since(self.world, self.log, mark)) or 'nothing'
+        return '\n'.join(transactions.sweeps_since(self.world, self.log, mark, before)) or 'nothing'
 
     def follow(self, ask):
         """Has an event handled, which must be answered as it says. A sweep, and a command that prunes, do all at once that they find, and the steps
@@ -114,7 +114,7 @@ class Stage:
         """There may be so many transactions since then, of the event itself; one more is a sweep's."""
         ends, _ = self.log.since(mark)
         if len(ends) > most:
-            raise Fault(f'a sweep did something before the event: {transactions.sweeps_since(self.world, self.log, mark)}')
+            raise Fault(f'a sweep did something before the event: {len(ends)} transactions')
 
     # ---- steps
 

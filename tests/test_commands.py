@@ -31,13 +31,11 @@ class Commands(Case):
         self.assertEqual(int.from_bytes(content[28:32], 'big') * 1024, len(content))
 
     def test_without_seeds_no_token_is_made(self):
-        """A file with an empty log needs a seed too, for a new one: it is looked at first."""
-        self.begin('add-project p', 'set-file 1 one')
-        self.world.stop()
+        """The store takes random bytes too, as it is opened, and faults of the store go before those of a request."""
+        self.begin('add-project p')
         self.world.seed_fails()
-        self.ran(1, 'refused: seed\n', 'project-add', '--db', self.world.db, '--name', 'q')
+        self.ran(3, 'store: O3\n', 'project-add', '--db', self.world.db, '--name', 'q')
         self.assertEqual(self.world.rows('SELECT id FROM project'), [(1,)])
-
 
     def test_a_row_that_is_no_record_is_told_by_what_reads_it(self):
         self.begin('add-runner r')

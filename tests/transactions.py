@@ -74,8 +74,8 @@ def copied(world, end=None):
             yield connection
 
 
-def standing(world, end):
-    """How each attempt stands, and which jobs are cancelled, where the log ends there."""
+def standing(world, end=None):
+    """How each attempt stands, and which jobs are cancelled: now, or where the log ends there."""
     with copied(world, end) as connection:
         attempts = {number: (state, cause) for number, state, cause in connection.execute('SELECT id, state, cause FROM attempt')}
         cancelled = dict(connection.execute('SELECT id, pipeline FROM job WHERE cancelled = 1'))
@@ -95,10 +95,8 @@ def swept(before, after):
     raise Fault('a transaction that no sweep makes')
 
 
-def sweeps_since(world, log, mark):
-    """What each transaction since then did, where all were sweeps."""
-    ends, begin = log.since(mark)
-    if not ends:
-        return []
-    states = [standing(world, end) for end in [begin, *ends]]
-    return [swept(before, after) for before, after in zip(states, states[1:])]
+def sweeps_since(world, log, mark, before):
+    """What each transaction since then did, where all were sweeps, and attempts and jobs stood so before."""
+    ends, _ = log.since(mark)
+    states = [before, *(standing(world, end) for end in ends)]
+    return [swept(*pair) for pair in zip(states, states[1:])]
