@@ -15,7 +15,7 @@ demo:
 	bin/ciserver check crates/ci_config_texts/data/pipeline.yml
 	bin/ciserver check crates/ci_config_texts/data/job_named_twice.yml; test $$? = 1
 	@echo
-	examples/demo.sh
+	MAKELEVEL=0 examples/demo.sh
 
 test:
 	.ci/gate
