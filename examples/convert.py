@@ -3,7 +3,7 @@
 
 convert.py [--root FOLDER] [--set NAME=VALUE].. [--default-branch NAME] [--strict] FILE > .gitlab-ci.yml
 
-It writes out anchors and merge keys, local includes, extends, !reference, default, before_script, after_script, only and except of
+It writes out anchors and merge keys, local includes and their inputs, extends, !reference, default, before_script, after_script, only and except of
 refs and variables, parallel, and texts over several lines. What was dropped or changed it says on standard error, each with its
 place, as `FILE:LINE: what`. FILE may be - for standard input; local includes are looked for in FOLDER, which is the folder of FILE
 where it isn't given. What another file would bring, one of another project, of a template or of an address, isn't fetched: a job that needs it is

@@ -40,8 +40,6 @@ class Converter:
         self.for_runner = ForRunner(notes)
 
     def whole(self) -> dict:
-        if "spec" in self.config:
-            self.tell_left_out("spec", self.config.places["spec"])
         stages = self.config.get("stages", self.config.get("types"))
         if stages is not None and not is_null(stages):
             self.made["stages"] = words_of(stages, "stages")
