@@ -191,7 +191,7 @@ class Converter:
                 self.notes.add(place, f"{keyword}: `{found[0]}` stays as it is written")
                 return found[0]
             self.notes.add(place, f"{keyword}: `{name}` is put in as the file has it: what a project or a request sets changes nothing of it")
-            return known[name]
+            return self.put_in(keyword, job, known[name], {key: it for key, it in known.items() if key != name})
 
         return NAMED.sub(put, value)
 

@@ -102,7 +102,7 @@ for example in "$work"/example*.yml; do
 done
 # The files in the manner of real ones, each with the jobs that it is to have.
 ../files/count.sh "$ciserver" > "$work/count"
-read -r files _ right <<< "$(sed -nE 's/^([0-9]+) files: (.*), ([0-9]+) with the jobs.*/\1 - \3/p' "$work/count")"
+read -r files _ right <<< "$(sed -nE 's/^([0-9]+) files: (.*), ([0-9]+) as they are to be$/\1 - \3/p' "$work/count")"
 if [ "${files:-0}" = 0 ] || [ "$files" != "$right" ]; then
   cat "$work/count"
   files=$((${files:-0} > 0 ? files : 1))
