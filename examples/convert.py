@@ -3,12 +3,13 @@
 
 convert.py [--root FOLDER] [--set NAME=VALUE].. [--default-branch NAME] [--strict] FILE > .gitlab-ci.yml
 
-It writes out anchors and merge keys, local includes, extends, !reference, default, before_script, after_script, only and except of
-refs and variables, parallel, and texts over several lines. What was dropped or changed it says on standard error, each with its
-place, as `FILE:LINE: what`. FILE may be - for standard input; local includes are looked for in FOLDER, which is the folder of FILE
-where it isn't given. What another file would bring, one of another project, of a template or of an address, isn't fetched: a job that needs it is
-left out, or with --strict refused. With --set the file gets this variable, where it has none of the name: --set CI_PROJECT_PATH=group/project for
-one that GitLab would set. --default-branch NAME is --set CI_DEFAULT_BRANCH=NAME.
+It writes out anchors and merge keys, local includes and their inputs, extends, !reference, default, before_script, after_script, only
+and except of refs and variables, the rules of workflow, parallel, and texts over several lines. What was dropped or changed it says on
+standard error, each with its place, as `FILE:LINE: job `NAME`: what`. FILE may be - for standard input; local includes are looked for
+in FOLDER, which is the folder of FILE where it isn't given. What a file of another project, of a template or of an address would
+bring isn't fetched: a job that needs it is left out, or with --strict refused. With --set the file gets this variable, where it has
+none of the name: --set CI_PROJECT_PATH=group/project for one that GitLab would set. --default-branch NAME is
+--set CI_DEFAULT_BRANCH=NAME.
 
 Status: 0 written; 1 refused (nothing is written), or what was written is over a limit of the profile; 2 wrong words; 3 a file can't be
 read, or there is no python3-yaml, which it wants. Its modules are in the folder convert beside it.
@@ -41,14 +42,14 @@ def variable(word: str) -> tuple[str, str]:
     return found[1], found[2]
 
 
-def arguments() -> argparse.Namespace:
+def arguments(words: list[str] | None = None) -> argparse.Namespace:
     parser = argparse.ArgumentParser(description="Writes a GitLab CI file out into the profile that ciserver reads.")
     parser.add_argument("--root", help="the folder of the project, in which local includes are looked for")
     parser.add_argument("--set", metavar="NAME=VALUE", action="append", default=[], type=variable, help="gives the file a variable")
     parser.add_argument("--default-branch", metavar="NAME", help="gives the file the variable CI_DEFAULT_BRANCH")
     parser.add_argument("--strict", action="store_true", help="refuses a file where a job would be left out for what isn't there")
     parser.add_argument("file", metavar="FILE", help="the file, or - for standard input")
-    return parser.parse_args()
+    return parser.parse_args(words)
 
 
 def placed(place: Place | None, what: str) -> str:

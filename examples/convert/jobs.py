@@ -40,8 +40,6 @@ class Converter:
         self.for_runner = ForRunner(notes)
 
     def whole(self) -> dict:
-        if "spec" in self.config:
-            self.tell_left_out("spec", self.config.places["spec"])
         stages = self.config.get("stages", self.config.get("types"))
         if stages is not None and not is_null(stages):
             self.made["stages"] = words_of(stages, "stages")
@@ -193,7 +191,7 @@ class Converter:
                 self.notes.add(place, f"{keyword}: `{found[0]}` stays as it is written")
                 return found[0]
             self.notes.add(place, f"{keyword}: `{name}` is put in as the file has it: what a project or a request sets changes nothing of it")
-            return known[name]
+            return self.put_in(keyword, job, known[name], {key: it for key, it in known.items() if key != name})
 
         return NAMED.sub(put, value)
 

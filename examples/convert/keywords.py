@@ -4,7 +4,6 @@ from __future__ import annotations
 import re
 
 LEFT_OUT = {
-    "spec": "there are no inputs here",
     "environment": "there are no environments here: `resource_group` keeps two deployments apart",
     "coverage": "nothing reads figures out of traces",
     "release": "nothing is released by the server: a script does it",
@@ -16,7 +15,7 @@ LEFT_OUT = {
 }
 TOP_DEFAULTS = ("before_script", "after_script", "image", "services", "cache")  # what `default` has, also at the top level
 DEFAULTS = TOP_DEFAULTS + ("artifacts", "retry", "tags", "timeout", "interruptible")
-TOP = TOP_DEFAULTS + ("stages", "types", "variables", "default", "workflow", "spec")
+TOP = TOP_DEFAULTS + ("stages", "types", "variables", "default", "workflow")
 TAKEN = DEFAULTS + (
     "script", "stage", "needs", "rules", "when", "allow_failure", "resource_group", "variables", "only", "except", "parallel",
     "extends", "inherit", "trigger", "dependencies",

@@ -8,6 +8,7 @@ import sys
 
 import yaml
 
+from .inputs import filled, values_of
 from .notes import Notes
 from .tree import MOST_NODES, List, Map, Place, Reference, Refused, Text, Unread, flat, merged, text
 
@@ -30,8 +31,8 @@ class Reader:
         self.files = 0
         self.lacks = False  # whether a file that is included isn't here
 
-    def load(self, name: str, content: str) -> Map:
-        """The map that a file's text is."""
+    def load(self, name: str, content: str, given: Map | None = None) -> Map:
+        """The map that a file's text is, with the inputs that are given."""
         try:
             nodes = list(yaml.compose_all(content, Loader=Loader))
         except yaml.MarkedYAMLError as fault:
@@ -42,8 +43,10 @@ class Reader:
         made = [self.value(node, name) for node in nodes]
         if not made or not isinstance(made[-1], Map):
             raise Refused((name, 1), "the file is no map of keywords and jobs")
+        if len(made) == 2 and isinstance(made[0], Map) and list(made[0]) == ["spec"]:
+            return filled(made[1], values_of(made[0], given))
         if len(made) > 1:
-            self.notes.add(made[0].place, "what stands before the last `---` is dropped: there are no inputs here")
+            self.notes.add(made[0].place, "what stands before the last `---` is dropped")
         return made[-1]
 
     def value(self, node, name: str):
@@ -80,7 +83,7 @@ class Reader:
             made.put(key_node.value, value, key_place)
         return made
 
-    def read(self, path: str, name: str, by: Place | None = None) -> Map:
+    def read(self, path: str, name: str, by: Place | None = None, given: Map | None = None) -> Map:
         """A file's map; the place that includes it is told where it can't be read."""
         self.files += 1
         if self.files > MOST_FILES:
@@ -91,7 +94,7 @@ class Reader:
             else:
                 with open(path, "rb") as file:
                     content = file.read()
-            return self.load(name, content.decode())
+            return self.load(name, content.decode(), given)
         except OSError as fault:
             raise Unread(by, f"cannot read {name}: {fault.strerror}") from None
         except UnicodeDecodeError:
@@ -104,7 +107,8 @@ class Reader:
             for path in self.included(item, config.places["include"]):
                 if path in above:
                     raise Refused(config.places["include"], f"`{os.path.relpath(path, self.root)}` includes itself")
-                found = self.read(path, os.path.relpath(path, self.root), item.place or config.places["include"])
+                given = item.get("inputs") if isinstance(item, Map) else None
+                found = self.read(path, os.path.relpath(path, self.root), item.place or config.places["include"], given)
                 lower = merged(lower, self.with_includes(found, above + (path,)))
         return merged(lower, config.without("include"))
 
@@ -116,7 +120,7 @@ class Reader:
                 self.lacks = True
                 self.notes.add(place, f"include: dropped: nothing of `{', '.join(item)}` is fetched; save the file and include it as local")
                 return []
-            for key in item.without("local"):
+            for key in item.without("local", "inputs"):
                 self.notes.add(item.places[key], f"include: `{key}` is dropped: the file is always included")
             item = item["local"]
         if re.match(r"https?://", item):

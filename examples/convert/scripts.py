@@ -2,11 +2,15 @@
 from __future__ import annotations
 
 import dataclasses
+import functools
 import re
+import shutil
+import subprocess
 
 from .notes import Notes
 from .tree import Map, Refused, Text, flat
 MOST_PARTS = 256
+MAY_GO_ON = re.compile(r"^\s*(if|for|while|until|case|select)\b|\b(then|do|else)\s*$|[{(]\s*$|(\\|&&|\|\||\|)\s*$")
 
 # Round a script and its after_script: each runs in a shell of its own, and the second one also where the first one failed or was asked to end.
 BEFORE = """trap : TERM
@@ -41,7 +45,8 @@ class Scripts:
         self.notes = notes
 
     def script(self, job: Map, putting: list[str]) -> Script:
-        made = Script(putting, self.lines(job.get("before_script")) + self.lines(job.get("script")), self.lines(job.get("after_script")))
+        lines = whole(self.lines(job.get("before_script")) + self.lines(job.get("script")))
+        made = Script(putting, lines, self.lines(job.get("after_script")))
         if made.after:
             cause = "in one block with it: a job that is killed at once doesn't come to it"
             self.notes.add(job.places["after_script"], f"after_script: it stands behind the script now, {cause}")
@@ -68,3 +73,30 @@ class Scripts:
 
 def block(lines: list[str]) -> str:
     return "\n".join(it.rstrip("\n") for it in lines) + "\n"
+
+
+def whole(lines: list[str]) -> list[str]:
+    """The lines with commands that go over several of them in one: a runner runs each by itself."""
+    made: list[str] = []
+    at = 0
+    while at < len(lines):
+        count = 1
+        if MAY_GO_ON.search(lines[at]):
+            count = next((it for it in range(1, len(lines) - at + 1) if is_whole(tuple(lines[at : at + it]))), 1)
+        made.append(lines[at] if count == 1 else block(lines[at : at + count]))
+        at += count
+    return made
+
+
+@functools.cache
+def bash() -> str | None:
+    return shutil.which("bash")
+
+
+@functools.cache
+def is_whole(lines: tuple[str, ...]) -> bool:
+    """Whether a shell finds no fault in what these lines say; it runs nothing."""
+    if not bash():
+        return True
+    said = subprocess.run([bash(), "-n", "-c", block(list(lines))], stdin=subprocess.DEVNULL, capture_output=True, check=False)
+    return said.returncode == 0 and not re.search(r"(&&|\|\||\||\\)\s*$", lines[-1])

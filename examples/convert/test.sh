@@ -1,7 +1,7 @@
 #!/usr/bin/env bash
 # Has examples/convert.py write out each NAME.yml of the folder cases, with the words of NAME.args, and compares what it prints with NAME.stdout and
 # NAME.stderr and how it ends with NAME.status (0 where there is none). What ended with 0 has to be a file that the program takes. And the examples
-# of docs/CONVERTING.md have to be answered as they say. Then come the tests of test_convert.py.
+# of docs/CONVERTING.md have to be answered as they say. Then come the files of the folder files, and the tests of test_convert.py.
 #
 #   examples/convert/test.sh [CISERVER]        as in: examples/convert/test.sh bin/ciserver
 #
@@ -100,6 +100,15 @@ for example in "$work"/example*.yml; do
     cat "$example"
   fi
 done
+# The files in the manner of real ones, each with the jobs that it is to have.
+../files/count.sh "$ciserver" > "$work/count"
+read -r files _ right <<< "$(sed -nE 's/^([0-9]+) files: (.*), ([0-9]+) as they are to be$/\1 - \3/p' "$work/count")"
+if [ "${files:-0}" = 0 ] || [ "$files" != "$right" ]; then
+  cat "$work/count"
+  files=$((${files:-0} > 0 ? files : 1))
+fi
+passed=$((passed + ${right:-0}))
+failed=$((failed + files - ${right:-0}))
 # The tests of test_convert.py: what the written scripts do in a shell, and what the parts of convert.py answer.
 (cd .. && python3 -m unittest test_convert) 2> "$work/tests"
 ran=$(sed -n 's/^Ran \([0-9]*\) tests* .*/\1/p' "$work/tests")

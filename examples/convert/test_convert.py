@@ -4,6 +4,10 @@ python3 -m unittest examples/convert/test_convert.py; test.sh runs it too. It wa
 """
 from __future__ import annotations
 
+import ast
+import contextlib
+import importlib.util
+import io
 import itertools
 import os
 import random
@@ -13,15 +17,19 @@ import subprocess
 import sys
 import tempfile
 import unittest
+import unittest.mock
 
 sys.dont_write_bytecode = True
-sys.path.insert(0, os.path.join(os.path.dirname(os.path.abspath(__file__)), ".."))
+HERE = os.path.dirname(os.path.abspath(__file__))
+sys.path.insert(0, os.path.dirname(HERE))
 
 from convert.expressions import formula  # noqa: E402
 from convert.jobs import Converter  # noqa: E402
+from convert.keywords import LEFT_OUT  # noqa: E402
 from convert.linking import Linker  # noqa: E402
 from convert.notes import Notes  # noqa: E402
 from convert.reading import Reader  # noqa: E402
+from convert.tree import Refused, Unread  # noqa: E402
 from convert.writing import written  # noqa: E402
 
 
@@ -207,6 +215,114 @@ class RepeatedScripts(unittest.TestCase):
         converter = converter_of(self.content(75))
         self.assertGreater(len(written(converter.whole())), 75 * len(self.SHARED))
         self.assertLess(len(written(converter.shorter())), 65_536)
+
+
+class Refusals(unittest.TestCase):
+    """What is refused, with its line."""
+
+    JOB = "build: {script: make}\n"
+    ROWS = (
+        ("build: {script: make, services: [[a, {alias: b}]]}", 1, "services: a service is neither a name nor a map with one"),
+        ("build: {script: make, cache: x}", 1, "cache: it is no map"),
+        ("build: {script: make,\n artifacts: x}", 2, "artifacts: it is no map"),
+        (JOB + "test: make", 2, "it is no map"),
+        ("'': {script: make}", 1, "`` is no name: that has 1 to 255 bytes, and no control characters"),
+        ("build: {script: make, parallel: 2}\n" + "build 1/2: {script: make}", 2, "two jobs would be named `build 1/2`"),
+        ("".join(f"job{i}: {{script: make, parallel: 200}}\n" for i in range(6)), 6, "there are over 1000 jobs"),
+        ("".join(f".a{i}: {{extends: .a{i + 1}}}\n" for i in range(13)) + ".a13: {script: make}\n" + JOB, 13, "`extends` goes too deep"),
+        (".a: {script: !reference [.b, script]}\n.b: {script: !reference [.a, script]}\n" + JOB, 1,
+         "!reference [.b, script] goes round in a circle, or too deep"),
+        (".a: &a [x, x, x, x, x, x, x, x, x, x]\n" + "".join(f".{it}: &{it} [{', '.join(['*' + up] * 10)}]\n" for up, it in zip("abc", "bcd")), 1,
+         "the file is too big, written out"),
+        (".a: [x, x, x, x, x, x, x, x, x, x]\n" + "".join(f".{it}: [{', '.join([f'!reference [.{up}]'] * 10)}]\n" for up, it in zip("abc", "bcd")), 1,
+         "the file is too big, written out"),
+        ("build: \x01", 1, "this is no YAML: unacceptable character #x0001: special characters are not allowed in \"<unicode string>\", position 7"),
+        ("build:\n  ? [a]\n  : b", 2, "a key is no text"),
+        ("build:\n  script: make\n  <<: x", 3, "a merge key wants maps"),
+        ("build:\n  script: make\n  only: [main, {a: b}]", 3, "only: `{'a': 'b'}` can't be said here"),
+        ("build:\n  script: make\n  only: {variables: [$A =~ $B]}", 3, "only: `$A =~ $B` can't be said here"),
+        ("build:\n  script: make\n  allow_failure: {exit_codes: [x]}", 3, "allow_failure: `exit_codes` is no number, and no list of them"),
+        ("build:\n  script: make\n  rules: [x]", 3, "a rule is no map"),
+        ("workflow: {rules: [x]}\n" + JOB, 1, "a rule is no map"),
+        ("build:\n  script: make\n  tags: [{a: b}]", 3, "tags: a map stands where a text is due"),
+        ("build:\n  script: make\n  parallel: {matrix: [x]}", 3, "parallel: the matrix is no list of maps"),
+        ("build:\n  script: make\n  parallel:\n    matrix: [{A: [" + ", ".join(map(str, range(201))) + "]}]", 3, "parallel: the matrix has over 200 rows"),
+        ("variables:\n  A: [b]\n" + JOB, 2, "the value of the variable `A` is no text"),
+    )
+
+    @unittest.mock.patch("convert.reading.MOST_NODES", 1_000)
+    @unittest.mock.patch("convert.linking.MOST_NODES", 1_000)
+    def test_each_row_is_refused(self) -> None:
+        for content, line, sentence in self.ROWS:
+            with self.subTest(sentence), self.assertRaises(Refused) as said:
+                converted(content)
+            self.assertEqual(said.exception.args, (("ci.yml", line), sentence))
+
+    def test_over_150_files_are_refused(self) -> None:
+        with tempfile.TemporaryDirectory() as folder:
+            for i in range(151):
+                with open(os.path.join(folder, f"{i}.yml"), "w", encoding="utf-8") as file:
+                    file.write(f"job{i}: {{script: make}}\n")
+            reader = Reader(folder, Notes())
+            with self.assertRaises(Refused) as said:
+                reader.with_includes(reader.load("ci.yml", "include: '*.yml'"))
+            self.assertEqual(said.exception.args[1], "over 150 files are included")
+
+
+class Sentences(unittest.TestCase):
+    """Each sentence that convert.py says is said in one of the cases."""
+
+    def test_each_place_that_says_something_is_come_to(self) -> None:
+        come_to: set[tuple[str, int]] = set()
+
+        def trace(frame, event, _):
+            if os.path.dirname(frame.f_code.co_filename) != HERE:
+                return None
+            come_to.add((os.path.basename(frame.f_code.co_filename), frame.f_lineno))
+            return trace
+
+        sys.settrace(trace)
+        try:
+            self.convert_all_cases()
+            Refusals("test_each_row_is_refused").debug()
+            Refusals("test_over_150_files_are_refused").debug()
+        finally:
+            sys.settrace(None)
+        for name in sorted(it for it in os.listdir(HERE) if it.endswith(".py") and it != os.path.basename(__file__)):
+            for first, last in self.says(name):
+                with self.subTest(f"{name}:{first}"):
+                    self.assertTrue(any((name, line) in come_to for line in range(first, last + 1)))
+
+    def says(self, name: str) -> list[tuple[int, int]]:
+        """The lines of the statements that note or refuse something."""
+        with open(os.path.join(HERE, name), encoding="utf-8") as file:
+            nodes = list(ast.walk(ast.parse(file.read())))
+        calls = [it for it in nodes if isinstance(it, ast.Call) and isinstance(it.func, ast.Attribute) and it.func.attr == "add"]
+        notes = [it for it in calls if "notes" in ast.unparse(it.func.value)]
+        return [(it.lineno, it.end_lineno) for it in notes + [it for it in nodes if isinstance(it, ast.Raise)]]
+
+    def convert_all_cases(self) -> None:
+        spec = importlib.util.spec_from_file_location("convert_command", os.path.join(HERE, "..", "convert.py"))
+        command = importlib.util.module_from_spec(spec)
+        spec.loader.exec_module(command)
+        was = os.getcwd()
+        os.chdir(os.path.join(HERE, "cases"))
+        for name in sorted(it for it in os.listdir(".") if it.endswith(".yml")):
+            words = name[:-4] + ".args"
+            with open(words, encoding="utf-8") if os.path.exists(words) else io.StringIO() as file:
+                given = file.read().split()
+            with contextlib.suppress(Refused, Unread, RecursionError):
+                command.convert(command.arguments([*given, name]), Notes())
+        os.chdir(was)
+
+    def test_each_cause_of_the_table_is_told(self) -> None:
+        told = ""
+        for name in os.listdir(os.path.join(HERE, "cases")):
+            if name.endswith(".stderr"):
+                with open(os.path.join(HERE, "cases", name), encoding="utf-8") as file:
+                    told += file.read()
+        for key, cause in LEFT_OUT.items():
+            self.assertIn(f"{key}: dropped: {cause}\n", told)
 
 
 if __name__ == "__main__":

@@ -25,7 +25,8 @@ def tell_unknown(config: Map, made: dict, sources: dict[str, Map], names: dict[s
     tell("rules", config.get("workflow"), common)
     for name, job in sources.items():
         notes.job = name
-        for key in ("variables", "rules", "only", "except", "before_script", "script", "after_script"):
+        for key in ("variables", "rules", "only", "except", "before_script", "script", "after_script",
+                    "image", "services", "cache", "artifacts"):
             given = {"CI_JOB_STATUS"} if key == "after_script" else set()
             tell(key, job.get(key), given | common | made[names[name][0]].get("variables", {}).keys())
 

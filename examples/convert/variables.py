@@ -8,6 +8,11 @@ from .notes import Notes
 from .tree import Map, Place, Refused, Text, boolean, is_null, text
 
 NAMED = re.compile(r"\$\$|\$\{([A-Za-z_][A-Za-z0-9_]*)\}|\$([A-Za-z_][A-Za-z0-9_]*)")
+# What YAML 1.1 takes for a number, but for those that are handed out as they are written.
+NUMBER = re.compile(
+    r"[-+]?[0-9][0-9_,]*\.[0-9_]*([eE][-+]?[0-9]+)?|[-+]?0[0-9]+|[-+]?0[xob][0-9a-fA-F_]+|\+[0-9]+|[-+]?[0-9]+[_,][0-9_,]*"
+    r"|[-+]?[0-9][0-9_]*(:[0-5]?[0-9])+(\.[0-9_]*)?"
+)
 IS_NAME = re.compile(r"[A-Za-z_][A-Za-z0-9_]{0,254}")
 
 
@@ -48,7 +53,7 @@ class Variables:
         truth = boolean(value)
         if truth is not None:
             return "true" if truth else "false"
-        if value.plain and re.fullmatch(r"[-+]?[0-9][0-9_]*\.[0-9]*|[-+]?0[0-9]+|[-+]?0[xo][0-9a-fA-F]+", value):
+        if value.plain and NUMBER.fullmatch(value):
             self.notes.add(place, f"variables: `{value}` is a number to GitLab, which may hand out another text for it")
         return str(value)
 
