@@ -149,6 +149,7 @@ def main():
     with open(int(sys.argv[2]), encoding="utf-8") as file:
         asked = json.load(file)
     prctl(PR_SET_CHILD_SUBREAPER, 1)
+    os.umask(0o022)  # nobody else comes into the runner's folder
     for number in (signal.SIGTERM, signal.SIGINT, signal.SIGHUP):
         signal.signal(number, lambda *_: None)  # the runner says when to end; a command has these signals as ever
     try:

@@ -227,7 +227,7 @@ class Case(unittest.TestCase):
             self.clock.put_on(60)
         for runner in self.runners:
             try:
-                runner.wait(15)
+                runner.wait(40)
             except subprocess.TimeoutExpired:
                 runner.kill()
                 runner.wait()

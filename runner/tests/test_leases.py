@@ -143,18 +143,18 @@ class Leases(Case):
         marks = f"    - for i in $(seq 10); do echo $CI_JOB_ID >> {self.room}/marks; sleep 0.05; done\n    - seq 2000\n"
         numbers = []
         for ref in range(4):
-            numbers.append(self.project.pipeline(f"ship:\n  retry: 2\n  resource_group: prod\n  script:\n{marks}", f"main{ref}", {"CI_COMMIT_SHA": self.git("rev-parse", "HEAD")}))
+            file = f"ship:\n  retry: 2\n  resource_group: prod\n  script:\n{marks}"
+            numbers.append(self.project.pipeline(file, f"main{ref}", {"CI_COMMIT_SHA": self.git("rev-parse", "HEAD")}))
             time.sleep(random.random())
             self.server.kill()
             self.server.start()
-        statuses = []
         for number in numbers:
             until(lambda: self.project.shown(number)["status"] == "success" or (self.put_on(20), False)[1], 40)
             self.assertIn("\n1999\n2000\nended: exit code 0\n", self.project.trace(number, "ship"))
-        attempts = [line for line in self.lines("marks")]
-        changes = [line for place, line in enumerate(attempts) if place == 0 or attempts[place - 1] != line]
-        self.assertEqual(len(changes), len(set(changes)), changes)
-        self.assertEqual(statuses, [])
+        marks = self.lines("marks")
+        begun = [mark for place, mark in enumerate(marks) if place == 0 or marks[place - 1] != mark]
+        self.assertEqual(len(begun), len(set(begun)), begun)  # none goes on behind another one
+        self.assertGreaterEqual(len(begun), 4)
 
     def test_replies_that_are_lost(self) -> None:
         proxy = LossyProxy(self.server.port)
