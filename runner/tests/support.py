@@ -12,6 +12,7 @@ import socket
 import struct
 import subprocess
 import tempfile
+import textwrap
 import time
 import unittest
 
@@ -112,7 +113,7 @@ class Project:
 
     def pipeline(self, file: str, ref: str = "main", variables: dict[str, str] | None = None) -> int:
         """Makes a pipeline of a CI file, and answers its number."""
-        self.ask("PUT", "/ci_file", file)
+        self.ask("PUT", "/ci_file", textwrap.dedent(file))
         asked = {"ref": ref, "variables": [{"key": key, "value": value} for key, value in (variables or {}).items()]}
         return json.loads(self.ask("POST", "/pipeline", json.dumps(asked)))["id"]
 
