@@ -151,7 +151,7 @@ class Jobs(Case):
         self.assertGreater(len(trace), 4_190_000)
         self.assertTrue(trace.endswith(b"1000000\nthe end\nended: exit code 4\n"), trace[-100:])
         left = re.search(rb"\n\[(\d+) bytes are left out here: a trace has at most 4194304\]\n", trace)
-        printed = 9 + 90 * 3 + 900 * 4 + 9_000 * 5 + 90_000 * 6 + 900_000 * 7 + 8 + 9  # the digits and line ends of 1 to 1,000,000
+        printed = 9 * 2 + 90 * 3 + 900 * 4 + 9_000 * 5 + 90_000 * 6 + 900_000 * 7 + 8  # the digits and line ends of 1 to 1,000,000
         self.assertEqual(len(trace) - len(left[0]) + int(left[1]), trace.index(b"1\n2\n") + printed + len(b"the end\nended: exit code 4\n"))
         self.assertEqual(len(trace) - left.end(), 65_536)
 
