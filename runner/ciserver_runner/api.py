@@ -83,6 +83,5 @@ def _answer(reply: http.client.HTTPResponse, body: bytes) -> Answer:
 def _find_dead_peers(connection: socket.socket) -> None:
     """Has a connection whose peer went without a word end after a minute and a half."""
     connection.setsockopt(socket.SOL_SOCKET, socket.SO_KEEPALIVE, 1)
-    for option, value in (("TCP_KEEPIDLE", 30), ("TCP_KEEPINTVL", 15), ("TCP_KEEPCNT", 4)):
-        if hasattr(socket, option):
-            connection.setsockopt(socket.IPPROTO_TCP, getattr(socket, option), value)
+    for option, value in ((socket.TCP_KEEPIDLE, 30), (socket.TCP_KEEPINTVL, 15), (socket.TCP_KEEPCNT, 4), (socket.TCP_USER_TIMEOUT, 90_000)):
+        connection.setsockopt(socket.IPPROTO_TCP, option, value)

@@ -136,9 +136,6 @@ class _Locked:
                 return
             except BlockingIOError:
                 self.job.pause(0.1)
-            except BaseException:
-                self.file.close()
-                raise
 
     def __exit__(self, *_: object) -> None:
         self.file.close()

@@ -14,7 +14,7 @@ from .clock import now
 from .command import Command
 from .refused import Refused, Stopped
 from .script import expanded
-from .trace import LEAST_MASKED, Mask, Trace, values_to_mask
+from .trace import LEAST_MASKED, PIECE, Mask, Trace, values_to_mask
 
 if TYPE_CHECKING:
     from .main import Runner
@@ -51,6 +51,7 @@ class Job:
         self.folder = os.path.join(self.room, "project")
         self.variables: dict[str, str] = {}
         self.learn(self._known(place))
+        self.masked = [*self.config.masked, *re.findall(r"\w+", self.granted.get("CI_MASKED", ""), re.ASCII)]
         self.trace = Trace(Mask(self._masked()))
         self.lease, self.limit = asked + HELD, asked + int(grant["timeout"]) - EARLY
         self.heard = asked
@@ -62,7 +63,7 @@ class Job:
         self.worked = threading.Event()  # nothing of the job runs any more
         self.over = False  # the server takes nothing more of the attempt
         self.has_kept = False  # it has artifacts, or tells that it has none
-        self.result: tuple[str, str, int | None] = ("failed", "runner_system_failure", None)
+        self.result: tuple[str, str, int] | None = None  # of a script that ended by itself: state, cause, exit code
 
     def _known(self, place: int) -> dict[str, str]:
         config, ref = self.config, self.granted.get("CI_COMMIT_REF_NAME", "")
@@ -82,8 +83,7 @@ class Job:
         return expanded(self.variables.get(name, ""), self.variables)
 
     def _masked(self) -> list[bytes]:
-        names = {*self.config.masked, *re.split(r"[\s,]+", self.granted.get("CI_MASKED", ""))}
-        values = [self.granted[name] for name in sorted(names) if name in self.granted]
+        values = [self.granted[name] for name in self.masked if name in self.granted]
         values += [project.password for project in self.config.projects.values()]
         return values_to_mask([*values, self.token, self.config.token])
 
@@ -101,16 +101,17 @@ class Job:
             say(f"attempt {self.attempt}: {type(fault).__name__}: {fault}")
         self.worked.set()
 
-    def _worked(self) -> tuple[str, str, int | None]:
+    def _worked(self) -> tuple[str, str, int]:
         config = self.config
         self.trace.line(f"runner {config.number} ({config.name}), attempt {self.attempt}: {self.name}")
-        for name in config.masked + self.granted.get("CI_MASKED", "").replace(",", " ").split():
-            if len(self.granted.get(name, "x" * LEAST_MASKED).encode()) < LEAST_MASKED:
+        for name in self.masked:
+            if name in self.granted and len(self.granted[name].encode()) < LEAST_MASKED:
                 self.trace.line(f"{name} isn't masked: it has under {LEAST_MASKED} bytes")
         if self.project not in config.projects:
             raise Refused(f"its configuration has no repository for project {self.project}")
         store.remove_tree(self.room)
         os.makedirs(self.folder)
+        os.chmod(self.folder, 0o755)
         git.lay(self, config.projects[self.project])
         store.lay_caches(self)
         store.lay_artifacts(self)
@@ -150,11 +151,14 @@ class Job:
     def serve(self) -> None:
         """Has the job run, and tells the server of it until it has ended there."""
         threading.Thread(target=self.work, daemon=True).start()
-        while not self.worked.wait(0.3):
-            self.watch()
-            self._speak()
-        self._finish()
-        store.remove_tree(self.room)
+        try:
+            while not self.worked.wait(0 if self._speak() else 0.3):
+                self.watch()
+            self._finish()
+        finally:
+            self.stop("lost")  # it runs still only where this thread failed
+            self.worked.wait()
+            store.remove_tree(self.room)
 
     def stop(self, reason: str) -> None:
         """Has the job end: at once where the server says that it is no longer its runner's."""
@@ -177,19 +181,19 @@ class Job:
     def _until(self) -> float:
         return min(self.lease, self.limit)
 
-    def _speak(self) -> None:
-        """Sends what the trace has more, or else says from time to time that the job runs."""
-        piece = b"" if self.full else self.trace.piece(self.sent)
+    def _speak(self) -> bool:
+        """Sends what the trace has more, or else says from time to time that the job runs. Answers whether there is much more to send."""
+        piece = b"" if self.full or self.over else self.trace.piece(self.sent)
         try:
-            if self.over:
-                return
-            if piece and (len(piece) > 32_768 or now() - self.heard >= 1):
+            if piece and (len(piece) == PIECE or now() - self.heard >= 1):
                 self._send(piece)
-            elif now() - self.heard >= HEARTBEAT:
+                return len(piece) == PIECE
+            if not self.over and now() - self.heard >= HEARTBEAT:
                 self._call(lambda seconds: self.api.put_state(self.attempt, self.token, {"state": "running"}, seconds))
         except Unanswered as fault:
             say(f"attempt {self.attempt}: {fault}")
             time.sleep(0.5)
+        return False
 
     def _send(self, piece: bytes) -> None:
         answer = self._call(lambda seconds: self.api.send_piece(self.attempt, self.token, self.sent, piece, seconds))
@@ -215,28 +219,30 @@ class Job:
         return answer
 
     def _finish(self) -> None:
-        """Sends the rest of the trace and how the job ended, again until the server answers."""
-        state, cause, code = self.result
-        if self.reason:
-            text, told = TOLD[self.reason]
-            state, cause, code = "failed", told, None
-            self.trace.line(f"ended: {text}")
+        """Tells how the job ended: the server, as far as that takes it, and who reads what the runner says."""
+        state, cause, code = self.result or ("failed", "runner_system_failure", None)
+        told = cause or state
+        if self.reason and not self.result:
+            told, cause = TOLD[self.reason]
+            self.trace.line(f"ended: {told}")
         self.trace.close()
-        said = {"state": state, "failure_reason": cause} | ({} if code is None else {"exit_code": code})
-        answer = None
-        while answer is None and not self.over:
+        answer = self._tell({"state": state, "failure_reason": cause} | ({} if code is None else {"exit_code": code}))
+        if self.has_kept and not (self.result and answer and answer.status == 200):
+            store.drop_artifacts(self)
+        untold = "" if answer or self.over else ", and the server wasn't told"
+        say(f"attempt {self.attempt} of {self.name}, project {self.project}: {told}{untold}")
+
+    def _tell(self, said: dict) -> Answer | None:
+        """Sends the rest of the trace and a final state, again until the server answers."""
+        while not self.over:
             try:
                 while not self.full and not self.over and (piece := self.trace.piece(self.sent)):
                     self._send(piece)
                 if not self.over:
-                    answer = self._call(lambda seconds: self.api.put_state(self.attempt, self.token, said, seconds))
+                    return self._call(lambda seconds: self.api.put_state(self.attempt, self.token, said, seconds))
             except Unanswered as fault:
                 say(f"attempt {self.attempt}: {fault}")
                 if self.runner.is_over():
                     break
                 time.sleep(1)
-        taken = answer is not None and answer.status == 200
-        if self.has_kept and not taken:
-            store.drop_artifacts(self)
-        told = TOLD[self.reason][0] if self.reason else cause or state
-        say(f"attempt {self.attempt} of {self.name}, project {self.project}: {told}" + ("" if taken else ", not taken"))
+        return None

@@ -1,8 +1,9 @@
 """A process that keeps one command: it runs it, and ends it with all that it has started.
 
-It is a program of its own, so that no job outlives its runner or its lease, whatever becomes of the runner. Its words are two descriptors: what
-the command has on standard input, and what is asked, as JSON: `words`, `folder`, `environment`, `until` (the second of the clock by which all must be gone), `after` (commands that take away what isn't
-below this process, as containers), `leave` (what it started stays where it ends by itself). On standard input it is told `until SECOND`, `end SECONDS`; that this closes means that the runner is gone.
+It is a program of its own, so that no job outlives its runner or its lease, whatever becomes of the runner. Its words are two descriptors:
+what the command has on standard input, and what is asked, as JSON: `words`, `folder`, `environment`, `until` (the second of the clock by which
+all must be gone), `after` (commands that take away what isn't below this process, as containers), `leave` (what it started stays where it ends
+by itself). On standard input it is told `until SECOND` and `end SECONDS`; that this closes means that the runner is gone.
 It ends as the command did; by a signal N with 128 + N.
 """
 import ctypes
@@ -149,6 +150,7 @@ def main():
     with open(int(sys.argv[2]), encoding="utf-8") as file:
         asked = json.load(file)
     prctl(PR_SET_CHILD_SUBREAPER, 1)
+    os.umask(0o022)  # nobody else comes into the runner's folder
     for number in (signal.SIGTERM, signal.SIGINT, signal.SIGHUP):
         signal.signal(number, lambda *_: None)  # the runner says when to end; a command has these signals as ever
     try:

@@ -35,9 +35,9 @@ class Runner:
         """Whether the time is over that the last words to the server may take."""
         return self.ended_at is not None and now() > self.ended_at + GRACE + LAST_WORDS
 
-    def _begin(self, grant: dict, asked: float, place: int) -> None:
+    def _begin(self, grant: bytes, asked: float, place: int) -> None:
         try:
-            job = Job(self, grant, asked, place)
+            job = Job(self, json.loads(grant), asked, place)
         except (KeyError, TypeError, ValueError) as fault:
             say(f"a grant can't be read: {type(fault).__name__} {fault}")
             return
@@ -60,22 +60,24 @@ class Runner:
     def ask(self) -> None:
         pause = 1.0
         while (place := self._free_place()) is not None:
-            asked = now()
             try:
-                answer = self.api.request_job(self.config.token)
-            except Unanswered as fault:
+                pause = self._asked(place, pause)
+                self._sweep()
+            except (Unanswered, OSError) as fault:
                 say(str(fault))
                 pause = self._wait(pause)
-                continue
-            if answer.status == 201:
-                self._begin(json.loads(answer.body), asked, place)
-                pause = 1.0
-            elif answer.status == 204:
-                pause = self._wait(pause)
-            else:
-                say(f"the server refuses: {answer.status} {answer.code}")
-                self._wait(REFUSED_PAUSE)
-            self._sweep()
+
+    def _asked(self, place: int, pause: float) -> float:
+        """Asks once, and waits where there is no job. Answers how long to wait the next time."""
+        asked = now()
+        answer = self.api.request_job(self.config.token)
+        if answer.status == 201:
+            self._begin(answer.body, asked, place)
+            return 1.0
+        if answer.status == 204:
+            return self._wait(pause)
+        say(f"the server refuses: {answer.status} {answer.code}")
+        return self._wait(REFUSED_PAUSE)
 
     def _free_place(self) -> int | None:
         """Waits for room for a job; none where no more are to be asked for."""

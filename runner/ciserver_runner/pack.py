@@ -131,6 +131,7 @@ def unpack(path: str, root: str, check: Callable[[], None]) -> int:
             place = os.path.join(root, name)
             if member.isdir():
                 _make_folders(root, name)
+                os.chmod(place, member.mode & 0o777 | 0o700)
                 continue
             if os.path.isdir(place) and not os.path.islink(place):
                 raise Refused(f"{name} is to be a file, and is a folder")
@@ -152,6 +153,7 @@ def _make_folders(root: str, name: str) -> None:
             raise Refused(f"{name} is to be a folder, and is something else")
         if not os.path.isdir(place):
             os.mkdir(place)
+            os.chmod(place, 0o755)
 
 
 def _write(tar: tarfile.TarFile, member: tarfile.TarInfo, place: str) -> None:

@@ -27,6 +27,7 @@ def _files(count: int) -> str:
 
 def lay_artifacts(job: Job) -> None:
     """Lays the artifacts of earlier jobs into the job's folder: of those that CI_JOB_DEPENDENCIES names, else of all of other stages."""
+    _wishes(job)
     latest: dict[str, dict] = {}
     for path in glob.glob(os.path.join(glob.escape(_folder(job)), "*.json")):
         record = _record(path)
@@ -53,7 +54,7 @@ def keep_artifacts(job: Job, success: bool) -> None:
     patterns = _lines(job, "CI_JOB_ARTIFACTS")
     if not patterns:
         return
-    when = job.variables.get("CI_JOB_ARTIFACTS_WHEN", "on_success").strip()
+    when, seconds = _wishes(job)
     kept = when == "always" or (when == "on_failure") != success
     os.makedirs(_folder(job), exist_ok=True)
     job.has_kept = True
@@ -63,7 +64,7 @@ def keep_artifacts(job: Job, success: bool) -> None:
         _pack(job, names, path + ".tar", job.config.artifacts_limit)
         files = sum(not os.path.isdir(os.path.join(job.folder, name)) for name in names)
         job.trace.line(f"artifacts: {_files(files)} kept" if files else "artifacts: no file matches")
-    record = {"job": job.name, "stage": job.stage, "attempt": job.attempt, "kept": kept, "expires": time.time() + _seconds(job)}
+    record = {"job": job.name, "stage": job.stage, "attempt": job.attempt, "kept": kept, "expires": time.time() + seconds}
     with open(path + ".new", "w", encoding="utf-8") as file:
         json.dump(record, file)
     os.rename(path + ".new", path + ".json")
@@ -89,9 +90,15 @@ def remove_expired(root: str) -> None:
             pass  # it isn't empty
 
 
-def _seconds(job: Job) -> int:
-    asked = job.variables.get("CI_JOB_ARTIFACTS_EXPIRE", "").strip()
-    return min(int(asked), job.config.artifacts_keep) if asked.isdecimal() else job.config.artifacts_keep
+def _wishes(job: Job) -> tuple[str, int]:
+    """When a job's artifacts are kept, and for how many seconds."""
+    when = job.expanded("CI_JOB_ARTIFACTS_WHEN").strip() or "on_success"
+    if when not in ("on_success", "on_failure", "always"):
+        raise Refused(f"CI_JOB_ARTIFACTS_WHEN is on_success, on_failure or always, and not {when!r}")
+    seconds = job.expanded("CI_JOB_ARTIFACTS_EXPIRE").strip() or str(job.config.artifacts_keep)
+    if not seconds.isdecimal():
+        raise Refused("CI_JOB_ARTIFACTS_EXPIRE is no number of seconds")
+    return when, min(int(seconds), job.config.artifacts_keep)
 
 
 def _folder(job: Job) -> str:

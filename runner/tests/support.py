@@ -12,6 +12,7 @@ import socket
 import struct
 import subprocess
 import tempfile
+import textwrap
 import time
 import unittest
 
@@ -112,7 +113,7 @@ class Project:
 
     def pipeline(self, file: str, ref: str = "main", variables: dict[str, str] | None = None) -> int:
         """Makes a pipeline of a CI file, and answers its number."""
-        self.ask("PUT", "/ci_file", file)
+        self.ask("PUT", "/ci_file", textwrap.dedent(file))
         asked = {"ref": ref, "variables": [{"key": key, "value": value} for key, value in (variables or {}).items()]}
         return json.loads(self.ask("POST", "/pipeline", json.dumps(asked)))["id"]
 
@@ -206,10 +207,10 @@ class Case(unittest.TestCase):
         self.git("commit", "--quiet", "--allow-empty", "-m", text, folder=path)
         return self.git("rev-parse", "HEAD", folder=path)
 
-    def begin_runner(self, token: str, name: str = "one", top: str = "", rest: str = "", environment: dict[str, str] | None = None):
+    def begin_runner(self, token: str, name: str = "one", top: str = "", rest: str = "", environment: dict[str, str] | None = None, pause: int = 1):
         """Begins a runner with a configuration of its own, and answers its process; what it says is in NAME.log."""
-        config = self.write(f"{name}.toml", f'url = "{self.server.url}"\nname = "{name}"\nfolder = "{self.path(name)}"\nlongest_pause_seconds = 1\n'
-                            f'token = "{token}"\n{top}\n[projects.1]\nrepository = "{self.work}"\n{rest}\n')
+        config = self.write(f"{name}.toml", f'url = "{self.server.url}"\nname = "{name}"\nfolder = "{self.path(name)}"\ntoken = "{token}"\n'
+                            f'longest_pause_seconds = {pause}\n{top}\n[projects.1]\nrepository = "{self.work}"\n{rest}\n')
         clock = self.clock.environment if self.clock else {}
         with open(self.path(f"{name}.log"), "ab") as log:
             runner = subprocess.Popen([RUNNER, "--config", config], stderr=log, stdin=subprocess.DEVNULL,
@@ -227,7 +228,7 @@ class Case(unittest.TestCase):
             self.clock.put_on(60)
         for runner in self.runners:
             try:
-                runner.wait(15)
+                runner.wait(40)
             except subprocess.TimeoutExpired:
                 runner.kill()
                 runner.wait()

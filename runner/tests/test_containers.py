@@ -41,8 +41,17 @@ class StandIn(Case):
 
     def test_words_of_a_container(self) -> None:
         self.begin(rest='[container]\nengine = "docker"\nimage = "debian:12"\nnetwork = "none"\noptions = ["--memory", "1g"]\n')
-        number = self.project.pipeline("a:\n  variables:\n    KEY: secret-value\n    CI_JOB_IMAGE: $BASE:1\n    BASE: alpine\n  script: test $KEY = secret-value; cat hello.txt\n"
-                                       "b:\n  stage: deploy\n  script: exit 3\n")
+        number = self.project.pipeline("""\
+            a:
+              variables:
+                KEY: secret-value
+                CI_JOB_IMAGE: $BASE:1
+                BASE: alpine
+              script: test $KEY = secret-value; cat hello.txt
+            b:
+              stage: deploy
+              script: exit 3
+            """)
         self.assertEqual(self.project.ends(number), "failed")
         self.assert_line(self.project.trace(1, "a"), r"script in a container of alpine:1 \(docker\)")
         self.assert_line(self.project.trace(1, "b"), "ended: exit code 3")
@@ -59,13 +68,22 @@ class StandIn(Case):
 
     def test_services(self) -> None:
         self.begin(rest='[container]\nimage = "debian:12"\n')
-        number = self.project.pipeline("a:\n  variables:\n    CI_JOB_SERVICES: |\n      group/db:1\n      cache:2 store\n    KEY: secret-value\n  script: echo\n")
+        number = self.project.pipeline("""\
+            a:
+              variables:
+                CI_JOB_SERVICES: |
+                  group/db:1
+                  cache:2 store
+                KEY: secret-value
+              script: echo
+            """)
         self.assertEqual(self.project.ends(number), "success")
         done = [words for words in self.words() if words[0] in ("network", "run") and "ls" not in words]
-        self.assertEqual([words[:2] for words in done], [["network", "create"], ["run", "--detach"], ["run", "--detach"], ["run", "--rm"], ["network", "rm"]])
+        self.assertEqual([" ".join(words[:2]) for words in done], ["network create", "run --detach", "run --detach", "run --rm", "network rm"])
         network = done[4][2]
-        self.assertEqual(done[1][-8:], ["--network-alias", "group-db", "--network-alias", "group__db", "--env-file", self.path("one/jobs/1/services.env"), "group/db:1"][-8:])
-        self.assertEqual(done[2][-5:], ["--network-alias", "store", "--env-file", self.path("one/jobs/1/services.env"), "cache:2"])
+        values = ["--env-file", self.path("one/jobs/1/services.env")]
+        self.assertEqual(done[1][-7:], ["--network-alias", "group-db", "--network-alias", "group__db", *values, "group/db:1"])
+        self.assertEqual(done[2][-5:], ["--network-alias", "store", *values, "cache:2"])
         self.assertEqual(done[3][done[3].index("--network") + 1], network)
         self.assertNotIn("secret-value", self.read("words"))
 
@@ -101,21 +119,26 @@ def podman_runs() -> bool:
     for name in ("sh", "cat", "echo", "ls", "sleep", "test", "touch", "trap", "wget", "httpd", "id", "mkdir"):
         os.symlink("busybox", f"{folder}/bin/{name}")
     with subprocess.Popen(["tar", "-C", folder, "-c", "."], stdout=subprocess.PIPE) as tar:
-        subprocess.run(["podman", "import", "--change", 'CMD ["/bin/httpd", "-f", "-h", "/www"]', "-", IMAGE], stdin=tar.stdout, stdout=subprocess.DEVNULL, stderr=subprocess.DEVNULL, check=False)
+        words = ["podman", "import", "--change", 'CMD ["/bin/httpd", "-f", "-h", "/www"]', "-", IMAGE]
+        subprocess.run(words, stdin=tar.stdout, stdout=subprocess.DEVNULL, stderr=subprocess.DEVNULL, check=False)
     shutil.rmtree(folder)
     done = subprocess.run(["podman", "run", "--rm", IMAGE, "echo", "it runs"], stdout=subprocess.PIPE, stderr=subprocess.DEVNULL, check=False)
     return done.stdout == b"it runs\n"
 
 
-@unittest.skipUnless(podman_runs(), "podman runs no container here")
 class Podman(Case):
     with_clock = True
+
+    @classmethod
+    def setUpClass(cls) -> None:
+        if not podman_runs():
+            raise unittest.SkipTest("podman runs no container here")
 
     def setUp(self) -> None:
         super().setUp()
         self.token = self.server.runner()
         self.server.start()
-        self.environment = {name: os.environ[name] for name in ("CONTAINERS_CONF", "XDG_RUNTIME_DIR") if name in os.environ} | {"HOME": os.environ["HOME"]}
+        self.environment = {name: os.environ[name] for name in ("HOME", "CONTAINERS_CONF", "XDG_RUNTIME_DIR") if name in os.environ}
 
     def begin(self, rest: str = ""):
         return self.begin_runner(self.token, top='where = "container"', rest=f'[container]\nimage = "{IMAGE}"\n{rest}', environment=self.environment)
@@ -125,8 +148,18 @@ class Podman(Case):
 
     def test_a_job_in_a_container(self) -> None:
         self.begin('network = "none"\n')
-        number = self.project.pipeline("a:\n  variables:\n    CI_JOB_ARTIFACTS: made\n  script:\n    - cat hello.txt; ls /bin/busybox; test ! -e /etc/os-release\n    - touch made\n"
-                                       "    - test \"$CI_PROJECT_DIR\" = \"$PWD\"\nb:\n  stage: deploy\n  script: test -e made; exit 5\n")
+        number = self.project.pipeline("""\
+            a:
+              variables:
+                CI_JOB_ARTIFACTS: made
+              script:
+                - cat hello.txt; ls /bin/busybox; test ! -e /etc/os-release
+                - touch made
+                - test "$CI_PROJECT_DIR" = "$PWD"
+            b:
+              stage: deploy
+              script: test -e made; exit 5
+            """)
         self.assertEqual(self.project.ends(number), "failed")
         self.assert_line(self.project.trace(1, "a"), "hello")
         self.assert_line(self.project.trace(1, "a"), "ended: exit code 0")
@@ -135,7 +168,14 @@ class Podman(Case):
 
     def test_a_service_is_found_by_its_name(self) -> None:
         self.begin('network = "none"\n')
-        number = self.project.pipeline("a:\n  timeout: 1 minute\n  variables:\n    CI_JOB_SERVICES: " + IMAGE + " web\n    KEY: value\n  script: until wget -q -O - http://web/told; do sleep 0.2; done\n")
+        number = self.project.pipeline(f"""\
+            a:
+              timeout: 1 minute
+              variables:
+                CI_JOB_SERVICES: {IMAGE} web
+                KEY: value
+              script: until wget -q -O - http://web/told; do sleep 0.2; done
+            """)
         self.assertEqual(self.project.ends(number), "success", self.project.trace(1, "a"))
         self.assert_line(self.project.trace(1, "a"), "by the service")
         self.assertEqual(run("podman", "network", "ls", "--quiet", "--filter", "name=ciserver-"), "")

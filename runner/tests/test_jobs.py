@@ -23,7 +23,13 @@ class Jobs(Case):
         first = self.git("rev-parse", "HEAD")
         self.write("work/hello.txt", "changed\n")
         second = self.commit("second: more")
-        file = "build:\n  script:\n    - cat hello.txt\n    - echo $CI_COMMIT_SHA $CI_COMMIT_SHORT_SHA \"$CI_COMMIT_TITLE\"\n    - git rev-parse HEAD\n"
+        file = """\
+            build:
+              script:
+                - cat hello.txt
+                - echo $CI_COMMIT_SHA $CI_COMMIT_SHORT_SHA "$CI_COMMIT_TITLE"
+                - git rev-parse HEAD
+            """
         number, status = self.ended(file)
         trace = self.project.trace(number, "build")
         self.assertEqual(status, "success")
@@ -49,7 +55,8 @@ class Jobs(Case):
         self.assert_line(self.project.trace(1, "build"), tagged)
         for number, ref, commit, told in ((2, "none", None, "branch none isn't in .*"), (3, "main", "0" * 40, "commit 0{40} isn't in .*"),
                                           (4, "main", "--all", "CI_COMMIT_SHA is no full number of a commit")):
-            self.assertEqual(self.ended("build:\n  script: echo\n", ref, {"CI_COMMIT_SHA": commit} if commit else None, runner=False), (number, "failed"))
+            variables = {"CI_COMMIT_SHA": commit} if commit else None
+            self.assertEqual(self.ended("build:\n  script: echo\n", ref, variables, runner=False), (number, "failed"))
             self.assert_line(self.project.trace(number, "build"), f"the runner failed: {told}")
 
     def test_a_project_that_isnt_in_the_map(self) -> None:
@@ -67,7 +74,16 @@ class Jobs(Case):
 
     def test_the_environment_is_the_jobs_own(self) -> None:
         number, status = self.ended(
-            "build:\n  variables:\n    LEVEL: \"a b'c\"\n    UID: '5'\n  script:\n    - env | sort\n    - test \"$PWD\" = \"$CI_PROJECT_DIR\"\n    - cat\n",
+            """\
+            build:
+              variables:
+                LEVEL: "a b'c"
+                UID: '5'
+              script:
+                - env | sort
+                - test "$PWD" = "$CI_PROJECT_DIR"
+                - cat
+            """,
             environment={"SECRET_OF_THE_RUNNER": "x", "CI_SERVER_HOST": "wrong"})
         trace = self.project.trace(number, "build")
         self.assertEqual(status, "success")
@@ -76,8 +92,9 @@ class Jobs(Case):
             self.assert_line(trace, re.escape(line))
         self.assertNotIn("SECRET_OF_THE_RUNNER", trace)
         self.assertNotIn(self.token, trace)
-        known = {line.partition("=")[0] for line in trace.splitlines() if "=" in line and " " not in line.partition("=")[0]}
-        self.assertEqual({name for name in known if not name.startswith("CI_")}, {"CI", "HOME", "LANG", "LEVEL", "OLDPWD", "PATH", "PWD", "SHLVL", "UID", "_"} & known)
+        known = set(re.findall(r"^(\w+)=", trace, re.MULTILINE))
+        self.assertLessEqual({name for name in known if not name.startswith("CI_")},
+                             {"CI", "HOME", "LANG", "LEVEL", "OLDPWD", "PATH", "PWD", "SHLVL", "UID", "_"})
 
     def test_exit_codes(self) -> None:
         file = ("one:\n  script: [\"true\", exit 3, echo not here]\ntwo:\n  script: false | cat\nthree:\n  script: |\n    if\n"
@@ -91,9 +108,13 @@ class Jobs(Case):
         self.assertEqual(self.server.rows("SELECT exit FROM attempt ORDER BY job"), ["3", "1", "2", "137"])
 
     def test_what_a_script_leaves_running_is_gone_when_it_ends(self) -> None:
-        number, status = self.ended(f"build:\n  script:\n    - (while sleep 0.1; do echo a; done) > {self.path('one')} &\n"
-                                    .replace(self.path("one"), self.path("left")) + f"    - setsid sh -c 'while sleep 0.1; do echo b; done' > {self.path('left2')} &\n"
-                                    "    - sleep 0.5\n")
+        number, status = self.ended(f"""\
+            build:
+              script:
+                - (while sleep 0.1; do echo a; done) > {self.path("left")} &
+                - setsid sh -c 'while sleep 0.1; do echo b; done' > {self.path("left2")} &
+                - sleep 0.5
+            """)
         self.assertEqual(status, "success")
         sizes = [len(self.read("left")), len(self.read("left2"))]
         self.assertTrue(all(sizes), sizes)
@@ -101,8 +122,9 @@ class Jobs(Case):
         self.assertEqual([len(self.read("left")), len(self.read("left2"))], sizes)
 
     def test_several_at_once_in_folders_of_their_own(self) -> None:
-        meet = f"    - pwd > {self.room}/$CI_JOB_NAME; touch here; test $(ls | wc -l) = 2\n    - until test -e {self.room}/a -a -e {self.room}/b; do sleep 0.1; done\n"
-        number, status = self.ended(f"a:\n  timeout: 1 minute\n  script:\n{meet}b:\n  timeout: 1 minute\n  script:\n{meet}", top="concurrent = 2")
+        meet = (f"  timeout: 1 minute\n  script:\n    - pwd > {self.room}/$CI_JOB_NAME; touch here; test $(ls | wc -l) = 2\n"
+                f"    - until test -e {self.room}/a -a -e {self.room}/b; do sleep 0.1; done\n")
+        number, status = self.ended(f"a:\n{meet}b:\n{meet}", top="concurrent = 2")
         self.assertEqual(status, "success")
         self.assertNotEqual(self.read("a"), self.read("b"))
         until(lambda: run("ls", self.path("one/jobs")) == "")
@@ -110,15 +132,16 @@ class Jobs(Case):
     def test_masked_values(self) -> None:
         number, status = self.ended(
             "build:\n  script:\n    - printf 'a%s%s' \"$KEY\" sec; sleep 1.5; echo ret-of-job\n    - echo \"$KEY2\" $SHORT \"$LINES_OF_KEY\"\n",
-            variables={"KEY": "key-of-job", "KEY2": "secret-of-job", "SHORT": "ab", "CI_MASKED": "KEY2, SHORT LINES_OF_KEY", "LINES_OF_KEY": "first line\nsecond line"},
+            variables={"KEY": "key-of-job", "KEY2": "secret-of-job", "SHORT": "ab", "CI_MASKED": "KEY2, SHORT LINES_OF_KEY",
+                       "LINES_OF_KEY": "first line\nsecond line"},
             top='masked = ["KEY"]')
         trace = self.project.trace(number, "build")
         self.assertEqual(status, "success")
         self.assert_line(trace, r"SHORT isn't masked: it has under 4 bytes")
         self.assert_line(trace, r"\[MASKED\] ab \[MASKED\]")
-        self.assertIn("a[MASKED]secret-of-job\n".replace("secret-of-job", "sec" + "ret-of-job")[:9], trace)
+        self.assert_line(trace, r"a\[MASKED\]\[MASKED\]")
         for value in ("key-of-job", "secret-of-job", "first line", "second line"):
-            self.assertNotIn(value, trace.replace("sec; sleep 1.5; echo ret-of-job", ""))
+            self.assertNotIn(value, trace)
 
     def test_a_trace_over_its_limit_keeps_its_end(self) -> None:
         number, status = self.ended("build:\n  script: seq 1000000; echo the end; exit 4\n")
@@ -128,16 +151,31 @@ class Jobs(Case):
         self.assertGreater(len(trace), 4_190_000)
         self.assertTrue(trace.endswith(b"1000000\nthe end\nended: exit code 4\n"), trace[-100:])
         left = re.search(rb"\n\[(\d+) bytes are left out here: a trace has at most 4194304\]\n", trace)
-        self.assertEqual(len(trace) - len(left[0]) + int(left[1]), len(b"".join(b"%d\n" % n for n in range(1, 1_000_001))) + trace.index(b"1\n2\n") + len(b"the end\nended: exit code 4\n"))
+        printed = 9 * 2 + 90 * 3 + 900 * 4 + 9_000 * 5 + 90_000 * 6 + 900_000 * 7 + 8  # the digits and line ends of 1 to 1,000,000
+        self.assertEqual(len(trace) - len(left[0]) + int(left[1]), trace.index(b"1\n2\n") + printed + len(b"the end\nended: exit code 4\n"))
         self.assertEqual(len(trace) - left.end(), 65_536)
 
     def test_submodules_and_no_repository(self) -> None:
         self.repository("part", {"part.txt": "a part\n"})
         self.git("submodule", "add", "--quiet", self.path("part"), "part")
         self.commit("with a part")
-        number, status = self.ended("a:\n  variables:\n    GIT_SUBMODULE_STRATEGY: normal\n  script: cat part/part.txt\n"
-                                    "b:\n  script: test ! -e part/part.txt\nc:\n  variables:\n    GIT_STRATEGY: none\n  script: test -z \"$(ls -A)\"\n"
-                                    "d:\n  variables:\n    GIT_STRATEGY: other\n  allow_failure: true\n  script: echo\n", top="concurrent = 4")
+        number, status = self.ended("""\
+            a:
+              variables:
+                GIT_SUBMODULE_STRATEGY: normal
+              script: cat part/part.txt
+            b:
+              script: test ! -e part/part.txt
+            c:
+              variables:
+                GIT_STRATEGY: none
+              script: test -z "$(ls -A)"
+            d:
+              variables:
+                GIT_STRATEGY: other
+              allow_failure: true
+              script: echo
+            """, top="concurrent = 4")
         self.assertEqual(status, "success")
         self.assert_line(self.project.trace(number, "a"), "a part")
         self.assert_line(self.project.trace(number, "d"), "the runner failed: GIT_STRATEGY is clone, fetch, none or empty, and not 'other'")

@@ -30,7 +30,9 @@ class Artifacts(Case):
     def ended(self, file: str, **words) -> int:
         self.begin_runner(self.token, **words)
         number = self.project.pipeline(file)
-        self.assertEqual(self.project.ends(number), "success", "\n".join(self.project.trace(number, job["name"]) for job in self.project.shown(number)["jobs"]))
+        status = self.project.ends(number)
+        traces = [self.project.trace(number, job["name"]) for job in self.project.shown(number)["jobs"]]
+        self.assertEqual(status, "success", "\n".join(traces))
         return number
 
     def test_artifacts_go_to_later_stages(self) -> None:
@@ -53,9 +55,11 @@ class Artifacts(Case):
         self.assert_line(self.project.trace(1, "one"), "artifacts of gone: none are here")
 
     def test_when_and_expiry(self) -> None:
-        job = "{}:\n  stage: build\n  allow_failure: true\n  variables:\n    CI_JOB_ARTIFACTS: {}.txt\n    CI_JOB_ARTIFACTS_WHEN: {}\n{}  script: echo > {}.txt; {}\n"
-        file = job.format("a", "a", "always", "    CI_JOB_ARTIFACTS_EXPIRE: 60\n", "a", "false") + job.format("b", "b", "on_success", "", "b", "false")
-        file += job.format("c", "c", "on_failure", "", "c", "false") + job.format("d", "d", "on_failure", "", "d", "true")
+        file = ""
+        for name, when, expire, end in (("a", "always", 60, "false"), ("b", "on_success", 999_999, "false"), ("c", "on_failure", 600, "false"),
+                                        ("d", "on_failure", 600, "true")):
+            file += f"{name}:\n  stage: build\n  allow_failure: true\n  variables:\n    CI_JOB_ARTIFACTS: {name}.txt\n"
+            file += f"    CI_JOB_ARTIFACTS_WHEN: {when}\n    CI_JOB_ARTIFACTS_EXPIRE: {expire}\n  script: echo > {name}.txt; {end}\n"
         self.ended(file + "unit:\n  script: ls; test -e a.txt -a ! -e b.txt -a -e c.txt -a ! -e d.txt\n")
         records = [self.read(os.path.relpath(path, self.room)) for path in sorted(glob.glob(self.path("one/artifacts/1/1/*.json")))]
         self.assertEqual(['"kept": true' in record for record in records], [True, False, True, False])
@@ -93,8 +97,16 @@ class Artifacts(Case):
         self.assertEqual(os.listdir(os.path.dirname(outside)), ["secret.txt"])
 
     def test_cache(self) -> None:
-        file = ("a:\n  stage: build\n  variables:\n    CI_JOB_CACHE: \"$CI_COMMIT_REF_NAME-deps\\tpull-push\\tdeps\\nread\\tpull\\tr\\nwrite\\tpush\\tw\"\n"
-                "  script: cat deps/count || true; mkdir -p deps w r; echo x >> deps/count; echo x >> w/count; test ! -e r/count; echo > r/count; test $(wc -l < w/count) = 1\n")
+        file = """\
+            a:
+              stage: build
+              variables:
+                CI_JOB_CACHE: "$CI_COMMIT_REF_NAME-deps\\tpull-push\\tdeps\\nread\\tpull\\tr\\nwrite\\tpush\\tw"
+              script:
+                - cat deps/count || true
+                - test ! -e r/count -a ! -e w/count
+                - mkdir -p deps r w; echo x >> deps/count; echo x > r/count; echo x > w/count
+            """
         self.begin_runner(self.token)
         for count in (1, 2, 3):
             number = self.project.pipeline(file)

@@ -1,6 +1,7 @@
 """What becomes of jobs where servers, runners and lines fail: no job runs on beside its next attempt."""
 import os
 import random
+import re
 import signal
 import socket
 import threading
@@ -135,26 +136,33 @@ class Leases(Case):
         self.put_on(90)
         self.server.start()
         self.assertEqual(self.project.ends(1), "success")
-        self.assertEqual([line for line in self.project.trace(1, "build").splitlines() if line.startswith("line")], [f"line {i}" for i in range(1, 21)])
+        lines = [line for line in self.project.trace(1, "build").splitlines() if line.startswith("line")]
+        self.assertEqual(lines, [f"line {number}" for number in range(1, 21)])
 
     def test_kills_of_the_server_and_two_runners_on_one_resource_group(self) -> None:
         for name, token in zip(("one", "two"), self.tokens):
             self.begin_runner(token, name, "concurrent = 2")
         marks = f"    - for i in $(seq 10); do echo $CI_JOB_ID >> {self.room}/marks; sleep 0.05; done\n    - seq 2000\n"
         numbers = []
-        for ref in range(4):
-            numbers.append(self.project.pipeline(f"ship:\n  retry: 2\n  resource_group: prod\n  script:\n{marks}", f"main{ref}", {"CI_COMMIT_SHA": self.git("rev-parse", "HEAD")}))
+        for ref in range(6):
+            file = f"ship:\n  retry: 2\n  resource_group: prod\n  script:\n{marks}"
+            numbers.append(self.project.pipeline(file, f"main{ref}", {"CI_COMMIT_SHA": self.git("rev-parse", "HEAD")}))
             time.sleep(random.random())
             self.server.kill()
             self.server.start()
-        statuses = []
         for number in numbers:
             until(lambda: self.project.shown(number)["status"] == "success" or (self.put_on(20), False)[1], 40)
             self.assertIn("\n1999\n2000\nended: exit code 0\n", self.project.trace(number, "ship"))
-        attempts = [line for line in self.lines("marks")]
-        changes = [line for place, line in enumerate(attempts) if place == 0 or attempts[place - 1] != line]
-        self.assertEqual(len(changes), len(set(changes)), changes)
-        self.assertEqual(statuses, [])
+        marks = self.lines("marks")
+        begun = [mark for place, mark in enumerate(marks) if place == 0 or marks[place - 1] != mark]
+        self.assertEqual(len(begun), len(set(begun)), begun)  # none goes on behind another one
+        self.assertGreaterEqual(len(begun), 6)
+        self.server.kill()
+        self.assertEqual(self.server.rows("PRAGMA integrity_check"), ["ok"])
+        told = re.findall(r"^attempt (\d+) of ship, project 1: (success|\w+_failure)$", self.read("one.log") + self.read("two.log"), re.MULTILINE)
+        self.assertGreaterEqual(len(told), 6)
+        for attempt, state in told:
+            self.assertEqual(self.server.rows(f"SELECT state FROM attempt WHERE id = {attempt}"), ["1" if state == "success" else "2"])
 
     def test_replies_that_are_lost(self) -> None:
         proxy = LossyProxy(self.server.port)

@@ -42,7 +42,8 @@ class Masks(unittest.TestCase):
             self.assertFalse(any(value in self.masked(values, pieces) for value in values))
 
     def test_what_is_looked_for(self) -> None:
-        self.assertEqual(values_to_mask(["abc", "", "key", "first line\n  x\nlong enough"]), [b"first line\n  x\nlong enough", b"long enough", b"first line"])
+        whole = "first line\n  x\nlong enough"
+        self.assertEqual(values_to_mask(["abc", "", "key", whole]), [whole.encode(), b"long enough", b"first line"])
 
 
 class Traces(unittest.TestCase):
@@ -79,7 +80,8 @@ class Traces(unittest.TestCase):
 class Patterns(unittest.TestCase):
     def test_which_paths_match(self) -> None:
         names = ["a.txt", "b/a.txt", "b/c/a.txt", "b/c/x.o", "d.log", "[x]", "{a", ".hidden/f", "a,b"]
-        for pattern, wanted in (("*.txt", ["a.txt"]), ("**/*.txt", ["a.txt", "b/a.txt", "b/c/a.txt"]), ("b/*", ["b/a.txt"]), ("b/**", ["b/a.txt", "b/c/a.txt", "b/c/x.o"]),
+        for pattern, wanted in (("*.txt", ["a.txt"]), ("**/*.txt", ["a.txt", "b/a.txt", "b/c/a.txt"]), ("b/*", ["b/a.txt"]),
+                                ("b/**", ["b/a.txt", "b/c/a.txt", "b/c/x.o"]),
                                 ("?.{txt,log}", ["a.txt", "d.log"]), ("[ab].txt", ["a.txt"]), ("[!a].log", ["d.log"]), ("*/f", [".hidden/f"]),
                                 ("[[]x]", ["[x]"]), ("a,b", ["a,b"]), ("b/**/x.o", ["b/c/x.o"])):
             looked = pack.compiled(pattern)
@@ -132,11 +134,14 @@ class Configurations(unittest.TestCase):
         self.assertEqual((made.number, made.artifacts_keep, made.concurrent, made.cache_folder), ("7", 172_800, 3, "/f/cache"))
 
     def test_faults(self) -> None:
-        for more, told in (({"urls": "x"}, "`urls` is unknown"), ({"url": "h:80"}, "`url` is http"), ({"concurrent": 0}, "`concurrent` is a whole number"),
+        for more, told in (({"urls": "x"}, "`urls` is unknown"), ({"url": "h:80"}, "`url` is http"),
+                           ({"concurrent": 0}, "`concurrent` is a whole number"),
                            ({"concurrent": True}, "`concurrent` is a whole number"), ({"masked": ["A", 1]}, "`masked` is a list of texts"),
-                           ({"where": "vm"}, "`where` is"), ({"cache": {"limit": 1}}, "`cache.limit` is unknown"), ({"cache": 1}, "`cache` is a table"),
+                           ({"where": "vm"}, "`where` is"), ({"cache": {"limit": 1}}, "`cache.limit` is unknown"),
+                           ({"cache": 1}, "`cache` is a table"),
                            ({"projects": {"x": {}}}, "a project is told by its number"), ({"projects": {"1": {}}}, "the address of a Git repository"),
-                           ({"projects": {"1": {"repository": "https://a:b@h/r"}}}, "has a password"), ({"projects": {"1": {"repository": "r", "branch": "x"}}}, "unknown"),
+                           ({"projects": {"1": {"repository": "https://a:b@h/r"}}}, "has a password"),
+                           ({"projects": {"1": {"repository": "r", "branch": "x"}}}, "unknown"),
                            ({"token": ""}, "`token` is missing"), ({"token": "", "token_file": "/none"}, "cannot read /none")):
             with self.assertRaisesRegex(config.Fault, told):
                 config.from_table(self.GOOD | more)

@@ -1,0 +1,135 @@
+"""Repositories that want a password, and the runner as a program: its folder, its polls, its ends."""
+import base64
+import http.server
+import os
+import signal
+import subprocess
+import threading
+import time
+import unittest
+
+from support import PROGRAM, Case, until
+
+
+class Repositories(http.server.ThreadingHTTPServer):
+    """Serves the repositories of a folder to those who have a password, and notes what they sent."""
+
+    def __init__(self, folder: str):
+        super().__init__(("127.0.0.1", 0), Handler)
+        self.folder, self.seen = folder, []
+        self.url = f"http://127.0.0.1:{self.server_port}"
+        threading.Thread(target=self.serve_forever, daemon=True).start()
+
+
+class Handler(http.server.BaseHTTPRequestHandler):
+    def answer(self) -> None:
+        sent = self.headers.get("Authorization")
+        self.server.seen.append(sent)
+        if sent != "Basic " + base64.b64encode(b"ci:pass'word $x").decode():
+            self.send_response(401)
+            self.send_header("WWW-Authenticate", 'Basic realm="git"')
+            self.end_headers()
+            return
+        path, _, query = self.path.partition("?")
+        body = self.rfile.read(int(self.headers.get("Content-Length", 0)))
+        environment = {"PATH": os.environ["PATH"], "GIT_PROJECT_ROOT": self.server.folder, "GIT_HTTP_EXPORT_ALL": "1", "PATH_INFO": path,
+                       "QUERY_STRING": query, "REQUEST_METHOD": self.command, "CONTENT_TYPE": self.headers.get("Content-Type", ""),
+                       "HTTP_CONTENT_ENCODING": self.headers.get("Content-Encoding", ""), "REMOTE_USER": "ci"}
+        reply = subprocess.run(["git", "http-backend"], input=body, env=environment, stdout=subprocess.PIPE, check=True).stdout
+        head, _, body = reply.partition(b"\r\n\r\n")
+        self.send_response(200)
+        for line in head.decode().split("\r\n"):
+            self.send_header(*line.split(": ", 1))
+        self.end_headers()
+        self.wfile.write(body)
+
+    do_GET = do_POST = answer
+
+    def log_message(self, *_: object) -> None:
+        pass
+
+
+class Passwords(Case):
+    def setUp(self) -> None:
+        super().setUp()
+        self.token = self.server.runner()
+        self.server.start()
+        self.shown, self.other = Repositories(self.room), Repositories(self.room)
+        for server in (self.shown, self.other):
+            self.addCleanup(server.server_close)
+            self.addCleanup(server.shutdown)
+        self.write("password", "pass'word $x\n")
+
+    def test_a_password_is_for_its_own_host_alone(self) -> None:
+        self.repository("part", {"part.txt": "a part\n"})
+        self.write("work/.gitmodules", f'[submodule "part"]\npath = part\nurl = {self.other.url}/part/.git\n')
+        self.git("update-index", "--add", "--cacheinfo", "160000," + self.git("rev-parse", "HEAD", folder=self.path("part")) + ",part")
+        self.git("add", ".gitmodules")
+        self.git("commit", "--quiet", "-m", "with a part of elsewhere")
+        repository, self.work = self.work, f"{self.shown.url}/work/.git"
+        self.begin_runner(self.token, rest=f'user = "ci"\npassword_file = "{self.path("password")}"\n')
+        number = self.project.pipeline("""\
+            a:
+              script:
+                - cat hello.txt; git remote -v; git config --list; env
+            b:
+              variables:
+                GIT_SUBMODULE_STRATEGY: normal
+              allow_failure: true
+              script: echo
+            """)
+        self.work = repository
+        self.assertEqual(self.project.ends(number), "success")
+        self.assert_line(self.project.trace(1, "a"), "hello")
+        self.assert_line(self.project.trace(1, "b"), "the runner failed: git failed")
+        self.assertNotIn("pass'word", self.project.trace(1, "a") + self.project.trace(1, "b") + self.read("one.log"))
+        self.assertTrue(any(self.shown.seen))
+        self.assertEqual(set(self.other.seen), {None})
+
+
+class Programs(Case):
+    def setUp(self) -> None:
+        super().setUp()
+        self.token = self.server.runner()
+        self.server.start()
+
+    def test_a_folder_has_one_runner(self) -> None:
+        first = self.begin_runner(self.token)
+        until(lambda: "asks" in self.read("one.log"))
+        second = self.begin_runner(self.token)
+        self.assertEqual(second.wait(10), 2)
+        self.assertIn(f"ciserver-runner: another runner uses {self.path('one')}\n", self.read("one.log"))
+        self.assertIsNone(first.poll())
+
+    def test_a_runner_goes_on_where_the_server_refuses_it_or_isnt_there(self) -> None:
+        runner = self.begin_runner("r9-unknown")
+        until(lambda: "the server refuses: 403 M4\n" in self.read("one.log"))
+        other = self.begin_runner(self.token, "two")
+        self.server.kill()
+        until(lambda: "no answer from 127.0.0.1" in self.read("two.log"))
+        time.sleep(0.5)
+        self.assertEqual((runner.poll(), other.poll()), (None, None))
+        self.server.start()
+        self.assertEqual(self.project.ends(self.project.pipeline("a:\n  script: echo\n")), "success")
+        for process in (runner, other):
+            process.send_signal(signal.SIGTERM)
+            self.assertEqual(process.wait(10), 0)
+
+    def test_polls_slow_down(self) -> None:
+        self.server.kill()
+        self.server.process = self.counting(5)
+        self.begin_runner(self.token, pause=30)
+        begun = time.monotonic()
+        self.assertEqual(self.server.process.wait(20), 0)  # the fifth poll: after 1, 1.5, 2.25 and 3.4 seconds
+        self.assertGreater(time.monotonic() - begun, 8)
+
+    def counting(self, requests: int) -> subprocess.Popen:
+        """A server that ends after so many requests."""
+        words = [PROGRAM, "serve", "--db", self.server.db, "--port", str(self.server.port), "--requests", str(requests)]
+        process = subprocess.Popen(words, stdout=subprocess.PIPE, text=True)
+        process.stdout.readline()
+        return process
+
+
+if __name__ == "__main__":
+    unittest.main()
