@@ -101,4 +101,5 @@ class Inits(Case):
                     self.world.restore(image)
                     self.is_whole()
         self.assertEqual(ran[:2], (0, 'ok\n'))
+        self.assertEqual(self.world.losses(choices, 1), [], 'what init made is synced')
         self.assertGreater(images, 5)

@@ -152,6 +152,7 @@ class Moments(Peers):
         self.assertEqual(self.world.exchange(SHOW), shown('build', 'build', 'running'))
         self.world.at(1120)
         self.assertEqual(self.world.exchange(SHOW), shown('build', 'build', 'failed'))
+        self.assertEqual(self.world.rows('SELECT granted, seen FROM attempt'), [(1000, 1000)])
 
     def test_a_redundant_pipeline_is_cancelled_before_the_request(self):
         self.begin('add-project p', 'add-runner r', 'set-file 1 ship', 'create 1 main', 'create 1 main')

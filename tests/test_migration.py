@@ -69,7 +69,7 @@ def make(path, rows=os.path.join(HERE, 'version1.sql'), in_log=False):
     with tempfile.TemporaryDirectory() as folder:
         made = os.path.join(folder, 'made.db')
         with closing(sqlite3.connect(made)) as connection:
-            connection.executescript('PRAGMA page_size = 1024;' + ('PRAGMA journal_mode = WAL;' if in_log else '') + texts)
+            connection.executescript('PRAGMA page_size = 1024;' + ('PRAGMA journal_mode = WAL;' if in_log else '') + 'BEGIN;' + texts + 'COMMIT;')
             for end in ('', '-wal') if in_log else ('',):
                 shutil.copyfile(made + end, path + end)
 

@@ -15,8 +15,9 @@ from lines import Fault
 from transactions import Log, swept
 
 EVENTS = 500
-STOPS = 8  # events, on an average, between two stops of the server that goes on
-JOBS, PIPELINES = 8, 12  # of a pipeline at most; made at most
+LIFE = 40  # events, on an average, between two stops of the server that goes on
+JOBS, PIPELINES = 8, 24  # of a pipeline at most; made at most
+LEAST = {'attempts': 20, 'refused': 20, 'held back': 2, 'ended': 3, 'cancelled': 2, 'pruned': 2, 'stopped within': 10, 'found before': 5}
 # Half of the moments lie before this one, by which pipelines are pruned.
 MIDNIGHT = DAY
 FILES = {
@@ -95,7 +96,7 @@ class Course:
 
     def __init__(self, seed):
         self.random = random.Random(seed)
-        self.counts = dict.fromkeys(['attempts', 'refused', 'held back', 'ended', 'cancelled', 'pruned', 'stopped within', 'found before'], 0)
+        self.counts = dict.fromkeys(LEAST, 0)
         self.pipelines = 2
 
     def below(self, bound):
@@ -103,7 +104,7 @@ class Course:
 
     def moment(self):
         """When an event comes: moments go back too."""
-        return MIDNIGHT - 75 + self.below(150)
+        return MIDNIGHT - 120 + self.below(240)
 
     def job(self):
         """The number of a job, mostly of one that is there."""
@@ -127,7 +128,7 @@ class Course:
 
     def request(self):
         draw = self.below(21)
-        if draw == 0 and self.pipelines < PIPELINES:
+        if draw < 2 and self.pipelines < PIPELINES:
             return self.creation()
         if draw < 8:
             return f'ask r{self.below(6)}'
@@ -182,6 +183,8 @@ class RandomEvents(Case):
         self.world.fail_from(None)
         self.world.stop()
         self.lose()
+        # What this opening finds stays, whatever is lost later.
+        self.world.restart()
         left = state(self.world).tables
         self.assertIn(left, [state.tables for state in states], 'a state that the other server never had')
         if answer is not None:
@@ -245,7 +248,7 @@ class RandomEvents(Case):
         if words[0] == 'prune':
             pruned = before.prunable(int(words[1]))
             self.course.count('pruned', len(pruned))
-            self.assertEqual(answers[0], '200 ' + '\n'.join(f'{{"pruned":{number}}}' for number in pruned) if pruned else '200')
+            self.assertEqual(answers[0], '\n'.join(f'200 {{"pruned":{number}}}' for number in pruned) or '204')
             self.assertEqual([pipeline.id for pipeline in self.whole.pipelines],
                              [pipeline.id for pipeline in before.pipelines if pipeline.id not in pruned])
         elif int(words[1]) in before.runners:
@@ -253,17 +256,17 @@ class RandomEvents(Case):
 
     def play(self, seed):
         self.course = course = Course(seed)
-        self.world.at(MIDNIGHT - 75)
+        self.world.at(MIDNIGHT - 120)
         self.begin_with(BEGINNING)
         self.going = self.new_world()
         self.going.restore(self.world.save())
         self.whole, self.log = state(self.going), Log(self.going)
         for _ in range(EVENTS):
-            if course.below(STOPS * 5) == 0:
+            if course.below(LIFE) == 0:
                 for _ in range(5):
                     self.command(course.command())
             self.one(course.request())
-        few = {what: count for what, count in course.counts.items() if count < {'cancelled': 1, 'pruned': 1}.get(what, 10)}
+        few = {what: count for what, count in course.counts.items() if count < LEAST[what]}
         self.assertEqual(few, {}, course.counts)
 
     def begin_with(self, lines):

@@ -1,11 +1,7 @@
-//! Tests of a server over memory: thousands of random events; and the server of the witness.
+//! Tests of a server over memory that no event reaches: its calls for reports, and the server of the witness.
 #![tactic(auto)]
 
 #[cfg(test)]
-mod choices;
-#[cfg(test)]
 mod life;
-#[cfg(test)]
-mod random;
 #[cfg(test)]
 mod reports;
