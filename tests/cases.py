@@ -8,7 +8,7 @@ from contextlib import closing
 
 from events import SEED, Reading, is_accepted, told_command, told_reply
 from lines import Texts, Words, words_of
-from world import World
+from world import ROOM, World
 
 FILES = {
     'one': 'build:\n  stage: build\n  script: make\n',
@@ -58,7 +58,7 @@ class Case(unittest.TestCase):
         self.world = self.new_world()
 
     def new_world(self):
-        folder = tempfile.TemporaryDirectory(prefix='ciserver-test-')
+        folder = tempfile.TemporaryDirectory(prefix='ciserver-test-', dir=ROOM)
         self.addCleanup(folder.cleanup)
         world = World(folder.name)
         self.addCleanup(world.stop)

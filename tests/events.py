@@ -294,11 +294,12 @@ def told_reply(event, data):
 
 
 def told_command(event, ran):
-    """What a command said of an event, as a reply would tell it."""
-    text = ran.out.decode() if isinstance(ran.out, bytes) else ran.out
-    if not text.endswith('\n') and text:
-        raise Fault(f'a line without its end: {text!r}')
-    text = text[:-1]
+    """What a command said of an event, as a reply would tell it; what it pruned a line each."""
+    if ran.out and not ran.out.endswith('\n'):
+        raise Fault(f'a line without its end: {ran.out!r}')
+    text = ran.out[:-1]
+    if ran.status == 0 and event.before is not None:
+        return '\n'.join(f'200 {line}' for line in ran.out.splitlines()) or '204'
     if ran.status == 0:
         return f'{event.accepted} {text}'.rstrip()
     if ran.status == 1 and text.startswith('{'):

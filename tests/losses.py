@@ -72,6 +72,7 @@ def left(content, notes, keeps, parts=lambda note: [(0, len(note.new))]):
     for note in notes:
         if note.is_cut:
             if keeps():
+                content.extend(bytes(max(0, note.length - len(content))))
                 del content[note.length:]
             continue
         for begin, end in parts(note):

@@ -34,7 +34,6 @@ class Stage:
     def __init__(self, world):
         self.world = world
         self.log = transactions.Log(world)
-        self.is_running = False
         # Were its tables changed by hand?
         self.is_altered = False
         # What was swept or pruned at once, and is still to be asked for, one by one.
@@ -48,18 +47,12 @@ class Stage:
     # ---- the program
 
     def served(self):
-        if not self.is_running:
-            ended = self.world.start()
-            if ended:
-                raise Fault(f"the server doesn't open: {ended}")
-            self.is_running = True
-
-    def stopped(self):
-        self.world.stop()
-        self.is_running = False
+        ended = self.world.start() if self.world.server is None else None
+        if ended:
+            raise Fault(f"the server doesn't open: {ended}")
 
     def command(self, *words):
-        self.stopped()
+        self.world.stop()
         return self.world.command(*words, '--db', self.world.db)
 
     # ---- events
@@ -77,13 +70,13 @@ class Stage:
 
     def sweep(self):
         """What a request sweeps that does nothing else."""
-        mark = self.log.mark()
+        mark, before = self.log.mark(), transactions.standing(self.world)
         told = Reply(self.world.exchange(POLL)).told()
         if told == CLOSED:
             return CLOSED
         if told != '403 M4':
             raise Differs('403 M4', told)
-        return '\n'.join(transactions.sweeps_since(self.world, self.log, mark)) or 'nothing'
+        return '\n'.join(transactions.sweeps_since(self.world, self.log, mark, before)) or 'nothing'
 
     def follow(self, ask):
         """Has an event handled, which must be answered as it says. A sweep, and a command that prunes, do all at once that they find, and the steps
@@ -98,10 +91,7 @@ class Stage:
         if not self.left:
             self.left = self.tell(ask).split('\n')
             self.left_of, self.left_line = (of, ask.moment), ask.line
-        came = self.left.pop(0)
-        if event.before is not None and came.startswith('{'):
-            came = f'200 {came}'
-        compare(ask, '204' if event.before is not None and came == '200' else came)
+        compare(ask, self.left.pop(0))
 
     def nothing_left(self):
         if self.left:
@@ -124,7 +114,7 @@ class Stage:
         """There may be so many transactions since then, of the event itself; one more is a sweep's."""
         ends, _ = self.log.since(mark)
         if len(ends) > most:
-            raise Fault(f'a sweep did something before the event: {transactions.sweeps_since(self.world, self.log, mark)}')
+            raise Fault(f'a sweep did something before the event: {len(ends)} transactions')
 
     # ---- steps
 
@@ -134,7 +124,7 @@ class Stage:
         self.served()
         mark = self.log.mark()
         carry_out(self.world, exchange)
-        self.unswept(mark, 1)
+        self.unswept(mark, 1 if exchange.served in ('replied', 'write-failed') else 0)
 
     def rows(self, step):
         query = step.query if step.query.startswith('SELECT ') else f'SELECT * FROM {step.query}'
@@ -153,7 +143,7 @@ class Stage:
             same(step, ''.join(line.rstrip() + '\n' for line in ran.out.splitlines()))
 
     def alter(self, step):
-        self.stopped()
+        self.world.stop()
         self.is_altered = True
         with closing(sqlite3.connect(self.world.db)) as connection, connection:
             connection.execute(step.statement)
@@ -174,14 +164,12 @@ class Stage:
                 asks.append(('before', ask, sign.before.allows))
         stop_each(self.world, step.files, lambda: self.met(step.ask), asks, rule.check,
                   is_command=step.ask.event.command is not None)
-        self.stopped()
+        self.world.stop()
 
     def tell_now(self, ask):
-        """The answer of a server that was started or stopped meanwhile."""
-        self.is_running = self.world.server is not None
+        """The answer over files that were changed meanwhile."""
         self.log = transactions.Log(self.world)
-        told = self.tell(ask)
-        return prune_told(ask, told)
+        return self.tell(ask)
 
     def met(self, ask):
         """The answer of an event on a store that may fail: as wanted, or that the store failed."""
@@ -214,11 +202,6 @@ class Stage:
 
 PLAYS = {Ask: Stage.follow, Repeat: Stage.repeat, StopEach: Stage.stop_each, Exchange: Stage.exchange, Rows: Stage.rows, Report: Stage.report,
          Statement: Stage.alter, Reopen: Stage.reopen}
-
-
-def prune_told(ask, told):
-    """The answer of a command that prunes one pipeline or none, as one event."""
-    return '204' if ask.event.before is not None and told == '200' else told
 
 
 def changes(event, came):

@@ -5,7 +5,7 @@ import random
 import signal
 import socket
 
-from cases import Case, drawn
+from cases import Case, alter, drawn
 
 MOST_CALLS = 500
 
@@ -31,10 +31,23 @@ class Commands(Case):
         self.assertEqual(int.from_bytes(content[28:32], 'big') * 1024, len(content))
 
     def test_without_seeds_no_token_is_made(self):
-        self.begin()
+        """The store takes random bytes too, as it is opened, and faults of the store go before those of a request."""
+        self.begin('add-project p')
         self.world.seed_fails()
-        self.ran(1, 'refused: seed\n', 'project-add', '--db', self.world.db, '--name', 'p')
-        self.assertEqual(self.world.rows('SELECT * FROM project'), [])
+        self.ran(3, 'store: O3\n', 'project-add', '--db', self.world.db, '--name', 'q')
+        self.assertEqual(self.world.rows('SELECT id FROM project'), [(1,)])
+
+    def test_a_row_that_is_no_record_is_told_by_what_reads_it(self):
+        self.begin('add-runner r')
+        alter(self.world, "UPDATE runner SET tags = 'gpu'")
+        self.ran(0, '     JOB PROJECT STATUS               NAME\njobs: 0\n', 'report', '--db', self.world.db, '--kind', 'queue')
+        self.ran(1, 'refused: M3\n', 'report', '--db', self.world.db, '--kind', 'pipeline', '--pipeline', '1')
+        self.ran(3, 'store: M17\n', 'report', '--db', self.world.db, '--kind', 'runners')
+
+    def test_a_file_is_its_owners_alone(self):
+        """The tokens are in it. Its log has its access."""
+        self.begin('add-project p', 'set-file 1 one')
+        self.assertEqual([os.stat(path).st_mode & 0o777 for path in self.world.paths()], [0o600, 0o600])
 
 
 class Inits(Case):

@@ -6,6 +6,8 @@ import sqlite3
 import tempfile
 from contextlib import closing, contextmanager
 
+from lines import Fault
+
 HEAD_BYTES = 32
 FRAME_BYTES = 24
 STUCK, TIMED_OUT = 3, 5
@@ -72,8 +74,8 @@ def copied(world, end=None):
             yield connection
 
 
-def standing(world, end):
-    """How each attempt stands, and which jobs are cancelled, where the log ends there."""
+def standing(world, end=None):
+    """How each attempt stands, and which jobs are cancelled: now, or where the log ends there."""
     with copied(world, end) as connection:
         attempts = {number: (state, cause) for number, state, cause in connection.execute('SELECT id, state, cause FROM attempt')}
         cancelled = dict(connection.execute('SELECT id, pipeline FROM job WHERE cancelled = 1'))
@@ -86,16 +88,15 @@ def swept(before, after):
     cancelled = {pipeline for job, pipeline in after[1].items() if job not in before[1]}
     if len(ended) == 1 and not cancelled:
         number, (_, cause) = ended[0]
-        return f'ended {number} {CAUSES.get(cause, cause)}'
+        if cause in CAUSES:
+            return f'ended {number} {CAUSES[cause]}'
     if len(cancelled) == 1 and not ended:
         return f'cancelled {cancelled.pop()}'
-    return 'something that no sweep does'
+    raise Fault('a transaction that no sweep makes')
 
 
-def sweeps_since(world, log, mark):
-    """What each transaction since then did, where all were sweeps."""
-    ends, begin = log.since(mark)
-    if not ends:
-        return []
-    states = [standing(world, end) for end in [begin, *ends]]
-    return [swept(before, after) for before, after in zip(states, states[1:])]
+def sweeps_since(world, log, mark, before):
+    """What each transaction since then did, where all were sweeps, and attempts and jobs stood so before."""
+    ends, _ = log.since(mark)
+    states = [before, *(standing(world, end) for end in ends)]
+    return [swept(*pair) for pair in zip(states, states[1:])]

@@ -30,6 +30,7 @@ PAGE_BYTES = 4096
 REAL, SET, FAILS = range(3)
 FILES = {'db': 1, 'log': 2}
 REQUESTS = 1000000  # that a server serves where the test says nothing else
+ROOM = '/dev/shm' if os.access('/dev/shm', os.W_OK) else None  # where a sync costs nothing
 
 
 class Page(ctypes.Structure):
@@ -122,11 +123,11 @@ class World:
 
     # ---- runs of the program
 
-    def command(self, *words, stdin=b''):
+    def command(self, *words, stdin=b'', stdout=subprocess.PIPE):
         """Runs the program with these words."""
-        done = subprocess.run([self.program, *words], input=stdin, capture_output=True, env=self.environment, cwd=self.folder,
+        done = subprocess.run([self.program, *words], input=stdin, stdout=stdout, stderr=subprocess.PIPE, env=self.environment, cwd=self.folder,
                               timeout=SECONDS, check=False)
-        return Ran(done.returncode, text_of(done.stdout), text_of(done.stderr))
+        return Ran(done.returncode, text_of(done.stdout or b''), text_of(done.stderr))
 
     def init(self):
         return self.command('init', '--db', self.db)

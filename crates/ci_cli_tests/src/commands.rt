@@ -1,4 +1,4 @@
-//! A port that is taken: it is told after the file and before the clock, which can't be read here. And the pages of a new file. What else the commands print is data: the runs of `ci_scenarios`.
+//! A port that is taken: it is told after the file and before the clock, which can't be read here. And the pages of a new file. What else the commands print is data: the runs of `tests/scenarios`.
 
 use crate::runs::{Folder, ends};
 use std::fs;
