@@ -247,13 +247,13 @@ class Trials:
         elif end == 'M17':
             self.look_reopened()
         elif rows == self.before:
-            self.look_again(end, self.kind.wanted, self.answer)
+            return self.look_again(end, self.kind.wanted, self.answer)
         elif rows != self.after:
             raise Difference(f'{end}, and the rows are others')
         elif self.kind.unswept:
-            self.look_again(end, self.kind.wanted, self.answer)
+            return self.look_again(end, self.kind.wanted, self.answer)
         elif self.kind.repeated:
-            self.look_again(end, self.kind.repeated)
+            return self.look_again(end, self.kind.repeated)
         elif end == 'silent' and isinstance(self.answer, bytes) and len(self.answer) > ROOM_BYTES:
             return 'unheard'
         else:
@@ -261,12 +261,16 @@ class Trials:
         return end
 
     def look_again(self, end, wanted, answer=None):
-        """Demands that the same once more is answered so, and leaves the rows that it should."""
+        """Demands that the same once more is answered so, and leaves the rows that it should. Where it was silent, its sweep may have closed the server."""
         again, rows = self.sent_again()
+        if again == CLOSED and end == 'silent' and self.is_rest:
+            self.look_reopened()
+            return 'M17'
         if not wanted.allows(self.told(again)) or answer not in (None, again):
             raise Difference(f'{end}, and once more {self.told(again)}')
         if rows != self.after:
             raise Difference(f'{end}, and once more it left other rows')
+        return end
 
     def look_reopened(self):
         """After M17: the server is closed, and one that opens what it left finds the rows from before, or those that it should leave."""
