@@ -10,7 +10,7 @@ KEYS = (
     "CI_JOB_ARTIFACTS_EXPIRE", "CI_JOB_ARTIFACTS_NAME", "CI_JOB_DEPENDENCIES",
 )
 POLICIES = ("pull-push", "pull", "push")
-MOST_DEPENDENCIES = 1_000  # bytes; where a job has no `needs`, the runner lays out the artifacts of earlier stages by itself
+MOST_DEPENDENCIES = 300  # bytes; where a job has no `needs`, the runner lays out the artifacts of earlier stages by itself
 
 
 class ForRunner:
