@@ -66,7 +66,8 @@ def expression(source: str, values: dict[str, str]) -> str | None:
         if left[0] != "$" or not right or right[0] in "&|()=!" or sign[1] == "=" and right[0] == "/":
             return None
         made += [left, sign, right]
-    return spelled(made) if made != tokens_of(source) or "\n" in source else source.strip()
+    found = spelled(made) if made != tokens_of(source) or "\n" in source else source.strip()
+    return found if formula(found) is not None else None
 
 
 def alternatives(source: str) -> list[str]:
@@ -160,8 +161,8 @@ def variables_in(said) -> set[str]:
     return {it[1:] for it in parts if it[0] == "$"}
 
 
-def with_values(said, values: dict[str, str]):
-    """A formula in which these variables have these values: a formula, or whether it holds."""
+def with_values(said, values: dict[str, str | None]):
+    """A formula in which these variables have these values, None where they aren't there: a formula, or whether it holds."""
     kind, parts = said
     if kind == "is":
         return comparison(parts, values)
@@ -173,21 +174,24 @@ def with_values(said, values: dict[str, str]):
     return joined(kind, made) if made else not strong
 
 
-def comparison(parts: list[str], values: dict[str, str]):
-    left, right = parts[0], parts[2] if len(parts) > 1 else ""
-    known = [values.get(it[1:]) if it[:1] == "$" else None for it in (left, right)]
-    if known == [None, None]:
+def comparison(parts: list[str], values: dict[str, str | None]):
+    """The same of a variable or a comparison."""
+    if not any(it[1:] in values for it in parts if it[0] == "$"):
         return ("is", parts)
+    left = values.get(parts[0][1:])
     if len(parts) == 1:
-        return known[0] != ""
-    if parts[1] in ("=~", "!~"):
+        return bool(left)
+    sign, right = parts[1:]
+    if sign in ("=~", "!~"):
         source, flags = PATTERN.fullmatch(right).groups()
-        return bool(re.search(source, known[0], re.I if "i" in flags else 0)) == (parts[1] == "=~")
-    if known[0] is None or (right[0] == "$" and known[1] is None):
-        return ("is", [left if known[0] is None else right, parts[1], quoted(known[1] if known[0] is None else known[0])])
-    other = known[1] if right[0] == "$" else None if right == "null" else right[1:-1]
-    return (known[0] == other) == (parts[1] == "==")
+        return bool(re.search(source, left or "", re.I if flags else 0)) == (sign == "=~")
+    if right[0] == "$" and right[1:] not in values:
+        return ("is", [right, sign, literal(left)])
+    if parts[0][1:] not in values:
+        return ("is", [parts[0], sign, literal(values[right[1:]])])
+    other = values[right[1:]] if right[0] == "$" else None if right == "null" else right[1:-1]
+    return (left == other) == (sign == "==")
 
 
-def quoted(value: str) -> str:
-    return f"'{value}'" if '"' in value else f'"{value}"'
+def literal(value: str | None) -> str:
+    return "null" if value is None else f"'{value}'" if '"' in value else f'"{value}"'

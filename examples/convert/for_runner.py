@@ -3,14 +3,14 @@ from __future__ import annotations
 
 from .durations import seconds_of
 from .notes import Notes
-from .tree import Map, Place, Refused, Text, flat, text, words_of
+from .tree import Map, Place, Refused, Text, boolean, flat, text, words_of
 
 KEYS = (
     "CI_JOB_IMAGE", "CI_JOB_SERVICES", "CI_JOB_CACHE", "CI_JOB_ARTIFACTS", "CI_JOB_ARTIFACTS_EXCLUDE", "CI_JOB_ARTIFACTS_WHEN",
     "CI_JOB_ARTIFACTS_EXPIRE", "CI_JOB_ARTIFACTS_NAME", "CI_JOB_DEPENDENCIES",
 )
 POLICIES = ("pull-push", "pull", "push")
-MOST_DEPENDENCIES = 1_000  # bytes; where a job has no `needs`, the runner lays out the artifacts of earlier stages by itself
+MOST_DEPENDENCIES = 300  # bytes; where a job has no `needs`, the runner lays out the artifacts of earlier stages by itself
 
 
 class ForRunner:
@@ -123,7 +123,7 @@ def put_dependencies(notes: Notes, made: dict, names: dict[str, list[str]], sour
     for source, job in sources.items():
         notes.job = source
         for name in names[source] if giving else ():
-            found = wanted_by(notes, made[name], job, names)
+            found = wanted_by(notes, made, name, job, names)
             if found is None:
                 stage = made[name].get("stage", "test")
                 before = stages[: stages.index(stage)] if stage in stages else []
@@ -134,18 +134,23 @@ def put_dependencies(notes: Notes, made: dict, names: dict[str, list[str]], sour
             made[name]["variables"] = made[name].get("variables", {}) | {"CI_JOB_DEPENDENCIES": value}
 
 
-def wanted_by(notes: Notes, made: dict, job: Map, names: dict[str, list[str]]) -> list[str] | None:
+def wanted_by(notes: Notes, made: dict, name: str, job: Map, names: dict[str, list[str]]) -> list[str] | None:
     """The jobs whose artifacts a job asks for, by its `dependencies` or else its `needs`; None where it says nothing."""
+
+    def copies(of: str) -> list[str]:
+        return names.get(of) or ([of] if of in made else [])
+
     if "dependencies" in job:
-        for it in words_of(job["dependencies"], "dependencies"):
-            if not names.get(it):
+        wanted = words_of(job["dependencies"], "dependencies")
+        for it in wanted:
+            if not copies(it):
                 notes.add(job.places["dependencies"], f"dependencies: `{it}` is dropped: there is no such job")
-        return [each for it in words_of(job["dependencies"], "dependencies") for each in names.get(it, [])]
-    if "needs" not in made:
+        return [each for it in wanted for each in copies(it)]
+    if "needs" not in made[name]:
         return None
-    without = {str(it["job"]) for it in flat(job["needs"]) if isinstance(it, Map) and "job" in it and it.get("artifacts") == "false"}
-    refused = {each for it in without for each in names.get(it, [it])}
-    needed = [it["job"] if isinstance(it, dict) else it for it in made["needs"]]
+    without = {str(it["job"]) for it in flat(job["needs"]) if isinstance(it, Map) and "job" in it and boolean(it.get("artifacts")) is False}
+    refused = {each for it in without for each in copies(it)}
+    needed = [it["job"] if isinstance(it, dict) else it for it in made[name]["needs"]]
     return [it for it in needed if it not in refused]
 
 

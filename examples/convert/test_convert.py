@@ -44,7 +44,7 @@ def converted(content: str, **values: str) -> dict:
 
 
 def run(made: dict, name: str, rule: int | None = None, **above: str) -> subprocess.CompletedProcess:
-    """Runs a job as examples/runner.sh does, each part of its script by itself in one shell; `above` are the project's and the request's variables."""
+    """Runs a job as examples/runner.sh does, each part of its script by itself in one shell. `above` are variables of the project or the request."""
     job = made[name]
     ruled = {} if rule is None else job["rules"][rule].get("variables", {})
     variables = made.get("variables", {}) | job.get("variables", {}) | ruled | above
@@ -58,7 +58,12 @@ class Values(unittest.TestCase):
     """Values of variables that name other variables."""
 
     FILE = """
-variables: {TARGET: staging, URL: "https://$TARGET.example.com", DEEP: "${URL}/x", SIGNS: "it's \\"$TARGET\\" `id` $(id) \\\\ $$1 $", RAW: {value: $TARGET, expand: false}}
+variables:
+  TARGET: staging
+  URL: https://$TARGET.example.com
+  DEEP: ${URL}/x
+  SIGNS: it's "$TARGET" `id` $(id) \\ $$1 $
+  RAW: {value: $TARGET, expand: false}
 staging:
   script: echo "$DEEP"
 prod:
@@ -181,7 +186,8 @@ class Workflows(unittest.TestCase):
         for _ in range(100):
             outer = [(chance.choice(self.CONDITIONS), chance.choice(("always", "never"))) for _ in range(chance.randint(1, 4))]
             outer = list(dict.fromkeys(outer))
-            inner = [(chance.choice(self.CONDITIONS + self.OF_GATE), chance.choice(("manual", "on_success", "never"))) for _ in range(chance.randint(1, 3))]
+            inner = [(chance.choice(self.CONDITIONS + self.OF_GATE), chance.choice(("manual", "on_success", "never")))
+                     for _ in range(chance.randint(1, 3))]
             content = "workflow:\n  rules:\n" + self.rules(outer, ", variables: {GATE: '%d'}")
             made = converted(content + "job:\n  script: make\n  rules:\n" + self.rules(inner, "%.0s"))["job"]["rules"]
             for row in itertools.product(self.VALUES, repeat=3):
@@ -246,7 +252,8 @@ class Refusals(unittest.TestCase):
         ("workflow: {rules: [x]}\n" + JOB, 1, "a rule is no map"),
         ("build:\n  script: make\n  tags: [{a: b}]", 3, "tags: a map stands where a text is due"),
         ("build:\n  script: make\n  parallel: {matrix: [x]}", 3, "parallel: the matrix is no list of maps"),
-        ("build:\n  script: make\n  parallel:\n    matrix: [{A: [" + ", ".join(map(str, range(201))) + "]}]", 3, "parallel: the matrix has over 200 rows"),
+        ("build:\n  script: make\n  parallel:\n    matrix: [{A: [" + ", ".join(map(str, range(201))) + "]}]", 3,
+         "parallel: the matrix has over 200 rows"),
         ("variables:\n  A: [b]\n" + JOB, 2, "the value of the variable `A` is no text"),
     )
 

@@ -1,51 +1,77 @@
 """Which pipelines there are, by the rules of `workflow`, said as rules of each job."""
 from __future__ import annotations
 
+import dataclasses
+
 from .conditions import condition
 from .expressions import alternatives, formula, joined, negated, variables_in, with_values, words_of_formula
 from .notes import Notes
-from .tree import Map, Refused, Text, flat, is_null
+from .tree import Map, Place, Refused, Text, flat, is_null
 from .variables import Variables
+
+
+@dataclasses.dataclass
+class Case:
+    """A rule of the workflow: what it asks for, if anything, whether it lets a pipeline be, and the variables that this has then."""
+
+    said: tuple | None
+    lets: bool
+    values: dict[str, Text]
+    place: Place
 
 
 class Workflow:
     def __init__(self, notes: Notes, given, globals: dict[str, Text], variables: Variables):
         self.notes = notes
-        self.never: list[str | None] = []  # what leaves each job out; None is always
-        self.cases: list[tuple] = []  # the rules that let a pipeline be: each with its formula, if any, and its variables
+        self.globals = globals
+        self.all: list[Case] | None = None
+        self.cases: list[Case] = []  # those of the job that is looked at which let a pipeline be
         if not isinstance(given, Map):
             return
         for key in given.without("rules"):
             notes.add(given.places[key], f"workflow: `{key}` is dropped")
         if "rules" in given and not is_null(given["rules"]):
-            self.read(flat(given["rules"]), globals, variables)
+            self.all = self.read(flat(given["rules"]), variables)
 
-    def read(self, rules: list, globals: dict[str, Text], variables: Variables) -> None:
-        ends: list[tuple] = []  # the rules in their order: each with whether it lets a pipeline be, and its formula
+    def read(self, rules: list, variables: Variables) -> list[Case]:
+        made = []
         for rule in rules:
             if not isinstance(rule, Map):
                 raise Refused(rule.place, "a rule is no map")
             for key in rule.without("if", "when", "variables", "changes", "exists"):
                 self.notes.add(rule.places[key], f"workflow: `{key}` is dropped")
-            kept, said = condition(self.notes, "workflow", rule, globals)
-            found = formula(said) if said is not None else None
-            if kept and said is not None and found is None:
-                self.notes.add(rule.places["if"], f"workflow: the rule is left out: `{rule['if']}` can't be said here")
-            if not kept or (said is not None and found is None):
-                continue
-            ends.append((rule.get("when") != "never", found))
-            if rule.get("when") != "never":
-                self.cases.append((found, variables.of(rule.get("variables"))))
-            if found is None:
+            kept, said = condition(self.notes, "workflow", rule, self.globals)
+            if kept:
+                found = formula(said) if said is not None else None
+                made.append(Case(found, rule.get("when") != "never", variables.of(rule.get("variables")), rule.places.get("if", rule.place)))
+        return made
+
+    def seen_by(self, own: dict[str, Text]) -> list[Case]:
+        """The rules as a job says them that has these variables: they ask for those of the top level."""
+        made = []
+        for case in self.all or []:
+            hidden = sorted(own.keys() & variables_in(case.said)) if case.said else []
+            for key in hidden:
+                cause = "for the job has its own: what a project or a request sets changes nothing of it"
+                self.notes.add(case.place, f"workflow: `{key}` is put in as the top level has it, {cause}")
+            said = with_values(case.said, {key: self.globals.get(key) for key in hidden}) if hidden else case.said
+            if said is not False:
+                made.append(dataclasses.replace(case, said=None if said is True else said))
+            if said in (None, True):
                 break
-        self.never = never_by(ends)
+        return made
 
     def rules(self, rules: list[dict] | None, when: str, own: dict[str, Text]) -> list[dict] | None:
         """The rules of a job, or none, with those of the workflow before and in them."""
-        if rules == [] or not self.never and not any(values for _, values in self.cases):
+        if rules == [] or self.all is None:
             return rules
-        made = [{"if": it, "when": "never"} if it else {"when": "never"} for it in self.never]
-        if None in self.never:
+        seen = self.seen_by(own)
+        never = never_by([(it.lets, it.said) for it in seen])
+        self.cases = [it for it in seen if it.lets]
+        if not never and not any(it.values for it in self.cases):
+            return rules
+        made = [{"if": it, "when": "never"} if it else {"when": "never"} for it in never]
+        if None in never:
             return made
         for rule in [{}] if rules is None else rules:
             found = self.asked(rule, when, own)
@@ -56,7 +82,7 @@ class Workflow:
 
     def split(self, rule: dict, when: str, own: dict[str, Text]) -> list[dict]:
         """A rule for each set of variables that a pipeline may have where it holds."""
-        cases = [(said, given(values, rule, own)) for said, values in self.cases]
+        cases = [(it.said, given(it.values, rule, own)) for it in self.cases]
         while len(cases) > 1 and cases[-2][1] == cases[-1][1]:
             del cases[-2]
         asked = formula(rule["if"]) if "if" in rule else None
@@ -72,21 +98,21 @@ class Workflow:
         None where it doesn't."""
         asked = formula(rule.get("if", ""))
         names = variables_in(asked) - own.keys() if asked else set()
-        if not any(names & values.keys() for _, values in self.cases):
+        if not any(names & it.values.keys() for it in self.cases):
             return None
         made, before = [], []
-        for said, values in self.cases:
-            known = {key: it for key, it in values.items() if key in names}
+        for case in self.cases:
+            known = {key: it for key, it in case.values.items() if key in names}
             for key, it in known.items():
                 cause = "what a project or a request sets changes nothing of it"
                 self.notes.add(it.place, f"workflow: `{key}` is put into rules as the workflow has it: {cause}")
             rest = with_values(asked, known)
-            asks = [it for it in (said, *before, None if rest is True else rest) if it is not None]
+            asks = [it for it in (case.said, *before, None if rest is True else rest) if it is not None]
             if rest is not False:
                 head = {"if": words_of_formula(joined("&&", asks))} if asks else {"when": when}
-                made.append(written(head, rule, {} if rule.get("when") == "never" else given(values, rule, own)))
-            if said is not None:
-                before.append(negated(said))
+                made.append(written(head, rule, {} if rule.get("when") == "never" else given(case.values, rule, own)))
+            if case.said is not None:
+                before.append(negated(case.said))
         return made
 
 
