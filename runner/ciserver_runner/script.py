@@ -16,7 +16,7 @@ def text_of(variables: dict[str, str], lines: list[str]) -> bytes:
     text = [f"command export {name}={_quoted(value)} 2> /dev/null || :" for name, value in variables.items()]
     text += ["set -e", "if (set -o pipefail) 2> /dev/null; then set -o pipefail; fi"]
     for line in lines:
-        text += [f"printf '$ %s\\n' {_quoted(line)}", f"eval {_quoted(line)}"]
+        text += [f"printf '$ %s\\n' {_quoted(line.rstrip())}", f"eval {_quoted(line)}"]
     return "\n".join(text).encode(errors="replace") + b"\n"
 
 

@@ -3,7 +3,7 @@ import re
 import subprocess
 import unittest
 
-from support import Case, run, until
+from support import Case, Project, run, until
 
 
 class Jobs(Case):
@@ -61,16 +61,21 @@ class Jobs(Case):
 
     def test_a_project_that_isnt_in_the_map(self) -> None:
         self.server.kill()
-        other = type(self.project)(self.server, self.server.project(), 2)
+        other = Project(self.server, self.server.project(), 2)
+        third = Project(self.server, self.server.project(), 3)
         self.server.start()
-        self.begin_runner(self.token)
-        number = other.pipeline("build:\n  script: cat hello.txt\n")
+        self.begin_runner(self.token, rest=f'[projects.3]\nrepository = "{self.repository("third", {"hello.txt": "of the third"})}"\n')
+        file = "build:\n  script: cat hello.txt\n"
+        number = third.pipeline(file)
+        self.assertEqual(third.ends(number), "success")
+        self.assertIn("\nof the third\n", third.trace(number, "build"))
+        number = other.pipeline(file)
         self.assertEqual(other.ends(number), "failed")
         trace = other.trace(number, "build")
         self.assert_line(trace, "the runner failed: its configuration has no repository for project 2")
         self.assertNotIn("hello", trace)
         self.server.kill()
-        self.assertEqual(self.server.rows("SELECT state, cause FROM attempt"), ["2|4"])  # failed by runner_system_failure
+        self.assertEqual(self.server.rows("SELECT state, cause FROM attempt"), ["1|", "2|4"])  # failed by runner_system_failure
 
     def test_the_environment_is_the_jobs_own(self) -> None:
         number, status = self.ended(
