@@ -1,7 +1,7 @@
 #!/usr/bin/env python3
 """Writes a GitLab CI file out into the profile that ciserver reads (docs/PROFILE.md).
 
-convert.py [--root FOLDER] [--set NAME=VALUE].. [--default-branch NAME] [--strict] FILE > .gitlab-ci.yml
+convert.py [--root FOLDER] [--set NAME=VALUE].. [--default-branch NAME] [--strict] [--without JOB].. FILE > .gitlab-ci.yml
 
 It writes out anchors and merge keys, local includes and their inputs, extends, !reference, default, before_script, after_script, only
 and except of refs and variables, the rules of workflow, parallel, and texts over several lines. What was dropped or changed it says on
@@ -9,7 +9,7 @@ standard error, each with its place, as `FILE:LINE: job `NAME`: what`. FILE may 
 in FOLDER, which is the folder of FILE where it isn't given. What a file of another project, of a template or of an address would
 bring isn't fetched: a job that needs it is left out, or with --strict refused. With --set the file gets this variable, where it has
 none of the name: --set CI_PROJECT_PATH=group/project for one that GitLab would set. --default-branch NAME is
---set CI_DEFAULT_BRANCH=NAME.
+--set CI_DEFAULT_BRANCH=NAME. With --without the jobs of this name or pattern are left out.
 
 Status: 0 written; 1 refused (nothing is written), or what was written is over a limit of the profile; 2 wrong words; 3 a file can't be
 read, or there is no python3-yaml, which it wants. Its modules are in the folder convert beside it.
@@ -48,6 +48,7 @@ def arguments(words: list[str] | None = None) -> argparse.Namespace:
     parser.add_argument("--set", metavar="NAME=VALUE", action="append", default=[], type=variable, help="gives the file a variable")
     parser.add_argument("--default-branch", metavar="NAME", help="gives the file the variable CI_DEFAULT_BRANCH")
     parser.add_argument("--strict", action="store_true", help="refuses a file where a job would be left out for what isn't there")
+    parser.add_argument("--without", metavar="JOB", action="append", default=[], help="leaves a job out; JOB may be a pattern")
     parser.add_argument("file", metavar="FILE", help="the file, or - for standard input")
     return parser.parse_args(words)
 
@@ -62,7 +63,7 @@ def convert(words: argparse.Namespace, notes: Notes) -> tuple[str, list[str]]:
     config = reader.with_includes(reader.read(words.file, words.file))
     values = ({"CI_DEFAULT_BRANCH": words.default_branch} if words.default_branch else {}) | dict(words.set)
     linker = Linker(config, notes, reader.lacks and not words.strict)
-    converter = Converter(linker.whole(), notes, values, linker.left_out if linker.lenient else None, words.strict)
+    converter = Converter(linker.whole(), notes, values, linker.left_out if linker.lenient else None, words.strict, words.without)
     made = converter.whole()
     content = written(made)
     size = len(content.encode())

@@ -1,12 +1,14 @@
 """Makes the jobs of the profile of those of GitLab's file."""
 from __future__ import annotations
 
+import fnmatch
 import re
+from typing import Sequence
 
 from .durations import duration
 from .for_runner import ForRunner, put_dependencies, share
 from .keywords import CAUSES, DEFAULTS, LEFT_OUT, ORDER, TAKEN, TOP, TOP_DEFAULTS
-from .needs import Needs
+from .needs import STARTS_ANOTHER, Needs
 from .notes import Notes
 from .repeated import MOST_VARIABLES, Repeated
 from .rules import Rules
@@ -22,14 +24,16 @@ MOST_JOBS = 1_000
 class Converter:
     """Makes the map that is written of the map of GitLab's file."""
 
-    def __init__(self, config: Map, notes: Notes, values: dict[str, str], lacks: dict[str, str] | None = None, strict: bool = False):
-        """`lacks` has the jobs that take what isn't there, where a file that is included isn't here, each with the cause."""
+    def __init__(self, config: Map, notes: Notes, values: dict[str, str], lacks: dict[str, str] | None = None, strict: bool = False,
+                 without: Sequence[str] = ()):
+        """`lacks` has the jobs that take what isn't there, where a file that is included isn't here, each with the cause. `without` has patterns
+        of jobs that are left out."""
         self.config = config
         self.notes = notes
         self.names: dict[str, list[str]] = {}  # those of the jobs that one of GitLab's stands for
         self.sources: dict[str, Map] = {}
         self.left_out = dict(lacks or {})
-        self.lacks, self.strict = lacks is not None, strict
+        self.lacks, self.strict, self.without = lacks is not None, strict, without
         self.made: dict = {}
         self.defaults = self.all_defaults()
         self.variables = Variables(notes)
@@ -111,21 +115,35 @@ class Converter:
             if key not in TAKEN:
                 self.tell_left_out(key, job.places[key])
         self.names[name] = []
-        if not self.scripts.lines(job.get("script")):
-            self.left_out[name] = "it starts another pipeline" if "trigger" in job else "it has no script"
-            self.notes.add(place, f"left out: {self.left_out[name]}; jobs of later stages don't wait for it")
+        jobs = self.parallel("pages-job" if name == "pages" else name, job)
+        wanted = {each: extra for each, extra in jobs.items() if not self.is_unwanted(each)}
+        cause = None
+        if self.is_unwanted(name) or not wanted:
+            cause = "--without names it"
+        elif not self.scripts.lines(job.get("script")):
+            cause = STARTS_ANOTHER if "trigger" in job else "it has no script"
+        if cause:
+            self.left_out[name] = cause
+            self.notes.add(place, f"left out: {cause}; jobs of later stages don't wait for it")
             return
         if name == "pages":
-            self.notes.add(place, "named `pages-job`: `pages` is a keyword")
-        jobs = self.parallel("pages-job" if name == "pages" else name, job)
+            self.notes.add(place, "named `pages-job`: `pages` is a keyword, and nothing is published by the server")
+        for each in jobs.keys() - wanted.keys():
+            self.notes.add(place, f"`{each}` is left out: --without names it")
+        self.put_jobs(place, job, wanted)
+        self.names[name] = list(wanted)
+        self.sources[name] = job
+
+    def is_unwanted(self, name: str) -> bool:
+        return any(name == it or fnmatch.fnmatchcase(name, it) for it in self.without)
+
+    def put_jobs(self, place: Place, job: Map, jobs: dict[str, dict[str, Text]]) -> None:
         for each, extra in jobs.items():
             if each in self.made:
                 raise Refused(place, f"two jobs would be named `{each}`")
             if len(self.made) > MOST_JOBS:
                 raise Refused(place, f"there are over {MOST_JOBS} jobs")
             self.made[each] = self.made_of(job, extra)
-        self.names[name] = list(jobs)
-        self.sources[name] = job
 
     def inherited(self, source: Map) -> Map:
         """A job with the defaults that it inherits, and without what is null."""

@@ -5,7 +5,7 @@ from typing import Callable
 
 from .keywords import TOP
 from .notes import Notes
-from .tree import MOST_NODES, List, Map, Reference, Refused, merged, words_of
+from .tree import MOST_NODES, List, Map, Reference, Refused, Text, merged, words_of
 
 DEEPEST_EXTENDS = 11
 
@@ -64,6 +64,8 @@ class Linker:
         if self.values > MOST_NODES:
             raise Refused(self.config.place, "the file is too big, written out")
         if isinstance(value, Reference):
+            if not all(isinstance(it, Text) for it in value):
+                raise Refused(value.place, "!reference: it is no list of keys")
             path = tuple(value)
             if path in above or len(above) > 10:
                 raise Refused(value.place, f"!reference [{', '.join(path)}] goes round in a circle, or too deep")

@@ -5,6 +5,8 @@ from .for_runner import stages_of
 from .notes import Notes
 from .tree import Map, Place, Refused, Text, boolean, flat, rows_of
 
+STARTS_ANOTHER = "it starts another pipeline"
+
 
 class Needs:
     def __init__(self, notes: Notes, made: dict, names: dict[str, list[str]], sources: dict[str, Map], left_out: dict[str, str],
@@ -48,7 +50,7 @@ class Needs:
         """Leaves a job out that needs one that isn't there; whether it did."""
         self.notes.job = name
         for item, needed, optional in self.items(self.sources[name]):
-            if self.left_out.get(needed) == "it starts another pipeline":
+            if self.left_out.get(needed) == STARTS_ANOTHER:
                 raise Refused(item.place, f"needs: `{needed}` is left out, so that this job would begin too early")
             if needed in self.left_out or not (optional or self.needed(item, needed)):
                 self.leave_out(name, item.place, f"it needs `{needed}`, which isn't there")

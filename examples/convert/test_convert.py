@@ -254,6 +254,8 @@ class Refusals(unittest.TestCase):
         ("build:\n  script: make\n  parallel: {matrix: [x]}", 3, "parallel: the matrix is no list of maps"),
         ("build:\n  script: make\n  parallel:\n    matrix: [{A: [" + ", ".join(map(str, range(201))) + "]}]", 3,
          "parallel: the matrix has over 200 rows"),
+        ("build:\n  script: make\n  parallel: {matrix: []}", 3, "parallel: the matrix has no rows"),
+        (".a: {script: !reference [[b]]}\n" + JOB, 1, "!reference: it is no list of keys"),
         ("variables:\n  A: [b]\n" + JOB, 2, "the value of the variable `A` is no text"),
     )
 

@@ -120,8 +120,8 @@ def rows_of(matrix, place: Place) -> list[dict[str, str]]:
             raise Refused(place, "parallel: the matrix is no list of maps")
         values = [words_of(it, "parallel") for it in part.values()]
         rows += itertools.islice((dict(zip(part, it)) for it in itertools.product(*values)), 201)
-    if len(rows) > 200:
-        raise Refused(place, "parallel: the matrix has over 200 rows")
+    if not 1 <= len(rows) <= 200:
+        raise Refused(place, f"parallel: the matrix has {'over 200' if rows else 'no'} rows")
     return rows
 
 

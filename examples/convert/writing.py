@@ -89,5 +89,6 @@ def over_limits(made: dict, content: str) -> list[str]:
             counts.append((f"{key} of job `{name}`", len(job.get(key, [])), most))
         for rule in job.get("rules", []):
             counts.append((f"bytes of an `if` of job `{name}`", len(rule.get("if", "").encode()), 1024))
-    told = [f"{count} {what}, and {most} is the limit" for what, count, most in counts if count > most]
+    hints = {"jobs": ": --without leaves jobs out"}
+    told = [f"{count} {what}, and {most} is the limit{hints.get(what, '')}" for what, count, most in counts if count > most]
     return told + ([] if jobs else ["no job is left"])
