@@ -63,11 +63,12 @@ class Leases(Case):
         until(lambda: "attempt 1 of long, project 1: it was cancelled" in self.read("one.log"))
 
     def test_time_limit(self) -> None:
-        self.begin_long_job("  timeout: 1 minute\n")
-        self.put_on(65)
+        self.begin_runner(self.tokens[0])
+        self.project.pipeline(f"long:\n  timeout: 1 minute\n  script: touch {self.room}/begun; sleep 1000\n")
+        until(lambda: os.path.exists(self.path("begun")))
+        self.put_on(45)
         self.assertEqual(self.project.ends(1), "failed")
         self.assertTrue(self.project.trace(1, "long").endswith("\nended: its time limit\n"))
-        self.assert_gone()
         self.assertEqual(self.cause(), ["2|5"])
 
     def test_end_of_the_runner(self) -> None:
@@ -102,9 +103,9 @@ class Leases(Case):
     def test_stopped_runner(self) -> None:
         runner = self.begin_long_job("  retry: 1\n")
         runner.send_signal(signal.SIGSTOP)
-        self.put_on(100)
+        self.put_on(80)
         self.assertNotIn("1 told", self.lines("marks"))
-        self.put_on(20)
+        self.put_on(40)
         self.assert_gone()
         self.assertIn("1 told", self.lines("marks"))
         self.begin_runner(self.tokens[1], "two")
@@ -117,9 +118,9 @@ class Leases(Case):
     def test_outage_of_over_two_minutes(self) -> None:
         self.begin_long_job("  retry: 1\n")
         self.server.kill()
-        self.put_on(100)
+        self.put_on(80)
         self.assertNotIn("1 told", self.lines("marks"))
-        self.put_on(20)
+        self.put_on(40)
         self.assert_gone()
         self.put_on(10)
         self.server.start()
@@ -133,7 +134,7 @@ class Leases(Case):
         self.project.pipeline(f"build:\n  script: for i in $(seq 20); do echo line $i; touch {self.room}/begun; sleep 0.1; done\n")
         until(lambda: os.path.exists(self.path("begun")))
         self.server.kill()
-        self.put_on(90)
+        self.put_on(80)
         self.server.start()
         self.assertEqual(self.project.ends(1), "success")
         lines = [line for line in self.project.trace(1, "build").splitlines() if line.startswith("line")]
