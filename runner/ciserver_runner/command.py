@@ -1,4 +1,4 @@
-"""A command that is run for a job, kept by a process of its own (keeper.py)."""
+"""A command that is run for a job, with a process over it that ends it (supervisor.py)."""
 from __future__ import annotations
 
 import json
@@ -8,7 +8,7 @@ import sys
 import threading
 from typing import Callable
 
-KEEPER = os.path.join(os.path.dirname(os.path.realpath(__file__)), "keeper.py")
+SUPERVISOR = os.path.join(os.path.dirname(os.path.realpath(__file__)), "supervisor.py")
 
 
 class Command:
@@ -19,7 +19,7 @@ class Command:
         files = [_file(stdin), _file(json.dumps(asked).encode())]
         try:
             self.process = subprocess.Popen(
-                [sys.executable, "-I", "-S", KEEPER, *map(str, files)], pass_fds=files, start_new_session=True,
+                [sys.executable, "-I", "-S", SUPERVISOR, *map(str, files)], pass_fds=files, start_new_session=True,
                 stdin=subprocess.PIPE, stdout=subprocess.PIPE, stderr=subprocess.STDOUT)
         finally:
             for file in files:

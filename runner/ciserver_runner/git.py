@@ -4,6 +4,7 @@ from __future__ import annotations
 import fcntl
 import os
 import re
+import subprocess
 import urllib.parse
 from typing import TYPE_CHECKING
 
@@ -36,7 +37,7 @@ def lay(job: Job, project: Project) -> None:
     with _Locked(job, kept + ".lock"):
         commit = _fetched(job, project, kept)
         _run(job, ["clone", "--quiet", "--shared", "--no-checkout", kept, job.folder])
-    _run(job, ["-C", job.folder, "remote", "set-url", "origin", project.repository])
+    _asked(job.folder, "remote", "set-url", "origin", project.repository)
     _run(job, ["-C", job.folder, "-c", "advice.detachedHead=false", "checkout", "--quiet", "--detach", commit])
     _submodules(job, project)
     job.learn({"CI_COMMIT_SHA": commit, "CI_COMMIT_SHORT_SHA": commit[:8], "CI_REPOSITORY_URL": project.repository, **_told(job, commit)})
@@ -59,13 +60,13 @@ def _fetched(job: Job, project: Project, kept: str) -> str:
             raise Refused(f"{project.repository} can't be fetched")
         job.pause(2)
     if wanted:
-        if _asked(job, kept, "cat-file", "-t", wanted) != "commit":
+        if _asked(kept, "cat-file", "-t", wanted) != "commit":
             job.run(["git", *fetch, wanted], _environment(project))  # no branch leads to it any more
-        if _asked(job, kept, "cat-file", "-t", wanted) != "commit":
+        if _asked(kept, "cat-file", "-t", wanted) != "commit":
             raise Refused(f"commit {wanted} isn't in {project.repository}")
         return wanted
     name, shown = _ref(job)
-    commit = _asked(job, kept, "rev-parse", "--verify", "--quiet", "--end-of-options", f"{name}^{{commit}}")
+    commit = _asked(kept, "rev-parse", "--verify", "--quiet", "--end-of-options", f"{name}^{{commit}}")
     if not re.fullmatch(COMMIT, commit):
         raise Refused(f"{shown} isn't in {project.repository}")
     return commit
@@ -81,7 +82,7 @@ def _ref(job: Job) -> tuple[str, str]:
 
 
 def _told(job: Job, commit: str) -> dict[str, str]:
-    text = _asked(job, os.path.join(job.folder, ".git"), "log", "-1", "--format=" + "%x00".join(FIELDS.values()), commit)
+    text = _asked(job.folder, "log", "-1", "--format=" + "%x00".join(FIELDS.values()), commit)
     return dict(zip(FIELDS, (value.strip("\n") for value in text.split("\0"))))
 
 
@@ -99,11 +100,11 @@ def _run(job: Job, words: list[str], environment: dict[str, str] | None = None) 
         raise Refused("git failed")
 
 
-def _asked(job: Job, kept: str, *words: str) -> str:
-    """What git prints, without the last line end; nothing where it fails."""
-    out: list[bytes] = []
-    code = job.run(["git", "--git-dir", kept, *words], _environment(Project("")), out.append)
-    return b"".join(out).decode(errors="replace").rstrip("\n") if code == 0 else ""
+def _asked(folder: str, *words: str) -> str:
+    """What git says at once of a clone, without the last line end; nothing where it fails."""
+    done = subprocess.run(["git", "-C", folder, *words], env=_environment(Project("")), stdin=subprocess.DEVNULL, stdout=subprocess.PIPE,
+                          stderr=subprocess.DEVNULL, check=False)
+    return done.stdout.decode(errors="replace").rstrip("\n") if done.returncode == 0 else ""
 
 
 def _environment(project: Project) -> dict[str, str]:

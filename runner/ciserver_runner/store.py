@@ -149,10 +149,10 @@ def keep_caches(job: Job) -> None:
             job.trace.line(f"cache {key}: kept" if names else f"cache {key}: no file matches")
         except Refused as fault:
             job.trace.line(f"cache {key} isn't kept: {fault}")
-    _make_room(job.config.cache_folder, job.config.cache_total)
+    make_room(job.config.cache_folder, job.config.cache_total)
 
 
-def _make_room(root: str, limit: int) -> None:
+def make_room(root: str, limit: int) -> None:
     """Removes the caches that were used longest ago, until the others are within a limit."""
     left = limit
     paths = glob.glob(os.path.join(glob.escape(root), "*", "*.tar"))

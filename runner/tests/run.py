@@ -30,7 +30,7 @@ def main() -> int:
     passed = failed = 0
     skipped = []
     # Most of a test is waiting.
-    with concurrent.futures.ThreadPoolExecutor(2 * (os.cpu_count() or 1)) as pool:
+    with concurrent.futures.ThreadPoolExecutor(4 * (os.cpu_count() or 1)) as pool:
         for name, done in pool.map(tried, found):
             if "(skipped=" in done.stdout:
                 skipped.append(name)

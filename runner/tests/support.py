@@ -126,12 +126,12 @@ class Project:
     def trace(self, pipeline: int, name: str) -> str:
         return self.ask("GET", f"/jobs/{self.job(pipeline, name)['id']}/trace").decode(errors="replace")
 
-    def ends(self, pipeline: int, seconds: float = 30) -> str:
+    def ends(self, pipeline: int, seconds: float = 120) -> str:
         """Waits until a pipeline is finished, and answers its status."""
         return until(lambda: (status := self.shown(pipeline)["status"]) in FINISHED and status, seconds)
 
 
-def until(holds, seconds: float = 20):
+def until(holds, seconds: float = 60):
     """Waits until something holds, and answers it."""
     end = time.monotonic() + seconds
     while time.monotonic() < end:

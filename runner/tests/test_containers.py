@@ -190,7 +190,7 @@ class Podman(Case):
         self.begin_long_job()
         self.project.ask("POST", "/jobs/1/cancel")
         self.clock.put_on(10)
-        until(lambda: "it was cancelled" in self.read("one.log") or (self.clock.put_on(1), False)[1], 40)
+        until(lambda: "it was cancelled" in self.read("one.log") or (self.clock.put_on(1), False)[1])
         self.assertEqual(self.containers(), "")
 
     def test_a_killed_runner_leaves_no_container(self) -> None:
@@ -200,7 +200,7 @@ class Podman(Case):
         runner.wait()
         time.sleep(0.5)
         self.clock.put_on(12)
-        until(lambda: self.containers() == "", 30)
+        until(lambda: self.containers() == "")
 
 
 if __name__ == "__main__":

@@ -97,7 +97,7 @@ class Programs(Case):
         first = self.begin_runner(self.token)
         until(lambda: "asks" in self.read("one.log"))
         second = self.begin_runner(self.token)
-        self.assertEqual(second.wait(10), 2)
+        self.assertEqual(second.wait(40), 2)
         self.assertIn(f"ciserver-runner: another runner uses {self.path('one')}\n", self.read("one.log"))
         self.assertIsNone(first.poll())
 
@@ -113,14 +113,14 @@ class Programs(Case):
         self.assertEqual(self.project.ends(self.project.pipeline("a:\n  script: echo\n")), "success")
         for process in (runner, other):
             process.send_signal(signal.SIGTERM)
-            self.assertEqual(process.wait(10), 0)
+            self.assertEqual(process.wait(40), 0)
 
     def test_polls_slow_down(self) -> None:
         self.server.kill()
         self.server.process = self.counting(5)
         self.begin_runner(self.token, pause=30)
         begun = time.monotonic()
-        self.assertEqual(self.server.process.wait(20), 0)  # the fifth poll: after 1, 1.5, 2.25 and 3.4 seconds
+        self.assertEqual(self.server.process.wait(60), 0)  # the fifth poll: after 1, 1.5, 2.25 and 3.4 seconds
         self.assertGreater(time.monotonic() - begun, 8)
 
     def counting(self, requests: int) -> subprocess.Popen:

@@ -36,10 +36,12 @@ class Leases(Case):
             time.sleep(0.25)
 
     def assert_gone(self, attempt: str = "1") -> None:
-        """No more marks of an attempt come."""
-        count = len([line for line in self.lines("marks") if line == attempt])
-        time.sleep(0.4)
-        self.assertEqual(len([line for line in self.lines("marks") if line == attempt]), count)
+        """No more marks of an attempt come: at once, or in the few seconds that a busy machine takes."""
+        def stands() -> bool:
+            count = self.lines("marks").count(attempt)
+            time.sleep(0.5)
+            return self.lines("marks").count(attempt) == count
+        until(stands, 4)
 
     def assert_one_after_another(self) -> None:
         attempts = [int(line.split()[0]) for line in self.lines("marks")]
@@ -53,21 +55,21 @@ class Leases(Case):
         self.begin_long_job()
         self.project.ask("POST", "/jobs/1/cancel")
         self.clock.put_on(8)  # the runner says that its job runs once ten seconds have passed
-        until(lambda: "1 told" in self.lines("marks"), 15)
-        self.clock.put_on(8)
+        until(lambda: "1 told" in self.lines("marks"))
+        self.clock.put_on(5)
         count = len(self.lines("marks"))
         until(lambda: len(self.lines("marks")) > count)
-        self.clock.put_on(3)
-        time.sleep(1)
+        self.clock.put_on(6)
         self.assert_gone()
         until(lambda: "attempt 1 of long, project 1: it was cancelled" in self.read("one.log"))
 
     def test_time_limit(self) -> None:
-        self.begin_long_job("  timeout: 1 minute\n")
-        self.put_on(65)
+        self.begin_runner(self.tokens[0])
+        self.project.pipeline(f"long:\n  timeout: 1 minute\n  script: touch {self.room}/begun; sleep 1000\n")
+        until(lambda: os.path.exists(self.path("begun")))
+        self.put_on(45)
         self.assertEqual(self.project.ends(1), "failed")
         self.assertTrue(self.project.trace(1, "long").endswith("\nended: its time limit\n"))
-        self.assert_gone()
         self.assertEqual(self.cause(), ["2|5"])
 
     def test_end_of_the_runner(self) -> None:
@@ -75,7 +77,7 @@ class Leases(Case):
         runner.send_signal(signal.SIGTERM)
         until(lambda: "1 told" in self.lines("marks"))
         self.clock.put_on(10)
-        self.assertEqual(runner.wait(10), 0)
+        self.assertEqual(runner.wait(40), 0)
         self.assert_gone()
         self.assertTrue(self.project.trace(1, "long").endswith("\nended: the runner was told to end\n"))
         self.assertEqual(self.cause(), ["2|4"])
@@ -85,7 +87,7 @@ class Leases(Case):
         self.project.pipeline(f"a:\n  script: touch {self.room}/begun; sleep 2\nb:\n  script: echo\n")
         until(lambda: os.path.exists(self.path("begun")))
         runner.send_signal(signal.SIGQUIT)
-        self.assertEqual(runner.wait(20), 0)
+        self.assertEqual(runner.wait(40), 0)
         self.assertEqual([job["status"] for job in self.project.shown(1)["jobs"]], ["success", "pending"])
 
     def test_killed_runner(self) -> None:
@@ -102,9 +104,9 @@ class Leases(Case):
     def test_stopped_runner(self) -> None:
         runner = self.begin_long_job("  retry: 1\n")
         runner.send_signal(signal.SIGSTOP)
-        self.put_on(100)
+        self.put_on(80)
         self.assertNotIn("1 told", self.lines("marks"))
-        self.put_on(20)
+        self.put_on(40)
         self.assert_gone()
         self.assertIn("1 told", self.lines("marks"))
         self.begin_runner(self.tokens[1], "two")
@@ -117,9 +119,9 @@ class Leases(Case):
     def test_outage_of_over_two_minutes(self) -> None:
         self.begin_long_job("  retry: 1\n")
         self.server.kill()
-        self.put_on(100)
+        self.put_on(80)
         self.assertNotIn("1 told", self.lines("marks"))
-        self.put_on(20)
+        self.put_on(40)
         self.assert_gone()
         self.put_on(10)
         self.server.start()
@@ -133,7 +135,7 @@ class Leases(Case):
         self.project.pipeline(f"build:\n  script: for i in $(seq 20); do echo line $i; touch {self.room}/begun; sleep 0.1; done\n")
         until(lambda: os.path.exists(self.path("begun")))
         self.server.kill()
-        self.put_on(90)
+        self.put_on(80)
         self.server.start()
         self.assertEqual(self.project.ends(1), "success")
         lines = [line for line in self.project.trace(1, "build").splitlines() if line.startswith("line")]
@@ -151,7 +153,7 @@ class Leases(Case):
             self.server.kill()
             self.server.start()
         for number in numbers:
-            until(lambda: self.project.shown(number)["status"] == "success" or (self.put_on(20), False)[1], 40)
+            until(lambda: self.project.shown(number)["status"] == "success" or (self.put_on(20), False)[1])
             self.assertIn("\n1999\n2000\nended: exit code 0\n", self.project.trace(number, "ship"))
         marks = self.lines("marks")
         begun = [mark for place, mark in enumerate(marks) if place == 0 or marks[place - 1] != mark]
@@ -171,7 +173,7 @@ class Leases(Case):
         self.begin_runner(self.tokens[0])
         self.server.port = real
         self.project.pipeline("build:\n  script: for i in $(seq 60); do seq 2000; sleep 0.1; done\n")
-        self.assertEqual(self.project.ends(1, 60), "success")
+        self.assertEqual(self.project.ends(1), "success")
         printed = self.project.trace(1, "build").partition("done\n")[2]
         self.assertEqual(printed, "".join(f"{n}\n" for n in range(1, 2001)) * 60 + "ended: exit code 0\n")
         self.assertGreater(proxy.lost, 3)

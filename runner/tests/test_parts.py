@@ -1,10 +1,12 @@
 """Parts of the runner by themselves."""
+import glob
 import os
 import random
 import shutil
 import subprocess
 import sys
 import tempfile
+import time
 import unittest
 
 from support import RUNNER, run
@@ -162,6 +164,29 @@ class Configurations(unittest.TestCase):
 
 
 class Room(unittest.TestCase):
+    def write(self, path: str, text: str = "") -> None:
+        os.makedirs(os.path.dirname(path), exist_ok=True)
+        with open(path, "w", encoding="utf-8") as file:
+            file.write(text)
+
+    def test_expired_artifacts_go(self) -> None:
+        with tempfile.TemporaryDirectory() as root:
+            for place, left in (("1/1/1", -1), ("1/1/2", 60), ("1/2/3", -1), ("2/9/4", 60)):
+                self.write(f"{root}/{place}.json", f'{{"expires": {time.time() + left}}}')
+                self.write(f"{root}/{place}.tar")
+            store.remove_expired(root)
+            found = sorted(os.path.relpath(path, root) for path in glob.glob(f"{root}/*/*/*"))
+            self.assertEqual(found, ["1/1/2.json", "1/1/2.tar", "2/9/4.json", "2/9/4.tar"])
+            self.assertEqual(sorted(os.listdir(f"{root}/1")), ["1"])
+
+    def test_caches_that_were_used_longest_ago_go(self) -> None:
+        with tempfile.TemporaryDirectory() as root:
+            for name, used in (("1/a", 300), ("1/b", 100), ("2/c", 200)):
+                self.write(f"{root}/{name}.tar", "x" * 10)
+                os.utime(f"{root}/{name}.tar", (used, used))
+            store.make_room(root, 25)
+            self.assertEqual(sorted(glob.glob(f"{root}/*/*")), [f"{root}/1/a.tar", f"{root}/2/c.tar"])
+
     def test_folders_that_may_not_be_written_are_removed(self) -> None:
         root = tempfile.mkdtemp()
         os.makedirs(root + "/a/b")

@@ -1,4 +1,4 @@
-"""A process that keeps one command: it runs it, and ends it with all that it has started.
+"""A process over one command: it runs it, and ends it with all that it has started.
 
 It is a program of its own, so that no job outlives its runner or its lease, whatever becomes of the runner. Its words are two descriptors:
 what the command has on standard input, and what is asked, as JSON: `words`, `folder`, `environment`, `until` (the second of the clock by which
@@ -24,7 +24,7 @@ def now():
     return time.clock_gettime(time.CLOCK_BOOTTIME)
 
 
-class Keeper:
+class Supervisor:
     def __init__(self, asked, stdin):
         self.until = asked["until"]
         self.after = asked["after"]
@@ -41,7 +41,7 @@ class Keeper:
             asked["words"], cwd=asked["folder"], env=asked["environment"], stdin=stdin, start_new_session=True, preexec_fn=die_with_parent)
         os.close(stdin)
 
-    def keep(self):
+    def supervise(self):
         while not self.has_ended():
             self.listen()
             if self.killed_at is None and now() >= self.until - GRACE:
@@ -154,11 +154,11 @@ def main():
     for number in (signal.SIGTERM, signal.SIGINT, signal.SIGHUP):
         signal.signal(number, lambda *_: None)  # the runner says when to end; a command has these signals as ever
     try:
-        keeper = Keeper(asked, stdin)
+        supervisor = Supervisor(asked, stdin)
     except OSError as fault:
         print(f"cannot run {asked['words'][0]}: {fault.strerror}", flush=True)
         return 127
-    return keeper.keep()
+    return supervisor.supervise()
 
 
 if __name__ == "__main__":
