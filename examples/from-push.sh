@@ -11,10 +11,11 @@ set -eu
 here=$(realpath "$(dirname "$0")")
 ciserver=$(realpath "${1-$here/../bin/ciserver}")
 work=$(mktemp -d)
-server='' processes=()
+server='' image='' processes=()
 end() {
   for process in "${processes[@]}" $server; do kill "$process" 2> /dev/null || :; done
   wait
+  [ -z "$image" ] || podman image rm --force "$image" > /dev/null
   rm -rf "$work"
 }
 trap end EXIT
@@ -50,7 +51,6 @@ if PATH=$PATH:/usr/sbin command -v nginx openssl > /dev/null; then
 fi
 
 # An image with busybox alone, if podman runs one.
-image=
 if command -v podman > /dev/null && command -v busybox > /dev/null; then
   mkdir -p "$work/image/bin"
   cp "$(command -v busybox)" "$work/image/bin/busybox"
@@ -58,6 +58,8 @@ if command -v podman > /dev/null && command -v busybox > /dev/null; then
   tar -C "$work/image" -c . | podman import - localhost/from-push > /dev/null 2>&1 || :
   if podman run --rm localhost/from-push ls > /dev/null 2>&1; then
     image=localhost/from-push
+  else
+    podman image rm --force localhost/from-push > /dev/null 2>&1 || :
   fi
 fi
 printf 'jobs of the second runner run in %s\n' "${image:-the shell}"

@@ -9,7 +9,7 @@ import unittest
 
 from support import Case, run, until
 
-IMAGE = "localhost/ciserver-runner-test:latest"
+IMAGE = f"localhost/ciserver-runner-test-{os.getpid()}:latest"
 
 # Notes its words, and runs what `run` is to run: behind the image, in the folder that --workdir says.
 STAND_IN = """\
@@ -123,7 +123,10 @@ def podman_runs() -> bool:
         subprocess.run(words, stdin=tar.stdout, stdout=subprocess.DEVNULL, stderr=subprocess.DEVNULL, check=False)
     shutil.rmtree(folder)
     done = subprocess.run(["podman", "run", "--rm", IMAGE, "echo", "it runs"], stdout=subprocess.PIPE, stderr=subprocess.DEVNULL, check=False)
-    return done.stdout == b"it runs\n"
+    if done.stdout != b"it runs\n":
+        subprocess.run(["podman", "image", "rm", "--force", IMAGE], stdout=subprocess.DEVNULL, stderr=subprocess.DEVNULL, check=False)
+        return False
+    return True
 
 
 class Podman(Case):
@@ -133,6 +136,7 @@ class Podman(Case):
     def setUpClass(cls) -> None:
         if not podman_runs():
             raise unittest.SkipTest("podman runs no container here")
+        cls.addClassCleanup(run, "podman", "image", "rm", "--force", IMAGE)
 
     def setUp(self) -> None:
         super().setUp()
