@@ -10,7 +10,7 @@ An event is tried as the server stands then, and once more by one that was opene
   unswept    it was answered as before the sweep that goes before it; the same once more found all swept
   M17        with --all only: the same once more was M17, and over what it left a server opens, with the rows from before, or those that it should leave
 Each has a line: its name, how many requests of memory were refused, and how these trials ended, with the first number of each end. The last line
-counts; the status is 0 where all were as wanted.
+is `N passed, M failed`; the status is 0 where all were as wanted.
 
     refused.py [--all] [NAME..]     --all: beside 300 leases too, and with all memory refused from that request on
 """
@@ -71,7 +71,8 @@ def main():
             print(line, flush=True)
             refusals += count
             good += is_good
-    print(f'memory refused: {good} of {len(tasks)} as wanted, {refusals} refusals')
+    print(f'{refusals} requests of memory were refused')
+    print(f'{good} passed, {len(tasks) - good} failed')
     return 0 if tasks and good == len(tasks) else 1
 
 
