@@ -9,4 +9,6 @@ mod life;
 #[cfg(test)]
 mod reports;
 #[cfg(test)]
+mod run;
+#[cfg(test)]
 mod stops;
