@@ -7,6 +7,8 @@ mod changes;
 #[cfg(test)]
 mod life;
 #[cfg(test)]
+mod migration;
+#[cfg(test)]
 mod reports;
 #[cfg(test)]
 mod run;
