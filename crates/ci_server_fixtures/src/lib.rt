@@ -1,10 +1,8 @@
-//! Servers for the tests: what happens to them, and what they are to answer. No function has a clause, so that the proof of a
-//! test that calls them carries nothing of the server's.
+//! Servers for the tests: what happens to them, what they are to answer, and what their stores have. No function has a clause.
 #![tactic(auto)]
 
 pub mod acts;
 pub mod answers;
-pub mod clock;
-pub mod links;
+pub mod rows;
 pub mod servers;
 pub mod version1;

@@ -1,11 +1,12 @@
-//! Servers over memory, and their calls without a clause.
+//! Servers over a store, and their calls without a clause.
 
-use crate::acts::{Act, SEED, at, event};
-pub use ci_http::Server;
-use ci_machine::moment::Moment;
-use ci_machine::reply::{Answer, Reply};
-use ci_machine::request::{Event, Request};
-use ci_store_disks::discard;
+use crate::acts::{Act, call};
+use crate::answers::Want;
+use ci_machine::reply::Answer;
+use ci_machine::request::Event;
+pub use ci_server::server::Server;
+use ci_store_disks::{ALL_CALLS, Image, OnDisks, closed, discard};
+use ci_store_sqlite::tables::OpenFault;
 use ci_store_sqlite::{Alter, Connection};
 use sqlite::MemStore;
 use std::alloc::Global;
@@ -49,6 +50,36 @@ pub fn over<S: Alter + Drop>(conn: Connection<S>) -> Result<Server<S>, Fail> {
     }
 }
 
+/// The server of files that may fail, if it opens.
+pub fn opened<S: Alter + Drop>(conn: Option<Connection<S>>) -> Option<Server<S>> {
+    Server::open(conn?).ok()
+}
+
+/// What stands on the files of a server to which these things happened at 1000, and then those.
+pub fn image_after(alloc: Global, acts: &[Act], more: &[Act]) -> Result<Image, Fail> {
+    let blank = Image::blank(alloc).connect(alloc, ALL_CALLS);
+    let mut server = created(blank.ok_or("not connected")?)?;
+    happen(alloc, &mut server, acts)?;
+    happen(alloc, &mut server, more)?;
+    Ok(closed(alloc, left(server)).ok_or("not closed")?)
+}
+
+/// The server of files that don't fail.
+pub fn server_of(alloc: Global, image: &Image) -> Result<Server<OnDisks>, Fail> {
+    over(image.connect(alloc, ALL_CALLS).ok_or("not connected")?)
+}
+
+/// How an opening ended: with a fault, or else, was the store migrated? With the connection.
+pub fn opening<S: Alter>(conn: Connection<S>) -> (Result<bool, OpenFault>, Connection<S>) {
+    match Server::open(conn) {
+        Ok(server) => {
+            let migrated = server.migrated();
+            (Ok(migrated), left(server))
+        }
+        Err((fault, conn)) => (Err(fault), conn),
+    }
+}
+
 /// Has a fault of the store closed the server?
 pub fn is_closed<S: Alter>(server: &Server<S>) -> bool {
     server.closed()
@@ -64,33 +95,6 @@ pub fn let_go<S: Alter + Drop>(server: Server<S>) {
     discard(left(server));
 }
 
-/// Has a request handled.
-pub fn asked<S: Alter>(
-    alloc: Global,
-    server: &mut Server<S>,
-    request: Request,
-    moment: Moment,
-) -> Reply {
-    server.handle(alloc, request, moment, SEED)
-}
-
-fn swept<S: Alter>(alloc: Global, server: &mut Server<S>, moment: Moment) -> Answer {
-    Answer::Swept(server.sweep(alloc, moment))
-}
-
-/// Has an event handled.
-fn handled<S: Alter>(
-    alloc: Global,
-    server: &mut Server<S>,
-    event: Event,
-    moment: Moment,
-) -> Answer {
-    match event {
-        Event::Request(request) => Answer::Reply(asked(alloc, server, request, moment)),
-        Event::Sweep => swept(alloc, server, moment),
-    }
-}
-
 /// Has one thing happen, at a moment in seconds.
 pub fn tell<S: Alter>(
     alloc: Global,
@@ -98,8 +102,11 @@ pub fn tell<S: Alter>(
     seconds: u64,
     act: Act,
 ) -> Result<Answer, Fail> {
-    let moment = at(seconds)?;
-    Ok(handled(alloc, server, event(alloc, act)?, moment))
+    let (event, moment, seed) = call(alloc, seconds, act)?;
+    Ok(match event {
+        Event::Request(request) => Answer::Reply(server.handle(alloc, request, moment, seed)),
+        Event::Sweep => Answer::Swept(server.sweep(alloc, moment)),
+    })
 }
 
 /// Has things happen, one after the other, at 1000.
@@ -108,4 +115,17 @@ pub fn happen<S: Alter>(alloc: Global, server: &mut Server<S>, acts: &[Act]) -> 
         let _ = tell(alloc, server, 1000, *act)?;
     }
     Ok(())
+}
+
+/// Has things handled as one list, each at its moment in seconds. What each is to be answered is looked at by the caller.
+pub fn run<S: Alter>(
+    alloc: Global,
+    server: &mut Server<S>,
+    acts: &[(u64, Act, Want)],
+) -> Result<Vec<Answer>, Fail> {
+    let mut calls = Vec::new(alloc);
+    for (seconds, act, _) in acts {
+        calls.push(call(alloc, *seconds, *act)?)?;
+    }
+    Ok(server.run(alloc, calls.as_slice())?)
 }

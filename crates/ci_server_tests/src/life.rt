@@ -2,8 +2,8 @@
 
 use ci_machine::records::Cause;
 use ci_machine::reply::JobStatus;
-use ci_server_fixtures::acts::{Act, RUNNER};
-use ci_server_fixtures::answers::{Want, is};
+use ci_server_fixtures::acts::Act;
+use ci_server_fixtures::answers::{NO_JOB, Want, is};
 use ci_server_fixtures::servers::{InMemory, is_closed, let_go, tell};
 use ci_server_witness::life::granted_and_reopened;
 use std::alloc::Global;
@@ -13,7 +13,7 @@ use std::test::Fail;
 /// What follows a grant and a reopening: the one job runs, no other waits, and its lease ends 120 seconds after it.
 const AFTER_LIFE: &[(u64, Act, Want)] = &[
     (1000, Act::Show, Want::Job(JobStatus::Running)),
-    (1000, Act::AskJob(RUNNER), Want::Says("")),
+    (1000, Act::AskJob, NO_JOB),
     (1119, Act::Sweep, Want::Nothing),
     (1120, Act::Sweep, Want::Ended(Cause::StuckOrTimeoutFailure)),
 ];
