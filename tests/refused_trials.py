@@ -300,11 +300,7 @@ def wait_until(holds, why_not):
 
 def version1():
     """A file of version 1, as the C library made it."""
-    for place in ('tests/scenarios', 'crates/ci_scenarios/data'):
-        path = os.path.join(HERE, '..', place, 'version1.db')
-        if os.path.exists(path):
-            return path
-    raise Difference('there is no version1.db')
+    return os.path.join(HERE, 'scenarios', 'version1.db')
 
 
 def rows_in(folder, files):
