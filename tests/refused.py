@@ -25,7 +25,7 @@ from concurrent.futures import ProcessPoolExecutor, as_completed
 from lines import Fault
 from refused_kinds import kinds_of
 from refused_trials import Difference, Trials
-from world import Wrong, shim
+from world import ROOM, Wrong, shim
 
 HERE = os.path.dirname(os.path.abspath(__file__))
 KINDS = {kind.name: kind for kind in kinds_of(os.path.join(HERE, 'refused.txt'))}
@@ -60,8 +60,7 @@ def main():
     words = parser.parse_args()
     tasks = [(name, is_cold, is_rest) for name in words.names or KINDS for is_cold in KINDS[name].colds()
              for is_rest in (False, True)[:1 + words.all] if not KINDS[name].is_large or (words.all and not is_rest)]
-    shared = '/dev/shm' if os.access('/dev/shm', os.W_OK) else None
-    with tempfile.TemporaryDirectory(prefix='refused-', dir=shared) as room, ProcessPoolExecutor() as pool:
+    with tempfile.TemporaryDirectory(prefix='refused-', dir=ROOM) as room, ProcessPoolExecutor() as pool:
         shim()
         refuse = library(room)
         told = [pool.submit(tried, *task, refuse, room) for task in tasks]

@@ -17,11 +17,9 @@ from lines import Fault, scenarios_of
 from stage import perform
 from steps import steps_of
 from stops import Difference
-from world import PROGRAM, World, Wrong, shim
+from world import PROGRAM, ROOM, World, Wrong, shim
 
 HERE = os.path.dirname(os.path.abspath(__file__))
-# Where the files of scenarios lie: in memory, where a sync costs nothing.
-ROOM = '/dev/shm' if os.access('/dev/shm', os.W_OK) else None
 
 
 def files():
