@@ -3,8 +3,8 @@
 use ci_machine::moment::Moment;
 use ci_machine::records::{RefKind, Source};
 use ci_machine::request::{
-    Event, JobQuery, JobUpdate, NewFile, NewPipeline, NewRunner, PipelineVariables, Report, Request,
-    RunnerPause, Seed,
+    Event, JobQuery, JobUpdate, NewFile, NewPipeline, NewRunner, PipelineVariables, Report,
+    Request, RunnerPause, Seed,
 };
 use ci_machine::text::{Text, Texts};
 use std::alloc::{AllocError, Global};

@@ -18,13 +18,7 @@ pub struct Row {
     pub again: Want,
 }
 
-fn change(
-    name: &'static str,
-    path: usize,
-    more: &'static [Act],
-    act: Act,
-    again: Want,
-) -> Row {
+fn change(name: &'static str, path: usize, more: &'static [Act], act: Act, again: Want) -> Row {
     Row {
         name,
         path,
@@ -48,6 +42,12 @@ pub fn of_commands() -> [Row; 4] {
         change("a project is made", 0, &[], Act::AddProject("p"), project),
         change("a runner is made", 1, &[], Act::AddRunner("r"), runner),
         change("a runner is paused", 2, &[], pause, first(pause)),
-        change("a pipeline is pruned", 5, &[SUCCESS], Act::Prune(1001), none),
+        change(
+            "a pipeline is pruned",
+            5,
+            &[SUCCESS],
+            Act::Prune(1001),
+            none,
+        ),
     ]
 }

@@ -1,10 +1,10 @@
 //! The server of the witness, which granted a job, was closed and opened again: what it answers then.
 
-use ci_machine::records::Cause;
-use ci_machine::reply::JobStatus;
 use crate::server::acts::Act;
 use crate::server::answers::{NO_JOB, Want, is};
 use crate::server::servers::{InMemory, is_closed, let_go, tell};
+use ci_machine::records::Cause;
+use ci_machine::reply::JobStatus;
 use ci_server_witness::life::granted_and_reopened;
 use std::alloc::Global;
 use std::process::Abort;

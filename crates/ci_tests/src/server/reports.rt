@@ -1,8 +1,8 @@
 //! Reports of a server, and what becomes of it where its store has a row that is no record.
 
-use ci_machine::reply::Code;
 use crate::server::acts::Act;
 use crate::server::servers::{InMemory, after, altered, is_closed, let_go};
+use ci_machine::reply::Code;
 use std::alloc::Global;
 use std::test::Fail;
 

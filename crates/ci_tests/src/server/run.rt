@@ -1,13 +1,11 @@
 //! Lists of events that are handled by one call.
 
-use ci_machine::reply::{Answer, JobStatus};
+use crate::disks::{ALL_CALLS, Image, Remains, stopped};
 use crate::server::acts::{Act, PATH, RUNNING};
 use crate::server::answers::{STORE_FAILED, Want, first, is};
 use crate::server::rows::{all_rows, rows_of};
-use crate::server::servers::{
-    image_after, is_closed, left, opened, over, run, server_of, tell,
-};
-use crate::disks::{ALL_CALLS, Image, Remains, stopped};
+use crate::server::servers::{image_after, is_closed, left, opened, over, run, server_of, tell};
+use ci_machine::reply::{Answer, JobStatus};
 use std::alloc::Global;
 use std::test::Fail;
 

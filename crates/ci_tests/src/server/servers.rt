@@ -1,11 +1,11 @@
 //! Servers over a store, and their calls without a clause.
 
+use crate::disks::{ALL_CALLS, Image, OnDisks, closed, discard};
 use crate::server::acts::{Act, call};
 use crate::server::answers::Want;
 use ci_machine::reply::Answer;
 use ci_machine::request::Event;
 pub use ci_server::server::Server;
-use crate::disks::{ALL_CALLS, Image, OnDisks, closed, discard};
 use ci_store_sqlite::tables::OpenFault;
 use ci_store_sqlite::{Alter, Connection};
 use sqlite::MemStore;

@@ -1,14 +1,12 @@
 //! Each call of the log fails in turn as what a command asks for is handled. Then the program stops, or the machine, and a server is opened over what is
 //! left.
 
-use crate::server::changes::{Row, of_commands};
+use crate::disks::{ALL_CALLS, Image, OnDisks, stopped};
 use crate::server::acts::{Act, PATH};
 use crate::server::answers::{STORE_FAILED, is};
+use crate::server::changes::{Row, of_commands};
 use crate::server::rows::{all_rows, rows_of};
-use crate::server::servers::{
-    Server, image_after, is_closed, left, opened, over, server_of, tell,
-};
-use crate::disks::{ALL_CALLS, Image, OnDisks, stopped};
+use crate::server::servers::{Server, image_after, is_closed, left, opened, over, server_of, tell};
 use std::alloc::Global;
 use std::process::Abort;
 use std::test::Fail;

@@ -1,9 +1,9 @@
 //! Stores that are not ours, and rows that are no records: written through plain SQL.
 
+use crate::disks::discard;
 use crate::store::plain::{Load, are_shown, close, create, filled, found, open, parted};
 use ci_board::facts::Status;
 use ci_machine::change::Counter;
-use crate::disks::discard;
 use ci_store_sqlite::Connection;
 use ci_store_sqlite::tables::OpenFault;
 use sqlite::MemStore;

@@ -1,5 +1,6 @@
 //! The calls of the tables without their clauses, so that the proof of a test that makes many of them carries little.
 
+use crate::disks::discard;
 use crate::store::lines::Answer;
 use crate::store::records::{Change, ONE_OF_EACH, Work, moment, text};
 use ci_board::facts::Status;
@@ -7,7 +8,6 @@ use ci_machine::change::Counter;
 use ci_store::delta::Delta;
 use ci_store::fault::StoreFault;
 use ci_store::store::Store;
-use crate::disks::discard;
 use ci_store_sqlite::tables::{OpenFault, Tables};
 use ci_store_sqlite::{Alter, Connection};
 use sqlite::MemStore;

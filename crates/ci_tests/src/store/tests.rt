@@ -1,11 +1,11 @@
 //! What is committed is loaded back: each test is a list of steps over tables that have a record of each kind.
 
+use crate::disks::discard;
 use crate::store::plain::{Load, close, filled, is_committed, is_made, let_go, reopened, shown};
 use crate::store::records::{Change, Gone, Made, Work, row_of};
 use ci_board::facts::Status;
 use ci_machine::change::Counter;
 use ci_machine::records::{AttemptState, GroupOrder, RefKind};
-use crate::disks::discard;
 use ci_store_sqlite::Alter;
 use ci_store_sqlite::tables::Tables;
 use std::alloc::Global;
@@ -709,12 +709,10 @@ fn a_pipeline_goes_with_all_its_rows(rt: HostRuntime) -> Result<(), Fail> {
 
 // ---- texts in the file
 
-const TEXTS: &[(&str, &str)] = &[
-    (
-        "SELECT spec FROM job WHERE id = 1",
-        r#"{"allow_failure":[1,137],"interruptible":true,"needs":true,"resource_group":"prod","retry":{"causes":["script_failure","job_execution_timeout"],"max":2},"script":["make","make check"],"tags":["gpu"],"timeout":3600,"when":"always"}"#,
-    ),
-];
+const TEXTS: &[(&str, &str)] = &[(
+    "SELECT spec FROM job WHERE id = 1",
+    r#"{"allow_failure":[1,137],"interruptible":true,"needs":true,"resource_group":"prod","retry":{"causes":["script_failure","job_execution_timeout"],"max":2},"script":["make","make check"],"tags":["gpu"],"timeout":3600,"when":"always"}"#,
+)];
 
 #[test]
 fn texts_in_the_file_are_these(rt: HostRuntime) -> Result<(), Fail> {
