@@ -31,6 +31,9 @@ fn listed() -> [(u64, Act, Want); 12] {
 /// So many of these.
 const LEN: usize = 12;
 
+/// So many of them over a log that fails, up to the end of the lease. An opening takes the longer the more stands in the log.
+const FEW: usize = 8;
+
 /// All that a store has before the first event and behind each, where they are handled one by one. Each must be answered as it is to be.
 fn states(alloc: Global, image: &Image) -> Result<Vec<String>, Fail> {
     let mut states = Vec::new(alloc);
@@ -99,7 +102,7 @@ fn is_behind(seen: &Seen, states: &[String], count: usize) -> bool {
         .any(|state| *state == seen.rows)
 }
 
-/// Has the list handled over a log that fails behind so many calls, and again where it failed. How many events were answered, if the
+/// Has the first of the list handled over a log that fails behind so many calls, and again where it failed. How many events were answered, if the
 /// server opens? What a stop leaves then has happened up to the last of these, or to the one behind it. Most stops of the machine leave what
 /// the one before left: that is looked at once.
 fn tried(
@@ -112,11 +115,13 @@ fn tried(
     let Some(mut server) = opened(image.connect(alloc, calls)) else {
         return Ok(None);
     };
-    let count = answered(&run(alloc, &mut server, &listed())?)?;
-    if is_closed(&server) != (count < LEN) {
+    let list = listed();
+    let few = list.get(..FEW).ok_or("a shorter list")?;
+    let count = answered(&run(alloc, &mut server, few)?)?;
+    if is_closed(&server) != (count < FEW) {
         return Err("closed, or not, against its answers")?;
     }
-    if count < LEN && answered(&run(alloc, &mut server, &listed())?)? > 0 {
+    if count < FEW && answered(&run(alloc, &mut server, few)?)? > 0 {
         return Err("a closed server answers")?;
     }
     let Remains { program, machine } = stopped(alloc, left(server))?;
@@ -143,11 +148,11 @@ fn a_list_stops_at_a_fault_of_the_store(rt: HostRuntime) -> Result<(), Fail> {
         if counts.last() != Some(&count) {
             counts.push(count)?;
         }
-        if count == LEN {
+        if count == FEW {
             break;
         }
     }
-    // It stops at each event that changes something, which is all but two sweeps and a look.
-    assert!(rt; counts.as_slice() == [0, 1, 2, 3, 4, 5, 7, 10, 11, 12].as_slice());
+    // It stops at each event that changes something, which is all but the first sweep.
+    assert!(rt; counts.as_slice() == [0, 1, 2, 3, 4, 5, 7, 8].as_slice());
     Ok(())
 }
