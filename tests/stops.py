@@ -1,10 +1,13 @@
 """Each call of the store fails in turn, as an event is handled; then the server is opened again, and has what was there before the event or after it.
 
 A call fails, and all behind it. Then the program is stopped: nothing that was written is lost; or the machine is, which loses what wasn't
-synced: all of it, some writes of it, some sectors. What a server told after a stop of the program is told again after one of the machine.
+synced: all of it, some writes of it, some sectors. What a server told after a stop of the program is told again after one of the machine. Its tables have all
+as it was before the event, or all as it is after it.
 """
 import os
 import random
+
+from transactions import copied
 
 MOST_CALLS = 300  # of a file, that an event makes
 DRAWS = 1  # of some writes and of some sectors, that are lost after each call
@@ -33,6 +36,14 @@ def signs_of(asks):
     return signs
 
 
+def rows(world):
+    """All that the store keeps: its tables and indexes with their texts, and the rows of each table."""
+    with copied(world) as connection:
+        schema = connection.execute('SELECT * FROM sqlite_schema ORDER BY rowid').fetchall()
+        tables = [name.decode() for kind, name, *_ in schema if kind == b'table']
+        return schema, [connection.execute(f'SELECT * FROM {table}').fetchall() for table in tables]
+
+
 class Trial:
     """An event that is handled over one snapshot of the store while calls fail."""
 
@@ -44,6 +55,9 @@ class Trial:
         self.seed = int(os.environ.get('SEED') or random.randrange(1 << 32))
         self.random = random.Random(self.seed)
         self.found = {}
+        # All that the store keeps where the event hasn't happened, and where it has; and which of them came of an event that was answered M17.
+        self.rows = {}
+        self.sides = set()
         # What stops of the machine may leave, once the last server was opened.
         self.settled = []
 
@@ -68,11 +82,15 @@ class Trial:
             raise Difference(f'the server does not open: {ended.status} {ended.out}')
 
     def has_happened(self):
-        """Starts the server over what is there: has the event happened? Its rows must be right before and after."""
+        """Starts the server over what is there: has the event happened? Its rows must be right before and after, and those of each other store by which it
+        has, or hasn't."""
         self.open()
         self.check(self.world)
+        kept = rows(self.world)
         self.settled = self.world.losses(self.random, DRAWS)
         found = self.asked()
+        if self.rows.setdefault(found, kept) != kept:
+            raise Difference('torn: other rows than before the event or after it')
         self.check(self.world)
         self.world.stop()
         return found
@@ -120,6 +138,8 @@ class Trial:
         settled = self.settled
         if is_answered and not told:
             raise Difference('an answered event is lost as the program stops')
+        if not is_answered:
+            self.sides.add(told)
         # What an opening has found stays.
         for image in settled:
             if self.has_happened_by(image) != told:
@@ -158,5 +178,7 @@ def stop_each(world, files, event, asks, check=lambda world: None, is_command=Fa
     needed = 'log' if 'log' in files else 'db'
     if trial.changes and not faults[needed]:
         raise Difference(f'no fault of the {needed} is met')
+    if trial.changes and needed == 'log' and trial.sides != {False, True}:
+        raise Difference(f'what failed has always happened, or never: {trial.sides}')
     world.start()
     return faults

@@ -112,6 +112,12 @@ class StopEach(Case):
     def test_a_state_of_neither_side(self):
         self.differs('neither side', asks=self.asks(after='newest_ready_first'))
 
+    def test_rows_of_neither_side(self):
+        def event():
+            tell(self.world, 'set-variable 1 KEY other')
+            return self.event()
+        self.differs('torn', event=event)
+
     def test_a_fault_that_is_passed_over(self):
         self.differs('answered after', event=lambda: self.event() and '200')
 

@@ -20,6 +20,9 @@ const JOBS: usize = 200;
 
 const CHANGES: usize = 2000;
 
+// A new board takes long, and what one change did wrong stands in the rows behind it: so many changes go between two.
+const BETWEEN: usize = 10;
+
 // Numbers that look like chance, the same in each run.
 #[derive(Drop)]
 struct Chance {
@@ -217,7 +220,7 @@ fn agree<L: Ledger>(rt: &impl Abort, board: &Board<L>, rows: &[Row]) {
     }
 }
 
-// One or two changes at once, and then both boards against each other.
+// Two changes at once, so often, and then both boards against each other.
 fn change_both<L: Ledger>(
     rt: &impl Abort,
     alloc: Global,
@@ -230,10 +233,12 @@ fn change_both<L: Ledger>(
     requires { length facts.old ≡ JOBS }
     ensures { length facts.new ≡ JOBS }
 {
-    let changes = [random_change(chance, facts), random_change(chance, facts)];
-    let size = board.size();
-    assert!(rt; are_positions(size, changes.as_slice()));
-    board.apply(alloc, changes.as_slice())?;
+    for _k in 0..BETWEEN {
+        let changes = [random_change(chance, facts), random_change(chance, facts)];
+        let size = board.size();
+        assert!(rt; are_positions(size, changes.as_slice()));
+        board.apply(alloc, changes.as_slice())?;
+    }
     let rows = built_rows::<Brand>(rt, alloc, Blank::new(1), state, pairs, facts)?;
     agree(rt, board, rows.as_slice());
     Ok(())
@@ -266,7 +271,7 @@ fn change_often<L: Ledger>(
     assert!(rt; made.is_ok());
     if let Ok(graph) = made {
         let mut board = Board::build(alloc, graph, start)?;
-        for _k in 0..CHANGES {
+        for _k in 0..CHANGES / BETWEEN {
             change_both(
                 rt,
                 alloc,

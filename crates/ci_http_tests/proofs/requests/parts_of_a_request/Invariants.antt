@@ -1,4 +1,0 @@
-use Rattle.ci_http_tests.proofs.requests.parts_of_a_request.Given as goal
-
-abbrev pub ghosts-read_parts : goal.ghosts-read_parts
-ghosts-read_parts g a = record { name = a.blank.name; parts = a.blank.parts }

@@ -1,0 +1,13 @@
+//! Tests of typed calls that no request over a socket makes, a module for each layer.
+#![tactic(auto)]
+
+#[cfg(test)]
+mod disks;
+#[cfg(test)]
+mod http;
+#[cfg(test)]
+mod machine;
+#[cfg(test)]
+mod server;
+#[cfg(test)]
+mod store;

@@ -1,0 +1,7 @@
+//! The tables over memory.
+
+mod foreign;
+mod lines;
+mod plain;
+mod records;
+mod tests;
