@@ -36,6 +36,7 @@ ship:
   needs: [unit]
   rules:
   - if: $CI_COMMIT_BRANCH == $CI_DEFAULT_BRANCH
+  - if: $CI_COMMIT_REF_SLUG == \"main\" && $DEPLOY == \"yes\"
 ";
 
 const PLAN: &str = "STAGE        WHEN       RULE JOB                      WAITS FOR
@@ -43,7 +44,8 @@ build        on_success    - build                    -
 test         always        2 unit                     build
 jobs: 2
 left out: ship: none of its rules holds
-note: rule 1 of ship compares with CI_DEFAULT_BRANCH, which nothing defines: set it as a variable of the project, and give it here as --variable CI_DEFAULT_BRANCH=VALUE
+note: rule 1 of ship compares with CI_DEFAULT_BRANCH, which nothing defines: set it as a variable of the project or of each request, and give it here as --variable CI_DEFAULT_BRANCH=VALUE
+note: rule 2 of ship compares with CI_COMMIT_REF_SLUG, which nothing defines: set it as a variable of the project or of each request, and give it here as --variable CI_COMMIT_REF_SLUG=VALUE
 ";
 
 #[test]

@@ -1,3 +1,4 @@
+pub mod Gitlab
 pub mod Report
 pub mod Said
 pub mod Told

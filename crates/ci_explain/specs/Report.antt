@@ -27,3 +27,10 @@ count_text n = if n == 1 then codes "1 fault\n" else decimal n ++ codes " faults
 
 abbrev pub report_text : List ℕ → List Found → List ℕ
 report_text word fs = flat_map (printed_text word) fs ++ count_text (length (filter is_printed fs))
+
+-- the line of a fault of a text that has no tree, by the number of its code
+unfoldable pub yaml_line : List ℕ → ℕ → ℕ → List ℕ → List ℕ
+yaml_line word line number hint = word ++ codes ":" ++ decimal line ++ codes ": Y" ++ decimal number ++ codes ": " ++ hint ++ codes "\n"
+
+abbrev pub yaml_text : List ℕ → ℕ → ℕ → List ℕ → List ℕ
+yaml_text word line number hint = yaml_line word line number hint ++ count_text 1

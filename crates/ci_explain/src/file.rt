@@ -4,14 +4,14 @@ ghost use Rattle.std.specs.Prelude.{◌≡◌, ◌⊎◌, ◌++◌, IfOk, OnOk, 
 ghost use Rattle.std.specs.Io.KnownBytes.{Appends};
 ghost use Rattle.ci_cli_check.specs.Verdicts.{Fits, report_line, status};
 ghost use Rattle.ci_cli_check.specs.declared.verdict.Verdict.{Verdict};
-ghost use Rattle.ci_explain.specs.Said.{IsSaid, IsWritten, Reports};
+ghost use Rattle.ci_explain.specs.Said.{IsSaid, IsWritten, Reports, ReportsOne};
 
-use crate::report::put_report;
+use crate::report::{put_convert, put_report};
 use crate::turn::faults;
 use crate::yaml::put_yaml_fault;
 use ci_cli_check::{Report, Verdict, first_bytes, verdict_of};
 use ci_config::ConfigFault;
-use ci_yaml::{YamlFault, read};
+use ci_yaml::{Code, YamlFault, read};
 use std::alloc::{AllocError, Global};
 use std::fs;
 use std::io::{self, ErrorKind, Read, Write};
@@ -38,8 +38,8 @@ fn put_verdict(text: &mut String, word: &str, verdict: &Verdict) -> Result<(), A
     write!(text, "{report}")
 }
 
-/// What is said of a file's bytes, by the word that names it: each fault in turn, or what `check` says where there is none. The exit
-/// status is that of `check`.
+/// What is said of a file's bytes, by the word that names it: each fault in turn, and how to convert a file of GitLab's; or what `check`
+/// says where there is none. The exit status is that of `check`.
 ///
 /// Errors: memory was refused.
 pub fn explain(alloc: Global, word: &str, bytes: &[u8]) -> Result<Explained, AllocError>
@@ -50,7 +50,7 @@ pub fn explain(alloc: Global, word: &str, bytes: &[u8]) -> Result<Explained, All
     let mut text = String::new(alloc);
     match &verdict {
         Verdict::Refused(YamlFault::Fault(code, line)) => {
-            put_yaml_fault(&mut text, word, source_of(bytes), *code, *line)?;
+            text = fault_text(alloc, word, bytes, *code, *line)?;
         }
         Verdict::Misconfigured(ConfigFault::Fault(_)) => {
             text = faults_text(alloc, word, bytes)?;
@@ -65,7 +65,25 @@ fn source_of(bytes: &[u8]) -> &str {
     str::from_utf8(bytes).unwrap_or("")
 }
 
-/// The report of the faults of a text that has a tree.
+/// The report of a text that has no tree, for this fault of it, and how to convert a file of GitLab's.
+///
+/// Errors: memory was refused.
+fn fault_text(
+    alloc: Global,
+    word: &str,
+    bytes: &[u8],
+    code: Code,
+    line: usize,
+) -> Result<String, AllocError>
+    ensures { IfOk result (λ text. ReportsOne bytes.now word.now code line (string_bytes text)) }
+{
+    let mut told = String::new(alloc);
+    put_yaml_fault(&mut told, word, source_of(bytes), code, line)?;
+    put_convert(&mut told, bytes)?;
+    Ok(told)
+}
+
+/// The report of the faults of a text that has a tree, and how to convert a file of GitLab's.
 ///
 /// Errors: memory was refused; or there is no such tree.
 fn faults_text(alloc: Global, word: &str, bytes: &[u8]) -> Result<String, AllocError>
@@ -80,6 +98,7 @@ fn faults_text(alloc: Global, word: &str, bytes: &[u8]) -> Result<String, AllocE
     let found = faults(alloc, source, tree)?;
     let mut text = String::new(alloc);
     put_report(&mut text, word, found.as_slice())?;
+    put_convert(&mut text, bytes)?;
     Ok(text)
 }
 

@@ -4,6 +4,7 @@
 mod entries;
 mod file;
 mod frame;
+mod gitlab;
 mod hint;
 mod leave;
 mod place;

@@ -1,10 +1,16 @@
 //! The lines that are printed of a file's faults.
 
 ghost use Rattle.std.specs.Prelude.{◌≡◌, ◌++◌, length, filter, flat_map, option_map, OnOk, string_bytes};
+ghost use Rattle.ci_explain.specs.Gitlab.{convert_text};
 ghost use Rattle.ci_explain.specs.Report.{is_printed, job_text, line_text, printed_text, count_text, report_text};
 
+use crate::gitlab::shows_gitlab;
 use crate::place::Found;
 use std::alloc::AllocError;
+
+/// The last line of what is said of a file that was written for GitLab.
+const CONVERT: &str =
+    "this looks like a file of GitLab's: examples/convert.py writes such a file out into the profile, and says what it drops\n";
 
 /// Puts the job and the rule of a fault behind a text.
 #[tactic(auto, unfolding(crate::specs::Report::job_text))]
@@ -67,7 +73,7 @@ fn count_of(found: &[Found]) -> usize
 
 /// Puts how many faults there are behind a text.
 #[tactic(auto, unfolding(crate::specs::Report::count_text))]
-fn put_count(text: &mut String, count: usize) -> Result<(), AllocError>
+pub fn put_count(text: &mut String, count: usize) -> Result<(), AllocError>
     ensures { OnOk result (string_bytes text.new ≡ string_bytes text.old ++ count_text count) }
 {
     if count == 1 {
@@ -84,4 +90,16 @@ pub fn put_report(text: &mut String, word: &str, found: &[Found]) -> Result<(), 
     put_lines(text, word, found)?;
     let count = count_of(found);
     put_count(text, count)
+}
+
+/// Puts the line that names `examples/convert.py` behind a text, where a file's bytes show that it was written for GitLab.
+#[tactic(auto, unfolding(crate::specs::Gitlab::convert_text))]
+pub fn put_convert(text: &mut String, bytes: &[u8]) -> Result<(), AllocError>
+    ensures { OnOk result (string_bytes text.new ≡ string_bytes text.old ++ convert_text bytes.now) }
+{
+    if shows_gitlab(bytes) {
+        text.push_str(CONVERT)
+    } else {
+        Ok(())
+    }
 }

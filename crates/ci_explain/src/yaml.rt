@@ -1,5 +1,10 @@
 //! What is said of a text that has no tree, in the user's words.
 
+ghost use Rattle.std.specs.Prelude.{◌≡◌, ◌++◌, ℕ, List, OnOk, string_bytes};
+ghost use Rattle.ci_yaml_lines.specs.Least.{number_of};
+ghost use Rattle.ci_explain.specs.Report.{yaml_line, yaml_text};
+
+use crate::report::put_count;
 use ci_yaml::Code;
 use std::alloc::AllocError;
 
@@ -181,16 +186,31 @@ pub fn yaml_hint(code: Code, source: &str, line: usize) -> &'static str {
     ""
 }
 
-/// Puts the report of a text that has no tree behind another: one line, and that there is one fault.
+/// Puts the line of a fault of a text that has no tree behind another.
+#[tactic(auto, unfolding(crate::specs::Report::yaml_line))]
+fn put_yaml_line(
+    text: &mut String,
+    word: &str,
+    line: usize,
+    number: u8,
+    hint: &str,
+) -> Result<(), AllocError>
+    ensures { OnOk result (string_bytes text.new ≡ string_bytes text.old ++ yaml_line word.now line number hint.now) }
+{
+    writeln!(text, "{word}:{line}: Y{number}: {hint}")
+}
+
+/// Puts the report of a text that has no tree behind another: the line of its fault, with a sentence, and that there is one.
 pub fn put_yaml_fault(
     text: &mut String,
     word: &str,
     source: &str,
     code: Code,
     line: usize,
-) -> Result<(), AllocError> {
+) -> Result<(), AllocError>
+    ensures { OnOk result ((hint : List ℕ) × (string_bytes text.new ≡ string_bytes text.old ++ yaml_text word.now line (number_of code) hint)) }
+{
     let hint = yaml_hint(code, source, line);
-    let number = code.number();
-    writeln!(text, "{word}:{line}: Y{number}: {hint}")?;
-    writeln!(text, "1 fault")
+    put_yaml_line(text, word, line, code.number(), hint)?;
+    put_count(text, 1)
 }

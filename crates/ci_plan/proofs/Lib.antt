@@ -4,3 +4,4 @@ pub mod Bare
 pub mod Taking
 pub mod Rounds
 pub mod Layouts
+pub mod Noting

@@ -28,14 +28,16 @@ use Rattle.ci_cli_check.specs.Verdicts.{Fits, FitsText, IsTooLong, TellsUnread}
 use Rattle.ci_yaml.specs.declared.fault.YamlFault.TheVariants as yaml
 use Rattle.ci_yaml.specs.declared.fault.YamlFault.{YamlFault}
 use Rattle.ci_yaml.specs.Stops.{RefusedBy, GivesTree}
+use Rattle.ci_plan.specs.Notes.{notes_of}
 use Rattle.ci_plan.specs.Said.{Gives, Tells, Says, SaysText, IsSaidOf, IsPrintedOf, refusal}
 use Rattle.ci_plan.specs.declared.records.Note.{Note}
 use Rattle.ci_plan.specs.declared.records.Plan.{Plan}
 use Rattle.ci_plan.specs.declared.verdict.Outcome.{Outcome}
 use Rattle.ci_plan.specs.declared.verdict.Outcome.TheVariants.{Planned, Refused}
 
-pub says_plan : (text : List ℕ) (tree : Value) (g : Given) (c : Config) (p : Plan) (notes : List Note) → HasTree text tree → Means tree (Ok c) → Tells g c p → SaysText text g (Planned p notes)
-says_plan text tree g c p notes has means tells = (c, configures tree c has means, tells)
+pub says_plan : (text : List ℕ) (tree : Value) (g : Given) (c : Config) (p : Plan) (notes : List Note) → HasTree text tree → Means tree (Ok c) → Tells g c p → notes ≡ notes_of g c tree
+    → SaysText text g (Planned p notes)
+says_plan text tree g c p notes has means tells are = (c, configures tree c has means, tells, (tree, has, are))
 
 -- where there is a pattern, X8 may be answered
 abbrev MayRefuse : Type 0
@@ -67,7 +69,7 @@ says_refused text g (yaml.Fault code line) refused all = ((refused, λ h. all h.
 says_refused text g yaml.Memory refused all = (tt, tt)
 
 pub says_text : (text : List ℕ) (asked : NewPipeline) (o : Outcome) → IsUtf8 text → SaysText text (given_by asked []) o → Says text asked o
-says_text text asked (Planned p notes) utf8 says = (says.0, utf8, says.1, says.2)
+says_text text asked (Planned p notes) utf8 says = (says.0, utf8, says.1, says.2, says.3)
 says_text text asked (Refused v) utf8 says = (fits text v utf8 says.0, says.1)
 
 no_memory : (told : Option (List ℕ)) (asked : NewPipeline) → IfSome told (λ bs. Says bs asked (Refused (check.Refused yaml.Memory)))

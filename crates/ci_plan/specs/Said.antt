@@ -3,6 +3,8 @@ use Rattle.std.specs.Prelude.{◌≡◌, ℕ, List, [], Option, Some, None, Resu
 use Rattle.std.specs.IoError.{error_kind}
 use Rattle.std.specs.Str.{IsUtf8}
 use Rattle.std.specs.declared.io.Error.{Error}
+use Rattle.ci_yaml_lines.specs.Tree.{Value}
+use Rattle.ci_yaml.specs.Document.{HasTree}
 use Rattle.ci_yaml.specs.declared.fault.YamlFault.TheVariants as yaml
 use Rattle.ci_expr.specs.declared.fault.ExprCode.TheVariants.{X8}
 use Rattle.ci_config.specs.Config.{Config}
@@ -27,6 +29,8 @@ use Rattle.ci_cli_check.specs.declared.verdict.Verdict.TheVariants as check
 use Rattle.ci_plan.specs.Rules.{left_out}
 use Rattle.ci_plan.specs.Planned.{planned_jobs}
 use Rattle.ci_plan.specs.Faults.{code_of, IsAbout}
+use Rattle.ci_plan.specs.Notes.{notes_of}
+use Rattle.ci_plan.specs.declared.records.Note.{Note}
 use Rattle.ci_plan.specs.declared.records.Plan.{Plan}
 use Rattle.ci_plan.specs.declared.records.PlannedJob.{PlannedJob}
 use Rattle.ci_plan.specs.declared.records.Fault.{Fault}
@@ -79,15 +83,19 @@ abbrev pub IsRefusal : Verdict → Type 0
 IsRefusal (check.Configures jobs) = ⊥
 IsRefusal other = ⊤
 
+-- these are the notes of a text that configures this, by the tree that it has
+abbrev pub AreNotes : List ℕ → Given → Config → List Note → Type 0
+AreNotes text g c notes = (tree : Value) × HasTree text tree × (notes ≡ notes_of g c tree)
+
 -- what is said of a text where these variables are brought
 abbrev pub SaysText : List ℕ → Given → Outcome → Type 0
-SaysText text g (Planned plan notes) = (c : Config) × IsRead text (Ok c) × Tells g c plan
+SaysText text g (Planned plan notes) = (c : Config) × IsRead text (Ok c) × Tells g c plan × AreNotes text g c notes
 SaysText text g (Refused verdict) = FitsText text verdict × IsRefusal verdict
 
--- What is said of the bytes of a file where a pipeline is asked for, of a project without variables: what it would be, by what the file
--- says; or the verdict of a check, that it is refused.
+-- What is said of the bytes of a file where a pipeline is asked for, of a project without variables: what it would be and the notes, by what the
+-- file says; or the verdict of a check, that it is refused.
 abbrev pub Says : List ℕ → NewPipeline → Outcome → Type 0
-Says bytes asked (Planned plan notes) = (c : Config) × IsUtf8 bytes × IsRead bytes (Ok c) × Tells (given_by asked []) c plan
+Says bytes asked (Planned plan notes) = (c : Config) × IsUtf8 bytes × IsRead bytes (Ok c) × Tells (given_by asked []) c plan × AreNotes bytes (given_by asked []) c notes
 Says bytes asked (Refused verdict) = Fits bytes verdict × IsRefusal verdict
 
 -- what is said of a file that was opened fits all its bytes, where its reader tells them; of another, why it wasn't opened

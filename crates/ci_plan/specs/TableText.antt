@@ -126,7 +126,7 @@ told (Err fault) = fault_text fault
 abbrev pub plan_text : Plan → List ℕ
 plan_text p = told p.jobs ++ flat_map left_out_line p.left_out
 
--- a rule that compares with a variable which nothing defines, and what to do
+-- a rule that compares a variable which nothing defines, and what to do
 abbrev pub note_head : Note → List ℕ
 note_head n = codes "note: rule " ++ decimal n.rule ++ codes " of " ++ n.job
 
@@ -134,7 +134,7 @@ abbrev pub note_body : Note → List ℕ
 note_body n = codes " compares with " ++ n.variable ++ codes ", which nothing defines: set it as a variable of "
 
 abbrev pub note_end : Note → List ℕ
-note_end n = codes "the project, and give it here as --variable " ++ n.variable ++ codes "=VALUE\n"
+note_end n = codes "the project or of each request, and give it here as --variable " ++ n.variable ++ codes "=VALUE\n"
 
 unfoldable pub note_line : Note → List ℕ
 note_line n = note_head n ++ note_body n ++ note_end n

@@ -50,7 +50,7 @@ pub enum Fault {
     ManyNeeds(Texts),
 }
 
-/// A rule that compares with a variable which nothing defines.
+/// A rule that compares a variable which nothing defines.
 #[derive(Drop)]
 pub struct Note {
     pub job: Text,

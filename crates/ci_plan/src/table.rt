@@ -303,7 +303,7 @@ fn put_note_end(text: &mut String, note: &Note) -> Result<(), AllocError>
     let variable = note.variable.as_str();
     writeln!(
         text,
-        "the project, and give it here as --variable {variable}=VALUE"
+        "the project or of each request, and give it here as --variable {variable}=VALUE"
     )
 }
 

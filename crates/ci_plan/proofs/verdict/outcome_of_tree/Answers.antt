@@ -6,7 +6,7 @@ use Rattle.ci_plan.proofs.verdict.outcome_of_tree.Goals as goal
 
 pub returns-in-Ok-notes : goal.returns-in-Ok-notes
 returns-in-Ok-notes c = λ bytes has.
-    says_plan bytes (value_view c.args.tree.now) (given_view c.args.given.now) (config_view c.in-Ok.config) c.in-Ok-plan.plan c.in-Ok-notes.notes has c.in-Ok.ensures.answer c.in-Ok-plan.ensures
+    says_plan bytes (value_view c.args.tree.now) (given_view c.args.given.now) (config_view c.in-Ok.config) c.in-Ok-plan.plan c.in-Ok-notes.notes has c.in-Ok.ensures.answer c.in-Ok-plan.ensures c.in-Ok-notes.ensures
 
 pub returns-in-Ok : goal.returns-in-Ok
 returns-in-Ok c = λ bytes has.
