@@ -49,10 +49,11 @@ class Server:
         with open(f"/proc/{self.process.pid}/schedstat", encoding="ascii") as file:
             return int(file.read().split()[0]) / 1e9
 
-    def ask(self, method, path, body="", token=None):
+    def ask(self, method, path, body="", token=None, fields=""):
         """Sends one request; answers its status, its body and the microseconds that it took."""
-        field = f"PRIVATE-TOKEN: {token}\r\n" if token else ""
-        text = f"{method} /api/v4/{path} HTTP/1.1\r\n{field}Content-Length: {len(body)}\r\n\r\n{body}".encode()
+        if token:
+            fields += f"PRIVATE-TOKEN: {token}\r\n"
+        text = f"{method} /api/v4/{path} HTTP/1.1\r\n{fields}Content-Length: {len(body)}\r\n\r\n{body}".encode()
         begin = time.perf_counter()
         with socket.create_connection(("127.0.0.1", self.port)) as peer:
             peer.sendall(text)
