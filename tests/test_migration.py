@@ -300,8 +300,18 @@ class Refusals(Files):
 class Shell(Files):
     """A file that was made by other rows, of which a lease is long over."""
 
-    def test_a_file_of_the_c_library_is_served(self):
+    def make_over(self):
         self.made(rows=os.path.join(ROOT, '.ci', 'version1.sql'))
+
+    def test_a_file_of_the_c_library_is_migrated(self):
+        self.make_over()
+        self.migrates(MIGRATED)
+        self.is_whole(2)
+        self.migrates(CURRENT)
+        self.is_whole(2)
+
+    def test_a_file_of_the_c_library_is_served(self):
+        self.make_over()
         token = ' with p1-' + '0' * 31 + '1'
         ended = ('200 {"id":1,"jobs":[{"id":1,"name":"build","stage":"build","status":"success"},{"id":2,"name":"ship","stage":"test","status":"failed"},'
                  '{"id":3,"name":"after","stage":"deploy","status":"skipped"}],"ref":"main","source":"api","status":"failed"}')
