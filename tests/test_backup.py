@@ -7,6 +7,7 @@ import sqlite3
 import stat
 import subprocess
 import threading
+import time
 from contextlib import closing
 
 from cases import PATH, Case, tell
@@ -239,6 +240,7 @@ class Copies(Backup):
                 self.set_variable(self.traced // 100)
                 self.append(100)
                 answered[0] = self.traced
+                time.sleep(0.002)
         thread = threading.Thread(target=load)
         thread.start()
         try:
