@@ -1,2 +1,4 @@
 pub mod Peer
 pub mod Peers
+pub mod Answers
+pub mod Connections
