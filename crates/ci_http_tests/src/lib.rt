@@ -1,4 +1,5 @@
-//! Tests of the parts of a request, of readers and writers that fail, of what bodies, ranges and numbers say, and of the table of routes.
+//! Tests of the parts of a request, of readers and writers that fail, of what bodies, ranges and numbers say, of the table of routes, and
+//! of peers side by side.
 #![tactic(auto)]
 
 #[cfg(test)]
@@ -9,6 +10,8 @@ mod look_ups;
 mod modes;
 #[cfg(test)]
 mod numbers;
+#[cfg(test)]
+mod peers;
 #[cfg(test)]
 mod requests;
 #[cfg(test)]
