@@ -1,10 +1,12 @@
 """The loop over connections: what peers send that come at once, end early, say nothing or too much, and what each gets."""
 import json
+import os
+import resource
 import socket
 import time
 
 from cases import PATH, Case, alter
-from world import received
+from world import received, until
 
 P1 = 'p1-' + 'ab' * 16
 J1 = 'j1-' + 'ab' * 16
@@ -44,6 +46,13 @@ def piece(text, **fields):
 
 def shown(name, stage, status):
     return done('200 OK', f'{{"id":1,"name":"{name}","stage":"{stage}","status":"{status}"}}')
+
+
+def processor_seconds(process):
+    """How much of the processor a process took so far, in seconds."""
+    with open(f'/proc/{process}/stat', encoding='utf-8') as file:
+        user, system = file.read().rpartition(')')[2].split()[11:13]
+    return (int(user) + int(system)) / os.sysconf('SC_CLK_TCK')
 
 
 class Peers(Case):
@@ -131,6 +140,26 @@ class Connections(Peers):
         data = b'POST /api/v4/jobs/request HTTP/1.1\r\nContent-Length: 100000\r\n\r\n'
         came = self.world.exchange(data + b' ' * (100000 - len(data)))
         self.assertEqual(came[:32], b'HTTP/1.1 413 Payload Too Large\r\n')
+
+    def test_no_descriptor_is_left(self):
+        """Nothing is accepted then, which takes no time to speak of and counts for no connection; who waits is served once there are descriptors again."""
+        self.begin(*PATH)
+        self.world.stop()
+        self.world.start(requests=4)
+        server = self.world.server.pid
+        taken = len(os.listdir(f'/proc/{server}/fd'))
+        resource.prlimit(server, resource.RLIMIT_NOFILE, (taken + 2, taken + 2))
+        silent = [self.sent(b'', False) for _ in range(2)]
+        until(lambda: len(os.listdir(f'/proc/{server}/fd')) == taken + 2, 'the peers are not accepted')
+        waiting = self.sent(SHOW)
+        spent = processor_seconds(server)
+        time.sleep(1)
+        self.assertLess(processor_seconds(server) - spent, 0.3)
+        for peer in silent:
+            peer.close()
+        self.assertEqual(received(waiting), shown('build', 'build', 'running'))
+        self.assertEqual(self.world.exchange(SHOW), shown('build', 'build', 'running'))
+        self.assertEqual(self.world.ended(), (0, '', ''))
 
     def test_it_ends_after_so_many_connections(self):
         self.begin(*PATH)

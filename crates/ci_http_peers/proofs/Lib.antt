@@ -1,2 +1,3 @@
 pub mod Soonest
 pub mod Rooms
+pub mod Turns

@@ -1,2 +1,5 @@
 pub mod Peer
 pub mod Peers
+pub mod Answers
+pub mod Connections
+pub mod Turns

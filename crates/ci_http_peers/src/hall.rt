@@ -1,5 +1,10 @@
 //! All peers: whose turn it is is said from outside, and what becomes of each here.
 
+ghost use Rattle.std.specs.Prelude.{◌≡◌, map, replicate, slice_get, slice_set, Some, None, IfOk};
+ghost use Rattle.ci_http_peers.specs.declared.peer.Among.TheVariants.{Writing};
+ghost use Rattle.ci_http_peers.specs.Turns.{cleared, cleared_at, is_at};
+ghost use Rattle.ci_http_peers.specs.Peers.{IsNextDeadline, kept};
+
 use crate::answerer::Answerer;
 use crate::chair::{Chair, Step};
 use crate::peer::{Peer, Stage};
@@ -14,20 +19,21 @@ const READ_BYTES: usize = 16_384;
 
 /// A table of peers, each with its connection.
 #[derive(Drop)]
-pub(crate) struct Hall<W> {
+pub struct Hall<W> {
     alloc: Global,
     peers: Vec<Option<Peer>>,
     chairs: Vec<Option<Chair<W>>>,
     scratch: Vec<u8>,
-    /// Nobody has sat at a place from this one on: those need not be looked at.
-    taken: usize,
     /// How long a whole request may take to come, and a whole reply to be taken, in milliseconds.
     patience: u64,
 }
 
 impl<W: Wire + Drop> Hall<W> {
     /// A table at which nobody sits. Errors: memory was refused.
-    pub(crate) fn new(alloc: Global, patience: u64) -> Result<Hall<W>, AllocError> {
+    pub fn new(alloc: Global, patience: u64) -> Result<Hall<W>, AllocError>
+        ensures peers { IfOk result (λ hall. hall.peers.items ≡ replicate MAX_PEERS None) }
+        ensures patience { IfOk result (λ hall. hall.patience ≡ patience) }
+    {
         let mut chairs = Vec::with_capacity(alloc, MAX_PEERS)?;
         for _ in 0..MAX_PEERS {
             chairs.push(None)?;
@@ -37,21 +43,22 @@ impl<W: Wire + Drop> Hall<W> {
             peers: places(alloc)?,
             chairs,
             scratch: Vec::from_elem(alloc, 0, READ_BYTES)?,
-            taken: 0,
             patience,
         })
     }
 
     /// When something is to be done though no connection is ready, in milliseconds. None where nobody sits.
-    pub(crate) fn next_deadline(&self) -> Option<u64> {
-        next_deadline(self.peers.as_slice().get(..self.taken)?)
+    pub fn next_deadline(&self) -> Option<u64>
+        ensures { IsNextDeadline self.now.peers.items result }
+    {
+        next_deadline(self.peers.as_slice())
     }
 
     /// Takes one more peer, and goes on with it. Where the table is full another gives way, once it was seen whether its request has
     /// come meanwhile.
     ///
     /// Errors: no request can be answered any more.
-    pub(crate) fn admit<T, E, A: Answerer<T, E>>(
+    pub fn admit<T, E, A: Answerer<T, E>>(
         &mut self,
         wire: W,
         answerer: &A,
@@ -70,15 +77,19 @@ impl<W: Wire + Drop> Hall<W> {
     }
 
     /// Ends the peers whose time is over.
-    pub(crate) fn end_late(&mut self, now: u64) {
+    pub fn end_late(&mut self, now: u64)
+        ensures peers { self.new.peers.items ≡ map (kept now) self.old.peers.items }
+        ensures chairs { self.new.chairs.items ≡ cleared self.new.peers.items self.old.chairs.items }
+        ensures patience { self.new.patience ≡ self.old.patience }
+    {
         end_late(&mut self.peers, now);
-        self.clear();
+        clear(self.peers.as_slice(), &mut self.chairs);
     }
 
     /// Goes on with the peer of a place until its connection isn't ready or is over.
     ///
     /// Errors: no request can be answered any more.
-    pub(crate) fn go_on<T, E, A: Answerer<T, E>>(
+    pub fn go_on<T, E, A: Answerer<T, E>>(
         &mut self,
         place: usize,
         answerer: &A,
@@ -98,6 +109,7 @@ impl<W: Wire + Drop> Hall<W> {
                 Step::Again | Step::Whole | Step::Went => {}
             }
         }
+        self.wait(place);
         Ok(())
     }
 
@@ -156,15 +168,6 @@ impl<W: Wire + Drop> Hall<W> {
         Ok(())
     }
 
-    /// Ends the connections of the places where nobody sits.
-    fn clear(&mut self) {
-        for (peer, chair) in self.peers.iter().zip(self.chairs.iter_mut()) {
-            if peer.is_none() {
-                *chair = None;
-            }
-        }
-    }
-
     /// The reply of a place went as a whole.
     fn end_reply(&mut self, place: usize, now: u64) -> Step {
         let Some(Some(chair)) = self.chairs.get_mut(place) else {
@@ -183,12 +186,14 @@ impl<W: Wire + Drop> Hall<W> {
         self.listen(place);
         if self.is_writing(place) && !have_room(self.peers.as_slice()) {
             make_room(&mut self.peers);
-            self.clear();
+            clear(self.peers.as_slice(), &mut self.chairs);
         }
     }
 
     /// Does a reply go to the peer of a place?
-    fn is_writing(&self, place: usize) -> bool {
+    fn is_writing(&self, place: usize) -> bool
+        ensures { result ≡ is_at Writing (slice_get self.now.peers.items place) }
+    {
         match self.peers.get(place) {
             Some(Some(peer)) => matches!(peer.stage, Stage::Writing(_)),
             _ => false,
@@ -207,19 +212,50 @@ impl<W: Wire + Drop> Hall<W> {
     }
 
     /// A peer sits down at a place; who sat there is gone.
-    fn seat(&mut self, place: usize, peer: Peer, chair: Chair<W>) {
+    fn seat(&mut self, place: usize, peer: Peer, chair: Chair<W>)
+        ensures peers { self.new.peers.items ≡ slice_set self.old.peers.items place (Some peer) }
+        ensures chairs { self.new.chairs.items ≡ slice_set self.old.chairs.items place (Some chair) }
+        ensures patience { self.new.patience ≡ self.old.patience }
+    {
         put(&mut self.peers, place, Some(peer));
-        self.taken = self.taken.max(place.saturating_add(1));
-        if let Some(sat) = self.chairs.get_mut(place) {
-            *sat = Some(chair);
-        }
+        put_chair(&mut self.chairs, place, Some(chair));
     }
 
     /// The peer of a place goes, and its connection is over.
-    fn leave(&mut self, place: usize) {
+    fn leave(&mut self, place: usize)
+        ensures peers { self.new.peers.items ≡ slice_set self.old.peers.items place None }
+        ensures chairs { self.new.chairs.items ≡ slice_set self.old.chairs.items place None }
+        ensures patience { self.new.patience ≡ self.old.patience }
+    {
         put(&mut self.peers, place, None);
-        if let Some(sat) = self.chairs.get_mut(place) {
-            *sat = None;
-        }
+        put_chair(&mut self.chairs, place, None);
+    }
+}
+
+/// A connection has a place, or none. A place that isn't there stays so.
+fn put_chair<W: Wire + Drop>(chairs: &mut [Option<Chair<W>>], place: usize, chair: Option<Chair<W>>)
+    ensures { chairs.new ≡ slice_set chairs.old place chair }
+{
+    if place < chairs.len() {
+        chairs[place] = chair;
+    }
+}
+
+/// Ends the connections of the places where nobody sits.
+#[tactic(auto, using(crate::proofs::Turns::cleared_next))]
+fn clear<W: Wire + Drop>(peers: &[Option<Peer>], chairs: &mut [Option<Chair<W>>])
+    ensures { chairs.new ≡ cleared peers.now chairs.old }
+{
+    for place in 0..peers.len() {
+        clear_one(peers[place], place, chairs);
+    }
+}
+
+/// Ends the connection of a place where nobody sits.
+fn clear_one<W: Wire + Drop>(seat: Option<Peer>, place: usize, chairs: &mut [Option<Chair<W>>])
+    ensures { chairs.new ≡ cleared_at seat place chairs.old }
+{
+    if seat.is_none() {
+        put_chair(chairs, place, None);
     }
 }

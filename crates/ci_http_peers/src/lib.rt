@@ -5,11 +5,10 @@
 
 pub mod answerer;
 mod chair;
-mod hall;
+pub mod door;
+pub mod hall;
 mod peer;
-mod peers;
+pub mod peers;
 pub mod serve;
 mod socket;
-#[cfg(test)]
-mod tests;
-mod wire;
+pub mod wire;

@@ -7,7 +7,7 @@ use crate::peer::{Among, Peer, Stage};
 use std::alloc::{AllocError, Global};
 
 /// The most peers at a time.
-pub(crate) const MAX_PEERS: usize = 256;
+pub const MAX_PEERS: usize = 256;
 
 /// The most bytes of replies that lie in memory in all, for peers that take them slowly.
 pub(crate) const MAX_REPLY_BYTES: usize = 33_554_432;

@@ -1,12 +1,18 @@
 //! The loop: it waits for a listener and for all peers at once.
 
+ghost use Rattle.std.specs.Prelude.{◌≡◌, ◌-◌, ◌*◌, ℕ, Some, None};
+ghost use Rattle.std.specs.Duration.{as_nanos};
+ghost use Rattle.std.specs.declared.time.Duration.{Duration as DurationOf};
+ghost use Rattle.ci_http_peers.specs.Turns.{sooner};
+
 use crate::answerer::Answerer;
+use crate::door::Door;
 use crate::hall::Hall;
 use crate::socket::Socket;
 use mio::net::{TcpListener, TcpStream};
 use mio::{Events, Interest, Poll, Registry, Token};
 use std::alloc::Global;
-use std::io::{self, ErrorKind};
+use std::io;
 use std::net::Net;
 use std::time::{Clock, Duration, Instant};
 
@@ -15,9 +21,6 @@ const MAX_EVENTS: usize = 512;
 
 /// The most connections that are accepted before the others have their turn.
 const MAX_ACCEPTED: usize = 64;
-
-/// How long nothing is accepted after an accept failed, in milliseconds.
-const PAUSE_MILLIS: u64 = 100;
 
 /// The token of the listener: no place of the table.
 const LISTENER: Token = Token(usize::MAX);
@@ -38,7 +41,7 @@ pub enum Unserved<E> {
 pub struct Terms {
     /// How long a whole request may take to come, and a whole reply to be taken, in milliseconds.
     pub patience: u64,
-    /// How many connections are served. One that fails as it is accepted counts too.
+    /// How many connections are served. One that its peer gives up before it is accepted counts too.
     pub connections: u32,
 }
 
@@ -49,14 +52,12 @@ struct Ticks<'a, C> {
     start: Instant,
 }
 
-/// A listener, and from when on connections are to be accepted, in milliseconds: None where none waits.
+/// A listener, with what its connections are registered with, and whether one is to be accepted.
 #[derive(Drop)]
-struct Door<'a> {
+struct Entry<'a> {
     listener: &'a TcpListener,
     registry: &'a Registry,
-    opens: Option<u64>,
-    /// How many connections are yet to be accepted.
-    left: u32,
+    door: Door,
 }
 
 impl<'a, C: Clock> Ticks<'a, C> {
@@ -106,13 +107,12 @@ pub fn serve_peers<N: Net, C: Clock, T, E, A: Answerer<T, E>>(
         return Err(Unserved::NoWait);
     };
     let ticks = Ticks { clock, start };
-    let door = Door {
+    let entry = Entry {
         listener,
         registry: &registry,
-        opens: None,
-        left: terms.connections,
+        door: Door::new(terms.connections),
     };
-    run(poll, events, hall, &ticks, door, answerer, subject)
+    run(poll, events, hall, &ticks, entry, answerer, subject)
 }
 
 /// Registers a listener, and gives what sockets register themselves with.
@@ -128,21 +128,28 @@ fn run<'a, C: Clock, T, E, A: Answerer<T, E>>(
     mut events: Events,
     mut hall: Hall<Socket<'a>>,
     ticks: &Ticks<'_, C>,
-    mut door: Door<'a>,
+    mut entry: Entry<'a>,
     answerer: &A,
     subject: &mut T,
 ) -> Result<(), Unserved<E>> {
     for _ in 0..u64::MAX {
         let nearest = hall.next_deadline();
-        if door.left == 0 && nearest.is_none() {
+        if entry.door.is_done() && nearest.is_none() {
             break;
         }
-        let timeout = time_to_wait(nearest, door.opens_at(), ticks.now()?);
+        let timeout = time_to_wait(nearest, entry.door.opens_at(), ticks.now()?);
         if poll.poll(&mut events, timeout).is_err() {
             return Err(Unserved::NoWait);
         }
-        hear(&events, &mut hall, ticks, &mut door, answerer, subject)?;
-        accept_some(&mut hall, ticks, &mut door, answerer, subject)?;
+        hear(
+            &events,
+            &mut hall,
+            ticks,
+            &mut entry.door,
+            answerer,
+            subject,
+        )?;
+        accept_some(&mut hall, ticks, &mut entry, answerer, subject)?;
         let now = ticks.now()?;
         if nearest.is_some_and(|nearest| nearest <= now) {
             hall.end_late(now);
@@ -152,7 +159,11 @@ fn run<'a, C: Clock, T, E, A: Answerer<T, E>>(
 }
 
 /// How long nothing need be done: up to the nearest deadline of the peers, and to when the next connection may be accepted.
-fn time_to_wait(nearest: Option<u64>, opens: Option<u64>, now: u64) -> Option<Duration> {
+fn time_to_wait(nearest: Option<u64>, opens: Option<u64>, now: u64) -> Option<Duration>
+    ensures never { sooner nearest opens ≡ None → result ≡ None }
+    ensures time { (until : ℕ) → sooner nearest opens ≡ Some until
+        → (wait : DurationOf) × (result ≡ Some wait) × (as_nanos wait ≡ (until - now) * 1000000) }
+{
     let until = match (nearest, opens) {
         (Some(nearest), Some(opens)) => Some(nearest.min(opens)),
         (Some(nearest), None) => Some(nearest),
@@ -166,7 +177,7 @@ fn hear<'a, C: Clock, T, E, A: Answerer<T, E>>(
     events: &Events,
     hall: &mut Hall<Socket<'a>>,
     ticks: &Ticks<'_, C>,
-    door: &mut Door<'a>,
+    door: &mut Door,
     answerer: &A,
     subject: &mut T,
 ) -> Result<(), Unserved<E>> {
@@ -177,8 +188,8 @@ fn hear<'a, C: Clock, T, E, A: Answerer<T, E>>(
             if let Err(why) = hall.go_on(place, answerer, subject, now) {
                 return Err(Unserved::Unanswered(why));
             }
-        } else if door.opens.is_none() {
-            door.opens = Some(now);
+        } else {
+            door.knock(now);
         }
     }
     Ok(())
@@ -189,54 +200,37 @@ fn hear<'a, C: Clock, T, E, A: Answerer<T, E>>(
 fn accept_some<'a, C: Clock, T, E, A: Answerer<T, E>>(
     hall: &mut Hall<Socket<'a>>,
     ticks: &Ticks<'_, C>,
-    door: &mut Door<'a>,
+    entry: &mut Entry<'a>,
     answerer: &A,
     subject: &mut T,
 ) -> Result<(), Unserved<E>> {
     for _ in 0..MAX_ACCEPTED {
         let now = ticks.now()?;
-        let Some(stream) = door.next(now) else {
+        let Some(stream) = entry.next(now) else {
             break;
         };
-        if let Err(why) = hall.admit(Socket::new(stream, door.registry), answerer, subject, now) {
+        let socket = Socket::new(stream, entry.registry);
+        if let Err(why) = hall.admit(socket, answerer, subject, now) {
             return Err(Unserved::Unanswered(why));
         }
     }
     Ok(())
 }
 
-impl<'a> Door<'a> {
-    /// From when on a connection is to be accepted, if any is.
-    fn opens_at(&self) -> Option<u64> {
-        if 0 < self.left { self.opens } else { None }
-    }
-
-    /// The next connection, if one waits and may be accepted.
+impl<'a> Entry<'a> {
+    /// The next connection, if one waits and is to be accepted. Where that fails the door says what follows.
     fn next(&mut self, now: u64) -> Option<TcpStream> {
-        match self.opens {
-            Some(opens) if opens <= now && 0 < self.left => {}
-            _ => return None,
+        if !self.door.is_open(now) {
+            return None;
         }
         match self.listener.accept() {
             Ok((stream, _)) => {
-                self.left -= 1;
+                self.door.count();
                 Some(stream)
             }
             Err(e) => {
-                self.close(&e, now);
+                self.door.fail(e.kind(), now);
                 None
-            }
-        }
-    }
-
-    /// Nothing could be accepted: none waits, or that failed, which counts as a connection.
-    fn close(&mut self, error: &io::Error, now: u64) {
-        match error.kind() {
-            ErrorKind::WouldBlock => self.opens = None,
-            ErrorKind::Interrupted => {}
-            _ => {
-                self.left = self.left.saturating_sub(1);
-                self.opens = Some(now.saturating_add(PAUSE_MILLIS));
             }
         }
     }

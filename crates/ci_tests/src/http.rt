@@ -1,9 +1,11 @@
-//! The parts of a request, readers and writers that fail, what bodies, ranges and numbers say, and the table of routes.
+//! The parts of a request, readers and writers that fail, what bodies, ranges and numbers say, the table of routes, and peers side by
+//! side.
 
 mod creations;
 mod look_ups;
 mod modes;
 mod numbers;
+mod peers;
 mod requests;
 mod texts;
 mod updates;

@@ -1,9 +1,10 @@
 //! The loop over sockets of this machine: peers connect and send first, then the loop serves, and then they read.
 
 use super::fakes::{Left, Parrot};
-use crate::serve::{Terms, Unserved, serve_peers};
+use ci_http_peers::serve::{Terms, Unserved, serve_peers};
 use mio::net::TcpListener;
 use std::cell::Cell;
+use std::fs::File;
 use std::io::{Read, Write};
 use std::net::{Ipv4Addr, Shutdown, SocketAddr, TcpStream};
 use std::process::Abort;
@@ -76,6 +77,35 @@ fn more_than_places(rt: HostRuntime) -> Result<(), Fail> {
     let mut left: Left = 1;
     assert!(rt; served(&rt, &mut listener, 301, &mut left));
     assert!(rt; left == 0 && got(&rt, last)? == 100);
+    Ok(())
+}
+
+/// The most files that are opened to leave no descriptor.
+const MAX_FILES: usize = 2_000_000;
+
+/// Where descriptors are short a connection waits until the one before it is over. Each accept that fails meanwhile, ten times a
+/// second, counts for none.
+#[test]
+fn no_descriptors(rt: HostRuntime) -> Result<(), Fail> {
+    let mut listener = listen(&rt)?;
+    let silent = sends(&rt, &listener, b"")?;
+    let second = sends(&rt, &listener, b"")?;
+    let last = sends(&rt, &listener, b"0123456789")?;
+    let mut files = Vec::new(rt.alloc());
+    for _ in 0..MAX_FILES {
+        match File::open(&rt, "/dev/null") {
+            Ok(file) => files.push(file)?,
+            Err(_) => break,
+        }
+    }
+    assert!(rt; files.len() < MAX_FILES);
+    // Three are left: two for the loop, and one for a connection.
+    files.truncate(files.len().saturating_sub(3));
+    let mut left: Left = 1;
+    assert!(rt; served(&rt, &mut listener, 3, &mut left));
+    drop(files);
+    assert!(rt; left == 0 && got(&rt, last)? == 100);
+    assert!(rt; got(&rt, silent)? == 0 && got(&rt, second)? == 0);
     Ok(())
 }
 

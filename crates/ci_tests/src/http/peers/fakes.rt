@@ -1,7 +1,7 @@
 //! Connections that are ready when a test says so, and what answers them.
 
-use crate::answerer::Answerer;
-use crate::wire::Wire;
+use ci_http_peers::answerer::Answerer;
+use ci_http_peers::wire::Wire;
 use std::alloc::Global;
 use std::cell::Cell;
 use std::io::{self, ErrorKind};

@@ -1,10 +1,12 @@
 //! What becomes of peers, by a clock that the test moves.
 
 use super::fakes::{Fake, Left, Line, Parrot};
-use crate::hall::Hall;
-use crate::peers::MAX_PEERS;
+use ci_http_peers::door::Door;
+use ci_http_peers::hall::Hall;
+use ci_http_peers::peers::MAX_PEERS;
 use std::alloc::Global;
 use std::cell::Cell;
+use std::io::ErrorKind;
 use std::process::Abort;
 use std::test::Fail;
 
@@ -180,6 +182,30 @@ fn what_comes_after_the_reply(rt: HostRuntime) -> Result<(), Fail> {
     line.came.set(1);
     hall.go_on(0, &parrot, &mut left, 2)?;
     assert!(rt; !line.open.get() && left == 4);
+    Ok(())
+}
+
+/// A door after each kind of failure: when the next connection is to be accepted, and how many are left.
+#[test]
+fn accepts_that_fail(rt: HostRuntime) -> Result<(), Fail> {
+    let mut door = Door::new(2);
+    assert!(rt; !door.is_open(7) && door.opens_at() == None);
+    door.knock(7);
+    assert!(rt; door.is_open(7) && door.opens_at() == Some(7));
+    door.fail(ErrorKind::Interrupted, 8);
+    assert!(rt; door.is_open(8));
+    for kind in [ErrorKind::Uncategorized, ErrorKind::OutOfMemory] {
+        door.fail(kind, 10);
+        door.knock(11);
+        assert!(rt; door.opens_at() == Some(110) && !door.is_open(109) && door.is_open(110));
+    }
+    door.fail(ErrorKind::ConnectionAborted, 110);
+    assert!(rt; door.is_open(110) && !door.is_done());
+    door.fail(ErrorKind::WouldBlock, 111);
+    assert!(rt; door.opens_at() == None && !door.is_open(200));
+    door.knock(200);
+    door.count();
+    assert!(rt; door.is_done() && !door.is_open(200) && door.opens_at() == None);
     Ok(())
 }
 
