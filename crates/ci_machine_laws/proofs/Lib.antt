@@ -23,5 +23,6 @@ pub mod AllLaws
 pub mod Numbers
 pub mod Bounded
 pub mod OneBoard
+pub mod NoJob
 pub mod SentAgain
 pub mod Modes

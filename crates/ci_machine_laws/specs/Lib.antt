@@ -3,6 +3,7 @@ pub mod ActExamples
 pub mod WaitingExamples
 pub mod PruneExamples
 pub mod Pieces
+pub mod NoJob
 pub mod Repeats
 pub mod Modes
 pub mod ModeExamples
