@@ -24,5 +24,10 @@ pub mod Numbers
 pub mod Bounded
 pub mod OneBoard
 pub mod NoJob
+pub mod Altered
+pub mod Sweeping
+pub mod Readings
+pub mod FirstRows
+pub mod OneOutcome
 pub mod SentAgain
 pub mod Modes

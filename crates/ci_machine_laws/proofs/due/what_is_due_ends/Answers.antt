@@ -1,0 +1,12 @@
+use Rattle.std.specs.Prelude.{◌≡◌}
+use Rattle.ci_machine.specs.declared.reply.Swept.{Swept}
+use Rattle.ci_machine.specs.declared.reply.Swept.TheVariants as swept
+use Rattle.ci_machine.proofs.Keyed.{has_from_all}
+use Rattle.ci_machine_laws.proofs.Sweeping.{none_left, so_many}
+use Rattle.ci_machine_laws.proofs.due.what_is_due_ends.Goals as goal
+
+pub returns-clause-none_left : goal.returns-clause-none_left
+returns-clause-none_left c = λ s t now did is sweeps. none_left now is.0 s t did is.1 sweeps
+
+pub returns-clause-so_many : goal.returns-clause-so_many
+returns-clause-so_many c = λ s t now did one is sweeps something. so_many c.one_assignment.ensures now is.0 s t did is.1 one sweeps (λ d k. has_from_all (λ (e : Swept). e ≡ swept.Nothing → ⊥) d did something k)
