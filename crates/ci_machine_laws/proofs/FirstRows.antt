@@ -1,15 +1,14 @@
 -- The first rows of a new pipeline are the rows of its jobs in the state that has it.
-use Rattle.std.specs.Prelude.{◌≡◌, ◌⊎◌, ℕ, ◌+◌, ◌-◌, ◌<◌, ◌≤◌, Bool, true, false, ◌==◌, List, [], ◌∷◌, ◌++◌, length, map, filter, replicate, option_map, None}
+use Rattle.std.specs.Prelude.{◌≡◌, ◌⊎◌, ℕ, ◌+◌, ◌-◌, ◌<◌, ◌≤◌, Bool, false, ◌==◌, List, [], ◌∷◌, ◌++◌, length, map, filter, replicate, option_map, None}
 use Rattle.std.specs.List.{last_or}
 use Rattle.std.specs.Ordering.{nat_cmp, ordering_then}
 use Rattle.std.specs.declared.cmp.Ordering.{Ordering}
-use Rattle.std.specs.declared.cmp.Ordering.TheVariants.{Less}
-use Rattle.std.proofs.Common.{refl, sym, ap, subst, ◌∙◌, inl, inr, ⊎_elim, arith, eq-eqb, eqb-true, ne_eqb}
+use Rattle.std.proofs.Common.{refl, sym, ap, subst, ◌∙◌, inl, inr, ⊎_elim, arith, eq-eqb, ne_eqb}
 use Rattle.std.proofs.lemmas.Bool.{false_from_ne_true}
 use Rattle.std.proofs.lemmas.List.Elements.{filter-append}
 use Rattle.ci_graph.specs.Lists.{is_among}
 use Rattle.ci_graph.specs.JobGraph.{JobGraph}
-use Rattle.ci_graph_layout.specs.Inclusion.{Given, IncludedJob}
+use Rattle.ci_graph_layout.specs.Inclusion.{Given}
 use Rattle.ci_board.specs.declared.facts.Facts.{Facts}
 use Rattle.ci_board.specs.declared.facts.Row.{Row}
 use Rattle.ci_board.specs.Rows.{AreRows, no_facts}
@@ -17,14 +16,13 @@ use Rattle.ci_machine.specs.declared.records.Attempt.{Attempt}
 use Rattle.ci_machine.specs.declared.records.Job.{Job}
 use Rattle.ci_machine.specs.declared.records.Need.{Need}
 use Rattle.ci_machine.specs.declared.request.NewPipeline.{NewPipeline}
-use Rattle.ci_machine.specs.State.{State, applied, job_cmp, need_cmp}
+use Rattle.ci_machine.specs.State.{State, applied, need_cmp}
 use Rattle.ci_machine.specs.Statuses.{jobs_of, attempts_of, pair_of, predecessors_by, graph_by, graph_of, facts_in, facts_of, AreRowsOf}
-use Rattle.ci_machine_steps.specs.Pipelines.{Layout, new_job, new_jobs, need_of, Creation, creation, creation_changes, AreFirstRows}
-use Rattle.ci_machine.proofs.Keyed.{Has, Below, filter_none, map_has}
+use Rattle.ci_machine_steps.specs.Pipelines.{Layout, need_of, Creation, creation, creation_changes, AreFirstRows}
+use Rattle.ci_machine.proofs.Keyed.{Has, filter_none, map_has}
 use Rattle.ci_machine.proofs.Filters.{filter_all}
-use Rattle.ci_machine_steps.proofs.Behind.{put_all, all_behind, nat_less}
+use Rattle.ci_machine_steps.proofs.Behind.{all_behind, nat_less}
 use Rattle.ci_machine_steps.proofs.Created.{created_state, after_creation, IsNew, new_are, needs_are, needs_ordered, jobs_behind}
-use Rattle.ci_machine_laws.proofs.Finished.{map_same}
 use Rattle.ci_machine_laws.proofs.Linked.{Linked}
 use Rattle.ci_machine_laws.proofs.OneBoard.{among_is}
 

@@ -1,20 +1,18 @@
 -- Where a runner is told that there is no job, none of the pending ones is one that it may be given.
-use Rattle.std.specs.Prelude.{◌≡◌, ◌⊎◌, ◌<◌, ℕ, Bool, true, false, not, ◌==◌, ◌&&◌, ◌||◌, nat_lt, List, [], ◌∷◌, All, Contains, Option, Some, None, option_map}
+use Rattle.std.specs.Prelude.{◌≡◌, ◌⊎◌, ℕ, Bool, true, false, not, ◌==◌, ◌&&◌, ◌||◌, nat_lt, List, [], ◌∷◌, All, Contains, Option, Some, None, option_map}
 use Rattle.std.specs.List.{list_any, list_all}
 use Rattle.std.specs.Str.{bytes_eq}
 use Rattle.std.proofs.Common.{refl, sym, ap, subst, ◌∙◌, inl, inr, ⊎_elim, eqb-true, eq-eqb, ltb-true, lt-ltb}
-use Rattle.std.proofs.lemmas.Bool.{cond_both, cases_Bool, both_ways, false≢true, and_parts, and_from, and_cases, and_left, or_left, or_right, or_cases}
+use Rattle.std.proofs.lemmas.Bool.{cond_both, both_ways, false≢true, and_parts, and_from, and_cases, or_left, or_right}
 use Rattle.std.proofs.lemmas.Slice.Eq.{bytes_eq-Decides}
 use Rattle.ci_values.specs.declared.limits.TheConstants.{MAX_NUMBER}
 use Rattle.ci_board.specs.declared.facts.Status.{Status}
 use Rattle.ci_board.specs.declared.facts.Status.TheVariants as status
-use Rattle.ci_machine.specs.declared.records.Attempt.{Attempt}
 use Rattle.ci_machine.specs.declared.records.BoardRow.{BoardRow}
 use Rattle.ci_machine.specs.declared.records.GroupOrder.{GroupOrder}
 use Rattle.ci_machine.specs.declared.records.GroupOrder.TheVariants.{OldestFirst, NewestReadyFirst}
 use Rattle.ci_machine.specs.declared.records.Job.{Job}
 use Rattle.ci_machine.specs.declared.records.JobVariable.{JobVariable}
-use Rattle.ci_machine.specs.declared.records.Pipeline.{Pipeline}
 use Rattle.ci_machine.specs.declared.records.QueuedJob.{QueuedJob}
 use Rattle.ci_machine.specs.declared.records.Runner.{Runner}
 use Rattle.ci_machine.specs.declared.records.WaitingJob.{WaitingJob}
@@ -23,7 +21,6 @@ use Rattle.ci_machine.specs.declared.request.Request.TheVariants.{AskJob}
 use Rattle.ci_machine.specs.declared.request.Seed.{Seed}
 use Rattle.ci_machine.specs.declared.reply.Answer.TheVariants as answer
 use Rattle.ci_machine.specs.declared.reply.Code.TheVariants.{M15}
-use Rattle.ci_machine.specs.declared.reply.HttpStatus.{HttpStatus}
 use Rattle.ci_machine.specs.declared.reply.HttpStatus.TheVariants.{NoContent}
 use Rattle.ci_machine.specs.declared.reply.Reply.{Reply}
 use Rattle.ci_machine.specs.State.{State}
@@ -42,7 +39,7 @@ use Rattle.ci_machine_steps.specs.Laws.{IsLeastEligible}
 use Rattle.ci_machine_laws.specs.NoJob.{IsOfProject, HasGroup, MustWait, IsNotFor, HasNoJob}
 use Rattle.ci_machine_laws.specs.NoJob.MustWait.{held, older_first, newer_first}
 use Rattle.ci_machine_laws.specs.NoJob.IsNotFor.{paused, of_other, untagged, lacks_tag, waits}
-use Rattle.ci_machine.proofs.Keyed.{not_true, Has, Rising, has_filter, filter_has, has_find, has_map, All-from_has, has_from_all, contains_from_has, has_from_contains}
+use Rattle.ci_machine.proofs.Keyed.{not_true, Has, Rising, has_filter, filter_has, has_find, has_map, All-from_has, contains_from_has, has_from_contains}
 use Rattle.ci_machine.proofs.Tests.{any_has, has_any, any_joined}
 use Rattle.ci_machine.proofs.Claims.{any_claim}
 use Rattle.ci_machine_laws.proofs.Reached.{reached}

@@ -20,13 +20,13 @@ use Rattle.ci_machine.specs.declared.reply.Code.TheVariants.{M2, M10, M11, M12}
 use Rattle.ci_machine.specs.declared.reply.Reply.{Reply}
 use Rattle.ci_machine.specs.declared.reply.Swept.{Swept}
 use Rattle.ci_machine.specs.State.{State, applied}
-use Rattle.ci_machine.specs.Statuses.{jobs_of, attempts_of, facts_of, AreBoard, AreRowsOf}
+use Rattle.ci_machine.specs.Statuses.{jobs_of, attempts_of, facts_of, AreRowsOf}
 use Rattle.ci_machine.specs.Groups.{claims_on}
 use Rattle.ci_machine.specs.Waiting.{waiting, groups_with, claims_in}
 use Rattle.ci_machine.specs.Lookups.{queued}
 use Rattle.ci_machine_steps.specs.Plans.{Plan, refused, faulted, asked_project}
 use Rattle.ci_machine_steps.specs.Files.{set_file, SetsFile}
-use Rattle.ci_machine_steps.specs.Pipelines.{have_names, file_or_none, file_for, may_create, given_by, Layout, IsLaidOut, lacks_numbers, Creation, creation, creation_changes, pipeline_created, MakesUnless, Makes, Creates}
+use Rattle.ci_machine_steps.specs.Pipelines.{have_names, file_or_none, file_for, may_create, given_by, Layout, lacks_numbers, creation, creation_changes, pipeline_created, MakesUnless, Makes, Creates}
 use Rattle.ci_graph_layout.specs.Inclusion.{Given}
 use Rattle.ci_config.specs.declared.limits.TheConstants.{MAX_VARIABLES}
 use Rattle.ci_values.specs.Names.{is_name}
@@ -42,7 +42,7 @@ use Rattle.ci_machine_steps.specs.Plays.{is_playable, play}
 use Rattle.ci_machine_steps.specs.Retries.{is_retryable, retry}
 use Rattle.ci_machine_steps.specs.Shows.{job_shown, pipeline_shown}
 use Rattle.ci_machine_steps.specs.Step.{Does, Happens, Step, found_job, found_pipeline, project_with, project_variables}
-use Rattle.ci_machine_steps.specs.History.{Past, Leads, IsReached}
+use Rattle.ci_machine_steps.specs.History.{Past, IsReached}
 use Rattle.ci_machine_laws.specs.OneOutcome.{text_read, HoldsPattern, RefusesPattern, OneOutcome}
 use Rattle.ci_machine_laws.proofs.OneBoard.{OneAssignment, one_board, rows_once}
 use Rattle.ci_machine_laws.proofs.Held as every

@@ -81,7 +81,7 @@ module _ {A : Type 0} (id : A → ℕ) where
       ∙ (λ i. sym there i ∷ more i)))
       k
 
-  rising_mapped : (f : A → A) (low : ℕ) (xs : List A) → ((x : A) → id (f x) ≡ id x) → Rising id low xs → Rising id low (map f xs)
+  pub rising_mapped : (f : A → A) (low : ℕ) (xs : List A) → ((x : A) → id (f x) ≡ id x) → Rising id low xs → Rising id low (map f xs)
   rising_mapped f low [] e r = tt
   rising_mapped f low (x ∷ xs) e r = (subst (λ n. low ≤ n) (sym (e x)) r.0, subst (λ n. Rising id (n + 1) (map f xs)) (sym (e x)) (rising_mapped f (id x + 1) xs e r.1))
 

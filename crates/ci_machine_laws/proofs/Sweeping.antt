@@ -1,7 +1,7 @@
 -- Each sweep that does something leaves fewer live attempts or fewer unfinished pipelines, so at one moment there comes one that finds nothing.
 use Rattle.std.specs.Prelude.{◌≡◌, ◌⊎◌, ℕ, zero, suc, ◌+◌, ◌<◌, ◌≤◌, Bool, true, false, ◌==◌, ◌&&◌, ◌||◌, not, if◌then◌else◌, List, [], ◌∷◌, ◌++◌, length, map, filter, find, All, Option, Some, None, option_map, slice_index_or}
 use Rattle.std.specs.List.{last_or, list_any}
-use Rattle.std.proofs.Common.{refl, sym, ap, subst, ◌∙◌, inl, inr, ⊎_elim, arith, eqb-true, eq-eqb, ne_eqb, map-id}
+use Rattle.std.proofs.Common.{refl, sym, ap, subst, ◌∙◌, inl, inr, ⊎_elim, arith, eqb-true, eq-eqb, map-id}
 use Rattle.std.proofs.lemmas.Bool.{cond_both, cond-true, cond-false, both_ways, cases_Bool, cases_lt, false≢true, and_parts, and_from, and_left, false_from_ne_true}
 use Rattle.std.proofs.lemmas.List.{length-map}
 use Rattle.ci_values.specs.declared.attempts.AttemptState.{AttemptState}
@@ -11,7 +11,6 @@ use Rattle.ci_values.specs.declared.when.AllowFailure.TheVariants as allow
 use Rattle.ci_values.specs.Attempts.{is_live_state}
 use Rattle.ci_graph.specs.declared.part.Part.{Part}
 use Rattle.ci_graph.specs.JobGraph.{JobGraph, part_at, predecessors_of}
-use Rattle.ci_graph.specs.Lists.{times}
 use Rattle.ci_board.specs.declared.facts.Effect.{Effect}
 use Rattle.ci_board.specs.declared.facts.Effect.TheVariants.{Good, Bars, Open}
 use Rattle.ci_board.specs.declared.facts.Facts.{Facts}
@@ -20,9 +19,9 @@ use Rattle.ci_board.specs.declared.facts.Status.{Status}
 use Rattle.ci_board.specs.declared.facts.Status.TheVariants as status
 use Rattle.ci_board.specs.Effects.{is_status, is_allowed, is_allowed_by, effect, is_open, is_met, waits_for_play, idle_status, status_by, status_of_effects}
 use Rattle.ci_board.specs.Standing as standing
-use Rattle.ci_board.specs.Rows.{no_facts, no_row, facts_at, row_at, statuses}
+use Rattle.ci_board.specs.Rows.{AreRows, no_facts, no_row, facts_at, statuses}
 use Rattle.ci_board.specs.Statuses.{effects_of, IsAssignment}
-use Rattle.ci_board.specs.PipelineStatus.{some_job, has_status, has_strict, has_attempt, pipeline_status}
+use Rattle.ci_board.specs.PipelineStatus.{some_job, has_status, has_strict, pipeline_status}
 use Rattle.ci_machine.specs.declared.lease.Lease.{Lease}
 use Rattle.ci_machine.specs.declared.records.Attempt.{Attempt}
 use Rattle.ci_machine.specs.declared.records.BoardRow.{BoardRow}
@@ -36,32 +35,35 @@ use Rattle.ci_machine.specs.declared.reply.Answer.TheVariants as answer
 use Rattle.ci_machine.specs.declared.reply.Swept.{Swept}
 use Rattle.ci_machine.specs.declared.reply.Swept.TheVariants as swept
 use Rattle.ci_machine.specs.declared.change.RowChange.{RowChange}
-use Rattle.ci_machine.specs.State.{State, applied, attempt_cmp, job_cmp}
-use Rattle.ci_machine.specs.Statuses.{jobs_of, numbers_of, attempts_of, graph_of, facts_in, facts_of, row_for, rows_of, status_for, AreBoard}
+use Rattle.ci_machine.specs.State.{State, applied, attempt_cmp}
+use Rattle.ci_machine.specs.Statuses.{jobs_of, attempts_of, graph_of, facts_in, facts_of, row_for, rows_of, status_for, AreBoard}
 use Rattle.ci_machine.specs.Leases.{is_live, is_over, cause_of, first_due}
-use Rattle.ci_machine.specs.Redundant.{is_unfinished, is_newer_of, is_bound_to, is_redundant}
-use Rattle.ci_machine.specs.Indexes.{is_open_in, unfinished_in}
+use Rattle.ci_machine.specs.Redundant.{is_unfinished, is_newer_of, is_redundant}
+use Rattle.ci_machine.specs.Indexes.{is_open_in}
 use Rattle.ci_machine_steps.specs.Cancels.{is_cancellable, cancellable_jobs, is_lease_on, cancelled_job, cancelled_attempt, cancel}
 use Rattle.ci_machine_steps.specs.Prunes.{is_job_among}
 use Rattle.ci_machine_steps.specs.Sweeps.{ends, sweep}
 use Rattle.ci_machine_steps.specs.Step.{Step, lease_of, leases, live_attempts, with_status, was_tried, redundant_in, cancellable_in, sweep_in}
-use Rattle.ci_machine_steps.specs.History.{Past, Leads, IsReached}
+use Rattle.ci_machine_steps.specs.History.{Past, Leads}
 use Rattle.ci_machine_steps.specs.Laws.{NoneIsDue, NoneIsRedundant, IsSweptBy}
 use Rattle.ci_machine_steps.specs.OneBoard.{HasOneBoard}
-use Rattle.ci_machine_laws.specs.Sweeping.{Sweeps, unended}
-use Rattle.ci_machine.proofs.Keyed.{Has, Rising, has_filter, filter_has, has_find, has_map, map_has, find-map, one_at, has_from_all}
+use Rattle.ci_machine_laws.specs.Sweeping.{Sweeps, unended, EndsBy}
+use Rattle.ci_machine.proofs.Keyed.{Has, Rising, has_filter, filter_has, has_find, has_map, find-map, one_at, has_from_all, All-from_has}
 use Rattle.ci_machine.proofs.Tests.{any_has, has_any}
 use Rattle.ci_machine_steps.proofs.Behind.{put_all}
 use Rattle.ci_machine_steps.proofs.Finished.{not_its}
 use Rattle.ci_machine_steps.proofs.Sound.{Sound, sound}
 use Rattle.ci_machine_laws.proofs.Acts.{cancellable_within, after_cancel}
 use Rattle.ci_machine_laws.proofs.AllLaws.{laws}
-use Rattle.ci_machine_laws.proofs.Altered.{altered, Alters, jobs_altered, long_altered, graph_altered, facts_altered, attempts_altered, facts_kept, open_by, open_as_it_was}
+use Rattle.ci_machine_laws.proofs.Altered.{altered, Alters, long_altered, graph_altered, facts_altered, attempts_altered, facts_kept, open_by, open_as_it_was}
 use Rattle.ci_machine_laws.proofs.Counts.{passing}
 use Rattle.ci_machine_laws.proofs.Finished.{map_same}
 use Rattle.ci_machine_laws.proofs.Numbers.{sound_reached}
-use Rattle.ci_machine_laws.proofs.OneBoard.{OneAssignment, one_board}
-use Rattle.ci_machine_laws.proofs.PutAll.{map_twice, all_at, all_in_place, changed_at, left_at, made_in_place}
+use Rattle.ci_machine_laws.proofs.Bounded.{within_limit}
+use Rattle.ci_machine_laws.proofs.Held as every
+use Rattle.ci_machine_laws.proofs.Reached.{reached}
+use Rattle.ci_machine_laws.proofs.OneBoard.{OneAssignment, one_board, rows_with, rows_like, assembled, its_keys, its_rows}
+use Rattle.ci_machine_laws.proofs.PutAll.{map_twice, all_at, all_at_id, all_in_place, rising_mapped, changed_at, left_at, made_in_place}
 
 -- ---- how many pass
 
@@ -516,17 +518,35 @@ module _ (law : OneAssignment) (h : List Past) (s : State) (leads : Leads h s) (
   abbrev Leaves : List BoardRow → State → Swept × List RowChange → Type 0
   Leaves board t f = t ≡ applied f.1 s → (f.0 ≡ swept.Nothing → ⊥) → HasOneBoard t → (after : List BoardRow) → AreBoard t after → unended t after + 1 ≤ unended s board
 
+  module _ (board : List BoardRow) (are : AreBoard s board) where
+    -- the attempt whose lease ends, and the state that this leads to
+    record EndsAs (l : Lease) : Type 0 where
+      x : Attempt
+      has : Has x s.attempts
+      live : is_live x ≡ true
+      to : applied (ends l).1 s ≡ after_end s board are known x has live (Failed (cause_of l) None) refl
+
+    ends_as : (l : Lease) → first_due (leases s) now ≡ Some l → EndsAs l
+    ends_as l found =
+        let due = find-map (lease_of s) (λ (w : Lease). is_over w.attempt w.limit now) l (live_attempts s) found in
+        let x = due.0 in
+        let same : x ≡ l.attempt = ap (λ (w : Lease). w.attempt) due.1.0 in
+        let first = has_find (λ (b : Attempt). is_over b (lease_of s b).limit now) x (live_attempts s) due.1.1 in
+        let has = has_filter is_live x s.attempts first.0 in
+        let state : AttemptState = Failed (cause_of l) None in
+        record {
+          x = x;
+          has = has.0;
+          live = has.1;
+          to = (λ i. record s { attempts = put_all attempt_cmp (record (sym same i) { state = state } ∷ []) s.attempts })
+              ∙ (λ i. record s { jobs = sym (map-id s.jobs) i; attempts = ended_state s board are known x has.0 has.1 state refl i });
+        }
+
   of_end : (board : List BoardRow) → AreBoard s board → (t : State) (l : Lease) → first_due (leases s) now ≡ Some l → Leaves board t (ends l)
   of_end board are t l found is something one after are_after =
-      let due = find-map (lease_of s) (λ (w : Lease). is_over w.attempt w.limit now) l (live_attempts s) found in
-      let x = due.0 in
-      let same : x ≡ l.attempt = ap (λ (w : Lease). w.attempt) due.1.0 in
-      let first = has_find (λ (b : Attempt). is_over b (lease_of s b).limit now) x (live_attempts s) due.1.1 in
-      let has = has_filter is_live x s.attempts first.0 in
-      let state : AttemptState = Failed (cause_of l) None in
-      let to : t ≡ after_end s board are known x has.0 has.1 state refl
-      = is ∙ ((λ i. record s { attempts = put_all attempt_cmp (record (sym same i) { state = state } ∷ []) s.attempts }) ∙ (λ i. record s { jobs = sym (map-id s.jobs) i; attempts = ended_state s board are known x has.0 has.1 state refl i })) in
-      subst (λ (w : State). HasOneBoard w → AreBoard w after → unended w after + 1 ≤ unended s board) (sym to) (λ only its. fewer_ended s board are known x has.0 has.1 state refl only after its) one are_after
+      let w = ends_as board are l found in
+      subst (λ (v : State). HasOneBoard v → AreBoard v after → unended v after + 1 ≤ unended s board) (sym (is ∙ w.to))
+      (λ only its. fewer_ended s board are known w.x w.has w.live (Failed (cause_of l) None) refl only after its) one are_after
 
   of_cancel : (board : List BoardRow) → AreBoard s board → (t : State) (p : Pipeline) → redundant_in s board ≡ Some p → Leaves board t (swept.Cancelled p.id, cancel s.attempts (cancellable_jobs s board p.id))
   of_cancel board are t p found is something one after are_after =
@@ -545,6 +565,56 @@ module _ (law : OneAssignment) (h : List Past) (s : State) (leads : Leads h s) (
       let less : unended t is.board + 1 ≤ unended s step.before
       = subst (Leaves step.before t) (sym step.happens) (of_sweep step.before step.are_before t (first_due (leases s) now) refl (redundant_in s step.before) refl) step.state something is is.board is.are_board in
       subst (λ (b : List BoardRow). unended t is.board + 1 ≤ unended s b) (was.only step.before step.are_before) less
+
+  -- ---- it can be made
+
+  -- the state in which jobs and attempts stand otherwise has rows
+  has_board : (of_job : Job → Job) (of_attempt : Attempt → Attempt) → Alters s of_job of_attempt → ((j : Job) → (of_job j).id ≡ j.id) → (board : List BoardRow) × AreBoard (altered s of_job of_attempt) board
+  has_board of_job of_attempt alters same_id =
+      let t = altered s of_job of_attempt in
+      let rise : Rising (λ (j : Job). j.id) 0 t.jobs = rising_mapped (λ (j : Job). j.id) of_job 0 s.jobs same_id known.jobs in
+      let its = every.held h s leads in
+      let jobs_rise = (reached h s leads).grants.jobs_rise in
+      let limit = within_limit h s leads in
+      let long : (m : ℕ) → length (jobs_of t m) ≡ length (jobs_of s m) = λ m. long_altered s of_job of_attempt alters m in
+      let some : (m : ℕ) → (rows : List Row) × AreRows (graph_of s m) (facts_of t m) rows
+      = λ m. rows_with law s jobs_rise its.linked its.joined limit m (facts_of t m) (length-map (jobs_of t m) (facts_in t) ∙ long m) in
+      let rows : ℕ → List Row = λ m. (some m).0 in
+      let board = assembled t rise rows in (
+        board,
+        record {
+          keys = its_keys t rise rows;
+          each = λ m. subst (λ (graph : JobGraph). AreRows graph (facts_of t m) (rows_of t board m)) (sym (graph_altered s of_job of_attempt alters m))
+              (rows_like law s jobs_rise its.linked its.joined limit m (facts_of t m) (rows m) (rows_of t board m)
+              (λ k l. its_rows t rise rows m k (subst (λ n. k < n) (sym (long m)) l)) (some m).1);
+        },
+      )
+
+  -- the state that these changes lead to has rows
+  abbrev Stands : State → Type 0
+  Stands t = (after : List BoardRow) × AreBoard t after
+
+  sweep_stands : (board : List BoardRow) → AreBoard s board → (o : Option Lease) → first_due (leases s) now ≡ o → (redundant : Option Pipeline) → redundant_in s board ≡ redundant
+      → Stands (applied (sweep o redundant s.attempts (cancellable_in s board redundant)).1 s)
+  sweep_stands board are (Some l) due redundant found =
+      let w = ends_as board are l due in
+      let state : AttemptState = Failed (cause_of l) None in
+      subst Stands (sym w.to)
+      (has_board (λ j. j) (with_end s board are known w.x w.has w.live state refl) (alters_end s board are known w.x w.has w.live state refl) (λ j. refl))
+  sweep_stands board are None due (Some p) found =
+      subst Stands (sym (cancelled_state s board are known p))
+      (has_board (of_job s board are known p) (of_attempt s board are known p) (alters s board are known p) (λ j. all_at_id (λ (w : Job). w.id) (map cancelled_job (cancellable_jobs s board p.id)) j))
+  sweep_stands board are None due None found = (board, are)
+
+  made : (seed : Seed) → (did : Swept) × (t : State) × Step s event.Sweep now seed (answer.Swept did) t
+  made seed =
+      let one = one_board law h s leads in
+      let did = sweep_in s one.board now in
+      let stands = sweep_stands one.board one.are_board (first_due (leases s) now) refl (redundant_in s one.board) refl in (
+        did.0,
+        applied did.1 s,
+        record { before = one.board; are_before = one.are_board; changes = did.1; happens = refl; state = refl; after = stands.0; are_after = stands.1 },
+      )
 
 -- ---- many sweeps
 
@@ -578,3 +648,57 @@ none_left now h s t [] leads sweeps =
     subst (λ (w : State). NoneIsDue w now × NoneIsRedundant w) (sym (sweeps.3 ∙ (step.state ∙ ap (λ (cs : List RowChange). applied cs s) none))) its
 none_left now h s t (d ∷ did) leads sweeps =
     none_left now (record { before = s; event = event.Sweep; now = now; seed = sweeps.1; answer = answer.Swept d } ∷ h) sweeps.0 t did (leads, sweeps.2) sweeps.3
+
+-- ---- they end
+
+nothing_or : (d : Swept) → (d ≡ swept.Nothing) ⊎ (d ≡ swept.Nothing → ⊥)
+nothing_or (swept.Ended attempt cause) = inr (λ e. cc)
+nothing_or (swept.Cancelled pipeline) = inr (λ e. cc)
+nothing_or (swept.Refused code) = inr (λ e. cc)
+nothing_or swept.Nothing = inl refl
+
+module _ (now : ℕ) (seed : Seed) (h : List Past) (s : State) (leads : Leads h s) (one : HasOneBoard s) (did : Swept) (t : State) (step : Step s event.Sweep now seed (answer.Swept did) t) where
+  -- where the sweep finds nothing
+  done : did ≡ swept.Nothing → EndsBy now s one.board
+  done e =
+      let sweeps : Sweeps now s ([] ++ (swept.Nothing ∷ [])) t = (t, seed, subst (λ (d : Swept). Step s event.Sweep now seed (answer.Swept d) t) e step, refl) in
+      let left = none_left now h s t [] leads sweeps in
+      record { did = []; last = t; sweeps = sweeps; something = All-from_has (λ (d : Swept). d ≡ swept.Nothing → ⊥) [] (λ d k. absurd k); few = omega arith; none_due = left.0; none_redundant = left.1 }
+
+  -- and where it does something, before others that end
+  more : (did ≡ swept.Nothing → ⊥) → (board : List BoardRow) → unended t board + 1 ≤ unended s one.board → EndsBy now t board → EndsBy now s one.board
+  more something board less rest =
+      record {
+        did = did ∷ rest.did;
+        last = rest.last;
+        sweeps = (t, seed, step, rest.sweeps);
+        something = All-from_has (λ (d : Swept). d ≡ swept.Nothing → ⊥) (did ∷ rest.did) (λ d k. ⊎_elim
+            (λ e n. something (sym e ∙ n))
+            (λ m. has_from_all (λ (w : Swept). w ≡ swept.Nothing → ⊥) d rest.did rest.something m)
+            k);
+        few = let few = rest.few in omega arith;
+        none_due = rest.none_due;
+        none_redundant = rest.none_redundant;
+      }
+
+pub ends_by : OneAssignment → (now : ℕ) (seed : Seed) (n : ℕ) (h : List Past) (s : State) → Leads h s → (one : HasOneBoard s) → unended s one.board ≤ n → EndsBy now s one.board
+ends_by law now seed zero h s leads one few =
+    let m = made law h s leads now seed in
+    ⊎_elim
+    (λ e. done now seed h s leads one m.0 m.1 m.2 e)
+    (λ d.
+    let line : Past = record { before = s; event = event.Sweep; now = now; seed = seed; answer = answer.Swept m.0 } in
+    let its = one_board law (line ∷ h) m.1 (leads, m.2) in
+    let less = leaves_less law h s leads now seed m.0 m.1 one its m.2 d in
+    absurd (omega arith))
+    (nothing_or m.0)
+ends_by law now seed (suc n) h s leads one few =
+    let m = made law h s leads now seed in
+    ⊎_elim
+    (λ e. done now seed h s leads one m.0 m.1 m.2 e)
+    (λ d.
+    let line : Past = record { before = s; event = event.Sweep; now = now; seed = seed; answer = answer.Swept m.0 } in
+    let its = one_board law (line ∷ h) m.1 (leads, m.2) in
+    let less = leaves_less law h s leads now seed m.0 m.1 one its m.2 d in
+    more now seed h s leads one m.0 m.1 m.2 d its.board less (ends_by law now seed n (line ∷ h) m.1 (leads, m.2) its (omega arith)))
+    (nothing_or m.0)

@@ -2,11 +2,12 @@
 
 ghost use Rattle.std.specs.Prelude.{List, [], ◌∷◌, ◌++◌, length, ℕ, ◌≡◌, ◌≤◌, All};
 ghost use Rattle.ci_machine.specs.Statuses.{AreBoard};
+ghost use Rattle.ci_machine.specs.declared.request.Seed.{Seed};
 ghost use Rattle.ci_machine.specs.State.{State};
 ghost use Rattle.ci_machine_steps.specs.History.{IsReached};
 ghost use Rattle.ci_machine_steps.specs.Laws.{NoneIsDue, NoneIsRedundant};
 ghost use Rattle.ci_machine_steps.specs.OneBoard.{HasOneBoard};
-ghost use Rattle.ci_machine_laws.specs.Sweeping.{Sweeps, unended};
+ghost use Rattle.ci_machine_laws.specs.Sweeping.{Sweeps, unended, EndsBy};
 ghost use Rattle.ci_machine_laws.specs.Examples.{swept};
 ghost use Rattle.ci_machine_laws.specs.SweepExamples.{overtaken, third_waits, swept_once, swept_twice};
 
@@ -16,10 +17,12 @@ use ci_machine::records::Cause;
 use ci_machine::reply::Swept;
 
 /// From each state that a history leads to, sweeps at one moment, one after the other: once one finds nothing, no live attempt is due at that
-/// moment and no pipeline is redundant. Before it there are no more than there were live attempts and unfinished pipelines.
+/// moment and no pipeline is redundant. Before it there are no more than there were live attempts and unfinished pipelines. And there is such a
+/// one: a sweep can always be made, and so many at most do something.
 pub fn what_is_due_ends()
     ensures none_left { (s t : State) (now : ℕ) (did : List Swept) → IsReached s → Sweeps now s (did ++ (Swept.Nothing ∷ [])) t → NoneIsDue t now × NoneIsRedundant t }
     ensures so_many { (s t : State) (now : ℕ) (did : List Swept) (one : HasOneBoard s) → IsReached s → Sweeps now s did t → All (λ d. d ≡ Swept.Nothing → ⊥) did → length did ≤ unended s one.board }
+    ensures ends { (s : State) (now : ℕ) (seed : Seed) (one : HasOneBoard s) → IsReached s → EndsBy now s one.board }
 {
     one_assignment();
 }
