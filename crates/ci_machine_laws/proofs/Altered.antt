@@ -1,6 +1,6 @@
 -- A state in which jobs and attempts stand otherwise, each in its place: the graphs of its pipelines are the same, and so is the status of each
 -- pipeline whose jobs have the facts that they had.
-use Rattle.std.specs.Prelude.{◌≡◌, ℕ, zero, suc, ◌-◌, ◌<◌, Bool, true, false, ◌==◌, ◌||◌, not, if◌then◌else◌, List, [], ◌∷◌, length, map, filter, option_map, None}
+use Rattle.std.specs.Prelude.{◌≡◌, ℕ, zero, suc, ◌-◌, ◌<◌, Bool, ◌==◌, ◌||◌, not, if◌then◌else◌, List, [], ◌∷◌, length, map, filter, option_map, None}
 use Rattle.std.specs.List.{last_or}
 use Rattle.std.proofs.Common.{refl, sym, ap, subst, ◌∙◌, inl, inr, arith, map-id}
 use Rattle.std.proofs.lemmas.Bool.{cond_both, cond-true, cond-false}

@@ -17,14 +17,13 @@ use Rattle.ci_machine.specs.declared.reply.Answer.{Answer}
 use Rattle.ci_machine.specs.declared.reply.Answer.TheVariants as answer
 use Rattle.ci_machine.specs.declared.reply.Code.{Code}
 use Rattle.ci_machine.specs.declared.reply.Code.TheVariants.{M2, M10, M11, M12}
-use Rattle.ci_machine.specs.declared.reply.Reply.{Reply}
 use Rattle.ci_machine.specs.declared.reply.Swept.{Swept}
 use Rattle.ci_machine.specs.State.{State, applied}
 use Rattle.ci_machine.specs.Statuses.{jobs_of, attempts_of, facts_of, AreRowsOf}
 use Rattle.ci_machine.specs.Groups.{claims_on}
 use Rattle.ci_machine.specs.Waiting.{waiting, groups_with, claims_in}
 use Rattle.ci_machine.specs.Lookups.{queued}
-use Rattle.ci_machine_steps.specs.Plans.{Plan, refused, faulted, asked_project}
+use Rattle.ci_machine_steps.specs.Plans.{Plan, faulted, asked_project}
 use Rattle.ci_machine_steps.specs.Files.{set_file, SetsFile}
 use Rattle.ci_machine_steps.specs.Pipelines.{have_names, file_or_none, file_for, may_create, given_by, Layout, lacks_numbers, creation, creation_changes, pipeline_created, MakesUnless, Makes, Creates}
 use Rattle.ci_graph_layout.specs.Inclusion.{Given}

@@ -10,7 +10,7 @@ use Rattle.ci_board.specs.declared.facts.Status.TheVariants.{Pending}
 use Rattle.ci_machine.proofs.Keyed.{Has, contains_from_has, has_from_contains}
 use Rattle.ci_machine_laws.specs.Examples.{leased}
 use Rattle.ci_machine_laws.specs.ActExamples.{its_pipeline, tried}
-use Rattle.ci_machine_laws.specs.WaitingExamples.{some_runner, ship, waits}
+use Rattle.ci_machine_laws.specs.WaitingExamples.{some_runner, ship}
 use Rattle.ci_machine_laws.specs.ModeExamples.{of_ref, prod_in, three, third_is, third_tried}
 use Rattle.ci_machine_laws.specs.NoJob as why
 use Rattle.ci_machine_laws.specs.NoJob.{HasGroup, MustWait, IsNotFor}
