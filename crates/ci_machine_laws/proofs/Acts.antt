@@ -18,6 +18,7 @@ use Rattle.ci_machine_steps.specs.Laws.{job_for_good}
 use Rattle.ci_machine.proofs.Keyed.{Has, has_filter, map_has}
 use Rattle.ci_machine_steps.proofs.Behind.{put_all, has_all}
 use Rattle.ci_machine_steps.proofs.Created.{applied_append}
+use Rattle.ci_machine_laws.proofs.PutAll.{map_twice}
 
 -- the job was there, with what it has for good, and sets aside what it did, or all its attempts
 pub record WasJob (s : State) (j : Job) : Type 0 where
@@ -60,10 +61,6 @@ retries s job has = record {
   each_job = λ j k. ⊎_elim (λ e. record { old = job; has = has; good = ap job_for_good e; aside = inr (ap (λ (w : Job). w.set_aside) e) }) (λ m. absurd m) k;
   each_attempt = λ a k. absurd k;
 }
-
-map_twice : {A B C : Type 0} (g : B → C) (f : A → B) (xs : List A) → map (λ x. g (f x)) xs ≡ map g (map f xs)
-map_twice g f [] = refl
-map_twice g f (x ∷ xs) = ap (λ l. g (f x) ∷ l) (map_twice g f xs)
 
 pub cancels : (s : State) (jobs : List Job) → ((j : Job) → Has j jobs → Has j s.jobs) → IsAct s (cancel s.attempts jobs)
 cancels s jobs within =
@@ -112,6 +109,12 @@ after_act s changes act =
     attempts_put : (xs : List Attempt) (r : State) → applied (map (λ a. Put (row.Attempt a)) xs) r ≡ record r { attempts = put_all attempt_cmp xs r.attempts }
     attempts_put [] r = refl
     attempts_put (a ∷ xs) r = attempts_put xs (record r { attempts = put attempt_cmp a r.attempts })
+
+-- where jobs are cancelled
+pub after_cancel : (s : State) (jobs : List Job) → ((j : Job) → Has j jobs → Has j s.jobs)
+    → applied (cancel s.attempts jobs) s ≡ record s { jobs = put_all job_cmp (map cancelled_job jobs) s.jobs; attempts = put_all attempt_cmp (map cancelled_attempt (filter (is_lease_on jobs) s.attempts)) s.attempts }
+unfolding cancels
+after_cancel s jobs within = after_act s (cancel s.attempts jobs) (cancels s jobs within)
 
 -- each attempt of it was there, or is a cancelled one
 pub came : (s : State) (changes : List RowChange) (act : IsAct s changes) (b : Attempt) → Has b (put_all attempt_cmp act.attempts s.attempts) → Has b s.attempts ⊎ WasLive s b

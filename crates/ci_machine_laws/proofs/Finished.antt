@@ -27,7 +27,7 @@ use Rattle.ci_machine_laws.proofs.Groups.{held_left}
 
 -- ---- what a prune leaves
 
-map_same : {A B : Type 0} (f g : A → B) (xs : List A) → ((x : A) → Has x xs → f x ≡ g x) → map f xs ≡ map g xs
+pub map_same : {A B : Type 0} (f g : A → B) (xs : List A) → ((x : A) → Has x xs → f x ≡ g x) → map f xs ≡ map g xs
 map_same f g [] e = refl
 map_same f g (x ∷ xs) e = λ i. e x (inl refl) i ∷ map_same f g xs (λ y k. e y (inr k)) i
 

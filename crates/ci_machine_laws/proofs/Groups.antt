@@ -78,7 +78,7 @@ any_flat p f x [] k e = absurd k
 any_flat p f x (y ∷ ys) k e =
     ⊎_elim (λ q. any_left p (f y) (flat_map f ys) (subst (λ (z : _). list_any p (f z) ≡ true) q e)) (λ m. any_right p (f y) (flat_map f ys) (any_flat p f x ys m e)) k
 
-only_one : (b : Bool) → (b || false) ≡ true → b ≡ true
+pub only_one : (b : Bool) → (b || false) ≡ true → b ≡ true
 only_one true e = refl
 only_one false e = absurd (false≢true e)
 
@@ -99,10 +99,10 @@ in_holders s a k live p g e = any_flat (holds p g) (held_of s) a (live_attempts 
 
 -- ---- a job is found as it was
 
-job_found : (s : State) (j : Job) (n : ℕ) → Rising job_id 0 s.jobs → Has j s.jobs → j.id ≡ n → job_at s n ≡ Some j
+pub job_found : (s : State) (j : Job) (n : ℕ) → Rising job_id 0 s.jobs → Has j s.jobs → j.id ≡ n → job_at s n ≡ Some j
 job_found s j n r k e = subst (λ m. job_at s m ≡ Some j) e (find_has job_id j 0 s.jobs r k)
 
-pipeline_found : (s : State) (p : Pipeline) (n : ℕ) → Rising (λ (q : Pipeline). q.id) 0 s.pipelines → Has p s.pipelines → p.id ≡ n → pipeline_at s n ≡ Some p
+pub pipeline_found : (s : State) (p : Pipeline) (n : ℕ) → Rising (λ (q : Pipeline). q.id) 0 s.pipelines → Has p s.pipelines → p.id ≡ n → pipeline_at s n ≡ Some p
 pipeline_found s p n r k e = subst (λ m. pipeline_at s m ≡ Some p) e (find_has (λ (q : Pipeline). q.id) p 0 s.pipelines r k)
 
 module _ (s t : State) (linked : Linked s) (next : Linked t) (later : Later s t) (jr : Rising job_id 0 s.jobs) (kr : Rising job_id 0 t.jobs) where

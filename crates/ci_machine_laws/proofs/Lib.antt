@@ -23,5 +23,11 @@ pub mod AllLaws
 pub mod Numbers
 pub mod Bounded
 pub mod OneBoard
+pub mod NoJob
+pub mod Altered
+pub mod Sweeping
+pub mod Readings
+pub mod FirstRows
+pub mod OneOutcome
 pub mod SentAgain
 pub mod Modes

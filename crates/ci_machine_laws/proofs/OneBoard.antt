@@ -1,7 +1,7 @@
 -- The statuses of each reached state are one assignment.
 use Rattle.std.specs.Prelude.{◌≡◌, ◌⊎◌, ℕ, zero, suc, ◌+◌, ◌^◌, ◌<◌, ◌≤◌, Bool, true, cond, ◌==◌, ◌||◌, nat_lt, List, [], ◌∷◌, length, map, filter, count_by, All, Contains, slice_index_or}
 use Rattle.std.specs.List.{range_with_len}
-use Rattle.std.proofs.Common.{refl, sym, ap, subst, ◌∙◌, inl, inr, ⊎_elim, arith, eq-eqb, eqb-true, lt-ltb}
+use Rattle.std.proofs.Common.{refl, sym, ap, subst, ◌∙◌, inl, inr, ⊎_elim, arith, eq-eqb, eqb-true, lt-ltb, ext_get_or}
 use Rattle.std.proofs.lemmas.Bool.{cases_Bool, cases_lt, false≢true, cond-true, cond-false, le-ltb}
 use Rattle.std.proofs.lemmas.List.{get_or-map, length-map}
 use Rattle.std.proofs.lemmas.List.Sums.{sum_by-cons}
@@ -26,12 +26,13 @@ use Rattle.ci_machine.specs.declared.records.Job.{Job}
 use Rattle.ci_machine.specs.declared.records.Need.{Need}
 use Rattle.ci_machine.specs.declared.records.Attempt.{Attempt}
 use Rattle.ci_machine.specs.State.{State}
-use Rattle.ci_machine.specs.Statuses.{jobs_of, numbers_of, place_in, pair_of, pairs_of, predecessors_by, graph_of, facts_in, facts_of, row_or_none, row_for, rows_of, AreBoard}
+use Rattle.ci_machine.specs.Statuses.{jobs_of, numbers_of, place_in, pair_of, pairs_of, predecessors_by, graph_of, facts_in, facts_of, row_or_none, row_for, rows_of, AreBoard, AreRowsOf}
 use Rattle.ci_machine_steps.specs.Step.{is_pending}
 use Rattle.ci_machine_steps.specs.History.{Past, Leads}
 use Rattle.ci_machine_steps.specs.Laws.{grants, WasGranted}
 use Rattle.ci_machine_steps.specs.OneBoard.{JoinsOnePipeline, HasNoCircle, HasOneBoard, WasPending}
 use Rattle.ci_machine.proofs.Keyed.{Has, Rising, Below, rising_filter, has_filter, filter_has, find_has, has_map, map_has, contains_from_has, has_from_contains, has_from_all, All-from_has}
+use Rattle.ci_machine_laws.proofs.PutAll.{map_twice}
 use Rattle.ci_machine_laws.proofs.Reached.{reached}
 use Rattle.ci_machine_laws.proofs.Linked.{Linked}
 use Rattle.ci_machine_laws.proofs.AllLaws.{laws}
@@ -42,14 +43,14 @@ use Rattle.ci_values.specs.declared.limits.TheConstants.{MAX_NUMBER}
 
 -- ---- places of ascending numbers
 
-rising_numbers : {A : Type 0} (id : A → ℕ) (low : ℕ) (xs : List A) → Rising id low xs → Rising (λ n. n) low (map id xs)
+pub rising_numbers : {A : Type 0} (id : A → ℕ) (low : ℕ) (xs : List A) → Rising id low xs → Rising (λ n. n) low (map id xs)
 rising_numbers id low [] r = tt
 rising_numbers id low (x ∷ xs) r = (r.0, rising_numbers id (id x + 1) xs r.1)
 
 place_cons : (x : ℕ) (xs : List ℕ) (n : ℕ) → place_in (x ∷ xs) n ≡ cond {A = ℕ} (nat_lt x n) 1 0 + place_in xs n
 place_cons x xs n = sum_by-cons (λ m. cond (nat_lt m n) 1 0) x xs
 
-none_below : (n low : ℕ) (xs : List ℕ) → n ≤ low → Rising (λ m. m) low xs → place_in xs n ≡ 0
+pub none_below : (n low : ℕ) (xs : List ℕ) → n ≤ low → Rising (λ m. m) low xs → place_in xs n ≡ 0
 none_below n low [] l r = refl
 none_below n low (x ∷ xs) l r =
     let first : cond {A = ℕ} (nat_lt x n) 1 0 ≡ 0 = cond-false (nat_lt x n) 1 0 (le-ltb x n (omega (arith, r.0))) in
@@ -57,7 +58,7 @@ none_below n low (x ∷ xs) l r =
     let rest : place_in xs n ≡ 0 = none_below n (x + 1) xs (omega (arith, r.0)) r.1 in
     omega arith
 
-from_low : (n low : ℕ) (xs : List ℕ) → Rising (λ m. m) low xs → Has n xs → low ≤ n
+pub from_low : (n low : ℕ) (xs : List ℕ) → Rising (λ m. m) low xs → Has n xs → low ≤ n
 from_low n low [] r h = absurd h
 from_low n low (x ∷ xs) r h =
     ⊎_elim
@@ -84,7 +85,28 @@ at_place n low (x ∷ xs) r h =
     subst (λ k. (k < length (x ∷ xs)) × (number_at (x ∷ xs) k ≡ n)) is (omega arith, w.1))
     h
 
-among_is : (xs : List ℕ) (n : ℕ) → is_among xs n ≡ true → Has n xs
+has_number : (k : ℕ) (xs : List ℕ) → k < length xs → Has (number_at xs k) xs
+has_number k [] l = absurd (omega arith)
+has_number zero (x ∷ xs) l = inl refl
+has_number (suc k) (x ∷ xs) l = inr (has_number k xs (omega arith))
+
+-- and the number at a place has that place
+place_of : (k low : ℕ) (xs : List ℕ) → Rising (λ m. m) low xs → k < length xs → place_in xs (number_at xs k) ≡ k
+place_of k low [] r l = absurd (omega arith)
+place_of zero low (x ∷ xs) r l =
+    let all : place_in (x ∷ xs) x ≡ cond {A = ℕ} (nat_lt x x) 1 0 + place_in xs x = place_cons x xs x in
+    let first : cond {A = ℕ} (nat_lt x x) 1 0 ≡ 0 = cond-false (nat_lt x x) 1 0 (le-ltb x x (omega arith)) in
+    let rest : place_in xs x ≡ 0 = none_below x (x + 1) xs (omega arith) r.1 in
+    omega arith
+place_of (suc k) low (x ∷ xs) r l =
+    let n = number_at xs k in
+    let all : place_in (x ∷ xs) n ≡ cond {A = ℕ} (nat_lt x n) 1 0 + place_in xs n = place_cons x xs n in
+    let above : x + 1 ≤ n = from_low n (x + 1) xs r.1 (has_number k xs (omega arith)) in
+    let first : cond {A = ℕ} (nat_lt x n) 1 0 ≡ 1 = cond-true (nat_lt x n) 1 0 (lt-ltb x n (omega arith)) in
+    let rest : place_in xs n ≡ k = place_of k (x + 1) xs r.1 (omega arith) in
+    omega arith
+
+pub among_is : (xs : List ℕ) (n : ℕ) → is_among xs n ≡ true → Has n xs
 among_is [] n e = absurd (false≢true e)
 among_is (x ∷ xs) n e =
     ⊎_elim
@@ -254,6 +276,34 @@ module _ (g : JobGraph) (pairs : List (ℕ × ℕ)) (within : AreWithin (length 
         = map_members _ _ (predecessors_of g j) (λ x m. ap (λ (s : Status). effect (part_at g x) (facts_at facts x) (part_at g j).gives_needs s) (same_status x (below x m))) in
         λ t. record { status = status t; opens = count_by is_open (effects t); failed = count_by is_fail (effects t); barred = count_by is_bar (effects t) }
 
+  below : (j x : ℕ) → j < length g.parts → 0 < times x (predecessors_of g j) → x < length g.parts
+  below j x l m = (within_of n pairs within x j (pred_of_pair pairs x j (predecessors_of g j) (exact j l) m)).0
+
+  -- with any facts it has rows
+  some_rows : OneAssignment → (facts : List Facts) → length facts ≡ length g.parts → (rows : List Row) × AreRows g facts rows
+  some_rows law facts long =
+      let w = (law whole is_whole facts long).0 in
+      let a = statuses w.0 in
+      let effects : (j : ℕ) → j < length g.parts → effects_of whole facts a j ≡ effects_of g facts a j
+      = λ j l. ap (λ (ps : List ℕ). map (λ p. effect (part_at g p) (facts_at facts p) (part_at g j).gives_needs (a p)) ps) (sym (same_predecessors j l)) in (
+        w.0,
+        record {
+          is = λ j l. w.1.is j l ∙ ap (status_of_effects (part_at g j) (facts_at facts j)) (effects j l);
+          each = λ j l. w.1.each j l ∙ (λ t. record { status = a j; opens = count_by is_open (effects j l t); failed = count_by is_fail (effects j l t); barred = count_by is_bar (effects j l t) });
+        },
+      )
+
+  -- rows are judged by those of its jobs alone
+  rows_alike : (facts : List Facts) (xs ys : List Row) → ((j : ℕ) → j < length g.parts → row_at ys j ≡ row_at xs j) → AreRows g facts xs → AreRows g facts ys
+  rows_alike facts xs ys alike are =
+      let status : (j : ℕ) → j < length g.parts → statuses ys j ≡ statuses xs j = λ j l. ap (λ (r : Row). r.status) (alike j l) in
+      let effects : (j : ℕ) → j < length g.parts → effects_of g facts (statuses xs) j ≡ effects_of g facts (statuses ys) j
+      = λ j l. map_members _ _ (predecessors_of g j) (λ x m. ap (λ (s : Status). effect (part_at g x) (facts_at facts x) (part_at g j).gives_needs s) (sym (status x (below j x l m)))) in
+      record {
+        is = λ j l. status j l ∙ (are.is j l ∙ ap (status_of_effects (part_at g j) (facts_at facts j)) (effects j l));
+        each = λ j l. alike j l ∙ (are.each j l ∙ (λ t. record { status = sym (status j l) t; opens = count_by is_open (effects j l t); failed = count_by is_fail (effects j l t); barred = count_by is_bar (effects j l t) }));
+      }
+
 -- ---- two boards
 
 -- lists of rows with the same numbers, each of which has one row in both
@@ -276,9 +326,43 @@ module _ (xs ys : List BoardRow) (low : ℕ) (rise_xs : Rising (λ (r : BoardRow
   pub same_board : map (λ (r : BoardRow). r.job) xs ≡ map (λ (r : BoardRow). r.job) ys → xs ≡ ys
   same_board e = tails xs ys (λ r h. h) (λ r h. h) e
 
-rising_back : {A : Type 0} (id : A → ℕ) (low : ℕ) (xs : List A) → Rising (λ n. n) low (map id xs) → Rising id low xs
+pub rising_back : {A : Type 0} (id : A → ℕ) (low : ℕ) (xs : List A) → Rising (λ n. n) low (map id xs) → Rising id low xs
 rising_back id low [] r = tt
 rising_back id low (x ∷ xs) r = (r.0, rising_back id (id x + 1) xs r.1)
+
+-- ---- a board of the rows of each pipeline
+
+module _ (s : State) (rise : Rising (λ (j : Job). j.id) 0 s.jobs) (rows : ℕ → List Row) where
+  abbrev row_of_job : Job → BoardRow
+  row_of_job j = record { job = j.id; row = row_at (rows j.pipeline) (place_in (numbers_of s j.pipeline) j.id) }
+
+  abbrev pub assembled : List BoardRow
+  assembled = map row_of_job s.jobs
+
+  pub its_keys : map (λ (r : BoardRow). r.job) assembled ≡ map (λ (j : Job). j.id) s.jobs
+  its_keys = sym (map_twice (λ (r : BoardRow). r.job) row_of_job s.jobs)
+
+  its_row : (j : Job) → Has j s.jobs → row_for assembled j.id ≡ row_at (rows j.pipeline) (place_in (numbers_of s j.pipeline) j.id)
+  its_row j k =
+      ap row_or_none (find_has (λ (r : BoardRow). r.job) (row_of_job j) 0 assembled
+      (rising_back (λ (r : BoardRow). r.job) 0 assembled (subst (Rising (λ n. n) 0) (sym its_keys) (rising_numbers (λ (j : Job). j.id) 0 s.jobs rise)))
+      (has_map row_of_job j s.jobs k))
+
+  -- each pipeline's rows stand there as they were given
+  pub its_rows : (pipeline k : ℕ) → k < length (jobs_of s pipeline) → row_at (rows_of s assembled pipeline) k ≡ row_at (rows pipeline) k
+  its_rows pipeline k l =
+      let numbers = numbers_of s pipeline in
+      let its : Job → Bool = λ j. j.pipeline == pipeline in
+      let within : k < length numbers = subst (λ n. k < n) (sym (length-map (jobs_of s pipeline) (λ (j : Job). j.id))) l in
+      let numbers_rise : Rising (λ n. n) 0 numbers = rising_numbers (λ (j : Job). j.id) 0 (jobs_of s pipeline) (rising_filter (λ (j : Job). j.id) its 0 s.jobs rise) in
+      let w = map_has (λ (j : Job). j.id) (number_at numbers k) (jobs_of s pipeline) (has_number k numbers within) in
+      let of = has_filter its w.0 s.jobs w.1.0 in
+      let same : w.0.pipeline ≡ pipeline = eqb-true w.0.pipeline pipeline of.1 in
+      get_or-map (row_for assembled) numbers k 0 no_row within
+      ∙ (ap (row_for assembled) (sym w.1.1)
+      ∙ (its_row w.0 of.0
+      ∙ ((λ i. row_at (rows (same i)) (place_in (numbers_of s (same i)) (w.1.1 i)))
+      ∙ ap (row_at (rows pipeline)) (place_of k 0 numbers numbers_rise within))))
 
 -- ---- every state that a history leads to
 
@@ -337,6 +421,16 @@ module _ (law : OneAssignment) (s : State) (rise : Rising (λ (j : Job). j.id) 0
       same_status (graph_of s pipeline) (pairs_of s pipeline) (within_parts pipeline) (pairs_acyclic s pipeline rise i is) (few pipeline) (exact pipeline) law (facts_of s pipeline) (facts_long pipeline) a b first second j
       (subst (λ n. j < n) (sym (parts_long pipeline)) l)
 
+  -- with any facts of its jobs a pipeline has rows
+  pub rows_with : (pipeline : ℕ) (facts : List Facts) → length facts ≡ length (jobs_of s pipeline) → (rows : List Row) × AreRows (graph_of s pipeline) facts rows
+  rows_with pipeline facts long =
+      some_rows (graph_of s pipeline) (pairs_of s pipeline) (within_parts pipeline) (pairs_acyclic s pipeline rise i is) (few pipeline) (exact pipeline) law facts (long ∙ sym (parts_long pipeline))
+
+  pub rows_like : (pipeline : ℕ) (facts : List Facts) (xs ys : List Row) → ((j : ℕ) → j < length (jobs_of s pipeline) → row_at ys j ≡ row_at xs j) → AreRows (graph_of s pipeline) facts xs → AreRows (graph_of s pipeline) facts ys
+  rows_like pipeline facts xs ys alike are =
+      rows_alike (graph_of s pipeline) (pairs_of s pipeline) (within_parts pipeline) (pairs_acyclic s pipeline rise i is) (few pipeline) (exact pipeline) facts xs ys
+      (λ j l. alike j (subst (λ n. j < n) (parts_long pipeline) l)) are
+
   -- the rows of a pipeline are one list
   same_rows : (pipeline : ℕ) (xs ys : List Row) → AreRows (graph_of s pipeline) (facts_of s pipeline) xs → AreRows (graph_of s pipeline) (facts_of s pipeline) ys
       → (j : ℕ) → j < length (graph_of s pipeline).parts → row_at xs j ≡ row_at ys j
@@ -392,6 +486,14 @@ one_board law h s leads =
       only = λ other are. one_list law s rise linked is limit other some.0 are some.1;
       one_assignment = one_only law s rise linked is limit;
     }
+
+-- the rows of a pipeline's jobs are one list
+pub rows_once : OneAssignment → (h : List Past) (s : State) → Leads h s → (pipeline : ℕ) (xs ys : List Row) → AreRowsOf s pipeline xs → AreRowsOf s pipeline ys → xs ≡ ys
+rows_once law h s leads pipeline xs ys first second =
+    let held = held h s leads in
+    let parts : length (graph_of s pipeline).parts ≡ length (jobs_of s pipeline) = parts_long law s (reached h s leads).grants.jobs_rise held.linked held.joined (within_limit h s leads) pipeline in
+    ext_get_or no_row xs ys (first.long ∙ sym second.long) (λ j l.
+    same_rows law s (reached h s leads).grants.jobs_rise held.linked held.joined (within_limit h s leads) pipeline xs ys first.settled second.settled j (let long = first.long in omega arith))
 
 leads_before : (h : List Past) (s : State) → Leads h s → (p : Past) → Has p h → (g : List Past) × Leads g p.before
 leads_before [] s l p k = absurd k

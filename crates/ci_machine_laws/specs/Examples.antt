@@ -23,6 +23,7 @@ use Rattle.ci_machine.specs.declared.records.Attempt.{Attempt}
 use Rattle.ci_values.specs.declared.attempts.AttemptState.{AttemptState}
 use Rattle.ci_values.specs.declared.attempts.AttemptState.TheVariants.{Live}
 use Rattle.ci_machine.specs.declared.request.NewRunner.{NewRunner}
+use Rattle.ci_machine.specs.declared.request.NewFile.{NewFile}
 use Rattle.ci_machine.specs.declared.request.NewVariable.{NewVariable}
 use Rattle.ci_machine.specs.declared.request.PipelineVariable.{PipelineVariable}
 use Rattle.ci_machine.specs.declared.request.NewPipeline.{NewPipeline}
@@ -192,6 +193,18 @@ leased = record empty {
   jobs = job ∷ [];
   attempts = attempt 1000 Live ∷ [];
 }
+
+-- the project has this file
+abbrev pub with_file : Option (List ℕ) → State
+with_file file = record leased { projects = (record { id = 1; name = codes "p"; token = codes "p"; file = file }) ∷ [] }
+
+-- this text is to be its file
+abbrev pub new_file : List ℕ → NewFile
+new_file text = record { project = 1; token = codes "p"; text = text }
+
+-- a pipeline is to be made with this token
+abbrev pub by_token : List ℕ → NewPipeline
+by_token token = record pipeline { token = token }
 
 -- its runner sends these bytes of its trace
 abbrev pub sent : State → ℕ → List ℕ → ℕ → Plan

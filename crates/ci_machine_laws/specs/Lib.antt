@@ -3,6 +3,10 @@ pub mod ActExamples
 pub mod WaitingExamples
 pub mod PruneExamples
 pub mod Pieces
+pub mod NoJob
+pub mod Sweeping
+pub mod OneOutcome
+pub mod SweepExamples
 pub mod Repeats
 pub mod Modes
 pub mod ModeExamples

@@ -29,9 +29,12 @@ some_runner = record { id = 1; name = codes "r"; token = codes "r"; project = No
 abbrev pub tagged : List (List ℕ) → Runner
 tagged tags = record some_runner { tags = tags; untagged = false }
 
+abbrev pub tagged_job : List (List ℕ) → Job
+tagged_job tags = record job { options = record (plain_options []) { tags = tags } }
+
 -- a job with these tags waits
 abbrev pub waits : List (List ℕ) → Runner → State
-waits tags runner = record leased { runners = runner ∷ []; jobs = (record job { options = record (plain_options []) { tags = tags } }) ∷ []; attempts = []; next = first_numbers }
+waits tags runner = record leased { runners = runner ∷ []; jobs = tagged_job tags ∷ []; attempts = []; next = first_numbers }
 
 -- the runner is paused, or goes on
 abbrev pub pause : Bool → State → Plan

@@ -1,0 +1,87 @@
+use Rattle.std.specs.Prelude.{ℕ, false, List, [], ◌∷◌, codes}
+use Rattle.std.specs.Str.{bytes_eq}
+use Rattle.std.proofs.Common.{refl, sym, ap, inl, inr, arith}
+use Rattle.std.proofs.lemmas.Bool.{false≢true}
+use Rattle.ci_values.specs.declared.attempts.AttemptState.TheVariants.{Live}
+use Rattle.ci_machine.specs.declared.records.GroupMode.{GroupMode}
+use Rattle.ci_machine.specs.declared.records.GroupOrder.TheVariants.{OldestFirst, NewestReadyFirst}
+use Rattle.ci_machine.specs.declared.records.Attempt.{Attempt}
+use Rattle.ci_board.specs.declared.facts.Status.TheVariants.{Pending}
+use Rattle.ci_machine.proofs.Keyed.{Has, contains_from_has, has_from_contains}
+use Rattle.ci_machine_laws.specs.Examples.{leased}
+use Rattle.ci_machine_laws.specs.ActExamples.{its_pipeline, tried}
+use Rattle.ci_machine_laws.specs.WaitingExamples.{some_runner, ship}
+use Rattle.ci_machine_laws.specs.ModeExamples.{of_ref, prod_in, three, third_is, third_tried}
+use Rattle.ci_machine_laws.specs.NoJob as why
+use Rattle.ci_machine_laws.specs.NoJob.{HasGroup, MustWait, IsNotFor}
+use Rattle.ci_machine_laws.proofs.idle.idle_examples.Goals as goal
+
+-- the jobs 1 to 3 have the group `prod` of the project 1
+first_in : (modes : List GroupMode) (attempts : List Attempt) → HasGroup (three modes attempts) 1 (codes "prod") (ship false 1)
+first_in modes attempts = record {
+  is_job = contains_from_has (ship false 1) (three modes attempts).jobs (inl refl);
+  its_group = refl;
+  of_project = (of_ref 1 (codes "a"), contains_from_has (of_ref 1 (codes "a")) (three modes attempts).pipelines (inl refl), refl, refl);
+}
+
+second_in : (modes : List GroupMode) (attempts : List Attempt) → HasGroup (three modes attempts) 1 (codes "prod") (ship false 2)
+second_in modes attempts = record {
+  is_job = contains_from_has (ship false 2) (three modes attempts).jobs (inr (inl refl));
+  its_group = refl;
+  of_project = (of_ref 2 (codes "b"), contains_from_has (of_ref 2 (codes "b")) (three modes attempts).pipelines (inr (inl refl)), refl, refl);
+}
+
+third_in : (modes : List GroupMode) (attempts : List Attempt) → HasGroup (three modes attempts) 1 (codes "prod") (ship false 3)
+third_in modes attempts = record {
+  is_job = contains_from_has (ship false 3) (three modes attempts).jobs (inr (inr (inl refl)));
+  its_group = refl;
+  of_project = (of_ref 3 (codes "c"), contains_from_has (of_ref 3 (codes "c")) (three modes attempts).pipelines (inr (inr (inl refl))), refl, refl);
+}
+
+pub returns-clause-lacks_tag : goal.returns-clause-lacks_tag
+returns-clause-lacks_tag c =
+    why.lacks_tag (codes "arm") (contains_from_has (codes "arm") (codes "linux" ∷ codes "arm" ∷ []) (inr (inl refl)))
+    (λ k. lacks (has_from_contains (codes "arm") (codes "linux" ∷ []) k))
+  where
+    lacks : Has (codes "arm") (codes "linux" ∷ []) → ⊥
+    lacks (inl e) = false≢true (ap (λ (tag : List ℕ). bytes_eq tag (codes "linux")) e)
+    lacks (inr k) = k
+
+pub returns-clause-untagged : goal.returns-clause-untagged
+returns-clause-untagged c = why.untagged refl refl
+
+pub returns-clause-other_project : goal.returns-clause-other_project
+returns-clause-other_project c = why.of_other 2 1 refl (its_pipeline, contains_from_has its_pipeline leased.pipelines (inl refl), refl, refl) (λ e. omega (arith, e))
+
+pub returns-clause-paused : goal.returns-clause-paused
+returns-clause-paused c = why.paused refl
+
+pub returns-clause-held : goal.returns-clause-held
+returns-clause-held c =
+    let attempts = third_tried Live in
+    why.waits 1 (codes "prod") (first_in [] attempts) (why.held (ship false 3) (tried 1 3 Live) (third_in [] attempts) (contains_from_has (tried 1 3 Live) attempts (inl refl)) refl refl)
+
+pub returns-clause-newest_first : goal.returns-clause-newest_first
+returns-clause-newest_first c =
+    let modes = prod_in 1 NewestReadyFirst in
+    why.waits 1 (codes "prod") (first_in modes []) (why.newer_first (ship false 2) (second_in modes []) refl (omega arith) refl)
+
+pub returns-clause-oldest_first : goal.returns-clause-oldest_first
+returns-clause-oldest_first c =
+    let modes = prod_in 1 OldestFirst in
+    why.waits 1 (codes "prod") (second_in modes []) (why.older_first (ship false 1) (first_in modes []) refl (omega arith) (inr refl))
+
+pub returns-clause-unordered : goal.returns-clause-unordered
+returns-clause-unordered c = λ not. none not
+  where
+    none_held : (project : ℕ) (group : List ℕ) (pipeline : ℕ) → MustWait (three [] []) (third_is Pending) project group pipeline → ⊥
+    none_held project group pipeline (why.held other a its has same live) = has_from_contains a [] has
+    none_held project group pipeline (why.older_first other its mode older some) = absurd (cc)
+    none_held project group pipeline (why.newer_first other its mode newer is) = absurd (cc)
+
+    none : IsNotFor (three [] []) (third_is Pending) some_runner (ship false 1) → ⊥
+    none (why.paused e) = false≢true e
+    none (why.of_other own project e of other) = absurd (cc)
+    none (why.untagged e f) = false≢true (sym f)
+    none (why.lacks_tag tag has lacks) = has_from_contains tag [] has
+    none (why.waits project group its wait) = none_held project group 1 wait
