@@ -4,7 +4,7 @@
 #
 #   bench/teams.sh [CISERVER] [REQUESTS]        as in: bench/teams.sh bin/ciserver 4000       REQUESTS is a multiple of 200
 #
-# It ends with 0 where each pipeline succeeded. It wants ab (apache2-utils), curl, jq, nginx, openssl and python3. The files are in TMPDIR: in /dev/shm a commit waits for no disk.
+# It ends with 0 where each pipeline succeeded and each answer was as it should be. It wants ab (apache2-utils), curl, jq, nginx, openssl and python3. The files are in TMPDIR: in /dev/shm a commit waits for no disk.
 set -eu
 here=$(realpath "$(dirname "$0")/..")
 ciserver=$(realpath "${1-$here/bin/ciserver}")
@@ -27,7 +27,7 @@ trap 'exit 130' INT TERM
 
 # The servers.
 for team in "${teams[@]}"; do
-  "$ciserver" init --db "$work/$team.db"
+  "$ciserver" init --db "$work/$team.db" > /dev/null
   projects[$team]=$("$ciserver" project-add --db "$work/$team.db" --name "$team" | jq -r .token)
   runners[$team]=$("$ciserver" runner-add --db "$work/$team.db" --name "$team" --untagged | jq -r .token)
   serve_file "$work/$team.db" 4294967295
@@ -78,12 +78,28 @@ for team in "${teams[@]}"; do
   echo "$team: project 1, pipeline 1: $said; job 1: $trace"
   if [ "$said" = success ] && [ "$trace" = "built for $team" ]; then succeeded=$((succeeded + 1)); fi
 done
-echo "red's project token at blue: $(by_path blue/api/v4/projects/1/pipelines/1 -H "PRIVATE-TOKEN: ${projects[red]}" -w ' %{http_code}')"
-echo "red's runner at blue: $(by_path blue/api/v4/jobs/request --data-binary "@$work/red.poll" -w ' %{http_code}')"
-echo "an address without a server: $(by_path api/v4/jobs/request --data-binary "@$work/red.poll" -o /dev/null -w '%{http_code}') by path, $(by_path red/none -o /dev/null -w '%{http_code}') another path of one"
+# answered WHAT WANTED SAID: says it, and ends all where it isn't what is wanted.
+answered() {
+  echo "$1: $3"
+  [ "$2" = "$3" ]
+}
+answered "red's project token at blue" '{"code":"M1"} 401' "$(by_path blue/api/v4/projects/1/pipelines/1 -H "PRIVATE-TOKEN: ${projects[red]}" -w ' %{http_code}')"
+answered "red's runner at blue" '{"code":"M4"} 403' "$(by_path blue/api/v4/jobs/request --data-binary "@$work/red.poll" -w ' %{http_code}')"
+answered 'an address that names no server' 404 "$(by_path api/v4/jobs/request --data-binary "@$work/red.poll" -o /dev/null -w '%{http_code}')"
+answered 'a path of a server that is none of its routes' 404 "$(by_path red/none -o /dev/null -w '%{http_code}')"
 [ "$succeeded" = 3 ]
 for at in 4 5 6; do kill "${processes[at]}"; done
 for at in 4 5 6; do wait "${processes[at]}" || :; done
+# An attempt of red's and one of blue's that have one number.
+for team in red blue; do
+  by_path "$team/api/v4/projects/1/pipeline" -H "PRIVATE-TOKEN: ${projects[$team]}" --data '{"ref":"next"}' > /dev/null
+  by_path "$team/api/v4/jobs/request" --data-binary "@$work/$team.poll" > "$work/$team.grant"
+done
+jq -c '{token: .token, state: "success"}' "$work/red.grant" > "$work/red.end"
+[ "$(jq .id "$work/red.grant")" = "$(jq .id "$work/blue.grant")" ]
+ends() { by_path "$1/api/v4/jobs/$(jq .id "$work/red.grant")" -X PUT --data-binary "@$work/red.end" -w ' %{http_code}'; }
+answered "red's attempt at blue" '{"code":"M5"} 403' "$(ends blue)"
+answered "red's attempt at red" ' 200' "$(ends red)"
 
 # rate ADDRESS TEAM: the requests a second of polls of a team's runner, by four connections at a time.
 rate() { ab -q -k -n "$requests" -c 4 -T application/json -p "$work/$2.poll" "$1/api/v4/jobs/request" 2>&1 | tee "$work/$2.ab" | sed -n 's/^Requests per second: *\([0-9]*\).*/\1/p'; }

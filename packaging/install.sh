@@ -88,6 +88,7 @@ runner() {
   script 755 runner/ciserver-runner "$share/ciserver-runner/ciserver-runner"
   for file in runner/ciserver_runner/*.py; do put 644 "$file" "$share/ciserver-runner/ciserver_runner/${file##*/}"; done
   command_to ciserver-runner ciserver-runner/ciserver-runner
+  put 644 packaging/ciserver-runner.bash "$share/bash-completion/completions/ciserver-runner"
   put 644 runner/README.md "$share/doc/ciserver-runner/README.md"
   put 644 runner/config.example.toml "$share/doc/ciserver-runner/examples/config.toml"
 }

@@ -76,8 +76,8 @@ def missing(page, command, text):
 
 def completed(*words, script=None):
     """What bash completes behind these words, the last of which is the beginning of one."""
-    script = script or os.path.join(HERE, "ciserver.bash")
-    line = '. "$1"; shift; COMP_WORDS=("$@"); COMP_CWORD=$(($# - 1)); _ciserver; printf "%s\\n" "${COMPREPLY[@]}"'
+    script = script or os.path.join(HERE, f"{words[0]}.bash")
+    line = '. "$1"; shift; COMP_WORDS=("$@"); COMP_CWORD=$(($# - 1)); "_${1//-/_}"; printf "%s\\n" "${COMPREPLY[@]}"'
     return [word for word in printed("bash", "-c", line, "bash", script, *words, cwd=HERE).splitlines() if word]
 
 
@@ -159,6 +159,8 @@ class Tree(unittest.TestCase):
         for name in commands_of(text):
             if name != "help":
                 self.assertEqual(set(completed("ciserver", name, "-")), options_of(help_of(CISERVER, name)), name)
+        told = help_of(sys.executable, "-B", f"{ROOT}/runner/ciserver-runner")
+        self.assertEqual(set(completed("ciserver-runner", "-")), options_of(told))
 
     def test_a_completion_that_lacks_an_option_is_seen(self):
         with open(f"{HERE}/ciserver.bash", encoding="utf-8") as file:
@@ -175,6 +177,8 @@ class Tree(unittest.TestCase):
         self.assertEqual(completed("ciserver", "check", "pages"), ["pages.py"])
         self.assertEqual(completed("ciserver", "serve", "--db", "roff"), ["roff.py"])
         self.assertEqual(completed("ciserver", "serve", "--port", ""), [])
+        self.assertEqual(set(completed("ciserver-runner", "--where", "")), {"shell", "container"})
+        self.assertEqual(completed("ciserver-runner", "--config", "roff"), ["roff.py"])
 
     def test_what_is_laid_runs(self):
         at = f"{self.root}/usr/local/bin"
