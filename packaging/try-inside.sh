@@ -24,6 +24,13 @@ begins() {
   # shellcheck disable=SC2086
   exec setpriv --reuid "$1" --regid "$1" --init-groups -- $command
 }
+# listens PROCESS: waits until it has said so in the file serving; ends with 1 where it ends before that.
+listens() {
+  until grep -q listening serving; do
+    kill -0 "$1" 2> /dev/null || return 1
+    sleep 0.1
+  done
+}
 step() { printf '\n%s\n' "== $1"; }
 db=/var/lib/ciserver/ci.db
 
@@ -57,8 +64,7 @@ for _ in {1..20}; do
   begins ciserver ciserver > serving &
   server=$!
   processes+=("$server")
-  sleep 1
-  if grep -q listening serving; then break; fi
+  if listens "$server"; then break; fi
 done
 cat serving
 api=http://127.0.0.1:$port/api/v4
@@ -134,7 +140,7 @@ for name in rows live; do
 done
 as ciserver ciserver serve --db /var/lib/ciserver/live.db --port "$port" --requests 1 > serving &
 server=$!
-sleep 1
+passes 'it is served' listens "$server"
 is 'a pipeline of it is served' "$(curl -s -H 'PRIVATE-TOKEN: p1-abababababababababababababababab' "$api/projects/1/pipelines/1" | jq -r '.jobs[0].name')" ship
 wait "$server"
 
