@@ -7,9 +7,6 @@
 
 .PHONY: build demo test release deb install
 
-PREFIX ?= /usr/local
-export PREFIX DESTDIR SYSCONFDIR
-
 build:
 	.ci/build
 	.ci/compare

@@ -31,7 +31,7 @@ filled() {
 package() {
   local name=$1 tree=$room/$1 script
   mkdir -p "$tree/DEBIAN" "$tree/usr/share/doc/$name"
-  PREFIX=/usr DESTDIR=$tree PROGRAM=$room/program packaging/install.sh "$2"
+  PREFIX=/usr SYSCONFDIR=/etc DESTDIR=$tree PROGRAM=$room/program packaging/install.sh "$2"
   install -m 644 packaging/debian/copyright "$tree/usr/share/doc/$name/copyright"
   install -m 644 "packaging/debian/$name.README.Debian" "$tree/usr/share/doc/$name/README.Debian"
   printf '%s (%s) unstable; urgency=medium\n\n  * What an operator must know of each version is in CHANGELOG.md of ciserver.\n\n -- %s  %s\n' \

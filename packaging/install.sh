@@ -76,6 +76,7 @@ server() {
   for file in nginx.conf nginx-teams.conf project/Makefile project/hello.c project/.gitlab-ci.yml; do
     put 644 "examples/$file" "$share/doc/ciserver/examples/$file"
   done
+  put 755 examples/runner.sh "$share/doc/ciserver/examples/runner.sh"
 }
 
 runner() {

@@ -11,6 +11,7 @@ from __future__ import annotations
 
 import argparse
 import os
+import re
 import subprocess
 import sys
 
@@ -19,6 +20,10 @@ from roff import bold, from_markdown, line, sections_of
 ROOT = os.path.dirname(os.path.dirname(os.path.abspath(__file__)))
 OPERATING = ["Before a team uses it", "The commands", "A pipeline before it runs", "While it serves", "Jobs that wait for a resource group",
              "After a stop, and after a fault", "From other machines", "From a push", "The file is an ordinary SQLite file", "Upgrades", "Old pipelines"]
+# What the documents name by its place in the repository, and how it is called where it is installed.
+NAMES = [(r"(?<![\w./])bin/ciserver\b", "ciserver"), (r"(?<![\w./])examples/convert\.py\b", "ciserver-convert"), (r"(?<![\w./])examples/page\.py\b", "ciserver-page"),
+         (r"(?<![\w./])examples/post-receive\b", "post-receive"), (r"(?<![\w./])examples/ciserver\.service\b", "ciserver.service"),
+         (r"(?<![\w./])(runner/)?(ciserver-runner(\.service)?)\b", r"\2")]
 FILES = [("/var/lib/ciserver/ci.db", "the server's file, where the unit for systemd has it; its log is ci.db-wal"),
          ("/etc/default/ciserver", "the port of the unit")]
 
@@ -61,12 +66,16 @@ def head(name: str, section: int, version: str, what: str) -> list[str]:
 
 
 def seen_also(*names: str) -> list[str]:
-    return [".SH SEE ALSO", ", ".join(f"\\fB{line(name)}\\fP({section})" for name, section in (pair.split(".") for pair in names))]
+    where = "The documents and examples that are named here are in share/doc/ciserver, below the prefix of the installation: /usr, where a package brought them."
+    return [".SH SEE ALSO", ", ".join(f"\\fB{line(name)}\\fP({section})" for name, section in (pair.split(".") for pair in names)), ".PP", line(where)]
 
 
 def read(path: str) -> str:
     with open(os.path.join(ROOT, path), encoding="utf-8") as file:
-        return file.read()
+        text = file.read()
+    for place, name in NAMES:
+        text = re.sub(place, name, text)
+    return text
 
 
 def server_page(program: str, version: str) -> list[str]:
@@ -88,7 +97,7 @@ def server_page(program: str, version: str) -> list[str]:
     return page + seen_also("ciserver-gitlab-ci.5", "ciserver-convert.1", "ciserver-page.1", "ciserver-runner.1")
 
 
-def script_page(name: str, what: str, script: str, about: str) -> list[str]:
+def script_page(name: str, script: str, about: str) -> list[str]:
     lines = help_of(sys.executable, "-B", os.path.join(ROOT, script))
     page = [".SH SYNOPSIS", bold(usage_of(lines).replace(os.path.basename(script), name)), ".SH DESCRIPTION", *from_markdown(about)]
     page += [".SH OPTIONS", *tagged(rows_of(lines, "positional arguments:")), *tagged(rows_of(lines, "options:"))]
@@ -103,7 +112,7 @@ def doc_of(script: str) -> str:
 def runner_page(version: str) -> list[str]:
     intro, *_ = read("runner/README.md").split("\n## ")
     page = head("ciserver-runner", 1, version, "runs jobs of a ciserver")
-    page += script_page("ciserver-runner", "", "runner/ciserver-runner", intro.split("\n", 1)[1])
+    page += script_page("ciserver-runner", "runner/ciserver-runner", intro.split("\n", 1)[1])
     for title, text in sections_of(read("runner/README.md")).items():
         if title != "Tests":
             page += [f".SH {line(title.upper())}", *from_markdown(text)]
@@ -115,13 +124,13 @@ def runner_page(version: str) -> list[str]:
 def convert_page(version: str) -> list[str]:
     text = doc_of("examples/convert.py").replace("convert.py", "ciserver-convert").replace("Its modules are in the folder convert beside it.", "")
     page = head("ciserver-convert", 1, version, "writes a GitLab CI file out into the profile that ciserver reads")
-    return page + script_page("ciserver-convert", "", "examples/convert.py", text) + seen_also("ciserver.1", "ciserver-gitlab-ci.5")
+    return page + script_page("ciserver-convert", "examples/convert.py", text) + seen_also("ciserver.1", "ciserver-gitlab-ci.5")
 
 
 def look_page(version: str) -> list[str]:
     page = head("ciserver-page", 1, version, "writes an HTML page with the pipelines of a project of a ciserver")
-    text = sections_of(read("docs/OPERATING.md"))["A page to look at"].replace("`examples/page.py`", "`ciserver-page`")
-    return page + script_page("ciserver-page", "", "examples/page.py", text.replace("examples/page.py", "ciserver-page")) + seen_also("ciserver.1")
+    text = sections_of(read("docs/OPERATING.md"))["A page to look at"]
+    return page + script_page("ciserver-page", "examples/page.py", text) + seen_also("ciserver.1")
 
 
 def profile_page(version: str) -> list[str]:

@@ -151,6 +151,12 @@ class Tree(unittest.TestCase):
                 if line.startswith((".", "'")):
                     self.assertIn(line[1:].split()[0], macros, line)
 
+    def test_pages_name_programs_as_they_are_installed(self):
+        for name in ("ciserver.1", "ciserver-runner.1", "ciserver-convert.1", "ciserver-page.1", "ciserver-gitlab-ci.5"):
+            self.assertIsNone(re.search(r"(?<![\w./])(bin/ciserver|examples/(convert|page)\.py|runner/ciserver-runner)", plain(self.page(name))), name)
+        self.assertIn("ciserver-page /root/copy.db 1", plain(self.page("ciserver-page.1")))
+        self.assertIn("ciserver check -", plain(self.page("ciserver.1")))
+
     def test_bash_completes_the_commands_and_options_and_no_others(self):
         text = help_of(CISERVER)
         self.assertEqual(set(completed("ciserver", "")), set(commands_of(text)) | options_of(text))
