@@ -61,7 +61,8 @@ umask 022
 for _ in {1..20}; do
   port=$((20000 + RANDOM % 20000))
   sed -i "s/^PORT=.*/PORT=$port/" /etc/default/ciserver
-  begins ciserver ciserver > serving &
+  : > serving
+  begins ciserver ciserver >> serving &
   server=$!
   processes+=("$server")
   if listens "$server"; then break; fi
@@ -138,7 +139,8 @@ for name in rows live; do
   is "$name.db is migrated" "$(as ciserver ciserver migrate --db /var/lib/ciserver/$name.db)" 'migrated: 1 to 2'
   is "$name.db is whole" "$(sqlite3 /var/lib/ciserver/$name.db 'PRAGMA integrity_check' "SELECT num FROM meta WHERE key = 'version'" | xargs)" 'ok 2'
 done
-as ciserver ciserver serve --db /var/lib/ciserver/live.db --port "$port" --requests 1 > serving &
+: > serving
+as ciserver ciserver serve --db /var/lib/ciserver/live.db --port "$port" --requests 1 >> serving &
 server=$!
 passes 'it is served' listens "$server"
 is 'a pipeline of it is served' "$(curl -s -H 'PRIVATE-TOKEN: p1-abababababababababababababababab' "$api/projects/1/pipelines/1" | jq -r '.jobs[0].name')" ship
