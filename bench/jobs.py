@@ -51,41 +51,64 @@ def size(db):
     return sum(os.path.getsize(path) for path in (db, db + "-wal") if os.path.exists(path))
 
 
-def one_length(program, folder, jobs, length):
-    db = os.path.join(folder, f"{length}.db")
+def say(program, db, command, *words):
+    """What a command over a file prints."""
+    return subprocess.run([program, command, "--db", db, *words], check=True, capture_output=True, text=True).stdout
 
-    def say(command, *words):
-        return subprocess.run([program, command, "--db", db, *words], check=True, capture_output=True, text=True).stdout
 
-    say("init")
-    project = json.loads(say("project-add", "--name", "p"))["token"]
-    runner = json.loads(say("runner-add", "--name", "r", "--untagged"))["token"]
+def made(program, db):
+    """Makes a server's file with a project and a runner; answers their tokens."""
+    say(program, db, "init")
+    added = (("project-add", "--name", "p"), ("runner-add", "--name", "r", "--untagged"))
+    return [json.loads(say(program, db, *words))["token"] for words in added]
+
+
+def free_port():
     with socket.socket() as probe:
         probe.bind(("127.0.0.1", 0))
-        port = probe.getsockname()[1]
-    server = subprocess.Popen([program, "serve", "--db", db, "--port", str(port), "--requests", "1000000000"], stdout=subprocess.PIPE, text=True)
-    server.stdout.readline()
+        return probe.getsockname()[1]
+
+
+def serve(program, db, port):
+    words = [program, "serve", "--db", db, "--port", str(port), "--requests", "1000000000"]
+    server = subprocess.Popen(words, stdout=subprocess.PIPE, text=True)
+    said = server.stdout.readline()
+    assert said.startswith("listening"), said
+    return server
+
+
+def fill(port, project, pipelines):
+    """Makes so many pipelines, each of another branch."""
     file = "".join(f"job{number}:\n  script: make\n" for number in range(JOBS_OF_A_PIPELINE)).encode()
     field = f"PRIVATE-TOKEN: {project}"
     assert ask(port, "PUT", "projects/1/ci_file", file, field)[0] == 200
-    for number in range(jobs // JOBS_OF_A_PIPELINE):
+    for number in range(pipelines):
         assert ask(port, "POST", "projects/1/pipeline", json.dumps({"ref": f"b{number}"}).encode(), field)[0] == 201
 
-    def used():
-        with open(f"/proc/{server.pid}/schedstat", encoding="ascii") as stat:
-            return int(stat.read().split()[0]) / 1e9
 
-    count, before, begin = multiprocessing.Queue(), used(), time.perf_counter()
-    clients = [multiprocessing.Process(target=work, args=(port, runner, bytes(97 + n % 26 for n in range(length)), count)) for _ in range(CLIENTS)]
+def used(server):
+    """The processor time of a server, in seconds."""
+    with open(f"/proc/{server.pid}/schedstat", encoding="ascii") as stat:
+        return int(stat.read().split()[0]) / 1e9
+
+
+def one_length(program, folder, jobs, length):
+    db = os.path.join(folder, f"{length}.db")
+    (project, runner), port = made(program, db), free_port()
+    server = serve(program, db, port)
+    fill(port, project, jobs // JOBS_OF_A_PIPELINE)
+    count, before, begin = multiprocessing.Queue(), used(server), time.perf_counter()
+    trace = bytes(97 + n % 26 for n in range(length))
+    clients = [multiprocessing.Process(target=work, args=(port, runner, trace, count)) for _ in range(CLIENTS)]
     for client in clients:
         client.start()
     done = sum(count.get() for _ in clients)
-    took, own = time.perf_counter() - begin, used() - before
+    took, own = time.perf_counter() - begin, used(server) - before
     assert done == jobs // JOBS_OF_A_PIPELINE * JOBS_OF_A_PIPELINE, done
     server.kill()
     server.wait()
     begin = time.perf_counter()
-    say("report", "--kind", "queue")
+    say(program, db, "report", "--kind", "queue")
     opened, bytes_of_it = time.perf_counter() - begin, size(db)
     print(f"traces of {length:,} bytes: {done / took:,.0f} jobs a second, of which the server works {own / done * 1e6:,.0f} us each; "
           f"{bytes_of_it / done:,.0f} bytes of the file each; {bytes_of_it / 1e6:.1f} MB opened in {opened:.2f} s")

@@ -12,7 +12,6 @@ import json
 import os
 import random
 import shutil
-import socket
 import sqlite3
 import struct
 import subprocess
@@ -21,10 +20,11 @@ import tempfile
 import threading
 import time
 
-from jobs import CLIENTS, JOBS_OF_A_PIPELINE, ask
+from jobs import CLIENTS, ask, fill, free_port, made, serve
 
 SHUTDOWN, WITHOUT_LOG = 0x8004587D, 2  # _IOR('X', 125, __u32), EXT4_GOING_FLAGS_NOLOGFLUSH
 SUCCESS = 1
+STILL_RUNS = 0.1  # seconds for which the old server runs and answers behind the cut
 
 
 class Volume:
@@ -42,13 +42,6 @@ class Volume:
 
     def unmount(self):
         subprocess.run(["umount", self.at], check=True)
-
-
-def serve(program, db, port):
-    server = subprocess.Popen([program, "serve", "--db", db, "--port", str(port), "--requests", "1000000000"], stdout=subprocess.PIPE, text=True)
-    said = server.stdout.readline()
-    assert said.startswith("listening"), said
-    return server
 
 
 class Clients:
@@ -121,49 +114,49 @@ def look(db, clients):
     return len(states), len(unheard)
 
 
+class Place:
+    """A server over the file of a volume."""
+
+    def __init__(self, program, volume, port):
+        self.volume, self.db = volume, os.path.join(volume.at, "ci.db")
+        self.tokens = None if os.path.exists(self.db) else made(program, self.db)
+        self.server = serve(program, self.db, port)
+
+    def stop(self):
+        self.server.kill()
+        self.server.wait()
+
+
+def taken_over(program, first, image, other, port):
+    """Cuts the volume off from its server, and has another server open what it held by then; answers that, its volume, and when the cut was."""
+    first.volume.cut_off()
+    cut = time.monotonic()
+    time.sleep(STILL_RUNS)
+    shutil.copyfile(image, other)
+    first.stop()
+    return Place(program, Volume(other, first.volume.at + "-other"), port), cut
+
+
 def one(program, folder, number):
-    image, other = os.path.join(folder, "image"), os.path.join(folder, "other")
+    image, other, port = os.path.join(folder, "image"), os.path.join(folder, "other"), free_port()
     with open(image, "wb") as file:
         file.truncate(256 << 20)
     subprocess.run(["mkfs.ext4", "-q", image], check=True)
-    first = Volume(image, os.path.join(folder, f"first-{number}"))
-    db = os.path.join(first.at, "ci.db")
-
-    def say(command, *words):
-        return subprocess.run([program, command, "--db", db, *words], check=True, capture_output=True, text=True).stdout
-
-    say("init")
-    project = json.loads(say("project-add", "--name", "p"))["token"]
-    runner = json.loads(say("runner-add", "--name", "r", "--untagged"))["token"]
-    with socket.socket() as probe:
-        probe.bind(("127.0.0.1", 0))
-        port = probe.getsockname()[1]
-    server = serve(program, db, port)
-    field = f"PRIVATE-TOKEN: {project}"
-    assert ask(port, "PUT", "projects/1/ci_file", "".join(f"job{job}:\n  script: make\n" for job in range(JOBS_OF_A_PIPELINE)).encode(), field)[0] == 200
-    for pipeline in range(10):
-        assert ask(port, "POST", "projects/1/pipeline", json.dumps({"ref": f"b{pipeline}"}).encode(), field)[0] == 201
+    first = Place(program, Volume(image, os.path.join(folder, str(number))), port)
+    project, runner = first.tokens
+    fill(port, project, 10)
     clients = Clients(port, runner)
     time.sleep(random.uniform(0.2, 1.5))
-    first.cut_off()
-    cut = time.monotonic()
-    time.sleep(0.1)  # The old server still runs, and answers.
-    shutil.copyfile(image, other)
-    server.kill()
-    server.wait()
-    second = Volume(other, os.path.join(folder, f"second-{number}"))
-    server = serve(program, os.path.join(second.at, "ci.db"), port)
+    second, cut = taken_over(program, first, image, other, port)
     clients.join()
-    server.kill()
-    server.wait()
-    attempts, unheard = look(os.path.join(second.at, "ci.db"), clients)
-    gap = min(moment for moment in clients.answers if moment > cut + 0.1) - max(moment for moment in clients.answers if moment <= cut + 0.1)
-    after = sum(moment > cut + 0.1 for moment in clients.answers)
-    assert clients.refused and after, "the cut was seen by nobody"
-    first.unmount()
-    second.unmount()
-    print(f"{attempts} attempts, {len(clients.ended)} ends that were answered stand, {unheard} grants whose reply was lost; {clients.refused} answers of M17, {after} answers after "
-          f"the take-over; nothing was answered for {gap:.2f} s", flush=True)
+    second.stop()
+    attempts, unheard = look(second.db, clients)
+    before, after = ([moment for moment in clients.answers if (moment > cut + STILL_RUNS) == late] for late in (False, True))
+    assert clients.refused and before and after, "the cut was seen by nobody"
+    first.volume.unmount()
+    second.volume.unmount()
+    print(f"{attempts} attempts, {len(clients.ended)} ends that were answered stand, {unheard} grants whose reply was lost; {clients.refused} answers of M17, {len(after)} answers after "
+          f"the take-over; nothing was answered for {min(after) - max(before):.2f} s", flush=True)
 
 
 def main():
