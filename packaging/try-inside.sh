@@ -36,7 +36,7 @@ db=/var/lib/ciserver/ci.db
 
 step 'installation'
 apt-get update -qq
-apt-get install -qq -y ./ciserver_"$VERSION"_amd64.deb ./ciserver-runner_"$VERSION"_all.deb curl jq sqlite3 systemd > apt 2>&1
+apt-get install -qq -y ./ciserver_"$VERSION"_amd64.deb ./ciserver-runner_"$VERSION"_all.deb curl dbus jq procps sqlite3 systemd systemd-sysv > apt 2>&1
 is 'both are installed' "$(dpkg-query -W -f '${db:Status-Abbrev}' ciserver ciserver-runner)" 'ii ii '
 grep '^ciserver' apt
 is "the program is dist's to the byte" "$(sha256sum < /usr/bin/ciserver)" "$PROGRAM  -"
