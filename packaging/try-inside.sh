@@ -73,7 +73,8 @@ sed -i "s|^url = .*|url = \"http://127.0.0.1:$port\"|" /etc/ciserver-runner/conf
 printf '[projects.1]\nrepository = "/srv/hello.git"\n' >> /etc/ciserver-runner/config.toml
 git config --system --add safe.directory /srv/hello.git
 begins ciserver-runner ciserver-runner 2> running &
-processes+=($!)
+runner=$!
+processes+=("$runner")
 
 git init --quiet --bare --initial-branch main /srv/hello.git
 git init --quiet --initial-branch main clone
@@ -128,8 +129,8 @@ git -C clone -c user.name=you -c user.email=you@example.com commit --quiet --all
 git -C clone push /srv/hello.git main 2>&1 | grep '^remote'
 is 'its pipeline succeeds' "$(ended 2)" success
 passes 'its trace has both scripts' grep -q 'hello from a commit' <<< "$(ask "$api/projects/1/jobs/3/trace")"
-kill "$server"
-wait "$server" 2> /dev/null
+kill "$server" "$runner"
+wait "$server" "$runner" 2> /dev/null
 as ciserver ciserver report --db $db --kind pipeline --pipeline 2
 passes 'a page' ciserver-page $db 1
 
