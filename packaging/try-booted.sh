@@ -52,7 +52,7 @@ FILE
 git -C clone add --all && git -C clone -c user.name=you -c user.email=you@example.com commit --quiet -m 'A greeting'
 git -C clone push --quiet /srv/hello.git main
 systemctl enable --quiet --now ciserver ciserver-runner
-ask() { curl -sS --retry 20 --retry-connrefused --retry-delay 1 --fail-with-body -H "PRIVATE-TOKEN: $project" "$@"; }
+ask() { curl -s --retry 10 --retry-connrefused --retry-delay 1 --fail-with-body -H "PRIVATE-TOKEN: $project" "$@"; }
 # comes WANTED PATH: the status of a pipeline or job once it is the one that is wanted, or what it is after half a minute.
 comes() {
   local status=
@@ -64,7 +64,10 @@ comes() {
   echo "$status"
 }
 pid() { systemctl show -p MainPID --value "$1"; }
-ask -X PUT --data-binary @clone/.gitlab-ci.yml "$api/projects/1/ci_file" > /dev/null
+if ! ask -X PUT --data-binary @clone/.gitlab-ci.yml "$api/projects/1/ci_file" > /dev/null; then
+  systemctl --no-pager status ciserver
+  exit 1
+fi
 ask --data '{"ref":"main"}' "$api/projects/1/pipeline" > /dev/null
 is 'a pipeline succeeds, by both units' "$(comes success pipelines/1)" success
 trace=$(ask "$api/projects/1/jobs/2/trace")

@@ -40,6 +40,7 @@ unshare --mount --pid --fork --uts --ipc --cgroup --kill-child bash -eu -c '
   mount -t proc proc proc && mount -t sysfs -o ro sysfs sys && mount -t cgroup2 cgroup2 sys/fs/cgroup
   for folder in run tmp dev; do mount -t tmpfs tmpfs $folder; done
   for name in null zero full random urandom tty; do touch dev/$name && mount --bind /dev/$name dev/$name; done
+  mkdir dev/pts dev/shm && mount -t devpts -o newinstance,ptmxmode=0666 devpts dev/pts && ln -s pts/ptmx dev/ptmx
   pivot_root . outside && umount -l outside
   exec env -i container=try PATH=/usr/sbin:/usr/bin:/sbin:/bin /lib/systemd/systemd --log-target=null --unit=multi-user.target' boot "$root" > "$work/booted" 2>&1 &
 booted=$!
