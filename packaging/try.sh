@@ -12,7 +12,7 @@ work=$(mktemp -d)
 root=$work/root
 booted=
 # What runs in the booted Debian ends with the first of its processes, which ends with $booted.
-trap '[ -z "$booted" ] || kill -9 "$booted"; wait; rm -rf --one-file-system "$work"' EXIT
+trap '{ [ -z "$booted" ] || kill -9 "$booted"; wait; } 2> /dev/null; rm -rf --one-file-system "$work"' EXIT
 
 packaging/deb.sh > "$work/made"
 version=$(sed -n 's|.*out/ciserver_\(.*\)_amd64.deb|\1|p' "$work/made")
