@@ -72,7 +72,7 @@ ask --data '{"ref":"main"}' "$api/projects/1/pipeline" > /dev/null
 is 'a pipeline succeeds, by both units' "$(comes success pipelines/1)" success
 trace=$(ask "$api/projects/1/jobs/2/trace")
 for line in 'HELLO FROM A COMMIT' ciserver-runner 'nothing is written there'; do is "the trace has $line" "$(grep -c "^$line" <<< "$trace")" 1; done
-is 'the users of the units' "$(ps -o user:20= -p "$(pid ciserver)" "$(pid ciserver-runner)" | xargs)" 'ciserver ciserver-runner'
+for unit in ciserver ciserver-runner; do is "the user of $unit" "$(ps -o user:20= -p "$(pid $unit)" | xargs)" $unit; done
 
 killed=$(pid ciserver)
 kill -9 "$killed"
