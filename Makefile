@@ -2,8 +2,10 @@
 # make demo     takes dist's program where it was built of these sources, has it check CI files, and runs a whole pipeline with it; else it builds first
 # make test     the gate: every proof from nothing, the must-fail edits, the tests, the programs' stored runs, and memory refused
 # make release  puts the program that was built into dist/
+# make deb      the Debian packages of the program and of the runner, in out/ (packaging/README.md)
+# make install  lays them below PREFIX, /usr/local where it isn't given; DESTDIR stands before each path
 
-.PHONY: build demo test release
+.PHONY: build demo test release deb install
 
 build:
 	.ci/build
@@ -22,3 +24,11 @@ test:
 
 release:
 	.ci/release
+
+deb:
+	packaging/deb.sh
+
+install:
+	.ci/provide
+	packaging/install.sh server
+	packaging/install.sh runner

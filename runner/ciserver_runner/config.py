@@ -69,6 +69,8 @@ TABLES = {
     "cache": {"folder": ("cache_folder", str, 1), "limit_megabytes": ("cache_limit", int, MEBIBYTE),
               "total_megabytes": ("cache_total", int, MEBIBYTE)},
 }
+WORDS = {"url": "the server's address", "token-file": "the file with the runner's token", "name": "how it is called in traces (the machine's name)",
+         "folder": "its folder: clones, the folders of jobs, artifacts and caches", "where": "shell (as without it) or container"}
 KINDS = {str: "a text", int: "a whole number over 0", bool: "true or false", list: "a list of texts"}
 
 
@@ -76,10 +78,11 @@ def from_words(words: list[str]) -> Config:
     """The configuration that the words of the command line tell, over that of a file which they name."""
     parser = argparse.ArgumentParser(prog="ciserver-runner", description="Asks a ciserver for jobs and runs them.")
     parser.add_argument("--config", metavar="FILE", help="a file in TOML, as config.example.toml")
-    for word in ("url", "token-file", "name", "folder", "where"):
-        parser.add_argument(f"--{word}")
-    parser.add_argument("--concurrent", type=int)
-    parser.add_argument("--project", action="append", default=[], metavar="NUMBER=REPOSITORY")
+    for word, told in WORDS.items():
+        parser.add_argument(f"--{word}", help=told)
+    parser.add_argument("--concurrent", type=int, help="so many jobs at once (1)")
+    parser.add_argument("--project", action="append", default=[], metavar="NUMBER=REPOSITORY",
+                        help="the repository of a project, by its number; it may stand several times")
     asked = parser.parse_args(words)
     table = _read(asked.config) if asked.config else {}
     for word in ("url", "token_file", "name", "folder", "where", "concurrent"):

@@ -47,7 +47,7 @@ def lay(job: Job, project: Project) -> None:
 def _fetched(job: Job, project: Project, kept: str) -> str:
     """The commit of a job's pipeline, which the kept clone has then."""
     if not os.path.exists(os.path.join(kept, "HEAD")):
-        _run(job, ["init", "--quiet", "--bare", "--shared=0644", kept])
+        _run(job, ["init", "--quiet", "--bare", kept])
     wanted = job.variables.get("CI_COMMIT_SHA", "")
     if wanted and not re.fullmatch(COMMIT, wanted):
         raise Refused("CI_COMMIT_SHA is no full number of a commit")

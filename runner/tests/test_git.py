@@ -93,6 +93,16 @@ class Programs(Case):
         self.token = self.server.runner()
         self.server.start()
 
+    def test_a_kept_clone_has_the_usual_access_and_no_bit_that_the_unit_forbids(self) -> None:
+        self.begin_runner(self.token)
+        number = self.project.pipeline("a:\n  script: cat hello.txt\n")
+        self.assertEqual(self.project.ends(number), "success")
+        kept = os.path.join(self.path("one"), "repositories", "1.git")
+        folders = {os.stat(folder).st_mode & 0o7777 for folder, _, _ in os.walk(kept)}
+        files = [os.stat(os.path.join(folder, name)).st_mode & 0o7777 for folder, _, names in os.walk(kept) for name in names]
+        self.assertEqual(folders, {0o755})
+        self.assertEqual({mode & 0o7044 for mode in files}, {0o044})
+
     def test_a_folder_has_one_runner(self) -> None:
         first = self.begin_runner(self.token)
         until(lambda: "asks" in self.read("one.log"))
