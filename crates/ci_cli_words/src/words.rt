@@ -1,8 +1,8 @@
 //! The words of the command line, which `clap` reads.
 
-ghost use Rattle.std.specs.Prelude.{◌≡◌, Some, IfOk, IfSome};
-ghost use Rattle.clap.specs.Matches.{subcommand_name_of};
-ghost use Rattle.ci_cli_words.specs.Words.{name_of, admin_name};
+ghost use Rattle.std.specs.Prelude.{◌≡◌, Some, IfOk, IfSome, not};
+ghost use Rattle.clap.specs.Matches.{found_of, first_value, subcommand_name_of};
+ghost use Rattle.ci_cli_words.specs.Words.{name_of, admin_name, ref_kind_by, reported, source_named};
 
 use crate::date::midnight_of;
 use crate::task::{AdminRequest, PlanOptions, ReportKind, RunnerOptions, ServeOptions, Task};
@@ -332,7 +332,9 @@ fn admin_named<'a>(matches: &ArgMatches<'a>) -> Option<(&'a str, AdminRequest<'a
 }
 
 /// The value of an option, if it has one that doesn't begin with `-`.
-fn text_in<'a>(found: &ArgMatches<'a>, option: &str) -> Option<&'a str> {
+fn text_in<'a>(found: &ArgMatches<'a>, option: &str) -> Option<&'a str>
+    ensures { IfSome result (λ text. first_value (found_of found.now) option.now ≡ Some text.now) }
+{
     let text = found.get_str(option)?;
     if text.starts_with('-') {
         return None;
@@ -342,12 +344,26 @@ fn text_in<'a>(found: &ArgMatches<'a>, option: &str) -> Option<&'a str> {
 
 /// The kind of a report. None where there is no such kind, or where a pipeline's number is missing or too much.
 fn report_kind_in(found: &ArgMatches<'_>) -> Option<ReportKind> {
-    let pipeline: Option<u64> = found.get_one(PIPELINE);
-    match (found.get_str(KIND)?, pipeline) {
-        ("queue", None) => Some(ReportKind::Queue),
-        ("pipeline", Some(pipeline)) => Some(ReportKind::Pipeline(pipeline)),
-        ("runners", None) => Some(ReportKind::Runners),
-        _ => None,
+    report_kind(found.get_str(KIND)?, found.get_one(PIPELINE))
+}
+
+/// The kind of a report, by its name and the number of a pipeline, which goes with the kind `pipeline` and with no other.
+fn report_kind(kind: &str, pipeline: Option<u64>) -> Option<ReportKind>
+    ensures { result ≡ reported kind.now pipeline }
+{
+    match pipeline {
+        Some(number) => {
+            if kind == "pipeline" {
+                Some(ReportKind::Pipeline(number))
+            } else {
+                None
+            }
+        }
+        None => match kind {
+            "queue" => Some(ReportKind::Queue),
+            "runners" => Some(ReportKind::Runners),
+            _ => None,
+        },
     }
 }
 
@@ -371,23 +387,32 @@ fn plan_options_with<'a>(
     if !is_name(git_ref) {
         return None;
     }
-    let kind = if found.get_flag(TAG) {
-        RefKind::Tag
-    } else {
-        RefKind::Branch
-    };
     Some(PlanOptions {
         file: found.get_str(FILE)?,
         git_ref,
-        kind,
+        kind: ref_kind(found.get_flag(TAG)),
         source: source_in(found)?,
         variables,
     })
 }
 
+/// Whether a ref is a tag or a branch, by the flag `--tag`.
+fn ref_kind(tag: bool) -> RefKind
+    ensures { result ≡ ref_kind_by tag }
+{
+    if tag { RefKind::Tag } else { RefKind::Branch }
+}
+
 /// What asks for a pipeline; `api` where nothing is said. None where there is no such source.
 fn source_in(found: &ArgMatches<'_>) -> Option<Source> {
-    match found.get_str(SOURCE).unwrap_or("api") {
+    source_named(found.get_str(SOURCE).unwrap_or("api"))
+}
+
+/// The source of this name, if there is one.
+fn source_named(name: &str) -> Option<Source>
+    ensures { result ≡ source_named name.now }
+{
+    match name {
         "push" => Some(Source::Push),
         "web" => Some(Source::Web),
         "schedule" => Some(Source::Schedule),
@@ -447,8 +472,16 @@ fn runner_options_in<'a>(found: &ArgMatches<'a>) -> Option<RunnerOptions<'a>> {
 }
 
 fn pause_in(found: &ArgMatches<'_>) -> Option<RunnerPause> {
-    Some(RunnerPause {
-        runner: found.get_one(RUNNER)?,
-        paused: !found.get_flag(RESUME),
-    })
+    Some(pause_of(found.get_one(RUNNER)?, found.get_flag(RESUME)))
+}
+
+/// A runner is paused, but with the flag `--resume` it goes on.
+fn pause_of(runner: u64, resume: bool) -> RunnerPause
+    ensures runner { result.runner ≡ runner }
+    ensures paused { result.paused ≡ not resume }
+{
+    RunnerPause {
+        runner,
+        paused: !resume,
+    }
 }
