@@ -1,3 +1,4 @@
+# shellcheck shell=bash
 # What the build and the scripts of dist/ share. They source it at the top of the repository.
 # bin/ciserver.sources says of which sources and with which kit bin/ciserver was built, and the program's own sum; dist/BUILT says so of dist's program.
 packed=dist/ciserver-x86_64-linux.xz

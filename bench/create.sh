@@ -9,15 +9,15 @@ build create "${1:-/dev/shm}" ci_server
 # What a creation runs in its commit: a look-up of the next job, an UPDATE that finds no pipeline, and a statement for each record, for each
 # of two next numbers and for each row of a status.
 counted() {
-  local rows
+  local rows jobs variables needs statuses
   rows=$(sqlite3 "$1" 'SELECT count(*) FROM job WHERE pipeline = 1;
     SELECT count(*) FROM jobvar WHERE job IN (SELECT id FROM job WHERE pipeline = 1);
     SELECT count(*) FROM need WHERE job IN (SELECT id FROM job WHERE pipeline = 1);
     SELECT count(*) FROM board WHERE job IN (SELECT id FROM job WHERE pipeline = 1);' | tr '\n' ' ')
-  set -- "$1" $rows
-  echo "$1: $2 jobs, $3 variables of jobs, $4 needs, $5 rows of statuses; $(($2 + $3 + $4 + $5 + 5)) statements"
+  read -r jobs variables needs statuses <<< "$rows"
+  echo "$1: $jobs jobs, $variables variables of jobs, $needs needs, $statuses rows of statuses; $((jobs + variables + needs + statuses + 5)) statements"
 }
-for turn in 1 2 3; do
+for _ in 1 2 3; do
   rm -f ./*.db*
   "$program"
 done

@@ -14,7 +14,7 @@ granted() {
   expect 'SELECT count(*), min(id), max(id) FROM attempt' '2000|1|2000'
   expect 'SELECT count(*), min(status), max(status) FROM board' '2000|2|2'
 }
-for turn in 1 2 3 4 5; do
+for _ in 1 2 3 4 5; do
   rm -f bench.db*
   "$program"
   granted

@@ -6,7 +6,7 @@
 set -eu
 . "$(dirname "$0")/tables.sh"
 build poll "${1:-/dev/shm}" ci_server
-for turn in 1 2 3; do
+for _ in 1 2 3; do
   rm -f ./*.db*
   "$program"
 done

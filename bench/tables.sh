@@ -1,3 +1,4 @@
+# shellcheck shell=bash disable=SC2034
 # For the scripts beside it, which source it: a folder $work for what is built, which goes at the end, `need`, `build`, `expect`
 # and `leave`.
 root=$(cd "$(dirname "$0")/.." && pwd)
@@ -38,16 +39,16 @@ build() {
   done
   echo "bench_$1: ci_board ci_machine ci_store ci_store_sqlite ${*:3} sqlite anyhow" >> "$work/crates.txt"
   cp "$root/bench/$1.rt.txt" "$crate/src/main.rt"
-  for part in $(sed -n 's/^mod \(.*\);$/\1/p' "$crate/src/main.rt"); do
+  sed -n 's/^mod \(.*\);$/\1/p' "$crate/src/main.rt" | while read -r part; do
     cp "$root/bench/$part.rt.txt" "$crate/src/$part.rt"
   done
   : > "$crate/specs/Lib.antt"
-  cd "$crate"
+  cd "$crate" || exit 1
   rt run > build.log 2>&1 || { tail -20 build.log >&2; stop "bench/$1.rt.txt was not built"; }
   program=$crate/out/bench_$1
   place=$(mktemp -d "$2/$1.XXXXXX")
   trap 'rm -rf "$work" "$place"' EXIT
-  cd "$place"
+  cd "$place" || exit 1
 }
 
 # Stops unless a query of bench.db answers this.

@@ -7,7 +7,7 @@
 set -eu
 . "$(dirname "$0")/tables.sh"
 build trace "${1:-/dev/shm}"
-for turn in 1 2 3; do
+for _ in 1 2 3; do
   rm -f bench.db*
   "$program"
   expect 'SELECT count(*) FROM attempt' '4098'
