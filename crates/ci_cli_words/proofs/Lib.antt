@@ -1,1 +1,6 @@
+pub mod Flags
+pub mod Numbers
+pub mod Subcommand
+pub mod Values
+pub mod VariableTexts
 pub mod Written
