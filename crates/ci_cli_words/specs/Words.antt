@@ -1,11 +1,16 @@
 -- What the words behind a command ask for, by what clap finds in them.
-use Rattle.std.specs.Prelude.{◌≡◌, ◌==◌, ◌&&◌, ℕ, Bool, true, false, not, List, [], ◌∷◌, ◌++◌, ◌^◌, Option, Some, None, codes, map, length, slice_index, option_and_then, unwrap_or, nat_lt, if◌then◌else◌, MatchOption}
+use Rattle.std.specs.Prelude.{◌≡◌, ◌⊎◌, ◌==◌, ◌&&◌, ℕ, Bool, true, false, not, List, [], ◌∷◌, ◌++◌, ◌^◌, Option, Some, None, codes, map, length, slice_index, option_and_then, unwrap_or, nat_lt, if◌then◌else◌, MatchOption}
 use Rattle.std.specs.Borrow.{Bor}
 use Rattle.std.specs.List.{after_first, before_first, list_any, position_or_len}
 use Rattle.std.specs.Str.{bytes_eq}
 use Rattle.std.specs.Str.Parse.{digits_value, without_leading_plus}
 use Rattle.clap.specs.ValueTests.{is_numeral}
 use Rattle.clap.specs.Walk.{Row, Text, all_of, first_of, one_of}
+use Rattle.clap.specs.Faults.{fault_of}
+use Rattle.clap.specs.Kinds.{IsAmong}
+use Rattle.clap.specs.Simple.{subcommand_of}
+use Rattle.clap.specs.declared.error.kind.ErrorKind.{ErrorKind}
+use Rattle.clap.specs.declared.error.kind.ErrorKind.TheVariants.{InvalidValue, OutOfMemory}
 use Rattle.ci_values.specs.Names.{is_name}
 use Rattle.ci_values.specs.VariableName.{is_variable_name}
 use Rattle.ci_machine.specs.declared.records.RefKind.{RefKind}
@@ -13,6 +18,7 @@ use Rattle.ci_machine.specs.declared.records.RefKind.TheVariants.{Branch, Tag}
 use Rattle.ci_machine.specs.declared.records.Source.{Source}
 use Rattle.ci_machine.specs.declared.records.Source.TheVariants.{Push, Web, Schedule, Api, Trigger}
 use Rattle.ci_machine.specs.declared.request.RunnerPause.{RunnerPause}
+use Rattle.ci_cli_words.specs.CommandLine.{command_line}
 use Rattle.ci_cli_words.specs.Dates.{IsDateAt}
 use Rattle.ci_cli_words.specs.declared.task.AdminRequest.TheVariants.{AddProject, AddRunner, PauseRunner}
 use Rattle.ci_cli_words.specs.declared.task.PlanOptions.{PlanOptions}
@@ -189,3 +195,15 @@ AsksBy (Some command) rows t = Asks command rows t
 abbrev pub AsksIn : Option (Text × List Row) → Task → Type 0
 AsksIn None t = ⊥
 AsksIn (Some found) t = AsksBy (command_named found.0) found.1 t
+
+-- ---- the words of a command line, of which the first is the program's name
+
+abbrev pub AsksOn : List Text → Task → Type 0
+AsksOn words = AsksIn (subcommand_of command_line words)
+
+-- The kinds of error that a command line is refused with: that memory was refused; what clap says of the words, if anything; or that a value
+-- is invalid, where clap takes the words and they ask for nothing.
+abbrev pub IsRefused : List Text → ErrorKind → Type 0
+IsRefused words kind =
+    (kind ≡ OutOfMemory) ⊎ IsAmong kind (fault_of command_line words)
+    ⊎ ((kind ≡ InvalidValue) × (fault_of command_line words ≡ []) × ((t : Task) → ¬ AsksOn words t))

@@ -1,5 +1,11 @@
 //! The commands that the program takes, and their arguments, as `clap` is told of them.
 
+ghost use Rattle.std.specs.Prelude.{◌≡◌, IfOk, false, [], ◌∷◌};
+ghost use Rattle.clap.specs.Walk.{rule_of};
+ghost use Rattle.clap.specs.Simple.{app_of};
+ghost use Rattle.ci_cli_words.specs.CommandLine as cli;
+ghost use Rattle.ci_cli_words.specs.CommandLine.{IsCommand};
+
 use ci_values::limits::MAX_NUMBER;
 use clap::builder::ValueParser;
 use clap::{Arg, ArgAction, Command};
@@ -68,7 +74,9 @@ pub(crate) const REQUESTS: &str = "requests";
 const RULES: &str = "The profile, with examples and its codes, is described in docs/PROFILE.md.";
 
 /// The command line that the program takes.
-pub(crate) fn command_line<'a>(alloc: Global) -> Result<Command<'a>, AllocError> {
+pub(crate) fn command_line<'a>(alloc: Global) -> Result<Command<'a>, AllocError>
+    ensures { IfOk result (λ c. app_of c ≡ cli.command_line) }
+{
     Command::new(alloc, "ciserver")
         .about("A continuous integration server")
         .version(VERSION)
@@ -87,31 +95,87 @@ pub(crate) fn command_line<'a>(alloc: Global) -> Result<Command<'a>, AllocError>
         .subcommand(serve(alloc)?)
 }
 
-/// The argument of a CI file.
-fn file<'a>(alloc: Global) -> Arg<'a> {
-    Arg::new(alloc, FILE)
+/// A command over a CI file, of this name. Errors: memory was refused.
+fn over_ci_file<'a>(alloc: Global, name: &'a str, about: &'a str) -> Result<Command<'a>, AllocError>
+    ensures { IfOk result (IsCommand (cli.command name.entry.now (cli.file ∷ []))) }
+{
+    let file = Arg::new(alloc, FILE)
         .required(true)
-        .help("The path of the CI file, or - for standard input")
-}
-
-fn check<'a>(alloc: Global) -> Result<Command<'a>, AllocError> {
-    Command::new(alloc, CHECK)
-        .about("Says how many jobs a CI file configures, or why it is refused")
+        .help("The path of the CI file, or - for standard input");
+    Command::new(alloc, name)
+        .about(about)
         .after_help(RULES)
-        .arg(file(alloc))
+        .arg(file)
 }
 
-fn explain<'a>(alloc: Global) -> Result<Command<'a>, AllocError> {
-    Command::new(alloc, EXPLAIN)
-        .about("Tells each fault of a CI file, with its line and what to write in its place")
-        .after_help(RULES)
-        .arg(file(alloc))
+/// A command over the file of a server, of this name. Errors: memory was refused.
+fn over_server_file<'a>(
+    alloc: Global,
+    name: &'a str,
+    about: &'a str,
+) -> Result<Command<'a>, AllocError>
+    ensures { IfOk result (IsCommand (cli.command name.entry.now (cli.db ∷ []))) }
+{
+    let file = required_option(alloc, DB)
+        .value_name("FILE")
+        .help("The server's file, an SQLite database");
+    Command::new(alloc, name).about(about).arg(file)
 }
 
-fn plan<'a>(alloc: Global) -> Result<Command<'a>, AllocError> {
-    let git_ref = option(alloc, REF)
-        .required(true)
-        .help("The branch that the pipeline is for");
+/// An option that has a value, as `--port N`.
+fn option<'a>(alloc: Global, name: &'a str) -> Arg<'a>
+    ensures rule { rule_of result ≡ cli.option name.entry.now }
+    ensures local { result.global ≡ false }
+{
+    Arg::new(alloc, name).long(name).action(ArgAction::Set)
+}
+
+/// An option that has to be there.
+fn required_option<'a>(alloc: Global, name: &'a str) -> Arg<'a>
+    ensures rule { rule_of result ≡ cli.required (cli.option name.entry.now) }
+    ensures local { result.global ≡ false }
+{
+    option(alloc, name).required(true)
+}
+
+/// An option whose value is a number from 1.
+fn number<'a>(alloc: Global, name: &'a str, most: u64) -> Arg<'a>
+    ensures rule { rule_of result ≡ cli.number name.entry.now most }
+    ensures local { result.global ≡ false }
+{
+    option(alloc, name)
+        .value_name("N")
+        .value_parser(ValueParser::unsigned(1, most))
+}
+
+fn flag<'a>(alloc: Global, name: &'a str) -> Arg<'a>
+    ensures rule { rule_of result ≡ cli.flag name.entry.now }
+    ensures local { result.global ≡ false }
+{
+    Arg::new(alloc, name).long(name).action(ArgAction::SetTrue)
+}
+
+fn check<'a>(alloc: Global) -> Result<Command<'a>, AllocError>
+    ensures { IfOk result (IsCommand cli.check) }
+{
+    over_ci_file(
+        alloc,
+        CHECK,
+        "Says how many jobs a CI file configures, or why it is refused",
+    )
+}
+
+fn explain<'a>(alloc: Global) -> Result<Command<'a>, AllocError>
+    ensures { IfOk result (IsCommand cli.explain) }
+{
+    let about = "Tells each fault of a CI file, with its line and what to write in its place";
+    over_ci_file(alloc, EXPLAIN, about)
+}
+
+fn plan<'a>(alloc: Global) -> Result<Command<'a>, AllocError>
+    ensures { IfOk result (IsCommand cli.plan) }
+{
+    let git_ref = required_option(alloc, REF).help("The branch that the pipeline is for");
     let tag = flag(alloc, TAG).help("It is for the tag of this name");
     let source = option(alloc, SOURCE).help(
         "What asks for it: push, web, schedule, api or trigger [default: api]",
@@ -120,64 +184,42 @@ fn plan<'a>(alloc: Global) -> Result<Command<'a>, AllocError> {
         .action(ArgAction::Append)
         .value_name("K=V")
         .help("A variable of the request; it may stand several times");
-    Command::new(alloc, PLAN)
-        .about("Tells which jobs a pipeline of a CI file would have, or why there is none")
-        .after_help(RULES)
-        .arg(file(alloc))?
+    let about = "Tells which jobs a pipeline of a CI file would have, or why there is none";
+    over_ci_file(alloc, PLAN, about)?
         .arg(git_ref)?
         .arg(tag)?
         .arg(source)?
         .arg(variable)
 }
 
-/// An option that has a value, as `--port N`.
-fn option<'a>(alloc: Global, name: &'a str) -> Arg<'a> {
-    Arg::new(alloc, name).long(name).action(ArgAction::Set)
+fn init<'a>(alloc: Global) -> Result<Command<'a>, AllocError>
+    ensures { IfOk result (IsCommand cli.init) }
+{
+    over_server_file(alloc, INIT, "Makes the file of a server")
 }
 
-/// The option of the server's file.
-fn file_option<'a>(alloc: Global) -> Arg<'a> {
-    option(alloc, DB)
-        .required(true)
-        .value_name("FILE")
-        .help("The server's file, an SQLite database")
+fn migrate<'a>(alloc: Global) -> Result<Command<'a>, AllocError>
+    ensures { IfOk result (IsCommand cli.migrate) }
+{
+    over_server_file(
+        alloc,
+        MIGRATE,
+        "Makes the file of an earlier version one of this version",
+    )
 }
 
-/// An option whose value is a number from 1.
-fn number<'a>(alloc: Global, name: &'a str, most: u64) -> Arg<'a> {
-    option(alloc, name)
-        .value_name("N")
-        .value_parser(ValueParser::unsigned(1, most))
+fn project_add<'a>(alloc: Global) -> Result<Command<'a>, AllocError>
+    ensures { IfOk result (IsCommand cli.project_add) }
+{
+    let name = required_option(alloc, NAME).help("The project's name");
+    let about = "Makes a project, and prints its number and its token";
+    over_server_file(alloc, PROJECT_ADD, about)?.arg(name)
 }
 
-fn flag<'a>(alloc: Global, name: &'a str) -> Arg<'a> {
-    Arg::new(alloc, name).long(name).action(ArgAction::SetTrue)
-}
-
-fn init<'a>(alloc: Global) -> Result<Command<'a>, AllocError> {
-    Command::new(alloc, INIT)
-        .about("Makes the file of a server")
-        .arg(file_option(alloc))
-}
-
-fn migrate<'a>(alloc: Global) -> Result<Command<'a>, AllocError> {
-    Command::new(alloc, MIGRATE)
-        .about("Makes the file of an earlier version one of this version")
-        .arg(file_option(alloc))
-}
-
-fn project_add<'a>(alloc: Global) -> Result<Command<'a>, AllocError> {
-    let name = option(alloc, NAME)
-        .required(true)
-        .help("The project's name");
-    Command::new(alloc, PROJECT_ADD)
-        .about("Makes a project, and prints its number and its token")
-        .arg(file_option(alloc))?
-        .arg(name)
-}
-
-fn runner_add<'a>(alloc: Global) -> Result<Command<'a>, AllocError> {
-    let name = option(alloc, NAME).required(true).help("The runner's name");
+fn runner_add<'a>(alloc: Global) -> Result<Command<'a>, AllocError>
+    ensures { IfOk result (IsCommand cli.runner_add) }
+{
+    let name = required_option(alloc, NAME).help("The runner's name");
     let project = number(alloc, PROJECT, MAX_NUMBER).help(
         "The project whose jobs it runs [default: every project]",
     );
@@ -185,60 +227,66 @@ fn runner_add<'a>(alloc: Global) -> Result<Command<'a>, AllocError> {
         .value_name("A,B")
         .help("Its tags, parted by commas");
     let untagged = flag(alloc, UNTAGGED).help("It runs jobs that have no tags");
-    Command::new(alloc, RUNNER_ADD)
-        .about("Makes a runner, and prints its number and its token")
-        .arg(file_option(alloc))?
+    let about = "Makes a runner, and prints its number and its token";
+    over_server_file(alloc, RUNNER_ADD, about)?
         .arg(name)?
         .arg(project)?
         .arg(tags)?
         .arg(untagged)
 }
 
-fn runner_pause<'a>(alloc: Global) -> Result<Command<'a>, AllocError> {
+fn runner_pause<'a>(alloc: Global) -> Result<Command<'a>, AllocError>
+    ensures { IfOk result (IsCommand cli.runner_pause) }
+{
     let runner = number(alloc, RUNNER, MAX_NUMBER)
         .required(true)
         .help("The runner's number");
     let resume = flag(alloc, RESUME).help("It goes on");
-    Command::new(alloc, RUNNER_PAUSE)
-        .about("Has a runner get no jobs, or go on")
-        .arg(file_option(alloc))?
+    over_server_file(alloc, RUNNER_PAUSE, "Has a runner get no jobs, or go on")?
         .arg(runner)?
         .arg(resume)
 }
 
-fn report<'a>(alloc: Global) -> Result<Command<'a>, AllocError> {
-    let kind = option(alloc, KIND).required(true).value_name("KIND").help(
+fn report<'a>(alloc: Global) -> Result<Command<'a>, AllocError>
+    ensures { IfOk result (IsCommand cli.report) }
+{
+    let kind = required_option(alloc, KIND).value_name("KIND").help(
         "queue, the pending jobs; pipeline, one with its jobs; or runners",
     );
     let pipeline = number(alloc, PIPELINE, MAX_NUMBER).help("The pipeline's number");
-    Command::new(alloc, REPORT)
-        .about("Prints what the server of a file has, as a table")
-        .arg(file_option(alloc))?
-        .arg(kind)?
-        .arg(pipeline)
+    over_server_file(
+        alloc,
+        REPORT,
+        "Prints what the server of a file has, as a table",
+    )?
+    .arg(kind)?
+    .arg(pipeline)
 }
 
-fn prune<'a>(alloc: Global) -> Result<Command<'a>, AllocError> {
-    let before = option(alloc, BEFORE)
-        .required(true)
+fn prune<'a>(alloc: Global) -> Result<Command<'a>, AllocError>
+    ensures { IfOk result (IsCommand cli.prune) }
+{
+    let before = required_option(alloc, BEFORE)
         .value_name("YYYY-MM-DD")
         .help("The day, in UTC; what was made on it stays");
-    Command::new(alloc, PRUNE)
-        .about("Removes the finished pipelines that were made before a day")
-        .arg(file_option(alloc))?
-        .arg(before)
+    let about = "Removes the finished pipelines that were made before a day";
+    over_server_file(alloc, PRUNE, about)?.arg(before)
 }
 
-fn serve<'a>(alloc: Global) -> Result<Command<'a>, AllocError> {
+fn serve<'a>(alloc: Global) -> Result<Command<'a>, AllocError>
+    ensures { IfOk result (IsCommand cli.serve) }
+{
     let port = number(alloc, PORT, u16::MAX as u64)
         .required(true)
         .help("The port of 127.0.0.1 to listen on");
     let requests = number(alloc, REQUESTS, u32::MAX as u64)
         .required(true)
         .help("How many connections are served before the program ends");
-    Command::new(alloc, SERVE)
-        .about("Serves requests over HTTP, one after the other")
-        .arg(file_option(alloc))?
-        .arg(port)?
-        .arg(requests)
+    over_server_file(
+        alloc,
+        SERVE,
+        "Serves requests over HTTP, one after the other",
+    )?
+    .arg(port)?
+    .arg(requests)
 }

@@ -1,9 +1,9 @@
 //! The words of the command line, which `clap` reads.
 
-ghost use Rattle.std.specs.Prelude.{IfOk};
+ghost use Rattle.std.specs.Prelude.{IfErr, IfOk, map, string_bytes};
 ghost use Rattle.clap.specs.Values.{kind_of};
 ghost use Rattle.clap.specs.Simple.{subcommand_rows_of};
-ghost use Rattle.ci_cli_words.specs.Words.{AsksIn, Reads};
+ghost use Rattle.ci_cli_words.specs.Words.{AsksIn, AsksOn, IsRefused, Reads};
 
 use crate::asked::asked;
 use crate::command_line::command_line;
@@ -16,7 +16,10 @@ use std::alloc::{AllocError, Global};
 /// What the words of a command line ask for, of which the first is the program's name.
 ///
 /// Errors: they are no command line of this program, or ask for help or the version; or memory was refused.
-pub fn task_of<'a>(alloc: Global, words: &'a [String]) -> Result<Task<'a>, Error> {
+pub fn task_of<'a>(alloc: Global, words: &'a [String]) -> Result<Task<'a>, Error>
+    ensures task { IfOk result (AsksOn (map string_bytes words.entry.now)) }
+    ensures fault { IfErr result (λ e. IsRefused (map string_bytes words.entry.now) (kind_of e)) }
+{
     let mut command = command_line(alloc)?;
     let matches = command.try_get_matches_from_mut(words)?;
     match task_named(alloc, &matches)? {
