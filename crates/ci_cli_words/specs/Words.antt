@@ -198,8 +198,9 @@ AsksIn (Some found) t = AsksBy (command_named found.0) found.1 t
 
 -- ---- the words of a command line, of which the first is the program's name
 
+-- clap finds no fault in the words, and what it finds asks for the task
 abbrev pub AsksOn : List Text → Task → Type 0
-AsksOn words = AsksIn (subcommand_of command_line words)
+AsksOn words t = (fault_of command_line words ≡ []) × AsksIn (subcommand_of command_line words) t
 
 -- The kinds of error that a command line is refused with: that memory was refused; what clap says of the words, if anything; or that a value
 -- is invalid, where clap takes the words and they ask for nothing.

@@ -12,9 +12,9 @@ returns-in_err-matches-clause-fault c =
 
 pub returns-in-Some-clause-task : goal.returns-in-Some-clause-task
 returns-in-Some-clause-task c =
-    rw c.in-Some.is at (asked_on (app_of c.in_ok-command.command) (map string_bytes c.args.words.now) c.in_ok-command.ensures c.in_ok-matches.matches c.in_ok-task.field-0 c.in_ok-matches.ensures.ok.2 c.in_ok-task.ensures)
+    rw c.in-Some.is at (asked_on (app_of c.in_ok-command.command) (map string_bytes c.args.words.now) c.in_ok-command.ensures c.in_ok-matches.matches c.in_ok-task.field-0 c.in_ok-matches.ensures.kinds c.in_ok-matches.ensures.ok.2 c.in_ok-task.ensures)
 
 pub returns-clause-fault : goal.returns-clause-fault
 returns-clause-fault c =
-    let asks = rw c.in-None.is at (asked_on (app_of c.in_ok-command.command) (map string_bytes c.args.words.now) c.in_ok-command.ensures c.in_ok-matches.matches c.in_ok-task.field-0 c.in_ok-matches.ensures.ok.2 c.in_ok-task.ensures) in
+    let asks = rw c.in-None.is at (asked_on (app_of c.in_ok-command.command) (map string_bytes c.args.words.now) c.in_ok-command.ensures c.in_ok-matches.matches c.in_ok-task.field-0 c.in_ok-matches.ensures.kinds c.in_ok-matches.ensures.ok.2 c.in_ok-task.ensures) in
     inr (inr (c.in_ok-error-in-None.ensures.kind, no_fault (app_of c.in_ok-command.command) (map string_bytes c.args.words.now) c.in_ok-command.ensures c.in_ok-matches.ensures.kinds, asks))
