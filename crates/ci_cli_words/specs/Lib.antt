@@ -1,3 +1,4 @@
+pub mod CommandLine
 pub mod Dates
 pub mod Lines
 pub mod Words

@@ -1,7 +1,12 @@
-//! The lines that `ciserver` prints, and the exit statuses that go with them.
+//! The words of the command line, and the lines that `ciserver` prints, with the exit statuses that go with them.
 #![tactic(auto)]
 
+mod asked;
+mod command_line;
+mod command_name;
 pub mod date;
 pub mod line;
 pub mod task;
+mod value;
+mod variables;
 pub mod words;
