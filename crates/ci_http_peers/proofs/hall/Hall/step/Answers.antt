@@ -1,0 +1,43 @@
+use Rattle.std.proofs.Common.{inr}
+use Rattle.ci_http_peers.proofs.Turns.{begins_goes_on, begins_same_but, finishes_goes_on, finishes_same_but, replied}
+use Rattle.ci_http_peers.proofs.hall.Hall.step.Goals as goal
+
+pub returns-in_err-answer-in-Whole-clause-once : goal.returns-in_err-answer-in-Whole-clause-once
+returns-in_err-answer-in-Whole-clause-once g c =
+    let (reads, chair, at, all) = c.call.ensures.whole c.in-Whole.is in
+    let (text, said, rest) = c.answer.ensures.answers chair at in
+    inr (reads, chair, text, (all, said))
+
+pub returns-in_ok-answer-in-Whole-clause-peers : goal.returns-in_ok-answer-in-Whole-clause-peers
+returns-in_ok-answer-in-Whole-clause-peers g c =
+    begins_same_but c.args.now c.call.new.self.patience c.args.place c.args.self.now.peers.items c.call.new.self.peers.items c.answer.new.self.peers.items c.call.ensures.peers c.answer.ensures.peers
+
+pub returns-in_ok-answer-in-Whole-clause-here : goal.returns-in_ok-answer-in-Whole-clause-here
+returns-in_ok-answer-in-Whole-clause-here g c =
+    let (reads, chair, at, all) = c.call.ensures.whole c.in-Whole.is in
+    begins_goes_on c.args.now c.args.self.now.patience c.call.new.self.patience c.args.place c.args.self.now.peers.items c.call.new.self.peers.items c.answer.new.self.peers.items c.call.ensures.peers
+    c.call.ensures.patience reads c.answer.ensures.peers
+
+pub returns-in_ok-answer-in-Whole-clause-once : goal.returns-in_ok-answer-in-Whole-clause-once
+returns-in_ok-answer-in-Whole-clause-once g c =
+    let (reads, chair, at, all) = c.call.ensures.whole c.in-Whole.is in
+    let (text, said, rest) = c.answer.ensures.answers chair at in
+    inr (reads, chair, text, (all, said))
+
+pub returns-in_ok-answer-in-Whole-clause-last : goal.returns-in_ok-answer-in-Whole-clause-last
+returns-in_ok-answer-in-Whole-clause-last g c =
+    let (reads, chair, at, all) = c.call.ensures.whole c.in-Whole.is in
+    let (text, said, replies) = c.in_ok-answer-in-Whole.ensures.answers chair at in
+    let mid = c.call.new.self in
+    let new = c.answer.new.self in
+    let never = replied c.args.now mid.patience c.args.place chair text mid.peers.items mid.chairs.items new.peers.items new.chairs.items replies in
+    inr (reads, never, chair, text, (all, said))
+
+pub returns-in-Went-clause-peers : goal.returns-in-Went-clause-peers
+returns-in-Went-clause-peers g c =
+    finishes_same_but c.args.now c.args.place c.args.self.now.peers.items c.call.new.self.peers.items c.end_reply.new.self.peers.items c.call.ensures.peers c.end_reply.ensures.peers
+
+pub returns-in-Went-clause-here : goal.returns-in-Went-clause-here
+returns-in-Went-clause-here g c =
+    finishes_goes_on c.args.now c.args.self.now.patience c.args.place c.args.self.now.peers.items c.call.new.self.peers.items c.end_reply.new.self.peers.items c.call.ensures.peers
+    (c.call.ensures.went c.in-Went.is) c.end_reply.ensures.peers
