@@ -252,10 +252,6 @@ replied now patience place chair (Some text) seats chairs new news (since, rest)
 pub goes_on_more : (now p q : ℕ) (a b c : Option (Option Peer)) → GoesOn now p a b → q ≡ p → GoesOn now q b c → GoesOn now p a c
 goes_on_more now p q a b c first same second = goes_on_twice now p a b c first (subst (λ r. GoesOn now r b c) same second)
 
-pub goes_on_or_goes : (now p : ℕ) (a b c : Option (Option Peer)) → GoesOn now p a b → IsGone c ⊎ (c ≡ b) → GoesOn now p a c
-goes_on_or_goes now p a b c first (inl gone) = inl gone
-goes_on_or_goes now p a b c first (inr same) = subst (GoesOn now p a) (sym same) first
-
 reading_before : (now p : ℕ) (a b : Option (Option Peer)) → GoesOn now p a b → is_at Reading b ≡ true → is_at Reading a ≡ true
 reading_before now p a b (inl gone) is = absurd (gone_not_at Reading b gone is)
 reading_before now p a b (inr (inl same)) is = ap (is_at Reading) (sym same) ∙ is
@@ -296,16 +292,7 @@ pub as_answers : (W : Type 0) {T : Type 0} (answers : List ℕ → T → T → O
 as_answers W answers a s t (inl same) = ([], same)
 as_answers W answers a s t (inr (was, chair, text, one)) = (chair.bytes.items ∷ [], (t, (text, one.1), refl))
 
--- what other places are, after turns of one, and after who then waits or leaves
-pub others_same : {C : Type 0} (place : ℕ) (seats mid : List (Option Peer)) (chairs mids : List (Option C)) → SameBut place seats mid → SameBut place chairs mids
-    → (k : ℕ) → k ≢ place → StaysOrYields seats chairs mid mids k
-others_same place seats mid chairs mids seat chair k other = inl (seat k other, chair k other)
-
-pub others_wait : {C : Type 0} (place : ℕ) (seats mid new : List (Option Peer)) (chairs mids news : List (Option C)) → SameBut place seats mid → SameBut place chairs mids
-    → ((k : ℕ) → k ≢ place → StaysOrYields mid mids new news k) → (k : ℕ) → k ≢ place → StaysOrYields seats chairs new news k
-others_wait place seats mid new chairs mids news seat chair waits k other =
-    stays_after seats chairs mid mids new news k (seat k other) (chair k other) (waits k other)
-
+-- what other places are, after turns of one peer that then leaves
 pub others_leave : {C : Type 0} (place : ℕ) (seats mid new : List (Option Peer)) (chairs mids news : List (Option C)) → SameBut place seats mid → SameBut place chairs mids
     → new ≡ set mid place None → news ≡ set mids place None → (k : ℕ) → k ≢ place → StaysOrYields seats chairs new news k
 others_leave place seats mid new chairs mids news seat chair gone shut k other =
@@ -361,5 +348,3 @@ seated_goes_on now p q r place k mid seats peer new next is reads first second o
 pub on_ok : {A E P : Type 0} (r : Result A E) → P → OnOk r P
 on_ok (Ok x) p = p
 on_ok (Err e) p = tt
-
-pub ruleset places = (other_same, here_set, gone_here)

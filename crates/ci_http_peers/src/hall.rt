@@ -208,7 +208,6 @@ impl<W: Wire + Drop> Hall<W> {
     }
 
     /// Has the request of a place answered, and begins its reply, or ends the peer where there is none.
-    #[tactic(auto, using(crate::proofs::Turns::places))]
     fn answer<T, E, A: Answerer<T, E>>(
         &mut self,
         place: usize,
@@ -236,7 +235,6 @@ impl<W: Wire + Drop> Hall<W> {
     }
 
     /// The reply of a place went as a whole.
-    #[tactic(auto, using(crate::proofs::Turns::places))]
     fn end_reply(&mut self, place: usize, now: u64) -> Step
         ensures ends { (chair : ChairOf W) → slice_get self.old.chairs.items place ≡ Some (Some chair)
             → EndsReply W.ends now place chair self.old.peers.items self.old.chairs.items self.new.peers.items self.new.chairs.items result }
@@ -254,7 +252,6 @@ impl<W: Wire + Drop> Hall<W> {
 
     /// The connection of a place isn't ready: the loop is to hear of it. Where its reply waits, and those that wait are too many bytes in
     /// all now, those give way that have been going longest.
-    #[tactic(auto, using(crate::proofs::Turns::places))]
     fn wait(&mut self, place: usize)
         ensures others { (k : ℕ) → k ≢ place → StaysOrYields self.old.peers.items self.old.chairs.items self.new.peers.items self.new.chairs.items k }
         ensures here { IsGone (slice_get self.new.peers.items place) ⊎ (slice_get self.new.peers.items place ≡ slice_get self.old.peers.items place) }
@@ -280,7 +277,6 @@ impl<W: Wire + Drop> Hall<W> {
     }
 
     /// Has the loop hear of the connection of a place, or ends it where the system refuses.
-    #[tactic(auto, using(crate::proofs::Turns::places))]
     fn listen(&mut self, place: usize)
         ensures peers { SameBut place self.old.peers.items self.new.peers.items }
         ensures chairs { SameBut place self.old.chairs.items self.new.chairs.items }
