@@ -1,5 +1,12 @@
 -- Places of a table, and what one turn after another leaves of them.
 use Rattle.std.proofs.Common.{◌≡◌, ◌≢◌, ◌⊎◌, ℕ, zero, suc, ◌+◌, ◌<◌, ◌≤◌, Bool, true, false, List, [], ◌∷◌, ◌++◌, take, drop, set, get_or, length, refl, sym, ◌∙◌, ap, subst, inl, inr, arith}
+use Rattle.std.specs.declared.io.Error.{Error}
+use Rattle.ci_http_peers.specs.declared.peer.Stage.{Stage}
+use Rattle.ci_http_peers.specs.declared.peer.Stage.TheVariants as stage
+use Rattle.ci_http_peers.specs.declared.chair.Step.{Step}
+use Rattle.ci_http_peers.specs.declared.chair.Step.TheVariants as step
+use Rattle.ci_http_peers.specs.Peer.{is_among}
+use Rattle.ci_http_peers.specs.Connections.{Reads}
 use Rattle.std.specs.Prelude.{Option, Some, None, Result, Ok, Err, OnOk, slice_get}
 use Rattle.std.proofs.Math.Seq.{take-append_seam}
 use Rattle.std.proofs.lemmas.Bool.{true≢false}
@@ -9,7 +16,7 @@ use Rattle.ci_http_peers.specs.declared.peer.Peer.{Peer}
 use Rattle.ci_http_peers.specs.declared.peer.Among.{Among}
 use Rattle.ci_http_peers.specs.declared.peer.Among.TheVariants.{Reading, Writing}
 use Rattle.ci_http_peers.specs.Peers.{IsNext, IsNoneOf}
-use Rattle.ci_http_peers.specs.Turns.{is_at, IsGone, SameBut, StaysOrYields, GoesOn, Answers, AnswersLast, AnswersOnce, AnswersOne, IsHeard, Begins, Finishes, Replies, cleared, cleared_at, reads_since, writes_since, ends_since}
+use Rattle.ci_http_peers.specs.Turns.{AnswersHere, CallsAt, is_at, IsGone, SameBut, StaysOrYields, GoesOn, Answers, AnswersLast, AnswersOnce, AnswersOne, IsHeard, Begins, Finishes, Replies, cleared, cleared_at, reads_since, writes_since, ends_since}
 
 -- another place is as before once one is written
 pub other_same : {A : Type 0} (xs : List A) (place k : ℕ) (v : A) → k ≢ place → slice_get (set xs place v) k ≡ slice_get xs k
@@ -348,3 +355,35 @@ seated_goes_on now p q r place k mid seats peer new next is reads first second o
 pub on_ok : {A E P : Type 0} (r : Result A E) → P → OnOk r P
 on_ok (Ok x) p = p
 on_ok (Err e) p = tt
+
+-- a call by which a request came whole was one that takes bytes of it
+whole_reads : {W : Type 0} (says : List ℕ → Option ℕ → Type 0) (receives : W → W → Result ℕ Error → List ℕ → Type 0) (sends : W → List ℕ → W → Result ℕ Error → Type 0)
+    (st : Stage) (old new : Chair W) (s : Step) → is_among Reading st ≡ true → CallsAt says receives sends st old new s
+    → (got : Result ℕ Error) × (buffer : List ℕ) × receives old.wire new.wire got buffer × Reads old new s says got buffer
+whole_reads says receives sends stage.Reading old new s is calls = calls
+whole_reads says receives sends (stage.Writing bytes) old new s is calls = absurd (true≢false (sym is))
+whole_reads says receives sends stage.Ending old new s is calls = absurd (true≢false (sym is))
+
+there : {A : Type 0} (seat : Option (Option A)) → (IsGone seat → ⊥) → (x : A) × (seat ≡ Some (Some x))
+there None not = absurd (not tt)
+there (Some None) not = absurd (not tt)
+there (Some (Some x)) not = (x, refl)
+
+-- of a place whose request came whole by a call: what was answered are the bytes of its connection
+pub answers_here : {W T : Type 0} (says : List ℕ → Option ℕ → Type 0) (receives : W → W → Result ℕ Error → List ℕ → Type 0) (sends : W → List ℕ → W → Result ℕ Error → Type 0)
+    (answers : List ℕ → T → T → Option (List ℕ) → Type 0) (seat : Option (Option Peer)) (chair : Option (Option (Chair W))) (after : Option (Option (Chair W))) (s : Step)
+    (new : Chair W) (text : Option (List ℕ)) (old_subject new_subject : T) → s ≡ step.Whole → is_at Reading seat ≡ true → (IsGone chair → s ≡ step.Over) → after ≡ Some (Some new)
+    → ((peer : Peer) → (old : Chair W) → seat ≡ Some (Some peer) → chair ≡ Some (Some old)
+    → (x : Chair W) × (after ≡ Some (Some x)) × CallsAt says receives sends peer.stage old x s)
+    → answers new.bytes.items old_subject new_subject text → AnswersHere says receives answers chair old_subject new_subject
+answers_here {W} says receives sends answers seat chair after s new text t u whole reads none at calls said =
+    let gone : IsGone chair → ⊥ = λ g. let e : step.Over ≡ step.Whole = sym (none g) ∙ whole in absurd (cc) in
+    let (old, was) = there chair gone in
+    let (peer, sits) = seated Reading seat reads in
+    let (x, is, call) = calls peer old sits was in
+    let both : Some (Some x) ≡ Some (Some new) = sym is ∙ at in
+    let same : x ≡ new = cc in
+    let reading : is_among Reading peer.stage ≡ true = ap (is_at Reading) (sym sits) ∙ reads in
+    let called : CallsAt says receives sends peer.stage old new step.Whole =
+    subst (λ n. CallsAt says receives sends peer.stage old n step.Whole) same (subst (λ r. CallsAt says receives sends peer.stage old x r) whole call) in
+    inr (old, new, text, was, whole_reads says receives sends peer.stage old new step.Whole reading called, said)

@@ -146,6 +146,14 @@ AnswersLast W answers seat seat_new old new =
     (new ≡ old) ⊎ ((is_at among.Reading seat ≡ true) × (is_at among.Reading seat_new ≡ false)
     × (chair : Chair W) × (text : Option (List ℕ)) × AnswersOne answers old new chair text)
 
+-- the subject is as before; or a call on the connection at a place took the last bytes of its request, and just its bytes were answered
+module _ {W T : Type 0} (says : List ℕ → Option ℕ → Type 0) (receives : W → W → Result ℕ Error → List ℕ → Type 0) (answers : List ℕ → T → T → Option (List ℕ) → Type 0) where
+  abbrev pub AnswersHere : Option (Option (Chair W)) → T → T → Type 0
+  AnswersHere seat old new =
+      (new ≡ old) ⊎ ((before : Chair W) × (chair : Chair W) × (text : Option (List ℕ)) × (seat ≡ Some (Some before))
+      × ((got : Result ℕ Error) × (buffer : List ℕ) × receives before.wire chair.wire got buffer × Reads before chair step.Whole says got buffer)
+      × answers chair.bytes.items old new text)
+
 -- requests that were answered, one after the other
 abbrev pub Answers : {T : Type 0} → (List ℕ → T → T → Option (List ℕ) → Type 0) → List (List ℕ) → T → T → Type 0
 Answers {T} answers [] old new = new ≡ old

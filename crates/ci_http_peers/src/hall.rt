@@ -4,7 +4,7 @@ ghost use Rattle.std.specs.Prelude.{◌≡◌, ◌≢◌, ◌<◌, ◌≤◌, �
 ghost use Rattle.ci_http_peers.specs.declared.peer.Among.TheVariants.{All, Reading, Writing};
 ghost use Rattle.ci_http_peers.specs.declared.peer.Peer.{Peer as PeerOf};
 ghost use Rattle.ci_http_peers.specs.declared.chair.Chair.{Chair as ChairOf};
-ghost use Rattle.ci_http_peers.specs.Turns.{Answers, AnswersLast, AnswersOnce, Begins, CallsAt, Ends, EndsReply, Finishes, GoesOn, HasAll, IsGone, IsHeard, Replies, SameBut, Seats, StaysOrYields, cleared, cleared_at, is_at};
+ghost use Rattle.ci_http_peers.specs.Turns.{Answers, AnswersHere, AnswersLast, AnswersOnce, Begins, CallsAt, Ends, EndsReply, Finishes, GoesOn, HasAll, IsGone, IsHeard, Replies, SameBut, Seats, StaysOrYields, cleared, cleared_at, is_at};
 ghost use Rattle.ci_http_peers.specs.Answers.{text_of};
 ghost use Rattle.ci_http_peers.specs.Peer.{is_among};
 ghost use Rattle.ci_http_peers.specs.Peers.{IsNext, IsNextDeadline, bytes_held, kept};
@@ -169,6 +169,8 @@ impl<W: Wire + Drop> Hall<W> {
         ensures here { GoesOn now self.old.patience (slice_get self.old.peers.items place) (slice_get self.new.peers.items place) }
         // One request was answered at most, and only where one was to come, all of whose bytes have.
         ensures once { AnswersOnce W (A.answers answerer.now) (slice_get self.old.peers.items place) subject.old subject.new }
+        // It was the one of this connection.
+        ensures whose { AnswersHere (A.says_due answerer.now) W.receives (A.answers answerer.now) (slice_get self.old.chairs.items place) subject.old subject.new }
         // None is to come here any more then.
         ensures last { OnOk result (AnswersLast W (A.answers answerer.now) (slice_get self.old.peers.items place)
             (slice_get self.new.peers.items place) subject.old subject.new) }

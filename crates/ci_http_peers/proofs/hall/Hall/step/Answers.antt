@@ -1,5 +1,6 @@
 use Rattle.std.proofs.Common.{inr}
-use Rattle.ci_http_peers.proofs.Turns.{begins_goes_on, begins_same_but, finishes_goes_on, finishes_same_but, replied}
+use Rattle.std.specs.Prelude.{slice_get}
+use Rattle.ci_http_peers.proofs.Turns.{answers_here, begins_goes_on, begins_same_but, finishes_goes_on, finishes_same_but, replied}
 use Rattle.ci_http_peers.proofs.hall.Hall.step.Goals as goal
 
 pub returns-in_err-answer-in-Whole-clause-once : goal.returns-in_err-answer-in-Whole-clause-once
@@ -41,3 +42,19 @@ pub returns-in-Went-clause-here : goal.returns-in-Went-clause-here
 returns-in-Went-clause-here g c =
     finishes_goes_on c.args.now c.args.self.now.patience c.args.place c.args.self.now.peers.items c.call.new.self.peers.items c.end_reply.new.self.peers.items c.call.ensures.peers
     (c.call.ensures.went c.in-Went.is) c.end_reply.ensures.peers
+
+pub returns-in_err-answer-in-Whole-clause-whose : goal.returns-in_err-answer-in-Whole-clause-whose
+returns-in_err-answer-in-Whole-clause-whose g c =
+    let (reads, chair, at, all) = c.call.ensures.whole c.in-Whole.is in
+    let (text, said, rest) = c.answer.ensures.answers chair at in
+    answers_here (g.A.Answerer.says_due c.args.answerer.now) g.W.Wire.receives g.W.Wire.sends (g.A.Answerer.answers c.args.answerer.now)
+    (slice_get c.args.self.now.peers.items c.args.place) (slice_get c.args.self.now.chairs.items c.args.place) (slice_get c.call.new.self.chairs.items c.args.place) c.call.result
+    chair text c.args.subject.now c.answer.new.subject c.in-Whole.is reads c.call.ensures.none at c.call.ensures.calls said
+
+pub returns-in_ok-answer-in-Whole-clause-whose : goal.returns-in_ok-answer-in-Whole-clause-whose
+returns-in_ok-answer-in-Whole-clause-whose g c =
+    let (reads, chair, at, all) = c.call.ensures.whole c.in-Whole.is in
+    let (text, said, rest) = c.answer.ensures.answers chair at in
+    answers_here (g.A.Answerer.says_due c.args.answerer.now) g.W.Wire.receives g.W.Wire.sends (g.A.Answerer.answers c.args.answerer.now)
+    (slice_get c.args.self.now.peers.items c.args.place) (slice_get c.args.self.now.chairs.items c.args.place) (slice_get c.call.new.self.chairs.items c.args.place) c.call.result
+    chair text c.args.subject.now c.answer.new.subject c.in-Whole.is reads c.call.ensures.none at c.call.ensures.calls said
