@@ -1,6 +1,7 @@
 -- Peers that give way to replies.
-use Rattle.std.proofs.Common.{◌≡◌, ℕ, zero, suc, true, false, ◌+◌, ◌<◌, List, [], ◌∷◌, ◌++◌, map, take, drop, set, get_or, length, refl, sym, ◌∙◌, ap, subst, arith}
-use Rattle.std.specs.Prelude.{Option, Some, None, slice_get}
+use Rattle.std.proofs.Common.{◌≡◌, ℕ, zero, suc, true, false, ◌+◌, ◌<◌, List, [], ◌∷◌, ◌++◌, ◌⊎◌, inr, map, take, drop, set, get_or, length, refl, sym, ◌∙◌, ap, subst, arith}
+use Rattle.std.specs.Prelude.{Option, Some, None, slice_get, nat_eq, Bool}
+use Rattle.std.proofs.lemmas.Bool.Decides.{nat_tests}
 use Rattle.std.specs.List.{sum_by}
 use Rattle.std.proofs.lemmas.Bool.{true≢false}
 use Rattle.std.proofs.lemmas.List.Sums.{sum_by-cons, sum_by-set}
@@ -12,6 +13,7 @@ use Rattle.ci_http_peers.specs.declared.peer.Among.TheVariants.{Writing}
 use Rattle.ci_http_peers.specs.declared.peers.TheConstants.{MAX_REPLY_BYTES}
 use Rattle.ci_http_peers.specs.Peer.{is_among}
 use Rattle.ci_http_peers.specs.Peers.{IsNoneOf, IsSoonest, IsTooMany, bytes_at, bytes_of, bytes_held}
+use Rattle.ci_http_peers.proofs.Turns.{here_set, is_or_gone, other_same}
 
 -- how many sit at a place
 abbrev pub seat_count : Option Peer → ℕ
@@ -62,13 +64,6 @@ fewer_sit seats place peer at =
     let one : seat_count (get_or seats place None) ≡ 1 = ap seat_count (get_or_from_slice_get seats place (Some peer) None at) in
     omega (arith, sum, one)
 
-other_same : (seats : List (Option Peer)) (place k : ℕ) (seat : Option Peer) → (k ≡ place → ⊥) → slice_get (set seats place seat) k ≡ slice_get seats k
-other_same [] place k seat other = refl
-other_same (s ∷ seats) zero zero seat other = absurd (other refl)
-other_same (s ∷ seats) zero (suc k) seat other = refl
-other_same (s ∷ seats) (suc place) zero seat other = refl
-other_same (s ∷ seats) (suc place) (suc k) seat other = other_same seats place k seat (λ e. other (ap suc e))
-
 -- who isn't taking a reply sits as before once one goes that is
 pub others_sit : (seats : List (Option Peer)) (place : ℕ) (peer : Peer) (k : ℕ) → slice_get seats place ≡ Some (Some peer)
     → is_among Writing peer.stage ≡ true → IsNoneOf Writing (slice_get seats k) → slice_get (set seats place None) k ≡ slice_get seats k
@@ -78,3 +73,18 @@ others_sit seats place peer k at is none = other_same seats place k None differs
     differs e =
         let not : is_among Writing peer.stage ≡ false = subst (IsNoneOf Writing) (ap (slice_get seats) e ∙ at) none in
         true≢false (sym is ∙ not)
+
+-- a place is as it was, or nobody is there any more, also once one goes
+pub only_go : (seats old : List (Option Peer)) (place : ℕ) (peer : Peer) (k : ℕ) → slice_get seats place ≡ Some (Some peer)
+    → (slice_get seats k ≡ slice_get old k) ⊎ (slice_get seats k ≡ Some None)
+    → (slice_get (set seats place None) k ≡ slice_get old k) ⊎ (slice_get (set seats place None) k ≡ Some None)
+only_go seats old place peer k at was = by_place (nat_eq k place) refl
+  where
+    by_place : (t : Bool) → nat_eq k place ≡ t
+        → (slice_get (set seats place None) k ≡ slice_get old k) ⊎ (slice_get (set seats place None) k ≡ Some None)
+    by_place true e =
+        let same : k ≡ place = grind (arith, nat_tests) in
+        inr (ap (slice_get (set seats place None)) same ∙ here_set seats place None (Some peer) at)
+    by_place false e =
+        let other : k ≡ place → ⊥ = λ (s : k ≡ place). absurd (grind (arith, nat_tests)) in
+        is_or_gone (slice_get seats k) (slice_get old k) _ was (other_same seats place k None other)

@@ -1,5 +1,5 @@
 -- What becomes of a connection, by what one call on it gives.
-use Rattle.std.specs.Prelude.{◌≡◌, ◌≢◌, ◌≤◌, ◌<◌, ◌⊎◌, ◌↔◌, ℕ, ◌+◌, suc, zero, min, List, ◌++◌, length, take, drop, Option, Some, None, Bool, true, false, Result, Ok, Err, IsTrue}
+use Rattle.std.specs.Prelude.{◌≡◌, ◌≢◌, ◌≤◌, ◌<◌, ◌⊎◌, ◌↔◌, ℕ, ◌+◌, suc, zero, min, List, ◌++◌, length, take, Option, Some, None, Bool, Result, Ok, Err, IsTrue}
 use Rattle.std.specs.IoError.{error_kind}
 use Rattle.std.specs.declared.io.Error.{Error}
 use Rattle.std.specs.declared.io.ErrorKind.{ErrorKind}

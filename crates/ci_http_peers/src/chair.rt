@@ -120,6 +120,7 @@ impl<W: Wire> Chair<W> {
         ensures sends { self.old.count < length self.old.bytes.items → (got : Result ℕ WhyNot)
             × W.sends self.old.wire (drop self.old.count self.old.bytes.items) self.new.wire got
             × Writes self.old self.new result (drop self.old.count self.old.bytes.items) got }
+        ensures past { length self.old.bytes.items < self.old.count → (result ≡ Step.Over) × (self.new ≡ self.old) }
     {
         let Some(rest) = self.bytes.as_slice().get(self.count..) else {
             return Step::Over;

@@ -1,6 +1,6 @@
 //! Who sits at the places of a table, and who gives way.
 
-ghost use Rattle.std.specs.Prelude.{◌≡◌, ◌<◌, ◌≤◌, ◌↔◌, ℕ, [], map, length, replicate, slice_get, slice_set, Some, None, IsTrue, IfOk, IfSome, IfNone};
+ghost use Rattle.std.specs.Prelude.{◌≡◌, ◌<◌, ◌≤◌, ◌↔◌, ◌⊎◌, ℕ, [], map, length, replicate, slice_get, slice_set, Some, None, IsTrue, IfOk, IfSome, IfNone};
 ghost use Rattle.ci_http_peers.specs.Peers.{IsFree, IsNext, IsNextDeadline, IsNoneOf, IsSoonest, IsTooMany, bytes_of, bytes_held, kept, nearer_of};
 
 use crate::peer::{Among, Peer, Stage};
@@ -125,6 +125,7 @@ pub(crate) fn make_room(seats: &mut [Option<Peer>])
     ensures room { bytes_held seats.new ≤ MAX_REPLY_BYTES }
     ensures others { (k : ℕ) → IsNoneOf Among.Writing (slice_get seats.old k) → slice_get seats.new k ≡ slice_get seats.old k }
     ensures kept { bytes_held seats.old ≤ MAX_REPLY_BYTES → seats.new ≡ seats.old }
+    ensures only_go { (k : ℕ) → (slice_get seats.new k ≡ slice_get seats.old k) ⊎ (slice_get seats.new k ≡ Some None) }
 {
     while let Some(place) = too_many(seats) {
         put(seats, place, None);

@@ -1,9 +1,9 @@
 //! The loop: it waits for a listener and for all peers at once.
 
-ghost use Rattle.std.specs.Prelude.{◌≡◌, ◌-◌, ◌*◌, ℕ, Some, None};
+ghost use Rattle.std.specs.Prelude.{◌≡◌, ◌-◌, ◌*◌, ℕ, List, Some, None};
 ghost use Rattle.std.specs.Duration.{as_nanos};
 ghost use Rattle.std.specs.declared.time.Duration.{Duration as DurationOf};
-ghost use Rattle.ci_http_peers.specs.Turns.{sooner};
+ghost use Rattle.ci_http_peers.specs.Turns.{Answers, sooner};
 
 use crate::answerer::Answerer;
 use crate::door::Door;
@@ -89,7 +89,10 @@ pub fn serve_peers<N: Net, C: Clock, T, E, A: Answerer<T, E>>(
     terms: Terms,
     answerer: &A,
     subject: &mut T,
-) -> Result<(), Unserved<E>> {
+) -> Result<(), Unserved<E>>
+    // Nothing but answers changed the subject, one after the other, however the loop ends.
+    ensures { (requests : List (List ℕ)) × Answers (A.answers answerer.now) requests subject.old subject.new }
+{
     let Ok(start) = Instant::now(clock) else {
         return Err(Unserved::NoClock);
     };
@@ -131,7 +134,9 @@ fn run<'a, C: Clock, T, E, A: Answerer<T, E>>(
     mut entry: Entry<'a>,
     answerer: &A,
     subject: &mut T,
-) -> Result<(), Unserved<E>> {
+) -> Result<(), Unserved<E>>
+    ensures { (requests : List (List ℕ)) × Answers (A.answers answerer.now) requests subject.old subject.new }
+{
     for _ in 0..u64::MAX {
         let nearest = hall.next_deadline();
         if entry.door.is_done() && nearest.is_none() {
@@ -180,7 +185,9 @@ fn hear<'a, C: Clock, T, E, A: Answerer<T, E>>(
     door: &mut Door,
     answerer: &A,
     subject: &mut T,
-) -> Result<(), Unserved<E>> {
+) -> Result<(), Unserved<E>>
+    ensures { (requests : List (List ℕ)) × Answers (A.answers answerer.now) requests subject.old subject.new }
+{
     for event in events {
         let now = ticks.now()?;
         let Token(place) = event.token();
@@ -203,7 +210,9 @@ fn accept_some<'a, C: Clock, T, E, A: Answerer<T, E>>(
     entry: &mut Entry<'a>,
     answerer: &A,
     subject: &mut T,
-) -> Result<(), Unserved<E>> {
+) -> Result<(), Unserved<E>>
+    ensures { (requests : List (List ℕ)) × Answers (A.answers answerer.now) requests subject.old subject.new }
+{
     for _ in 0..MAX_ACCEPTED {
         let now = ticks.now()?;
         let Some(stream) = entry.next(now) else {

@@ -1,0 +1,38 @@
+use Rattle.std.proofs.Common.{◌≡◌, ◌∙◌, refl, sym, ap, length, arith}
+use Rattle.std.specs.Prelude.{Some, None, slice_get, slice_set}
+use Rattle.ci_http_peers.proofs.Turns.{some_step, written_back}
+use Rattle.ci_http_peers.proofs.hall.Hall.end_reply.Goals as goal
+
+pub returns-in_default-clause-ends : goal.returns-in_default-clause-ends
+returns-in_default-clause-ends g c = λ chair at.
+    let chairs = c.args.self.now.chairs in
+    let len : length c.end_at.new.chairs ≡ chairs.len = omega (arith, c.end_at.auto.chairs, c.deref_mut.ensures.len) in
+    let back = written_back c.end_at.new.chairs chairs.items chairs.len len in
+    let here : slice_get c.deref_mut.result.now c.args.place ≡ Some (Some chair) = ap (λ l. slice_get l c.args.place) c.deref_mut.ensures.value ∙ at in (
+      (λ exact. (refl, refl, back ∙ (c.end_at.ensures.over chair here exact).1 ∙ c.deref_mut.ensures.value)),
+      (λ more.
+          let (new, is, ends, again, waits) = c.end_at.ensures.ends chair here more in
+          absurd (some_step chair.is_heard c.end_at.result _ _ again waits c.in_default.is)),
+    )
+
+pub returns-clause-ends : goal.returns-clause-ends
+returns-clause-ends g c = λ chair at.
+    let chairs = c.args.self.now.chairs in
+    let seats = c.args.self.now.peers in
+    let len : length c.end_at.new.chairs ≡ chairs.len = omega (arith, c.end_at.auto.chairs, c.deref_mut.ensures.len) in
+    let back = written_back c.end_at.new.chairs chairs.items chairs.len len in
+    let seats_len : length c.put.new.seats ≡ seats.len = omega (arith, c.put.auto.seats, c.deref_mut-2.ensures.len) in
+    let seats_back = written_back c.put.new.seats seats.items seats.len seats_len in
+    let here : slice_get c.deref_mut.result.now c.args.place ≡ Some (Some chair) = ap (λ l. slice_get l c.args.place) c.deref_mut.ensures.value ∙ at in (
+      (λ exact.
+          let over : c.end_at.result ≡ None = (c.end_at.ensures.over chair here exact).0 in
+          let some : None ≡ Some c.in-Some.step = sym over ∙ c.in-Some.is in
+          absurd (cc)),
+      (λ more.
+          let (new, is, ends, again, waits) = c.end_at.ensures.ends chair here more in (
+            seats_back ∙ c.put.ensures ∙ ap (λ l. slice_set l c.args.place (Some c.ending.result)) c.deref_mut-2.ensures.value ∙ ap (λ p. slice_set seats.items c.args.place (Some p)) c.ending.ensures,
+            (new, back ∙ is ∙ ap (λ l. slice_set l c.args.place (Some new)) c.deref_mut.ensures.value, ends),
+            (λ heard. let e : Some c.in-Some.step ≡ Some _ = sym c.in-Some.is ∙ again heard in cc),
+            (λ heard. let e : Some c.in-Some.step ≡ Some _ = sym c.in-Some.is ∙ waits heard in cc),
+          )),
+    )

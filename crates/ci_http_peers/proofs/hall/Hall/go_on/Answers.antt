@@ -1,0 +1,60 @@
+use Rattle.std.proofs.Common.{◌∙◌, inl, subst}
+use Rattle.std.specs.Prelude.{slice_get}
+use Rattle.ci_http_peers.specs.Turns.{GoesOn}
+use Rattle.ci_http_peers.proofs.Turns.{answers_last_more, answers_once, answers_once_more, goes_on_more, gone_at, others_leave, same_but_twice, unheard_none}
+use Rattle.ci_http_peers.proofs.hall.Hall.go_on.Goals as goal
+
+pub returns-in_err-step-clause-answered : goal.returns-in_err-step-clause-answered
+returns-in_err-step-clause-answered g c =
+    answers_once_more g.row.W.Denot (g.A.Answerer.answers c.args.answerer.now) c.args.now c.args.self.now.patience
+    (slice_get c.args.self.now.peers.items c.args.place) (slice_get c.loop.self.peers.items c.args.place) c.args.subject.now c.loop.subject c.step.new.subject
+    c.loop.invariant.here c.loop.invariant.answered c.step.ensures.once
+
+pub returns-in-Waits-clause-answered : goal.returns-in-Waits-clause-answered
+returns-in-Waits-clause-answered g c =
+    answers_once_more g.row.W.Denot (g.A.Answerer.answers c.args.answerer.now) c.args.now c.args.self.now.patience
+    (slice_get c.args.self.now.peers.items c.args.place) (slice_get c.loop.self.peers.items c.args.place) c.args.subject.now c.loop.subject c.step.new.subject
+    c.loop.invariant.here c.loop.invariant.answered c.step.ensures.once
+
+pub returns-in-Over-clause-others : goal.returns-in-Over-clause-others
+returns-in-Over-clause-others g c =
+    let old = c.args.self.now in
+    let mid = c.step.new.self in
+    others_leave c.args.place old.peers.items mid.peers.items c.leave.new.self.peers.items old.chairs.items mid.chairs.items c.leave.new.self.chairs.items
+    (same_but_twice c.args.place old.peers.items c.loop.self.peers.items mid.peers.items c.loop.invariant.peers c.step.ensures.peers)
+    (same_but_twice c.args.place old.chairs.items c.loop.self.chairs.items mid.chairs.items c.loop.invariant.chairs c.step.ensures.chairs)
+    c.leave.ensures.peers c.leave.ensures.chairs
+
+pub returns-in-Over-clause-here : goal.returns-in-Over-clause-here
+returns-in-Over-clause-here g c = inl (gone_at c.step.new.self.peers.items c.leave.new.self.peers.items c.args.place c.leave.ensures.peers)
+
+pub returns-in-Over-clause-answered : goal.returns-in-Over-clause-answered
+returns-in-Over-clause-answered g c =
+    answers_once_more g.row.W.Denot (g.A.Answerer.answers c.args.answerer.now) c.args.now c.args.self.now.patience
+    (slice_get c.args.self.now.peers.items c.args.place) (slice_get c.loop.self.peers.items c.args.place) c.args.subject.now c.loop.subject c.step.new.subject
+    c.loop.invariant.here c.loop.invariant.answered c.step.ensures.once
+
+pub returns-in-Over-clause-heard : goal.returns-in-Over-clause-heard
+returns-in-Over-clause-heard g c =
+    unheard_none (slice_get c.leave.new.self.chairs.items c.args.place) (gone_at c.step.new.self.chairs.items c.leave.new.self.chairs.items c.args.place c.leave.ensures.chairs)
+
+pub loop-preserved : goal.loop-preserved
+loop-preserved g c =
+    let old = c.args.self.now in
+    let seat = slice_get old.peers.items c.args.place in
+    let mid = slice_get c.loop.self.peers.items c.args.place in
+    let new = slice_get c.step.new.self.peers.items c.args.place in
+    let turn = subst (λ p. GoesOn c.args.now p mid new) c.loop.invariant.patience c.step.ensures.here in
+    record {
+      peers = same_but_twice c.args.place old.peers.items c.loop.self.peers.items c.step.new.self.peers.items c.loop.invariant.peers c.step.ensures.peers;
+      chairs = same_but_twice c.args.place old.chairs.items c.loop.self.chairs.items c.step.new.self.chairs.items c.loop.invariant.chairs c.step.ensures.chairs;
+      here = goes_on_more c.args.now old.patience c.loop.self.patience seat mid new c.loop.invariant.here c.loop.invariant.patience c.step.ensures.here;
+      answered = answers_last_more g.row.W.Denot (g.A.Answerer.answers c.args.answerer.now) c.args.now old.patience seat mid new c.args.subject.now c.loop.subject c.step.new.subject
+          c.loop.invariant.here turn c.loop.invariant.answered c.in_ok-step.ensures.last;
+      patience = c.step.ensures.patience ∙ c.loop.invariant.patience;
+    }
+
+pub returns-clause-answered : goal.returns-clause-answered
+returns-clause-answered g c =
+    answers_once g.row.W.Denot (g.A.Answerer.answers c.args.answerer.now) (slice_get c.args.self.now.peers.items c.args.place) (slice_get c.loop.self.peers.items c.args.place) c.args.subject.now c.loop.subject
+    c.loop.invariant.answered
