@@ -182,7 +182,7 @@ fn source_in(found: &ArgMatches<'_>) -> Option<Source>
 }
 
 /// The source of this name, if there is one.
-fn source_named(word: &str) -> Option<Source>
+pub(crate) fn source_named(word: &str) -> Option<Source>
     ensures { result ≡ source_named word.now }
 {
     match word {
