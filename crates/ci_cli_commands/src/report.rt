@@ -1,5 +1,6 @@
 //! What an operator is told of the server of a file.
 
+use crate::cause::say_unopened;
 use crate::file::{let_go, open};
 use ci_cli_words::line::{Line, say, say_report};
 use ci_cli_words::task::ReportKind;
@@ -13,14 +14,20 @@ use std::alloc::{AllocError, Global};
 use std::io::Write;
 
 /// Prints a report of the server of a file, and gives the exit status. Once it is opened, nothing changes in the file.
-pub fn report<O: Write>(rt: &HostRuntime, file: &str, kind: ReportKind, output: &mut O) -> u8 {
+pub fn report<O: Write, E: Write>(
+    rt: &HostRuntime,
+    file: &str,
+    kind: ReportKind,
+    output: &mut O,
+    errors: &mut E,
+) -> u8 {
     match open(rt, file) {
         Ok(mut server) => {
             let told = text_of(rt.alloc(), &mut server, kind);
             let_go(server);
             print(told, output)
         }
-        Err(line) => say(output, line),
+        Err(unopened) => say_unopened(output, errors, file, unopened),
     }
 }
 
