@@ -11,7 +11,8 @@ use clap::builder::ValueParser;
 use clap::{Arg, ArgAction, Command};
 use std::alloc::{AllocError, Global};
 
-const VERSION: &str = "0.1.0";
+/// The program's version, and in a line of its own that of the format of the files that it makes.
+const VERSION: &str = "0.1.0\nformat: 2";
 
 pub(crate) const CHECK: &str = "check";
 
