@@ -83,7 +83,7 @@ fn perform<C: Clock, R: RandomSource, I: Read + Drop, O: Write, E: Write>(
         Task::Init(file) => init(rt, file, output, errors),
         Task::Migrate(file) => migrate(rt, file, output, errors),
         Task::Send(file, asked) => send(rt, file, *asked, sources, output, errors),
-        Task::Report(file, kind) => report(rt, file, *kind, output, errors),
+        Task::Report(file, kind, form) => report(rt, file, *kind, *form, output, errors),
         Task::Prune(file, before) => prune(rt, file, *before, sources, output, errors),
         Task::Serve(options) => serve(rt, *options, sources, output, errors),
     }

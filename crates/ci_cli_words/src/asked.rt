@@ -3,16 +3,16 @@
 ghost use Rattle.std.specs.Prelude.{◌≡◌, IfOk, Some};
 ghost use Rattle.clap.specs.Walk.{rows_of};
 ghost use Rattle.clap.specs.Matches.{found_of};
-ghost use Rattle.ci_cli_words.specs.Words.{Asks, PausesBy, Reads, RefersTo, RunsBy, ServesBy, TaggedBy, pairs, ref_kind_of, report_of, reported, source_named, source_of, variables_of};
+ghost use Rattle.ci_cli_words.specs.Words.{Asks, PausesBy, Reads, RefersTo, RunsBy, ServesBy, TaggedBy, pairs, ref_kind_of, report_form_of, report_of, reported, source_named, source_of, variables_of};
 ghost use Rattle.ci_cli_words.specs.declared.command_name.CommandName.TheVariants as names;
 
 use crate::command_line::{
-    BEFORE, DB, FILE, KIND, NAME, PIPELINE, PORT, PROJECT, REF, REQUESTS, RESUME, RUNNER, SOURCE,
+    BEFORE, DB, FILE, JSON, KIND, NAME, PIPELINE, PORT, PROJECT, REF, REQUESTS, RESUME, RUNNER, SOURCE,
     TAG, TAGS, UNTAGGED,
 };
 use crate::command_name::CommandName;
 use crate::date::midnight_of;
-use crate::task::{AdminRequest, PlanOptions, ReportKind, RunnerOptions, ServeOptions, Task};
+use crate::task::{AdminRequest, PlanOptions, ReportForm, ReportKind, RunnerOptions, ServeOptions, Task};
 use crate::value::{is_set, number_in, port_in, short_number_in, text_in, word_in};
 use crate::variables::variables_in;
 use ci_machine::records::{RefKind, Source};
@@ -105,7 +105,7 @@ fn report_in<'a>(found: &ArgMatches<'a>) -> Option<Task<'a>>
 {
     let file = text_in(found, DB)?;
     let kind = report_kind_in(found)?;
-    Some(Task::Report(file, kind))
+    Some(Task::Report(file, kind, report_form_in(found)))
 }
 
 /// What `prune` asks for.
@@ -201,6 +201,17 @@ fn report_kind_in(found: &ArgMatches<'_>) -> Option<ReportKind>
 {
     let kind = word_in(found, KIND)?;
     report_kind(kind, number_in(found, PIPELINE))
+}
+
+/// JSON where the flag `--json` is there, and a table else.
+fn report_form_in(found: &ArgMatches<'_>) -> ReportForm
+    ensures { result ≡ report_form_of (rows_of (found_of found.now)) }
+{
+    if is_set(found, JSON) {
+        ReportForm::Json
+    } else {
+        ReportForm::Table
+    }
 }
 
 /// The kind of a report. A pipeline's number is wanted of one kind, and of no other.

@@ -65,6 +65,8 @@ pub(crate) const KIND: &str = "kind";
 
 pub(crate) const PIPELINE: &str = "pipeline";
 
+pub(crate) const JSON: &str = "json";
+
 pub(crate) const BEFORE: &str = "before";
 
 pub(crate) const PORT: &str = "port";
@@ -255,13 +257,15 @@ fn report<'a>(alloc: Global) -> Result<Command<'a>, AllocError>
         "queue, the pending jobs; pipeline, one with its jobs; or runners",
     );
     let pipeline = number(alloc, PIPELINE, MAX_NUMBER).help("The pipeline's number");
+    let json = flag(alloc, JSON).help("As JSON, and not as a table");
     over_server_file(
         alloc,
         REPORT,
         "Prints what the server of a file has, as a table",
     )?
     .arg(kind)?
-    .arg(pipeline)
+    .arg(pipeline)?
+    .arg(json)
 }
 
 fn prune<'a>(alloc: Global) -> Result<Command<'a>, AllocError>
