@@ -17,7 +17,7 @@ _ciserver() {
     runner-pause) options='--db --runner --resume -h --help' ;;
     report) options='--db --kind --pipeline --json -h --help' ;;
     prune) options='--db --before -h --help' ;;
-    serve) options='--db --port --requests -h --help' ;;
+    serve) options='--db --port --requests --stop-on-fault -h --help' ;;
   esac
   case $command:$before in
     *:--db)

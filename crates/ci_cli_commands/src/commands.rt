@@ -195,6 +195,7 @@ fn listen<S: Alter, C: Clock, R: RandomSource, O: Write>(
         sources,
         Duration::from_secs(PATIENCE_SECONDS),
         options.requests,
+        options.stops_on_fault,
     );
     match (is_closed(server), served) {
         (true, _) => say(output, Line::Closed),

@@ -79,6 +79,7 @@ is_set option rows = is_true (one_of option rows)
 
 abbrev pub ServesBy : List Row → ServeOptions → Type 0
 ServesBy rows o = HasFile rows o.file × (number_of 16 (codes "port") rows ≡ Some o.port) × (number_of 32 (codes "requests") rows ≡ Some o.requests)
+    × (o.stops_on_fault ≡ is_set (codes "stop-on-fault") rows)
 
 -- the tags, if they were given
 abbrev pub TaggedBy : List Row → Option (Bor Text) → Type 0

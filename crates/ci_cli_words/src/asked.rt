@@ -7,12 +7,14 @@ ghost use Rattle.ci_cli_words.specs.Words.{Asks, PausesBy, Reads, RefersTo, Runs
 ghost use Rattle.ci_cli_words.specs.declared.command_name.CommandName.TheVariants as names;
 
 use crate::command_line::{
-    BEFORE, DB, FILE, JSON, KIND, NAME, PIPELINE, PORT, PROJECT, REF, REQUESTS, RESUME, RUNNER, SOURCE,
-    TAG, TAGS, UNTAGGED,
+    BEFORE, DB, FILE, JSON, KIND, NAME, PIPELINE, PORT, PROJECT, REF, REQUESTS, RESUME, RUNNER,
+    SOURCE, STOP_ON_FAULT, TAG, TAGS, UNTAGGED,
 };
 use crate::command_name::CommandName;
 use crate::date::midnight_of;
-use crate::task::{AdminRequest, PlanOptions, ReportForm, ReportKind, RunnerOptions, ServeOptions, Task};
+use crate::task::{
+    AdminRequest, PlanOptions, ReportForm, ReportKind, RunnerOptions, ServeOptions, Task,
+};
 use crate::value::{is_set, number_in, port_in, short_number_in, text_in, word_in};
 use crate::variables::variables_in;
 use ci_machine::records::{RefKind, Source};
@@ -227,7 +229,7 @@ fn report_kind(kind: &str, pipeline: Option<u64>) -> Option<ReportKind>
     }
 }
 
-/// The file, the port and how many connections are served.
+/// The file, the port, how many connections are served, and whether a fault ends it.
 fn serve_options_in<'a>(found: &ArgMatches<'a>) -> Option<ServeOptions<'a>>
     ensures { Reads (ServesBy (rows_of (found_of found.now))) result }
 {
@@ -235,6 +237,7 @@ fn serve_options_in<'a>(found: &ArgMatches<'a>) -> Option<ServeOptions<'a>>
         file: text_in(found, DB)?,
         port: port_in(found, PORT)?,
         requests: short_number_in(found, REQUESTS)?,
+        stops_on_fault: is_set(found, STOP_ON_FAULT),
     })
 }
 

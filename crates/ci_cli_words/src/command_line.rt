@@ -73,6 +73,8 @@ pub(crate) const PORT: &str = "port";
 
 pub(crate) const REQUESTS: &str = "requests";
 
+pub(crate) const STOP_ON_FAULT: &str = "stop-on-fault";
+
 /// Where the rules of CI files stand.
 const RULES: &str = "The profile, with examples and its codes, is described in docs/PROFILE.md.";
 
@@ -287,11 +289,13 @@ fn serve<'a>(alloc: Global) -> Result<Command<'a>, AllocError>
     let requests = number(alloc, REQUESTS, u32::MAX as u64)
         .required(true)
         .help("How many connections are served before the program ends");
+    let stop = flag(alloc, STOP_ON_FAULT).help("A fault of the store ends the program");
     over_server_file(
         alloc,
         SERVE,
         "Serves requests over HTTP, one after the other",
     )?
     .arg(port)?
-    .arg(requests)
+    .arg(requests)?
+    .arg(stop)
 }

@@ -90,4 +90,6 @@ pub struct ServeOptions<'a> {
     pub port: u16,
     /// How many connections are served before the program ends, from 1.
     pub requests: u32,
+    /// Whether a fault of the store ends it too.
+    pub stops_on_fault: bool,
 }
