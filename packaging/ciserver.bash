@@ -15,9 +15,9 @@ _ciserver() {
     project-add) options='--db --name -h --help' ;;
     runner-add) options='--db --name --project --tags --untagged -h --help' ;;
     runner-pause) options='--db --runner --resume -h --help' ;;
-    report) options='--db --kind --pipeline -h --help' ;;
+    report) options='--db --kind --pipeline --json -h --help' ;;
     prune) options='--db --before -h --help' ;;
-    serve) options='--db --port --requests -h --help' ;;
+    serve) options='--db --port --requests --stop-on-fault -h --help' ;;
   esac
   case $command:$before in
     *:--db)

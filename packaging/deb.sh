@@ -14,7 +14,7 @@ trap 'rm -rf "$room"' EXIT
 umask 022
 moment=$(git log -1 --format=%ct 2> /dev/null || date +%s)
 export SOURCE_DATE_EPOCH=${SOURCE_DATE_EPOCH:-$moment} LC_ALL=C
-number=$(bin/ciserver --version | cut -d ' ' -f 2)
+number=$(bin/ciserver --version | head -n 1 | cut -d ' ' -f 2)
 version=${1:-$number~$(date -u -d "@$SOURCE_DATE_EPOCH" +%Y%m%d%H%M%S).$(git rev-parse --short=8 HEAD 2> /dev/null || echo none)}
 maintainer="${DEBFULLNAME:-Bozskerun maintainers} <${DEBEMAIL:-maintainers@users.noreply.bozskerun.example}>"
 

@@ -215,7 +215,7 @@ class Tree(unittest.TestCase):
         lines = [line for line in several if not line.startswith("#") and line not in one]
         self.assertEqual(lines, ["Description=ciserver, a continuous integration server, %i", "StateDirectory=ciserver/%i",
                                  "EnvironmentFile=/etc/default/ciserver-%i",
-                                 "ExecStart=/usr/local/bin/ciserver serve --db /var/lib/ciserver/%i/ci.db --port ${PORT} --requests 4294967295"])
+                                 "ExecStart=/usr/local/bin/ciserver serve --db /var/lib/ciserver/%i/ci.db --port ${PORT} --requests 4294967295 --stop-on-fault"])
         self.assertEqual(len(one) - len(several), 1)
 
     def test_the_configuration_of_a_runner_has_no_project_of_the_example(self):

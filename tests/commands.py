@@ -32,8 +32,8 @@ class Runs:
         kind, _, rest = self.lines[place].text.partition(' ')
         if kind == 'run':
             self.run(rest, self.lines[place + 1:])
-        elif kind == '|':
-            if not place or self.lines[place - 1].text.split(' ')[0] not in ('run', '|'):
+        elif kind in ('|', '!'):
+            if not place or self.lines[place - 1].text.split(' ')[0] not in ('run', '|', kind):
                 raise Unread('a line of no run')
         elif kind == 'no-clock':
             self.world.clock_fails()
@@ -64,7 +64,8 @@ class Runs:
             connection.execute(statement)
 
     def run(self, text, behind):
-        """The program ends as it says, and prints these lines on standard output; on standard error just where the status is 2."""
+        """The program ends as it says, and prints these lines on standard output; on standard error just where the status is 2 or a file can't be used, and there
+        what is wanted of it."""
         words, sign, wanted = text.partition(' = ')
         if not sign:
             raise Unread('a run without what is wanted')
@@ -72,7 +73,7 @@ class Runs:
         if words[:1] != ['ciserver']:
             raise Unread('the program is named first')
         ran = self.world.command(*words[1:])
-        if (ran.status == 2) != bool(ran.err):
+        if (ran.status == 2 or ran.out == 'store: O3\n') != bool(ran.err):
             raise Fault(f'another thing on standard error: {ran}')
         if ran.out and not ran.out.endswith('\n'):
             raise Fault(f'an output without a line feed: {ran}')
@@ -80,6 +81,9 @@ class Runs:
         wanted = with_lines(' '.join(self.path(word) for word in wanted.strip().split(' ')), behind)
         if came != wanted:
             raise Differs(wanted, came)
+        for part in parts_of(behind):
+            if part not in ran.err:
+                raise Differs(part, ran.err)
 
 
 STEPS = {'at': Runs.at, 'file': Runs.write, 'copy': Runs.copy, 'no-file': Runs.lacks, 'sql': Runs.alter}
@@ -92,6 +96,16 @@ def with_lines(wanted, lines):
             break
         wanted += ('\n' if ' ' in wanted else ' ') + line.text[2:]
     return wanted
+
+
+def parts_of(lines):
+    """What is wanted on standard error: a part of it behind each `!`, after the lines of standard output."""
+    for line in lines:
+        kind, _, rest = line.text.partition(' ')
+        if kind == '!':
+            yield rest
+        elif kind != '|':
+            break
 
 
 def perform(folder, scenario, data):

@@ -2,8 +2,11 @@
 import glob
 import os
 import random
+import shutil
 import signal
 import socket
+import subprocess
+import tempfile
 
 from cases import Case, alter, drawn
 
@@ -43,6 +46,22 @@ class Commands(Case):
         self.ran(0, '     JOB PROJECT STATUS               NAME\njobs: 0\n', 'report', '--db', self.world.db, '--kind', 'queue')
         self.ran(1, 'refused: M3\n', 'report', '--db', self.world.db, '--kind', 'pipeline', '--pipeline', '1')
         self.ran(3, 'store: M17\n', 'report', '--db', self.world.db, '--kind', 'runners')
+
+    def test_a_file_that_another_process_uses_is_told_as_such(self):
+        self.begin('add-project p')
+        self.assertIsNone(self.world.start())
+        ran = self.world.command('report', '--db', self.world.db, '--kind', 'queue')
+        self.assertEqual(ran, (3, 'store: O3\n', f'{self.world.db}: another process uses it\n'))
+
+    def test_a_file_that_may_not_be_used_is_told_as_such(self):
+        """By a user to whom the folder is closed."""
+        with tempfile.TemporaryDirectory() as folder:
+            os.chmod(folder, 0o755)
+            program, closed = shutil.copy(self.world.program, folder), os.path.join(folder, 'closed')
+            os.mkdir(closed, 0o700 if os.getuid() == 0 else 0)
+            path = os.path.join(closed, 'ci.db')
+            ran = subprocess.run([program, 'report', '--db', path, '--kind', 'queue'], user=65534 if os.getuid() == 0 else None, capture_output=True, text=True, check=False)
+            self.assertEqual((ran.returncode, ran.stdout, ran.stderr), (3, 'store: O3\n', f'{path}: it may not be read and written\n'))
 
     def test_a_file_is_its_owners_alone(self):
         """The tokens are in it. Its log has its access."""

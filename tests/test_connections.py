@@ -134,6 +134,22 @@ class Connections(Peers):
         self.assertEqual(self.at_once([ASK, SUCCESS]), [broken, broken])
         self.assertEqual(self.world.ended(), (3, 'store: M17\n', ''))
 
+    def test_a_broken_store_ends_a_server_that_is_to_stop_then(self):
+        """The reply to the request that met the fault arrives, and no connection is served after it."""
+        self.begin(*PATH[:4])
+        self.world.stop()
+        alter(self.world, "UPDATE runner SET tags = 'gpu'")
+        self.world.start(1000, '--stop-on-fault')
+        self.assertEqual(self.world.exchange(ASK), refusal('503 Service Unavailable', 'M17'))
+        self.assertEqual(self.world.ended(), (3, 'store: M17\n', ''))
+
+    def test_a_server_that_is_to_stop_at_a_fault_serves_its_number_without_one(self):
+        self.begin(*PATH[:4])
+        self.world.stop()
+        self.world.start(1, '--stop-on-fault')
+        self.assertTrue(self.world.exchange(ASK).startswith(b'HTTP/1.1 201 '))
+        self.assertEqual(self.world.ended(), (0, '', ''))
+
     def test_a_reply_before_the_end_of_the_body_arrives(self):
         """Its length is over the limit, and most of its body is unread when the reply is sent."""
         self.begin(*PATH[:4])

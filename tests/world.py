@@ -132,12 +132,12 @@ class World:
     def init(self):
         return self.command('init', '--db', self.db)
 
-    def start(self, requests=REQUESTS):
-        """Starts the server. None once it listens; how it ended, where it didn't come so far."""
+    def start(self, requests=REQUESTS, *words):
+        """Starts the server, with these words too. None once it listens; how it ended, where it didn't come so far."""
         ended = None
         for _ in range(20):
             self.port = free_port()
-            ended = self.serve('--db', self.db, '--port', str(self.port), '--requests', str(requests))
+            ended = self.serve('--db', self.db, '--port', str(self.port), '--requests', str(requests), *words)
             # Another process may have taken the port meanwhile.
             if ended is None or not ended.out.startswith('cannot listen on '):
                 return ended

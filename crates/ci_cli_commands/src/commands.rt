@@ -1,6 +1,7 @@
 //! The command line: what is done for it, and the exit status.
 
 use crate::admin::request_of;
+use crate::cause::say_unopened;
 use crate::file::{let_go, make, open};
 use crate::plan::plan;
 use crate::prune::prune;
@@ -33,7 +34,8 @@ const PATIENCE_SECONDS: u64 = 10;
 /// input can't be read, nothing can be heard, or what is to be said can't be written.
 ///
 /// Faults are looked for in this order: in the words, the file, its store, the port, the clock, the request. What is printed with
-/// status 2 goes to `errors`, and so does how far a long command is, where a terminal shows it; every other line goes to `output`.
+/// status 2 goes to `errors`, and so does what is the matter with a file that can't be used, and how far a long command is, where a
+/// terminal shows it; every other line goes to `output`.
 pub fn command<C: Clock, R: RandomSource, I: Read + Drop, O: Write, E: Write>(
     rt: &HostRuntime,
     words: &[String],
@@ -78,24 +80,24 @@ fn perform<C: Clock, R: RandomSource, I: Read + Drop, O: Write, E: Write>(
         Task::Check(file) => exit_status(&check_word(rt, rt.alloc(), file, input, output)),
         Task::Explain(file) => explain_word(rt, rt.alloc(), file, input, output),
         Task::Plan(options) => plan(rt, options, input, output),
-        Task::Init(file) => init(rt, file, output),
-        Task::Migrate(file) => migrate(rt, file, output),
-        Task::Send(file, asked) => send(rt, file, *asked, sources, output),
-        Task::Report(file, kind) => report(rt, file, *kind, output),
+        Task::Init(file) => init(rt, file, output, errors),
+        Task::Migrate(file) => migrate(rt, file, output, errors),
+        Task::Send(file, asked) => send(rt, file, *asked, sources, output, errors),
+        Task::Report(file, kind, form) => report(rt, file, *kind, *form, output, errors),
         Task::Prune(file, before) => prune(rt, file, *before, sources, output, errors),
-        Task::Serve(options) => serve(rt, *options, sources, output),
+        Task::Serve(options) => serve(rt, *options, sources, output, errors),
     }
 }
 
-fn init<O: Write>(rt: &HostRuntime, file: &str, output: &mut O) -> u8 {
+fn init<O: Write, E: Write>(rt: &HostRuntime, file: &str, output: &mut O, errors: &mut E) -> u8 {
     match make(rt, file) {
         Ok(()) => say(output, Line::Fine),
-        Err(line) => say(output, line),
+        Err(unopened) => say_unopened(output, errors, file, unopened),
     }
 }
 
 /// Opens a server's file, by which one of version 1 is made one of version 2, and says which it was of.
-fn migrate<O: Write>(rt: &HostRuntime, file: &str, output: &mut O) -> u8 {
+fn migrate<O: Write, E: Write>(rt: &HostRuntime, file: &str, output: &mut O, errors: &mut E) -> u8 {
     match open(rt, file) {
         Ok(server) => {
             let line = if was_migrated(&server) {
@@ -106,16 +108,17 @@ fn migrate<O: Write>(rt: &HostRuntime, file: &str, output: &mut O) -> u8 {
             let_go(server);
             say(output, line)
         }
-        Err(line) => say(output, line),
+        Err(unopened) => say_unopened(output, errors, file, unopened),
     }
 }
 
-fn send<C: Clock, R: RandomSource, O: Write>(
+fn send<C: Clock, R: RandomSource, O: Write, E: Write>(
     rt: &HostRuntime,
     file: &str,
     asked: AdminRequest<'_>,
     sources: &Sources<'_, C, R>,
     output: &mut O,
+    errors: &mut E,
 ) -> u8 {
     match open(rt, file) {
         Ok(mut server) => {
@@ -123,7 +126,7 @@ fn send<C: Clock, R: RandomSource, O: Write>(
             let_go(server);
             status
         }
-        Err(line) => say(output, line),
+        Err(unopened) => say_unopened(output, errors, file, unopened),
     }
 }
 
@@ -146,11 +149,12 @@ fn send_to<S: Alter, C: Clock, R: RandomSource, O: Write>(
     say_reply(output, &reply)
 }
 
-fn serve<C: Clock, R: RandomSource, O: Write>(
+fn serve<C: Clock, R: RandomSource, O: Write, E: Write>(
     rt: &HostRuntime,
     options: ServeOptions<'_>,
     sources: &Sources<'_, C, R>,
     output: &mut O,
+    errors: &mut E,
 ) -> u8 {
     match open(rt, options.file) {
         Ok(mut server) => {
@@ -158,7 +162,7 @@ fn serve<C: Clock, R: RandomSource, O: Write>(
             let_go(server);
             status
         }
-        Err(line) => say(output, line),
+        Err(unopened) => say_unopened(output, errors, options.file, unopened),
     }
 }
 
@@ -191,6 +195,7 @@ fn listen<S: Alter, C: Clock, R: RandomSource, O: Write>(
         sources,
         Duration::from_secs(PATIENCE_SECONDS),
         options.requests,
+        options.stops_on_fault,
     );
     match (is_closed(server), served) {
         (true, _) => say(output, Line::Closed),

@@ -1,6 +1,7 @@
 //! The file of a server.
 
 use crate::blank::first_page;
+use crate::cause::{Cause, Unopened, cause_at};
 use ci_cli_words::line::Line;
 use ci_http_service::Server;
 use ci_store_sqlite::tables::OpenFault;
@@ -18,12 +19,12 @@ pub type FileServer = Server<FileStore<File>>;
 
 /// Makes a server's file at a path. It is made whole under another name, and then given its own: so what a failure or a stop leaves is no file
 /// that the next call would refuse. Errors: the line that says why it isn't made; a file that is there, or the log of one that was, stays as it is.
-pub fn make(rt: &HostRuntime, path: &str) -> Result<(), Line> {
+pub fn make(rt: &HostRuntime, path: &str) -> Result<(), Unopened> {
     let Ok(making) = Making::of(rt.alloc(), path) else {
-        return Err(Line::NoMemory);
+        return Err(Unopened::with(Line::NoMemory));
     };
     if is_there(rt, path)? || is_there(rt, making.log.as_str())? {
-        return Err(Line::FileExists);
+        return Err(Unopened::with(Line::FileExists));
     }
     // What a call that was stopped left.
     making.remove(rt);
@@ -32,11 +33,11 @@ pub fn make(rt: &HostRuntime, path: &str) -> Result<(), Line> {
     made
 }
 
-/// Is there a file of this name? Errors: the line for what can't be told.
-fn is_there(rt: &HostRuntime, path: &str) -> Result<bool, Line> {
+/// Is there a file of this name? Errors: why that can't be told.
+fn is_there(rt: &HostRuntime, path: &str) -> Result<bool, Unopened> {
     match fs::exists(rt, path) {
         Ok(found) => Ok(found),
-        Err(_) => Err(Line::NotOpened(OpenFault::O3)),
+        Err(error) => Err(Unopened::by(Cause::of(&error))),
     }
 }
 
@@ -63,20 +64,21 @@ impl Making {
 
     /// Makes it, and gives it its name once its log holds nothing. It has the tokens, so none but its owner may read it. Errors: the line that
     /// says why it isn't made.
-    fn make(&self, rt: &HostRuntime, path: &str) -> Result<(), Line> {
-        if self.claim(rt).is_err() {
-            return Err(Line::NotOpened(OpenFault::O3));
+    fn make(&self, rt: &HostRuntime, path: &str) -> Result<(), Unopened> {
+        if let Err(error) = self.claim(rt) {
+            return Err(Unopened::by(Cause::of(&error)));
         }
         let server = match Server::create(connect(rt, self.unfinished.as_str())?) {
             Ok(server) => server,
-            Err((fault, _)) => return Err(Line::NotOpened(fault)),
+            Err((fault, _)) => return Err(Unopened::with(Line::NotOpened(fault))),
         };
-        if server.close().close().is_err()
-            || fs::rename(rt, self.unfinished.as_str(), path).is_err()
-        {
-            return Err(Line::NotOpened(OpenFault::O3));
+        if server.close().close().is_err() {
+            return Err(Unopened::by(Cause::Unknown));
         }
-        Ok(())
+        match fs::rename(rt, self.unfinished.as_str(), path) {
+            Ok(()) => Ok(()),
+            Err(error) => Err(Unopened::by(Cause::of(&error))),
+        }
     }
 
     /// Makes a file of a database that has no table, which its owner alone may read and write.
@@ -94,16 +96,20 @@ impl Making {
     }
 }
 
-/// Opens the server's file at a path. One of version 1 is made one of version 2. Errors: the line that says why it isn't opened; a file that
+/// Opens the server's file at a path. One of version 1 is made one of version 2. Errors: why it isn't opened; a file that
 /// isn't there isn't made.
-pub fn open(rt: &HostRuntime, path: &str) -> Result<FileServer, Line> {
+pub fn open(rt: &HostRuntime, path: &str) -> Result<FileServer, Unopened> {
     if !is_there(rt, path)? {
-        return Err(Line::NotOpened(OpenFault::O3));
+        return Err(Unopened::by(Cause::Missing));
     }
-    match Server::open(connect(rt, path)?) {
-        Ok(server) => Ok(server),
-        Err((fault, _)) => Err(Line::NotOpened(fault)),
-    }
+    let fault = match Server::open(connect(rt, path)?) {
+        Ok(server) => return Ok(server),
+        Err((fault, _)) => fault,
+    };
+    Err(Unopened {
+        line: Line::NotOpened(fault),
+        cause: cause_at(rt, path),
+    })
 }
 
 /// Lets a server go. All that it answered is in its files already: closing joins the log with the file, and does no harm where
@@ -112,10 +118,12 @@ pub fn let_go(server: FileServer) {
     let _ = server.close().close();
 }
 
-fn connect(rt: &HostRuntime, path: &str) -> Result<Connection<FileStore<File>>, Line> {
+/// Errors: why the file can't be used.
+fn connect(rt: &HostRuntime, path: &str) -> Result<Connection<FileStore<File>>, Unopened> {
     match Connection::open(rt, path) {
         Ok(conn) => Ok(conn),
-        Err(Error::SqliteFailure(ErrorCode::OutOfMemory)) => Err(Line::NoMemory),
-        Err(_) => Err(Line::NotOpened(OpenFault::O3)),
+        Err(Error::SqliteFailure(ErrorCode::OutOfMemory)) => Err(Unopened::with(Line::NoMemory)),
+        Err(Error::SqliteFailure(ErrorCode::DatabaseBusy)) => Err(Unopened::by(Cause::InUse)),
+        Err(_) => Err(Unopened::by(cause_at(rt, path))),
     }
 }

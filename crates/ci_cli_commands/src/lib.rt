@@ -5,6 +5,7 @@
 
 mod admin;
 mod blank;
+mod cause;
 mod commands;
 mod file;
 mod plan;

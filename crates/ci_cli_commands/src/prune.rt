@@ -1,5 +1,6 @@
 //! The finished pipelines that were made before a moment go.
 
+use crate::cause::say_unopened;
 use crate::file::{let_go, open};
 use crate::server::ask;
 use crate::sources::Sources;
@@ -37,7 +38,7 @@ pub fn prune<C: Clock, R: RandomSource, O: Write, E: Write>(
             let_go(server);
             status
         }
-        Err(line) => say(output, line),
+        Err(unopened) => say_unopened(output, errors, file, unopened),
     }
 }
 

@@ -1,10 +1,13 @@
 //! What an operator is told of the server of a file.
 
+use crate::cause::say_unopened;
 use crate::file::{let_go, open};
 use ci_cli_words::line::{Line, say, say_report};
-use ci_cli_words::task::ReportKind;
+use ci_cli_words::task::{ReportForm, ReportKind};
 use ci_http_service::Server;
 use ci_machine::reply::Code;
+use ci_machine::report::{PipelineRows, QueueRow, RunnerRow};
+use ci_report::json::{pipeline_json, queue_json, runner_json};
 use ci_report::pipeline::pipeline_report;
 use ci_report::queue::queue_report;
 use ci_report::runner::runner_report;
@@ -13,14 +16,21 @@ use std::alloc::{AllocError, Global};
 use std::io::Write;
 
 /// Prints a report of the server of a file, and gives the exit status. Once it is opened, nothing changes in the file.
-pub fn report<O: Write>(rt: &HostRuntime, file: &str, kind: ReportKind, output: &mut O) -> u8 {
+pub fn report<O: Write, E: Write>(
+    rt: &HostRuntime,
+    file: &str,
+    kind: ReportKind,
+    form: ReportForm,
+    output: &mut O,
+    errors: &mut E,
+) -> u8 {
     match open(rt, file) {
         Ok(mut server) => {
-            let told = text_of(rt.alloc(), &mut server, kind);
+            let told = text_of(rt.alloc(), &mut server, kind, form);
             let_go(server);
             print(told, output)
         }
-        Err(line) => say(output, line),
+        Err(unopened) => say_unopened(output, errors, file, unopened),
     }
 }
 
@@ -36,21 +46,47 @@ fn text_of<S: Alter>(
     alloc: Global,
     server: &mut Server<S>,
     kind: ReportKind,
+    form: ReportForm,
 ) -> Result<String, Line> {
     match kind {
         ReportKind::Queue => match server.queue(alloc) {
-            Ok(rows) => made(queue_report(alloc, rows.as_slice())),
+            Ok(rows) => made(queue_text(alloc, rows.as_slice(), form)),
             Err(code) => Err(refusal(code)),
         },
         ReportKind::Pipeline(id) => match server.pipeline(alloc, id) {
-            Ok(Some(rows)) => made(pipeline_report(alloc, &rows)),
+            Ok(Some(rows)) => made(pipeline_text(alloc, &rows, form)),
             Ok(None) => Err(Line::NoPipeline),
             Err(code) => Err(refusal(code)),
         },
         ReportKind::Runners => match server.runners(alloc) {
-            Ok(rows) => made(runner_report(alloc, rows.as_slice())),
+            Ok(rows) => made(runner_text(alloc, rows.as_slice(), form)),
             Err(code) => Err(refusal(code)),
         },
+    }
+}
+
+fn queue_text(alloc: Global, rows: &[QueueRow], form: ReportForm) -> Result<String, AllocError> {
+    match form {
+        ReportForm::Table => queue_report(alloc, rows),
+        ReportForm::Json => queue_json(alloc, rows),
+    }
+}
+
+fn pipeline_text(
+    alloc: Global,
+    rows: &PipelineRows,
+    form: ReportForm,
+) -> Result<String, AllocError> {
+    match form {
+        ReportForm::Table => pipeline_report(alloc, rows),
+        ReportForm::Json => pipeline_json(alloc, rows),
+    }
+}
+
+fn runner_text(alloc: Global, rows: &[RunnerRow], form: ReportForm) -> Result<String, AllocError> {
+    match form {
+        ReportForm::Table => runner_report(alloc, rows),
+        ReportForm::Json => runner_json(alloc, rows),
     }
 }
 

@@ -1,6 +1,6 @@
 //! Connections, served side by side.
 
-use crate::server::answer;
+use crate::server::{answer, is_closed};
 use crate::sources::Sources;
 use ci_cli_words::line::Line;
 use ci_http_peers::answerer::Answerer;
@@ -21,6 +21,7 @@ struct Desk<'a, 'b, C, R> {
     alloc: Global,
     paths: &'a Paths,
     sources: &'a Sources<'b, C, R>,
+    stops_on_fault: bool,
 }
 
 impl<'a, 'b, S: Alter, C: Clock, R: RandomSource> Answerer<Server<S>, Line> for Desk<'a, 'b, C, R> {
@@ -31,6 +32,10 @@ impl<'a, 'b, S: Alter, C: Clock, R: RandomSource> Answerer<Server<S>, Line> for 
     fn answer(&self, server: &mut Server<S>, bytes: &[u8]) -> Result<Option<Vec<u8>>, Line> {
         answer(self.alloc, bytes, server, self.paths, self.sources)
     }
+
+    fn is_over(&self, server: &Server<S>) -> bool {
+        self.stops_on_fault && is_closed(server)
+    }
 }
 
 /// Serves so many connections of a listener of this port: of each one request, once it is whole. Only then does it get a moment and
@@ -38,7 +43,8 @@ impl<'a, 'b, S: Alter, C: Clock, R: RandomSource> Answerer<Server<S>, Line> for 
 ///
 /// A connection counts once it is over, however it ends. Where none can be accepted it is tried again, and counts for none. A whole
 /// request must come within `patience`, and a whole reply be taken within it again. From the first fault of the store on each
-/// request is answered M17.
+/// request is answered M17; where the fault is to end the service no more connections are accepted then, and it ends once those that
+/// there are have been served.
 ///
 /// Errors: the line that says why a request has no moment or no seed, or that nothing can be heard. Those that are left are not
 /// served.
@@ -52,11 +58,13 @@ pub fn serve_connections<N: Net, C: Clock, R: RandomSource, S: Alter>(
     sources: &Sources<'_, C, R>,
     patience: Duration,
     requests: u32,
+    stops_on_fault: bool,
 ) -> Result<(), Line> {
     let desk = Desk {
         alloc,
         paths,
         sources,
+        stops_on_fault,
     };
     let terms = Terms {
         patience: u64::try_from(patience.as_millis()).unwrap_or(u64::MAX),

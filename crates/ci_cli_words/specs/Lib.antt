@@ -2,3 +2,4 @@ pub mod CommandLine
 pub mod Dates
 pub mod Lines
 pub mod Words
+pub mod Wrong

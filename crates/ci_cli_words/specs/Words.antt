@@ -22,6 +22,8 @@ use Rattle.ci_cli_words.specs.CommandLine.{command_line}
 use Rattle.ci_cli_words.specs.Dates.{IsDateAt}
 use Rattle.ci_cli_words.specs.declared.task.AdminRequest.TheVariants.{AddProject, AddRunner, PauseRunner}
 use Rattle.ci_cli_words.specs.declared.task.PlanOptions.{PlanOptions}
+use Rattle.ci_cli_words.specs.declared.task.ReportForm.{ReportForm}
+use Rattle.ci_cli_words.specs.declared.task.ReportForm.TheVariants.{Table, Json}
 use Rattle.ci_cli_words.specs.declared.task.ReportKind.{ReportKind}
 use Rattle.ci_cli_words.specs.declared.task.ReportKind.TheVariants as report
 use Rattle.ci_cli_words.specs.declared.task.RunnerOptions.{RunnerOptions}
@@ -77,6 +79,7 @@ is_set option rows = is_true (one_of option rows)
 
 abbrev pub ServesBy : List Row → ServeOptions → Type 0
 ServesBy rows o = HasFile rows o.file × (number_of 16 (codes "port") rows ≡ Some o.port) × (number_of 32 (codes "requests") rows ≡ Some o.requests)
+    × (o.stops_on_fault ≡ is_set (codes "stop-on-fault") rows)
 
 -- the tags, if they were given
 abbrev pub TaggedBy : List Row → Option (Bor Text) → Type 0
@@ -96,6 +99,9 @@ reported kind None = if bytes_eq kind (codes "queue") then Some report.Queue els
 
 abbrev pub report_of : List Row → Option ReportKind
 report_of rows = option_and_then (λ kind. reported kind (number_of 64 (codes "pipeline") rows)) (first_of (codes "kind") rows)
+
+abbrev pub report_form_of : List Row → ReportForm
+report_form_of rows = if is_set (codes "json") rows then Json else Table
 
 -- ---- a plan
 
@@ -182,7 +188,7 @@ Asks names.RunnerAdd rows t =
 Asks names.RunnerPause rows t =
     (file : Bor Text) × (pause : RunnerPause) × (t ≡ task.Send file (PauseRunner pause)) × HasFile rows file × PausesBy rows pause
 Asks names.Report rows t =
-    (file : Bor Text) × (kind : ReportKind) × (t ≡ task.Report file kind) × HasFile rows file × (report_of rows ≡ Some kind)
+    (file : Bor Text) × (kind : ReportKind) × (t ≡ task.Report file kind (report_form_of rows)) × HasFile rows file × (report_of rows ≡ Some kind)
 Asks names.Prune rows t =
     (file : Bor Text) × (day : Bor Text) × (before : ℕ) × (t ≡ task.Prune file before) × HasFile rows file × HasWord (codes "before") rows day × IsDateAt day.now before
 Asks names.Serve rows t = (options : ServeOptions) × (t ≡ task.Serve options) × ServesBy rows options

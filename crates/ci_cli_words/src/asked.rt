@@ -3,16 +3,18 @@
 ghost use Rattle.std.specs.Prelude.{◌≡◌, IfOk, Some};
 ghost use Rattle.clap.specs.Walk.{rows_of};
 ghost use Rattle.clap.specs.Matches.{found_of};
-ghost use Rattle.ci_cli_words.specs.Words.{Asks, PausesBy, Reads, RefersTo, RunsBy, ServesBy, TaggedBy, pairs, ref_kind_of, report_of, reported, source_named, source_of, variables_of};
+ghost use Rattle.ci_cli_words.specs.Words.{Asks, PausesBy, Reads, RefersTo, RunsBy, ServesBy, TaggedBy, pairs, ref_kind_of, report_form_of, report_of, reported, source_named, source_of, variables_of};
 ghost use Rattle.ci_cli_words.specs.declared.command_name.CommandName.TheVariants as names;
 
 use crate::command_line::{
-    BEFORE, DB, FILE, KIND, NAME, PIPELINE, PORT, PROJECT, REF, REQUESTS, RESUME, RUNNER, SOURCE,
-    TAG, TAGS, UNTAGGED,
+    BEFORE, DB, FILE, JSON, KIND, NAME, PIPELINE, PORT, PROJECT, REF, REQUESTS, RESUME, RUNNER,
+    SOURCE, STOP_ON_FAULT, TAG, TAGS, UNTAGGED,
 };
 use crate::command_name::CommandName;
 use crate::date::midnight_of;
-use crate::task::{AdminRequest, PlanOptions, ReportKind, RunnerOptions, ServeOptions, Task};
+use crate::task::{
+    AdminRequest, PlanOptions, ReportForm, ReportKind, RunnerOptions, ServeOptions, Task,
+};
 use crate::value::{is_set, number_in, port_in, short_number_in, text_in, word_in};
 use crate::variables::variables_in;
 use ci_machine::records::{RefKind, Source};
@@ -105,7 +107,7 @@ fn report_in<'a>(found: &ArgMatches<'a>) -> Option<Task<'a>>
 {
     let file = text_in(found, DB)?;
     let kind = report_kind_in(found)?;
-    Some(Task::Report(file, kind))
+    Some(Task::Report(file, kind, report_form_in(found)))
 }
 
 /// What `prune` asks for.
@@ -182,7 +184,7 @@ fn source_in(found: &ArgMatches<'_>) -> Option<Source>
 }
 
 /// The source of this name, if there is one.
-fn source_named(word: &str) -> Option<Source>
+pub(crate) fn source_named(word: &str) -> Option<Source>
     ensures { result ≡ source_named word.now }
 {
     match word {
@@ -203,6 +205,17 @@ fn report_kind_in(found: &ArgMatches<'_>) -> Option<ReportKind>
     report_kind(kind, number_in(found, PIPELINE))
 }
 
+/// JSON where the flag `--json` is there, and a table else.
+fn report_form_in(found: &ArgMatches<'_>) -> ReportForm
+    ensures { result ≡ report_form_of (rows_of (found_of found.now)) }
+{
+    if is_set(found, JSON) {
+        ReportForm::Json
+    } else {
+        ReportForm::Table
+    }
+}
+
 /// The kind of a report. A pipeline's number is wanted of one kind, and of no other.
 fn report_kind(kind: &str, pipeline: Option<u64>) -> Option<ReportKind>
     ensures { result ≡ reported kind.now pipeline }
@@ -216,7 +229,7 @@ fn report_kind(kind: &str, pipeline: Option<u64>) -> Option<ReportKind>
     }
 }
 
-/// The file, the port and how many connections are served.
+/// The file, the port, how many connections are served, and whether a fault ends it.
 fn serve_options_in<'a>(found: &ArgMatches<'a>) -> Option<ServeOptions<'a>>
     ensures { Reads (ServesBy (rows_of (found_of found.now))) result }
 {
@@ -224,6 +237,7 @@ fn serve_options_in<'a>(found: &ArgMatches<'a>) -> Option<ServeOptions<'a>>
         file: text_in(found, DB)?,
         port: port_in(found, PORT)?,
         requests: short_number_in(found, REQUESTS)?,
+        stops_on_fault: is_set(found, STOP_ON_FAULT),
     })
 }
 

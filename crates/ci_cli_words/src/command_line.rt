@@ -11,7 +11,8 @@ use clap::builder::ValueParser;
 use clap::{Arg, ArgAction, Command};
 use std::alloc::{AllocError, Global};
 
-const VERSION: &str = "0.1.0";
+/// The program's version, and in a line of its own that of the format of the files that it makes.
+const VERSION: &str = "0.1.0\nformat: 2";
 
 pub(crate) const CHECK: &str = "check";
 
@@ -64,11 +65,15 @@ pub(crate) const KIND: &str = "kind";
 
 pub(crate) const PIPELINE: &str = "pipeline";
 
+pub(crate) const JSON: &str = "json";
+
 pub(crate) const BEFORE: &str = "before";
 
 pub(crate) const PORT: &str = "port";
 
 pub(crate) const REQUESTS: &str = "requests";
+
+pub(crate) const STOP_ON_FAULT: &str = "stop-on-fault";
 
 /// Where the rules of CI files stand.
 const RULES: &str = "The profile, with examples and its codes, is described in docs/PROFILE.md.";
@@ -254,13 +259,15 @@ fn report<'a>(alloc: Global) -> Result<Command<'a>, AllocError>
         "queue, the pending jobs; pipeline, one with its jobs; or runners",
     );
     let pipeline = number(alloc, PIPELINE, MAX_NUMBER).help("The pipeline's number");
+    let json = flag(alloc, JSON).help("As JSON, and not as a table");
     over_server_file(
         alloc,
         REPORT,
         "Prints what the server of a file has, as a table",
     )?
     .arg(kind)?
-    .arg(pipeline)
+    .arg(pipeline)?
+    .arg(json)
 }
 
 fn prune<'a>(alloc: Global) -> Result<Command<'a>, AllocError>
@@ -282,11 +289,13 @@ fn serve<'a>(alloc: Global) -> Result<Command<'a>, AllocError>
     let requests = number(alloc, REQUESTS, u32::MAX as u64)
         .required(true)
         .help("How many connections are served before the program ends");
+    let stop = flag(alloc, STOP_ON_FAULT).help("A fault of the store ends the program");
     over_server_file(
         alloc,
         SERVE,
         "Serves requests over HTTP, one after the other",
     )?
     .arg(port)?
-    .arg(requests)
+    .arg(requests)?
+    .arg(stop)
 }

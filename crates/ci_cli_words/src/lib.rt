@@ -10,3 +10,4 @@ pub mod task;
 mod value;
 mod variables;
 pub mod words;
+mod wrong;

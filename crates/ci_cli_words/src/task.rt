@@ -20,7 +20,7 @@ pub enum Task<'a> {
     /// To send the server of a file a request.
     Send(&'a str, AdminRequest<'a>),
     /// To tell what the server of a file has.
-    Report(&'a str, ReportKind),
+    Report(&'a str, ReportKind, ReportForm),
     /// To prune the finished pipelines of the server of a file that were made before a moment.
     Prune(&'a str, Moment),
     /// To serve requests over a socket.
@@ -48,6 +48,15 @@ pub enum ReportKind {
     Pipeline(u64),
     /// The runners.
     Runners,
+}
+
+/// How a report is told.
+#[derive(Clone, Copy)]
+pub enum ReportForm {
+    /// As a table.
+    Table,
+    /// As JSON.
+    Json,
 }
 
 /// A request that has no route: only who may write the file can send it.
@@ -81,4 +90,6 @@ pub struct ServeOptions<'a> {
     pub port: u16,
     /// How many connections are served before the program ends, from 1.
     pub requests: u32,
+    /// Whether a fault of the store ends it too.
+    pub stops_on_fault: bool,
 }

@@ -38,7 +38,7 @@ fn variables_of<'a>(
 }
 
 /// The name and the value that a text has, if its name is that of a variable, and of none of those before it.
-fn variable_of<'a>(before: &[(&str, &str)], text: &'a str) -> Option<(&'a str, &'a str)>
+pub(crate) fn variable_of<'a>(before: &[(&str, &str)], text: &'a str) -> Option<(&'a str, &'a str)>
     ensures { MatchOption result (is_variable (pairs before.now) text.now ≡ false)
         (λ pair. (is_variable (pairs before.now) text.now ≡ true) × (parted text.now ≡ (pair.0.now, pair.1.now))) }
 {

@@ -9,6 +9,7 @@ use crate::asked::asked;
 use crate::command_line::command_line;
 use crate::command_name::command_named;
 use crate::task::Task;
+use crate::wrong::{text_of, wrong_in};
 use clap::error::ErrorKind;
 use clap::{ArgMatches, Error};
 use std::alloc::{AllocError, Global};
@@ -24,10 +25,10 @@ pub fn task_of<'a>(alloc: Global, words: &'a [String]) -> Result<Task<'a>, Error
     let matches = command.try_get_matches_from_mut(words)?;
     match task_named(alloc, &matches)? {
         Some(task) => Ok(task),
-        None => Err(command.error(
-            ErrorKind::InvalidValue,
-            "a command is wanted, whose values don't begin with '-'; of a plan --ref is a name, --source one of push, web, schedule, api and trigger, and --variable a variable's name, '=' and a value, each name once; a report is of the kind queue, pipeline or runners, and of a pipeline alone --pipeline is given; --before is a date from 1970 on, as 2026-01-31",
-        )?),
+        None => {
+            let text = fault_of(alloc, &matches)?;
+            Err(command.error(ErrorKind::InvalidValue, text.as_str())?)
+        }
     }
 }
 
@@ -43,4 +44,14 @@ fn task_named<'a>(alloc: Global, matches: &ArgMatches<'a>) -> Result<Option<Task
         Some(command) => asked(alloc, command, found),
         None => Ok(None),
     }
+}
+
+/// What is said of values that ask for nothing: which of them is wrong, and what it may be. Errors: memory was refused.
+fn fault_of(alloc: Global, matches: &ArgMatches<'_>) -> Result<String, AllocError> {
+    if let Some((_, found)) = matches.subcommand() {
+        if let Some(wrong) = wrong_in(found) {
+            return text_of(alloc, wrong);
+        }
+    }
+    String::from_str(alloc, "a command is wanted, with its options")
 }

@@ -21,4 +21,7 @@ pub trait Answerer<T, E> {
     /// Errors: neither this request nor any other can be answered.
     fn answer(&self, subject: &mut T, bytes: &[u8]) -> Result<Option<Vec<u8>>, E>
         ensures { answers self.now bytes.now subject.old subject.new (text_of result) };
+
+    /// Is no connection to be accepted any more, since the subject has come to its end?
+    fn is_over(&self, subject: &T) -> bool;
 }

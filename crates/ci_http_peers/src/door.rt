@@ -1,6 +1,6 @@
 //! Whether one more connection is to be accepted, and from when on.
 
-ghost use Rattle.std.specs.Prelude.{◌≡◌, ◌≢◌, ◌<◌, ◌≤◌, ◌-◌, ◌↔◌, ℕ, Option, Some, None, IsTrue};
+ghost use Rattle.std.specs.Prelude.{◌≡◌, ◌≢◌, ◌<◌, ◌≤◌, ◌-◌, ◌↔◌, ℕ, Option, Some, None, IsTrue, false};
 ghost use Rattle.std.specs.declared.io.ErrorKind.TheVariants.{ConnectionAborted, Interrupted, WouldBlock};
 ghost use Rattle.ci_http_peers.specs.Peer.{until};
 
@@ -62,6 +62,16 @@ impl Door {
     {
         if self.opens.is_none() {
             self.opens = Some(now);
+        }
+    }
+
+    /// Where the end has come no connection is accepted any more.
+    pub fn close_if(&mut self, is_over: bool)
+        ensures over { IsTrue is_over → self.new.left ≡ 0 }
+        ensures goes_on { is_over ≡ false → self.new ≡ self.old }
+    {
+        if is_over {
+            self.left = 0;
         }
     }
 

@@ -73,7 +73,8 @@ impl<'a, C: Clock> Ticks<'a, C> {
     }
 }
 
-/// Serves so many connections of a listener, side by side: of each one request, once it is whole, and returns when all are over.
+/// Serves so many connections of a listener, side by side: of each one request, once it is whole, and returns when all are over. Once
+/// the answerer says that the subject's end has come no more are accepted.
 ///
 /// At most 256 are open at a time. Where one more comes, the one whose request has been coming longest gives way. A request must
 /// come, and its reply be taken, within a time each. Where just the request came, the connection is over then; else what the peer
@@ -155,6 +156,7 @@ fn run<'a, C: Clock, T, E, A: Answerer<T, E>>(
             subject,
         )?;
         accept_some(&mut hall, ticks, &mut entry, answerer, subject)?;
+        entry.door.close_if(answerer.is_over(subject));
         let now = ticks.now()?;
         if nearest.is_some_and(|nearest| nearest <= now) {
             hall.end_late(now);

@@ -35,3 +35,7 @@ clock_text seconds = pad2 (seconds / 3600) ++ codes ":" ++ pad2 (seconds / 60 % 
 -- a moment in UTC, of which the seconds since 1970-01-01 are given, `1970-01-01 00:16:40`
 unfoldable pub moment_text : ℕ → List ℕ
 moment_text seconds = day_text (day_at (seconds / 86400)) ++ codes " " ++ clock_text (seconds % 86400)
+
+-- the same as RFC 3339 has it, `1970-01-01T00:16:40Z`
+unfoldable pub stamp_text : ℕ → List ℕ
+stamp_text seconds = day_text (day_at (seconds / 86400)) ++ codes "T" ++ clock_text (seconds % 86400) ++ codes "Z"

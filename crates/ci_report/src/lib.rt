@@ -1,6 +1,7 @@
-//! Reports for an operator: what waits, how a pipeline stands, and what runners do, as tables of text.
+//! Reports for an operator: what waits, how a pipeline stands, and what runners do, as tables of text and as JSON.
 #![tactic(auto)]
 
+pub mod json;
 pub mod laws;
 pub mod moment;
 pub mod pipeline;

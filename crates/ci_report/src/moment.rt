@@ -3,7 +3,7 @@
 ghost use Rattle.std.specs.Prelude.{◌≡◌, ◌/◌, ◌%◌, ◌≤◌, pos, None, IfOk, string_bytes};
 ghost use Rattle.jiff_core.specs.Date.{epoch_day};
 ghost use Rattle.jiff_fmt.specs.Text.{date_text, time_text};
-ghost use Rattle.ci_report.specs.Dates.{day_at, day_text, clock_text, moment_text};
+ghost use Rattle.ci_report.specs.Dates.{day_at, day_text, clock_text, moment_text, stamp_text};
 
 use ci_machine::moment::Moment;
 use jiff::civil::{Date, Time};
@@ -44,4 +44,14 @@ pub fn moment_text(alloc: Global, moment: Moment) -> Result<String, AllocError>
     let date = date_of(moment);
     let time = time_of(moment);
     format!(in alloc; "{date} {time}")
+}
+
+/// The same as RFC 3339 has it, `1970-01-01T00:16:40Z`. Errors: memory was refused.
+#[tactic(auto, unfolding(crate::specs::Dates::stamp_text))]
+pub fn stamp_text(alloc: Global, moment: Moment) -> Result<String, AllocError>
+    ensures { IfOk result (λ text. string_bytes text ≡ stamp_text moment) }
+{
+    let date = date_of(moment);
+    let time = time_of(moment);
+    format!(in alloc; "{date}T{time}Z")
 }

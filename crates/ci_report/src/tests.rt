@@ -1,6 +1,7 @@
 //! Each public function once, and texts of reports that were laid out by hand.
 
-use crate::moment::moment_text;
+use crate::json::{pipeline_json, queue_json, runner_json};
+use crate::moment::{moment_text, stamp_text};
 use crate::pipeline::pipeline_report;
 use crate::queue::queue_report;
 use crate::runner::runner_report;
@@ -34,6 +35,15 @@ fn moments_are_told_in_utc(rt: HostRuntime) -> Result<(), Fail> {
         let text = moment_text(rt.alloc(), at(*seconds)?)?;
         assert!(rt; text.as_str() == *wanted, "{seconds}");
     }
+    Ok(())
+}
+
+#[test]
+fn moments_are_told_as_stamps(rt: HostRuntime) -> Result<(), Fail> {
+    let text = stamp_text(rt.alloc(), at(1000)?)?;
+    assert!(rt; text.as_str() == "1970-01-01T00:16:40Z");
+    let text = stamp_text(rt.alloc(), at(253_402_300_799)?)?;
+    assert!(rt; text.as_str() == "9999-12-31T23:59:59Z");
     Ok(())
 }
 
@@ -171,5 +181,51 @@ fn runners_are_told(rt: HostRuntime) -> Result<(), Fail> {
     assert!(rt; text.as_str() == RUNNERS);
     let text = runner_report(rt.alloc(), &[])?;
     assert!(rt; text.as_str() == NO_RUNNERS);
+    Ok(())
+}
+
+const QUEUE_JSON: &str =
+    r#"[{"id":1,"name":"the \"slow\" one","project":1,"status":"pending"},{"id":3,"name":"lint","project":1,"status":"waiting_for_resource"}]
+"#;
+
+const PIPELINE_JSON: &str =
+    r#"[{"created":"1970-01-01T00:16:40Z","id":1,"jobs":[{"id":2,"name":"pack","status":"created","tries":3}],"project":1,"ref":"main","source":"api","status":"pending"}]
+"#;
+
+const RUNNERS_JSON: &str =
+    r#"[{"id":1,"last_grant":"1970-01-01T00:16:40Z","live":2,"name":"r","paused":false},{"id":2,"last_grant":null,"live":0,"name":"s","paused":true}]
+"#;
+
+#[test]
+fn reports_are_told_as_json(rt: HostRuntime) -> Result<(), Fail> {
+    let alloc = rt.alloc();
+    let first = pending_job(alloc, 1, "the \"slow\" one")?;
+    let mut second = pending_job(alloc, 3, "lint")?;
+    second.status = ShownStatus::WaitsForResource;
+    let text = queue_json(alloc, &[first, second])?;
+    assert!(rt; text.as_str() == QUEUE_JSON);
+    let text = queue_json(alloc, &[])?;
+    assert!(rt; text.as_str() == "[]\n");
+    let mut jobs = Vec::new(alloc);
+    jobs.push(job_row(alloc, 2, Status::Created, 3, "pack")?)?;
+    let head = pending_pipeline(alloc)?;
+    let text = pipeline_json(alloc, &PipelineRows { head, jobs })?;
+    assert!(rt; text.as_str() == PIPELINE_JSON);
+    let first = RunnerRow {
+        runner: 1,
+        paused: false,
+        live: 2,
+        last_grant: Some(at(1000)?),
+        name: Text::copy_of(alloc, "r")?,
+    };
+    let second = RunnerRow {
+        runner: 2,
+        paused: true,
+        live: 0,
+        last_grant: None,
+        name: Text::copy_of(alloc, "s")?,
+    };
+    let text = runner_json(alloc, &[first, second])?;
+    assert!(rt; text.as_str() == RUNNERS_JSON);
     Ok(())
 }

@@ -3,7 +3,7 @@ use Rattle.std.proofs.lemmas.Result.{IfOk-weaker}
 use Rattle.ci_values.specs.declared.limits.TheConstants.{MAX_NUMBER}
 use Rattle.clap.specs.Walk.{rule_of}
 use Rattle.clap.specs.declared.builder.arg.Arg.{Arg}
-use Rattle.ci_cli_words.specs.CommandLine.{command, db, named, number, option, required}
+use Rattle.ci_cli_words.specs.CommandLine.{command, db, flag, named, number, option, required}
 use Rattle.ci_cli_words.proofs.Commands.{with_argument}
 use Rattle.ci_cli_words.proofs.command_line.report.Goals as goal
 
@@ -14,4 +14,7 @@ returns c =
     let pipeline : rule_of c.help-pipeline.result ≡ number (codes "pipeline") MAX_NUMBER = ap rule_of c.help-pipeline.ensures ∙ (c.number.ensures.rule) in
     let pipeline_local = ap (λ (a : Arg). a.global) c.help-pipeline.ensures ∙ (c.number.ensures.local) in
     let is1 = with_argument (command (codes "report") (db ∷ [])) c.in_ok-over_server_file.field-0 c.in_ok-arg.field-0 c.help-kind.result (named (required (option (codes "kind")))) c.in_ok-over_server_file.ensures kind kind_local c.in_ok-arg.ensures in
-    IfOk-weaker c.arg-2.result _ _ (λ made adds. with_argument (command (codes "report") (db ∷ named (required (option (codes "kind"))) ∷ [])) c.in_ok-arg.field-0 made c.help-pipeline.result (number (codes "pipeline") MAX_NUMBER) is1 pipeline pipeline_local adds) c.arg-2.ensures
+    let json : rule_of c.help-json.result ≡ flag (codes "json") = ap rule_of c.help-json.ensures ∙ (c.flag.ensures.rule) in
+    let json_local = ap (λ (a : Arg). a.global) c.help-json.ensures ∙ (c.flag.ensures.local) in
+    let is2 = with_argument (command (codes "report") (db ∷ named (required (option (codes "kind"))) ∷ [])) c.in_ok-arg.field-0 c.in_ok-arg-2.field-0 c.help-pipeline.result (number (codes "pipeline") MAX_NUMBER) is1 pipeline pipeline_local c.in_ok-arg-2.ensures in
+    IfOk-weaker c.arg-3.result _ _ (λ made adds. with_argument (command (codes "report") (db ∷ named (required (option (codes "kind"))) ∷ number (codes "pipeline") MAX_NUMBER ∷ [])) c.in_ok-arg-2.field-0 made c.help-json.result (flag (codes "json")) is2 json json_local adds) c.arg-3.ensures

@@ -2,7 +2,7 @@ use Rattle.std.proofs.Common.{◌≡◌, ◌∙◌, [], ◌∷◌, ap, codes}
 use Rattle.std.proofs.lemmas.Result.{IfOk-weaker}
 use Rattle.clap.specs.Walk.{rule_of}
 use Rattle.clap.specs.declared.builder.arg.Arg.{Arg}
-use Rattle.ci_cli_words.specs.CommandLine.{command, db, number, required}
+use Rattle.ci_cli_words.specs.CommandLine.{command, db, flag, number, required}
 use Rattle.ci_cli_words.proofs.Commands.{with_argument}
 use Rattle.ci_cli_words.proofs.command_line.serve.Goals as goal
 
@@ -13,4 +13,7 @@ returns c =
     let requests : rule_of c.help-requests.result ≡ required (number (codes "requests") 4294967295) = ap rule_of c.help-requests.ensures ∙ (ap rule_of c.required-2.ensures ∙ ap required (c.number-2.ensures.rule)) in
     let requests_local = ap (λ (a : Arg). a.global) c.help-requests.ensures ∙ (ap (λ (a : Arg). a.global) c.required-2.ensures ∙ (c.number-2.ensures.local)) in
     let is1 = with_argument (command (codes "serve") (db ∷ [])) c.in_ok-over_server_file.field-0 c.in_ok-arg.field-0 c.help-port.result (required (number (codes "port") 65535)) c.in_ok-over_server_file.ensures port port_local c.in_ok-arg.ensures in
-    IfOk-weaker c.arg-2.result _ _ (λ made adds. with_argument (command (codes "serve") (db ∷ required (number (codes "port") 65535) ∷ [])) c.in_ok-arg.field-0 made c.help-requests.result (required (number (codes "requests") 4294967295)) is1 requests requests_local adds) c.arg-2.ensures
+    let stop : rule_of c.help-stop.result ≡ flag (codes "stop-on-fault") = ap rule_of c.help-stop.ensures ∙ (c.flag.ensures.rule) in
+    let stop_local = ap (λ (a : Arg). a.global) c.help-stop.ensures ∙ (c.flag.ensures.local) in
+    let is2 = with_argument (command (codes "serve") (db ∷ required (number (codes "port") 65535) ∷ [])) c.in_ok-arg.field-0 c.in_ok-arg-2.field-0 c.help-requests.result (required (number (codes "requests") 4294967295)) is1 requests requests_local c.in_ok-arg-2.ensures in
+    IfOk-weaker c.arg-3.result _ _ (λ made adds. with_argument (command (codes "serve") (db ∷ required (number (codes "port") 65535) ∷ required (number (codes "requests") 4294967295) ∷ [])) c.in_ok-arg-2.field-0 made c.help-stop.result (flag (codes "stop-on-fault")) is2 stop stop_local adds) c.arg-3.ensures

@@ -113,4 +113,8 @@ impl Answerer<Left, &'static str> for Parrot {
         *subject -= 1;
         Ok(Vec::from_elem(self.alloc, b'x', self.reply).ok())
     }
+
+    fn is_over(&self, _subject: &Left) -> bool {
+        false
+    }
 }
