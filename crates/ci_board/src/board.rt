@@ -66,11 +66,12 @@ impl<L: Ledger> Board<L> {
         self.graph.size()
     }
 
-    /// The status of j, worked out from the facts alone. Of the board it changes the meter alone.
+    /// The status of j, worked out from the facts alone. Of the board it changes the meter alone, and where memory is refused nothing.
     pub fn slow_status(&mut self, alloc: Global, j: usize) -> Result<Status, AllocError>
         requires { j < length self.old.graph.parts }
         ensures status { IfOk result (λ s. IsStatusOf self.old.graph self.old.facts j s) }
         ensures kept { self.new ≡ record self.old { graph = record self.old.graph { meter = self.new.graph.meter } } }
+        ensures memory { OnErr result (self.new ≡ self.old) }
     {
         let mut facts = Vec::from_slice(alloc, self.facts.as_slice())?;
         let mut rows = first_rows(alloc, &self.graph)?;

@@ -12,3 +12,5 @@ pub mod pipeline;
 mod rows;
 mod rule;
 mod standing;
+
+pub use facts::FactsChange as Change;

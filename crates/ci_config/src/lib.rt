@@ -14,6 +14,7 @@ mod need;
 mod rule;
 mod value;
 
+pub use ci_values::when::Retry;
 pub use ci_values::{Layers, lookup};
 pub use fault::{ConfigCode, ConfigFault};
 pub use file::Config;

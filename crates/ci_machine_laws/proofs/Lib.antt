@@ -31,3 +31,4 @@ pub mod FirstRows
 pub mod OneOutcome
 pub mod SentAgain
 pub mod Modes
+pub mod LeftOut

@@ -10,3 +10,4 @@ pub mod SweepExamples
 pub mod Repeats
 pub mod Modes
 pub mod ModeExamples
+pub mod Unchanged

@@ -37,6 +37,7 @@ ghost use Rattle.ci_machine_laws.specs.WaitingExamples.{some_runner, tagged, wai
 ghost use Rattle.ci_machine_laws.specs.ModeExamples.{new_mode, mode_shown, prod_in, has_order, has_none, offered, three, third_is, third_tried, pairs, pairs_running, pairs_done};
 ghost use Rattle.ci_machine_laws.specs.PruneExamples.{second_day, both_done, both_board, first_pruned, second_left, second_board, second_pruned, running, waiting, with_second};
 ghost use Rattle.ci_machine_laws.specs.Pieces.{GoesBehind};
+ghost use Rattle.ci_machine_laws.specs.Unchanged.{LeadsOrStays, AreSome};
 ghost use Rattle.ci_machine_laws.specs.Modes.{SetsMode};
 ghost use Rattle.ci_machine.specs.Holders.{holders};
 ghost use Rattle.ci_machine_steps.specs.Prunes.{prunable_in, pruned_reply, nothing_to_prune, without_pipeline};
@@ -396,6 +397,12 @@ pub fn laws_of_each_reached_state()
 /// next, and jobs of newer pipelines have greater ones; what a record names is there; and the live attempt of a job, if it has one, is its last.
 pub fn sound_of_each_reached_state()
     ensures { (s : State) → IsReached s → IsSound s }
+{}
+
+/// Where each line of an earlier program was a step of this machine, or left the state as it was, as a refusal does that this machine wouldn't
+/// give, the state is reached: some of the lines, in their order, are a history that leads to it.
+pub fn a_line_that_changes_nothing_can_be_left_out()
+    ensures { (lines : List Past) (s : State) → LeadsOrStays lines s → (h : List Past) × AreSome h lines × Leads h s }
 {}
 
 /// In each state that a history leads to, each job that waits for another is of the other's pipeline, and no job waits for

@@ -1,11 +1,13 @@
 -- What is made of the records of a pipeline is what the state has of it.
-use Rattle.std.specs.Prelude.{◌≡◌, ℕ, ◌-◌, ◌<◌, ◌≤◌, true, ◌==◌, List, length, map, All, slice_index_or}
+use Rattle.std.specs.Prelude.{◌≡◌, ℕ, ◌-◌, ◌<◌, ◌≤◌, true, ◌==◌, List, length, map, All, slice_index_or, Result, Ok, Err, IfOk, IfErr, OnOk}
 use Rattle.std.specs.Ordering.{nat_cmp}
 use Rattle.std.specs.List.Sorted.{IsStrictlySortedBy}
 use Rattle.std.proofs.Common.{sym, ap, subst, ◌∙◌, arith, eqb-true}
 use Rattle.std.proofs.lemmas.Bool.{and_from, le-leb}
 use Rattle.std.proofs.lemmas.List.{get_or-map, length-map}
 use Rattle.ci_graph.specs.Lists.{is_among}
+use Rattle.ci_graph.specs.Pairs.{IsAcyclic}
+use Rattle.ci_graph.specs.JobGraph.{JobGraph}
 use Rattle.ci_board.specs.Rows.{BoardState}
 use Rattle.ci_machine.specs.declared.records.Job.{Job}
 use Rattle.ci_machine.specs.declared.records.Need.{Need}
@@ -14,12 +16,15 @@ use Rattle.ci_machine.specs.declared.records.BoardRow.{BoardRow}
 use Rattle.ci_machine.specs.State.{State}
 use Rattle.ci_machine.specs.Ranges.{is_within}
 use Rattle.ci_machine.specs.Statuses.{pair_of, jobs_of, numbers_of, graph_of, facts_in, facts_of, rows_of, row_for, row_or_none, AreBoard}
-use Rattle.ci_machine.proofs.Keyed.{Has, Rising, rising_filter, map_has, has_from_all}
+use Rattle.ci_machine.proofs.Keyed.{Has, Rising, rising_filter, map_has, has_from_all, All-from_has, filter_has, has_filter}
 use Rattle.ci_machine.proofs.Filters.{filter_implied, find_implied}
-use Rattle.ci_machine_steps.proofs.Sound.{Sound, ascend_from_rising}
-use Rattle.ci_machine_statuses.specs.Lookups.{AreRecords, tally_of, facts_by}
+use Rattle.ci_machine_steps.specs.Sound.{IsSound}
+use Rattle.ci_machine_steps.proofs.Sound.{Sound, ascend_from_rising, sound as of_sound}
+use Rattle.ci_machine_statuses.specs.Lookups.{AreRecords, AreJobsWithNeeds, tally_of, facts_by}
 use Rattle.ci_machine.specs.Statuses.{pairs_among, predecessors_by}
-use Rattle.ci_machine_statuses.specs.Boards.{IsBoardOf, IsGraphOf}
+use Rattle.ci_machine_statuses.specs.Boards.{IsBoardOf, IsGraphOf, IsItsGraph, FitTogether}
+use Rattle.ci_machine_statuses.specs.declared.fault.StatusFault.{StatusFault}
+use Rattle.ci_machine_statuses.specs.declared.fault.StatusFault.TheVariants.{Broken}
 use Rattle.ci_machine_statuses.proofs.Puts.{map_same}
 use Rattle.ci_machine_statuses.proofs.Positions.{ascending, has_among}
 use Rattle.ci_machine_statuses.proofs.RowPuts.{map_rises}
@@ -29,33 +34,96 @@ use Rattle.ci_machine_statuses.proofs.Joint.{board_rises}
 abbrev number : Job → ℕ
 number j = j.id
 
+module _ (s : State) (p : ℕ) (jobs : List Job) (needs : List Need) (sound : Sound s) (are : AreJobsWithNeeds s p jobs needs) where
+  all_rise : Rising (λ j. j.id) 0 jobs
+  all_rise = subst (Rising number 0) (sym are.are_jobs) (rising_filter number (λ (j : Job). j.pipeline == p) 0 s.jobs sound.jobs)
+
+  pub all_ascend : IsStrictlySortedBy nat_cmp (map (λ j. j.id) jobs)
+  all_ascend = ascend_from_rising number 0 jobs all_rise
+
+  -- the number of a job is between the two
+  stands_between : (n : ℕ) → Has n (map (λ j. j.id) jobs) → is_within are.first are.last n ≡ true
+  stands_between n h =
+      let w = map_has number n jobs h in
+      subst (λ m. is_within are.first are.last m ≡ true) w.1.1 (has_from_all (λ (j : Job). is_within are.first are.last j.id ≡ true) w.0 jobs are.inside w.1.0)
+
+  same_pairs : pairs_among (map (λ j. j.id) jobs) needs ≡ pairs_among (map (λ j. j.id) jobs) s.needs
+  same_pairs =
+      ap (λ (l : List Need). pairs_among (map number jobs) l) are.are_needs
+      ∙ ap (map (pair_of (map number jobs))) (filter_implied (λ (w : Need). is_among (map number jobs) w.job) (λ w. is_within are.first are.last w.job) s.needs (λ w m e. stands_between w.job (has_among w.job (map number jobs) e)))
+
+  its_pairs : pairs_among (map (λ j. j.id) jobs) needs ≡ pairs_among (numbers_of s p) s.needs
+  its_pairs = same_pairs ∙ ap (λ (js : List Job). pairs_among (map number js) s.needs) are.are_jobs
+
+  pub pairs_give : predecessors_by (pairs_among (map (λ j. j.id) jobs) needs) (length jobs) ≡ (graph_of s p).predecessors
+  pairs_give = λ i. predecessors_by (its_pairs i) (length (are.are_jobs i))
+
+  abbrev IsNamed : Need → Type 0
+  IsNamed w = is_among (map number jobs) w.job ≡ true → is_among (map number jobs) w.pred ≡ true
+
+  -- what was looked up fits together exactly where what the state has does
+  pub fits_in : FitTogether (map (λ j. j.id) jobs) needs → FitTogether (numbers_of s p) s.needs
+  fits_in fit = subst (λ (js : List Job). FitTogether (map number js) s.needs) are.are_jobs (record {
+    named = All-from_has IsNamed s.needs (λ w k e.
+        has_from_all IsNamed w needs fit.named (subst (Has w) (sym are.are_needs) (filter_has (λ (v : Need). is_within are.first are.last v.job) w s.needs k (stands_between w.job (has_among w.job (map number jobs) e)))) e);
+    acyclic = subst IsAcyclic same_pairs fit.acyclic;
+  })
+
+  pub fits_back : FitTogether (numbers_of s p) s.needs → FitTogether (map (λ j. j.id) jobs) needs
+  fits_back whole =
+      let fit = subst (λ (js : List Job). FitTogether (map number js) s.needs) (sym are.are_jobs) whole in
+      record {
+        named = All-from_has IsNamed needs (λ w k. has_from_all IsNamed w s.needs fit.named (has_filter (λ (v : Need). is_within are.first are.last v.job) w s.needs (subst (Has w) are.are_needs k)).0);
+        acyclic = subst IsAcyclic (sym same_pairs) fit.acyclic;
+      }
+
+  -- a graph of the parts and pairs of these jobs is the pipeline's
+  pub is_its_graph : (numbers : List ℕ) (g : JobGraph) → numbers ≡ map (λ j. j.id) jobs → g.parts ≡ map (λ j. j.options.part) jobs
+      → (IsStrictlySortedBy nat_cmp numbers → g.predecessors ≡ predecessors_by (pairs_among numbers needs) (length jobs))
+      → (IsStrictlySortedBy nat_cmp numbers → FitTogether numbers needs) → IsItsGraph s p g
+  is_its_graph numbers g same parts predecessors fit =
+      let up : IsStrictlySortedBy nat_cmp numbers = subst (IsStrictlySortedBy nat_cmp) (sym same) all_ascend in
+      record {
+        parts = parts ∙ ap (map (λ (j : Job). j.options.part)) are.are_jobs;
+        predecessors = predecessors up ∙ (ap (λ (ns : List ℕ). predecessors_by (pairs_among ns needs) (length jobs)) same ∙ pairs_give);
+        fit = fits_in (subst (λ (ns : List ℕ). FitTogether ns needs) same (fit up));
+      }
+
+-- what is looked up gives the pipeline's graph
+pub graph_given : (numbers : List ℕ) (jobs : List Job) (needs : List Need) (r : Result JobGraph StatusFault) → numbers ≡ map (λ j. j.id) jobs → IfOk r (λ g. g.parts ≡ map (λ j. j.options.part) jobs)
+    → IfOk r (λ g. IsStrictlySortedBy nat_cmp numbers → g.predecessors ≡ predecessors_by (pairs_among numbers needs) (length jobs))
+    → OnOk r (IsStrictlySortedBy nat_cmp numbers → FitTogether numbers needs)
+    → IfOk r (λ g. (s : State) (p : ℕ) → IsSound s → AreJobsWithNeeds s p jobs needs → IsItsGraph s p g)
+graph_given numbers jobs needs (Ok g) same parts predecessors fit = λ s p is are. is_its_graph s p jobs needs (of_sound s is) are numbers g same parts predecessors fit
+graph_given numbers jobs needs (Err f) same parts predecessors fit = tt
+
+-- and where it fits together in the state, no fault is told of it
+pub fault_told : (numbers : List ℕ) (jobs : List Job) (needs : List Need) (r : Result JobGraph StatusFault) → numbers ≡ map (λ j. j.id) jobs
+    → IfErr r (λ f. f ≡ Broken → IsStrictlySortedBy nat_cmp numbers → FitTogether numbers needs → ⊥)
+    → IfErr r (λ f. f ≡ Broken → (s : State) (p : ℕ) → IsSound s → AreJobsWithNeeds s p jobs needs → FitTogether (numbers_of s p) s.needs → ⊥)
+fault_told numbers jobs needs (Ok g) same told = tt
+fault_told numbers jobs needs (Err f) same told = λ broken s p is are fit.
+    told broken (subst (IsStrictlySortedBy nat_cmp) (sym same) (all_ascend s p jobs needs (of_sound s is) are))
+    (subst (λ (ns : List ℕ). FitTogether ns needs) (sym same) (fits_back s p jobs needs (of_sound s is) are fit))
+
 module _ (s : State) (kept : List BoardRow) (p : ℕ) (jobs : List Job) (needs : List Need) (attempts : List Attempt) (rows : List BoardRow)
     (sound : Sound s) (are : AreBoard s kept) (records : AreRecords s kept p jobs needs attempts rows) where
-  jobs_rise : Rising (λ j. j.id) 0 jobs
-  jobs_rise = subst (Rising number 0) (sym records.are_jobs) (rising_filter number (λ (j : Job). j.pipeline == p) 0 s.jobs sound.jobs)
+  abbrev its_jobs : AreJobsWithNeeds s p jobs needs
+  its_jobs = record { first = records.first; last = records.last; inside = records.inside; are_jobs = records.are_jobs; are_needs = records.are_needs }
 
   pub numbers_ascend : IsStrictlySortedBy nat_cmp (map (λ j. j.id) jobs)
-  numbers_ascend = ascend_from_rising number 0 jobs jobs_rise
+  numbers_ascend = all_ascend s p jobs needs sound its_jobs
 
   pub rows_ascend : IsStrictlySortedBy nat_cmp (map (λ r. r.job) rows)
   rows_ascend =
       ascend_from_rising (λ (r : BoardRow). r.job) 0 rows
       (subst (Rising (λ r. r.job) 0) (sym records.are_rows) (rising_filter (λ (r : BoardRow). r.job) (λ r. is_within records.first records.last r.job) 0 kept (board_rises s kept sound are)))
 
-  -- the number of a job is between the two
   in_range : (n : ℕ) → Has n (map (λ j. j.id) jobs) → is_within records.first records.last n ≡ true
-  in_range n h =
-      let w = map_has number n jobs h in
-      subst (λ m. is_within records.first records.last m ≡ true) w.1.1 (has_from_all (λ (j : Job). is_within records.first records.last j.id ≡ true) w.0 jobs records.inside w.1.0)
-
-  its_pairs : pairs_among (map (λ j. j.id) jobs) needs ≡ pairs_among (numbers_of s p) s.needs
-  its_pairs =
-      ap (λ (l : List Need). pairs_among (map number jobs) l) records.are_needs
-      ∙ (ap (map (pair_of (map number jobs))) (filter_implied (λ (w : Need). is_among (map number jobs) w.job) (λ w. is_within records.first records.last w.job) s.needs (λ w m e. in_range w.job (has_among w.job (map number jobs) e)))
-      ∙ ap (λ (js : List Job). pairs_among (map number js) s.needs) records.are_jobs)
+  in_range = stands_between s p jobs needs sound its_jobs
 
   pub its_predecessors : predecessors_by (pairs_among (map (λ j. j.id) jobs) needs) (length jobs) ≡ (graph_of s p).predecessors
-  its_predecessors = λ i. predecessors_by (its_pairs i) (length (records.are_jobs i))
+  its_predecessors = pairs_give s p jobs needs sound its_jobs
 
   one_facts : (j : Job) → Has j jobs → facts_by (tally_of attempts j.id) j ≡ facts_in s j
   one_facts j h =

@@ -1,18 +1,21 @@
 -- The places of ascending numbers.
-use Rattle.std.specs.Prelude.{◌≡◌, ◌⊎◌, ℕ, zero, suc, ◌+◌, ◌<◌, ◌≤◌, Bool, true, false, cond, ◌==◌, ◌||◌, nat_lt, List, [], ◌∷◌, length, Some, None, Result, Ok, Err, slice_index_or}
+use Rattle.std.specs.Prelude.{◌≡◌, ◌⊎◌, ℕ, zero, suc, ◌+◌, ◌<◌, ◌≤◌, Bool, true, false, cond, ◌==◌, ◌||◌, nat_lt, List, [], ◌∷◌, length, Some, None, Result, Ok, Err, slice_index_or, take, map, filter, ◌++◌}
 use Rattle.std.specs.Ordering.{nat_cmp}
 use Rattle.std.specs.Result.{result_ok}
 use Rattle.std.specs.List.Sorted.{IsStrictlySortedBy, IsBinarySearchResult}
 use Rattle.std.proofs.Common.{refl, sym, ap, subst, ◌∙◌, inl, inr, ⊎_elim, arith, eq-eqb, eqb-true, ne_eqb, lt-ltb, ltb-true}
 use Rattle.std.proofs.lemmas.Bool.{cond_both, cond-true, cond-false, cases_Bool, false≢true, le-ltb, ltb-false}
-use Rattle.std.proofs.lemmas.List.{map-id}
+use Rattle.std.proofs.lemmas.List.{map-id, take_more, append-nil}
+use Rattle.std.proofs.lemmas.List.Elements.{All-more}
 use Rattle.std.proofs.lemmas.List.Sorted.{searched}
 use Rattle.std.proofs.lemmas.List.Sums.{sum_by-cons}
 use Rattle.ci_graph.specs.Lists.{is_among}
-use Rattle.ci_machine.specs.Statuses.{place_in}
+use Rattle.ci_machine.specs.declared.records.Need.{Need}
+use Rattle.ci_machine.specs.Statuses.{place_in, pair_of, pairs_among}
 use Rattle.ci_machine.proofs.Keyed.{Has, Rising, rising_from}
 use Rattle.ci_machine_steps.proofs.Sound.{rising_from_ascend}
 use Rattle.ci_machine_statuses.specs.Lookups.{place_of}
+use Rattle.ci_machine_statuses.specs.Boards.{AreNamed}
 
 pub numbers_ascend : (xs : List ℕ) → IsStrictlySortedBy nat_cmp xs → Rising (λ n. n) 0 xs
 numbers_ascend xs a = rising_from_ascend (λ n. n) xs (subst (IsStrictlySortedBy nat_cmp) (sym (map-id xs)) a)
@@ -116,3 +119,49 @@ place_none xs n e m h same =
     let a : is_among xs n ≡ true = among_has n xs (subst (λ k. Has k xs) same h) in
     let q : Some (place_in xs n) ≡ None = sym (cond-true (is_among xs n) (Some (place_in xs n)) None a) ∙ e in
     absurd (cc)
+
+-- a number that has no place is none of them
+pub not_placed : (numbers : List ℕ) (n : ℕ) → place_of numbers n ≡ None → is_among numbers n ≡ false
+not_placed numbers n = cond_both (is_among numbers n) (Some (place_in numbers n)) None (λ o. o ≡ None → is_among numbers n ≡ false) (λ _ k. absurd (cc)) (λ no _. no)
+
+-- one need more that names what it may
+pub named_more : (numbers : List ℕ) (needs : List Need) (i : ℕ) (d : Need) → i < length needs → AreNamed numbers (take i needs)
+    → (is_among numbers (slice_index_or needs i d).job ≡ true → is_among numbers (slice_index_or needs i d).pred ≡ true) → AreNamed numbers (take (i + 1) needs)
+named_more numbers needs i d lt so named = All-more (λ (w : Need). is_among numbers w.job ≡ true → is_among numbers w.pred ≡ true) needs i d lt so named
+
+-- a number that has a place is one of them, and has that one
+placed : (numbers : List ℕ) (n place : ℕ) → place_of numbers n ≡ Some place → (is_among numbers n ≡ true) × (place_in numbers n ≡ place)
+placed numbers n place =
+    cond_both (is_among numbers n) (Some (place_in numbers n)) None (λ o. o ≡ Some place → (is_among numbers n ≡ true) × (place_in numbers n ≡ place)) (λ yes k. (yes, (let same : place_in numbers n ≡ place = cc in same)))
+    (λ _ k. absurd (cc))
+
+filter_one : {A : Type 0} (p : A → Bool) (x : A) (xs : List A) → filter p (xs ++ x ∷ []) ≡ filter p xs ++ cond (p x) (x ∷ []) []
+filter_one p x [] = refl
+filter_one p x (y ∷ ys) =
+    cond_both (p y) (y ∷ filter p ys) (filter p ys) (λ l. cond (p y) (y ∷ filter p (ys ++ x ∷ [])) (filter p (ys ++ x ∷ [])) ≡ l ++ cond (p x) (x ∷ []) [])
+    (λ e. cond-true (p y) _ _ e ∙ ap (λ l. y ∷ l) (filter_one p x ys)) (λ e. cond-false (p y) _ _ e ∙ filter_one p x ys)
+
+map_one : {A B : Type 0} (f : A → B) (x : A) (xs : List A) → map f (xs ++ x ∷ []) ≡ map f xs ++ f x ∷ []
+map_one f x [] = refl
+map_one f x (y ∷ ys) = ap (λ l. f y ∷ l) (map_one f x ys)
+
+-- the pairs with one need more: of a job that is one of them, or of another
+pub pair_more : (numbers : List ℕ) (needs : List Need) (i : ℕ) (d : Need) (pairs : List (ℕ × ℕ)) (pair : ℕ × ℕ) (place : ℕ) → i < length needs → place_of numbers (slice_index_or needs i d).job ≡ Some place
+    → (pair.0 ≡ place_in numbers (slice_index_or needs i d).pred) × (pair.1 ≡ place) → pairs ≡ pairs_among numbers (take i needs) → pairs ++ pair ∷ [] ≡ pairs_among numbers (take (i + 1) needs)
+pair_more numbers needs i d pairs pair place lt is same so =
+    let w = slice_index_or needs i d in
+    let its = placed numbers w.job place is in
+    let one : pair ≡ pair_of numbers w = λ k. (same.0 k, (same.1 ∙ sym its.1) k) in
+    (λ k. so k ++ one k ∷ [])
+    ∙ sym (ap (pairs_among numbers) (take_more needs i d lt)
+    ∙ (ap (map (pair_of numbers)) (filter_one (λ (v : Need). is_among numbers v.job) w (take i needs) ∙ ap (λ (l : List Need). filter (λ (v : Need). is_among numbers v.job) (take i needs) ++ l) (cond-true (is_among numbers w.job) (w ∷ []) [] its.0))
+    ∙ map_one (pair_of numbers) w (filter (λ (v : Need). is_among numbers v.job) (take i needs))))
+
+pub pair_less : (numbers : List ℕ) (needs : List Need) (i : ℕ) (d : Need) (pairs : List (ℕ × ℕ)) → i < length needs → place_of numbers (slice_index_or needs i d).job ≡ None → pairs ≡ pairs_among numbers (take i needs)
+    → pairs ≡ pairs_among numbers (take (i + 1) needs)
+pair_less numbers needs i d pairs lt is so =
+    let w = slice_index_or needs i d in
+    so
+    ∙ sym (ap (pairs_among numbers) (take_more needs i d lt)
+    ∙ ap (map (pair_of numbers)) (filter_one (λ (v : Need). is_among numbers v.job) w (take i needs)
+    ∙ (ap (λ (l : List Need). filter (λ (v : Need). is_among numbers v.job) (take i needs) ++ l) (cond-false (is_among numbers w.job) (w ∷ []) [] (not_placed numbers w.job is)) ∙ append-nil (filter (λ (v : Need). is_among numbers v.job) (take i needs)))))

@@ -1,21 +1,38 @@
 -- The board of a pipeline in a state with rows.
-use Rattle.std.specs.Prelude.{◌≡◌, ℕ, List, length, map}
+use Rattle.std.specs.Prelude.{◌≡◌, ℕ, true, List, length, map, All}
 use Rattle.std.specs.Ordering.{nat_cmp}
 use Rattle.std.specs.List.Sorted.{IsStrictlySortedBy}
 use Rattle.ci_graph.specs.JobGraph.{JobGraph}
-use Rattle.ci_graph.specs.Lists.{number_at}
+use Rattle.ci_graph.specs.Lists.{number_at, is_among}
+use Rattle.ci_graph.specs.Pairs.{IsAcyclic}
 use Rattle.ci_board.specs.declared.facts.Row.{Row}
 use Rattle.ci_board.specs.Rows.{BoardState, differing, row_at}
 use Rattle.ci_machine.specs.declared.records.Job.{Job}
 use Rattle.ci_machine.specs.declared.records.Need.{Need}
 use Rattle.ci_machine.specs.declared.records.BoardRow.{BoardRow}
 use Rattle.ci_machine.specs.State.{State}
-use Rattle.ci_machine.specs.Statuses.{pairs_among, predecessors_by, graph_of, facts_of, rows_of}
+use Rattle.ci_machine.specs.Statuses.{pairs_among, predecessors_by, numbers_of, graph_of, facts_of, rows_of}
+
+-- a job that one of the jobs with these numbers waits for is one of them too
+abbrev pub AreNamed : List ℕ → List Need → Type 0
+AreNamed numbers needs = All (λ w. is_among numbers w.job ≡ true → is_among numbers w.pred ≡ true) needs
+
+-- the jobs with these numbers wait for one another alone, and in no circle
+pub record FitTogether (numbers : List ℕ) (needs : List Need) : Type 0 where
+  pub named : AreNamed numbers needs
+  pub acyclic : IsAcyclic (pairs_among numbers needs)
 
 -- The graph is that of these jobs with these needs among others: it has their parts and, where they stand by their numbers, their predecessors.
 pub record IsGraphOf (graph : JobGraph) (jobs : List Job) (needs : List Need) : Type 0 where
   pub parts : graph.parts ≡ map (λ j. j.options.part) jobs
   pub predecessors : IsStrictlySortedBy nat_cmp (map (λ j. j.id) jobs) → graph.predecessors ≡ predecessors_by (pairs_among (map (λ j. j.id) jobs) needs) (length jobs)
+
+-- The graph is that of a pipeline's jobs: it has their parts, and the predecessors that the needs of the state give them. Each need of such a job
+-- names another of them, and they wait for each other in no circle.
+pub record IsItsGraph (s : State) (pipeline : ℕ) (graph : JobGraph) : Type 0 where
+  pub parts : graph.parts ≡ (graph_of s pipeline).parts
+  pub predecessors : graph.predecessors ≡ (graph_of s pipeline).predecessors
+  pub fit : FitTogether (numbers_of s pipeline) s.needs
 
 -- A loaded board is that of the pipeline: its graph has the same parts and predecessors, on which alone the rows depend.
 pub record IsBoardOf (s : State) (board : List BoardRow) (pipeline : ℕ) (loaded : BoardState) : Type 0 where

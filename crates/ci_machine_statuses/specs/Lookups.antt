@@ -22,6 +22,14 @@ pub record AreRecords (s : State) (board : List BoardRow) (pipeline : ℕ) (jobs
   pub are_attempts : attempts ≡ attempts_within first last s.attempts
   pub are_rows : rows ≡ rows_within first last board
 
+-- These are the jobs of the pipeline, and the needs of the jobs between two numbers, which take in its own.
+pub record AreJobsWithNeeds (s : State) (pipeline : ℕ) (jobs : List Job) (needs : List Need) : Type 0 where
+  pub first : ℕ
+  pub last : ℕ
+  pub inside : All (λ j. is_within first last j.id ≡ true) jobs
+  pub are_jobs : jobs ≡ jobs_of s pipeline
+  pub are_needs : needs ≡ needs_within first last s.needs
+
 -- where a number stands among numbers in their order, if it is one of them
 abbrev pub place_of : List ℕ → ℕ → Option ℕ
 place_of numbers n = if is_among numbers n then Some (place_in numbers n) else None

@@ -1,18 +1,19 @@
 //! The board of a pipeline, made of what was looked up.
 
-ghost use Rattle.std.specs.Prelude.{◌≡◌, ◌<◌, ℕ, true, List, [], map, length, All, IfOk, IfSome, None};
+ghost use Rattle.std.specs.Prelude.{◌≡◌, ◌<◌, ℕ, true, List, [], map, length, All, IfOk, IfErr, IfSome, OnOk, None};
 ghost use Rattle.std.specs.Ordering.{nat_cmp};
 ghost use Rattle.std.specs.List.Sorted.{IsStrictlySortedBy};
 ghost use Rattle.ci_machine.specs.declared.records.BoardRow.{BoardRow};
 ghost use Rattle.ci_machine.specs.State.{State};
 ghost use Rattle.ci_machine.specs.declared.records.Need.{Need};
 ghost use Rattle.ci_machine.specs.Statuses as statuses;
-ghost use Rattle.ci_machine.specs.Statuses.{jobs_of, row_for, AreBoard};
+ghost use Rattle.ci_machine.specs.Statuses.{jobs_of, numbers_of, row_for, AreBoard};
 ghost use Rattle.ci_machine_steps.specs.Sound.{IsSound};
 ghost use Rattle.ci_machine.specs.Ranges.{is_within};
-ghost use Rattle.ci_machine_statuses.specs.Lookups.{tally_of, facts_by, AreRecords};
+ghost use Rattle.ci_machine_statuses.specs.Lookups.{tally_of, facts_by, AreRecords, AreJobsWithNeeds};
 ghost use Rattle.ci_machine.specs.Statuses.{pairs_among, predecessors_by};
-ghost use Rattle.ci_machine_statuses.specs.Boards.{IsBoardOf, IsGraphOf};
+ghost use Rattle.ci_machine_statuses.specs.Boards.{IsBoardOf, IsGraphOf, IsItsGraph, FitTogether};
+ghost use Rattle.ci_machine_statuses.specs.declared.fault.StatusFault.TheVariants.{Broken};
 
 use crate::fault::StatusFault;
 use crate::places::{jobs_of_rows, numbers_of, pairs_among, place_of};
@@ -64,12 +65,32 @@ pub fn graph_of<L: Ledger>(
     requires numbers { numbers.now ≡ map (λ j. j.id) jobs.now }
     ensures parts { IfOk result (λ g. g.parts ≡ map (λ j. j.options.part) jobs.now) }
     ensures predecessors { IfOk result (λ g. IsStrictlySortedBy nat_cmp numbers.now → g.predecessors ≡ predecessors_by (pairs_among numbers.now needs.now) (length jobs.now)) }
+    ensures fits { OnOk result (IsStrictlySortedBy nat_cmp numbers.now → FitTogether numbers.now needs.now) }
+    ensures fault { IfErr result (λ f. f ≡ Broken → IsStrictlySortedBy nat_cmp numbers.now → FitTogether numbers.now needs.now → ⊥) }
 {
     let pairs = pairs_among(alloc, numbers, needs)?;
     let parts = parts_of(alloc, jobs)?;
     let graph = Graph::new(alloc, blank, parts, pairs.as_slice())?;
     let _size = graph.size();
     Ok(graph)
+}
+
+/// The graph of a pipeline, of its jobs and at least their needs. Errors: memory was refused, a job waits for one that is none of them, or
+/// for itself by way of others; and `Broken` in no other case.
+pub fn load_graph<L: Ledger>(
+    alloc: Global,
+    blank: Blank,
+    jobs: &[Job],
+    needs: &[Need],
+) -> Result<Graph<L>, StatusFault>
+    requires name { blank.name ≡ L.name }
+    requires ledger { blank.parts ≡ L.parts }
+    requires some { 0 < blank.parts }
+    ensures graph { IfOk result (λ g. (s : State) (pipeline : ℕ) → IsSound s → AreJobsWithNeeds s pipeline jobs.now needs.now → IsItsGraph s pipeline g) }
+    ensures fault { IfErr result (λ f. f ≡ Broken → (s : State) (pipeline : ℕ) → IsSound s → AreJobsWithNeeds s pipeline jobs.now needs.now → FitTogether (numbers_of s pipeline) s.needs → ⊥) }
+{
+    let numbers = numbers_of(alloc, jobs)?;
+    graph_of(alloc, blank, jobs, numbers.as_slice(), needs)
 }
 
 /// The graph of jobs with at least their needs. Errors: memory was refused, a job waits for one that is none of them, or for itself by way

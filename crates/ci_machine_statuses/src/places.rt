@@ -1,12 +1,15 @@
 //! Where jobs stand among those of their pipeline.
 
-ghost use Rattle.std.specs.Prelude.{◌≡◌, ◌<◌, map, length, slice_index_or, IfOk, IfSome};
+ghost use Rattle.std.specs.Prelude.{◌≡◌, ◌<◌, true, false, map, length, slice_index_or, IfOk, IfErr, IfSome, OnOk, OnErr};
 ghost use Rattle.std.specs.Ordering.{nat_cmp};
 ghost use Rattle.std.specs.List.Sorted.{IsStrictlySortedBy};
+ghost use Rattle.ci_graph.specs.Lists.{is_among};
 ghost use Rattle.ci_graph.specs.Pairs.{AreWithin};
 ghost use Rattle.ci_machine.specs.Statuses.{place_in};
 ghost use Rattle.ci_machine_statuses.specs.Lookups.{place_of};
 ghost use Rattle.ci_machine.specs.Statuses.{pairs_among};
+ghost use Rattle.ci_machine_statuses.specs.Boards.{AreNamed};
+ghost use Rattle.ci_machine_statuses.specs.declared.fault.StatusFault.TheVariants.{Broken};
 
 use crate::fault::StatusFault;
 use ci_machine::records::{BoardRow, Job, Need};
@@ -59,6 +62,8 @@ fn pair_at(numbers: &[u64], job: usize, need: Need) -> Result<(usize, usize), St
     requires { job < length numbers.now }
     ensures within { IfOk result (λ p. (p.0 < length numbers.now) × (p.1 < length numbers.now)) }
     ensures pair { IfOk result (λ p. IsStrictlySortedBy nat_cmp numbers.now → (p.0 ≡ place_in numbers.now need.pred) × (p.1 ≡ job)) }
+    ensures named { OnOk result (IsStrictlySortedBy nat_cmp numbers.now → is_among numbers.now need.pred ≡ true) }
+    ensures fault { OnErr result (IsStrictlySortedBy nat_cmp numbers.now → is_among numbers.now need.pred ≡ false) }
 {
     match place_of(numbers, need.pred) {
         Some(pred) => Ok((pred, job)),
@@ -75,6 +80,8 @@ pub fn pairs_among(
 ) -> Result<Vec<(usize, usize)>, StatusFault>
     ensures within { IfOk result (λ v. AreWithin (length numbers.now) v.items) }
     ensures pairs { IfOk result (λ v. IsStrictlySortedBy nat_cmp numbers.now → v.items ≡ pairs_among numbers.now needs.now) }
+    ensures named { OnOk result (IsStrictlySortedBy nat_cmp numbers.now → AreNamed numbers.now needs.now) }
+    ensures fault { IfErr result (λ f. f ≡ Broken → IsStrictlySortedBy nat_cmp numbers.now → AreNamed numbers.now needs.now → ⊥) }
 {
     let mut pairs = Vec::with_capacity(alloc, needs.len())?;
     for need in needs {

@@ -1,8 +1,9 @@
 //! What an event does to a store: it is planned, and then what the plan changes is committed.
 
-ghost use Rattle.std.specs.Prelude.{◌≡◌, IfOk};
+ghost use Rattle.std.specs.Prelude.{◌≡◌, ℕ, IfOk};
 ghost use Rattle.ci_machine.specs.declared.reply.Answer.TheVariants as answer;
 ghost use Rattle.ci_machine.specs.declared.request.Event.TheVariants as event;
+ghost use Rattle.ci_machine.specs.declared.request.Request.TheVariants.{PruneOne};
 ghost use Rattle.ci_machine.specs.declared.request.Seed.{Seed};
 ghost use Rattle.ci_machine.specs.State.{State};
 ghost use Rattle.ci_machine.specs.Kept.{Kept, cleared, written};
@@ -37,6 +38,22 @@ pub(crate) fn handle<T: Searches>(
 {
     let clearing = plan_request(alloc, store, request, now, seed)?;
     commit(store, clearing)
+}
+
+/// Prunes a store that holds a state of the machine: the finished pipeline of least number that was made before this moment goes, if there is
+/// one, with all that belongs to it, in one commit. It does what the request does, at whatever moment and with whatever seed. Errors: as
+/// `handle`.
+pub fn prune_one<T: Searches>(
+    alloc: Global,
+    store: &mut T,
+    before: Moment,
+) -> Result<Reply, StoreFault>
+    ensures was_honest { T.honest store.new → T.honest store.old }
+    ensures performed { T.honest store.new → (s : State) → IsSound s → Holds T.holds store.old s
+        → (now : ℕ) (seed : Seed) → Performs (Holds T.holds) (Leaves T.leaves) answer.Reply (event.Request (PruneOne before), now, seed) s store.new result }
+{
+    let (request, seed) = (Request::PruneOne(before), Seed([0; 16]));
+    handle(alloc, store, request, before, seed)
 }
 
 /// Sweeps: ends one lease that is over; where there is none, cancels one redundant pipeline, if there is one. Errors: as `handle`.

@@ -5,3 +5,5 @@ mod events;
 mod fail_stop;
 pub mod lifetime;
 pub mod server;
+
+pub use events::prune_one;

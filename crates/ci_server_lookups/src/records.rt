@@ -1,5 +1,8 @@
 //! A pipeline's jobs with what a board takes of them, from what the store holds.
 
+ghost use Rattle.std.specs.Prelude.{◌≡◌, ◌<◌};
+ghost use Rattle.ci_machine_steps.specs.Sound.{IsSound};
+ghost use Rattle.ci_machine_statuses.specs.Boards.{IsItsGraph};
 ghost use Rattle.ci_store.specs.Store.{LoadsBy};
 ghost use Rattle.ci_server_lookups.specs.Records.{AreOf, IsWhole};
 ghost use Rattle.ci_server_lookups.specs.Keeps.{IsKept};
@@ -7,11 +10,14 @@ ghost use Rattle.ci_server_lookups.specs.Keeps.{IsKept};
 use crate::claims::ahead_of;
 use crate::holders::holders_of;
 use crate::turns::Turns;
+use ci_graph::graph::Graph;
 use ci_machine::records::{Attempt, BoardRow, Claim, Holder, Job, Need, Pipeline};
-use ci_machine_statuses::load::range_of;
+use ci_machine_statuses::fault::StatusFault;
+use ci_machine_statuses::load::{load_graph, range_of};
 use ci_store::fault::StoreFault;
 use ci_store::store::Store;
 use std::alloc::Global;
+use std::sync::ledger::{Blank, Ledger};
 
 /// The jobs of a pipeline, and at least their needs, attempts and rows.
 #[derive(Drop)]
@@ -39,6 +45,31 @@ pub fn records_of<T: Store>(store: &mut T, pipeline: u64) -> Result<Records, Sto
         attempts,
         rows,
     })
+}
+
+/// The graph of a pipeline's jobs, by what the store holds of what they wait for. The blank makes its meter. Errors: the store's. `Broken`
+/// too where the pipeline has no jobs, or a job of it waits for one that is none of it, or for itself by way of others.
+pub fn graph_in<T: Store, L: Ledger>(
+    alloc: Global,
+    blank: Blank,
+    store: &mut T,
+    pipeline: u64,
+) -> Result<Graph<L>, StoreFault>
+    requires name { blank.name ≡ L.name }
+    requires ledger { blank.parts ≡ L.parts }
+    requires some { 0 < blank.parts }
+    ensures { LoadsBy T.honest T.holds T.leaves store.old store.new result (λ k g. IsSound k.state → IsItsGraph k.state pipeline g) }
+{
+    let jobs = store.jobs_of(pipeline)?;
+    let Some((first, last)) = range_of(jobs.as_slice()) else {
+        return Err(StoreFault::Broken);
+    };
+    let needs = store.needs_within(first, last)?;
+    match load_graph(alloc, blank, jobs.as_slice(), needs.as_slice()) {
+        Ok(graph) => Ok(graph),
+        Err(StatusFault::Memory) => Err(StoreFault::Memory),
+        Err(StatusFault::Broken) => Err(StoreFault::Broken),
+    }
 }
 
 /// A pipeline with its records, with who holds the resource groups of its jobs, and with those of them in which other jobs go first.

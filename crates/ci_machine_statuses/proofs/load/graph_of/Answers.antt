@@ -1,5 +1,6 @@
-use Rattle.std.proofs.Common.{length, ap, ◌∙◌}
+use Rattle.std.proofs.Common.{length, ap, subst, ◌∙◌}
 use Rattle.std.proofs.lemmas.List.{length-map}
+use Rattle.ci_graph.specs.Pairs.{IsAcyclic}
 use Rattle.ci_machine.specs.Statuses.{predecessors_by}
 use Rattle.ci_machine_statuses.proofs.Graphs.{predecessors_are}
 use Rattle.ci_machine_statuses.proofs.load.graph_of.Goals as goal
@@ -9,3 +10,6 @@ returns-clause-predecessors g c = λ up.
     predecessors_are c.in_ok-graph.graph c.as_slice.result.now (length c.args.jobs.now) c.size-size.ensures.graph c.in_ok-graph.ensures.pairs
     (ap length (c.in_ok-graph.ensures.parts ∙ c.in_ok-parts.ensures) ∙ length-map c.args.jobs.now (λ j. j.options.part))
     ∙ ap (λ p. predecessors_by p (length c.args.jobs.now)) (c.as_slice.ensures.value ∙ c.in_ok-pairs.ensures.pairs up)
+
+pub returns-clause-fits : goal.returns-clause-fits
+returns-clause-fits g c = λ up. record { named = c.in_ok-pairs.ensures.named up; acyclic = subst IsAcyclic (c.as_slice.ensures.value ∙ c.in_ok-pairs.ensures.pairs up) c.in_ok-graph.ensures.acyclic }
