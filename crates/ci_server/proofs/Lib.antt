@@ -5,3 +5,4 @@ pub mod LifetimeLemmas
 pub mod Settled
 pub mod Reports
 pub mod SentAgain
+pub mod Due
