@@ -1,6 +1,6 @@
 //! One request, from the bytes that come in to the bytes that go out.
 
-ghost use Rattle.std.specs.Prelude.{◌≡◌, ◌<◌, ◌+◌, ◌++◌, ◌⊎◌, [], length, true, false, Err, IfOk, OnOk, OnErr};
+ghost use Rattle.std.specs.Prelude.{◌≡◌, ◌<◌, ◌≤◌, ◌+◌, ◌++◌, ◌⊎◌, [], length, true, false, Err, IfOk, OnOk, OnErr, MatchResult};
 ghost use Rattle.std.specs.Io.KnownBytes.{Appends};
 ghost use Rattle.ci_machine.specs.declared.reply.Reply.{Reply};
 ghost use Rattle.ci_http_messages.specs.Reading.{ended, IsReading};
@@ -35,8 +35,8 @@ pub enum Served {
     Ended,
     /// A call of the reader failed: nothing was handled or written.
     ReadFailed,
-    /// A call of the writer failed: a beginning of the reply was written, and what the request
-    /// did stands.
+    /// A call of the writer failed, which had less room than the reply takes: a beginning of it was
+    /// written, and what the request did stands.
     WriteFailed,
 }
 
@@ -59,10 +59,11 @@ pub fn serve_one<R: Source, W: Sink, S: Alter>(
     ensures replied { result ≡ Served.Replied → (reply : Reply)
         × Serves S.Store moment seed server.old server.new reply (R.left reader.old) (R.left reader.new)
         × Appends (W.written writer.old) (W.written writer.new) (reply_text reply) }
-    // A beginning of these was written, and the step stands.
+    // A beginning of these was written, and the step stands. It comes only where the writer had less room than they take.
     ensures write_failed { result ≡ Served.WriteFailed → (reply : Reply)
         × Serves S.Store moment seed server.old server.new reply (R.left reader.old) (R.left reader.new)
-        × WritesFront (W.written writer.old) (W.written writer.new) (reply_text reply) }
+        × WritesFront (W.written writer.old) (W.written writer.new) (reply_text reply)
+        × (W.room writer.old < length (reply_text reply)) }
     // Nothing was handled and nothing written.
     ensures ended { result ≡ Served.Ended → (server.new ≡ server.old) × (writer.new ≡ writer.old)
         × Tells (R.left reader.old) (R.left reader.new) (λ bytes rest. IsReading bytes ended rest) }
@@ -141,6 +142,7 @@ fn send<W: Sink>(writer: &mut W, reply: &Reply) -> Result<(), Failed>
     ensures err { OnErr result (WritesFront (W.written writer.old) (W.written writer.new) (reply_text reply.now)) }
     ensures none_failed { OnOk result (W.failures writer.new ≡ W.failures writer.old) }
     ensures failed { OnErr result (W.failures writer.new ≡ W.failures writer.old + 1) }
+    ensures room { OnErr result (W.room writer.old < length (reply_text reply.now)) }
 {
     let text = reply_bytes(reply);
     put_both(writer, text.head.as_slice(), text.body)
@@ -153,6 +155,7 @@ fn put_both<W: Sink>(writer: &mut W, head: &[u8], body: &[u8]) -> Result<(), Fai
     ensures err { OnErr result (WritesFront (W.written writer.old) (W.written writer.new) (head.now ++ body.now)) }
     ensures none_failed { OnOk result (W.failures writer.new ≡ W.failures writer.old) }
     ensures failed { OnErr result (W.failures writer.new ≡ W.failures writer.old + 1) }
+    ensures room { OnErr result (W.room writer.old < length head.now + length body.now) }
 {
     if body.is_empty() {
         return put_all(writer, head);
@@ -180,6 +183,7 @@ fn put_each<W: Sink>(writer: &mut W, head: &[u8], body: &[u8]) -> Result<(), Fai
     ensures err { OnErr result (WritesFront (W.written writer.old) (W.written writer.new) (head.now ++ body.now)) }
     ensures none_failed { OnOk result (W.failures writer.new ≡ W.failures writer.old) }
     ensures failed { OnErr result (W.failures writer.new ≡ W.failures writer.old + 1) }
+    ensures room { OnErr result (W.room writer.old < length head.now + length body.now) }
 {
     match put_all(writer, head) {
         Ok(()) => put_all(writer, body),
@@ -193,6 +197,9 @@ fn put_all<W: Sink>(writer: &mut W, bytes: &[u8]) -> Result<(), Failed>
     ensures err { OnErr result (WritesFront (W.written writer.old) (W.written writer.new) bytes.now) }
     ensures none_failed { OnOk result (W.failures writer.new ≡ W.failures writer.old) }
     ensures failed { OnErr result (W.failures writer.new ≡ W.failures writer.old + 1) }
+    ensures room { MatchResult result
+        (λ _. W.room writer.old ≤ W.room writer.new + length bytes.now)
+        (λ _. W.room writer.old < length bytes.now) }
 {
     let mut rest = bytes;
     while !rest.is_empty() {

@@ -12,7 +12,8 @@ use std::alloc::Global;
 /// How many sweeps come before a request, at most.
 const MAX_SWEEPS: u32 = 1_000;
 
-/// Sweeps until a sweep finds nothing or is refused, but no more than a thousand times.
+/// Sweeps until a sweep finds nothing or is refused, but no more than a thousand times. Where the last one found nothing, the server holds a
+/// state in which no live attempt is due at that moment and no pipeline is redundant.
 pub fn sweep_all<S: Alter>(alloc: Global, server: &mut Server<S>, moment: Moment)
     ensures { SweepsUpTo S.Store moment MAX_SWEEPS server.old server.new }
 {

@@ -1,6 +1,6 @@
 //! Readers and writers whose bytes and failed calls a contract sees.
 
-ghost use Rattle.std.specs.Prelude.{◌≡◌, ◌+◌, ◌<◌, ◌≤◌, length, take, IfOk, MatchResult};
+ghost use Rattle.std.specs.Prelude.{◌≡◌, ◌+◌, ◌-◌, ◌<◌, ◌≤◌, length, take, IfOk, MatchResult, Some, vec_len, vec_capacity};
 ghost use Rattle.std.specs.Io.KnownBytes.{Appends, Keeps, ReadConsumes};
 
 use std::io::{Read, Write};
@@ -41,6 +41,9 @@ pub trait Sink {
     // How many calls have failed so far.
     ghost failures: { Self → ℕ };
 
+    // How many bytes it is sure to take still: no call fails that hands it no more.
+    ghost room: { Self → ℕ };
+
     /// Writes a beginning of the bytes that isn't empty, and says how long it is. Errors: the
     /// call failed, and wrote nothing.
     fn put(&mut self, bytes: &[u8]) -> Result<usize, Failed>
@@ -51,7 +54,10 @@ pub trait Sink {
             (λ _. Keeps (written self.old) (written self.new)) }
         ensures count { MatchResult result
             (λ _. failures self.new ≡ failures self.old)
-            (λ _. failures self.new ≡ failures self.old + 1) };
+            (λ _. failures self.new ≡ failures self.old + 1) }
+        ensures room { MatchResult result
+            (λ n. room self.old ≤ room self.new + n)
+            (λ _. room self.old < length bytes.now) };
 }
 
 /// A reader or a writer of std as a `Source` or a `Sink`, with its bytes.
@@ -118,10 +124,67 @@ impl<T: Write, L: Ledger> Sink for Link<T, L> {
 
     ghost failures = { λ l. l.book.total };
 
+    // a writer of std promises none
+    ghost room = { λ l. 0 };
+
     fn put(&mut self, bytes: &[u8]) -> Result<usize, Failed> {
         match self.inner.write(bytes) {
             Ok(n) if 0 < n => Ok(n),
             _ => {
+                self.book.add(&mut self.share, 1);
+                Err(Failed)
+            }
+        }
+    }
+}
+
+/// A text in memory as a `Sink`. It takes what it has room for without memory; for more it asks, and a call fails where that is
+/// refused. The ledger counts these calls, as a `Link`'s does.
+#[derive(Drop)]
+pub struct Buffer<L: Ledger = Brand> {
+    text: Vec<u8>,
+    book: Book<L>,
+    share: Share<L>,
+    ghost whole: { 0 < share.parts },
+}
+
+impl<L: Ledger> Buffer<L> {
+    ghost use Rattle.ci_http_messages.specs.Blanks.{OpensWhole};
+
+    /// A buffer that goes on from a text, with the room that this has, and has seen no failed call.
+    pub fn new(text: Vec<u8>, blank: Blank) -> Self
+        requires { OpensWhole blank.name blank.parts L.name L.parts }
+        ensures text { result.text ≡ text }
+        ensures count { result.book.total ≡ 0 }
+    {
+        let (book, share) = blank.open::<L>();
+        Buffer { text, book, share }
+    }
+
+    /// The text, with all that was written.
+    pub fn into_text(self) -> Vec<u8>
+        ensures { result ≡ self.text }
+    {
+        let Self {
+            text,
+            book: _,
+            share: _,
+        } = self;
+        text
+    }
+}
+
+impl<L: Ledger> Sink for Buffer<L> {
+    ghost written = { λ b. Some b.text.items };
+
+    ghost failures = { λ b. b.book.total };
+
+    ghost room = { λ b. vec_capacity b.text - vec_len b.text };
+
+    fn put(&mut self, bytes: &[u8]) -> Result<usize, Failed> {
+        match self.text.extend_from_slice(bytes) {
+            Ok(()) => Ok(bytes.len()),
+            Err(_) => {
                 self.book.add(&mut self.share, 1);
                 Err(Failed)
             }

@@ -1,17 +1,17 @@
 //! One request that is whole, from its bytes to those of its reply.
 
-ghost use Rattle.std.specs.Prelude.{◌≡◌, ◌<◌, ◌⊎◌, ℕ, Option, List, [], Some, Ok, Err, IfOk, IfSome, IfNone};
+ghost use Rattle.std.specs.Prelude.{◌≡◌, ◌<◌, ◌≤◌, ◌-◌, ◌⊎◌, ℕ, Option, List, [], Some, Ok, Err, IfOk, IfSome, IfNone, vec_len, vec_capacity};
 ghost use Rattle.ci_machine.specs.declared.reply.Reply.{Reply};
 ghost use Rattle.ci_machine.specs.declared.request.Seed.{Seed as SeedOf};
 ghost use Rattle.ci_http.specs.ReplyText.{reply_text};
 ghost use Rattle.ci_http.specs.Serving.{Serves};
 ghost use Rattle.ci_http.specs.Sweeping.{SweepsUpTo};
 ghost use Rattle.ci_http_service.specs.declared.stamps.Unstamped.{Unstamped as WhyNone};
-ghost use Rattle.ci_http_service.specs.Attending.{ServesSwept, LeavesSwept};
+ghost use Rattle.ci_http_service.specs.Attending.{ServesSwept, LeavesSwept, LosesReply};
 
 use crate::stamps::{Stamps, Unstamped};
 use ci_http::Server;
-use ci_http::link::Link;
+use ci_http::link::{Buffer, Link};
 use ci_http::serve::{Served, serve_one};
 use ci_http::sweep::sweep_all;
 use ci_http_routes::paths::Paths;
@@ -30,14 +30,16 @@ const ROOM_BYTES: usize = 4_096;
 pub enum Unanswered {
     /// There is no moment or no seed for it: nothing was done.
     NoStamp(Unstamped),
-    /// Its bytes end before it does, or memory for its reply was refused.
+    /// Its bytes end before it does, or memory for its reply was refused. What it asked for was done only if its reply
+    /// is longer than 4,096 bytes.
     NoReply,
 }
 
 /// Serves the request of these bytes: one stamp is made for it, the server is swept at its moment, and then it is handled at that
 /// moment and with that seed, once.
 ///
-/// Memory for a reply of 4,096 bytes is asked for before the request is handled; for what is longer after that.
+/// Memory for a reply of 4,096 bytes is asked for before the request is handled; for what is longer after that. So a reply that is
+/// no longer is lost only where nothing was handled (`no_reply`).
 ///
 /// Errors: there is no stamp; the bytes end before the request, or memory for the reply was refused.
 pub fn attend<T: Stamps, S: Alter>(
@@ -52,10 +54,11 @@ pub fn attend<T: Stamps, S: Alter>(
         × T.gives stamps.old stamps.new (Ok stamp)
         × ServesSwept S.Store 1000 stamp server.old server.new bytes.now reply
         × (text.items ≡ reply_text reply)) }
-    // One stamp was made, and with it the server was swept; the request was handled once, or not at all.
+    // One stamp was made, and with it the server was swept; the request was not handled, or it was handled once and its reply is longer
+    // than 4,096 bytes.
     ensures no_reply { result ≡ Err Unanswered.NoReply → (stamp : ℕ × SeedOf)
         × T.gives stamps.old stamps.new (Ok stamp)
-        × LeavesSwept S.Store 1000 stamp server.old server.new bytes.now }
+        × LeavesSwept S.Store 1000 4096 stamp server.old server.new bytes.now }
     // Nothing was done.
     ensures no_stamp { (why : WhyNone) → result ≡ Err (Unanswered.NoStamp why) → (server.new ≡ server.old)
         × T.gives stamps.old stamps.new (Err why) }
@@ -81,7 +84,7 @@ fn serve_swept<S: Alter>(
     ensures some { IfSome result (λ text. (reply : Reply)
         × ServesSwept S.Store 1000 (moment, seed) server.old server.new bytes.now reply
         × (text.items ≡ reply_text reply)) }
-    ensures none { IfNone result (LeavesSwept S.Store 1000 (moment, seed) server.old server.new bytes.now) }
+    ensures none { IfNone result (LeavesSwept S.Store 1000 ROOM_BYTES (moment, seed) server.old server.new bytes.now) }
 {
     sweep_before(alloc, server, moment);
     let Ok(room) = Vec::with_capacity(alloc, ROOM_BYTES) else {
@@ -113,6 +116,7 @@ fn serve_by<S: Alter, A: Ledger, B: Ledger>(
     writes: Blank,
 ) -> Option<Vec<u8>>
     requires empty { room.items ≡ [] }
+    requires roomy { ROOM_BYTES ≤ vec_capacity room - vec_len room }
     requires reads_name { reads.name ≡ A.name }
     requires reads_parts { reads.parts ≡ A.parts }
     requires reads_one { 0 < reads.parts }
@@ -122,13 +126,13 @@ fn serve_by<S: Alter, A: Ledger, B: Ledger>(
     ensures some { IfSome result (λ text. (reply : Reply) × (rest : Option (List ℕ))
         × Serves S.Store moment seed server.old server.new reply (Some bytes.now) rest
         × (text.items ≡ reply_text reply)) }
-    ensures none { IfNone result ((server.new ≡ server.old) ⊎ ((reply : Reply) × (rest : Option (List ℕ))
-        × Serves S.Store moment seed server.old server.new reply (Some bytes.now) rest)) }
+    ensures none { IfNone result ((server.new ≡ server.old)
+        ⊎ LosesReply S.Store ROOM_BYTES (moment, seed) server.old server.new bytes.now) }
 {
     let mut reader = Link::<&[u8], A>::new(bytes, reads);
-    let mut writer = Link::<Vec<u8>, B>::new(room, writes);
+    let mut writer = Buffer::<B>::new(room, writes);
     match serve_one(alloc, &mut reader, &mut writer, server, paths, moment, seed) {
-        Served::Replied => Some(writer.into_inner()),
+        Served::Replied => Some(writer.into_text()),
         Served::Ended => None,
         Served::ReadFailed => None,
         Served::WriteFailed => None,

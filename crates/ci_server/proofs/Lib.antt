@@ -6,3 +6,4 @@ pub mod Settled
 pub mod Reports
 pub mod SentAgain
 pub mod Prunes
+pub mod Due

@@ -7,3 +7,4 @@ pub mod Lifetime
 pub mod Settled
 pub mod Reports
 pub mod Repeats
+pub mod Due

@@ -20,12 +20,14 @@ ghost use Rattle.ci_server.specs.Reports.{Reports, TellsQueue, TellsPipelineAt, 
 ghost use Rattle.ci_server.specs.Server.{Handles, HandlesEach, Creates, Opens, closed_by_each, each_refused};
 ghost use Rattle.ci_server.specs.Runs.{Runs};
 ghost use Rattle.ci_server.specs.Repeats.{Repeats, RunsRepeats};
+ghost use Rattle.ci_server.specs.Due.{FindsNothingDue};
 
 use crate::fail_stop::FailStop;
 use ci_machine::moment::Moment;
 use ci_machine::reply::{Answer, Code, Reply, Swept};
 use ci_machine::report::{PipelineRows, QueueRow, RunnerRow};
 use ci_machine::request::{Event, Request, Seed};
+use ci_machine_laws::due::what_is_due_ends;
 use ci_machine_laws::laws::{a_step_is_answered, laws_of_each_reached_state};
 use ci_machine_laws::repeats::repeats_change_nothing;
 use ci_memory::remembering::Remembering;
@@ -166,12 +168,17 @@ impl<S: Alter> Server<S> {
     /// Besides what it ended or cancelled, or nothing: M16 where memory was refused, and nothing happened; M17 where the store failed in
     /// this call or an earlier one, and the server is closed exactly from the first M17 on. The call is a run of one, whose
     /// laws hold.
+    ///
+    /// Where it finds nothing, the server holds the state that it held, in which no live attempt is due at that moment and no pipeline is
+    /// redundant (`nothing`).
     pub fn sweep(&mut self, alloc: Global, moment: Moment) -> Swept
         ensures swept { (seed : Seed) → Handles S.Store self.old (event.Sweep, moment, seed) self.new (answer.Swept result) }
         ensures run { (seed : Seed) → Runs S.Store self.old ((event.Sweep, moment, seed) ∷ []) (answer.Swept result ∷ []) self.new }
+        ensures nothing { result ≡ Swept.Nothing → FindsNothingDue S.Store moment self.old self.new }
     {
         laws_of_each_reached_state();
         a_step_is_answered();
+        what_is_due_ends();
         self.inner.sweep(alloc, moment)
     }
 

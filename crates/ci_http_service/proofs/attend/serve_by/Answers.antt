@@ -10,5 +10,5 @@ returns-in-Replied-clause-some g c =
     let left = Some c.serve_one.new.reader.inner.now in
     let had = ap (λ b. Some b.now) c.new-reader.ensures.inner in
     let told = subst (λ h. Serves g.S.Store c.args.moment c.args.seed c.args.server.now c.serve_one.new.server reply h left) had serves in
-    let items = ap (λ v. v.items) c.into_inner.ensures ∙ appends ∙ ap (λ v. v.items ++ reply_text reply) c.new-writer.ensures.inner ∙ ap (λ l. l ++ reply_text reply) c.requires.empty in
+    let items = ap (λ v. v.items) c.into_text.ensures ∙ appends ∙ ap (λ v. v.items ++ reply_text reply) c.new-writer.ensures.text ∙ ap (λ l. l ++ reply_text reply) c.requires.empty in
     (reply, left, told, items)
