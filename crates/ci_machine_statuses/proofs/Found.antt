@@ -1,8 +1,9 @@
 -- The row that a job's number finds.
-use Rattle.std.specs.Prelude.{◌≡◌, ℕ, ◌+◌, ◌<◌, List, [], ◌∷◌, ◌++◌, length, map, take, Some, slice_index_or}
+use Rattle.std.specs.Prelude.{◌≡◌, ℕ, ◌+◌, ◌<◌, List, [], ◌∷◌, ◌++◌, length, map, take, Some, Result, Ok, Err, IfErr, slice_index_or}
 use Rattle.std.specs.Ordering.{nat_cmp}
 use Rattle.std.specs.List.Sorted.{IsStrictlySortedBy}
-use Rattle.std.proofs.Common.{sym, ap, ◌∙◌, arith}
+use Rattle.std.specs.Result.{IsErrAnd}
+use Rattle.std.proofs.Common.{sym, ap, subst, ◌∙◌, arith}
 use Rattle.std.proofs.lemmas.List.{get_or-map, length-map, length-append, map_more}
 use Rattle.std.proofs.lemmas.List.Elements.{Contains-get_or}
 use Rattle.ci_board.specs.declared.facts.Row.{Row}
@@ -13,6 +14,11 @@ use Rattle.ci_machine_steps.proofs.Sound.{rising_from_ascend}
 use Rattle.ci_machine_statuses.specs.Lookups.{place_of}
 use Rattle.ci_machine_statuses.proofs.Positions.{numbers_ascend, place_some}
 use Rattle.ci_machine_statuses.proofs.RowPuts.{its_row}
+
+-- what holds of a fault holds of it where it is handed on
+pub passed_on : {A E : Type 0} (r : Result A E) (x : E) (P : E → Type 0) → IsErrAnd r (λ e. e ≡ x) → P x → IfErr r P
+passed_on (Ok a) x P is p = tt
+passed_on (Err e) x P is p = subst P (sym is) p
 
 abbrev job_of : BoardRow → ℕ
 job_of r = r.job

@@ -9,6 +9,7 @@ pub mod Found
 pub mod Graphs
 pub mod Joint
 pub mod Loaded
+pub mod There
 pub mod Settled
 pub mod Ends
 pub mod ActPlaces

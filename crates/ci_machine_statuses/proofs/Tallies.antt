@@ -1,9 +1,9 @@
 -- One attempt more.
-use Rattle.std.specs.Prelude.{◌≡◌, ℕ, ◌+◌, ◌<◌, ◌==◌, List, [], ◌∷◌, ◌++◌, length, map, filter, Some, None, option_map, replicate, slice_index_or, slice_set, take}
+use Rattle.std.specs.Prelude.{◌≡◌, ℕ, zero, suc, ◌+◌, ◌<◌, ◌≤◌, ◌==◌, List, [], ◌∷◌, ◌++◌, length, map, filter, Some, None, option_map, replicate, slice_index_or, slice_set, take}
 use Rattle.std.specs.List.{last_or}
 use Rattle.std.specs.Ordering.{nat_cmp}
 use Rattle.std.specs.List.Sorted.{IsStrictlySortedBy}
-use Rattle.std.proofs.Common.{refl, sym, ap, ◌∙◌, eq-eqb, ne_eqb}
+use Rattle.std.proofs.Common.{refl, sym, ap, ◌∙◌, arith, eq-eqb, ne_eqb}
 use Rattle.std.proofs.lemmas.Bool.{cond-true, cond-false}
 use Rattle.std.proofs.lemmas.List.{append-nil, length-append, map-id, take_more}
 use Rattle.std.proofs.lemmas.List.Elements.{filter-append}
@@ -56,6 +56,19 @@ none_counted numbers xs a e = map_same (tally_of (xs ++ a ∷ [])) (tally_of xs)
 pub none_yet : (numbers : List ℕ) → map (tally_of []) numbers ≡ replicate (length numbers) (record { count = 0; last = None })
 none_yet [] = refl
 none_yet (n ∷ ns) = cons_same refl (none_yet ns)
+
+pub nothing_counted : (n place : ℕ) → (tally_at (replicate n (record { count = 0; last = None })) place).count ≡ 0
+nothing_counted zero place = refl
+nothing_counted (suc n) zero = refl
+nothing_counted (suc n) (suc place) = nothing_counted n place
+
+-- one attempt more of one job: none has counted more than one more
+pub few_more : (ts : List Tally) (place n : ℕ) (t : Tally) → ((p : ℕ) → (tally_at ts p).count ≤ n) → t.count ≤ n + 1 → (p : ℕ) → (tally_at (slice_set ts place t) p).count ≤ n + 1
+few_more [] place n t few c p = let z : 0 ≤ n + 1 = omega arith in z
+few_more (x ∷ ts) zero n t few c zero = c
+few_more (x ∷ ts) zero n t few c (suc p) = let z = few (suc p) in omega (arith, z)
+few_more (x ∷ ts) (suc i) n t few c zero = let z = few zero in omega (arith, z)
+few_more (x ∷ ts) (suc i) n t few c (suc p) = few_more ts i n t (λ q. few (suc q)) c p
 
 -- a step of the loop: the next attempt is one of a job of these numbers, or of none
 pub count_step : (numbers : List ℕ) (xs : List Attempt) (i : ℕ) (a : Attempt) (place : ℕ) (ts us : List Tally) → i < length xs → a ≡ slice_index_or xs i a → IsStrictlySortedBy nat_cmp numbers

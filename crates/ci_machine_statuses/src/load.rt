@@ -1,6 +1,6 @@
 //! The board of a pipeline, made of what was looked up.
 
-ghost use Rattle.std.specs.Prelude.{◌≡◌, ◌<◌, ℕ, true, List, [], map, length, All, IfOk, IfErr, IfSome, OnOk, None};
+ghost use Rattle.std.specs.Prelude.{◌≡◌, ◌<◌, ◌≤◌, ℕ, true, List, [], map, length, All, IfOk, IfErr, IfSome, OnOk, None};
 ghost use Rattle.std.specs.Ordering.{nat_cmp};
 ghost use Rattle.std.specs.List.Sorted.{IsStrictlySortedBy};
 ghost use Rattle.ci_machine.specs.declared.records.BoardRow.{BoardRow};
@@ -10,10 +10,11 @@ ghost use Rattle.ci_machine.specs.Statuses as statuses;
 ghost use Rattle.ci_machine.specs.Statuses.{jobs_of, numbers_of, row_for, AreBoard};
 ghost use Rattle.ci_machine_steps.specs.Sound.{IsSound};
 ghost use Rattle.ci_machine.specs.Ranges.{is_within};
+ghost use Rattle.ci_graph.specs.Lists.{is_among};
 ghost use Rattle.ci_machine_statuses.specs.Lookups.{tally_of, facts_by, AreRecords, AreJobsWithNeeds};
 ghost use Rattle.ci_machine.specs.Statuses.{pairs_among, predecessors_by};
 ghost use Rattle.ci_machine_statuses.specs.Boards.{IsBoardOf, IsGraphOf, IsItsGraph, FitTogether};
-ghost use Rattle.ci_machine_statuses.specs.declared.fault.StatusFault.TheVariants.{Broken};
+ghost use Rattle.ci_machine_statuses.specs.declared.fault.StatusFault.TheVariants.{Broken, Memory};
 
 use crate::fault::StatusFault;
 use crate::places::{jobs_of_rows, numbers_of, pairs_among, place_of};
@@ -127,6 +128,7 @@ fn facts_of(
     requires { numbers.now ≡ map (λ j. j.id) jobs.now }
     ensures long { IfOk result (λ v. length v.items ≡ length jobs.now) }
     ensures facts { IfOk result (λ v. IsStrictlySortedBy nat_cmp numbers.now → v.items ≡ map (λ j. facts_by (tally_of attempts.now j.id) j) jobs.now) }
+    ensures fault { IfErr result (λ fault. IsStrictlySortedBy nat_cmp numbers.now → All (λ j. j.set_aside ≤ (tally_of attempts.now j.id).count) jobs.now → fault ≡ Memory) }
 {
     let tallies = tallies(alloc, numbers, attempts)?;
     facts(alloc, jobs, tallies.as_slice())
@@ -136,6 +138,7 @@ fn facts_of(
 fn rows_of(alloc: Global, numbers: &[u64], rows: &[BoardRow]) -> Result<Vec<Row>, StatusFault>
     ensures long { IfOk result (λ v. length v.items ≡ length numbers.now) }
     ensures rows { IfOk result (λ v. IsStrictlySortedBy nat_cmp (map (λ r. r.job) rows.now) → v.items ≡ map (row_for rows.now) numbers.now) }
+    ensures fault { IfErr result (λ fault. IsStrictlySortedBy nat_cmp (map (λ r. r.job) rows.now) → All (λ n. is_among (map (λ r. r.job) rows.now) n ≡ true) numbers.now → fault ≡ Memory) }
 {
     let jobs = jobs_of_rows(alloc, rows)?;
     let mut found = Vec::with_capacity(alloc, numbers.len())?;
@@ -172,7 +175,7 @@ pub fn load_board<L: Ledger>(
 }
 
 /// The facts and the rows of a pipeline's jobs, of its jobs and at least their attempts and rows. Errors: memory was refused, or
-/// these don't fit together.
+/// these don't fit together: they are no records of a pipeline in a state that the machine may come to.
 pub fn facts_and_rows(
     alloc: Global,
     jobs: &[Job],
@@ -182,6 +185,7 @@ pub fn facts_and_rows(
     ensures long { IfOk result (λ r. (length r.0.items ≡ length jobs.now) × (length r.1.items ≡ length jobs.now)) }
     ensures facts { IfOk result (λ r. (s : State) (kept : List BoardRow) (pipeline : ℕ) (needs : List Need) → IsSound s → AreBoard s kept → AreRecords s kept pipeline jobs.now needs attempts.now rows.now → r.0.items ≡ statuses.facts_of s pipeline) }
     ensures rows { IfOk result (λ r. (s : State) (kept : List BoardRow) (pipeline : ℕ) (needs : List Need) → IsSound s → AreBoard s kept → AreRecords s kept pipeline jobs.now needs attempts.now rows.now → r.1.items ≡ statuses.rows_of s kept pipeline) }
+    ensures fault { IfErr result (λ fault. (s : State) (kept : List BoardRow) (pipeline : ℕ) (needs : List Need) → IsSound s → AreBoard s kept → AreRecords s kept pipeline jobs.now needs attempts.now rows.now → fault ≡ Memory) }
 {
     let numbers = numbers_of(alloc, jobs)?;
     let facts = facts_of(alloc, jobs, numbers.as_slice(), attempts)?;

@@ -10,10 +10,6 @@ use Rattle.ci_machine.specs.Kept.{Kept, put_rows, written}
 use Rattle.ci_machine.specs.Statuses.{AreBoard}
 use Rattle.ci_machine.specs.Indexes.{AreIndexes}
 use Rattle.ci_machine_statuses.specs.Changes.{HasLive}
-use Rattle.ci_machine_statuses.specs.declared.fault.StatusFault.{StatusFault}
-use Rattle.ci_machine_statuses.specs.declared.fault.StatusFault.TheVariants as status
-use Rattle.ci_store_tables.specs.declared.fault.StoreFault.{StoreFault}
-use Rattle.ci_store_tables.specs.declared.fault.StoreFault.TheVariants as store
 use Rattle.ci_server_events.specs.declared.planned.Beside.{Beside}
 
 -- the rows that are put make the rows of the state after the changes, and with the changes of indexes all beside it is right
@@ -34,8 +30,3 @@ MovesOne s changes = (changes ≡ []) ⊎ ((after : Attempt) × HasLive s after 
 abbrev pub attempt_ended : List RowChange → Option Attempt
 attempt_ended (Put (row.Attempt after) ∷ []) = if is_live after then None else Some after
 attempt_ended _ = None
-
--- why nothing is planned, where no rows were found for this reason: records that don't fit together are a fault of the store
-abbrev pub as_store_fault : StatusFault → StoreFault
-as_store_fault status.Memory = store.Memory
-as_store_fault status.Broken = store.Broken

@@ -23,7 +23,7 @@ ghost use Rattle.ci_server_events.specs.Acting.{refusal_of, ActsAs, changes_by, 
 ghost use Rattle.ci_server_lookups.specs.Keeps.{IsKept};
 ghost use Rattle.ci_server_events.specs.Planning.{PlansFor};
 
-use crate::ends::{or_store_fault, status_before};
+use crate::ends::status_before;
 use crate::planned::{Beside, Planned};
 use crate::shows::{asked, asked_pipeline, load_named};
 use ci_board::facts::Status;
@@ -45,6 +45,7 @@ use ci_machine_statuses::laws::{
 use ci_machine_statuses::outcome::{Outcome, outcome_of};
 use ci_machine_statuses::unfinished::of_pipeline;
 use ci_server_lookups::claims::claims_with;
+use ci_server_lookups::faults::or_store_fault;
 use ci_server_lookups::holders::still_held;
 use ci_server_lookups::records::{Records, Whole, whole_of};
 use ci_server_lookups::turns::Turns;

@@ -1,6 +1,6 @@
 //! What changes beside the records where an attempt ends.
 
-ghost use Rattle.std.specs.Prelude.{◌≡◌, ◌==◌, ℕ, ◌∷◌, [], false, find, Ok, Err, Some, None, IfOk, IfErr, OnOk};
+ghost use Rattle.std.specs.Prelude.{◌≡◌, ◌==◌, ℕ, ◌∷◌, [], false, find, Some, None, IfOk, IfErr, OnOk};
 ghost use Rattle.std.specs.Option.{option_copied};
 ghost use Rattle.ci_machine.specs.declared.change.Record.TheVariants as row;
 ghost use Rattle.ci_machine.specs.declared.change.RowChange.TheVariants.{Put};
@@ -17,7 +17,8 @@ ghost use Rattle.ci_store.specs.Store.{LoadsBy};
 ghost use Rattle.ci_server_lookups.specs.Records.{AreOf};
 ghost use Rattle.ci_server_lookups.specs.Keeps.{IsKept};
 ghost use Rattle.ci_server_lookups.specs.Sheets.{IsRight};
-ghost use Rattle.ci_server_events.specs.Planning.{Settles, MovesOne, attempt_ended, as_store_fault};
+ghost use Rattle.ci_store_tables.specs.declared.fault.StoreFault.TheVariants.{Memory};
+ghost use Rattle.ci_server_events.specs.Planning.{Settles, MovesOne, attempt_ended};
 
 use crate::planned::Beside;
 use crate::shows::loaded;
@@ -27,11 +28,11 @@ use ci_machine::change::{Changes, IndexChange, Record, RowChange};
 use ci_machine::records::{Attempt, Job, Pipeline};
 use ci_machine_plans::body::status_of;
 use ci_machine_statuses::end::{Ended, end_of};
-use ci_machine_statuses::fault::StatusFault;
 use ci_machine_statuses::holder_laws::{end_is_indexed, indexes_stay};
 use ci_machine_statuses::laws::rows_stay;
 use ci_machine_statuses::load::graph_for;
 use ci_machine_statuses::unfinished::of_pipeline;
+use ci_server_lookups::faults::or_store_fault;
 use ci_server_lookups::records::Records;
 use ci_server_lookups::searches::Searches;
 use ci_server_lookups::sheet::Sheet;
@@ -172,8 +173,9 @@ fn job_with(jobs: &[Job], number: u64) -> Option<&Job>
 
 /// The status of a pipeline with these records. Errors: memory was refused, or they don't fit together.
 pub(crate) fn status_before(alloc: Global, records: &Records) -> Result<Status, StoreFault>
-    ensures { IfOk result (λ status. (k : Kept) (pipeline : ℕ) → IsKept k → AreOf k pipeline records.now
+    ensures status { IfOk result (λ status. (k : Kept) (pipeline : ℕ) → IsKept k → AreOf k pipeline records.now
         → status ≡ status_of_jobs (jobs_of k.state pipeline) (facts_of k.state pipeline) (rows_of k.state k.board pipeline)) }
+    ensures fault { IfErr result (λ fault. (k : Kept) (pipeline : ℕ) → IsKept k → AreOf k pipeline records.now → fault ≡ Memory) }
 {
     let jobs = records.jobs.as_slice();
     let found = loaded(
@@ -184,16 +186,4 @@ pub(crate) fn status_before(alloc: Global, records: &Records) -> Result<Status, 
     )?;
     let status = status_of(alloc, jobs, found.0.as_slice(), found.1.as_slice())?;
     Ok(status)
-}
-
-/// Records that don't fit together are a fault of the store, and want of memory stays that.
-pub(crate) fn or_store_fault<A>(settled: Result<A, StatusFault>) -> Result<A, StoreFault>
-    ensures answer { IfOk result (λ a. settled ≡ Ok a) }
-    ensures cause { IfErr settled (λ fault. result ≡ Err (as_store_fault fault)) }
-{
-    match settled {
-        Ok(a) => Ok(a),
-        Err(StatusFault::Memory) => Err(StoreFault::Memory),
-        Err(StatusFault::Broken) => Err(StoreFault::Broken),
-    }
 }

@@ -14,7 +14,6 @@ ghost use Rattle.ci_server_lookups.specs.Keeps.{IsKept};
 ghost use Rattle.ci_server_events.specs.Planning.{PlansFor};
 ghost use Rattle.ci_server_events.specs.Creating.{rows_beside, IsMadeBeside};
 
-use crate::ends::or_store_fault;
 use crate::planned::{Beside, Planned, listed};
 use crate::projects::asked;
 use ci_machine::change::Counter;
@@ -34,6 +33,7 @@ use ci_machine_statuses::holder_laws::creation_is_indexed;
 use ci_machine_statuses::laws::created_is_made;
 use ci_machine_statuses::unfinished::opened;
 use ci_server_lookups::claims::claims_on;
+use ci_server_lookups::faults::or_store_fault;
 use ci_server_lookups::turns::Turns;
 use ci_store::fault::StoreFault;
 use std::alloc::Global;

@@ -1,6 +1,6 @@
 //! What a question for a pipeline, for a job or for its trace does, from what the store holds.
 
-ghost use Rattle.std.specs.Prelude.{◌≡◌, None, ℕ, List, length, IfOk};
+ghost use Rattle.std.specs.Prelude.{◌≡◌, None, ℕ, List, length, IfOk, IfErr};
 ghost use Rattle.std.specs.List.{last_or};
 ghost use Rattle.std.specs.Option.{option_copied};
 ghost use Rattle.std.specs.Result.{result_map_both};
@@ -15,10 +15,10 @@ ghost use Rattle.ci_machine_steps.specs.Sound.{IsSound};
 ghost use Rattle.ci_machine.specs.Statuses.{jobs_of, facts_of, rows_of, status_for, AreBoard};
 ghost use Rattle.ci_machine_steps.specs.Step as step;
 ghost use Rattle.ci_machine_statuses.specs.Lookups.{AreRecords};
+ghost use Rattle.ci_store_tables.specs.declared.fault.StoreFault.TheVariants.{Memory};
 ghost use Rattle.ci_store.specs.Store.{LoadsBy};
 ghost use Rattle.ci_server_lookups.specs.Keeps.{IsKept};
 
-use crate::ends::or_store_fault;
 use crate::projects;
 use ci_board::facts::{Facts, Row};
 use ci_machine::change::Changes;
@@ -30,6 +30,7 @@ use ci_machine_plans::{replies, shows};
 use ci_machine_statuses::load::{facts_and_rows, range_of};
 use ci_machine_statuses::pending::status_of;
 use ci_server_lookups::claims::claims_on;
+use ci_server_lookups::faults::or_store_fault;
 use ci_server_lookups::turns::Turns;
 use ci_store::fault::StoreFault;
 use ci_store::store::Store;
@@ -216,8 +217,9 @@ fn jobs_shown(
     attempts: &[Attempt],
     rows: &[BoardRow],
 ) -> Result<(Reply, Changes), StoreFault>
-    ensures { IfOk result (λ plan. (k : Kept) (number : ℕ) (needs : List Need) → IsKept k → AreRecords k.state k.board number jobs.now needs attempts.now rows.now
+    ensures shown { IfOk result (λ plan. (k : Kept) (number : ℕ) (needs : List Need) → IsKept k → AreRecords k.state k.board number jobs.now needs attempts.now rows.now
         → plan ≡ machine.pipeline_shown pipeline.now claims.now jobs.now (facts_of k.state number) (rows_of k.state k.board number)) }
+    ensures fault { IfErr result (λ fault. (k : Kept) (number : ℕ) (needs : List Need) → IsKept k → AreRecords k.state k.board number jobs.now needs attempts.now rows.now → fault ≡ Memory) }
 {
     let found = loaded(alloc, jobs, attempts, rows)?;
     let plan = shows::pipeline_shown(
@@ -241,6 +243,7 @@ pub(crate) fn loaded(
     ensures long { IfOk result (λ r. (length r.0.items ≡ length jobs.now) × (length r.1.items ≡ length jobs.now)) }
     ensures facts { IfOk result (λ r. (s : State) (board : List BoardRow) (number : ℕ) (needs : List Need) → IsSound s → AreBoard s board → AreRecords s board number jobs.now needs attempts.now rows.now → r.0.items ≡ facts_of s number) }
     ensures rows { IfOk result (λ r. (s : State) (board : List BoardRow) (number : ℕ) (needs : List Need) → IsSound s → AreBoard s board → AreRecords s board number jobs.now needs attempts.now rows.now → r.1.items ≡ rows_of s board number) }
+    ensures fault { IfErr result (λ fault. (s : State) (board : List BoardRow) (number : ℕ) (needs : List Need) → IsSound s → AreBoard s board → AreRecords s board number jobs.now needs attempts.now rows.now → fault ≡ Memory) }
 {
     or_store_fault(facts_and_rows(alloc, jobs, attempts, rows))
 }

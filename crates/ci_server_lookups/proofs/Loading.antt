@@ -1,10 +1,12 @@
 -- Loads one after the other.
 use Rattle.std.specs.Prelude.{◌≡◌, Result, Ok, Err, IfOk, IfErr}
-use Rattle.std.proofs.Common.{refl, subst}
+use Rattle.std.proofs.Common.{refl, sym, subst}
 use Rattle.ci_machine.specs.Kept.{Kept}
 use Rattle.ci_store_tables.specs.declared.fault.StoreFault.{StoreFault}
 use Rattle.ci_store_tables.specs.declared.fault.StoreFault.TheVariants.{Memory, Broken}
+use Rattle.ci_machine_statuses.specs.declared.fault.StatusFault.{StatusFault}
 use Rattle.ci_store.specs.Store.{LoadsBy, UnlessBroken}
+use Rattle.ci_server_lookups.specs.Faults.{as_store_fault}
 use Rattle.ci_server_lookups.specs.Keeps.{IsKept, HoldsKept}
 
 unless : {A : Type 0} {P : Type 0} (r : Result A StoreFault) → P → UnlessBroken r P
@@ -34,6 +36,12 @@ third P Q R (Err e) w = tt
 pub carried : {A E F : Type 0} (P : A → Type 0) (found : Result A E) (r : Result A F) → IfOk r (λ a. found ≡ Ok a) → IfOk found P → IfOk r P
 carried P found (Ok a) same is = subst (λ z. IfOk z P) same is
 carried P found (Err e) same is = tt
+
+-- what is so of a fault that was handed on as one of the store is so of that
+pub handed_on : {A : Type 0} (P : StoreFault → Type 0) (found : Result A StatusFault) (r : Result A StoreFault) → IfOk found (λ a. r ≡ Ok a) → IfErr found (λ fault. r ≡ Err (as_store_fault fault))
+    → IfErr found (λ fault. P (as_store_fault fault)) → IfErr r P
+handed_on P (Ok a) r given cause is = subst (λ z. IfErr z P) (sym given) tt
+handed_on P (Err fault) r given cause is = subst (λ z. IfErr z P) (sym cause) is
 
 both_ok : {A : Type 0} (P Q : A → Type 0) (r : Result A StoreFault) → IfOk r P → IfOk r Q → IfOk r (λ y. P y × Q y)
 both_ok P Q (Ok y) p q = (p, q)

@@ -3,6 +3,7 @@
 #![tactic(auto)]
 
 pub mod claims;
+pub mod faults;
 pub mod holders;
 pub mod leases;
 pub mod prunable;

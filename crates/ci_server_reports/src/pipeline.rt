@@ -1,6 +1,6 @@
 //! A pipeline with its jobs, as a report tells them.
 
-ghost use Rattle.std.specs.Prelude.{◌≡◌, ◌++◌, List, ℕ, length, map, IfOk};
+ghost use Rattle.std.specs.Prelude.{◌≡◌, ◌++◌, List, ℕ, length, map, IfOk, IfErr};
 ghost use Rattle.ci_machine.specs.declared.records.BoardRow.{BoardRow};
 ghost use Rattle.ci_machine.specs.Groups.{held_claim};
 ghost use Rattle.ci_machine.specs.Indexes.{with_status};
@@ -8,6 +8,7 @@ ghost use Rattle.ci_machine.specs.Kept.{Kept};
 ghost use Rattle.ci_machine.specs.Lookups.{pipeline_at};
 ghost use Rattle.ci_machine.specs.ReportRows.{job_rows};
 ghost use Rattle.ci_machine.specs.Statuses.{facts_of, rows_of, row_for};
+ghost use Rattle.ci_store_tables.specs.declared.fault.StoreFault.TheVariants.{Memory};
 ghost use Rattle.ci_store.specs.Store.{LoadsBy};
 ghost use Rattle.ci_server_lookups.specs.Keeps.{IsKept};
 ghost use Rattle.ci_server_lookups.specs.Records.{AreOf, IsWhole};
@@ -18,9 +19,9 @@ use ci_machine::records::{Attempt, Claim, Job, PipelineWithStatus};
 use ci_machine::report::{JobRow, PipelineRows, ShownStatus};
 use ci_machine_plans::body::status_of;
 use ci_machine_plans::retries::attempts_of;
-use ci_machine_statuses::fault::StatusFault;
 use ci_machine_statuses::load::facts_and_rows;
 use ci_server_lookups::claims::claims_with;
+use ci_server_lookups::faults::or_store_fault;
 use ci_server_lookups::records::{Records, Whole, whole_of};
 use ci_server_lookups::turns::Turns;
 use ci_store::fault::StoreFault;
@@ -45,8 +46,9 @@ pub fn pipeline_rows<T: Turns>(
 
 /// A pipeline that was looked up, with its jobs. Errors: memory was refused, or the records don't fit together.
 fn told(alloc: Global, whole: Whole) -> Result<PipelineRows, StoreFault>
-    ensures { IfOk result (λ told. (k : Kept) (id : ℕ) → IsKept k → IsWhole k id whole
+    ensures told { IfOk result (λ told. (k : Kept) (id : ℕ) → IsKept k → IsWhole k id whole
         → (told.head ≡ with_status k.state k.board whole.pipeline) × (told.jobs.items ≡ job_rows k.state k.board whole.pipeline)) }
+    ensures fault { IfErr result (λ fault. (k : Kept) (id : ℕ) → IsKept k → IsWhole k id whole → fault ≡ Memory) }
 {
     let claims = claims_on(alloc, &whole)?;
     let Whole {
@@ -83,6 +85,7 @@ fn standing(alloc: Global, records: &Records) -> Result<(Vec<Facts>, Vec<Row>), 
     ensures long { IfOk result (λ r. (length r.0.items ≡ length records.now.jobs.items) × (length r.1.items ≡ length records.now.jobs.items)) }
     ensures facts { IfOk result (λ r. (k : Kept) (id : ℕ) → IsKept k → AreOf k id records.now → r.0.items ≡ facts_of k.state id) }
     ensures rows { IfOk result (λ r. (k : Kept) (id : ℕ) → IsKept k → AreOf k id records.now → r.1.items ≡ rows_of k.state k.board id) }
+    ensures fault { IfErr result (λ fault. (k : Kept) (id : ℕ) → IsKept k → AreOf k id records.now → fault ≡ Memory) }
 {
     let found = facts_and_rows(
         alloc,
@@ -90,11 +93,7 @@ fn standing(alloc: Global, records: &Records) -> Result<(Vec<Facts>, Vec<Row>), 
         records.attempts.as_slice(),
         records.rows.as_slice(),
     );
-    match found {
-        Ok(found) => Ok(found),
-        Err(StatusFault::Memory) => Err(StoreFault::Memory),
-        Err(StatusFault::Broken) => Err(StoreFault::Broken),
-    }
+    or_store_fault(found)
 }
 
 /// The jobs of a project with these rows, by at least their attempts and the claims on their groups for which they must wait.

@@ -33,7 +33,7 @@ returns-clause-done c = λ k n kept whole.
     done_is c.acts_are_indexed.ensures c.args.act c.args.only k n w o chosen.items c.in_ok-before.before c.in_ok-then.then c.in_ok-indexes.indexes.items c.in_ok-claims.claims.items kept whole
     (c.in_ok-outcome.ensures.outcome k.state k.board n kept.sound kept.are_board whole.records)
     (λ other. c.in_ok-chosen.ensures other ∙ (λ i. map (λ place. slice_index_or (c.as_slice-jobs.ensures.value i) place other) (c.as_slice.ensures.value i)))
-    (c.in_ok-before.ensures k n kept whole.records)
+    (c.in_ok-before.ensures.status k n kept whole.records)
     (c.in_ok-then.ensures ∙ (λ i. status_of_jobs (c.as_slice-jobs.ensures.value i) (c.as_slice-2.ensures.value i) (c.as_slice-3.ensures.value i)))
     (c.in_ok-indexes.ensures
     ∙ (λ i. of_pipeline w.pipeline ((c.unleased.ensures ∙ ap (unleased c.args.act) c.as_slice-4.ensures.value) i) (c.as_slice-5.ensures.value i) c.in_ok-before.before c.in_ok-then.then))

@@ -9,6 +9,7 @@ use Rattle.ci_machine_steps.specs.Sound.{IsSound}
 use Rattle.ci_machine.specs.State.{State}
 use Rattle.ci_machine.specs.Statuses.{facts_of, rows_of, AreBoard}
 use Rattle.ci_machine_statuses.specs.Lookups.{AreRecords}
+use Rattle.ci_machine_statuses.proofs.Found.{passed_on}
 use Rattle.ci_server_events.proofs.shows.jobs_shown.Goals as goal
 
 -- there are as many facts and rows as jobs
@@ -23,8 +24,8 @@ pipeline_shown-requires-clause-rows c =
     ap length c.as_slice-2.ensures.value ∙ long.1
 
 -- what was found is the pipeline's
-pub returns : goal.returns
-returns c = λ k number needs kept are.
+pub returns-clause-shown : goal.returns-clause-shown
+returns-clause-shown c = λ k number needs kept are.
     let plan = subst (λ z. IfOk z (λ p. p ≡ machine.pipeline_shown c.args.pipeline.now c.args.claims.now c.args.jobs.now c.as_slice.result.now c.as_slice-2.result.now)) c.in_ok-plan.was c.pipeline_shown.ensures in
     let its_facts = subst (λ z. IfOk z (λ r. (s : State) (board : List BoardRow) (n : ℕ) (ws : List Need) → IsSound s → AreBoard s board
     → AreRecords s board n c.args.jobs.now ws c.args.attempts.now c.args.rows.now → r.0.items ≡ facts_of s n)) c.in_ok-found.was c.loaded.ensures.facts in
@@ -34,3 +35,9 @@ returns c = λ k number needs kept are.
     let rows : c.as_slice-2.result.now ≡ rows_of k.state k.board number = c.as_slice-2.ensures.value ∙ its_rows k.state k.board number needs kept.sound kept.are_board are in
     plan ∙ (ap (λ (fs : List Facts). machine.pipeline_shown c.args.pipeline.now c.args.claims.now c.args.jobs.now fs c.as_slice-2.result.now) facts
     ∙ ap (λ (rs : List Row). machine.pipeline_shown c.args.pipeline.now c.args.claims.now c.args.jobs.now (facts_of k.state number) rs) rows)
+
+-- where nothing was found, what was looked up is none of a kept state, or memory was refused
+pub returns-in_err-found-clause-fault : goal.returns-in_err-found-clause-fault
+returns-in_err-found-clause-fault c =
+    passed_on c.from_residual.result c.in_err-found.field-0.0 _ c.from_residual.ensures.1
+    (λ k number needs kept are. c.in_err-found.ensures.fault k.state k.board number needs kept.sound kept.are_board are)

@@ -35,7 +35,7 @@ returns g c =
     (λ k y is attempts more. (attempts, more)))
     (λ k y is jobs more kept.
     let shown = subst (λ z. IfOk z (λ plan. (l : Kept) (number : ℕ) (needs : List Need) → IsKept l → AreRecords l.state l.board number c.as_slice-4.result.now needs c.as_slice-5.result.now c.as_slice-6.result.now
-    → plan ≡ machine.pipeline_shown p c.as_slice-3.result.now c.as_slice-4.result.now (facts_of l.state number) (rows_of l.state l.board number))) is c.jobs_shown.ensures in
+    → plan ≡ machine.pipeline_shown p c.as_slice-3.result.now c.as_slice-4.result.now (facts_of l.state number) (rows_of l.state l.board number))) is c.jobs_shown.ensures.shown in
     let inside = subst (λ z. IfSome z (λ q. (s : State) (pipeline : ℕ) → IsSound s → c.as_slice.result.now ≡ jobs_of s pipeline → All (λ j. is_within q.0 q.1 j.id ≡ true) c.as_slice.result.now)) c.in-Some.is c.range_of.ensures.within in
     let same : c.as_slice-4.result.now ≡ jobs_of k.state n = c.as_slice-4.ensures.value ∙ jobs in
     let its = claims_in k.state k.board n in

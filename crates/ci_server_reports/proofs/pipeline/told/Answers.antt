@@ -3,11 +3,12 @@ use Rattle.ci_machine.specs.declared.records.Job.{Job}
 use Rattle.ci_machine.specs.Bodies.{status_of_jobs}
 use Rattle.ci_machine.specs.Statuses.{row_for}
 use Rattle.ci_server_reports.specs.Told.{job_told}
+use Rattle.ci_machine_statuses.proofs.Found.{passed_on}
 use Rattle.ci_server_reports.proofs.Jobs.{head_told, jobs_told, rows_told}
 use Rattle.ci_server_reports.proofs.pipeline.told.Goals as goal
 
-pub returns : goal.returns
-returns c = λ k id kept whole.
+pub returns-clause-told : goal.returns-clause-told
+returns-clause-told c = λ k id kept whole.
     let w = c.args.whole in
     let jobs = c.as_slice-jobs.ensures.value in
     let facts = c.in_ok-facts.ensures.facts k id kept whole.records in
@@ -19,3 +20,7 @@ returns c = λ k id kept whole.
           (c.in_ok-status.ensures ∙ (λ i. status_of_jobs (jobs i) (c.as_slice.ensures.value i) (c.as_slice-2.ensures.value i))),
       c.in_ok-told.ensures k.board its_rows ∙ (λ i. map (job_told (claims i) w.pipeline.project (attempts i) k.board) (jobs i)) ∙ jobs_told k id w whole,
     )
+
+pub returns-in_err-facts-clause-fault : goal.returns-in_err-facts-clause-fault
+returns-in_err-facts-clause-fault c =
+    passed_on c.from_residual-in_err-facts.result c.in_err-facts.field-0.0 _ c.from_residual-in_err-facts.ensures.1 (λ k id kept whole. c.in_err-facts.ensures.fault k id kept whole.records)
