@@ -10,3 +10,5 @@ pub mod SweepExamples
 pub mod Repeats
 pub mod Modes
 pub mod ModeExamples
+pub mod ShownExamples
+pub mod ShownAgain

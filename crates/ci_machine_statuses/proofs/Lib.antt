@@ -12,6 +12,8 @@ pub mod Loaded
 pub mod Settled
 pub mod Ends
 pub mod ActPlaces
+pub mod Lines
+pub mod ActLines
 pub mod ActShows
 pub mod ActRecords
 pub mod Stays
@@ -29,4 +31,5 @@ pub mod Pruning
 pub mod HeldChanged
 pub mod HeldEnds
 pub mod HeldActs
+pub mod CreationLines
 pub mod HeldCreations
