@@ -8,7 +8,6 @@ use Rattle.ci_config.specs.declared.limits.TheConstants.{MAX_VARIABLES}
 use Rattle.ci_graph_layout.specs.Inclusion.{Given}
 use Rattle.ci_machine.specs.declared.lease.Lease.{Lease}
 use Rattle.ci_machine.specs.declared.records.BoardRow.{BoardRow}
-use Rattle.ci_machine.specs.declared.records.Claim.{Claim}
 use Rattle.ci_machine.specs.declared.records.Project.{Project}
 use Rattle.ci_machine.specs.declared.records.Pipeline.{Pipeline}
 use Rattle.ci_machine.specs.declared.records.Job.{Job}
@@ -32,7 +31,6 @@ use Rattle.ci_machine.specs.declared.reply.Swept.{Swept}
 use Rattle.ci_machine.specs.State.{State, applied}
 use Rattle.ci_machine.specs.Leases.{is_live, first_due}
 use Rattle.ci_machine_steps.specs.Plans.{Plan, faulted}
-use Rattle.ci_machine.specs.Waiting.{claims_in}
 use Rattle.ci_machine_steps.specs.Pipelines.{have_names, file_or_none, may_create, Layout, creation, lacks_numbers, MakesUnless, Makes, Creates}
 use Rattle.ci_machine_steps.specs.Sweeps.{sweep}
 use Rattle.ci_machine_steps.specs.Cancels.{cancellable_jobs, cancel}
@@ -71,12 +69,12 @@ or_right : (a b : Bool) → (a || b) ≡ false → b ≡ false
 or_right true b e = absurd (false≢true (sym e))
 or_right false b e = e
 
-module _ (s : State) (claims : List Claim) (new : NewPipeline) (given : Given) (now : ℕ) (plan : Plan) (within : IsWithinLimit s) where
+module _ (s : State) (new : NewPipeline) (given : Given) (now : ℕ) (plan : Plan) (within : IsWithinLimit s) where
   abbrev After : Plan → Type 0
   After p = IsWithinLimit (applied p.1 s)
 
   numbered : (laid : Layout) (lacks : Bool) → lacks_numbers s.next.pipeline s.next.job (length laid.plan.jobs) ≡ lacks
-      → MakesUnless lacks s.next.job (creation s.next.pipeline s.next.job new given now laid) claims plan → After plan
+      → MakesUnless lacks s s.next.job (creation s.next.pipeline s.next.job new given now laid) plan → After plan
   numbered laid true e is = subst After (sym is) within
   numbered laid false e is =
       let first = s.next.job in
@@ -87,11 +85,11 @@ module _ (s : State) (claims : List Claim) (new : NewPipeline) (given : Given) (
       let bound : first + length made.jobs ≤ MAX_NUMBER + 1 = omega arith in
       subst After (sym is.2) (subst IsWithinLimit (sym (after_creation first made s)) bound)
 
-  makes : (laid : Result Layout Detail) → Makes s.next.pipeline s.next.job claims new given now laid plan → After plan
+  makes : (laid : Result Layout Detail) → Makes s new given now laid plan → After plan
   makes (Err fault) is = subst After (sym is) within
   makes (Ok laid) is = numbered laid (lacks_numbers s.next.pipeline s.next.job (length laid.plan.jobs)) refl is
 
-  creates : (file : Result (List ℕ) Plan) → IsQuiet file → Creates s.next.pipeline s.next.job claims new given now file plan → After plan
+  creates : (file : Result (List ℕ) Plan) → IsQuiet file → Creates s new given now file plan → After plan
   creates (Err refusal) quiet is = subst After (sym is) (subst (λ (cs : List RowChange). IsWithinLimit (applied cs s)) (sym quiet) within)
   creates (Ok text) quiet is = makes is.0 is.2
 
@@ -117,7 +115,7 @@ each s board request jobs_rise rise = record {
   mode = λ new is m _. refl;
   unordered = λ new is project group _. refl;
   mode_shown = λ group order _. refl;
-  pipeline = λ new now is project text laid rows asked has named file lays other. absurd (other (subst IsCreation (sym is) tt));
+  pipeline = λ new now is project text laid claims rows asked has named file lays other. absurd (other (subst IsCreation (sym is) tt));
   nothing = λ _. refl;
   granted = λ runner job q variables now seed has_runner has_job pending is_queued free _. refl;
   turned_away = λ fault _. refl;
@@ -146,7 +144,7 @@ requested s board request now seed plan rises within other is =
 
 by_request : (s : State) (board : List BoardRow) (request : Request) (now : ℕ) (seed : Seed) (plan : Plan) → Rises s → IsWithinLimit s → Does s board request now seed plan → IsWithinLimit (applied plan.1 s)
 by_request s board (CreatePipeline new) now seed plan rises within is =
-    creates s (claims_in s board s.next.pipeline) new (given_in s new) now plan within (may_create (of_asked s new.token new.project) new) (refuses (of_asked s new.token new.project) new) is
+    creates s new (given_in s new) now plan within (may_create (of_asked s new.token new.project) new) (refuses (of_asked s new.token new.project) new) is
 by_request s board (AddProject name) now seed plan rises within is = requested s board (AddProject name) now seed plan rises within (λ e. e) is
 by_request s board (AddRunner new) now seed plan rises within is = requested s board (AddRunner new) now seed plan rises within (λ e. e) is
 by_request s board (PauseRunner pause) now seed plan rises within is = requested s board (PauseRunner pause) now seed plan rises within (λ e. e) is

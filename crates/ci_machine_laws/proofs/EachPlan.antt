@@ -70,12 +70,12 @@ use Rattle.ci_machine_steps.specs.Runners.{made_runner, are_names, lacks_project
 use Rattle.ci_machine_steps.specs.Files.{file_set, set_file, SetsFile}
 use Rattle.ci_machine_steps.specs.Variables.{count_with, variable_set, set_variable, variable_gone, delete_variable}
 use Rattle.ci_machine_steps.specs.Modes.{mode_told, mode_change, set_mode, show_mode}
-use Rattle.ci_machine_steps.specs.Pipelines.{have_names, file_or_none, may_create, given_by, Layout, IsLaidOut, lacks_numbers, creation, pipeline_created, MakesUnless, Makes, Creates}
+use Rattle.ci_machine_steps.specs.Pipelines.{have_names, file_or_none, may_create, given_by, Layout, IsLaidOut, lacks_numbers, creation, creation_changes, pipeline_created, MakesUnless, Makes, Creates}
 use Rattle.ci_machine_steps.specs.Grants.{nothing_to_run, granted, ask_job}
 use Rattle.ci_machine_steps.specs.Reports.{unleased, heard, ended, reported, update_job}
 use Rattle.ci_machine_steps.specs.Traces.{not_accepted, grown, appended, append_trace}
 use Rattle.ci_machine_steps.specs.Shows.{asked_pipeline, pipeline_shown, show_pipeline, job_shown, trace_shown, job_within, asked_job, shown, traced}
-use Rattle.ci_machine_steps.specs.Acts.{permitted, status_among, ActsOn}
+use Rattle.ci_machine_steps.specs.Acts.{permitted, ActsOn}
 use Rattle.ci_machine_steps.specs.Plays.{is_playable, play}
 use Rattle.ci_machine_steps.specs.Retries.{is_retryable, retry}
 use Rattle.ci_machine_steps.specs.Cancels.{is_cancellable, cancellable_jobs, cancel, CancelsSome, CancelsPipeline}
@@ -83,8 +83,8 @@ use Rattle.ci_machine_steps.specs.Sweeps.{sweep}
 use Rattle.ci_machine_steps.specs.Prunes.{prunable_in, pruned_reply, pipeline_goes, prune}
 use Rattle.ci_machine.specs.Leases.{accepted, first_due}
 use Rattle.ci_machine.specs.Eligible.{may_run, resource_free, is_eligible, chosen}
-use Rattle.ci_machine.specs.Groups.{claims_on, order_of}
-use Rattle.ci_machine.specs.Waiting.{waiting, groups_with, groups_in, claims_in}
+use Rattle.ci_machine.specs.Groups.{order_of}
+use Rattle.ci_machine.specs.Waiting.{groups_in, claims_in}
 use Rattle.ci_machine_steps.specs.Step.{Does, Happens, Step, project_with, project_named, runner_at, redundant_in, cancellable_in, project_variables, variable_at, pipeline_at, runner_with, attempt_at, pipeline_of, job_at, pipeline_or_none, found_job, found_pipeline, last_attempt, trace_of, trace_if_any, lease_of, leases, is_pending, pending_jobs, queued, queue, offer, offered_variables, jobs_in}
 use Rattle.ci_machine_steps.specs.Laws.{IsRefusal}
 use Rattle.ci_machine.specs.Reply.{Stepped, outcome_of}
@@ -131,9 +131,9 @@ abbrev pub given_in : State → NewPipeline → Given
 given_in s new = given_by new (project_variables s new.project)
 
 -- a fact of each plan by which a pipeline is made
-abbrev pub OfCreation : State → List Claim → (Plan → Type 0) → NewPipeline → ℕ → Type 0
-OfCreation s claims P new now =
-    (project : Project) (text : List ℕ) (laid : Layout) (rows : List Row) → of_asked s new.token new.project ≡ Ok project → Has project s.projects → project.id ≡ new.project → project.file ≡ Some text
+abbrev pub OfCreation : State → (Plan → Type 0) → NewPipeline → ℕ → Type 0
+OfCreation s P new now =
+    (project : Project) (text : List ℕ) (laid : Layout) (claims : List Claim) (rows : List Row) → of_asked s new.token new.project ≡ Ok project → Has project s.projects → project.id ≡ new.project → project.file ≡ Some text
     → IsLaidOut text (given_in s new) (Ok laid) → P (pipeline_created s.next.job (creation s.next.pipeline s.next.job new (given_in s new) now laid) claims rows)
 
 module _ (s : State) (P : Plan → Type 0) (of_code : (c : Code) → IsMachineCode c → P (refused c)) (of_fault : (d : Detail) → P (faulted d)) where
@@ -195,35 +195,37 @@ module _ (s : State) (P : Plan → Type 0) (of_code : (c : Code) → IsMachineCo
 
   -- ---- a pipeline is to be made
 
-  unless : (claims : List Claim) (new : NewPipeline) (now : ℕ) (plan : Plan) (laid : Layout) → ((rows : List Row) → P (pipeline_created s.next.job (creation s.next.pipeline s.next.job new (given_in s new) now laid) claims rows)) → (lacks : Bool)
-      → MakesUnless lacks s.next.job (creation s.next.pipeline s.next.job new (given_in s new) now laid) claims plan → P plan
-  unless claims new now plan laid h true is = subst P (sym is) (of_code M15 tt)
-  unless claims new now plan laid h false is = subst P (sym is.2) (h is.0)
+  unless : (new : NewPipeline) (now : ℕ) (plan : Plan) (laid : Layout) → ((claims : List Claim) (rows : List Row) → P (pipeline_created s.next.job (creation s.next.pipeline s.next.job new (given_in s new) now laid) claims rows)) → (lacks : Bool)
+      → MakesUnless lacks s s.next.job (creation s.next.pipeline s.next.job new (given_in s new) now laid) plan → P plan
+  unless new now plan laid h true is = subst P (sym is) (of_code M15 tt)
+  unless new now plan laid h false is =
+      let t = applied (creation_changes s.next.job (creation s.next.pipeline s.next.job new (given_in s new) now laid)) s in
+      subst P (sym is.2) (h (claims_in t is.0 s.next.pipeline) (rows_of t is.0 s.next.pipeline))
 
-  makes : (claims : List Claim) (new : NewPipeline) (now : ℕ) (plan : Plan) → OfCreation s claims P new now → (project : Project) → of_asked s new.token new.project ≡ Ok project → Asked s new.project (Ok project)
-      → (text : List ℕ) → project.file ≡ Some text → (laid : Result Layout Detail) → IsLaidOut text (given_in s new) laid → Makes s.next.pipeline s.next.job claims new (given_in s new) now laid plan → P plan
-  makes claims new now plan h project is_project asked text file (Err fault) lays is = subst P (sym is) (of_fault fault)
-  makes claims new now plan h project is_project asked text file (Ok laid) lays is =
-      unless claims new now plan laid (λ rows. h project text laid rows is_project asked.0 asked.1 file lays) (lacks_numbers s.next.pipeline s.next.job (length laid.plan.jobs)) is
+  makes : (new : NewPipeline) (now : ℕ) (plan : Plan) → OfCreation s P new now → (project : Project) → of_asked s new.token new.project ≡ Ok project → Asked s new.project (Ok project)
+      → (text : List ℕ) → project.file ≡ Some text → (laid : Result Layout Detail) → IsLaidOut text (given_in s new) laid → Makes s new (given_in s new) now laid plan → P plan
+  makes new now plan h project is_project asked text file (Err fault) lays is = subst P (sym is) (of_fault fault)
+  makes new now plan h project is_project asked text file (Ok laid) lays is =
+      unless new now plan laid (λ claims rows. h project text laid claims rows is_project asked.0 asked.1 file lays) (lacks_numbers s.next.pipeline s.next.job (length laid.plan.jobs)) is
 
-  reads : (claims : List Claim) (new : NewPipeline) (now : ℕ) (plan : Plan) → OfCreation s claims P new now → (project : Project) → of_asked s new.token new.project ≡ Ok project → Asked s new.project (Ok project)
-      → (file : Option (List ℕ)) → project.file ≡ file → Creates s.next.pipeline s.next.job claims new (given_in s new) now (file_or_none file) plan → P plan
-  reads claims new now plan h project is_project asked None file is = subst P (sym is) (of_code M13 tt)
-  reads claims new now plan h project is_project asked (Some text) file is = makes claims new now plan h project is_project asked text file is.0 is.1 is.2
+  reads : (new : NewPipeline) (now : ℕ) (plan : Plan) → OfCreation s P new now → (project : Project) → of_asked s new.token new.project ≡ Ok project → Asked s new.project (Ok project)
+      → (file : Option (List ℕ)) → project.file ≡ file → Creates s new (given_in s new) now (file_or_none file) plan → P plan
+  reads new now plan h project is_project asked None file is = subst P (sym is) (of_code M13 tt)
+  reads new now plan h project is_project asked (Some text) file is = makes new now plan h project is_project asked text file is.0 is.1 is.2
 
-  creates : (claims : List Claim) (new : NewPipeline) (now : ℕ) (plan : Plan) → OfCreation s claims P new now → (r : Result Project Code) → of_asked s new.token new.project ≡ r → Asked s new.project r
-      → Creates s.next.pipeline s.next.job claims new (given_in s new) now (may_create r new) plan → P plan
-  creates claims new now plan h (Err code) is asked made = subst P (sym made) (of_code code asked)
-  creates claims new now plan h (Ok project) is asked made =
-      let C : Result (List ℕ) Plan → Type 0 = λ t. Creates s.next.pipeline s.next.job claims new (given_in s new) now t plan → P plan in
+  creates : (new : NewPipeline) (now : ℕ) (plan : Plan) → OfCreation s P new now → (r : Result Project Code) → of_asked s new.token new.project ≡ r → Asked s new.project r
+      → Creates s new (given_in s new) now (may_create r new) plan → P plan
+  creates new now plan h (Err code) is asked made = subst P (sym made) (of_code code asked)
+  creates new now plan h (Ok project) is asked made =
+      let C : Result (List ℕ) Plan → Type 0 = λ t. Creates s new (given_in s new) now t plan → P plan in
       cond_both (not (is_name new.git_ref)) (Err (faulted (detail.Code (K 16)))) _ C (λ _ k. subst P (sym k) (of_fault (detail.Code (K 16)))) (λ _.
       cond_both (nat_lt MAX_VARIABLES (length new.variables)) (Err (faulted (detail.Code (K 11)))) _ C (λ _ k. subst P (sym k) (of_fault (detail.Code (K 11)))) (λ _.
       cond_both (not (have_names new.variables)) (Err (faulted (detail.Code (K 12)))) (file_or_none project.file) C (λ _ k. subst P (sym k) (of_fault (detail.Code (K 12))))
-      (λ _. reads claims new now plan h project is asked project.file refl))) made
+      (λ _. reads new now plan h project is asked project.file refl))) made
 
-  pub of_creation : (claims : List Claim) (new : NewPipeline) (now : ℕ) (plan : Plan) → OfCreation s claims P new now
-      → Creates s.next.pipeline s.next.job claims new (given_in s new) now (may_create (of_asked s new.token new.project) new) plan → P plan
-  of_creation claims new now plan h = creates claims new now plan h (of_asked s new.token new.project) refl (is_asked s new.token new.project)
+  pub of_creation : (new : NewPipeline) (now : ℕ) (plan : Plan) → OfCreation s P new now
+      → Creates s new (given_in s new) now (may_create (of_asked s new.token new.project) new) plan → P plan
+  of_creation new now plan h = creates new now plan h (of_asked s new.token new.project) refl (is_asked s new.token new.project)
 
   -- ---- a pipeline is shown
 
@@ -274,36 +276,36 @@ module _ (s : State) (board : List BoardRow) (P : Plan → Type 0) (of_code : (c
   permits test code m (Err refusal) found = found
   permits test code m (Ok job) found = cond_both (test (status_for board job.id)) (Ok job) (Err code) (Found s) (λ _. found) (λ _. m)
 
-  acts : (act : Job → List RowChange) → ((j : Job) → Has j s.jobs → IsAct s (act j)) → (plan : Plan) (r : Result Job Code) → Found s r → ActsOn s (waiting s board) act r plan → P plan
+  acts : (act : Job → List RowChange) → ((j : Job) → Has j s.jobs → IsAct s (act j)) → (plan : Plan) (r : Result Job Code) → Found s r → ActsOn s act r plan → P plan
   acts act are plan (Err code) found is = subst P (sym is) (of_code code found)
   acts act are plan (Ok job) found is =
       let t = applied (act job) s in
-      subst P (sym is.2) (of_act (compact_text (job_data (printed_status (claims_on (groups_with t (waiting s board)) job.pipeline) (queued t job).project job (status_among t is.0 job)) job)) (act job) (are job found))
+      subst P (sym is.2) (of_act (compact_text (job_data (printed_status (claims_in t is.0 job.pipeline) (queued t job).project job (status_for is.0 job.id)) job)) (act job) (are job found))
 
   acts_on : (act : Job → List RowChange) → ((j : Job) → Has j s.jobs → IsAct s (act j)) → (test : Status → Bool) (code : Code) → IsMachineCode code → (query : JobQuery) (plan : Plan)
-      → ActsOn s (waiting s board) act (permitted board test code (found_job s query)) plan → P plan
+      → ActsOn s act (permitted board test code (found_job s query)) plan → P plan
   acts_on act are test code m query plan is =
       acts act are plan (permitted board test code (found_job s query)) (permits test code m (found_job s query) (found_by s query (project_with s query.token))) is
 
   -- a job is to be played
-  pub of_play : (query : JobQuery) (plan : Plan) → ActsOn s (waiting s board) play (permitted board is_playable M10 (found_job s query)) plan → P plan
+  pub of_play : (query : JobQuery) (plan : Plan) → ActsOn s play (permitted board is_playable M10 (found_job s query)) plan → P plan
   of_play query plan is = acts_on play (plays s) is_playable M10 tt query plan is
 
   -- a job is to be tried again
-  pub of_retry : (query : JobQuery) (plan : Plan) → ActsOn s (waiting s board) (λ j. retry (attempts_of s j.id) j) (permitted board is_retryable M11 (found_job s query)) plan → P plan
+  pub of_retry : (query : JobQuery) (plan : Plan) → ActsOn s (λ j. retry (attempts_of s j.id) j) (permitted board is_retryable M11 (found_job s query)) plan → P plan
   of_retry query plan is = acts_on (λ j. retry (attempts_of s j.id) j) (retries s) is_retryable M11 tt query plan is
 
   -- a job is to be cancelled
-  pub of_job_cancel : (query : JobQuery) (plan : Plan) → ActsOn s (waiting s board) (λ j. cancel s.attempts (j ∷ [])) (permitted board is_cancellable M12 (found_job s query)) plan → P plan
+  pub of_job_cancel : (query : JobQuery) (plan : Plan) → ActsOn s (λ j. cancel s.attempts (j ∷ [])) (permitted board is_cancellable M12 (found_job s query)) plan → P plan
   of_job_cancel query plan is =
       acts_on (λ j. cancel s.attempts (j ∷ [])) (λ j has. cancels s (j ∷ []) (λ w k. ⊎_elim (λ e. subst (λ (v : Job). Has v s.jobs) (sym e) has) (λ m. absurd m) k)) is_cancellable M12 tt query plan is
 
-  cancels_some : (plan : Plan) (p : Pipeline) (jobs : List Job) → ((j : Job) → Has j jobs → Has j s.jobs) → CancelsSome s (waiting s board) p jobs plan → P plan
+  cancels_some : (plan : Plan) (p : Pipeline) (jobs : List Job) → ((j : Job) → Has j jobs → Has j s.jobs) → CancelsSome s p jobs plan → P plan
   cancels_some plan p [] within is = subst P (sym is) (of_code M12 tt)
   cancels_some plan p (j ∷ js) within is =
       let changes = cancel s.attempts (j ∷ js) in
       let t = applied changes s in
-      subst P (sym is.2) (of_act (compact_text (pipeline_data p (claims_on (groups_with t (waiting s board)) p.id) (jobs_of t p.id) (facts_of t p.id) is.0)) changes (cancels s (j ∷ js) within))
+      subst P (sym is.2) (of_act (compact_text (pipeline_data p (claims_in t is.0 p.id) (jobs_of t p.id) (facts_of t p.id) (rows_of t is.0 p.id))) changes (cancels s (j ∷ js) within))
 
   cancels_by : (plan : Plan) (r : Result Pipeline Code) → IsPipeline r → CancelsPipeline s board r plan → P plan
   cancels_by plan (Err code) found is = subst P (sym is) (of_code code found)
@@ -330,7 +332,7 @@ pub record Each (s : State) (board : List BoardRow) (request : Request) (P : Pla
   pub mode : (new : NewMode) → request ≡ SetMode new → (m : GroupMode) → P (mode_told m.group (Some m.order), Put (row.Mode m) ∷ [])
   pub unordered : (new : NewMode) → request ≡ SetMode new → (project : ℕ) (group : List ℕ) → P (mode_told group None, Remove (key.Mode project group) ∷ [])
   pub mode_shown : (group : List ℕ) (order : Option GroupOrder) → P (mode_told group order, [])
-  pub pipeline : (new : NewPipeline) (now : ℕ) → request ≡ CreatePipeline new → OfCreation s (claims_in s board s.next.pipeline) P new now
+  pub pipeline : (new : NewPipeline) (now : ℕ) → request ≡ CreatePipeline new → OfCreation s P new now
   -- there is nothing to run, or nothing to prune
   pub nothing : P nothing_to_run
   pub granted : (runner : Runner) (job : Job) (q : QueuedJob) (variables : List JobVariable) (now : ℕ) (seed : Seed)
@@ -437,7 +439,7 @@ does s board P (SetMode new) each now seed plan is = subst P (sym is) (of_mode s
 does s board P (ShowMode query) each now seed plan is =
     let order = order_of s.modes query.project query.group in
     subst P (sym is) (of_order s P each.refused each.faulted query order (each.mode_shown query.group order))
-does s board P (CreatePipeline new) each now seed plan is = of_creation s P each.refused each.faulted (claims_in s board s.next.pipeline) new now plan (each.pipeline new now refl) is
+does s board P (CreatePipeline new) each now seed plan is = of_creation s P each.refused each.faulted new now plan (each.pipeline new now refl) is
 does s board P (ShowPipeline query) each now seed plan is =
     let n = query.pipeline in
     let claims = claims_in s board n in
@@ -477,7 +479,7 @@ keeps s board request = record {
   mode = λ new is m refused. absurd (false≢true refused);
   unordered = λ new is project group refused. absurd (false≢true refused);
   mode_shown = λ group order _. refl;
-  pipeline = λ new now is project text laid rows asked has named file lays refused. absurd (false≢true refused);
+  pipeline = λ new now is project text laid claims rows asked has named file lays refused. absurd (false≢true refused);
   nothing = λ _. refl;
   granted = λ runner job q variables now seed h k m e f refused. absurd (false≢true refused);
   turned_away = λ fault _. refl;
@@ -526,7 +528,7 @@ steps s board request = record {
   mode = λ new is m. refl;
   unordered = λ new is project group. refl;
   mode_shown = λ group order. refl;
-  pipeline = λ new now is project text laid rows asked has named file lays. refl;
+  pipeline = λ new now is project text laid claims rows asked has named file lays. refl;
   nothing = refl;
   granted = λ runner job q variables now seed h k m e f. refl;
   turned_away = away;

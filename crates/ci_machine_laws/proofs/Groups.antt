@@ -197,7 +197,7 @@ module _ (s : State) (board : List BoardRow) (request : Request) where
     mode = λ new is m. stays s (record s { modes = put mode_cmp m s.modes }) refl;
     unordered = λ new is project group. stays s (changed (Remove (key.Mode project group)) s) refl;
     mode_shown = λ group order. stays s s refl;
-    pipeline = λ new now is project text laid rows asked has named file lays.
+    pipeline = λ new now is project text laid claims rows asked has named file lays.
         stays s (applied (creation_changes s.next.job (creation s.next.pipeline s.next.job new (given_in s new) now laid)) s) (ap (λ (t : State). t.attempts) (after_creation s.next.job (creation s.next.pipeline s.next.job new (given_in s new) now laid) s));
     nothing = stays s s refl;
     granted = λ runner job q variables now seed has_runner has_job pending is_queued free b k. ⊎_elim

@@ -6,6 +6,7 @@ use Rattle.std.proofs.lemmas.List.Elements.{Contains-append_right}
 use Rattle.ci_board.specs.declared.facts.Row.{Row}
 use Rattle.ci_machine.specs.declared.lease.Lease.{Lease}
 use Rattle.ci_machine.specs.declared.records.BoardRow.{BoardRow}
+use Rattle.ci_machine.specs.declared.records.Claim.{Claim}
 use Rattle.ci_machine.specs.declared.records.Project.{Project}
 use Rattle.ci_machine.specs.declared.records.Pipeline.{Pipeline}
 use Rattle.ci_machine.specs.declared.records.Job.{Job}
@@ -28,7 +29,6 @@ use Rattle.ci_machine_steps.specs.Plans.{Plan}
 use Rattle.ci_machine_steps.specs.Pipelines.{Layout, IsLaidOut, new_job, creation, pipeline_created}
 use Rattle.ci_machine_steps.specs.Reports.{ended}
 use Rattle.ci_machine_steps.specs.Sweeps.{sweep}
-use Rattle.ci_machine.specs.Waiting.{claims_in}
 use Rattle.ci_machine_steps.specs.Cancels.{cancellable_jobs, cancel}
 use Rattle.ci_machine_steps.specs.Step.{Happens, leases, redundant_in, cancellable_in}
 use Rattle.ci_machine_steps.specs.History.{Past, Leads}
@@ -64,9 +64,9 @@ module _ (s : State) (board : List BoardRow) (request : Request) (now : ℕ) (se
   abbrev From : Plan → Type 0
   From plan = Are s (event.Request request) now seed (answer.Reply plan.0) plan.1
 
-  makes : (new : NewPipeline) (at : ℕ) → request ≡ CreatePipeline new → (project : Project) (text : List ℕ) (laid : Layout) (rows : List Row) → of_asked s new.token new.project ≡ Ok project → project.file ≡ Some text
-      → IsLaidOut text (given_in s new) (Ok laid) → From (pipeline_created s.next.job (creation s.next.pipeline s.next.job new (given_in s new) at laid) (claims_in s board s.next.pipeline) rows)
-  makes new at is project text laid rows asked file lays j k =
+  makes : (new : NewPipeline) (at : ℕ) → request ≡ CreatePipeline new → (project : Project) (text : List ℕ) (laid : Layout) (claims : List Claim) (rows : List Row) → of_asked s new.token new.project ≡ Ok project → project.file ≡ Some text
+      → IsLaidOut text (given_in s new) (Ok laid) → From (pipeline_created s.next.job (creation s.next.pipeline s.next.job new (given_in s new) at laid) claims rows)
+  makes new at is project text laid claims rows asked file lays j k =
       let made = creation s.next.pipeline s.next.job new (given_in s new) at laid in
       let lays = laid_is text (given_in s new) (Ok laid) lays in
       ⊎_elim (λ m. inl (there s j m))
@@ -76,7 +76,7 @@ module _ (s : State) (board : List BoardRow) (request : Request) (now : ℕ) (se
       inr (record {
         new = new;
         asked = ap event.Request is;
-        reply = (pipeline_created s.next.job made (claims_in s board s.next.pipeline) rows).0;
+        reply = (pipeline_created s.next.job made claims rows).0;
         answered = refl;
         made = refl;
         drawn = drawn;
@@ -107,7 +107,7 @@ module _ (s : State) (board : List BoardRow) (request : Request) (now : ℕ) (se
     mode = λ new is m j k. inl (there s j k);
     unordered = λ new is project group j k. inl (there s j k);
     mode_shown = λ group order j k. inl (there s j k);
-    pipeline = λ new at is project text laid rows asked has named file lays. makes new at is project text laid rows asked file lays;
+    pipeline = λ new at is project text laid claims rows asked has named file lays. makes new at is project text laid claims rows asked file lays;
     nothing = λ j k. inl (there s j k);
     granted = λ runner job q variables at seed h i p e f j k. inl (there s j k);
     turned_away = λ fault j k. inl (there s j k);

@@ -247,7 +247,7 @@ each s board request i was jobs_rise rise = record {
   mode = λ new is m. was;
   unordered = λ new is project group. was;
   mode_shown = λ group order. was;
-  pipeline = λ new now is project text laid rows asked has named file lays.
+  pipeline = λ new now is project text laid claims rows asked has named file lays.
       subst (λ (t : State). Joined t.jobs t.needs) (sym (after_creation s.next.job (creation s.next.pipeline s.next.job new (given_in s new) now laid) s)) (enters s new (given_in s new) now text laid i was lays);
   nothing = was;
   granted = λ runner job q variables now seed has_runner has_job pending is_queued free. was;

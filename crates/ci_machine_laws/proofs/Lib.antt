@@ -27,8 +27,9 @@ pub mod NoJob
 pub mod Altered
 pub mod Sweeping
 pub mod Readings
-pub mod FirstRows
+pub mod NewPipelines
 pub mod OneOutcome
+pub mod ShownAgain
 pub mod SentAgain
 pub mod Modes
 pub mod LeftOut

@@ -49,7 +49,7 @@ use Rattle.ci_machine_laws.proofs.Gone.{IsPruned}
 
 -- ---- lists
 
-has_self : {A : Type 0} (cmp : A → A → Ordering) (x : A) (xs : List A) → Has x (placed cmp x xs)
+pub has_self : {A : Type 0} (cmp : A → A → Ordering) (x : A) (xs : List A) → Has x (placed cmp x xs)
 has_self cmp x [] = inl refl
 has_self cmp x (z ∷ zs) = cond_both (is_lt (cmp z x)) (z ∷ placed cmp x zs) (x ∷ z ∷ zs) (λ l. Has x l) (λ _. inr (has_self cmp x zs)) (λ _. inl refl)
 
@@ -584,7 +584,7 @@ goes s board request i jr r b = record {
   mode = λ new is m. inl (modes s (put mode_cmp m s.modes) i);
   unordered = λ new is project group. inl (modes s _ i);
   mode_shown = λ group order. inl (rests s i);
-  pipeline = λ new now is project text laid rows asked has named file lays.
+  pipeline = λ new now is project text laid claims rows asked has named file lays.
       inl (subst (Next s) (sym (after_creation s.next.job (creation s.next.pipeline s.next.job new (given_in s new) now laid) s)) (enters s new project (given_in s new) now text laid i has named lays));
   nothing = inl (rests s i);
   granted = λ runner job q variables now seed has_runner has_job pending is_queued free. let its_job : job.id ≡ q.job.id = ap (λ (w : QueuedJob). w.job.id) is_queued in inl (record {

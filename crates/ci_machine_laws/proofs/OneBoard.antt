@@ -1,7 +1,7 @@
 -- The statuses of each reached state are one assignment.
 use Rattle.std.specs.Prelude.{◌≡◌, ◌⊎◌, ℕ, zero, suc, ◌+◌, ◌^◌, ◌<◌, ◌≤◌, Bool, true, cond, ◌==◌, ◌||◌, nat_lt, List, [], ◌∷◌, length, map, filter, count_by, All, Contains, slice_index_or}
 use Rattle.std.specs.List.{range_with_len}
-use Rattle.std.proofs.Common.{refl, sym, ap, subst, ◌∙◌, inl, inr, ⊎_elim, arith, eq-eqb, eqb-true, lt-ltb, ext_get_or}
+use Rattle.std.proofs.Common.{refl, sym, ap, subst, ◌∙◌, inl, inr, ⊎_elim, arith, eq-eqb, eqb-true, lt-ltb}
 use Rattle.std.proofs.lemmas.Bool.{cases_Bool, cases_lt, false≢true, cond-true, cond-false, le-ltb}
 use Rattle.std.proofs.lemmas.List.{get_or-map, length-map}
 use Rattle.std.proofs.lemmas.List.Sums.{sum_by-cons}
@@ -26,7 +26,7 @@ use Rattle.ci_machine.specs.declared.records.Job.{Job}
 use Rattle.ci_machine.specs.declared.records.Need.{Need}
 use Rattle.ci_machine.specs.declared.records.Attempt.{Attempt}
 use Rattle.ci_machine.specs.State.{State}
-use Rattle.ci_machine.specs.Statuses.{jobs_of, numbers_of, place_in, pair_of, pairs_of, predecessors_by, graph_of, facts_in, facts_of, row_or_none, row_for, rows_of, AreBoard, AreRowsOf}
+use Rattle.ci_machine.specs.Statuses.{jobs_of, numbers_of, place_in, pair_of, pairs_of, predecessors_by, graph_of, facts_in, facts_of, row_or_none, row_for, rows_of, AreBoard}
 use Rattle.ci_machine_steps.specs.Step.{is_pending}
 use Rattle.ci_machine_steps.specs.History.{Past, Leads}
 use Rattle.ci_machine_steps.specs.Laws.{grants, WasGranted}
@@ -486,14 +486,6 @@ one_board law h s leads =
       only = λ other are. one_list law s rise linked is limit other some.0 are some.1;
       one_assignment = one_only law s rise linked is limit;
     }
-
--- the rows of a pipeline's jobs are one list
-pub rows_once : OneAssignment → (h : List Past) (s : State) → Leads h s → (pipeline : ℕ) (xs ys : List Row) → AreRowsOf s pipeline xs → AreRowsOf s pipeline ys → xs ≡ ys
-rows_once law h s leads pipeline xs ys first second =
-    let held = held h s leads in
-    let parts : length (graph_of s pipeline).parts ≡ length (jobs_of s pipeline) = parts_long law s (reached h s leads).grants.jobs_rise held.linked held.joined (within_limit h s leads) pipeline in
-    ext_get_or no_row xs ys (first.long ∙ sym second.long) (λ j l.
-    same_rows law s (reached h s leads).grants.jobs_rise held.linked held.joined (within_limit h s leads) pipeline xs ys first.settled second.settled j (let long = first.long in omega arith))
 
 leads_before : (h : List Past) (s : State) → Leads h s → (p : Past) → Has p h → (g : List Past) × Leads g p.before
 leads_before [] s l p k = absurd k

@@ -2,11 +2,9 @@
 use Rattle.std.specs.Prelude.{◌≡◌, ◌⊎◌, ℕ, Bool, true, false, not, nat_lt, ◌==◌, List, [], ◌∷◌, length, Option, Some, None, option_and_then, Result, Ok, Err}
 use Rattle.std.proofs.Common.{refl, sym, ap, subst, ◌∙◌, inl, inr, ⊎_elim}
 use Rattle.std.proofs.lemmas.Bool.{cond_both}
-use Rattle.ci_board.specs.declared.facts.Row.{Row}
 use Rattle.ci_machine.specs.declared.records.BoardRow.{BoardRow}
 use Rattle.ci_machine.specs.declared.records.Job.{Job}
 use Rattle.ci_machine.specs.declared.records.Pipeline.{Pipeline}
-use Rattle.ci_machine.specs.declared.records.WaitingJob.{WaitingJob}
 use Rattle.ci_machine.specs.declared.change.RowChange.{RowChange}
 use Rattle.ci_machine.specs.declared.request.Event.{Event}
 use Rattle.ci_machine.specs.declared.request.Event.TheVariants as event
@@ -19,9 +17,8 @@ use Rattle.ci_machine.specs.declared.reply.Code.{Code}
 use Rattle.ci_machine.specs.declared.reply.Code.TheVariants.{M2, M10, M11, M12}
 use Rattle.ci_machine.specs.declared.reply.Swept.{Swept}
 use Rattle.ci_machine.specs.State.{State, applied}
-use Rattle.ci_machine.specs.Statuses.{jobs_of, attempts_of, facts_of, AreRowsOf}
-use Rattle.ci_machine.specs.Groups.{claims_on}
-use Rattle.ci_machine.specs.Waiting.{waiting, groups_with, claims_in}
+use Rattle.ci_machine.specs.Statuses.{jobs_of, attempts_of, facts_of, rows_of, status_for, AreBoard}
+use Rattle.ci_machine.specs.Waiting.{claims_in}
 use Rattle.ci_machine.specs.Lookups.{queued}
 use Rattle.ci_machine_steps.specs.Plans.{Plan, faulted, asked_project}
 use Rattle.ci_machine_steps.specs.Files.{set_file, SetsFile}
@@ -29,13 +26,12 @@ use Rattle.ci_machine_steps.specs.Pipelines.{have_names, file_or_none, file_for,
 use Rattle.ci_graph_layout.specs.Inclusion.{Given}
 use Rattle.ci_config.specs.declared.limits.TheConstants.{MAX_VARIABLES}
 use Rattle.ci_values.specs.Names.{is_name}
-use Rattle.ci_machine.specs.declared.records.Claim.{Claim}
 use Rattle.ci_machine.specs.declared.records.Project.{Project}
 use Rattle.ci_machine.specs.declared.request.NewPipeline.{NewPipeline}
 use Rattle.ci_machine.specs.declared.reply.Detail.{Detail}
 use Rattle.ci_machine.specs.declared.reply.Detail.TheVariants as detail
 use Rattle.ci_machine.specs.declared.reply.FaultCode.TheVariants.{K}
-use Rattle.ci_machine_steps.specs.Acts.{permitted, status_among, ActsOn}
+use Rattle.ci_machine_steps.specs.Acts.{permitted, ActsOn}
 use Rattle.ci_machine_steps.specs.Cancels.{is_cancellable, cancellable_jobs, cancel, CancelsSome, CancelsPipeline}
 use Rattle.ci_machine_steps.specs.Plays.{is_playable, play}
 use Rattle.ci_machine_steps.specs.Retries.{is_retryable, retry}
@@ -43,15 +39,12 @@ use Rattle.ci_machine_steps.specs.Shows.{job_shown, pipeline_shown}
 use Rattle.ci_machine_steps.specs.Step.{Does, Happens, Step, found_job, found_pipeline, project_with, project_variables}
 use Rattle.ci_machine_steps.specs.History.{Past, IsReached}
 use Rattle.ci_machine_laws.specs.OneOutcome.{text_read, HoldsPattern, RefusesPattern, OneOutcome}
-use Rattle.ci_machine_laws.proofs.OneBoard.{OneAssignment, one_board, rows_once}
-use Rattle.ci_machine_laws.proofs.Held as every
-use Rattle.ci_machine_laws.proofs.Linked.{Linked}
+use Rattle.ci_machine_laws.proofs.OneBoard.{OneAssignment, one_board}
 use Rattle.ci_machine_laws.proofs.Readings.{Readings, pattern_refused, read_once, laid_once}
-use Rattle.ci_machine_laws.proofs.FirstRows.{first_are_rows, made_state}
 
--- each pipeline of the state has one list of rows
-abbrev pub RowsOnce : State → Type 0
-RowsOnce t = (pipeline : ℕ) (xs ys : List Row) → AreRowsOf t pipeline xs → AreRowsOf t pipeline ys → xs ≡ ys
+-- the state has one board
+abbrev pub BoardOnce : State → Type 0
+BoardOnce t = (xs ys : List BoardRow) → AreBoard t xs → AreBoard t ys → xs ≡ ys
 
 -- ---- which file a pipeline is made of
 
@@ -80,28 +73,28 @@ file_asked o named new text (Ok project) is e = ap (option_and_then (λ (p : Pro
 
 -- ---- one plan
 
-module _ (known : Readings) (s : State) (linked : Linked s) (f g : Plan) (once : RowsOnce (applied f.1 s)) where
-  once_by : (changes : List RowChange) → f.1 ≡ changes → RowsOnce (applied changes s)
-  once_by changes is = subst (λ (cs : List RowChange). RowsOnce (applied cs s)) is once
+module _ (known : Readings) (s : State) (f g : Plan) (once : BoardOnce (applied f.1 s)) where
+  once_by : (changes : List RowChange) → f.1 ≡ changes → BoardOnce (applied changes s)
+  once_by changes is = subst (λ (cs : List RowChange). BoardOnce (applied cs s)) is once
 
-  acts_once : (w : List WaitingJob) (act : Job → List RowChange) (asked : Result Job Code) → ActsOn s w act asked f → ActsOn s w act asked g → f ≡ g
-  acts_once w act (Err code) p q = p ∙ sym q
-  acts_once w act (Ok job) p q =
+  acts_once : (act : Job → List RowChange) (asked : Result Job Code) → ActsOn s act asked f → ActsOn s act asked g → f ≡ g
+  acts_once act (Err code) p q = p ∙ sym q
+  acts_once act (Ok job) p q =
       let t = applied (act job) s in
-      let rows : p.0 ≡ q.0 = once_by (act job) (ap (λ (h : Plan). h.1) p.2) job.pipeline p.0 q.0 p.1 q.1 in
-      p.2 ∙ ((λ i. ((job_shown (claims_on (groups_with t w) job.pipeline) (queued t job).project job (status_among t (rows i) job)).0, act job)) ∙ sym q.2)
+      let boards : p.0 ≡ q.0 = once_by (act job) (ap (λ (h : Plan). h.1) p.2) p.0 q.0 p.1 q.1 in
+      p.2 ∙ (ap (λ (after : List BoardRow). ((job_shown (claims_in t after job.pipeline) (queued t job).project job (status_for after job.id)).0, act job)) boards ∙ sym q.2)
 
-  some_once : (w : List WaitingJob) (p : Pipeline) (jobs : List Job) → CancelsSome s w p jobs f → CancelsSome s w p jobs g → f ≡ g
-  some_once w p [] a b = a ∙ sym b
-  some_once w p (j ∷ js) a b =
+  some_once : (p : Pipeline) (jobs : List Job) → CancelsSome s p jobs f → CancelsSome s p jobs g → f ≡ g
+  some_once p [] a b = a ∙ sym b
+  some_once p (j ∷ js) a b =
       let changes = cancel s.attempts (j ∷ js) in
       let t = applied changes s in
-      let rows : a.0 ≡ b.0 = once_by changes (ap (λ (h : Plan). h.1) a.2) p.id a.0 b.0 a.1 b.1 in
-      a.2 ∙ ((λ i. ((pipeline_shown p (claims_on (groups_with t w) p.id) (jobs_of t p.id) (facts_of t p.id) (rows i)).0, changes)) ∙ sym b.2)
+      let boards : a.0 ≡ b.0 = once_by changes (ap (λ (h : Plan). h.1) a.2) a.0 b.0 a.1 b.1 in
+      a.2 ∙ (ap (λ (after : List BoardRow). ((pipeline_shown p (claims_in t after p.id) (jobs_of t p.id) (facts_of t p.id) (rows_of t after p.id)).0, changes)) boards ∙ sym b.2)
 
   cancels_once : (board : List BoardRow) (asked : Result Pipeline Code) → CancelsPipeline s board asked f → CancelsPipeline s board asked g → f ≡ g
   cancels_once board (Err code) a b = a ∙ sym b
-  cancels_once board (Ok p) a b = some_once (waiting s board) p (cancellable_jobs s board p.id) a b
+  cancels_once board (Ok p) a b = some_once p (cancellable_jobs s board p.id) a b
 
   -- a plan is to refuse a pattern of this text
   abbrev PatternIn : List ℕ → Type 0
@@ -115,25 +108,24 @@ module _ (known : Readings) (s : State) (linked : Linked s) (f g : Plan) (once :
       (λ w. inr (w.0, ⊎_elim (λ a. inl (p.2 ∙ ap (set_file project text) a)) (λ b. inr (q.2 ∙ ap (set_file project text) b)) w.1))
       (read_once known text p.0 q.0 p.1 q.1)
 
-  module _ (new : NewPipeline) (given : Given) (now : ℕ) (claims : List Claim) where
+  module _ (new : NewPipeline) (given : Given) (now : ℕ) where
     abbrev MakesBy : Result Layout Detail → Plan → Type 0
-    MakesBy laid plan = Makes s.next.pipeline s.next.job claims new given now laid plan
+    MakesBy laid plan = Makes s new given now laid plan
 
-    unless_once : (laid : Layout) (lacks : Bool) → let made = creation s.next.pipeline s.next.job new given now laid in MakesUnless lacks s.next.job made claims f → MakesUnless lacks s.next.job made claims g → f ≡ g
+    unless_once : (laid : Layout) (lacks : Bool) → let made = creation s.next.pipeline s.next.job new given now laid in MakesUnless lacks s s.next.job made f → MakesUnless lacks s s.next.job made g → f ≡ g
     unless_once laid true p q = p ∙ sym q
     unless_once laid false p q =
         let made = creation s.next.pipeline s.next.job new given now laid in
         let changes = creation_changes s.next.job made in
-        let its : RowsOnce (applied changes s) = once_by changes (ap (λ (h : Plan). h.1) p.2) in
-        let known_rows = subst RowsOnce (made_state s linked new given now laid) its in
-        let rows : p.0 ≡ q.0 = known_rows s.next.pipeline p.0 q.0 (first_are_rows s linked new given now laid p.0 p.1) (first_are_rows s linked new given now laid q.0 q.1) in
-        p.2 ∙ (ap (pipeline_created s.next.job made claims) rows ∙ sym q.2)
+        let t = applied changes s in
+        let boards : p.0 ≡ q.0 = once_by changes (ap (λ (h : Plan). h.1) p.2) p.0 q.0 p.1 q.1 in
+        p.2 ∙ (ap (λ (after : List BoardRow). pipeline_created s.next.job made (claims_in t after s.next.pipeline) (rows_of t after s.next.pipeline)) boards ∙ sym q.2)
 
     makes_once : (laid : Result Layout Detail) → MakesBy laid f → MakesBy laid g → f ≡ g
     makes_once (Err fault) p q = p ∙ sym q
     makes_once (Ok laid) p q = unless_once laid (lacks_numbers s.next.pipeline s.next.job (length laid.plan.jobs)) p q
 
-    creates_once : (may : Result (List ℕ) Plan) → Creates s.next.pipeline s.next.job claims new given now may f → Creates s.next.pipeline s.next.job claims new given now may g
+    creates_once : (may : Result (List ℕ) Plan) → Creates s new given now may f → Creates s new given now may g
         → (f ≡ g) ⊎ ((text : List ℕ) × (may ≡ Ok text) × PatternIn text)
     creates_once (Err refusal) p q = inl (p ∙ sym q)
     creates_once (Ok text) p q =
@@ -166,16 +158,16 @@ module _ (known : Readings) (s : State) (linked : Linked s) (f g : Plan) (once :
       let asked = asked_project (project_with s new.token) new.project in
       ⊎_elim (λ same. inl same)
       (λ w. inr (refuses (CreatePipeline new) w.0 (file_asked (project_with s new.token) new.project new w.0 asked refl w.1) w.2))
-      (creates_once new (given_by new (project_variables s new.project)) now (claims_in s board s.next.pipeline) (may_create asked new) p q)
+      (creates_once new (given_by new (project_variables s new.project)) now (may_create asked new) p q)
   does_once board (ShowPipeline query) now seed p q = inl (p ∙ sym q)
   does_once board (AskJob token) now seed p q = inl (p ∙ sym q)
   does_once board (UpdateJob update) now seed p q = inl (p ∙ sym q)
   does_once board (AppendTrace part) now seed p q = inl (p ∙ sym q)
   does_once board (ShowJob query) now seed p q = inl (p ∙ sym q)
   does_once board (ShowTrace query) now seed p q = inl (p ∙ sym q)
-  does_once board (Play query) now seed p q = inl (acts_once (waiting s board) play (permitted board is_playable M10 (found_job s query)) p q)
-  does_once board (CancelJob query) now seed p q = inl (acts_once (waiting s board) (λ j. cancel s.attempts (j ∷ [])) (permitted board is_cancellable M12 (found_job s query)) p q)
-  does_once board (RetryJob query) now seed p q = inl (acts_once (waiting s board) (λ j. retry (attempts_of s j.id) j) (permitted board is_retryable M11 (found_job s query)) p q)
+  does_once board (Play query) now seed p q = inl (acts_once play (permitted board is_playable M10 (found_job s query)) p q)
+  does_once board (CancelJob query) now seed p q = inl (acts_once (λ j. cancel s.attempts (j ∷ [])) (permitted board is_cancellable M12 (found_job s query)) p q)
+  does_once board (RetryJob query) now seed p q = inl (acts_once (λ j. retry (attempts_of s j.id) j) (permitted board is_retryable M11 (found_job s query)) p q)
   does_once board (CancelPipeline query) now seed p q = inl (cancels_once board (found_pipeline s query) p q)
   does_once board (PruneOne before) now seed p q = inl (p ∙ sym q)
 
@@ -185,13 +177,13 @@ module _ (known : Readings) (s : State) (linked : Linked s) (f g : Plan) (once :
 abbrev SameOr : State → Event → Answer → List RowChange → Answer → List RowChange → Type 0
 SameOr s e a cs b ds = ((b ≡ a) × (ds ≡ cs)) ⊎ (RefusesPattern s e a ⊎ RefusesPattern s e b)
 
-module _ (known : Readings) (s : State) (linked : Linked s) (board : List BoardRow) where
-  happens_once : (e : Event) (now : ℕ) (seed : Seed) (a b : Answer) (cs ds : List RowChange) → RowsOnce (applied cs s) → Happens s board e now seed a cs → Happens s board e now seed b ds → SameOr s e a cs b ds
+module _ (known : Readings) (s : State) (board : List BoardRow) where
+  happens_once : (e : Event) (now : ℕ) (seed : Seed) (a b : Answer) (cs ds : List RowChange) → BoardOnce (applied cs s) → Happens s board e now seed a cs → Happens s board e now seed b ds → SameOr s e a cs b ds
   happens_once (event.Request r) now seed (answer.Reply a) (answer.Reply b) cs ds once p q =
       ⊎_elim
       (λ same. inl (ap (λ (f : Plan). answer.Reply f.0) (sym same), ap (λ (f : Plan). f.1) (sym same)))
       (λ w. inr w)
-      (does_once known s linked (a, cs) (b, ds) once board r now seed p q)
+      (does_once known s (a, cs) (b, ds) once board r now seed p q)
   happens_once (event.Request r) now seed (answer.Reply a) (answer.Swept b) cs ds once p q = absurd q
   happens_once (event.Request r) now seed (answer.Swept a) b cs ds once p q = absurd p
   happens_once event.Sweep now seed (answer.Swept a) (answer.Swept b) cs ds once p q =
@@ -204,10 +196,11 @@ pub one_outcome : Readings → OneAssignment → (s t u : State) (e : Event) (no
 one_outcome known law s t u e now seed a b is first second =
     let one = one_board law is.0 s is.1 in
     let line : Past = record { before = s; event = e; now = now; seed = seed; answer = a } in
-    let once : RowsOnce (applied first.changes s) = subst RowsOnce first.state (rows_once law (line ∷ is.0) t (is.1, first)) in
+    let later = one_board law (line ∷ is.0) t (is.1, first) in
+    let once : BoardOnce (applied first.changes s) = subst BoardOnce first.state (λ xs ys are them. later.only xs are ∙ sym (later.only ys them)) in
     let boards : second.before ≡ first.before = one.only second.before second.are_before ∙ sym (one.only first.before first.are_before) in
     ⊎_elim
     (λ both. inl (both.0, second.state ∙ (ap (λ (cs : List RowChange). applied cs s) both.1 ∙ sym first.state)))
     (λ w. inr w)
-    (happens_once known s (every.held is.0 s is.1).linked first.before e now seed a b first.changes second.changes once first.happens
+    (happens_once known s first.before e now seed a b first.changes second.changes once first.happens
     (subst (λ (board : List BoardRow). Happens s board e now seed b second.changes) boards second.happens))

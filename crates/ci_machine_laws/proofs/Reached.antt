@@ -230,13 +230,13 @@ mode_shows h s query now seed i =
     let order = order_of s.modes query.project query.group in
     of_order s (After h s (event.Request r) now seed) (refuses h s r now seed i other) (faults h s r now seed i other) query order (rests h s (event.Request r) now seed (answer.Reply (mode_told query.group order)) i refl (λ n. refl))
 
-creates : (h : List Past) (s : State) (claims : List Claim) (new : NewPipeline) (now : ℕ) (seed : Seed) (plan : Plan) → Inv h s
-    → Creates s.next.pipeline s.next.job claims new (given_in s new) now (may_create (of_asked s new.token new.project) new) plan → After h s (event.Request (CreatePipeline new)) now seed plan
-creates h s claims new now seed plan i is =
+creates : (h : List Past) (s : State) (new : NewPipeline) (now : ℕ) (seed : Seed) (plan : Plan) → Inv h s
+    → Creates s new (given_in s new) now (may_create (of_asked s new.token new.project) new) plan → After h s (event.Request (CreatePipeline new)) now seed plan
+creates h s new now seed plan i is =
     let r = CreatePipeline new in
     let other : IsOther r = (λ a. refl, λ a n. refl) in
-    of_creation s (After h s (event.Request r) now seed) (refuses h s r now seed i other) (faults h s r now seed i other) claims new now plan
-    (λ project text laid rows asked has named file lays.
+    of_creation s (After h s (event.Request r) now seed) (refuses h s r now seed i other) (faults h s r now seed i other) new now plan
+    (λ project text laid claims rows asked has named file lays.
     let made = creation s.next.pipeline s.next.job new (given_in s new) now laid in
     let e = after_creation s.next.job made s in
     stands h s r now seed i other (pipeline_created s.next.job made claims rows) (ap (λ (t : State). t.attempts) e) (ap (λ (t : State). t.traces) e) (ap (λ (t : State). t.next.attempt) e)
@@ -481,7 +481,7 @@ does h s board (SetVariable new) now seed f are i is = subst (After h s (event.R
 does h s board (DeleteVariable query) now seed f are i is = subst (After h s (event.Request (DeleteVariable query)) now seed) (sym is) (removals h s query now seed i)
 does h s board (SetMode new) now seed f are i is = subst (After h s (event.Request (SetMode new)) now seed) (sym is) (modes h s new now seed i)
 does h s board (ShowMode query) now seed f are i is = subst (After h s (event.Request (ShowMode query)) now seed) (sym is) (mode_shows h s query now seed i)
-does h s board (CreatePipeline new) now seed f are i is = creates h s (claims_in s board s.next.pipeline) new now seed f i is
+does h s board (CreatePipeline new) now seed f are i is = creates h s new now seed f i is
 does h s board (ShowPipeline query) now seed f are i is = subst (After h s (event.Request (ShowPipeline query)) now seed) (sym is) (pipeline_shows h s board query now seed i)
 does h s board (AskJob token) now seed f are i is = subst (After h s (event.Request (AskJob token)) now seed) (sym is) (asks h s board token now seed are i (runner_with s token) refl)
 does h s board (UpdateJob u) now seed f are i is = subst (After h s (event.Request (UpdateJob u)) now seed) (sym is) (updates h s u now seed i (attempt_at s u.attempt) refl)

@@ -43,7 +43,7 @@ use Rattle.ci_machine_steps.specs.Plans.{Plan}
 use Rattle.ci_machine_steps.specs.Projects.{add_project}
 use Rattle.ci_machine_steps.specs.Runners.{add_runner}
 use Rattle.ci_machine.specs.Options.{plain_options}
-use Rattle.ci_machine_steps.specs.Pipelines.{given_by, Layout, merged, Creation, creation, pipeline_created}
+use Rattle.ci_machine_steps.specs.Pipelines.{given_by, Layout, merged, Creation, creation, creation_changes, pipeline_created}
 use Rattle.ci_machine_steps.specs.Grants.{ask_job}
 use Rattle.ci_machine_steps.specs.Reports.{update_job}
 use Rattle.ci_machine_steps.specs.Traces.{append_trace}
@@ -101,8 +101,12 @@ made = creation with_runner.next.pipeline with_runner.next.job pipeline given 10
 abbrev pub first_rows : List Row
 first_rows = record no_row { status = Pending } ∷ record no_row { opens = 1 } ∷ []
 
+-- the board of the state that has it
+abbrev pub first_board : List BoardRow
+first_board = (record { job = 1; row = record no_row { status = Pending } }) ∷ (record { job = 2; row = record no_row { opens = 1 } }) ∷ []
+
 abbrev pub pipeline_made : Plan
-pipeline_made = pipeline_created with_runner.next.job made (claims_in with_runner [] with_runner.next.pipeline) first_rows
+pipeline_made = pipeline_created with_runner.next.job made (claims_in (applied (creation_changes with_runner.next.job made) with_runner) first_board made.pipeline.id) first_rows
 
 abbrev pub with_pipeline : State
 with_pipeline = after pipeline_made with_runner

@@ -11,3 +11,5 @@ pub mod Repeats
 pub mod Modes
 pub mod ModeExamples
 pub mod Unchanged
+pub mod ShownExamples
+pub mod ShownAgain

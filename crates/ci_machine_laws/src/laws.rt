@@ -35,6 +35,7 @@ ghost use Rattle.ci_machine_laws.specs.Examples.{reply_text, project_added, with
 ghost use Rattle.ci_machine_laws.specs.ActExamples.{pipeline_query, board_from, pipeline_after, four, four_board, all_cancelled, cancelled_rows, cancel_marks, run_cancelled, run_cancelled_rows, five, five_board, first_retried, retried_rows, two, two_board, hand_played, played_rows, succeeded, succeeded_board, hand_retried};
 ghost use Rattle.ci_machine_laws.specs.WaitingExamples.{some_runner, tagged, waits, pause, both, answer_of, with_tags, for_project, of_a_minute, heard_at, replies_at, moments, ships, shipping, after_asking};
 ghost use Rattle.ci_machine_laws.specs.ModeExamples.{new_mode, mode_shown, prod_in, has_order, has_none, offered, three, third_is, third_tried, pairs, pairs_running, pairs_done};
+ghost use Rattle.ci_machine_laws.specs.ShownExamples.{three_rows, oldest, all_wait, second_cancelled, first_cancelled, third_done, third_retried};
 ghost use Rattle.ci_machine_laws.specs.PruneExamples.{second_day, both_done, both_board, first_pruned, second_left, second_board, second_pruned, running, waiting, with_second};
 ghost use Rattle.ci_machine_laws.specs.Pieces.{GoesBehind};
 ghost use Rattle.ci_machine_laws.specs.Unchanged.{LeadsOrStays, AreSome};
@@ -249,6 +250,27 @@ pub fn play_examples()
     ensures succeeded { AreBoard succeeded succeeded_board }
     ensures retried { Does succeeded succeeded_board (Request.RetryJob (query 1 1 (codes "p"))) 1100 seed hand_retried }
     ensures board_again { AreBoard (after hand_retried succeeded) (board_from 1 played_rows) }
+{}
+
+/// What an act on a job with a resource group answers is told of the state after it, and so is what is asked then. Three pipelines have a job each
+/// of one group, which takes the oldest first. The second waits for the first: it is cancelled, and waits no more. Where the first is cancelled,
+/// the second waits no more. The third succeeded: it is tried again, and waits for the first.
+pub fn shown_examples()
+    ensures before { AreBoard oldest all_wait }
+    ensures waits { reply_text (job_shown oldest all_wait (query 1 2 (codes "p"))) ≡ codes "{\"id\":2,\"name\":\"ship\",\"stage\":\"test\",\"status\":\"waiting_for_resource\"}" }
+    ensures second_board { AreBoard (after second_cancelled oldest) (three_rows Status.Pending Status.Canceled Status.Pending) }
+    ensures second { Does oldest all_wait (Request.CancelJob (query 1 2 (codes "p"))) 1100 seed second_cancelled }
+    ensures second_reply { reply_text second_cancelled ≡ codes "{\"id\":2,\"name\":\"ship\",\"stage\":\"test\",\"status\":\"canceled\"}" }
+    ensures second_asked { (job_shown (after second_cancelled oldest) (three_rows Status.Pending Status.Canceled Status.Pending) (query 1 2 (codes "p"))).0 ≡ second_cancelled.0 }
+    ensures first_board { AreBoard (after first_cancelled oldest) (three_rows Status.Canceled Status.Pending Status.Pending) }
+    ensures first { Does oldest all_wait (Request.CancelJob (query 1 1 (codes "p"))) 1100 seed first_cancelled }
+    ensures waits_no_more { reply_text (job_shown (after first_cancelled oldest) (three_rows Status.Canceled Status.Pending Status.Pending) (query 1 2 (codes "p"))) ≡ codes "{\"id\":2,\"name\":\"ship\",\"stage\":\"test\",\"status\":\"pending\"}" }
+    ensures third_board { AreBoard third_done (three_rows Status.Pending Status.Pending Status.Success) }
+    ensures third_before { reply_text (job_shown third_done (three_rows Status.Pending Status.Pending Status.Success) (query 1 3 (codes "p"))) ≡ codes "{\"id\":3,\"name\":\"ship\",\"stage\":\"test\",\"status\":\"success\"}" }
+    ensures retried_board { AreBoard (after third_retried third_done) all_wait }
+    ensures retried { Does third_done (three_rows Status.Pending Status.Pending Status.Success) (Request.RetryJob (query 1 3 (codes "p"))) 1100 seed third_retried }
+    ensures retried_reply { reply_text third_retried ≡ codes "{\"id\":3,\"name\":\"ship\",\"stage\":\"test\",\"status\":\"waiting_for_resource\"}" }
+    ensures retried_asked { (job_shown (after third_retried third_done) all_wait (query 1 3 (codes "p"))).0 ≡ third_retried.0 }
 {}
 
 /// Runners that are to be made, and refused in the order in which it is looked for: 33 tags, a name or a tag that isn't a name, a project that

@@ -3,10 +3,15 @@
 ghost use Rattle.std.specs.Prelude.{ℕ, ◌≡◌, codes, Some, None};
 ghost use Rattle.ci_machine.specs.declared.request.Event.{Event};
 ghost use Rattle.ci_machine.specs.declared.request.Seed.{Seed};
+ghost use Rattle.ci_machine.specs.declared.request.JobQuery.{JobQuery};
+ghost use Rattle.ci_machine.specs.declared.request.PipelineQuery.{PipelineQuery};
+ghost use Rattle.ci_machine.specs.declared.request.NewPipeline.{NewPipeline};
 ghost use Rattle.ci_machine.specs.declared.reply.Answer.{Answer};
+ghost use Rattle.ci_machine.specs.declared.reply.Reply.{Reply};
 ghost use Rattle.ci_machine.specs.State.{State};
 ghost use Rattle.ci_machine_steps.specs.Step.{Step};
 ghost use Rattle.ci_machine_steps.specs.History.{IsReached};
+ghost use Rattle.ci_machine_laws.specs.ShownAgain.{ActsOnJob, asks_for};
 ghost use Rattle.ci_machine_laws.specs.OneOutcome.{text_read, OneOutcome};
 ghost use Rattle.ci_machine_laws.specs.Examples.{with_file, new_file, by_token};
 
@@ -25,6 +30,19 @@ pub fn an_event_has_one_outcome()
     has_not_both();
     has_one_fault();
     has_one_tree();
+}
+
+/// Where a job is played, cancelled or tried again, or a pipeline is cancelled, and this isn't refused, the reply is the one that is given where the
+/// job or the pipeline is asked for next. Where a pipeline is made, its body is.
+pub fn an_act_is_shown_again()
+    ensures job { (s t u : State) (request : Request) (query : JobQuery) (now later : ℕ) (seed other : Seed) (a b : Reply) → IsReached s → ActsOnJob query request → Step s (Event.Request request) now seed (Answer.Reply a) t → a.code ≡ None
+        → Step t (Event.Request (Request.ShowJob query)) later other (Answer.Reply b) u → b ≡ a }
+    ensures pipeline { (s t u : State) (query : PipelineQuery) (now later : ℕ) (seed other : Seed) (a b : Reply) → IsReached s → Step s (Event.Request (Request.CancelPipeline query)) now seed (Answer.Reply a) t → a.code ≡ None
+        → Step t (Event.Request (Request.ShowPipeline query)) later other (Answer.Reply b) u → b ≡ a }
+    ensures made { (s t u : State) (new : NewPipeline) (now later : ℕ) (seed other : Seed) (a b : Reply) → IsReached s → Step s (Event.Request (Request.CreatePipeline new)) now seed (Answer.Reply a) t → a.code ≡ None
+        → Step t (Event.Request (Request.ShowPipeline (asks_for new s.next.pipeline))) later other (Answer.Reply b) u → b.body ≡ a.body }
+{
+    one_assignment();
 }
 
 /// Which text an event reads: of a file that is to be set its own, of a pipeline that is to be made its project's, if there is one; and of any

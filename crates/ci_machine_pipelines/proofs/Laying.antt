@@ -30,22 +30,23 @@ use Rattle.ci_graph_layout.specs.Plans.{Gives}
 use Rattle.ci_graph_layout.specs.Unmade.{unmade}
 use Rattle.ci_graph_layout.specs.declared.fault.PlanFault.{PlanFault}
 use Rattle.ci_graph_layout.specs.declared.fault.PlanFault.TheVariants as plan
-use Rattle.ci_board.specs.declared.facts.Row.{Row}
-use Rattle.ci_machine.specs.declared.records.Claim.{Claim}
 use Rattle.ci_machine.specs.declared.records.Job.{Job}
+use Rattle.ci_machine.specs.declared.records.Variable.{Variable}
+use Rattle.ci_machine.specs.declared.request.NewPipeline.{NewPipeline}
+use Rattle.ci_machine.specs.State.{State}
 use Rattle.ci_machine.specs.declared.reply.Code.TheVariants.{M15}
 use Rattle.ci_machine.specs.declared.reply.Detail.{Detail}
 use Rattle.ci_machine_steps.specs.Plans.{Plan, refused, faulted}
 use Rattle.ci_machine_steps.specs.Files.{line_fault, keyword_fault, IsRead, configures, misconfigures, lacks_tree}
 use Rattle.ci_machine_steps.specs.Pipelines as pipelines
-use Rattle.ci_machine_steps.specs.Pipelines.{IsLaidOut, misread, unplanned, new_jobs, lacks_numbers, AreFirstRows, pipeline_created, MakesUnless, Creates}
+use Rattle.ci_machine_steps.specs.Pipelines.{IsLaidOut, misread, unplanned, new_jobs, lacks_numbers, given_by, ShowsCreated, MakesUnless, Creates}
 use Rattle.ci_machine_steps.proofs.Created.{new_rise, new_length}
 use Rattle.ci_machine_steps.proofs.Sound.{ascend_from_rising}
 use Rattle.ci_machine_pipelines.specs.declared.creation.Creation.{Creation}
 use Rattle.ci_machine_pipelines.specs.declared.files.FileFault.{FileFault}
 use Rattle.ci_machine_pipelines.specs.declared.files.FileFault.TheVariants.{Memory, Fault}
 use Rattle.ci_machine_pipelines.specs.Readings.{yaml_fault, Shows}
-use Rattle.ci_machine_pipelines.specs.Creations.{Origin, creation_view, creation_of, plan_fault, LaysOut}
+use Rattle.ci_machine_pipelines.specs.Creations.{Origin, origin, creation_view, creation_of, plan_fault, LaysOut}
 
 -- ---- faults
 
@@ -135,22 +136,28 @@ module _ (text : List ℕ) (o : Origin) where
       subst (λ (js : List Job). IsStrictlySortedBy nat_cmp (map (λ j. j.id) js)) (sym (ap (λ (m : pipelines.Creation). m.jobs) made.0))
       (ascend_from_rising (λ (j : Job). j.id) (o.first_job + 0) (new_jobs o.id o.first_job 0 laid.plan.jobs) (new_rise o.id o.first_job 0 laid.plan.jobs))
 
-  -- ---- the plans of the definition
+-- ---- the plans of the definition
 
-  pub creates : (c : Creation) (claims : List Claim) (rows : List Row) (p : Plan) → LaysOut text o (Ok (Some c)) → AreFirstRows c.jobs.items c.needs.items rows → p ≡ pipeline_created o.first_job (creation_view c) claims rows
-      → Creates o.id o.first_job claims o.asked o.given o.moment (Ok text) p
-  creates c claims rows p l first is =
+module _ (s : State) (text : List ℕ) (new : NewPipeline) (vs : List Variable) (now : ℕ) where
+  abbrev start : Origin
+  start = origin s.next.pipeline s.next.job new vs now
+
+  abbrev CreatesBy : Plan → Type 0
+  CreatesBy p = Creates s new (given_by new vs) now (Ok text) p
+
+  pub creates : (c : Creation) (p : Plan) → LaysOut text start (Ok (Some c)) → ShowsCreated s s.next.job (creation_view c) p → CreatesBy p
+  creates c p l shows =
       let (laid, lays, made) = l in (
         Ok laid,
         lays,
-        subst (λ (b : Bool). MakesUnless b o.first_job (creation_of o laid) claims p) (sym made.1)
-            (subst (λ (m : pipelines.Creation). MakesUnless false o.first_job m claims p) made.0 (rows, first, is)),
+        subst (λ (b : Bool). MakesUnless b s s.next.job (creation_of start laid) p) (sym made.1)
+            (subst (λ (m : pipelines.Creation). MakesUnless false s s.next.job m p) made.0 shows),
       )
 
-  pub creates_none : (claims : List Claim) (p : Plan) → LaysOut text o (Ok None) → p ≡ refused M15 → Creates o.id o.first_job claims o.asked o.given o.moment (Ok text) p
-  creates_none claims p l is =
+  pub creates_none : (p : Plan) → LaysOut text start (Ok None) → p ≡ refused M15 → CreatesBy p
+  creates_none p l is =
       let (laid, lays, lack) = l in
-      (Ok laid, lays, subst (λ (b : Bool). MakesUnless b o.first_job (creation_of o laid) claims p) (sym lack) is)
+      (Ok laid, lays, subst (λ (b : Bool). MakesUnless b s s.next.job (creation_of start laid) p) (sym lack) is)
 
-  pub creates_fault : (detail : Detail) (claims : List Claim) (p : Plan) → LaysOut text o (Err (Fault detail)) → p ≡ faulted detail → Creates o.id o.first_job claims o.asked o.given o.moment (Ok text) p
-  creates_fault detail claims p l is = (Err detail, l, is)
+  pub creates_fault : (detail : Detail) (p : Plan) → LaysOut text start (Err (Fault detail)) → p ≡ faulted detail → CreatesBy p
+  creates_fault detail p l is = (Err detail, l, is)

@@ -1,20 +1,21 @@
 //! Laws of what is answered. These functions do nothing: what they ensure is what the checker proves.
 
 ghost use Rattle.std.specs.Prelude.{◌≡◌, ℕ, List, Some, None, Ok, Err};
-ghost use Rattle.ci_board.specs.declared.facts.Row.{Row};
-ghost use Rattle.ci_machine.specs.declared.records.Claim.{Claim};
+ghost use Rattle.ci_machine.specs.State.{State};
+ghost use Rattle.ci_machine.specs.declared.records.Variable.{Variable};
+ghost use Rattle.ci_machine.specs.declared.request.NewPipeline.{NewPipeline};
 ghost use Rattle.ci_machine.specs.declared.reply.Code.TheVariants.{M15};
 ghost use Rattle.ci_machine.specs.declared.reply.Detail.{Detail};
 ghost use Rattle.ci_machine_steps.specs.Plans.{Plan, refused, faulted};
-ghost use Rattle.ci_machine_steps.specs.Pipelines.{AreFirstRows, pipeline_created, Creates};
+ghost use Rattle.ci_machine_steps.specs.Pipelines.{given_by, ShowsCreated, Creates};
 ghost use Rattle.ci_machine_pipelines.specs.declared.creation.Creation.{Creation};
 ghost use Rattle.ci_machine_pipelines.specs.declared.files.FileFault.TheVariants.{Fault};
-ghost use Rattle.ci_machine_pipelines.specs.Creations.{Origin, LaysOut, creation_view};
+ghost use Rattle.ci_machine_pipelines.specs.Creations.{origin, LaysOut, creation_view};
 
-/// What `lay_out` answers leads to the plans of the event's definition: its records, with the rows that its jobs first have, make
-/// the pipeline; where it has none, a number is over the limit (M15); and its fault is that of the file (M14).
+/// What `lay_out` answers, with the next numbers of a state, leads to the plans of the event's definition: its records, shown as they stand in
+/// the state after, make the pipeline; where it has none, a number is over the limit (M15); and its fault is that of the file (M14).
 pub fn laid_out_creates()
-    ensures made { (text : List ℕ) (o : Origin) (c : Creation) (claims : List Claim) (rows : List Row) (plan : Plan) → LaysOut text o (Ok (Some c)) → AreFirstRows c.jobs.items c.needs.items rows → plan ≡ pipeline_created o.first_job (creation_view c) claims rows → Creates o.id o.first_job claims o.asked o.given o.moment (Ok text) plan }
-    ensures lacking { (text : List ℕ) (o : Origin) (claims : List Claim) (plan : Plan) → LaysOut text o (Ok None) → plan ≡ refused M15 → Creates o.id o.first_job claims o.asked o.given o.moment (Ok text) plan }
-    ensures faulty { (text : List ℕ) (o : Origin) (detail : Detail) (claims : List Claim) (plan : Plan) → LaysOut text o (Err (Fault detail)) → plan ≡ faulted detail → Creates o.id o.first_job claims o.asked o.given o.moment (Ok text) plan }
+    ensures made { (s : State) (text : List ℕ) (new : NewPipeline) (vs : List Variable) (now : ℕ) (c : Creation) (plan : Plan) → LaysOut text (origin s.next.pipeline s.next.job new vs now) (Ok (Some c)) → ShowsCreated s s.next.job (creation_view c) plan → Creates s new (given_by new vs) now (Ok text) plan }
+    ensures lacking { (s : State) (text : List ℕ) (new : NewPipeline) (vs : List Variable) (now : ℕ) (plan : Plan) → LaysOut text (origin s.next.pipeline s.next.job new vs now) (Ok None) → plan ≡ refused M15 → Creates s new (given_by new vs) now (Ok text) plan }
+    ensures faulty { (s : State) (text : List ℕ) (new : NewPipeline) (vs : List Variable) (now : ℕ) (detail : Detail) (plan : Plan) → LaysOut text (origin s.next.pipeline s.next.job new vs now) (Err (Fault detail)) → plan ≡ faulted detail → Creates s new (given_by new vs) now (Ok text) plan }
 {}

@@ -58,7 +58,7 @@ marked_id Play s j = refl
 marked_id Retry s j = refl
 marked_id Cancel s j = refl
 
-marked_pipeline : (act : Act) (s : State) (j : Job) → (marked act s j).pipeline ≡ j.pipeline
+pub marked_pipeline : (act : Act) (s : State) (j : Job) → (marked act s j).pipeline ≡ j.pipeline
 marked_pipeline Play s j = refl
 marked_pipeline Retry s j = refl
 marked_pipeline Cancel s j = refl
@@ -258,7 +258,7 @@ module _ (s : State) (act : Act) (p : ℕ) (test : Job → Bool) (sound : Sound 
       (cases_Bool (test j))
 
   -- and one of another pipeline is none of them
-  outside : (q : ℕ) → (p ≡ q → ⊥) → (j : Job) → Has j (jobs_of s q) → is_among (map job_id done_to) j.id ≡ false
+  pub outside : (q : ℕ) → (p ≡ q → ⊥) → (j : Job) → Has j (jobs_of s q) → is_among (map job_id done_to) j.id ≡ false
   outside q d j k =
       ⊎_elim
       (λ e. let w = has_among job_id j.id done_to e in

@@ -4,21 +4,21 @@ use Rattle.std.proofs.Common.{refl, sym, ap, subst, ◌∙◌, inl}
 use Rattle.std.proofs.lemmas.Bool.{cond-true}
 use Rattle.std.proofs.lemmas.List.{get_or-map, length-map}
 use Rattle.ci_board.specs.declared.facts.Row.{Row}
-use Rattle.ci_board.specs.Rows.{row_at, statuses}
+use Rattle.ci_board.specs.Rows.{no_row, row_at}
 use Rattle.ci_board.specs.declared.facts.Status.{Status}
 use Rattle.ci_board.specs.declared.facts.Status.TheVariants as status
 use Rattle.ci_machine.specs.declared.records.Pipeline.{Pipeline}
 use Rattle.ci_machine.specs.declared.records.Job.{Job}
 use Rattle.ci_machine.specs.declared.records.BoardRow.{BoardRow}
 use Rattle.ci_machine.specs.declared.records.Claim.{Claim}
-use Rattle.ci_machine.specs.declared.records.WaitingJob.{WaitingJob}
 use Rattle.ci_machine.specs.State.{State}
-use Rattle.ci_machine.specs.Groups.{claims_on}
-use Rattle.ci_machine.specs.Waiting.{groups_with}
-use Rattle.ci_machine.specs.Statuses.{jobs_of, numbers_of, place_in, facts_of, status_for}
+use Rattle.ci_machine.specs.Kept.{put_rows}
+use Rattle.ci_machine.specs.Waiting.{claims_in}
+use Rattle.ci_machine.specs.Statuses.{jobs_of, numbers_of, facts_of, row_for, status_for}
 use Rattle.ci_machine.specs.declared.change.RowChange.{RowChange}
 use Rattle.ci_machine.specs.declared.reply.Reply.{Reply}
 use Rattle.ci_machine.specs.Bodies.{printed_status, job_data, jobs_data}
+use Rattle.ci_machine_steps.specs.Shows.{pipeline_shown}
 use Rattle.ci_machine_steps.specs.Acts.{ShowsJobAfter, ShowsPipelineAfter}
 use Rattle.ci_machine.proofs.Keyed.{Has, has_from_all}
 use Rattle.ci_machine_steps.proofs.Sound.{Sound}
@@ -27,10 +27,9 @@ use Rattle.ci_machine_statuses.specs.declared.act.Act.{Act}
 use Rattle.ci_machine_statuses.specs.declared.act.Act.TheVariants.{Play, Retry, Cancel}
 use Rattle.ci_machine_statuses.specs.declared.outcome.Outcome.{Outcome}
 use Rattle.ci_machine_statuses.specs.Acts.{is_permitted, marked, act_changes, is_acted_on, acted_jobs, acted_state, shows_job_by, shows_pipeline_by, IsOutcome}
-use Rattle.ci_machine_statuses.proofs.Positions.{place_at}
-use Rattle.ci_machine_statuses.proofs.Joint.{numbers_rise}
 use Rattle.ci_machine_statuses.proofs.Puts.{cons_same}
-use Rattle.ci_machine_statuses.proofs.ActFacts.{after_is, within, of_job, jobs_after, keeps, all_keep, marked_part}
+use Rattle.ci_machine_statuses.proofs.ActLines.{own_rows, rows_after}
+use Rattle.ci_machine_statuses.proofs.ActFacts.{after_is, of_job, jobs_after, keeps, all_keep, marked_part}
 use Rattle.ci_machine_statuses.proofs.ActPlaces.{one_acted}
 
 -- ---- one job
@@ -47,7 +46,7 @@ one_place js [] job within e = absurd (cc)
 one_place js (i ∷ []) job within e = record { place = i; only = refl; there = within i (inl refl); is = cc }
 one_place js (i ∷ (k ∷ ks)) job within e = absurd (cc)
 
-module _ (act : Act) (s : State) (board : List BoardRow) (job : Job) (o : Outcome) (waiting : List WaitingJob) (sound : Sound s) (has : Has job s.jobs) (permitted : is_permitted act (status_for board job.id) ≡ true)
+module _ (act : Act) (s : State) (board : List BoardRow) (job : Job) (o : Outcome) (sound : Sound s) (has : Has job s.jobs) (permitted : is_permitted act (status_for board job.id) ≡ true)
     (outcome : IsOutcome act (Some job.id) s board job.pipeline o) where
   abbrev p : ℕ
   p = job.pipeline
@@ -61,21 +60,23 @@ module _ (act : Act) (s : State) (board : List BoardRow) (job : Job) (o : Outcom
   at : IsOne (jobs_of s p) o.places.items job
   at = one_place (jobs_of s p) o.places.items job (λ i k. has_from_all (λ n. n < length (jobs_of s p)) i o.places.items outcome.within k) (outcome.jobs job ∙ alone)
 
-  place_is : place_in (numbers_of (acted_state act (Some job.id) s board p) p) job.id ≡ at.place
-  place_is =
+  abbrev after : List BoardRow
+  after = put_rows o.changed.items board
+
+  row_is : row_at o.rows.items at.place ≡ row_for after job.id
+  row_is =
       let number : slice_index_or (numbers_of s p) at.place 0 ≡ job.id = get_or-map (λ (j : Job). j.id) (jobs_of s p) at.place job 0 at.there ∙ ap (λ (j : Job). j.id) at.is in
       let there : at.place < length (numbers_of s p) = subst (λ n. at.place < n) (sym (length-map (jobs_of s p) (λ (j : Job). j.id))) at.there in
-      ap (λ (w : State). place_in (numbers_of w p) job.id) (after_is s act p test sound)
-      ∙ (ap (λ (ns : List ℕ). place_in ns job.id) ((within s act p test sound).its_numbers p)
-      ∙ (ap (place_in (numbers_of s p)) (sym number) ∙ place_at 0 (numbers_of s p) at.place (numbers_rise s p sound) there))
+      ap (λ (rows : List Row). row_at rows at.place) (sym (own_rows act (Some job.id) s board p o sound outcome))
+      ∙ (get_or-map (row_for after) (numbers_of s p) at.place 0 no_row there ∙ ap (row_for after) number)
 
-  pub shows_job : (i : ℕ) × ((o.places.items ≡ i ∷ []) × ShowsJobAfter s waiting job (act_changes act s (job ∷ [])) (shows_job_by s waiting (act_changes act s (job ∷ [])) job (row_at o.rows.items i).status))
+  pub shows_job : (i : ℕ) × ((o.places.items ≡ i ∷ []) × ShowsJobAfter s job (act_changes act s (job ∷ [])) (shows_job_by s after (act_changes act s (job ∷ [])) job (row_at o.rows.items i).status))
   shows_job = (
     at.place,
     (
       at.only,
-      subst (λ (js : List Job). ShowsJobAfter s waiting job (act_changes act s js) (shows_job_by s waiting (act_changes act s js) job (row_at o.rows.items at.place).status)) alone
-          (o.rows.items, outcome.rows, ap (λ n. shows_job_by s waiting (act_changes act s (acted_jobs act (Some job.id) s board p)) job (statuses o.rows.items n)) (sym place_is)),
+      subst (λ (js : List Job). ShowsJobAfter s job (act_changes act s js) (shows_job_by s after (act_changes act s js) job (row_at o.rows.items at.place).status)) alone
+          (after, outcome.board, ap (λ (r : Row). shows_job_by s after (act_changes act s (acted_jobs act (Some job.id) s board p)) job r.status) row_is),
     ),
   )
 
@@ -119,7 +120,7 @@ same_shown claims project F same [] rows = refl
 same_shown claims project F same (j ∷ js) [] = refl
 same_shown claims project F same (j ∷ js) (r ∷ rows) = cons_same (same r.status j) (same_shown claims project F same js rows)
 
-module _ (act : Act) (s : State) (board : List BoardRow) (q : Pipeline) (o : Outcome) (waiting : List WaitingJob) (sound : Sound s) (outcome : IsOutcome act None s board q.id o) where
+module _ (act : Act) (s : State) (board : List BoardRow) (q : Pipeline) (o : Outcome) (sound : Sound s) (outcome : IsOutcome act None s board q.id o) where
   abbrev wide : Job → Bool
   wide = is_acted_on act None board
 
@@ -132,8 +133,11 @@ module _ (act : Act) (s : State) (board : List BoardRow) (q : Pipeline) (o : Out
   new_jobs : jobs_of new q.id ≡ map (of_job s act q.id wide sound) (jobs_of s q.id)
   new_jobs = ap (λ (w : State). jobs_of w q.id) (after_is s act q.id wide sound) ∙ jobs_after s act q.id wide sound q.id
 
+  abbrev shown : List BoardRow
+  shown = put_rows o.changed.items board
+
   abbrev claims : List Claim
-  claims = claims_on (groups_with new waiting) q.id
+  claims = claims_in new shown q.id
 
   shown_same : jobs_data claims q.project (jobs_of new q.id) o.rows.items ≡ jobs_data claims q.project (jobs_of s q.id) o.rows.items
   shown_same =
@@ -143,6 +147,11 @@ module _ (act : Act) (s : State) (board : List BoardRow) (q : Pipeline) (o : Out
   parts_same : map (λ (j : Job). j.options.part) (jobs_of new q.id) ≡ map (λ (j : Job). j.options.part) (jobs_of s q.id)
   parts_same = ap (map (λ (j : Job). j.options.part)) new_jobs ∙ all_keep s act q.id wide sound (λ (j : Job). j.options.part) (marked_part act s) (jobs_of s q.id)
 
-  pub shows_pipeline : ShowsPipelineAfter s waiting q changes (shows_pipeline_by s waiting changes q (jobs_of s q.id) o.facts.items o.rows.items)
-  shows_pipeline =
-      (o.rows.items, outcome.rows, ap (λ (r : Reply). (r, changes)) (shown_alike q claims claims (jobs_of s q.id) (jobs_of new q.id) o.facts.items (facts_of new q.id) o.rows.items (sym shown_same) (sym parts_same) outcome.facts))
+  pub shows_pipeline : ShowsPipelineAfter s q changes (shows_pipeline_by s shown changes q (jobs_of s q.id) o.facts.items o.rows.items)
+  shows_pipeline = (
+    shown,
+    outcome.board,
+    ap (λ (r : Reply). (r, changes))
+        (shown_alike q claims claims (jobs_of s q.id) (jobs_of new q.id) o.facts.items (facts_of new q.id) o.rows.items (sym shown_same) (sym parts_same) outcome.facts
+        ∙ ap (λ (rows : List Row). (pipeline_shown q claims (jobs_of new q.id) (facts_of new q.id) rows).0) (sym (rows_after act None s board q.id o sound outcome))),
+  )

@@ -1,5 +1,5 @@
 -- A pipeline is made: no group moves, and it is the last of the pipelines, unfinished or not.
-use Rattle.std.specs.Prelude.{◌≡◌, ℕ, ◌<◌, Bool, true, false, ◌==◌, List, [], ◌∷◌, ◌++◌, length, map, filter, find, replicate, Option, Some, option_map, option_to_list, Ok}
+use Rattle.std.specs.Prelude.{◌≡◌, ℕ, ◌<◌, Bool, true, false, List, [], ◌∷◌, ◌++◌, length, map, filter, replicate, option_to_list, Ok}
 use Rattle.std.proofs.Common.{refl, sym, ap, subst, ◌∙◌, arith}
 use Rattle.std.proofs.lemmas.Bool.{cond-true, cond-false, false≢true}
 use Rattle.std.proofs.lemmas.List.{append-nil, map-append}
@@ -7,7 +7,6 @@ use Rattle.std.proofs.lemmas.List.Elements.{filter-append}
 use Rattle.ci_graph_layout.specs.Inclusion.{Given}
 use Rattle.ci_board.specs.Rows.{no_facts}
 use Rattle.ci_board.specs.declared.facts.Status.{Status}
-use Rattle.ci_machine.specs.declared.records.Attempt.{Attempt}
 use Rattle.ci_machine.specs.declared.records.BoardRow.{BoardRow}
 use Rattle.ci_machine.specs.declared.records.Job.{Job}
 use Rattle.ci_machine.specs.declared.records.Pipeline.{Pipeline}
@@ -19,18 +18,15 @@ use Rattle.ci_machine.specs.Statuses.{AreBoard}
 use Rattle.ci_machine.specs.Bodies.{status_of_jobs}
 use Rattle.ci_machine_steps.specs.Pipelines.{Layout, IsLaidOut, Creation, creation, creation_changes}
 use Rattle.ci_machine.specs.Redundant.{is_unfinished}
-use Rattle.ci_machine.specs.Lookups.{job_at, pipeline_at, project_or_none, queued}
-use Rattle.ci_machine.specs.Holders.{queued_at, group_held, held_by}
 use Rattle.ci_machine.specs.Indexes.{is_open_in, unfinished_in, AreIndexes}
-use Rattle.ci_machine.proofs.Keyed.{Has, find_has, filter_same}
-use Rattle.ci_machine_steps.proofs.Created.{after_creation}
+use Rattle.ci_machine.proofs.Keyed.{Has, filter_same}
 use Rattle.ci_machine_steps.proofs.Sound.{Sound}
 use Rattle.ci_machine_statuses.specs.Changes.{IsMade}
 use Rattle.ci_machine_statuses.proofs.Creations as creations
+use Rattle.ci_machine_statuses.proofs.CreationLines as lines
 use Rattle.ci_machine_statuses.proofs.Made.{its_jobs, its_facts, its_rows, other_jobs, other_facts, other_rows}
 use Rattle.ci_machine_statuses.proofs.Puts.{put_last}
 use Rattle.ci_machine_statuses.specs.HolderChanges.{opened}
-use Rattle.ci_machine_statuses.proofs.HeldLists.{find_left}
 use Rattle.ci_machine_statuses.proofs.Holding.{Ends, rows_stay}
 use Rattle.ci_machine_statuses.proofs.HeldOpening.{number, passing, has_passing, turned_rows, all_turned, same_status}
 
@@ -59,28 +55,14 @@ module _ (k : Kept) (sound : Sound k.state) (are : AreBoard k.state k.board) (in
   made = creations.made s new given now text laid sound lays c refl
 
   pipelines : t.pipelines ≡ s.pipelines ++ c.pipeline ∷ []
-  pipelines = ap (λ (w : State). w.pipelines) (after_creation s.next.job c s) ∙ put_last (λ (q : Pipeline). q.id) c.pipeline s.pipelines (λ q h. sound.pipeline_below q h)
-
-  same_held : (a : Attempt) → Has a s.attempts → held_by a.id (queued_at t a.job) ≡ held_by a.id (queued_at s a.job)
-  same_held a h =
-      let w = sound.attempt_job a h in
-      let j = w.0 in
-      let v = sound.job_pipeline j w.1.0 in
-      let was : job_at s a.job ≡ Some j = subst (λ m. job_at s m ≡ Some j) w.1.1 (find_has (λ (i : Job). i.id) j 0 s.jobs sound.jobs w.1.0) in
-      let is : job_at t a.job ≡ Some j = ap (find (λ (i : Job). i.id == a.job)) made.all_jobs ∙ find_left (λ (i : Job). i.id == a.job) j s.jobs c.jobs was in
-      let p_was : pipeline_at s j.pipeline ≡ Some v.0 = subst (λ m. pipeline_at s m ≡ Some v.0) v.1.1 (find_has (λ (q : Pipeline). q.id) v.0 0 s.pipelines sound.pipelines v.1.0) in
-      let p_is : pipeline_at t j.pipeline ≡ Some v.0
-      = ap (find (λ (q : Pipeline). q.id == j.pipeline)) pipelines ∙ find_left (λ (q : Pipeline). q.id == j.pipeline) v.0 s.pipelines (c.pipeline ∷ []) p_was in
-      ap (λ (o : Option Job). held_by a.id (option_map (queued t) o)) is
-      ∙ (ap (λ (o : Option Pipeline). group_held a.id (project_or_none o) j.options.resource_group) (p_is ∙ sym p_was)
-      ∙ sym (ap (λ (o : Option Job). held_by a.id (option_map (queued s) o)) was))
+  pipelines = lines.pipelines s sound new given now text laid lays
 
   ends : Ends s t (λ a. false)
   ends = record {
     lives = λ a e. absurd (false≢true e);
     stay = λ a h live d. record { attempt = a; has = subst (Has a) (sym made.same_attempts) h; id = refl; job = refl; live = live };
     were = λ b h live. record { attempt = b; has = subst (Has b) made.same_attempts h; id = refl; job = refl; live = live; left = refl };
-    held = λ a h live. same_held a h;
+    held = λ a h live. lines.same_held s sound new given now text laid lays a h;
   }
 
   module _ (rows : List BoardRow) (keys : map (λ r. r.job) rows ≡ map (λ j. j.id) c.jobs) where

@@ -13,6 +13,8 @@ pub mod There
 pub mod Settled
 pub mod Ends
 pub mod ActPlaces
+pub mod Lines
+pub mod ActLines
 pub mod ActShows
 pub mod ActRecords
 pub mod Stays
@@ -30,4 +32,5 @@ pub mod Pruning
 pub mod HeldChanged
 pub mod HeldEnds
 pub mod HeldActs
+pub mod CreationLines
 pub mod HeldCreations

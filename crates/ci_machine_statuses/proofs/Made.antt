@@ -150,6 +150,9 @@ module _ (s t : State) (board : List BoardRow) (p : ℕ) (jobs : List Job) (need
 
     -- ---- the others
 
+    pub old_rows : (j : Job) → Has j s.jobs → row_for after j.id ≡ row_for board j.id
+    old_rows j h = others_stay rows board j.id (λ r k e. let x : s.next.job ≤ r.job = rising_from job_of r s.next.job rows rows_rise k in let y : j.id < s.next.job = sound.job_below j h in omega arith)
+
     module _ (q : ℕ) (d : p ≡ q → ⊥) where
       pub other_jobs : jobs_of t q ≡ jobs_of s q
       other_jobs =

@@ -19,9 +19,7 @@ use Rattle.ci_machine.specs.Kept.{put_rows}
 use Rattle.ci_machine.specs.Statuses.{jobs_of, numbers_of, attempts_of, facts_in, facts_of, rows_of, status_for, AreRowsOf, AreBoard}
 use Rattle.ci_machine.specs.declared.records.Pipeline.{Pipeline}
 use Rattle.ci_machine.specs.Lookups.{queued}
-use Rattle.ci_machine.specs.declared.records.WaitingJob.{WaitingJob}
-use Rattle.ci_machine.specs.Groups.{claims_on}
-use Rattle.ci_machine.specs.Waiting.{groups_with}
+use Rattle.ci_machine.specs.Waiting.{claims_in}
 use Rattle.ci_machine_steps.specs.Plans.{Plan}
 use Rattle.ci_machine_steps.specs.Shows.{job_shown, pipeline_shown}
 use Rattle.ci_machine_steps.specs.Plays.{is_playable}
@@ -101,14 +99,13 @@ facts_change act facts place = record { position = place; facts = acted act (fac
 
 -- ---- what is shown
 
--- These changes, and the reply that shows the job with this status, where the groups are held that are held after them and have the modes
--- that they have then, and these jobs wait.
-abbrev pub shows_job_by : State → List WaitingJob → List RowChange → Job → Status → Plan
-shows_job_by s waiting changes job status = let t = applied changes s in ((job_shown (claims_on (groups_with t waiting) job.pipeline) (queued t job).project job status).0, changes)
+-- these changes, and the reply that shows the job with this status, where the state after them has this board
+abbrev pub shows_job_by : State → List BoardRow → List RowChange → Job → Status → Plan
+shows_job_by s after changes job status = let t = applied changes s in ((job_shown (claims_in t after job.pipeline) (queued t job).project job status).0, changes)
 
 -- and the one that shows the pipeline with these jobs, facts and rows
-abbrev pub shows_pipeline_by : State → List WaitingJob → List RowChange → Pipeline → List Job → List Facts → List Row → Plan
-shows_pipeline_by s waiting changes p jobs facts rows = let t = applied changes s in ((pipeline_shown p (claims_on (groups_with t waiting) p.id) jobs facts rows).0, changes)
+abbrev pub shows_pipeline_by : State → List BoardRow → List RowChange → Pipeline → List Job → List Facts → List Row → Plan
+shows_pipeline_by s after changes p jobs facts rows = let t = applied changes s in ((pipeline_shown p (claims_in t after p.id) jobs facts rows).0, changes)
 
 -- What becomes of a pipeline: to which of its jobs it is done, their facts and rows after it, and the rows that are put,
 -- which are those that differ.

@@ -1,6 +1,6 @@
 //! How the rows stay right under the changes of a state.
 
-ghost use Rattle.std.specs.Prelude.{◌≡◌, ◌<◌, ◌++◌, ◌==◌, ℕ, Bool, true, List, [], ◌∷◌, length, map, filter, if◌then◌else◌, All, Contains, Some, None, Ok};
+ghost use Rattle.std.specs.Prelude.{◌≡◌, ◌<◌, ◌++◌, ◌==◌, ℕ, Bool, true, List, [], ◌∷◌, length, map, filter, if◌then◌else◌, All, Contains, Option, Some, None, Ok};
 ghost use Rattle.std.specs.List.{AllByRecursion};
 ghost use Rattle.ci_values.specs.declared.attempts.AttemptState.TheVariants.{Live};
 ghost use Rattle.ci_board.specs.declared.facts.Row.{Row};
@@ -15,7 +15,9 @@ ghost use Rattle.ci_machine.specs.declared.change.Counter.TheVariants as counter
 ghost use Rattle.ci_machine.specs.declared.change.RowChange.{RowChange};
 ghost use Rattle.ci_machine.specs.declared.request.NewPipeline.{NewPipeline};
 ghost use Rattle.ci_machine.specs.State.{State, without_all, applied};
+ghost use Rattle.ci_machine.specs.Groups.{claims_on};
 ghost use Rattle.ci_machine.specs.Kept.{put_rows};
+ghost use Rattle.ci_machine.specs.Waiting.{waiting, groups_with, claims_in};
 ghost use Rattle.ci_machine.specs.Statuses.{jobs_of, numbers_of, attempts_of, graph_of, facts_of, rows_of, row_for, status_for, AreRowsOf, AreBoard};
 ghost use Rattle.ci_machine.specs.declared.records.Pipeline.{Pipeline};
 ghost use Rattle.ci_machine_steps.specs.Acts.{ShowsJobAfter, ShowsPipelineAfter};
@@ -24,7 +26,6 @@ ghost use Rattle.ci_machine_steps.specs.Retries.{retry};
 ghost use Rattle.ci_machine_steps.specs.Prunes.{pipeline_goes, prune};
 ghost use Rattle.ci_machine_steps.specs.Cancels.{cancellable_jobs, cancel};
 ghost use Rattle.ci_machine_steps.specs.Sound.{IsSound};
-ghost use Rattle.ci_machine.specs.declared.records.WaitingJob.{WaitingJob};
 ghost use Rattle.ci_machine_steps.specs.Step.{is_pending, queue, queued};
 ghost use Rattle.ci_machine.specs.Ranges.{is_within, attempts_within, row_at, pending_after};
 ghost use Rattle.ci_machine_steps.specs.Plans.{numbered};
@@ -33,7 +34,7 @@ ghost use Rattle.ci_machine_steps.specs.Pipelines.{Layout, IsLaidOut, Creation, 
 ghost use Rattle.ci_machine_statuses.specs.Boards.{changed_rows};
 ghost use Rattle.ci_machine_statuses.specs.Lookups.{AreRecords};
 ghost use Rattle.ci_machine_statuses.specs.Changes.{IsWithin, HaveSameFacts, LeavesStatuses, IsMade, started_row};
-ghost use Rattle.ci_machine_statuses.specs.Acts.{is_permitted, act_changes, facts_acted, acted_jobs, shows_job_by, shows_pipeline_by, IsOutcome};
+ghost use Rattle.ci_machine_statuses.specs.Acts.{is_permitted, act_changes, facts_acted, acted_jobs, acted_state, shows_job_by, shows_pipeline_by, IsOutcome};
 ghost use Rattle.ci_machine_statuses.specs.Pages.{queue_behind, end_of_page, queued_at};
 
 use crate::act::Act;
@@ -87,13 +88,19 @@ pub fn acts_are_of_records()
         → act_changes Act.Cancel s chosen ≡ cancel attempts chosen }
 {}
 
-/// What an outcome says is what the machine shows after it, where the groups are held that are held then, and any jobs wait: the job that
-/// was asked for, at its one place; and the pipeline with its jobs.
+/// What an outcome says is what the machine shows after it: the job that was asked for, at its one place; and the pipeline with its jobs.
 pub fn outcomes_are_shown()
-    ensures job { (act : Act) (s : State) (waiting : List WaitingJob) (board : List BoardRow) (job : Job) (o : Outcome) → IsSound s → Contains s.jobs job → is_permitted act (status_for board job.id) ≡ true → IsOutcome act (Some job.id) s board job.pipeline o
-        → (i : ℕ) × ((o.places.items ≡ i ∷ []) × ShowsJobAfter s waiting job (act_changes act s (job ∷ [])) (shows_job_by s waiting (act_changes act s (job ∷ [])) job (row_of o.rows.items i).status)) }
-    ensures pipeline { (act : Act) (s : State) (waiting : List WaitingJob) (board : List BoardRow) (p : Pipeline) (o : Outcome) → IsSound s → IsOutcome act None s board p.id o
-        → ShowsPipelineAfter s waiting p (act_changes act s (acted_jobs act None s board p.id)) (shows_pipeline_by s waiting (act_changes act s (acted_jobs act None s board p.id)) p (jobs_of s p.id) o.facts.items o.rows.items) }
+    ensures job { (act : Act) (s : State) (board : List BoardRow) (job : Job) (o : Outcome) → IsSound s → Contains s.jobs job → is_permitted act (status_for board job.id) ≡ true → IsOutcome act (Some job.id) s board job.pipeline o
+        → (i : ℕ) × ((o.places.items ≡ i ∷ []) × ShowsJobAfter s job (act_changes act s (job ∷ [])) (shows_job_by s (put_rows o.changed.items board) (act_changes act s (job ∷ [])) job (row_of o.rows.items i).status)) }
+    ensures pipeline { (act : Act) (s : State) (board : List BoardRow) (p : Pipeline) (o : Outcome) → IsSound s → IsOutcome act None s board p.id o
+        → ShowsPipelineAfter s p (act_changes act s (acted_jobs act None s board p.id)) (shows_pipeline_by s (put_rows o.changed.items board) (act_changes act s (acted_jobs act None s board p.id)) p (jobs_of s p.id) o.facts.items o.rows.items) }
+{}
+
+/// The groups for which the jobs of a pipeline must wait after an act are those that are held then, and those in which others went first before: no
+/// job goes before those of its own pipeline, and those of other pipelines stay as they are.
+pub fn acts_leave_lines()
+    ensures { (act : Act) (only : Option ℕ) (s : State) (board : List BoardRow) (pipeline : ℕ) (o : Outcome) → IsSound s → IsOutcome act only s board pipeline o
+        → claims_in (acted_state act only s board pipeline) (put_rows o.changed.items board) pipeline ≡ claims_on (groups_with (acted_state act only s board pipeline) (waiting s board)) pipeline }
 {}
 
 /// Where one job is asked for, it is done to this one, or to none if its status doesn't permit it; all jobs of a pipeline that
@@ -108,6 +115,17 @@ pub fn created_is_made()
     ensures { (s : State) (new : NewPipeline) (given : Given) (now : ℕ) (text : List ℕ) (laid : Layout) (made : Creation) → IsSound s → IsLaidOut text given (Ok laid)
         → made ≡ creation s.next.pipeline s.next.job new given now laid
         → IsMade s (applied (creation_changes s.next.job made) s) s.next.pipeline made.jobs made.needs }
+{}
+
+/// Where a pipeline is created and rows of its jobs are put, its jobs have these rows, and for the same groups its jobs must wait as before: no group
+/// is held that was not, no job goes before those of its own pipeline, and those of other pipelines stay as they are.
+pub fn creation_is_shown()
+    ensures rows { (s : State) (board : List BoardRow) (new : NewPipeline) (given : Given) (now : ℕ) (text : List ℕ) (laid : Layout) (made : Creation) (rows : List BoardRow) → IsSound s → AreBoard s board → IsLaidOut text given (Ok laid)
+        → made ≡ creation s.next.pipeline s.next.job new given now laid → map (λ r. r.job) rows ≡ map (λ j. j.id) made.jobs
+        → rows_of (applied (creation_changes s.next.job made) s) (put_rows rows board) made.pipeline.id ≡ map (λ r. r.row) rows }
+    ensures claims { (s : State) (board : List BoardRow) (new : NewPipeline) (given : Given) (now : ℕ) (text : List ℕ) (laid : Layout) (made : Creation) (rows : List BoardRow) → IsSound s → AreBoard s board → IsLaidOut text given (Ok laid)
+        → made ≡ creation s.next.pipeline s.next.job new given now laid → map (λ r. r.job) rows ≡ map (λ j. j.id) made.jobs
+        → claims_in (applied (creation_changes s.next.job made) s) (put_rows rows board) made.pipeline.id ≡ claims_in s board made.pipeline.id }
 {}
 
 /// Where a pipeline goes, the rows of its jobs go too, and all are right.

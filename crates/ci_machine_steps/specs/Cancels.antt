@@ -16,8 +16,6 @@ use Rattle.ci_machine.specs.declared.reply.Code.TheVariants.{M12}
 use Rattle.ci_machine.specs.State.{State}
 use Rattle.ci_machine.specs.Statuses.{jobs_of, status_for}
 use Rattle.ci_machine.specs.Leases.{is_live}
-use Rattle.ci_machine.specs.declared.records.WaitingJob.{WaitingJob}
-use Rattle.ci_machine.specs.Waiting.{waiting}
 use Rattle.ci_machine_steps.specs.Plans.{Plan, refused}
 use Rattle.ci_machine_steps.specs.Acts.{ShowsPipelineAfter}
 
@@ -49,11 +47,11 @@ abbrev pub cancel : List Attempt → List Job → List RowChange
 cancel attempts jobs = map (λ j. Put (row.Job (cancelled_job j))) jobs ++ map (λ a. Put (row.Attempt (cancelled_attempt a))) (filter (is_lease_on jobs) attempts)
 
 -- these jobs of the pipeline are cancelled, if there are any
-abbrev pub CancelsSome : State → List WaitingJob → Pipeline → List Job → Plan → Type 0
-CancelsSome s waiting p [] plan = plan ≡ refused M12
-CancelsSome s waiting p (j ∷ js) plan = ShowsPipelineAfter s waiting p (cancel s.attempts (j ∷ js)) plan
+abbrev pub CancelsSome : State → Pipeline → List Job → Plan → Type 0
+CancelsSome s p [] plan = plan ≡ refused M12
+CancelsSome s p (j ∷ js) plan = ShowsPipelineAfter s p (cancel s.attempts (j ∷ js)) plan
 
 -- all jobs of the pipeline that was asked for are cancelled that can be, where the jobs have these rows
 abbrev pub CancelsPipeline : State → List BoardRow → Result Pipeline Code → Plan → Type 0
 CancelsPipeline s board (Err code) plan = plan ≡ refused code
-CancelsPipeline s board (Ok p) plan = CancelsSome s (waiting s board) p (cancellable_jobs s board p.id) plan
+CancelsPipeline s board (Ok p) plan = CancelsSome s p (cancellable_jobs s board p.id) plan

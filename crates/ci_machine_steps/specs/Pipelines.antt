@@ -43,8 +43,10 @@ use Rattle.ci_machine.specs.declared.reply.Code.TheVariants.{M13, M15}
 use Rattle.ci_machine.specs.declared.reply.FaultCode.TheVariants.{G, K}
 use Rattle.ci_machine.specs.declared.reply.Detail.{Detail}
 use Rattle.ci_machine.specs.declared.reply.Detail.TheVariants as detail
-use Rattle.ci_machine.specs.State.{put, need_cmp}
-use Rattle.ci_machine.specs.Statuses.{graph_by}
+use Rattle.ci_machine.specs.declared.records.BoardRow.{BoardRow}
+use Rattle.ci_machine.specs.State.{State, applied, put, need_cmp}
+use Rattle.ci_machine.specs.Statuses.{graph_by, rows_of, AreBoard}
+use Rattle.ci_machine.specs.Waiting.{claims_in}
 use Rattle.ci_machine.specs.Bodies.{source_text, pipeline_data}
 use Rattle.ci_machine_steps.specs.Plans.{Plan, refused, faulted, created}
 use Rattle.ci_machine_steps.specs.Files.{IsRead}
@@ -209,16 +211,23 @@ pipeline_created first made claims rows = (created (compact_text (pipeline_data 
 abbrev pub lacks_numbers : ℕ → ℕ → ℕ → Bool
 lacks_numbers pipeline first count = nat_lt MAX_NUMBER pipeline || nat_lt MAX_NUMBER (first + count - 1)
 
-abbrev pub MakesUnless : Bool → ℕ → Creation → List Claim → Plan → Type 0
-MakesUnless true first made claims plan = plan ≡ refused M15
-MakesUnless false first made claims plan = (rows : List Row) × AreFirstRows made.jobs made.needs rows × (plan ≡ pipeline_created first made claims rows)
+-- The records are made, and the pipeline is shown as it stands in the state after that: with the rows of that state's board, and with the claims that
+-- are on resource groups then.
+abbrev pub ShowsCreated : State → ℕ → Creation → Plan → Type 0
+ShowsCreated s first made plan =
+    let t = applied (creation_changes first made) s in
+    (after : List BoardRow) × AreBoard t after × (plan ≡ pipeline_created first made (claims_in t after made.pipeline.id) (rows_of t after made.pipeline.id))
 
--- it is made of what the file lays out, with these next numbers, where these claims are on resource groups
-abbrev pub Makes : ℕ → ℕ → List Claim → NewPipeline → Given → ℕ → Result Layout Detail → Plan → Type 0
-Makes id first claims new given now (Err fault) plan = plan ≡ faulted fault
-Makes id first claims new given now (Ok laid) plan = MakesUnless (lacks_numbers id first (length laid.plan.jobs)) first (creation id first new given now laid) claims plan
+abbrev pub MakesUnless : Bool → State → ℕ → Creation → Plan → Type 0
+MakesUnless true s first made plan = plan ≡ refused M15
+MakesUnless false s first made plan = ShowsCreated s first made plan
+
+-- it is made of what the file lays out, with the state's next numbers
+abbrev pub Makes : State → NewPipeline → Given → ℕ → Result Layout Detail → Plan → Type 0
+Makes s new given now (Err fault) plan = plan ≡ faulted fault
+Makes s new given now (Ok laid) plan = MakesUnless (lacks_numbers s.next.pipeline s.next.job (length laid.plan.jobs)) s s.next.job (creation s.next.pipeline s.next.job new given now laid) plan
 
 -- it is made of this file, if nothing refuses it before
-abbrev pub Creates : ℕ → ℕ → List Claim → NewPipeline → Given → ℕ → Result (List ℕ) Plan → Plan → Type 0
-Creates id first claims new given now (Err refusal) plan = plan ≡ refusal
-Creates id first claims new given now (Ok text) plan = (laid : Result Layout Detail) × IsLaidOut text given laid × Makes id first claims new given now laid plan
+abbrev pub Creates : State → NewPipeline → Given → ℕ → Result (List ℕ) Plan → Plan → Type 0
+Creates s new given now (Err refusal) plan = plan ≡ refusal
+Creates s new given now (Ok text) plan = (laid : Result Layout Detail) × IsLaidOut text given laid × Makes s new given now laid plan

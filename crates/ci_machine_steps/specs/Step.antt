@@ -23,7 +23,7 @@ use Rattle.ci_machine.specs.Statuses.{jobs_of, attempts_of, facts_of, rows_of, s
 pub use Rattle.ci_machine.specs.Lookups.{project_at, project_with, project_variables, variable_at, runner_at, runner_with, pipeline_at, job_at, demand_of, demand_at, attempt_at, variables_of, last_attempt, trace_of, limit_or_none, lease_of, lease_at, live_attempts, leases, is_pending, pending_jobs, project_or_none, queued, queue, pipeline_of, trace_if_any, next_of}
 pub use Rattle.ci_machine.specs.Indexes.{with_status, was_tried, redundant_in}
 use Rattle.ci_machine.specs.Groups.{order_of}
-use Rattle.ci_machine.specs.Waiting.{waiting, groups_in, claims_in}
+use Rattle.ci_machine.specs.Waiting.{groups_in, claims_in}
 use Rattle.ci_machine.specs.Eligible.{chosen}
 use Rattle.ci_machine.specs.Leases.{first_due}
 use Rattle.ci_machine_steps.specs.Plans.{Plan, asked_project}
@@ -104,7 +104,7 @@ Does s board (DeleteVariable query) now seed plan = plan ≡ delete_variable (as
 Does s board (SetMode new) now seed plan = plan ≡ set_mode (asked_project (project_with s new.token) new.project) new
 Does s board (ShowMode query) now seed plan = plan ≡ show_mode (asked_project (project_with s query.token) query.project) (order_of s.modes query.project query.group) query.group
 Does s board (CreatePipeline new) now seed plan =
-    Creates s.next.pipeline s.next.job (claims_in s board s.next.pipeline) new (given_by new (project_variables s new.project)) now (may_create (asked_project (project_with s new.token) new.project) new) plan
+    Creates s new (given_by new (project_variables s new.project)) now (may_create (asked_project (project_with s new.token) new.project) new) plan
 Does s board (AskJob token) now seed plan =
     let runner = runner_with s token in
     let offered = offer s board runner in
@@ -120,9 +120,9 @@ Does s board (ShowJob query) now seed plan =
 Does s board (ShowTrace query) now seed plan =
     let job = job_at s query.job in
     plan ≡ show_trace (project_with s query.token) job (pipeline_of s job) (trace_if_any s (last_attempt s query.job)) query
-Does s board (Play query) now seed plan = ActsOn s (waiting s board) play (permitted board is_playable M10 (found_job s query)) plan
-Does s board (CancelJob query) now seed plan = ActsOn s (waiting s board) (λ j. cancel s.attempts (j ∷ [])) (permitted board is_cancellable M12 (found_job s query)) plan
-Does s board (RetryJob query) now seed plan = ActsOn s (waiting s board) (λ j. retry (attempts_of s j.id) j) (permitted board is_retryable M11 (found_job s query)) plan
+Does s board (Play query) now seed plan = ActsOn s play (permitted board is_playable M10 (found_job s query)) plan
+Does s board (CancelJob query) now seed plan = ActsOn s (λ j. cancel s.attempts (j ∷ [])) (permitted board is_cancellable M12 (found_job s query)) plan
+Does s board (RetryJob query) now seed plan = ActsOn s (λ j. retry (attempts_of s j.id) j) (permitted board is_retryable M11 (found_job s query)) plan
 Does s board (CancelPipeline query) now seed plan = CancelsPipeline s board (found_pipeline s query) plan
 Does s board (PruneOne before) now seed plan =
     let found = prunable_in s board before in

@@ -35,7 +35,7 @@ use Rattle.ci_machine.specs.Indexes.{AreIndexes}
 use Rattle.ci_machine.specs.Eligible.{is_free}
 use Rattle.ci_machine.specs.Groups.{Groups, held_claim, waiting_claim, is_first, claims_ahead, claims_on}
 use Rattle.ci_machine.specs.Holders.{holders, AreHolders}
-use Rattle.ci_machine.specs.Waiting.{waiting, groups_with}
+use Rattle.ci_machine.specs.Waiting.{waiting, groups_with, claims_in}
 use Rattle.ci_machine.specs.Bodies.{status_of_jobs}
 use Rattle.ci_machine.specs.Statuses.{jobs_of, facts_of, rows_of, status_for, AreBoard}
 use Rattle.ci_machine_steps.specs.Plans.{Plan, refused, asked_project}
@@ -52,7 +52,7 @@ use Rattle.ci_machine_steps.proofs.Sound.{sound}
 use Rattle.ci_machine_statuses.specs.declared.act.Act.{Act}
 use Rattle.ci_machine_statuses.specs.declared.act.Act.TheVariants.{Play, Retry, Cancel}
 use Rattle.ci_machine_statuses.specs.declared.outcome.Outcome.{Outcome}
-use Rattle.ci_machine_statuses.specs.Acts.{is_permitted, marked, ended_leases, act_changes, is_acted_on, acted_jobs, shows_job_by, shows_pipeline_by, IsOutcome}
+use Rattle.ci_machine_statuses.specs.Acts.{is_permitted, marked, ended_leases, act_changes, is_acted_on, acted_jobs, acted_state, shows_job_by, shows_pipeline_by, IsOutcome}
 use Rattle.ci_machine_statuses.specs.Lookups.{AreRecords}
 use Rattle.ci_store_tables.specs.declared.fault.StoreFault.{StoreFault}
 use Rattle.ci_store.specs.Store.{LoadsBy}
@@ -89,12 +89,16 @@ abbrev AllAreAsked : Type 0
 AllAreAsked = (s : State) (board : List BoardRow) (pipeline : ℕ) → acted_jobs Cancel None s board pipeline ≡ cancellable_jobs s board pipeline
 
 abbrev JobIsShown : Type 0
-JobIsShown = (act : Act) (s : State) (waiting : List WaitingJob) (board : List BoardRow) (job : Job) (o : Outcome) → IsSound s → Contains s.jobs job → is_permitted act (status_for board job.id) ≡ true → IsOutcome act (Some job.id) s board job.pipeline o
-    → (i : ℕ) × ((o.places.items ≡ i ∷ []) × ShowsJobAfter s waiting job (act_changes act s (job ∷ [])) (shows_job_by s waiting (act_changes act s (job ∷ [])) job (row_at o.rows.items i).status))
+JobIsShown = (act : Act) (s : State) (board : List BoardRow) (job : Job) (o : Outcome) → IsSound s → Contains s.jobs job → is_permitted act (status_for board job.id) ≡ true → IsOutcome act (Some job.id) s board job.pipeline o
+    → (i : ℕ) × ((o.places.items ≡ i ∷ []) × ShowsJobAfter s job (act_changes act s (job ∷ [])) (shows_job_by s (put_rows o.changed.items board) (act_changes act s (job ∷ [])) job (row_at o.rows.items i).status))
 
 abbrev PipelineIsShown : Type 0
-PipelineIsShown = (act : Act) (s : State) (waiting : List WaitingJob) (board : List BoardRow) (p : Pipeline) (o : Outcome) → IsSound s → IsOutcome act None s board p.id o
-    → ShowsPipelineAfter s waiting p (act_changes act s (acted_jobs act None s board p.id)) (shows_pipeline_by s waiting (act_changes act s (acted_jobs act None s board p.id)) p (jobs_of s p.id) o.facts.items o.rows.items)
+PipelineIsShown = (act : Act) (s : State) (board : List BoardRow) (p : Pipeline) (o : Outcome) → IsSound s → IsOutcome act None s board p.id o
+    → ShowsPipelineAfter s p (act_changes act s (acted_jobs act None s board p.id)) (shows_pipeline_by s (put_rows o.changed.items board) (act_changes act s (acted_jobs act None s board p.id)) p (jobs_of s p.id) o.facts.items o.rows.items)
+
+abbrev ActsLeaveLines : Type 0
+ActsLeaveLines = (act : Act) (only : Option ℕ) (s : State) (board : List BoardRow) (pipeline : ℕ) (o : Outcome) → IsSound s → IsOutcome act only s board pipeline o
+    → claims_in (acted_state act only s board pipeline) (put_rows o.changed.items board) pipeline ≡ claims_on (groups_with (acted_state act only s board pipeline) (waiting s board)) pipeline
 
 abbrev PlayIs : Type 0
 PlayIs = (s : State) (job : Job) → act_changes Play s (job ∷ []) ≡ play job
@@ -160,13 +164,17 @@ same_ahead : (s t : State) (ws : List WaitingJob) (n : ℕ) → t.modes ≡ s.mo
 same_ahead s t ws n same = ap (λ (modes : List GroupMode). map waiting_claim (filter (is_first modes n) ws)) (sym same)
 
 -- what was worked out of what was looked up
-pub done_is : ActsAreIndexed → (act : Act) (only : Option ℕ) (k : Kept) (n : ℕ) (w : Whole) (o : Outcome) (chosen : List Job) (before after : Status) (indexes : List IndexChange) (claims : List Claim)
+pub done_is : ActsAreIndexed → ActsLeaveLines → (act : Act) (only : Option ℕ) (k : Kept) (n : ℕ) (w : Whole) (o : Outcome) (chosen : List Job) (before after : Status) (indexes : List IndexChange) (claims : List Claim)
     → IsKept k → IsWhole k n w → IsOutcome act only k.state k.board n o → ((other : Job) → chosen ≡ map (λ place. slice_index_or w.records.jobs.items place other) o.places.items)
     → before ≡ status_of_jobs (jobs_of k.state n) (facts_of k.state n) (rows_of k.state k.board n) → after ≡ status_of_jobs w.records.jobs.items o.facts.items o.rows.items
     → indexes ≡ of_pipeline w.pipeline (unleased act chosen) w.records.attempts.items before after → claims ≡ map held_claim (still_held indexes w.held.items) ++ w.ahead.items
     → IsDone act only k n w o indexes claims
-done_is law act only k n w o chosen before after indexes claims kept whole outcome are was is indexes_are claims_are =
-    record { outcome = outcome; are_indexes = right; alike = its_claims }
+done_is law lines act only k n w o chosen before after indexes claims kept whole outcome are was is indexes_are claims_are =
+    record {
+      outcome = outcome;
+      are_indexes = right;
+      alike = subst (λ (cs : List Claim). FreeAlike claims cs p.project w.records.jobs.items) (sym (lines act only k.state k.board n o kept.sound outcome)) its_claims;
+    }
   where
     p : Pipeline
     p = w.pipeline
@@ -197,7 +205,7 @@ done_is law act only k n w o chosen before after indexes claims kept whole outco
     right : AreIndexes (written cs o.changed.items indexes k)
     right = subst (λ (l : List IndexChange). AreIndexes (written cs o.changed.items l k)) (sym of_acted) by_law
 
-    -- how the groups stand then
+    -- how the groups stand then, where the jobs wait that waited before
     later : Groups
     later = groups_with (applied cs k.state) (waiting k.state k.board)
 
@@ -250,9 +258,12 @@ module _ (k : Kept) (kept : IsKept k) (act : Act) (job : Job) (has : Contains k.
   abbrev later : State
   later = applied its_changes k.state
 
+  abbrev later_board : List BoardRow
+  later_board = put_rows o.changed.items k.board
+
   -- for which groups its pipeline's jobs must wait then
   abbrev later_claims : List Claim
-  later_claims = claims_on (groups_with later (waiting k.state k.board)) job.pipeline
+  later_claims = claims_in later later_board job.pipeline
 
   abbrev does : Job → List RowChange
   does j = act_changes act k.state (j ∷ [])
@@ -271,7 +282,7 @@ module _ (k : Kept) (kept : IsKept k) (act : Act) (job : Job) (has : Contains k.
   shown_then : acted_jobs act (Some job.id) k.state k.board job.pipeline ≡ job ∷ [] → (status : Status) → job_shown claims w.pipeline.project job status ≡ job_shown later_claims (queued later job).project job status
   shown_then alone status =
       let alike : FreeAlike claims later_claims w.pipeline.project w.records.jobs.items
-      = subst (λ (js : List Job). FreeAlike claims (claims_on (groups_with (applied (act_changes act k.state js) k.state) (waiting k.state k.board)) job.pipeline) w.pipeline.project w.records.jobs.items) alone done.alike in
+      = subst (λ (js : List Job). FreeAlike claims (claims_in (applied (act_changes act k.state js) k.state) later_board job.pipeline) w.pipeline.project w.records.jobs.items) alone done.alike in
       let its : IsAlike job = has_from_all IsAlike job w.records.jobs.items alike (has_from_contains job w.records.jobs.items (among k job w.records whole.records has)) in
       job_alike claims later_claims w.pipeline.project job status (All-from_has IsAlike (job ∷ []) (λ j h. ⊎_elim (λ e. subst IsAlike (sym e) its) (λ none. absurd none) h))
       ∙ ap (λ n. job_shown later_claims n job status) (same_project act k.state (job ∷ []) job w.pipeline whole.there)
@@ -283,14 +294,14 @@ module _ (k : Kept) (kept : IsKept k) (act : Act) (job : Job) (has : Contains k.
   job_planned shown some plan plan_is answer changes beside same_answer same_changes same_rows same_indexes =
       let yes : permits ≡ true = is_done permits o.places.items (λ i. slice_index_or (jobs_of k.state job.pipeline) i job) job (done.outcome.jobs job ∙ one) some in
       let alone : acted_jobs act (Some job.id) k.state k.board job.pipeline ≡ job ∷ [] = one ∙ cond-true permits (job ∷ []) [] yes in
-      let v = shown act k.state (waiting k.state k.board) k.board job o kept.sound has yes done.outcome in
+      let v = shown act k.state k.board job o kept.sound has yes done.outcome in
       let first : slice_index_or o.places.items 0 0 ≡ v.0 = ap (λ (l : List ℕ). slice_index_or l 0 0) v.1.0 in
-      let is : plan ≡ shows_job_by k.state (waiting k.state k.board) its_changes job (row_at o.rows.items v.0).status
+      let is : plan ≡ shows_job_by k.state later_board its_changes job (row_at o.rows.items v.0).status
       = plan_is
       ∙ (ap (λ i. ((job_shown claims w.pipeline.project job (row_at o.rows.items i).status).0, its_changes)) first
       ∙ ap (λ (q : Plan). (q.0, its_changes)) (shown_then alone (row_at o.rows.items v.0).status)) in
       let made : ActsAs act k.state k.board (Ok job) plan =
-      subst (λ b. ActsOn k.state (waiting k.state k.board) does (if b then Ok job else Err (refusal_of act)) plan) (sym yes) (subst (ShowsJobAfter k.state (waiting k.state k.board) job its_changes) (sym is) v.1.1) in
+      subst (λ b. ActsOn k.state does (if b then Ok job else Err (refusal_of act)) plan) (sym yes) (subst (ShowsJobAfter k.state job its_changes) (sym is) v.1.1) in
       record {
         made = subst (ActsAs act k.state k.board (Ok job)) (sym (pair_is answer changes plan plan same_answer same_changes refl)) made;
         settled = done_settles act (Some job.id) k job.pipeline w o indexes claims done changes beside
@@ -301,18 +312,18 @@ module _ (k : Kept) (kept : IsKept k) (act : Act) (job : Job) (has : Contains k.
   pub job_refused : length o.places.items ≡ 0 → (plan : Plan) → plan ≡ refused (refusal_of act) → ActsAs act k.state k.board (Ok job) plan
   job_refused none plan plan_is =
       let no : permits ≡ false = not_done permits o.places.items (λ i. slice_index_or (jobs_of k.state job.pipeline) i job) job (done.outcome.jobs job ∙ one) none in
-      subst (λ b. ActsOn k.state (waiting k.state k.board) does (if b then Ok job else Err (refusal_of act)) plan) (sym no) plan_is
+      subst (λ b. ActsOn k.state does (if b then Ok job else Err (refusal_of act)) plan) (sym no) plan_is
 
 -- ---- a pipeline
 
 -- where there are such jobs they are cancelled
-some_cancelled : (s : State) (waiting : List WaitingJob) (p : Pipeline) (jobs : List Job) (plan : Plan) → 0 < length jobs → ShowsPipelineAfter s waiting p (cancel s.attempts jobs) plan → CancelsSome s waiting p jobs plan
-some_cancelled s waiting p [] plan l shows = absurd (omega (arith, l))
-some_cancelled s waiting p (j ∷ js) plan l shows = shows
+some_cancelled : (s : State) (p : Pipeline) (jobs : List Job) (plan : Plan) → 0 < length jobs → ShowsPipelineAfter s p (cancel s.attempts jobs) plan → CancelsSome s p jobs plan
+some_cancelled s p [] plan l shows = absurd (omega (arith, l))
+some_cancelled s p (j ∷ js) plan l shows = shows
 
-none_cancelled : (s : State) (waiting : List WaitingJob) (p : Pipeline) (jobs : List Job) (plan : Plan) → length jobs ≡ 0 → plan ≡ refused M12 → CancelsSome s waiting p jobs plan
-none_cancelled s waiting p [] plan l is = is
-none_cancelled s waiting p (j ∷ js) plan l is = absurd (omega (arith, l))
+none_cancelled : (s : State) (p : Pipeline) (jobs : List Job) (plan : Plan) → length jobs ≡ 0 → plan ≡ refused M12 → CancelsSome s p jobs plan
+none_cancelled s p [] plan l is = is
+none_cancelled s p (j ∷ js) plan l is = absurd (omega (arith, l))
 
 module _ (k : Kept) (kept : IsKept k) (n : ℕ) (w : Whole) (whole : IsWhole k n w) (o : Outcome) (indexes : List IndexChange) (claims : List Claim) (done : IsDone Cancel None k n w o indexes claims)
     (chosen : List Job) (are_chosen : (other : Job) → chosen ≡ map (λ i. slice_index_or w.records.jobs.items i other) o.places.items) (all : AllAreAsked) where
@@ -322,9 +333,9 @@ module _ (k : Kept) (kept : IsKept k) (n : ℕ) (w : Whole) (whole : IsWhole k n
   abbrev acted : List Job
   acted = acted_jobs Cancel None k.state k.board n
 
-  -- the jobs that wait before it
-  abbrev its_waiting : List WaitingJob
-  its_waiting = waiting k.state k.board
+  -- the rows after it
+  abbrev later_rows : List BoardRow
+  later_rows = put_rows o.changed.items k.board
 
   chosen_acted : chosen ≡ acted
   chosen_acted = chosen_are Cancel None k n w o chosen whole done.outcome are_chosen
@@ -355,32 +366,32 @@ module _ (k : Kept) (kept : IsKept k) (n : ℕ) (w : Whole) (whole : IsWhole k n
   pub pipeline_planned : PipelineIsShown → CancelsAre → CancelIs → w.pipeline.id ≡ n → 0 < length chosen → (plan : Plan)
       → plan ≡ ((pipeline_shown w.pipeline claims w.records.jobs.items o.facts.items o.rows.items).0, cancel w.records.attempts.items chosen)
       → (answer : Reply) (changes : List RowChange) (beside : Beside) → answer ≡ plan.0 → changes ≡ plan.1 → beside.rows.items ≡ o.changed.items → beside.indexes.items ≡ indexes
-      → PlansFor k (CancelsSome k.state its_waiting w.pipeline cancellable (answer, changes)) changes beside
+      → PlansFor k (CancelsSome k.state w.pipeline cancellable (answer, changes)) changes beside
   pipeline_planned shown cancels_are cancels number some plan plan_is answer changes beside same_answer same_changes same_rows same_indexes =
       let s = k.state in
       let p = w.pipeline in
       let both : act_changes Cancel s acted ≡ cancel s.attempts cancellable = are_cancelled cancels_are in
-      let by_law : ShowsPipelineAfter s its_waiting p (act_changes Cancel s acted) (shows_pipeline_by s its_waiting (act_changes Cancel s acted) p (jobs_of s n) o.facts.items o.rows.items)
-      = subst (λ (m : ℕ). ShowsPipelineAfter s its_waiting p (act_changes Cancel s (acted_jobs Cancel None s k.board m)) (shows_pipeline_by s its_waiting (act_changes Cancel s (acted_jobs Cancel None s k.board m)) p (jobs_of s m) o.facts.items o.rows.items)) number
-      (shown Cancel s its_waiting k.board p o kept.sound (subst (λ (m : ℕ). IsOutcome Cancel None s k.board m o) (sym number) done.outcome)) in
-      let later : Groups = groups_with (applied (act_changes Cancel s acted) s) its_waiting in
-      let told : (pipeline_shown p claims w.records.jobs.items o.facts.items o.rows.items).0 ≡ (pipeline_shown p (claims_on later p.id) (jobs_of s n) o.facts.items o.rows.items).0
-      = ap (λ (q : Plan). q.0) (pipeline_alike claims (claims_on later n) p w.records.jobs.items done.alike o.facts.items o.rows.items
-      ∙ (λ i. pipeline_shown p (claims_on later (sym number i)) (whole.records.are_jobs i) o.facts.items o.rows.items)) in
-      let is : plan ≡ shows_pipeline_by s its_waiting (act_changes Cancel s acted) p (jobs_of s n) o.facts.items o.rows.items
+      let by_law : ShowsPipelineAfter s p (act_changes Cancel s acted) (shows_pipeline_by s later_rows (act_changes Cancel s acted) p (jobs_of s n) o.facts.items o.rows.items)
+      = subst (λ (m : ℕ). ShowsPipelineAfter s p (act_changes Cancel s (acted_jobs Cancel None s k.board m)) (shows_pipeline_by s later_rows (act_changes Cancel s (acted_jobs Cancel None s k.board m)) p (jobs_of s m) o.facts.items o.rows.items)) number
+      (shown Cancel s k.board p o kept.sound (subst (λ (m : ℕ). IsOutcome Cancel None s k.board m o) (sym number) done.outcome)) in
+      let later : ℕ → List Claim = λ m. claims_in (applied (act_changes Cancel s acted) s) later_rows m in
+      let told : (pipeline_shown p claims w.records.jobs.items o.facts.items o.rows.items).0 ≡ (pipeline_shown p (later p.id) (jobs_of s n) o.facts.items o.rows.items).0
+      = ap (λ (q : Plan). q.0) (pipeline_alike claims (later n) p w.records.jobs.items done.alike o.facts.items o.rows.items
+      ∙ (λ i. pipeline_shown p (later (sym number i)) (whole.records.are_jobs i) o.facts.items o.rows.items)) in
+      let is : plan ≡ shows_pipeline_by s later_rows (act_changes Cancel s acted) p (jobs_of s n) o.facts.items o.rows.items
       = plan_is ∙ (λ i. (told i, looked_up cancels i)) in
-      let shows : ShowsPipelineAfter s its_waiting p (cancel s.attempts cancellable) plan
-      = subst (λ (cs : List RowChange). ShowsPipelineAfter s its_waiting p cs plan) both (subst (ShowsPipelineAfter s its_waiting p (act_changes Cancel s acted)) (sym is) by_law) in
-      let made : CancelsSome s its_waiting p cancellable plan
-      = some_cancelled s its_waiting p cancellable plan (subst (λ (js : List Job). 0 < length js) chosen_is some) shows in
+      let shows : ShowsPipelineAfter s p (cancel s.attempts cancellable) plan
+      = subst (λ (cs : List RowChange). ShowsPipelineAfter s p cs plan) both (subst (ShowsPipelineAfter s p (act_changes Cancel s acted)) (sym is) by_law) in
+      let made : CancelsSome s p cancellable plan
+      = some_cancelled s p cancellable plan (subst (λ (js : List Job). 0 < length js) chosen_is some) shows in
       record {
-        made = subst (CancelsSome s its_waiting p cancellable) (sym (pair_is answer changes plan plan same_answer same_changes refl)) made;
+        made = subst (CancelsSome s p cancellable) (sym (pair_is answer changes plan plan same_answer same_changes refl)) made;
         settled = settles_so cancels changes beside (same_changes ∙ ap (λ (q : Plan). q.1) plan_is) same_rows same_indexes;
       }
 
   -- none can be
-  pub pipeline_refused : length chosen ≡ 0 → (plan : Plan) → plan ≡ refused M12 → CancelsSome k.state its_waiting w.pipeline cancellable plan
-  pipeline_refused none plan is = none_cancelled k.state its_waiting w.pipeline cancellable plan (sym (ap length chosen_is) ∙ none) is
+  pub pipeline_refused : length chosen ≡ 0 → (plan : Plan) → plan ≡ refused M12 → CancelsSome k.state w.pipeline cancellable plan
+  pipeline_refused none plan is = none_cancelled k.state w.pipeline cancellable plan (sym (ap length chosen_is) ∙ none) is
 
   -- a sweep cancels those that can be
   pub redundant_planned : CancelsAre → CancelIs → (p : Pipeline) (plan : Swept × List RowChange) → plan ≡ sweep None (Some p) w.records.attempts.items chosen

@@ -3,28 +3,26 @@ use Rattle.std.specs.Prelude.{◌≡◌, ℕ, List, map, length, replicate, opti
 use Rattle.std.proofs.Common.{sym, ap, subst, ◌∙◌}
 use Rattle.ci_graph_layout.specs.Inclusion.{Given}
 use Rattle.ci_board.specs.Rows.{no_facts}
-use Rattle.ci_board.specs.declared.facts.Row.{Row}
 use Rattle.ci_machine.specs.declared.change.IndexChange.{IndexChange}
 use Rattle.ci_machine.specs.declared.change.RowChange.{RowChange}
 use Rattle.ci_machine.specs.declared.records.BoardRow.{BoardRow}
-use Rattle.ci_machine.specs.declared.records.Claim.{Claim}
 use Rattle.ci_machine.specs.declared.records.Variable.{Variable}
 use Rattle.ci_machine.specs.declared.reply.Reply.{Reply}
 use Rattle.ci_machine.specs.declared.request.NewPipeline.{NewPipeline}
 use Rattle.ci_machine.specs.Bodies.{status_of_jobs}
 use Rattle.ci_machine.specs.Indexes.{AreIndexes}
-use Rattle.ci_machine.specs.Kept.{Kept, written}
+use Rattle.ci_machine.specs.Kept.{Kept, put_rows, written}
 use Rattle.ci_machine.specs.Waiting.{claims_in}
 use Rattle.ci_machine_steps.specs.Pipelines as pipelines
-use Rattle.ci_machine_steps.specs.Pipelines.{Layout, IsLaidOut, creation, creation_changes, given_by, AreFirstRows, pipeline_created, Creates}
+use Rattle.ci_machine_steps.specs.Pipelines.{Layout, IsLaidOut, creation, creation_changes, given_by, pipeline_created, ShowsCreated, Creates}
 use Rattle.ci_machine_steps.specs.Plans.{Plan}
 use Rattle.ci_machine_steps.specs.Sound.{IsSound}
 use Rattle.ci_machine.specs.State.{State, applied}
-use Rattle.ci_machine.specs.Statuses.{AreBoard}
+use Rattle.ci_machine.specs.Statuses.{rows_of, AreBoard}
 use Rattle.ci_machine_statuses.specs.Changes.{IsMade}
 use Rattle.ci_machine_statuses.specs.HolderChanges.{opened}
 use Rattle.ci_machine_pipelines.specs.declared.creation.Creation.{Creation}
-use Rattle.ci_machine_pipelines.specs.Creations.{Origin, origin, creation_view, LaysOut}
+use Rattle.ci_machine_pipelines.specs.Creations.{origin, creation_view, LaysOut}
 use Rattle.ci_server_lookups.specs.Keeps.{IsKept}
 use Rattle.ci_server_events.specs.declared.planned.Beside.{Beside}
 use Rattle.ci_server_events.specs.Creating.{rows_beside, IsMadeBeside}
@@ -40,25 +38,31 @@ CreationIsIndexed = (k : Kept) (new : NewPipeline) (given : Given) (now : ℕ) (
     → map (λ r. r.job) rows ≡ map (λ j. j.id) made.jobs
     → AreIndexes (written (creation_changes k.state.next.job made) rows (option_to_list (opened made.pipeline.id (status_of_jobs made.jobs (replicate (length made.jobs) no_facts) (map (λ r. r.row) rows)))) k)
 
+abbrev pub CreatesRows : Type 0
+CreatesRows = (s : State) (board : List BoardRow) (new : NewPipeline) (given : Given) (now : ℕ) (text : List ℕ) (laid : Layout) (made : pipelines.Creation) (rows : List BoardRow)
+    → IsSound s → AreBoard s board → IsLaidOut text given (Ok laid) → made ≡ creation s.next.pipeline s.next.job new given now laid → map (λ r. r.job) rows ≡ map (λ j. j.id) made.jobs
+    → rows_of (applied (creation_changes s.next.job made) s) (put_rows rows board) made.pipeline.id ≡ map (λ r. r.row) rows
+
+abbrev pub CreatesClaims : Type 0
+CreatesClaims = (s : State) (board : List BoardRow) (new : NewPipeline) (given : Given) (now : ℕ) (text : List ℕ) (laid : Layout) (made : pipelines.Creation) (rows : List BoardRow)
+    → IsSound s → AreBoard s board → IsLaidOut text given (Ok laid) → made ≡ creation s.next.pipeline s.next.job new given now laid → map (λ r. r.job) rows ≡ map (λ j. j.id) made.jobs
+    → claims_in (applied (creation_changes s.next.job made) s) (put_rows rows board) made.pipeline.id ≡ claims_in s board made.pipeline.id
+
 abbrev pub LaidOutCreates : Type 0
-LaidOutCreates = (text : List ℕ) (o : Origin) (made : Creation) (claims : List Claim) (rows : List Row) (plan : Plan) → LaysOut text o (Ok (Some made)) → AreFirstRows made.jobs.items made.needs.items rows
-    → plan ≡ pipeline_created o.first_job (creation_view made) claims rows → Creates o.id o.first_job claims o.asked o.given o.moment (Ok text) plan
+LaidOutCreates = (s : State) (text : List ℕ) (new : NewPipeline) (vs : List Variable) (now : ℕ) (made : Creation) (plan : Plan) → LaysOut text (origin s.next.pipeline s.next.job new vs now) (Ok (Some made))
+    → ShowsCreated s s.next.job (creation_view made) plan → Creates s new (given_by new vs) now (Ok text) plan
 
 module _ (k : Kept) (is : IsKept k) (text : List ℕ) (new : NewPipeline) (variables : List Variable) (now : ℕ) where
   abbrev its_changes : Creation → List RowChange
   its_changes made = creation_changes k.state.next.job (creation_view made)
 
-  -- for which groups the jobs of the next pipeline must wait
-  abbrev its_claims : List Claim
-  its_claims = claims_in k.state k.board k.state.next.pipeline
-
   -- what the file lays out is made, and what stands beside it is right then
-  pub creation_planned : LaidOutCreates → CreatedIsMade → CreationIsIndexed → (made : Creation) (beside : Beside) (answer : Reply) (changes : List RowChange)
+  pub creation_planned : LaidOutCreates → CreatedIsMade → CreationIsIndexed → CreatesRows → CreatesClaims → (made : Creation) (beside : Beside) (answer : Reply) (changes : List RowChange)
       → LaysOut text (origin k.state.next.pipeline k.state.next.job new variables now) (Ok (Some made)) → IsMadeBeside made beside
       → (answer, changes) ≡ pipeline_created k.state.next.job (creation_view made) (claims_in k.state k.board made.pipeline.id) (rows_beside beside)
-      → PlansFor k (Creates k.state.next.pipeline k.state.next.job its_claims new (given_by new variables) now (Ok text) (answer, changes)) changes beside
-  creation_planned creates is_made is_indexed made beside answer changes out right planned = record {
-    made = creates text (origin k.state.next.pipeline k.state.next.job new variables now) made its_claims (rows_beside beside) (answer, changes) out (right.first its_made.ascend) shown;
+      → PlansFor k (Creates k.state new (given_by new variables) now (Ok text) (answer, changes)) changes beside
+  creation_planned creates is_made is_indexed rows_law claims_law made beside answer changes out right planned = record {
+    made = creates k.state text new variables now made (answer, changes) out (after, right.board k.state t k.board k.state.next.pipeline is.sound is.are_board its_made, shown);
     settled = subst (λ (cs : List RowChange). Settles k cs beside) (sym (ap (λ (p : Plan). p.1) planned)) (record {
       board = right.board k.state (applied (its_changes made) k.state) k.board k.state.next.pipeline is.sound is.are_board its_made;
       indexes = subst (λ (cs : List IndexChange). AreIndexes (written (its_changes made) beside.rows.items cs k)) (sym right.indexes)
@@ -66,11 +70,21 @@ module _ (k : Kept) (is : IsKept k) (text : List ℕ) (new : NewPipeline) (varia
     });
   }
     where
-      number : made.pipeline.id ≡ k.state.next.pipeline
-      number = ap (λ (c : pipelines.Creation). c.pipeline.id) out.2.0
+      t : State
+      t = applied (its_changes made) k.state
 
-      shown : (answer, changes) ≡ pipeline_created k.state.next.job (creation_view made) its_claims (rows_beside beside)
-      shown = planned ∙ ap (λ (n : ℕ). pipeline_created k.state.next.job (creation_view made) (claims_in k.state k.board n) (rows_beside beside)) number
+      after : List BoardRow
+      after = put_rows beside.rows.items k.board
+
+      -- its rows, and for which groups its jobs must wait, in the state after
+      its_rows : rows_of t after made.pipeline.id ≡ rows_beside beside
+      its_rows = rows_law k.state k.board new (given_by new variables) now text out.0 (creation_view made) beside.rows.items is.sound is.are_board out.1 out.2.0 right.keys
+
+      its_claims : claims_in t after made.pipeline.id ≡ claims_in k.state k.board made.pipeline.id
+      its_claims = claims_law k.state k.board new (given_by new variables) now text out.0 (creation_view made) beside.rows.items is.sound is.are_board out.1 out.2.0 right.keys
+
+      shown : (answer, changes) ≡ pipeline_created k.state.next.job (creation_view made) (claims_in t after made.pipeline.id) (rows_of t after made.pipeline.id)
+      shown = planned ∙ (λ i. pipeline_created k.state.next.job (creation_view made) (sym its_claims i) (sym its_rows i))
 
       its_made : IsMade k.state (applied (its_changes made) k.state) k.state.next.pipeline made.jobs.items made.needs.items
       its_made = is_made k.state new (given_by new variables) now text out.0 (creation_view made) is.sound out.1 out.2.0

@@ -9,10 +9,9 @@ use Rattle.ci_machine.specs.declared.change.IndexChange.{IndexChange}
 use Rattle.ci_machine.specs.declared.reply.Code.{Code}
 use Rattle.ci_machine.specs.declared.reply.Code.TheVariants.{M10, M11, M12}
 use Rattle.ci_machine.specs.State.{State}
-use Rattle.ci_machine.specs.Kept.{Kept, written}
+use Rattle.ci_machine.specs.Kept.{Kept, put_rows, written}
 use Rattle.ci_machine.specs.Indexes.{AreIndexes}
-use Rattle.ci_machine.specs.Groups.{claims_on}
-use Rattle.ci_machine.specs.Waiting.{waiting, groups_with}
+use Rattle.ci_machine.specs.Waiting.{claims_in}
 use Rattle.ci_machine_steps.specs.Plans.{Plan}
 use Rattle.ci_machine_steps.specs.Acts.{permitted, ActsOn}
 use Rattle.ci_machine_steps.specs.Plays.{play}
@@ -33,7 +32,7 @@ refusal_of Cancel = M12
 
 -- it is done to the job that was found, unless a code refuses it
 abbrev pub ActsAs : Act → State → List BoardRow → Result Job Code → Plan → Type 0
-ActsAs act s board found plan = ActsOn s (waiting s board) (λ j. act_changes act s (j ∷ [])) (permitted board (λ status. is_permitted act status) (refusal_of act) found) plan
+ActsAs act s board found plan = ActsOn s (λ j. act_changes act s (j ∷ [])) (permitted board (λ status. is_permitted act status) (refusal_of act) found) plan
 
 -- the changes by which it is done to a job, of attempts that are at least its own
 abbrev pub changes_by : Act → List Attempt → Job → List RowChange
@@ -42,9 +41,8 @@ changes_by Retry attempts j = retry (filter (λ a. a.job == j.id) attempts) j
 changes_by Cancel attempts j = cancel attempts (j ∷ [])
 
 -- What is done to jobs of a pipeline, of what was looked up of it: what becomes of its jobs, which of the groups that are held and
--- of the pipelines that aren't finished change, and for which of their groups its jobs must wait after it, where the jobs wait that waited
--- before.
+-- of the pipelines that aren't finished change, and for which of their groups its jobs must wait after it.
 pub record IsDone (act : Act) (only : Option ℕ) (k : Kept) (pipeline : ℕ) (w : Whole) (o : Outcome) (indexes : List IndexChange) (claims : List Claim) : Type 0 where
   pub outcome : IsOutcome act only k.state k.board pipeline o
   pub are_indexes : AreIndexes (written (act_changes act k.state (acted_jobs act only k.state k.board pipeline)) o.changed.items indexes k)
-  pub alike : FreeAlike claims (claims_on (groups_with (acted_state act only k.state k.board pipeline) (waiting k.state k.board)) pipeline) w.pipeline.project w.records.jobs.items
+  pub alike : FreeAlike claims (claims_in (acted_state act only k.state k.board pipeline) (put_rows o.changed.items k.board) pipeline) w.pipeline.project w.records.jobs.items

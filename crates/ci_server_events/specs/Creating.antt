@@ -1,7 +1,5 @@
 -- What changes beside the records of a new pipeline.
 use Rattle.std.specs.Prelude.{◌≡◌, ℕ, List, length, map, replicate, option_to_list}
-use Rattle.std.specs.Ordering.{nat_cmp}
-use Rattle.std.specs.List.Sorted.{IsStrictlySortedBy}
 use Rattle.ci_board.specs.Rows.{no_facts}
 use Rattle.ci_board.specs.declared.facts.Row.{Row}
 use Rattle.ci_machine.specs.declared.records.BoardRow.{BoardRow}
@@ -9,7 +7,6 @@ use Rattle.ci_machine.specs.declared.records.Job.{Job}
 use Rattle.ci_machine.specs.declared.records.Need.{Need}
 use Rattle.ci_machine.specs.Bodies.{status_of_jobs}
 use Rattle.ci_machine.specs.Kept.{put_rows}
-use Rattle.ci_machine_steps.specs.Pipelines.{AreFirstRows}
 use Rattle.ci_machine_steps.specs.Sound.{IsSound}
 use Rattle.ci_machine.specs.State.{State}
 use Rattle.ci_machine.specs.Statuses.{AreBoard}
@@ -26,9 +23,8 @@ RowsMade jobs needs rows = (s t : State) (board : List BoardRow) (pipeline : ℕ
 abbrev pub rows_beside : Beside → List Row
 rows_beside b = map (λ r. r.row) b.rows.items
 
--- The rows of its jobs are put, of which none was tried, and it is unfinished if its status by them is.
+-- The rows of its jobs are put, which make those of the state, and it is unfinished if its status by them is.
 pub record IsMadeBeside (c : Creation) (b : Beside) : Type 0 where
   pub keys : map (λ r. r.job) b.rows.items ≡ map (λ j. j.id) c.jobs.items
-  pub first : IsStrictlySortedBy nat_cmp (map (λ j. j.id) c.jobs.items) → AreFirstRows c.jobs.items c.needs.items (rows_beside b)
   pub board : RowsMade c.jobs.items c.needs.items b.rows.items
   pub indexes : b.indexes.items ≡ option_to_list (opened c.pipeline.id (status_of_jobs c.jobs.items (replicate (length c.jobs.items) no_facts) (rows_beside b)))

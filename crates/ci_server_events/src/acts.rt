@@ -6,7 +6,6 @@ ghost use Rattle.ci_machine.specs.declared.records.BoardRow.{BoardRow};
 ghost use Rattle.ci_machine_steps.specs.Cancels.{CancelsPipeline, CancelsSome, cancellable_jobs};
 ghost use Rattle.ci_machine.specs.Groups.{held_claim};
 ghost use Rattle.ci_machine.specs.Kept.{Kept};
-ghost use Rattle.ci_machine.specs.Waiting.{waiting};
 ghost use Rattle.ci_machine_steps.specs.Shows.{job_shown};
 ghost use Rattle.ci_machine_steps.specs.Sound.{IsSound};
 ghost use Rattle.ci_machine.specs.State.{State};
@@ -40,7 +39,7 @@ use ci_machine_plans::sweeps;
 use ci_machine_statuses::act::Act;
 use ci_machine_statuses::holder_laws::acts_are_indexed;
 use ci_machine_statuses::laws::{
-    acted_jobs_are_asked, acts_are_of_records, acts_settle, outcomes_are_shown,
+    acted_jobs_are_asked, acts_are_of_records, acts_leave_lines, acts_settle, outcomes_are_shown,
 };
 use ci_machine_statuses::outcome::{Outcome, outcome_of};
 use ci_machine_statuses::unfinished::of_pipeline;
@@ -172,6 +171,7 @@ fn done_among(alloc: Global, whole: &Whole, act: Act, only: Option<u64>) -> Resu
     ensures done { IfOk result (λ d. (k : Kept) (pipeline : ℕ) → IsKept k → IsWhole k pipeline whole.now → IsDone act only k pipeline whole.now d.outcome d.indexes.items d.claims.items) }
 {
     acts_are_indexed();
+    acts_leave_lines();
     let jobs = whole.records.jobs.as_slice();
     let before = status_before(alloc, &whole.records)?;
     let outcome = outcome_among(alloc, &whole.records, act, only)?;
@@ -271,7 +271,7 @@ fn cancel_found<T: Turns>(
     pipeline: &Pipeline,
 ) -> Result<Planned<Reply>, StoreFault>
     ensures { LoadsBy T.honest T.holds T.leaves store.old store.new result
-        (λ k p. IsKept k → Contains k.state.pipelines pipeline.now → PlansFor k (CancelsSome k.state (waiting k.state k.board) pipeline.now (cancellable_jobs k.state k.board pipeline.now.id) (p.answer, p.changes)) p.changes p.beside) }
+        (λ k p. IsKept k → Contains k.state.pipelines pipeline.now → PlansFor k (CancelsSome k.state pipeline.now (cancellable_jobs k.state k.board pipeline.now.id) (p.answer, p.changes)) p.changes p.beside) }
 {
     let whole = whole_of(alloc, store, pipeline.id)?;
     cancelled(alloc, &whole)
@@ -280,7 +280,7 @@ fn cancel_found<T: Turns>(
 /// What is planned where a pipeline is cancelled.
 fn cancelled(alloc: Global, whole: &Whole) -> Result<Planned<Reply>, StoreFault>
     ensures { IfOk result (λ p. (k : Kept) → IsKept k → IsWhole k whole.now.pipeline.id whole.now
-        → PlansFor k (CancelsSome k.state (waiting k.state k.board) whole.now.pipeline (cancellable_jobs k.state k.board whole.now.pipeline.id) (p.answer, p.changes)) p.changes p.beside) }
+        → PlansFor k (CancelsSome k.state whole.now.pipeline (cancellable_jobs k.state k.board whole.now.pipeline.id) (p.answer, p.changes)) p.changes p.beside) }
 {
     acts_settle();
     acts_are_of_records();

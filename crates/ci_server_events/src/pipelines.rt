@@ -30,7 +30,7 @@ use ci_machine_pipelines::pipelines::may_create;
 use ci_machine_plans::replies::{Refusal, faulted, refused, unmade};
 use ci_machine_statuses::creation::rows_of_creation;
 use ci_machine_statuses::holder_laws::creation_is_indexed;
-use ci_machine_statuses::laws::created_is_made;
+use ci_machine_statuses::laws::{created_is_made, creation_is_shown};
 use ci_machine_statuses::unfinished::opened;
 use ci_server_lookups::claims::claims_on;
 use ci_server_lookups::faults::or_store_fault;
@@ -46,7 +46,7 @@ pub(crate) fn create_pipeline<T: Turns>(
     now: Moment,
 ) -> Result<Planned<Reply>, StoreFault>
     ensures { LoadsBy T.honest T.holds T.leaves store.old store.new result
-        (λ k p. IsKept k → PlansFor k (machine.Creates k.state.next.pipeline k.state.next.job (claims_in k.state k.board k.state.next.pipeline) new.now (machine.given_by new.now (project_variables k.state new.now.project)) now (machine.may_create (asked_project (project_with k.state new.now.token) new.now.project) new.now) (p.answer, p.changes)) p.changes p.beside) }
+        (λ k p. IsKept k → PlansFor k (machine.Creates k.state new.now (machine.given_by new.now (project_variables k.state new.now.project)) now (machine.may_create (asked_project (project_with k.state new.now.token) new.now.project) new.now) (p.answer, p.changes)) p.changes p.beside) }
 {
     let project = store.project_with(&new.token)?;
     match file_for(&project, new) {
@@ -74,11 +74,12 @@ fn create_by<T: Turns>(
     now: Moment,
 ) -> Result<Planned<Reply>, StoreFault>
     ensures { LoadsBy T.honest T.holds T.leaves store.old store.new result
-        (λ k p. IsKept k → PlansFor k (machine.Creates k.state.next.pipeline k.state.next.job (claims_in k.state k.board k.state.next.pipeline) new.now (machine.given_by new.now (project_variables k.state new.now.project)) now (Ok text.now) (p.answer, p.changes)) p.changes p.beside) }
+        (λ k p. IsKept k → PlansFor k (machine.Creates k.state new.now (machine.given_by new.now (project_variables k.state new.now.project)) now (Ok text.now) (p.answer, p.changes)) p.changes p.beside) }
 {
     laid_out_creates();
     created_is_made();
     creation_is_indexed();
+    creation_is_shown();
     let variables = store.variables_of(new.project)?;
     let pipeline = store.next(Counter::Pipeline)?;
     let job = store.next(Counter::Job)?;

@@ -1,5 +1,5 @@
 -- A life with one operation more.
-use Rattle.std.specs.Prelude.{ℕ, suc, true, false, map, length, if◌then◌else◌, flat_map, Option, Some, None, codes, option_and_then, Result, Ok, Err, IfErr}
+use Rattle.std.specs.Prelude.{ℕ, true, false, map, filter, if◌then◌else◌, flat_map, Option, Some, None, codes, option_and_then, Result, Ok, Err, IfErr}
 use Rattle.std.specs.Str.Lines.{lines}
 use Rattle.std.specs.Result.{IsErrAnd}
 use Rattle.std.proofs.Common.{◌≡◌, ◌⊎◌, inl, inr, List, [], ◌∷◌, refl, sym, ap, subst, ◌∙◌, arith}
@@ -13,7 +13,6 @@ use Rattle.sqlite_trees.specs.declared.memory.MemStore.{MemStore}
 use Rattle.ci_values.specs.declared.attempts.AttemptState.TheVariants.{Live}
 use Rattle.ci_board.specs.declared.facts.Status.{Status}
 use Rattle.ci_board.specs.declared.facts.Status.TheVariants.{Pending}
-use Rattle.ci_board.specs.declared.facts.Row.{Row}
 use Rattle.ci_board.specs.Effects.{is_status}
 use Rattle.ci_board.specs.Rows.{no_row}
 use Rattle.ci_yaml_lines.specs.declared.code.Code.{Code}
@@ -37,7 +36,7 @@ use Rattle.ci_graph_layout.specs.Fault.{Plans, faulty, cyclic}
 use Rattle.ci_graph_layout.specs.declared.fault.GraphCode.{GraphCode}
 use Rattle.ci_machine.specs.declared.reply.Detail.{Detail}
 use Rattle.ci_machine_steps.specs.Files.{set_file, IsRead, configures, misconfigures, lacks_tree}
-use Rattle.ci_machine_steps.specs.Pipelines.{Layout, IsLaidOut, misread, unplanned, AreFirstRows, pipeline_created}
+use Rattle.ci_machine_steps.specs.Pipelines.{Layout, IsLaidOut, misread, unplanned, pipeline_created}
 use Rattle.ci_machine_steps.specs.Pipelines as pipelines
 use Rattle.ci_machine.specs.declared.records.BoardRow.{BoardRow}
 use Rattle.ci_machine.specs.declared.records.Job.{Job}
@@ -52,9 +51,11 @@ use Rattle.ci_machine.specs.Reply.{refusal}
 use Rattle.ci_machine_steps.specs.Plans.{Plan, token_of}
 use Rattle.ci_machine_steps.specs.Grants.{ask_job}
 use Rattle.ci_machine.specs.State.{State, empty, applied}
-use Rattle.ci_machine.specs.Statuses.{row_for, AreBoard}
+use Rattle.ci_machine.specs.Statuses.{row_for, rows_of, AreBoard}
 use Rattle.ci_machine_steps.specs.Step.{runner_with, queued, offered_variables}
 use Rattle.ci_machine.specs.Eligible.{chosen}
+use Rattle.ci_machine.specs.declared.records.Claim.{Claim}
+use Rattle.ci_machine.specs.Groups.{waiting_claim, is_first}
 use Rattle.ci_machine.specs.Waiting.{waits_as, groups_with, claims_in}
 use Rattle.ci_machine_steps.specs.History.{IsReached}
 use Rattle.ci_machine_laws.specs.Examples.{seed, token, pipeline, new_runner, with_project, with_runner, project_added, runner_added, laid_by, job}
@@ -159,6 +160,26 @@ first_of (j ∷ js) = j
 abbrev build : Job
 build = first_of made.jobs
 
+-- ---- the pipeline is shown
+
+-- its row says that it is pending: it waits for no other, and was never tried
+is_waiting : (board : List BoardRow) → AreBoard with_pipeline board → (row_for board 1).status ≡ Pending
+unfolding digits hex_on_literals
+is_waiting board are =
+    (are.each 1).is 0 (omega arith)
+
+-- for which groups its jobs must wait, by the status of its job
+abbrev claims_by : Status → List Claim
+claims_by status = map waiting_claim (filter (is_first with_pipeline.modes 1) (flat_map (λ (j : Job). waits_as (queued with_pipeline j) status) (build ∷ [])))
+
+-- and what the reply shows of it is no more
+shown_so : (board : List BoardRow) → AreBoard with_pipeline board → pipeline_created 1 made (claims_in with_pipeline board 1) (rows_of with_pipeline board 1) ≡ pipeline_made
+unfolding digits hex_on_literals
+shown_so board are =
+    let status : (row_for board 1).status ≡ Pending = is_waiting board are in
+    let row : row_for board 1 ≡ record no_row { status = Pending } = (are.each 1).each 0 (omega arith) ∙ ap (λ (s : Status). record no_row { status = s }) status in
+    (λ i. pipeline_created 1 made (claims_by (status i)) (row i ∷ []))
+
 -- ---- the file is read
 
 abbrev pub HasOneTree : Type 0
@@ -251,29 +272,14 @@ module _ (one_tree : HasOneTree) (not_both : HasNotBoth) (reads : ReadsTrees) (o
       let its_plan : p ≡ (laid_by given configured).plan = cc in
       ap (λ (d : Config). laid_out d p) its ∙ ap (laid_out configured) its_plan
 
-  -- its one row says that it is pending, and what the reply shows of it is no more
-  rows_so : (rows : List Row) → AreFirstRows made.jobs made.needs rows → pipeline_created 1 made (claims_in with_file [] 1) rows ≡ pipeline_made
-  rows_so [] are = let bad : ◌≡◌ {A = ℕ} 0 1 = are.long in absurd (omega (arith, bad))
-  rows_so (row ∷ []) are =
-      let status : row.status ≡ Pending = are.settled.is 0 (omega arith) in
-      let same : row ≡ record no_row { status = Pending } = are.settled.each 0 (omega arith) ∙ ap (λ (s : Status). record no_row { status = s }) status in
-      ap (λ (w : Row). pipeline_created 1 made (claims_in with_file [] 1) (w ∷ [])) same
-  rows_so (a ∷ b ∷ rows) are = let bad : ◌≡◌ {A = ℕ} (suc (suc (length rows))) 1 = are.long in absurd (omega (arith, bad))
-
   pub plans_pipeline : IsPlanned with_file (CreatePipeline pipeline) pipeline_made
   unfolding digits hex_on_literals
   plans_pipeline = record {
     only = λ board are p does.
-        let makes = subst (λ (r : Result Layout Detail). pipelines.Makes 1 1 (claims_in with_file [] 1) pipeline given 1000 r p) (laid_so does.0 does.1) does.2 in
-        makes.2 ∙ rows_so makes.0 makes.1;
+        let makes = subst (λ (r : Result Layout Detail). pipelines.Makes with_file pipeline given 1000 r p) (laid_so does.0 does.1) does.2 in
+        makes.2 ∙ shown_so makes.0 makes.1;
     taken = refl;
   }
-
--- its row says that it is pending: it waits for no other, and was never tried
-is_waiting : (board : List BoardRow) → AreBoard with_pipeline board → (row_for board 1).status ≡ Pending
-unfolding digits hex_on_literals
-is_waiting board are =
-    (are.each 1).is 0 (omega arith)
 
 -- what the runner's request comes to, by the status of the job
 abbrev by_status : Status → Plan

@@ -29,7 +29,6 @@ use Rattle.ci_machine_steps.specs.Files.{file_set}
 use Rattle.ci_machine_steps.specs.Pipelines.{given_by, Creation, creation, pipeline_created}
 use Rattle.ci_machine.specs.State.{State}
 use Rattle.ci_machine.specs.Statuses.{AreBoard}
-use Rattle.ci_machine.specs.Waiting.{claims_in}
 use Rattle.ci_machine_steps.specs.Step.{Does, project_variables}
 use Rattle.ci_machine_steps.specs.History.{IsReached}
 use Rattle.ci_machine_laws.specs.Examples.{seed, pipeline, token, project_added, new_runner, runner_added, with_runner, after, laid_by, asked, rows}
@@ -72,9 +71,9 @@ given = given_by pipeline (project_variables with_file 1)
 abbrev pub made : Creation
 made = creation 1 1 pipeline given 1000 (laid_by given configured)
 
--- no job waits, and so no claim is on a resource group
+-- no job has a resource group, and so no claim is on one
 abbrev pub pipeline_made : Plan
-pipeline_made = pipeline_created 1 made (claims_in with_file [] 1) (record no_row { status = Pending } ∷ [])
+pipeline_made = pipeline_created 1 made [] (record no_row { status = Pending } ∷ [])
 
 abbrev pub with_pipeline : State
 with_pipeline = after pipeline_made with_file

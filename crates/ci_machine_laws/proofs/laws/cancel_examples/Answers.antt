@@ -5,7 +5,7 @@ use Rattle.serde_json.proofs.OnLiterals.{serde_json_on_literals}
 use Rattle.ci_machine.specs.declared.records.Job.{Job}
 use Rattle.ci_machine.specs.declared.records.BoardRow.{BoardRow}
 use Rattle.ci_machine.specs.State.{State}
-use Rattle.ci_machine.specs.Statuses.{graph_by, graph_of, facts_in, facts_of, row_for}
+use Rattle.ci_machine.specs.Statuses.{graph_by, facts_in, row_for}
 use Rattle.ci_machine_laws.specs.Examples.{after}
 use Rattle.ci_machine_laws.specs.ActExamples.{board_from, four, four_board, all_cancelled, cancelled_rows, run_cancelled, run_cancelled_rows}
 use Rattle.ci_machine_laws.proofs.Computed.{computed_rows, one_pipeline}
@@ -20,19 +20,6 @@ returns-clause-before c =
     (record { opens = refl; failed = refl; barred = refl }, (record { opens = refl; failed = refl; barred = refl }, (record { opens = refl; failed = refl; barred = refl }, (record { opens = refl; failed = refl; barred = refl }, tt))))
     (refl, (refl, (refl, (refl, tt)))))
 
-pub returns-clause-all : goal.returns-clause-all
-returns-clause-all c =
-    let t : State = after all_cancelled four in (
-      cancelled_rows,
-      record {
-        long = refl;
-        settled = computed_rows (graph_of t 1) (facts_of t 1) cancelled_rows
-            (record { opens = refl; failed = refl; barred = refl }, (record { opens = refl; failed = refl; barred = refl }, (record { opens = refl; failed = refl; barred = refl }, (record { opens = refl; failed = refl; barred = refl }, tt))))
-            (refl, (refl, (refl, (refl, tt))));
-      },
-      refl,
-    )
-
 pub returns-clause-reply : goal.returns-clause-reply
 unfolding digits serde_json_on_literals
 returns-clause-reply c = refl
@@ -46,18 +33,8 @@ returns-clause-board c =
     (record { opens = refl; failed = refl; barred = refl }, (record { opens = refl; failed = refl; barred = refl }, (record { opens = refl; failed = refl; barred = refl }, (record { opens = refl; failed = refl; barred = refl }, tt))))
     (refl, (refl, (refl, (refl, tt)))))
 
-pub returns-clause-one : goal.returns-clause-one
-returns-clause-one c =
-    let t : State = after run_cancelled four in (
-      run_cancelled_rows,
-      record {
-        long = refl;
-        settled = computed_rows (graph_of t 1) (facts_of t 1) run_cancelled_rows
-            (record { opens = refl; failed = refl; barred = refl }, (record { opens = refl; failed = refl; barred = refl }, (record { opens = refl; failed = refl; barred = refl }, (record { opens = refl; failed = refl; barred = refl }, tt))))
-            (refl, (refl, (refl, (refl, tt))));
-      },
-      refl,
-    )
+pub returns-clause-all : goal.returns-clause-all
+returns-clause-all c = (board_from 1 cancelled_rows, returns-clause-board c, refl)
 
 pub returns-clause-one_reply : goal.returns-clause-one_reply
 unfolding digits serde_json_on_literals
@@ -71,3 +48,6 @@ returns-clause-one_board c =
     (computed_rows (graph_by s.jobs s.needs) (map (facts_in s) s.jobs) (map (row_for b) (map (λ (j : Job). j.id) s.jobs))
     (record { opens = refl; failed = refl; barred = refl }, (record { opens = refl; failed = refl; barred = refl }, (record { opens = refl; failed = refl; barred = refl }, (record { opens = refl; failed = refl; barred = refl }, tt))))
     (refl, (refl, (refl, (refl, tt)))))
+
+pub returns-clause-one : goal.returns-clause-one
+returns-clause-one c = (board_from 1 run_cancelled_rows, returns-clause-one_board c, refl)

@@ -5,7 +5,7 @@ use Rattle.serde_json.proofs.OnLiterals.{serde_json_on_literals}
 use Rattle.ci_machine.specs.declared.records.Job.{Job}
 use Rattle.ci_machine.specs.declared.records.BoardRow.{BoardRow}
 use Rattle.ci_machine.specs.State.{State}
-use Rattle.ci_machine.specs.Statuses.{graph_by, graph_of, facts_in, facts_of, row_for}
+use Rattle.ci_machine.specs.Statuses.{graph_by, facts_in, row_for}
 use Rattle.ci_machine_laws.specs.Examples.{after}
 use Rattle.ci_machine_laws.specs.ActExamples.{board_from, two, two_board, hand_played, played_rows, succeeded, succeeded_board, hand_retried}
 use Rattle.ci_machine_laws.proofs.Computed.{computed_rows, one_pipeline}
@@ -20,19 +20,6 @@ returns-clause-before c =
     (record { opens = refl; failed = refl; barred = refl }, (record { opens = refl; failed = refl; barred = refl }, tt))
     (refl, (refl, tt)))
 
-pub returns-clause-played : goal.returns-clause-played
-returns-clause-played c =
-    let t : State = after hand_played two in (
-      played_rows,
-      record {
-        long = refl;
-        settled = computed_rows (graph_of t 1) (facts_of t 1) played_rows
-            (record { opens = refl; failed = refl; barred = refl }, (record { opens = refl; failed = refl; barred = refl }, tt))
-            (refl, (refl, tt));
-      },
-      refl,
-    )
-
 pub returns-clause-reply : goal.returns-clause-reply
 unfolding digits serde_json_on_literals
 returns-clause-reply c = refl
@@ -46,6 +33,9 @@ returns-clause-board c =
     (record { opens = refl; failed = refl; barred = refl }, (record { opens = refl; failed = refl; barred = refl }, tt))
     (refl, (refl, tt)))
 
+pub returns-clause-played : goal.returns-clause-played
+returns-clause-played c = (board_from 1 played_rows, returns-clause-board c, refl)
+
 pub returns-clause-succeeded : goal.returns-clause-succeeded
 returns-clause-succeeded c =
     let s : State = succeeded in
@@ -55,19 +45,6 @@ returns-clause-succeeded c =
     (record { opens = refl; failed = refl; barred = refl }, (record { opens = refl; failed = refl; barred = refl }, tt))
     (refl, (refl, tt)))
 
-pub returns-clause-retried : goal.returns-clause-retried
-returns-clause-retried c =
-    let t : State = after hand_retried succeeded in (
-      played_rows,
-      record {
-        long = refl;
-        settled = computed_rows (graph_of t 1) (facts_of t 1) played_rows
-            (record { opens = refl; failed = refl; barred = refl }, (record { opens = refl; failed = refl; barred = refl }, tt))
-            (refl, (refl, tt));
-      },
-      refl,
-    )
-
 pub returns-clause-board_again : goal.returns-clause-board_again
 returns-clause-board_again c =
     let s : State = after hand_retried succeeded in
@@ -76,3 +53,6 @@ returns-clause-board_again c =
     (computed_rows (graph_by s.jobs s.needs) (map (facts_in s) s.jobs) (map (row_for b) (map (λ (j : Job). j.id) s.jobs))
     (record { opens = refl; failed = refl; barred = refl }, (record { opens = refl; failed = refl; barred = refl }, tt))
     (refl, (refl, tt)))
+
+pub returns-clause-retried : goal.returns-clause-retried
+returns-clause-retried c = (board_from 1 played_rows, returns-clause-board_again c, refl)

@@ -5,7 +5,7 @@ use Rattle.serde_json.proofs.OnLiterals.{serde_json_on_literals}
 use Rattle.ci_machine.specs.declared.records.Job.{Job}
 use Rattle.ci_machine.specs.declared.records.BoardRow.{BoardRow}
 use Rattle.ci_machine.specs.State.{State}
-use Rattle.ci_machine.specs.Statuses.{graph_by, graph_of, facts_in, facts_of, row_for}
+use Rattle.ci_machine.specs.Statuses.{graph_by, facts_in, row_for}
 use Rattle.ci_machine_laws.specs.Examples.{after}
 use Rattle.ci_machine_laws.specs.ActExamples.{board_from, five, five_board, first_retried, retried_rows}
 use Rattle.ci_machine_laws.proofs.Computed.{computed_rows, one_pipeline}
@@ -20,19 +20,6 @@ returns-clause-before c =
     (record { opens = refl; failed = refl; barred = refl }, (record { opens = refl; failed = refl; barred = refl }, (record { opens = refl; failed = refl; barred = refl }, (record { opens = refl; failed = refl; barred = refl }, (record { opens = refl; failed = refl; barred = refl }, tt)))))
     (refl, (refl, (refl, (refl, (refl, tt))))))
 
-pub returns-clause-retried : goal.returns-clause-retried
-returns-clause-retried c =
-    let t : State = after first_retried five in (
-      retried_rows,
-      record {
-        long = refl;
-        settled = computed_rows (graph_of t 1) (facts_of t 1) retried_rows
-            (record { opens = refl; failed = refl; barred = refl }, (record { opens = refl; failed = refl; barred = refl }, (record { opens = refl; failed = refl; barred = refl }, (record { opens = refl; failed = refl; barred = refl }, (record { opens = refl; failed = refl; barred = refl }, tt)))))
-            (refl, (refl, (refl, (refl, (refl, tt)))));
-      },
-      refl,
-    )
-
 pub returns-clause-reply : goal.returns-clause-reply
 unfolding digits serde_json_on_literals
 returns-clause-reply c = refl
@@ -45,6 +32,9 @@ returns-clause-board c =
     (computed_rows (graph_by s.jobs s.needs) (map (facts_in s) s.jobs) (map (row_for b) (map (λ (j : Job). j.id) s.jobs))
     (record { opens = refl; failed = refl; barred = refl }, (record { opens = refl; failed = refl; barred = refl }, (record { opens = refl; failed = refl; barred = refl }, (record { opens = refl; failed = refl; barred = refl }, (record { opens = refl; failed = refl; barred = refl }, tt)))))
     (refl, (refl, (refl, (refl, (refl, tt))))))
+
+pub returns-clause-retried : goal.returns-clause-retried
+returns-clause-retried c = (board_from 1 retried_rows, returns-clause-board c, refl)
 
 pub returns-clause-pipeline : goal.returns-clause-pipeline
 unfolding digits serde_json_on_literals

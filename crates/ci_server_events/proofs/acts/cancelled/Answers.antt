@@ -1,6 +1,5 @@
 use Rattle.std.specs.Prelude.{length}
 use Rattle.std.proofs.Common.{refl, sym, ap, ◌∙◌}
-use Rattle.ci_machine.specs.Waiting.{waiting}
 use Rattle.ci_machine_steps.specs.Cancels.{cancel, cancellable_jobs, CancelsSome}
 use Rattle.ci_machine_steps.specs.Plans.{Plan}
 use Rattle.ci_machine_steps.specs.Shows.{pipeline_shown}
@@ -18,7 +17,7 @@ returns-then-is_empty c = λ k kept whole.
     let p = w.pipeline in
     let d = c.in_ok-done.done in
     let made = c.alone in
-    nothing_changes k kept (λ (q : Plan). CancelsSome k.state (waiting k.state k.board) p (cancellable_jobs k.state k.board p.id) q)
+    nothing_changes k kept (λ (q : Plan). CancelsSome k.state p (cancellable_jobs k.state k.board p.id) q)
     c.refused.result made.result.answer made.result.changes made.result.beside made.ensures.answer made.ensures.changes made.ensures.rows made.ensures.indexes
     (pipeline_refused k kept p.id w whole d.outcome d.indexes.items d.claims.items (c.in_ok-done.ensures.done k p.id kept whole) d.chosen.items c.in_ok-done.ensures.chosen c.acted_jobs_are_asked.ensures.all
     (is_empty _ _ c.is_empty.result c.is_empty.ensures c.if-is_empty.true d.chosen.ok.0) c.refused.result c.refused.ensures)

@@ -30,7 +30,7 @@ returns-clause-done c = λ k n kept whole.
     let w = c.args.whole.now in
     let o = c.in_ok-outcome.outcome in
     let chosen = c.in_ok-chosen.chosen in
-    done_is c.acts_are_indexed.ensures c.args.act c.args.only k n w o chosen.items c.in_ok-before.before c.in_ok-then.then c.in_ok-indexes.indexes.items c.in_ok-claims.claims.items kept whole
+    done_is c.acts_are_indexed.ensures c.acts_leave_lines.ensures c.args.act c.args.only k n w o chosen.items c.in_ok-before.before c.in_ok-then.then c.in_ok-indexes.indexes.items c.in_ok-claims.claims.items kept whole
     (c.in_ok-outcome.ensures.outcome k.state k.board n kept.sound kept.are_board whole.records)
     (λ other. c.in_ok-chosen.ensures other ∙ (λ i. map (λ place. slice_index_or (c.as_slice-jobs.ensures.value i) place other) (c.as_slice.ensures.value i)))
     (c.in_ok-before.ensures.status k n kept whole.records)

@@ -1,6 +1,4 @@
 use Rattle.std.specs.Prelude.{◌≡◌, List, IfOk, map, length, replicate, option_to_list}
-use Rattle.std.specs.Ordering.{nat_cmp}
-use Rattle.std.specs.List.Sorted.{IsStrictlySortedBy}
 use Rattle.std.proofs.Common.{subst, sym, ap, ◌∙◌}
 use Rattle.std.proofs.lemmas.List.{length-map}
 use Rattle.ci_board.specs.Rows.{no_facts}
@@ -9,7 +7,6 @@ use Rattle.ci_machine.specs.declared.records.BoardRow.{BoardRow}
 use Rattle.ci_machine.specs.declared.records.Job.{Job}
 use Rattle.ci_machine.specs.declared.records.Need.{Need}
 use Rattle.ci_machine.specs.Bodies.{status_of_jobs}
-use Rattle.ci_machine_steps.specs.Pipelines.{AreFirstRows}
 use Rattle.ci_machine_statuses.specs.HolderChanges.{opened}
 use Rattle.ci_server_events.specs.Creating.{RowsMade}
 use Rattle.ci_server_events.proofs.pipelines.beside_creation.Goals as goal
@@ -29,13 +26,10 @@ returns c =
     let jobs = c.as_slice-jobs in
     let needs = c.as_slice in
     let keys = subst (λ z. IfOk z (λ v. map (λ r. r.job) v.items ≡ map (λ j. j.id) jobs.result.now)) c.in_ok-rows.ensures.answer c.rows_of_creation.ensures.jobs in
-    let first = subst (λ z. IfOk z (λ v. IsStrictlySortedBy nat_cmp (map (λ j. j.id) jobs.result.now) → AreFirstRows jobs.result.now needs.result.now (map (λ r. r.row) v.items))) c.in_ok-rows.ensures.answer c.rows_of_creation.ensures.rows in
     let board = subst (λ z. IfOk z (λ v. RowsMade jobs.result.now needs.result.now v.items)) c.in_ok-rows.ensures.answer c.rows_of_creation.ensures.board in
     let rows = c.in_ok-rows.rows.items in
     record {
       keys = keys ∙ ap (map (λ (j : Job). j.id)) jobs.ensures.value;
-      first = subst (λ (ns : List Need). IsStrictlySortedBy nat_cmp (map (λ j. j.id) it.jobs.items) → AreFirstRows it.jobs.items ns (map (λ r. r.row) rows)) needs.ensures.value
-          (subst (λ (js : List Job). IsStrictlySortedBy nat_cmp (map (λ j. j.id) js) → AreFirstRows js needs.result.now (map (λ r. r.row) rows)) jobs.ensures.value first);
       board = subst (λ (ns : List Need). RowsMade it.jobs.items ns rows) needs.ensures.value (subst (λ (js : List Job). RowsMade js needs.result.now rows) jobs.ensures.value board);
       indexes = c.in_ok-indexes.ensures
           ∙ (ap option_to_list c.opened.ensures

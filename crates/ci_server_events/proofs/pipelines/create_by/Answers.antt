@@ -46,7 +46,7 @@ returns-in-Ok-Some g c =
     let out = out_with c.args.text.now c.as_str.result.now new (project_variables k.state new.project) c.as_slice.result.now c.args.now c.in_ok-pipeline.pipeline c.in_ok-job.job k.state.next.pipeline k.state.next.job
     c.lay_out.result (Ok (Some it)) c.as_str.ensures (c.as_slice.ensures.value ∙ variables) more.0 more.1.0 (c.in-Ok-Some.is ∙ ap (λ (o : Option Creation). Ok o) c.in-Ok-Some.field-0-is) c.lay_out.ensures.records in
     let made = more.1.1 kept in
-    creation_planned k kept c.args.text.now new (project_variables k.state new.project) c.args.now c.laid_out_creates.ensures.made c.created_is_made.ensures c.creation_is_indexed.ensures it y.beside y.answer y.changes out made.0
+    creation_planned k kept c.args.text.now new (project_variables k.state new.project) c.args.now c.laid_out_creates.ensures.made c.created_is_made.ensures c.creation_is_indexed.ensures c.creation_is_shown.ensures.rows c.creation_is_shown.ensures.claims it y.beside y.answer y.changes out made.0
     (made.1 ∙ ap (λ (n : ℕ). pipeline_created n (creation_view it) (claims_in k.state k.board it.pipeline.id) (rows_beside y.beside)) more.1.0))
 
 -- there are no numbers for what the file lays out, and nothing changes
@@ -65,10 +65,10 @@ returns-in-Ok-None g c =
     let vs = project_variables k.state new.project in
     let out = out_with c.args.text.now c.as_str.result.now new vs c.as_slice.result.now c.args.now c.in_ok-pipeline.pipeline c.in_ok-job.job k.state.next.pipeline k.state.next.job c.lay_out.result (Ok None)
     c.as_str.ensures (c.as_slice.ensures.value ∙ variables) more.0 more.1 (c.in-Ok-None.is ∙ ap (λ (o : Option Creation). Ok o) c.in-Ok-None.field-0-is) c.lay_out.ensures.records in
-    subst (λ z. PlansFor k (Creates k.state.next.pipeline k.state.next.job (claims_in k.state k.board k.state.next.pipeline) new (given_by new vs) c.args.now (Ok c.args.text.now) (z.answer, z.changes)) z.changes z.beside) (ok_is made.result y is)
-    (nothing_changes k kept (λ (p : Plan). Creates k.state.next.pipeline k.state.next.job (claims_in k.state k.board k.state.next.pipeline) new (given_by new vs) c.args.now (Ok c.args.text.now) p)
+    subst (λ z. PlansFor k (Creates k.state new (given_by new vs) c.args.now (Ok c.args.text.now) (z.answer, z.changes)) z.changes z.beside) (ok_is made.result y is)
+    (nothing_changes k kept (λ (p : Plan). Creates k.state new (given_by new vs) c.args.now (Ok c.args.text.now) p)
     c.refused.result made.result.answer made.result.changes made.result.beside made.ensures.answer made.ensures.changes made.ensures.rows made.ensures.indexes
-    (c.laid_out_creates.ensures.lacking c.args.text.now (origin k.state.next.pipeline k.state.next.job new vs c.args.now) (claims_in k.state k.board k.state.next.pipeline) c.refused.result out c.refused.ensures)
+    (c.laid_out_creates.ensures.lacking k.state c.args.text.now new vs c.args.now c.refused.result out c.refused.ensures)
     (ap (λ (p : Plan). p.1) c.refused.ensures)))
 
 -- the file has a fault, and nothing changes
@@ -90,8 +90,8 @@ returns-in-Err-Fault g c =
     let out = out_with c.args.text.now c.as_str.result.now new vs c.as_slice.result.now c.args.now c.in_ok-pipeline.pipeline c.in_ok-job.job k.state.next.pipeline k.state.next.job c.lay_out.result (Err (Fault detail))
     c.as_str.ensures (c.as_slice.ensures.value ∙ variables) more.0 more.1 (c.in-Err-Fault.is ∙ ap (λ (f : FileFault). Err f) c.in-Err-Fault.field-0-is) c.lay_out.ensures.records in
     let told : plan ≡ faulted detail = c.in_ok-plan-in-Err-Fault.ensures in
-    subst (λ z. PlansFor k (Creates k.state.next.pipeline k.state.next.job (claims_in k.state k.board k.state.next.pipeline) new (given_by new vs) c.args.now (Ok c.args.text.now) (z.answer, z.changes)) z.changes z.beside) (ok_is made.result y is)
-    (nothing_changes k kept (λ (p : Plan). Creates k.state.next.pipeline k.state.next.job (claims_in k.state k.board k.state.next.pipeline) new (given_by new vs) c.args.now (Ok c.args.text.now) p)
+    subst (λ z. PlansFor k (Creates k.state new (given_by new vs) c.args.now (Ok c.args.text.now) (z.answer, z.changes)) z.changes z.beside) (ok_is made.result y is)
+    (nothing_changes k kept (λ (p : Plan). Creates k.state new (given_by new vs) c.args.now (Ok c.args.text.now) p)
     plan made.result.answer made.result.changes made.result.beside made.ensures.answer made.ensures.changes made.ensures.rows made.ensures.indexes
-    (c.laid_out_creates.ensures.faulty c.args.text.now (origin k.state.next.pipeline k.state.next.job new vs c.args.now) detail (claims_in k.state k.board k.state.next.pipeline) plan out told)
+    (c.laid_out_creates.ensures.faulty k.state c.args.text.now new vs c.args.now detail plan out told)
     (ap (λ (p : Plan). p.1) told)))

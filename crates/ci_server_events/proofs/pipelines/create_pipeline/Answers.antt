@@ -3,7 +3,6 @@ use Rattle.std.specs.Borrow.{Bor}
 use Rattle.std.specs.Result.{result_map_both}
 use Rattle.std.proofs.Common.{subst, sym, ap, ◌∙◌}
 use Rattle.ci_machine.specs.declared.records.Project.{Project}
-use Rattle.ci_machine.specs.Waiting.{claims_in}
 use Rattle.ci_machine_steps.specs.Pipelines.{given_by, may_create, Creates}
 use Rattle.ci_machine_steps.specs.Plans.{Plan, asked_project}
 use Rattle.ci_machine_steps.specs.Step.{project_with, project_variables}
@@ -22,7 +21,7 @@ returns-in-Ok g c =
     (λ k y is project planned kept.
     let file : may_create (asked_project (project_with k.state new.token) new.project) new ≡ Ok c.in-Ok.text.now =
     ap (λ (o : Option Project). may_create (asked_project o new.project) new) (sym project) ∙ (sym c.file_for.ensures ∙ ap (result_map_both (λ (t : Bor (List ℕ)). t.now) unmade) c.in-Ok.is) in
-    subst (λ (w : Result (List ℕ) Plan). PlansFor k (Creates k.state.next.pipeline k.state.next.job (claims_in k.state k.board k.state.next.pipeline) new (given_by new (project_variables k.state new.project)) c.args.now w (y.answer, y.changes)) y.changes y.beside)
+    subst (λ (w : Result (List ℕ) Plan). PlansFor k (Creates k.state new (given_by new (project_variables k.state new.project)) c.args.now w (y.answer, y.changes)) y.changes y.beside)
     (sym file) (planned kept))
 
 -- it is refused before its file is read
@@ -37,7 +36,7 @@ returns g c =
     let refused : may_create (asked_project (project_with k.state new.token) new.project) new ≡ Err (unmade c.in-Err.refusal) =
     ap (λ (o : Option Project). may_create (asked_project o new.project) new) (sym project) ∙ (sym c.file_for.ensures ∙ ap (result_map_both (λ (t : Bor (List ℕ)). t.now) unmade) c.in-Err.is) in
     nothing_changes k kept
-    (λ p. Creates k.state.next.pipeline k.state.next.job (claims_in k.state k.board k.state.next.pipeline) new (given_by new (project_variables k.state new.project)) c.args.now (may_create (asked_project (project_with k.state new.token) new.project) new) p)
+    (λ p. Creates k.state new (given_by new (project_variables k.state new.project)) c.args.now (may_create (asked_project (project_with k.state new.token) new.project) new) p)
     plan made.result.answer made.result.changes made.result.beside made.ensures.answer made.ensures.changes made.ensures.rows made.ensures.indexes
-    (subst (λ (w : Result (List ℕ) Plan). Creates k.state.next.pipeline k.state.next.job (claims_in k.state k.board k.state.next.pipeline) new (given_by new (project_variables k.state new.project)) c.args.now w plan) (sym refused) refuses)
+    (subst (λ (w : Result (List ℕ) Plan). Creates k.state new (given_by new (project_variables k.state new.project)) c.args.now w plan) (sym refused) refuses)
     (ap (λ (p : Plan). p.1) refuses ∙ refusals_change_nothing c.in-Err.refusal))

@@ -1,0 +1,107 @@
+-- A user acts on jobs of a pipeline: the rows after it, and of which other jobs its jobs wait then, which is as before.
+use Rattle.std.specs.Prelude.{◌≡◌, ℕ, Bool, ◌==◌, List, ◌++◌, length, map, filter, Option}
+use Rattle.std.proofs.Common.{refl, sym, ap, ◌∙◌, ⊎_elim, eq-eqb, eqb-true}
+use Rattle.std.proofs.lemmas.Bool.{cond-false, cases_Bool, eqb-false}
+use Rattle.std.proofs.lemmas.List.{length-map}
+use Rattle.std.proofs.lemmas.List.Folds.{flat_map-map}
+use Rattle.ci_graph.specs.Lists.{is_among}
+use Rattle.ci_board.specs.declared.facts.Row.{Row}
+use Rattle.ci_machine.specs.declared.records.BoardRow.{BoardRow}
+use Rattle.ci_machine.specs.declared.records.GroupMode.{GroupMode}
+use Rattle.ci_machine.specs.declared.records.Job.{Job}
+use Rattle.ci_machine.specs.declared.records.WaitingJob.{WaitingJob}
+use Rattle.ci_machine.specs.State.{State}
+use Rattle.ci_machine.specs.Kept.{put_rows}
+use Rattle.ci_machine.specs.Statuses.{jobs_of, numbers_of, rows_of, row_for, status_for}
+use Rattle.ci_machine.specs.Groups.{held_claim, waiting_claim, is_first, claims_on}
+use Rattle.ci_machine.specs.Holders.{holders}
+use Rattle.ci_machine.specs.Lookups.{queued}
+use Rattle.ci_machine.specs.Waiting.{waits_as, waiting, groups_with, claims_in}
+use Rattle.ci_machine.proofs.Keyed.{Has, filter_has, has_map}
+use Rattle.ci_machine_steps.proofs.Sound.{Sound}
+use Rattle.ci_machine_statuses.specs.declared.act.Act.{Act}
+use Rattle.ci_machine_statuses.specs.declared.outcome.Outcome.{Outcome}
+use Rattle.ci_machine_statuses.specs.Acts.{marked, is_acted_on, acted_state, IsOutcome}
+use Rattle.ci_machine_statuses.proofs.RowPuts.{row_puts, changed_are, puts_other, puts_rows}
+use Rattle.ci_machine_statuses.proofs.Joint.{numbers_rise, apart}
+use Rattle.ci_machine_statuses.proofs.ActFacts.{t, after_is, within, of_job, done_to, keeps, marked_pipeline, outside}
+use Rattle.ci_machine_statuses.proofs.Lines.{own_first, passing_alike}
+
+abbrev number : Job → ℕ
+number j = j.id
+
+module _ (act : Act) (only : Option ℕ) (s : State) (board : List BoardRow) (n : ℕ) (o : Outcome) (sound : Sound s) (outcome : IsOutcome act only s board n o) where
+  abbrev test : Job → Bool
+  test = is_acted_on act only board
+
+  abbrev new : State
+  new = acted_state act only s board n
+
+  abbrev then : State
+  then = t s act n test sound
+
+  abbrev after : List BoardRow
+  after = put_rows o.changed.items board
+
+  abbrev olds : List Row
+  olds = rows_of s board n
+
+  new_is : new ≡ then
+  new_is = after_is s act n test sound
+
+  its_numbers : numbers_of new n ≡ numbers_of s n
+  its_numbers = ap (λ (w : State). numbers_of w n) new_is ∙ (within s act n test sound).its_numbers n
+
+  olds_long : length (numbers_of s n) ≡ length olds
+  olds_long = sym (length-map (numbers_of s n) (row_for board))
+
+  rows_long : length olds ≡ length o.rows.items
+  rows_long = sym olds_long ∙ (ap length (sym its_numbers) ∙ (length-map (jobs_of new n) number ∙ sym outcome.rows.long))
+
+  after_puts : after ≡ put_rows (row_puts (numbers_of s n) olds o.rows.items) board
+  after_puts = ap (λ (rs : List BoardRow). put_rows rs board) (outcome.differing ∙ changed_are (numbers_of s n) olds o.rows.items olds_long rows_long)
+
+  pub own_rows : map (row_for after) (numbers_of s n) ≡ o.rows.items
+  own_rows =
+      ap (λ (b : List BoardRow). map (row_for b) (numbers_of s n)) after_puts
+      ∙ puts_rows 0 (numbers_of s n) olds o.rows.items board (numbers_rise s n sound) olds_long rows_long refl
+
+  pub rows_after : rows_of new after n ≡ o.rows.items
+  rows_after = ap (map (row_for after)) its_numbers ∙ own_rows
+
+  -- a job of another pipeline stays as it is
+  its_own : (j : Job) → Has j s.jobs → Has j (jobs_of s j.pipeline)
+  its_own j has = filter_has (λ (i : Job). i.pipeline == j.pipeline) j s.jobs has (eq-eqb j.pipeline j.pipeline refl)
+
+  other_row : (j : Job) → Has j s.jobs → (n ≡ j.pipeline → ⊥) → row_for after j.id ≡ row_for board j.id
+  other_row j has d =
+      ap (λ (b : List BoardRow). row_for b j.id) after_puts
+      ∙ puts_other (numbers_of s n) olds o.rows.items board j.id (λ z. apart s n j.pipeline j.id sound d z (has_map number j (jobs_of s j.pipeline) (its_own j has)))
+
+  abbrev F : Job → Job
+  F = of_job s act n test sound
+
+  other_job : (j : Job) → Has j s.jobs → (n ≡ j.pipeline → ⊥) → F j ≡ j
+  other_job j has d = cond-false (is_among (map number (done_to s act n test sound)) j.id) (marked act s j) j (outside s act n test sound j.pipeline d j (its_own j has))
+
+  module _ (modes : List GroupMode) where
+    abbrev before_by : State → List BoardRow → Job → List WaitingJob
+    before_by w b j = filter (is_first modes n) (waits_as (queued w j) (status_for b j.id))
+
+    one : (j : Job) → Has j s.jobs → before_by then after (F j) ≡ before_by s board j
+    one j has =
+        ⊎_elim
+        (λ e. own_first modes n (queued then (F j)) (status_for after (F j).id) (keeps s act n test sound (λ (i : Job). i.pipeline) (marked_pipeline act s) j ∙ eqb-true j.pipeline n e)
+        ∙ sym (own_first modes n (queued s j) (status_for board j.id) (eqb-true j.pipeline n e)))
+        (λ e. let d : n ≡ j.pipeline → ⊥ = λ q. eqb-false j.pipeline n e (sym q) in
+        ap (before_by then after) (other_job j has d) ∙ ap (λ (r : Row). filter (is_first modes n) (waits_as (queued s j) r.status)) (other_row j has d))
+        (cases_Bool (j.pipeline == n))
+
+    ahead : filter (is_first modes n) (waiting new after) ≡ filter (is_first modes n) (waiting s board)
+    ahead =
+        ap (λ (w : State). filter (is_first modes n) (waiting w after)) new_is
+        ∙ (ap (filter (is_first modes n)) (flat_map-map (λ (j : Job). waits_as (queued then j) (status_for after j.id)) F s.jobs)
+        ∙ passing_alike (is_first modes n) (λ j. waits_as (queued s j) (status_for board j.id)) (λ j. waits_as (queued then (F j)) (status_for after (F j).id)) s.jobs one)
+
+  pub claims_after : claims_in new after n ≡ claims_on (groups_with new (waiting s board)) n
+  claims_after = ap (λ (ws : List WaitingJob). map held_claim (holders new) ++ map waiting_claim ws) (ahead new.modes)

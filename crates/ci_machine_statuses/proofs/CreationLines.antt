@@ -1,0 +1,125 @@
+-- A pipeline is made: no group is held that was not, and its jobs wait for the groups for which they would have waited before.
+use Rattle.std.specs.Prelude.{◌≡◌, ℕ, ◌==◌, List, [], ◌∷◌, ◌++◌, map, filter, find, flat_map, Option, Some, option_map, Ok}
+use Rattle.std.proofs.Common.{refl, sym, ap, subst, ◌∙◌}
+use Rattle.std.proofs.lemmas.Grind.{flat_map-append}
+use Rattle.std.proofs.lemmas.List.{append-nil}
+use Rattle.std.proofs.lemmas.List.Elements.{filter-append}
+use Rattle.ci_graph_layout.specs.Inclusion.{Given}
+use Rattle.ci_board.specs.declared.facts.Row.{Row}
+use Rattle.ci_machine.specs.declared.records.Attempt.{Attempt}
+use Rattle.ci_machine.specs.declared.records.BoardRow.{BoardRow}
+use Rattle.ci_machine.specs.declared.records.GroupMode.{GroupMode}
+use Rattle.ci_machine.specs.declared.records.Job.{Job}
+use Rattle.ci_machine.specs.declared.records.Pipeline.{Pipeline}
+use Rattle.ci_machine.specs.declared.records.WaitingJob.{WaitingJob}
+use Rattle.ci_machine.specs.declared.request.NewPipeline.{NewPipeline}
+use Rattle.ci_machine.specs.State.{State, applied}
+use Rattle.ci_machine.specs.Kept.{put_rows}
+use Rattle.ci_machine.specs.Leases.{is_live}
+use Rattle.ci_machine.specs.Statuses.{rows_of, status_for, AreBoard}
+use Rattle.ci_machine.specs.Groups.{held_claim, waiting_claim, is_first}
+use Rattle.ci_machine.specs.Holders.{queued_at, group_held, held_by, held_of, holders}
+use Rattle.ci_machine.specs.Lookups.{job_at, pipeline_at, project_or_none, queued, live_attempts}
+use Rattle.ci_machine.specs.Waiting.{waits_as, waiting, claims_in}
+use Rattle.ci_machine.proofs.Keyed.{Has, has_filter, find_has, has_from_all}
+use Rattle.ci_machine_steps.specs.Pipelines.{Layout, IsLaidOut, Creation, creation, creation_changes}
+use Rattle.ci_machine_steps.proofs.Created.{after_creation}
+use Rattle.ci_machine_steps.proofs.Sound.{Sound}
+use Rattle.ci_machine_statuses.specs.Changes.{IsMade}
+use Rattle.ci_machine_statuses.proofs.Creations as creations
+use Rattle.ci_machine_statuses.proofs.Made as made_rows
+use Rattle.ci_machine_statuses.proofs.Puts.{put_last}
+use Rattle.ci_machine_statuses.proofs.HeldLists.{find_left, flat_same}
+use Rattle.ci_machine_statuses.proofs.Lines.{own_first, passing_alike, none_passing}
+
+module _ (s : State) (sound : Sound s) (new : NewPipeline) (given : Given) (now : ℕ) (text : List ℕ) (laid : Layout) (lays : IsLaidOut text given (Ok laid)) where
+  abbrev c : Creation
+  c = creation s.next.pipeline s.next.job new given now laid
+
+  abbrev t : State
+  t = applied (creation_changes s.next.job c) s
+
+  abbrev n : ℕ
+  n = s.next.pipeline
+
+  made : IsMade s t n c.jobs c.needs
+  made = creations.made s new given now text laid sound lays c refl
+
+  pub pipelines : t.pipelines ≡ s.pipelines ++ c.pipeline ∷ []
+  pipelines = ap (λ (w : State). w.pipelines) (after_creation s.next.job c s) ∙ put_last (λ (q : Pipeline). q.id) c.pipeline s.pipelines (λ q h. sound.pipeline_below q h)
+
+  -- ---- what is held
+
+  -- a job that was there has the pipeline that it had
+  same_pipeline : (j : Job) → Has j s.jobs → pipeline_at t j.pipeline ≡ pipeline_at s j.pipeline
+  same_pipeline j has =
+      let v = sound.job_pipeline j has in
+      let was : pipeline_at s j.pipeline ≡ Some v.0 = subst (λ m. pipeline_at s m ≡ Some v.0) v.1.1 (find_has (λ (q : Pipeline). q.id) v.0 0 s.pipelines sound.pipelines v.1.0) in
+      ap (find (λ (q : Pipeline). q.id == j.pipeline)) pipelines ∙ (find_left (λ (q : Pipeline). q.id == j.pipeline) v.0 s.pipelines (c.pipeline ∷ []) was ∙ sym was)
+
+  pub same_held : (a : Attempt) → Has a s.attempts → held_by a.id (queued_at t a.job) ≡ held_by a.id (queued_at s a.job)
+  same_held a h =
+      let w = sound.attempt_job a h in
+      let j = w.0 in
+      let was : job_at s a.job ≡ Some j = subst (λ m. job_at s m ≡ Some j) w.1.1 (find_has (λ (i : Job). i.id) j 0 s.jobs sound.jobs w.1.0) in
+      let is : job_at t a.job ≡ Some j = ap (find (λ (i : Job). i.id == a.job)) made.all_jobs ∙ find_left (λ (i : Job). i.id == a.job) j s.jobs c.jobs was in
+      ap (λ (o : Option Job). held_by a.id (option_map (queued t) o)) is
+      ∙ (ap (λ (o : Option Pipeline). group_held a.id (project_or_none o) j.options.resource_group) (same_pipeline j w.1.0)
+      ∙ sym (ap (λ (o : Option Job). held_by a.id (option_map (queued s) o)) was))
+
+  same_holders : holders t ≡ holders s
+  same_holders =
+      ap (λ (l : List Attempt). flat_map (held_of t) (filter is_live l)) made.same_attempts
+      ∙ flat_same (held_of t) (held_of s) (live_attempts s) (λ a h. same_held a (has_filter is_live a s.attempts h).0)
+
+  same_modes : t.modes ≡ s.modes
+  same_modes = ap (λ (w : State). w.modes) (after_creation s.next.job c s)
+
+  -- ---- who waits
+
+  module _ (board : List BoardRow) (are : AreBoard s board) (rows : List BoardRow) (keys : map (λ r. r.job) rows ≡ map (λ j. j.id) c.jobs) where
+    abbrev after : List BoardRow
+    after = put_rows rows board
+
+    rows_after : rows_of t after n ≡ map (λ r. r.row) rows
+    rows_after = made_rows.its_rows s t board n c.jobs c.needs sound are made rows keys
+
+    module _ (modes : List GroupMode) where
+      abbrev waits_in : State → List BoardRow → Job → List WaitingJob
+      waits_in w b j = waits_as (queued w j) (status_for b j.id)
+
+      old : (j : Job) → Has j s.jobs → filter (is_first modes n) (waits_in t after j) ≡ filter (is_first modes n) (waits_in s board j)
+      old j has =
+          (λ i. filter (is_first modes n) (waits_as (record { job = j; project = project_or_none (same_pipeline j has i) }) (status_for after j.id)))
+          ∙ ap (λ (r : Row). filter (is_first modes n) (waits_as (queued s j) r.status)) (made_rows.old_rows s t board n c.jobs c.needs sound are made rows keys j has)
+
+      young : (j : Job) → Has j c.jobs → filter (is_first modes n) (waits_in t after j) ≡ []
+      young j has = own_first modes n (queued t j) (status_for after j.id) (has_from_all (λ (i : Job). i.pipeline ≡ n) j c.jobs made.within has)
+
+      ahead : filter (is_first modes n) (waiting t after) ≡ filter (is_first modes n) (waiting s board)
+      ahead =
+          ap (λ (js : List Job). filter (is_first modes n) (flat_map (waits_in t after) js)) made.all_jobs
+          ∙ (ap (filter (is_first modes n)) (flat_map-append (waits_in t after) s.jobs c.jobs)
+          ∙ (filter-append (is_first modes n) (flat_map (waits_in t after) s.jobs) (flat_map (waits_in t after) c.jobs)
+          ∙ ((λ i. passing_alike (is_first modes n) (waits_in s board) (waits_in t after) s.jobs old i ++ none_passing (is_first modes n) (waits_in t after) c.jobs young i)
+          ∙ append-nil (filter (is_first modes n) (waiting s board)))))
+
+    claims_after : claims_in t after n ≡ claims_in s board n
+    claims_after =
+        (λ i. map held_claim (same_holders i) ++ map waiting_claim (filter (is_first (same_modes i) n) (waiting t after)))
+        ∙ ap (λ (ws : List WaitingJob). map held_claim (holders s) ++ map waiting_claim ws) (ahead s.modes)
+
+  -- ---- of the records that were made
+
+  module _ (board : List BoardRow) (are : AreBoard s board) (d : Creation) (rows : List BoardRow) (is : d ≡ creation s.next.pipeline s.next.job new given now laid) (keys : map (λ r. r.job) rows ≡ map (λ j. j.id) d.jobs) where
+    its_keys : map (λ (r : BoardRow). r.job) rows ≡ map (λ (j : Job). j.id) c.jobs
+    its_keys = keys ∙ ap (λ (x : Creation). map (λ (j : Job). j.id) x.jobs) is
+
+    pub created_rows : rows_of (applied (creation_changes s.next.job d) s) (put_rows rows board) d.pipeline.id ≡ map (λ r. r.row) rows
+    created_rows =
+        ap (λ (x : Creation). rows_of (applied (creation_changes s.next.job x) s) (put_rows rows board) x.pipeline.id) is ∙ rows_after board are rows its_keys
+
+    pub created_claims : claims_in (applied (creation_changes s.next.job d) s) (put_rows rows board) d.pipeline.id ≡ claims_in s board d.pipeline.id
+    created_claims =
+        ap (λ (x : Creation). claims_in (applied (creation_changes s.next.job x) s) (put_rows rows board) x.pipeline.id) is
+        ∙ (claims_after board are rows its_keys ∙ sym (ap (λ (x : Creation). claims_in s board x.pipeline.id) is))
