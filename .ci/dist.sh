@@ -33,6 +33,11 @@ keep() {
   mv bin/ciserver.new bin/ciserver
 }
 
+# tell_sources SOURCES FOLDER: has the program that is built of the copy in FOLDER tell this sum of its sources.
+tell_sources() {
+  sed -i "s/sources: 0\{64\}/sources: $1/" "$2/crates/ci_cli_words/src/command_line.rt"
+}
+
 # is_of_these_sources: dist's program was built of the tree's sources.
 is_of_these_sources() {
   [ "$(told sources dist/BUILT)" = "$(.ci/sources)" ]

@@ -14,6 +14,12 @@ MOST_CALLS = 500
 
 
 class Commands(Case):
+    def test_the_version_is_told_with_that_of_the_format_and_the_sum_of_the_sources(self):
+        for option in ('--version', '-V'):
+            status, output, errors = self.world.command(option)
+            self.assertEqual((status, errors), (0, ''))
+            self.assertRegex(output, r'\Aciserver 0\.1\.0\nformat: 2\nsources: [0-9a-f]{64}\n\Z')
+
     def test_a_taken_port_is_told_after_the_file_and_before_the_clock(self):
         self.world.clock_fails()
         with socket.socket() as listener:

@@ -11,8 +11,10 @@ use clap::builder::ValueParser;
 use clap::{Arg, ArgAction, Command};
 use std::alloc::{AllocError, Global};
 
-/// The program's version, and in a line of its own that of the format of the files that it makes.
-const VERSION: &str = "0.1.0\nformat: 2";
+/// The program's version, and in lines of their own that of the format of the files that it makes, and the sum of its sources. That one the
+/// build writes in place of the zeros, over the copy that it proves.
+const VERSION: &str =
+    "0.1.0\nformat: 2\nsources: 0000000000000000000000000000000000000000000000000000000000000000";
 
 pub(crate) const CHECK: &str = "check";
 
