@@ -48,6 +48,12 @@ def shown(name, stage, status):
     return done('200 OK', f'{{"id":1,"name":"{name}","stage":"{stage}","status":"{status}"}}')
 
 
+def descriptors(process):
+    """What the descriptors of a process stand for; its sockets begin with `socket:`."""
+    folder = f'/proc/{process}/fd'
+    return [os.readlink(os.path.join(folder, descriptor)) for descriptor in os.listdir(folder)]
+
+
 def processor_seconds(process):
     """How much of the processor a process took so far, in seconds."""
     with open(f'/proc/{process}/stat', encoding='utf-8') as file:
@@ -161,12 +167,15 @@ class Connections(Peers):
         """Nothing is accepted then, which takes no time to speak of and counts for no connection; who waits is served once there are descriptors again."""
         self.begin(*PATH)
         self.world.stop()
-        self.world.start(requests=4)
+        self.world.start(requests=5)
         server = self.world.server.pid
-        taken = len(os.listdir(f'/proc/{server}/fd'))
+        # Once it has replied it has opened what it needs itself.
+        self.assertEqual(self.world.exchange(SHOW), shown('build', 'build', 'running'))
+        taken = sum(not descriptor.startswith('socket:') for descriptor in descriptors(server)) + 1
+        until(lambda: len(descriptors(server)) == taken, 'the connection is not over')
         resource.prlimit(server, resource.RLIMIT_NOFILE, (taken + 2, taken + 2))
         silent = [self.sent(b'', False) for _ in range(2)]
-        until(lambda: len(os.listdir(f'/proc/{server}/fd')) == taken + 2, 'the peers are not accepted')
+        until(lambda: len(descriptors(server)) == taken + 2, 'the peers are not accepted')
         waiting = self.sent(SHOW)
         spent = processor_seconds(server)
         time.sleep(1)
