@@ -1,3 +1,4 @@
+pub mod Dates
 pub mod State
 pub mod Kept
 pub mod Statuses
