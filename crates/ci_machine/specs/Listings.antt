@@ -136,7 +136,7 @@ listed_job_data status allowed attempts needs j =
 abbrev pub told_job : List Claim → ℕ → List Runner → List Need → List Attempt → Job → Facts → Row → Data
 told_job claims project runners needs attempts j facts row =
     listed_job_data (printed_status claims project j row.status) (is_allowed j.options.part facts row.status)
-        (map (attempt_data runners) (attempts_among attempts j.id)) (needs_among needs j.id) j
+    (map (attempt_data runners) (attempts_among attempts j.id)) (needs_among needs j.id) j
 
 -- jobs of a project, each with its facts and its row
 abbrev pub told_jobs : List Claim → ℕ → List Runner → List Need → List Attempt → List Job → List Facts → List Row → List Data
