@@ -1,13 +1,19 @@
 -- No body has a float.
-use Rattle.std.proofs.Common.{◌≡◌, ◌||◌, ℕ, List, [], ◌∷◌, map, false, refl, ap}
+use Rattle.std.proofs.Common.{◌≡◌, ◌||◌, ℕ, List, [], ◌∷◌, map, find, ◌==◌, Option, Some, None, false, refl, ap}
 use Rattle.serde_json.specs.Data.{Data, string}
 use Rattle.serde_json.specs.View.{items_of}
 use Rattle.serde_json.specs.Written.{has_float, items_have_float}
+use Rattle.ci_values.specs.declared.attempts.AttemptState.{AttemptState}
+use Rattle.ci_values.specs.declared.attempts.AttemptState.TheVariants.{Live, Succeeded, Failed, Cancelled}
+use Rattle.ci_machine.specs.declared.records.Attempt.{Attempt}
 use Rattle.ci_machine.specs.declared.records.Pipeline.{Pipeline}
+use Rattle.ci_machine.specs.declared.records.PipelineWithStatus.{PipelineWithStatus}
+use Rattle.ci_machine.specs.declared.records.Runner.{Runner}
 use Rattle.ci_machine.specs.declared.records.Job.{Job}
 use Rattle.ci_machine.specs.declared.records.Claim.{Claim}
 use Rattle.ci_machine.specs.declared.records.JobVariable.{JobVariable}
 use Rattle.ci_machine.specs.declared.records.QueuedJob.{QueuedJob}
+use Rattle.ci_machine.specs.Listings.{number_or_null, text_or_null, listed, listed_pipeline_data, exit_of, reason_of, runner_or_null, attempt_data}
 use Rattle.ci_machine.specs.Bodies.{jobs_data, pipeline_data, variable_data, granted_variables, grant_data}
 use Rattle.ci_board.specs.declared.facts.Facts.{Facts}
 use Rattle.ci_board.specs.declared.facts.Row.{Row}
@@ -28,3 +34,27 @@ pipeline_has_none p claims jobs facts rows = ap (λ b. b || false) (jobs_have_no
 pub grant_has_none : (attempt : ℕ) (token : List ℕ) (q : QueuedJob) (vs : List JobVariable) → has_float (grant_data attempt token q vs) ≡ false
 grant_has_none attempt token q vs =
     λ i. items string (λ s. refl) q.job.options.script i || (items variable_data (λ v. refl) (granted_variables q.job attempt vs) i || false)
+
+-- ---- what is read
+
+pub number_has_none : (n : Option ℕ) → has_float (number_or_null n) ≡ false
+number_has_none None = refl
+number_has_none (Some n) = refl
+
+pub text_has_none : (t : Option (List ℕ)) → has_float (text_or_null t) ≡ false
+text_has_none None = refl
+text_has_none (Some t) = refl
+
+runner_has_none : (r : Option Runner) → has_float (runner_or_null r) ≡ false
+runner_has_none None = refl
+runner_has_none (Some r) = refl
+
+pub attempt_has_none : (runners : List Runner) (a : Attempt) → has_float (attempt_data runners a) ≡ false
+attempt_has_none runners a =
+    λ i. number_has_none (exit_of a.state) i || (text_has_none (reason_of a.state) i || (runner_has_none (find (λ r. r.id == a.runner) runners) i || false))
+
+pub attempts_have_none : (runners : List Runner) (attempts : List Attempt) → has_float (listed (attempt_data runners) attempts) ≡ false
+attempts_have_none runners = items (attempt_data runners) (attempt_has_none runners)
+
+pub pipelines_have_none : (pipelines : List PipelineWithStatus) → has_float (listed listed_pipeline_data pipelines) ≡ false
+pipelines_have_none = items listed_pipeline_data (λ p. refl)

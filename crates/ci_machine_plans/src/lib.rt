@@ -5,6 +5,7 @@
 pub mod body;
 pub mod cancels;
 pub mod grants;
+pub mod listings;
 pub mod modes;
 mod object;
 pub mod plays;
