@@ -1,22 +1,23 @@
 //! The jobs of a pipeline and the resource groups of a project, as they are read: compact JSON, the members of each object in the order of
 //! their bytes.
 
-ghost use Rattle.std.specs.Prelude.{◌≡◌, ◌==◌, false, map, length, IfOk, option_map};
+ghost use Rattle.std.specs.Prelude.{◌≡◌, ◌==◌, length, IfOk};
 ghost use Rattle.std.specs.List.{list_any};
 ghost use Rattle.serde_json.specs.Data.{array, number, unsigned};
 ghost use Rattle.serde_json.specs.View.{view, items_of};
-ghost use Rattle.serde_json.specs.Written.{compact_text, has_float};
 ghost use Rattle.ci_board.specs.Effects.{is_listed, is_allowed};
-ghost use Rattle.ci_machine.specs.Listings.{listed, number_or_null, text_or_null, needs_among, told_job, told_jobs};
+ghost use Rattle.ci_machine.specs.Listings.{listed, text_or_null, needs_among, told_job, told_jobs};
+ghost use Rattle.ci_machine_steps.specs.Reads.{json};
 ghost use Rattle.ci_machine_plans.specs.Objects.{told_group};
 
 use crate::body::lines;
-use crate::listings::attempts_value_of;
+use crate::listings::{attempts_value_of, body_of, number_or_null};
 use ci_board::facts::{Facts, Row, Status};
 use ci_graph::part::Part;
 use ci_machine::records::{
     Attempt, Claim, GroupOrder, Job, Need, Runner, process_mode, when_text,
 };
+use ci_machine::reply::Body;
 use ci_machine::report::ShownStatus;
 use ci_machine::text::Text;
 use ci_values::attempts::AttemptState;
@@ -47,22 +48,12 @@ pub struct ToldGroup {
 }
 
 /// A text, or null.
-fn text_value(alloc: Global, text: Option<&Text>) -> Result<Value, AllocError>
-    ensures { IfOk result (λ v. view v ≡ text_or_null (option_map (λ t. t.now) text)) }
+fn text_value(alloc: Global, text: &Option<Text>) -> Result<Value, AllocError>
+    ensures { IfOk result (λ v. view v ≡ text_or_null text.now) }
 {
     match text {
         Some(text) => Value::try_from_str(alloc, text.as_str()),
         None => Ok(Value::Null),
-    }
-}
-
-/// A number, or null.
-fn number_value(number: Option<u64>) -> Value
-    ensures { view result ≡ number_or_null number }
-{
-    match number {
-        Some(n) => Value::Number(Number::from(n)),
-        None => Value::Null,
     }
 }
 
@@ -121,7 +112,7 @@ fn job_value(
 {
     let attempts = attempts_value_of(alloc, around.runners, around.attempts, job.id)?;
     let needs = needs_value(alloc, around.needs, job.id)?;
-    let group = text_value(alloc, job.options.resource_group.as_ref())?;
+    let group = text_value(alloc, &job.options.resource_group)?;
     let tags = lines(alloc, job.options.tags.as_slice())?;
     let status = ShownStatus::of(around.claims, around.project, job, row.status).as_str();
     let allowed = is_allowed(&job.options.part, facts, row.status);
@@ -153,14 +144,6 @@ fn jobs_value(
     Ok(Value::Array(items))
 }
 
-/// The compact text of a value without a float.
-fn text_of(alloc: Global, value: Value) -> Result<Text, AllocError>
-    requires { has_float (view value) ≡ false }
-    ensures { IfOk result (λ t. t ≡ compact_text (view value)) }
-{
-    Ok(Text::new(value.to_string(alloc)?))
-}
-
 /// The body that tells the jobs of a pipeline, which have these facts and rows, with what is around them. Errors: memory was refused.
 pub fn jobs(
     alloc: Global,
@@ -168,20 +151,20 @@ pub fn jobs(
     jobs: &[Job],
     facts: &[Facts],
     rows: &[Row],
-) -> Result<Text, AllocError>
+) -> Result<Body, AllocError>
     requires facts { length facts.now ≡ length jobs.now }
     requires rows { length rows.now ≡ length jobs.now }
-    ensures { IfOk result (λ t. t ≡ compact_text (array (items_of (told_jobs around.now.claims.now around.now.project around.now.runners.now around.now.needs.now around.now.attempts.now jobs.now facts.now rows.now)))) }
+    ensures { IfOk result (λ body. body ≡ json (array (items_of (told_jobs around.now.claims.now around.now.project around.now.runners.now around.now.needs.now around.now.attempts.now jobs.now facts.now rows.now)))) }
 {
     let told = jobs_value(alloc, around, jobs, facts, rows)?;
-    text_of(alloc, told)
+    body_of(alloc, told)
 }
 
 /// A resource group.
 fn group_value(alloc: Global, group: &ToldGroup) -> Result<Value, AllocError>
     ensures { IfOk result (λ v. view v ≡ told_group group.now) }
 {
-    let holder = number_value(group.holder);
+    let holder = number_or_null(group.holder);
     let key = group.key.as_str();
     let mode = process_mode(group.order);
     json!(in alloc; {"holder": holder, "key": key, "process_mode": mode})
@@ -199,9 +182,9 @@ fn groups_value(alloc: Global, groups: &[ToldGroup]) -> Result<Value, AllocError
 }
 
 /// The body that tells these resource groups. Errors: memory was refused.
-pub fn groups(alloc: Global, groups: &[ToldGroup]) -> Result<Text, AllocError>
-    ensures { IfOk result (λ t. t ≡ compact_text (listed told_group groups.now)) }
+pub fn groups(alloc: Global, groups: &[ToldGroup]) -> Result<Body, AllocError>
+    ensures { IfOk result (λ body. body ≡ json (listed told_group groups.now)) }
 {
     let told = groups_value(alloc, groups)?;
-    text_of(alloc, told)
+    body_of(alloc, told)
 }
