@@ -148,6 +148,21 @@ pub(crate) fn list_within<S: Alter, R: Loaded>(
     list(conn, sql, &[first, last])
 }
 
+/// The records that a query by an owner's number and by how many it shows at most shows.
+pub(crate) fn list_first<S: Alter, R: Loaded>(
+    conn: &mut Asked<S>,
+    sql: &str,
+    owner: u64,
+    count: u64,
+) -> Result<Vec<R>, StoreFault>
+    requires { IsPlain (understood the_schema sql.now) }
+    ensures { LooksUp S.Store conn.old conn.new result (λ _ found. ShowsRecords R.is_row S.Store sql.now (number owner ∷ number count ∷ []) conn.old conn.new found.items) }
+{
+    let owner = number(owner)?;
+    let count = number(count)?;
+    list(conn, sql, &[owner, count])
+}
+
 /// The records that a query by a status, by the job before the page, and by how many rows a page has shows.
 pub(crate) fn list_after<S: Alter, R: Loaded>(
     conn: &mut Asked<S>,
