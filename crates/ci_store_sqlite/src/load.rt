@@ -1,6 +1,6 @@
 //! Loads of records, by a query that writes nothing.
 
-ghost use Rattle.std.specs.Prelude.{◌≡◌, ◌+◌, ◌*◌, [], ◌∷◌, length, IfOk};
+ghost use Rattle.std.specs.Prelude.{◌≡◌, ◌+◌, ◌*◌, [], ◌∷◌, length, take, IfOk};
 ghost use Rattle.sqlite.specs.declared.types.Value.TheVariants.{Text as Words};
 ghost use Rattle.sqlite.specs.Given.{IsPlain};
 ghost use Rattle.sqlite.specs.Listing.{understood};
@@ -8,6 +8,7 @@ ghost use Rattle.sqlite.specs.Values.{bound};
 ghost use Rattle.ci_board.specs.Effects.{status_number};
 ghost use Rattle.ci_machine.specs.Lookups.{last_attempt_by, trace_of, next_of};
 ghost use Rattle.ci_machine.specs.Indexes.{newer_in};
+ghost use Rattle.ci_store.specs.Newest.{newest_of};
 ghost use Rattle.ci_store_rows.specs.Schema.{the_schema};
 ghost use Rattle.ci_store_rows.specs.Found.{ShowsRecords, FindsNumber, listed};
 ghost use Rattle.ci_store_rows.specs.Blocks.{last_block};
@@ -148,21 +149,6 @@ pub(crate) fn list_within<S: Alter, R: Loaded>(
     list(conn, sql, &[first, last])
 }
 
-/// The records that a query by an owner's number and by how many it shows at most shows.
-pub(crate) fn list_first<S: Alter, R: Loaded>(
-    conn: &mut Asked<S>,
-    sql: &str,
-    owner: u64,
-    count: u64,
-) -> Result<Vec<R>, StoreFault>
-    requires { IsPlain (understood the_schema sql.now) }
-    ensures { LooksUp S.Store conn.old conn.new result (λ _ found. ShowsRecords R.is_row S.Store sql.now (number owner ∷ number count ∷ []) conn.old conn.new found.items) }
-{
-    let owner = number(owner)?;
-    let count = number(count)?;
-    list(conn, sql, &[owner, count])
-}
-
 /// The records that a query by a status, by the job before the page, and by how many rows a page has shows.
 pub(crate) fn list_after<S: Alter, R: Loaded>(
     conn: &mut Asked<S>,
@@ -210,6 +196,19 @@ pub(crate) fn newer<S: Alter>(
         texts::SELECT_NEWER_PIPELINES,
         &[project, text(&pipeline.git_ref), kind.to_sql(), id, only],
     )
+}
+
+/// The newest pipelines of a project, at most so many, as a query by these shows them.
+pub(crate) fn newest<S: Alter>(
+    conn: &mut Asked<S>,
+    project: u64,
+    count: u64,
+) -> Result<Vec<Pipeline>, StoreFault>
+    ensures { LooksUp S.Store conn.old conn.new result (λ k found. found.items ≡ take count (newest_of k.state project)) }
+{
+    let project = number(project)?;
+    let count = number(count)?;
+    list(conn, texts::SELECT_NEWEST_PIPELINES, &[project, count])
 }
 
 /// The last attempt of a runner, as a query by these shows it.

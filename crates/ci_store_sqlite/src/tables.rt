@@ -500,12 +500,7 @@ impl<S: Alter> Store for Tables<S> {
     }
 
     fn newest(&mut self, project: u64, count: u64) -> Result<Vec<Pipeline>, StoreFault> {
-        load::list_first(
-            &mut self.conn,
-            texts::SELECT_NEWEST_PIPELINES,
-            project,
-            count,
-        )
+        load::newest(&mut self.conn, project, count)
     }
 
     fn commit(&mut self, delta: Delta) -> Result<(), StoreFault> {

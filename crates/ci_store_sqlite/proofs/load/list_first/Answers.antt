@@ -1,7 +1,0 @@
-use Rattle.std.proofs.Common.{[], ◌∷◌}
-use Rattle.sqlite.specs.Values.{bound_value}
-use Rattle.ci_store_sqlite.proofs.Looking.{looked_so, by_params}
-use Rattle.ci_store_sqlite.proofs.load.list_first.Goals as goal
-
-pub returns : goal.returns
-returns g c = looked_so c.list.ensures (λ k at found. by_params (λ i. bound_value (c.in_ok-owner.ensures i) ∷ bound_value (c.in_ok-count.ensures i) ∷ []))
