@@ -1,3 +1,4 @@
 pub mod Delta
 pub mod Made
+pub mod Newest
 pub mod Store
