@@ -9,7 +9,6 @@ ghost use Rattle.ci_machine.specs.Holders.{holder_at, holders_in};
 ghost use Rattle.ci_machine.specs.Waiting.{mode_at};
 ghost use Rattle.ci_machine.specs.Indexes.{newer_in};
 ghost use Rattle.ci_store.specs.Made.{made_before, AreSome};
-ghost use Rattle.ci_store.specs.Newest.{newest_of, holders_in};
 ghost use Rattle.ci_store.specs.Store.{LoadsBy, Ends};
 
 use crate::delta::Delta;
@@ -172,10 +171,6 @@ pub trait Store {
     /// others. Errors: so many are over the greatest integer of SQL.
     fn some_before(&mut self, before: Moment, count: u64) -> Result<Vec<Pipeline>, StoreFault>
         ensures { LoadsBy honest holds leaves self.old self.new result (λ k ps. AreSome count (made_before before k.state.pipelines) ps.items) };
-
-    /// The newest pipelines of a project that was found, newest first: at most so many. Errors: so many are over the greatest integer of SQL.
-    fn newest(&mut self, project: u64, count: u64) -> Result<Vec<Pipeline>, StoreFault>
-        ensures { LoadsBy honest holds leaves self.old self.new result (λ k ps. ps.items ≡ take count (newest_of k.state project)) };
 
     /// Spends a delta: removes the rows of statuses that it clears, makes its changes of records, then puts its rows, and then changes
     /// the groups that are held, all of it or nothing. Which pipelines aren't finished is kept as the delta says it, and not looked up.
