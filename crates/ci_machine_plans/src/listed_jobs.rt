@@ -26,6 +26,7 @@ use serde_json::{Number, Value, json};
 use std::alloc::{AllocError, Global};
 
 /// What is told of the jobs of a pipeline beside themselves.
+#[derive(Clone, Copy)]
 pub struct Around<'a> {
     /// The resource groups for which the jobs must wait.
     pub claims: &'a [Claim],
