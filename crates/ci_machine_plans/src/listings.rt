@@ -1,6 +1,7 @@
 //! What is read of a project and of what it has: as compact JSON, the members of each object in the order of their bytes.
 
 ghost use Rattle.std.specs.Prelude.{◌≡◌, false, find, map, ◌==◌, IfOk};
+ghost use Rattle.std.specs.Option.{option_copied};
 ghost use Rattle.serde_json.specs.Data.{array};
 ghost use Rattle.serde_json.specs.View.{view, items_of};
 ghost use Rattle.serde_json.specs.Written.{compact_text, has_float};
@@ -55,11 +56,18 @@ fn reason_value(alloc: Global, state: AttemptState) -> Result<Value, AllocError>
     }
 }
 
-/// The runner with this number, or null where there is none.
-fn runner_value(alloc: Global, runners: &[Runner], id: u64) -> Result<Value, AllocError>
-    ensures { IfOk result (λ v. view v ≡ runner_or_null (find (λ r. r.id == id) runners.now)) }
+/// The runner with this number, if there is one.
+fn runner_at(runners: &[Runner], id: u64) -> Option<&Runner>
+    ensures { option_copied result ≡ find (λ r. r.id == id) runners.now }
 {
-    match runners.iter().find(|runner| runner.id == id) {
+    runners.iter().find(|runner| runner.id == id)
+}
+
+/// A runner, or null where there is none.
+fn runner_or_null(alloc: Global, runner: Option<&Runner>) -> Result<Value, AllocError>
+    ensures { IfOk result (λ v. view v ≡ runner_or_null (option_copied runner.entry)) }
+{
+    match runner {
         Some(runner) => {
             let name = runner.name.as_str();
             json!(in alloc; {"id": runner.id, "name": name})
@@ -69,18 +77,14 @@ fn runner_value(alloc: Global, runners: &[Runner], id: u64) -> Result<Value, All
 }
 
 /// An attempt of one of these runners.
-fn attempt_value(
-    alloc: Global,
-    runners: &[Runner],
-    attempt: &Attempt,
-) -> Result<Value, AllocError>
+fn attempt_value(alloc: Global, runners: &[Runner], attempt: &Attempt) -> Result<Value, AllocError>
     ensures { IfOk result (λ v. view v ≡ attempt_data runners.now attempt.now) }
 {
     let exit = exit_value(attempt.state);
     let reason = reason_value(alloc, attempt.state)?;
     let heard = stamp_text(alloc, attempt.seen)?;
     let heard = heard.as_str();
-    let runner = runner_value(alloc, runners, attempt.runner)?;
+    let runner = runner_or_null(alloc, runner_at(runners, attempt.runner))?;
     let started = stamp_text(alloc, attempt.granted)?;
     let started = started.as_str();
     let status = JobStatus::of(attempt.state).as_str();
@@ -195,11 +199,7 @@ pub fn pipelines(alloc: Global, pipelines: &[PipelineWithStatus]) -> Result<Body
 }
 
 /// The body that lists attempts of these runners, in the order of the slice. Errors: memory was refused.
-pub fn attempts(
-    alloc: Global,
-    runners: &[Runner],
-    attempts: &[Attempt],
-) -> Result<Body, AllocError>
+pub fn attempts(alloc: Global, runners: &[Runner], attempts: &[Attempt]) -> Result<Body, AllocError>
     ensures { IfOk result (λ body. body ≡ reads.json (listed (attempt_data runners.now) attempts.now)) }
 {
     let value = attempts_value(alloc, runners, attempts)?;
