@@ -1,0 +1,1 @@
+use Rattle.ci_machine_laws.proofs.reads.attempt_trace_examples.Goals as goal
