@@ -99,14 +99,14 @@ two_projects = record empty {
 -- the rows of its jobs
 abbrev pub two_projects_board : List BoardRow
 two_projects_board = board_from 1 (
-  row status.Success 0 0 0
-  ∷ row status.Failed 0 0 0
-  ∷ row status.Running 0 0 0
-  ∷ row status.Running 0 0 0
-  ∷ row status.Running 0 0 0
-  ∷ row status.Pending 0 0 0
-  ∷ row status.Created 2 0 0
-  ∷ [])
+    row status.Success 0 0 0
+    ∷ row status.Failed 0 0 0
+    ∷ row status.Running 0 0 0
+    ∷ row status.Running 0 0 0
+    ∷ row status.Running 0 0 0
+    ∷ row status.Pending 0 0 0
+    ∷ row status.Created 2 0 0
+    ∷ [])
 
 -- ---- what is read
 
