@@ -34,3 +34,4 @@ pub mod SentAgain
 pub mod Modes
 pub mod LeftOut
 pub mod Newest
+pub mod ReadGroups

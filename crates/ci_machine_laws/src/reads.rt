@@ -12,7 +12,7 @@ ghost use Rattle.ci_machine.specs.Statuses.{AreBoard};
 ghost use Rattle.ci_machine_steps.specs.Plans.{refused};
 ghost use Rattle.ci_machine_steps.specs.Step.{Does, Step};
 ghost use Rattle.ci_machine_steps.specs.History.{IsReached};
-ghost use Rattle.ci_machine_laws.specs.Reads.{TellsNewest};
+ghost use Rattle.ci_machine_laws.specs.Reads.{TellsNewest, TellsGroups};
 ghost use Rattle.ci_machine_laws.specs.Examples.{reply_text};
 ghost use Rattle.ci_machine_laws.specs.ReadExamples.{two_projects, two_projects_board, read_query, read_by, read_first, numbers_listed, down_from};
 
@@ -29,6 +29,13 @@ pub fn a_read_changes_nothing()
 /// told with its status.
 pub fn the_newest_pipelines_are_told()
     ensures { (s t : State) (query : ReadQuery) (now : ℕ) (seed : Seed) (reply : Reply) → IsReached s → query.subject ≡ Subject.Pipelines → Step s (Event.Request (Request.Read query)) now seed (Answer.Reply reply) t → reply.code ≡ None → TellsNewest s query.project reply }
+{}
+
+/// Where the resource groups of a project are read, in a state that a history leads to, and this isn't refused, the reply tells those of the project
+/// that have a process mode or are held, and no others, each once and by the bytes of its key; each with its mode, and with the job whose live
+/// attempt holds it, where one does.
+pub fn the_groups_of_a_project_are_told()
+    ensures { (s t : State) (query : ReadQuery) (now : ℕ) (seed : Seed) (reply : Reply) → IsReached s → query.subject ≡ Subject.ResourceGroups → Step s (Event.Request (Request.Read query)) now seed (Answer.Reply reply) t → reply.code ≡ None → TellsGroups s query.project reply }
 {}
 
 /// What is read of two projects, of which one has two pipelines: the project, its pipelines, newest first, and its resource groups by the bytes of
