@@ -1,11 +1,11 @@
 -- The resource groups that are told of a project are those that have a process mode or are held.
-use Rattle.std.specs.Prelude.{◌≡◌, ◌⊎◌, ℕ, Bool, true, false, not, ◌==◌, ◌&&◌, List, [], ◌∷◌, ◌++◌, map, filter, find, flat_map, All, Contains, Option, Some, None, option_map, option_and_then, Result, Ok, Err}
-use Rattle.std.specs.List.{list_any, AllByRecursion}
+use Rattle.std.specs.Prelude.{◌≡◌, ◌⊎◌, ℕ, true, not, ◌==◌, ◌&&◌, List, [], ◌∷◌, map, find, flat_map, Option, Some, None, option_map, option_and_then, Result, Ok, Err}
+use Rattle.std.specs.List.{AllByRecursion}
 use Rattle.std.specs.List.Sorted.{IsStrictlySortedBy}
 use Rattle.std.specs.Str.{bytes_eq}
 use Rattle.std.specs.Ordering.{nat_cmp, is_eq, is_lt, ordering_then}
 use Rattle.std.specs.declared.cmp.Ordering.{Ordering}
-use Rattle.std.specs.declared.cmp.Ordering.TheVariants.{Less, Equal}
+use Rattle.std.specs.declared.cmp.Ordering.TheVariants.{Less}
 use Rattle.std.specs.Cmp.Lexicographic.{slice_cmp}
 use Rattle.std.specs.Cmp.{IsTotalOrder, Equal-is}
 use Rattle.std.proofs.Common.{refl, sym, ap, subst, ◌∙◌, inl, inr, ⊎_elim, eqb-true, eq-eqb}
@@ -42,7 +42,7 @@ use Rattle.ci_machine.specs.Waiting.{modes_in}
 use Rattle.ci_machine.proofs.Keyed.{Has, Rising, has_put, put_has, has_filter, filter_has, has_map, map_has, has_find, find_has, All-from_has, contains_from_has, has_from_contains, equal}
 use Rattle.ci_machine.proofs.Tests.{any_has, has_any}
 use Rattle.ci_machine_steps.specs.Plans.{Plan}
-use Rattle.ci_machine_steps.specs.Reads.{with_names, group_names, holding_job, read}
+use Rattle.ci_machine_steps.specs.Reads.{with_names, group_names, read}
 use Rattle.ci_machine_steps.specs.Step.{Step}
 use Rattle.ci_machine_steps.specs.History.{Past, Leads, IsReached}
 use Rattle.ci_machine_steps.proofs.Behind.{in_either, has_left, has_right}
@@ -156,7 +156,7 @@ names_ordered : (project : ℕ) (ms : List GroupMode) → ((m : GroupMode) → H
 names_ordered project [] same r = tt
 names_ordered project (z ∷ zs) same r = (
   (λ y k. let at = map_has (λ (m : GroupMode). m.group) y zs k in
-  subst (λ w. text_cmp z.group w ≡ Less) at.1.1 (group_less z at.0 (same z (inl refl) ∙ sym (same at.0 (inr at.1.0))) (r.0 at.0 at.1.0))),
+      subst (λ w. text_cmp z.group w ≡ Less) at.1.1 (group_less z at.0 (same z (inl refl) ∙ sym (same at.0 (inr at.1.0))) (r.0 at.0 at.1.0))),
   names_ordered project zs (λ m k. same m (inr k)) r.1,
 )
 
