@@ -39,8 +39,8 @@ pub fn the_groups_of_a_project_are_told()
 {}
 
 /// What is read of two projects, of which one has two pipelines: the project, its pipelines, newest first, and its resource groups by the bytes of
-/// their keys: one has a mode and is held by none, one is held and has none, and one has both. What is another project's isn't told, and of a
-/// hundred pipelines and one the first.
+/// their keys: one has a mode and is held by none, one is held and has none, and one has both. What is another project's isn't told,
+/// nor the oldest of a hundred and one pipelines.
 pub fn read_examples()
     ensures board { AreBoard two_projects two_projects_board }
     ensures step { (query : ReadQuery) (now : ℕ) (seed : Seed) → Does two_projects two_projects_board (Request.Read query) now seed (read_by query) }
