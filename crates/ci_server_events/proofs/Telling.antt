@@ -1,5 +1,5 @@
 -- What is told of jobs by what was looked up is what is told by the whole state.
-use Rattle.std.specs.Prelude.{◌≡◌, ℕ, true, ◌==◌, List, [], ◌∷◌, map, All}
+use Rattle.std.specs.Prelude.{◌≡◌, ℕ, true, ◌==◌, List, [], ◌∷◌, map, All, Option, Some, IfSome, Result, Ok}
 use Rattle.std.proofs.Common.{refl, sym, ap, subst, inl, inr, eqb-true}
 use Rattle.serde_json.specs.Data.{Data}
 use Rattle.ci_board.specs.Effects.{is_allowed}
@@ -62,3 +62,11 @@ module _ (cs ds : List Claim) (project : ℕ) (runners : List Runner) (first las
 pub map_alike : {A B : Type 0} (f g : A → B) → ((x : A) → f x ≡ g x) → (xs : List A) → map f xs ≡ map g xs
 map_alike f g same [] = refl
 map_alike f g same (x ∷ xs) = λ i. same x i ∷ map_alike f g same xs i
+
+-- what is found in an option is so
+pub at_some : {A : Type 0} (P : A → Type 0) (o : Option A) (x : A) → o ≡ Some x → IfSome o P → P x
+at_some P o x is so = subst (λ z. IfSome z P) is so
+
+-- two answers that are told are the same
+pub ok_alike : {A E : Type 0} (x y : A) → x ≡ y → ◌≡◌ {A = Result A E} (Ok x) (Ok y)
+ok_alike x y e = λ i. Ok (e i)

@@ -4,7 +4,7 @@ use Rattle.serde_json.specs.Data.{Data, array}
 use Rattle.serde_json.specs.View.{items_of}
 use Rattle.ci_machine.specs.declared.records.GroupMode.{GroupMode}
 use Rattle.ci_machine.specs.declared.records.Holder.{Holder}
-use Rattle.ci_machine.specs.declared.reply.Body.{Body}
+use Rattle.ci_machine.specs.declared.reply.Code.{Code}
 use Rattle.ci_machine.specs.Eligible.{holds}
 use Rattle.ci_machine.specs.Groups.{order_of}
 use Rattle.ci_machine.specs.Holders.{holders, holders_in}
@@ -16,7 +16,7 @@ use Rattle.ci_machine_plans.specs.Objects.{told_group}
 use Rattle.ci_server_events.specs.Groups.{job_holding, group_by}
 use Rattle.ci_server_lookups.proofs.Loading.{gives, with_both}
 use Rattle.ci_server_events.proofs.GroupLists.{found_in, holding_by}
-use Rattle.ci_server_events.proofs.Telling.{map_alike}
+use Rattle.ci_server_events.proofs.Telling.{map_alike, ok_alike}
 use Rattle.ci_server_events.proofs.reads_groups.groups.Goals as goal
 
 -- a group is told by the rows of the project as by those of the state
@@ -49,5 +49,5 @@ returns g c =
     ∙ (λ i. with_names (map (λ (h : Holder). h.group) ((c.as_slice.ensures.value ∙ own) i)) (map (λ (m : GroupMode). m.group) (modes_in p ((c.as_slice-2.ensures.value ∙ found.0) i)))) in
     let told : map told_group groups.items ≡ map (group_read s p) (group_names s p) =
     found.1.1 ∙ (λ i. map (group_by s p (held_are i) (modes_are i)) (names_are i)) ∙ map_alike (group_by s p (holders_in p (holders s)) s.modes) (group_read s p) (group_same s p) (group_names s p) in
-    ap (λ (b : Body). Ok b)
+    ok_alike {E = Code} _ _
     (c.in_ok-body.ensures ∙ ap (λ (ds : List Data). json (array (items_of ds))) (ap (map told_group) c.as_slice-6.ensures.value ∙ told)))

@@ -8,6 +8,7 @@ use Rattle.ci_machine.specs.Lookups.{pipeline_at}
 use Rattle.ci_machine_steps.specs.Reads.{jobs_read}
 use Rattle.ci_machine_steps.specs.Shows.{pipeline_within}
 use Rattle.ci_server_lookups.proofs.Loading.{so, gives}
+use Rattle.ci_server_events.proofs.Telling.{ok_alike}
 use Rattle.ci_server_events.proofs.reads_jobs.jobs.Goals as goal
 
 -- the pipeline is one of the project's, and its jobs are told
@@ -22,7 +23,7 @@ returns-in-Ok g c =
     (λ k at told kept.
     let found : pipeline_within (pipeline_at k.state n) project ≡ Ok c.in-Ok.found.now =
     ap (λ (o : Option Pipeline). pipeline_within o project) (sym at) ∙ (sym c.within.ensures ∙ ap (result_map_both (λ (p : Bor Pipeline). p.now) (λ (e : Code). e)) c.in-Ok.is) in
-    ap (λ (b : _). Ok b) (told kept) ∙ ap (jobs_read k.state k.board project) (sym found))
+    ok_alike {E = Code} _ _ (told kept) ∙ ap (jobs_read k.state k.board project) (sym found))
 
 -- it isn't, or there is none
 pub returns-in-Err : goal.returns-in-Err

@@ -12,7 +12,7 @@ use Rattle.ci_machine_statuses.specs.Lookups.{AreRecords}
 use Rattle.ci_server_lookups.specs.Held.{FreeAlike}
 use Rattle.ci_server_lookups.proofs.Loading.{ends, goes_on, with_both}
 use Rattle.ci_server_events.proofs.Found.{at_ok}
-use Rattle.ci_server_events.proofs.Telling.{told_alike}
+use Rattle.ci_server_events.proofs.Telling.{at_some, told_alike}
 use Rattle.ci_server_events.proofs.reads_jobs.pipeline_jobs.Goals as goal
 
 -- what was looked up are the records of the pipeline's jobs, and what is told by them is told by the state
@@ -42,7 +42,7 @@ returns g c =
     let its = claims_in s k.board n in
     let same : c.as_slice-7.result.now ≡ jobs_of s n = c.as_slice-7.ensures.value ∙ jobs in
     let alike : FreeAlike claims.items its p (jobs_of s n) = subst (λ (js : List Job). FreeAlike claims.items its p js) (c.as_slice-2.ensures.value ∙ jobs) (more.1.1.1.0 kept) in
-    let within = at_ok _ c.range_of.result _ c.in-Some.is c.range_of.ensures.within in
+    let within = at_some _ c.range_of.result _ c.in-Some.is c.range_of.ensures.within in
     let inside : All (λ j. is_within first last j.id ≡ true) (jobs_of s n) =
     subst (All (λ (j : Job). is_within first last j.id ≡ true)) (c.as_slice.ensures.value ∙ jobs) (within s n kept.sound (c.as_slice.ensures.value ∙ jobs)) in
     let are : AreRecords s k.board n c.as_slice-7.result.now c.as_slice-5.result.now c.as_slice-6.result.now c.as_slice-8.result.now = record {
