@@ -14,9 +14,7 @@ use crate::body::lines;
 use crate::listings::{attempts_value_of, body_of, number_or_null};
 use ci_board::facts::{Facts, Row, Status};
 use ci_graph::part::Part;
-use ci_machine::records::{
-    Attempt, Claim, GroupOrder, Job, Need, Runner, process_mode, when_text,
-};
+use ci_machine::records::{Attempt, Claim, GroupOrder, Job, Need, Runner, process_mode, when_text};
 use ci_machine::reply::Body;
 use ci_machine::report::ShownStatus;
 use ci_machine::text::Text;

@@ -44,11 +44,7 @@ pub(crate) fn groups<T: Store>(
 }
 
 /// What live attempts hold of a project that was found, by their numbers.
-fn held_in<T: Store>(
-    alloc: Global,
-    store: &mut T,
-    project: u64,
-) -> Result<Vec<Holder>, StoreFault>
+fn held_in<T: Store>(alloc: Global, store: &mut T, project: u64) -> Result<Vec<Holder>, StoreFault>
     ensures { LoadsBy T.honest T.holds T.leaves store.old store.new result (λ k held. IsKept k → held.items ≡ holders_in project (holders k.state)) }
 {
     let rows = store.holders_in(project)?;

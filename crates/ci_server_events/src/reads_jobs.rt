@@ -85,12 +85,7 @@ fn pipeline_jobs<T: Turns>(
 }
 
 /// These jobs are told, by what is around them and at least their rows.
-fn told(
-    alloc: Global,
-    around: &Around,
-    jobs: &[Job],
-    rows: &[BoardRow],
-) -> Result<Body, StoreFault>
+fn told(alloc: Global, around: &Around, jobs: &[Job], rows: &[BoardRow]) -> Result<Body, StoreFault>
     ensures told { IfOk result (λ body. (k : Kept) (number : ℕ) → IsKept k → AreRecords k.state k.board number jobs.now around.now.needs.now around.now.attempts.now rows.now
         → body ≡ machine.json (array (items_of (told_jobs around.now.claims.now around.now.project around.now.runners.now around.now.needs.now around.now.attempts.now jobs.now (facts_of k.state number) (rows_of k.state k.board number))))) }
     ensures fault { IfErr result (λ fault. (k : Kept) (number : ℕ) → IsKept k → AreRecords k.state k.board number jobs.now around.now.needs.now around.now.attempts.now rows.now → fault ≡ Memory) }
