@@ -34,12 +34,12 @@ pub(crate) fn pipelines<T: Store>(
     ensures { LoadsBy T.honest T.holds T.leaves store.old store.new result
         (λ k body. IsKept k → body ≡ machine.read_subject k.state k.board project.now subject.Pipelines) }
 {
-    let listed = newest(alloc, store, project.id)?;
+    let listed = listed_pipelines(alloc, store, project.id)?;
     Ok(Ok(listings::pipelines(alloc, listed.as_slice())?))
 }
 
 /// The newest pipelines of the project with this number, newest first, each with its status.
-fn newest<T: Store>(
+fn listed_pipelines<T: Store>(
     alloc: Global,
     store: &mut T,
     project: u64,

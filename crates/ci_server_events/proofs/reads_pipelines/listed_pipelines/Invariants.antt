@@ -4,7 +4,7 @@ use Rattle.ci_machine.specs.Indexes.{with_status}
 use Rattle.ci_machine_steps.specs.Reads.{listed_pipelines}
 use Rattle.ci_store.specs.Store.{LoadsBy}
 use Rattle.ci_server_lookups.specs.Keeps.{IsKept}
-use Rattle.ci_server_events.proofs.reads_pipelines.newest.Given as goal
+use Rattle.ci_server_events.proofs.reads_pipelines.listed_pipelines.Given as goal
 
 -- the pipelines that are told, with those that are left, are all that are listed
 abbrev pub invariant-loop-pipeline : goal.invariant-loop-pipeline
