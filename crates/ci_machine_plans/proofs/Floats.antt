@@ -3,8 +3,6 @@ use Rattle.std.proofs.Common.{◌≡◌, ◌||◌, ℕ, List, [], ◌∷◌, map
 use Rattle.serde_json.specs.Data.{Data, string}
 use Rattle.serde_json.specs.View.{items_of}
 use Rattle.serde_json.specs.Written.{has_float, items_have_float}
-use Rattle.ci_values.specs.declared.attempts.AttemptState.{AttemptState}
-use Rattle.ci_values.specs.declared.attempts.AttemptState.TheVariants.{Live, Succeeded, Failed, Cancelled}
 use Rattle.ci_machine.specs.declared.records.Attempt.{Attempt}
 use Rattle.ci_machine.specs.declared.records.Pipeline.{Pipeline}
 use Rattle.ci_machine.specs.declared.records.PipelineWithStatus.{PipelineWithStatus}
