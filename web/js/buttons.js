@@ -50,7 +50,7 @@ const ACTS = {
     return `Pipeline ${pipeline.id} is cancelled.`;
   },
   "retry-failed": async (id) => {
-    const jobs = failedOf(jobsOf(id));
+    const jobs = failedOf(jobsOf(Number(id)));
     for (const job of jobs) await ask("POST", `/jobs/${job.id}/retry`);
     return `${jobs.length} ${jobs.length === 1 ? "job is" : "jobs are"} tried again.`;
   },

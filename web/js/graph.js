@@ -1,7 +1,7 @@
 // Where the boxes of a pipeline's picture stand, and how lines run between them. Stages are columns; jobs of a stage that wait for one another have columns
 // of their own within it. What is waited for by way of another job has no line, and jobs that wait for the same ones share a knot.
 
-export const WIDE = 196, HIGH = 54, ACROSS = 56, DOWN = 14, HEAD = 40;
+export const WIDE = 182, HIGH = 54, ACROSS = 38, DOWN = 14, HEAD = 40;
 
 /** All that each job waits for, by way of others too. */
 function ancestors(jobs, byId) {
@@ -98,7 +98,7 @@ function linesOf(jobs, byId, spots) {
   [...groups.values()].forEach(({ near, waiting }, at) => {
     const from = near.map((id) => ({ id, spot: spots.get(id) }));
     if (from.length > 1 && from.length + waiting.length > 3) {
-      const made = knot(rows, from, waiting, ((at % 3) - 1) * 6);
+      const made = knot(rows, from, waiting, ((at % 3) - 1) * 4);
       lines.push(...made.lines);
       dots.push(made.dot);
       return;

@@ -28,7 +28,7 @@ function groups() {
   return [...found.values()].sort((one, other) => (one.key < other.key ? -1 : 1));
 }
 
-const jobLink = ({ pipeline, job }) => el("a", { href: toJob(pipeline, job.id) }, sign(job.status, 14), name(job.name), ` #${job.id}`);
+const jobLink = ({ pipeline, job }) => el("a", { href: toJob(pipeline, job.id) }, sign(job.status, 14), el("span", {}, name(job.name), ` #${job.id}`));
 
 /** The view of the resource groups. */
 export class Groups {

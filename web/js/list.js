@@ -5,7 +5,7 @@ import { jobsOf, known } from "./known.js";
 import { name, toPipeline } from "./links.js";
 import { stageSigns } from "./picture.js";
 import { chip, OPEN, PIPELINE_STATUSES, words } from "./statuses.js";
-import { ago, moment } from "./times.js";
+import { ago, lasting, moment, spanOf } from "./times.js";
 
 const MOST = 20;
 
@@ -24,7 +24,7 @@ export function origin(pipeline) {
 export function pipelineChip(pipeline) {
   const jobs = jobsOf(pipeline.id) ?? [];
   const warned = pipeline.status === "success" && jobs.some((job) => job.status === "failed");
-  return warned ? chip("warning", "success, with warnings") : chip(pipeline.status);
+  return warned ? chip("warning", "with warnings") : chip(pipeline.status);
 }
 
 export function pipelineButtons(pipeline, small) {
@@ -38,13 +38,14 @@ export function pipelineButtons(pipeline, small) {
 }
 
 function row(pipeline) {
-  const jobs = jobsOf(pipeline.id);
+  const jobs = jobsOf(pipeline.id), span = jobs ? spanOf(jobs) : null;
   return el(
     "li",
-    { class: "row", "data-key": `row-${pipeline.id}`, "data-pipeline": pipeline.id },
+    { class: "row pipeline-row", "data-key": `row-${pipeline.id}`, "data-pipeline": pipeline.id },
     el("span", { class: "cell status" }, el("a", { href: toPipeline(pipeline.id), class: "bare", tabindex: -1 }, pipelineChip(pipeline))),
     el("span", { class: "cell origin" }, el("a", { href: toPipeline(pipeline.id), class: "number" }, `#${pipeline.id}`), origin(pipeline)),
     el("span", { class: "cell" }, jobs ? stageSigns(pipeline.id, jobs) : null),
+    el("span", { class: "cell soft took" }, span === null ? null : lasting(span)),
     el("span", { class: "cell acts" }, pipelineButtons(pipeline, true)),
   );
 }

@@ -3,7 +3,7 @@ import { dress, parts, plain } from "./ansi.js";
 import { el } from "./dom.js";
 import { lasting } from "./times.js";
 
-const CHUNK = 250;
+const CHUNK = 250, HIGH = 20;
 // eslint-disable-next-line no-control-regex
 const MARK = /section_(start|end):(\d+):([\w.-]+)(?:\[([^\]\r\n]*)\])?\r(?:\x1b\[0K)?/;
 // eslint-disable-next-line no-control-regex
@@ -62,6 +62,8 @@ export class Log {
   innermost() {
     const top = this.open.at(-1);
     if (!top.chunk || top.count >= CHUNK) {
+      // What is out of sight isn't laid out: about so high it is.
+      if (top.chunk) Object.assign(top.chunk.style, { contentVisibility: "auto", containIntrinsicBlockSize: `auto ${top.count * HIGH}px` });
       top.chunk = el("div", { class: "chunk" });
       top.count = 0;
       top.place.append(top.chunk);

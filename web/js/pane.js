@@ -69,7 +69,14 @@ export class Pane {
     this.setFollows(false);
     this.log.root.querySelector(".line.here")?.classList.remove("here");
     line.classList.add("here");
-    line.scrollIntoView({ block: "center" });
+    this.centre(line, 3);
+  }
+
+  /** Scrolls to a line; again in the next frames, since what comes into sight on the way gets its true height only then. */
+  centre(line, times) {
+    const [own, box] = [line.getBoundingClientRect(), this.box.getBoundingClientRect()];
+    this.box.scrollTop += own.top - box.top - (box.height - own.height) / 2;
+    if (times > 0) requestAnimationFrame(() => this.centre(line, times - 1));
   }
 
   key(event) {
@@ -115,6 +122,7 @@ export class Pane {
     const told = !this.asked ? "asking for the trace …" : this.log.bytes ? `${this.log.lines + (this.log.tail ? 1 : 0)} lines, ${size(this.log.bytes)}` : "no trace";
     const silent = (now() - Date.parse(attempt.heard_at)) / 1000;
     const text = attempt.status === "running" ? `${told}, and it runs${silent > 30 ? `; its runner was last heard of ${Math.floor(silent)} s ago` : ""}` : told;
+    this.follow.hidden = attempt.status !== "running";
     if (this.words.textContent !== text) this.words.textContent = text;
     // While it is in the page something stands in for it, so that it isn't moved.
     return this.place.isConnected ? el("section", { "data-key": `pane-${this.attempt}` }) : this.place;

@@ -6,15 +6,7 @@ import { name, toJob } from "./links.js";
 import { origin, pipelineButtons, pipelineChip } from "./list.js";
 import { picture } from "./picture.js";
 import { chip, OPEN, said, toneOf, why } from "./statuses.js";
-import { lasting, moment, ranFor } from "./times.js";
-
-/** From the first attempt's grant to the last moment that any was heard of; null before the first. */
-function spanOf(jobs) {
-  const attempts = jobs.flatMap((job) => job.attempts);
-  if (!attempts.length) return null;
-  const first = Math.min(...attempts.map((it) => Date.parse(it.started_at)));
-  return Math.max(...attempts.map((it) => Date.parse(it.started_at) + ranFor(it) * 1000 - first)) / 1000;
-}
+import { lasting, moment, ranFor, spanOf } from "./times.js";
 
 function jobRow(pipeline, job) {
   const last = job.attempts.at(-1);
@@ -60,7 +52,7 @@ export class PipelineView {
       el("h1", {}, `Pipeline #${this.id}`),
       pipeline ? pipelineChip(pipeline) : null,
       el("div", { class: "acts" }, pipeline ? [pipelineButtons(pipeline, false), el("button", { type: "button", class: "button", "data-act": "run", "data-ref": pipeline.ref, "data-tag": pipeline.tag ? "1" : null }, drawing("plus"), el("span", {}, "Run again"))] : null),
-      el("p", { class: "origin" }, pipeline ? origin(pipeline) : null, jobs ? el("span", {}, `${done} of ${jobs.length} jobs at their end`) : null, span === null || !jobs ? null : el("span", {}, `took ${lasting(span)}`)),
+      el("p", { class: "origin" }, pipeline ? origin(pipeline) : null, jobs ? el("span", {}, `${done} of ${jobs.length} jobs at their end`) : null, span === null || !jobs ? null : el("span", {}, `${OPEN.has(pipeline?.status) ? "runs for" : "took"} ${lasting(span)}`)),
     );
   }
 

@@ -37,6 +37,7 @@ function pending(job) {
   if (!fits.length) {
     if (!job.tag_list.length) return ["Waits for a runner. None was seen here yet that runs jobs without tags."];
     const unseen = job.tag_list.filter((tag) => !runners.some((it) => it.tags.has(tag)));
+    if (unseen.length === job.tag_list.length) return ["Waits for a runner with ", tagsOf(job.tag_list), `. None was seen here yet that has ${unseen.length === 1 ? "it" : "any of them"}.`];
     if (unseen.length) return ["Waits for a runner with ", tagsOf(job.tag_list), ". None was seen here yet that has ", tagsOf(unseen), "."];
     return ["Waits for a runner with ", tagsOf(job.tag_list), ". None was seen here yet that has them all."];
   }

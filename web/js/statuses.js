@@ -20,7 +20,7 @@ const SIGNS = {
   success: ["M7.2 12.4l3.2 3.2 6.4-6.8"],
   failed: ["M8.2 8.2l7.6 7.6M15.8 8.2l-7.6 7.6"],
   warning: ["M12 6.6v6.2M12 16.6v.2"],
-  running: ["M12 12V6.5a5.5 5.5 0 0 1 4.6 8.6z"],
+  running: ["M12 6.4a5.6 5.6 0 1 1-5.6 5.6"],
   pending: ["M9.6 8v8M14.4 8v8"],
   waiting_for_resource: ["M12 7v5.2l3.2 2.2"],
   created: ["M12 11.9v.2"],
@@ -31,7 +31,7 @@ const SIGNS = {
 
 /** The sign of a status, as a picture without words. */
 export function sign(tone, size = 20) {
-  const full = tone === "manual" || tone === "running" ? "full" : null;
+  const full = tone === "manual" ? "full" : null;
   return svg(
     "svg",
     { class: `sign ${tone}`, viewBox: "0 0 24 24", width: size, height: size, "aria-hidden": "true" },

@@ -47,3 +47,11 @@ export function ranFor(attempt) {
   const end = attempt.status === "running" ? now() : Date.parse(attempt.heard_at);
   return Math.max(0, (end - Date.parse(attempt.started_at)) / 1000);
 }
+
+/** From the first attempt's grant to the last moment that any was heard of; null before the first. */
+export function spanOf(jobs) {
+  const attempts = jobs.flatMap((job) => job.attempts);
+  if (!attempts.length) return null;
+  const first = Math.min(...attempts.map((it) => Date.parse(it.started_at)));
+  return Math.max(...attempts.map((it) => Date.parse(it.started_at) + ranFor(it) * 1000 - first)) / 1000;
+}

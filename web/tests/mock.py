@@ -74,7 +74,7 @@ class World:
         self.lock, self.jobs, self.pipelines, self.modes, self.traces, self.tokens = threading.Lock(), {}, {}, {}, {}, {}
         self.numbers = {kind: itertools.count(1) for kind in ("pipeline", "job", "attempt")}
         self.token = f"p1-{secrets.token_hex(16)}"
-        self.runners = {}
+        self.runners, self.memo = {}, {}
         self.file = None
 
     def add_runner(self, name, tags=(), untagged=False):
@@ -96,6 +96,12 @@ class World:
         return "open"
 
     def status(self, job):
+        """Its status; each is worked out once between two changes."""
+        if job.id not in self.memo:
+            self.memo[job.id] = self.worked_out(job)
+        return self.memo[job.id]
+
+    def worked_out(self, job):
         counted = job.attempts[job.aside:]
         if job.live():
             return "running"
@@ -200,18 +206,21 @@ class World:
             job.cancelled = True
             if job.live():
                 job.live()["status"] = "canceled"
+        self.memo.clear()
         return answer()
 
     def play(self, job):
         if self.status(job) != "manual":
             raise Refusal(400, "M10")
         job.played = True
+        self.memo.clear()
         return self.told(job)
 
     def retry(self, job):
         if self.status(job) not in ("success", "failed", "canceled"):
             raise Refusal(403, "M11")
         job.aside, job.cancelled = len(job.attempts), False
+        self.memo.clear()
         return self.told(job)
 
     # ---- what runners do
@@ -225,6 +234,7 @@ class World:
                 job.attempts.append({"exit_code": None, "failure_reason": None, "heard_at": stamp(), "id": number, "runner": {"id": runner["id"], "name": runner["name"]},
                                      "started_at": stamp(), "status": "running", "token": token})
                 self.traces[number] = b""
+                self.memo.clear()
                 return {"id": number, "job_info": {"name": job.name, "project_id": 1, "stage": job.stage}, "script": job.script, "timeout": 3600, "token": token, "variables": []}
         return None
 
@@ -242,6 +252,7 @@ class World:
             attempt["heard_at"] = stamp()
         else:
             reason = order.get("failure_reason") if order.get("failure_reason") in CAUSES else "unknown_failure"
+            self.memo.clear()
             attempt.update(status=order["state"], exit_code=order.get("exit_code"), failure_reason=reason if order["state"] == "failed" else None)
         return attempt["status"]
 
