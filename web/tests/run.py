@@ -67,7 +67,7 @@ def main():
                     it.end()
 
     # Most of a test is waiting.
-    with concurrent.futures.ThreadPoolExecutor(4) as pool:
+    with concurrent.futures.ThreadPoolExecutor(3) as pool:
         for name, seconds, why in pool.map(tried, words or tests):
             passed, failed = passed + (why is None), failed + (why is not None)
             print(f"ok {name} ({seconds:.1f} s)" if why is None else f"failed {name}\n{why}", flush=True)
