@@ -14,7 +14,7 @@ from stand import until
 
 
 class Browser:
-    def __init__(self, stand, width=1360, height=900):
+    def __init__(self, width=1360, height=900):
         options = Options()
         options.binary_location = shutil.which("chromium")
         words = ["--headless=new", "--disable-gpu", "--lang=en-GB", "--disable-dev-shm-usage", f"--window-size={width},{height}", "--hide-scrollbars"]
@@ -22,8 +22,17 @@ class Browser:
             options.add_argument(word)
         options.set_capability("goog:loggingPrefs", {"browser": "ALL"})
         self.driver = webdriver.Chrome(service=Service(shutil.which("chromedriver")), options=options)
+        self.size, self.stand = (width, height), None
+        self.driver.set_page_load_timeout(60)
+
+    def at(self, stand):
+        """Begins anew, before another server."""
         self.stand = stand
-        self.metrics(width, height)
+        self.driver.get("about:blank")
+        self.metrics(*self.size)
+        self.scheme("light")
+        self.driver.get_log("browser")
+        return self
 
     def end(self):
         self.driver.quit()

@@ -1,4 +1,4 @@
-"""What is tried of the page. Each test has a server and a browser of its own."""
+"""What is tried of the page. Each test has a server of its own."""
 import json
 import os
 import time

@@ -147,7 +147,7 @@ def main():
     folder = words[-1]
     os.makedirs(folder, exist_ok=True)
     stand = Stand(program)
-    browser = Browser(stand)
+    browser = Browser().at(stand)
     try:
         large = filled(stand)
         job = stand.job(large, "integration")

@@ -5,7 +5,6 @@
 
 It wants Debian's chromium, chromium-driver, nginx and python3-selenium.
 """
-import concurrent.futures
 import importlib.util
 import os
 import shutil
@@ -31,6 +30,23 @@ def missing():
     return names
 
 
+def tried(test, browser, program):
+    """Why a test failed, or None. It has a server and an nginx of its own; the browser is the same for all."""
+    from stand import Stand
+    stand = None
+    try:
+        stand = Stand(program)
+        browser.at(stand)
+        test(stand, browser)
+        assert (faults := browser.faults()) == [], faults
+        return None
+    except Exception:
+        return traceback.format_exc()
+    finally:
+        if stand:
+            stand.end()
+
+
 def main():
     words = sys.argv[1:]
     program = None
@@ -43,34 +59,21 @@ def main():
         return 1
     import cases
     from browser import Browser
-    from stand import Stand
     tests = {name[5:]: test for name, test in vars(cases).items() if name.startswith("test_")}
     unknown = [word for word in words if word not in tests]
     if unknown:
         print(f"no such test: {', '.join(unknown)}", file=sys.stderr)
         return 2
     passed = failed = 0
-
-    def tried(name):
-        begin, stand, browser = time.monotonic(), None, None
-        try:
-            stand = Stand(program)
-            browser = Browser(stand)
-            tests[name](stand, browser)
-            assert browser.faults() == [], "the browser complained"
-            return name, time.monotonic() - begin, None
-        except Exception:
-            return name, time.monotonic() - begin, traceback.format_exc()
-        finally:
-            for it in (browser, stand):
-                if it:
-                    it.end()
-
-    # Most of a test is waiting.
-    with concurrent.futures.ThreadPoolExecutor(3) as pool:
-        for name, seconds, why in pool.map(tried, words or tests):
+    browser = Browser()
+    try:
+        for name in words or tests:
+            begin = time.monotonic()
+            why = tried(tests[name], browser, program)
             passed, failed = passed + (why is None), failed + (why is not None)
-            print(f"ok {name} ({seconds:.1f} s)" if why is None else f"failed {name}\n{why}", flush=True)
+            print(f"ok {name} ({time.monotonic() - begin:.1f} s)" if why is None else f"failed {name}\n{why}", flush=True)
+    finally:
+        browser.end()
     print(f"{passed} passed, {failed} failed")
     return 1 if failed or not passed else 0
 
