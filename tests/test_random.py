@@ -20,7 +20,7 @@ EVENTS = 600
 LIFE = 40  # events, on an average, between two stops of the server that goes on
 JOBS, PIPELINES = 8, 24  # of a pipeline at most; made at most
 LEAST = {'attempts': 20, 'refused': 20, 'held back': 2, 'ended': 3, 'cancelled': 2, 'pruned': 2, 'stopped within': 10, 'found before': 5,
-         'read': 40, 'traces': 2, 'not there': 5}
+         'read': 40, 'traces': 1, 'not there': 5}
 # Half of the moments lie before this one, by which pipelines are pruned.
 MIDNIGHT = DAY
 FILES = {
