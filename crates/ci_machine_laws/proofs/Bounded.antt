@@ -17,7 +17,7 @@ use Rattle.ci_machine.specs.declared.change.RowChange.TheVariants.{Put}
 use Rattle.ci_machine.specs.declared.change.Record.TheVariants as row
 use Rattle.ci_machine.specs.declared.request.NewPipeline.{NewPipeline}
 use Rattle.ci_machine.specs.declared.request.Request.{Request}
-use Rattle.ci_machine.specs.declared.request.Request.TheVariants.{AddProject, AddRunner, PauseRunner, SetFile, SetVariable, DeleteVariable, SetMode, ShowMode, CreatePipeline, ShowPipeline, AskJob, UpdateJob, AppendTrace, ShowJob, ShowTrace, Play, CancelJob, CancelPipeline, RetryJob, PruneOne}
+use Rattle.ci_machine.specs.declared.request.Request.TheVariants.{AddProject, AddRunner, PauseRunner, SetFile, SetVariable, DeleteVariable, SetMode, ShowMode, CreatePipeline, ShowPipeline, AskJob, UpdateJob, AppendTrace, ShowJob, ShowTrace, Read, Play, CancelJob, CancelPipeline, RetryJob, PruneOne}
 use Rattle.ci_machine.specs.declared.request.Event.{Event}
 use Rattle.ci_machine.specs.declared.request.Event.TheVariants as event
 use Rattle.ci_machine.specs.declared.request.Seed.{Seed}
@@ -127,6 +127,7 @@ each s board request jobs_rise rise = record {
   pipeline_shown = λ p claims jobs facts rows _. refl;
   shown = λ claims project job status _. refl;
   traced = λ trace _. refl;
+  read = λ body _. refl;
   acted = λ text changes act _. ap (λ (t : State). t.next.job) (after_act s changes act);
   pruned = λ p before asks found _. ap (λ (t : State). t.next.job) (pruned_state s p.id jobs_rise rise p refl);
 }
@@ -159,6 +160,7 @@ by_request s board (UpdateJob update) now seed plan rises within is = requested 
 by_request s board (AppendTrace part) now seed plan rises within is = requested s board (AppendTrace part) now seed plan rises within (λ e. e) is
 by_request s board (ShowJob query) now seed plan rises within is = requested s board (ShowJob query) now seed plan rises within (λ e. e) is
 by_request s board (ShowTrace query) now seed plan rises within is = requested s board (ShowTrace query) now seed plan rises within (λ e. e) is
+by_request s board (Read query) now seed plan rises within is = requested s board (Read query) now seed plan rises within (λ e. e) is
 by_request s board (Play query) now seed plan rises within is = requested s board (Play query) now seed plan rises within (λ e. e) is
 by_request s board (CancelJob query) now seed plan rises within is = requested s board (CancelJob query) now seed plan rises within (λ e. e) is
 by_request s board (CancelPipeline query) now seed plan rises within is = requested s board (CancelPipeline query) now seed plan rises within (λ e. e) is

@@ -38,18 +38,22 @@ use Rattle.ci_machine.specs.declared.request.PipelineQuery.{PipelineQuery}
 use Rattle.ci_machine.specs.declared.request.Event.{Event}
 use Rattle.ci_machine.specs.declared.request.Event.TheVariants as event
 use Rattle.ci_machine.specs.declared.request.Request.{Request}
-use Rattle.ci_machine.specs.declared.request.Request.TheVariants.{AddProject, AddRunner, PauseRunner, SetFile, SetVariable, DeleteVariable, SetMode, ShowMode, CreatePipeline, ShowPipeline, AskJob, UpdateJob, AppendTrace, ShowJob, ShowTrace, Play, CancelJob, CancelPipeline, RetryJob, PruneOne}
+use Rattle.ci_machine.specs.declared.request.Request.TheVariants.{AddProject, AddRunner, PauseRunner, SetFile, SetVariable, DeleteVariable, SetMode, ShowMode, CreatePipeline, ShowPipeline, AskJob, UpdateJob, AppendTrace, ShowJob, ShowTrace, Read, Play, CancelJob, CancelPipeline, RetryJob, PruneOne}
 use Rattle.ci_machine.specs.declared.request.Report.{Report}
 use Rattle.ci_machine.specs.declared.request.Report.TheVariants as report
 use Rattle.ci_machine.specs.declared.request.JobUpdate.{JobUpdate}
 use Rattle.ci_machine.specs.declared.request.TracePart.{TracePart}
 use Rattle.ci_machine.specs.declared.request.JobQuery.{JobQuery}
+use Rattle.ci_machine.specs.declared.request.Subject.{Subject}
+use Rattle.ci_machine.specs.declared.request.Subject.TheVariants as subject
+use Rattle.ci_machine.specs.declared.request.ReadQuery.{ReadQuery}
 use Rattle.ci_machine.specs.declared.request.Seed.{Seed}
 use Rattle.ci_machine.specs.declared.reply.Code.{Code}
 use Rattle.ci_machine.specs.declared.reply.Code.TheVariants.{M1, M2, M3, M4, M5, M6, M7, M8, M9, M10, M11, M12, M13, M14, M15, M16, M17, H1, H2, H3, H4, H5, H6, H7, H8}
 use Rattle.ci_machine.specs.declared.reply.Detail.{Detail}
 use Rattle.ci_machine.specs.declared.reply.Detail.TheVariants as detail
 use Rattle.ci_machine.specs.declared.reply.FaultCode.TheVariants.{K}
+use Rattle.ci_machine.specs.declared.reply.Body.{Body}
 use Rattle.ci_machine.specs.declared.reply.Body.TheVariants.{Json}
 use Rattle.ci_machine.specs.declared.reply.Answer.{Answer}
 use Rattle.ci_machine.specs.declared.reply.Answer.TheVariants as answer
@@ -74,7 +78,8 @@ use Rattle.ci_machine_steps.specs.Pipelines.{have_names, file_or_none, may_creat
 use Rattle.ci_machine_steps.specs.Grants.{nothing_to_run, granted, ask_job}
 use Rattle.ci_machine_steps.specs.Reports.{unleased, heard, ended, reported, update_job}
 use Rattle.ci_machine_steps.specs.Traces.{not_accepted, grown, appended, append_trace}
-use Rattle.ci_machine_steps.specs.Shows.{asked_pipeline, pipeline_shown, show_pipeline, job_shown, trace_shown, job_within, asked_job, shown, traced}
+use Rattle.ci_machine_steps.specs.Shows.{asked_pipeline, pipeline_within, pipeline_shown, show_pipeline, job_shown, trace_shown, job_within, asked_job, shown, traced}
+use Rattle.ci_machine_steps.specs.Reads.{jobs_read, attempts_read, attempt_within, attempt_of, trace_read, read_of, told, read}
 use Rattle.ci_machine_steps.specs.Acts.{permitted, ActsOn}
 use Rattle.ci_machine_steps.specs.Plays.{is_playable, play}
 use Rattle.ci_machine_steps.specs.Retries.{is_retryable, retry}
@@ -317,6 +322,56 @@ module _ (s : State) (board : List BoardRow) (P : Plan → Type 0) (of_code : (c
   of_cancel query plan is =
       cancels_by plan (found_pipeline s query) (pipeline_by s query.project (pipeline_at s query.pipeline) (of_asked s query.token query.project) (is_asked s query.token query.project)) is
 
+-- ---- what is read of a project
+
+-- something was read, or a code refuses the request
+abbrev IsTold : Result Body Code → Type 0
+IsTold (Ok body) = Unit {0}
+IsTold (Err code) = IsMachineCode code
+
+jobs_told : (s : State) (board : List BoardRow) (project : ℕ) (r : Result Pipeline Code) → IsPipeline r → IsTold (jobs_read s board project r)
+jobs_told s board project (Err code) found = found
+jobs_told s board project (Ok p) found = tt
+
+attempts_told : (s : State) (r : Result Job Code) → Found s r → IsTold (attempts_read s r)
+attempts_told s (Err code) found = found
+attempts_told s (Ok j) found = tt
+
+one_told : (s : State) (job : ℕ) (a : Option Attempt) → IsTold (trace_read s (attempt_within a job))
+one_told s job None = tt
+one_told s job (Some a) = cond_both (a.job == job) (Ok a) (Err M3) (λ r. IsTold (trace_read s r)) (λ _. tt) (λ _. tt)
+
+trace_told : (s : State) (attempt : ℕ) (r : Result Job Code) → Found s r → IsTold (trace_read s (attempt_of s r attempt))
+trace_told s attempt (Err code) found = found
+trace_told s attempt (Ok j) found = one_told s j.id (attempt_at s attempt)
+
+pipeline_in : (found : Option Pipeline) (project : ℕ) → IsPipeline (pipeline_within found project)
+pipeline_in None project = tt
+pipeline_in (Some p) project = cond_both (p.project == project) (Ok p) (Err M3) IsPipeline (λ _. tt) (λ _. tt)
+
+job_in : (s : State) (n project : ℕ) → Found s (job_within (job_at s n) (pipeline_of s (job_at s n)) project)
+job_in s n project = found_within s (job_at s n) (λ j e. (has_find (λ (w : Job). w.id == n) j s.jobs e).0) (pipeline_of s (job_at s n)) project
+
+is_told : (s : State) (board : List BoardRow) (named : ℕ) (r : Result Project Code) → Asked s named r → (what : Subject) → IsTold (read_of s board r what)
+is_told s board named (Err code) asked what = asked
+is_told s board named (Ok p) asked subject.Project = tt
+is_told s board named (Ok p) asked subject.Pipelines = tt
+is_told s board named (Ok p) asked (subject.Jobs n) = jobs_told s board p.id (pipeline_within (pipeline_at s n) p.id) (pipeline_in (pipeline_at s n) p.id)
+is_told s board named (Ok p) asked (subject.Attempts n) = attempts_told s (job_within (job_at s n) (pipeline_of s (job_at s n)) p.id) (job_in s n p.id)
+is_told s board named (Ok p) asked (subject.Trace n attempt) = trace_told s attempt (job_within (job_at s n) (pipeline_of s (job_at s n)) p.id) (job_in s n p.id)
+is_told s board named (Ok p) asked subject.ResourceGroups = tt
+
+module _ (P : Plan → Type 0) (of_code : (c : Code) → IsMachineCode c → P (refused c)) (h : (body : Body) → P (fine body, [])) where
+  tells : (r : Result Body Code) → IsTold r → P (told r)
+  tells (Ok body) is = h body
+  tells (Err code) is = of_code code is
+
+  -- a project is read, or what it has: the body is told, and nothing changes
+  pub of_read : (s : State) (board : List BoardRow) (query : ReadQuery) → P (read s board (of_asked s query.token query.project) query.subject)
+  of_read s board query =
+      let r = of_asked s query.token query.project in
+      tells (read_of s board r query.subject) (is_told s board query.project r (is_asked s query.token query.project) query.subject)
+
 -- ---- every request
 
 -- a fact of each plan that the request may have in a state whose jobs have these rows
@@ -345,6 +400,7 @@ pub record Each (s : State) (board : List BoardRow) (request : Request) (P : Pla
   pub pipeline_shown : (p : Pipeline) (claims : List Claim) (jobs : List Job) (facts : List Facts) (rows : List Row) → P (pipeline_shown p claims jobs facts rows)
   pub shown : (claims : List Claim) (project : ℕ) (job : Job) (status : Status) → P (job_shown claims project job status)
   pub traced : (trace : List ℕ) → P (trace_shown trace)
+  pub read : (body : Body) → P (fine body, [])
   pub acted : (text : List ℕ) (changes : List RowChange) → IsAct s changes → P (fine (Json text), changes)
   pub pruned : (p : Pipeline) (before : ℕ) → request ≡ PruneOne before → prunable_in s board before ≡ Some p → P (pruned_reply p.id, pipeline_goes p (jobs_of s p.id) s.attempts)
 
@@ -456,6 +512,7 @@ does s board P (ShowTrace query) each now seed plan is =
     let job = job_at s query.job in
     let trace = trace_if_any s (last_attempt s query.job) in
     subst P (sym is) (asked (λ r. P (traced r trace)) (λ j. each.traced trace) (λ c m. each.refused c m) (project_with s query.token) job (pipeline_of s job) query)
+does s board P (Read query) each now seed plan is = subst P (sym is) (of_read P each.refused each.read s board query)
 does s board P (Play query) each now seed plan is = of_play s board P each.refused each.acted query plan is
 does s board P (CancelJob query) each now seed plan is = of_job_cancel s board P each.refused each.acted query plan is
 does s board P (RetryJob query) each now seed plan is = of_retry s board P each.refused each.acted query plan is
@@ -490,6 +547,7 @@ keeps s board request = record {
   pipeline_shown = λ p claims jobs facts rows _. refl;
   shown = λ claims project job status _. refl;
   traced = λ trace _. refl;
+  read = λ body _. refl;
   acted = λ text changes act refused. absurd (false≢true refused);
   pruned = λ p before asks found refused. absurd (false≢true refused);
 }
@@ -539,6 +597,7 @@ steps s board request = record {
   pipeline_shown = λ p claims jobs facts rows. refl;
   shown = λ claims project job status. refl;
   traced = λ trace. refl;
+  read = λ body. refl;
   acted = λ text changes act. refl;
   pruned = λ p before asks found. refl;
 } where

@@ -218,6 +218,7 @@ module _ (s : State) (board : List BoardRow) (request : Request) where
     pipeline_shown = λ p claims jobs facts rows. stays s s refl;
     shown = λ claims project job status. stays s s refl;
     traced = λ trace. stays s s refl;
+    read = λ body. stays s s refl;
     acted = λ text changes act. acted s changes act;
     pruned = λ p before asks found b k. inl (there s b (attempt_was s p.id jobs_rise rise b (subst (λ (t : State). Has b t.attempts) (pruned_state s p.id jobs_rise rise p refl) k)).0);
   }

@@ -120,6 +120,7 @@ module _ (s : State) (board : List BoardRow) (request : Request) (now : ℕ) (se
     pipeline_shown = λ p claims jobs facts rows j k. inl (there s j k);
     shown = λ claims project job status j k. inl (there s j k);
     traced = λ trace j k. inl (there s j k);
+    read = λ body j k. inl (there s j k);
     acted = λ text changes act j k. inl (acted s changes act j k);
     pruned = λ p before asks found j k. inl (there s j (job_was s p.id jobs_rise rise j (subst (λ (t : State). Has j t.jobs) (pruned_state s p.id jobs_rise rise p refl) k)).0);
   }

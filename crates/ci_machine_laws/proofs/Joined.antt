@@ -259,6 +259,7 @@ each s board request i was jobs_rise rise = record {
   pipeline_shown = λ p claims jobs facts rows. was;
   shown = λ claims project job status. was;
   traced = λ trace. was;
+  read = λ body. was;
   acted = λ text changes act. acts s changes act was;
   pruned = λ p before asks found. subst (λ (t : State). Joined t.jobs t.needs) (sym (pruned_state s p.id jobs_rise rise p refl))
       (leaves s.needs _ (λ w k. (has_filter _ w s.needs k).0) s.jobs _ (λ j k. (has_filter _ j s.jobs k).0) was);

@@ -33,3 +33,5 @@ pub mod ShownAgain
 pub mod SentAgain
 pub mod Modes
 pub mod LeftOut
+pub mod Newest
+pub mod ReadGroups

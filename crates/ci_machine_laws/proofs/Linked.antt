@@ -622,6 +622,7 @@ goes s board request i jr r b = record {
   pipeline_shown = λ p claims jobs facts rows. inl (rests s i);
   shown = λ claims project job status. inl (rests s i);
   traced = λ trace. inl (rests s i);
+  read = λ body. inl (rests s i);
   acted = λ text changes act. inl (acts s changes act i jr r);
   pruned = λ p before is found. inr (record {
     pipeline = p;

@@ -20,7 +20,7 @@ use Rattle.ci_machine.specs.declared.records.GroupOrder.{GroupOrder}
 use Rattle.ci_machine.specs.declared.request.Event.TheVariants as event
 use Rattle.ci_machine.specs.declared.request.NewMode.{NewMode}
 use Rattle.ci_machine.specs.declared.request.Request.{Request}
-use Rattle.ci_machine.specs.declared.request.Request.TheVariants.{AddProject, AddRunner, PauseRunner, SetFile, SetVariable, DeleteVariable, SetMode, ShowMode, CreatePipeline, ShowPipeline, AskJob, UpdateJob, AppendTrace, ShowJob, ShowTrace, Play, CancelJob, CancelPipeline, RetryJob, PruneOne}
+use Rattle.ci_machine.specs.declared.request.Request.TheVariants.{AddProject, AddRunner, PauseRunner, SetFile, SetVariable, DeleteVariable, SetMode, ShowMode, CreatePipeline, ShowPipeline, AskJob, UpdateJob, AppendTrace, ShowJob, ShowTrace, Read, Play, CancelJob, CancelPipeline, RetryJob, PruneOne}
 use Rattle.ci_machine.specs.declared.request.Event.{Event}
 use Rattle.ci_machine.specs.declared.request.Seed.{Seed}
 use Rattle.ci_machine.specs.declared.reply.Answer.{Answer}
@@ -193,6 +193,7 @@ each s board request jobs_rise rise = record {
   pipeline_shown = λ p claims jobs facts rows _. refl;
   shown = λ claims project job status _. refl;
   traced = λ trace _. refl;
+  read = λ body _. refl;
   acted = λ text changes act _. ap (λ (t : State). t.modes) (after_act s changes act);
   pruned = λ p before asks found _. ap (λ (t : State). t.modes) (pruned_state s p.id jobs_rise rise p refl);
 }
@@ -220,6 +221,7 @@ setting e other (UpdateJob x) is it = it
 setting e other (AppendTrace x) is it = it
 setting e other (ShowJob x) is it = it
 setting e other (ShowTrace x) is it = it
+setting e other (Read x) is it = it
 setting e other (Play x) is it = it
 setting e other (CancelJob x) is it = it
 setting e other (CancelPipeline x) is it = it

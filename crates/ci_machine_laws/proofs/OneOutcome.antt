@@ -9,7 +9,7 @@ use Rattle.ci_machine.specs.declared.change.RowChange.{RowChange}
 use Rattle.ci_machine.specs.declared.request.Event.{Event}
 use Rattle.ci_machine.specs.declared.request.Event.TheVariants as event
 use Rattle.ci_machine.specs.declared.request.Request.{Request}
-use Rattle.ci_machine.specs.declared.request.Request.TheVariants.{AddProject, AddRunner, PauseRunner, SetFile, SetVariable, DeleteVariable, SetMode, ShowMode, CreatePipeline, ShowPipeline, AskJob, UpdateJob, AppendTrace, ShowJob, ShowTrace, Play, CancelJob, CancelPipeline, RetryJob, PruneOne}
+use Rattle.ci_machine.specs.declared.request.Request.TheVariants.{AddProject, AddRunner, PauseRunner, SetFile, SetVariable, DeleteVariable, SetMode, ShowMode, CreatePipeline, ShowPipeline, AskJob, UpdateJob, AppendTrace, ShowJob, ShowTrace, Read, Play, CancelJob, CancelPipeline, RetryJob, PruneOne}
 use Rattle.ci_machine.specs.declared.request.Seed.{Seed}
 use Rattle.ci_machine.specs.declared.reply.Answer.{Answer}
 use Rattle.ci_machine.specs.declared.reply.Answer.TheVariants as answer
@@ -165,6 +165,7 @@ module _ (known : Readings) (s : State) (f g : Plan) (once : BoardOnce (applied 
   does_once board (AppendTrace part) now seed p q = inl (p ∙ sym q)
   does_once board (ShowJob query) now seed p q = inl (p ∙ sym q)
   does_once board (ShowTrace query) now seed p q = inl (p ∙ sym q)
+  does_once board (Read query) now seed p q = inl (p ∙ sym q)
   does_once board (Play query) now seed p q = inl (acts_once play (permitted board is_playable M10 (found_job s query)) p q)
   does_once board (CancelJob query) now seed p q = inl (acts_once (λ j. cancel s.attempts (j ∷ [])) (permitted board is_cancellable M12 (found_job s query)) p q)
   does_once board (RetryJob query) now seed p q = inl (acts_once (λ j. retry (attempts_of s j.id) j) (permitted board is_retryable M11 (found_job s query)) p q)

@@ -5,7 +5,7 @@ use Rattle.std.proofs.lemmas.Bool.{and_parts, both_ways, cases_Bool}
 use Rattle.ci_machine.specs.declared.records.BoardRow.{BoardRow}
 use Rattle.ci_machine.specs.declared.records.Pipeline.{Pipeline}
 use Rattle.ci_machine.specs.declared.change.RowChange.{RowChange}
-use Rattle.ci_machine.specs.declared.request.Request.TheVariants.{AddProject, AddRunner, PauseRunner, SetFile, SetVariable, DeleteVariable, SetMode, ShowMode, CreatePipeline, ShowPipeline, AskJob, UpdateJob, AppendTrace, ShowJob, ShowTrace, Play, CancelJob, CancelPipeline, RetryJob, PruneOne}
+use Rattle.ci_machine.specs.declared.request.Request.TheVariants.{AddProject, AddRunner, PauseRunner, SetFile, SetVariable, DeleteVariable, SetMode, ShowMode, CreatePipeline, ShowPipeline, AskJob, UpdateJob, AppendTrace, ShowJob, ShowTrace, Read, Play, CancelJob, CancelPipeline, RetryJob, PruneOne}
 use Rattle.ci_machine.specs.declared.request.Event.{Event}
 use Rattle.ci_machine.specs.declared.request.Event.TheVariants as event
 use Rattle.ci_machine.specs.declared.request.Seed.{Seed}
@@ -80,6 +80,7 @@ pruned_by s board (event.Request (UpdateJob x)) now seed a changes are rise is =
 pruned_by s board (event.Request (AppendTrace x)) now seed a changes are rise is = tt
 pruned_by s board (event.Request (ShowJob x)) now seed a changes are rise is = tt
 pruned_by s board (event.Request (ShowTrace x)) now seed a changes are rise is = tt
+pruned_by s board (event.Request (Read x)) now seed a changes are rise is = tt
 pruned_by s board (event.Request (Play x)) now seed a changes are rise is = tt
 pruned_by s board (event.Request (CancelJob x)) now seed a changes are rise is = tt
 pruned_by s board (event.Request (CancelPipeline x)) now seed a changes are rise is = tt

@@ -41,7 +41,7 @@ use Rattle.ci_machine.specs.declared.request.TracePart.{TracePart}
 use Rattle.ci_machine.specs.declared.request.Event.{Event}
 use Rattle.ci_machine.specs.declared.request.Event.TheVariants as event
 use Rattle.ci_machine.specs.declared.request.Request.{Request}
-use Rattle.ci_machine.specs.declared.request.Request.TheVariants.{AddProject, AddRunner, PauseRunner, SetFile, SetVariable, DeleteVariable, SetMode, ShowMode, CreatePipeline, ShowPipeline, AskJob, UpdateJob, AppendTrace, ShowJob, ShowTrace, Play, CancelJob, CancelPipeline, RetryJob, PruneOne}
+use Rattle.ci_machine.specs.declared.request.Request.TheVariants.{AddProject, AddRunner, PauseRunner, SetFile, SetVariable, DeleteVariable, SetMode, ShowMode, CreatePipeline, ShowPipeline, AskJob, UpdateJob, AppendTrace, ShowJob, ShowTrace, Read, Play, CancelJob, CancelPipeline, RetryJob, PruneOne}
 use Rattle.ci_machine.specs.declared.request.Seed.{Seed}
 use Rattle.ci_machine.specs.declared.reply.Code.{Code}
 use Rattle.ci_machine.specs.declared.reply.Code.TheVariants.{M2, M5, M15}
@@ -88,7 +88,7 @@ use Rattle.ci_machine_laws.proofs.PutAll.{rising_all, has_still}
 use Rattle.ci_machine_laws.proofs.Acts.{WasLive, IsAct, cancels, cancellable_within, after_act, came}
 use Rattle.ci_machine_steps.proofs.Created.{after_creation}
 use Rattle.ci_machine_steps.proofs.Pruned.{pruned_state, attempt_was, attempt_left, trace_left}
-use Rattle.ci_machine_laws.proofs.EachPlan.{IsMachineCode, of_asked, given_in, of_file, of_variable, of_removal, of_mode, of_order, of_creation, of_pipeline, of_play, of_retry, of_job_cancel, of_cancel}
+use Rattle.ci_machine_laws.proofs.EachPlan.{IsMachineCode, of_asked, given_in, of_file, of_variable, of_removal, of_mode, of_order, of_creation, of_pipeline, of_play, of_retry, of_job_cancel, of_cancel, of_read}
 use Rattle.ci_machine_laws.proofs.Gone.{goes_with}
 use Rattle.ci_machine_laws.proofs.Traces as trace
 use Rattle.ci_machine_laws.proofs.Ends as finals
@@ -494,6 +494,11 @@ does h s board (ShowTrace query) now seed f are i is =
     let job = job_at s query.job in
     subst (After h s (event.Request (ShowTrace query)) now seed) (sym is)
     (reads h s (event.Request (ShowTrace query)) now seed (trace_if_any s (last_attempt s query.job)) i (λ a. refl) (λ a n. refl) (asked_job (project_with s query.token) job (pipeline_of s job) query))
+does h s board (Read query) now seed f are i is =
+    let r = Read query in
+    let other : IsOther r = (λ a. refl, λ a n. refl) in
+    subst (After h s (event.Request r) now seed) (sym is)
+    (of_read (After h s (event.Request r) now seed) (refuses h s r now seed i other) (λ body. rests h s (event.Request r) now seed (answer.Reply (fine body)) i refl (λ n. refl)) s board query)
 does h s board (Play query) now seed f are i is =
     let r = Play query in
     let other : IsOther r = (λ a. refl, λ a n. refl) in

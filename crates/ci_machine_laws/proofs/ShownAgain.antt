@@ -25,7 +25,7 @@ use Rattle.ci_machine.specs.declared.request.JobQuery.{JobQuery}
 use Rattle.ci_machine.specs.declared.request.NewPipeline.{NewPipeline}
 use Rattle.ci_machine.specs.declared.request.PipelineQuery.{PipelineQuery}
 use Rattle.ci_machine.specs.declared.request.Request.{Request}
-use Rattle.ci_machine.specs.declared.request.Request.TheVariants.{AddProject, AddRunner, PauseRunner, SetFile, SetVariable, DeleteVariable, SetMode, ShowMode, CreatePipeline, ShowPipeline, AskJob, UpdateJob, AppendTrace, ShowJob, ShowTrace, Play, CancelJob, CancelPipeline, RetryJob, PruneOne}
+use Rattle.ci_machine.specs.declared.request.Request.TheVariants.{AddProject, AddRunner, PauseRunner, SetFile, SetVariable, DeleteVariable, SetMode, ShowMode, CreatePipeline, ShowPipeline, AskJob, UpdateJob, AppendTrace, ShowJob, ShowTrace, Read, Play, CancelJob, CancelPipeline, RetryJob, PruneOne}
 use Rattle.ci_machine.specs.declared.request.Seed.{Seed}
 use Rattle.ci_machine.specs.State.{State, pipeline_cmp, job_cmp, attempt_cmp, others, applied}
 use Rattle.ci_machine.specs.Statuses.{jobs_of, attempts_of, facts_of, rows_of, status_for, AreBoard}
@@ -214,6 +214,7 @@ module _ (s t : State) (rise : Rising (λ (j : Job). j.id) 0 s.jobs) (once : Boa
   by_request (AppendTrace _) before now chance is does none = absurd is
   by_request (ShowJob _) before now chance is does none = absurd is
   by_request (ShowTrace _) before now chance is does none = absurd is
+  by_request (Read _) before now chance is does none = absurd is
   by_request (CancelPipeline _) before now chance is does none = absurd is
   by_request (PruneOne _) before now chance is does none = absurd is
 

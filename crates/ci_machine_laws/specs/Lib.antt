@@ -13,3 +13,5 @@ pub mod ModeExamples
 pub mod Unchanged
 pub mod ShownExamples
 pub mod ShownAgain
+pub mod Reads
+pub mod ReadExamples

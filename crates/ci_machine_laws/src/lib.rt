@@ -5,4 +5,5 @@ pub mod due;
 pub mod idle;
 pub mod laws;
 pub mod outcome;
+pub mod reads;
 pub mod repeats;

@@ -247,6 +247,10 @@ impl<T: Store> Store for Remembering<T> {
         self.store.holder(project, group)
     }
 
+    fn holders_in(&mut self, project: u64) -> Result<Vec<Holder>, StoreFault> {
+        self.store.holders_in(project)
+    }
+
     fn newer_of(&mut self, pipeline: &Pipeline) -> Result<Option<Pipeline>, StoreFault> {
         self.store.newer_of(pipeline)
     }
@@ -261,6 +265,10 @@ impl<T: Store> Store for Remembering<T> {
 
     fn some_before(&mut self, before: Moment, count: u64) -> Result<Vec<Pipeline>, StoreFault> {
         self.store.some_before(before, count)
+    }
+
+    fn newest(&mut self, project: u64, count: u64) -> Result<Vec<Pipeline>, StoreFault> {
+        self.store.newest(project, count)
     }
 
     fn commit(&mut self, delta: Delta) -> Result<(), StoreFault> {

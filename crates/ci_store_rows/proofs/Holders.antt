@@ -1,5 +1,7 @@
 -- The statements that write `holder`.
-use Rattle.std.proofs.Common.{◌≡◌, ◌∙◌, ℕ, pos, List, [], ◌∷◌, true, refl, sym, Option, ◌&&◌, map, take, drop}
+use Rattle.std.proofs.Common.{◌≡◌, ◌∙◌, ◌==◌, ℕ, pos, List, [], ◌∷◌, true, refl, sym, Option, ◌&&◌, map, filter, take, drop}
+use Rattle.std.specs.Ordering.{nat_cmp}
+use Rattle.std.specs.Cmp.Lexicographic.{slice_cmp}
 use Rattle.sqlite_value.specs.declared.keys.Collation.TheVariants.{Binary}
 use Rattle.sqlite_sql.specs.Ops.{is_null}
 use Rattle.sqlite_schema.specs.Rules.{equal}
@@ -25,18 +27,18 @@ use Rattle.ci_store_tables.proofs.Writes.{IsWholeStep, whole_if_alone}
 use Rattle.ci_store_tables.proofs.Puts.{MeansPut, MeansRemove, GivesRecord}
 use Rattle.ci_store_tables.proofs.Absent.{absent_unique}
 use Rattle.ci_store_tables.proofs.Scalars.{cast_int}
-use Rattle.ci_store_rows.specs.declared.texts.TheConstants.{UPDATE_HOLDER, INSERT_HOLDER, DELETE_HOLDER, SELECT_HOLDER, SELECT_HOLDERS_OF}
+use Rattle.ci_store_rows.specs.declared.texts.TheConstants.{UPDATE_HOLDER, INSERT_HOLDER, DELETE_HOLDER, SELECT_HOLDER, SELECT_HOLDERS_IN, SELECT_HOLDERS_OF}
 use Rattle.ci_store_rows.specs.Schema.{the_schema, holder, holder_index_1}
 use Rattle.ci_store_rows.specs.Rows.{number, holder_row}
 use Rattle.ci_store_rows.specs.Stands.{rows_by_tree, rows_of, Stands, IsAt}
 use Rattle.ci_store_rows.proofs.OneList.{IsAlike, alike_but, regular_with_holders}
 use Rattle.ci_store_rows.proofs.Lists.{put_rises, by_both}
-use Rattle.ci_store_rows.proofs.Records.{is, put_stands, finds_named}
+use Rattle.ci_store_rows.proofs.Records.{is, put_stands, same_number, finds_named}
 use Rattle.sqlite.proofs.Callers.{IsPlain}
 use Rattle.ci_store_tables.proofs.Selects.{MeansSelect}
 use Rattle.ci_store_rows.specs.Found.{ShowsRecords, listed}
-use Rattle.ci_store_rows.proofs.Owned.{tests, sets, terms, named, same_named, unnumbered, agrees, removed_owned}
-use Rattle.ci_store_rows.proofs.Shows.{columns_of, names_of, shows_passing, found_one}
+use Rattle.ci_store_rows.proofs.Owned.{tests, sets, terms, named, same_named, unnumbered, agrees, removed_owned, owned_found}
+use Rattle.ci_store_rows.proofs.Shows.{columns_of, names_of, by, rising_text, shows_passing, found_one}
 use Rattle.ci_store_rows.specs.Changes.{in_holders, RemovesUnreferred}
 use Rattle.ci_store_rows.proofs.Removals.{Referring}
 
@@ -107,6 +109,20 @@ holder_found g old new k at project group found h =
     (holds project group) (holds_is project group) k k.holders refl h.rows
     (λ r. refl) means_select (state g old) (state g new) at.now h.shown)
     found h.read
+
+-- ---- the groups of a project that are held
+
+means_select_in : MeansSelect the_schema holder SELECT_HOLDERS_IN.now (is 1 0 ∷ []) (columns_of holder) (by 2) (names_of holder)
+unfolding understood everything
+means_select_in = record { is = refl; unlisted = refl; plain = (refl, refl) }
+
+pub plain_select_in : IsPlain (understood the_schema SELECT_HOLDERS_IN.now)
+plain_select_in = means_select_in.plain
+
+pub holders_found : {S : Type 0} (g : Ghosts S) (old new : Held S) (k : Kept) → IsAt g k old → (project : ℕ) (found : List Holder) → ShowsRecords (λ row x. row ≡ holder_row x) g SELECT_HOLDERS_IN.now (number project ∷ []) old new found
+    → found ≡ filter (λ h. h.project == project) k.holders
+holders_found g old new k at =
+    owned_found g old new holder_row 11 holder (λ x. x.project) (λ x y. slice_cmp nat_cmp x.group y.group) same_holder refl SELECT_HOLDERS_IN.now means_select_in (λ n r. refl) (λ n x. same_number x.project n) (λ n r. refl) (λ x y low. rising_text x.group y.group low) k k.holders refl at at.now.inside.regular.holders
 
 -- ---- the groups that an attempt holds
 

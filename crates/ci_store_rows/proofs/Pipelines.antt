@@ -1,5 +1,5 @@
 -- The statements that write `pipeline`.
-use Rattle.std.proofs.Common.{◌∙◌, ℕ, pos, List, [], ◌∷◌, refl, ap, ◌≡◌, ◌==◌, ◌&&◌, Bool, true, false, Option, filter, sym, map, take, drop, length, ◌<◌, ◌≤◌, codes, if◌then◌else◌, inl, inr, nat_lt}
+use Rattle.std.proofs.Common.{◌∙◌, ℕ, pos, List, [], ◌∷◌, refl, ap, ◌≡◌, ◌==◌, ◌&&◌, Bool, true, false, Option, filter, reverse, sym, map, take, drop, length, ◌<◌, ◌≤◌, codes, if◌then◌else◌, inl, inr, nat_lt}
 use Rattle.sqlite.specs.declared.types.Value.TheVariants.{Null, Text}
 use Rattle.sqlite.specs.Order.{Row, column}
 use Rattle.sqlite.specs.Term.{Term, lit, col}
@@ -22,14 +22,14 @@ use Rattle.ci_store_tables.specs.Statements.{HasPut}
 use Rattle.ci_store_tables.proofs.Puts.{MeansPut, MeansRemove, GivesRecord}
 use Rattle.ci_store_tables.proofs.Absent.{absent_rowid}
 use Rattle.ci_store_tables.proofs.Scalars.{cast_int, equal_int, equal_text, compares}
-use Rattle.ci_store_rows.specs.declared.texts.TheConstants.{UPDATE_PIPELINE, INSERT_PIPELINE, DELETE_PIPELINE, SELECT_PIPELINE, SELECT_PIPELINES_ABOVE, SELECT_NEWER_PIPELINES, SELECT_PIPELINES_BEFORE, SELECT_SOME_PIPELINES_BEFORE}
+use Rattle.ci_store_rows.specs.declared.texts.TheConstants.{UPDATE_PIPELINE, INSERT_PIPELINE, DELETE_PIPELINE, SELECT_PIPELINE, SELECT_PIPELINES_ABOVE, SELECT_NEWER_PIPELINES, SELECT_PIPELINES_BEFORE, SELECT_SOME_PIPELINES_BEFORE, SELECT_NEWEST_PIPELINES}
 use Rattle.ci_store_rows.specs.declared.columns.TheConstants.{LAST_INTEGER}
 use Rattle.ci_store_rows.specs.Schema.{the_schema, pipeline}
 use Rattle.ci_store_rows.specs.Rows.{number, pipeline_row, kind_number, source_number}
 use Rattle.ci_store_rows.specs.Stands.{rows_by_tree, rows_of, Stands, IsAt}
 use Rattle.ci_store_rows.proofs.OneList.{IsAlike, alike_but, regular_with_pipelines}
 use Rattle.ci_store_rows.proofs.Lists.{put_rises, by_number}
-use Rattle.ci_store_rows.proofs.Records.{is, put_stands, same_number, is_number, finds_number, numbered, above, finds_beyond, below, finds_below, plus_below, finds_plus_below}
+use Rattle.ci_store_rows.proofs.Records.{is, put_stands, same_number, is_number, finds_number, numbered, above, finds_beyond, below, finds_below, plus_is, finds_plus_number, plus_below, finds_plus_below}
 use Rattle.sqlite.specs.Collation.TheVariants.{Binary}
 use Rattle.sqlite_schema.specs.Rules.{equal}
 use Rattle.sqlite.proofs.Callers.{IsPlain}
@@ -39,7 +39,7 @@ use Rattle.std.specs.Str.{bytes_eq}
 use Rattle.ci_machine.specs.Lookups.{pipeline_at}
 use Rattle.ci_machine.specs.Indexes.{newer_in}
 use Rattle.ci_machine.specs.Redundant.{same_kind, is_newer_of}
-use Rattle.ci_store_rows.proofs.Shows.{columns_of, names_of, pair, by, by_total, shows_passing, shows_ordered, shows_some, found_one, found_first, found_some, found_none, first_of_one, rising_numbers}
+use Rattle.ci_store_rows.proofs.Shows.{columns_of, names_of, pair, by, by_total, backward, shows_passing, shows_ordered, shows_backward, shows_some, found_one, found_first, found_some, found_none, first_of_one, rising_numbers, falling_numbers, filter-reverse}
 use Rattle.std.specs.List.{list_any, All, Contains}
 use Rattle.sqlite_value.specs.Keys.{plain, joined}
 use Rattle.sqlite_schema.specs.declared.schema.Keys.TheVariants.{Enforced}
@@ -246,3 +246,25 @@ some_before_found g old new k at before count found h =
     let seen = shows_some pipeline_row 3 pipeline refl SELECT_SOME_PIPELINES_BEFORE.now (below 6 0 ∷ []) (before_key before count) (λ im. compares Lt (column im 5) (number before) && true) (λ r. refl)
     (λ x. nat_lt x.created before) (λ x. finds_below before x.created) k k.state.pipelines refl h.rows (col 0 1) (by 6) (λ r. refl) means_select_some_before (state g old) (state g new) at.now h.shown in
     found_some (λ row x. row ≡ pipeline_row x) pipeline_row (λ x. nat_lt x.created before) k.state.pipelines (λ x y _ same. sym (same_pipeline y x same)) count h.rows seen.0 seen.1 seen.2 found h.read
+
+-- ---- the newest pipelines of a project
+
+-- The second value is how many rows are shown at most. Under a plus no index of the column is taken, so that the rows are read from the greatest number
+-- down, and no more of them than it takes.
+means_select_newest : MeansSelectTo (col 0 1) the_schema pipeline SELECT_NEWEST_PIPELINES.now (plus_is 2 0 ∷ []) (columns_of pipeline) (backward 0) (names_of pipeline)
+unfolding understood everything
+means_select_newest = record { is = refl; unlisted = refl; plain = (refl, refl) }
+
+pub plain_select_newest : IsPlain (understood the_schema SELECT_NEWEST_PIPELINES.now)
+plain_select_newest = means_select_newest.plain
+
+pub newest_found : {S : Type 0} (g : Ghosts S) (old new : Held S) (k : Kept) → IsAt g k old → (project count : ℕ) (found : List Pipeline) → ShowsRecords (λ row x. row ≡ pipeline_row x) g SELECT_NEWEST_PIPELINES.now (number project ∷ number count ∷ []) old new found
+    → found ≡ take count (reverse (filter (λ p. p.project == project) k.state.pipelines))
+newest_found g old new k at project count found h =
+    let own : Pipeline → Bool = λ x. x.project == project in
+    found_first (λ row x. row ≡ pipeline_row x) pipeline_row own (reverse k.state.pipelines) (λ x y _ same. sym (same_pipeline y x same)) count h.rows
+    (shows_backward pipeline_row 3 pipeline refl SELECT_NEWEST_PIPELINES.now (plus_is 2 0 ∷ []) (number project ∷ number count ∷ []) (λ im. equal Binary (binary Coalesce (column im 1) Null) (number project) && true) (λ r. refl)
+    own (λ x. finds_plus_number x.project project) k k.state.pipelines refl h.rows
+    (col 0 1) 0 0 (λ r. refl) means_select_newest (falling_numbers (λ (x : Pipeline). x.id) own k.state.pipelines at.now.inside.regular.pipelines) (state g old) (state g new) at.now h.shown)
+    found h.read
+    ∙ ap (take count) (filter-reverse own k.state.pipelines)

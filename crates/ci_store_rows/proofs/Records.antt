@@ -54,6 +54,9 @@ abbrev pub below : ℕ → ℕ → Term
 below place param = op2 (Compare Lt Binary) (col 1 place) (col 0 param)
 
 -- the same of a column under a plus, which is itself where it isn't NULL
+abbrev pub plus_is : ℕ → ℕ → Term
+plus_is place param = op2 (Compare Eq Binary) (op2 Coalesce (col 1 place) (lit Null)) (col 0 param)
+
 abbrev pub plus_below : ℕ → ℕ → Term
 plus_below place param = op2 (Compare Lt Binary) (op2 Coalesce (col 1 place) (lit Null)) (col 0 param)
 
@@ -136,6 +139,9 @@ finds_below other n = and_true _ ∙ compares_below n other
 itself : (n : ℕ) → binary Coalesce (number n) Null ≡ number n
 unfolding binary
 itself n = refl
+
+pub finds_plus_number : (m n : ℕ) → (equal Binary (binary Coalesce (number m) Null) (number n) && true) ≡ (m == n)
+finds_plus_number m n = (λ i. equal Binary (itself m i) (number n) && true) ∙ finds_number m n
 
 pub finds_plus_below : (other n : ℕ) → (compares Lt (binary Coalesce (number n) Null) (number other) && true) ≡ nat_lt n other
 finds_plus_below other n = (λ i. compares Lt (itself n i) (number other) && true) ∙ finds_below other n

@@ -417,7 +417,7 @@ ascend_turned Up [] up = tt
 ascend_turned Up (x ∷ xs) up =
     subst (IsAscending (λ a b. Up b a)) (sym (reverse-cons x xs)) (ascend_behind (λ a b. Up b a) (reverse xs) x (ascend_turned Up xs up.1) (all_turned (Up x) xs up.0))
 
-filter-reverse : {X : Type 0} (p : X → Bool) (xs : List X) → filter p (reverse xs) ≡ reverse (filter p xs)
+pub filter-reverse : {X : Type 0} (p : X → Bool) (xs : List X) → filter p (reverse xs) ≡ reverse (filter p xs)
 filter-reverse p [] = refl
 filter-reverse p (x ∷ xs) = ap (filter p) (reverse-cons x xs) ∙ filter-append p (reverse xs) (x ∷ []) ∙ ap (λ l. l ++ filter p (x ∷ [])) (filter-reverse p xs) ∙ one (p x)
   where

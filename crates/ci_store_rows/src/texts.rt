@@ -76,6 +76,9 @@ pub const SELECT_PIPELINES_BEFORE: &str =
 pub const SELECT_SOME_PIPELINES_BEFORE: &str =
     "SELECT id, project, ref, kind, source, created FROM pipeline WHERE created < ?1 ORDER BY created LIMIT ?2";
 
+pub const SELECT_NEWEST_PIPELINES: &str =
+    "SELECT id, project, ref, kind, source, created FROM pipeline WHERE +project = ?1 ORDER BY id DESC LIMIT ?2";
+
 pub const INSERT_JOB: &str =
     "INSERT INTO job (id, pipeline, pos, name, stage, spec, played, cancelled, aside) VALUES (?1, ?2, ?3, ?4, ?5, ?6, ?7, ?8, ?9)";
 
@@ -191,6 +194,9 @@ pub const DELETE_HOLDER: &str = "DELETE FROM holder WHERE project = ?1 AND grp =
 
 pub const SELECT_HOLDER: &str =
     "SELECT project, grp, attempt FROM holder WHERE project = ?1 AND grp = ?2";
+
+pub const SELECT_HOLDERS_IN: &str =
+    "SELECT project, grp, attempt FROM holder WHERE project = ?1 ORDER BY grp";
 
 pub const SELECT_HOLDERS_OF: &str = "SELECT project, grp, attempt FROM holder WHERE attempt = ?1";
 

@@ -1,12 +1,12 @@
 //! Loads of records, by a query that writes nothing.
 
-ghost use Rattle.std.specs.Prelude.{◌≡◌, ◌+◌, ◌*◌, [], ◌∷◌, length, IfOk};
+ghost use Rattle.std.specs.Prelude.{◌≡◌, ◌+◌, ◌*◌, [], ◌∷◌, length, take, IfOk};
 ghost use Rattle.sqlite.specs.declared.types.Value.TheVariants.{Text as Words};
 ghost use Rattle.sqlite.specs.Given.{IsPlain};
 ghost use Rattle.sqlite.specs.Listing.{understood};
 ghost use Rattle.sqlite.specs.Values.{bound};
 ghost use Rattle.ci_board.specs.Effects.{status_number};
-ghost use Rattle.ci_machine.specs.Lookups.{last_attempt_by, trace_of, next_of};
+ghost use Rattle.ci_machine.specs.Lookups.{last_attempt_by, newest_of, trace_of, next_of};
 ghost use Rattle.ci_machine.specs.Indexes.{newer_in};
 ghost use Rattle.ci_store_rows.specs.Schema.{the_schema};
 ghost use Rattle.ci_store_rows.specs.Found.{ShowsRecords, FindsNumber, listed};
@@ -195,6 +195,19 @@ pub(crate) fn newer<S: Alter>(
         texts::SELECT_NEWER_PIPELINES,
         &[project, text(&pipeline.git_ref), kind.to_sql(), id, only],
     )
+}
+
+/// The newest pipelines of a project, at most so many, as a query by these shows them.
+pub(crate) fn newest<S: Alter>(
+    conn: &mut Asked<S>,
+    project: u64,
+    count: u64,
+) -> Result<Vec<Pipeline>, StoreFault>
+    ensures { LooksUp S.Store conn.old conn.new result (λ k found. found.items ≡ take count (newest_of k.state project)) }
+{
+    let project = number(project)?;
+    let count = number(count)?;
+    list(conn, texts::SELECT_NEWEST_PIPELINES, &[project, count])
 }
 
 /// The last attempt of a runner, as a query by these shows it.

@@ -469,6 +469,10 @@ impl<S: Alter> Store for Tables<S> {
         load::one_of(&mut self.conn, texts::SELECT_HOLDER, project, group)
     }
 
+    fn holders_in(&mut self, project: u64) -> Result<Vec<Holder>, StoreFault> {
+        load::list_of(&mut self.conn, texts::SELECT_HOLDERS_IN, project)
+    }
+
     fn newer_of(&mut self, pipeline: &Pipeline) -> Result<Option<Pipeline>, StoreFault> {
         load::newer(&mut self.conn, pipeline)
     }
@@ -493,6 +497,10 @@ impl<S: Alter> Store for Tables<S> {
             before,
             count,
         )
+    }
+
+    fn newest(&mut self, project: u64, count: u64) -> Result<Vec<Pipeline>, StoreFault> {
+        load::newest(&mut self.conn, project, count)
     }
 
     fn commit(&mut self, delta: Delta) -> Result<(), StoreFault> {

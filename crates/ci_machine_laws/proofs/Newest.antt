@@ -1,0 +1,179 @@
+-- The pipelines that are listed of a project are its newest.
+use Rattle.std.specs.Prelude.{◌≡◌, ◌⊎◌, ◌<◌, ℕ, zero, suc, ◌+◌, Bool, ◌==◌, List, [], ◌∷◌, ◌++◌, length, map, filter, take, reverse, All, Contains, None, Result, Ok, Err}
+use Rattle.std.specs.List.{AllByRecursion}
+use Rattle.std.specs.List.Sorted.{IsStrictlySortedBy}
+use Rattle.std.specs.Ordering.{nat_cmp, is_lt}
+use Rattle.std.specs.declared.cmp.Ordering.TheVariants.{Less}
+use Rattle.std.proofs.Common.{refl, sym, ap, subst, ◌∙◌, inl, inr, ⊎_elim, arith, eqb-true, eq-eqb}
+use Rattle.std.proofs.lemmas.Grind.{reverse_onto}
+use Rattle.ci_machine.specs.declared.limits.TheConstants.{LISTED_PIPELINES}
+use Rattle.ci_machine.specs.declared.records.Pipeline.{Pipeline}
+use Rattle.ci_machine.specs.declared.records.Project.{Project}
+use Rattle.ci_machine.specs.declared.records.BoardRow.{BoardRow}
+use Rattle.ci_machine.specs.declared.request.Event.TheVariants as event
+use Rattle.ci_machine.specs.declared.request.Request.TheVariants.{Read}
+use Rattle.ci_machine.specs.declared.request.ReadQuery.{ReadQuery}
+use Rattle.ci_machine.specs.declared.request.Subject.TheVariants as subject
+use Rattle.ci_machine.specs.declared.request.Seed.{Seed}
+use Rattle.ci_machine.specs.declared.reply.Code.{Code}
+use Rattle.ci_machine.specs.declared.reply.Reply.{Reply}
+use Rattle.ci_machine.specs.declared.reply.Answer.{Answer}
+use Rattle.ci_machine.specs.declared.reply.Answer.TheVariants as answer
+use Rattle.ci_machine.specs.declared.change.RowChange.{RowChange}
+use Rattle.ci_machine.specs.State.{State, applied}
+use Rattle.ci_machine.specs.Statuses.{AreBoard}
+use Rattle.ci_machine.proofs.Keyed.{Has, Rising, rising_from, rising_filter, has_filter, filter_has, All-from_has, contains_from_has, less}
+use Rattle.ci_machine_steps.specs.Plans.{Plan}
+use Rattle.ci_machine_steps.specs.Reads.{listed_pipelines, read}
+use Rattle.ci_machine_steps.specs.Step.{Step, Happens}
+use Rattle.ci_machine_steps.specs.History.{IsReached}
+use Rattle.ci_machine_steps.proofs.Behind.{nat_less, in_either, has_left, has_right}
+use Rattle.ci_machine_steps.proofs.Sound.{rising_from_ascend}
+use Rattle.ci_machine_laws.specs.Reads.{AreNewest, TellsNewest}
+use Rattle.ci_machine_laws.proofs.EachPlan.{Asked, of_asked, is_asked, of_read}
+use Rattle.ci_machine_laws.proofs.Numbers.{sound_reached}
+
+-- ---- lists whose numbers fall
+
+module _ {A : Type 0} (id : A → ℕ) where
+  -- each number is greater than those after it
+  abbrev Falls : List A → Type 0
+  Falls xs = IsStrictlySortedBy (λ a b. nat_cmp b a) (map id xs)
+
+  -- each number is greater than x's
+  abbrev Above : A → List A → Type 0
+  Above x ys = (y : A) → Has y ys → id x < id y
+
+  above_first : (y : A) (xs : List A) → ((x : A) → Has x xs → id x < id y) → AllByRecursion (λ n. nat_cmp n (id y) ≡ Less) (map id xs)
+  above_first y [] h = tt
+  above_first y (x ∷ xs) h = (nat_less (id x) (id y) (h x (inl refl)), above_first y xs (λ z k. h z (inr k)))
+
+  falls_last : (x : A) (ys : List A) → Falls ys → Above x ys → Falls (ys ++ x ∷ [])
+  unfolding IsStrictlySortedBy
+  falls_last x [] f h = (tt, tt)
+  falls_last x (y ∷ ys) f h = (last_less x y ys f.0 (h y (inl refl)), falls_last x ys f.1 (λ z k. h z (inr k))) where
+    last_less : (x y : A) (ys : List A) → AllByRecursion (λ n. nat_cmp n (id y) ≡ Less) (map id ys) → id x < id y → AllByRecursion (λ n. nat_cmp n (id y) ≡ Less) (map id (ys ++ x ∷ []))
+    last_less x y [] all l = (nat_less (id x) (id y) l, tt)
+    last_less x y (z ∷ zs) all l = (all.0, last_less x y zs all.1 l)
+
+  turned : (x : A) (xs : List A) → reverse (x ∷ xs) ≡ reverse xs ++ x ∷ []
+  turned x xs = reverse_onto xs x []
+
+  has_reverse : (y : A) (xs : List A) → Has y (reverse xs) → Has y xs
+  has_reverse y [] h = h
+  has_reverse y (x ∷ xs) h =
+      ⊎_elim (λ k. inr (has_reverse y xs k)) (λ k. ⊎_elim (λ e. inl e) (λ m. absurd m) k) (in_either y (reverse xs) (x ∷ []) (subst (Has y) (turned x xs) h))
+
+  reverse_has : (y : A) (xs : List A) → Has y xs → Has y (reverse xs)
+  reverse_has y [] h = h
+  reverse_has y (x ∷ xs) h =
+      subst (Has y) (sym (turned x xs)) (⊎_elim (λ e. has_right y (reverse xs) (x ∷ []) (inl e)) (λ k. has_left y (reverse xs) (x ∷ []) (reverse_has y xs k)) h)
+
+  -- a list whose numbers rise falls where it is turned
+  falls_reverse : (low : ℕ) (xs : List A) → Rising id low xs → Falls (reverse xs)
+  unfolding IsStrictlySortedBy
+  falls_reverse low [] r = tt
+  falls_reverse low (x ∷ xs) r =
+      subst Falls (sym (turned x xs)) (falls_last x (reverse xs) (falls_reverse (id x + 1) xs r.1)
+      (λ y k. let z = rising_from id y (id x + 1) xs r.1 (has_reverse y xs k) in omega (arith, z)))
+
+  falls_below : (y : A) (xs : List A) (n : ℕ) → AllByRecursion (λ m. nat_cmp m (id y) ≡ Less) (map id xs) → AllByRecursion (λ m. nat_cmp m (id y) ≡ Less) (map id (take n xs))
+  falls_below y xs zero all = tt
+  falls_below y [] (suc n) all = tt
+  falls_below y (x ∷ xs) (suc n) all = (all.0, falls_below y xs n all.1)
+
+  falls_take : (n : ℕ) (xs : List A) → Falls xs → Falls (take n xs)
+  unfolding IsStrictlySortedBy
+  falls_take zero xs f = tt
+  falls_take (suc n) [] f = tt
+  falls_take (suc n) (x ∷ xs) f = (falls_below x xs n f.0, falls_take n xs f.1)
+
+  take_has : (n : ℕ) (y : A) (xs : List A) → Has y (take n xs) → Has y xs
+  take_has zero y xs h = absurd h
+  take_has (suc n) y [] h = h
+  take_has (suc n) y (x ∷ xs) h = ⊎_elim (λ e. inl e) (λ k. inr (take_has n y xs k)) h
+
+  is_less : (x y : A) (xs : List A) → AllByRecursion (λ m. nat_cmp m (id y) ≡ Less) (map id xs) → Has x xs → id x < id y
+  is_less x y [] all k = absurd k
+  is_less x y (z ∷ zs) all k =
+      ⊎_elim (λ e. less (id x) (id y) (ap (λ (w : A). is_lt (nat_cmp (id w) (id y))) e ∙ ap is_lt all.0)) (λ m. is_less x y zs all.1 m) k
+
+  -- an element is among the first n, or these are n, and its number is less than theirs
+  left_out : (n : ℕ) (p : A) (xs : List A) → Falls xs → Has p xs → Has p (take n xs) ⊎ ((length (take n xs) ≡ n) × Above p (take n xs))
+  unfolding IsStrictlySortedBy
+  left_out zero p xs f k = inr (refl, λ y m. absurd m)
+  left_out (suc n) p [] f k = absurd k
+  left_out (suc n) p (x ∷ xs) f k =
+      ⊎_elim (λ e. inl (inl e))
+      (λ m. ⊎_elim (λ h. inl (inr h))
+      (λ h. inr (ap suc h.0, λ y j. ⊎_elim (λ e. subst (λ (w : A). id p < id w) (sym e) (is_less p x xs f.0 m)) (λ i. h.1 y i) j))
+      (left_out n p xs f.1 m)) k
+
+-- ---- the pipelines of a project
+
+-- the pipelines that are listed of a project are its newest, where the numbers of all rise
+listed_newest : (s : State) (project : ℕ) → Rising (λ (p : Pipeline). p.id) 0 s.pipelines → AreNewest s project (listed_pipelines s project)
+listed_newest s project rise = record {
+  own = All-from_has Own shown (λ p k. let at = has_filter is_its p s.pipelines (has_reverse id p its (take_has id LISTED_PIPELINES p (reverse its) k)) in (contains_from_has p s.pipelines at.0, eqb-true p.project project at.1));
+  fall = falls_take id LISTED_PIPELINES (reverse its) falls;
+  newest = All-from_has IsListed s.pipelines (λ p k of. ⊎_elim
+      (λ h. inl (contains_from_has p shown h))
+      (λ h. inr (h.0, All-from_has (λ (q : Pipeline). p.id < q.id) shown h.1))
+      (left_out id LISTED_PIPELINES p (reverse its) falls (reverse_has id p its (filter_has is_its p s.pipelines k (eq-eqb p.project project of)))));
+} where
+  id : Pipeline → ℕ
+  id p = p.id
+
+  is_its : Pipeline → Bool
+  is_its p = p.project == project
+
+  its : List Pipeline
+  its = filter is_its s.pipelines
+
+  shown : List Pipeline
+  shown = listed_pipelines s project
+
+  Own : Pipeline → Type 0
+  Own p = Contains s.pipelines p × (p.project ≡ project)
+
+  IsListed : Pipeline → Type 0
+  IsListed p = p.project ≡ project → Contains shown p ⊎ ((length shown ≡ LISTED_PIPELINES) × All (λ q. p.id < q.id) shown)
+
+  falls : Falls id (reverse its)
+  falls = falls_reverse id 0 its (rising_filter id is_its 0 s.pipelines rise)
+
+-- ---- what is told of them
+
+module _ (s : State) (board : List BoardRow) (are : AreBoard s board) (rise : Rising (λ (p : Pipeline). p.id) 0 s.pipelines) (named : ℕ) where
+  abbrev Tells : Plan → Type 0
+  Tells plan = plan.0.code ≡ None → TellsNewest s named plan.0
+
+  tells : (r : Result Project Code) → Asked s named r → Tells (read s board r subject.Pipelines)
+  tells (Err code) asked none = absurd (cc)
+  tells (Ok p) asked none = record {
+    board = board;
+    are_board = are;
+    pipelines = listed_pipelines s p.id;
+    are_newest = subst (λ n. AreNewest s n (listed_pipelines s p.id)) asked.1 (listed_newest s p.id rise);
+    told = refl;
+  }
+
+pub newest_told : (s t : State) (query : ReadQuery) (now : ℕ) (seed : Seed) (reply : Reply) → IsReached s → query.subject ≡ subject.Pipelines
+    → Step s (event.Request (Read query)) now seed (answer.Reply reply) t → reply.code ≡ None → TellsNewest s query.project reply
+newest_told s t query now seed reply reaches is step none =
+    let r = of_asked s query.token query.project in
+    let rise = rising_from_ascend (λ (p : Pipeline). p.id) s.pipelines (sound_reached s reaches).pipelines_ascend in
+    let P : Plan → Type 0 = λ plan. plan.0.code ≡ None → TellsNewest s query.project plan.0 in
+    let does : (reply, step.changes) ≡ read s step.before r subject.Pipelines = step.happens ∙ ap (λ w. read s step.before r w) is in
+    subst P (sym does) (tells s step.before step.are_before rise query.project r (is_asked s query.token query.project)) none
+
+-- ---- a read changes nothing
+
+no_changes : (s : State) (board : List BoardRow) (query : ReadQuery) (now : ℕ) (seed : Seed) (a : Answer) (changes : List RowChange) → Happens s board (event.Request (Read query)) now seed a changes → changes ≡ []
+no_changes s board query now seed (answer.Reply reply) changes is =
+    let P : Plan → Type 0 = λ plan. plan.1 ≡ [] in
+    subst P (sym is) (of_read P (λ c m. refl) (λ body. refl) s board query)
+no_changes s board query now seed (answer.Swept swept) changes is = absurd is
+
+pub read_keeps : (s t : State) (query : ReadQuery) (now : ℕ) (seed : Seed) (a : Answer) → Step s (event.Request (Read query)) now seed a t → t ≡ s
+read_keeps s t query now seed a step = step.state ∙ ap (λ cs. applied cs s) (no_changes s step.before query now seed a step.changes step.happens)
