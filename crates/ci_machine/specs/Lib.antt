@@ -8,6 +8,7 @@ pub mod Waiting
 pub mod Reply
 pub mod Options
 pub mod Bodies
+pub mod Listings
 pub mod Groups
 pub mod Eligible
 pub mod Redundant

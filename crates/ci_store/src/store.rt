@@ -3,9 +3,9 @@
 ghost use Rattle.std.specs.Prelude.{◌≡◌, length, take};
 ghost use Rattle.ci_machine.specs.Kept.{Kept, cleared, written};
 ghost use Rattle.ci_machine.specs.Statuses.{attempts_of, jobs_of};
-ghost use Rattle.ci_machine.specs.Lookups.{project_at, project_with, project_variables, variable_at, runner_at, runner_with, pipeline_at, job_at, demand_at, variables_of, attempt_at, last_attempt_by, live_attempts, trace_of, next_of};
+ghost use Rattle.ci_machine.specs.Lookups.{project_at, project_with, project_variables, variable_at, runner_at, runner_with, pipeline_at, job_at, demand_at, variables_of, attempt_at, last_attempt_by, live_attempts, trace_of, next_of, newest_of};
 ghost use Rattle.ci_machine.specs.Ranges.{needs_within, attempts_within, rows_within, row_at, rows_with, pending_after};
-ghost use Rattle.ci_machine.specs.Holders.{holder_at};
+ghost use Rattle.ci_machine.specs.Holders.{holder_at, holders_in};
 ghost use Rattle.ci_machine.specs.Waiting.{mode_at};
 ghost use Rattle.ci_machine.specs.Indexes.{newer_in};
 ghost use Rattle.ci_store.specs.Made.{made_before, AreSome};
@@ -150,9 +150,17 @@ pub trait Store {
     fn holder(&mut self, project: u64, group: &Text) -> Result<Option<Holder>, StoreFault>
         ensures { LoadsBy honest holds leaves self.old self.new result (λ k h. h ≡ holder_at project group.now k.holders) };
 
+    /// The rows of the resource groups of a project that was found which are held, by the bytes of the group.
+    fn holders_in(&mut self, project: u64) -> Result<Vec<Holder>, StoreFault>
+        ensures { LoadsBy honest holds leaves self.old self.new result (λ k hs. hs.items ≡ holders_in project k.holders) };
+
     /// The first newer pipeline of the same project, for the same branch or the same tag, as a pipeline that was found.
     fn newer_of(&mut self, pipeline: &Pipeline) -> Result<Option<Pipeline>, StoreFault>
         ensures { LoadsBy honest holds leaves self.old self.new result (λ k p. p ≡ newer_in k.state pipeline.now) };
+
+    /// The newest pipelines of a project that was found, newest first: at most so many. Errors: so many are over the greatest integer of SQL.
+    fn newest(&mut self, project: u64, count: u64) -> Result<Vec<Pipeline>, StoreFault>
+        ensures { LoadsBy honest holds leaves self.old self.new result (λ k ps. ps.items ≡ take count (newest_of k.state project)) };
 
     /// The first so many pipelines, by number, of those that were made before a moment. It reads pipelines by number until it has so
     /// many, and so all of them where there are fewer. Errors: so many are over the greatest integer of SQL.
