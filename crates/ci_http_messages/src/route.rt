@@ -23,8 +23,8 @@ use ci_http_routes::operation::Operation;
 use ci_http_routes::paths::Paths;
 use ci_machine::reply::{Code, Methods, Reply};
 use ci_machine::request::{
-    GroupQuery, JobQuery, NewFile, NewMode, NewVariable, PipelineQuery, ReadQuery, Request, Subject,
-    TracePart, VariableQuery,
+    GroupQuery, JobQuery, NewFile, NewMode, NewVariable, PipelineQuery, ReadQuery, Request,
+    Subject, TracePart, VariableQuery,
 };
 use ci_machine::text::{Bytes, Text};
 use ci_values::text::is_name;
