@@ -17,11 +17,7 @@ use Rattle.ci_http_messages.specs.Targets.{path_of}
 abbrev AsksFor : Operation (List ℕ) → Message → Type 0
 AsksFor op m = asked_at m.method (path_of m.target) ≡ asks (wanted op)
 
-pub asks_health : (m : Message) (op : Operation (List ℕ)) → AsksFor op m → is_health op ≡ true → request_in m ≡ Ok demand.Health
-asks_health m op e is =
-    ap (λ a. request_as a m) e ∙ ap (λ b. if b then Ok demand.Health else ok_or (option_map demand.Request (request_by (wanted op) m)) (refusal H7)) is
-
--- another asks for the request that it makes, if it makes one
+-- who doesn't ask for the server's health asks for the request that is made, if one is
 asks_other : (m : Message) (op : Operation (List ℕ)) → AsksFor op m → is_health op ≡ false
     → request_in m ≡ ok_or (option_map demand.Request (request_by (wanted op) m)) (refusal H7)
 asks_other m op e other =
