@@ -1,6 +1,6 @@
 -- What a message asks for, by what was made of it at its route.
 use Rattle.std.proofs.Common.{◌≡◌, ℕ, List, sym, ap, ◌∙◌, inl, inr}
-use Rattle.std.specs.Prelude.{◌⊎◌, true, false, if◌then◌else◌, Some, None, option_map, ok_or, Ok, Err}
+use Rattle.std.specs.Prelude.{◌⊎◌, false, if◌then◌else◌, Some, None, option_map, ok_or, Ok, Err}
 use Rattle.ci_machine.specs.declared.request.Request.{Request}
 use Rattle.ci_machine.specs.declared.reply.Code.{Code}
 use Rattle.ci_machine.specs.declared.reply.Code.TheVariants.{M16, H7}
