@@ -129,7 +129,7 @@ def convert_page(version: str) -> list[str]:
 
 def look_page(version: str) -> list[str]:
     page = head("ciserver-page", 1, version, "writes an HTML page with the pipelines of a project of a ciserver")
-    text = sections_of(read("docs/OPERATING.md"))["A page to look at"]
+    text = sections_of(read("docs/OPERATING.md"))["A page without a server"]
     return page + script_page("ciserver-page", "examples/page.py", text) + seen_also("ciserver.1")
 
 

@@ -10,14 +10,15 @@ from selenium.webdriver.chrome.service import Service
 from selenium.webdriver.common.by import By
 from selenium.webdriver.common.keys import Keys
 
-from stand import until
+from stand import until, WAIT
 
 
 class Browser:
     def __init__(self, width=1360, height=900):
         options = Options()
         options.binary_location = shutil.which("chromium")
-        words = ["--headless=new", "--disable-gpu", "--lang=en-GB", "--disable-dev-shm-usage", f"--window-size={width},{height}", "--hide-scrollbars"]
+        words = ["--headless=new", "--disable-gpu", "--lang=en-GB", "--disable-dev-shm-usage", f"--window-size={width},{height}", "--hide-scrollbars",
+                 "--force-prefers-reduced-motion", "--disable-extensions", "--disable-background-networking", "--disable-component-update", "--no-first-run", "--mute-audio"]
         for word in words + (["--no-sandbox"] if os.getuid() == 0 else []):
             options.add_argument(word)
         options.set_capability("goog:loggingPrefs", {"browser": "ALL"})
@@ -74,11 +75,11 @@ class Browser:
         """The text of what a selector finds first; None where nothing is there."""
         return self.run("const it = document.querySelector(arguments[0]); return it && it.innerText", selector)
 
-    def sees(self, selector, form="", seconds=12):
+    def sees(self, selector, form="", seconds=WAIT):
         """Whether something with a text of this form comes to be shown."""
         return until(lambda: (text := self.text(selector)) is not None and re.search(form, text, re.I | re.S) is not None, seconds) is not None
 
-    def gone(self, selector, seconds=12):
+    def gone(self, selector, seconds=WAIT):
         return until(lambda: self.find(selector) is None, seconds) is not None
 
     def press(self, selector):

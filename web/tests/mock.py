@@ -267,8 +267,12 @@ class World:
         return len(self.traces[number])
 
 
+# So many seconds its clock stands back.
+BACK = 0
+
+
 def stamp():
-    return time.strftime("%Y-%m-%dT%H:%M:%SZ", time.gmtime())
+    return time.strftime("%Y-%m-%dT%H:%M:%SZ", time.gmtime(time.time() - BACK))
 
 
 PROJECT = r"/api/v4/projects/(\d+)"

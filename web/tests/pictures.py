@@ -1,11 +1,12 @@
 #!/usr/bin/env python3
 """Pictures of each view, light, dark and of a telephone's width, over a project with something of everything: to be looked at.
 
-    web/tests/pictures.py [--server CISERVER] FOLDER
+    web/tests/pictures.py [--server CISERVER] FOLDER [PICTURE..]        as in: web/tests/pictures.py shots pipeline-light
 """
 import os
 import sys
 
+import mock
 from browser import Browser
 from stand import Stand, until
 
@@ -103,6 +104,12 @@ test result: \x1b[31mFAILED\x1b[0m. 3 passed; 1 failed
 """
 
 
+def ago(stand, minutes):
+    """From here on the mock's clock stands so far back; a ciserver has its own."""
+    if not stand.is_real:
+        mock.BACK = minutes * 60
+
+
 def run_all(stand, fails=()):
     while grant := stand.take():
         grant.says(f"\x1b[32;1m$ {grant.name}\x1b[0m\ndone\n")
@@ -111,19 +118,27 @@ def run_all(stand, fails=()):
 
 def filled(stand):
     """Pipelines of each kind."""
+    ago(stand, 2900)
     stand.pipeline(SMALL, "main", source="push")
+    ago(stand, 2894)
     run_all(stand)
+    ago(stand, 310)
     stand.pipeline(SMALL, "feature/lease-renewal", source="push")
     run_all(stand, ["unit"])
+    ago(stand, 190)
     stand.pipeline(SMALL, "v1.4.0", tag=True, source="push")
     run_all(stand)
+    ago(stand, 71)
     cancelled = stand.pipeline(SMALL, "fix/typo", source="web")
     stand.user("POST", f"/pipelines/{cancelled['id']}/cancel")
+    ago(stand, 44)
     stand.pipeline(SMALL, "main", source="schedule")
     run_all(stand)
+    ago(stand, 9)
     large = stand.pipeline(LARGE, "main", source="push")["id"]
     grants = {}
     while grant := stand.take():
+        ago(stand, {"fetch-sources": 8.6, "unit": 4, "integration": 3.2, "container-image": 1.5}.get(grant.name, 6.2))
         if grant.name in ("integration",):
             grants[grant.name] = grant
             grant.says(TRACE)
@@ -135,42 +150,64 @@ def filled(stand):
             continue
         grant.says("\x1b[32;1m$ make\x1b[0m\nok\n").ends(*(("failed", 1) if grant.name == "style" else ()))
     stand.take("gpu").says("$ make gpu\ncompiling kernels\n")
+    ago(stand, 0)
     stand.user("PUT", "/resource_groups/production", {"process_mode": "oldest_first"})
     stand.pipeline("stages: [deploy]\nship:\n  stage: deploy\n  resource_group: staging\n  script: x\nshipped-late:\n  stage: deploy\n  resource_group: staging\n  script: x\n", "hotfix/login", source="web")
     stand.take()
     return large
 
 
+class Shots:
+    """Takes pictures into a folder: all, or those that are named."""
+
+    def __init__(self, browser, folder, wanted):
+        self.browser, self.folder, self.wanted = browser, folder, wanted
+
+    def take(self, name, where, prepare=lambda: None, full=False, is_in=True):
+        if self.wanted and name not in self.wanted:
+            return
+        self.browser.metrics(*((390, 844, True) if name.endswith("phone") else (1360, 900)))
+        self.browser.open(where, is_in)
+        prepare()
+        self.browser.shot(f"{self.folder}/{name}.png", full=full)
+
+    def settled(self):
+        """Until the view is there, and has asked for what it shows."""
+        until(lambda: self.browser.run("return document.querySelectorAll('.row, .box, .line').length") > 2)
+        until(lambda: False, 5)
+
+    def dialog(self):
+        self.browser.press("[data-act=run]")
+        self.browser.press("dialog form > .button")
+
+
+def views_of(stand, large):
+    job = stand.job(large, "integration")
+    first = next(it for it in stand.user("GET", f"/pipelines/{large}/jobs") if it["id"] == job)["attempts"][0]["id"]
+    whole = f"#/pipelines/{large}/jobs/{job}"
+    return {"pipelines": "#/pipelines", "pipeline": f"#/pipelines/{large}", "job": whole, "line": f"{whole}/attempts/{first}/lines/15", "waiting": "#/waiting", "groups": "#/groups"}
+
+
 def main():
     words = sys.argv[1:]
-    program = words.pop(1) if words[0] == "--server" else None
-    folder = words[-1]
+    program = None
+    if words[:1] == ["--server"]:
+        program, words = words[1], words[2:]
+    if not words:
+        sys.exit(__doc__)
+    folder = words[0]
     os.makedirs(folder, exist_ok=True)
     stand = Stand(program)
     browser = Browser().at(stand)
+    shots = Shots(browser, folder, words[1:])
     try:
-        large = filled(stand)
-        job = stand.job(large, "integration")
-        views = {"pipelines": "#/pipelines", "pipeline": f"#/pipelines/{large}", "job": f"#/pipelines/{large}/jobs/{job}", "waiting": "#/waiting", "groups": "#/groups"}
-        attempt = next(it for it in stand.user("GET", f"/pipelines/{large}/jobs") if it["id"] == job)["attempts"][0]["id"]
-        views["line"] = f"{views['job']}/attempts/{attempt}/lines/15"
-        for scheme, phone in (("light", False), ("dark", False), ("light", True)):
+        views = views_of(stand, filled(stand))
+        for scheme, kind in (("light", "light"), ("dark", "dark"), ("light", "phone")):
             browser.scheme(scheme)
-            kind = "phone" if phone else scheme
             for name, where in views.items():
-                browser.metrics(*((390, 844, True) if phone else (1360, 900)))
-                browser.open(where)
-                until(lambda: browser.run("return document.querySelectorAll('.row, .box, .line').length") > 2, 15)
-                until(lambda: False, 3 if name in ("pipelines", "waiting", "groups") else 1)
-                browser.shot(f"{folder}/{name}-{kind}.png", full=phone)
-            browser.metrics(*((390, 844, True) if phone else (1360, 900)))
-            browser.open("", is_in=False)
-            browser.sees("form.card")
-            browser.shot(f"{folder}/token-{kind}.png")
-            browser.open("#/pipelines")
-            browser.press("[data-act=run]")
-            browser.press("dialog form > .button")
-            browser.shot(f"{folder}/run-{kind}.png")
+                shots.take(f"{name}-{kind}", where, shots.settled, full=kind == "phone")
+            shots.take(f"token-{kind}", "", lambda: browser.sees("form.card"), is_in=False)
+            shots.take(f"run-{kind}", "#/pipelines", shots.dialog)
         for fault in browser.faults():
             print(fault)
     finally:

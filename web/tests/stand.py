@@ -13,6 +13,8 @@ import mock
 
 HERE = os.path.dirname(os.path.realpath(__file__))
 ROOT = os.path.dirname(os.path.dirname(HERE))
+# So many seconds something may take to come, also where the machine is busy.
+WAIT = 45
 
 
 def free_port():
@@ -149,7 +151,7 @@ class Stand:
         return 200
 
 
-def until(check, seconds=12, every=0.05):
+def until(check, seconds=WAIT, every=0.1):
     """What `check` answers, once that is something; None where it stays nothing."""
     end = time.monotonic() + seconds
     while True:
