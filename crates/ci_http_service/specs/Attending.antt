@@ -16,4 +16,4 @@ ServesSwept g most stamp old new bytes reply =
 -- A request is served so and its reply lost, which is only where the reply takes more bytes than there was room for.
 abbrev pub LosesReply : {S : Type 0} → Ghosts S → ℕ → ℕ → ℕ × Seed → ServerOver S → ServerOver S → List ℕ → Type 0
 LosesReply g most room stamp old new bytes =
-    (reply : Reply) × ServesSwept g most stamp old new bytes reply × (room < length (reply_text reply))
+    (reply : Reply) × (rest : Option (List ℕ)) × Serves g most stamp.0 stamp.1 old new reply (Some bytes) rest × (room < length (reply_text reply))
