@@ -18,7 +18,9 @@ class Browser:
         options = Options()
         options.binary_location = shutil.which("chromium")
         words = ["--headless=new", "--disable-gpu", "--lang=en-GB", "--disable-dev-shm-usage", f"--window-size={width},{height}", "--hide-scrollbars",
-                 "--force-prefers-reduced-motion", "--disable-extensions", "--disable-background-networking", "--disable-component-update", "--no-first-run", "--mute-audio"]
+                 "--force-prefers-reduced-motion",
+                 # A mouse, which a browser without a screen doesn't have by itself.
+                 "--blink-settings=primaryHoverType=2,availableHoverTypes=2,primaryPointerType=4,availablePointerTypes=4", "--disable-extensions", "--disable-background-networking", "--disable-component-update", "--no-first-run", "--mute-audio"]
         for word in words + (["--no-sandbox"] if os.getuid() == 0 else []):
             options.add_argument(word)
         options.set_capability("goog:loggingPrefs", {"browser": "ALL"})

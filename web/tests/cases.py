@@ -5,7 +5,7 @@ import time
 
 from browser import ENTER, ESCAPE, TAB
 from selenium.webdriver.common.by import By
-from stand import ROOT, until
+from stand import ROOT, until, WAIT
 
 ONE = """
 build:
@@ -480,9 +480,11 @@ def test_a_pipeline_of_two_hundred_jobs_and_a_long_trace(stand, browser):
     browser.open(at(pipeline))
     assert until(lambda: len(browser.all(".box")) == 200)
     assert len(browser.all(".lines path")) <= 400
-    begin = time.monotonic()
+    browser.command("Performance.enable", timeDomain="threadTicks")
     browser.open(at(pipeline, stand.job(pipeline, grant.name)))
-    assert until(lambda: browser.run("return document.querySelectorAll('.line').length") >= 50000, 30)
-    assert time.monotonic() - begin < 20
+    assert until(lambda: browser.run("return document.querySelectorAll('.line').length") >= 50000, 3 * WAIT, 1)
+    # Of the processor, and not by the clock: the machine may be busy.
+    spent = {it["name"]: it["value"] for it in browser.command("Performance.getMetrics")["metrics"]}["TaskDuration"]
+    assert spent < 20, spent
     browser.driver.find_element(By.CSS_SELECTOR, "[data-pane=follow]").click()
     assert browser.sees("[data-pane=follow][aria-pressed=false]", "")

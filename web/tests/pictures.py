@@ -110,8 +110,15 @@ def ago(stand, minutes):
         mock.BACK = minutes * 60
 
 
-def run_all(stand, fails=()):
-    while grant := stand.take():
+def run_all(stand, began, fails=()):
+    """Each job takes two minutes, the first one so many minutes ago."""
+    while True:
+        ago(stand, began)
+        grant = stand.take()
+        if grant is None:
+            return
+        began -= 2.1
+        ago(stand, began)
         grant.says(f"\x1b[32;1m$ {grant.name}\x1b[0m\ndone\n")
         grant.ends(*(("failed", 1) if grant.name in fails else ()))
 
@@ -120,20 +127,19 @@ def filled(stand):
     """Pipelines of each kind."""
     ago(stand, 2900)
     stand.pipeline(SMALL, "main", source="push")
-    ago(stand, 2894)
-    run_all(stand)
+    run_all(stand, 2899.8)
     ago(stand, 310)
     stand.pipeline(SMALL, "feature/lease-renewal", source="push")
-    run_all(stand, ["unit"])
+    run_all(stand, 309.9, ["unit"])
     ago(stand, 190)
     stand.pipeline(SMALL, "v1.4.0", tag=True, source="push")
-    run_all(stand)
+    run_all(stand, 189.8)
     ago(stand, 71)
     cancelled = stand.pipeline(SMALL, "fix/typo", source="web")
     stand.user("POST", f"/pipelines/{cancelled['id']}/cancel")
     ago(stand, 44)
     stand.pipeline(SMALL, "main", source="schedule")
-    run_all(stand)
+    run_all(stand, 43.9)
     ago(stand, 9)
     large = stand.pipeline(LARGE, "main", source="push")["id"]
     grants = {}
