@@ -1,16 +1,23 @@
 -- No body has a float.
-use Rattle.std.proofs.Common.{◌≡◌, ◌||◌, ℕ, List, [], ◌∷◌, map, false, refl, ap}
-use Rattle.serde_json.specs.Data.{Data, string}
+use Rattle.std.proofs.Common.{◌≡◌, ◌||◌, ℕ, List, [], ◌∷◌, map, find, ◌==◌, Option, Some, None, false, refl, ap}
+use Rattle.serde_json.specs.Data.{Data, string, number, unsigned}
 use Rattle.serde_json.specs.View.{items_of}
 use Rattle.serde_json.specs.Written.{has_float, items_have_float}
+use Rattle.ci_machine.specs.declared.records.Attempt.{Attempt}
 use Rattle.ci_machine.specs.declared.records.Pipeline.{Pipeline}
+use Rattle.ci_machine.specs.declared.records.PipelineWithStatus.{PipelineWithStatus}
+use Rattle.ci_machine.specs.declared.records.Runner.{Runner}
 use Rattle.ci_machine.specs.declared.records.Job.{Job}
+use Rattle.ci_machine.specs.declared.records.Need.{Need}
 use Rattle.ci_machine.specs.declared.records.Claim.{Claim}
 use Rattle.ci_machine.specs.declared.records.JobVariable.{JobVariable}
 use Rattle.ci_machine.specs.declared.records.QueuedJob.{QueuedJob}
+use Rattle.ci_machine.specs.Listings.{number_or_null, text_or_null, listed, listed_pipeline_data, exit_of, reason_of, runner_or_null, attempt_data, attempts_among, needs_among, told_jobs}
 use Rattle.ci_machine.specs.Bodies.{jobs_data, pipeline_data, variable_data, granted_variables, grant_data}
 use Rattle.ci_board.specs.declared.facts.Facts.{Facts}
 use Rattle.ci_board.specs.declared.facts.Row.{Row}
+use Rattle.ci_machine_plans.specs.declared.listed_jobs.ToldGroup.{ToldGroup}
+use Rattle.ci_machine_plans.specs.Objects.{told_group}
 
 -- a list whose items have none has none
 items : {A : Type 0} (data_of : A → Data) → ((x : A) → has_float (data_of x) ≡ false) → (xs : List A) → items_have_float (items_of (map data_of xs)) ≡ false
@@ -28,3 +35,40 @@ pipeline_has_none p claims jobs facts rows = ap (λ b. b || false) (jobs_have_no
 pub grant_has_none : (attempt : ℕ) (token : List ℕ) (q : QueuedJob) (vs : List JobVariable) → has_float (grant_data attempt token q vs) ≡ false
 grant_has_none attempt token q vs =
     λ i. items string (λ s. refl) q.job.options.script i || (items variable_data (λ v. refl) (granted_variables q.job attempt vs) i || false)
+
+-- ---- what is read
+
+pub number_has_none : (n : Option ℕ) → has_float (number_or_null n) ≡ false
+number_has_none None = refl
+number_has_none (Some n) = refl
+
+pub text_has_none : (t : Option (List ℕ)) → has_float (text_or_null t) ≡ false
+text_has_none None = refl
+text_has_none (Some t) = refl
+
+runner_has_none : (r : Option Runner) → has_float (runner_or_null r) ≡ false
+runner_has_none None = refl
+runner_has_none (Some r) = refl
+
+pub attempt_has_none : (runners : List Runner) (a : Attempt) → has_float (attempt_data runners a) ≡ false
+attempt_has_none runners a =
+    λ i. number_has_none (exit_of a.state) i || (text_has_none (reason_of a.state) i || (runner_has_none (find (λ r. r.id == a.runner) runners) i || false))
+
+pub attempts_have_none : (runners : List Runner) (attempts : List Attempt) → has_float (listed (attempt_data runners) attempts) ≡ false
+attempts_have_none runners = items (attempt_data runners) (attempt_has_none runners)
+
+pub pipelines_have_none : (pipelines : List PipelineWithStatus) → has_float (listed listed_pipeline_data pipelines) ≡ false
+pipelines_have_none = items listed_pipeline_data (λ p. refl)
+
+pub told_have_none : (claims : List Claim) (project : ℕ) (runners : List Runner) (needs : List Need) (attempts : List Attempt) (jobs : List Job) (facts : List Facts) (rows : List Row)
+    → items_have_float (items_of (told_jobs claims project runners needs attempts jobs facts rows)) ≡ false
+told_have_none claims project runners needs attempts [] facts rows = refl
+told_have_none claims project runners needs attempts (j ∷ js) [] rows = refl
+told_have_none claims project runners needs attempts (j ∷ js) (f ∷ facts) [] = refl
+told_have_none claims project runners needs attempts (j ∷ js) (f ∷ facts) (r ∷ rows) =
+    λ i. (items (attempt_data runners) (attempt_has_none runners) (attempts_among attempts j.id) i
+    || (items (λ n. number (unsigned n)) (λ n. refl) (needs_among needs j.id) i || (text_has_none j.options.resource_group i || (items string (λ t. refl) j.options.tags i || false))))
+    || told_have_none claims project runners needs attempts js facts rows i
+
+pub groups_have_none : (groups : List ToldGroup) → has_float (listed told_group groups) ≡ false
+groups_have_none = items told_group (λ g. ap (λ b. b || false) (number_has_none g.holder))

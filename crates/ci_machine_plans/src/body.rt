@@ -178,7 +178,8 @@ fn pipeline_object(
     shown.with_text(alloc, "status", status.as_str())
 }
 
-fn lines(alloc: Global, texts: &[Text]) -> Result<Value, AllocError>
+/// Texts, one after the other.
+pub(crate) fn lines(alloc: Global, texts: &[Text]) -> Result<Value, AllocError>
     ensures { IfOk result (λ v. view v ≡ array (items_of (map string texts.now))) }
 {
     let mut items = Vec::new(alloc);

@@ -5,6 +5,8 @@
 pub mod body;
 pub mod cancels;
 pub mod grants;
+pub mod listed_jobs;
+pub mod listings;
 pub mod modes;
 mod object;
 pub mod plays;

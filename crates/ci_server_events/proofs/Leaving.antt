@@ -26,6 +26,7 @@ use Rattle.ci_machine.specs.declared.records.Pipeline.{Pipeline}
 use Rattle.ci_machine.specs.declared.records.Project.{Project}
 use Rattle.ci_machine.specs.declared.records.Runner.{Runner}
 use Rattle.ci_machine.specs.declared.records.Variable.{Variable}
+use Rattle.ci_machine.specs.declared.reply.Body.{Body}
 use Rattle.ci_machine.specs.declared.reply.Code.{Code}
 use Rattle.ci_machine.specs.declared.reply.Code.TheVariants.{M2, M5, M15}
 use Rattle.ci_machine.specs.declared.reply.Detail.{Detail}
@@ -36,7 +37,7 @@ use Rattle.ci_machine.specs.declared.request.NewMode.{NewMode}
 use Rattle.ci_machine.specs.declared.request.NewRunner.{NewRunner}
 use Rattle.ci_machine.specs.declared.request.NewVariable.{NewVariable}
 use Rattle.ci_machine.specs.declared.request.Request.{Request}
-use Rattle.ci_machine.specs.declared.request.Request.TheVariants.{AddProject, AddRunner, PauseRunner, SetFile, SetVariable, DeleteVariable, SetMode, ShowMode, CreatePipeline, ShowPipeline, AskJob, UpdateJob, AppendTrace, ShowJob, ShowTrace, Play, CancelJob, RetryJob, CancelPipeline, PruneOne}
+use Rattle.ci_machine.specs.declared.request.Request.TheVariants.{AddProject, AddRunner, PauseRunner, SetFile, SetVariable, DeleteVariable, SetMode, ShowMode, CreatePipeline, ShowPipeline, AskJob, UpdateJob, AppendTrace, ShowJob, ShowTrace, Read, Play, CancelJob, RetryJob, CancelPipeline, PruneOne}
 use Rattle.ci_machine.specs.declared.request.Seed.{Seed}
 use Rattle.ci_machine.specs.declared.request.TracePart.{TracePart}
 use Rattle.ci_machine_steps.specs.Files.{SetsFile, set_file}
@@ -48,6 +49,7 @@ use Rattle.ci_machine.specs.Waiting.{claims_in}
 use Rattle.ci_machine_steps.specs.Modes.{mode_change, set_mode, show_mode}
 use Rattle.ci_machine_steps.specs.Plans.{Plan, asked_project, refused, faulted}
 use Rattle.ci_machine_steps.specs.Projects.{add_project, made_project}
+use Rattle.ci_machine_steps.specs.Reads.{told, read_of}
 use Rattle.ci_machine_steps.specs.Runners.{are_names, lacks_project, add_runner, made_runner, pause_runner}
 use Rattle.ci_machine_steps.specs.Shows.{asked_pipeline, shown, show_pipeline, traced}
 use Rattle.ci_machine_steps.specs.Sound.{IsSound}
@@ -155,6 +157,11 @@ pipeline_shown_leaves : (s : State) (r : Result Pipeline Code) (claims : List Cl
 pipeline_shown_leaves s (Ok p) claims jobs facts rows = tt
 pipeline_shown_leaves s (Err code) claims jobs facts rows = tt
 
+-- whatever is read
+read_leaves : (s : State) (r : Result Body Code) → Leaves s (told r)
+read_leaves s (Ok body) = tt
+read_leaves s (Err code) = tt
+
 -- ---- what is planned so
 
 abbrev pub RowsStay : Type 0
@@ -229,6 +236,7 @@ leaves_rows s board (ShowPipeline query) now seed plan keeps does = leaves_so s 
     (pipeline_shown_leaves s (asked_pipeline (asked_project (project_with s query.token) query.project) (pipeline_at s query.pipeline)) (claims_in s board query.pipeline) (jobs_of s query.pipeline) (facts_of s query.pipeline) (rows_of s board query.pipeline))
 leaves_rows s board (ShowJob query) now seed plan keeps does = leaves_so s plan _ does (shown_leaves s (claims_in s board (pipeline_or_none (job_at s query.job))) query.project (found_job s query) (status_for board query.job))
 leaves_rows s board (ShowTrace query) now seed plan keeps does = leaves_so s plan _ does (traced_leaves s (found_job s query) (trace_if_any s (last_attempt s query.job)))
+leaves_rows s board (Read query) now seed plan keeps does = leaves_so s plan _ does (read_leaves s (read_of s board (asked_project (project_with s query.token) query.project) query.subject))
 
 -- what a request does with a plan by which these rows go first
 abbrev pub DoesBy : Request → ℕ → Seed → Kept → Clearing Reply → Type 0

@@ -1,6 +1,7 @@
 pub mod Lists
 pub mod Found
 pub mod Showing
+pub mod Telling
 pub mod Held
 pub mod Leaving
 pub mod Granting
@@ -9,3 +10,4 @@ pub mod Settles
 pub mod Acting
 pub mod Pruning
 pub mod Sheets
+pub mod GroupLists

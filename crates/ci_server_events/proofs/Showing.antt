@@ -27,7 +27,8 @@ module _ (cs ds : List Claim) (project : ℕ) where
   abbrev IsAlike : Job → Type 0
   IsAlike j = is_free cs project j.options.resource_group ≡ is_free ds project j.options.resource_group
 
-  printed_alike : (j : Job) (s : Status) → IsAlike j → printed_status cs project j s ≡ printed_status ds project j s
+  -- the status of a job is printed alike
+  pub printed_alike : (j : Job) (s : Status) → IsAlike j → printed_status cs project j s ≡ printed_status ds project j s
   printed_alike j status.Created same = refl
   printed_alike j status.Pending same = ap (λ b. if b then status_text status.Pending else codes "waiting_for_resource") same
   printed_alike j status.Running same = refl

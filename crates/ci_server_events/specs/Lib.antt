@@ -1,3 +1,4 @@
 pub mod Planning
 pub mod Acting
 pub mod Creating
+pub mod Groups

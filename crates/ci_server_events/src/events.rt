@@ -15,6 +15,7 @@ use crate::pipelines::create_pipeline;
 use crate::planned::{Clearing, Planned};
 use crate::projects::add_project;
 use crate::prunes::prune_one;
+use crate::reads::read;
 use crate::reports::update_job;
 use crate::runners::{add_runner, pause_runner};
 use crate::shows::{show_job, show_pipeline, show_trace};
@@ -65,6 +66,7 @@ pub fn plan_request<T: Searches>(
         Request::ShowPipeline(query) => alone(alloc, show_pipeline(alloc, store, &query)),
         Request::ShowJob(query) => alone(alloc, show_job(alloc, store, &query)),
         Request::ShowTrace(query) => alone(alloc, show_trace(alloc, store, &query)),
+        Request::Read(query) => alone(alloc, read(alloc, store, &query)),
     }
 }
 

@@ -61,7 +61,10 @@ pub(crate) fn load_named<T: Store>(store: &mut T, query: &JobQuery) -> Result<Na
 }
 
 /// The pipeline of a job, if there is one.
-fn pipeline_of<T: Store>(store: &mut T, job: Option<&Job>) -> Result<Option<Pipeline>, StoreFault>
+pub(crate) fn pipeline_of<T: Store>(
+    store: &mut T,
+    job: Option<&Job>,
+) -> Result<Option<Pipeline>, StoreFault>
     ensures { LoadsBy T.honest T.holds T.leaves store.old store.new result (λ k p. p ≡ step.pipeline_of k.state (option_copied job.entry)) }
 {
     match job {

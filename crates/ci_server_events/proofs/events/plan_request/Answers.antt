@@ -57,6 +57,11 @@ returns-in-ShowJob g c =
     let made = c.alone-in-ShowJob.ensures in
     of_kept g.T.Store.honest g.T.Store.holds g.T.Store.leaves _ _ _ (planned_alone g.T.Store.honest g.T.Store.holds g.T.Store.leaves c.args.request _ c.args.now c.args.seed c.in-ShowJob.is _ _ c.show_job.result c.alone-in-ShowJob.result c.rows_stay.ensures c.indexes_stay.ensures tt c.show_job.ensures (λ k p kept planned. planned kept) made.plan made.fault made.beside made.cleared)
 
+pub returns-in-Read : goal.returns-in-Read
+returns-in-Read g c =
+    let made = c.alone-in-Read.ensures in
+    of_kept g.T.Store.honest g.T.Store.holds g.T.Store.leaves _ _ _ (planned_alone g.T.Store.honest g.T.Store.holds g.T.Store.leaves c.args.request _ c.args.now c.args.seed c.in-Read.is _ _ c.read.result c.alone-in-Read.result c.rows_stay.ensures c.indexes_stay.ensures tt c.read.ensures (λ k p kept planned. planned kept) made.plan made.fault made.beside made.cleared)
+
 pub returns-in-ShowTrace : goal.returns-in-ShowTrace
 returns-in-ShowTrace g c =
     let made = c.alone-in-ShowTrace.ensures in

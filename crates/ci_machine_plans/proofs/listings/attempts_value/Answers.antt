@@ -1,0 +1,15 @@
+use Rattle.std.proofs.Common.{◌≡◌, ◌∙◌, arith, ap, map}
+use Rattle.std.proofs.lemmas.Grind.{common_steps}
+use Rattle.serde_json.specs.Data.{array}
+use Rattle.serde_json.specs.View.{view, items_of}
+use Rattle.serde_json.proofs.Views.{view-Array}
+use Rattle.ci_machine.specs.Listings.{attempt_data}
+use Rattle.ci_machine_plans.proofs.listings.attempts_value.Goals as goal
+
+pub loop-attempt-preserved : goal.loop-attempt-preserved
+loop-attempt-preserved c = grind (arith, common_steps)
+
+pub returns : goal.returns
+returns c =
+    let all : map view c.loop-attempt.items.items ≡ map (attempt_data c.args.runners.now) c.args.attempts.now = grind (arith, common_steps) in
+    view-Array _ ∙ ap (λ ds. array (items_of ds)) all

@@ -1,0 +1,189 @@
+//! The jobs of a pipeline and the resource groups of a project, as they are read: compact JSON, the members of each object in the order of
+//! their bytes.
+
+ghost use Rattle.std.specs.Prelude.{◌≡◌, ◌==◌, length, IfOk};
+ghost use Rattle.std.specs.List.{list_any};
+ghost use Rattle.serde_json.specs.Data.{array, number, unsigned};
+ghost use Rattle.serde_json.specs.View.{view, items_of};
+ghost use Rattle.ci_board.specs.Effects.{is_listed, is_allowed};
+ghost use Rattle.ci_machine.specs.Listings.{listed, text_or_null, needs_among, told_job, told_jobs};
+ghost use Rattle.ci_machine_steps.specs.Reads.{json};
+ghost use Rattle.ci_machine_plans.specs.Objects.{told_group};
+
+use crate::body::lines;
+use crate::listings::{attempts_value_of, body_of, number_or_null};
+use ci_board::facts::{Facts, Row, Status};
+use ci_graph::part::Part;
+use ci_machine::records::{Attempt, Claim, GroupOrder, Job, Need, Runner, process_mode, when_text};
+use ci_machine::reply::Body;
+use ci_machine::report::ShownStatus;
+use ci_machine::text::Text;
+use ci_values::attempts::AttemptState;
+use ci_values::when::AllowFailure;
+use serde_json::{Number, Value, json};
+use std::alloc::{AllocError, Global};
+
+/// What is told of the jobs of a pipeline beside themselves.
+#[derive(Clone, Copy)]
+pub struct Around<'a> {
+    /// The resource groups for which the jobs must wait.
+    pub claims: &'a [Claim],
+    /// The project of the pipeline.
+    pub project: u64,
+    /// The runners that made the attempts.
+    pub runners: &'a [Runner],
+    /// At least the needs of the jobs.
+    pub needs: &'a [Need],
+    /// At least the attempts of the jobs.
+    pub attempts: &'a [Attempt],
+}
+
+/// A resource group with its order, and the number of the job whose live attempt holds it.
+#[derive(Drop)]
+pub struct ToldGroup {
+    pub key: Text,
+    pub order: Option<GroupOrder>,
+    pub holder: Option<u64>,
+}
+
+/// A text, or null.
+fn text_value(alloc: Global, text: &Option<Text>) -> Result<Value, AllocError>
+    ensures { IfOk result (λ v. view v ≡ text_or_null text.now) }
+{
+    match text {
+        Some(text) => Value::try_from_str(alloc, text.as_str()),
+        None => Ok(Value::Null),
+    }
+}
+
+/// The numbers of the jobs that a job waits for.
+fn needs_value(alloc: Global, needs: &[Need], job: u64) -> Result<Value, AllocError>
+    ensures { IfOk result (λ v. view v ≡ listed (λ n. number (unsigned n)) (needs_among needs.now job)) }
+{
+    let mut items = Vec::new(alloc);
+    for need in needs {
+        if need.job == job {
+            items.push(Value::Number(Number::from(need.pred)))?;
+        }
+    }
+    Ok(Value::Array(items))
+}
+
+fn contains(codes: &[u32], code: u32) -> bool
+    ensures { result ≡ list_any (λ c. c == code) codes.now }
+{
+    codes.iter().any(|c| *c == code)
+}
+
+/// Did the last attempt fail with one of these exit codes?
+fn is_listed(codes: &[u32], last: Option<AttemptState>) -> bool
+    ensures { result ≡ is_listed codes.now last }
+{
+    match last {
+        Some(AttemptState::Failed(_, Some(exit))) => contains(codes, exit),
+        _ => false,
+    }
+}
+
+/// Does the pipeline go on though the job has this status?
+fn is_allowed(part: &Part, facts: Facts, status: Status) -> bool
+    ensures { result ≡ is_allowed part.now facts status }
+{
+    match &part.allow_failure {
+        AllowFailure::No => false,
+        AllowFailure::Yes => true,
+        AllowFailure::ExitCodes(codes) => match status {
+            Status::Failed => is_listed(codes.as_slice(), facts.last),
+            _ => false,
+        },
+    }
+}
+
+/// A job with its facts and its row.
+fn job_value(
+    alloc: Global,
+    around: &Around,
+    job: &Job,
+    facts: Facts,
+    row: Row,
+) -> Result<Value, AllocError>
+    ensures { IfOk result (λ v. view v ≡ told_job around.now.claims.now around.now.project around.now.runners.now around.now.needs.now around.now.attempts.now job.now facts row) }
+{
+    let attempts = attempts_value_of(alloc, around.runners, around.attempts, job.id)?;
+    let needs = needs_value(alloc, around.needs, job.id)?;
+    let group = text_value(alloc, &job.options.resource_group)?;
+    let tags = lines(alloc, job.options.tags.as_slice())?;
+    let status = ShownStatus::of(around.claims, around.project, job, row.status).as_str();
+    let allowed = is_allowed(&job.options.part, facts, row.status);
+    let name = job.name.as_str();
+    let stage = job.stage.as_str();
+    let when = when_text(job.options.part.when);
+    json!(in alloc; {
+        "allow_failure": allowed, "attempts": attempts, "id": job.id, "name": name, "needs": needs,
+        "resource_group": group, "stage": stage, "status": status, "tag_list": tags, "when": when
+    })
+}
+
+/// Jobs, each with its facts and its row.
+fn jobs_value(
+    alloc: Global,
+    around: &Around,
+    jobs: &[Job],
+    facts: &[Facts],
+    rows: &[Row],
+) -> Result<Value, AllocError>
+    requires facts { length facts.now ≡ length jobs.now }
+    requires rows { length rows.now ≡ length jobs.now }
+    ensures { IfOk result (λ v. view v ≡ array (items_of (told_jobs around.now.claims.now around.now.project around.now.runners.now around.now.needs.now around.now.attempts.now jobs.now facts.now rows.now))) }
+{
+    let mut items = Vec::new(alloc);
+    for i in 0..jobs.len() {
+        items.push(job_value(alloc, around, &jobs[i], facts[i], rows[i])?)?;
+    }
+    Ok(Value::Array(items))
+}
+
+/// The body that tells the jobs of a pipeline, which have these facts and rows, with what is around them. Errors: memory was refused.
+pub fn jobs(
+    alloc: Global,
+    around: &Around,
+    jobs: &[Job],
+    facts: &[Facts],
+    rows: &[Row],
+) -> Result<Body, AllocError>
+    requires facts { length facts.now ≡ length jobs.now }
+    requires rows { length rows.now ≡ length jobs.now }
+    ensures { IfOk result (λ body. body ≡ json (array (items_of (told_jobs around.now.claims.now around.now.project around.now.runners.now around.now.needs.now around.now.attempts.now jobs.now facts.now rows.now)))) }
+{
+    let told = jobs_value(alloc, around, jobs, facts, rows)?;
+    body_of(alloc, told)
+}
+
+/// A resource group.
+fn group_value(alloc: Global, group: &ToldGroup) -> Result<Value, AllocError>
+    ensures { IfOk result (λ v. view v ≡ told_group group.now) }
+{
+    let holder = number_or_null(group.holder);
+    let key = group.key.as_str();
+    let mode = process_mode(group.order);
+    json!(in alloc; {"holder": holder, "key": key, "process_mode": mode})
+}
+
+/// Resource groups, one after the other.
+fn groups_value(alloc: Global, groups: &[ToldGroup]) -> Result<Value, AllocError>
+    ensures { IfOk result (λ v. view v ≡ listed told_group groups.now) }
+{
+    let mut items = Vec::new(alloc);
+    for group in groups {
+        items.push(group_value(alloc, group)?)?;
+    }
+    Ok(Value::Array(items))
+}
+
+/// The body that tells these resource groups. Errors: memory was refused.
+pub fn groups(alloc: Global, groups: &[ToldGroup]) -> Result<Body, AllocError>
+    ensures { IfOk result (λ body. body ≡ json (listed told_group groups.now)) }
+{
+    let told = groups_value(alloc, groups)?;
+    body_of(alloc, told)
+}

@@ -1,0 +1,217 @@
+//! What is read of a project and of what it has: as compact JSON, the members of each object in the order of their bytes.
+
+ghost use Rattle.std.specs.Prelude.{◌≡◌, false, find, map, ◌==◌, IfOk};
+ghost use Rattle.std.specs.Option.{option_copied};
+ghost use Rattle.serde_json.specs.Data.{array};
+ghost use Rattle.serde_json.specs.View.{view, items_of};
+ghost use Rattle.serde_json.specs.Written.{compact_text, has_float};
+ghost use Rattle.ci_machine.specs.Listings.{number_or_null, text_or_null, listed, project_data, is_tag, listed_pipeline_data, exit_of, reason_of, runner_or_null, attempt_data, attempts_among};
+ghost use Rattle.ci_machine_steps.specs.Reads as reads;
+
+use crate::replies::{fine, refused, unchanged};
+use ci_machine::change::Changes;
+use ci_machine::moment::stamp_text;
+use ci_machine::records::{
+    Attempt, AttemptState, PipelineWithStatus, Project, RefKind, Runner, cause_text,
+};
+use ci_machine::reply::{Body, Code, JobStatus, Reply};
+use ci_machine::text::Text;
+use serde_json::{Number, Value, json};
+use std::alloc::{AllocError, Global};
+
+/// A number, or null where there is none.
+pub(crate) fn number_or_null(number: Option<u64>) -> Value
+    ensures { view result ≡ number_or_null number }
+{
+    match number {
+        Some(n) => Value::Number(Number::from(n)),
+        None => Value::Null,
+    }
+}
+
+/// The exit code that its runner sent of an attempt in this state, or null where none was.
+fn exit_value(state: AttemptState) -> Value
+    ensures { view result ≡ number_or_null (exit_of state) }
+{
+    match state {
+        AttemptState::Succeeded(Some(exit)) | AttemptState::Failed(_, Some(exit)) => {
+            Value::Number(Number::from(exit as u64))
+        }
+        AttemptState::Succeeded(None)
+        | AttemptState::Failed(_, None)
+        | AttemptState::Live
+        | AttemptState::Cancelled => Value::Null,
+    }
+}
+
+/// Why an attempt in this state failed, or null where it didn't.
+fn reason_value(alloc: Global, state: AttemptState) -> Result<Value, AllocError>
+    ensures { IfOk result (λ v. view v ≡ text_or_null (reason_of state)) }
+{
+    match state {
+        AttemptState::Failed(cause, _) => Value::try_from_str(alloc, cause_text(cause)),
+        AttemptState::Live | AttemptState::Succeeded(_) | AttemptState::Cancelled => {
+            Ok(Value::Null)
+        }
+    }
+}
+
+/// The runner with this number, if there is one.
+fn runner_at(runners: &[Runner], id: u64) -> Option<&Runner>
+    ensures { option_copied result ≡ find (λ r. r.id == id) runners.now }
+{
+    runners.iter().find(|runner| runner.id == id)
+}
+
+/// A runner, or null where there is none.
+fn runner_or_null(alloc: Global, runner: Option<&Runner>) -> Result<Value, AllocError>
+    ensures { IfOk result (λ v. view v ≡ runner_or_null (option_copied runner.entry)) }
+{
+    match runner {
+        Some(runner) => {
+            let name = runner.name.as_str();
+            json!(in alloc; {"id": runner.id, "name": name})
+        }
+        None => Ok(Value::Null),
+    }
+}
+
+/// An attempt of one of these runners.
+fn attempt_value(alloc: Global, runners: &[Runner], attempt: &Attempt) -> Result<Value, AllocError>
+    ensures { IfOk result (λ v. view v ≡ attempt_data runners.now attempt.now) }
+{
+    let exit = exit_value(attempt.state);
+    let reason = reason_value(alloc, attempt.state)?;
+    let heard = stamp_text(alloc, attempt.seen)?;
+    let heard = heard.as_str();
+    let runner = runner_or_null(alloc, runner_at(runners, attempt.runner))?;
+    let started = stamp_text(alloc, attempt.granted)?;
+    let started = started.as_str();
+    let status = JobStatus::of(attempt.state).as_str();
+    json!(in alloc; {
+        "exit_code": exit, "failure_reason": reason, "heard_at": heard, "id": attempt.id,
+        "runner": runner, "started_at": started, "status": status
+    })
+}
+
+/// These attempts, of these runners.
+fn attempts_value(
+    alloc: Global,
+    runners: &[Runner],
+    attempts: &[Attempt],
+) -> Result<Value, AllocError>
+    ensures { IfOk result (λ v. view v ≡ listed (attempt_data runners.now) attempts.now) }
+{
+    let mut items = Vec::new(alloc);
+    for attempt in attempts {
+        items.push(attempt_value(alloc, runners, attempt)?)?;
+    }
+    Ok(Value::Array(items))
+}
+
+/// Those among these attempts that are of a job, of these runners.
+pub(crate) fn attempts_value_of(
+    alloc: Global,
+    runners: &[Runner],
+    attempts: &[Attempt],
+    job: u64,
+) -> Result<Value, AllocError>
+    ensures { IfOk result (λ v. view v ≡ array (items_of (map (attempt_data runners.now) (attempts_among attempts.now job)))) }
+{
+    let mut items = Vec::new(alloc);
+    for attempt in attempts {
+        if attempt.job == job {
+            items.push(attempt_value(alloc, runners, attempt)?)?;
+        }
+    }
+    Ok(Value::Array(items))
+}
+
+/// A project.
+fn project_value(alloc: Global, project: &Project) -> Result<Value, AllocError>
+    ensures { IfOk result (λ v. view v ≡ project_data project.now) }
+{
+    let name = project.name.as_str();
+    json!(in alloc; {"id": project.id, "name": name})
+}
+
+/// Is what a pipeline runs for a tag?
+fn is_tag(kind: RefKind) -> bool
+    ensures { result ≡ is_tag kind }
+{
+    match kind {
+        RefKind::Branch => false,
+        RefKind::Tag => true,
+    }
+}
+
+/// A pipeline with its status.
+fn pipeline_value(alloc: Global, listed: &PipelineWithStatus) -> Result<Value, AllocError>
+    ensures { IfOk result (λ v. view v ≡ listed_pipeline_data listed.now) }
+{
+    let pipeline = &listed.pipeline;
+    let created = stamp_text(alloc, pipeline.created)?;
+    let created = created.as_str();
+    let git_ref = pipeline.git_ref.as_str();
+    let source = pipeline.source.as_str();
+    let status = listed.status.as_str();
+    let tag = is_tag(pipeline.kind);
+    json!(in alloc; {
+        "created_at": created, "id": pipeline.id, "ref": git_ref, "source": source,
+        "status": status, "tag": tag
+    })
+}
+
+/// These pipelines, each with its status.
+fn pipelines_value(alloc: Global, pipelines: &[PipelineWithStatus]) -> Result<Value, AllocError>
+    ensures { IfOk result (λ v. view v ≡ listed listed_pipeline_data pipelines.now) }
+{
+    let mut items = Vec::new(alloc);
+    for pipeline in pipelines {
+        items.push(pipeline_value(alloc, pipeline)?)?;
+    }
+    Ok(Value::Array(items))
+}
+
+/// The body that a value without a float makes. Errors: memory was refused.
+pub(crate) fn body_of(alloc: Global, value: Value) -> Result<Body, AllocError>
+    requires { has_float (view value) ≡ false }
+    ensures { IfOk result (λ body. body ≡ reads.json (view value)) }
+{
+    let text = value.to_string(alloc)?;
+    Ok(Body::Json(Text::new(text)))
+}
+
+/// The body that tells a project. Errors: memory was refused.
+pub fn project(alloc: Global, project: &Project) -> Result<Body, AllocError>
+    ensures { IfOk result (λ body. body ≡ reads.json (project_data project.now)) }
+{
+    let value = project_value(alloc, project)?;
+    body_of(alloc, value)
+}
+
+/// The body that lists pipelines, each with its status, in the order of the slice. Errors: memory was refused.
+pub fn pipelines(alloc: Global, pipelines: &[PipelineWithStatus]) -> Result<Body, AllocError>
+    ensures { IfOk result (λ body. body ≡ reads.json (listed listed_pipeline_data pipelines.now)) }
+{
+    let value = pipelines_value(alloc, pipelines)?;
+    body_of(alloc, value)
+}
+
+/// The body that lists attempts of these runners, in the order of the slice. Errors: memory was refused.
+pub fn attempts(alloc: Global, runners: &[Runner], attempts: &[Attempt]) -> Result<Body, AllocError>
+    ensures { IfOk result (λ body. body ≡ reads.json (listed (attempt_data runners.now) attempts.now)) }
+{
+    let value = attempts_value(alloc, runners, attempts)?;
+    body_of(alloc, value)
+}
+
+/// The plan that tells what was read (200), or refuses to; nothing changes.
+pub fn told(alloc: Global, body: Result<Body, Code>) -> (Reply, Changes)
+    ensures { result ≡ reads.told body }
+{
+    match body {
+        Ok(body) => unchanged(alloc, fine(body)),
+        Err(code) => refused(alloc, code),
+    }
+}

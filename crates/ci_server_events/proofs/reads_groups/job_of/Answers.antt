@@ -1,0 +1,11 @@
+use Rattle.std.specs.Prelude.{Ok, None, Option, option_map}
+use Rattle.std.proofs.Common.{refl, sym, ap, ◌∙◌}
+use Rattle.ci_machine.specs.declared.records.Attempt.{Attempt}
+use Rattle.ci_server_events.specs.Groups.{job_holding}
+use Rattle.ci_server_lookups.proofs.Loading.{gives}
+use Rattle.ci_server_events.proofs.reads_groups.job_of.Goals as goal
+
+pub returns : goal.returns
+returns g c =
+    gives g.T.Store.honest g.T.Store.holds g.T.Store.leaves _ _ _ c.attempt.result c.in_ok-found.found _ c.in_ok-found.was c.attempt.ensures
+    (λ k found. c.number_of.ensures ∙ ap (option_map (λ (a : Attempt). a.job)) found ∙ ap (job_holding k.state) (sym c.in-Some.is))
