@@ -1,12 +1,7 @@
-use Rattle.std.specs.Prelude.{◌≡◌, ℕ, List, length, IfOk}
-use Rattle.std.proofs.Common.{subst, ap, ◌∙◌}
-use Rattle.ci_machine.specs.declared.records.BoardRow.{BoardRow}
-use Rattle.ci_machine.specs.declared.records.Need.{Need}
+use Rattle.std.specs.Prelude.{◌≡◌, length}
+use Rattle.std.proofs.Common.{ap, ◌∙◌}
 use Rattle.ci_machine.specs.Bodies.{status_of_jobs}
-use Rattle.ci_machine.specs.State.{State}
-use Rattle.ci_machine.specs.Statuses.{facts_of, rows_of, AreBoard}
-use Rattle.ci_machine_steps.specs.Sound.{IsSound}
-use Rattle.ci_machine_statuses.specs.Lookups.{AreRecords}
+use Rattle.ci_machine.specs.Statuses.{facts_of, rows_of}
 use Rattle.ci_machine_statuses.proofs.Found.{passed_on}
 use Rattle.ci_server_events.proofs.reads_pipelines.status_by.Goals as goal
 

@@ -1,6 +1,5 @@
 use Rattle.std.specs.Prelude.{◌≡◌, IfOk, IfSome, List, All, true, ℕ}
 use Rattle.std.proofs.Common.{refl, subst, sym, ap, ◌∙◌}
-use Rattle.ci_board.specs.declared.facts.Status.{Status}
 use Rattle.ci_machine.specs.declared.records.Job.{Job}
 use Rattle.ci_machine.specs.declared.records.Need.{Need}
 use Rattle.ci_machine.specs.Bodies.{status_of_jobs}
