@@ -2,3 +2,4 @@ pub mod Keyed
 pub mod Tests
 pub mod Filters
 pub mod Claims
+pub mod Days

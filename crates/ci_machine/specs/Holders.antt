@@ -1,5 +1,5 @@
 -- The resource groups that live attempts hold. They stand in no record: they follow from the attempts and their jobs.
-use Rattle.std.specs.Prelude.{ℕ, Bool, not, List, [], ◌∷◌, map, filter, find, flat_map, All, Contains, Option, Some, None, option_map}
+use Rattle.std.specs.Prelude.{ℕ, Bool, not, ◌==◌, List, [], ◌∷◌, map, filter, find, flat_map, All, Contains, Option, Some, None, option_map}
 use Rattle.std.specs.List.{list_any}
 use Rattle.std.specs.declared.cmp.Ordering.{Ordering}
 use Rattle.std.specs.Ordering.{nat_cmp, ordering_then}
@@ -64,6 +64,10 @@ pub record AreHolders (s : State) (rows : List Holder) : Type 0 where
 -- the row of a resource group of a project
 abbrev pub holder_at : ℕ → List ℕ → List Holder → Option Holder
 holder_at project group rows = find (holds project group) rows
+
+-- those of the resource groups of a project
+abbrev pub holders_in : ℕ → List Holder → List Holder
+holders_in project rows = filter (λ h. h.project == project) rows
 
 -- the rows where a group that none held is held
 abbrev pub with_holder : Holder → List Holder → List Holder

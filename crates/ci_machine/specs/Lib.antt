@@ -1,3 +1,4 @@
+pub mod Dates
 pub mod State
 pub mod Kept
 pub mod Statuses
@@ -7,6 +8,7 @@ pub mod Waiting
 pub mod Reply
 pub mod Options
 pub mod Bodies
+pub mod Listings
 pub mod Groups
 pub mod Eligible
 pub mod Redundant

@@ -1,5 +1,5 @@
 -- What is looked up in a state.
-use Rattle.std.specs.Prelude.{ℕ, Bool, List, [], filter, find, map, ◌==◌, ◌&&◌, Option, Some, None, option_map, option_and_then}
+use Rattle.std.specs.Prelude.{ℕ, Bool, List, [], filter, find, map, reverse, ◌==◌, ◌&&◌, Option, Some, None, option_map, option_and_then}
 use Rattle.std.specs.List.{last_or}
 use Rattle.std.specs.Str.{bytes_eq}
 use Rattle.ci_board.specs.declared.facts.Status.TheVariants as status
@@ -43,6 +43,10 @@ runner_with s token = find (λ r. bytes_eq r.token token) s.runners
 
 abbrev pub pipeline_at : State → ℕ → Option Pipeline
 pipeline_at s n = find (λ p. p.id == n) s.pipelines
+
+-- the pipelines of a project, newest first
+abbrev pub newest_of : State → ℕ → List Pipeline
+newest_of s project = reverse (filter (λ p. p.project == project) s.pipelines)
 
 abbrev pub job_at : State → ℕ → Option Job
 job_at s n = find (λ j. j.id == n) s.jobs

@@ -1,5 +1,5 @@
 -- The rows that reports have of a state.
-use Rattle.std.specs.Prelude.{ℕ, Bool, List, length, map, filter, codes, ◌==◌, Option, option_map, if◌then◌else◌}
+use Rattle.std.specs.Prelude.{ℕ, Bool, List, length, map, filter, codes, ◌==◌, option_map, if◌then◌else◌}
 use Rattle.ci_board.specs.declared.facts.Status.{Status}
 use Rattle.ci_board.specs.declared.facts.Status.TheVariants as status
 use Rattle.ci_board.specs.Texts.{status_text}

@@ -1,5 +1,5 @@
 -- The jobs that wait, and how the resource groups of a state stand.
-use Rattle.std.specs.Prelude.{ℕ, Bool, true, false, List, [], ◌∷◌, flat_map, Option, Some, None, find}
+use Rattle.std.specs.Prelude.{ℕ, Bool, true, false, List, [], ◌∷◌, filter, flat_map, ◌==◌, Option, Some, None, find}
 use Rattle.ci_board.specs.declared.facts.Status.{Status}
 use Rattle.ci_board.specs.declared.facts.Status.TheVariants as status
 use Rattle.ci_machine.specs.declared.records.AttemptWithJob.{AttemptWithJob}
@@ -45,6 +45,10 @@ claims_in s board pipeline = claims_on (groups_in s board) pipeline
 -- the mode of a resource group of a project, if it has one
 abbrev pub mode_at : State → ℕ → List ℕ → Option GroupMode
 mode_at s project group = find (is_mode_of project group) s.modes
+
+-- the modes of the resource groups of a project
+abbrev pub modes_in : ℕ → List GroupMode → List GroupMode
+modes_in project modes = filter (λ m. m.project == project) modes
 
 -- ---- of attempts with their jobs
 

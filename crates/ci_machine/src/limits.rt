@@ -3,6 +3,9 @@
 /// The greatest size of a trace, in bytes.
 pub const MAX_TRACE_BYTES: u64 = 4_194_304;
 
+/// How many pipelines of a project are listed, at most.
+pub const LISTED_PIPELINES: u64 = 100;
+
 /// How long a lease lasts after its runner was last heard of, in seconds.
 pub const LEASE_SECONDS: u64 = 120;
 

@@ -2,6 +2,7 @@
 
 ghost use Rattle.std.specs.Prelude.{◌≡◌, IfOk};
 ghost use Rattle.ci_machine.specs.Bodies.{order_text, source_text};
+ghost use Rattle.ci_machine.specs.Listings.{cause_text, when_text};
 ghost use Rattle.ci_machine.specs.Options.{plain_options};
 
 use crate::limits::DEFAULT_TIMEOUT_SECONDS;
@@ -11,6 +12,7 @@ use ci_board::facts::{Row, Status};
 use ci_graph::part::Part;
 pub use ci_values::attempts::{AttemptState, Cause};
 pub use ci_values::limits::MAX_NUMBER;
+use ci_values::when::When;
 use std::alloc::{AllocError, Global};
 
 /// A project, with the token that its users send and its pipeline file.
@@ -229,6 +231,32 @@ pub struct Need {
 pub struct BoardRow {
     pub job: u64,
     pub row: Row,
+}
+
+/// Why an attempt failed, in GitLab's words.
+pub fn cause_text(cause: Cause) -> &'static str
+    ensures { result.now ≡ cause_text cause }
+{
+    match cause {
+        Cause::UnknownFailure => "unknown_failure",
+        Cause::ScriptFailure => "script_failure",
+        Cause::ApiFailure => "api_failure",
+        Cause::StuckOrTimeoutFailure => "stuck_or_timeout_failure",
+        Cause::RunnerSystemFailure => "runner_system_failure",
+        Cause::JobExecutionTimeout => "job_execution_timeout",
+    }
+}
+
+/// When a job runs, as the keyword `when` has it.
+pub fn when_text(when: When) -> &'static str
+    ensures { result.now ≡ when_text when }
+{
+    match when {
+        When::OnSuccess => "on_success",
+        When::OnFailure => "on_failure",
+        When::Always => "always",
+        When::Manual => "manual",
+    }
 }
 
 /// A run of a job by a runner. While it is live it is the runner's lease on the job.

@@ -115,6 +115,31 @@ pub struct JobQuery {
     pub job: u64,
 }
 
+/// What of a project is read.
+#[derive(Clone, Copy, Drop)]
+pub enum Subject {
+    /// The project itself.
+    Project,
+    /// Its newest pipelines.
+    Pipelines,
+    /// The jobs of its pipeline with this number, with their attempts.
+    Jobs(u64),
+    /// The attempts of its job with this number.
+    Attempts(u64),
+    /// The trace of an attempt: the number of its job, and its own.
+    Trace(u64, u64),
+    /// Its resource groups that have a process mode or are held.
+    ResourceGroups,
+}
+
+/// What of a project is read, asked for with the project's token.
+#[derive(Clone, Drop)]
+pub struct ReadQuery {
+    pub project: u64,
+    pub token: Text,
+    pub subject: Subject,
+}
+
 /// A runner to be made.
 #[derive(Clone, Drop)]
 pub struct NewRunner {
@@ -166,6 +191,8 @@ pub enum Request {
     ShowJob(JobQuery),
     /// The trace of a job's last attempt is asked for.
     ShowTrace(JobQuery),
+    /// A project, or what it has, is asked for.
+    Read(ReadQuery),
     /// A manual job is to run.
     Play(JobQuery),
     /// A job that hasn't ended is to be cancelled.
@@ -198,6 +225,7 @@ impl Clone for Request {
             Request::AppendTrace(part) => Request::AppendTrace(part.clone()?),
             Request::ShowJob(query) => Request::ShowJob(query.clone()?),
             Request::ShowTrace(query) => Request::ShowTrace(query.clone()?),
+            Request::Read(query) => Request::Read(query.clone()?),
             Request::Play(query) => Request::Play(query.clone()?),
             Request::CancelJob(query) => Request::CancelJob(query.clone()?),
             Request::CancelPipeline(query) => Request::CancelPipeline(query.clone()?),

@@ -26,7 +26,7 @@ use Rattle.ci_machine.specs.declared.change.Key.{Key}
 use Rattle.ci_machine.specs.declared.change.Key.TheVariants as key
 use Rattle.ci_machine.specs.declared.request.Event.{Event}
 use Rattle.ci_machine.specs.declared.request.Event.TheVariants as event
-use Rattle.ci_machine.specs.declared.request.Request.TheVariants.{AddProject, AddRunner, PauseRunner, SetFile, SetVariable, DeleteVariable, SetMode, ShowMode, CreatePipeline, ShowPipeline, AskJob, UpdateJob, AppendTrace, ShowJob, ShowTrace, Play, CancelJob, CancelPipeline, RetryJob, PruneOne}
+use Rattle.ci_machine.specs.declared.request.Request.TheVariants.{AddProject, AddRunner, PauseRunner, SetFile, SetVariable, DeleteVariable, SetMode, ShowMode, CreatePipeline, ShowPipeline, AskJob, UpdateJob, AppendTrace, ShowJob, ShowTrace, Read, Play, CancelJob, CancelPipeline, RetryJob, PruneOne}
 use Rattle.ci_machine.specs.declared.request.Seed.{Seed}
 use Rattle.ci_machine.specs.declared.reply.Answer.{Answer}
 use Rattle.ci_machine.specs.declared.reply.Answer.TheVariants as answer
@@ -224,6 +224,7 @@ gives_in_order s board (event.Request (UpdateJob x)) now seed (answer.Reply repl
 gives_in_order s board (event.Request (AppendTrace x)) now seed (answer.Reply reply) changes o is g = absurd (false≢true g)
 gives_in_order s board (event.Request (ShowJob x)) now seed (answer.Reply reply) changes o is g = absurd (false≢true g)
 gives_in_order s board (event.Request (ShowTrace x)) now seed (answer.Reply reply) changes o is g = absurd (false≢true g)
+gives_in_order s board (event.Request (Read x)) now seed (answer.Reply reply) changes o is g = absurd (false≢true g)
 gives_in_order s board (event.Request (Play x)) now seed (answer.Reply reply) changes o is g = absurd (false≢true g)
 gives_in_order s board (event.Request (CancelJob x)) now seed (answer.Reply reply) changes o is g = absurd (false≢true g)
 gives_in_order s board (event.Request (CancelPipeline x)) now seed (answer.Reply reply) changes o is g = absurd (false≢true g)

@@ -9,6 +9,7 @@ pub mod Grants
 pub mod Reports
 pub mod Traces
 pub mod Shows
+pub mod Reads
 pub mod Acts
 pub mod Plays
 pub mod Retries

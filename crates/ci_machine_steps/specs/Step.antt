@@ -7,7 +7,7 @@ use Rattle.ci_machine.specs.declared.records.Job.{Job}
 use Rattle.ci_machine.specs.declared.records.JobVariable.{JobVariable}
 use Rattle.ci_machine.specs.declared.records.QueuedJob.{QueuedJob}
 use Rattle.ci_machine.specs.declared.request.Request.{Request}
-use Rattle.ci_machine.specs.declared.request.Request.TheVariants.{AddProject, AddRunner, PauseRunner, SetFile, SetVariable, DeleteVariable, SetMode, ShowMode, CreatePipeline, ShowPipeline, AskJob, UpdateJob, AppendTrace, ShowJob, ShowTrace, Play, CancelJob, CancelPipeline, RetryJob, PruneOne}
+use Rattle.ci_machine.specs.declared.request.Request.TheVariants.{AddProject, AddRunner, PauseRunner, SetFile, SetVariable, DeleteVariable, SetMode, ShowMode, CreatePipeline, ShowPipeline, AskJob, UpdateJob, AppendTrace, ShowJob, ShowTrace, Read, Play, CancelJob, CancelPipeline, RetryJob, PruneOne}
 use Rattle.ci_machine.specs.declared.request.JobQuery.{JobQuery}
 use Rattle.ci_machine.specs.declared.request.PipelineQuery.{PipelineQuery}
 use Rattle.ci_machine.specs.declared.request.Event.{Event}
@@ -39,6 +39,7 @@ use Rattle.ci_machine_steps.specs.Traces.{append_trace}
 use Rattle.ci_machine.specs.declared.reply.Code.{Code}
 use Rattle.ci_machine.specs.declared.reply.Code.TheVariants.{M10, M11, M12}
 use Rattle.ci_machine_steps.specs.Shows.{asked_job, asked_pipeline, show_pipeline, show_job, show_trace}
+use Rattle.ci_machine_steps.specs.Reads.{read}
 use Rattle.ci_machine_steps.specs.Acts.{permitted, ActsOn}
 use Rattle.ci_machine_steps.specs.Plays.{is_playable, play}
 use Rattle.ci_machine_steps.specs.Retries.{is_retryable, retry}
@@ -120,6 +121,7 @@ Does s board (ShowJob query) now seed plan =
 Does s board (ShowTrace query) now seed plan =
     let job = job_at s query.job in
     plan ≡ show_trace (project_with s query.token) job (pipeline_of s job) (trace_if_any s (last_attempt s query.job)) query
+Does s board (Read query) now seed plan = plan ≡ read s board (asked_project (project_with s query.token) query.project) query.subject
 Does s board (Play query) now seed plan = ActsOn s play (permitted board is_playable M10 (found_job s query)) plan
 Does s board (CancelJob query) now seed plan = ActsOn s (λ j. cancel s.attempts (j ∷ [])) (permitted board is_cancellable M12 (found_job s query)) plan
 Does s board (RetryJob query) now seed plan = ActsOn s (λ j. retry (attempts_of s j.id) j) (permitted board is_retryable M11 (found_job s query)) plan

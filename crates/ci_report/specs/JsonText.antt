@@ -10,7 +10,7 @@ use Rattle.ci_machine.specs.declared.report.QueueRow.{QueueRow}
 use Rattle.ci_machine.specs.declared.report.JobRow.{JobRow}
 use Rattle.ci_machine.specs.declared.report.PipelineRows.{PipelineRows}
 use Rattle.ci_machine.specs.declared.report.RunnerRow.{RunnerRow}
-use Rattle.ci_report.specs.Dates.{stamp_text}
+use Rattle.ci_machine.specs.Dates.{stamp_text}
 
 -- a list of what is told of rows
 abbrev pub listed : {A : Type 0} → (A → Data) → List A → Data

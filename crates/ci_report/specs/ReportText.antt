@@ -9,7 +9,7 @@ use Rattle.ci_machine.specs.declared.report.QueueRow.{QueueRow}
 use Rattle.ci_machine.specs.declared.report.JobRow.{JobRow}
 use Rattle.ci_machine.specs.declared.report.PipelineRows.{PipelineRows}
 use Rattle.ci_machine.specs.declared.report.RunnerRow.{RunnerRow}
-use Rattle.ci_report.specs.Dates.{moment_text}
+use Rattle.ci_machine.specs.Dates.{moment_text}
 
 -- ---- columns, in std's words for the options of a format: spaces fill what is narrower, and what is wider stands whole; the function
 -- `fills_columns` says it without those words

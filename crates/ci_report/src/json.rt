@@ -5,8 +5,7 @@ ghost use Rattle.serde_json.specs.View.{view};
 ghost use Rattle.serde_json.specs.Written.{has_float};
 ghost use Rattle.ci_report.specs.JsonText.{line_of, listed, queued_data, queue_json, job_data, pipeline_data, pipeline_json, grant_data, runner_data, runner_json};
 
-use crate::moment::stamp_text;
-use ci_machine::moment::Moment;
+use ci_machine::moment::{Moment, stamp_text};
 use ci_machine::report::{JobRow, PipelineRows, QueueRow, RunnerRow};
 use serde_json::{Value, json};
 use std::alloc::{AllocError, Global};

@@ -3,7 +3,6 @@
 
 pub mod json;
 pub mod laws;
-pub mod moment;
 pub mod pipeline;
 pub mod queue;
 pub mod runner;

@@ -3,7 +3,7 @@
 ghost use Rattle.std.specs.Prelude.{◌≡◌, ◌++◌, flat_map, IfOk, OnOk, string_bytes};
 ghost use Rattle.ci_report.specs.ReportText.{head_line, job_line, pipeline_report};
 
-use crate::moment::moment_text;
+use ci_machine::moment::moment_text;
 use ci_machine::records::PipelineWithStatus;
 use ci_machine::report::{JobRow, PipelineRows};
 use std::alloc::{AllocError, Global};

@@ -3,8 +3,7 @@
 ghost use Rattle.std.specs.Prelude.{◌≡◌, ◌++◌, flat_map, IfOk, OnOk, string_bytes};
 ghost use Rattle.ci_report.specs.ReportText.{yes_or_no, grant_text, runner_line, runner_report};
 
-use crate::moment::moment_text;
-use ci_machine::moment::Moment;
+use ci_machine::moment::{Moment, moment_text};
 use ci_machine::report::RunnerRow;
 use std::alloc::{AllocError, Global};
 

@@ -1,12 +1,11 @@
 //! Each public function once, and texts of reports that were laid out by hand.
 
 use crate::json::{pipeline_json, queue_json, runner_json};
-use crate::moment::{moment_text, stamp_text};
 use crate::pipeline::pipeline_report;
 use crate::queue::queue_report;
 use crate::runner::runner_report;
 use ci_board::facts::Status;
-use ci_machine::moment::Moment;
+use ci_machine::moment::{Moment, moment_text, stamp_text};
 use ci_machine::records::{MAX_NUMBER, Pipeline, PipelineWithStatus, RefKind, Source};
 use ci_machine::report::{JobRow, PipelineRows, QueueRow, RunnerRow, ShownStatus};
 use ci_machine::text::Text;

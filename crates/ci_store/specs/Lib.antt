@@ -1,4 +1,3 @@
 pub mod Delta
 pub mod Made
-pub mod Newest
 pub mod Store

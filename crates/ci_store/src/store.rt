@@ -3,13 +3,12 @@
 ghost use Rattle.std.specs.Prelude.{◌≡◌, length, take};
 ghost use Rattle.ci_machine.specs.Kept.{Kept, cleared, written};
 ghost use Rattle.ci_machine.specs.Statuses.{attempts_of, jobs_of};
-ghost use Rattle.ci_machine.specs.Lookups.{project_at, project_with, project_variables, variable_at, runner_at, runner_with, pipeline_at, job_at, demand_at, variables_of, attempt_at, last_attempt_by, live_attempts, trace_of, next_of};
+ghost use Rattle.ci_machine.specs.Lookups.{project_at, project_with, project_variables, variable_at, runner_at, runner_with, pipeline_at, job_at, demand_at, variables_of, attempt_at, last_attempt_by, live_attempts, trace_of, next_of, newest_of};
 ghost use Rattle.ci_machine.specs.Ranges.{needs_within, attempts_within, rows_within, row_at, rows_with, pending_after};
-ghost use Rattle.ci_machine.specs.Holders.{holder_at};
+ghost use Rattle.ci_machine.specs.Holders.{holder_at, holders_in};
 ghost use Rattle.ci_machine.specs.Waiting.{mode_at};
 ghost use Rattle.ci_machine.specs.Indexes.{newer_in};
 ghost use Rattle.ci_store.specs.Made.{made_before, AreSome};
-ghost use Rattle.ci_store.specs.Newest.{newest_of, holders_in};
 ghost use Rattle.ci_store.specs.Store.{LoadsBy, Ends};
 
 use crate::delta::Delta;
@@ -159,6 +158,10 @@ pub trait Store {
     fn newer_of(&mut self, pipeline: &Pipeline) -> Result<Option<Pipeline>, StoreFault>
         ensures { LoadsBy honest holds leaves self.old self.new result (λ k p. p ≡ newer_in k.state pipeline.now) };
 
+    /// The newest pipelines of a project that was found, newest first: at most so many. Errors: so many are over the greatest integer of SQL.
+    fn newest(&mut self, project: u64, count: u64) -> Result<Vec<Pipeline>, StoreFault>
+        ensures { LoadsBy honest holds leaves self.old self.new result (λ k ps. ps.items ≡ take count (newest_of k.state project)) };
+
     /// The first so many pipelines, by number, of those that were made before a moment. It reads pipelines by number until it has so
     /// many, and so all of them where there are fewer. Errors: so many are over the greatest integer of SQL.
     fn pipelines_before(&mut self, before: Moment, count: u64) -> Result<Vec<Pipeline>, StoreFault>
@@ -168,10 +171,6 @@ pub trait Store {
     /// others. Errors: so many are over the greatest integer of SQL.
     fn some_before(&mut self, before: Moment, count: u64) -> Result<Vec<Pipeline>, StoreFault>
         ensures { LoadsBy honest holds leaves self.old self.new result (λ k ps. AreSome count (made_before before k.state.pipelines) ps.items) };
-
-    /// The newest pipelines of a project that was found, newest first: at most so many. Errors: so many are over the greatest integer of SQL.
-    fn newest(&mut self, project: u64, count: u64) -> Result<Vec<Pipeline>, StoreFault>
-        ensures { LoadsBy honest holds leaves self.old self.new result (λ k ps. ps.items ≡ take count (newest_of k.state project)) };
 
     /// Spends a delta: removes the rows of statuses that it clears, makes its changes of records, then puts its rows, and then changes
     /// the groups that are held, all of it or nothing. Which pipelines aren't finished is kept as the delta says it, and not looked up.

@@ -1,7 +1,7 @@
 use Rattle.std.proofs.Common.{◌≤◌, ◌/◌, pos, ap, ◌∙◌, arith}
 use Rattle.jiff_fmt.specs.Text.{date_text}
-use Rattle.ci_report.proofs.Days.{date_text-day_at}
-use Rattle.ci_report.proofs.moment.date_of.Goals as goal
+use Rattle.ci_machine.proofs.Days.{date_text-day_at}
+use Rattle.ci_machine.proofs.moment.date_of.Goals as goal
 
 pub returns : goal.returns
 returns c =
