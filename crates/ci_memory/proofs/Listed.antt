@@ -16,7 +16,7 @@ use Rattle.ci_machine.specs.declared.records.Pipeline.{Pipeline}
 use Rattle.ci_machine.specs.State.{State, placed, others, pipeline_cmp, changed}
 use Rattle.ci_machine.proofs.Filters.{filter_both}
 use Rattle.ci_machine.proofs.Keyed.{Has, has_filter, has_from_all, All-from_has, not_true, unequal}
-use Rattle.ci_store.specs.Newest.{newest_of}
+use Rattle.ci_machine.specs.Lookups.{newest_of}
 use Rattle.ci_memory_boards.proofs.Lists.{all_found, both}
 use Rattle.ci_memory_pipelines.proofs.Found.{any_none}
 use Rattle.ci_memory.specs.declared.newest.NewestList.{NewestList}

@@ -6,7 +6,7 @@ use Rattle.ci_machine.specs.declared.change.Record.TheVariants as row
 use Rattle.ci_machine.specs.declared.change.RowChange.{RowChange}
 use Rattle.ci_machine.specs.declared.change.RowChange.TheVariants.{Put, Remove}
 use Rattle.ci_machine.specs.State.{State}
-use Rattle.ci_store.specs.Newest.{newest_of}
+use Rattle.ci_machine.specs.Lookups.{newest_of}
 use Rattle.ci_memory.specs.declared.newest.Newest.{Newest}
 use Rattle.ci_memory.specs.declared.newest.NewestList.{NewestList}
 

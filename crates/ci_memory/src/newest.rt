@@ -4,7 +4,7 @@ ghost use Rattle.std.specs.Prelude.{◌≡◌, ◌==◌, ◌&&◌, ◌++◌, ◌
 ghost use Rattle.std.specs.List.{list_any};
 ghost use Rattle.std.specs.Option.{option_copied};
 ghost use Rattle.ci_machine.specs.State.{State, changed, applied};
-ghost use Rattle.ci_store.specs.Newest.{newest_of};
+ghost use Rattle.ci_machine.specs.Lookups.{newest_of};
 ghost use Rattle.ci_memory.specs.Newest.{IsList, AreNewest, is_of_list};
 
 use ci_machine::change::{Key, Record, RowChange};
