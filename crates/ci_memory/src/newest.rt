@@ -12,7 +12,7 @@ use ci_machine::records::Pipeline;
 use std::alloc::Global;
 
 /// Of how many projects the newest pipelines are remembered, at most. With one more, those go that were learned first.
-pub const MAX_LISTS: usize = 16;
+pub const MAX_LISTS: usize = 64;
 
 /// How many pipelines of a project are remembered, at most. Of a longer list nothing is.
 pub const MAX_NEWEST: u64 = 100;
