@@ -245,7 +245,7 @@ class Draws:
         chance, token = self.chance, f"PRIVATE-TOKEN: {self.server.second}"
         at, job = "/api/v4/projects/2", chance.choice(self.jobs)
         grant = chance.choice(self.grants) if self.grants else (3, "j3-" + "ab" * 16, [0])
-        kind = chance.randrange(12)
+        kind = chance.randrange(13)
         if kind < 3:
             return request("POST", "/api/v4/jobs/request", [], json.dumps({"token": self.server.second_runner}).encode())
         if kind == 3:
@@ -270,6 +270,10 @@ class Draws:
             return request(method, f"{at}/pipelines/{chance.choice(self.pipelines)}{what}", [token])
         if kind == 10:
             return request("GET", f"{at}/jobs/{job}{chance.choice(['', '/trace'])}", [token])
+        if kind == 11:
+            parts = ["", "/pipelines", f"/pipelines/{chance.choice(self.pipelines)}/jobs", f"/jobs/{job}/attempts", f"/jobs/{job}/attempts/{grant[0]}/trace",
+                     "/resource_groups"]
+            return request("GET", chance.choice([*(at + part for part in parts), "/-/health"]), [token])
         return request("POST", f"{at}/jobs/{job}/{chance.choice(['play', 'cancel', 'retry'])}", [token])
 
     def report(self, grant):

@@ -42,3 +42,5 @@ first=$(jq '.jobs[0].id' "$work/pipeline")
 echo "the trace of job $first:"
 api GET "/jobs/$first/trace"
 [ "$(jq -r .status "$work/pipeline")" = success ]
+echo
+echo "to look at a project: bin/ciserver serve .., examples/web.sh PORT (it wants nginx), and open the address that it prints with the project's token"

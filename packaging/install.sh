@@ -33,7 +33,7 @@ script() {
 }
 # settled FROM TO: a text with the paths of this installation, but in its comments.
 settled() {
-  sed -E "/^#/! { s#/usr/local/bin/#$bin/#; s#/usr/local/lib/ciserver-runner/#$share/ciserver-runner/#; s#/etc/(default|ciserver-runner)#$config/\\1# }" "$1" > "$room/text"
+  sed -E "/^#/! { s#/usr/local/bin/#$bin/#; s#/usr/local/lib/ciserver-runner/#$share/ciserver-runner/#; s#/usr/local/share/ciserver/#$share/ciserver/#; s#/etc/(default|ciserver-runner)#$config/\\1# }" "$1" > "$room/text"
   put 644 "$room/text" "$2"
 }
 # kept FROM TO: a file of the configuration.
@@ -70,10 +70,14 @@ server() {
   done
   script 755 examples/page.py "$share/ciserver/page.py"
   put 755 examples/post-receive "$share/ciserver/post-receive"
+  # The page that nginx serves, without its tests.
+  for file in web/index.html web/icon.svg web/css/*.css web/js/*.js; do put 644 "$file" "$share/ciserver/$file"; done
   command_to ciserver-convert ciserver/convert.py
   command_to ciserver-page ciserver/page.py
   for file in README.md CHANGELOG.md SECURITY.md docs/*.md; do put 644 "$file" "$share/doc/ciserver/$file"; done
-  for file in nginx.conf nginx-teams.conf project/Makefile project/hello.c project/.gitlab-ci.yml; do
+  settled examples/nginx.conf "$share/doc/ciserver/examples/nginx.conf"
+  put 644 web/README.md "$share/doc/ciserver/web.md"
+  for file in nginx-teams.conf project/Makefile project/hello.c project/.gitlab-ci.yml; do
     put 644 "examples/$file" "$share/doc/ciserver/examples/$file"
   done
   put 755 examples/runner.sh "$share/doc/ciserver/examples/runner.sh"

@@ -202,6 +202,21 @@ class Tree(unittest.TestCase):
         self.assertIn("<h1><bdi>hello</bdi></h1>", printed(sys.executable, f"{at}/ciserver-page", db, "1", **run))
         self.assertEqual([name for _, folders, _ in os.walk(self.root) for name in folders if name in ("__pycache__", "cases", "tests")], [])
 
+    def test_the_page_is_laid_whole_where_nginx_looks_for_it(self):
+        root = re.search(r"(?m)^ *root (\S+);$", self.read("/usr/local/share/doc/ciserver/examples/nginx.conf"))[1]
+        self.assertEqual(root, "/usr/local/share/ciserver/web")
+        text = self.read(f"{root}/index.html")
+        named = re.findall(r'(?:src|href)="([\w./]+)"', text)
+        self.assertIn("js/main.js", named)
+        for name in [*named, "icon.svg"]:
+            self.assertTrue(os.path.exists(f"{self.root}{root}/{name}"), name)
+        modules = sorted(os.listdir(f"{self.root}{root}/js"))
+        self.assertEqual(modules, sorted(os.listdir(f"{ROOT}/web/js")))
+        for module in modules:
+            for name in re.findall(r'from "\./([\w.]+)"', self.read(f"{root}/js/{module}")):
+                self.assertIn(name, modules)
+        self.assertFalse(os.path.exists(f"{self.root}{root}/tests"))
+
     def test_units_and_configuration_name_what_is_laid(self):
         for unit, program in (("ciserver", "/usr/local/bin/ciserver"), ("ciserver-runner", "/usr/local/share/ciserver-runner/ciserver-runner")):
             text = self.read(f"/usr/local/lib/systemd/system/{unit}.service")
@@ -236,6 +251,7 @@ class Tree(unittest.TestCase):
     def test_another_prefix_has_its_own_configuration(self):
         self.lay("server", PREFIX="/home/me/ci")
         self.lay("runner", PREFIX="/home/me/ci")
+        self.assertIn(" root /home/me/ci/share/ciserver/web;", self.read("/home/me/ci/share/doc/ciserver/examples/nginx.conf"))
         text = self.read("/home/me/ci/lib/systemd/system/ciserver-runner.service")
         self.assertRegex(text, r"(?m)^ExecStart=/home/me/ci/share/ciserver-runner/ciserver-runner --config /home/me/ci/etc/ciserver-runner/config.toml$")
         self.assertIn("PORT=", self.read("/home/me/ci/etc/default/ciserver"))

@@ -96,6 +96,14 @@ class Reading:
     def keyed(self, kind):
         return lambda: f'/{kind}/{key_in_path(self.words.word())}'
 
+    def attempt_trace(self):
+        return f'/jobs/{self.words.number()}/attempts/{self.words.number()}/trace'
+
+    def health(self):
+        token = field_of(token_of(self.sent or ''))
+        head = f'PRIVATE-TOKEN: {token}\r\n' if token else ''
+        return Event(request=f'GET /-/health HTTP/1.1\r\n{head}\r\n'.encode())
+
     def value(self):
         return json_of({'value': self.words.word()})
 
@@ -214,6 +222,13 @@ EVENTS = {
     'cancel-pipeline': lambda of: of.of_project('POST', of.numbered('pipelines', '/cancel')),
     'show-job': lambda of: of.of_project('GET', of.numbered('jobs')),
     'trace': lambda of: of.of_project('GET', of.numbered('jobs', '/trace')),
+    'show-project': lambda of: of.of_project('GET'),
+    'list-pipelines': lambda of: of.of_project('GET', '/pipelines'),
+    'list-jobs': lambda of: of.of_project('GET', of.numbered('pipelines', '/jobs')),
+    'list-attempts': lambda of: of.of_project('GET', of.numbered('jobs', '/attempts')),
+    'trace-of': lambda of: of.of_project('GET', of.attempt_trace),
+    'list-groups': lambda of: of.of_project('GET', '/resource_groups'),
+    'health': Reading.health,
     'play': lambda of: of.of_project('POST', of.numbered('jobs', '/play')),
     'cancel-job': lambda of: of.of_project('POST', of.numbered('jobs', '/cancel')),
     'retry': lambda of: of.of_project('POST', of.numbered('jobs', '/retry')),

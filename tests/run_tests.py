@@ -1,7 +1,7 @@
 #!/usr/bin/env python3
 """Runs the tests of test_*.py, or of the modules that are named, over the program, as many at a time as there are processors.
 
-It prints `ok NAME` for each, or why it failed; and at the end how many passed and failed.
+It prints `ok NAME` for each, or why it failed; `not tried: NAME`, and why, for one that wants what isn't there; and at the end how many passed and failed.
 """
 import io
 import os
@@ -24,24 +24,28 @@ def names(suite):
 
 
 def ran(name):
-    """A test: its seconds, and why it failed, if it did."""
+    """A test: its seconds, why it failed, if it did, and why it wasn't tried, if it wasn't."""
     begin, told = time.monotonic(), io.StringIO()
     result = unittest.TextTestRunner(told, verbosity=0).run(unittest.defaultTestLoader.loadTestsFromName(name))
-    is_good = result.wasSuccessful() and result.testsRun == 1 and not result.skipped
-    return name, time.monotonic() - begin, None if is_good else told.getvalue()
+    is_good = result.wasSuccessful() and result.testsRun == 1
+    return name, time.monotonic() - begin, None if is_good else told.getvalue(), result.skipped[0][1] if result.skipped else None
 
 
 def main(modules):
     shim()
     modules = modules or sorted(name[:-3] for name in os.listdir(HERE) if name.startswith('test_') and name.endswith('.py'))
     tests = list(names(unittest.defaultTestLoader.loadTestsFromNames(modules)))
-    failed = 0
+    passed = failed = 0
     with ProcessPoolExecutor(os.cpu_count()) as pool:
         for future in as_completed([pool.submit(ran, name) for name in tests]):
-            name, seconds, why = future.result()
+            name, seconds, why, untried = future.result()
             failed += why is not None
-            print(f'ok {name} ({seconds:.1f} s)' if why is None else f'failed {name}\n{why}', flush=True)
-    print(f'{len(tests) - failed} passed, {failed} failed')
+            passed += why is None and untried is None
+            if untried is not None:
+                print(f'not tried: {name}: {untried}', flush=True)
+            else:
+                print(f'ok {name} ({seconds:.1f} s)' if why is None else f'failed {name}\n{why}', flush=True)
+    print(f'{passed} passed, {failed} failed')
     return 1 if failed or not tests else 0
 
 

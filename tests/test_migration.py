@@ -10,6 +10,8 @@ import tempfile
 from contextlib import closing
 
 from cases import Case, alter, drawn, tell
+from choices import state
+from listings import wanted as listed
 from transactions import copied
 from world import HERE
 
@@ -318,7 +320,10 @@ class Shell(Files):
         created = ('201 {"id":2,"jobs":[{"id":4,"name":"build","stage":"build","status":"pending"},{"id":5,"name":"ship","stage":"test","status":"created"},'
                    '{"id":6,"name":"after","stage":"deploy","status":"created"}],"ref":"next","source":"api","status":"pending"}')
         self.world.at(2000)
-        for line, wanted in [('show-pipeline 1 1', ended), ('trace 1 1', '200'), ('trace 1 3', '200'),
+        self.assertEqual(tell(self.world, 'show-pipeline 1 1' + token), ended)
+        for line in ('show-project 1', 'list-pipelines 1', 'list-jobs 1 1', 'list-attempts 1 1', 'list-attempts 1 2', 'list-groups 1'):
+            self.assertEqual(tell(self.world, line + token), listed(state(self.world), line), line)
+        for line, wanted in [('trace 1 1', '200'), ('trace 1 3', '200'),
                              ('retry 1 2', '200 {"id":2,"name":"ship","stage":"test","status":"pending"}'),
                              ('show-mode 1 prod', '200 {"key":"prod","process_mode":"unordered"}'), ('create 1 next', created),
                              ('set-mode 1 prod newest_ready_first', NEWEST), ('show-mode 1 prod', NEWEST)]:

@@ -1,3 +1,4 @@
+pub mod Health
 pub mod Serving
 pub mod Sweeping
 pub use Rattle.ci_http_messages.specs.Blanks

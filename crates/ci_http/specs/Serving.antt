@@ -1,4 +1,4 @@
--- What becomes of one request: the reply, and the server before and after it.
+-- What becomes of one request: the reply, and the server before and after it, which is swept first.
 use Rattle.std.specs.Prelude.{◌≡◌, ◌⊎◌, ℕ, List, ◌++◌, Option, Result, Ok, Err}
 use Rattle.std.specs.Io.KnownBytes.{Appends}
 use Rattle.sqlite.specs.Store.{Ghosts}
@@ -6,35 +6,41 @@ use Rattle.ci_machine.specs.declared.reply.Answer.TheVariants as answer
 use Rattle.ci_machine.specs.declared.reply.Code.TheVariants.{M16}
 use Rattle.ci_machine.specs.declared.reply.Reply.{Reply}
 use Rattle.ci_machine.specs.declared.request.Event.TheVariants as event
-use Rattle.ci_machine.specs.declared.request.Request.{Request}
 use Rattle.ci_machine.specs.declared.request.Seed.{Seed}
 use Rattle.ci_machine.specs.Reply.{refusal}
 use Rattle.ci_server.specs.Servers.{ServerOver}
 use Rattle.ci_server.specs.Server.{Handles}
+use Rattle.ci_http_messages.specs.declared.route.Demand.{Demand}
+use Rattle.ci_http_messages.specs.declared.route.Demand.TheVariants as demand
 use Rattle.ci_http_messages.specs.Reading.{Message, Reading, ended, refused, request, IsReading, AwaitsBody}
 use Rattle.ci_http_messages.specs.RequestBytes.{request_in, AsksMemory}
 use Rattle.ci_http_messages.specs.Sources.{Tells}
+use Rattle.ci_http.specs.Health.{TellsHealth}
+use Rattle.ci_http.specs.Sweeping.{SweepsUpTo}
 
 -- memory is asked for while such bytes are read: their head is whole and says that a body follows, which is what is left; or they
 -- begin with a request, and its meaning takes memory
 abbrev pub ReadsByMemory : List ℕ → List ℕ → Type 0
 ReadsByMemory bytes rest = AwaitsBody bytes rest ⊎ ((m : Message) × IsReading bytes (request m) rest × AsksMemory m)
 
-module _ {S : Type 0} (g : Ghosts S) (moment : ℕ) (seed : Seed) (old new : ServerOver S) (reply : Reply) where
-  -- a request is handled once, and the reply is the server's; where there is none, nothing is handled, and the reply is the one that refuses it
-  abbrev pub AnswersAsked : Result Request Reply → Type 0
-  AnswersAsked (Ok asked) = Handles g old (event.Request asked, moment, seed) new (answer.Reply reply)
-  AnswersAsked (Err why) = (new ≡ old) × (reply ≡ why)
+module _ {S : Type 0} (g : Ghosts S) (most moment : ℕ) (seed : Seed) (old new : ServerOver S) (reply : Reply) where
+  -- The server is swept, so often at most, and then a request is handled once, and the reply is the server's; where there is none, nothing is
+  -- handled, and the reply is the one that refuses it. To who asks whether the server is open it is told, and nothing changes: it isn't swept.
+  abbrev pub AnswersAsked : Result Demand Reply → Type 0
+  AnswersAsked (Ok (demand.Request asked)) =
+      (mid : ServerOver S) × SweepsUpTo g moment most old mid × Handles g mid (event.Request asked, moment, seed) new (answer.Reply reply)
+  AnswersAsked (Ok demand.Health) = (new ≡ old) × TellsHealth old.closed reply
+  AnswersAsked (Err why) = SweepsUpTo g moment most old new × (reply ≡ why)
 
   -- the reply is that to what was read
   abbrev pub Answers : Reading → Type 0
   Answers ended = ⊥
-  Answers (refused why) = (new ≡ old) × (reply ≡ refusal why)
+  Answers (refused why) = SweepsUpTo g moment most old new × (reply ≡ refusal why)
   Answers (request m) = AnswersAsked (request_in m)
 
-  -- memory was refused before anything was handled
+  -- the server was swept, and memory was refused before anything was handled
   abbrev pub LacksMemory : Type 0
-  LacksMemory = (new ≡ old) × (reply ≡ refusal M16)
+  LacksMemory = SweepsUpTo g moment most old new × (reply ≡ refusal M16)
 
   -- the reply is that to some reading, which is the one of the bytes where the reader tells them: one step at most; or memory was
   -- refused, and then the bytes, where the reader tells them, are of those that ask for it

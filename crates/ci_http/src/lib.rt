@@ -1,6 +1,7 @@
-//! One request served by a server, from the bytes that come in to the bytes that go out; and the server swept before it.
+//! One request served by a server, from the bytes that come in to the bytes that go out; and a server that is swept.
 #![tactic(auto)]
 
+mod health;
 pub mod serve;
 pub mod sweep;
 

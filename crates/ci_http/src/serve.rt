@@ -6,19 +6,27 @@ ghost use Rattle.ci_machine.specs.declared.reply.Reply.{Reply};
 ghost use Rattle.ci_http_messages.specs.Reading.{ended, IsReading};
 ghost use Rattle.ci_http_messages.specs.ReplyText.{reply_text};
 ghost use Rattle.ci_http_messages.specs.RequestBytes.{request_in, AsksMemory};
+ghost use Rattle.ci_machine.specs.declared.reply.Answer.TheVariants as answer;
+ghost use Rattle.ci_machine.specs.declared.request.Event.TheVariants as event;
+ghost use Rattle.ci_machine.specs.Reply.{refusal};
+ghost use Rattle.ci_server.specs.Servers.{ServerOver};
+ghost use Rattle.ci_server.specs.Server.{Handles};
+ghost use Rattle.ci_http.specs.Sweeping.{SweepsUpTo};
 ghost use Rattle.ci_http.specs.Serving.{AnswersAsked, LacksMemory, Serves, WritesFront};
 ghost use Rattle.ci_http_messages.specs.Sources.{Tells, TakesFront, Fails};
 
+use crate::health::health_reply;
+use crate::sweep::sweep_all;
 use arrayvec::ArrayVec;
 use ci_http_messages::call::{Call, HeadRoom, read_request};
 use ci_http_messages::fault::HttpFault;
 use ci_http_messages::link::{Failed, Sink, Source};
-use ci_http_messages::route::request_of;
+use ci_http_messages::route::{Demand, request_of};
 use ci_http_messages::text::reply_bytes;
 use ci_http_routes::paths::Paths;
 use ci_machine::moment::Moment;
 use ci_machine::reply::{Code, Reply};
-use ci_machine::request::Seed;
+use ci_machine::request::{Request, Seed};
 use ci_server::server::Server;
 use sqlite::Alter;
 use std::alloc::Global;
@@ -40,8 +48,10 @@ pub enum Served {
     WriteFailed,
 }
 
-/// Serves one request: reads it, has the server handle it at most once, at this moment and with this
-/// seed, and writes the reply. Nothing is tried again.
+/// Serves one request: reads it, sweeps the server at this moment, a thousand times at most, has it handle the request at most once, at
+/// this moment and with this seed, and writes the reply. Nothing is tried again.
+///
+/// Who asks whether the server is open (`Demand::Health`) is told so, by what is known of it: no store is touched, and it isn't swept.
 ///
 /// `paths` has the table of routes; it is built once and lent to each call. A reply whose head and
 /// body have room in 4,096 bytes together is handed to the writer as one text. Nothing is
@@ -57,11 +67,11 @@ pub fn serve_one<R: Source, W: Sink, S: Alter>(
 ) -> Served
     // The bytes written are those of the reply to what was read.
     ensures replied { result ≡ Served.Replied → (reply : Reply)
-        × Serves S.Store moment seed server.old server.new reply (R.left reader.old) (R.left reader.new)
+        × Serves S.Store 1000 moment seed server.old server.new reply (R.left reader.old) (R.left reader.new)
         × Appends (W.written writer.old) (W.written writer.new) (reply_text reply) }
     // A beginning of these was written, and the step stands. It comes only where the writer had less room than they take.
     ensures write_failed { result ≡ Served.WriteFailed → (reply : Reply)
-        × Serves S.Store moment seed server.old server.new reply (R.left reader.old) (R.left reader.new)
+        × Serves S.Store 1000 moment seed server.old server.new reply (R.left reader.old) (R.left reader.new)
         × WritesFront (W.written writer.old) (W.written writer.new) (reply_text reply)
         × (W.room writer.old < length (reply_text reply)) }
     // Nothing was handled and nothing written.
@@ -101,7 +111,7 @@ fn reply_to<R: Source, S: Alter>(
     seed: Seed,
 ) -> Result<Reply, Unread>
     ensures reply { IfOk result (λ reply.
-        Serves S.Store moment seed server.old server.new reply (R.left reader.old) (R.left reader.new)) }
+        Serves S.Store 1000 moment seed server.old server.new reply (R.left reader.old) (R.left reader.new)) }
     ensures none { OnErr result (server.new ≡ server.old) }
     ensures ended { result ≡ Err Unread.Ended → Tells (R.left reader.old) (R.left reader.new)
         (λ bytes rest. IsReading bytes ended rest) }
@@ -111,8 +121,8 @@ fn reply_to<R: Source, S: Alter>(
     let mut room = HeadRoom::new();
     match read_request(alloc, reader, &mut room) {
         Ok(call) => Ok(answer(alloc, &call, server, paths, moment, seed)),
-        Err(HttpFault::Refused(why)) => Ok(Reply::refusal(why)),
-        Err(HttpFault::Memory) => Ok(Reply::refusal(Code::M16)),
+        Err(HttpFault::Refused(why)) => Ok(refuse(alloc, server, moment, why)),
+        Err(HttpFault::Memory) => Ok(refuse(alloc, server, moment, Code::M16)),
         Err(HttpFault::Ended) => Err(Unread::Ended),
         Err(HttpFault::ReadFailed) => Err(Unread::Failed),
     }
@@ -127,13 +137,41 @@ fn answer<S: Alter>(
     moment: Moment,
     seed: Seed,
 ) -> Reply
-    ensures { (LacksMemory S.Store moment seed server.old server.new result × AsksMemory call.now)
-        ⊎ AnswersAsked S.Store moment seed server.old server.new result (request_in call.now) }
+    ensures { (LacksMemory S.Store 1000 moment seed server.old server.new result × AsksMemory call.now)
+        ⊎ AnswersAsked S.Store 1000 moment seed server.old server.new result (request_in call.now) }
 {
     match request_of(alloc, paths, call) {
-        Ok(request) => server.handle(alloc, request, moment, seed),
-        Err(reply) => reply,
+        Ok(Demand::Request(request)) => handle_swept(alloc, request, server, moment, seed),
+        Ok(Demand::Health) => health_reply(alloc, server.closed()),
+        Err(reply) => {
+            sweep_all(alloc, server, moment);
+            reply
+        }
     }
+}
+
+// Sweeps the server, and has it handle a request.
+fn handle_swept<S: Alter>(
+    alloc: Global,
+    request: Request,
+    server: &mut Server<S>,
+    moment: Moment,
+    seed: Seed,
+) -> Reply
+    ensures { (mid : ServerOver S) × SweepsUpTo S.Store moment 1000 server.old mid
+        × Handles S.Store mid (event.Request request, moment, seed) server.new (answer.Reply result) }
+{
+    sweep_all(alloc, server, moment);
+    server.handle(alloc, request, moment, seed)
+}
+
+// Sweeps the server, and gives the reply that refuses what can't be read.
+fn refuse<S: Alter>(alloc: Global, server: &mut Server<S>, moment: Moment, why: Code) -> Reply
+    ensures swept { SweepsUpTo S.Store moment 1000 server.old server.new }
+    ensures reply { result ≡ refusal why }
+{
+    sweep_all(alloc, server, moment);
+    Reply::refusal(why)
 }
 
 // Writes a reply. Errors: a call of the writer failed, and a beginning was written.

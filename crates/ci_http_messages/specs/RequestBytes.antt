@@ -1,5 +1,5 @@
 -- The request that a message asks for by the table of routes, or the reply that refuses it.
-use Rattle.std.specs.Prelude.{◌≡◌, ℕ, List, [], ◌∷◌, map, length, if◌then◌else◌, Option, Some, None, IsSome, option_map, option_and_then, ok_or, Result, Ok, Err}
+use Rattle.std.specs.Prelude.{◌≡◌, ℕ, Bool, true, false, List, [], ◌∷◌, map, length, if◌then◌else◌, Option, Some, None, IsSome, option_map, option_and_then, ok_or, Result, Ok, Err}
 use Rattle.std.specs.Str.{is_utf8}
 use Rattle.serde_json.specs.Data.{Data}
 use Rattle.serde_json.specs.Find.{get}
@@ -10,7 +10,7 @@ use Rattle.ci_machine.specs.declared.reply.Code.{Code}
 use Rattle.ci_machine.specs.declared.reply.Code.TheVariants.{H5, H6, H7}
 use Rattle.ci_machine.specs.declared.reply.Reply.{Reply}
 use Rattle.ci_machine.specs.declared.request.Request.{Request}
-use Rattle.ci_machine.specs.declared.request.Request.TheVariants.{AskJob, UpdateJob, AppendTrace, SetFile, SetVariable, DeleteVariable, SetMode, ShowMode, CreatePipeline, ShowPipeline, CancelPipeline, ShowJob, ShowTrace, Play, CancelJob, RetryJob}
+use Rattle.ci_machine.specs.declared.request.Request.TheVariants.{AskJob, UpdateJob, AppendTrace, SetFile, SetVariable, DeleteVariable, SetMode, ShowMode, CreatePipeline, ShowPipeline, CancelPipeline, ShowJob, ShowTrace, Play, CancelJob, RetryJob, Read}
 use Rattle.ci_machine.specs.declared.request.JobQuery.{JobQuery}
 use Rattle.ci_machine.specs.declared.request.PipelineQuery.{PipelineQuery}
 use Rattle.ci_machine.specs.Reply.{refusal}
@@ -25,6 +25,8 @@ use Rattle.ci_http_payloads.specs.Updates.{update_of}
 use Rattle.ci_http_payloads.specs.Modes.{mode_of}
 use Rattle.ci_http_payloads.specs.Creations.{creation_of}
 use Rattle.ci_http_payloads.specs.Ranges.{start_in}
+use Rattle.ci_http_messages.specs.declared.route.Demand.{Demand}
+use Rattle.ci_http_messages.specs.declared.route.Demand.TheVariants as demand
 use Rattle.ci_http_messages.specs.Fields.{values_of}
 use Rattle.ci_http_messages.specs.Reading.{Message}
 use Rattle.ci_http_messages.specs.Targets.{path_of}
@@ -92,6 +94,7 @@ requested (operation.ShowTrace id n) (field ∷ []) nothing = Some (ShowTrace (j
 requested (operation.Play id n) (field ∷ []) nothing = Some (Play (job_of id field n))
 requested (operation.CancelJob id n) (field ∷ []) nothing = Some (CancelJob (job_of id field n))
 requested (operation.RetryJob id n) (field ∷ []) nothing = Some (RetryJob (job_of id field n))
+requested (operation.Read id what) (field ∷ []) nothing = Some (Read (record { project = id; token = text_or_empty field; subject = what }))
 requested _ _ _ = None
 
 -- the request that a message makes of a route, by the route's fields and body, if these are as it wants them
@@ -114,13 +117,19 @@ methods_of (one ∷ other ∷ more) = Some (record { first = one; second = Some 
 abbrev pub not_allowed : List Method → Reply
 not_allowed methods = record (refusal H6) { allow = methods_of methods }
 
-abbrev pub request_as : Asked → Message → Result Request Reply
+-- whether the server is open isn't asked of the machine: no request asks for it, and it takes nothing of the message
+abbrev pub is_health : {K : Type 0} → Operation K → Bool
+is_health operation.Health = true
+is_health _ = false
+
+abbrev pub request_as : Asked → Message → Result Demand Reply
 request_as no_route m = Err (refusal H5)
 request_as (other_methods methods) m = Err (not_allowed methods)
-request_as (asks w) m = ok_or (request_by w m) (refusal H7)
+request_as (asks w) m =
+    if is_health w.operation then Ok demand.Health else ok_or (option_map demand.Request (request_by w m)) (refusal H7)
 
 -- what a message asks for
-abbrev pub request_in : Message → Result Request Reply
+abbrev pub request_in : Message → Result Demand Reply
 request_in m = request_as (asked_at m.method (path_of m.target)) m
 
 -- ---- memory

@@ -6,7 +6,7 @@ ghost use Rattle.ci_machine.specs.Reply.{refusal};
 ghost use Rattle.ci_values.specs.Names.{is_name};
 ghost use Rattle.ci_http_routes.specs.Answers.{as_asked, map_key};
 ghost use Rattle.ci_http_messages.specs.ReplyText.{listed};
-ghost use Rattle.ci_http_messages.specs.RequestBytes.{field_in, text_or_empty, job_of, pipeline_of, asked_at, not_allowed, request_in, AsksMemory, Gives, AnswersFor};
+ghost use Rattle.ci_http_messages.specs.RequestBytes.{field_in, text_or_empty, job_of, pipeline_of, asked_at, not_allowed, is_health, request_in, AsksMemory, Gives, AnswersFor};
 ghost use Rattle.ci_http_messages.specs.Targets.{path_of};
 
 use crate::call::Call;
@@ -23,13 +23,22 @@ use ci_http_routes::operation::Operation;
 use ci_http_routes::paths::Paths;
 use ci_machine::reply::{Code, Methods, Reply};
 use ci_machine::request::{
-    GroupQuery, JobQuery, NewFile, NewMode, NewVariable, PipelineQuery, Request, TracePart,
-    VariableQuery,
+    GroupQuery, JobQuery, NewFile, NewMode, NewVariable, PipelineQuery, ReadQuery, Request,
+    Subject, TracePart, VariableQuery,
 };
 use ci_machine::text::{Bytes, Text};
 use ci_values::text::is_name;
 use std::alloc::Global;
 use std::str;
+
+/// What a call asks for.
+#[derive(Drop)]
+pub enum Demand {
+    /// A request of the machine.
+    Request(Request),
+    /// Whether the server is open. The machine isn't asked for that.
+    Health,
+}
 
 /// What a call asks for by the table of routes (`routes` of `ci_http_routes`), which `paths` has, or the
 /// reply that refuses it. Each route reads the fields and the body that the table lists, and no
@@ -42,13 +51,14 @@ use std::str;
 /// all is as it wants it.
 ///
 /// A missing token counts as an empty one, which nothing has, and so does one that isn't UTF-8.
-pub fn request_of(alloc: Global, paths: &Paths, call: &Call<'_>) -> Result<Request, Reply>
-    ensures ok { IfOk result (λ request. request_in call.now ≡ Ok request) }
+pub fn request_of(alloc: Global, paths: &Paths, call: &Call<'_>) -> Result<Demand, Reply>
+    ensures ok { IfOk result (λ demand. request_in call.now ≡ Ok demand) }
     ensures err { IfErr result (λ reply. ((reply ≡ refusal Code.M16) × AsksMemory call.now) ⊎ (request_in call.now ≡ Err reply)) }
 {
     match asked_by(paths, call) {
+        Lookup::Found(operation) if is_health(operation) => Ok(Demand::Health),
         Lookup::Found(operation) => match requested(alloc, operation, call) {
-            Ok(request) => Ok(request),
+            Ok(request) => Ok(Demand::Request(request)),
             Err(why) => Err(Reply::refusal(why)),
         },
         Lookup::OtherMethods(first, second) => Err(not_allowed(Methods { first, second })),
@@ -75,8 +85,18 @@ fn not_allowed(methods: Methods) -> Reply
     reply
 }
 
+// Does an operation ask whether the server is open?
+fn is_health(operation: Operation<&str>) -> bool
+    ensures { result ≡ is_health (map_key (λ key. key.now) operation.entry) }
+{
+    match operation {
+        Operation::Health => true,
+        _ => false,
+    }
+}
+
 // The request of an operation. Errors: the fields or the body of the call aren't as its route wants
-// them (H7); memory was refused (M16).
+// them, or no request asks for it (H7); memory was refused (M16).
 fn requested(alloc: Global, operation: Operation<&str>, call: &Call<'_>) -> Result<Request, Code>
     ensures { AnswersFor (map_key (λ key. key.now) operation.entry) call.now result }
 {
@@ -101,6 +121,8 @@ fn requested(alloc: Global, operation: Operation<&str>, call: &Call<'_>) -> Resu
         Operation::Play(id, n) => job_in(alloc, id, n, call).map(Request::Play),
         Operation::CancelJob(id, n) => job_in(alloc, id, n, call).map(Request::CancelJob),
         Operation::RetryJob(id, n) => job_in(alloc, id, n, call).map(Request::RetryJob),
+        Operation::Read(id, subject) => read(alloc, id, subject, call),
+        Operation::Health => Err(Code::H7),
     }
 }
 
@@ -237,6 +259,18 @@ fn create_pipeline(alloc: Global, project: u64, call: &Call<'_>) -> Result<Reque
     }
     let token = token_of(alloc, field)?;
     creation_in(alloc, project, token, call.body()).map(Request::CreatePipeline)
+}
+
+// A project, or what it has, is asked for.
+fn read(alloc: Global, project: u64, subject: Subject, call: &Call<'_>) -> Result<Request, Code>
+    ensures { AnswersFor (Operation.Read project subject) call.now result }
+{
+    let token = token_of(alloc, project_field(call)?)?;
+    Ok(Request::Read(ReadQuery {
+        project,
+        token,
+        subject,
+    }))
 }
 
 // The pipeline of a project that is named.

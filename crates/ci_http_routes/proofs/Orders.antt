@@ -3,16 +3,17 @@ use Rattle.std.proofs.Common.{◌≡◌, ◌≤◌, ℕ, List, [], ◌∷◌, le
 use Rattle.std.specs.Prelude.{map, filter, codes}
 use Rattle.std.proofs.lemmas.Slice.Eq.{bytes_eq-Decides}
 use Rattle.ci_machine.specs.declared.reply.Method.{Method}
+use Rattle.ci_machine.specs.declared.request.Subject.TheVariants as subject
 use Rattle.ci_http_routes.specs.declared.operation.Operation.{Operation}
-use Rattle.ci_http_routes.specs.declared.operation.Operation.TheVariants.{AskJob, UpdateJob, AppendTrace, SetFile, SetVariable, DeleteVariable, SetMode, ShowMode, CreatePipeline, ShowPipeline, CancelPipeline, ShowJob, ShowTrace, Play, CancelJob, RetryJob}
+use Rattle.ci_http_routes.specs.declared.operation.Operation.TheVariants.{AskJob, UpdateJob, AppendTrace, SetFile, SetVariable, DeleteVariable, SetMode, ShowMode, CreatePipeline, ShowPipeline, CancelPipeline, ShowJob, ShowTrace, Play, CancelJob, RetryJob, Read, Health}
 use Rattle.ci_machine.specs.declared.reply.Method.TheVariants.{Delete, Get, Patch, Post, Put}
 use Rattle.ci_http_routes.specs.Answers.{wanted}
 use Rattle.ci_http_routes.specs.declared.router.Pattern.{Pattern}
-use Rattle.ci_http_routes.specs.declared.router.Pattern.TheVariants.{Queue, Attempt, AttemptTrace, CiFile, Variable, ResourceGroup, Creation, Pipeline, PipelineCancel, Job, JobTrace, JobPlay, JobCancel, JobRetry}
+use Rattle.ci_http_routes.specs.declared.router.Pattern.TheVariants.{Queue, Attempt, AttemptTrace, CiFile, Variable, ResourceGroup, Creation, Pipeline, PipelineCancel, Job, JobTrace, JobPlay, JobCancel, JobRetry, Project, Pipelines, PipelineJobs, JobAttempts, JobAttemptTrace, ResourceGroups, HealthCheck}
 use Rattle.ci_http_routes.specs.Laws.{ascends}
 use Rattle.ci_http_routes.specs.Methods.{is_text, method_text}
 use Rattle.ci_http_routes.specs.Patterns.{patterns, pattern_in, text_in}
-use Rattle.ci_http_routes.specs.Places.{number_at, with_one, with_two, of_variable, of_group, with_key, routes_in}
+use Rattle.ci_http_routes.specs.Places.{number_at, with_one, with_two, with_three, of_variable, of_group, with_key, routes_in}
 use Rattle.ci_http_routes.specs.Routes.{Wanted, routes_at}
 use Rattle.ci_http_routes.proofs.Groups.{by_pattern, at-path}
 
@@ -27,33 +28,44 @@ module _ (P : List (Method × Wanted) → Type 0) (none : P []) (alone : (m : Me
   on-two m op None n = none
   on-two m op (Some id) n = on-one m (op id) n
 
+  on-three : (m : Method) (op : ℕ → ℕ → ℕ → Operation (List ℕ)) (id n k : Option ℕ) → P (with_three m op id n k)
+  on-three m op None n k = none
+  on-three m op (Some id) n k = on-two m (op id) n k
+
   on-key : (of : ℕ → List ℕ → List (Method × Wanted)) → ((id : ℕ) (key : List ℕ) → P (of id key)) → (id : Option ℕ) (key : Option (List ℕ)) → P (with_key of id key)
   on-key of both None key = none
   on-key of both (Some id) None = none
   on-key of both (Some id) (Some key) = both id key
 
-  on-pattern : (p : Pattern) (id n : Option ℕ) (key : Option (List ℕ)) → P (routes_in p id n key)
-  on-pattern Queue id n key = alone Post (wanted AskJob)
-  on-pattern Attempt id n key = on-one Put UpdateJob n
-  on-pattern AttemptTrace id n key = on-one Patch AppendTrace n
-  on-pattern CiFile id n key = on-one Put SetFile id
-  on-pattern Variable id n key = on-key of_variable variable id key
-  on-pattern ResourceGroup id n key = on-key of_group group id key
-  on-pattern Creation id n key = on-one Post CreatePipeline id
-  on-pattern Pipeline id n key = on-two Get ShowPipeline id n
-  on-pattern PipelineCancel id n key = on-two Post CancelPipeline id n
-  on-pattern Job id n key = on-two Get ShowJob id n
-  on-pattern JobTrace id n key = on-two Get ShowTrace id n
-  on-pattern JobPlay id n key = on-two Post Play id n
-  on-pattern JobCancel id n key = on-two Post CancelJob id n
-  on-pattern JobRetry id n key = on-two Post RetryJob id n
+  on-pattern : (p : Pattern) (id n m : Option ℕ) (key : Option (List ℕ)) → P (routes_in p id n m key)
+  on-pattern Queue id n m key = alone Post (wanted AskJob)
+  on-pattern Attempt id n m key = on-one Put UpdateJob n
+  on-pattern AttemptTrace id n m key = on-one Patch AppendTrace n
+  on-pattern CiFile id n m key = on-one Put SetFile id
+  on-pattern Variable id n m key = on-key of_variable variable id key
+  on-pattern ResourceGroup id n m key = on-key of_group group id key
+  on-pattern Creation id n m key = on-one Post CreatePipeline id
+  on-pattern Pipeline id n m key = on-two Get ShowPipeline id n
+  on-pattern PipelineCancel id n m key = on-two Post CancelPipeline id n
+  on-pattern Job id n m key = on-two Get ShowJob id n
+  on-pattern JobTrace id n m key = on-two Get ShowTrace id n
+  on-pattern JobPlay id n m key = on-two Post Play id n
+  on-pattern JobCancel id n m key = on-two Post CancelJob id n
+  on-pattern JobRetry id n m key = on-two Post RetryJob id n
+  on-pattern Project id n m key = on-one Get (λ i. Read i subject.Project) id
+  on-pattern Pipelines id n m key = on-one Get (λ i. Read i subject.Pipelines) id
+  on-pattern PipelineJobs id n m key = on-two Get (λ i k. Read i (subject.Jobs k)) id n
+  on-pattern JobAttempts id n m key = on-two Get (λ i k. Read i (subject.Attempts k)) id n
+  on-pattern JobAttemptTrace id n m key = on-three Get (λ i k l. Read i (subject.Trace k l)) id n m
+  on-pattern ResourceGroups id n m key = on-one Get (λ i. Read i subject.ResourceGroups) id
+  on-pattern HealthCheck id n m key = alone Get (wanted Health)
 
-  on-found : (p : Option Pattern) (id n key : Option (List ℕ)) → P (by_pattern p id n key)
-  on-found None id n key = none
-  on-found (Some p) id n key = on-pattern p (number_at id) (number_at n) key
+  on-found : (p : Option Pattern) (id n m key : Option (List ℕ)) → P (by_pattern p id n m key)
+  on-found None id n m key = none
+  on-found (Some p) id n m key = on-pattern p (number_at id) (number_at n) (number_at m) key
 
   pub on-path : (path : List ℕ) → P (routes_at path)
-  on-path path = subst P (sym (at-path path)) (on-found (pattern_in patterns path) (text_in (codes "id") patterns path) (text_in (codes "n") patterns path) (text_in (codes "key") patterns path))
+  on-path path = subst P (sym (at-path path)) (on-found (pattern_in patterns path) (text_in (codes "id") patterns path) (text_in (codes "n") patterns path) (text_in (codes "m") patterns path) (text_in (codes "key") patterns path))
 
 abbrev Ascends : List (Method × Wanted) → Type 0
 Ascends rs = ascends (map (λ found. method_text found.0) rs) ≡ true

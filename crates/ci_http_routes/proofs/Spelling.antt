@@ -122,7 +122,7 @@ rows-named (r ∷ rs) n ss = one-named r ss (routes_of rs ss) n.0 (rows-named rs
 
 all-name : AllName routes
 unfolding routes
-all-name = (λ vs. refl, (λ vs. refl, (λ vs. refl, (λ vs. refl, (λ vs. refl, (λ vs. refl, (λ vs. refl, (λ vs. refl, (λ vs. refl, (λ vs. refl, (λ vs. refl, (λ vs. refl, (λ vs. refl, (λ vs. refl, (λ vs. refl, (λ vs. refl, tt))))))))))))))))
+all-name = (λ vs. refl, (λ vs. refl, (λ vs. refl, (λ vs. refl, (λ vs. refl, (λ vs. refl, (λ vs. refl, (λ vs. refl, (λ vs. refl, (λ vs. refl, (λ vs. refl, (λ vs. refl, (λ vs. refl, (λ vs. refl, (λ vs. refl, (λ vs. refl, (λ vs. refl, (λ vs. refl, (λ vs. refl, (λ vs. refl, (λ vs. refl, (λ vs. refl, (λ vs. refl, tt)))))))))))))))))))))))
 
 path-named : (path : List ℕ) → AllNamed path (routes_at path)
 path-named [] = tt

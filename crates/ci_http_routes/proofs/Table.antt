@@ -6,7 +6,7 @@ use Rattle.matchit.specs.Router.{RouteOf}
 use Rattle.matchit.specs.Seek.{first}
 use Rattle.matchit.specs.Level.{IsText}
 use Rattle.ci_http_routes.specs.declared.router.Pattern.{Pattern}
-use Rattle.ci_http_routes.specs.Table.{table}
+use Rattle.ci_http_routes.specs.Table.{first_rows, table}
 use Rattle.std.specs.Str.{IsUtf8}
 use Rattle.std.proofs.lemmas.Bool.Decides.{nat_tests}
 use Rattle.std.proofs.Common.{◌==◌}
@@ -35,15 +35,15 @@ first-value ((t, e) ∷ rest) path = by (fits t path) (first-value rest path)
     by false ih = ih
 
 table-sorted : sorted table ≡ true
-unfolding matchit_on_literals table
+unfolding matchit_on_literals first_rows table
 table-sorted = refl
 
 table-tidy : all_tidy table ≡ true
-unfolding matchit_on_literals table
+unfolding matchit_on_literals first_rows table
 table-tidy = refl
 
 table-pieces : valued table ≡ token_rows patterns
-unfolding matchit_on_literals table patterns
+unfolding matchit_on_literals first_rows table patterns
 table-pieces = refl
 
 patterns-plain : all_plain patterns ≡ true
@@ -64,8 +64,8 @@ found path x =
     ∙ first-value table path ∙ ap (λ r. first_fit r path) table-pieces ∙ first-in patterns path patterns-plain
 
 table-rows : AreRows table patterns
-unfolding matchit_on_literals table patterns
-table-rows = ((refl, refl, refl, refl, refl), ((refl, refl, refl, refl, refl), ((refl, refl, refl, refl, refl), ((refl, refl, refl, refl, refl), ((refl, refl, refl, refl, refl), ((refl, refl, refl, refl, refl), ((refl, refl, refl, refl, refl), ((refl, refl, refl, refl, refl), ((refl, refl, refl, refl, refl), ((refl, refl, refl, refl, refl), ((refl, refl, refl, refl, refl), ((refl, refl, refl, refl, refl), ((refl, refl, refl, refl, refl), ((refl, refl, refl, refl, refl), tt))))))))))))))
+unfolding matchit_on_literals first_rows table patterns
+table-rows = ((refl, refl, refl, refl, refl), ((refl, refl, refl, refl, refl), ((refl, refl, refl, refl, refl), ((refl, refl, refl, refl, refl), ((refl, refl, refl, refl, refl), ((refl, refl, refl, refl, refl), ((refl, refl, refl, refl, refl), ((refl, refl, refl, refl, refl), ((refl, refl, refl, refl, refl), ((refl, refl, refl, refl, refl), ((refl, refl, refl, refl, refl), ((refl, refl, refl, refl, refl), ((refl, refl, refl, refl, refl), ((refl, refl, refl, refl, refl), ((refl, refl, refl, refl, refl), ((refl, refl, refl, refl, refl), ((refl, refl, refl, refl, refl), ((refl, refl, refl, refl, refl), ((refl, refl, refl, refl, refl), ((refl, refl, refl, refl, refl), ((refl, refl, refl, refl, refl), tt)))))))))))))))))))))
 
 -- a path with a route starts with a slash
 starts : (path : List ℕ) (e : RouteOf Pattern) → value_of (Some e) ≡ pattern_in patterns path → (p : List ℕ) × (path ≡ 47 ∷ p)

@@ -2,7 +2,7 @@
 use Rattle.std.specs.Prelude.{ℕ, List, [], ◌∷◌, Option, Some, None, codes}
 use Rattle.ci_machine.specs.declared.reply.Method.{Method}
 use Rattle.ci_http_routes.specs.declared.operation.Operation.{Operation}
-use Rattle.ci_http_routes.specs.declared.operation.Operation.TheVariants.{AskJob, UpdateJob, AppendTrace, SetFile, SetVariable, DeleteVariable, SetMode, ShowMode, CreatePipeline, ShowPipeline, CancelPipeline, ShowJob, ShowTrace, Play, CancelJob, RetryJob}
+use Rattle.ci_http_routes.specs.declared.operation.Operation.TheVariants.{AskJob, UpdateJob, AppendTrace, SetFile, SetVariable, DeleteVariable, SetMode, ShowMode, CreatePipeline, ShowPipeline, CancelPipeline, ShowJob, ShowTrace, Play, CancelJob, RetryJob, Read, Health}
 use Rattle.ci_http_routes.specs.declared.lookup.Lookup.{Lookup}
 use Rattle.ci_http_routes.specs.declared.lookup.Lookup.TheVariants.{NoRoute, OtherMethods, Found}
 use Rattle.ci_http_routes.specs.Routes.{Body, no_body, file, bytes, json, Wanted, Asked, no_route, other_methods, asks}
@@ -26,12 +26,15 @@ module _ {K L : Type 0} (view : K → L) where
   map_key (Play id n) = Play id n
   map_key (CancelJob id n) = CancelJob id n
   map_key (RetryJob id n) = RetryJob id n
+  map_key (Read id what) = Read id what
+  map_key Health = Health
 
 -- the fields that an operation's route reads
 abbrev pub fields_of : {K : Type 0} → Operation K → List (List ℕ)
 fields_of AskJob = []
 fields_of (UpdateJob n) = []
 fields_of (AppendTrace n) = codes "JOB-TOKEN" ∷ codes "Content-Range" ∷ []
+fields_of Health = []
 fields_of _ = codes "PRIVATE-TOKEN" ∷ []
 
 -- the body that an operation's route reads

@@ -2,7 +2,7 @@
 use Rattle.std.specs.Prelude.{ℕ, List, [], ◌∷◌, Bool, true, false, cond, ◌&&◌, ◌==◌, ltb, length, Option, Some, None, nat_eq, codes}
 use Rattle.std.specs.Cmp.Lexicographic.{pointwise}
 use Rattle.ci_http_routes.specs.declared.router.Pattern.{Pattern}
-use Rattle.ci_http_routes.specs.declared.router.Pattern.TheVariants.{Queue, Attempt, AttemptTrace, CiFile, Variable, ResourceGroup, Creation, Pipeline, PipelineCancel, Job, JobTrace, JobPlay, JobCancel, JobRetry}
+use Rattle.ci_http_routes.specs.declared.router.Pattern.TheVariants.{Queue, Attempt, AttemptTrace, CiFile, Variable, ResourceGroup, Creation, Pipeline, PipelineCancel, Job, JobTrace, JobPlay, JobCancel, JobRetry, Project, Pipelines, PipelineJobs, JobAttempts, JobAttemptTrace, ResourceGroups, HealthCheck}
 use Rattle.ci_http_routes.specs.Segments.{segments}
 
 -- a part of a pattern: a word, or a slot of this name, where any text stands that is not empty
@@ -67,18 +67,25 @@ module _ {K : Type 0} where
 -- the patterns: of two that fit the first counts
 unfoldable pub patterns : List (List Piece × Pattern)
 patterns =
-    (api (fixed (codes "jobs") ∷ fixed (codes "request") ∷ []), Queue)
+    (fixed (codes "-") ∷ fixed (codes "health") ∷ [], HealthCheck)
+    ∷ (api (fixed (codes "jobs") ∷ fixed (codes "request") ∷ []), Queue)
     ∷ (api (fixed (codes "jobs") ∷ slot (codes "n") ∷ fixed (codes "trace") ∷ []), AttemptTrace)
     ∷ (api (fixed (codes "jobs") ∷ slot (codes "n") ∷ []), Attempt)
     ∷ (project (fixed (codes "ci_file") ∷ []), CiFile)
+    ∷ (project (fixed (codes "jobs") ∷ slot (codes "n") ∷ fixed (codes "attempts") ∷ slot (codes "m") ∷ fixed (codes "trace") ∷ []), JobAttemptTrace)
+    ∷ (project (fixed (codes "jobs") ∷ slot (codes "n") ∷ fixed (codes "attempts") ∷ []), JobAttempts)
     ∷ (project (fixed (codes "jobs") ∷ slot (codes "n") ∷ fixed (codes "cancel") ∷ []), JobCancel)
     ∷ (project (fixed (codes "jobs") ∷ slot (codes "n") ∷ fixed (codes "play") ∷ []), JobPlay)
     ∷ (project (fixed (codes "jobs") ∷ slot (codes "n") ∷ fixed (codes "retry") ∷ []), JobRetry)
     ∷ (project (fixed (codes "jobs") ∷ slot (codes "n") ∷ fixed (codes "trace") ∷ []), JobTrace)
     ∷ (project (fixed (codes "jobs") ∷ slot (codes "n") ∷ []), Job)
     ∷ (project (fixed (codes "pipelines") ∷ slot (codes "n") ∷ fixed (codes "cancel") ∷ []), PipelineCancel)
+    ∷ (project (fixed (codes "pipelines") ∷ slot (codes "n") ∷ fixed (codes "jobs") ∷ []), PipelineJobs)
     ∷ (project (fixed (codes "pipelines") ∷ slot (codes "n") ∷ []), Pipeline)
+    ∷ (project (fixed (codes "pipelines") ∷ []), Pipelines)
     ∷ (project (fixed (codes "pipeline") ∷ []), Creation)
     ∷ (project (fixed (codes "resource_groups") ∷ slot (codes "key") ∷ []), ResourceGroup)
+    ∷ (project (fixed (codes "resource_groups") ∷ []), ResourceGroups)
     ∷ (project (fixed (codes "variables") ∷ slot (codes "key") ∷ []), Variable)
+    ∷ (project [], Project)
     ∷ []

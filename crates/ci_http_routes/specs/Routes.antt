@@ -4,8 +4,9 @@ use Rattle.std.specs.List.{find}
 use Rattle.ci_values.specs.Numbers.{id_in}
 use Rattle.ci_machine.specs.declared.reply.Method.{Method}
 use Rattle.ci_machine.specs.declared.reply.Method.TheVariants.{Delete, Get, Patch, Post, Put}
+use Rattle.ci_machine.specs.declared.request.Subject.TheVariants as subject
 use Rattle.ci_http_routes.specs.declared.operation.Operation.{Operation}
-use Rattle.ci_http_routes.specs.declared.operation.Operation.TheVariants.{AskJob, UpdateJob, AppendTrace, SetFile, SetVariable, DeleteVariable, SetMode, ShowMode, CreatePipeline, ShowPipeline, CancelPipeline, ShowJob, ShowTrace, Play, CancelJob, RetryJob}
+use Rattle.ci_http_routes.specs.declared.operation.Operation.TheVariants.{AskJob, UpdateJob, AppendTrace, SetFile, SetVariable, DeleteVariable, SetMode, ShowMode, CreatePipeline, ShowPipeline, CancelPipeline, ShowJob, ShowTrace, Play, CancelJob, RetryJob, Read, Health}
 use Rattle.ci_http_routes.specs.Methods.{is_text, method_text}
 use Rattle.ci_http_routes.specs.Segments.{segments}
 
@@ -53,29 +54,42 @@ abbrev pub project_route : (method : Method) (path : List Part) → Body → Tak
 project_route method path body operation =
     record { method = method; path = path; fields = codes "PRIVATE-TOKEN" ∷ []; body = body; operation = operation }
 
+-- a route that has no fields and no body
+abbrev pub open_route : (method : Method) (path : List Part) → Takes path → Route
+open_route method path operation =
+    record { method = method; path = path; fields = []; body = no_body; operation = operation }
+
 -- the routes; those of one path stand together, in the order of their methods' names
 unfoldable pub routes : List Route
 routes =
-    runner_route Post (api (word (codes "jobs") ∷ word (codes "request") ∷ []))
+    open_route Get (word (codes "-") ∷ word (codes "health") ∷ []) Health
+    ∷ runner_route Post (api (word (codes "jobs") ∷ word (codes "request") ∷ []))
     [] (json (codes "token" ∷ [])) AskJob
     ∷ runner_route Patch (api (word (codes "jobs") ∷ number (codes "n") ∷ word (codes "trace") ∷ []))
     (codes "JOB-TOKEN" ∷ codes "Content-Range" ∷ []) bytes AppendTrace
     ∷ runner_route Put (api (word (codes "jobs") ∷ number (codes "n") ∷ []))
     [] (json (codes "token" ∷ codes "state" ∷ codes "failure_reason" ∷ codes "exit_code" ∷ [])) UpdateJob
     ∷ project_route Put (project (word (codes "ci_file") ∷ [])) file SetFile
+    ∷ project_route Get (project (word (codes "jobs") ∷ number (codes "n") ∷ word (codes "attempts") ∷ number (codes "m") ∷ word (codes "trace") ∷ [])) no_body
+    (λ id n m. Read id (subject.Trace n m))
+    ∷ project_route Get (project (word (codes "jobs") ∷ number (codes "n") ∷ word (codes "attempts") ∷ [])) no_body (λ id n. Read id (subject.Attempts n))
     ∷ project_route Post (project (word (codes "jobs") ∷ number (codes "n") ∷ word (codes "cancel") ∷ [])) no_body CancelJob
     ∷ project_route Post (project (word (codes "jobs") ∷ number (codes "n") ∷ word (codes "play") ∷ [])) no_body Play
     ∷ project_route Post (project (word (codes "jobs") ∷ number (codes "n") ∷ word (codes "retry") ∷ [])) no_body RetryJob
     ∷ project_route Get (project (word (codes "jobs") ∷ number (codes "n") ∷ word (codes "trace") ∷ [])) no_body ShowTrace
     ∷ project_route Get (project (word (codes "jobs") ∷ number (codes "n") ∷ [])) no_body ShowJob
     ∷ project_route Post (project (word (codes "pipelines") ∷ number (codes "n") ∷ word (codes "cancel") ∷ [])) no_body CancelPipeline
+    ∷ project_route Get (project (word (codes "pipelines") ∷ number (codes "n") ∷ word (codes "jobs") ∷ [])) no_body (λ id n. Read id (subject.Jobs n))
     ∷ project_route Get (project (word (codes "pipelines") ∷ number (codes "n") ∷ [])) no_body ShowPipeline
+    ∷ project_route Get (project (word (codes "pipelines") ∷ [])) no_body (λ id. Read id subject.Pipelines)
     ∷ project_route Post (project (word (codes "pipeline") ∷ []))
     (json (codes "ref" ∷ codes "tag" ∷ codes "source" ∷ codes "variables" ∷ [])) CreatePipeline
     ∷ project_route Get (project (word (codes "resource_groups") ∷ text (codes "key") ∷ [])) no_body ShowMode
     ∷ project_route Put (project (word (codes "resource_groups") ∷ text (codes "key") ∷ [])) (json (codes "process_mode" ∷ [])) SetMode
+    ∷ project_route Get (project (word (codes "resource_groups") ∷ [])) no_body (λ id. Read id subject.ResourceGroups)
     ∷ project_route Delete (project (word (codes "variables") ∷ text (codes "key") ∷ [])) no_body DeleteVariable
     ∷ project_route Put (project (word (codes "variables") ∷ text (codes "key") ∷ [])) (json (codes "value" ∷ [])) SetVariable
+    ∷ project_route Get (project []) no_body (λ id. Read id subject.Project)
     ∷ []
 
 -- what the segments ask for by a route's path, if each fits its part

@@ -6,7 +6,7 @@ use Rattle.matchit.specs.Order.{placed}
 use Rattle.matchit.specs.Route.{Scan, parse_route}
 use Rattle.matchit.specs.declared.error.InsertError.{InsertError}
 use Rattle.ci_http_routes.specs.declared.router.Pattern.{Pattern}
-use Rattle.ci_http_routes.specs.declared.router.Pattern.TheVariants.{Queue, Attempt, AttemptTrace, CiFile, Variable, ResourceGroup, Creation, Pipeline, PipelineCancel, Job, JobTrace, JobPlay, JobCancel, JobRetry}
+use Rattle.ci_http_routes.specs.declared.router.Pattern.TheVariants.{Queue, Attempt, AttemptTrace, CiFile, Variable, ResourceGroup, Creation, Pipeline, PipelineCancel, Job, JobTrace, JobPlay, JobCancel, JobRetry, Project, Pipelines, PipelineJobs, JobAttempts, JobAttemptTrace, ResourceGroups, HealthCheck}
 
 -- the rows with what a path's text gives
 abbrev pub with_scan : Result Scan InsertError → Pattern → RowsOf (RouteOf Pattern) → RowsOf (RouteOf Pattern)
@@ -24,8 +24,9 @@ TakesScan (Err e) rows = ⊥
 abbrev pub TakesPath : List ℕ → RowsOf (RouteOf Pattern) → Type 0
 TakesPath path rows = TakesScan (parse_route path) rows
 
-unfoldable pub table : RowsOf (RouteOf Pattern)
-table =
+-- the rows of the routes that ask for something to be done, and of those that show one pipeline, job or resource group
+unfoldable pub first_rows : RowsOf (RouteOf Pattern)
+first_rows =
     with_path (codes "/api/v4/projects/{id}/jobs/{n}/retry") JobRetry
     (with_path (codes "/api/v4/projects/{id}/jobs/{n}/cancel") JobCancel
     (with_path (codes "/api/v4/projects/{id}/jobs/{n}/play") JobPlay
@@ -40,3 +41,14 @@ table =
     (with_path (codes "/api/v4/jobs/{n}/trace") AttemptTrace
     (with_path (codes "/api/v4/jobs/{n}") Attempt
     (with_path (codes "/api/v4/jobs/request") Queue [])))))))))))))
+
+-- the rows of all routes
+unfoldable pub table : RowsOf (RouteOf Pattern)
+table =
+    with_path (codes "/-/health") HealthCheck
+    (with_path (codes "/api/v4/projects/{id}/resource_groups") ResourceGroups
+    (with_path (codes "/api/v4/projects/{id}/jobs/{n}/attempts/{m}/trace") JobAttemptTrace
+    (with_path (codes "/api/v4/projects/{id}/jobs/{n}/attempts") JobAttempts
+    (with_path (codes "/api/v4/projects/{id}/pipelines/{n}/jobs") PipelineJobs
+    (with_path (codes "/api/v4/projects/{id}/pipelines") Pipelines
+    (with_path (codes "/api/v4/projects/{id}") Project first_rows))))))

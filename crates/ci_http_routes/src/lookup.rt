@@ -10,9 +10,10 @@ use crate::operation::Operation;
 use crate::place::Place;
 use crate::router::Pattern;
 use ci_machine::reply::Method;
+use ci_machine::request::Subject;
 
 /// What a method and a path ask for.
-#[derive(Clone, Copy, Drop, PartialEq, Eq)]
+#[derive(Clone, Copy, Drop)]
 pub enum Lookup<K> {
     /// No route has the path.
     NoRoute,
@@ -71,6 +72,13 @@ fn entries_of<'p>(place: &Place<'p>) -> Option<Entries<&'p str>>
         Pattern::JobPlay => one(Method::Post, Operation::Play(place.id()?, place.n()?)),
         Pattern::JobCancel => one(Method::Post, Operation::CancelJob(place.id()?, place.n()?)),
         Pattern::JobRetry => one(Method::Post, Operation::RetryJob(place.id()?, place.n()?)),
+        Pattern::Project => read(place.id()?, Subject::Project),
+        Pattern::Pipelines => read(place.id()?, Subject::Pipelines),
+        Pattern::PipelineJobs => read(place.id()?, Subject::Jobs(place.n()?)),
+        Pattern::JobAttempts => read(place.id()?, Subject::Attempts(place.n()?)),
+        Pattern::JobAttemptTrace => read(place.id()?, Subject::Trace(place.n()?, place.m()?)),
+        Pattern::ResourceGroups => read(place.id()?, Subject::ResourceGroups),
+        Pattern::HealthCheck => one(Method::Get, Operation::Health),
     })
 }
 
@@ -82,6 +90,13 @@ fn one<'p>(method: Method, operation: Operation<&'p str>) -> Entries<&'p str>
         first: Entry { method, operation },
         second: None,
     }
+}
+
+// The one route of a place that tells what a project has.
+fn read<'p>(id: u64, subject: Subject) -> Entries<&'p str>
+    ensures { listed (λ key. key.now) result ≡ (Method.Get, wanted (Operation.Read id subject)) ∷ [] }
+{
+    one(Method::Get, Operation::Read(id, subject))
 }
 
 // The routes of a variable.

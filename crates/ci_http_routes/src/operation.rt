@@ -1,9 +1,11 @@
 //! What routes ask for.
 
+use ci_machine::request::Subject;
+
 /// What a route asks the server to do, with what stands in its path: the numbers of records, and a
 /// key of type `K`. Below the jobs of runners a number is that of an attempt. Below a project the
 /// first number is the project's, and the second that of a job or a pipeline.
-#[derive(Clone, Copy, Debug, Drop, PartialEq, Eq)]
+#[derive(Clone, Copy, Drop)]
 pub enum Operation<K> {
     /// POST `/api/v4/jobs/request`: a runner asks for a job.
     AskJob,
@@ -37,4 +39,10 @@ pub enum Operation<K> {
     CancelJob(u64, u64),
     /// POST `/api/v4/projects/:id/jobs/:n/retry`: a job is to be tried again.
     RetryJob(u64, u64),
+    /// GET `/api/v4/projects/:id`, or a path below it that tells what the project has: its `/pipelines`, the jobs of one of these
+    /// (`/pipelines/:n/jobs`), the attempts of a job (`/jobs/:n/attempts`), the trace of one of these (`/jobs/:n/attempts/:m/trace`),
+    /// or its `/resource_groups`.
+    Read(u64, Subject),
+    /// GET `/-/health`: is the server open?
+    Health,
 }

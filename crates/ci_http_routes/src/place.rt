@@ -15,6 +15,7 @@ pub(crate) struct Place<'p> {
     pub pattern: Pattern,
     pub id: Option<&'p str>,
     pub n: Option<&'p str>,
+    pub m: Option<&'p str>,
     pub key: Option<&'p str>,
 }
 
@@ -31,6 +32,13 @@ impl<'p> Place<'p> {
         ensures { result ≡ number_at (option_map (λ text. text.now) self.now.n) }
     {
         number_in(self.n)
+    }
+
+    /// The number that stands in the slot `:m`.
+    pub fn m(&self) -> Option<u64>
+        ensures { result ≡ number_at (option_map (λ text. text.now) self.now.m) }
+    {
+        number_in(self.m)
     }
 }
 
@@ -51,6 +59,7 @@ pub(crate) fn place_of<'p>(router: &Router<Pattern>, path: &'p str) -> Option<Pl
             pattern: *found.value,
             id: found.params.get("id"),
             n: found.params.get("n"),
+            m: found.params.get("m"),
             key: found.params.get("key"),
         }),
         Err(_) => None,

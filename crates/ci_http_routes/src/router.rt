@@ -1,7 +1,7 @@
 //! The router of paths.
 
 ghost use Rattle.std.specs.Prelude.{◌≡◌, IfOk};
-ghost use Rattle.ci_http_routes.specs.Table.{table, with_path, TakesPath};
+ghost use Rattle.ci_http_routes.specs.Table.{first_rows, table, with_path, TakesPath};
 
 use matchit::{InsertError, Router};
 use std::alloc::{AllocError, Global};
@@ -23,6 +23,13 @@ pub(crate) enum Pattern {
     JobPlay,
     JobCancel,
     JobRetry,
+    Project,
+    Pipelines,
+    PipelineJobs,
+    JobAttempts,
+    JobAttemptTrace,
+    ResourceGroups,
+    HealthCheck,
 }
 
 /// The router of all paths. Errors: memory was refused.
@@ -84,7 +91,43 @@ pub(crate) fn router_of(alloc: Global) -> Result<Router<Pattern>, AllocError>
         "/api/v4/projects/{id}/jobs/{n}/retry",
         Pattern::JobRetry,
     )?;
+    add_reads(&mut router)?;
     Ok(router)
+}
+
+// Adds the paths that tell what a project has, and that of the server's health. Errors: memory was refused.
+fn add_reads(router: &mut Router<Pattern>) -> Result<(), AllocError>
+    requires { router.old ≡ first_rows }
+    ensures { IfOk result (λ _. router.new ≡ table) }
+{
+    add(router, "/api/v4/projects/{id}", Pattern::Project)?;
+    add(
+        router,
+        "/api/v4/projects/{id}/pipelines",
+        Pattern::Pipelines,
+    )?;
+    add(
+        router,
+        "/api/v4/projects/{id}/pipelines/{n}/jobs",
+        Pattern::PipelineJobs,
+    )?;
+    add(
+        router,
+        "/api/v4/projects/{id}/jobs/{n}/attempts",
+        Pattern::JobAttempts,
+    )?;
+    add(
+        router,
+        "/api/v4/projects/{id}/jobs/{n}/attempts/{m}/trace",
+        Pattern::JobAttemptTrace,
+    )?;
+    add(
+        router,
+        "/api/v4/projects/{id}/resource_groups",
+        Pattern::ResourceGroups,
+    )?;
+    add(router, "/-/health", Pattern::HealthCheck)?;
+    Ok(())
 }
 
 // The router with one path more. Errors: memory was refused, and it is as it was.

@@ -5,15 +5,13 @@ ghost use Rattle.ci_machine.specs.declared.reply.Reply.{Reply};
 ghost use Rattle.ci_machine.specs.declared.request.Seed.{Seed as SeedOf};
 ghost use Rattle.ci_http.specs.ReplyText.{reply_text};
 ghost use Rattle.ci_http.specs.Serving.{Serves};
-ghost use Rattle.ci_http.specs.Sweeping.{SweepsUpTo};
 ghost use Rattle.ci_http_service.specs.declared.stamps.Unstamped.{Unstamped as WhyNone};
-ghost use Rattle.ci_http_service.specs.Attending.{ServesSwept, LeavesSwept, LosesReply};
+ghost use Rattle.ci_http_service.specs.Attending.{ServesSwept, LosesReply};
 
 use crate::stamps::{Stamps, Unstamped};
 use ci_http::Server;
 use ci_http::link::{Buffer, Link};
 use ci_http::serve::{Served, serve_one};
-use ci_http::sweep::sweep_all;
 use ci_http_routes::paths::Paths;
 use ci_machine::moment::Moment;
 use ci_machine::request::Seed;
@@ -36,10 +34,10 @@ pub enum Unanswered {
 }
 
 /// Serves the request of these bytes: one stamp is made for it, the server is swept at its moment, and then it is handled at that
-/// moment and with that seed, once.
+/// moment and with that seed, once. Who asks whether the server is open is told so, and nothing changes.
 ///
-/// Memory for a reply of 4,096 bytes is asked for before the request is handled; for what is longer after that. So a reply that is
-/// no longer is lost only where nothing was handled (`no_reply`).
+/// Memory for a reply of 4,096 bytes is asked for before all else; for what is longer once the request was handled. So a reply that is
+/// no longer is lost only where nothing was done (`no_reply`).
 ///
 /// Errors: there is no stamp; the bytes end before the request, or memory for the reply was refused.
 pub fn attend<T: Stamps, S: Alter>(
@@ -54,17 +52,17 @@ pub fn attend<T: Stamps, S: Alter>(
         × T.gives stamps.old stamps.new (Ok stamp)
         × ServesSwept S.Store 1000 stamp server.old server.new bytes.now reply
         × (text.items ≡ reply_text reply)) }
-    // One stamp was made, and with it the server was swept; the request was not handled, or it was handled once and its reply is longer
-    // than 4,096 bytes.
+    // One stamp was made; nothing else was done, or with it the server was swept and served these bytes, and the reply is longer than 4,096
+    // bytes.
     ensures no_reply { result ≡ Err Unanswered.NoReply → (stamp : ℕ × SeedOf)
         × T.gives stamps.old stamps.new (Ok stamp)
-        × LeavesSwept S.Store 1000 4096 stamp server.old server.new bytes.now }
+        × ((server.new ≡ server.old) ⊎ LosesReply S.Store 1000 4096 stamp server.old server.new bytes.now) }
     // Nothing was done.
     ensures no_stamp { (why : WhyNone) → result ≡ Err (Unanswered.NoStamp why) → (server.new ≡ server.old)
         × T.gives stamps.old stamps.new (Err why) }
 {
     match stamps.next() {
-        Ok((moment, seed)) => match serve_swept(alloc, bytes, server, paths, moment, seed) {
+        Ok((moment, seed)) => match serve_bytes(alloc, bytes, server, paths, moment, seed) {
             Some(text) => Ok(text),
             None => Err(Unanswered::NoReply),
         },
@@ -72,8 +70,8 @@ pub fn attend<T: Stamps, S: Alter>(
     }
 }
 
-// Sweeps, and serves the request of these bytes. None where the bytes end before it, or memory for its reply was refused.
-fn serve_swept<S: Alter>(
+// Serves the request of these bytes. None where the bytes end before it, or memory for its reply was refused.
+fn serve_bytes<S: Alter>(
     alloc: Global,
     bytes: &[u8],
     server: &mut Server<S>,
@@ -84,9 +82,9 @@ fn serve_swept<S: Alter>(
     ensures some { IfSome result (λ text. (reply : Reply)
         × ServesSwept S.Store 1000 (moment, seed) server.old server.new bytes.now reply
         × (text.items ≡ reply_text reply)) }
-    ensures none { IfNone result (LeavesSwept S.Store 1000 ROOM_BYTES (moment, seed) server.old server.new bytes.now) }
+    ensures none { IfNone result ((server.new ≡ server.old)
+        ⊎ LosesReply S.Store 1000 ROOM_BYTES (moment, seed) server.old server.new bytes.now) }
 {
-    sweep_before(alloc, server, moment);
     let Ok(room) = Vec::with_capacity(alloc, ROOM_BYTES) else {
         return None;
     };
@@ -94,13 +92,6 @@ fn serve_swept<S: Alter>(
     serve_by::<S, Brand, Brand>(
         alloc, bytes, room, server, paths, moment, seed, reads, writes,
     )
-}
-
-// Sweeps before a request: until a sweep finds nothing or is refused, but no more than a thousand times.
-fn sweep_before<S: Alter>(alloc: Global, server: &mut Server<S>, moment: Moment)
-    ensures { SweepsUpTo S.Store moment 1000 server.old server.new }
-{
-    sweep_all(alloc, server, moment);
 }
 
 // Serves the request of these bytes into an empty room. None as above.
@@ -123,11 +114,11 @@ fn serve_by<S: Alter, A: Ledger, B: Ledger>(
     requires writes_name { writes.name ≡ B.name }
     requires writes_parts { writes.parts ≡ B.parts }
     requires writes_one { 0 < writes.parts }
-    ensures some { IfSome result (λ text. (reply : Reply) × (rest : Option (List ℕ))
-        × Serves S.Store moment seed server.old server.new reply (Some bytes.now) rest
+    ensures some { IfSome result (λ text. (reply : Reply)
+        × ServesSwept S.Store 1000 (moment, seed) server.old server.new bytes.now reply
         × (text.items ≡ reply_text reply)) }
     ensures none { IfNone result ((server.new ≡ server.old)
-        ⊎ LosesReply S.Store ROOM_BYTES (moment, seed) server.old server.new bytes.now) }
+        ⊎ LosesReply S.Store 1000 ROOM_BYTES (moment, seed) server.old server.new bytes.now) }
 {
     let mut reader = Link::<&[u8], A>::new(bytes, reads);
     let mut writer = Buffer::<B>::new(room, writes);

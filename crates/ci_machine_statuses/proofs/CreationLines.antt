@@ -1,10 +1,9 @@
 -- A pipeline is made: no group is held that was not, and its jobs wait for the groups for which they would have waited before.
-use Rattle.std.specs.Prelude.{◌≡◌, ℕ, ◌==◌, List, [], ◌∷◌, ◌++◌, map, filter, find, flat_map, Option, Some, option_map, Ok}
+use Rattle.std.specs.Prelude.{◌≡◌, ℕ, ◌==◌, List, [], ◌∷◌, ◌++◌, map, filter, find, flat_map, Option, Some, option_map}
 use Rattle.std.proofs.Common.{refl, sym, ap, subst, ◌∙◌}
 use Rattle.std.proofs.lemmas.Grind.{flat_map-append}
 use Rattle.std.proofs.lemmas.List.{append-nil}
 use Rattle.std.proofs.lemmas.List.Elements.{filter-append}
-use Rattle.ci_graph_layout.specs.Inclusion.{Given}
 use Rattle.ci_board.specs.declared.facts.Row.{Row}
 use Rattle.ci_machine.specs.declared.records.Attempt.{Attempt}
 use Rattle.ci_machine.specs.declared.records.BoardRow.{BoardRow}
@@ -12,7 +11,6 @@ use Rattle.ci_machine.specs.declared.records.GroupMode.{GroupMode}
 use Rattle.ci_machine.specs.declared.records.Job.{Job}
 use Rattle.ci_machine.specs.declared.records.Pipeline.{Pipeline}
 use Rattle.ci_machine.specs.declared.records.WaitingJob.{WaitingJob}
-use Rattle.ci_machine.specs.declared.request.NewPipeline.{NewPipeline}
 use Rattle.ci_machine.specs.State.{State, applied}
 use Rattle.ci_machine.specs.Kept.{put_rows}
 use Rattle.ci_machine.specs.Leases.{is_live}
@@ -22,31 +20,22 @@ use Rattle.ci_machine.specs.Holders.{queued_at, group_held, held_by, held_of, ho
 use Rattle.ci_machine.specs.Lookups.{job_at, pipeline_at, project_or_none, queued, live_attempts}
 use Rattle.ci_machine.specs.Waiting.{waits_as, waiting, claims_in}
 use Rattle.ci_machine.proofs.Keyed.{Has, has_filter, find_has, has_from_all}
-use Rattle.ci_machine_steps.specs.Pipelines.{Layout, IsLaidOut, Creation, creation, creation_changes}
+use Rattle.ci_machine_steps.specs.Pipelines.{Creation, creation_changes}
 use Rattle.ci_machine_steps.proofs.Created.{after_creation}
 use Rattle.ci_machine_steps.proofs.Sound.{Sound}
-use Rattle.ci_machine_statuses.specs.Changes.{IsMade}
-use Rattle.ci_machine_statuses.proofs.Creations as creations
+use Rattle.ci_machine_statuses.proofs.Creations.{Created}
 use Rattle.ci_machine_statuses.proofs.Made as made_rows
-use Rattle.ci_machine_statuses.proofs.Puts.{put_last}
 use Rattle.ci_machine_statuses.proofs.HeldLists.{find_left, flat_same}
 use Rattle.ci_machine_statuses.proofs.Lines.{own_first, passing_alike, none_passing}
 
-module _ (s : State) (sound : Sound s) (new : NewPipeline) (given : Given) (now : ℕ) (text : List ℕ) (laid : Layout) (lays : IsLaidOut text given (Ok laid)) where
-  abbrev c : Creation
-  c = creation s.next.pipeline s.next.job new given now laid
+module _ (s : State) (sound : Sound s) (c : Creation) (it : Created s c) where
+  open it use {pipelines, made}
 
   abbrev t : State
   t = applied (creation_changes s.next.job c) s
 
   abbrev n : ℕ
-  n = s.next.pipeline
-
-  made : IsMade s t n c.jobs c.needs
-  made = creations.made s new given now text laid sound lays c refl
-
-  pub pipelines : t.pipelines ≡ s.pipelines ++ c.pipeline ∷ []
-  pipelines = ap (λ (w : State). w.pipelines) (after_creation s.next.job c s) ∙ put_last (λ (q : Pipeline). q.id) c.pipeline s.pipelines (λ q h. sound.pipeline_below q h)
+  n = c.pipeline.id
 
   -- ---- what is held
 
@@ -81,8 +70,8 @@ module _ (s : State) (sound : Sound s) (new : NewPipeline) (given : Given) (now 
     abbrev after : List BoardRow
     after = put_rows rows board
 
-    rows_after : rows_of t after n ≡ map (λ r. r.row) rows
-    rows_after = made_rows.its_rows s t board n c.jobs c.needs sound are made rows keys
+    pub created_rows : rows_of t after n ≡ map (λ r. r.row) rows
+    created_rows = made_rows.its_rows s t board n c.jobs c.needs sound are made rows keys
 
     module _ (modes : List GroupMode) where
       abbrev waits_in : State → List BoardRow → Job → List WaitingJob
@@ -104,22 +93,7 @@ module _ (s : State) (sound : Sound s) (new : NewPipeline) (given : Given) (now 
           ∙ ((λ i. passing_alike (is_first modes n) (waits_in s board) (waits_in t after) s.jobs old i ++ none_passing (is_first modes n) (waits_in t after) c.jobs young i)
           ∙ append-nil (filter (is_first modes n) (waiting s board)))))
 
-    claims_after : claims_in t after n ≡ claims_in s board n
-    claims_after =
+    pub created_claims : claims_in t after n ≡ claims_in s board n
+    created_claims =
         (λ i. map held_claim (same_holders i) ++ map waiting_claim (filter (is_first (same_modes i) n) (waiting t after)))
         ∙ ap (λ (ws : List WaitingJob). map held_claim (holders s) ++ map waiting_claim ws) (ahead s.modes)
-
-  -- ---- of the records that were made
-
-  module _ (board : List BoardRow) (are : AreBoard s board) (d : Creation) (rows : List BoardRow) (is : d ≡ creation s.next.pipeline s.next.job new given now laid) (keys : map (λ r. r.job) rows ≡ map (λ j. j.id) d.jobs) where
-    its_keys : map (λ (r : BoardRow). r.job) rows ≡ map (λ (j : Job). j.id) c.jobs
-    its_keys = keys ∙ ap (λ (x : Creation). map (λ (j : Job). j.id) x.jobs) is
-
-    pub created_rows : rows_of (applied (creation_changes s.next.job d) s) (put_rows rows board) d.pipeline.id ≡ map (λ r. r.row) rows
-    created_rows =
-        ap (λ (x : Creation). rows_of (applied (creation_changes s.next.job x) s) (put_rows rows board) x.pipeline.id) is ∙ rows_after board are rows its_keys
-
-    pub created_claims : claims_in (applied (creation_changes s.next.job d) s) (put_rows rows board) d.pipeline.id ≡ claims_in s board d.pipeline.id
-    created_claims =
-        ap (λ (x : Creation). claims_in (applied (creation_changes s.next.job x) s) (put_rows rows board) x.pipeline.id) is
-        ∙ (claims_after board are rows its_keys ∙ sym (ap (λ (x : Creation). claims_in s board x.pipeline.id) is))

@@ -1,10 +1,11 @@
 -- A pipeline that is created is made.
-use Rattle.std.specs.Prelude.{◌≡◌, ℕ, ◌+◌, ◌<◌, ◌≤◌, false, List, [], ◌++◌, length, map, Contains, Ok}
+use Rattle.std.specs.Prelude.{◌≡◌, ℕ, ◌+◌, ◌<◌, ◌≤◌, false, List, [], ◌∷◌, ◌++◌, length, map, Contains, Ok}
 use Rattle.std.specs.Ordering.{nat_cmp, ordering_then}
-use Rattle.std.proofs.Common.{sym, ap, subst, ◌∙◌, ⊎_elim, arith}
+use Rattle.std.proofs.Common.{refl, sym, ap, subst, ◌∙◌, ⊎_elim, arith}
 use Rattle.ci_graph_layout.specs.Inclusion.{Given}
 use Rattle.ci_machine.specs.declared.records.Job.{Job}
 use Rattle.ci_machine.specs.declared.records.Need.{Need}
+use Rattle.ci_machine.specs.declared.records.Pipeline.{Pipeline}
 use Rattle.ci_machine.specs.declared.request.NewPipeline.{NewPipeline}
 use Rattle.ci_machine.specs.State.{State, need_cmp, applied}
 use Rattle.ci_machine_steps.specs.Pipelines.{Layout, IsLaidOut, need_of, Creation, creation, creation_changes}
@@ -13,6 +14,13 @@ use Rattle.ci_machine_steps.proofs.Behind.{put_all, all_behind, nat_less}
 use Rattle.ci_machine_steps.proofs.Created.{after_creation, new_rise, new_are, new_numbered, needs_ordered, needs_are, pairs_inside, jobs_behind}
 use Rattle.ci_machine_steps.proofs.Sound.{Sound, ascend_from_rising}
 use Rattle.ci_machine_statuses.specs.Changes.{IsMade}
+use Rattle.ci_machine_statuses.proofs.Puts.{put_last}
+
+-- a pipeline is made behind all others
+pub record Created (s : State) (c : Creation) : Type 0 where
+  pub below : (q : Pipeline) → Has q s.pipelines → q.id < c.pipeline.id
+  pub pipelines : (applied (creation_changes s.next.job c) s).pipelines ≡ s.pipelines ++ c.pipeline ∷ []
+  pub made : IsMade s (applied (creation_changes s.next.job c) s) c.pipeline.id c.jobs c.needs
 
 abbrev number : Job → ℕ
 number j = j.id
@@ -58,4 +66,11 @@ module _ (s : State) (new : NewPipeline) (given : Given) (now : ℕ) (text : Lis
         let q = of_two w h in
         let j = new_numbered s.next.pipeline s.next.job 0 laid.plan.jobs q.0.1 (omega arith) (let l : q.0.1 < length laid.plan.jobs = (pairs_inside text given laid lays q.0 q.1.0).1 in omega arith) in
         contains_named number w.job its.jobs (j.0, (j.1.0, j.1.1 ∙ sym (ap (λ (v : Need). v.job) q.1.1))));
+  })
+
+  pub created : (c : Creation) → c ≡ creation s.next.pipeline s.next.job new given now laid → Created s c
+  created c is = subst (Created s) (sym is) (record {
+    below = λ q h. sound.pipeline_below q h;
+    pipelines = ap (λ (t : State). t.pipelines) (after_creation s.next.job its s) ∙ put_last (λ (q : Pipeline). q.id) its.pipeline s.pipelines (λ q h. sound.pipeline_below q h);
+    made = made its refl;
   })

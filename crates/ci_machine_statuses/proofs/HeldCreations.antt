@@ -1,29 +1,26 @@
 -- A pipeline is made: no group moves, and it is the last of the pipelines, unfinished or not.
-use Rattle.std.specs.Prelude.{◌≡◌, ℕ, ◌<◌, Bool, true, false, List, [], ◌∷◌, ◌++◌, length, map, filter, replicate, option_to_list, Ok}
+use Rattle.std.specs.Prelude.{◌≡◌, ℕ, ◌<◌, Bool, true, false, List, [], ◌∷◌, ◌++◌, length, map, filter, replicate, option_to_list}
 use Rattle.std.proofs.Common.{refl, sym, ap, subst, ◌∙◌, arith}
 use Rattle.std.proofs.lemmas.Bool.{cond-true, cond-false, false≢true}
 use Rattle.std.proofs.lemmas.List.{append-nil, map-append}
 use Rattle.std.proofs.lemmas.List.Elements.{filter-append}
-use Rattle.ci_graph_layout.specs.Inclusion.{Given}
 use Rattle.ci_board.specs.Rows.{no_facts}
 use Rattle.ci_board.specs.declared.facts.Status.{Status}
 use Rattle.ci_machine.specs.declared.records.BoardRow.{BoardRow}
 use Rattle.ci_machine.specs.declared.records.Job.{Job}
 use Rattle.ci_machine.specs.declared.records.Pipeline.{Pipeline}
 use Rattle.ci_machine.specs.declared.records.Unfinished.{Unfinished}
-use Rattle.ci_machine.specs.declared.request.NewPipeline.{NewPipeline}
 use Rattle.ci_machine.specs.State.{State, applied}
 use Rattle.ci_machine.specs.Kept.{Kept, put_rows, written}
 use Rattle.ci_machine.specs.Statuses.{AreBoard}
 use Rattle.ci_machine.specs.Bodies.{status_of_jobs}
-use Rattle.ci_machine_steps.specs.Pipelines.{Layout, IsLaidOut, Creation, creation, creation_changes}
+use Rattle.ci_machine_steps.specs.Pipelines.{Creation, creation_changes}
 use Rattle.ci_machine.specs.Redundant.{is_unfinished}
 use Rattle.ci_machine.specs.Indexes.{is_open_in, unfinished_in, AreIndexes}
 use Rattle.ci_machine.proofs.Keyed.{Has, filter_same}
 use Rattle.ci_machine_steps.proofs.Sound.{Sound}
-use Rattle.ci_machine_statuses.specs.Changes.{IsMade}
-use Rattle.ci_machine_statuses.proofs.Creations as creations
-use Rattle.ci_machine_statuses.proofs.CreationLines as lines
+use Rattle.ci_machine_statuses.proofs.Creations.{Created}
+use Rattle.ci_machine_statuses.proofs.CreationLines.{same_held}
 use Rattle.ci_machine_statuses.proofs.Made.{its_jobs, its_facts, its_rows, other_jobs, other_facts, other_rows}
 use Rattle.ci_machine_statuses.proofs.Puts.{put_last}
 use Rattle.ci_machine_statuses.specs.HolderChanges.{opened}
@@ -38,31 +35,24 @@ comes_last f p ps true below e =
 comes_last f p ps false below e =
     sym (append-nil (passing f ps)) ∙ ap (λ (l : List Pipeline). passing f ps ++ map number l) (sym (cond-false (f p) (p ∷ []) [] e))
 
-module _ (k : Kept) (sound : Sound k.state) (are : AreBoard k.state k.board) (indexes : AreIndexes k) (new : NewPipeline) (given : Given) (now : ℕ) (text : List ℕ) (laid : Layout) (lays : IsLaidOut text given (Ok laid)) where
+module _ (k : Kept) (sound : Sound k.state) (are : AreBoard k.state k.board) (indexes : AreIndexes k) (c : Creation) (it : Created k.state c) where
+  open it use {below, pipelines, made}
+
   abbrev s : State
   s = k.state
-
-  abbrev c : Creation
-  c = creation s.next.pipeline s.next.job new given now laid
 
   abbrev t : State
   t = applied (creation_changes s.next.job c) s
 
   abbrev n : ℕ
-  n = s.next.pipeline
-
-  made : IsMade s t n c.jobs c.needs
-  made = creations.made s new given now text laid sound lays c refl
-
-  pipelines : t.pipelines ≡ s.pipelines ++ c.pipeline ∷ []
-  pipelines = lines.pipelines s sound new given now text laid lays
+  n = c.pipeline.id
 
   ends : Ends s t (λ a. false)
   ends = record {
     lives = λ a e. absurd (false≢true e);
     stay = λ a h live d. record { attempt = a; has = subst (Has a) (sym made.same_attempts) h; id = refl; job = refl; live = live };
     were = λ b h live. record { attempt = b; has = subst (Has b) made.same_attempts h; id = refl; job = refl; live = live; left = refl };
-    held = λ a h live. lines.same_held s sound new given now text laid lays a h;
+    held = λ a h live. same_held s sound c it a h;
   }
 
   module _ (rows : List BoardRow) (keys : map (λ r. r.job) rows ≡ map (λ j. j.id) c.jobs) where
@@ -74,7 +64,7 @@ module _ (k : Kept) (sound : Sound k.state) (are : AreBoard k.state k.board) (in
 
     others : (q : Pipeline) → Has q s.pipelines → is_open_in t after q ≡ is_open_in s k.board q
     others q h =
-        let d : n ≡ q.id → ⊥ = λ e. let b : q.id < n = sound.pipeline_below q h in omega arith in
+        let d : n ≡ q.id → ⊥ = λ e. let b : q.id < n = below q h in omega arith in
         same_status s t k.board after q
         (ap (map (λ (j : Job). j.options.part)) (other_jobs s t k.board n c.jobs c.needs sound are made rows keys q.id d))
         (other_facts s t k.board n c.jobs c.needs sound are made rows keys q.id d)
@@ -88,20 +78,13 @@ module _ (k : Kept) (sound : Sound k.state) (are : AreBoard k.state k.board) (in
         let g = is_open_in t after in
         let old : passing (is_open_in s k.board) s.pipelines ≡ passing g s.pipelines = ap (map number) (sym (filter_same g (is_open_in s k.board) s.pipelines others)) in
         ap (turned_rows n false (is_unfinished its_status)) (indexes.unfinished ∙ old)
-        ∙ (comes_last g c.pipeline s.pipelines (is_unfinished its_status) (λ q h. sound.pipeline_below q h) its
+        ∙ (comes_last g c.pipeline s.pipelines (is_unfinished its_status) below its
         ∙ (sym (map-append number (filter g s.pipelines) (filter g (c.pipeline ∷ [])))
         ∙ (ap (map number) (sym (filter-append g s.pipelines (c.pipeline ∷ [])))
         ∙ ap (λ (ps : List Pipeline). map number (filter g ps)) (sym pipelines))))
 
-    creation_kept : AreIndexes (written (creation_changes s.next.job c) rows (option_to_list (opened n its_status)) k)
-    creation_kept = subst AreIndexes (sym (all_turned n false (is_unfinished its_status) (record k { state = t; board = after }))) (record {
+    pub creation_indexed : AreIndexes (written (creation_changes s.next.job c) rows (option_to_list (opened n its_status)) k)
+    creation_indexed = subst AreIndexes (sym (all_turned n false (is_unfinished its_status) (record k { state = t; board = after }))) (record {
       held = rows_stay s t k.holders sound.attempts ends indexes.held;
       unfinished = unfinished;
     })
-
-  pub creation_indexed : (d : Creation) (rows : List BoardRow) → d ≡ creation k.state.next.pipeline k.state.next.job new given now laid → map (λ r. r.job) rows ≡ map (λ j. j.id) d.jobs
-      → AreIndexes (written (creation_changes k.state.next.job d) rows (option_to_list (opened d.pipeline.id (status_of_jobs d.jobs (replicate (length d.jobs) no_facts) (map (λ r. r.row) rows)))) k)
-  creation_indexed d rows is keys =
-      subst
-      (λ (x : Creation). AreIndexes (written (creation_changes s.next.job x) rows (option_to_list (opened x.pipeline.id (status_of_jobs x.jobs (replicate (length x.jobs) no_facts) (map (λ (r : BoardRow). r.row) rows)))) k))
-      (sym is) (creation_kept rows (keys ∙ ap (λ (x : Creation). map (λ (j : Job). j.id) x.jobs) is))

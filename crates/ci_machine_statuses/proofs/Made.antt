@@ -2,7 +2,7 @@
 use Rattle.std.specs.Prelude.{◌≡◌, ℕ, ◌+◌, ◌-◌, ◌<◌, ◌≤◌, false, ◌==◌, List, [], ◌∷◌, ◌++◌, length, map, filter, replicate, Contains, None}
 use Rattle.std.proofs.Common.{refl, sym, ap, subst, ◌∙◌, inl, inr, ⊎_elim, arith, eqb-true, eq-eqb, ne_eqb}
 use Rattle.std.proofs.lemmas.Bool.{cond_both, eqb-false, cases_Bool}
-use Rattle.std.proofs.lemmas.List.{append-nil, map-append, length-map}
+use Rattle.std.proofs.lemmas.List.{append-nil, map-append}
 use Rattle.std.proofs.lemmas.List.Elements.{filter-append}
 use Rattle.ci_graph.specs.Lists.{is_among}
 use Rattle.ci_graph.specs.JobGraph.{JobGraph}
@@ -17,8 +17,6 @@ use Rattle.ci_machine.specs.declared.records.BoardRow.{BoardRow}
 use Rattle.ci_machine.specs.State.{State, put}
 use Rattle.ci_machine.specs.Kept.{row_cmp, put_rows}
 use Rattle.ci_machine.specs.Statuses.{pair_of, jobs_of, numbers_of, pairs_of, graph_of, attempts_of, facts_in, facts_of, rows_of, row_for, AreBoard}
-use Rattle.ci_machine.specs.Statuses.{graph_by}
-use Rattle.ci_machine_steps.specs.Pipelines.{AreFirstRows}
 use Rattle.ci_machine.proofs.Keyed.{Has, Rising, rising_from, filter_none, map_has, has_map, has_from_all, named_contains}
 use Rattle.ci_machine.proofs.Filters.{filter_all}
 use Rattle.ci_machine_steps.proofs.Sound.{Sound, rising_from_ascend}
@@ -60,15 +58,6 @@ others_stay (r ∷ rows) board n d = others_stay rows (put row_cmp r board) n (�
 all_none : (jobs : List Job) (f : Job → Facts) → ((j : Job) → Has j jobs → f j ≡ no_facts) → map f jobs ≡ replicate (length jobs) no_facts
 all_none [] f h = refl
 all_none (j ∷ js) f h = cons_same (h j (inl refl)) (all_none js f (λ k m. h k (inr m)))
-
--- the rows of a board of these jobs, none of which was tried
-pub first_rows : (jobs : List Job) (needs : List Need) (b : BoardState) (rows : List BoardRow) → map (λ r. r.job) rows ≡ map (λ j. j.id) jobs → map (λ r. r.row) rows ≡ b.rows → b.graph.parts ≡ map (λ j. j.options.part) jobs
-    → b.graph.predecessors ≡ predecessors_by (pairs_among (map (λ j. j.id) jobs) needs) (length jobs) → b.facts ≡ replicate (length jobs) no_facts → AreRows b.graph b.facts b.rows → AreFirstRows jobs needs (map (λ r. r.row) rows)
-first_rows jobs needs b rows keys its parts predecessors facts right = record {
-  long = length-map rows (λ (r : BoardRow). r.row) ∙ (sym (length-map rows job_of) ∙ (ap length keys ∙ length-map jobs number));
-  settled = subst (λ (f : List Facts). AreRows (graph_by jobs needs) f (map (λ (r : BoardRow). r.row) rows)) facts
-      (subst (λ (r : List Row). AreRows (graph_by jobs needs) b.facts r) (sym its) (same_graph b.graph (graph_by jobs needs) (sym parts) (sym predecessors) b.facts b.rows right));
-}
 
 module _ (s t : State) (board : List BoardRow) (p : ℕ) (jobs : List Job) (needs : List Need) (sound : Sound s) (are : AreBoard s board) (made : IsMade s t p jobs needs) where
   jobs_rise : Rising (λ j. j.id) s.next.job jobs

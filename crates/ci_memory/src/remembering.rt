@@ -268,7 +268,12 @@ impl<T: Store> Store for Remembering<T> {
     }
 
     fn newest(&mut self, project: u64, count: u64) -> Result<Vec<Pipeline>, StoreFault> {
-        self.store.newest(project, count)
+        if let Some(pipelines) = self.memory.newest.of(project, count) {
+            return Ok(pipelines);
+        }
+        let pipelines = self.store.newest(project, count)?;
+        self.memory.newest.learn(project, count, &pipelines);
+        Ok(pipelines)
     }
 
     fn commit(&mut self, delta: Delta) -> Result<(), StoreFault> {

@@ -8,11 +8,11 @@ ghost use Rattle.ci_server_lookups.specs.Records.{AreOf, IsWhole};
 ghost use Rattle.ci_server_lookups.specs.Keeps.{IsKept};
 
 use crate::claims::ahead_of;
+use crate::faults::or_store_fault;
 use crate::holders::holders_of;
 use crate::turns::Turns;
 use ci_graph::graph::Graph;
 use ci_machine::records::{Attempt, BoardRow, Claim, Holder, Job, Need, Pipeline};
-use ci_machine_statuses::fault::StatusFault;
 use ci_machine_statuses::load::{load_graph, range_of};
 use ci_store::fault::StoreFault;
 use ci_store::store::Store;
@@ -65,11 +65,7 @@ pub fn graph_in<T: Store, L: Ledger>(
         return Err(StoreFault::Broken);
     };
     let needs = store.needs_within(first, last)?;
-    match load_graph(alloc, blank, jobs.as_slice(), needs.as_slice()) {
-        Ok(graph) => Ok(graph),
-        Err(StatusFault::Memory) => Err(StoreFault::Memory),
-        Err(StatusFault::Broken) => Err(StoreFault::Broken),
-    }
+    or_store_fault(load_graph(alloc, blank, jobs.as_slice(), needs.as_slice()))
 }
 
 /// A pipeline with its records, with who holds the resource groups of its jobs, and with those of them in which other jobs go first.

@@ -2,7 +2,7 @@ ghost use Rattle.ci_http_messages.specs.Blanks.{OpensWhole};
 
 use ci_http_messages::call::{HeadRoom, read_request};
 use ci_http_messages::link::Link;
-use ci_http_messages::route::request_of;
+use ci_http_messages::route::{Demand, request_of};
 use ci_http_messages::text::reply_bytes;
 use ci_http_payloads::mode::mode_in;
 use ci_http_routes::paths::Paths;
@@ -78,7 +78,7 @@ fn read_over<L: Ledger>(
     paths: &Paths,
     bytes: &[u8],
     blank: Blank,
-) -> Result<Request, Reply>
+) -> Result<Demand, Reply>
     requires { OpensWhole blank.name blank.parts L.name L.parts }
 {
     let mut reader = Link::<&[u8], L>::new(bytes, blank);
@@ -89,7 +89,7 @@ fn read_over<L: Ledger>(
     }
 }
 
-fn read(alloc: Global, paths: &Paths, text: &str) -> Result<Request, Reply> {
+fn read(alloc: Global, paths: &Paths, text: &str) -> Result<Demand, Reply> {
     read_over::<Brand>(alloc, paths, text.as_bytes(), Blank::new(1))
 }
 
@@ -113,10 +113,10 @@ fn show_text(alloc: Global, query: &GroupQuery) -> Result<String, Fail> {
 }
 
 // What is asked of a resource group, in words, or the code that refuses it.
-fn words(alloc: Global, read: &Result<Request, Reply>) -> Result<String, Fail> {
+fn words(alloc: Global, read: &Result<Demand, Reply>) -> Result<String, Fail> {
     match read {
-        Ok(Request::SetMode(new)) => set_text(alloc, new),
-        Ok(Request::ShowMode(query)) => show_text(alloc, query),
+        Ok(Demand::Request(Request::SetMode(new))) => set_text(alloc, new),
+        Ok(Demand::Request(Request::ShowMode(query))) => show_text(alloc, query),
         Ok(_) => Ok(String::from_str(alloc, "another request")?),
         Err(reply) => Ok(String::from_str(alloc, code_text(reply.code))?),
     }
@@ -240,10 +240,10 @@ const LONG_KEYS: &[(&str, usize, &str)] = &[
     ("\u{fc}", 128, "H7"),
 ];
 
-fn key_told(read: &Result<Request, Reply>, key: &str) -> &'static str {
+fn key_told(read: &Result<Demand, Reply>, key: &str) -> &'static str {
     match read {
-        Ok(Request::SetMode(new)) if new.group.as_str() == key => "taken",
-        Ok(Request::ShowMode(query)) if query.group.as_str() == key => "taken",
+        Ok(Demand::Request(Request::SetMode(new))) if new.group.as_str() == key => "taken",
+        Ok(Demand::Request(Request::ShowMode(query))) if query.group.as_str() == key => "taken",
         Ok(_) => "another request",
         Err(reply) => code_text(reply.code),
     }

@@ -1,4 +1,4 @@
-use Rattle.std.proofs.Common.{refl, ap, ◌∙◌, inl, inr}
+use Rattle.std.proofs.Common.{ap, ◌∙◌, inl, inr}
 use Rattle.std.specs.Prelude.{Err}
 use Rattle.ci_machine.specs.Reply.{refusal}
 use Rattle.ci_http_messages.specs.Reading.{request, refused}
@@ -13,4 +13,10 @@ returns-in-Ok-clause-reply g c =
 pub returns-in-Err-Refused-clause-reply : goal.returns-in-Err-Refused-clause-reply
 returns-in-Err-Refused-clause-reply g c =
     let fault = c.in-Err-Refused in
-    inr (refused fault.why, (refl, c.refusal.ensures ∙ ap refusal fault.why-is), c.read_request.ensures.refused fault.why (fault.is ∙ ap Err fault.field-0-is))
+    inr (refused fault.why, (c.refuse.ensures.swept, c.refuse.ensures.reply ∙ ap refusal fault.why-is), c.read_request.ensures.refused fault.why (fault.is ∙ ap Err fault.field-0-is))
+
+pub returns-in-Err-Memory-clause-reply : goal.returns-in-Err-Memory-clause-reply
+returns-in-Err-Memory-clause-reply g c =
+    let fault = c.in-Err-Memory in
+    let refuse = c.refuse-in-Err-Memory in
+    inl ((refuse.ensures.swept, refuse.ensures.reply), tells_map _ ReadsByMemory _ _ (λ b r is. inl is) (c.read_request.ensures.memory (fault.is ∙ ap Err fault.field-0-is)))

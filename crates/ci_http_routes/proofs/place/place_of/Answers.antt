@@ -17,14 +17,17 @@ returns-in-Ok c =
     let f = rw c.requires at c.in-Ok.ensures.found in
     let by_id = gives (codes "id") p _ t c.utf8.path f in
     let by_n = gives (codes "n") p _ t c.utf8.path f in
+    let by_m = gives (codes "m") p _ t c.utf8.path f in
     let by_key = gives (codes "key") p _ t c.utf8.path f in
     let id = rw c.in-Ok.ensures.path at c.get.ensures in
     let n = rw c.in-Ok.ensures.path at c.get-in-Ok.ensures in
-    let key = rw c.in-Ok.ensures.path at c.get-in-Ok-2.ensures in
+    let m = rw c.in-Ok.ensures.path at c.get-in-Ok-2.ensures in
+    let key = rw c.in-Ok.ensures.path at c.get-in-Ok-3.ensures in
     record {
       pattern = sym (found p t) ∙ ap (value_of {T = Pattern}) f;
       id = shows _ _ _ (rw by_id.1 at id by_id.0);
       n = shows _ _ _ (rw by_n.1 at n by_n.0);
+      m = shows _ _ _ (rw by_m.1 at m by_m.0);
       key = shows _ _ _ (rw by_key.1 at key by_key.0);
     }
 

@@ -1,6 +1,6 @@
 use Rattle.std.proofs.Common.{refl}
 use Rattle.matchit.proofs.OnLiterals.{matchit_on_literals}
-use Rattle.ci_http_routes.specs.Table.{table}
+use Rattle.ci_http_routes.specs.Table.{first_rows}
 use Rattle.ci_http_routes.proofs.router.router_of.Goals as goal
 
 pub add-requires : goal.add-requires
@@ -59,6 +59,6 @@ pub add-requires-14 : goal.add-requires-14
 unfolding matchit_on_literals
 add-requires-14 c = rw (c.in_ok-add-13.ensures, c.in_ok-add-12.ensures, c.in_ok-add-11.ensures, c.in_ok-add-10.ensures, c.in_ok-add-9.ensures, c.in_ok-add-8.ensures, c.in_ok-add-7.ensures, c.in_ok-add-6.ensures, c.in_ok-add-5.ensures, c.in_ok-add-4.ensures, c.in_ok-add-3.ensures, c.in_ok-add-2.ensures, c.in_ok-add.ensures, c.new-router.ensures) refl
 
-pub returns : goal.returns
-unfolding matchit_on_literals table
-returns c = rw (c.in_ok-add-14.ensures, c.in_ok-add-13.ensures, c.in_ok-add-12.ensures, c.in_ok-add-11.ensures, c.in_ok-add-10.ensures, c.in_ok-add-9.ensures, c.in_ok-add-8.ensures, c.in_ok-add-7.ensures, c.in_ok-add-6.ensures, c.in_ok-add-5.ensures, c.in_ok-add-4.ensures, c.in_ok-add-3.ensures, c.in_ok-add-2.ensures, c.in_ok-add.ensures, c.new-router.ensures) refl
+pub add_reads-requires : goal.add_reads-requires
+unfolding matchit_on_literals first_rows
+add_reads-requires c = rw (c.in_ok-add-14.ensures, c.in_ok-add-13.ensures, c.in_ok-add-12.ensures, c.in_ok-add-11.ensures, c.in_ok-add-10.ensures, c.in_ok-add-9.ensures, c.in_ok-add-8.ensures, c.in_ok-add-7.ensures, c.in_ok-add-6.ensures, c.in_ok-add-5.ensures, c.in_ok-add-4.ensures, c.in_ok-add-3.ensures, c.in_ok-add-2.ensures, c.in_ok-add.ensures, c.new-router.ensures) refl

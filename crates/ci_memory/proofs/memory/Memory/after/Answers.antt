@@ -12,6 +12,7 @@ use Rattle.ci_memory_lines.specs.Covers as lines
 use Rattle.ci_memory_pipelines.specs.Alone as alone
 use Rattle.ci_memory_queue.specs.Covers as queue
 use Rattle.ci_memory.specs.Modes.{AreModes}
+use Rattle.ci_memory.specs.Newest.{AreNewest}
 use Rattle.ci_memory.specs.Numbers.{AreNext}
 use Rattle.ci_memory.specs.Projects.{AreProjects}
 use Rattle.ci_memory.specs.Remembered.{Remembered}
@@ -28,7 +29,7 @@ returns c k right =
     let now : Kept = written d.changes d.rows d.indexes before in
     let same = state_stays d.indexes (record before { state = applied d.changes before.state; board = put_rows d.rows before.board }) in
     let inside = c.self.inside in
-    let was : IsRight (record { numbers = inside.numbers; projects = inside.projects; runners = inside.runners; modes = inside.modes; queue = inside.queue; lines = inside.lines; leases = inside.leases; pipelines = inside.pipelines; boards = inside.boards }) k = subst (λ (m : Remembered). IsRight m k) (sym c.self.view_is) right in
+    let was : IsRight (record { numbers = inside.numbers; projects = inside.projects; runners = inside.runners; modes = inside.modes; queue = inside.queue; lines = inside.lines; leases = inside.leases; pipelines = inside.pipelines; newest = inside.newest; boards = inside.boards }) k = subst (λ (m : Remembered). IsRight m k) (sym c.self.view_is) right in
     record {
       numbers = subst (λ (s : State). AreNext c.after.result s.next) (sym same) (subst (λ (cs : List RowChange). AreNext c.after.result (applied cs k.state).next) c.changes.ensures (c.after.ensures k.state was.numbers));
       projects = subst (λ (s : State). AreProjects c.after-2.result s) (sym same) (subst (λ (cs : List RowChange). AreProjects c.after-2.result (applied cs k.state)) c.changes-2.ensures (c.after-2.ensures k.state was.projects));
@@ -38,7 +39,8 @@ returns c k right =
       lines = subst₂ (λ (cs : List RowChange) (rs : List BoardRow). lines.IsRight c.lines_after.result (written cs rs d.indexes before)) c.changes-6.ensures c.rows-2.ensures (c.lines_after.ensures k d.cleared d.indexes was.lines);
       leases = subst (λ (cs : List RowChange). AreRight c.after-5.result (written cs d.rows d.indexes before)) c.changes-7.ensures (c.after-5.ensures k d.cleared d.rows d.indexes was.leases);
       pipelines = subst₂ (λ (cs : List RowChange) (is : List IndexChange). alone.IsRight c.open_after.result (written cs d.rows is before)) c.changes-8.ensures c.indexes.ensures (c.open_after.ensures k d.cleared d.rows was.pipelines);
-      boards = subst (λ (gone : List ℕ). boards.AreRight c.after-6.result (written d.changes d.rows d.indexes (cleared gone k))) c.cleared.ensures
-          (subst₂ (λ (cs : List RowChange) (rs : List BoardRow). boards.AreRight c.after-6.result (written cs rs d.indexes (cleared c.cleared.result.now k))) c.changes-9.ensures c.rows-3.ensures (c.after-6.ensures k d.indexes was.in_order was.boards));
+      newest = subst (λ (s : State). AreNewest c.after-6.result s) (sym same) (subst (λ (cs : List RowChange). AreNewest c.after-6.result (applied cs k.state)) c.changes-9.ensures (c.after-6.ensures k.state was.newest));
+      boards = subst (λ (gone : List ℕ). boards.AreRight c.after-7.result (written d.changes d.rows d.indexes (cleared gone k))) c.cleared.ensures
+          (subst₂ (λ (cs : List RowChange) (rs : List BoardRow). boards.AreRight c.after-7.result (written cs rs d.indexes (cleared c.cleared.result.now k))) c.changes-10.ensures c.rows-3.ensures (c.after-7.ensures k d.indexes was.in_order was.boards));
       in_order = written_in_order k d.changes d.rows d.indexes d.cleared was.in_order;
     }

@@ -1,4 +1,4 @@
-use Rattle.ci_http_service.proofs.attend.serve_swept.Given as goal
+use Rattle.ci_http_service.proofs.attend.serve_bytes.Given as goal
 
 -- the ledger of each link is the one that its blank opens
 abbrev pub ghosts-serve_by-A-Ledger : goal.ghosts-serve_by-A-Ledger

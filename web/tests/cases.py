@@ -1,0 +1,490 @@
+"""What is tried of the page. Each test has a server of its own."""
+import json
+import os
+import time
+
+from browser import ENTER, ESCAPE, TAB
+from selenium.webdriver.common.by import By
+from stand import ROOT, until, WAIT
+
+ONE = """
+build:
+  stage: build
+  script: make
+"""
+
+CHAIN = """
+stages: [build, test, deploy]
+compile:
+  stage: build
+  script: make
+lint:
+  stage: build
+  allow_failure: true
+  script: make lint
+unit:
+  stage: test
+  needs: [compile]
+  script: make test
+whole:
+  stage: test
+  script: make whole
+ship:
+  stage: deploy
+  when: manual
+  allow_failure: false
+  script: make ship
+"""
+
+SCRIPT = """
+stages: [build]
+"<script>document.title='owned'</script>":
+  stage: build
+  tags: ["<img src=x onerror=alert(1)>", gpu]
+  resource_group: "<b>bold</b>"
+  script: make
+"""
+
+GROUPS = """
+stages: [deploy]
+first:
+  stage: deploy
+  resource_group: prod
+  script: x
+second:
+  stage: deploy
+  resource_group: prod
+  script: x
+special:
+  stage: deploy
+  tags: [mainframe]
+  script: x
+"""
+
+
+def at(pipeline, job=None):
+    return f"#/pipelines/{pipeline}" + (f"/jobs/{job}" if job else "")
+
+
+def asked(browser):
+    """When the page asked the server, in milliseconds, and the paths."""
+    return browser.run("return performance.getEntriesByType('resource').filter(it => it.name.includes('/api/')).map(it => [it.startTime, new URL(it.name).pathname])")
+
+
+def test_a_token_is_asked_for_and_kept_for_the_tab(stand, browser):
+    browser.open(is_in=False)
+    assert browser.sees("form.card h1", "token")
+    assert asked(browser) == []
+    browser.write("[name=token]", "r1-none" + ENTER)
+    assert browser.sees(".card .fault", "no project's token")
+    browser.find("[name=token]").clear()
+    browser.write("[name=token]", "p1-" + "0" * 32 + ENTER)
+    assert browser.sees(".card .fault", "no project has this token")
+    browser.write("[name=token]", stand.server.project + ENTER)
+    assert browser.sees("h1", "^pipelines$") and browser.sees(".brand", "hello")
+    kept = browser.run("return [JSON.stringify(sessionStorage), localStorage.length, document.cookie]")
+    assert json.loads(kept[0]) == {"token": stand.server.project} and kept[1:] == [0, ""]
+    browser.driver.refresh()
+    assert browser.sees("h1", "^pipelines$")
+    browser.press("[data-act=out]")
+    assert browser.sees("form.card") and browser.run("return sessionStorage.length") == 0
+
+
+def test_a_job_becomes_green(stand, browser):
+    pipeline = stand.pipeline(CHAIN)["id"]
+    browser.open("#/pipelines")
+    assert browser.sees(f"[data-pipeline='{pipeline}'] .chip", "pending")
+    browser.press(f"[data-pipeline='{pipeline}'] .number")
+    job = stand.job(pipeline, "compile")
+    assert browser.sees(f".box.pending[data-box='{job}']", "compile")
+    grant = stand.take()
+    assert browser.sees(f".box.running[data-box='{job}']", "running")
+    grant.ends()
+    assert browser.sees(f".box.success[data-box='{job}']", "success")
+    lint = stand.take()
+    assert lint.name == "lint"
+    lint.ends("failed", 3)
+    assert browser.sees(f".box.warning[data-box='{stand.job(pipeline, 'lint')}']", "failed, allowed")
+    green = browser.run("return getComputedStyle(document.querySelector('.box.success')).borderLeftColor")
+    orange = browser.run("return getComputedStyle(document.querySelector('.box.warning')).borderLeftColor")
+    assert green != orange, (green, orange)
+
+
+def test_the_picture_has_stages_and_lines_of_needs(stand, browser):
+    pipeline = stand.pipeline(CHAIN)["id"]
+    browser.open(at(pipeline))
+    assert browser.sees(".box", "compile")
+    assert [it.text for it in browser.all(".picture .stage")] == ["build", "test", "deploy"]
+    ids = {name: str(stand.job(pipeline, name)) for name in ("compile", "lint", "unit", "whole", "ship")}
+    lines = {tuple(it.get_attribute("data-ids").split()) for it in browser.all(".lines path")}
+    joined = lambda one, other: any(line[0] == ids[one] and ids[other] in line[1:] or line[0] == ids[other] and ids[one] in line[1:] for line in lines)
+    for one, other in (("compile", "unit"), ("compile", "whole"), ("lint", "whole"), ("unit", "ship"), ("whole", "ship")):
+        assert joined(one, other), (one, other, lines)
+    for one, other in (("lint", "unit"), ("compile", "ship"), ("lint", "ship")):
+        assert not joined(one, other), (one, other, lines)
+    left = [browser.find(f"[data-box='{ids[name]}']").rect["x"] for name in ("compile", "unit", "ship")]
+    assert left == sorted(left) and len(set(left)) == 3, left
+
+
+def test_a_job_is_cancelled_retried_and_played(stand, browser):
+    pipeline = stand.pipeline(CHAIN)["id"]
+    compile_, ship = stand.job(pipeline, "compile"), stand.job(pipeline, "ship")
+    browser.open(at(pipeline, compile_))
+    browser.press("[data-act=cancel]")
+    assert browser.sees("h1 + .chip", "canceled") and stand.status(compile_) == "canceled"
+    browser.press("[data-act=retry]")
+    assert browser.sees("h1 + .chip", "pending") and stand.status(compile_) == "pending"
+    while grant := stand.take():
+        grant.ends()
+    browser.go(at(pipeline))
+    assert browser.sees(f".box.manual[data-box='{ship}']", "manual")
+    browser.press(f".box[data-box='{ship}'] [data-act=play]")
+    assert browser.sees(f".box.pending[data-box='{ship}']", "pending") and stand.status(ship) == "pending"
+    assert browser.sees("#notes", "ship plays")
+    stand.take().ends()
+    assert browser.sees("h1 + .chip", "success")
+
+
+def test_a_pipeline_is_run_with_variables_and_cancelled(stand, browser):
+    stand.user("PUT", "/ci_file", ONE)
+    browser.open("#/pipelines")
+    assert browser.sees(".empty", "no pipeline yet")
+    browser.press("[data-act=run]")
+    assert browser.sees("dialog h2", "run a pipeline")
+    browser.find("dialog [name=ref]").clear()
+    browser.write("dialog [name=ref]", "release/2")
+    browser.press("dialog form > .button")
+    browser.write("dialog [name=key]", "COLOUR")
+    browser.write("dialog [name=value]", "blue $x")
+    browser.press("dialog [type=submit]")
+    assert browser.sees("h1", "pipeline #1") and browser.sees(".top .ref", "release/2")
+    if stand.is_real:
+        told = stand.send("POST", "/jobs/request", json.dumps({"token": stand.server.shell}).encode())
+        assert {"key": "COLOUR", "value": "blue $x"} in told["variables"], told
+    browser.press("[data-act=cancel-pipeline]")
+    assert browser.sees("h1 + .chip", "canceled")
+    assert stand.user("GET", "/pipelines/1")["status"] == "canceled"
+    browser.press("[data-act=retry-failed]")
+    assert browser.sees("h1 + .chip", "pending|running")
+
+
+def test_a_refusal_is_told(stand, browser):
+    browser.open("#/pipelines")
+    browser.press("[data-act=run]")
+    browser.press("dialog [type=submit]")
+    assert browser.sees("dialog .fault", "no CI file yet")
+    browser.keys(ESCAPE)
+    assert browser.gone("dialog")
+    browser.go("#/pipelines/77")
+    assert browser.sees(".empty", "no such pipeline")
+    browser.go("#/pipelines/77/jobs/5")
+    assert browser.sees(".empty", "no such job")
+    browser.go("#/nowhere")
+    assert browser.sees("h1", "^pipelines$")
+
+
+def test_a_job_that_ended_meanwhile_is_told_of(stand, browser):
+    pipeline = stand.pipeline(ONE)["id"]
+    job = stand.job(pipeline, "build")
+    browser.open(at(pipeline, job))
+    assert browser.sees("[data-act=cancel]")
+    stand.user("POST", f"/jobs/{job}/cancel")
+    browser.press("[data-act=cancel]")
+    assert browser.sees(".note.fault", "nothing left to cancel")
+    assert browser.sees("h1 + .chip", "canceled")
+
+
+def test_pipelines_are_filtered(stand, browser):
+    for ref in ("main", "feature/a", "feature/b"):
+        stand.pipeline(ONE, ref)
+    stand.user("POST", "/pipelines/2/cancel")
+    browser.open("#/pipelines")
+    assert until(lambda: len(browser.all(".row")) == 3)
+    browser.write("[name=ref]", "FEAT")
+    assert until(lambda: len(browser.all(".row")) == 2)
+    browser.run("const it = document.querySelector('[name=status]'); it.value = 'canceled'; it.dispatchEvent(new Event('input', {bubbles: true}))")
+    assert until(lambda: len(browser.all(".row")) == 1) and browser.sees(".row .ref", "feature/a")
+    assert browser.run("return location.hash") == "#/pipelines?ref=FEAT&status=canceled"
+    browser.driver.refresh()
+    assert until(lambda: len(browser.all(".row")) == 1)
+    assert browser.run("return [document.querySelector('[name=ref]').value, document.querySelector('[name=status]').value]") == ["FEAT", "canceled"]
+    browser.open("#/pipelines?ref=none")
+    assert browser.sees(".empty", "no pipeline of the newest")
+    browser.press(".empty a")
+    assert until(lambda: len(browser.all(".row")) == 3)
+
+
+def test_a_trace_grows_and_is_asked_from_where_it_was(stand, browser):
+    pipeline = stand.pipeline(ONE)["id"]
+    job, grant = stand.job(pipeline, "build"), stand.take()
+    grant.says("first line\nsecond ")
+    browser.open(at(pipeline, job))
+    assert browser.sees("[data-line='1'] .text", "^first line$") and browser.sees("[data-line='2'] .text", "^second ?$")
+    browser.run("document.querySelector('[data-line=\"1\"]').dataset.mine = 'yes'")
+    browser.run("window.whole = []; const was = window.fetch; window.fetch = async (url, more) => { const reply = await was(url, more); if (url.endsWith('/trace')) window.whole.push([more.headers.Range || null, reply.status]); return reply; }")
+    time.sleep(1)
+    grant.says("line, in ü")
+    time.sleep(1)
+    grant.says("\n" + "".join(f"line {n}\n" for n in range(3, 601)))
+    assert browser.sees("[data-line='2'] .text", "^second line, in ü$")
+    assert browser.sees("[data-line='600'] .text", "^line 600$")
+    assert browser.run("return document.querySelector('[data-line=\"1\"]').dataset.mine") == "yes"
+    assert browser.run("const it = document.querySelector('.log'); return it.scrollHeight - it.scrollTop - it.clientHeight") < 60
+    asks = browser.run("return window.whole")
+    assert asks and all(it[0] and it[0].startswith("bytes=") for it in asks) and {it[1] for it in asks} <= {206, 416}, asks
+    grant.says("end").ends("failed", 7)
+    assert browser.sees("h1 + .chip", "failed") and browser.sees("[data-line='601'] .text", "^end$")
+    assert browser.sees(".attempts .why", "its script failed, exit code 7")
+    count = len(browser.run("return window.whole"))
+    time.sleep(6)
+    assert len(browser.run("return window.whole")) <= count + 1
+
+
+def test_a_trace_without_ranges_is_read_too(stand, browser):
+    pipeline = stand.pipeline(ONE)["id"]
+    job, grant = stand.job(pipeline, "build"), stand.take()
+    grant.says("one\n")
+    browser.open(at(pipeline, job))
+    assert browser.sees("[data-line='1'] .text", "^one$")
+    browser.run("const was = window.fetch; window.fetch = (url, more) => { delete more.headers.Range; return was(url, more); }")
+    grant.says("two\n")
+    assert browser.sees("[data-line='2'] .text", "^two$")
+    assert [it.text for it in browser.all(".line .text")] == ["one", "two"]
+
+
+def test_colours_sections_and_carriage_returns(stand, browser):
+    pipeline = stand.pipeline(ONE)["id"]
+    job, grant = stand.job(pipeline, "build"), stand.take()
+    grant.says("\x1b[31mred\x1b[0m plain \x1b[1;38;5;208mstrange\x1b[0m \x1b[38;2;1;2;3mown\x1b[m\x1b[K\r\n")
+    grant.says("section_start:100:one[collapsed=true]\r\x1b[0KThe first\nwithin\nsection_end:103:one\r\x1b[0K")
+    grant.says("section_start:103:two\r\x1b[0K\x1b[36mThe second\x1b[0m\n10%\r50%\r100%\n\x1b]0;title\x07after\nsection_end:110:two\r\x1b[0K\n\x1b[32mgreen goes\non\x1b[0m\n").ends()
+    browser.open(at(pipeline, job))
+    assert browser.sees("[data-line='8'] .text", "on")
+    texts = [it.get_attribute("textContent") for it in browser.all(".line .text")]
+    assert texts == ["red plain strange own", "The first", "within", "The second", "100%", "after", "green goes", "on"], texts
+    assert browser.find(".fg-1").text == "red" and browser.find("[data-line='8'] .fg-2").text == "on"
+    assert browser.run("return [...document.querySelectorAll('[data-line=\"1\"] span span')].map(it => it.style.color)") == ["", "rgb(255, 135, 0)", "rgb(1, 2, 3)"]
+    assert browser.run("return [...document.querySelectorAll('details.section')].map(it => [it.dataset.section, it.open, it.querySelector('.took').textContent])") == [["one", False, "3 s"], ["two", True, "7 s"]]
+    browser.press("[data-section=one] summary .text")
+    assert browser.run("return document.querySelector('[data-section=one]').open")
+
+
+def test_each_line_has_a_link_and_the_raw_text_is_shown(stand, browser):
+    pipeline = stand.pipeline(ONE)["id"]
+    job, grant = stand.job(pipeline, "build"), stand.take()
+    grant.says("".join(f"\x1b[32mline {n}\x1b[0m\n" for n in range(1, 401))).ends()
+    browser.open(at(pipeline, job))
+    assert browser.sees("[data-line='400']")
+    browser.run("document.querySelector('[data-line=\"250\"] .no').click()")
+    wanted = f"#/pipelines/{pipeline}/jobs/{job}/attempts/{grant.id}/lines/250"
+    assert until(lambda: browser.run("return location.hash") == wanted)
+    assert browser.sees(".line.here .text", "^line 250$")
+    browser.driver.refresh()
+    assert browser.sees(".line.here .text", "^line 250$")
+    box = browser.run("const a = document.querySelector('.line.here').getBoundingClientRect(), b = document.querySelector('.log').getBoundingClientRect(); return a.top >= b.top && a.bottom <= b.bottom")
+    assert box
+    browser.press("[data-pane=raw]")
+    assert browser.sees("pre.raw") and browser.run("return document.querySelector('pre.raw').textContent").startswith("\x1b[32mline 1\x1b[0m\n")
+    browser.press("[data-pane=raw]")
+    assert browser.gone("pre.raw")
+
+
+def test_attempts_are_told_and_each_has_its_trace(stand, browser):
+    pipeline = stand.pipeline(ONE)["id"]
+    job, first = stand.job(pipeline, "build"), stand.take()
+    first.says("of the first\n").ends("failed", None, "runner_system_failure")
+    stand.user("POST", f"/jobs/{job}/retry")
+    second = stand.take()
+    second.says("of the second\n")
+    browser.open(at(pipeline, job))
+    assert browser.sees("[data-line='1'] .text", "of the second")
+    assert browser.sees(f"[data-key='attempt-{first.id}']", "failed.*the runner's own system failed.*shell")
+    browser.press(f"[data-key='attempt-{first.id}'] a")
+    assert browser.sees("[data-line='1'] .text", "of the first")
+    assert browser.find(f"[data-key='attempt-{first.id}'] [aria-current]")
+    assert browser.sees("h1 + .chip", "running")
+
+
+def test_a_name_that_is_a_script_stays_text(stand, browser):
+    pipeline = stand.pipeline(SCRIPT, "<img src=x onerror=document.title='owned'>")["id"]
+    name = "<script>document.title='owned'</script>"
+    job = stand.job(pipeline, name)
+    for where in ("#/pipelines", at(pipeline), "#/waiting", at(pipeline, job)):
+        browser.open(where)
+        until(lambda: browser.run("return document.querySelectorAll('main .chip').length") > 0)
+        assert browser.run("return document.querySelectorAll('main script, main img, main b').length") == 0
+        assert "owned" not in browser.driver.title
+    assert browser.sees("h1", "<script>document.title='owned'</script>")
+    assert browser.sees(".plate", "<img src=x onerror=alert")
+    browser.open("#/groups")
+    time.sleep(1)
+    assert browser.run("return document.querySelectorAll('main b').length") == 0
+
+
+def test_a_trace_that_is_a_script_stays_text(stand, browser):
+    pipeline = stand.pipeline(ONE)["id"]
+    job, grant = stand.job(pipeline, "build"), stand.take()
+    grant.says("<script>document.title='owned'</script>\n<img src=x onerror=\"document.title='owned'\">\n\x1b[31m<b>no</b>\x1b[0m\x00\x07\n").ends()
+    browser.open(at(pipeline, job))
+    assert browser.sees("[data-line='2'] .text", "^<img src=x")
+    assert browser.sees("[data-line='3'] .text", "^<b>no</b>$")
+    assert browser.run("return document.querySelectorAll('.log script, .log img, .log b').length") == 0
+    assert "owned" not in browser.driver.title
+
+
+def test_what_waits_is_told_with_why(stand, browser):
+    one = stand.pipeline(GROUPS)["id"]
+    stand.pipeline(CHAIN)
+    first = stand.take()
+    assert first.name == "first"
+    browser.open("#/waiting")
+    second, special = stand.job(one, "second"), stand.job(one, "special")
+    assert browser.sees(f"[data-job='{second}'] .reason", f"prod is held by first #{stand.job(one, 'first')}")
+    assert browser.sees(f"[data-job='{special}'] .reason", "runner with mainframe.*none was seen here yet that has it")
+    compile_ = stand.job(2, "compile")
+    assert browser.sees(f"[data-job='{compile_}'] .reason", "shell runs first")
+    assert browser.sees(f"[data-job='{stand.job(2, 'unit')}'] .reason", "waits for compile")
+    browser.press(f"[data-job='{special}'] [data-act=cancel]")
+    assert browser.gone(f"[data-job='{special}']") and stand.status(special) == "canceled"
+
+
+def test_resource_groups_and_their_mode(stand, browser):
+    one = stand.pipeline(GROUPS)["id"]
+    stand.take()
+    browser.open("#/groups")
+    assert browser.sees("[data-group=prod]", f"held by.*first #{stand.job(one, 'first')}.*1 waits.*second")
+    browser.run("const it = document.querySelector('[data-mode=prod]'); it.value = 'oldest_first'; it.dispatchEvent(new Event('change', {bubbles: true}))")
+    assert browser.sees("#notes", "prod is oldest first")
+    assert stand.user("GET", "/resource_groups/prod")["process_mode"] == "oldest_first"
+    stand.user("PUT", "/resource_groups/prod", {"process_mode": "newest_ready_first"})
+    assert until(lambda: browser.run("return document.querySelector('[data-mode=prod]').value") == "newest_ready_first")
+
+
+def test_the_server_is_lost_and_found(stand, browser):
+    pipeline = stand.pipeline(ONE)["id"]
+    job, grant = stand.job(pipeline, "build"), stand.take()
+    grant.says("before\n")
+    browser.open(at(pipeline, job))
+    assert browser.sees("[data-line='1'] .text", "before")
+    stand.server.lose()
+    assert browser.sees("#state.lost", "the server doesn't answer")
+    assert browser.sees("[data-line='1'] .text", "before") and browser.sees("h1 + .chip", "running")
+    browser.press("[data-act=cancel]")
+    assert browser.sees(".note.fault", "not known whether it was done")
+    stand.server.find()
+    assert browser.sees("#state.found", "answers again", 20)
+    if not stand.is_real:
+        grant.says("after\n")
+        assert browser.sees("[data-line='2'] .text", "after")
+    assert browser.gone("#state p", 10)
+
+
+def test_it_asks_once_in_two_seconds_and_not_while_hidden(stand, browser):
+    pipeline = stand.pipeline(CHAIN)["id"]
+    stand.take()
+    for where in ("#/pipelines", at(pipeline), "#/waiting"):
+        browser.open(where)
+        assert browser.sees("main .chip")
+        time.sleep(4)
+        browser.run("performance.clearResourceTimings()")
+        time.sleep(9)
+        times = [it[0] for it in asked(browser)]
+        assert 2 <= len(times) <= 5, (where, times)
+        assert all(after - before >= 1990 for before, after in zip(times, times[1:])), (where, times)
+    browser.run("Object.defineProperty(document, 'hidden', {configurable: true, value: true}); document.dispatchEvent(new Event('visibilitychange'))")
+    time.sleep(2.5)
+    browser.run("performance.clearResourceTimings()")
+    time.sleep(5)
+    assert asked(browser) == []
+    browser.run("delete document.hidden; document.dispatchEvent(new Event('visibilitychange'))")
+    assert until(lambda: asked(browser), 3)
+
+
+def test_no_other_host_is_asked_and_the_policy_is_strict(stand, browser):
+    stand.pipeline(ONE)
+    browser.open("#/pipelines")
+    assert browser.sees("main .chip")
+    names = browser.run("return performance.getEntriesByType('resource').map(it => it.name)")
+    assert names and all(name.startswith(stand.url) for name in names), names
+    for folder, _, files in os.walk(os.path.join(ROOT, "web")):
+        for name in files:
+            if name.endswith((".js", ".css", ".html")):
+                with open(os.path.join(folder, name), encoding="utf-8") as file:
+                    text = file.read()
+                assert "http" not in text.replace("http://www.w3.org/2000/svg", "") and "innerHTML" not in text and "eval(" not in text, name
+    policy = browser.run("return fetch('.').then(it => it.headers.get('Content-Security-Policy'))")
+    assert policy == "default-src 'none'; script-src 'self'; style-src 'self'; connect-src 'self'; img-src 'self' data:; base-uri 'none'; form-action 'none'; frame-ancestors 'none'", policy
+    assert browser.run("const it = document.createElement('script'); it.textContent = 'window.ran = 1'; document.body.append(it); return window.ran || 0") == 0
+    assert any("Content Security Policy" in it for it in browser.faults())
+
+
+def test_it_is_used_by_keyboard_alone(stand, browser):
+    pipeline = stand.pipeline(ONE)["id"]
+    browser.open("#/pipelines")
+    assert browser.sees(".row .number")
+    for _ in range(30):
+        browser.keys(TAB)
+        if browser.run("return document.activeElement.className") == "number":
+            break
+    assert browser.run("return getComputedStyle(document.activeElement).outlineStyle") != "none"
+    browser.keys(ENTER)
+    assert browser.sees("h1", f"pipeline #{pipeline}")
+    assert browser.sees(".box")
+    time.sleep(3)
+    for _ in range(30):
+        browser.keys(TAB)
+        if browser.run("return document.activeElement.closest('.box') !== null"):
+            break
+    browser.keys(TAB)
+    assert browser.run("return document.activeElement.dataset.act") == "cancel"
+    time.sleep(3)
+    assert browser.run("return document.activeElement.dataset.act") == "cancel", "the focus is lost as the page is drawn anew"
+    browser.keys(ENTER)
+    assert browser.sees("h1 + .chip", "canceled")
+
+
+def test_it_fits_a_telephone(stand, browser):
+    pipeline = stand.pipeline(CHAIN, "a/very/long/branch-name-that-is-longer-than-a-telephone-is-wide/and-then-some")["id"]
+    job, grant = stand.job(pipeline, "compile"), stand.take()
+    grant.says("x" * 500 + "\n")
+    browser.metrics(390, 844, True)
+    for where in ("#/pipelines", at(pipeline), at(pipeline, job), "#/waiting", "#/groups"):
+        browser.open(where)
+        assert browser.sees("main h1")
+        until(lambda: browser.find("main .chip"), 3)
+        time.sleep(0.5)
+        assert browser.run("return document.documentElement.scrollWidth") <= 390, where
+    small = browser.run("return [...document.querySelectorAll('button')].filter(it => it.offsetParent && it.offsetHeight < 24).length")
+    assert small == 0
+
+
+def test_dark_and_light(stand, browser):
+    stand.pipeline(ONE)
+    seen = {}
+    for scheme in ("light", "dark"):
+        browser.scheme(scheme)
+        browser.open("#/pipelines")
+        assert browser.sees("main .chip")
+        seen[scheme] = browser.run("return [getComputedStyle(document.body).backgroundColor, getComputedStyle(document.querySelector('.number')).color].map(it => it.match(/\\d+/g).map(Number).reduce((a, b) => a + b))")
+    (back, ink), (dark_back, dark_ink) = seen["light"], seen["dark"]
+    assert back > 600 and ink < 200 and dark_back < 100 and dark_ink > 600, seen
+
+
+def test_a_pipeline_of_two_hundred_jobs_and_a_long_trace(stand, browser):
+    stages = ", ".join(f"s{n}" for n in range(10))
+    file = f"stages: [{stages}]\n" + "".join(f"job-{n}:\n  stage: s{n % 10}\n  script: x\n" for n in range(200))
+    pipeline = stand.pipeline(file)["id"]
+    grant = stand.take()
+    for part in range(10):
+        grant.says("".join(f"\x1b[3{n % 8}mline {part * 5000 + n} of a long trace\x1b[0m\n" for n in range(1, 5001)))
+    browser.open(at(pipeline))
+    assert until(lambda: len(browser.all(".box")) == 200)
+    assert len(browser.all(".lines path")) <= 400
+    browser.command("Performance.enable", timeDomain="threadTicks")
+    browser.open(at(pipeline, stand.job(pipeline, grant.name)))
+    assert until(lambda: browser.run("return document.querySelectorAll('.line').length") >= 50000, 3 * WAIT, 1)
+    # Of the processor, and not by the clock: the machine may be busy.
+    spent = {it["name"]: it["value"] for it in browser.command("Performance.getMetrics")["metrics"]}["TaskDuration"]
+    assert spent < 20, spent
+    browser.driver.find_element(By.CSS_SELECTOR, "[data-pane=follow]").click()
+    assert browser.sees("[data-pane=follow][aria-pressed=false]", "")
