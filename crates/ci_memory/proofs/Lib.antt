@@ -1,3 +1,4 @@
 mod Changes
+mod Failing
 mod Finds
 mod Listed
