@@ -92,7 +92,7 @@ class Grant:
         return self
 
     def ends(self, state="success", code=0, reason="script_failure"):
-        order = {"token": self.token, "state": state, "exit_code": code} | ({"failure_reason": reason} if state == "failed" else {})
+        order = {"token": self.token, "state": state} | ({} if code is None else {"exit_code": code}) | ({"failure_reason": reason} if state == "failed" else {})
         self.stand.send("PUT", f"/jobs/{self.id}", json.dumps(order).encode())
 
 
