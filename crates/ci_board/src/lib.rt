@@ -3,7 +3,7 @@
 
 pub mod board;
 mod changes;
-mod effect;
+pub mod effect;
 pub mod examples;
 pub mod facts;
 pub mod laws;

@@ -1,25 +1,21 @@
 //! The jobs of a pipeline and the resource groups of a project, as they are read: compact JSON, the members of each object in the order of
 //! their bytes.
 
-ghost use Rattle.std.specs.Prelude.{◌≡◌, ◌==◌, length, IfOk};
-ghost use Rattle.std.specs.List.{list_any};
+ghost use Rattle.std.specs.Prelude.{◌≡◌, length, IfOk};
 ghost use Rattle.serde_json.specs.Data.{array, number, unsigned};
 ghost use Rattle.serde_json.specs.View.{view, items_of};
-ghost use Rattle.ci_board.specs.Effects.{is_listed, is_allowed};
 ghost use Rattle.ci_machine.specs.Listings.{listed, text_or_null, needs_among, told_job, told_jobs};
 ghost use Rattle.ci_machine_steps.specs.Reads.{json};
 ghost use Rattle.ci_machine_plans.specs.Objects.{told_group};
 
 use crate::body::lines;
 use crate::listings::{attempts_value_of, body_of, number_or_null};
-use ci_board::facts::{Facts, Row, Status};
-use ci_graph::part::Part;
+use ci_board::effect::is_allowed;
+use ci_board::facts::{Facts, Row};
 use ci_machine::records::{Attempt, Claim, GroupOrder, Job, Need, Runner, process_mode, when_text};
 use ci_machine::reply::Body;
 use ci_machine::report::ShownStatus;
 use ci_machine::text::Text;
-use ci_values::attempts::AttemptState;
-use ci_values::when::AllowFailure;
 use serde_json::{Number, Value, json};
 use std::alloc::{AllocError, Global};
 
@@ -67,36 +63,6 @@ fn needs_value(alloc: Global, needs: &[Need], job: u64) -> Result<Value, AllocEr
         }
     }
     Ok(Value::Array(items))
-}
-
-fn contains(codes: &[u32], code: u32) -> bool
-    ensures { result ≡ list_any (λ c. c == code) codes.now }
-{
-    codes.iter().any(|c| *c == code)
-}
-
-/// Did the last attempt fail with one of these exit codes?
-fn is_listed(codes: &[u32], last: Option<AttemptState>) -> bool
-    ensures { result ≡ is_listed codes.now last }
-{
-    match last {
-        Some(AttemptState::Failed(_, Some(exit))) => contains(codes, exit),
-        _ => false,
-    }
-}
-
-/// Does the pipeline go on though the job has this status?
-fn is_allowed(part: &Part, facts: Facts, status: Status) -> bool
-    ensures { result ≡ is_allowed part.now facts status }
-{
-    match &part.allow_failure {
-        AllowFailure::No => false,
-        AllowFailure::Yes => true,
-        AllowFailure::ExitCodes(codes) => match status {
-            Status::Failed => is_listed(codes.as_slice(), facts.last),
-            _ => false,
-        },
-    }
 }
 
 /// A job with its facts and its row.

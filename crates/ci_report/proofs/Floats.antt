@@ -5,7 +5,8 @@ use Rattle.serde_json.specs.Written.{has_float}
 use Rattle.ci_machine.specs.declared.report.QueueRow.{QueueRow}
 use Rattle.ci_machine.specs.declared.report.PipelineRows.{PipelineRows}
 use Rattle.ci_machine.specs.declared.report.RunnerRow.{RunnerRow}
-use Rattle.ci_report.specs.JsonText.{listed, queued_data, job_data, pipeline_data, grant_data, runner_data}
+use Rattle.ci_machine.specs.Listings.{listed}
+use Rattle.ci_report.specs.JsonText.{queued_data, job_data, pipeline_data, grant_data, runner_data}
 
 -- a list of rows of which none has one has none
 listed_has_none : {A : Type 0} (told : A → Data) → ((x : A) → has_float (told x) ≡ false) → (rows : List A) → has_float (listed told rows) ≡ false

@@ -1,20 +1,16 @@
 -- Reports as compact JSON: a list of objects, whose members stand in the order of their bytes, and the end of a line.
-use Rattle.std.specs.Prelude.{ℕ, List, ◌++◌, [], ◌∷◌, map, Option, Some, None, codes}
-use Rattle.serde_json.specs.Data.{Data, array, object, boolean, null, member, no_members, string, number, unsigned}
-use Rattle.serde_json.specs.View.{items_of}
+use Rattle.std.specs.Prelude.{ℕ, List, ◌++◌, [], ◌∷◌, Option, Some, None, codes}
+use Rattle.serde_json.specs.Data.{Data, object, boolean, null, member, no_members, string, number, unsigned}
 use Rattle.serde_json.specs.Written.{compact_text}
 use Rattle.ci_board.specs.Texts.{status_text}
 use Rattle.ci_machine.specs.Bodies.{source_text}
+use Rattle.ci_machine.specs.Listings.{listed}
 use Rattle.ci_machine.specs.ReportRows.{shown_text}
 use Rattle.ci_machine.specs.declared.report.QueueRow.{QueueRow}
 use Rattle.ci_machine.specs.declared.report.JobRow.{JobRow}
 use Rattle.ci_machine.specs.declared.report.PipelineRows.{PipelineRows}
 use Rattle.ci_machine.specs.declared.report.RunnerRow.{RunnerRow}
 use Rattle.ci_machine.specs.Dates.{stamp_text}
-
--- a list of what is told of rows
-abbrev pub listed : {A : Type 0} → (A → Data) → List A → Data
-listed told rows = array (items_of (map told rows))
 
 abbrev pub line_of : Data → List ℕ
 line_of d = compact_text d ++ codes "\n"

@@ -1,9 +1,11 @@
 //! The reports as compact JSON, for programs: a list of objects in a line, whose members stand in the order of their bytes.
 
 ghost use Rattle.std.specs.Prelude.{◌≡◌, false, [], ◌∷◌, IfOk, string_bytes};
+ghost use Rattle.serde_json.specs.Data.{Data};
 ghost use Rattle.serde_json.specs.View.{view};
 ghost use Rattle.serde_json.specs.Written.{has_float};
-ghost use Rattle.ci_report.specs.JsonText.{line_of, listed, queued_data, queue_json, job_data, pipeline_data, pipeline_json, grant_data, runner_data, runner_json};
+ghost use Rattle.ci_machine.specs.Listings.{listed};
+ghost use Rattle.ci_report.specs.JsonText.{line_of, queued_data, queue_json, job_data, pipeline_data, pipeline_json, grant_data, runner_data, runner_json};
 
 use ci_machine::moment::{Moment, stamp_text};
 use ci_machine::report::{JobRow, PipelineRows, QueueRow, RunnerRow};
@@ -20,52 +22,55 @@ fn line_of(alloc: Global, value: Value) -> Result<String, AllocError>
     Ok(text)
 }
 
-/// A pending job.
-fn queued_value(alloc: Global, row: &QueueRow) -> Result<Value, AllocError>
-    ensures { IfOk result (λ v. view v ≡ queued_data row.now) }
-{
-    let name = row.name.as_str();
-    let status = row.status.as_str();
-    json!(in alloc; {"id": row.job, "name": name, "project": row.project, "status": status})
+/// A row of a report.
+trait Told {
+    /// What is told of it.
+    ghost told: { Self → Data };
+
+    /// That as a value. Errors: memory was refused.
+    fn value(&self, alloc: Global) -> Result<Value, AllocError>
+        ensures { IfOk result (λ v. view v ≡ told self.now) };
 }
 
-/// The pending jobs.
-fn queue_value(alloc: Global, rows: &[QueueRow]) -> Result<Value, AllocError>
-    ensures { IfOk result (λ v. view v ≡ listed queued_data rows.now) }
+/// The list of what is told of rows. Errors: memory was refused.
+fn listed<T: Told>(alloc: Global, rows: &[T]) -> Result<Value, AllocError>
+    ensures { IfOk result (λ v. view v ≡ listed T.told rows.now) }
 {
     let mut items = Vec::new(alloc);
     for row in rows {
-        items.push(queued_value(alloc, row)?)?;
+        items.push(row.value(alloc)?)?;
     }
     Ok(Value::Array(items))
+}
+
+/// A pending job.
+impl Told for QueueRow {
+    ghost told = { queued_data };
+
+    fn value(&self, alloc: Global) -> Result<Value, AllocError> {
+        let name = self.name.as_str();
+        let status = self.status.as_str();
+        json!(in alloc; {"id": self.job, "name": name, "project": self.project, "status": status})
+    }
 }
 
 /// The report of pending jobs, in the order of their rows. Errors: memory was refused.
 pub fn queue_json(alloc: Global, rows: &[QueueRow]) -> Result<String, AllocError>
     ensures { IfOk result (λ text. string_bytes text ≡ queue_json rows.now) }
 {
-    let jobs = queue_value(alloc, rows)?;
+    let jobs = listed(alloc, rows)?;
     line_of(alloc, jobs)
 }
 
 /// A job of a pipeline.
-fn job_value(alloc: Global, row: &JobRow) -> Result<Value, AllocError>
-    ensures { IfOk result (λ v. view v ≡ job_data row.now) }
-{
-    let name = row.name.as_str();
-    let status = row.status.as_str();
-    json!(in alloc; {"id": row.job, "name": name, "status": status, "tries": row.tries})
-}
+impl Told for JobRow {
+    ghost told = { job_data };
 
-/// The jobs of a pipeline.
-fn jobs_value(alloc: Global, rows: &[JobRow]) -> Result<Value, AllocError>
-    ensures { IfOk result (λ v. view v ≡ listed job_data rows.now) }
-{
-    let mut items = Vec::new(alloc);
-    for row in rows {
-        items.push(job_value(alloc, row)?)?;
+    fn value(&self, alloc: Global) -> Result<Value, AllocError> {
+        let name = self.name.as_str();
+        let status = self.status.as_str();
+        json!(in alloc; {"id": self.job, "name": name, "status": status, "tries": self.tries})
     }
-    Ok(Value::Array(items))
 }
 
 /// A pipeline with its jobs.
@@ -75,7 +80,7 @@ fn pipeline_value(alloc: Global, rows: &PipelineRows) -> Result<Value, AllocErro
     let pipeline = &rows.head.pipeline;
     let created = stamp_text(alloc, pipeline.created)?;
     let created = created.as_str();
-    let jobs = jobs_value(alloc, rows.jobs.as_slice())?;
+    let jobs = listed(alloc, rows.jobs.as_slice())?;
     let git_ref = pipeline.git_ref.as_str();
     let source = pipeline.source.as_str();
     let status = rows.head.status.as_str();
@@ -112,31 +117,22 @@ fn grant_value(alloc: Global, last_grant: Option<Moment>) -> Result<Value, Alloc
 }
 
 /// A runner.
-fn runner_value(alloc: Global, row: &RunnerRow) -> Result<Value, AllocError>
-    ensures { IfOk result (λ v. view v ≡ runner_data row.now) }
-{
-    let grant = grant_value(alloc, row.last_grant)?;
-    let name = row.name.as_str();
-    json!(in alloc; {
-        "id": row.runner, "last_grant": grant, "live": row.live, "name": name, "paused": row.paused
-    })
-}
+impl Told for RunnerRow {
+    ghost told = { runner_data };
 
-/// The runners.
-fn runners_value(alloc: Global, rows: &[RunnerRow]) -> Result<Value, AllocError>
-    ensures { IfOk result (λ v. view v ≡ listed runner_data rows.now) }
-{
-    let mut items = Vec::new(alloc);
-    for row in rows {
-        items.push(runner_value(alloc, row)?)?;
+    fn value(&self, alloc: Global) -> Result<Value, AllocError> {
+        let grant = grant_value(alloc, self.last_grant)?;
+        let name = self.name.as_str();
+        json!(in alloc; {
+            "id": self.runner, "last_grant": grant, "live": self.live, "name": name, "paused": self.paused
+        })
     }
-    Ok(Value::Array(items))
 }
 
 /// The report of runners, in the order of their rows. Errors: memory was refused.
 pub fn runner_json(alloc: Global, rows: &[RunnerRow]) -> Result<String, AllocError>
     ensures { IfOk result (λ text. string_bytes text ≡ runner_json rows.now) }
 {
-    let runners = runners_value(alloc, rows)?;
+    let runners = listed(alloc, rows)?;
     line_of(alloc, runners)
 }

@@ -1,5 +1,5 @@
-use Rattle.std.specs.Prelude.{Ok, None, Option, option_map}
-use Rattle.std.proofs.Common.{refl, sym, ap, ◌∙◌}
+use Rattle.std.specs.Prelude.{option_map}
+use Rattle.std.proofs.Common.{sym, ap, ◌∙◌}
 use Rattle.ci_machine.specs.declared.records.Attempt.{Attempt}
 use Rattle.ci_server_events.specs.Groups.{job_holding}
 use Rattle.ci_server_lookups.proofs.Loading.{gives}

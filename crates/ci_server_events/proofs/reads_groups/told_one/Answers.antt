@@ -1,6 +1,4 @@
-use Rattle.std.specs.Prelude.{ℕ, List, Option}
 use Rattle.std.proofs.Common.{ap, ◌∙◌}
-use Rattle.ci_machine.specs.declared.records.GroupOrder.{GroupOrder}
 use Rattle.ci_machine.specs.Listings.{group_data}
 use Rattle.ci_server_events.specs.Groups.{job_holding}
 use Rattle.ci_server_lookups.proofs.Loading.{gives}

@@ -1,4 +1,4 @@
-use Rattle.std.specs.Prelude.{◌≡◌, Ok, Err, Option, Result}
+use Rattle.std.specs.Prelude.{◌≡◌, Ok, Option}
 use Rattle.std.specs.Borrow.{Bor}
 use Rattle.std.specs.Result.{result_map_both}
 use Rattle.std.proofs.Common.{sym, ap, ◌∙◌}
@@ -7,7 +7,7 @@ use Rattle.ci_machine.specs.declared.reply.Code.{Code}
 use Rattle.ci_machine.specs.Lookups.{pipeline_at}
 use Rattle.ci_machine_steps.specs.Reads.{jobs_read}
 use Rattle.ci_machine_steps.specs.Shows.{pipeline_within}
-use Rattle.ci_server_lookups.proofs.Loading.{so, gives}
+use Rattle.ci_server_lookups.proofs.Loading.{so}
 use Rattle.ci_server_events.proofs.Telling.{ok_alike}
 use Rattle.ci_server_events.proofs.reads_jobs.jobs.Goals as goal
 
@@ -24,17 +24,3 @@ returns-in-Ok g c =
     let found : pipeline_within (pipeline_at k.state n) project ≡ Ok c.in-Ok.found.now =
     ap (λ (o : Option Pipeline). pipeline_within o project) (sym at) ∙ (sym c.within.ensures ∙ ap (result_map_both (λ (p : Bor Pipeline). p.now) (λ (e : Code). e)) c.in-Ok.is) in
     ok_alike {E = Code} _ _ (told kept) ∙ ap (jobs_read k.state k.board project) (sym found))
-
--- it isn't, or there is none
-pub returns-in-Err : goal.returns-in-Err
-returns-in-Err g c =
-    let honest = g.T.Store.honest in
-    let holds = g.T.Store.holds in
-    let leaves = g.T.Store.leaves in
-    let project = c.args.project.now.id in
-    let n = c.args.number in
-    gives honest holds leaves _ _ _ c.pipeline.result c.in_ok-pipeline.pipeline (Err c.in-Err.code) c.in_ok-pipeline.was c.pipeline.ensures
-    (λ k at kept.
-    let found : pipeline_within (pipeline_at k.state n) project ≡ Err c.in-Err.code =
-    ap (λ (o : Option Pipeline). pipeline_within o project) (sym at) ∙ (sym c.within.ensures ∙ ap (result_map_both (λ (p : Bor Pipeline). p.now) (λ (e : Code). e)) c.in-Err.is) in
-    ap (jobs_read k.state k.board project) (sym found))

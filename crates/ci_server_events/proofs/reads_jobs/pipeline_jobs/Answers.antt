@@ -1,5 +1,5 @@
 use Rattle.std.specs.Prelude.{◌≡◌, List, All, true}
-use Rattle.std.proofs.Common.{refl, subst, sym, ap, ◌∙◌}
+use Rattle.std.proofs.Common.{subst, sym, ap, ◌∙◌}
 use Rattle.serde_json.specs.Data.{Data, array}
 use Rattle.serde_json.specs.View.{items_of}
 use Rattle.ci_machine.specs.declared.records.Job.{Job}

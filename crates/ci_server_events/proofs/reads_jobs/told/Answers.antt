@@ -2,8 +2,6 @@ use Rattle.std.specs.Prelude.{◌≡◌, List, length}
 use Rattle.std.proofs.Common.{ap, ◌∙◌}
 use Rattle.serde_json.specs.Data.{array}
 use Rattle.serde_json.specs.View.{items_of}
-use Rattle.ci_board.specs.declared.facts.Facts.{Facts}
-use Rattle.ci_board.specs.declared.facts.Row.{Row}
 use Rattle.ci_machine.specs.Listings.{told_jobs}
 use Rattle.ci_machine.specs.Statuses.{facts_of, rows_of}
 use Rattle.ci_machine_steps.specs.Reads.{json}

@@ -3,13 +3,12 @@ use Rattle.std.proofs.lemmas.Grind.{common_steps}
 use Rattle.serde_json.specs.Data.{array}
 use Rattle.serde_json.specs.View.{view, items_of}
 use Rattle.serde_json.proofs.Views.{view-Array}
-use Rattle.ci_report.specs.JsonText.{job_data}
-use Rattle.ci_report.proofs.json.jobs_value.Goals as goal
+use Rattle.ci_report.proofs.json.listed.Goals as goal
 
 pub loop-row-preserved : goal.loop-row-preserved
-loop-row-preserved c = grind (arith, common_steps)
+loop-row-preserved g c = grind (arith, common_steps)
 
 pub returns : goal.returns
-returns c =
-    let all : map view c.loop-row.items.items ≡ map job_data c.args.rows.now = grind (arith, common_steps) in
+returns g c =
+    let all : map view c.loop-row.items.items ≡ map g.T.Told.told c.args.rows.now = grind (arith, common_steps) in
     view-Array _ ∙ ap (λ ds. array (items_of ds)) all
