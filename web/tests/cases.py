@@ -224,9 +224,8 @@ def test_a_trace_grows_and_is_asked_from_where_it_was(stand, browser):
     browser.run("window.whole = []; const was = window.fetch; window.fetch = async (url, more) => { const reply = await was(url, more); if (url.endsWith('/trace')) window.whole.push([more.headers.Range || null, reply.status]); return reply; }")
     time.sleep(1)
     grant.says("line, in ü")
-    time.sleep(1)
-    grant.says("\n" + "".join(f"line {n}\n" for n in range(3, 601)))
     assert browser.sees("[data-line='2'] .text", "^second line, in ü$")
+    grant.says("\n" + "".join(f"line {n}\n" for n in range(3, 601)))
     assert browser.sees("[data-line='600'] .text", "^line 600$")
     assert browser.run("return document.querySelector('[data-line=\"1\"]').dataset.mine") == "yes"
     assert browser.run("const it = document.querySelector('.log'); return it.scrollHeight - it.scrollTop - it.clientHeight") < 60
@@ -334,7 +333,8 @@ def test_a_trace_that_is_a_script_stays_text(stand, browser):
 
 def test_what_waits_is_told_with_why(stand, browser):
     one = stand.pipeline(GROUPS)["id"]
-    stand.pipeline(CHAIN)
+    # Of another branch, so that it makes the first no less wanted.
+    stand.pipeline(CHAIN, "next")
     first = stand.take()
     assert first.name == "first"
     browser.open("#/waiting")
