@@ -1,9 +1,13 @@
 -- Objects of JSON, as far as they are made, and a part of one.
-use Rattle.std.specs.Prelude.{codes}
-use Rattle.serde_json.specs.Data.{Data, Members, object, member, no_members, string, number, unsigned}
-use Rattle.serde_json.specs.View.{members_view}
+use Rattle.std.specs.Prelude.{List, map, codes}
+use Rattle.serde_json.specs.Data.{Data, Members, array, object, member, no_members, string, number, unsigned}
+use Rattle.serde_json.specs.View.{members_view, items_of}
 use Rattle.ci_machine.specs.declared.records.QueuedJob.{QueuedJob}
-use Rattle.ci_machine.specs.Listings.{group_data}
+use Rattle.ci_machine.specs.declared.records.Runner.{Runner}
+use Rattle.ci_machine.specs.declared.records.Attempt.{Attempt}
+use Rattle.ci_machine.specs.declared.records.Need.{Need}
+use Rattle.ci_machine.specs.declared.records.Job.{Job}
+use Rattle.ci_machine.specs.Listings.{attempt_data, attempts_among, group_data, listed, needs_among, text_or_null}
 use Rattle.ci_machine_plans.specs.declared.object.Object.{Object}
 use Rattle.ci_machine_plans.specs.declared.listed_jobs.ToldGroup.{ToldGroup}
 
@@ -16,6 +20,14 @@ job_info_data q =
     object (member (codes "name") (string q.job.name)
     (member (codes "project_id") (number (unsigned q.project))
     (member (codes "stage") (string q.job.stage) no_members)))
+
+-- what is told of a job by these runners, pairs of a graph and attempts
+abbrev pub around_members : List Runner → List Need → List Attempt → Job → Members
+around_members runners needs attempts j =
+    member (codes "attempts") (array (items_of (map (attempt_data runners) (attempts_among attempts j.id))))
+    (member (codes "needs") (listed (λ n. number (unsigned n)) (needs_among needs j.id))
+    (member (codes "resource_group") (text_or_null j.options.resource_group)
+    (member (codes "tag_list") (listed string j.options.tags) no_members)))
 
 -- a resource group with its process mode, and the job whose live attempt holds it
 abbrev pub told_group : ToldGroup → Data

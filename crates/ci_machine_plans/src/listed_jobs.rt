@@ -6,17 +6,18 @@ ghost use Rattle.serde_json.specs.Data.{array, number, unsigned};
 ghost use Rattle.serde_json.specs.View.{view, items_of};
 ghost use Rattle.ci_machine.specs.Listings.{listed, text_or_null, needs_among, told_job, told_jobs};
 ghost use Rattle.ci_machine_steps.specs.Reads.{json};
-ghost use Rattle.ci_machine_plans.specs.Objects.{told_group};
+ghost use Rattle.ci_machine_plans.specs.Objects.{members_of, around_members, told_group};
 
 use crate::body::lines;
 use crate::listings::{attempts_value_of, body_of, number_or_null};
+use crate::object::Object;
 use ci_board::effect::is_allowed;
 use ci_board::facts::{Facts, Row};
 use ci_machine::records::{Attempt, Claim, GroupOrder, Job, Need, Runner, process_mode, when_text};
 use ci_machine::reply::Body;
 use ci_machine::report::ShownStatus;
 use ci_machine::text::Text;
-use serde_json::{Number, Value, json};
+use serde_json::{Number, Value};
 use std::alloc::{AllocError, Global};
 
 /// What is told of the jobs of a pipeline beside themselves.
@@ -65,6 +66,20 @@ fn needs_value(alloc: Global, needs: &[Need], job: u64) -> Result<Value, AllocEr
     Ok(Value::Array(items))
 }
 
+/// What is told of a job that isn't one word or number: its attempts, the jobs that it waits for, its resource group and its tags.
+fn around_object(alloc: Global, around: &Around, job: &Job) -> Result<Object, AllocError>
+    ensures { IfOk result (λ o. members_of o ≡ around_members around.now.runners.now around.now.needs.now around.now.attempts.now job.now) }
+{
+    let attempts = attempts_value_of(alloc, around.runners, around.attempts, job.id)?;
+    let told = Object::new(alloc).with(alloc, "attempts", attempts)?;
+    let needs = needs_value(alloc, around.needs, job.id)?;
+    let told = told.with(alloc, "needs", needs)?;
+    let group = text_value(alloc, &job.options.resource_group)?;
+    let told = told.with(alloc, "resource_group", group)?;
+    let tags = lines(alloc, job.options.tags.as_slice())?;
+    told.with(alloc, "tag_list", tags)
+}
+
 /// A job with its facts and its row.
 fn job_value(
     alloc: Global,
@@ -75,19 +90,16 @@ fn job_value(
 ) -> Result<Value, AllocError>
     ensures { IfOk result (λ v. view v ≡ told_job around.now.claims.now around.now.project around.now.runners.now around.now.needs.now around.now.attempts.now job.now facts row) }
 {
-    let attempts = attempts_value_of(alloc, around.runners, around.attempts, job.id)?;
-    let needs = needs_value(alloc, around.needs, job.id)?;
-    let group = text_value(alloc, &job.options.resource_group)?;
-    let tags = lines(alloc, job.options.tags.as_slice())?;
-    let status = ShownStatus::of(around.claims, around.project, job, row.status).as_str();
     let allowed = is_allowed(&job.options.part, facts, row.status);
-    let name = job.name.as_str();
-    let stage = job.stage.as_str();
-    let when = when_text(job.options.part.when);
-    json!(in alloc; {
-        "allow_failure": allowed, "attempts": attempts, "id": job.id, "name": name, "needs": needs,
-        "resource_group": group, "stage": stage, "status": status, "tag_list": tags, "when": when
-    })
+    let status = ShownStatus::of(around.claims, around.project, job, row.status).as_str();
+    let told = around_object(alloc, around, job)?;
+    let told = told.with_flag(alloc, "allow_failure", allowed)?;
+    let told = told.with_number(alloc, "id", job.id)?;
+    let told = told.with_text(alloc, "name", job.name.as_str())?;
+    let told = told.with_text(alloc, "stage", job.stage.as_str())?;
+    let told = told.with_text(alloc, "status", status)?;
+    let told = told.with_text(alloc, "when", when_text(job.options.part.when))?;
+    Ok(told.into_value())
 }
 
 /// Jobs, each with its facts and its row.
@@ -129,10 +141,10 @@ pub fn jobs(
 fn group_value(alloc: Global, group: &ToldGroup) -> Result<Value, AllocError>
     ensures { IfOk result (λ v. view v ≡ told_group group.now) }
 {
-    let holder = number_or_null(group.holder);
-    let key = group.key.as_str();
-    let mode = process_mode(group.order);
-    json!(in alloc; {"holder": holder, "key": key, "process_mode": mode})
+    let told = Object::new(alloc).with(alloc, "holder", number_or_null(group.holder))?;
+    let told = told.with_text(alloc, "key", group.key.as_str())?;
+    let told = told.with_text(alloc, "process_mode", process_mode(group.order))?;
+    Ok(told.into_value())
 }
 
 /// Resource groups, one after the other.

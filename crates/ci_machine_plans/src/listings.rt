@@ -1,22 +1,23 @@
 //! What is read of a project and of what it has: as compact JSON, the members of each object in the order of their bytes.
 
-ghost use Rattle.std.specs.Prelude.{◌≡◌, false, find, map, ◌==◌, IfOk};
+ghost use Rattle.std.specs.Prelude.{◌≡◌, false, find, map, ◌==◌, codes, IfOk};
 ghost use Rattle.std.specs.Option.{option_copied};
-ghost use Rattle.serde_json.specs.Data.{array};
+ghost use Rattle.serde_json.specs.Data.{array, member, no_members};
 ghost use Rattle.serde_json.specs.View.{view, items_of};
 ghost use Rattle.serde_json.specs.Written.{compact_text, has_float};
 ghost use Rattle.ci_machine.specs.Listings.{number_or_null, text_or_null, listed, project_data, is_tag, listed_pipeline_data, exit_of, reason_of, runner_or_null, attempt_data, attempts_among};
 ghost use Rattle.ci_machine_steps.specs.Reads as reads;
+ghost use Rattle.ci_machine_plans.specs.Objects.{members_of};
 
+use crate::object::Object;
 use crate::replies::{fine, refused, unchanged};
 use ci_machine::change::Changes;
-use ci_machine::moment::stamp_text;
 use ci_machine::records::{
     Attempt, AttemptState, PipelineWithStatus, Project, RefKind, Runner, cause_text,
 };
 use ci_machine::reply::{Body, Code, JobStatus, Reply};
 use ci_machine::text::Text;
-use serde_json::{Number, Value, json};
+use serde_json::{Number, Value};
 use std::alloc::{AllocError, Global};
 
 /// A number, or null where there is none.
@@ -69,29 +70,35 @@ fn runner_or_null(alloc: Global, runner: Option<&Runner>) -> Result<Value, Alloc
 {
     match runner {
         Some(runner) => {
-            let name = runner.name.as_str();
-            json!(in alloc; {"id": runner.id, "name": name})
+            let told = Object::new(alloc).with_number(alloc, "id", runner.id)?;
+            let told = told.with_text(alloc, "name", runner.name.as_str())?;
+            Ok(told.into_value())
         }
         None => Ok(Value::Null),
     }
+}
+
+/// How an attempt in this state ended, of what is told of it.
+fn ended_object(alloc: Global, state: AttemptState) -> Result<Object, AllocError>
+    ensures { IfOk result (λ o. members_of o ≡ member (codes "exit_code") (number_or_null (exit_of state)) (member (codes "failure_reason") (text_or_null (reason_of state)) no_members)) }
+{
+    let reason = reason_value(alloc, state)?;
+    let told = Object::new(alloc).with(alloc, "exit_code", exit_value(state))?;
+    told.with(alloc, "failure_reason", reason)
 }
 
 /// An attempt of one of these runners.
 fn attempt_value(alloc: Global, runners: &[Runner], attempt: &Attempt) -> Result<Value, AllocError>
     ensures { IfOk result (λ v. view v ≡ attempt_data runners.now attempt.now) }
 {
-    let exit = exit_value(attempt.state);
-    let reason = reason_value(alloc, attempt.state)?;
-    let heard = stamp_text(alloc, attempt.seen)?;
-    let heard = heard.as_str();
     let runner = runner_or_null(alloc, runner_at(runners, attempt.runner))?;
-    let started = stamp_text(alloc, attempt.granted)?;
-    let started = started.as_str();
-    let status = JobStatus::of(attempt.state).as_str();
-    json!(in alloc; {
-        "exit_code": exit, "failure_reason": reason, "heard_at": heard, "id": attempt.id,
-        "runner": runner, "started_at": started, "status": status
-    })
+    let told = ended_object(alloc, attempt.state)?;
+    let told = told.with_moment(alloc, "heard_at", attempt.seen)?;
+    let told = told.with_number(alloc, "id", attempt.id)?;
+    let told = told.with(alloc, "runner", runner)?;
+    let told = told.with_moment(alloc, "started_at", attempt.granted)?;
+    let told = told.with_text(alloc, "status", JobStatus::of(attempt.state).as_str())?;
+    Ok(told.into_value())
 }
 
 /// These attempts, of these runners.
@@ -131,8 +138,9 @@ pub(crate) fn attempts_value_of(
 fn project_value(alloc: Global, project: &Project) -> Result<Value, AllocError>
     ensures { IfOk result (λ v. view v ≡ project_data project.now) }
 {
-    let name = project.name.as_str();
-    json!(in alloc; {"id": project.id, "name": name})
+    let told = Object::new(alloc).with_number(alloc, "id", project.id)?;
+    let told = told.with_text(alloc, "name", project.name.as_str())?;
+    Ok(told.into_value())
 }
 
 /// Is what a pipeline runs for a tag?
@@ -150,16 +158,13 @@ fn pipeline_value(alloc: Global, listed: &PipelineWithStatus) -> Result<Value, A
     ensures { IfOk result (λ v. view v ≡ listed_pipeline_data listed.now) }
 {
     let pipeline = &listed.pipeline;
-    let created = stamp_text(alloc, pipeline.created)?;
-    let created = created.as_str();
-    let git_ref = pipeline.git_ref.as_str();
-    let source = pipeline.source.as_str();
-    let status = listed.status.as_str();
-    let tag = is_tag(pipeline.kind);
-    json!(in alloc; {
-        "created_at": created, "id": pipeline.id, "ref": git_ref, "source": source,
-        "status": status, "tag": tag
-    })
+    let told = Object::new(alloc).with_moment(alloc, "created_at", pipeline.created)?;
+    let told = told.with_number(alloc, "id", pipeline.id)?;
+    let told = told.with_text(alloc, "ref", pipeline.git_ref.as_str())?;
+    let told = told.with_text(alloc, "source", pipeline.source.as_str())?;
+    let told = told.with_text(alloc, "status", listed.status.as_str())?;
+    let told = told.with_flag(alloc, "tag", is_tag(pipeline.kind))?;
+    Ok(told.into_value())
 }
 
 /// These pipelines, each with its status.

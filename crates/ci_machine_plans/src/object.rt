@@ -5,8 +5,10 @@ ghost use Rattle.std.specs.Prelude.{◌≡◌, false, IfOk};
 ghost use Rattle.serde_json.specs.Data.{no_members, boolean, number, string, object, unsigned, put as with_member};
 ghost use Rattle.serde_json.specs.View.{view};
 ghost use Rattle.serde_json.specs.Written.{compact_text, has_float};
+ghost use Rattle.ci_machine.specs.Dates.{stamp_text};
 ghost use Rattle.ci_machine_plans.specs.Objects.{members_of};
 
+use ci_machine::moment::{Moment, stamp_text};
 use ci_machine::text::Text;
 use serde_json::{Map, Number, Value, put};
 use std::alloc::{AllocError, Global};
@@ -65,6 +67,19 @@ impl Object {
         ensures { IfOk result (λ o. members_of o ≡ with_member key.now (string text.now) (members_of self)) }
     {
         let value = Value::try_from_str(alloc, text)?;
+        self.with(alloc, key, value)
+    }
+
+    /// The object with this moment at the key, as `YYYY-MM-DDThh:mm:ssZ`.
+    pub(crate) fn with_moment(
+        self,
+        alloc: Global,
+        key: &str,
+        moment: Moment,
+    ) -> Result<Object, AllocError>
+        ensures { IfOk result (λ o. members_of o ≡ with_member key.now (string (stamp_text moment)) (members_of self)) }
+    {
+        let value = Value::String(stamp_text(alloc, moment)?);
         self.with(alloc, key, value)
     }
 
