@@ -35,7 +35,7 @@ class Browser:
         options.set_capability("goog:loggingPrefs", {"browser": "ALL"})
         self.driver = webdriver.Chrome(service=Service(shutil.which("chromedriver"), env=self.environment()), options=options)
         self.size, self.stand = (width, height), None
-        self.driver.set_page_load_timeout(60)
+        self.driver.set_page_load_timeout(WAIT)
 
     def environment(self):
         homes = {name: self.room.name for name in ("HOME", "TMPDIR", "XDG_CACHE_HOME", "XDG_CONFIG_HOME", "XDG_DATA_HOME", "XDG_RUNTIME_DIR")}

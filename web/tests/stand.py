@@ -14,7 +14,7 @@ import mock
 HERE = os.path.dirname(os.path.realpath(__file__))
 ROOT = os.path.dirname(os.path.dirname(HERE))
 # So many seconds something may take to come, also where the machine is busy.
-WAIT = 45
+WAIT = 120
 
 
 def free_port():
@@ -125,7 +125,7 @@ class Stand:
     def send(self, method, path, data=None, fields=None):
         """A request at the server itself; answers the body's JSON, or None."""
         asked = urllib.request.Request(f"http://127.0.0.1:{self.server.port}/api/v4{path}", data, fields or {}, method=method)
-        with urllib.request.urlopen(asked, timeout=20) as reply:
+        with urllib.request.urlopen(asked, timeout=WAIT) as reply:
             body = reply.read()
         return json.loads(body) if body[:1] in (b"{", b"[") else None
 
