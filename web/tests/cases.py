@@ -71,6 +71,14 @@ def asked(browser, since=0):
     return browser.run("return performance.getEntriesByType('resource').filter(it => it.name.includes('/api/')).map(it => it.startTime).filter(it => it >= arguments[0])", since)
 
 
+def gaps(browser):
+    """How many requests the page made before it asked for anything once more, and the milliseconds between two requests from there on."""
+    told = browser.run("return performance.getEntriesByType('resource').filter(it => it.name.includes('/api/')).map(it => [it.startTime, it.name])")
+    names = [name for _, name in told]
+    first = next((count for count, name in enumerate(names) if name in names[:count]), len(names))
+    return first, [after - before for (before, _), (after, _) in pairwise(told[max(0, first - 1):])]
+
+
 def asks_again(browser, count=1):
     """Waits until the page has asked so many times more, and drawn what came of all but the last."""
     before = len(asked(browser))
@@ -397,12 +405,11 @@ def test_it_asks_once_in_two_seconds_and_not_while_hidden(stand, browser):
         browser.open(where)
         assert browser.sees("main .chip")
         # What is to be shown is asked for at once: at most eight requests.
-        gaps = lambda: [after - before for before, after in pairwise(asked(browser))]
-        assert until(lambda: len(gaps()) >= 3 and min(gaps()[-3:]) > 1000), (where, gaps())
-        slow = next(n for n, gap in enumerate(gaps()) if gap > 1000)
-        assert slow < 8, (where, gaps())
-        # Of the gaps those are measured that the browser sees, which may begin a little late.
-        assert min(gaps()[slow:]) >= 1900, (where, gaps())
+        assert until(lambda: len(gaps(browser)[1]) >= 3), (where, gaps(browser))
+        at_once, others = gaps(browser)
+        assert 0 < at_once <= 8, (where, at_once)
+        # Where the machine is busy, a request begins a little after the moment from which the page counts.
+        assert min(others) >= 1800, (where, others)
     hidden = browser.run("Object.defineProperty(document, 'hidden', {configurable: true, value: true}); document.dispatchEvent(new Event('visibilitychange')); return performance.now()")
     assert stays(lambda: asked(browser, hidden) == [], 7)
     shown = browser.run("delete document.hidden; document.dispatchEvent(new Event('visibilitychange')); return performance.now()")
