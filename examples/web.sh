@@ -6,8 +6,8 @@ set -eu
 here=$(realpath "$(dirname "$0")") room=$(mktemp -d) PATH=$PATH:/usr/sbin
 trap 'rm -rf "$room"' EXIT
 trap 'exit 130' INT TERM
-port=$((20000 + RANDOM % 20000))
-while (: < "/dev/tcp/127.0.0.1/$port") 2> /dev/null; do port=$((20000 + RANDOM % 20000)); done
+port=$((20000 + RANDOM % 12000))
+while (: < "/dev/tcp/127.0.0.1/$port") 2> /dev/null; do port=$((20000 + RANDOM % 12000)); done
 {
   [ "$(id -u)" != 0 ] || echo 'user root;'
   printf 'daemon off; worker_processes 1; pid %s/pid; events {} http { include /etc/nginx/mime.types; access_log %s/asked;\n' "$room" "$room"

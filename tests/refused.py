@@ -5,7 +5,7 @@ An event is tried as the server stands then, and once more by one that was opene
   answered   it was answered as ever, and left the rows that it should
   M16        it told of refused memory, and the rows were as before; the same once more was answered as ever, and left the rows that it should
   silent     its connection ended without a reply, and then the same
-  unheard    so, and it has happened: only where its reply is over 4,096 bytes
+  unheard    so, and it has happened, as far as rows can tell: only where its reply is over 4,096 bytes
   wordless   a command said that its words can't be read, and then the same
   unswept    it was answered as before the sweep that goes before it; the same once more found all swept
   M17        with --all only: the same once more was M17, and over what it left a server opens, with the rows from before, or those that it should leave

@@ -247,18 +247,26 @@ class Trials:
         elif end == 'M17':
             self.look_reopened()
         elif rows == self.before:
-            return self.look_again(end, self.kind.wanted, self.answer)
+            end = self.look_again(end, self.kind.wanted, self.answer)
+            return 'unheard' if end == 'silent' and self.is_read_unheard() else end
         elif rows != self.after:
             raise Difference(f'{end}, and the rows are others')
         elif self.kind.unswept:
             return self.look_again(end, self.kind.wanted, self.answer)
         elif self.kind.repeated:
             return self.look_again(end, self.kind.repeated)
-        elif end == 'silent' and isinstance(self.answer, bytes) and len(self.answer) > ROOM_BYTES:
+        elif end == 'silent' and self.is_long():
             return 'unheard'
         else:
             raise Difference(f'{end}, and it has happened')
         return end
+
+    def is_long(self):
+        return isinstance(self.answer, bytes) and len(self.answer) > ROOM_BYTES
+
+    def is_read_unheard(self):
+        """Of what changes nothing no row tells whether it has happened. It has where an earlier trial was told that memory was refused within it."""
+        return self.is_long() and self.before == self.after and 'M16' in self.ends
 
     def look_again(self, end, wanted, answer=None):
         """Demands that the same once more is answered so, and leaves the rows that it should. Where it was silent, its sweep may have closed the server."""

@@ -61,6 +61,10 @@ class Client(Case):
         self.addCleanup(client.session.close)
         return client
 
+    def projects(self):
+        """The project as it was got, and as one that nobody asked for."""
+        return [self.gitlab.projects.get(1), self.gitlab.projects.get(1, lazy=True)]
+
     def refused(self, kind, status, code, call):
         """The client raises an error of this kind, which has the status and the body."""
         with self.assertRaises(kind) as raised:
@@ -77,14 +81,14 @@ class Client(Case):
         self.assertEqual(project.name, 'hello')
 
     def test_pipelines_are_listed(self):
-        for project in (self.gitlab.projects.get(1), self.gitlab.projects.get(1, lazy=True)):
+        for project in self.projects():
             self.assertEqual(listed(project.pipelines.list()), PIPELINES)
             self.assertEqual(listed(project.pipelines.list(get_all=True)), PIPELINES)
             self.assertEqual(listed(project.pipelines.list(iterator=True)), PIPELINES)
 
     def test_a_pipeline_is_got_with_its_jobs(self):
-        project = self.gitlab.projects.get(1, lazy=True)
-        for pipeline in (project.pipelines.get(1), project.pipelines.get(1, lazy=True), project.pipelines.list()[1]):
+        for pipeline in [pipeline for project in self.projects()
+                         for pipeline in (project.pipelines.get(1), project.pipelines.get(1, lazy=True), project.pipelines.list()[1])]:
             jobs = pipeline.jobs.list(get_all=True)
             self.assertEqual([(job.id, job.name, job.stage, job.status, job.when, job.allow_failure, job.tag_list) for job in jobs],
                              [(1, 'build', 'build', 'success', 'on_success', False, ['linux']),
@@ -93,13 +97,15 @@ class Client(Case):
             self.assertEqual([job.attempts for job in jobs], [[ATTEMPT], [], []])
             self.assertEqual([job.needs for job in jobs], [[], [1], [1, 2]])
             self.assertEqual([job.resource_group for job in jobs], [None, None, 'prod'])
-        self.assertEqual(project.pipelines.get(1).status, 'running')
+        for project in self.projects():
+            self.assertEqual([project.pipelines.get(number).status for number in (1, 2)], ['running', 'pending'])
 
     def test_a_job_is_got_with_its_trace(self):
-        project = self.gitlab.projects.get(1, lazy=True)
-        for job in (project.jobs.get(1), project.jobs.get(1, lazy=True)):
-            self.assertEqual(job.trace(), b'hello')
-        self.assertEqual(project.jobs.get(2).status, 'pending')
+        for project in self.projects():
+            for job in (project.jobs.get(1), project.jobs.get(1, lazy=True)):
+                self.assertEqual(job.trace(), b'hello')
+            self.assertEqual([project.jobs.get(number).status for number in (1, 2, 3)], ['success', 'pending', 'created'])
+            self.assertEqual([project.jobs.get(job.id).name for job in project.pipelines.get(1).jobs.list()], ['build', 'unit', 'ship'])
 
     def test_a_pipeline_and_its_jobs_are_acted_on(self):
         project = self.gitlab.projects.get(1, lazy=True)

@@ -97,7 +97,8 @@ class Counted(RefusedWorld):
         for line in (f'running j{busy}', f'append j{busy} 0 abc', f'success j{busy}', 'set-variable 1 A b', 'set-mode 2 dev oldest_first',
                      'show-mode 2 dev', 'ask r4', f'success j{wide}', 'ask r4', f'success j{ships}', 'ask r2', 'create 3 more',
                      f'cancel-pipeline 2 {self.count + 2}', 'create 1 newer', 'ask r3', 'retry 1 1', 'ask r3', 'show-job 1 2',
-                     'show-pipeline 1 2', f'at 1010 {IDLE}', f'at 1119 {IDLE}'):
+                     'show-pipeline 1 2', 'show-project 1', 'list-jobs 1 2', 'list-attempts 1 2', 'trace-of 1 2 2', 'list-groups 3',
+                     f'at 1010 {IDLE}', f'at 1119 {IDLE}'):
             see(line)
         return found
 

@@ -3,21 +3,24 @@ within it, at a random call of its store, where what wasn't synced may be lost t
 answers the same event as the first one did.
 
 After each transaction the rows of statuses and of held groups are those that the records give; each sweep does what a rule of the tests' own says
-(choices.py), each runner is given the job that it names, by the process modes that groups have by then, and the pipelines are pruned that it names.
+(choices.py), each runner is given the job that it names, by the process modes that groups have by then, and the pipelines are pruned that it names. What is
+read of a project is what such a rule says (listings.py).
 """
 import json
 import random
 
 from cases import Case, tell
 from choices import state
-from events import DAY, MODES
+from events import DAY, MODES, quoted
 from lines import Fault
+from listings import wanted as listed
 from transactions import Log, swept
 
-EVENTS = 500
+EVENTS = 600
 LIFE = 40  # events, on an average, between two stops of the server that goes on
 JOBS, PIPELINES = 8, 24  # of a pipeline at most; made at most
-LEAST = {'attempts': 20, 'refused': 20, 'held back': 2, 'ended': 3, 'cancelled': 2, 'pruned': 2, 'stopped within': 10, 'found before': 5}
+LEAST = {'attempts': 20, 'refused': 20, 'held back': 2, 'ended': 3, 'cancelled': 2, 'pruned': 2, 'stopped within': 10, 'found before': 5,
+         'read': 40, 'traces': 1, 'not there': 5}
 # Half of the moments lie before this one, by which pipelines are pruned.
 MIDNIGHT = DAY
 FILES = {
@@ -86,6 +89,7 @@ try:
   script: x
 """.lstrip(),
 }
+READS = ['show-project', 'list-pipelines', 'list-jobs', 'list-attempts', 'trace-of', 'list-groups']
 # Runners of the instance, with and without tags, and one of each project.
 BEGINNING = ['add-project p', 'add-project p', 'add-runner r', 'add-runner r tags linux,arm tagged-only', 'add-runner r project 1 tags linux',
              'add-runner r project 2', 'set-file 1 mixed', 'set-file 2 other', 'create 1 main', 'create 2 main']
@@ -98,6 +102,8 @@ class Course:
         self.random = random.Random(seed)
         self.counts = dict.fromkeys(LEAST, 0)
         self.pipelines = 2
+        # Of each attempt its job.
+        self.granted = {}
 
     def below(self, bound):
         return self.random.randrange(bound)
@@ -126,15 +132,27 @@ class Course:
         return self.random.choice([f'play 1 {job}', f'play 1 {job}', f'cancel-job 1 {job}', f'retry 1 {job}', f'retry 1 {job}',
                                    f'cancel-pipeline 1 {1 + self.below(PIPELINES + 1)}', mode, mode])
 
+    def read(self):
+        """What is read of a project, mostly of what came last."""
+        project, pipeline = 1 + self.below(2), max(1, self.pipelines - self.below(5))
+        attempt = max(1, self.counts['attempts'] - self.below(8))
+        job = self.granted.get(attempt, 1)
+        return self.random.choice([f'show-project {project}', f'list-pipelines {project}', f'list-groups {project}', f'list-jobs {project} {pipeline}',
+                                   f'list-jobs 1 {pipeline}', f'list-attempts 1 {job}', f'list-attempts 1 {self.job()}', f'trace-of 1 {job} {attempt}',
+                                   f'trace-of 1 {job} {attempt}', f'trace-of 1 {self.job()} {attempt}'])
+
     def request(self):
-        draw = self.below(21)
+        if self.below(6) == 0:
+            return self.read()
+        draw = self.below(22)
         if draw < 2 and self.pipelines < PIPELINES:
             return self.creation()
         if draw < 8:
             return f'ask r{self.below(6)}'
         if draw < 14:
             return self.report()
-        return self.act() if draw < 20 else f'append j1 {5 * self.below(2)} "hello"'
+        attempt = max(1, self.counts['attempts'] - self.below(3))
+        return self.act() if draw < 20 else f'append j{attempt} {5 * self.below(2)} "hello"'
 
     def command(self):
         runner = 1 + self.below(5)
@@ -208,6 +226,9 @@ class RandomEvents(Case):
         words = line.split(' ')
         if words[0] == 'ask':
             self.foretold_ask(int(words[1][1:]), before, after, answer)
+        if words[0] in READS:
+            self.assertEqual(before.tables, after.tables)
+            self.foretold_read(line, after, answer)
         if words[0] == 'set-mode':
             self.assertEqual(answer, f'200 {{"key":"{words[2]}","process_mode":"{words[3]}"}}')
             self.assertEqual(after.modes.get((int(words[1]), words[2]), 0), MODES.index(words[3]))
@@ -230,8 +251,17 @@ class RandomEvents(Case):
         self.course.count('attempts')
         self.assertEqual(answer[:4], '201 ')
         made = self.course.counts['attempts']
+        self.course.granted[made] = job
         self.assertEqual(json.loads(answer[4:])['id'], made)
         self.assertEqual([row[1:3] for row in after.tables['attempt'] if row[0] == made], [(job, number)])
+
+    def foretold_read(self, line, state, answer):
+        wanted = listed(state, line)
+        if isinstance(wanted, bytes):
+            self.course.count('traces', bool(wanted))
+            wanted = f'200 {quoted(wanted)}' if wanted else '200'
+        self.course.count('not there' if wanted == '404 M3' else 'read')
+        self.assertEqual(answer, wanted)
 
     def command(self, line):
         """A command, for which both servers stop."""

@@ -2,9 +2,11 @@
 import os
 import re
 import shutil
+import tempfile
 
 from selenium import webdriver
-from selenium.common.exceptions import NoSuchElementException, StaleElementReferenceException
+from selenium.common.exceptions import (ElementClickInterceptedException, ElementNotInteractableException, NoSuchElementException,
+                                        StaleElementReferenceException)
 from selenium.webdriver.chrome.options import Options
 from selenium.webdriver.chrome.service import Service
 from selenium.webdriver.common.by import By
@@ -13,20 +15,31 @@ from selenium.webdriver.common.keys import Keys
 from stand import until, WAIT
 
 
+# What a browser says of an element that the page has just drawn anew, or that isn't where it may be clicked yet.
+MOVING = (ElementClickInterceptedException, ElementNotInteractableException, StaleElementReferenceException)
+
+
 class Browser:
     def __init__(self, width=1360, height=900):
+        # All that it writes goes with it.
+        self.room = tempfile.TemporaryDirectory(prefix="page-browser-", ignore_cleanup_errors=True)
         options = Options()
         options.binary_location = shutil.which("chromium")
         words = ["--headless=new", "--disable-gpu", "--lang=en-GB", "--disable-dev-shm-usage", f"--window-size={width},{height}", "--hide-scrollbars",
                  "--force-prefers-reduced-motion",
                  # A mouse, which a browser without a screen doesn't have by itself.
-                 "--blink-settings=primaryHoverType=2,availableHoverTypes=2,primaryPointerType=4,availablePointerTypes=4", "--disable-extensions", "--disable-background-networking", "--disable-component-update", "--no-first-run", "--mute-audio"]
+                 "--blink-settings=primaryHoverType=2,availableHoverTypes=2,primaryPointerType=4,availablePointerTypes=4", "--disable-extensions",
+                 "--disable-background-networking", "--disable-component-update", "--no-first-run", "--mute-audio", f"--user-data-dir={self.room.name}/profile"]
         for word in words + (["--no-sandbox"] if os.getuid() == 0 else []):
             options.add_argument(word)
         options.set_capability("goog:loggingPrefs", {"browser": "ALL"})
-        self.driver = webdriver.Chrome(service=Service(shutil.which("chromedriver")), options=options)
+        self.driver = webdriver.Chrome(service=Service(shutil.which("chromedriver"), env=self.environment()), options=options)
         self.size, self.stand = (width, height), None
-        self.driver.set_page_load_timeout(60)
+        self.driver.set_page_load_timeout(WAIT)
+
+    def environment(self):
+        homes = {name: self.room.name for name in ("HOME", "TMPDIR", "XDG_CACHE_HOME", "XDG_CONFIG_HOME", "XDG_DATA_HOME", "XDG_RUNTIME_DIR")}
+        return {name: value for name, value in os.environ.items() if name != "DISPLAY"} | homes
 
     def at(self, stand):
         """Begins anew, before another server."""
@@ -38,7 +51,25 @@ class Browser:
         return self
 
     def end(self):
+        """It has ended when this returns, and left nothing."""
         self.driver.quit()
+        left = until(lambda: not self.processes())
+        self.room.cleanup()
+        if not left or os.path.exists(self.room.name):
+            raise AssertionError(f"the browser left something: {self.processes()} {self.room.name}")
+
+    def processes(self):
+        """The processes that have this browser's room among their words."""
+        found = []
+        for number in filter(str.isdigit, os.listdir("/proc")):
+            try:
+                with open(f"/proc/{number}/cmdline", "rb") as file:
+                    words = file.read()
+            except OSError:
+                continue
+            if self.room.name.encode() in words:
+                found.append(int(number))
+        return found
 
     def command(self, name, **words):
         return self.driver.execute_cdp_cmd(name, words)
@@ -90,7 +121,7 @@ class Browser:
             found = self.find(selector)
             try:
                 return found is not None and found.is_displayed() and (found.click() or True)
-            except StaleElementReferenceException:
+            except MOVING:
                 return False
         if not until(done):
             raise AssertionError(f"nothing to press: {selector}")

@@ -172,7 +172,7 @@ class Shots:
     def take(self, name, where, prepare=lambda: None, full=False, is_in=True):
         if self.wanted and name not in self.wanted:
             return
-        self.browser.metrics(*((390, 844, True) if name.endswith("phone") else (1360, 900)))
+        self.browser.metrics(*((390, 844, True) if name.endswith("phone") else (1400, 900)))
         self.browser.open(where, is_in)
         prepare()
         self.browser.shot(f"{self.folder}/{name}.png", full=full)

@@ -8,6 +8,7 @@ It wants Debian's chromium, chromium-driver, nginx and python3-selenium.
 import importlib.util
 import os
 import shutil
+import signal
 import sys
 import time
 import traceback
@@ -65,6 +66,8 @@ def main():
         print(f"no such test: {', '.join(unknown)}", file=sys.stderr)
         return 2
     passed = failed = 0
+    # Where it is told to end, it ends what it began.
+    signal.signal(signal.SIGTERM, lambda *_: sys.exit(143))
     browser = Browser()
     try:
         for name in words or tests:

@@ -1,7 +1,7 @@
 """What the tests of the page stand on: a server (the mock, or a ciserver), nginx in front of it by examples/web.sh, and runners that do as they are told."""
 import json
 import os
-import signal
+import random
 import socket
 import subprocess
 import tempfile
@@ -14,13 +14,20 @@ import mock
 HERE = os.path.dirname(os.path.realpath(__file__))
 ROOT = os.path.dirname(os.path.dirname(HERE))
 # So many seconds something may take to come, also where the machine is busy.
-WAIT = 45
+WAIT = 120
 
 
 def free_port():
-    with socket.socket() as it:
-        it.bind(("127.0.0.1", 0))
-        return it.getsockname()[1]
+    """A port that nobody listens at, and none of those that connections are given as they are made: one of these could have it while a server is lost."""
+    while True:
+        port = random.randrange(10000, 20000)
+        with socket.socket() as it:
+            it.setsockopt(socket.SOL_SOCKET, socket.SO_REUSEADDR, 1)
+            try:
+                it.bind(("127.0.0.1", port))
+                return port
+            except OSError:
+                continue
 
 
 class Mock:
@@ -29,8 +36,8 @@ class Mock:
     def __init__(self):
         self.world = mock.World()
         self.project, self.shell, self.gpu = self.world.token, self.world.add_runner("shell", (), True), self.world.add_runner("gpu", ("gpu",))
-        self.server = mock.served(self.world)
-        self.port = self.server.server_address[1]
+        self.port = free_port()
+        self.find()
 
     def lose(self):
         self.server.shutdown()
@@ -62,6 +69,7 @@ class Real:
         words = [self.program, "serve", "--db", self.db, "--port", str(self.port), "--requests", "4294967295"]
         self.process = subprocess.Popen(words, stdout=subprocess.PIPE, text=True)
         if not self.process.stdout.readline().startswith("listening"):
+            self.lose()
             raise RuntimeError("the server doesn't start")
 
     def lose(self):
@@ -105,10 +113,11 @@ class Stand:
         self.front = subprocess.Popen([f"{ROOT}/examples/web.sh", str(self.server.port)], stdout=subprocess.PIPE, text=True, start_new_session=True)
         self.url = self.front.stdout.readline().strip()
         if not self.url:
+            self.end()
             raise RuntimeError("nginx doesn't start")
 
     def end(self):
-        self.front.send_signal(signal.SIGTERM)
+        self.front.terminate()
         self.front.wait()
         self.front.stdout.close()
         self.server.end()
@@ -116,7 +125,7 @@ class Stand:
     def send(self, method, path, data=None, fields=None):
         """A request at the server itself; answers the body's JSON, or None."""
         asked = urllib.request.Request(f"http://127.0.0.1:{self.server.port}/api/v4{path}", data, fields or {}, method=method)
-        with urllib.request.urlopen(asked, timeout=20) as reply:
+        with urllib.request.urlopen(asked, timeout=WAIT) as reply:
             body = reply.read()
         return json.loads(body) if body[:1] in (b"{", b"[") else None
 

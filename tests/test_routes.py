@@ -1,0 +1,60 @@
+"""Each path with each method: what it has is no path without a route, and any other method is told which ones it has."""
+import unittest
+
+from cases import Case
+
+PROJECT = '/api/v4/projects/1'
+# The paths of docs/HTTP.md, with numbers and a name in their places, and the methods that each has.
+PATHS = {
+    '/-/health': ['GET'],
+    '/api/v4/jobs/request': ['POST'],
+    '/api/v4/jobs/1': ['PUT'],
+    '/api/v4/jobs/1/trace': ['PATCH'],
+    PROJECT: ['GET'],
+    f'{PROJECT}/ci_file': ['PUT'],
+    f'{PROJECT}/jobs/1': ['GET'],
+    f'{PROJECT}/jobs/1/attempts': ['GET'],
+    f'{PROJECT}/jobs/1/attempts/1/trace': ['GET'],
+    f'{PROJECT}/jobs/1/cancel': ['POST'],
+    f'{PROJECT}/jobs/1/play': ['POST'],
+    f'{PROJECT}/jobs/1/retry': ['POST'],
+    f'{PROJECT}/jobs/1/trace': ['GET'],
+    f'{PROJECT}/pipeline': ['POST'],
+    f'{PROJECT}/pipelines': ['GET'],
+    f'{PROJECT}/pipelines/1': ['GET'],
+    f'{PROJECT}/pipelines/1/cancel': ['POST'],
+    f'{PROJECT}/pipelines/1/jobs': ['GET'],
+    f'{PROJECT}/resource_groups': ['GET'],
+    f'{PROJECT}/resource_groups/prod': ['GET', 'PUT'],
+    f'{PROJECT}/variables/A': ['DELETE', 'PUT'],
+}
+WITH_BODY, OTHERS = ['PATCH', 'POST', 'PUT'], ['DELETE', 'GET', 'HEAD', 'OPTIONS', 'QUERY']
+LACKS = ('HTTP/1.1 405 Method Not Allowed\r\nAllow: {}\r\nContent-Type: application/json\r\nContent-Length: 13\r\nConnection: close\r\n\r\n'
+         '{{"code":"H6"}}')
+
+
+class Routes(Case):
+    def reply(self, method, path):
+        length = 'Content-Length: 0\r\n' if method in WITH_BODY else ''
+        return self.world.exchange(f'{method} {path} HTTP/1.1\r\n{length}\r\n'.encode()).decode()
+
+    def test_each_method_of_each_path(self):
+        self.begin('add-project p', 'health')
+        for path, methods in PATHS.items():
+            for method in WITH_BODY + OTHERS:
+                answer = self.reply(method, path)
+                if method in methods:
+                    self.assertNotIn(answer.split()[1], ('404', '405'), f'{method} {path}')
+                else:
+                    self.assertEqual(answer, LACKS.format(', '.join(methods)), f'{method} {path}')
+
+    def test_no_path_beside_them_has_a_method(self):
+        self.begin('add-project p', 'health')
+        for path in (f'{path}{end}' for path in PATHS for end in ('/', '/x/y', 'x/')):
+            for method in WITH_BODY + OTHERS:
+                answer = self.reply(method, path)
+                self.assertEqual((answer.split()[1], answer[-13:]), ('404', '{"code":"H5"}'), f'{method} {path}')
+
+
+if __name__ == '__main__':
+    unittest.main()
