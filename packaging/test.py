@@ -68,10 +68,10 @@ def parts_of(page):
     return parts
 
 
-def missing(page, command, text):
-    """The left sides of a help that aren't tags of a part of the page, or of which nothing is said there."""
-    tags = parts_of(page).get(command, {})
-    titles = ("Arguments:", "Options:", "Commands:", "positional arguments:", "options:")
+def missing(page, part, text, *titles):
+    """The left sides of a help, of these titles or of all, that aren't tags of a part of the page, or of which nothing is said there."""
+    tags = parts_of(page).get(part, {})
+    titles = titles or ("Arguments:", "Options:", "positional arguments:", "options:")
     return [side for side in left_sides(text, *titles) if tags.get(side, ".PP").startswith(".")]
 
 
@@ -116,6 +116,7 @@ class Tree(unittest.TestCase):
         self.assertGreater(len(commands_of(text)), 10)
         self.assertEqual(set(commands_of(text)), set(parts["COMMANDS"]))
         self.assertEqual(set(left_sides(text, "Options:")), set(parts["OPTIONS"]))
+        self.assertEqual(missing(page, "COMMANDS", text, "Commands:") + missing(page, "OPTIONS", text), [])
         for name in commands_of(text):
             if name != "help":
                 told = help_of(CISERVER, name)
@@ -137,6 +138,7 @@ class Tree(unittest.TestCase):
             told = help_of(sys.executable, "-B", os.path.join(ROOT, script))
             self.assertGreaterEqual(len(options_of(told)), options, name)
             self.assertEqual(missing(self.page(f"{name}.1"), "OPTIONS", told), [], name)
+            self.assertEqual(set(parts_of(self.page(f"{name}.1"))["OPTIONS"]), set(left_sides(told, "positional arguments:", "options:")), name)
 
     def test_the_page_of_the_profile_has_each_code_and_keyword_of_it(self):
         tags = {tag for part in parts_of(self.page("ciserver-gitlab-ci.5")).values() for tag in part}
@@ -196,6 +198,7 @@ class Tree(unittest.TestCase):
 
     def test_bash_completes_values(self):
         self.assertEqual(completed("ciserver", "report", "--kind", "p"), ["pipeline"])
+        self.assertEqual(set(completed("ciserver", "report", "--kind", "")), {"queue", "pipeline", "runners"})
         self.assertEqual(set(completed("ciserver", "plan", "--source", "")), {"push", "web", "schedule", "api", "trigger"})
         self.assertEqual(completed("ciserver", "check", "pages"), ["pages.py"])
         self.assertEqual(completed("ciserver", "serve", "--db", "roff"), ["roff.py"])

@@ -160,12 +160,13 @@ is 'the project' "$(front -H "PRIVATE-TOKEN: $project" "$at/api/v4/projects/1" |
 is 'without its token' "$(front -o refused -w '%{http_code}' "$at/api/v4/projects/1")" 401
 is 'a part of a trace' "$(front -H "PRIVATE-TOKEN: $project" -H 'Range: bytes=5-' -o part -w '%{http_code}' "$at/api/v4/projects/1/jobs/2/trace") $(tail -c +6 <<< "$trace" | cmp -n "$(wc -c < part)" part - && echo same)" '206 same'
 is 'whether it is open' "$(front -o index -w '%{http_code}' "$at/-/health")" 200
-nginx -s stop
+nginx -s stop 2> said
 /usr/share/doc/ciserver/examples/web.sh "$port" > address &
-processes+=($!)
+trial=$!
+processes+=("$trial")
 for _ in {1..100}; do [ -s address ] || sleep 0.1; done
 passes 'a trial of it without a certificate' cmp <(curl -sS "$(cat address)") /usr/share/ciserver/web/index.html
-kill $!
+kill "$trial"
 
 step 'a copy while it serves, and back to it'
 is 'a copy' "$(ciserver-backup $db /root/monday.db)" 'tries: 1'
