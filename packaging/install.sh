@@ -77,9 +77,9 @@ server() {
   command_to ciserver-convert ciserver/convert.py
   command_to ciserver-page ciserver/page.py
   for file in README.md CHANGELOG.md SECURITY.md docs/*.md; do put 644 "$file" "$share/doc/ciserver/$file"; done
-  settled examples/nginx.conf "$share/doc/ciserver/examples/nginx.conf"
+  for file in nginx.conf nginx-teams.conf; do settled "examples/$file" "$share/doc/ciserver/examples/$file"; done
   put 644 web/README.md "$share/doc/ciserver/web.md"
-  for file in nginx-teams.conf project/Makefile project/hello.c project/.gitlab-ci.yml; do
+  for file in project/Makefile project/hello.c project/.gitlab-ci.yml; do
     put 644 "examples/$file" "$share/doc/ciserver/examples/$file"
   done
   for file in runner.sh web.sh; do put 755 "examples/$file" "$share/doc/ciserver/examples/$file"; done
