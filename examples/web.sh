@@ -5,7 +5,7 @@
 set -eu
 here=$(realpath "$(dirname "$0")") room=$(mktemp -d) PATH=$PATH:/usr/sbin
 page=${PAGE:-$here/../web}
-[ -d "$page" ] || page=$(sed -n 's/^ *root \(.*\);$/\1/p' "$here/nginx.conf")
+[ -e "$page/index.html" ] || page=$(sed -n 's/^ *root \(.*\);$/\1/p' "$here/nginx.conf")
 trap 'rm -rf "$room"' EXIT
 trap 'exit 130' INT TERM
 port=$((20000 + RANDOM % 20000))

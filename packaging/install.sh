@@ -76,9 +76,9 @@ server() {
   command_to ciserver-backup ciserver/backup.sh
   command_to ciserver-convert ciserver/convert.py
   command_to ciserver-page ciserver/page.py
-  for file in README.md CHANGELOG.md SECURITY.md docs/*.md; do put 644 "$file" "$share/doc/ciserver/$file"; done
+  for file in README.md CHANGELOG.md SECURITY.md docs/*.md docs/*.png; do put 644 "$file" "$share/doc/ciserver/$file"; done
   for file in nginx.conf nginx-teams.conf; do settled "examples/$file" "$share/doc/ciserver/examples/$file"; done
-  put 644 web/README.md "$share/doc/ciserver/web.md"
+  put 644 web/README.md "$share/doc/ciserver/web/README.md"
   for file in project/Makefile project/hello.c project/.gitlab-ci.yml; do
     put 644 "examples/$file" "$share/doc/ciserver/examples/$file"
   done
