@@ -1,6 +1,6 @@
 #!/usr/bin/env bash
-# Three servers behind one nginx (examples/nginx-teams.conf), each with a project and a runner: a pipeline of each goes through, by its part of the path and by its name, and a
-# token of one server is refused by another. Then how many polls and grants a second one server takes and all three at once, straight and through nginx, and how far a file grows.
+# Three servers behind one nginx (examples/nginx-teams.conf), each with a project and a runner: a pipeline of each goes through, by its part of the path and by its name, the page is
+# served at both, and a token of one server is refused by another. Then how many polls and grants a second one server takes and all three at once, straight and through nginx, and how far a file grows.
 #
 #   bench/teams.sh [CISERVER] [REQUESTS]        as in: bench/teams.sh bin/ciserver 4000       REQUESTS is a multiple of 200
 #
@@ -42,9 +42,10 @@ front=$((20000 + RANDOM % 20000))
 openssl req -x509 -newkey rsa:2048 -nodes -days 1 -subj /CN=ci.example.com -addext 'subjectAltName=DNS:ci.example.com,DNS:*.ci.example.com,IP:127.0.0.1' \
   -keyout "$work/ci.key" -out "$work/ci.pem" 2> /dev/null
 {
-  printf 'daemon off; pid %s/nginx.pid; error_log %s/nginx.log; worker_processes 2; events { worker_connections 1024; }\nhttp { access_log off; keepalive_requests 1000000;\n' "$work" "$work"
+  [ "$(id -u)" != 0 ] || echo 'user root;'
+  printf 'daemon off; pid %s/nginx.pid; error_log %s/nginx.log; worker_processes 2; events { worker_connections 1024; }\nhttp { include /etc/nginx/mime.types; access_log off; keepalive_requests 1000000;\n' "$work" "$work"
   for part in client_body proxy fastcgi uwsgi scgi; do printf '%s_temp_path %s/nginx-%s;\n' $part "$work" $part; done
-  sed "s|listen 443|listen 127.0.0.1:$front|; s|/etc/nginx/ci|$work/ci|; s|:8081|:${ports[red]}|; s|:8082|:${ports[blue]}|; s|:8083|:${ports[green]}|" "$here/examples/nginx-teams.conf"
+  sed "s|listen 443|listen 127.0.0.1:$front|; s|/etc/nginx/ci|$work/ci|; s|/usr/local/share/ciserver/web|$here/web|; s|:8081|:${ports[red]}|; s|:8082|:${ports[blue]}|; s|:8083|:${ports[green]}|" "$here/examples/nginx-teams.conf"
   echo '}'
 } > "$work/nginx.conf"
 nginx -e "$work/nginx.log" -c "$work/nginx.conf" &
@@ -83,6 +84,11 @@ answered() {
   echo "$1: $3"
   [ "$2" = "$3" ]
 }
+for team in "${teams[@]}"; do
+  answered "the page of $team, by path and by name" 'same same' "$(by_path "$team/" | cmp - "$here/web/index.html" && echo same) $(by_name "$team" '' | cmp - "$here/web/index.html" && echo same)"
+done
+answered 'a module of the page' 'application/javascript 200' "$(by_path red/js/main.js -o /dev/null -w '%{content_type} %{http_code}')"
+answered 'its policy' 1 "$(by_path red/ -o /dev/null -D - | grep -ic "^content-security-policy: default-src 'none'; script-src 'self';")"
 answered "red's project token at blue" '{"code":"M1"} 401' "$(by_path blue/api/v4/projects/1/pipelines/1 -H "PRIVATE-TOKEN: ${projects[red]}" -w ' %{http_code}')"
 answered "red's runner at blue" '{"code":"M4"} 403' "$(by_path blue/api/v4/jobs/request --data-binary "@$work/red.poll" -w ' %{http_code}')"
 answered 'an address that names no server' 404 "$(by_path api/v4/jobs/request --data-binary "@$work/red.poll" -o /dev/null -w '%{http_code}')"

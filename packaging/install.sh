@@ -1,6 +1,6 @@
 #!/usr/bin/env bash
-# Lays the files of an installation: `server` is the program with its unit, pages, completion, examples and the commands ciserver-convert and
-# ciserver-page; `runner` is ciserver-runner with its unit. make install calls it for both, and make deb once for each package.
+# Lays the files of an installation: `server` is the program with its unit, pages, completion, examples and the commands ciserver-backup,
+# ciserver-convert and ciserver-page; `runner` is ciserver-runner with its unit. make install calls it for both, and make deb once for each package.
 #
 #   packaging/install.sh server|runner        as in: PREFIX=/usr/local packaging/install.sh server
 #
@@ -55,7 +55,7 @@ pages() {
 server() {
   local file
   put 755 "$program" "$bin/ciserver"
-  pages ciserver.1 ciserver-convert.1 ciserver-page.1 ciserver-gitlab-ci.5
+  pages ciserver.1 ciserver-backup.1 ciserver-convert.1 ciserver-page.1 ciserver-gitlab-ci.5
   settled examples/ciserver.service "$units/ciserver.service"
   # The same for one of several servers: ciserver@NAME, with a folder and a port of its own.
   sed 's|^Description=.*|&, %i|; s|^StateDirectory=ciserver$|&/%i|; s|/var/lib/ciserver/ci.db|/var/lib/ciserver/%i/ci.db|; /^Environment=PORT=/d
@@ -69,18 +69,20 @@ server() {
     put 644 "$file" "$share/ciserver/convert/${file##*/}"
   done
   script 755 examples/page.py "$share/ciserver/page.py"
+  put 755 examples/backup.sh "$share/ciserver/backup.sh"
   put 755 examples/post-receive "$share/ciserver/post-receive"
   # The page that nginx serves, without its tests.
   for file in web/index.html web/icon.svg web/css/*.css web/js/*.js; do put 644 "$file" "$share/ciserver/$file"; done
+  command_to ciserver-backup ciserver/backup.sh
   command_to ciserver-convert ciserver/convert.py
   command_to ciserver-page ciserver/page.py
-  for file in README.md CHANGELOG.md SECURITY.md docs/*.md; do put 644 "$file" "$share/doc/ciserver/$file"; done
-  settled examples/nginx.conf "$share/doc/ciserver/examples/nginx.conf"
-  put 644 web/README.md "$share/doc/ciserver/web.md"
-  for file in nginx-teams.conf project/Makefile project/hello.c project/.gitlab-ci.yml; do
+  for file in README.md CHANGELOG.md SECURITY.md docs/*.md docs/*.png; do put 644 "$file" "$share/doc/ciserver/$file"; done
+  for file in nginx.conf nginx-teams.conf; do settled "examples/$file" "$share/doc/ciserver/examples/$file"; done
+  put 644 web/README.md "$share/doc/ciserver/web/README.md"
+  for file in project/Makefile project/hello.c project/.gitlab-ci.yml; do
     put 644 "examples/$file" "$share/doc/ciserver/examples/$file"
   done
-  put 755 examples/runner.sh "$share/doc/ciserver/examples/runner.sh"
+  for file in runner.sh web.sh; do put 755 "examples/$file" "$share/doc/ciserver/examples/$file"; done
 }
 
 runner() {

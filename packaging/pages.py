@@ -4,8 +4,8 @@
     packaging/pages.py [--ciserver PROGRAM] FOLDER
 
 ciserver.1 has the help of each command and sections of docs/OPERATING.md, ciserver-runner.1 the runner's help and its README.md, ciserver-convert.1 and
-ciserver-page.1 the help of examples/convert.py and examples/page.py, ciserver-gitlab-ci.5 docs/PROFILE.md. It wants python3 alone. A section that isn't
-there any more ends it with 1.
+ciserver-page.1 the help of examples/convert.py and examples/page.py, ciserver-backup.1 the section Copies, ciserver-gitlab-ci.5 docs/PROFILE.md. It wants
+python3 alone. A section that isn't there any more ends it with 1.
 """
 from __future__ import annotations
 
@@ -19,10 +19,10 @@ from roff import bold, from_markdown, line, sections_of
 
 ROOT = os.path.dirname(os.path.dirname(os.path.abspath(__file__)))
 OPERATING = ["Before a team uses it", "The commands", "Reports for programs", "A pipeline before it runs", "While it serves", "What it is doing", "Jobs that wait for a resource group",
-             "After a stop, and after a fault", "From other machines", "From a push", "The file is an ordinary SQLite file", "Upgrades", "Old pipelines"]
+             "After a stop, and after a fault", "From other machines", "From a push", "The page", "The file is an ordinary SQLite file", "Upgrades", "Old pipelines"]
 # What the documents name by its place in the repository, and how it is called where it is installed.
 NAMES = [(r"(?<![\w./])bin/ciserver\b", "ciserver"), (r"(?<![\w./])examples/convert\.py\b", "ciserver-convert"), (r"(?<![\w./])examples/page\.py\b", "ciserver-page"),
-         (r"(?<![\w./])examples/post-receive\b", "post-receive"), (r"(?<![\w./])examples/ciserver\.service\b", "ciserver.service"),
+         (r"(?<![\w./])examples/backup\.sh\b", "ciserver-backup"), (r"(?<![\w./])examples/post-receive\b", "post-receive"), (r"(?<![\w./])examples/ciserver\.service\b", "ciserver.service"),
          (r"(?<![\w./])(runner/)?(ciserver-runner(\.service)?)\b", r"\2")]
 FILES = [("/var/lib/ciserver/ci.db", "the server's file, where the unit for systemd has it; its log is ci.db-wal"),
          ("/etc/default/ciserver", "the port of the unit")]
@@ -94,7 +94,7 @@ def server_page(program: str, version: str) -> list[str]:
     for title in OPERATING:
         page += [f".SH {line(title.upper())}", *from_markdown(sections[title])]
     page += [".SH FILES", *tagged(FILES)]
-    return page + seen_also("ciserver-gitlab-ci.5", "ciserver-convert.1", "ciserver-page.1", "ciserver-runner.1")
+    return page + seen_also("ciserver-gitlab-ci.5", "ciserver-backup.1", "ciserver-convert.1", "ciserver-page.1", "ciserver-runner.1")
 
 
 def script_page(name: str, script: str, about: str) -> list[str]:
@@ -133,6 +133,12 @@ def look_page(version: str) -> list[str]:
     return page + script_page("ciserver-page", "examples/page.py", text) + seen_also("ciserver.1")
 
 
+def backup_page(version: str) -> list[str]:
+    page = head("ciserver-backup", 1, version, "copies the file of a ciserver, also while it serves")
+    page += [".SH SYNOPSIS", bold("ciserver-backup") + " \\fIFILE COPY\\fP [\\fIPID\\fP]", ".SH DESCRIPTION", *from_markdown(sections_of(read("docs/OPERATING.md"))["Copies"])]
+    return page + seen_also("ciserver.1")
+
+
 def profile_page(version: str) -> list[str]:
     page = head("ciserver-gitlab-ci", 5, version, "what a CI file may say that ciserver reads")
     return page + [".SH DESCRIPTION", *from_markdown(read("docs/PROFILE.md").split("\n", 1)[1])] + seen_also("ciserver.1", "ciserver-convert.1")
@@ -147,7 +153,7 @@ def main() -> int:
     version = subprocess.run([program, "--version"], capture_output=True, text=True, check=True).stdout.split()[1]
     try:
         pages = {"ciserver.1": server_page(program, version), "ciserver-runner.1": runner_page(version), "ciserver-convert.1": convert_page(version),
-                 "ciserver-page.1": look_page(version), "ciserver-gitlab-ci.5": profile_page(version)}
+                 "ciserver-page.1": look_page(version), "ciserver-backup.1": backup_page(version), "ciserver-gitlab-ci.5": profile_page(version)}
     except KeyError as fault:
         print(f"docs/OPERATING.md has no section {fault}", file=sys.stderr)
         return 1

@@ -50,7 +50,7 @@ def table(rows: list[str]) -> list[str]:
         first, *rest = cells_of(row)
         lines += [".TP", marked(first) or "\\&"]
         said = [(name, cell) for name, cell in zip(names[1:], rest) if cell]
-        told = [marked(cell) if len(names) == 2 else f"\\fI{line(name)}:\\fP {marked(cell)}" for name, cell in said]
+        told = [marked(cell) if len(names) == 2 else f"\\fI{line(name.replace('`', ''))}:\\fP {marked(cell)}" for name, cell in said]
         lines += "\n.br\n".join(told).split("\n") if told else ["\\&"]
     return lines
 
@@ -89,10 +89,10 @@ class Blocks:
             self.lines += [".PP", *self.paragraph()]
 
     def code(self) -> None:
-        self.take()
-        held = []
-        while not self.left[0].startswith("```"):
-            held.append(self.take())
+        opening = self.take()
+        depth, held = len(opening) - len(opening.lstrip()), []
+        while not self.left[0].strip().startswith("```"):
+            held.append(self.take()[depth:])
         self.take()
         self.lines += code(held)
 

@@ -17,6 +17,7 @@ import unittest
 HERE = os.path.dirname(os.path.abspath(__file__))
 ROOT = os.path.dirname(HERE)
 CISERVER = os.path.join(ROOT, "bin", "ciserver")
+PAGES = ("ciserver.1", "ciserver-backup.1", "ciserver-convert.1", "ciserver-gitlab-ci.5", "ciserver-page.1", "ciserver-runner.1")
 OPTION = re.compile(r"(?<![\w-])--?[a-zA-Z][a-z-]*")
 
 
@@ -67,10 +68,10 @@ def parts_of(page):
     return parts
 
 
-def missing(page, command, text):
-    """The left sides of a help that aren't tags of a part of the page, or of which nothing is said there."""
-    tags = parts_of(page).get(command, {})
-    titles = ("Arguments:", "Options:", "Commands:", "positional arguments:", "options:")
+def missing(page, part, text, *titles):
+    """The left sides of a help, of these titles or of all, that aren't tags of a part of the page, or of which nothing is said there."""
+    tags = parts_of(page).get(part, {})
+    titles = titles or ("Arguments:", "Options:", "positional arguments:", "options:")
     return [side for side in left_sides(text, *titles) if tags.get(side, ".PP").startswith(".")]
 
 
@@ -115,6 +116,7 @@ class Tree(unittest.TestCase):
         self.assertGreater(len(commands_of(text)), 10)
         self.assertEqual(set(commands_of(text)), set(parts["COMMANDS"]))
         self.assertEqual(set(left_sides(text, "Options:")), set(parts["OPTIONS"]))
+        self.assertEqual(missing(page, "COMMANDS", text, "Commands:") + missing(page, "OPTIONS", text), [])
         for name in commands_of(text):
             if name != "help":
                 told = help_of(CISERVER, name)
@@ -136,6 +138,7 @@ class Tree(unittest.TestCase):
             told = help_of(sys.executable, "-B", os.path.join(ROOT, script))
             self.assertGreaterEqual(len(options_of(told)), options, name)
             self.assertEqual(missing(self.page(f"{name}.1"), "OPTIONS", told), [], name)
+            self.assertEqual(set(parts_of(self.page(f"{name}.1"))["OPTIONS"]), set(left_sides(told, "positional arguments:", "options:")), name)
 
     def test_the_page_of_the_profile_has_each_code_and_keyword_of_it(self):
         tags = {tag for part in parts_of(self.page("ciserver-gitlab-ci.5")).values() for tag in part}
@@ -144,18 +147,34 @@ class Tree(unittest.TestCase):
         for keyword in ("script", "stage", "needs", "rules", "when", "retry", "tags", "timeout", "resource_group", "interruptible", "variables", "if"):
             self.assertIn(keyword, tags)
 
+    def test_each_section_of_operating_is_in_a_page(self):
+        with open(f"{ROOT}/docs/OPERATING.md", encoding="utf-8") as file:
+            titles = set(re.findall(r"(?m)^## (.*)$", file.read()))
+        elsewhere = {"A page without a server", "Copies", "What was measured, and how to measure it again"}
+        self.assertLess(elsewhere, titles)
+        sections = set(re.findall(r"(?m)^\.SH (.*)$", plain(self.page("ciserver.1"))))
+        self.assertEqual({title.upper() for title in titles - elsewhere} - sections, set())
+        self.assertIn("writes one HTML page", plain(self.page("ciserver-page.1")))
+        self.assertIn("Back from a copy.", plain(self.page("ciserver-backup.1")))
+
+    def test_the_words_of_a_copy_are_in_its_page(self):
+        ran = subprocess.run([f"{ROOT}/examples/backup.sh"], capture_output=True, text=True, check=False)
+        self.assertEqual((ran.returncode, ran.stderr), (2, "backup.sh: the words are FILE COPY [PID]\n"))
+        self.assertIn("\nciserver-backup FILE COPY [PID]\n", plain(self.page("ciserver-backup.1")))
+
     def test_pages_have_no_line_that_roff_would_take_for_its_own(self):
         macros = {"TH", "SH", "SS", "PP", "TP", "IP", "RS", "RE", "nf", "fi", "br"}
-        for name in ("ciserver.1", "ciserver-runner.1", "ciserver-convert.1", "ciserver-page.1", "ciserver-gitlab-ci.5"):
+        for name in PAGES:
             for line in self.page(name).splitlines():
                 if line.startswith((".", "'")):
                     self.assertIn(line[1:].split()[0], macros, line)
 
     def test_pages_name_programs_as_they_are_installed(self):
-        for name in ("ciserver.1", "ciserver-runner.1", "ciserver-convert.1", "ciserver-page.1", "ciserver-gitlab-ci.5"):
-            self.assertIsNone(re.search(r"(?<![\w./])(bin/ciserver|examples/(convert|page)\.py|runner/ciserver-runner)", plain(self.page(name))), name)
+        for name in PAGES:
+            self.assertIsNone(re.search(r"(?<![\w./])(bin/ciserver|examples/(convert|page)\.py|examples/backup\.sh|runner/ciserver-runner)", plain(self.page(name))), name)
         self.assertIn("ciserver-page /root/copy.db 1", plain(self.page("ciserver-page.1")))
         self.assertIn("ciserver check -", plain(self.page("ciserver.1")))
+        self.assertIn("\nciserver-backup /var/lib/ciserver/ci.db /backup/monday.db", plain(self.page("ciserver-backup.1")))
 
     def test_bash_completes_the_commands_and_options_and_no_others(self):
         text = help_of(CISERVER)
@@ -179,6 +198,7 @@ class Tree(unittest.TestCase):
 
     def test_bash_completes_values(self):
         self.assertEqual(completed("ciserver", "report", "--kind", "p"), ["pipeline"])
+        self.assertEqual(set(completed("ciserver", "report", "--kind", "")), {"queue", "pipeline", "runners"})
         self.assertEqual(set(completed("ciserver", "plan", "--source", "")), {"push", "web", "schedule", "api", "trigger"})
         self.assertEqual(completed("ciserver", "check", "pages"), ["pages.py"])
         self.assertEqual(completed("ciserver", "serve", "--db", "roff"), ["roff.py"])
@@ -200,6 +220,9 @@ class Tree(unittest.TestCase):
         printed(f"{at}/ciserver", "init", "--db", db)
         printed(f"{at}/ciserver", "project-add", "--db", db, "--name", "hello")
         self.assertIn("<h1><bdi>hello</bdi></h1>", printed(sys.executable, f"{at}/ciserver-page", db, "1", **run))
+        copy = {"env": {**os.environ, "CISERVER": f"{at}/ciserver"}}
+        self.assertRegex(printed(f"{at}/ciserver-backup", db, f"{self.root}/copy.db", **copy), r"\Atries: \d+\n\Z")
+        self.assertEqual(printed(f"{at}/ciserver", "report", "--db", f"{self.root}/copy.db", "--kind", "queue", "--json"), "[]\n")
         self.assertEqual([name for _, folders, _ in os.walk(self.root) for name in folders if name in ("__pycache__", "cases", "tests")], [])
 
     def test_the_page_is_laid_whole_where_nginx_looks_for_it(self):

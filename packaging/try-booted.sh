@@ -63,6 +63,11 @@ comes() {
   done
   echo "$status"
 }
+# sleeping: how many processes of a job that sleeps there are, once there is one, or after a minute: it is granted before its shell has begun.
+sleeping() {
+  for _ in {1..120}; do pgrep -u ciserver-runner sleep > /dev/null && break; sleep 0.5; done
+  pgrep -u ciserver-runner -c sleep
+}
 pid() { systemctl show -p MainPID --value "$1"; }
 if ! ask -X PUT --data-binary @clone/.gitlab-ci.yml "$api/projects/1/ci_file" > /dev/null; then
   systemctl --no-pager status ciserver
@@ -80,7 +85,7 @@ is 'a server that was killed is started again' "$(comes success pipelines/1) $([
 printf 'long:\n  script: sleep 300\n' > long.yml
 ask -X PUT --data-binary @long.yml "$api/projects/1/ci_file" > /dev/null
 ask --data '{"ref":"main"}' "$api/projects/1/pipeline" > /dev/null
-is 'a job runs' "$(comes running jobs/3)" running
+is 'a job runs' "$(comes running jobs/3) $(sleeping)" 'running 1'
 kill -9 "$(pid ciserver)"
 sleep 15
 is 'it runs on over a kill of the server' "$(comes running jobs/3) $(pgrep -u ciserver-runner -c sleep)" 'running 1'
@@ -88,7 +93,7 @@ ask -X POST -d '' "$api/projects/1/jobs/3/cancel" > /dev/null
 for _ in {1..40}; do pgrep -u ciserver-runner sleep > /dev/null || break; sleep 0.5; done
 is 'a job that was cancelled is gone' "$(pgrep -u ciserver-runner -c sleep)" 0
 ask -X POST -d '' "$api/projects/1/jobs/3/retry" > /dev/null
-is 'it runs again' "$(comes running jobs/3)" running
+is 'it runs again' "$(comes running jobs/3) $(sleeping)" 'running 1'
 systemctl stop ciserver-runner
 is 'a runner that is stopped ends its jobs, and says so' "$(comes failed jobs/3) $(pgrep -u ciserver-runner -c sleep)" 'failed 0'
 systemctl start ciserver-runner

@@ -1,5 +1,6 @@
 #!/usr/bin/env bash
-# What packaging/try.sh has run in its Debian, as root: installation, a pipeline by curl and one by a push, upgrades of files and of the packages, removal, purge.
+# What packaging/try.sh has run in its Debian, as root: installation, a pipeline by curl and one by a push, the page by nginx, a
+# copy, upgrades of files and of the packages and the way back, removal, purge.
 set -u
 cd /trial || exit 1
 passed=0 failed=0 processes=()
@@ -129,8 +130,53 @@ git -C clone -c user.name=you -c user.email=you@example.com commit --quiet --all
 git -C clone push /srv/hello.git main 2>&1 | grep '^remote'
 is 'its pipeline succeeds' "$(ended 2)" success
 passes 'its trace has both scripts' grep -q 'hello from a commit' <<< "$(ask "$api/projects/1/jobs/3/trace")"
+step 'the page and the server, by nginx with the site of the package'
+# nginx is begun here alone, and not where systemd runs: its port would be one of the machine's.
+printf '#!/bin/sh\nexit 101\n' > /usr/sbin/policy-rc.d && chmod 755 /usr/sbin/policy-rc.d
+systemctl mask --quiet nginx
+apt-get install -qq -y nginx openssl > apt 2>&1
+rm /usr/sbin/policy-rc.d /etc/nginx/sites-enabled/default
+openssl req -x509 -newkey rsa:2048 -nodes -days 1 -subj /CN=ci.example.com -addext subjectAltName=DNS:ci.example.com -keyout /etc/nginx/ci.key -out /etc/nginx/ci.pem 2> /dev/null
+for _ in {1..20}; do
+  front=$((20000 + RANDOM % 20000))
+  sed "s|listen 443|listen 127.0.0.1:$front|; s|127.0.0.1:8080|127.0.0.1:$port|" /usr/share/doc/ciserver/examples/nginx.conf > /etc/nginx/conf.d/ciserver.conf
+  nginx > said 2>&1 && break
+done
+passes 'nginx takes the site' nginx -t
+at=https://ci.example.com:$front
+front() { curl -sS --cacert /etc/nginx/ci.pem --resolve "ci.example.com:$front:127.0.0.1" "$@"; }
+front -D head "$at/" > index
+passes 'its first file is the page' cmp index /usr/share/ciserver/web/index.html
+wrong=0
+for file in $(cd /usr/share/ciserver/web && find . -type f); do front "$at/$file" | cmp -s - "/usr/share/ciserver/web/$file" || wrong=$((wrong + 1)); done
+is 'each of its files is served' "$wrong" 0
+header() { sed -n "s/^$1: //Ip" head | tr -d '\r'; }
+is 'the policy' "$(header content-security-policy)" \
+  "default-src 'none'; script-src 'self'; style-src 'self'; connect-src 'self'; img-src 'self' data:; base-uri 'none'; form-action 'none'; frame-ancestors 'none'"
+is 'the other headers' "$(header x-content-type-options) $(header referrer-policy) $(header cache-control)" 'nosniff no-referrer no-cache'
+is 'a module is a script' "$(front -o module -w '%{content_type}' "$at/js/main.js")" application/javascript
+is 'it is only read' "$(front -o index -w '%{http_code}' -X POST -d x "$at/")" 403
+is 'the project' "$(front -H "PRIVATE-TOKEN: $project" "$at/api/v4/projects/1" | jq -c '[.id, .name]')" '[1,"hello"]'
+is 'without its token' "$(front -o refused -w '%{http_code}' "$at/api/v4/projects/1")" 401
+is 'a part of a trace' "$(front -H "PRIVATE-TOKEN: $project" -H 'Range: bytes=5-' -o part -w '%{http_code}' "$at/api/v4/projects/1/jobs/2/trace") $(tail -c +6 <<< "$trace" | cmp -n "$(wc -c < part)" part - && echo same)" '206 same'
+is 'whether it is open' "$(front -o index -w '%{http_code}' "$at/-/health")" 200
+nginx -s stop 2> said
+/usr/share/doc/ciserver/examples/web.sh "$port" > address &
+trial=$!
+processes+=("$trial")
+for _ in {1..100}; do [ -s address ] || sleep 0.1; done
+passes 'a trial of it without a certificate' cmp <(curl -sS "$(cat address)") /usr/share/ciserver/web/index.html
+kill "$trial"
+
+step 'a copy while it serves, and back to it'
+is 'a copy' "$(ciserver-backup $db /root/monday.db)" 'tries: 1'
+is 'it is whole' "$(sqlite3 /root/monday.db 'PRAGMA integrity_check' 'SELECT count(*) FROM pipeline' | xargs)" 'ok 2'
+is 'a pipeline after it' "$(ask --data '{"ref":"main"}' "$api/projects/1/pipeline" | jq -c .id)" 3
 kill "$server" "$runner"
 wait "$server" "$runner" 2> /dev/null
+mkdir -m 700 /root/away && mv /var/lib/ciserver/ci.db* /root/away
+install -m 600 -o ciserver -g ciserver /root/monday.db $db
+is 'that pipeline is no more' "$(as ciserver ciserver report --db $db --kind pipeline --pipeline 3)" 'refused: M3'
 as ciserver ciserver report --db $db --kind pipeline --pipeline 2
 passes 'a page' ciserver-page $db 1
 
@@ -154,6 +200,11 @@ is 'both are the later ones' "$(dpkg-query -W -f '${Version} ' ciserver ciserver
 is 'the configuration stayed' "$(grep -c "PORT=$port" /etc/default/ciserver) $(grep -c /srv/hello.git /etc/ciserver-runner/config.toml)" '1 1'
 is 'the file stayed' "$(sha256sum < $db)" "$sum"
 is 'nothing was asked or said' "$(grep -c '^ciserver' apt)" 0
+apt-get install -qq -y --allow-downgrades ./ciserver_"$VERSION"_amd64.deb > apt 2>&1
+is 'back to the earlier one' "$(dpkg-query -W -f '${Version}' ciserver)" "$VERSION"
+is 'it opens the file' "$(as ciserver ciserver migrate --db $db)" 'version: 2'
+sum=$(sha256sum < $db)
+apt-get install -qq -y ./ciserver_"$VERSION"+later_amd64.deb > apt 2>&1
 
 step 'removal'
 apt-get remove -qq -y ciserver ciserver-runner > apt 2>&1
