@@ -136,7 +136,7 @@ class Requests(Log):
         self.begin_again()
         self.serve('--log', 'requests')
         self.told('at 1120 ask r1', '204')
-        self.told('show-job 1 2', '404 M2')
+        self.told('show-job 1 2', '404 M3')
         self.assertEqual(self.lines(3), ['ended attempt 1: stuck_or_timeout_failure', 'request POST /api/v4/jobs/request 204 N us',
                                          'request GET /api/v4/projects/1/jobs/2 404 N us'])
 
@@ -145,7 +145,7 @@ class Requests(Log):
             self.assertTrue(is_accepted(tell(self.world, line)), line)
 
     def test_no_query(self):
-        self.logged(b'GET /api/v4/projects/1?private_token=p1-abab#x HTTP/1.1\r\n\r\n', 'request GET /api/v4/projects/1 404 N us')
+        self.logged(b'GET /api/v4/projects/1?private_token=p1-abab#x HTTP/1.1\r\n\r\n', 'request GET /api/v4/projects/1 401 N us')
 
     def test_no_fragment(self):
         self.logged(b'GET /a#p1-abab?x HTTP/1.1\r\n\r\n', 'request GET /a 404 N us')
@@ -165,8 +165,8 @@ class Requests(Log):
     def test_what_is_no_request(self):
         self.logged(b'p1-' + b'ab' * 16 + b'\r\n\r\n', 'request - - 400 N us')
 
-    def test_another_scheme_and_another_method(self):
-        self.logged(b'GET http://p1-abab@host/ HTTP/1.1\r\n\r\n', 'request - - 400 N us')
+    def test_a_target_that_is_no_path(self):
+        self.logged(b'GET http://p1-abab@host/ HTTP/1.1\r\n\r\n', 'request - - 404 N us')
 
     def test_a_method_that_is_no_word_of_capitals(self):
         self.logged(b'p1-abab /api HTTP/1.1\r\n\r\n', 'request - - 404 N us')
@@ -178,10 +178,11 @@ class Requests(Log):
         self.begin_again()
         self.serve('--log', 'requests')
         told = [tell(self.world, line) for line in EACH]
-        errors = '\n'.join(self.lines(len(EACH)))
-        self.assertEqual(errors.count('request '), len(EACH), told)
-        self.assertNotIn('abab', errors)
-        self.assertNotRegex(errors, r'\b[prj]\d+-')
+        lines = self.lines(len(EACH))
+        self.assertEqual([line.split(' ')[-3] for line in lines], [answer.split(' ')[0] for answer in told])
+        for line in lines:
+            self.assertTrue(line.startswith('request '), line)
+            self.assertNotRegex(line, r'abab|\b[prj]\d+-')
 
     def test_what_is_answered_and_kept_is_the_same(self):
         answers = []
