@@ -17,7 +17,7 @@ _ciserver() {
     runner-pause) options='--db --runner --resume -h --help' ;;
     report) options='--db --kind --pipeline --json -h --help' ;;
     prune) options='--db --before -h --help' ;;
-    serve) options='--db --port --requests --stop-on-fault -h --help' ;;
+    serve) options='--db --port --requests --stop-on-fault --log -h --help' ;;
   esac
   case $command:$before in
     *:--db)
@@ -25,6 +25,7 @@ _ciserver() {
       mapfile -t COMPREPLY < <(compgen -f -- "$word")
       ;;
     report:--kind) mapfile -t COMPREPLY < <(compgen -W 'queue pipeline runners' -- "$word") ;;
+    serve:--log) mapfile -t COMPREPLY < <(compgen -W 'events requests' -- "$word") ;;
     plan:--source) mapfile -t COMPREPLY < <(compgen -W 'push web schedule api trigger' -- "$word") ;;
     *:--name | *:--project | *:--tags | *:--runner | *:--pipeline | *:--before | *:--port | *:--requests | *:--ref | *:--variable) ;;
     *)

@@ -18,7 +18,7 @@ import sys
 from roff import bold, from_markdown, line, sections_of
 
 ROOT = os.path.dirname(os.path.dirname(os.path.abspath(__file__)))
-OPERATING = ["Before a team uses it", "The commands", "Reports for programs", "A pipeline before it runs", "While it serves", "What it is doing", "Jobs that wait for a resource group",
+OPERATING = ["Before a team uses it", "The commands", "Reports for programs", "A pipeline before it runs", "While it serves", "What it is doing", "What it logs", "Jobs that wait for a resource group",
              "After a stop, and after a fault", "From other machines", "From a push", "The page", "The file is an ordinary SQLite file", "Upgrades", "Old pipelines"]
 # What the documents name by its place in the repository, and how it is called where it is installed.
 NAMES = [(r"(?<![\w./])bin/ciserver\b", "ciserver"), (r"(?<![\w./])examples/convert\.py\b", "ciserver-convert"), (r"(?<![\w./])examples/page\.py\b", "ciserver-page"),

@@ -203,6 +203,7 @@ class Tree(unittest.TestCase):
         self.assertEqual(completed("ciserver", "check", "pages"), ["pages.py"])
         self.assertEqual(completed("ciserver", "serve", "--db", "roff"), ["roff.py"])
         self.assertEqual(completed("ciserver", "serve", "--port", ""), [])
+        self.assertEqual(set(completed("ciserver", "serve", "--log", "")), {"events", "requests"})
         self.assertEqual(set(completed("ciserver-runner", "--where", "")), {"shell", "container"})
         self.assertEqual(completed("ciserver-runner", "--config", "roff"), ["roff.py"])
 
@@ -253,7 +254,7 @@ class Tree(unittest.TestCase):
         lines = [line for line in several if not line.startswith("#") and line not in one]
         self.assertEqual(lines, ["Description=ciserver, a continuous integration server, %i", "StateDirectory=ciserver/%i",
                                  "EnvironmentFile=/etc/default/ciserver-%i",
-                                 "ExecStart=/usr/local/bin/ciserver serve --db /var/lib/ciserver/%i/ci.db --port ${PORT} --requests 4294967295 --stop-on-fault"])
+                                 "ExecStart=/usr/local/bin/ciserver serve --db /var/lib/ciserver/%i/ci.db --port ${PORT} --requests 4294967295 --stop-on-fault --log events"])
         self.assertEqual(len(one) - len(several), 1)
 
     def test_the_configuration_of_a_runner_has_no_project_of_the_example(self):

@@ -36,7 +36,8 @@ impl Cause {
         }
     }
 
-    fn as_str(self) -> &'static str {
+    /// What is said of it.
+    pub fn as_str(self) -> &'static str {
         match self {
             Cause::Missing => "there is no such file or folder",
             Cause::Forbidden => "it may not be read and written",

@@ -3,10 +3,11 @@
 use crate::admin::request_of;
 use crate::cause::say_unopened;
 use crate::file::{let_go, make, open};
+use crate::journal::Journal;
 use crate::plan::plan;
 use crate::prune::prune;
 use crate::report::report;
-use crate::server::{ask, is_closed, was_migrated};
+use crate::server::{ask, is_closed, time_since, was_migrated};
 use crate::serving::serve_connections;
 use crate::sources::Sources;
 use ci_cli_check::{check_word, exit_status};
@@ -24,7 +25,7 @@ use std::alloc::Global;
 use std::io::{Read, Write};
 use std::net::{Ipv4Addr, SocketAddr};
 use std::random::RandomSource;
-use std::time::{Clock, Duration};
+use std::time::{Clock, Duration, Instant};
 
 /// How long a whole request may take to come, and a whole reply to be taken, in seconds.
 const PATIENCE_SECONDS: u64 = 10;
@@ -34,8 +35,8 @@ const PATIENCE_SECONDS: u64 = 10;
 /// input can't be read, nothing can be heard, or what is to be said can't be written.
 ///
 /// Faults are looked for in this order: in the words, the file, its store, the port, the clock, the request. What is printed with
-/// status 2 goes to `errors`, and so does what is the matter with a file that can't be used, and how far a long command is, where a
-/// terminal shows it; every other line goes to `output`.
+/// status 2 goes to `errors`, and so does what is the matter with a file that can't be used, how far a long command is, where a
+/// terminal shows it, and what a server is to log; every other line goes to `output`.
 pub fn command<C: Clock, R: RandomSource, I: Read + Drop, O: Write, E: Write>(
     rt: &HostRuntime,
     words: &[String],
@@ -156,9 +157,14 @@ fn serve<C: Clock, R: RandomSource, O: Write, E: Write>(
     output: &mut O,
     errors: &mut E,
 ) -> u8 {
+    let start = Instant::now(sources.clock).ok();
     match open(rt, options.file) {
         Ok(mut server) => {
-            let status = listen(rt, &mut server, options, sources, output);
+            let journal = Journal::new(rt, options.file, options.log, errors);
+            journal.say_opened(was_migrated(&server), time_since(start, sources.clock));
+            journal.write();
+            let status = listen(rt, &mut server, options, sources, output, &journal);
+            journal.write();
             let_go(server);
             status
         }
@@ -167,19 +173,20 @@ fn serve<C: Clock, R: RandomSource, O: Write, E: Write>(
 }
 
 /// Serves the connections of a port of 127.0.0.1.
-fn listen<S: Alter, C: Clock, R: RandomSource, O: Write>(
+fn listen<S: Alter, C: Clock, R: RandomSource, O: Write, E: Write>(
     rt: &HostRuntime,
     server: &mut Server<S>,
     options: ServeOptions<'_>,
     sources: &Sources<'_, C, R>,
     output: &mut O,
+    journal: &Journal<'_, E>,
 ) -> u8 {
     let address = SocketAddr::from((Ipv4Addr::LOCALHOST, options.port));
     let Ok(mut listener) = TcpListener::bind(rt, address) else {
-        return say(output, Line::CannotListen(options.port));
+        return end(output, journal, Line::CannotListen(options.port));
     };
     let Ok(paths) = Paths::new(rt.alloc()) else {
-        return refuse_memory(output);
+        return end(output, journal, Line::NoMemory);
     };
     let heard = say(output, Line::Listening(options.port));
     if heard != DONE || output.flush().is_err() {
@@ -193,13 +200,23 @@ fn listen<S: Alter, C: Clock, R: RandomSource, O: Write>(
         server,
         &paths,
         sources,
+        journal,
         Duration::from_secs(PATIENCE_SECONDS),
         options.requests,
         options.stops_on_fault,
     );
     match (is_closed(server), served) {
-        (true, _) => say(output, Line::Closed),
-        (false, Err(line)) => say(output, line),
-        (false, Ok(())) => DONE,
+        (true, _) => end(output, journal, Line::Closed),
+        (false, Err(line)) => end(output, journal, line),
+        (false, Ok(())) => {
+            journal.say_served();
+            DONE
+        }
     }
+}
+
+/// Says why a service is over, and gives the exit status.
+fn end<O: Write, E: Write>(output: &mut O, journal: &Journal<'_, E>, line: Line) -> u8 {
+    journal.say_stopped(line);
+    say(output, line)
 }

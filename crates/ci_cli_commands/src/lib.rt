@@ -8,11 +8,13 @@ mod blank;
 mod cause;
 mod commands;
 mod file;
+mod journal;
 mod plan;
 mod prune;
 mod report;
 mod server;
-pub mod serving;
+mod serving;
+mod shown;
 mod sources;
 
 pub use commands::{command, refuse_memory};

@@ -1,5 +1,6 @@
 //! Connections, served side by side.
 
+use crate::journal::Journal;
 use crate::server::{answer, is_closed};
 use crate::sources::Sources;
 use ci_cli_words::line::Line;
@@ -11,29 +12,41 @@ use ci_http_service::due::bytes_due;
 use ci_store_sqlite::Alter;
 use mio::net::TcpListener;
 use std::alloc::Global;
+use std::io::Write;
 use std::net::Net;
 use std::random::RandomSource;
 use std::time::{Clock, Duration};
 
-/// What requests to a server are answered by: the table of routes, and where their moments and seeds come from.
+/// What requests to a server are answered by: the table of routes, where their moments and seeds come from, and who is told of them.
 #[derive(Drop)]
-struct Desk<'a, 'b, C, R> {
+struct Desk<'a, 'b, 'c, C, R, E> {
     alloc: Global,
     paths: &'a Paths,
     sources: &'a Sources<'b, C, R>,
+    journal: &'a Journal<'c, E>,
     stops_on_fault: bool,
 }
 
-impl<'a, 'b, S: Alter, C: Clock, R: RandomSource> Answerer<Server<S>, Line> for Desk<'a, 'b, C, R> {
+impl<'a, 'b, 'c, S: Alter, C: Clock, R: RandomSource, E: Write> Answerer<Server<S>, Line>
+    for Desk<'a, 'b, 'c, C, R, E> {
     fn bytes_due(&self, bytes: &[u8]) -> Option<usize> {
         bytes_due(bytes)
     }
 
     fn answer(&self, server: &mut Server<S>, bytes: &[u8]) -> Result<Option<Vec<u8>>, Line> {
-        answer(self.alloc, bytes, server, self.paths, self.sources)
+        answer(
+            self.alloc,
+            bytes,
+            server,
+            self.paths,
+            self.sources,
+            self.journal,
+        )
     }
 
+    /// It is asked once what was answered went to the connections, as far as they take it; so the journal is written here.
     fn is_over(&self, server: &Server<S>) -> bool {
+        self.journal.write();
         self.stops_on_fault && is_closed(server)
     }
 }
@@ -48,7 +61,7 @@ impl<'a, 'b, S: Alter, C: Clock, R: RandomSource> Answerer<Server<S>, Line> for 
 ///
 /// Errors: the line that says why a request has no moment or no seed, or that nothing can be heard. Those that are left are not
 /// served.
-pub fn serve_connections<N: Net, C: Clock, R: RandomSource, S: Alter>(
+pub fn serve_connections<N: Net, C: Clock, R: RandomSource, S: Alter, E: Write>(
     net: &N,
     alloc: Global,
     listener: &mut TcpListener,
@@ -56,6 +69,7 @@ pub fn serve_connections<N: Net, C: Clock, R: RandomSource, S: Alter>(
     server: &mut Server<S>,
     paths: &Paths,
     sources: &Sources<'_, C, R>,
+    journal: &Journal<'_, E>,
     patience: Duration,
     requests: u32,
     stops_on_fault: bool,
@@ -64,6 +78,7 @@ pub fn serve_connections<N: Net, C: Clock, R: RandomSource, S: Alter>(
         alloc,
         paths,
         sources,
+        journal,
         stops_on_fault,
     };
     let terms = Terms {

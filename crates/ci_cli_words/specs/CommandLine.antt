@@ -52,7 +52,7 @@ abbrev pub report_options : List Rule
 report_options = db ∷ named (required (option (codes "kind"))) ∷ number (codes "pipeline") MAX_NUMBER ∷ flag (codes "json") ∷ []
 
 abbrev pub serve_options : List Rule
-serve_options = db ∷ required (number (codes "port") 65535) ∷ required (number (codes "requests") 4294967295) ∷ flag (codes "stop-on-fault") ∷ []
+serve_options = db ∷ required (number (codes "port") 65535) ∷ required (number (codes "requests") 4294967295) ∷ flag (codes "stop-on-fault") ∷ named (option (codes "log")) ∷ []
 
 abbrev pub command : Text → List Rule → Shape
 command name rules = record (new_shape name) { rules = rules }

@@ -21,6 +21,8 @@ use Rattle.ci_machine.specs.declared.request.RunnerPause.{RunnerPause}
 use Rattle.ci_cli_words.specs.CommandLine.{command_line}
 use Rattle.ci_cli_words.specs.Dates.{IsDateAt}
 use Rattle.ci_cli_words.specs.declared.task.AdminRequest.TheVariants.{AddProject, AddRunner, PauseRunner}
+use Rattle.ci_cli_words.specs.declared.task.LogLevel.{LogLevel}
+use Rattle.ci_cli_words.specs.declared.task.LogLevel.TheVariants.{Nothing, Events, Requests}
 use Rattle.ci_cli_words.specs.declared.task.PlanOptions.{PlanOptions}
 use Rattle.ci_cli_words.specs.declared.task.ReportForm.{ReportForm}
 use Rattle.ci_cli_words.specs.declared.task.ReportForm.TheVariants.{Table, Json}
@@ -77,9 +79,22 @@ is_set option rows = is_true (one_of option rows)
 
 -- ---- the options of each command
 
+abbrev pub log_named : Text → Option LogLevel
+log_named text =
+    if bytes_eq text (codes "events") then Some Events
+    else (if bytes_eq text (codes "requests") then Some Requests else None)
+
+-- what is logged; nothing where nothing is said
+abbrev pub logged : Option Text → Option LogLevel
+logged None = Some Nothing
+logged (Some text) = log_named text
+
+abbrev pub log_of : List Row → Option LogLevel
+log_of rows = logged (first_of (codes "log") rows)
+
 abbrev pub ServesBy : List Row → ServeOptions → Type 0
 ServesBy rows o = HasFile rows o.file × (number_of 16 (codes "port") rows ≡ Some o.port) × (number_of 32 (codes "requests") rows ≡ Some o.requests)
-    × (o.stops_on_fault ≡ is_set (codes "stop-on-fault") rows)
+    × (o.stops_on_fault ≡ is_set (codes "stop-on-fault") rows) × (log_of rows ≡ Some o.log)
 
 -- the tags, if they were given
 abbrev pub TaggedBy : List Row → Option (Bor Text) → Type 0

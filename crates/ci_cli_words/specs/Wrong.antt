@@ -1,10 +1,10 @@
 -- What is wrong with the values of a command that ask for nothing.
-use Rattle.std.specs.Prelude.{◌≡◌, ◌||◌, ℕ, Bool, true, false, List, [], None, Some, codes}
+use Rattle.std.specs.Prelude.{◌≡◌, ◌||◌, ℕ, Bool, true, false, List, [], None, codes}
 use Rattle.std.specs.Str.{bytes_eq}
 use Rattle.clap.specs.Walk.{Row, Text}
 use Rattle.ci_values.specs.Names.{is_name}
 use Rattle.ci_cli_words.specs.Dates.{IsDateAt}
-use Rattle.ci_cli_words.specs.Words.{HasWord, is_variable, number_of, parted, source_named, value_of}
+use Rattle.ci_cli_words.specs.Words.{HasWord, is_variable, log_named, number_of, parted, source_named, value_of}
 use Rattle.ci_cli_words.specs.declared.wrong.WrongValue.{WrongValue}
 use Rattle.ci_cli_words.specs.declared.wrong.WrongValue.TheVariants as wrong
 
@@ -21,4 +21,5 @@ IsWrong rows (wrong.Again before given) = bytes_eq (parted before.now).0 (parted
 IsWrong rows (wrong.Kind given) = HasWord (codes "kind") rows given × (is_kind given.now ≡ false)
 IsWrong rows (wrong.OfNone given) = HasWord (codes "kind") rows given × (bytes_eq given.now (codes "pipeline") ≡ false)
 IsWrong rows wrong.NoNumber = number_of 64 (codes "pipeline") rows ≡ None
+IsWrong rows (wrong.Log given) = HasWord (codes "log") rows given × (log_named given.now ≡ None)
 IsWrong rows (wrong.Day given) = HasWord (codes "before") rows given × ((seconds : ℕ) → ¬ IsDateAt given.now seconds)

@@ -3,17 +3,17 @@
 ghost use Rattle.std.specs.Prelude.{◌≡◌, IfOk, Some};
 ghost use Rattle.clap.specs.Walk.{rows_of};
 ghost use Rattle.clap.specs.Matches.{found_of};
-ghost use Rattle.ci_cli_words.specs.Words.{Asks, PausesBy, Reads, RefersTo, RunsBy, ServesBy, TaggedBy, pairs, ref_kind_of, report_form_of, report_of, reported, source_named, source_of, variables_of};
+ghost use Rattle.ci_cli_words.specs.Words.{Asks, PausesBy, Reads, RefersTo, RunsBy, ServesBy, TaggedBy, log_named, log_of, pairs, ref_kind_of, report_form_of, report_of, reported, source_named, source_of, variables_of};
 ghost use Rattle.ci_cli_words.specs.declared.command_name.CommandName.TheVariants as names;
 
 use crate::command_line::{
-    BEFORE, DB, FILE, JSON, KIND, NAME, PIPELINE, PORT, PROJECT, REF, REQUESTS, RESUME, RUNNER,
-    SOURCE, STOP_ON_FAULT, TAG, TAGS, UNTAGGED,
+    BEFORE, DB, FILE, JSON, KIND, LOG, NAME, PIPELINE, PORT, PROJECT, REF, REQUESTS, RESUME,
+    RUNNER, SOURCE, STOP_ON_FAULT, TAG, TAGS, UNTAGGED,
 };
 use crate::command_name::CommandName;
 use crate::date::midnight_of;
 use crate::task::{
-    AdminRequest, PlanOptions, ReportForm, ReportKind, RunnerOptions, ServeOptions, Task,
+    AdminRequest, LogLevel, PlanOptions, ReportForm, ReportKind, RunnerOptions, ServeOptions, Task,
 };
 use crate::value::{is_set, number_in, port_in, short_number_in, text_in, word_in};
 use crate::variables::variables_in;
@@ -229,7 +229,7 @@ fn report_kind(kind: &str, pipeline: Option<u64>) -> Option<ReportKind>
     }
 }
 
-/// The file, the port, how many connections are served, and whether a fault ends it.
+/// The file, the port, how many connections are served, whether a fault ends it, and what is logged.
 fn serve_options_in<'a>(found: &ArgMatches<'a>) -> Option<ServeOptions<'a>>
     ensures { Reads (ServesBy (rows_of (found_of found.now))) result }
 {
@@ -238,7 +238,29 @@ fn serve_options_in<'a>(found: &ArgMatches<'a>) -> Option<ServeOptions<'a>>
         port: port_in(found, PORT)?,
         requests: short_number_in(found, REQUESTS)?,
         stops_on_fault: is_set(found, STOP_ON_FAULT),
+        log: log_in(found)?,
     })
+}
+
+/// What is logged; nothing where nothing is said.
+fn log_in(found: &ArgMatches<'_>) -> Option<LogLevel>
+    ensures { result ≡ log_of (rows_of (found_of found.now)) }
+{
+    match word_in(found, LOG) {
+        Some(word) => log_named(word),
+        None => Some(LogLevel::Nothing),
+    }
+}
+
+/// What is logged by this name, if there is such a log.
+pub(crate) fn log_named(word: &str) -> Option<LogLevel>
+    ensures { result ≡ log_named word.now }
+{
+    match word {
+        "events" => Some(LogLevel::Events),
+        "requests" => Some(LogLevel::Requests),
+        _ => None,
+    }
 }
 
 /// The runner that is to be made.

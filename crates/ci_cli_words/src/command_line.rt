@@ -77,6 +77,8 @@ pub(crate) const REQUESTS: &str = "requests";
 
 pub(crate) const STOP_ON_FAULT: &str = "stop-on-fault";
 
+pub(crate) const LOG: &str = "log";
+
 /// Where the rules of CI files stand.
 const RULES: &str = "The profile, with examples and its codes, is described in docs/PROFILE.md.";
 
@@ -292,6 +294,9 @@ fn serve<'a>(alloc: Global) -> Result<Command<'a>, AllocError>
         .required(true)
         .help("How many connections are served before the program ends");
     let stop = flag(alloc, STOP_ON_FAULT).help("A fault of the store ends the program");
+    let log = option(alloc, LOG).value_name("WHAT").help(
+        "What goes to standard error: events, or requests, and events too",
+    );
     over_server_file(
         alloc,
         SERVE,
@@ -299,5 +304,6 @@ fn serve<'a>(alloc: Global) -> Result<Command<'a>, AllocError>
     )?
     .arg(port)?
     .arg(requests)?
-    .arg(stop)
+    .arg(stop)?
+    .arg(log)
 }

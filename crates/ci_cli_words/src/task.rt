@@ -82,7 +82,7 @@ pub struct RunnerOptions<'a> {
     pub untagged: bool,
 }
 
-/// The file of a server, where it listens, and how many connections it serves.
+/// The file of a server, where it listens, how many connections it serves, and what it logs.
 #[derive(Clone, Copy)]
 pub struct ServeOptions<'a> {
     pub file: &'a str,
@@ -92,4 +92,17 @@ pub struct ServeOptions<'a> {
     pub requests: u32,
     /// Whether a fault of the store ends it too.
     pub stops_on_fault: bool,
+    /// What is logged meanwhile.
+    pub log: LogLevel,
+}
+
+/// What a server tells of itself on standard error.
+#[derive(Clone, Copy, PartialEq, Eq)]
+pub enum LogLevel {
+    /// Nothing.
+    Nothing,
+    /// That it was opened, what its sweeps did, that its store failed, and why it stopped.
+    Events,
+    /// The same, and a line for each request.
+    Requests,
 }

@@ -7,8 +7,8 @@ ghost use Rattle.clap.specs.Matches.{found_of};
 ghost use Rattle.ci_cli_words.specs.Words.{parted};
 ghost use Rattle.ci_cli_words.specs.Wrong.{IsWrong, is_kind};
 
-use crate::asked::source_named;
-use crate::command_line::{BEFORE, DB, KIND, NAME, PIPELINE, REF, SOURCE, TAGS, VARIABLE};
+use crate::asked::{log_named, source_named};
+use crate::command_line::{BEFORE, DB, KIND, LOG, NAME, PIPELINE, REF, SOURCE, TAGS, VARIABLE};
 use crate::date::midnight_of;
 use crate::value::{number_in, text_in, word_in};
 use crate::variables::variable_of;
@@ -35,6 +35,8 @@ pub(crate) enum WrongValue<'a> {
     OfNone(&'a str),
     /// A report of a pipeline is asked for without its number.
     NoNumber,
+    /// Nothing that is logged has this name.
+    Log(&'a str),
     /// No day of the calendar from 1970 on is written so.
     Day(&'a str),
 }
@@ -52,6 +54,10 @@ pub(crate) fn wrong_in<'a>(found: &ArgMatches<'a>) -> Option<WrongValue<'a>>
         return wrong;
     }
     let wrong = wrong_report(found);
+    if wrong.is_some() {
+        return wrong;
+    }
+    let wrong = wrong_log(found);
     if wrong.is_some() {
         return wrong;
     }
@@ -153,6 +159,17 @@ fn is_kind(kind: &str) -> bool
     kind == "queue" || kind == "pipeline" || kind == "runners"
 }
 
+/// What is no name of a log.
+fn wrong_log<'a>(found: &ArgMatches<'a>) -> Option<WrongValue<'a>>
+    ensures { IfSome result (IsWrong (rows_of (found_of found.now))) }
+{
+    let given = word_in(found, LOG)?;
+    match log_named(given) {
+        Some(_) => None,
+        None => Some(WrongValue::Log(given)),
+    }
+}
+
 /// What is no day.
 fn wrong_day<'a>(found: &ArgMatches<'a>) -> Option<WrongValue<'a>>
     ensures { IfSome result (IsWrong (rows_of (found_of found.now))) }
@@ -194,6 +211,7 @@ pub(crate) fn text_of(alloc: Global, wrong: WrongValue<'_>) -> Result<String, Al
                 "'--{KIND} pipeline' wants the number of the pipeline, '--{PIPELINE} <N>'"
             )
         }
+        WrongValue::Log(given) => text_with(alloc, LOG, given, "events or requests"),
         WrongValue::Day(given) => text_with(
             alloc,
             BEFORE,

@@ -1,10 +1,11 @@
--- What becomes of one request: the reply, and the server before and after it, which is swept first.
+-- What becomes of one request: the reply, and the server before and after it, which is swept first, and the log that is told of that.
 use Rattle.std.specs.Prelude.{◌≡◌, ◌⊎◌, ℕ, List, ◌++◌, Option, Result, Ok, Err}
 use Rattle.std.specs.Io.KnownBytes.{Appends}
 use Rattle.sqlite.specs.Store.{Ghosts}
 use Rattle.ci_machine.specs.declared.reply.Answer.TheVariants as answer
 use Rattle.ci_machine.specs.declared.reply.Code.TheVariants.{M16}
 use Rattle.ci_machine.specs.declared.reply.Reply.{Reply}
+use Rattle.ci_machine.specs.declared.reply.Swept.{Swept}
 use Rattle.ci_machine.specs.declared.request.Event.TheVariants as event
 use Rattle.ci_machine.specs.declared.request.Seed.{Seed}
 use Rattle.ci_machine.specs.Reply.{refusal}
@@ -23,24 +24,25 @@ use Rattle.ci_http.specs.Sweeping.{SweepsUpTo}
 abbrev pub ReadsByMemory : List ℕ → List ℕ → Type 0
 ReadsByMemory bytes rest = AwaitsBody bytes rest ⊎ ((m : Message) × IsReading bytes (request m) rest × AsksMemory m)
 
-module _ {S : Type 0} (g : Ghosts S) (most moment : ℕ) (seed : Seed) (old new : ServerOver S) (reply : Reply) where
+module _ {S L : Type 0} (g : Ghosts S) (tells : L → Swept → L → Type 0) (most moment : ℕ) (seed : Seed) (old new : ServerOver S) (log last : L) (reply : Reply) where
   -- The server is swept, so often at most, and then a request is handled once, and the reply is the server's; where there is none, nothing is
   -- handled, and the reply is the one that refuses it. To who asks whether the server is open it is told, and nothing changes: it isn't swept.
+  -- The log is told of the sweeps alone.
   abbrev pub AnswersAsked : Result Demand Reply → Type 0
   AnswersAsked (Ok (demand.Request asked)) =
-      (mid : ServerOver S) × SweepsUpTo g moment most old mid × Handles g mid (event.Request asked, moment, seed) new (answer.Reply reply)
-  AnswersAsked (Ok demand.Health) = (new ≡ old) × TellsHealth old.closed reply
-  AnswersAsked (Err why) = SweepsUpTo g moment most old new × (reply ≡ why)
+      (mid : ServerOver S) × SweepsUpTo g tells moment most old mid log last × Handles g mid (event.Request asked, moment, seed) new (answer.Reply reply)
+  AnswersAsked (Ok demand.Health) = (new ≡ old) × (last ≡ log) × TellsHealth old.closed reply
+  AnswersAsked (Err why) = SweepsUpTo g tells moment most old new log last × (reply ≡ why)
 
   -- the reply is that to what was read
   abbrev pub Answers : Reading → Type 0
   Answers ended = ⊥
-  Answers (refused why) = SweepsUpTo g moment most old new × (reply ≡ refusal why)
+  Answers (refused why) = SweepsUpTo g tells moment most old new log last × (reply ≡ refusal why)
   Answers (request m) = AnswersAsked (request_in m)
 
   -- the server was swept, and memory was refused before anything was handled
   abbrev pub LacksMemory : Type 0
-  LacksMemory = SweepsUpTo g moment most old new × (reply ≡ refusal M16)
+  LacksMemory = SweepsUpTo g tells moment most old new log last × (reply ≡ refusal M16)
 
   -- the reply is that to some reading, which is the one of the bytes where the reader tells them: one step at most; or memory was
   -- refused, and then the bytes, where the reader tells them, are of those that ask for it

@@ -1,7 +1,8 @@
-//! One request served by a server, from the bytes that come in to the bytes that go out; and a server that is swept.
+//! One request served by a server, from the bytes that come in to the bytes that go out; and a server that is swept, which a log is told.
 #![tactic(auto)]
 
 mod health;
+pub mod log;
 pub mod serve;
 pub mod sweep;
 

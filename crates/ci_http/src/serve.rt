@@ -16,6 +16,7 @@ ghost use Rattle.ci_http.specs.Serving.{AnswersAsked, LacksMemory, Serves, Write
 ghost use Rattle.ci_http_messages.specs.Sources.{Tells, TakesFront, Fails};
 
 use crate::health::health_reply;
+use crate::log::Log;
 use crate::sweep::sweep_all;
 use arrayvec::ArrayVec;
 use ci_http_messages::call::{Call, HeadRoom, read_request};
@@ -53,10 +54,12 @@ pub enum Served {
 ///
 /// Who asks whether the server is open (`Demand::Health`) is told so, by what is known of it: no store is touched, and it isn't swept.
 ///
+/// The log is told what `sweep_all` tells it, and nothing else.
+///
 /// `paths` has the table of routes; it is built once and lent to each call. A reply whose head and
 /// body have room in 4,096 bytes together is handed to the writer as one text. Nothing is
 /// allocated after the request was handled.
-pub fn serve_one<R: Source, W: Sink, S: Alter>(
+pub fn serve_one<R: Source, W: Sink, S: Alter, L: Log>(
     alloc: Global,
     reader: &mut R,
     writer: &mut W,
@@ -64,27 +67,28 @@ pub fn serve_one<R: Source, W: Sink, S: Alter>(
     paths: &Paths,
     moment: Moment,
     seed: Seed,
+    log: &mut L,
 ) -> Served
     // The bytes written are those of the reply to what was read.
     ensures replied { result ≡ Served.Replied → (reply : Reply)
-        × Serves S.Store 1000 moment seed server.old server.new reply (R.left reader.old) (R.left reader.new)
+        × Serves S.Store L.tells 1000 moment seed server.old server.new log.old log.new reply (R.left reader.old) (R.left reader.new)
         × Appends (W.written writer.old) (W.written writer.new) (reply_text reply) }
     // A beginning of these was written, and the step stands. It comes only where the writer had less room than they take.
     ensures write_failed { result ≡ Served.WriteFailed → (reply : Reply)
-        × Serves S.Store 1000 moment seed server.old server.new reply (R.left reader.old) (R.left reader.new)
+        × Serves S.Store L.tells 1000 moment seed server.old server.new log.old log.new reply (R.left reader.old) (R.left reader.new)
         × WritesFront (W.written writer.old) (W.written writer.new) (reply_text reply)
         × (W.room writer.old < length (reply_text reply)) }
     // Nothing was handled and nothing written.
-    ensures ended { result ≡ Served.Ended → (server.new ≡ server.old) × (writer.new ≡ writer.old)
+    ensures ended { result ≡ Served.Ended → (server.new ≡ server.old) × (log.new ≡ log.old) × (writer.new ≡ writer.old)
         × Tells (R.left reader.old) (R.left reader.new) (λ bytes rest. IsReading bytes ended rest) }
-    ensures read_failed { result ≡ Served.ReadFailed → (server.new ≡ server.old) × (writer.new ≡ writer.old) }
+    ensures read_failed { result ≡ Served.ReadFailed → (server.new ≡ server.old) × (log.new ≡ log.old) × (writer.new ≡ writer.old) }
     // In any case a beginning of the reader's bytes was taken, and no others.
     ensures took { TakesFront (R.left reader.old) (R.left reader.new) }
     // The answer tells of each call of the reader or the writer that failed, and of no other.
     ensures reads { Fails result Served.ReadFailed (R.failures reader.old) (R.failures reader.new) }
     ensures writes { Fails result Served.WriteFailed (W.failures writer.old) (W.failures writer.new) }
 {
-    match reply_to(alloc, reader, server, paths, moment, seed) {
+    match reply_to(alloc, reader, server, paths, moment, seed, log) {
         Ok(reply) => match send(writer, &reply) {
             Ok(()) => Served::Replied,
             Err(_) => Served::WriteFailed,
@@ -102,17 +106,18 @@ enum Unread {
 }
 
 // The reply to what the reader gives.
-fn reply_to<R: Source, S: Alter>(
+fn reply_to<R: Source, S: Alter, L: Log>(
     alloc: Global,
     reader: &mut R,
     server: &mut Server<S>,
     paths: &Paths,
     moment: Moment,
     seed: Seed,
+    log: &mut L,
 ) -> Result<Reply, Unread>
     ensures reply { IfOk result (λ reply.
-        Serves S.Store 1000 moment seed server.old server.new reply (R.left reader.old) (R.left reader.new)) }
-    ensures none { OnErr result (server.new ≡ server.old) }
+        Serves S.Store L.tells 1000 moment seed server.old server.new log.old log.new reply (R.left reader.old) (R.left reader.new)) }
+    ensures none { OnErr result ((server.new ≡ server.old) × (log.new ≡ log.old)) }
     ensures ended { result ≡ Err Unread.Ended → Tells (R.left reader.old) (R.left reader.new)
         (λ bytes rest. IsReading bytes ended rest) }
     ensures took { TakesFront (R.left reader.old) (R.left reader.new) }
@@ -120,57 +125,65 @@ fn reply_to<R: Source, S: Alter>(
 {
     let mut room = HeadRoom::new();
     match read_request(alloc, reader, &mut room) {
-        Ok(call) => Ok(answer(alloc, &call, server, paths, moment, seed)),
-        Err(HttpFault::Refused(why)) => Ok(refuse(alloc, server, moment, why)),
-        Err(HttpFault::Memory) => Ok(refuse(alloc, server, moment, Code::M16)),
+        Ok(call) => Ok(answer(alloc, &call, server, paths, moment, seed, log)),
+        Err(HttpFault::Refused(why)) => Ok(refuse(alloc, server, moment, why, log)),
+        Err(HttpFault::Memory) => Ok(refuse(alloc, server, moment, Code::M16, log)),
         Err(HttpFault::Ended) => Err(Unread::Ended),
         Err(HttpFault::ReadFailed) => Err(Unread::Failed),
     }
 }
 
 // The reply to a call.
-fn answer<S: Alter>(
+fn answer<S: Alter, L: Log>(
     alloc: Global,
     call: &Call<'_>,
     server: &mut Server<S>,
     paths: &Paths,
     moment: Moment,
     seed: Seed,
+    log: &mut L,
 ) -> Reply
-    ensures { (LacksMemory S.Store 1000 moment seed server.old server.new result × AsksMemory call.now)
-        ⊎ AnswersAsked S.Store 1000 moment seed server.old server.new result (request_in call.now) }
+    ensures { (LacksMemory S.Store L.tells 1000 moment seed server.old server.new log.old log.new result × AsksMemory call.now)
+        ⊎ AnswersAsked S.Store L.tells 1000 moment seed server.old server.new log.old log.new result (request_in call.now) }
 {
     match request_of(alloc, paths, call) {
-        Ok(Demand::Request(request)) => handle_swept(alloc, request, server, moment, seed),
+        Ok(Demand::Request(request)) => handle_swept(alloc, request, server, moment, seed, log),
         Ok(Demand::Health) => health_reply(alloc, server.closed()),
         Err(reply) => {
-            sweep_all(alloc, server, moment);
+            sweep_all(alloc, server, moment, log);
             reply
         }
     }
 }
 
 // Sweeps the server, and has it handle a request.
-fn handle_swept<S: Alter>(
+fn handle_swept<S: Alter, L: Log>(
     alloc: Global,
     request: Request,
     server: &mut Server<S>,
     moment: Moment,
     seed: Seed,
+    log: &mut L,
 ) -> Reply
-    ensures { (mid : ServerOver S) × SweepsUpTo S.Store moment 1000 server.old mid
+    ensures { (mid : ServerOver S) × SweepsUpTo S.Store L.tells moment 1000 server.old mid log.old log.new
         × Handles S.Store mid (event.Request request, moment, seed) server.new (answer.Reply result) }
 {
-    sweep_all(alloc, server, moment);
+    sweep_all(alloc, server, moment, log);
     server.handle(alloc, request, moment, seed)
 }
 
 // Sweeps the server, and gives the reply that refuses what can't be read.
-fn refuse<S: Alter>(alloc: Global, server: &mut Server<S>, moment: Moment, why: Code) -> Reply
-    ensures swept { SweepsUpTo S.Store moment 1000 server.old server.new }
+fn refuse<S: Alter, L: Log>(
+    alloc: Global,
+    server: &mut Server<S>,
+    moment: Moment,
+    why: Code,
+    log: &mut L,
+) -> Reply
+    ensures swept { SweepsUpTo S.Store L.tells moment 1000 server.old server.new log.old log.new }
     ensures reply { result ≡ refusal why }
 {
-    sweep_all(alloc, server, moment);
+    sweep_all(alloc, server, moment, log);
     Reply::refusal(why)
 }
 

@@ -1,8 +1,9 @@
-//! Sweeping a server until there is nothing left to do.
+//! Sweeping a server until there is nothing left to do, and telling a log of it.
 
 ghost use Rattle.std.specs.Prelude.{◌↔◌, IsTrue};
 ghost use Rattle.ci_http.specs.Sweeping.{DidSomething, SweepsUpTo};
 
+use crate::log::Log;
 use ci_machine::moment::Moment;
 use ci_machine::reply::Swept;
 use ci_server::server::Server;
@@ -14,14 +15,22 @@ const MAX_SWEEPS: u32 = 1_000;
 
 /// Sweeps until a sweep finds nothing or is refused, but no more than a thousand times. Where the last one found nothing, the server holds a
 /// state in which no live attempt is due at that moment and no pipeline is redundant.
-pub fn sweep_all<S: Alter>(alloc: Global, server: &mut Server<S>, moment: Moment)
-    ensures { SweepsUpTo S.Store moment MAX_SWEEPS server.old server.new }
+///
+/// The log is told each sweep that ended or cancelled something, once and as they come, and nothing else.
+pub fn sweep_all<S: Alter, L: Log>(
+    alloc: Global,
+    server: &mut Server<S>,
+    moment: Moment,
+    log: &mut L,
+)
+    ensures { SweepsUpTo S.Store L.tells moment MAX_SWEEPS server.old server.new log.old log.new }
 {
     for _ in 0..MAX_SWEEPS {
         let swept = server.sweep(alloc, moment);
         if !did_something(swept) {
             return;
         }
+        log.tell(swept);
     }
 }
 

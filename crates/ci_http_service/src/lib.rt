@@ -4,4 +4,4 @@
 pub mod attend;
 pub mod stamps;
 
-pub use ci_http::{Server, due};
+pub use ci_http::{Server, due, log};

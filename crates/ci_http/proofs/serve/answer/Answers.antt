@@ -8,5 +8,5 @@ returns-in-Err g c =
     let swept = c.sweep_all.ensures in
     elim c.in-Err.ensures.err [
       | inl (is, asks) ↦ inl ((swept, is), asks)
-      | inr is ↦ inr (subst (AnswersAsked g.S.Store 1000 c.args.moment c.args.seed c.args.server.now c.sweep_all.new.server c.in-Err.reply) (sym is) (swept, refl))
+      | inr is ↦ inr (subst (AnswersAsked g.S.Store g.L.Log.tells 1000 c.args.moment c.args.seed c.args.server.now c.sweep_all.new.server c.args.log.now c.sweep_all.new.log c.in-Err.reply) (sym is) (swept, refl))
     ]
