@@ -11,6 +11,7 @@ from lines import Texts, Words, words_of
 from world import ROOM, World
 
 FILES = {
+    'hold': 'hold:\n  when: manual\n  allow_failure: false\n  script: x\n',
     'one': 'build:\n  stage: build\n  script: make\n',
     'ship': 'ship:\n  resource_group: prod\n  interruptible: true\n  script: x\n',
     'two': 'one:\n  stage: build\n  script: make\ntwo:\n  stage: build\n  script: make\n',

@@ -14,13 +14,14 @@ HEALTH = b'GET /-/health HTTP/1.1\r\n\r\n'
 EACH = ['show-project 1', 'set-variable 1 K v', 'delete-variable 1 K', 'set-mode 1 prod oldest_first', 'show-mode 1 prod', 'running j1', 'append j1 0 "hi"', 'success j1',
         'show-pipeline 1 1', 'show-job 1 1', 'trace 1 1', 'trace-of 1 1 1', 'list-pipelines 1', 'list-jobs 1 1', 'list-attempts 1 1', 'list-groups 1', 'retry 1 1', 'ask r1',
         'failed j2', 'retry 1 1', 'cancel-job 1 1', 'cancel-pipeline 1 1', 'health', 'show-job 1 9', 'ask other', 'show-project 1 with r1']
-OPENED = 'opened {}: version 2, N us'
+OPENED = 'opened {}: version 2, pipelines under way M, N us'
 UNKNOWN = 'store failed: it is no whole database of this program, or a call of the system failed'
 
 
 def timed(text):
-    """Lines, with an N in the place of each time."""
-    return re.sub(r'\b\d+ us$', 'N us', text, flags=re.M).splitlines()
+    """Lines, with an N in the place of each time, and an M in that of how many pipelines are under way."""
+    text = re.sub(r'\b\d+ us$', 'N us', text, flags=re.M)
+    return re.sub(r'(?<=, pipelines under way )\d+(?=, N us$)', 'M', text, flags=re.M).splitlines()
 
 
 class Log(Case):
@@ -47,6 +48,19 @@ class Log(Case):
 
 
 class Events(Log):
+    def test_what_is_under_way(self):
+        # The first pipeline's only job has ended. The second has a running and a pending job, the third a pending one, the fourth's manual one waits for a user.
+        self.begin(*PATH, 'success j1', 'set-file 1 two', 'create 1 a', 'ask r1', 'set-file 1 one', 'create 1 b', 'set-file 1 hold', 'create 1 c')
+        self.serve('--log', 'events')
+        until(lambda: '\n' in self.errors(), 'no line')
+        self.assertRegex(self.errors(), r': version 2, pipelines under way 2, \d+ us\n\Z')
+
+    def test_nothing_is_under_way(self):
+        self.begin()
+        self.serve('--log', 'events')
+        until(lambda: '\n' in self.errors(), 'no line')
+        self.assertRegex(self.errors(), r': version 2, pipelines under way 0, \d+ us\n\Z')
+
     def test_a_lease_that_is_over(self):
         self.begin(*PATH)
         self.serve('--log', 'events')

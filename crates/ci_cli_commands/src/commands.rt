@@ -2,7 +2,7 @@
 
 use crate::admin::request_of;
 use crate::cause::say_unopened;
-use crate::file::{let_go, make, open};
+use crate::file::{let_go, make, open, open_told};
 use crate::journal::Journal;
 use crate::plan::plan;
 use crate::prune::prune;
@@ -158,10 +158,11 @@ fn serve<C: Clock, R: RandomSource, O: Write, E: Write>(
     errors: &mut E,
 ) -> u8 {
     let start = Instant::now(sources.clock).ok();
-    match open(rt, options.file) {
-        Ok(mut server) => {
+    match open_told(rt, options.file, options.log) {
+        Ok((mut server, under_way)) => {
             let journal = Journal::new(rt, options.file, options.log, errors);
-            journal.say_opened(was_migrated(&server), time_since(start, sources.clock));
+            let time = time_since(start, sources.clock);
+            journal.say_opened(was_migrated(&server), under_way, time);
             journal.write();
             let status = listen(rt, &mut server, options, sources, output, &journal);
             journal.write();

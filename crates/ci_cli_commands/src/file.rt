@@ -3,6 +3,7 @@
 use crate::blank::first_page;
 use crate::cause::{Cause, Unopened, cause_at};
 use ci_cli_words::line::Line;
+use ci_cli_words::task::LogLevel;
 use ci_http_service::Server;
 use ci_store_sqlite::tables::OpenFault;
 use sqlite::{Connection, Error, ErrorCode, File, FileStore};
@@ -13,6 +14,10 @@ use std::os::unix::fs::OpenOptionsExt;
 
 /// The access of a file that its owner alone may read and write.
 const OWNER_ALONE: u32 = 0o600;
+
+/// It reads the jobs of these two statuses alone, by their index: 1 is `pending`, 2 `running`.
+const COUNT_UNDER_WAY: &str =
+    "SELECT COUNT(DISTINCT job.pipeline) FROM board JOIN job ON job.id = board.job WHERE board.status BETWEEN 1 AND 2";
 
 /// A server over a file.
 pub type FileServer = Server<FileStore<File>>;
@@ -102,7 +107,40 @@ pub fn open(rt: &HostRuntime, path: &str) -> Result<FileServer, Unopened> {
     if !is_there(rt, path)? {
         return Err(Unopened::by(Cause::Missing));
     }
-    let fault = match Server::open(connect(rt, path)?) {
+    over(rt, path, connect(rt, path)?)
+}
+
+/// The same, and where it is to be told how many pipelines are under way, if that can be read.
+pub fn open_told(
+    rt: &HostRuntime,
+    path: &str,
+    log: LogLevel,
+) -> Result<(FileServer, Option<u64>), Unopened> {
+    if !is_there(rt, path)? {
+        return Err(Unopened::by(Cause::Missing));
+    }
+    let mut conn = connect(rt, path)?;
+    let count = match log {
+        LogLevel::Events | LogLevel::Requests => under_way(&mut conn),
+        LogLevel::Nothing => None,
+    };
+    Ok((over(rt, path, conn)?, count))
+}
+
+/// How many pipelines have a job that is pending or running. None where that can't be read.
+fn under_way(conn: &mut Connection<FileStore<File>>) -> Option<u64> {
+    let row = conn.query_row(COUNT_UNDER_WAY, &[]).ok()?;
+    let count: i64 = row.get(0).ok()?;
+    u64::try_from(count).ok()
+}
+
+/// A server over the file that was opened at a path. Errors: why it can't be used.
+fn over(
+    rt: &HostRuntime,
+    path: &str,
+    conn: Connection<FileStore<File>>,
+) -> Result<FileServer, Unopened> {
+    let fault = match Server::open(conn) {
         Ok(server) => return Ok(server),
         Err((fault, _)) => fault,
     };

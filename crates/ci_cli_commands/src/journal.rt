@@ -60,10 +60,11 @@ impl<'a, E: Write> Journal<'a, E> {
         }
     }
 
-    /// The file was opened. If it was migrated, it was of version 1.
-    pub fn say_opened(&self, was_migrated: bool, time: Option<Duration>) {
+    /// The file was opened. If it was migrated, it was of version 1. So many pipelines have a job that is pending or running, if that is known.
+    pub fn say_opened(&self, was_migrated: bool, under_way: Option<u64>, time: Option<Duration>) {
         if self.has_events() {
-            self.note(opened_line(self.rt.alloc(), self.file, was_migrated, time));
+            let alloc = self.rt.alloc();
+            self.note(opened_line(alloc, self.file, was_migrated, under_way, time));
         }
     }
 
@@ -148,12 +149,22 @@ fn opened_line(
     alloc: Global,
     file: &str,
     was_migrated: bool,
+    under_way: Option<u64>,
     time: Option<Duration>,
 ) -> Result<String, AllocError> {
     let file = shown(alloc, file.as_bytes())?;
     let version = if was_migrated { "2, which was 1" } else { "2" };
+    let count = count_text(alloc, under_way)?;
     let time = time_text(alloc, time)?;
-    format!(in alloc; "opened {file}: version {version}, {time}\n")
+    format!(in alloc; "opened {file}: version {version}, pipelines under way {count}, {time}\n")
+}
+
+/// A number, or `-` where it isn't known.
+fn count_text(alloc: Global, count: Option<u64>) -> Result<String, AllocError> {
+    match count {
+        Some(count) => format!(in alloc; "{count}"),
+        None => "-".to_string(alloc),
+    }
 }
 
 fn swept_line(alloc: Global, swept: Swept) -> Result<String, AllocError> {
