@@ -1,38 +1,31 @@
--- What is read with every pattern refused holds no pattern, and so none costs anything to build.
-use Rattle.std.proofs.Common.{◌≡◌, ◌⊎◌, ◌++◌, ap, ap₂, sym, ◌∙◌, ℕ, Bool, true, false, cond, not, List, [], ◌∷◌, map, Option, Some, None, Result, Ok, Err, IfSome, length, refl, subst, inl, inr}
-use Rattle.std.specs.Prelude.{nat_lt, nat_le, option_map, sum_by, flat_map}
-use Rattle.std.specs.Global.{Vec}
+-- What is read with every pattern refused holds no pattern.
+use Rattle.std.proofs.Common.{◌≡◌, ◌⊎◌, ◌++◌, ap₂, sym, ◌∙◌, ℕ, Bool, true, false, cond, not, List, [], ◌∷◌, map, Option, Some, None, Result, Ok, Err, length, refl, subst, inl, inr}
+use Rattle.std.specs.Prelude.{nat_lt, flat_map}
 use Rattle.ci_values.specs.Names.{is_name}
 use Rattle.ci_values.specs.Table.{meaning_of, word_in}
 use Rattle.ci_yaml_lines.specs.Tree.{Value}
-use Rattle.ci_expr.specs.Built.{formula_of, patterns_of, same_pattern, cost_of}
-use Rattle.ci_expr.specs.Distinct.{distinct}
 use Rattle.ci_expr.specs.Computed.{expression_of}
 use Rattle.ci_expr.specs.Formula.{Formula, has_pattern}
-use Rattle.ci_expr.specs.declared.expr.Expr.{Expr}
 use Rattle.ci_expr.specs.declared.fault.ExprCode.{ExprCode}
 use Rattle.ci_expr.specs.declared.fault.ExprCode.TheVariants.{X8}
 use Rattle.ci_config.specs.AllowFailures.{allow_failure_of}
-use Rattle.ci_config.specs.Budget.{condition_patterns, rule_patterns, rules_patterns, job_patterns, config_cost}
 use Rattle.ci_config.specs.Config as config
 use Rattle.ci_config.specs.Config.{Text, Rule, Job}
-use Rattle.ci_config.specs.Expressions.{built, refused, are_built, condition_by, condition_of}
-use Rattle.ci_config.specs.Fault.{Fault, K1, K11, K13, K15, K16}
+use Rattle.ci_config.specs.Expressions.{refused, condition_by, condition_of}
+use Rattle.ci_config.specs.Fault.{K1, K11, K13, K15, K16, Placed}
 use Rattle.ci_config.specs.Files.{FileSaid, stages_of, is_hidden, job_of, with_job, job_value, other_value, keyword_value, file_value, file_entry, blank_file, file_from}
 use Rattle.ci_config.specs.Jobs as job
 use Rattle.ci_config.specs.Jobs.{script_of, plain_job_value, job_entry, blank_job, job_from}
-use Rattle.ci_config.specs.Laws.{LacksPatterns, Each, RuleLacksPattern, JobLacksPatterns, ConfigLacksPatterns}
-use Rattle.ci_config.specs.Meaning.{Means, config_of, is_nil, judged, file_config, meaning}
+use Rattle.ci_config.specs.Laws.{Each, RuleLacksPattern, JobLacksPatterns, ConfigLacksPatterns}
+use Rattle.ci_config.specs.Meaning.{Means, config_of, is_nil, judged, file_config, reading, meaning}
 use Rattle.ci_config.specs.Needs.{needs_of}
 use Rattle.ci_config.specs.Reading.{◌>>=◌, demand, keyword_of}
 use Rattle.ci_config.specs.Retries.{retry_of}
 use Rattle.ci_config.specs.Rules.{plain_rule_value, rule_value, rule_entry, blank_rule, rule_from, rule_of, rules_from, rules_of}
 use Rattle.ci_config.specs.Tables.{rule_keywords, rule_left_out, job_keywords, job_left_out, file_keywords, file_left_out}
 use Rattle.ci_config.specs.Values.{is_map, text_of, bool_of, list_of, map_of, name_of, timeout_of, names_of, variables_of}
-use Rattle.ci_config.specs.View.{rule_view, rules_view, job_view, config_view}
 use Rattle.ci_config.specs.Whens.{when_of, rule_when_of}
 use Rattle.ci_config.specs.declared.file.Config.{Config}
-use Rattle.ci_config.specs.declared.rule.Rule as rust
 use Rattle.ci_config.specs.declared.keyword.FileKeyword.{FileKeyword}
 use Rattle.ci_config.specs.declared.keyword.FileKeyword.TheVariants as of_file
 use Rattle.ci_config.specs.declared.keyword.JobKeyword.{JobKeyword}
@@ -43,12 +36,12 @@ use Rattle.ci_config.specs.declared.keyword.PlainRuleKeyword.{PlainRuleKeyword}
 use Rattle.ci_config.specs.declared.keyword.PlainRuleKeyword.TheVariants as of_rule
 use Rattle.ci_config.specs.declared.keyword.RuleKeyword.{RuleKeyword}
 use Rattle.ci_config.specs.declared.keyword.RuleKeyword.TheVariants as of_rules
-use Rattle.ci_config.specs.declared.limits.TheConstants.{MAX_JOBS, MAX_BUILDING_COST, MAX_RULES, MAX_TAGS}
-use Rattle.ci_config.proofs.Alike.{ReadsBy, none-built, alike}
-use Rattle.ci_config.proofs.Wholes.{bound, demanded, same-ok, each-append, each-read, entries-read, not-true, jobs-judged}
+use Rattle.ci_config.specs.declared.limits.TheConstants.{MAX_JOBS, MAX_RULES, MAX_TAGS}
+use Rattle.ci_config.proofs.Alike.{AlikeIn, alike}
+use Rattle.ci_config.proofs.Wholes.{bound, demanded, same-ok, each-append, each-read, entries-read, not-true, jobs-judged, read-ok}
 
 -- where whatever is set keeps a property
-sets : {A S : Type 0} (P : S → Type 0) (m : Result A Fault) (set : A → S) (t : S) → ((x : A) → P (set x)) → (m >>= λ x. Ok (set x)) ≡ Ok t → P t
+sets : {A S : Type 0} (P : S → Type 0) (m : Result A Placed) (set : A → S) (t : S) → ((x : A) → P (set x)) → (m >>= λ x. Ok (set x)) ≡ Ok t → P t
 sets P m set t h e =
     let b = bound m (λ x. Ok (set x)) t e in
     subst P (same-ok (set b.value) t b.next) (h b.value)
@@ -66,8 +59,8 @@ condition-lacks bs f e = by-value (expression_of bs) e
     by-value : (r : Result Formula ExprCode) → condition_by refused r ≡ Ok f → Lacks f
     by-value (Err x) e = absurd cc
     by-value (Ok g) e =
-        let d = demanded (are_built refused g) (K13 X8) (Ok g) f e in
-        subst Lacks (same-ok g f d.1) (not-true (has_pattern g) (sym (none-built g) ∙ d.0))
+        let d = demanded (not (has_pattern g)) (K13 X8) (Ok g) f e in
+        subst Lacks (same-ok g f d.1) (not-true (has_pattern g) d.0)
 
 plain-rule-lacks : (k : PlainRuleKeyword) (v : Value) (r s : Rule) → RuleLacks r → plain_rule_value k v r ≡ Ok s → RuleLacks s
 plain-rule-lacks of_rule.When v r s h e = sets RuleLacks (rule_when_of v) (λ w. record r { when = Some w }) s (λ w. h) e
@@ -90,7 +83,7 @@ rule-lacks : (done : List Rule) (v : Value) (r : Rule) → rule_of refused done 
 rule-lacks done v r e =
     let a = bound (map_of v) (λ ms. demand (nat_lt (length done) MAX_RULES) K11 (rule_from refused ms)) r e in
     let b = demanded (nat_lt (length done) MAX_RULES) K11 (rule_from refused a.value) r a.next in
-    entries-read RuleLacks (rule_entry refused) rule-entry-lacks blank_rule a.value r tt b.1
+    entries-read RuleLacks (λ before. rule_entry refused) (λ before. rule-entry-lacks) 0 blank_rule a.value r tt b.1
 
 rules-lack : (v : Value) (rs : List Rule) → rules_of v refused ≡ Ok rs → Each RuleLacks rs
 rules-lack v rs e =
@@ -134,7 +127,7 @@ job-of-lacks before name v j e =
     let a = bound (map_of v) (λ ms. demand (nat_lt before MAX_JOBS) K11 (demand (is_name name) K16 (job_from refused name ms))) j e in
     let b = demanded (nat_lt before MAX_JOBS) K11 (demand (is_name name) K16 (job_from refused name a.value)) j a.next in
     let c = demanded (is_name name) K16 (job_from refused name a.value) j b.1 in
-    entries-read JobLacks (job_entry refused) job-entry-lacks (blank_job name) a.value j tt c.1
+    entries-read JobLacks (λ before. job_entry refused) (λ before. job-entry-lacks) 0 (blank_job name) a.value j tt c.1
 
 file-job-lacks : (name : Text) (v : Value) (f g : FileSaid) → JobsLack f → job_value name v f refused ≡ Ok g → JobsLack g
 file-job-lacks name v f g h e =
@@ -164,57 +157,30 @@ file-entry-lacks m f g h e = file-value-lacks (meaning_of file_keywords m.0) m.0
 abbrev ConfigLacks : config.Config → Type 0
 ConfigLacks = ConfigLacksPatterns
 
-judged-lacks : (f : FileSaid) (c : config.Config) → JobsLack f → judged (config_of f) ≡ Ok c → ConfigLacks c
-judged-lacks f c h e =
+judged-lacks : (ms : List (Text × Value)) (f : FileSaid) (c : config.Config) → JobsLack f → judged ms (config_of f) ≡ Ok c → ConfigLacks c
+judged-lacks ms f c h e =
     let k = config_of f in
-    let a = jobs-judged k.stages k.jobs (demand (not (is_nil k.jobs)) K15 (Ok k)) c e in
+    let a = jobs-judged ms k.stages k.jobs (demand (not (is_nil k.jobs)) K15 (Ok k)) c e in
     let b = demanded (not (is_nil k.jobs)) K15 (Ok k) c a.1 in
     subst ConfigLacks (same-ok k c b.1) h
 
 lacks : (v : Value) (c : config.Config) → meaning refused v ≡ Ok c → ConfigLacks c
 lacks v c e =
-    let a = demanded (is_map v) K1 (map_of v >>= λ ms. file_config ms refused) c e in
+    let a = demanded (is_map v) K1 (map_of v >>= λ ms. file_config ms refused) c (read-ok (reading refused v) c e) in
     let b = bound (map_of v) (λ ms. file_config ms refused) c a.1 in
-    let d = bound (file_from b.value refused) (λ f. judged (config_of f)) c b.next in
-    judged-lacks d.value c (entries-read JobsLack (file_entry refused) file-entry-lacks blank_file b.value d.value tt d.first) d.next
-
--- ---- what building costs
--- an expression without a pattern has none to build, as `ci_expr` says
-abbrev BuildsNothing : Type 0
-BuildsNothing = (e : Expr) → has_pattern (formula_of e) ≡ false → patterns_of e ≡ []
+    let d = bound (file_from b.value refused) (λ f. judged b.value (config_of f)) c b.next in
+    judged-lacks b.value d.value c (entries-read JobsLack (λ before. file_entry refused) (λ before. file-entry-lacks) 0 blank_file b.value d.value tt d.first) d.next
 
 -- where each of a list has no part of another, that is empty
 pub none-of : {A B C : Type 0} (view : A → B) (P : B → Type 0) (part : A → List C) → ((x : A) → P (view x) → part x ≡ []) → (xs : List A) → Each P (map view xs) → flat_map part xs ≡ []
 none-of view P part none [] h = refl
 none-of view P part none (x ∷ xs) h = ap₂ (λ ys zs. ys ++ zs) (none x h.0) (none-of view P part none xs h.1)
 
-condition-none : BuildsNothing → (o : Option Expr) → IfSome (option_map formula_of o) Lacks → condition_patterns o ≡ []
-condition-none law None h = refl
-condition-none law (Some e) h = law e h
-
-rules-none : BuildsNothing → (o : Option (Vec rust.Rule)) → IfSome (option_map rules_view o) (Each RuleLacks) → rules_patterns o ≡ []
-rules-none law None h = refl
-rules-none law (Some rs) h = none-of rule_view RuleLacks rule_patterns (λ r. condition-none law r.condition) rs.items h
-
-config-none : BuildsNothing → (c : Config) → ConfigLacks (config_view c) → config_cost c ≡ 0
-config-none law c h = ap (λ ps. sum_by cost_of (distinct same_pattern ps)) (none-of job_view JobLacks job_patterns (λ j. rules-none law j.rules) c.jobs.items h)
-
--- so more than there may be comes of a pattern
-pub over-budget : BuildsNothing → (v : Value) (c : Config) → meaning built v ≡ Ok (config_view c) → nat_le (config_cost c) MAX_BUILDING_COST ≡ false → Means v (Err (K13 X8))
-over-budget law v c is over = by-reading (alike v refused)
-  where
-    by-reading : ReadsBy (LacksPatterns v) (λ p. meaning p v) refused → Means v (Err (K13 X8))
-    by-reading (inr (has, e, same)) = (refused, e)
-    by-reading (inl e) =
-        let none = config-none law c (lacks v (config_view c) (e ∙ is)) in
-        let no : nat_le 0 MAX_BUILDING_COST ≡ false = subst (λ n. nat_le n MAX_BUILDING_COST ≡ false) none over in
-        absurd cc
-
 -- a tree that may mean a configuration with a pattern may be refused for it
 pub none-or-refused : (v : Value) (c : config.Config) → Means v (Ok c) → ConfigLacksPatterns c ⊎ Means v (Err (K13 X8))
 none-or-refused v c (p, is) = by-readings (alike v p) (alike v refused)
   where
-    by-readings : ReadsBy (LacksPatterns v) (λ p. meaning p v) p → ReadsBy (LacksPatterns v) (λ p. meaning p v) refused → ConfigLacksPatterns c ⊎ Means v (Err (K13 X8))
+    by-readings : AlikeIn v p → AlikeIn v refused → ConfigLacksPatterns c ⊎ Means v (Err (K13 X8))
     by-readings h (inr (has, e, same)) = inr (refused, e)
     by-readings (inl e) (inl f) = inl (lacks v c (f ∙ sym e ∙ is))
     by-readings (inr (has, e, none)) (inl f) = inr (refused, none)

@@ -1,5 +1,5 @@
 -- The meaning of a tree is never X8: that is the fault of a pattern that was refused.
-use Rattle.std.proofs.Common.{◌≡◌, ◌≢◌, ℕ, Bool, true, false, cond, not, List, [], ◌∷◌, ◌++◌, Option, Some, None, Result, Ok, Err, length, refl, sym, ◌∙◌, ap, subst}
+use Rattle.std.proofs.Common.{◌≡◌, ◌≢◌, ℕ, suc, Bool, true, false, cond, not, List, [], ◌∷◌, ◌++◌, Option, Some, None, Result, Ok, Err, length, refl, sym, ◌∙◌, ap}
 use Rattle.std.specs.Prelude.{nat_lt, ⊤}
 use Rattle.ci_values.specs.Names.{is_name}
 use Rattle.ci_values.specs.declared.when.Causes.{Causes}
@@ -16,13 +16,13 @@ use Rattle.ci_config.specs.AllowFailures.{exit_code_of, exit_code_in, exit_codes
 use Rattle.ci_config.specs.Config.{Text, Need, Rule, Job, Config}
 use Rattle.ci_expr.specs.Computed.{expression_of}
 use Rattle.ci_config.specs.Expressions.{built, condition_by, condition_of}
-use Rattle.ci_config.specs.Fault.{Fault, K1, K4, K5, K6, K7, K8, K9, K10, K11, K12, K13, K15, K16}
+use Rattle.ci_config.specs.Fault.{Fault, K1, K4, K5, K6, K7, K8, K9, K10, K11, K12, K13, K15, K16, Placed}
 use Rattle.ci_config.specs.Files.{FileSaid, is_among, stage_in, stages_of, is_hidden, job_of, with_job, job_value, other_value, file_value, file_entry, blank_file, file_from}
 use Rattle.ci_config.specs.Jobs as job
 use Rattle.ci_config.specs.Jobs.{lines_of, script_of, plain_job_value, job_entry, blank_job, job_from}
-use Rattle.ci_config.specs.Meaning.{config_of, is_nil, jobs_judged, judged, file_config, meaning}
+use Rattle.ci_config.specs.Meaning.{config_of, is_nil, index_of, jobs_judged, judged, file_config, reading, unplaced, meaning}
 use Rattle.ci_config.specs.Needs.{NeedSaid, need_value, need_entry, need_said, blank_need, need_from, need_of, needs_of}
-use Rattle.ci_config.specs.Reading.{◌>>=◌, demand, or_fault, each, entries, left_out_or_unknown, other_key, keyword_of}
+use Rattle.ci_config.specs.Reading.{◌>>=◌, within, demand, demand_at, or_fault, each, entries, left_out_or_unknown, other_key, keyword_of}
 use Rattle.ci_config.specs.Retries.{no_causes, all_causes, with_cause, cause_of, cause_in, causes_of, RetrySaid, max_of, retry_value, retry_entry, retry_said, blank_retry, retry_from, retry_of}
 use Rattle.ci_config.specs.Rules.{rule_value, rule_entry, blank_rule, rule_from, rule_of, rules_from, rules_of}
 use Rattle.ci_config.specs.Tables.{whens, causes, file_keywords, file_left_out, job_keywords, job_left_out, rule_keywords, rule_left_out, need_keywords, need_left_out, retry_keywords, retry_left_out, allow_failure_keywords, allow_failure_left_out}
@@ -46,43 +46,50 @@ use Rattle.ci_config.specs.declared.keyword.RuleKeyword.TheVariants as of_rules
 use Rattle.ci_config.specs.declared.keyword.WhenWord.{WhenWord}
 use Rattle.ci_config.specs.declared.keyword.WhenWord.TheVariants.{Runs, Never, Delayed}
 use Rattle.ci_config.specs.declared.limits.TheConstants.{MAX_STAGES, MAX_JOBS, MAX_VARIABLES, MAX_TAGS, MAX_RULES, MAX_SCRIPT_ITEMS, MAX_EXIT_CODE, MAX_EXIT_CODES, MAX_RETRIES}
-use Rattle.ci_config.proofs.Alike.{each-built, taken}
 
 -- no expression has X8 as a fault of its own
 abbrev ExpressionsOwn : Type 0
 ExpressionsOwn = (text : Text) → IsOwn (expression_of text)
 
-abbrev is_x8 : Fault → Bool
+abbrev pub is_x8 : Fault → Bool
 is_x8 (K13 X8) = true
 is_x8 _ = false
 
-abbrev Own : {A : Type 0} → Result A Fault → Type 0
+abbrev pub Own : {A : Type 0} → Result A Placed → Type 0
 Own (Ok x) = ⊤
-Own (Err f) = is_x8 f ≡ false
+Own (Err f) = is_x8 f.fault ≡ false
 
-own-then : {A B : Type 0} (m : Result A Fault) (k : A → Result B Fault) → Own m → ((x : A) → Own (k x)) → Own (m >>= k)
+own-then : {A B : Type 0} (m : Result A Placed) (k : A → Result B Placed) → Own m → ((x : A) → Own (k x)) → Own (m >>= k)
 own-then (Ok x) k h g = g x
 own-then (Err f) k h g = h
 
-own-demand : {A : Type 0} (holds : Bool) (f : Fault) (m : Result A Fault) → is_x8 f ≡ false → Own m → Own (demand holds f m)
-own-demand true f m e h = h
-own-demand false f m e h = e
+own-within : {A : Type 0} (i : ℕ) (m : Result A Placed) → Own m → Own (within i m)
+own-within i (Ok x) h = tt
+own-within i (Err f) h = h
+
+own-demand_at : {A : Type 0} (way : List ℕ) (holds : Bool) (f : Fault) (m : Result A Placed) → is_x8 f ≡ false → Own m → Own (demand_at way holds f m)
+own-demand_at way true f m e h = h
+own-demand_at way false f m e h = e
+
+own-demand : {A : Type 0} (holds : Bool) (f : Fault) (m : Result A Placed) → is_x8 f ≡ false → Own m → Own (demand holds f m)
+own-demand = own-demand_at []
 
 own-or : {A : Type 0} (o : Option A) (f : Fault) → is_x8 f ≡ false → Own (or_fault o f)
 own-or (Some x) f e = tt
 own-or None f e = e
 
-own-if : {A : Type 0} (b : Bool) (m n : Result A Fault) → Own m → Own n → Own (cond b m n)
+own-if : {A : Type 0} (b : Bool) (m n : Result A Placed) → Own m → Own n → Own (cond b m n)
 own-if true m n h g = h
 own-if false m n h g = g
 
-own-each : {A B : Type 0} (read : List B → A → Result B Fault) → ((done : List B) (x : A) → Own (read done x)) → (done : List B) (xs : List A) → Own (each read done xs)
+own-each : {A B : Type 0} (read : List B → A → Result B Placed) → ((done : List B) (x : A) → Own (read done x)) → (done : List B) (xs : List A) → Own (each read done xs)
 own-each read h done [] = tt
-own-each read h done (x ∷ xs) = own-then (read done x) (λ y. each read (done ++ y ∷ []) xs) (h done x) (λ y. own-each read h (done ++ y ∷ []) xs)
+own-each read h done (x ∷ xs) =
+    own-then (within (length done) (read done x)) (λ y. each read (done ++ y ∷ []) xs) (own-within (length done) (read done x) (h done x)) (λ y. own-each read h (done ++ y ∷ []) xs)
 
-own-entries : {A S : Type 0} (set : A → S → Result S Fault) → ((x : A) (s : S) → Own (set x s)) → (s : S) (xs : List A) → Own (entries set s xs)
-own-entries set h s [] = tt
-own-entries set h s (x ∷ xs) = own-then (set x s) (λ next. entries set next xs) (h x s) (λ next. own-entries set h next xs)
+own-entries : {A S : Type 0} (set : ℕ → A → S → Result S Placed) → ((i : ℕ) (x : A) (s : S) → Own (set i x s)) → (i : ℕ) (s : S) (xs : List A) → Own (entries set i s xs)
+own-entries set h i s [] = tt
+own-entries set h i s (x ∷ xs) = own-then (within i (set i x s)) (λ next. entries set (suc i) next xs) (own-within i (set i x s) (h i x s)) (λ next. own-entries set h (suc i) next xs)
 
 own-other : (o : Option Text) → is_x8 (left_out_or_unknown o) ≡ false
 own-other (Some name) = refl
@@ -195,8 +202,8 @@ own-cause_in v set = own-then (cause_of v) (λ c. Ok (with_cause c set)) (own-ca
 
 own-causes : (v : Value) → Own (causes_of v)
 own-causes v =
-    own-if (is_text v) (cause_in v no_causes) (list_of v >>= λ vs. entries cause_in no_causes vs) (own-cause_in v no_causes)
-    (own-then (list_of v) (λ vs. entries cause_in no_causes vs) (own-list v) (λ vs. own-entries cause_in own-cause_in no_causes vs))
+    own-if (is_text v) (cause_in v no_causes) (list_of v >>= λ vs. entries (λ before. cause_in) 0 no_causes vs) (own-cause_in v no_causes)
+    (own-then (list_of v) (λ vs. entries (λ before. cause_in) 0 no_causes vs) (own-list v) (λ vs. own-entries (λ before. cause_in) (λ before. own-cause_in) 0 no_causes vs))
 
 own-max : (v : Value) → Own (max_of v)
 own-max v = own-up_to MAX_RETRIES K9 v refl
@@ -210,7 +217,7 @@ own-retry_entry m r = own-then (keyword_of retry_keywords retry_left_out m.0) (�
 
 own-retry_from : (ms : List (Text × Value)) → Own (retry_from ms)
 own-retry_from ms =
-    own-then (entries retry_entry blank_retry ms) retry_said (own-entries retry_entry own-retry_entry blank_retry ms)
+    own-then (entries (λ before. retry_entry) 0 blank_retry ms) retry_said (own-entries (λ before. retry_entry) (λ before. own-retry_entry) 0 blank_retry ms)
     (λ r. own-then (or_fault r.max K9) (λ max. Ok (record { max = max; causes = r.causes })) (own-or r.max K9 refl) (λ max. tt))
 
 own-retry : (v : Value) → Own (retry_of v)
@@ -243,7 +250,7 @@ own-allow_said None = refl
 own-allow_said (Some codes) = tt
 
 own-allow_from : (ms : List (Text × Value)) → Own (allow_failure_from ms)
-own-allow_from ms = own-then (entries allow_failure_entry None ms) allow_failure_said (own-entries allow_failure_entry own-allow_entry None ms) own-allow_said
+own-allow_from ms = own-then (entries (λ before. allow_failure_entry) 0 None ms) allow_failure_said (own-entries (λ before. allow_failure_entry) (λ before. own-allow_entry) 0 None ms) own-allow_said
 
 own-allow : (v : Value) → Own (allow_failure_of v)
 own-allow v =
@@ -259,7 +266,7 @@ own-need_entry m n = own-then (keyword_of need_keywords need_left_out m.0) (λ k
 
 own-need_from : (ms : List (Text × Value)) → Own (need_from ms)
 own-need_from ms =
-    own-then (entries need_entry blank_need ms) need_said (own-entries need_entry own-need_entry blank_need ms)
+    own-then (entries (λ before. need_entry) 0 blank_need ms) need_said (own-entries (λ before. need_entry) (λ before. own-need_entry) 0 blank_need ms)
     (λ n. own-then (or_fault n.job K4) (λ job. Ok (record { job = job; optional = n.optional })) (own-or n.job K4 refl) (λ job. tt))
 
 own-need : (done : List Need) (v : Value) → Own (need_of done v)
@@ -285,7 +292,7 @@ own-condition : ExpressionsOwn → (bs : Text) → Own (condition_of bs built)
 own-condition law bs = by-value (expression_of bs) (law bs)
   where
     by-value : (r : Result Formula ExprCode) → IsOwn r → Own (condition_by built r)
-    by-value (Ok f) h = subst (λ b. Own (taken f b)) (sym (each-built f)) tt
+    by-value (Ok f) h = tt
     by-value (Err x) h = own-code x h
 
 own-rule_value : ExpressionsOwn → (k : RuleKeyword) (v : Value) (r : Rule) → Own (rule_value k v r built)
@@ -302,7 +309,7 @@ own-rule_entry law m r = own-then (keyword_of rule_keywords rule_left_out m.0) (
 own-rule : ExpressionsOwn → (done : List Rule) (v : Value) → Own (rule_of built done v)
 own-rule law done v =
     own-then (map_of v) (λ ms. demand (nat_lt (length done) MAX_RULES) K11 (rule_from built ms)) (own-map v)
-    (λ ms. own-demand (nat_lt (length done) MAX_RULES) K11 (rule_from built ms) refl (own-entries (rule_entry built) (own-rule_entry law) blank_rule ms))
+    (λ ms. own-demand (nat_lt (length done) MAX_RULES) K11 (rule_from built ms) refl (own-entries (λ before. rule_entry built) (λ before. own-rule_entry law) 0 blank_rule ms))
 
 own-rules : ExpressionsOwn → (v : Value) → Own (rules_of v built)
 own-rules law v = own-then (list_of v) (rules_from built) (own-list v) (λ vs. own-each (rule_of built) (own-rule law) [] vs)
@@ -346,7 +353,7 @@ own-job : ExpressionsOwn → (before : ℕ) (name : Text) (v : Value) → Own (j
 own-job law before name v =
     own-then (map_of v) (λ ms. demand (nat_lt before MAX_JOBS) K11 (demand (is_name name) K16 (job_from built name ms))) (own-map v)
     (λ ms. own-demand (nat_lt before MAX_JOBS) K11 (demand (is_name name) K16 (job_from built name ms)) refl
-    (own-demand (is_name name) K16 (job_from built name ms) refl (own-entries (job_entry built) (own-job_entry law) (blank_job name) ms)))
+    (own-demand (is_name name) K16 (job_from built name ms) refl (own-entries (λ before. job_entry built) (λ before. own-job_entry law) 0 (blank_job name) ms)))
 
 own-file_job : ExpressionsOwn → (name : Text) (v : Value) (f : FileSaid) → Own (job_value name v f built)
 own-file_job law name v f = own-then (job_of (length f.jobs) name v built) (λ j. Ok (with_job f j)) (own-job law (length f.jobs) name v) (λ j. tt)
@@ -363,25 +370,27 @@ own-file_value law None key v f = own-other_value law (word_in file_left_out key
 own-file_entry : ExpressionsOwn → (m : Text × Value) (f : FileSaid) → Own (file_entry built m f)
 own-file_entry law m f = own-file_value law (meaning_of file_keywords m.0) m.0 m.1 f
 
-own-jobs : (stages : List Text) (js : List Job) (next : Result Config Fault) → Own next → Own (jobs_judged stages js next)
-own-jobs stages [] next h = h
-own-jobs stages (j ∷ js) next h =
-    own-demand (not (is_nil j.script)) K5 (demand (is_among stages j.stage) K6 (jobs_judged stages js next)) refl
-    (own-demand (is_among stages j.stage) K6 (jobs_judged stages js next) refl (own-jobs stages js next h))
+own-jobs : (ms : List (Text × Value)) (stages : List Text) (js : List Job) (next : Result Config Placed) → Own next → Own (jobs_judged ms stages js next)
+own-jobs ms stages [] next h = h
+own-jobs ms stages (j ∷ js) next h =
+    let way = index_of ms j.name ∷ [] in
+    own-demand_at way (not (is_nil j.script)) K5 (demand_at way (is_among stages j.stage) K6 (jobs_judged ms stages js next)) refl
+    (own-demand_at way (is_among stages j.stage) K6 (jobs_judged ms stages js next) refl (own-jobs ms stages js next h))
 
-own-judged : (c : Config) → Own (judged c)
-own-judged c = own-jobs c.stages c.jobs (demand (not (is_nil c.jobs)) K15 (Ok c)) (own-demand (not (is_nil c.jobs)) K15 (Ok c) refl tt)
+pub own-judged : (ms : List (Text × Value)) (c : Config) → Own (judged ms c)
+own-judged ms c = own-jobs ms c.stages c.jobs (demand (not (is_nil c.jobs)) K15 (Ok c)) (own-demand (not (is_nil c.jobs)) K15 (Ok c) refl tt)
 
 own-config : ExpressionsOwn → (ms : List (Text × Value)) → Own (file_config ms built)
-own-config law ms = own-then (file_from ms built) (λ f. judged (config_of f)) (own-entries (file_entry built) (own-file_entry law) blank_file ms) (λ f. own-judged (config_of f))
+own-config law ms =
+    own-then (file_from ms built) (λ f. judged ms (config_of f)) (own-entries (λ before. file_entry built) (λ before. own-file_entry law) 0 blank_file ms) (λ f. own-judged ms (config_of f))
 
-own-meaning : ExpressionsOwn → (v : Value) → Own (meaning built v)
-own-meaning law v =
+own-reading : ExpressionsOwn → (v : Value) → Own (reading built v)
+own-reading law v =
     own-demand (is_map v) K1 (map_of v >>= λ ms. file_config ms built) refl (own-then (map_of v) (λ ms. file_config ms built) (own-map v) (own-config law))
 
 pub no-x8 : ExpressionsOwn → (v : Value) → meaning built v ≢ Err (K13 X8)
-no-x8 law v e = absurd (by-value (meaning built v) (own-meaning law v) e)
+no-x8 law v e = absurd (by-value (reading built v) (own-reading law v) e)
   where
-    by-value : (r : Result Config Fault) → Own r → r ≡ Err (K13 X8) → ⊥
+    by-value : (r : Result Config Placed) → Own r → unplaced r ≡ Err (K13 X8) → ⊥
     by-value (Ok c) h e = absurd cc
-    by-value (Err f) h e = let same : f ≡ K13 X8 = cc in let is : true ≡ false = sym (ap is_x8 same) ∙ h in absurd cc
+    by-value (Err f) h e = let same : f.fault ≡ K13 X8 = cc in let is : true ≡ false = sym (ap is_x8 same) ∙ h in absurd cc

@@ -1,5 +1,5 @@
 -- What a configuration has: jobs that can run, and names that are names.
-use Rattle.std.proofs.Common.{◌≡◌, ℕ, ◌<◌, ◌≤◌, Bool, true, false, cond, not, List, [], ◌∷◌, ◌++◌, Option, Some, None, Result, Ok, Err, IfSome, length, refl, ap, subst, arith, length-append}
+use Rattle.std.proofs.Common.{◌≡◌, ℕ, suc, ◌<◌, ◌≤◌, Bool, true, false, cond, not, List, [], ◌∷◌, ◌++◌, Option, Some, None, Result, Ok, Err, IfSome, length, refl, ap, subst, arith, length-append}
 use Rattle.std.specs.Prelude.{nat_lt, filter, unwrap_or}
 use Rattle.std.proofs.lemmas.Bool.Decides.{nat_tests}
 use Rattle.ci_values.specs.Names.{is_name}
@@ -9,15 +9,15 @@ use Rattle.ci_values.specs.Table.{meaning_of, word_in}
 use Rattle.ci_yaml_lines.specs.Tree.{Value}
 use Rattle.ci_config.specs.AllowFailures.{allow_failure_of}
 use Rattle.ci_config.specs.Config.{Text, Need, Rule, Job, Config}
-use Rattle.ci_config.specs.Expressions.{Patterns, condition_of}
-use Rattle.ci_config.specs.Fault.{Fault, K1, K4, K5, K6, K7, K11, K12, K15, K16}
+use Rattle.ci_config.specs.Expressions.{Patterns, below, condition_of}
+use Rattle.ci_config.specs.Fault.{Fault, Placed, K1, K4, K5, K6, K7, K11, K12, K15, K16}
 use Rattle.ci_config.specs.Files.{FileSaid, is_among, stage_in, stages_of, is_hidden, job_of, with_job, job_value, other_value, keyword_value, file_value, file_entry, blank_file, file_from}
 use Rattle.ci_config.specs.Jobs as job
 use Rattle.ci_config.specs.Jobs.{script_of, plain_job_value, job_entry, blank_job, job_from}
 use Rattle.ci_config.specs.Laws.{Each, IsName, AreNamed, CanRun, HasNames, IsWhole}
-use Rattle.ci_config.specs.Meaning.{post, is_inner, default_stages, all_stages, config_of, is_nil, jobs_judged, judged, file_config, meaning}
+use Rattle.ci_config.specs.Meaning.{post, is_inner, default_stages, all_stages, config_of, is_nil, index_of, jobs_judged, judged, file_config, reading, unplaced, meaning}
 use Rattle.ci_config.specs.Needs.{NeedSaid, need_value, need_entry, need_said, blank_need, need_from, need_of, needs_of}
-use Rattle.ci_config.specs.Reading.{◌>>=◌, demand, or_fault, each, entries, keyword_of}
+use Rattle.ci_config.specs.Reading.{◌>>=◌, within, demand, demand_at, or_fault, each, entries, keyword_of}
 use Rattle.ci_config.specs.Retries.{retry_of}
 use Rattle.ci_config.specs.Rules.{plain_rule_value, rule_value, rule_entry, blank_rule, rule_from, rule_of, rules_from, rules_of}
 use Rattle.ci_config.specs.Tables.{rule_keywords, rule_left_out, need_keywords, need_left_out, job_keywords, job_left_out, file_keywords, file_left_out}
@@ -38,18 +38,26 @@ use Rattle.ci_config.specs.declared.keyword.RuleKeyword.TheVariants as of_rules
 use Rattle.ci_config.specs.declared.limits.TheConstants.{MAX_STAGES, MAX_JOBS, MAX_VARIABLES, MAX_TAGS, MAX_RULES}
 
 -- ---- what was read without a fault
-pub record Bound {A B : Type 0} (m : Result A Fault) (k : A → Result B Fault) (y : B) : Type 0 where
+pub record Bound {A B : Type 0} (m : Result A Placed) (k : A → Result B Placed) (y : B) : Type 0 where
   pub value : A
   pub first : m ≡ Ok value
   pub next : k value ≡ Ok y
 
-pub bound : {A B : Type 0} (m : Result A Fault) (k : A → Result B Fault) (y : B) → (m >>= k) ≡ Ok y → Bound m k y
+pub bound : {A B : Type 0} (m : Result A Placed) (k : A → Result B Placed) (y : B) → (m >>= k) ≡ Ok y → Bound m k y
 bound (Ok x) k y e = record { value = x; first = refl; next = e }
 bound (Err f) k y e = absurd cc
 
-pub demanded : {A : Type 0} (holds : Bool) (f : Fault) (m : Result A Fault) (y : A) → demand holds f m ≡ Ok y → (holds ≡ true) × (m ≡ Ok y)
-demanded true f m y e = (refl, e)
-demanded false f m y e = absurd cc
+pub demanded_at : {A : Type 0} (way : List ℕ) (holds : Bool) (f : Fault) (m : Result A Placed) (y : A) → demand_at way holds f m ≡ Ok y → (holds ≡ true) × (m ≡ Ok y)
+demanded_at way true f m y e = (refl, e)
+demanded_at way false f m y e = absurd cc
+
+pub demanded : {A : Type 0} (holds : Bool) (f : Fault) (m : Result A Placed) (y : A) → demand holds f m ≡ Ok y → (holds ≡ true) × (m ≡ Ok y)
+demanded = demanded_at []
+
+-- what is read of an entry
+pub from-within : {A : Type 0} (i : ℕ) (m : Result A Placed) (y : A) → within i m ≡ Ok y → m ≡ Ok y
+from-within i (Ok x) y e = e
+from-within i (Err f) y e = absurd cc
 
 there : {A : Type 0} (o : Option A) (f : Fault) (x : A) → or_fault o f ≡ Ok x → o ≡ Some x
 there {A = A} None f x e = absurd cc
@@ -58,7 +66,7 @@ there {A = A} (Some y) f x e = let same : y ≡ x = cc in ap (λ z. just z) same
     just : A → Option A
     just z = Some z
 
-pub same-ok : {A : Type 0} (x y : A) → ◌≡◌ {A = Result A Fault} (Ok x) (Ok y) → x ≡ y
+pub same-ok : {A : Type 0} (x y : A) → ◌≡◌ {A = Result A Placed} (Ok x) (Ok y) → x ≡ y
 same-ok x y e = cc
 
 -- ---- lists and maps
@@ -74,19 +82,20 @@ each-filter {A = A} P keep (x ∷ xs) h = by-test (keep x) (each-filter P keep x
     by-test true g = (h.0, g)
     by-test false g = g
 
-pub each-read : {A B : Type 0} (P : B → Type 0) (read : List B → A → Result B Fault) → ((done : List B) (x : A) (y : B) → read done x ≡ Ok y → P y)
+pub each-read : {A B : Type 0} (P : B → Type 0) (read : List B → A → Result B Placed) → ((done : List B) (x : A) (y : B) → read done x ≡ Ok y → P y)
     → (done : List B) (xs : List A) (ys : List B) → Each P done → each read done xs ≡ Ok ys → Each P ys
 each-read P read good done [] ys h e = subst (Each P) (same-ok done ys e) h
 each-read P read good done (x ∷ xs) ys h e =
-    let b = bound (read done x) (λ y. each read (done ++ y ∷ []) xs) ys e in
-    each-read P read good (done ++ b.value ∷ []) xs ys (each-append P done (b.value ∷ []) h (good done x b.value b.first, tt)) b.next
+    let b = bound (within (length done) (read done x)) (λ y. each read (done ++ y ∷ []) xs) ys e in
+    let one = from-within (length done) (read done x) b.value b.first in
+    each-read P read good (done ++ b.value ∷ []) xs ys (each-append P done (b.value ∷ []) h (good done x b.value one, tt)) b.next
 
-pub entries-read : {A S : Type 0} (P : S → Type 0) (set : A → S → Result S Fault) → ((x : A) (s t : S) → P s → set x s ≡ Ok t → P t)
-    → (s : S) (xs : List A) (t : S) → P s → entries set s xs ≡ Ok t → P t
-entries-read P set keeps s [] t h e = subst P (same-ok s t e) h
-entries-read P set keeps s (x ∷ xs) t h e =
-    let b = bound (set x s) (λ next. entries set next xs) t e in
-    entries-read P set keeps b.value xs t (keeps x s b.value h b.first) b.next
+pub entries-read : {A S : Type 0} (P : S → Type 0) (set : ℕ → A → S → Result S Placed) → ((i : ℕ) (x : A) (s t : S) → P s → set i x s ≡ Ok t → P t)
+    → (i : ℕ) (s : S) (xs : List A) (t : S) → P s → entries set i s xs ≡ Ok t → P t
+entries-read P set keeps i s [] t h e = subst P (same-ok s t e) h
+entries-read P set keeps i s (x ∷ xs) t h e =
+    let b = bound (within i (set i x s)) (λ next. entries set (suc i) next xs) t e in
+    entries-read P set keeps (suc i) b.value xs t (keeps i x s b.value h (from-within i (set i x s) b.value b.first)) b.next
 
 -- ---- values
 name-read : (v : Value) (name : Text) → name_of v ≡ Ok name → IsName name
@@ -155,8 +164,8 @@ need-read done v n e = by-test (is_text v) e
         subst (λ n. IsName n.job) (same-ok (record { job = b.value; optional = false }) n b.next) (name-read v b.value b.first)
     by-test false e =
         let b = bound (map_of v) need_from n e in
-        let c = bound (entries need_entry blank_need b.value) need_said n b.next in
-        need-said-read c.value n (entries-read NeedNamed need_entry need-entry-read blank_need b.value c.value tt c.first) c.next
+        let c = bound (entries (λ before. need_entry) 0 blank_need b.value) need_said n b.next in
+        need-said-read c.value n (entries-read NeedNamed (λ before. need_entry) (λ before. need-entry-read) 0 blank_need b.value c.value tt c.first) c.next
 
 needs-read : (v : Value) (ns : List Need) → needs_of v ≡ Ok ns → Each (λ n. IsName n.job) ns
 needs-read v ns e =
@@ -194,12 +203,12 @@ rule-read : (p : Patterns) (done : List Rule) (v : Value) (r : Rule) → rule_of
 rule-read p done v r e =
     let a = bound (map_of v) (λ ms. demand (nat_lt (length done) MAX_RULES) K11 (rule_from p ms)) r e in
     let b = demanded (nat_lt (length done) MAX_RULES) K11 (rule_from p a.value) r a.next in
-    entries-read RuleNamed (rule_entry p) (rule-entry-read p) blank_rule a.value r tt b.1
+    entries-read RuleNamed (λ before. rule_entry (below before p)) (λ before. rule-entry-read (below before p)) 0 blank_rule a.value r tt b.1
 
 rules-read : (p : Patterns) (v : Value) (rs : List Rule) → rules_of v p ≡ Ok rs → Each RuleNamed rs
 rules-read p v rs e =
     let b = bound (list_of v) (rules_from p) rs e in
-    each-read RuleNamed (rule_of p) (rule-read p) [] b.value rs tt b.next
+    each-read RuleNamed (λ before. rule_of (below (length before) p) before) (λ done. rule-read (below (length done) p) done) [] b.value rs tt b.next
 
 -- ---- jobs
 plain-value-read : (k : PlainJobKeyword) (v : Value) (j i : Job) → HasNames j → plain_job_value k v j ≡ Ok i → HasNames i
@@ -257,7 +266,7 @@ job-entry-read p m j i h e =
 
 job-read : (p : Patterns) (name : Text) (ms : List (Text × Value)) (j : Job) → IsName name → job_from p name ms ≡ Ok j → HasNames j
 job-read p name ms j named e =
-    entries-read HasNames (job_entry p) (job-entry-read p) (blank_job name) ms j (record { name = named; stage = refl; tags = tt; resource_group = tt; needs = tt; rules = tt; variables = tt }) e
+    entries-read HasNames (λ before. job_entry (below before p)) (λ before. job-entry-read (below before p)) 0 (blank_job name) ms j (record { name = named; stage = refl; tags = tt; resource_group = tt; needs = tt; rules = tt; variables = tt }) e
 
 -- ---- files
 pub record FileNamed (f : FileSaid) : Type 0 where
@@ -322,19 +331,22 @@ file-entry-read : (p : Patterns) (m : Text × Value) (f g : FileSaid) → FileNa
 file-entry-read p m f g h e = file-value-read p (meaning_of file_keywords m.0) m.0 m.1 f g h e
 
 file-read : (p : Patterns) (ms : List (Text × Value)) (f : FileSaid) → file_from ms p ≡ Ok f → FileNamed f
-file-read p ms f e = entries-read FileNamed (file_entry p) (file-entry-read p) blank_file ms f (record { stages = tt; variables = tt; jobs = tt; few = omega arith }) e
+file-read p ms f e =
+    entries-read FileNamed (λ before. file_entry (below before p)) (λ before. file-entry-read (below before p)) 0 blank_file ms f (record { stages = tt; variables = tt; jobs = tt; few = omega arith }) e
 
 -- ---- and then
 pub not-true : (b : Bool) → not b ≡ true → b ≡ false
 not-true true e = absurd cc
 not-true false e = refl
 
-pub jobs-judged : (stages : List Text) (js : List Job) (next : Result Config Fault) (c : Config) → jobs_judged stages js next ≡ Ok c → Each (CanRun stages) js × (next ≡ Ok c)
-jobs-judged stages [] next c e = (tt, e)
-jobs-judged stages (j ∷ js) next c e =
-    let a = demanded (not (is_nil j.script)) K5 (demand (is_among stages j.stage) K6 (jobs_judged stages js next)) c e in
-    let b = demanded (is_among stages j.stage) K6 (jobs_judged stages js next) c a.1 in
-    let d = jobs-judged stages js next c b.1 in
+pub jobs-judged : (ms : List (Text × Value)) (stages : List Text) (js : List Job) (next : Result Config Placed) (c : Config)
+    → jobs_judged ms stages js next ≡ Ok c → Each (CanRun stages) js × (next ≡ Ok c)
+jobs-judged ms stages [] next c e = (tt, e)
+jobs-judged ms stages (j ∷ js) next c e =
+    let way = index_of ms j.name ∷ [] in
+    let a = demanded_at way (not (is_nil j.script)) K5 (demand_at way (is_among stages j.stage) K6 (jobs_judged ms stages js next)) c e in
+    let b = demanded_at way (is_among stages j.stage) K6 (jobs_judged ms stages js next) c a.1 in
+    let d = jobs-judged ms stages js next c b.1 in
     ((record { script = not-true (is_nil j.script) a.0; stage = b.0 }, d.0), d.1)
 
 listed-named : (o : Option (List Text)) → IfSome o (Each IsName) → Each IsName (unwrap_or o default_stages)
@@ -344,10 +356,10 @@ listed-named (Some names) h = h
 stages-named : (names : List Text) → Each IsName names → Each IsName (all_stages names)
 stages-named names h = (refl, each-append IsName (filter is_inner names) (post ∷ []) (each-filter IsName is_inner names h) (refl, tt))
 
-config-whole : (f : FileSaid) (c : Config) → FileNamed f → judged (config_of f) ≡ Ok c → IsWhole c
-config-whole f c h e =
+config-whole : (ms : List (Text × Value)) (f : FileSaid) (c : Config) → FileNamed f → judged ms (config_of f) ≡ Ok c → IsWhole c
+config-whole ms f c h e =
     let k = config_of f in
-    let a = jobs-judged k.stages k.jobs (demand (not (is_nil k.jobs)) K15 (Ok k)) c e in
+    let a = jobs-judged ms k.stages k.jobs (demand (not (is_nil k.jobs)) K15 (Ok k)) c e in
     let b = demanded (not (is_nil k.jobs)) K15 (Ok k) c a.1 in
     subst IsWhole (same-ok k c b.1) (record {
       some = not-true (is_nil f.jobs) b.0;
@@ -358,9 +370,16 @@ config-whole f c h e =
       variables = h.variables;
     })
 
+pub read-ok : {A : Type 0} (r : Result A Placed) (x : A) → unplaced r ≡ Ok x → r ≡ Ok x
+read-ok {A = A} (Ok y) x e = let same : y ≡ x = cc in ap okay same
+  where
+    okay : A → Result A Placed
+    okay z = Ok z
+read-ok (Err f) x e = absurd cc
+
 pub wholes : (p : Patterns) (v : Value) (c : Config) → meaning p v ≡ Ok c → IsWhole c
 wholes p v c e =
-    let a = demanded (is_map v) K1 (map_of v >>= λ ms. file_config ms p) c e in
+    let a = demanded (is_map v) K1 (map_of v >>= λ ms. file_config ms p) c (read-ok (reading p v) c e) in
     let b = bound (map_of v) (λ ms. file_config ms p) c a.1 in
-    let d = bound (file_from b.value p) (λ f. judged (config_of f)) c b.next in
-    config-whole d.value c (file-read p b.value d.value d.first) d.next
+    let d = bound (file_from b.value p) (λ f. judged b.value (config_of f)) c b.next in
+    config-whole b.value d.value c (file-read p b.value d.value d.first) d.next

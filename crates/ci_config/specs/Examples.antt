@@ -82,6 +82,15 @@ with_tags n = with_entry (codes "tags") (a_list (replicate n (text (codes "t")))
 abbrev pub with_exit_codes : List ℕ → Value
 with_exit_codes codes_taken = with_entry (codes "allow_failure") (a_map ((codes "exit_codes", a_list (map (λ n. number (pos n)) codes_taken)) ∷ []))
 
+-- a job with three rules: an expression without a pattern, and two with one
+abbrev pub with_patterns : Value
+with_patterns =
+    with_entry (codes "rules") (
+    a_list (
+    a_map ((codes "if", text (codes "$A")) ∷ [])
+    ∷ a_map ((codes "when", text (codes "never")) ∷ (codes "if", text (codes "$A =~ /x/")) ∷ [])
+    ∷ a_map ((codes "if", text (codes "$A =~ /y/")) ∷ []) ∷ []))
+
 -- ---- names that are left out
 
 abbrev pub left_out_of_files : List Text

@@ -21,6 +21,34 @@ pub data Fault : Type 0 where
   K15 : Fault
   K16 : Fault
 
+-- the number of its code
+abbrev pub number : Fault → ℕ
+number K1 = 1
+number (K2 name) = 2
+number K3 = 3
+number K4 = 4
+number K5 = 5
+number K6 = 6
+number K7 = 7
+number K8 = 8
+number K9 = 9
+number K10 = 10
+number K11 = 11
+number K12 = 12
+number (K13 x) = 13
+number K14 = 14
+number K15 = 15
+number K16 = 16
+
+-- A fault, and the way from the file inwards to the entry that has it: of each list or map on it, how many entries stand before the next. The
+-- way of what no single entry is to blame for has no step.
+pub record Placed : Type 0 where
+  pub fault : Fault
+  pub way : List ℕ
+
+abbrev pub placed : Fault → List ℕ → Placed
+placed fault way = record { fault = fault; way = way }
+
 -- the code, and what it names: `K6`, `K2 image`, `K13 X4`
 abbrev pub said : Fault → List ℕ
 said K1 = codes "K1"

@@ -1,10 +1,15 @@
 -- Faults of the code, without where they lie in memory.
-use Rattle.std.specs.Prelude.{◌≡◌, Result, Ok, Err, ⊤}
-use Rattle.ci_config.specs.Fault.{Fault, K1, K2, K3, K4, K5, K6, K7, K8, K9, K10, K11, K12, K13, K14, K15, K16}
+use Rattle.std.specs.Prelude.{◌≡◌, ℕ, List, [], ◌∷◌, Result, Ok, Err, ⊤}
+use Rattle.ci_config.specs.Fault.{Fault, K1, K2, K3, K4, K5, K6, K7, K8, K9, K10, K11, K12, K13, K14, K15, K16, Placed}
+use Rattle.ci_config.specs.Reading.{fails, fails_at}
 use Rattle.ci_config.specs.declared.fault.ConfigCode.{ConfigCode}
 use Rattle.ci_config.specs.declared.fault.ConfigCode.TheVariants as code
 use Rattle.ci_config.specs.declared.fault.ConfigFault.{ConfigFault}
 use Rattle.ci_config.specs.declared.fault.ConfigFault.TheVariants as faults
+use Rattle.ci_config.specs.declared.fault.Way.{Way}
+use Rattle.ci_config.specs.declared.fault.Way.TheVariants as ways
+use Rattle.ci_config.specs.declared.fault.ReadFault.{ReadFault}
+use Rattle.ci_config.specs.declared.fault.ReadFault.TheVariants.{Memory, Here, Inside}
 
 abbrev pub code_view : ConfigCode → Fault
 code_view code.K1 = K1
@@ -29,3 +34,29 @@ abbrev pub Gives : {X Y : Type 0} → (X → Y) → Result X ConfigFault → Res
 Gives view (Ok x) read = read ≡ Ok (view x)
 Gives view (Err faults.Memory) read = ⊤
 Gives view (Err (faults.Fault f)) read = read ≡ Err (code_view f)
+
+abbrev pub way_view : Way → List ℕ
+way_view (ways.One a) = a ∷ []
+way_view (ways.Two a b) = a ∷ b ∷ []
+way_view (ways.Three a b c) = a ∷ b ∷ c ∷ []
+way_view (ways.Four a b c d) = a ∷ b ∷ c ∷ d ∷ []
+way_view (ways.Five a b c d e) = a ∷ b ∷ c ∷ d ∷ e ∷ []
+
+-- The same, with where a fault is.
+abbrev pub GivesAt : {X Y : Type 0} → (X → Y) → Result X ReadFault → Result Y Placed → Type 0
+GivesAt view (Ok x) read = read ≡ Ok (view x)
+GivesAt view (Err Memory) read = ⊤
+GivesAt view (Err (Here f)) read = read ≡ fails (code_view f)
+GivesAt view (Err (Inside f way)) read = read ≡ fails_at (way_view way) (code_view f)
+
+-- a fault of what is read itself
+abbrev pub read_of : ConfigFault → ReadFault
+read_of faults.Memory = Memory
+read_of (faults.Fault f) = Here f
+
+-- The second is the first, of the entry behind so many; or memory ran out.
+abbrev pub IsWithin : ℕ → ReadFault → ReadFault → Type 0
+IsWithin before e Memory = ⊤
+IsWithin before (Here f) (Inside g way) = (code_view g ≡ code_view f) × (way_view way ≡ before ∷ [])
+IsWithin before (Inside f inner) (Inside g way) = (code_view g ≡ code_view f) × (way_view way ≡ before ∷ way_view inner)
+IsWithin before e d = ⊥

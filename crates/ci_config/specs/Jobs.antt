@@ -1,11 +1,11 @@
 -- A job.
 use Rattle.std.specs.Prelude.{false, List, [], ◌∷◌, Some, None, Result, Ok, codes, if◌then◌else◌}
 use Rattle.ci_yaml_lines.specs.Tree.{Value}
-use Rattle.ci_config.specs.Fault.{Fault}
+use Rattle.ci_config.specs.Fault.{Placed}
 use Rattle.ci_config.specs.Reading.{◌>>=◌, entries, keyword_of}
 use Rattle.ci_config.specs.AllowFailures.{allow_failure_of}
 use Rattle.ci_config.specs.Config.{Text, Job}
-use Rattle.ci_config.specs.Expressions.{Patterns}
+use Rattle.ci_config.specs.Expressions.{Patterns, below}
 use Rattle.ci_config.specs.Needs.{needs_of}
 use Rattle.ci_config.specs.Retries.{retry_of}
 use Rattle.ci_config.specs.Rules.{rules_of}
@@ -24,10 +24,10 @@ lines_of [] = []
 lines_of (b ∷ bs) = (b ∷ bs) ∷ []
 
 -- a text, or a list of texts
-abbrev pub script_of : Value → Result (List Text) Fault
+abbrev pub script_of : Value → Result (List Text) Placed
 script_of v = if is_text v then (text_of v >>= λ bs. Ok (lines_of bs)) else texts_of MAX_SCRIPT_ITEMS v
 
-abbrev pub plain_job_value : PlainJobKeyword → Value → Job → Result Job Fault
+abbrev pub plain_job_value : PlainJobKeyword → Value → Job → Result Job Placed
 plain_job_value of_job.Script v j = script_of v >>= λ lines. Ok (record j { script = lines })
 plain_job_value of_job.Stage v j = name_of v >>= λ name. Ok (record j { stage = name })
 plain_job_value of_job.Needs v j = needs_of v >>= λ ns. Ok (record j { needs = Some ns })
@@ -40,14 +40,14 @@ plain_job_value of_job.ResourceGroup v j = name_of v >>= λ name. Ok (record j {
 plain_job_value of_job.Interruptible v j = bool_of v >>= λ b. Ok (record j { interruptible = b })
 plain_job_value of_job.Variables v j = variables_of v >>= λ vs. Ok (record j { variables = vs })
 
-abbrev pub rules_value : Value → Job → Patterns → Result Job Fault
+abbrev pub rules_value : Value → Job → Patterns → Result Job Placed
 rules_value v j p = rules_of v p >>= λ rs. Ok (record j { rules = Some rs })
 
-abbrev pub job_value : JobKeyword → Value → Job → Patterns → Result Job Fault
+abbrev pub job_value : JobKeyword → Value → Job → Patterns → Result Job Placed
 job_value of_key.Rules v j p = rules_value v j p
 job_value (of_key.Plain k) v j p = plain_job_value k v j
 
-abbrev pub job_entry : Patterns → Text × Value → Job → Result Job Fault
+abbrev pub job_entry : Patterns → Text × Value → Job → Result Job Placed
 job_entry p m j = keyword_of job_keywords job_left_out m.0 >>= λ k. job_value k m.1 j p
 
 -- what holds where nothing is written
@@ -68,5 +68,5 @@ blank_job name = record {
   variables = [];
 }
 
-abbrev pub job_from : Patterns → Text → List (Text × Value) → Result Job Fault
-job_from p name ms = entries (job_entry p) (blank_job name) ms
+abbrev pub job_from : Patterns → Text → List (Text × Value) → Result Job Placed
+job_from p name ms = entries (λ before. job_entry (below before p)) 0 (blank_job name) ms

@@ -5,7 +5,7 @@ use Rattle.ci_values.specs.declared.when.Causes.{Causes}
 use Rattle.ci_values.specs.declared.when.Retry.{Retry}
 use Rattle.ci_values.specs.Table.{meaning_of}
 use Rattle.ci_yaml_lines.specs.Tree.{Value}
-use Rattle.ci_config.specs.Fault.{Fault, K9}
+use Rattle.ci_config.specs.Fault.{K9, Placed}
 use Rattle.ci_config.specs.Reading.{◌>>=◌, or_fault, entries, keyword_of}
 use Rattle.ci_config.specs.Config.{Text}
 use Rattle.ci_config.specs.Tables.{causes, retry_keywords, retry_left_out}
@@ -32,15 +32,15 @@ with_cause (One StuckOrTimeoutFailure) set = record set { stuck_or_timeout_failu
 with_cause (One RunnerSystemFailure) set = record set { runner_system_failure = true }
 with_cause (One JobExecutionTimeout) set = record set { job_execution_timeout = true }
 
-abbrev pub cause_of : Value → Result CauseWord Fault
+abbrev pub cause_of : Value → Result CauseWord Placed
 cause_of v = text_of v >>= λ word. or_fault (meaning_of causes word) K9
 
-abbrev pub cause_in : Value → Causes → Result Causes Fault
+abbrev pub cause_in : Value → Causes → Result Causes Placed
 cause_in v set = cause_of v >>= λ cause. Ok (with_cause cause set)
 
 -- one cause, or a list of them
-abbrev pub causes_of : Value → Result Causes Fault
-causes_of v = if is_text v then cause_in v no_causes else (list_of v >>= λ vs. entries cause_in no_causes vs)
+abbrev pub causes_of : Value → Result Causes Placed
+causes_of v = if is_text v then cause_in v no_causes else (list_of v >>= λ vs. entries (λ before. cause_in) 0 no_causes vs)
 
 -- ---- the map
 
@@ -48,25 +48,25 @@ pub record RetrySaid : Type 0 where
   pub max : Option ℕ
   pub causes : Causes
 
-abbrev pub max_of : Value → Result ℕ Fault
+abbrev pub max_of : Value → Result ℕ Placed
 max_of v = number_up_to MAX_RETRIES K9 v
 
-abbrev pub retry_value : RetryKeyword → Value → RetrySaid → Result RetrySaid Fault
+abbrev pub retry_value : RetryKeyword → Value → RetrySaid → Result RetrySaid Placed
 retry_value of_retry.Max v r = max_of v >>= λ max. Ok (record r { max = Some max })
 retry_value of_retry.When v r = causes_of v >>= λ causes. Ok (record r { causes = causes })
 
-abbrev pub retry_entry : Text × Value → RetrySaid → Result RetrySaid Fault
+abbrev pub retry_entry : Text × Value → RetrySaid → Result RetrySaid Placed
 retry_entry m r = keyword_of retry_keywords retry_left_out m.0 >>= λ k. retry_value k m.1 r
 
-abbrev pub retry_said : RetrySaid → Result Retry Fault
+abbrev pub retry_said : RetrySaid → Result Retry Placed
 retry_said r = or_fault r.max K9 >>= λ max. Ok (record { max = max; causes = r.causes })
 
 abbrev pub blank_retry : RetrySaid
 blank_retry = record { max = None; causes = all_causes }
 
-abbrev pub retry_from : List (Text × Value) → Result Retry Fault
-retry_from ms = entries retry_entry blank_retry ms >>= retry_said
+abbrev pub retry_from : List (Text × Value) → Result Retry Placed
+retry_from ms = entries (λ before. retry_entry) 0 blank_retry ms >>= retry_said
 
 -- a number, or a map
-abbrev pub retry_of : Value → Result Retry Fault
+abbrev pub retry_of : Value → Result Retry Placed
 retry_of v = if is_number v then (max_of v >>= λ max. Ok (record { max = max; causes = all_causes })) else (map_of v >>= retry_from)

@@ -1,10 +1,10 @@
 -- When a job runs.
-use Rattle.std.specs.Prelude.{Result, Ok, Err, codes}
+use Rattle.std.specs.Prelude.{Result, Ok, codes}
 use Rattle.ci_values.specs.declared.when.When.{When}
 use Rattle.ci_values.specs.Table.{meaning_of}
 use Rattle.ci_yaml_lines.specs.Tree.{Value}
-use Rattle.ci_config.specs.Fault.{Fault, K2, K8, K14}
-use Rattle.ci_config.specs.Reading.{◌>>=◌, or_fault}
+use Rattle.ci_config.specs.Fault.{K2, K8, K14, Placed}
+use Rattle.ci_config.specs.Reading.{◌>>=◌, fails, or_fault}
 use Rattle.ci_config.specs.Tables.{whens}
 use Rattle.ci_config.specs.Values.{text_of}
 use Rattle.ci_config.specs.declared.keyword.RuleWhen.{RuleWhen}
@@ -12,23 +12,23 @@ use Rattle.ci_config.specs.declared.keyword.RuleWhen.TheVariants as rule_when
 use Rattle.ci_config.specs.declared.keyword.WhenWord.{WhenWord}
 use Rattle.ci_config.specs.declared.keyword.WhenWord.TheVariants.{Runs, Never, Delayed}
 
-abbrev pub when_word : Value → Result WhenWord Fault
+abbrev pub when_word : Value → Result WhenWord Placed
 when_word v = text_of v >>= λ word. or_fault (meaning_of whens word) K8
 
 -- in a job
-abbrev pub in_job : WhenWord → Result When Fault
+abbrev pub in_job : WhenWord → Result When Placed
 in_job (Runs w) = Ok w
-in_job Never = Err K14
-in_job Delayed = Err (K2 (codes "delayed"))
+in_job Never = fails K14
+in_job Delayed = fails (K2 (codes "delayed"))
 
-abbrev pub when_of : Value → Result When Fault
+abbrev pub when_of : Value → Result When Placed
 when_of v = when_word v >>= in_job
 
 -- in a rule
-abbrev pub in_rule : WhenWord → Result RuleWhen Fault
+abbrev pub in_rule : WhenWord → Result RuleWhen Placed
 in_rule (Runs w) = Ok (rule_when.Runs w)
 in_rule Never = Ok rule_when.Never
-in_rule Delayed = Err (K2 (codes "delayed"))
+in_rule Delayed = fails (K2 (codes "delayed"))
 
-abbrev pub rule_when_of : Value → Result RuleWhen Fault
+abbrev pub rule_when_of : Value → Result RuleWhen Placed
 rule_when_of v = when_word v >>= in_rule

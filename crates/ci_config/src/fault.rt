@@ -1,12 +1,13 @@
 //! Why a tree configures nothing.
 
-ghost use Rattle.std.specs.Prelude.{◌≡◌, Some};
+ghost use Rattle.std.specs.Prelude.{◌≡◌, Some, IfOk};
 ghost use Rattle.ci_config.specs.declared.fault.ConfigFault.TheVariants.{Memory};
-ghost use Rattle.ci_config.specs.Fault.{said};
-ghost use Rattle.ci_config.specs.FaultView.{code_view};
+ghost use Rattle.ci_config.specs.Fault.{number, said};
+ghost use Rattle.ci_config.specs.FaultView.{code_view, way_view, read_of, IsWithin};
+ghost use Rattle.ci_config.specs.declared.fault.ReadFault.TheVariants as read;
 
 use ci_expr::ExprCode;
-use std::alloc::{AllocError, AllocFailed};
+use std::alloc::{AllocError, AllocFailed, Global};
 use std::fmt;
 
 /// What is wrong with a tree, by the code that a user sees.
@@ -46,6 +47,32 @@ pub enum ConfigCode {
     K16,
 }
 
+impl ConfigCode {
+    /// The number of the code: 6 of `K6`.
+    pub fn number(self) -> u8
+        ensures { result ≡ number (code_view self) }
+    {
+        match self {
+            ConfigCode::K1 => 1,
+            ConfigCode::K2(_) => 2,
+            ConfigCode::K3 => 3,
+            ConfigCode::K4 => 4,
+            ConfigCode::K5 => 5,
+            ConfigCode::K6 => 6,
+            ConfigCode::K7 => 7,
+            ConfigCode::K8 => 8,
+            ConfigCode::K9 => 9,
+            ConfigCode::K10 => 10,
+            ConfigCode::K11 => 11,
+            ConfigCode::K12 => 12,
+            ConfigCode::K13(_) => 13,
+            ConfigCode::K14 => 14,
+            ConfigCode::K15 => 15,
+            ConfigCode::K16 => 16,
+        }
+    }
+}
+
 /// Why a call gives no configuration.
 #[derive(Clone, Copy)]
 pub enum ConfigFault {
@@ -53,6 +80,71 @@ pub enum ConfigFault {
     Memory,
     /// The tree configures nothing, for the reason with this code.
     Fault(ConfigCode),
+}
+
+/// The way from what is read inwards, to one of its entries: of each list or map on it, how many entries stand before the next.
+///
+/// A file's has five steps at most: an entry of the file, one of a job, an item of that, an entry of the item, and an entry or item of this.
+#[derive(Clone, Copy)]
+pub enum Way {
+    One(usize),
+    Two(usize, usize),
+    Three(usize, usize, usize),
+    Four(usize, usize, usize, usize),
+    Five(usize, usize, usize, usize, usize),
+}
+
+impl Way {
+    /// Its steps, from without.
+    ///
+    /// Errors: memory was refused.
+    pub fn steps(self, alloc: Global) -> Result<Vec<usize>, AllocError>
+        ensures { IfOk result (λ steps. steps.items ≡ way_view self) }
+    {
+        match self {
+            Way::One(a) => Ok(vec![in alloc; a]?),
+            Way::Two(a, b) => Ok(vec![in alloc; a, b]?),
+            Way::Three(a, b, c) => Ok(vec![in alloc; a, b, c]?),
+            Way::Four(a, b, c, d) => Ok(vec![in alloc; a, b, c, d]?),
+            Way::Five(a, b, c, d, e) => Ok(vec![in alloc; a, b, c, d, e]?),
+        }
+    }
+}
+
+/// Why a tree configures nothing, and which of its entries is to blame.
+#[derive(Clone, Copy)]
+pub enum ReadFault {
+    /// Memory was refused.
+    Memory,
+    /// What is read has the fault with this code itself.
+    Here(ConfigCode),
+    /// An entry inside of what is read has it.
+    Inside(ConfigCode, Way),
+}
+
+impl ReadFault {
+    /// The fault of a list or map, where this one is of its entry behind so many.
+    ///
+    /// No fault of a file lies deeper than a way leads: where one did, it would be told as that of memory.
+    pub fn within(self, before: usize) -> ReadFault
+        ensures { IsWithin before self result }
+    {
+        match self {
+            ReadFault::Memory => ReadFault::Memory,
+            ReadFault::Here(code) => ReadFault::Inside(code, Way::One(before)),
+            ReadFault::Inside(code, Way::One(a)) => ReadFault::Inside(code, Way::Two(before, a)),
+            ReadFault::Inside(code, Way::Two(a, b)) => {
+                ReadFault::Inside(code, Way::Three(before, a, b))
+            }
+            ReadFault::Inside(code, Way::Three(a, b, c)) => {
+                ReadFault::Inside(code, Way::Four(before, a, b, c))
+            }
+            ReadFault::Inside(code, Way::Four(a, b, c, d)) => {
+                ReadFault::Inside(code, Way::Five(before, a, b, c, d))
+            }
+            ReadFault::Inside(_, Way::Five(..)) => ReadFault::Memory,
+        }
+    }
 }
 
 impl fmt::Display for ConfigCode {
@@ -93,5 +185,32 @@ impl<T: Drop> From<AllocFailed<T>> for ConfigFault {
 
     fn from(_refused: AllocFailed<T>) -> ConfigFault {
         ConfigFault::Memory
+    }
+}
+
+impl From<ConfigFault> for ReadFault {
+    ghost from_gives = { λ fault e. e ≡ read_of fault };
+
+    fn from(fault: ConfigFault) -> ReadFault {
+        match fault {
+            ConfigFault::Memory => ReadFault::Memory,
+            ConfigFault::Fault(code) => ReadFault::Here(code),
+        }
+    }
+}
+
+impl From<AllocError> for ReadFault {
+    ghost from_gives = { λ _ e. e ≡ read.Memory };
+
+    fn from(_refused: AllocError) -> ReadFault {
+        ReadFault::Memory
+    }
+}
+
+impl<T: Drop> From<AllocFailed<T>> for ReadFault {
+    ghost from_gives = { λ _ e. e ≡ read.Memory };
+
+    fn from(_refused: AllocFailed<T>) -> ReadFault {
+        ReadFault::Memory
     }
 }

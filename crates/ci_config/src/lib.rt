@@ -16,7 +16,7 @@ mod value;
 
 pub use ci_values::when::Retry;
 pub use ci_values::{Layers, lookup};
-pub use fault::{ConfigCode, ConfigFault};
+pub use fault::{ConfigCode, ConfigFault, ReadFault, Way};
 pub use file::Config;
 pub use job::JobSpec;
 pub use keyword::RuleWhen;

@@ -8,8 +8,8 @@ use Rattle.ci_yaml_lines.specs.TreeView as view
 use Rattle.ci_yaml_lines.specs.declared.tree.Text.{Text}
 use Rattle.ci_yaml_lines.specs.declared.tree.Tree.{Tree, List as ListTree, Map as MapTree, the_lemmas}
 use Rattle.ci_config.specs.Config as config
-use Rattle.ci_config.specs.Fault.{Fault}
-use Rattle.ci_config.specs.Meaning.{job_judged, jobs_judged}
+use Rattle.ci_config.specs.Fault.{Placed}
+use Rattle.ci_config.specs.Meaning.{index_of, job_judged, jobs_judged}
 use Rattle.ci_config.specs.Values.{items_in, pairs_in, list_of, map_of}
 use Rattle.ci_config.specs.View.{values_view, pairs_view, job_view}
 use Rattle.ci_config.specs.declared.job.JobSpec.{JobSpec}
@@ -29,10 +29,10 @@ pairs-same : (ms : List (Text × Tree)) → pairs_in (view.pairs_view ms) ≡ pa
 pairs-same [] = refl
 pairs-same (m ∷ ms) = ap (λ xs. (bytes_of m.0, value_view m.1) ∷ xs) (pairs-same ms)
 
-abbrev listed : List Value → Result (List Value) Fault
+abbrev listed : List Value → Result (List Value) Placed
 listed vs = Ok vs
 
-abbrev paired : List (List ℕ × Value) → Result (List (List ℕ × Value)) Fault
+abbrev paired : List (List ℕ × Value) → Result (List (List ℕ × Value)) Placed
 paired ms = Ok ms
 
 pub list_of-List : (t : Tree) (v : Vec Tree) (vs : List Tree) → t ≡ ListTree v → vs ≡ v.items → list_of (value_view t) ≡ Ok (values_view vs)
@@ -47,9 +47,9 @@ step view xs i x lt is =
     let e : suc i ≡ i + 1 = omega arith in
     ap (map view) (drop-cons xs i x lt ∙ ap (λ y. y ∷ drop (suc i) xs) (sym is) ∙ ap (λ k. x ∷ drop k xs) e)
 
-pub next-job : (stages : List config.Text) (js : List JobSpec) (i : ℕ) (j : JobSpec) → i < length js → j ≡ get_or js i j → (next : Result config.Config Fault)
-    → jobs_judged stages (map job_view (drop i js)) next ≡ job_judged stages (job_view j) (jobs_judged stages (map job_view (drop (i + 1) js)) next)
-next-job stages js i j lt is next = ap (λ xs. jobs_judged stages xs next) (step job_view js i j lt is)
+pub next-job : (ms : List (config.Text × Value)) (stages : List config.Text) (js : List JobSpec) (i : ℕ) (j : JobSpec) → i < length js → j ≡ get_or js i j → (next : Result config.Config Placed)
+    → jobs_judged ms stages (map job_view (drop i js)) next ≡ job_judged (index_of ms (job_view j).name) stages (job_view j) (jobs_judged ms stages (map job_view (drop (i + 1) js)) next)
+next-job ms stages js i j lt is next = ap (λ xs. jobs_judged ms stages xs next) (step job_view js i j lt is)
 
 -- ---- a list of the code that grows at its end, and how many it has
 pub map-more : {A B : Type 0} (view : A → B) (xs ys : List A) (x : A) → ys ≡ xs ++ x ∷ [] → map view ys ≡ map view xs ++ view x ∷ []

@@ -1,19 +1,32 @@
 -- What a call answers.
-use Rattle.std.specs.Prelude.{Option, Some, None, Result, Err}
+use Rattle.std.specs.Prelude.{ℕ, List, [], ◌∷◌, Option, Some, None, Result, Err}
 use Rattle.ci_expr.specs.declared.fault.ExprCode.TheVariants.{X8}
 use Rattle.ci_config.specs.Config.{Config}
-use Rattle.ci_config.specs.Fault.{Fault}
-use Rattle.ci_config.specs.Expressions.{Patterns, built, refused}
+use Rattle.ci_config.specs.Fault.{Fault, Placed}
+use Rattle.ci_config.specs.Expressions.{Patterns, built, refused_at}
+use Rattle.ci_config.specs.FaultView.{code_view, way_view}
+use Rattle.ci_config.specs.Reading.{fails_at}
+use Rattle.ci_config.specs.declared.fault.ConfigCode.{ConfigCode}
 use Rattle.ci_config.specs.declared.fault.ConfigCode.TheVariants.{K13}
-use Rattle.ci_config.specs.declared.fault.ConfigFault.{ConfigFault}
-use Rattle.ci_config.specs.declared.fault.ConfigFault.TheVariants as faults
+use Rattle.ci_config.specs.declared.fault.ReadFault.{ReadFault}
+use Rattle.ci_config.specs.declared.fault.ReadFault.TheVariants.{Here, Inside}
 
--- The patterns with which a reading gives an answer: none of them where it is X8, and else all.
-abbrev pub builds_for : {X : Type 0} → Result X ConfigFault → Patterns
-builds_for (Err (faults.Fault (K13 X8))) = refused
+-- The patterns with which a reading gives an answer: all but those of the expression that is told of, where it is X8, and else all.
+abbrev pub builds_with : ReadFault → Patterns
+builds_with (Here (K13 X8)) = refused_at []
+builds_with (Inside (K13 X8) way) = refused_at (way_view way)
+builds_with fault = built
+
+abbrev pub builds_for : {X : Type 0} → Result X ReadFault → Patterns
+builds_for (Err fault) = builds_with fault
 builds_for answer = built
 
--- a fault, or what follows where there is none
-abbrev pub fault_or : Option Fault → Result Config Fault → Result Config Fault
-fault_or None next = next
-fault_or (Some f) next = Err f
+-- a fault of the entry at the end of a way, or what follows where there is none
+abbrev pub fault_or : List ℕ → Option Fault → Result Config Placed → Result Config Placed
+fault_or way None next = next
+fault_or way (Some f) next = fails_at way f
+
+-- the same of a job, which stands behind so many entries
+abbrev pub fault_of_job_or : Option (ConfigCode × ℕ) → Result Config Placed → Result Config Placed
+fault_of_job_or None next = next
+fault_of_job_or (Some f) next = fails_at (f.1 ∷ []) (code_view f.0)

@@ -3,7 +3,7 @@
 ghost use Rattle.std.specs.Prelude.{◌≡◌, Ok};
 ghost use Rattle.ci_yaml_lines.specs.TreeView.{value_view};
 ghost use Rattle.ci_config_reader.specs.Answer.{builds_for};
-ghost use Rattle.ci_config.specs.FaultView.{Gives};
+ghost use Rattle.ci_config.specs.FaultView.{GivesAt};
 ghost use Rattle.ci_config.specs.Jobs.{lines_of, script_of, plain_job_value, rules_value, job_value, job_entry, blank_job, job_from};
 ghost use Rattle.ci_config.specs.View.{pairs_view, texts_view, job_view};
 
@@ -16,14 +16,14 @@ use crate::tree::{bool_of, is_text, text_of};
 use crate::value::{name_of, names_of, texts_of, timeout_of, variables_of};
 use crate::when::when_of;
 use ci_config::keyword::{JOB_KEYWORDS, JOB_LEFT_OUT, JobKeyword, PlainJobKeyword};
-use ci_config::{ConfigFault, JobSpec, MAX_SCRIPT_ITEMS, MAX_TAGS};
+use ci_config::{JobSpec, MAX_SCRIPT_ITEMS, MAX_TAGS, ReadFault};
 use ci_expr::PatternBudget;
 use ci_yaml_lines::tree::{Text, Tree};
 use std::alloc::Global;
 
 /// A script of one line, or of none where the text is empty.
-fn lines_of<'t>(alloc: Global, text: &'t str) -> Result<Vec<&'t str>, ConfigFault>
-    ensures { Gives texts_view result (Ok (lines_of text.now)) }
+fn lines_of<'t>(alloc: Global, text: &'t str) -> Result<Vec<&'t str>, ReadFault>
+    ensures { GivesAt texts_view result (Ok (lines_of text.now)) }
 {
     let mut lines = Vec::new(alloc);
     if text.is_empty() {
@@ -34,8 +34,8 @@ fn lines_of<'t>(alloc: Global, text: &'t str) -> Result<Vec<&'t str>, ConfigFaul
 }
 
 /// A script: a text, or a list of texts.
-fn script_of<'t>(alloc: Global, tree: &'t Tree) -> Result<Vec<&'t str>, ConfigFault>
-    ensures { Gives texts_view result (script_of (value_view tree.now)) }
+fn script_of<'t>(alloc: Global, tree: &'t Tree) -> Result<Vec<&'t str>, ReadFault>
+    ensures { GivesAt texts_view result (script_of (value_view tree.now)) }
 {
     if is_text(tree) {
         let text = text_of(tree)?;
@@ -71,8 +71,8 @@ fn set_plain<'t>(
     alloc: Global,
     keyword: PlainJobKeyword,
     tree: &'t Tree,
-) -> Result<(), ConfigFault>
-    ensures { Gives (λ _. job_view job.new) result (plain_job_value keyword (value_view tree.now) (job_view job.old)) }
+) -> Result<(), ReadFault>
+    ensures { GivesAt (λ _. job_view job.new) result (plain_job_value keyword (value_view tree.now) (job_view job.old)) }
 {
     match keyword {
         PlainJobKeyword::Script => job.script = script_of(alloc, tree)?,
@@ -97,8 +97,8 @@ fn set_rules<'t>(
     alloc: Global,
     tree: &'t Tree,
     budget: &mut PatternBudget,
-) -> Result<(), ConfigFault>
-    ensures { Gives (λ _. job_view job.new) result (rules_value (value_view tree.now) (job_view job.old) (builds_for result)) }
+) -> Result<(), ReadFault>
+    ensures { GivesAt (λ _. job_view job.new) result (rules_value (value_view tree.now) (job_view job.old) (builds_for result)) }
 {
     match rules_of(alloc, tree, budget) {
         Ok(rules) => {
@@ -115,8 +115,8 @@ fn set<'t>(
     keyword: JobKeyword,
     tree: &'t Tree,
     budget: &mut PatternBudget,
-) -> Result<(), ConfigFault>
-    ensures { Gives (λ _. job_view job.new) result (job_value keyword (value_view tree.now) (job_view job.old) (builds_for result)) }
+) -> Result<(), ReadFault>
+    ensures { GivesAt (λ _. job_view job.new) result (job_value keyword (value_view tree.now) (job_view job.old) (builds_for result)) }
 {
     match keyword {
         JobKeyword::Rules => set_rules(job, alloc, tree, budget),
@@ -131,8 +131,8 @@ fn enter<'t>(
     key: &str,
     tree: &'t Tree,
     budget: &mut PatternBudget,
-) -> Result<(), ConfigFault>
-    ensures { Gives (λ _. job_view job.new) result (job_entry (builds_for result) (key.now, value_view tree.now) (job_view job.old)) }
+) -> Result<(), ReadFault>
+    ensures { GivesAt (λ _. job_view job.new) result (job_entry (builds_for result) (key.now, value_view tree.now) (job_view job.old)) }
 {
     match keyword_of(&JOB_KEYWORDS, &JOB_LEFT_OUT, key) {
         Ok(keyword) => set(job, alloc, keyword, tree, budget),
@@ -146,14 +146,15 @@ pub fn job_from<'t>(
     name: &'t str,
     pairs: &'t [(Text, Tree)],
     budget: &mut PatternBudget,
-) -> Result<JobSpec<'t>, ConfigFault>
-    ensures { Gives job_view result (job_from (builds_for result) name.now (pairs_view pairs.now)) }
+) -> Result<JobSpec<'t>, ReadFault>
+    ensures { GivesAt job_view result (job_from (builds_for result) name.now (pairs_view pairs.now)) }
 {
     let mut job = blank_job(alloc, name);
-    for pair in pairs {
+    for before in 0..pairs.len() {
+        let pair = &pairs[before];
         match enter(&mut job, alloc, pair.0.as_str(), &pair.1, budget) {
             Ok(()) => {}
-            Err(fault) => return Err(fault),
+            Err(fault) => return Err(fault.within(before)),
         }
     }
     Ok(job)

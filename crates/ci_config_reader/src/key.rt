@@ -2,10 +2,10 @@
 
 ghost use Rattle.std.specs.Prelude.{◌≡◌};
 ghost use Rattle.ci_values.specs.Table.{table_view, words_view};
-ghost use Rattle.ci_config.specs.FaultView.{code_view, Gives};
+ghost use Rattle.ci_config.specs.FaultView.{code_view, GivesAt};
 ghost use Rattle.ci_config.specs.Reading.{other_key, keyword_of};
 
-use ci_config::{ConfigCode, ConfigFault};
+use ci_config::{ConfigCode, ReadFault};
 use ci_values::{meaning_of, word_in};
 
 /// The fault of a key that is no keyword: it is left out by its name, or unknown.
@@ -23,11 +23,11 @@ pub fn keyword_of<T: Copy>(
     keywords: &[(&str, T)],
     left_out: &[&'static str],
     key: &str,
-) -> Result<T, ConfigFault>
-    ensures { Gives (λ k. k) result (keyword_of (table_view keywords.now) (words_view left_out.now) key.now) }
+) -> Result<T, ReadFault>
+    ensures { GivesAt (λ k. k) result (keyword_of (table_view keywords.now) (words_view left_out.now) key.now) }
 {
     match meaning_of(keywords, key) {
         Some(keyword) => Ok(keyword),
-        None => Err(ConfigFault::Fault(other_key(left_out, key))),
+        None => Err(ReadFault::Here(other_key(left_out, key))),
     }
 }

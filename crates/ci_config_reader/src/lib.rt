@@ -14,5 +14,5 @@ mod tree;
 mod value;
 mod when;
 
-pub use read::config;
+pub use read::{config, read_config};
 pub use value::duration;

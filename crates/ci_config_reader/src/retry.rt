@@ -2,7 +2,7 @@
 
 ghost use Rattle.std.specs.Prelude.{◌≡◌};
 ghost use Rattle.ci_yaml_lines.specs.TreeView.{value_view};
-ghost use Rattle.ci_config.specs.FaultView.{Gives};
+ghost use Rattle.ci_config.specs.FaultView.{GivesAt};
 ghost use Rattle.ci_config.specs.Retries.{no_causes, all_causes, with_cause, cause_of, cause_in, causes_of, max_of, retry_value, retry_entry, retry_said, retry_from, retry_of};
 ghost use Rattle.ci_config.specs.View.{pairs_view};
 ghost use Rattle.ci_config_reader.specs.Parts.{retry_parts_view};
@@ -11,7 +11,7 @@ use crate::key::keyword_of;
 use crate::tree::{is_number, is_text, list_of, map_of, text_of};
 use crate::value::number_up_to;
 use ci_config::keyword::{CAUSES, CauseWord, RETRY_KEYWORDS, RETRY_LEFT_OUT, RetryKeyword};
-use ci_config::{ConfigCode, ConfigFault, MAX_RETRIES};
+use ci_config::{ConfigCode, MAX_RETRIES, ReadFault};
 use ci_values::attempts::Cause;
 use ci_values::meaning_of;
 use ci_values::when::{Causes, Retry};
@@ -56,42 +56,45 @@ fn with_cause(word: CauseWord, set: Causes) -> Causes
 }
 
 /// A word of a retry's `when`.
-fn cause_of(tree: &Tree) -> Result<CauseWord, ConfigFault>
-    ensures { Gives (λ c. c) result (cause_of (value_view tree.now)) }
+fn cause_of(tree: &Tree) -> Result<CauseWord, ReadFault>
+    ensures { GivesAt (λ c. c) result (cause_of (value_view tree.now)) }
 {
     let word = text_of(tree)?;
     match meaning_of(&CAUSES, word) {
         Some(cause) => Ok(cause),
-        None => Err(ConfigFault::Fault(ConfigCode::K9)),
+        None => Err(ReadFault::Here(ConfigCode::K9)),
     }
 }
 
 /// The set with what a tree names.
-fn cause_in(tree: &Tree, set: Causes) -> Result<Causes, ConfigFault>
-    ensures { Gives (λ c. c) result (cause_in (value_view tree.now) set) }
+fn cause_in(tree: &Tree, set: Causes) -> Result<Causes, ReadFault>
+    ensures { GivesAt (λ c. c) result (cause_in (value_view tree.now) set) }
 {
     let word = cause_of(tree)?;
     Ok(with_cause(word, set))
 }
 
 /// One cause, or a list of them.
-fn causes_of(tree: &Tree) -> Result<Causes, ConfigFault>
-    ensures { Gives (λ c. c) result (causes_of (value_view tree.now)) }
+fn causes_of(tree: &Tree) -> Result<Causes, ReadFault>
+    ensures { GivesAt (λ c. c) result (causes_of (value_view tree.now)) }
 {
     let mut set = every_cause(false);
     if is_text(tree) {
         return cause_in(tree, set);
     }
     let values = list_of(tree)?;
-    for value in values {
-        set = cause_in(value, set)?;
+    for before in 0..values.len() {
+        match cause_in(&values[before], set) {
+            Ok(more) => set = more,
+            Err(fault) => return Err(fault.within(before)),
+        }
     }
     Ok(set)
 }
 
 /// How often, at most.
-fn max_of(tree: &Tree) -> Result<u8, ConfigFault>
-    ensures { Gives (λ n. n) result (max_of (value_view tree.now)) }
+fn max_of(tree: &Tree) -> Result<u8, ReadFault>
+    ensures { GivesAt (λ n. n) result (max_of (value_view tree.now)) }
 {
     let max = number_up_to(MAX_RETRIES, ConfigCode::K9, tree)?;
     Ok(max as u8)
@@ -99,8 +102,8 @@ fn max_of(tree: &Tree) -> Result<u8, ConfigFault>
 
 impl RetryParts {
     /// Sets what an entry says.
-    fn set(&mut self, keyword: RetryKeyword, tree: &Tree) -> Result<(), ConfigFault>
-        ensures { Gives (λ _. retry_parts_view self.new) result (retry_value keyword (value_view tree.now) (retry_parts_view self.old)) }
+    fn set(&mut self, keyword: RetryKeyword, tree: &Tree) -> Result<(), ReadFault>
+        ensures { GivesAt (λ _. retry_parts_view self.new) result (retry_value keyword (value_view tree.now) (retry_parts_view self.old)) }
     {
         match keyword {
             RetryKeyword::Max => self.max = Some(max_of(tree)?),
@@ -109,43 +112,47 @@ impl RetryParts {
         Ok(())
     }
 
-    fn enter(&mut self, key: &str, tree: &Tree) -> Result<(), ConfigFault>
-        ensures { Gives (λ _. retry_parts_view self.new) result (retry_entry (key.now, value_view tree.now) (retry_parts_view self.old)) }
+    fn enter(&mut self, key: &str, tree: &Tree) -> Result<(), ReadFault>
+        ensures { GivesAt (λ _. retry_parts_view self.new) result (retry_entry (key.now, value_view tree.now) (retry_parts_view self.old)) }
     {
         let keyword = keyword_of(&RETRY_KEYWORDS, &RETRY_LEFT_OUT, key)?;
         self.set(keyword, tree)
     }
 
-    fn retry(self) -> Result<Retry, ConfigFault>
-        ensures { Gives (λ r. r) result (retry_said (retry_parts_view self)) }
+    fn retry(self) -> Result<Retry, ReadFault>
+        ensures { GivesAt (λ r. r) result (retry_said (retry_parts_view self)) }
     {
         match self.max {
             Some(max) => Ok(Retry {
                 max,
                 causes: self.causes,
             }),
-            None => Err(ConfigFault::Fault(ConfigCode::K9)),
+            None => Err(ReadFault::Here(ConfigCode::K9)),
         }
     }
 }
 
 /// A retry that is a map.
-fn retry_from(pairs: &[(Text, Tree)]) -> Result<Retry, ConfigFault>
-    ensures { Gives (λ r. r) result (retry_from (pairs_view pairs.now)) }
+fn retry_from(pairs: &[(Text, Tree)]) -> Result<Retry, ReadFault>
+    ensures { GivesAt (λ r. r) result (retry_from (pairs_view pairs.now)) }
 {
     let mut parts = RetryParts {
         max: None,
         causes: every_cause(true),
     };
-    for pair in pairs {
-        parts.enter(pair.0.as_str(), &pair.1)?;
+    for before in 0..pairs.len() {
+        let pair = &pairs[before];
+        match parts.enter(pair.0.as_str(), &pair.1) {
+            Ok(()) => {}
+            Err(fault) => return Err(fault.within(before)),
+        }
     }
     parts.retry()
 }
 
 /// How often a job is tried again, and after which causes: a number, or a map.
-pub fn retry_of(tree: &Tree) -> Result<Retry, ConfigFault>
-    ensures { Gives (λ r. r) result (retry_of (value_view tree.now)) }
+pub fn retry_of(tree: &Tree) -> Result<Retry, ReadFault>
+    ensures { GivesAt (λ r. r) result (retry_of (value_view tree.now)) }
 {
     if is_number(tree) {
         let max = max_of(tree)?;

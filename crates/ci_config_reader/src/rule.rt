@@ -6,7 +6,7 @@ ghost use Rattle.ci_expr.specs.Built.{formula_of};
 ghost use Rattle.ci_config_reader.specs.Answer.{builds_for};
 ghost use Rattle.ci_config.specs.Config.{Rule as Meant};
 ghost use Rattle.ci_config.specs.Expressions.{condition_of};
-ghost use Rattle.ci_config.specs.FaultView.{Gives};
+ghost use Rattle.ci_config.specs.FaultView.{GivesAt};
 ghost use Rattle.ci_config.specs.Rules.{plain_rule_value, condition_value, rule_value, rule_entry, rule_from, rule_of, rules_from, rules_of};
 ghost use Rattle.ci_config.specs.View.{values_view, pairs_view, rule_view, rules_view};
 
@@ -15,21 +15,21 @@ use crate::tree::{bool_of, list_of, map_of, text_of};
 use crate::value::variables_of;
 use crate::when::rule_when_of;
 use ci_config::keyword::{PlainRuleKeyword, RULE_KEYWORDS, RULE_LEFT_OUT, RuleKeyword};
-use ci_config::{ConfigCode, ConfigFault, MAX_RULES, Rule};
+use ci_config::{ConfigCode, MAX_RULES, ReadFault, Rule};
 use ci_expr::laws::computes_the_meaning;
 use ci_expr::{Expr, ExprFault, PatternBudget, parse_within};
 use ci_yaml_lines::tree::{Text, Tree};
 use std::alloc::Global;
 
 /// The condition that a text is, where building the patterns that are new in it costs no more than is left of a budget.
-fn condition_of(alloc: Global, text: &str, budget: &mut PatternBudget) -> Result<Expr, ConfigFault>
-    ensures { Gives formula_of result (condition_of text.now (builds_for result)) }
+fn condition_of(alloc: Global, text: &str, budget: &mut PatternBudget) -> Result<Expr, ReadFault>
+    ensures { GivesAt formula_of result (condition_of text.now (builds_for result)) }
 {
     computes_the_meaning();
     match parse_within(alloc, text, budget) {
         Ok(expr) => Ok(expr),
-        Err(ExprFault::Memory) => Err(ConfigFault::Memory),
-        Err(ExprFault::Fault(code)) => Err(ConfigFault::Fault(ConfigCode::K13(code))),
+        Err(ExprFault::Memory) => Err(ReadFault::Memory),
+        Err(ExprFault::Fault(code)) => Err(ReadFault::Here(ConfigCode::K13(code))),
     }
 }
 
@@ -39,8 +39,8 @@ fn set_condition<'t>(
     alloc: Global,
     tree: &Tree,
     budget: &mut PatternBudget,
-) -> Result<(), ConfigFault>
-    ensures { Gives (λ _. rule_view rule.new) result (condition_value (value_view tree.now) (rule_view rule.old) (builds_for result)) }
+) -> Result<(), ReadFault>
+    ensures { GivesAt (λ _. rule_view rule.new) result (condition_value (value_view tree.now) (rule_view rule.old) (builds_for result)) }
 {
     match text_of(tree) {
         Ok(text) => match condition_of(alloc, text, budget) {
@@ -60,8 +60,8 @@ fn set_plain<'t>(
     alloc: Global,
     keyword: PlainRuleKeyword,
     tree: &'t Tree,
-) -> Result<(), ConfigFault>
-    ensures { Gives (λ _. rule_view rule.new) result (plain_rule_value keyword (value_view tree.now) (rule_view rule.old)) }
+) -> Result<(), ReadFault>
+    ensures { GivesAt (λ _. rule_view rule.new) result (plain_rule_value keyword (value_view tree.now) (rule_view rule.old)) }
 {
     match keyword {
         PlainRuleKeyword::When => rule.when = Some(rule_when_of(tree)?),
@@ -77,8 +77,8 @@ fn set<'t>(
     keyword: RuleKeyword,
     tree: &'t Tree,
     budget: &mut PatternBudget,
-) -> Result<(), ConfigFault>
-    ensures { Gives (λ _. rule_view rule.new) result (rule_value keyword (value_view tree.now) (rule_view rule.old) (builds_for result)) }
+) -> Result<(), ReadFault>
+    ensures { GivesAt (λ _. rule_view rule.new) result (rule_value keyword (value_view tree.now) (rule_view rule.old) (builds_for result)) }
 {
     match keyword {
         RuleKeyword::If => set_condition(rule, alloc, tree, budget),
@@ -93,8 +93,8 @@ fn enter<'t>(
     key: &str,
     tree: &'t Tree,
     budget: &mut PatternBudget,
-) -> Result<(), ConfigFault>
-    ensures { Gives (λ _. rule_view rule.new) result (rule_entry (builds_for result) (key.now, value_view tree.now) (rule_view rule.old)) }
+) -> Result<(), ReadFault>
+    ensures { GivesAt (λ _. rule_view rule.new) result (rule_entry (builds_for result) (key.now, value_view tree.now) (rule_view rule.old)) }
 {
     match keyword_of(&RULE_KEYWORDS, &RULE_LEFT_OUT, key) {
         Ok(keyword) => set(rule, alloc, keyword, tree, budget),
@@ -106,8 +106,8 @@ fn rule_from<'t>(
     alloc: Global,
     pairs: &'t [(Text, Tree)],
     budget: &mut PatternBudget,
-) -> Result<Rule<'t>, ConfigFault>
-    ensures { Gives rule_view result (rule_from (builds_for result) (pairs_view pairs.now)) }
+) -> Result<Rule<'t>, ReadFault>
+    ensures { GivesAt rule_view result (rule_from (builds_for result) (pairs_view pairs.now)) }
 {
     let mut rule = Rule {
         condition: None,
@@ -115,10 +115,11 @@ fn rule_from<'t>(
         allow_failure: None,
         variables: Vec::new(alloc),
     };
-    for pair in pairs {
+    for before in 0..pairs.len() {
+        let pair = &pairs[before];
         match enter(&mut rule, alloc, pair.0.as_str(), &pair.1, budget) {
             Ok(()) => {}
-            Err(fault) => return Err(fault),
+            Err(fault) => return Err(fault.within(before)),
         }
     }
     Ok(rule)
@@ -130,13 +131,13 @@ fn rule_of<'t>(
     before: usize,
     tree: &'t Tree,
     budget: &mut PatternBudget,
-) -> Result<Rule<'t>, ConfigFault>
-    ensures { (rs : List Meant) → length rs ≡ before → Gives rule_view result (rule_of (builds_for result) rs (value_view tree.now)) }
+) -> Result<Rule<'t>, ReadFault>
+    ensures { (rs : List Meant) → length rs ≡ before → GivesAt rule_view result (rule_of (builds_for result) rs (value_view tree.now)) }
 {
     match map_of(tree) {
         Ok(pairs) => {
             if MAX_RULES <= before {
-                return Err(ConfigFault::Fault(ConfigCode::K11));
+                return Err(ReadFault::Here(ConfigCode::K11));
             }
             rule_from(alloc, pairs, budget)
         }
@@ -148,14 +149,14 @@ fn rules_from<'t>(
     alloc: Global,
     values: &'t [Tree],
     budget: &mut PatternBudget,
-) -> Result<Vec<Rule<'t>>, ConfigFault>
-    ensures { Gives rules_view result (rules_from (builds_for result) (values_view values.now)) }
+) -> Result<Vec<Rule<'t>>, ReadFault>
+    ensures { GivesAt rules_view result (rules_from (builds_for result) (values_view values.now)) }
 {
     let mut rules = Vec::new(alloc);
     for value in values {
         match rule_of(alloc, rules.len(), value, budget) {
             Ok(rule) => rules.push(rule)?,
-            Err(fault) => return Err(fault),
+            Err(fault) => return Err(fault.within(rules.len())),
         }
     }
     Ok(rules)
@@ -166,8 +167,8 @@ pub fn rules_of<'t>(
     alloc: Global,
     tree: &'t Tree,
     budget: &mut PatternBudget,
-) -> Result<Vec<Rule<'t>>, ConfigFault>
-    ensures { Gives rules_view result (rules_of (value_view tree.now) (builds_for result)) }
+) -> Result<Vec<Rule<'t>>, ReadFault>
+    ensures { GivesAt rules_view result (rules_of (value_view tree.now) (builds_for result)) }
 {
     match list_of(tree) {
         Ok(values) => rules_from(alloc, values, budget),

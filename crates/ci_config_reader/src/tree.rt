@@ -2,11 +2,11 @@
 
 ghost use Rattle.std.specs.Prelude.{◌≡◌};
 ghost use Rattle.ci_yaml_lines.specs.TreeView.{value_view};
-ghost use Rattle.ci_config.specs.FaultView.{Gives};
+ghost use Rattle.ci_config.specs.FaultView.{GivesAt};
 ghost use Rattle.ci_config.specs.Values.{is_text, is_bool, is_number, is_map, text_of, bool_of, number_of, list_of, map_of};
 ghost use Rattle.ci_config.specs.View.{values_view, pairs_view};
 
-use ci_config::{ConfigCode, ConfigFault};
+use ci_config::{ConfigCode, ReadFault};
 use ci_yaml_lines::tree::{Text, Tree};
 
 /// Is it a text?
@@ -38,51 +38,51 @@ pub fn is_map(tree: &Tree) -> bool
 }
 
 /// A text.
-pub fn text_of<'t>(tree: &'t Tree) -> Result<&'t str, ConfigFault>
-    ensures { Gives (λ s. s.now) result (text_of (value_view tree.now)) }
+pub fn text_of<'t>(tree: &'t Tree) -> Result<&'t str, ReadFault>
+    ensures { GivesAt (λ s. s.now) result (text_of (value_view tree.now)) }
 {
     match tree {
         Tree::Text(text) => Ok(text.as_str()),
-        _ => Err(ConfigFault::Fault(ConfigCode::K4)),
+        _ => Err(ReadFault::Here(ConfigCode::K4)),
     }
 }
 
 /// `true` or `false`.
-pub fn bool_of(tree: &Tree) -> Result<bool, ConfigFault>
-    ensures { Gives (λ b. b) result (bool_of (value_view tree.now)) }
+pub fn bool_of(tree: &Tree) -> Result<bool, ReadFault>
+    ensures { GivesAt (λ b. b) result (bool_of (value_view tree.now)) }
 {
     match tree {
         Tree::Bool(value) => Ok(*value),
-        _ => Err(ConfigFault::Fault(ConfigCode::K4)),
+        _ => Err(ReadFault::Here(ConfigCode::K4)),
     }
 }
 
 /// A number.
-pub fn number_of(tree: &Tree) -> Result<i64, ConfigFault>
-    ensures { Gives (λ n. n) result (number_of (value_view tree.now)) }
+pub fn number_of(tree: &Tree) -> Result<i64, ReadFault>
+    ensures { GivesAt (λ n. n) result (number_of (value_view tree.now)) }
 {
     match tree {
         Tree::Int(number) => Ok(*number),
-        _ => Err(ConfigFault::Fault(ConfigCode::K4)),
+        _ => Err(ReadFault::Here(ConfigCode::K4)),
     }
 }
 
 /// The items of a list.
-pub fn list_of<'t, 'a>(tree: &'t Tree<'a>) -> Result<&'t [Tree<'a>], ConfigFault>
-    ensures { Gives (λ s. values_view s.now) result (list_of (value_view tree.now)) }
+pub fn list_of<'t, 'a>(tree: &'t Tree<'a>) -> Result<&'t [Tree<'a>], ReadFault>
+    ensures { GivesAt (λ s. values_view s.now) result (list_of (value_view tree.now)) }
 {
     match tree {
         Tree::List(items) => Ok(items.as_slice()),
-        _ => Err(ConfigFault::Fault(ConfigCode::K4)),
+        _ => Err(ReadFault::Here(ConfigCode::K4)),
     }
 }
 
 /// The pairs of a map.
-pub fn map_of<'t, 'a>(tree: &'t Tree<'a>) -> Result<&'t [(Text<'a>, Tree<'a>)], ConfigFault>
-    ensures { Gives (λ s. pairs_view s.now) result (map_of (value_view tree.now)) }
+pub fn map_of<'t, 'a>(tree: &'t Tree<'a>) -> Result<&'t [(Text<'a>, Tree<'a>)], ReadFault>
+    ensures { GivesAt (λ s. pairs_view s.now) result (map_of (value_view tree.now)) }
 {
     match tree {
         Tree::Map(pairs) => Ok(pairs.as_slice()),
-        _ => Err(ConfigFault::Fault(ConfigCode::K4)),
+        _ => Err(ReadFault::Here(ConfigCode::K4)),
     }
 }

@@ -1,4 +1,3 @@
-mod Judging
 mod Leaving
 mod Saying
 mod Turns

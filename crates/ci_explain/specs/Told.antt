@@ -1,12 +1,12 @@
 -- What is told of a tree: its faults in turn.
-use Rattle.std.specs.Prelude.{◌≡◌, ◌≢◌, ℕ, List, [], ◌∷◌, map, Ok, Err, zero, suc}
+use Rattle.std.specs.Prelude.{◌≡◌, ◌≢◌, ℕ, List, [], ◌∷◌, map, Option, MatchOption, Ok, Err, zero, suc}
 use Rattle.ci_yaml_lines.specs.Tree.{Value, node, Members, no_members, member}
 use Rattle.ci_config.specs.Config.{Config}
-use Rattle.ci_config.specs.Fault.{Fault}
+use Rattle.ci_config.specs.Fault.{Placed, placed}
 use Rattle.ci_config.specs.FaultView.{code_view}
-use Rattle.ci_config.specs.Meaning.{Means}
-use Rattle.ci_config_places.specs.Place.{IsPlace, IsOfWhole}
+use Rattle.ci_config.specs.Meaning.{MeansAt}
 use Rattle.ci_explain.specs.declared.place.Found.{Found}
+use Rattle.ci_explain.specs.declared.turn.Fault.{Fault}
 
 -- The tree without the entry at the end of a way. A way tells of each list or map on it how many entries stand before the next.
 abbrev mutual
@@ -20,21 +20,23 @@ abbrev mutual
   without_in (member name v ms) zero (j ∷ way) = member name (without (j ∷ way) v) ms
   without_in (member name v ms) (suc k) way = member name v (without_in ms k way)
 
--- A fault, and the way to the entry that is left out for it; no way, where it is of the whole tree.
-pub record Told : Type 0 where
-  pub fault : Fault
-  pub way : List ℕ
-
--- Each fault is the tree's first where the entries of those before it are left out, and its entry is the least with which it comes. It is
--- told of the whole tree only where no entry is to blame, and none is told behind it. There is none where the tree configures something.
-abbrev pub InTurn : Value → List Told → Type 0
-InTurn v [] = (c : Config) × Means v (Ok c)
-InTurn v (t ∷ ts) = Means v (Err t.fault) × (t.way ≡ [] → IsOfWhole t.fault v × (ts ≡ [])) × (t.way ≢ [] → IsPlace t.fault t.way v × InTurn (without t.way v) ts)
+-- Each fault is the tree's first, and where it says that it is, where the entries of those before it are left out. Behind one that no single
+-- entry is to blame for none is told. There is none where the tree configures something.
+abbrev pub InTurn : Value → List Placed → Type 0
+InTurn v [] = (c : Config) × MeansAt v (Ok c)
+InTurn v (t ∷ ts) = MeansAt v (Err t) × (t.way ≡ [] → ts ≡ []) × (t.way ≢ [] → InTurn (without t.way v) ts)
 
 -- ---- the code's
 
-abbrev pub told_view : Found → Told
-told_view f = record { fault = code_view f.code; way = f.way.items }
+abbrev pub fault_view : Fault → Placed
+fault_view f = placed (code_view f.code) f.way.items
 
-abbrev pub tolds_view : List Found → List Told
+-- what is answered is the tree's first fault, or none where it configures something
+abbrev pub IsFirst : Value → Option Fault → Type 0
+IsFirst v fault = MatchOption fault ((c : Config) × MeansAt v (Ok c)) (λ f. MeansAt v (Err (fault_view f)))
+
+abbrev pub told_view : Found → Placed
+told_view f = placed (code_view f.code) f.way.items
+
+abbrev pub tolds_view : List Found → List Placed
 tolds_view fs = map told_view fs

@@ -1,18 +1,16 @@
 //! What `ciserver explain` says of a CI file: every fault of it, each with its line and a sentence.
 #![tactic(auto)]
 
-mod entries;
 mod file;
-mod frame;
+mod follow;
 mod gitlab;
 mod hint;
 mod leave;
+mod line;
 mod place;
 mod report;
-mod role;
-mod search;
 mod turn;
-mod walk;
+mod way;
 mod yaml;
 
 pub use file::{Explained, explain, explain_word};

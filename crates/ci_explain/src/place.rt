@@ -1,20 +1,17 @@
-//! Where a fault of a CI file is.
+//! Where a fault of a CI file is, and what is said of it.
 
-ghost use Rattle.std.specs.Prelude.{◌≡◌, []};
+ghost use Rattle.std.specs.Prelude.{◌≡◌, IfOk};
+ghost use Rattle.ci_config.specs.Fault.{placed};
+ghost use Rattle.ci_config.specs.FaultView.{code_view};
+ghost use Rattle.ci_explain.specs.Told.{told_view};
 
+use crate::follow::follows;
 use crate::hint::hint_of;
+use crate::way::{index_of, is_job, key_at, keyword_at, line_at, origin_of, part_at};
 use ci_config::ConfigCode;
+use ci_values::text::is_name;
 use ci_yaml::Tree;
-use std::alloc::Global;
-
-/// Where a part of a file begins.
-#[derive(Clone, Copy)]
-pub struct Place {
-    /// Counted from 1.
-    pub line: usize,
-    /// The number of the rule that it is in, counted from 1 in its job.
-    pub rule: Option<usize>,
-}
+use std::alloc::{AllocError, Global};
 
 /// A fault of a file.
 #[derive(Drop)]
@@ -31,72 +28,89 @@ pub struct Found {
     /// The way to the entry that is left out for it: of each list or map on it, how many entries stand before the next, where the
     /// entries of the faults before it are left out. Empty for a fault of the whole file.
     pub way: Vec<usize>,
+    /// The way to the same entry in the file as it is.
+    pub origin: Vec<usize>,
     /// Does it come of what was left out alone? Then it isn't printed.
     pub follows: bool,
 }
 
-/// A fault of the whole file.
-pub fn of_file(alloc: Global, code: ConfigCode) -> Found
-    ensures code { result.code ≡ code }
-    ensures way { result.way.items ≡ [] }
-{
-    Found {
-        line: 1,
-        job: None,
-        rule: None,
-        code,
-        hint: hint_of(code, ""),
-        way: Vec::new(alloc),
-        follows: false,
-    }
+/// A file as it is.
+#[derive(Clone, Copy)]
+pub struct Source<'t, 'a> {
+    pub lines: &'t [&'t str],
+    pub tree: &'t Tree<'a>,
 }
 
-/// The line on which the first text of a tree begins. None where it begins with none.
-pub fn first_line(tree: &Tree) -> Option<usize> {
-    match tree {
-        Tree::Text(text) => Some(text.span.start.line),
-        Tree::List(items) => first_line(items.first()?),
-        Tree::Map(pairs) => Some(pairs.first()?.0.span.start.line),
+/// The entry of a job that a fault of the whole job speaks of.
+fn entry_meant(code: ConfigCode) -> Option<&'static str> {
+    match code {
+        ConfigCode::K5 => Some("script"),
+        ConfigCode::K6 => Some("stage"),
         _ => None,
     }
 }
 
-/// The line on which the last text of a tree ends. None where it ends with none.
-pub fn last_line(tree: &Tree) -> Option<usize> {
-    match tree {
-        Tree::Text(text) => Some(text.span.end.line),
-        Tree::List(items) => last_line(items.last()?),
-        Tree::Map(pairs) => {
-            let pair = pairs.last()?;
-            match last_line(&pair.1) {
-                Some(line) => Some(line),
-                None => Some(pair.0.span.end.line),
-            }
+/// The name of the job that the entry at the end of a way is in, where it is a name; none of a keyword of the file that is left out.
+fn job_of(
+    alloc: Global,
+    file: &Tree,
+    way: &[usize],
+    code: ConfigCode,
+) -> Result<Option<String>, AllocError> {
+    let Some((index, inner)) = way.split_first() else {
+        return Ok(None);
+    };
+    let is_left_out = inner.is_empty() && matches!(code, ConfigCode::K2(_));
+    match key_at(file, *index) {
+        Some(key) if is_job(key) && is_name(key) && !is_left_out => {
+            Ok(Some(String::from_str(alloc, key)?))
         }
-        _ => None,
+        _ => Ok(None),
     }
 }
 
-/// Does this line of a source hold the beginning of a flow list?
-pub fn begins_flow_list(source: &str, line: usize) -> bool {
-    match source.lines().nth(line.saturating_sub(1)) {
-        Some(text) => text.contains('['),
-        None => false,
+/// The number of the rule that the entry at the end of a way is in.
+fn rule_of(file: &Tree, way: &[usize]) -> Option<usize> {
+    let [job, entry, item, ..] = way else {
+        return None;
+    };
+    let entries = part_at(file, &[*job])?;
+    if key_at(entries, *entry)? == "rules" {
+        return Some(item.saturating_add(1));
     }
+    None
 }
 
-/// The first line behind a line that begins with a dash, where nothing but comments and empty lines stand between; else the line itself.
-pub fn next_item(source: &str, behind: usize) -> usize {
-    for (before, line) in source.lines().enumerate() {
-        let text = line.trim_start();
-        if before < behind || text.is_empty() || text.starts_with('#') {
-            continue;
+impl Source<'_, '_> {
+    /// The fault with a code that is told of the entry at the end of a way behind others, in the file without their entries; of the whole
+    /// file where the way has no step.
+    ///
+    /// Errors: memory was refused.
+    pub fn found(
+        &self,
+        alloc: Global,
+        code: ConfigCode,
+        way: Vec<usize>,
+        told: &[Found],
+    ) -> Result<Found, AllocError>
+        ensures { IfOk result (λ fault. told_view fault ≡ placed (code_view code) way.items) }
+    {
+        let origin = origin_of(alloc, way.as_slice(), told)?;
+        let mut shown = Vec::from_slice(alloc, origin.as_slice())?;
+        let part = part_at(self.tree, origin.as_slice()).unwrap_or(self.tree);
+        let follows = follows(self.tree, part, code, origin.as_slice(), told);
+        if let Some(index) = entry_meant(code).and_then(|key| index_of(part, key)) {
+            shown.push(index)?;
         }
-        return if text.starts_with('-') {
-            before.saturating_add(1)
-        } else {
-            behind
-        };
+        Ok(Found {
+            line: line_at(self.lines, self.tree, shown.as_slice(), 1),
+            job: job_of(alloc, self.tree, origin.as_slice(), code)?,
+            rule: rule_of(self.tree, origin.as_slice()),
+            code,
+            hint: hint_of(code, keyword_at(self.tree, shown.as_slice())),
+            way,
+            origin,
+            follows,
+        })
     }
-    behind
 }

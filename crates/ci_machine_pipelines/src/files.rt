@@ -64,31 +64,17 @@ fn expression_number(code: ExprCode) -> u8
 fn keyword_detail(alloc: Global, code: ConfigCode) -> Result<Detail, AllocError>
     ensures { IfOk result (λ d. d ≡ files.keyword_fault (code_view code)) }
 {
-    let number = match code {
+    match code {
         ConfigCode::K2(name) => {
             let name = Text::copy_of(alloc, name)?;
-            return Ok(Detail::Keyword(FaultCode::K(2), name));
+            Ok(Detail::Keyword(FaultCode::K(2), name))
         }
         ConfigCode::K13(code) => {
             let inner = FaultCode::X(expression_number(code));
-            return Ok(Detail::Expression(FaultCode::K(13), inner));
+            Ok(Detail::Expression(FaultCode::K(13), inner))
         }
-        ConfigCode::K1 => 1,
-        ConfigCode::K3 => 3,
-        ConfigCode::K4 => 4,
-        ConfigCode::K5 => 5,
-        ConfigCode::K6 => 6,
-        ConfigCode::K7 => 7,
-        ConfigCode::K8 => 8,
-        ConfigCode::K9 => 9,
-        ConfigCode::K10 => 10,
-        ConfigCode::K11 => 11,
-        ConfigCode::K12 => 12,
-        ConfigCode::K14 => 14,
-        ConfigCode::K15 => 15,
-        ConfigCode::K16 => 16,
-    };
-    Ok(Detail::Code(FaultCode::K(number)))
+        other => Ok(Detail::Code(FaultCode::K(other.number()))),
+    }
 }
 
 /// Why a text has no tree.

@@ -8,7 +8,7 @@ use Rattle.ci_yaml.specs.Document.{HasTree, IsFault}
 use Rattle.ci_expr.specs.declared.fault.ExprCode.{ExprCode}
 use Rattle.ci_expr.specs.declared.fault.ExprCode.TheVariants.{X1, X2, X3, X4, X5, X6, X7, X8}
 use Rattle.ci_config.specs.Config.{Config}
-use Rattle.ci_config.specs.Fault.{Fault, K1, K2, K3, K4, K5, K6, K7, K8, K9, K10, K11, K12, K13, K14, K15, K16}
+use Rattle.ci_config.specs.Fault.{Fault, K2, K13, number}
 use Rattle.ci_config.specs.Meaning.{Means}
 use Rattle.ci_machine.specs.declared.records.Project.{Project}
 use Rattle.ci_machine.specs.declared.change.RowChange.TheVariants.{Put}
@@ -39,22 +39,9 @@ expression_number X8 = 8
 
 -- of keywords: `K6`, `K2 image`, `K13 X4`
 abbrev pub keyword_fault : Fault → Detail
-keyword_fault K1 = detail.Code (K 1)
 keyword_fault (K2 name) = detail.Keyword (K 2) name
-keyword_fault K3 = detail.Code (K 3)
-keyword_fault K4 = detail.Code (K 4)
-keyword_fault K5 = detail.Code (K 5)
-keyword_fault K6 = detail.Code (K 6)
-keyword_fault K7 = detail.Code (K 7)
-keyword_fault K8 = detail.Code (K 8)
-keyword_fault K9 = detail.Code (K 9)
-keyword_fault K10 = detail.Code (K 10)
-keyword_fault K11 = detail.Code (K 11)
-keyword_fault K12 = detail.Code (K 12)
 keyword_fault (K13 code) = detail.Expression (K 13) (X (expression_number code))
-keyword_fault K14 = detail.Code (K 14)
-keyword_fault K15 = detail.Code (K 15)
-keyword_fault K16 = detail.Code (K 16)
+keyword_fault fault = detail.Code (K (number fault))
 
 -- ---- what a file says
 

@@ -12,7 +12,7 @@ use Rattle.ci_expr.specs.declared.token.Kind.TheVariants as kind
 use Rattle.ci_expr.specs.Token.{Token}
 use Rattle.ci_expr.specs.Reading.{tokens_of}
 use Rattle.ci_config.specs.Config.{Text, Job, Config}
-use Rattle.ci_config.specs.Fault.{Fault}
+use Rattle.ci_config.specs.Fault.{Placed}
 use Rattle.ci_config.specs.Values.{text_of, list_of, map_of}
 use Rattle.ci_graph_layout.specs.Inclusion.{Given, names, seen}
 use Rattle.ci_plan.specs.declared.notes.Asking.{Asking}
@@ -93,7 +93,7 @@ compared_in text = compared_by (tokens_of text)
 
 -- ---- rules, as the file writes them
 
-abbrev pub known : {A : Type 0} → Result A Fault → Option A
+abbrev pub known : {A : Type 0} → Result A Placed → Option A
 known (Ok x) = Some x
 known (Err fault) = None
 

@@ -4,5 +4,5 @@ use Rattle.ci_config.specs.Retries.{no_causes, cause_in}
 use Rattle.ci_config.specs.View.{values_view}
 use Rattle.ci_config_reader.proofs.retry.causes_of.Given as goal
 
-abbrev pub invariant-loop-value : goal.invariant-loop-value
-invariant-loop-value l = entries cause_in l.set (values_view (drop l.value-index l.values)) ≡ entries cause_in no_causes (values_view l.values)
+abbrev pub invariant-loop-before : goal.invariant-loop-before
+invariant-loop-before l = entries (λ before. cause_in) l.before l.set (values_view (drop l.before l.values)) ≡ entries (λ before. cause_in) 0 no_causes (values_view l.values)

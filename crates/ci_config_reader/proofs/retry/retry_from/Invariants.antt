@@ -5,5 +5,5 @@ use Rattle.ci_config.specs.View.{pairs_view}
 use Rattle.ci_config_reader.specs.Parts.{retry_parts_view}
 use Rattle.ci_config_reader.proofs.retry.retry_from.Given as goal
 
-abbrev pub invariant-loop-pair : goal.invariant-loop-pair
-invariant-loop-pair l = entries retry_entry (retry_parts_view l.parts) (pairs_view (drop l.pair-index l.pairs)) ≡ entries retry_entry blank_retry (pairs_view l.pairs)
+abbrev pub invariant-loop-before : goal.invariant-loop-before
+invariant-loop-before l = entries (λ before. retry_entry) l.before (retry_parts_view l.parts) (pairs_view (drop l.before l.pairs)) ≡ entries (λ before. retry_entry) 0 blank_retry (pairs_view l.pairs)

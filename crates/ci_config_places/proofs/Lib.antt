@@ -1,5 +1,0 @@
-mod Answers
-mod Copies
-mod Cuts
-mod Levels
-mod Searching

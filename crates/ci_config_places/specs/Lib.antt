@@ -1,4 +1,0 @@
-pub mod Cut
-pub mod Numbers
-pub mod Place
-pub mod Search
