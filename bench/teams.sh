@@ -38,7 +38,8 @@ for team in "${teams[@]}"; do
 done
 
 # nginx, by the example with other ports and a certificate of its own.
-front=$((20000 + RANDOM % 20000))
+front=$((20000 + RANDOM % 12000))
+while (: < "/dev/tcp/127.0.0.1/$front") 2> /dev/null; do front=$((20000 + RANDOM % 12000)); done
 openssl req -x509 -newkey rsa:2048 -nodes -days 1 -subj /CN=ci.example.com -addext 'subjectAltName=DNS:ci.example.com,DNS:*.ci.example.com,IP:127.0.0.1' \
   -keyout "$work/ci.key" -out "$work/ci.pem" 2> /dev/null
 {

@@ -6,7 +6,7 @@
 serve_file() {
   local wanted
   for _ in {1..50}; do
-    wanted=${3:-$((20000 + RANDOM % 20000))}
+    wanted=${3:-$((20000 + RANDOM % 12000))}
     : > "$work/said"
     "$ciserver" serve --db "$1" --port "$wanted" --requests "$2" > "$work/said" &
     server=$!

@@ -15,7 +15,7 @@ is() {
 }
 as() { runuser -u "$1" -- "${@:2}"; }
 db=/var/lib/ciserver/ci.db
-port=$((20000 + RANDOM % 20000))
+port=$((20000 + RANDOM % 12000))
 api=http://127.0.0.1:$port/api/v4
 
 apt-get install -qq -y ./ciserver_"$VERSION"_amd64.deb ./ciserver-runner_"$VERSION"_all.deb > apt 2>&1

@@ -60,7 +60,7 @@ as ciserver ciserver runner-add --db $db --name shell --untagged | jq -r .token 
 chmod 640 /etc/ciserver-runner/token && chgrp ciserver-runner /etc/ciserver-runner/token
 umask 022
 for _ in {1..20}; do
-  port=$((20000 + RANDOM % 20000))
+  port=$((20000 + RANDOM % 12000))
   sed -i "s/^PORT=.*/PORT=$port/" /etc/default/ciserver
   : > serving
   begins ciserver ciserver >> serving &
@@ -138,7 +138,7 @@ apt-get install -qq -y nginx openssl > apt 2>&1
 rm /usr/sbin/policy-rc.d /etc/nginx/sites-enabled/default
 openssl req -x509 -newkey rsa:2048 -nodes -days 1 -subj /CN=ci.example.com -addext subjectAltName=DNS:ci.example.com -keyout /etc/nginx/ci.key -out /etc/nginx/ci.pem 2> /dev/null
 for _ in {1..20}; do
-  front=$((20000 + RANDOM % 20000))
+  front=$((20000 + RANDOM % 12000))
   sed "s|listen 443|listen 127.0.0.1:$front|; s|127.0.0.1:8080|127.0.0.1:$port|" /usr/share/doc/ciserver/examples/nginx.conf > /etc/nginx/conf.d/ciserver.conf
   nginx > said 2>&1 && break
 done
