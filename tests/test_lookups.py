@@ -159,6 +159,23 @@ class Lookups(unittest.TestCase):
         world.do(IDLE)
         self.assertGreater(world.cost(f'running j{first}'), touched)
 
+    def test_a_list_pushes_out_nothing_that_is_under_way(self):
+        # What the list has that isn't remembered is more than can be, and has finished; or it is pending, as no runner fits.
+        for project, finishes in ((1, True), (2, False)):
+            world = self.counted(0)
+            for line in MADE:
+                world.do(line)
+            for number in range(2 * REMEMBERED + 1):
+                world.do(f'create {project} other{number}')
+                if finishes:
+                    world.do(f'success j{world.granted(3)}')
+            world.do('create 1 running')
+            running = world.granted(3)
+            world.do(IDLE)
+            touched = world.cost(f'running j{running}')
+            world.do(f'list-pipelines {project}')
+            self.assertEqual(world.cost(f'running j{running}'), touched, f'behind the list of project {project}')
+
 
 if __name__ == '__main__':
     unittest.main()

@@ -199,6 +199,10 @@ impl<T: Store> Store for Remembering<T> {
         if let Some(jobs) = self.memory.boards.jobs_of(pipeline) {
             return Ok(jobs);
         }
+        // Who only reads a list pushes out no pipeline that is under way.
+        if !self.memory.boards.has_room() {
+            return self.store.jobs_of(pipeline);
+        }
         let Some(sheet) = sheet_of(&mut self.store, pipeline)? else {
             return self.store.jobs_of(pipeline);
         };

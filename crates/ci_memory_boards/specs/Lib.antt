@@ -1,3 +1,4 @@
 pub mod Fresh
 pub mod Order
+pub mod Room
 pub mod Sheets

@@ -1,6 +1,6 @@
 //! What is remembered of pipelines.
 
-ghost use Rattle.std.specs.Prelude.{◌≡◌, ◌==◌, ◌&&◌, ◌++◌, ◌∷◌, [], ℕ, List, All, Some, find, drop, option_to_list, IfSome, OnSome};
+ghost use Rattle.std.specs.Prelude.{◌≡◌, ◌==◌, ◌&&◌, ◌++◌, ◌∷◌, [], ℕ, List, true, All, Contains, Some, find, option_to_list, IfSome, OnSome};
 ghost use Rattle.std.specs.List.Sorted.{IsPermutation};
 ghost use Rattle.std.specs.Option.{option_copied};
 ghost use Rattle.ci_machine.specs.declared.change.IndexChange.{IndexChange};
@@ -10,18 +10,18 @@ ghost use Rattle.ci_machine.specs.Ranges.{needs_within, attempts_within, rows_wi
 ghost use Rattle.ci_machine.specs.Statuses.{jobs_of};
 ghost use Rattle.ci_memory_boards.specs.Fresh.{IsFresh};
 ghost use Rattle.ci_memory_boards.specs.Order.{InOrder};
+ghost use Rattle.ci_memory_boards.specs.Room.{has_room, is_under_way, with_room};
 ghost use Rattle.ci_memory_boards.specs.Sheets.{AreRight};
+ghost use Rattle.ci_server_lookups.specs.declared.sheet.Sheet.{Sheet};
 ghost use Rattle.ci_server_lookups.specs.Sheets.{IsRight};
 
 use crate::after::sheet_after;
 use crate::fresh::Fresh;
 use crate::one::{attempt_in, job_in, row_in};
+use crate::room;
 use ci_machine::change::RowChange;
 use ci_machine::records::{Attempt, BoardRow, Job, Need};
 use ci_server_lookups::sheet::Sheet;
-
-/// Of how many pipelines the records are remembered, at most. With one more that goes which was learned first.
-pub const MAX_SHEETS: usize = 32;
 
 /// The records of some pipelines. To forget any of them is always right.
 #[derive(Drop)]
@@ -47,6 +47,16 @@ impl Boards {
         ensures { (k : Kept) → AreRight self.old k → IsRight sheet k → AreRight self.new k }
     {
         self.sheets = and_one(self.sheets.take(), sheet);
+    }
+
+    /// Is there room for one more pipeline, or one that isn't under way? So what is learned then pushes out none that is.
+    pub fn has_room(&self) -> bool
+        ensures { IfSome self.now.sheets (λ sheets. result ≡ has_room sheets.items) }
+    {
+        match &self.sheets {
+            Some(sheets) => room::has_room(sheets.as_slice()),
+            None => true,
+        }
     }
 
     /// Takes the records of a pipeline out of what is remembered, where they are.
@@ -192,23 +202,16 @@ fn and_one(sheets: Option<Vec<Sheet>>, sheet: Sheet) -> Option<Vec<Sheet>>
     }
 }
 
-/// With one more; where there are too many, that goes which was learned first. None where memory was refused.
+/// With one more. What is under way stays where there is room, or anything else may go. None where memory was refused.
 fn with_one(sheets: Vec<Sheet>, sheet: Sheet) -> Option<Vec<Sheet>>
-    ensures { IfSome result (λ v. (n : ℕ) × (v.items ≡ drop n sheets.items ++ sheet ∷ [])) }
+    ensures learned { IfSome result (λ v. v.items ≡ with_room sheets.items ++ sheet ∷ []) }
+    ensures stays { IfSome result (λ v. has_room sheets.items ≡ true → (m : Sheet) → Contains sheets.items m → is_under_way m ≡ true → Contains v.items m) }
 {
     let mut sheets = sheets;
-    make_room(&mut sheets);
+    room::make_room(&mut sheets);
     match sheets.push(sheet) {
         Ok(()) => Some(sheets),
         Err(_) => None,
-    }
-}
-
-fn make_room(sheets: &mut Vec<Sheet>)
-    ensures { (n : ℕ) × (sheets.new.items ≡ drop n sheets.old.items) }
-{
-    if sheets.len() >= MAX_SHEETS {
-        sheets.remove(0);
     }
 }
 

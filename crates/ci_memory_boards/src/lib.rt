@@ -7,4 +7,5 @@ pub mod boards;
 pub mod fresh;
 mod one;
 mod puts;
+pub mod room;
 mod touch;
