@@ -1,9 +1,11 @@
-"""The toolchain's command `rt` as a module: it knows the crates, the words of a check, and how an edit is read and tried."""
+"""The toolchain's command `rt` as a module: it knows the crates, the words of a check, and how an edit is read and tried. And what a check of a crate takes beside its own words."""
+import contextlib
 import importlib.machinery
 import importlib.util
 import os
 import shutil
 import sys
+import tempfile
 
 
 def load():
@@ -15,3 +17,21 @@ def load():
 
 sys.dont_write_bytecode = True
 rt = load()
+
+
+@contextlib.contextmanager
+def room_of(crate, prefix):
+    """Gives a folder that has copies of what a check of the crate reads of it, and whose name begins so."""
+    with tempfile.TemporaryDirectory(prefix=prefix) as room:
+        for part in ("src", "specs", "proofs"):
+            if os.path.isdir(f"{crate.folder}/{part}"):
+                shutil.copytree(f"{crate.folder}/{part}", f"{room}/{part}")
+        yield room
+
+
+def build_below(crate):
+    """Builds those crates below the crate that aren't built yet, and returns the name of the first that can't be, or None."""
+    for dep in crate.below():
+        if not os.path.isdir(dep.rlib) and dep.build_rlib(["--jobs", "1"], anew=False):
+            return dep.name
+    return None
