@@ -3,7 +3,7 @@ use Rattle.std.specs.Prelude.{◌≡◌, ◌==◌, ◌&&◌, ◌++◌, ℕ, zero
 use Rattle.std.specs.List.{list_any}
 use Rattle.std.specs.Ordering.{nat_cmp, is_eq, is_lt}
 use Rattle.std.specs.declared.cmp.Ordering.{Ordering}
-use Rattle.std.proofs.Common.{refl, sym, ap, subst, ◌∙◌, inl, inr, eqb-true, eq-eqb}
+use Rattle.std.proofs.Common.{refl, sym, ap, subst, ◌∙◌, inl, inr, ⊎_elim, eqb-true, eq-eqb}
 use Rattle.std.proofs.lemmas.Bool.{cond-true, cond-false, cond_both, both_ways}
 use Rattle.std.proofs.lemmas.List.{append-nil}
 use Rattle.std.proofs.lemmas.List.Elements.{filter-append}
@@ -14,11 +14,9 @@ use Rattle.ci_machine.specs.declared.change.RowChange.{RowChange}
 use Rattle.ci_machine.specs.declared.change.RowChange.TheVariants.{Put, Append, Remove}
 use Rattle.ci_machine.specs.declared.records.Pipeline.{Pipeline}
 use Rattle.ci_machine.specs.State.{State, placed, others, pipeline_cmp, changed}
-use Rattle.ci_machine.proofs.Filters.{filter_both}
 use Rattle.ci_machine.proofs.Keyed.{Has, has_filter, has_from_all, All-from_has, not_true, unequal}
 use Rattle.ci_machine.specs.Lookups.{newest_of}
 use Rattle.ci_memory_boards.proofs.Lists.{all_found, both}
-use Rattle.ci_memory_pipelines.proofs.Found.{any_none}
 use Rattle.ci_memory.specs.declared.newest.NewestList.{NewestList}
 use Rattle.ci_memory.specs.Newest.{IsList, is_of_list}
 use Rattle.ci_memory.proofs.Changes.{first, later}
@@ -44,8 +42,21 @@ swap true false = refl
 swap false true = refl
 swap false false = refl
 
+-- what passes one test and then the other passes both
+in_turn : {A : Type 0} (p q both : A → Bool) (xs : List A) → ((x : A) → both x ≡ p x && q x) → filter q (filter p xs) ≡ filter both xs
+in_turn p q both [] h = refl
+in_turn p q both (x ∷ xs) h =
+    cond_both (p x) (x ∷ filter p xs) (filter p xs) (λ l. filter q l ≡ filter both (x ∷ xs))
+    (λ e. let w : q x ≡ both x = sym (h x ∙ ap (λ t. t && q x) e) in let rest = in_turn p q both xs h in λ i. cond (w i) (x ∷ rest i) (rest i))
+    (λ e. in_turn p q both xs h ∙ sym (cond-false (both x) (x ∷ filter both xs) (filter both xs) (h x ∙ ap (λ t. t && q x) e)))
+
 either_first : {A : Type 0} (p q : A → Bool) (xs : List A) → filter p (filter q xs) ≡ filter q (filter p xs)
-either_first p q xs = filter_both q p (λ x. q x && p x) xs (λ x. refl) ∙ sym (filter_both p q (λ x. q x && p x) xs (λ x. swap (q x) (p x)))
+either_first p q xs = in_turn q p (λ x. q x && p x) xs (λ x. refl) ∙ sym (in_turn p q (λ x. q x && p x) xs (λ x. swap (q x) (p x)))
+
+-- none passes
+any_none : {A : Type 0} (p : A → Bool) (x : A) (xs : List A) → list_any p xs ≡ false → Has x xs → p x ≡ false
+any_none p x [] none h = absurd h
+any_none p x (y ∷ ys) none h = ⊎_elim (λ e. ap p e ∙ first (p y) (list_any p ys) none) (λ m. any_none p x ys (later (p y) (list_any p ys) none) m) h
 
 -- a record that doesn't pass, put in anywhere, changes nothing of those that pass
 other_placed : {A : Type 0} (cmp : A → A → Ordering) (test : A → Bool) (x : A) (xs : List A) → test x ≡ false → filter test (placed cmp x xs) ≡ filter test xs

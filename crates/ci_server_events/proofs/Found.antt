@@ -1,6 +1,7 @@
--- What is found in a list.
-use Rattle.std.specs.Prelude.{◌≡◌, ℕ, Bool, true, ◌==◌, List, [], ◌∷◌, map, find, Option, Some, None, Result, Ok, IfOk, Contains, option_map}
-use Rattle.std.proofs.Common.{refl, ap, subst, ◌∙◌, arith}
+-- What is found in a list, and what an answer has.
+use Rattle.std.specs.Prelude.{◌≡◌, ℕ, Bool, true, ◌==◌, List, [], ◌∷◌, map, find, Option, Some, None, Result, Ok, Err, IfOk, IfErr, Contains, option_map}
+use Rattle.std.specs.Result.{IsErrAnd}
+use Rattle.std.proofs.Common.{refl, sym, ap, subst, ◌∙◌, arith}
 use Rattle.std.proofs.lemmas.Bool.{cond_both}
 use Rattle.std.proofs.lemmas.List.Elements.{Contains-append_right, Contains-get_or}
 use Rattle.ci_machine.specs.declared.lease.Lease.{Lease}
@@ -47,3 +48,8 @@ ok_is x y e = cc
 -- what went well is so
 pub at_ok : {A E : Type 0} (P : A → Type 0) (r : Result A E) (x : A) → r ≡ Ok x → IfOk r P → P x
 at_ok P r x is so = subst (λ z. IfOk z P) is so
+
+-- what holds of a fault holds of it where it is handed on
+pub passed_on : {A E : Type 0} (r : Result A E) (x : E) (P : E → Type 0) → IsErrAnd r (λ e. e ≡ x) → P x → IfErr r P
+passed_on (Ok a) x P is p = tt
+passed_on (Err e) x P is p = subst P (sym is) p

@@ -13,9 +13,9 @@ use Rattle.ci_machine.specs.declared.records.Runner.{Runner}
 use Rattle.ci_machine.specs.Eligible.{is_free}
 use Rattle.ci_machine.specs.Listings.{attempt_data, attempts_among, needs_among, listed_job_data, told_job, told_jobs}
 use Rattle.ci_machine.specs.Ranges.{is_within, needs_within, attempts_within}
-use Rattle.ci_machine.proofs.Filters.{filter_implied}
 use Rattle.ci_machine.proofs.Keyed.{Has, has_from_all}
 use Rattle.ci_server_lookups.specs.Held.{FreeAlike}
+use Rattle.ci_server_events.proofs.Lists.{filter_implied}
 use Rattle.ci_server_events.proofs.Showing.{printed_alike}
 
 module _ (cs ds : List Claim) (project : ℕ) (runners : List Runner) (first last : ℕ) (needs : List Need) (attempts : List Attempt) where

@@ -1,5 +1,6 @@
 -- The jobs of a pipeline, as what was looked up tells them.
-use Rattle.std.specs.Prelude.{◌≡◌, ℕ, Bool, true, List, [], ◌∷◌, ◌++◌, length, map, filter, ◌==◌}
+use Rattle.std.specs.Prelude.{◌≡◌, ℕ, Bool, true, List, [], ◌∷◌, ◌++◌, length, map, filter, ◌==◌, Result, Ok, Err, IfErr}
+use Rattle.std.specs.Result.{IsErrAnd}
 use Rattle.std.proofs.Common.{refl, sym, ap, subst, ◌∙◌, eqb-true}
 use Rattle.ci_board.specs.declared.facts.Facts.{Facts}
 use Rattle.ci_board.specs.declared.facts.Row.{Row}
@@ -90,3 +91,8 @@ module _ (k : Kept) (id : ℕ) (w : Whole) (whole : IsWhole k id w) where
   head_told st facts rows are_facts are_rows is =
       let its = is ∙ (λ i. status_of_jobs (whole.records.are_jobs i) (are_facts i) (are_rows i)) ∙ ap (λ n. status_of_jobs (jobs_of k.state n) (facts_of k.state n) (rows_of k.state k.board n)) (sym number) in
       ap (λ (s : Status). record { pipeline = w.pipeline; status = s }) its
+
+-- what holds of a fault holds of it where it is handed on
+pub passed_on : {A E : Type 0} (r : Result A E) (x : E) (P : E → Type 0) → IsErrAnd r (λ e. e ≡ x) → P x → IfErr r P
+passed_on (Ok a) x P is p = tt
+passed_on (Err e) x P is p = subst P (sym is) p

@@ -5,8 +5,7 @@ use Rattle.serde_json.specs.View.{items_of}
 use Rattle.ci_machine.specs.Listings.{told_jobs}
 use Rattle.ci_machine.specs.Statuses.{facts_of, rows_of}
 use Rattle.ci_machine_steps.specs.Reads.{json}
-use Rattle.ci_machine_statuses.proofs.Found.{passed_on}
-use Rattle.ci_server_events.proofs.Found.{at_ok}
+use Rattle.ci_server_events.proofs.Found.{at_ok, passed_on}
 use Rattle.ci_server_events.proofs.reads_jobs.told.Goals as goal
 
 -- there are as many facts and rows as jobs

@@ -9,7 +9,7 @@ use Rattle.ci_machine_steps.specs.Sound.{IsSound}
 use Rattle.ci_machine.specs.State.{State}
 use Rattle.ci_machine.specs.Statuses.{facts_of, rows_of, AreBoard}
 use Rattle.ci_machine_statuses.specs.Lookups.{AreRecords}
-use Rattle.ci_machine_statuses.proofs.Found.{passed_on}
+use Rattle.ci_server_events.proofs.Found.{passed_on}
 use Rattle.ci_server_events.proofs.shows.jobs_shown.Goals as goal
 
 -- there are as many facts and rows as jobs

@@ -3,8 +3,7 @@ use Rattle.ci_machine.specs.declared.records.Job.{Job}
 use Rattle.ci_machine.specs.Bodies.{status_of_jobs}
 use Rattle.ci_machine.specs.Statuses.{row_for}
 use Rattle.ci_server_reports.specs.Told.{job_told}
-use Rattle.ci_machine_statuses.proofs.Found.{passed_on}
-use Rattle.ci_server_reports.proofs.Jobs.{head_told, jobs_told, rows_told}
+use Rattle.ci_server_reports.proofs.Jobs.{head_told, jobs_told, passed_on, rows_told}
 use Rattle.ci_server_reports.proofs.pipeline.told.Goals as goal
 
 pub returns-clause-told : goal.returns-clause-told
