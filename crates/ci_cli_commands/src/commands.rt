@@ -12,7 +12,7 @@ use crate::serving::serve_connections;
 use crate::sources::Sources;
 use ci_cli_check::{check_word, exit_status};
 use ci_cli_words::line::{BROKEN_OFF, DONE, Line, USAGE, say, say_reply};
-use ci_cli_words::task::{AdminRequest, ServeOptions, Task};
+use ci_cli_words::task::{AdminRequest, LogLevel, ServeOptions, Task};
 use ci_cli_words::words::task_of;
 use ci_explain::explain_word;
 use ci_http_routes::paths::Paths;
@@ -157,7 +157,7 @@ fn serve<C: Clock, R: RandomSource, O: Write, E: Write>(
     output: &mut O,
     errors: &mut E,
 ) -> u8 {
-    let start = Instant::now(sources.clock).ok();
+    let start = start_of_opening(options.log, sources.clock);
     match open_told(rt, options.file, options.log) {
         Ok((mut server, under_way)) => {
             let journal = Journal::new(rt, options.file, options.log, errors);
@@ -170,6 +170,15 @@ fn serve<C: Clock, R: RandomSource, O: Write, E: Write>(
             status
         }
         Err(unopened) => say_unopened(output, errors, options.file, unopened),
+    }
+}
+
+/// The moment, if it is to be told how long the opening took.
+fn start_of_opening<C: Clock>(log: LogLevel, clock: &C) -> Option<Instant> {
+    if log.has_events() {
+        Instant::now(clock).ok()
+    } else {
+        None
     }
 }
 

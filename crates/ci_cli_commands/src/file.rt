@@ -104,10 +104,8 @@ impl Making {
 /// Opens the server's file at a path. One of version 1 is made one of version 2. Errors: why it isn't opened; a file that
 /// isn't there isn't made.
 pub fn open(rt: &HostRuntime, path: &str) -> Result<FileServer, Unopened> {
-    if !is_there(rt, path)? {
-        return Err(Unopened::by(Cause::Missing));
-    }
-    over(rt, path, connect(rt, path)?)
+    let conn = connect_to(rt, path)?;
+    over(rt, path, conn)
 }
 
 /// The same, and where it is to be told how many pipelines are under way, if that can be read.
@@ -116,13 +114,11 @@ pub fn open_told(
     path: &str,
     log: LogLevel,
 ) -> Result<(FileServer, Option<u64>), Unopened> {
-    if !is_there(rt, path)? {
-        return Err(Unopened::by(Cause::Missing));
-    }
-    let mut conn = connect(rt, path)?;
-    let count = match log {
-        LogLevel::Events | LogLevel::Requests => under_way(&mut conn),
-        LogLevel::Nothing => None,
+    let mut conn = connect_to(rt, path)?;
+    let count = if log.has_events() {
+        under_way(&mut conn)
+    } else {
+        None
     };
     Ok((over(rt, path, conn)?, count))
 }
@@ -154,6 +150,14 @@ fn over(
 /// that fails.
 pub fn let_go(server: FileServer) {
     let _ = server.close().close();
+}
+
+/// Errors: why the file can't be used, also where it isn't there: it isn't made.
+fn connect_to(rt: &HostRuntime, path: &str) -> Result<Connection<FileStore<File>>, Unopened> {
+    if !is_there(rt, path)? {
+        return Err(Unopened::by(Cause::Missing));
+    }
+    connect(rt, path)
 }
 
 /// Errors: why the file can't be used.

@@ -2,7 +2,7 @@
 //! can't be written, is lost.
 
 use crate::cause::cause_at;
-use crate::shown::{named_in, shown, status_in, time_text};
+use crate::shown::{named_in, number_text, shown, status_in, time_text};
 use ci_cli_words::line::Line;
 use ci_cli_words::task::LogLevel;
 use ci_http_service::log::Log;
@@ -62,7 +62,7 @@ impl<'a, E: Write> Journal<'a, E> {
 
     /// The file was opened. If it was migrated, it was of version 1. So many pipelines have a job that is pending or running, if that is known.
     pub fn say_opened(&self, was_migrated: bool, under_way: Option<u64>, time: Option<Duration>) {
-        if self.has_events() {
+        if self.level.has_events() {
             let alloc = self.rt.alloc();
             self.note(opened_line(alloc, self.file, was_migrated, under_way, time));
         }
@@ -70,7 +70,7 @@ impl<'a, E: Write> Journal<'a, E> {
 
     /// The store failed.
     pub fn say_failed(&self) {
-        if self.has_events() {
+        if self.level.has_events() {
             let cause = cause_at(self.rt, self.file);
             self.note(format!(in self.rt.alloc(); "store failed: {}\n", cause.as_str()));
         }
@@ -78,14 +78,14 @@ impl<'a, E: Write> Journal<'a, E> {
 
     /// The service is over, and this line says why.
     pub fn say_stopped(&self, line: Line) {
-        if self.has_events() {
+        if self.level.has_events() {
             self.note(format!(in self.rt.alloc(); "stopped: {line}"));
         }
     }
 
     /// The service is over, since all its connections were served.
     pub fn say_served(&self) {
-        if self.has_events() {
+        if self.level.has_events() {
             self.note(format!(in self.rt.alloc(); "stopped: all connections were served\n"));
         }
     }
@@ -102,13 +102,6 @@ impl<'a, E: Write> Journal<'a, E> {
     pub fn write(&self) {
         if let Ok(mut pen) = self.pen.try_borrow_mut() {
             pen.write();
-        }
-    }
-
-    fn has_events(&self) -> bool {
-        match self.level {
-            LogLevel::Events | LogLevel::Requests => true,
-            LogLevel::Nothing => false,
         }
     }
 
@@ -138,7 +131,7 @@ impl<'a, 'b, E: Write> Log for Teller<'a, 'b, E> {
     ghost tells = { λ _ _ _. ⊤ };
 
     fn tell(&mut self, swept: Swept) {
-        if self.journal.has_events() {
+        if self.journal.level.has_events() {
             self.journal
                 .note(swept_line(self.journal.rt.alloc(), swept));
         }
@@ -154,17 +147,9 @@ fn opened_line(
 ) -> Result<String, AllocError> {
     let file = shown(alloc, file.as_bytes())?;
     let version = if was_migrated { "2, which was 1" } else { "2" };
-    let count = count_text(alloc, under_way)?;
+    let count = number_text(alloc, under_way.map(|count| u128::from(count)))?;
     let time = time_text(alloc, time)?;
     format!(in alloc; "opened {file}: version {version}, pipelines under way {count}, {time}\n")
-}
-
-/// A number, or `-` where it isn't known.
-fn count_text(alloc: Global, count: Option<u64>) -> Result<String, AllocError> {
-    match count {
-        Some(count) => format!(in alloc; "{count}"),
-        None => "-".to_string(alloc),
-    }
 }
 
 fn swept_line(alloc: Global, swept: Swept) -> Result<String, AllocError> {

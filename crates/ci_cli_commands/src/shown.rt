@@ -7,7 +7,7 @@ use std::time::Duration;
 const MAX_SHOWN_BYTES: usize = 200;
 
 /// What stands for what isn't known.
-const UNKNOWN: &[u8] = b"-";
+const UNKNOWN: &str = "-";
 
 /// A text as it stands in a line: what is no printable character of ASCII, a blank and a backslash as the digits of their byte, `\x0a`. Behind 200
 /// bytes `...` stands for the rest. Errors: memory was refused.
@@ -30,12 +30,15 @@ pub fn shown(alloc: Global, bytes: &[u8]) -> Result<String, AllocError> {
 
 /// How long something took, in microseconds. Errors: memory was refused.
 pub fn time_text(alloc: Global, time: Option<Duration>) -> Result<String, AllocError> {
-    match time {
-        Some(time) => {
-            let time = time.as_micros();
-            format!(in alloc; "{time} us")
-        }
-        None => format!(in alloc; "- us"),
+    let number = number_text(alloc, time.map(|time| time.as_micros()))?;
+    format!(in alloc; "{number} us")
+}
+
+/// A number, or `-` where it isn't known. Errors: memory was refused.
+pub fn number_text(alloc: Global, number: Option<u128>) -> Result<String, AllocError> {
+    match number {
+        Some(number) => format!(in alloc; "{number}"),
+        None => UNKNOWN.to_string(alloc),
     }
 }
 
@@ -43,7 +46,7 @@ pub fn time_text(alloc: Global, time: Option<Duration>) -> Result<String, AllocE
 pub fn named_in(request: &[u8]) -> (&[u8], &[u8]) {
     match words_in(request) {
         Some(words) => words,
-        None => (UNKNOWN, UNKNOWN),
+        None => (UNKNOWN.as_bytes(), UNKNOWN.as_bytes()),
     }
 }
 
@@ -88,7 +91,7 @@ fn behind(bytes: &[u8], value: u8) -> Option<&[u8]> {
 /// The status of a reply. `-` where there is no reply.
 pub fn status_in(reply: Option<&[u8]>) -> &[u8] {
     match reply {
-        Some(reply) => reply.get(9..12).unwrap_or(UNKNOWN),
-        None => UNKNOWN,
+        Some(reply) => reply.get(9..12).unwrap_or(UNKNOWN.as_bytes()),
+        None => UNKNOWN.as_bytes(),
     }
 }

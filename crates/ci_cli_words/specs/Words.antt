@@ -92,6 +92,12 @@ logged (Some text) = log_named text
 abbrev pub log_of : List Row → Option LogLevel
 log_of rows = logged (first_of (codes "log") rows)
 
+-- events are logged, by themselves or with requests
+abbrev pub has_events : LogLevel → Bool
+has_events Nothing = false
+has_events Events = true
+has_events Requests = true
+
 abbrev pub ServesBy : List Row → ServeOptions → Type 0
 ServesBy rows o = HasFile rows o.file × (number_of 16 (codes "port") rows ≡ Some o.port) × (number_of 32 (codes "requests") rows ≡ Some o.requests)
     × (o.stops_on_fault ≡ is_set (codes "stop-on-fault") rows) × (log_of rows ≡ Some o.log)

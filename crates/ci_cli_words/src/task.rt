@@ -1,5 +1,8 @@
 //! What a command line asks for.
 
+ghost use Rattle.std.specs.Prelude.{◌≡◌};
+ghost use Rattle.ci_cli_words.specs.Words.{has_events};
+
 use ci_machine::moment::Moment;
 use ci_machine::records::{RefKind, Source};
 use ci_machine::request::RunnerPause;
@@ -105,4 +108,16 @@ pub enum LogLevel {
     Events,
     /// The same, and a line for each request.
     Requests,
+}
+
+impl LogLevel {
+    /// Does the server tell what happens to it?
+    pub fn has_events(self) -> bool
+        ensures { result ≡ has_events self }
+    {
+        match self {
+            LogLevel::Events | LogLevel::Requests => true,
+            LogLevel::Nothing => false,
+        }
+    }
 }
