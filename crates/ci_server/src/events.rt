@@ -16,7 +16,7 @@ use ci_machine::moment::Moment;
 use ci_machine::reply::{Reply, Swept};
 use ci_machine::request::{Request, Seed};
 use ci_server_events::events::plan_request;
-use ci_server_events::planned::{Beside, Clearing, Planned};
+use ci_server_events::planned::{Beside, Planned};
 use ci_server_events::sweeps::plan_sweep;
 use ci_server_lookups::searches::Searches;
 use ci_store::delta::Delta;
@@ -36,8 +36,8 @@ pub(crate) fn handle<T: Searches>(
     ensures performed { T.honest store.new → (s : State) → IsSound s → Holds T.holds store.old s
         → Performs (Holds T.holds) (Leaves T.leaves) answer.Reply (event.Request request, now, seed) s store.new result }
 {
-    let clearing = plan_request(alloc, store, request, now, seed)?;
-    commit(store, clearing)
+    let planned = plan_request(alloc, store, request, now, seed)?;
+    commit(store, planned)
 }
 
 /// Prunes a store that holds a state of the machine: the finished pipeline of least number that was made before this moment goes, if there is
@@ -67,22 +67,22 @@ pub(crate) fn sweep<T: Searches>(
         → (seed : Seed) → Performs (Holds T.holds) (Leaves T.leaves) answer.Swept (event.Sweep, now, seed) s store.new result }
 {
     let planned = plan_sweep(alloc, store, now)?;
-    commit(store, Clearing::nothing(alloc, planned))
+    commit(store, planned)
 }
 
 /// Makes the changes of a plan, with what changes beside them, if there are any, and gives its answer. Errors: the store's.
-fn commit<T: Store, A: Drop>(store: &mut T, clearing: Clearing<A>) -> Result<A, StoreFault>
+fn commit<T: Store, A: Drop>(store: &mut T, planned: Planned<A>) -> Result<A, StoreFault>
     ensures was_honest { T.honest store.new → T.honest store.old }
     ensures ends { T.honest store.new → (k : Kept) → T.holds store.old k
-        → let then = written clearing.planned.changes clearing.planned.beside.rows.items clearing.planned.beside.indexes.items (cleared clearing.cleared.items k) in
+        → let then = written planned.changes planned.beside.rows.items planned.beside.indexes.items (cleared planned.cleared.items k) in
         Ends result (T.holds store.new then) (T.holds store.new k) (T.leaves store.new k then) }
-    ensures answer { IfOk result (λ a. a ≡ clearing.planned.answer) }
+    ensures answer { IfOk result (λ a. a ≡ planned.answer) }
 {
-    let Clearing { planned, cleared } = clearing;
     let Planned {
         answer,
         changes,
         beside,
+        cleared,
     } = planned;
     let Beside { rows, indexes } = beside;
     if changes.is_empty() && rows.is_empty() && indexes.is_empty() && cleared.is_empty() {

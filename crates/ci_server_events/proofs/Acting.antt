@@ -66,10 +66,12 @@ use Rattle.ci_server_lookups.proofs.Loading.{ends, says}
 use Rattle.ci_server_lookups.proofs.Changes.{state_stays}
 use Rattle.ci_server_lookups.proofs.Claiming.{with_alike}
 use Rattle.ci_server_events.specs.declared.planned.Beside.{Beside}
+use Rattle.ci_server_events.specs.declared.planned.Planned.{Planned}
 use Rattle.ci_server_events.specs.Acting.{refusal_of, ActsAs, changes_by, IsDone}
 use Rattle.ci_server_events.specs.Planning.{PlansFor, Settles}
-use Rattle.ci_server_events.proofs.Found.{pair_is, found_is_there}
+use Rattle.ci_server_events.proofs.Found.{found_is_there}
 use Rattle.ci_server_events.proofs.Held.{HoldsNone, still_alike, acts_hold_none}
+use Rattle.ci_server_events.proofs.Leaving.{plans_with}
 use Rattle.ci_server_events.proofs.Settles.{settles_by, number_found}
 use Rattle.ci_server_events.proofs.Showing.{job_alike, pipeline_alike}
 
@@ -289,9 +291,9 @@ module _ (k : Kept) (kept : IsKept k) (act : Act) (job : Job) (has : Contains k.
 
   -- the job was asked for, and its status permits it
   pub job_planned : JobIsShown → 0 < length o.places.items → (plan : Plan) → plan ≡ ((job_shown claims w.pipeline.project job (row_at o.rows.items (slice_index_or o.places.items 0 0)).status).0, its_changes)
-      → (answer : Reply) (changes : List RowChange) (beside : Beside) → answer ≡ plan.0 → changes ≡ plan.1 → beside.rows.items ≡ o.changed.items → beside.indexes.items ≡ indexes
-      → PlansFor k (ActsAs act k.state k.board (Ok job) (answer, changes)) changes beside
-  job_planned shown some plan plan_is answer changes beside same_answer same_changes same_rows same_indexes =
+      → (p : Planned Reply) → (p.answer, p.changes) ≡ plan → p.cleared.items ≡ [] → p.beside.rows.items ≡ o.changed.items → p.beside.indexes.items ≡ indexes
+      → PlansFor k (ActsAs act k.state k.board (Ok job) (p.answer, p.changes)) p
+  job_planned shown some plan plan_is p same none same_rows same_indexes =
       let yes : permits ≡ true = is_done permits o.places.items (λ i. slice_index_or (jobs_of k.state job.pipeline) i job) job (done.outcome.jobs job ∙ one) some in
       let alone : acted_jobs act (Some job.id) k.state k.board job.pipeline ≡ job ∷ [] = one ∙ cond-true permits (job ∷ []) [] yes in
       let v = shown act k.state k.board job o kept.sound has yes done.outcome in
@@ -302,11 +304,8 @@ module _ (k : Kept) (kept : IsKept k) (act : Act) (job : Job) (has : Contains k.
       ∙ ap (λ (q : Plan). (q.0, its_changes)) (shown_then alone (row_at o.rows.items v.0).status)) in
       let made : ActsAs act k.state k.board (Ok job) plan =
       subst (λ b. ActsOn k.state does (if b then Ok job else Err (refusal_of act)) plan) (sym yes) (subst (ShowsJobAfter k.state job its_changes) (sym is) v.1.1) in
-      record {
-        made = subst (ActsAs act k.state k.board (Ok job)) (sym (pair_is answer changes plan plan same_answer same_changes refl)) made;
-        settled = done_settles act (Some job.id) k job.pipeline w o indexes claims done changes beside
-            (same_changes ∙ (ap (λ (p : Plan). p.1) plan_is ∙ ap (act_changes act k.state) (sym alone))) same_rows same_indexes;
-      }
+      plans_with k (ActsAs act k.state k.board (Ok job)) plan p same none made
+      (done_settles act (Some job.id) k job.pipeline w o indexes claims done plan.1 p.beside (ap (λ (q : Plan). q.1) plan_is ∙ ap (act_changes act k.state) (sym alone)) same_rows same_indexes)
 
   -- its status doesn't permit it
   pub job_refused : length o.places.items ≡ 0 → (plan : Plan) → plan ≡ refused (refusal_of act) → ActsAs act k.state k.board (Ok job) plan
@@ -365,9 +364,9 @@ module _ (k : Kept) (kept : IsKept k) (n : ℕ) (w : Whole) (whole : IsWhole k n
   -- some of its jobs can be cancelled
   pub pipeline_planned : PipelineIsShown → CancelsAre → CancelIs → w.pipeline.id ≡ n → 0 < length chosen → (plan : Plan)
       → plan ≡ ((pipeline_shown w.pipeline claims w.records.jobs.items o.facts.items o.rows.items).0, cancel w.records.attempts.items chosen)
-      → (answer : Reply) (changes : List RowChange) (beside : Beside) → answer ≡ plan.0 → changes ≡ plan.1 → beside.rows.items ≡ o.changed.items → beside.indexes.items ≡ indexes
-      → PlansFor k (CancelsSome k.state w.pipeline cancellable (answer, changes)) changes beside
-  pipeline_planned shown cancels_are cancels number some plan plan_is answer changes beside same_answer same_changes same_rows same_indexes =
+      → (y : Planned Reply) → (y.answer, y.changes) ≡ plan → y.cleared.items ≡ [] → y.beside.rows.items ≡ o.changed.items → y.beside.indexes.items ≡ indexes
+      → PlansFor k (CancelsSome k.state w.pipeline cancellable (y.answer, y.changes)) y
+  pipeline_planned shown cancels_are cancels number some plan plan_is y same none same_rows same_indexes =
       let s = k.state in
       let p = w.pipeline in
       let both : act_changes Cancel s acted ≡ cancel s.attempts cancellable = are_cancelled cancels_are in
@@ -384,10 +383,7 @@ module _ (k : Kept) (kept : IsKept k) (n : ℕ) (w : Whole) (whole : IsWhole k n
       = subst (λ (cs : List RowChange). ShowsPipelineAfter s p cs plan) both (subst (ShowsPipelineAfter s p (act_changes Cancel s acted)) (sym is) by_law) in
       let made : CancelsSome s p cancellable plan
       = some_cancelled s p cancellable plan (subst (λ (js : List Job). 0 < length js) chosen_is some) shows in
-      record {
-        made = subst (CancelsSome s p cancellable) (sym (pair_is answer changes plan plan same_answer same_changes refl)) made;
-        settled = settles_so cancels changes beside (same_changes ∙ ap (λ (q : Plan). q.1) plan_is) same_rows same_indexes;
-      }
+      plans_with k (CancelsSome s p cancellable) plan y same none made (settles_so cancels plan.1 y.beside (ap (λ (q : Plan). q.1) plan_is) same_rows same_indexes)
 
   -- none can be
   pub pipeline_refused : length chosen ≡ 0 → (plan : Plan) → plan ≡ refused M12 → CancelsSome k.state w.pipeline cancellable plan
@@ -395,14 +391,12 @@ module _ (k : Kept) (kept : IsKept k) (n : ℕ) (w : Whole) (whole : IsWhole k n
 
   -- a sweep cancels those that can be
   pub redundant_planned : CancelsAre → CancelIs → (p : Pipeline) (plan : Swept × List RowChange) → plan ≡ sweep None (Some p) w.records.attempts.items chosen
-      → (answer : Swept) (changes : List RowChange) (beside : Beside) → answer ≡ plan.0 → changes ≡ plan.1 → beside.rows.items ≡ o.changed.items → beside.indexes.items ≡ indexes
-      → PlansFor k ((answer, changes) ≡ sweep None (Some p) k.state.attempts cancellable) changes beside
-  redundant_planned cancels_are cancels p plan plan_is answer changes beside same_answer same_changes same_rows same_indexes =
-      record {
-        made = pair_is answer changes plan (sweep None (Some p) k.state.attempts cancellable) same_answer same_changes
-            (plan_is ∙ ap (λ (cs : List RowChange). ((sweep None (Some p) [] []).0, cs)) (looked_up cancels ∙ are_cancelled cancels_are));
-        settled = settles_so cancels changes beside (same_changes ∙ ap (λ (q : Swept × List RowChange). q.1) plan_is) same_rows same_indexes;
-      }
+      → (y : Planned Swept) → (y.answer, y.changes) ≡ plan → y.cleared.items ≡ [] → y.beside.rows.items ≡ o.changed.items → y.beside.indexes.items ≡ indexes
+      → PlansFor k ((y.answer, y.changes) ≡ sweep None (Some p) k.state.attempts cancellable) y
+  redundant_planned cancels_are cancels p plan plan_is y same none same_rows same_indexes =
+      plans_with k (λ (q : Swept × List RowChange). q ≡ sweep None (Some p) k.state.attempts cancellable) plan y same none
+      (plan_is ∙ ap (λ (cs : List RowChange). ((sweep None (Some p) [] []).0, cs)) (looked_up cancels ∙ are_cancelled cancels_are))
+      (settles_so cancels plan.1 y.beside (ap (λ (q : Swept × List RowChange). q.1) plan_is) same_rows same_indexes)
 
 -- ---- what is found
 

@@ -1,6 +1,6 @@
 -- A new pipeline: what its file lays out is made, with what stands beside it.
-use Rattle.std.specs.Prelude.{◌≡◌, ℕ, List, map, length, replicate, option_to_list, Some, Ok}
-use Rattle.std.proofs.Common.{sym, ap, subst, ◌∙◌}
+use Rattle.std.specs.Prelude.{◌≡◌, ℕ, List, [], map, length, replicate, option_to_list, Some, Ok}
+use Rattle.std.proofs.Common.{refl, sym, subst, ◌∙◌}
 use Rattle.ci_graph_layout.specs.Inclusion.{Given}
 use Rattle.ci_board.specs.Rows.{no_facts}
 use Rattle.ci_machine.specs.declared.change.IndexChange.{IndexChange}
@@ -24,9 +24,10 @@ use Rattle.ci_machine_statuses.specs.HolderChanges.{opened}
 use Rattle.ci_machine_pipelines.specs.declared.creation.Creation.{Creation}
 use Rattle.ci_machine_pipelines.specs.Creations.{origin, creation_view, LaysOut}
 use Rattle.ci_server_lookups.specs.Keeps.{IsKept}
-use Rattle.ci_server_events.specs.declared.planned.Beside.{Beside}
+use Rattle.ci_server_events.specs.declared.planned.Planned.{Planned}
 use Rattle.ci_server_events.specs.Creating.{rows_beside, IsMadeBeside}
 use Rattle.ci_server_events.specs.Planning.{PlansFor, Settles}
+use Rattle.ci_server_events.proofs.Leaving.{plans_with}
 
 abbrev pub CreatedIsMade : Type 0
 CreatedIsMade = (s : State) (new : NewPipeline) (given : Given) (now : ℕ) (text : List ℕ) (laid : Layout) (made : pipelines.Creation) → IsSound s → IsLaidOut text given (Ok laid)
@@ -57,33 +58,33 @@ module _ (k : Kept) (is : IsKept k) (text : List ℕ) (new : NewPipeline) (varia
   its_changes made = creation_changes k.state.next.job (creation_view made)
 
   -- what the file lays out is made, and what stands beside it is right then
-  pub creation_planned : LaidOutCreates → CreatedIsMade → CreationIsIndexed → CreatesRows → CreatesClaims → (made : Creation) (beside : Beside) (answer : Reply) (changes : List RowChange)
-      → LaysOut text (origin k.state.next.pipeline k.state.next.job new variables now) (Ok (Some made)) → IsMadeBeside made beside
-      → (answer, changes) ≡ pipeline_created k.state.next.job (creation_view made) (claims_in k.state k.board made.pipeline.id) (rows_beside beside)
-      → PlansFor k (Creates k.state new (given_by new variables) now (Ok text) (answer, changes)) changes beside
-  creation_planned creates is_made is_indexed rows_law claims_law made beside answer changes out right planned = record {
-    made = creates k.state text new variables now made (answer, changes) out (after, right.board k.state t k.board k.state.next.pipeline is.sound is.are_board its_made, shown);
-    settled = subst (λ (cs : List RowChange). Settles k cs beside) (sym (ap (λ (p : Plan). p.1) planned)) (record {
-      board = right.board k.state (applied (its_changes made) k.state) k.board k.state.next.pipeline is.sound is.are_board its_made;
-      indexes = subst (λ (cs : List IndexChange). AreIndexes (written (its_changes made) beside.rows.items cs k)) (sym right.indexes)
-          (is_indexed k new (given_by new variables) now text out.0 (creation_view made) beside.rows.items is.sound is.are_board is.are_indexes out.1 out.2.0 right.keys);
-    });
-  }
+  pub creation_planned : LaidOutCreates → CreatedIsMade → CreationIsIndexed → CreatesRows → CreatesClaims → (made : Creation) (p : Planned Reply)
+      → LaysOut text (origin k.state.next.pipeline k.state.next.job new variables now) (Ok (Some made)) → p.cleared.items ≡ [] → IsMadeBeside made p.beside
+      → (p.answer, p.changes) ≡ pipeline_created k.state.next.job (creation_view made) (claims_in k.state k.board made.pipeline.id) (rows_beside p.beside)
+      → PlansFor k (Creates k.state new (given_by new variables) now (Ok text) (p.answer, p.changes)) p
+  creation_planned creates is_made is_indexed rows_law claims_law made p out none right planned =
+      plans_with k (Creates k.state new (given_by new variables) now (Ok text)) (p.answer, p.changes) p refl none
+      (creates k.state text new variables now made (p.answer, p.changes) out (after, right.board k.state t k.board k.state.next.pipeline is.sound is.are_board its_made, shown))
+      (subst (λ (q : Plan). Settles k q.1 p.beside) (sym planned) (record {
+        board = right.board k.state (applied (its_changes made) k.state) k.board k.state.next.pipeline is.sound is.are_board its_made;
+        indexes = subst (λ (cs : List IndexChange). AreIndexes (written (its_changes made) p.beside.rows.items cs k)) (sym right.indexes)
+            (is_indexed k new (given_by new variables) now text out.0 (creation_view made) p.beside.rows.items is.sound is.are_board is.are_indexes out.1 out.2.0 right.keys);
+      }))
     where
       t : State
       t = applied (its_changes made) k.state
 
       after : List BoardRow
-      after = put_rows beside.rows.items k.board
+      after = put_rows p.beside.rows.items k.board
 
       -- its rows, and for which groups its jobs must wait, in the state after
-      its_rows : rows_of t after made.pipeline.id ≡ rows_beside beside
-      its_rows = rows_law k.state k.board new (given_by new variables) now text out.0 (creation_view made) beside.rows.items is.sound is.are_board out.1 out.2.0 right.keys
+      its_rows : rows_of t after made.pipeline.id ≡ rows_beside p.beside
+      its_rows = rows_law k.state k.board new (given_by new variables) now text out.0 (creation_view made) p.beside.rows.items is.sound is.are_board out.1 out.2.0 right.keys
 
       its_claims : claims_in t after made.pipeline.id ≡ claims_in k.state k.board made.pipeline.id
-      its_claims = claims_law k.state k.board new (given_by new variables) now text out.0 (creation_view made) beside.rows.items is.sound is.are_board out.1 out.2.0 right.keys
+      its_claims = claims_law k.state k.board new (given_by new variables) now text out.0 (creation_view made) p.beside.rows.items is.sound is.are_board out.1 out.2.0 right.keys
 
-      shown : (answer, changes) ≡ pipeline_created k.state.next.job (creation_view made) (claims_in t after made.pipeline.id) (rows_of t after made.pipeline.id)
+      shown : (p.answer, p.changes) ≡ pipeline_created k.state.next.job (creation_view made) (claims_in t after made.pipeline.id) (rows_of t after made.pipeline.id)
       shown = planned ∙ (λ i. pipeline_created k.state.next.job (creation_view made) (sym its_claims i) (sym its_rows i))
 
       its_made : IsMade k.state (applied (its_changes made) k.state) k.state.next.pipeline made.jobs.items made.needs.items

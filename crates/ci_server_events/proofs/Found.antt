@@ -37,10 +37,6 @@ leased s n l e = of (attempt_at s n) refl e
         let its : a ≡ l.attempt = cc in
         subst (Contains s.attempts) its (found_is_there (λ (b : Attempt). b.id == n) a s.attempts is).0
 
--- a pair by its parts
-pub pair_is : {A B : Type 0} (a : A) (b : B) (p q : A × B) → a ≡ p.0 → b ≡ p.1 → p ≡ q → (a, b) ≡ q
-pair_is {A} {B} a b p q first second same = (ap (λ (x : A). (x, b)) first ∙ ap (λ (y : B). (p.0, y)) second) ∙ same
-
 -- what is well done alike is the same
 pub ok_is : {A : Type 0} (x y : A) → ◌≡◌ {A = Result A StoreFault} (Ok x) (Ok y) → x ≡ y
 ok_is x y e = cc

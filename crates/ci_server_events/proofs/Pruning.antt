@@ -16,7 +16,7 @@ use Rattle.ci_machine_steps.specs.Plans.{Plan}
 use Rattle.ci_machine_steps.specs.Prunes.{is_prunable, prunable_in, pipeline_goes, prune}
 use Rattle.ci_machine_steps.specs.Sound.{IsSound}
 use Rattle.ci_server_lookups.specs.Keeps.{IsKept}
-use Rattle.ci_server_events.specs.declared.planned.Beside.{Beside}
+use Rattle.ci_server_events.specs.declared.planned.Planned.{Planned}
 use Rattle.ci_server_events.specs.Planning.{PlansFor}
 
 abbrev pub PruneSettles : Type 0
@@ -28,10 +28,12 @@ PruneIsIndexed = (k : Kept) (p : Pipeline) → IsSound k.state → AreBoard k.st
     → AreIndexes (written (pipeline_goes p (jobs_of k.state p.id) k.state.attempts) [] [] (cleared (numbers_of k.state p.id) k))
 
 pub prune_plans : PruneSettles → PruneIsIndexed → (k : Kept) → IsKept k → (p : Pipeline) → Contains k.state.pipelines p → is_open_in k.state k.board p ≡ false
-    → (answer : Reply) (changes : List RowChange) (beside : Beside) (numbers : List ℕ) → (answer, changes) ≡ prune (Some p) (jobs_of k.state p.id) k.state.attempts
-    → beside.rows.items ≡ [] → beside.indexes.items ≡ [] → numbers ≡ numbers_of k.state p.id
-    → PlansFor (cleared numbers k) ((answer, changes) ≡ prune (Some p) (jobs_of k.state p.id) k.state.attempts) changes beside
-prune_plans settles indexed k kept p has finished answer changes beside numbers is no_rows no_indexes its =
+    → (planned : Planned Reply) → (planned.answer, planned.changes) ≡ prune (Some p) (jobs_of k.state p.id) k.state.attempts
+    → planned.beside.rows.items ≡ [] → planned.beside.indexes.items ≡ [] → planned.cleared.items ≡ numbers_of k.state p.id
+    → PlansFor k ((planned.answer, planned.changes) ≡ prune (Some p) (jobs_of k.state p.id) k.state.attempts) planned
+prune_plans settles indexed k kept p has finished planned is no_rows no_indexes its =
+    let changes = planned.changes in
+    let beside = planned.beside in
     let goes = pipeline_goes p (jobs_of k.state p.id) k.state.attempts in
     let same : changes ≡ goes = ap (λ (plan : Plan). plan.1) is in
     record {

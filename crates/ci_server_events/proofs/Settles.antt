@@ -73,10 +73,6 @@ settles_by k changes cs beside rows indexes same same_rows same_indexes board ar
       (subst (λ (l : List IndexChange). AreIndexes (written cs rows l k)) (sym same_indexes) are));
 }
 
--- nothing, beside no changes
-pub nothing_settles : (k : Kept) → IsKept k → (changes : List RowChange) (beside : Beside) → changes ≡ [] → beside.rows.items ≡ [] → beside.indexes.items ≡ [] → Settles k changes beside
-nothing_settles k is changes beside none no_rows no_indexes = settles_by k changes [] beside [] [] none no_rows no_indexes is.are_board is.are_indexes
-
 -- ---- plans that move one attempt
 
 -- what is accepted of an attempt is of a live one

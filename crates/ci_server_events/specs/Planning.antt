@@ -6,21 +6,22 @@ use Rattle.ci_machine.specs.declared.change.RowChange.{RowChange}
 use Rattle.ci_machine.specs.declared.change.RowChange.TheVariants.{Put}
 use Rattle.ci_machine.specs.Leases.{is_live}
 use Rattle.ci_machine.specs.State.{State, applied}
-use Rattle.ci_machine.specs.Kept.{Kept, put_rows, written}
+use Rattle.ci_machine.specs.Kept.{Kept, cleared, put_rows, written}
 use Rattle.ci_machine.specs.Statuses.{AreBoard}
 use Rattle.ci_machine.specs.Indexes.{AreIndexes}
 use Rattle.ci_machine_statuses.specs.Changes.{HasLive}
 use Rattle.ci_server_events.specs.declared.planned.Beside.{Beside}
+use Rattle.ci_server_events.specs.declared.planned.Planned.{Planned}
 
 -- the rows that are put make the rows of the state after the changes, and with the changes of indexes all beside it is right
 pub record Settles (k : Kept) (changes : List RowChange) (beside : Beside) : Type 0 where
   pub board : AreBoard (applied changes k.state) (put_rows beside.rows.items k.board)
   pub indexes : AreIndexes (written changes beside.rows.items beside.indexes.items k)
 
--- The plan is one that the machine makes, and what changes beside its records settles it.
-pub record PlansFor (k : Kept) (Makes : Type 0) (changes : List RowChange) (beside : Beside) : Type 0 where
+-- What is planned is what the machine makes, and what changes beside its records settles it, once the rows are gone that go first.
+pub record PlansFor {A : Type 0} (k : Kept) (Makes : Type 0) (p : Planned A) : Type 0 where
   pub made : Makes
-  pub settled : Settles k changes beside
+  pub settled : Settles (cleared p.cleared.items k) p.changes p.beside
 
 -- the changes are none, or they put a live attempt of the state as it stands then
 abbrev pub MovesOne : State → List RowChange → Type 0

@@ -33,7 +33,6 @@ use ci_machine::request::{JobQuery, PipelineQuery};
 use ci_machine_plans::body::status_of;
 use ci_machine_plans::cancels::{cancel_job, cancel_jobs};
 use ci_machine_plans::plays::play;
-use ci_machine_plans::replies::refused;
 use ci_machine_plans::retries::retry;
 use ci_machine_plans::sweeps;
 use ci_machine_statuses::act::Act;
@@ -60,12 +59,12 @@ pub(crate) fn act_on<T: Turns>(
     query: &JobQuery,
 ) -> Result<Planned<Reply>, StoreFault>
     ensures { LoadsBy T.honest T.holds T.leaves store.old store.new result
-        (λ k p. IsKept k → PlansFor k (ActsAs act k.state k.board (found_job k.state query.now) (p.answer, p.changes)) p.changes p.beside) }
+        (λ k p. IsKept k → PlansFor k (ActsAs act k.state k.board (found_job k.state query.now) (p.answer, p.changes)) p) }
 {
     let named = load_named(store, query)?;
     match asked(&named, query) {
         Ok(job) => act_on_found(alloc, store, act, job),
-        Err(code) => Ok(Planned::alone(alloc, refused(alloc, code))),
+        Err(code) => Ok(Planned::refused(alloc, code)),
     }
 }
 
@@ -77,7 +76,7 @@ fn act_on_found<T: Turns>(
     job: &Job,
 ) -> Result<Planned<Reply>, StoreFault>
     ensures { LoadsBy T.honest T.holds T.leaves store.old store.new result
-        (λ k p. IsKept k → Contains k.state.jobs job.now → PlansFor k (ActsAs act k.state k.board (Ok job.now) (p.answer, p.changes)) p.changes p.beside) }
+        (λ k p. IsKept k → Contains k.state.jobs job.now → PlansFor k (ActsAs act k.state k.board (Ok job.now) (p.answer, p.changes)) p) }
 {
     let whole = whole_of(alloc, store, job.pipeline)?;
     acted(alloc, act, job, &whole)
@@ -86,7 +85,7 @@ fn act_on_found<T: Turns>(
 /// What is planned where a user acts on a job of this pipeline.
 fn acted(alloc: Global, act: Act, job: &Job, whole: &Whole) -> Result<Planned<Reply>, StoreFault>
     ensures { IfOk result (λ p. (k : Kept) → IsKept k → Contains k.state.jobs job.now → IsWhole k job.now.pipeline whole.now
-        → PlansFor k (ActsAs act k.state k.board (Ok job.now) (p.answer, p.changes)) p.changes p.beside) }
+        → PlansFor k (ActsAs act k.state k.board (Ok job.now) (p.answer, p.changes)) p) }
 {
     acts_settle();
     acts_are_of_records();
@@ -94,11 +93,11 @@ fn acted(alloc: Global, act: Act, job: &Job, whole: &Whole) -> Result<Planned<Re
     outcomes_are_shown();
     let done = done_among(alloc, whole, act, Some(job.id))?;
     if done.outcome.places.is_empty() {
-        return Ok(Planned::alone(alloc, refused(alloc, refusal_of(act))));
+        return Ok(Planned::refused(alloc, refusal_of(act)));
     }
     let after = done.outcome.rows[done.outcome.places[0]].status;
     let plan = plan_of(alloc, act, whole, done.claims.as_slice(), job, after)?;
-    Planned::with(plan, Ok(done.into_beside()))
+    Planned::with(alloc, plan, Ok(done.into_beside()))
 }
 
 /// The code that refuses an act to a job whose status doesn't permit it.
@@ -254,13 +253,13 @@ pub(crate) fn cancel_pipeline<T: Turns>(
     query: &PipelineQuery,
 ) -> Result<Planned<Reply>, StoreFault>
     ensures { LoadsBy T.honest T.holds T.leaves store.old store.new result
-        (λ k p. IsKept k → PlansFor k (CancelsPipeline k.state k.board (found_pipeline k.state query.now) (p.answer, p.changes)) p.changes p.beside) }
+        (λ k p. IsKept k → PlansFor k (CancelsPipeline k.state k.board (found_pipeline k.state query.now) (p.answer, p.changes)) p) }
 {
     let project = store.project_with(&query.token)?;
     let pipeline = store.pipeline(query.pipeline)?;
     match asked_pipeline(&project, &pipeline, query.project) {
         Ok(found) => cancel_found(alloc, store, found),
-        Err(code) => Ok(Planned::alone(alloc, refused(alloc, code))),
+        Err(code) => Ok(Planned::refused(alloc, code)),
     }
 }
 
@@ -271,7 +270,7 @@ fn cancel_found<T: Turns>(
     pipeline: &Pipeline,
 ) -> Result<Planned<Reply>, StoreFault>
     ensures { LoadsBy T.honest T.holds T.leaves store.old store.new result
-        (λ k p. IsKept k → Contains k.state.pipelines pipeline.now → PlansFor k (CancelsSome k.state pipeline.now (cancellable_jobs k.state k.board pipeline.now.id) (p.answer, p.changes)) p.changes p.beside) }
+        (λ k p. IsKept k → Contains k.state.pipelines pipeline.now → PlansFor k (CancelsSome k.state pipeline.now (cancellable_jobs k.state k.board pipeline.now.id) (p.answer, p.changes)) p) }
 {
     let whole = whole_of(alloc, store, pipeline.id)?;
     cancelled(alloc, &whole)
@@ -280,7 +279,7 @@ fn cancel_found<T: Turns>(
 /// What is planned where a pipeline is cancelled.
 fn cancelled(alloc: Global, whole: &Whole) -> Result<Planned<Reply>, StoreFault>
     ensures { IfOk result (λ p. (k : Kept) → IsKept k → IsWhole k whole.now.pipeline.id whole.now
-        → PlansFor k (CancelsSome k.state whole.now.pipeline (cancellable_jobs k.state k.board whole.now.pipeline.id) (p.answer, p.changes)) p.changes p.beside) }
+        → PlansFor k (CancelsSome k.state whole.now.pipeline (cancellable_jobs k.state k.board whole.now.pipeline.id) (p.answer, p.changes)) p) }
 {
     acts_settle();
     acts_are_of_records();
@@ -288,7 +287,7 @@ fn cancelled(alloc: Global, whole: &Whole) -> Result<Planned<Reply>, StoreFault>
     outcomes_are_shown();
     let done = done_among(alloc, whole, Act::Cancel, None)?;
     if done.chosen.is_empty() {
-        return Ok(Planned::alone(alloc, refused(alloc, Code::M12)));
+        return Ok(Planned::refused(alloc, Code::M12));
     }
     let plan = cancel_jobs(
         alloc,
@@ -300,7 +299,7 @@ fn cancelled(alloc: Global, whole: &Whole) -> Result<Planned<Reply>, StoreFault>
         done.outcome.facts.as_slice(),
         done.outcome.rows.as_slice(),
     )?;
-    Planned::with(plan, Ok(done.into_beside()))
+    Planned::with(alloc, plan, Ok(done.into_beside()))
 }
 
 /// A sweep cancels the redundant pipeline: all its jobs that can be.
@@ -310,7 +309,7 @@ pub(crate) fn cancel_redundant<T: Turns>(
     pipeline: &Pipeline,
 ) -> Result<Planned<Swept>, StoreFault>
     ensures { LoadsBy T.honest T.holds T.leaves store.old store.new result
-        (λ k p. IsKept k → PlansFor k ((p.answer, p.changes) ≡ sweep None (Some pipeline.now) k.state.attempts (cancellable_jobs k.state k.board pipeline.now.id)) p.changes p.beside) }
+        (λ k p. IsKept k → PlansFor k ((p.answer, p.changes) ≡ sweep None (Some pipeline.now) k.state.attempts (cancellable_jobs k.state k.board pipeline.now.id)) p) }
 {
     acts_settle();
     acts_are_of_records();
@@ -323,7 +322,7 @@ pub(crate) fn cancel_redundant<T: Turns>(
         whole.records.attempts.as_slice(),
         done.chosen.as_slice(),
     )?;
-    Planned::with(plan, Ok(done.into_beside()))
+    Planned::with(alloc, plan, Ok(done.into_beside()))
 }
 
 /// The jobs at these places.

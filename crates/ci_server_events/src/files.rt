@@ -4,13 +4,14 @@ ghost use Rattle.ci_machine_steps.specs.Files as machine;
 ghost use Rattle.ci_machine_steps.specs.Plans.{asked_project};
 ghost use Rattle.ci_machine_steps.specs.Step.{project_with};
 ghost use Rattle.ci_store.specs.Store.{LoadsBy};
+ghost use Rattle.ci_server_lookups.specs.Keeps.{IsKept};
+ghost use Rattle.ci_server_events.specs.Planning.{PlansFor};
 
+use crate::planned::Planned;
 use crate::projects::asked;
-use ci_machine::change::Changes;
 use ci_machine::reply::Reply;
 use ci_machine::request::NewFile;
 use ci_machine_pipelines::files;
-use ci_machine_plans::replies;
 use ci_store::fault::StoreFault;
 use ci_store::store::Store;
 use std::alloc::Global;
@@ -20,9 +21,9 @@ pub(crate) fn set_file<T: Store>(
     alloc: Global,
     store: &mut T,
     new: NewFile,
-) -> Result<(Reply, Changes), StoreFault>
+) -> Result<Planned<Reply>, StoreFault>
     ensures { LoadsBy T.honest T.holds T.leaves store.old store.new result
-        (λ k plan. machine.SetsFile (asked_project (project_with k.state new.token) new.project) new.text plan) }
+        (λ k p. IsKept k → PlansFor k (machine.SetsFile (asked_project (project_with k.state new.token) new.project) new.text (p.answer, p.changes)) p) }
 {
     let NewFile {
         project: named,
@@ -33,8 +34,8 @@ pub(crate) fn set_file<T: Store>(
     match asked(&project, named) {
         Ok(found) => {
             let plan = files::set_file(alloc, found, text)?;
-            Ok(plan)
+            Ok(Planned::of_records(alloc, plan))
         }
-        Err(code) => Ok(replies::refused(alloc, code)),
+        Err(code) => Ok(Planned::refused(alloc, code)),
     }
 }

@@ -38,10 +38,10 @@ pub(crate) fn ask_job<T: Searches>(
     seed: Seed,
 ) -> Result<Planned<Reply>, StoreFault>
     ensures { LoadsBy T.honest T.holds T.leaves store.old store.new result
-        (λ k p. IsKept k → PlansFor k (step.Does k.state k.board (asked.AskJob token) now seed (p.answer, p.changes)) p.changes p.beside) }
+        (λ k p. IsKept k → PlansFor k (step.Does k.state k.board (asked.AskJob token) now seed (p.answer, p.changes)) p) }
 {
     match store.runner_with(&token)? {
-        None => Ok(Planned::alone(alloc, grants::unknown_runner(alloc))),
+        None => Ok(Planned::unchanged(alloc, grants::unknown_runner(alloc))),
         Some(runner) => ask_for(alloc, store, &runner, now, seed),
     }
 }
@@ -56,10 +56,10 @@ fn ask_for<T: Searches>(
 ) -> Result<Planned<Reply>, StoreFault>
     ensures { LoadsBy T.honest T.holds T.leaves store.old store.new result
         (λ k p. IsKept k → let q = step.offer k.state k.board (Some runner.now) in
-        PlansFor k ((p.answer, p.changes) ≡ machine.ask_job (Some runner.now) q (step.offered_variables k.state q) k.state.next.attempt now seed) p.changes p.beside) }
+        PlansFor k ((p.answer, p.changes) ≡ machine.ask_job (Some runner.now) q (step.offered_variables k.state q) k.state.next.attempt now seed) p) }
 {
     match store.first_offer(alloc, runner)? {
-        None => Ok(Planned::alone(alloc, grants::nothing_to_run(alloc))),
+        None => Ok(Planned::unchanged(alloc, grants::nothing_to_run(alloc))),
         Some(offer) => grant(alloc, store, runner, &offer, now, seed),
     }
 }
@@ -75,7 +75,7 @@ fn grant<T: Store>(
 ) -> Result<Planned<Reply>, StoreFault>
     ensures { LoadsBy T.honest T.holds T.leaves store.old store.new result
         (λ k p. IsKept k → IsOffered k runner.now (Some offer.now) →
-        PlansFor k ((p.answer, p.changes) ≡ machine.grant runner.now offer.now.queued (step.variables_of k.state offer.now.queued.job.id) k.state.next.attempt now seed) p.changes p.beside) }
+        PlansFor k ((p.answer, p.changes) ≡ machine.grant runner.now offer.now.queued (step.variables_of k.state offer.now.queued.job.id) k.state.next.attempt now seed) p) }
 {
     grant_settles();
     grant_is_indexed();
@@ -91,7 +91,7 @@ fn grant<T: Store>(
         seed,
     )?;
     let beside = started_beside(alloc, plan.1.is_empty(), offer, next);
-    Planned::with(plan, beside)
+    Planned::with(alloc, plan, beside)
 }
 
 /// What changes beside a job that is started as the attempt with this number: its row says so, and its resource group is held, if it

@@ -6,14 +6,15 @@ ghost use Rattle.ci_machine_steps.specs.Modes as machine;
 ghost use Rattle.ci_machine_steps.specs.Plans.{asked_project};
 ghost use Rattle.ci_machine_steps.specs.Step.{project_with};
 ghost use Rattle.ci_store.specs.Store.{LoadsBy};
+ghost use Rattle.ci_server_lookups.specs.Keeps.{IsKept};
+ghost use Rattle.ci_server_events.specs.Planning.{PlansFor};
 
+use crate::planned::Planned;
 use crate::projects::asked;
-use ci_machine::change::Changes;
 use ci_machine::records::{GroupMode, GroupOrder, Project};
 use ci_machine::reply::Reply;
 use ci_machine::request::{GroupQuery, NewMode};
 use ci_machine_plans::modes;
-use ci_machine_plans::replies::refused;
 use ci_store::fault::StoreFault;
 use ci_store::store::Store;
 use std::alloc::Global;
@@ -23,13 +24,14 @@ pub(crate) fn set_mode<T: Store>(
     alloc: Global,
     store: &mut T,
     new: NewMode,
-) -> Result<(Reply, Changes), StoreFault>
+) -> Result<Planned<Reply>, StoreFault>
     ensures { LoadsBy T.honest T.holds T.leaves store.old store.new result
-        (λ k plan. plan ≡ machine.set_mode (asked_project (project_with k.state new.token) new.project) new) }
+        (λ k p. IsKept k → PlansFor k ((p.answer, p.changes) ≡ machine.set_mode (asked_project (project_with k.state new.token) new.project) new) p) }
 {
     let project = store.project_with(&new.token)?;
     let found = asked(&project, new.project);
-    Ok(modes::set_mode(alloc, found, new)?)
+    let plan = modes::set_mode(alloc, found, new)?;
+    Ok(Planned::of_records(alloc, plan))
 }
 
 /// The process mode of a resource group of a project is asked for. It is looked up only where the token is the project's.
@@ -37,14 +39,14 @@ pub(crate) fn show_mode<T: Store>(
     alloc: Global,
     store: &mut T,
     query: &GroupQuery,
-) -> Result<(Reply, Changes), StoreFault>
+) -> Result<Planned<Reply>, StoreFault>
     ensures { LoadsBy T.honest T.holds T.leaves store.old store.new result
-        (λ k plan. plan ≡ machine.show_mode (asked_project (project_with k.state query.now.token) query.now.project) (order_of k.state.modes query.now.project query.now.group) query.now.group) }
+        (λ k p. IsKept k → PlansFor k ((p.answer, p.changes) ≡ machine.show_mode (asked_project (project_with k.state query.now.token) query.now.project) (order_of k.state.modes query.now.project query.now.group) query.now.group) p) }
 {
     let project = store.project_with(&query.token)?;
     match asked(&project, query.project) {
         Ok(found) => mode_shown(alloc, store, found, query),
-        Err(code) => Ok(refused(alloc, code)),
+        Err(code) => Ok(Planned::refused(alloc, code)),
     }
 }
 
@@ -54,13 +56,14 @@ fn mode_shown<T: Store>(
     store: &mut T,
     project: &Project,
     query: &GroupQuery,
-) -> Result<(Reply, Changes), StoreFault>
+) -> Result<Planned<Reply>, StoreFault>
     ensures { LoadsBy T.honest T.holds T.leaves store.old store.new result
-        (λ k plan. plan ≡ machine.show_mode (Ok project.now) (order_of k.state.modes query.now.project query.now.group) query.now.group) }
+        (λ k p. IsKept k → PlansFor k ((p.answer, p.changes) ≡ machine.show_mode (Ok project.now) (order_of k.state.modes query.now.project query.now.group) query.now.group) p) }
 {
     let mode = store.mode(query.project, &query.group)?;
     let order = order_in(mode);
-    Ok(modes::show_mode(alloc, Ok(project), order, &query.group)?)
+    let plan = modes::show_mode(alloc, Ok(project), order, &query.group)?;
+    Ok(Planned::unchanged(alloc, plan))
 }
 
 /// The order of a group with this mode, if it has one.

@@ -1,7 +1,7 @@
 //! What a request for a new pipeline does, from what the store holds: the file of its project is read and laid out, and what it lays
 //! out is made, with the rows of its jobs, and as a pipeline that isn't finished, if it isn't.
 
-ghost use Rattle.std.specs.Prelude.{◌≡◌, ◌≤◌, ◌+◌, length, Ok, IfOk};
+ghost use Rattle.std.specs.Prelude.{◌≡◌, ◌≤◌, ◌+◌, [], length, Ok, IfOk};
 ghost use Rattle.std.specs.Result.{result_map_both};
 ghost use Rattle.ci_machine.specs.Waiting.{claims_in};
 ghost use Rattle.ci_machine_steps.specs.Pipelines as machine;
@@ -27,7 +27,7 @@ use ci_machine_pipelines::files::FileFault;
 use ci_machine_pipelines::laws::laid_out_creates;
 use ci_machine_pipelines::layouts::lay_out;
 use ci_machine_pipelines::pipelines::may_create;
-use ci_machine_plans::replies::{Refusal, faulted, refused, unmade};
+use ci_machine_plans::replies::{Refusal, faulted, unmade};
 use ci_machine_statuses::creation::rows_of_creation;
 use ci_machine_statuses::holder_laws::creation_is_indexed;
 use ci_machine_statuses::laws::{created_is_made, creation_is_shown};
@@ -46,14 +46,14 @@ pub(crate) fn create_pipeline<T: Turns>(
     now: Moment,
 ) -> Result<Planned<Reply>, StoreFault>
     ensures { LoadsBy T.honest T.holds T.leaves store.old store.new result
-        (λ k p. IsKept k → PlansFor k (machine.Creates k.state new.now (machine.given_by new.now (project_variables k.state new.now.project)) now (machine.may_create (asked_project (project_with k.state new.now.token) new.now.project) new.now) (p.answer, p.changes)) p.changes p.beside) }
+        (λ k p. IsKept k → PlansFor k (machine.Creates k.state new.now (machine.given_by new.now (project_variables k.state new.now.project)) now (machine.may_create (asked_project (project_with k.state new.now.token) new.now.project) new.now) (p.answer, p.changes)) p) }
 {
     let project = store.project_with(&new.token)?;
     match file_for(&project, new) {
         Ok(text) => create_by(alloc, store, text, new, now),
         Err(refusal) => {
             let plan = unmade(alloc, refusal)?;
-            Ok(Planned::alone(alloc, plan))
+            Ok(Planned::unchanged(alloc, plan))
         }
     }
 }
@@ -74,7 +74,7 @@ fn create_by<T: Turns>(
     now: Moment,
 ) -> Result<Planned<Reply>, StoreFault>
     ensures { LoadsBy T.honest T.holds T.leaves store.old store.new result
-        (λ k p. IsKept k → PlansFor k (machine.Creates k.state new.now (machine.given_by new.now (project_variables k.state new.now.project)) now (Ok text.now) (p.answer, p.changes)) p.changes p.beside) }
+        (λ k p. IsKept k → PlansFor k (machine.Creates k.state new.now (machine.given_by new.now (project_variables k.state new.now.project)) now (Ok text.now) (p.answer, p.changes)) p) }
 {
     laid_out_creates();
     created_is_made();
@@ -93,10 +93,10 @@ fn create_by<T: Turns>(
         now,
     ) {
         Ok(Some(creation)) => made(alloc, store, creation, job),
-        Ok(None) => Ok(Planned::alone(alloc, refused(alloc, Code::M15))),
+        Ok(None) => Ok(Planned::refused(alloc, Code::M15)),
         Err(FileFault::Fault(detail)) => {
             let plan = faulted(alloc, &detail)?;
-            Ok(Planned::alone(alloc, plan))
+            Ok(Planned::unchanged(alloc, plan))
         }
         Err(FileFault::Memory) => Err(StoreFault::Memory),
     }
@@ -112,7 +112,7 @@ fn made<T: Turns>(
     requires pipeline { creation.pipeline.id ≤ MAX_NUMBER }
     requires jobs { first + length creation.jobs.items ≤ MAX_NUMBER + 1 }
     ensures { LoadsBy T.honest T.holds T.leaves store.old store.new result
-        (λ k p. IsKept k → IsMadeBeside creation p.beside × ((p.answer, p.changes) ≡ machine.pipeline_created first (creation_view creation) (claims_in k.state k.board creation.pipeline.id) (rows_beside p.beside))) }
+        (λ k p. IsKept k → (p.cleared.items ≡ []) × IsMadeBeside creation p.beside × ((p.answer, p.changes) ≡ machine.pipeline_created first (creation_view creation) (claims_in k.state k.board creation.pipeline.id) (rows_beside p.beside))) }
 {
     let claims = claims_on(
         alloc,
@@ -123,7 +123,7 @@ fn made<T: Turns>(
     )?;
     let beside = beside_creation(alloc, &creation)?;
     let plan = creation.into_plan(alloc, first, claims.as_slice(), beside.rows.as_slice())?;
-    Planned::with(plan, Ok(beside))
+    Planned::with(alloc, plan, Ok(beside))
 }
 
 /// What changes beside the records of a new pipeline: the rows of its jobs, and that it isn't finished, if it isn't. Errors: the

@@ -1,9 +1,20 @@
 //! What is planned of an event before anything changes.
 
 ghost use Rattle.std.specs.Prelude.{◌≡◌, [], option_to_list, Ok, IfOk, IfErr, Err};
+ghost use Rattle.std.specs.List.{AllByRecursion};
+ghost use Rattle.ci_machine.specs.Kept.{Kept, cleared};
+ghost use Rattle.ci_machine.specs.State.{State};
+ghost use Rattle.ci_machine_statuses.specs.Changes.{LeavesStatuses};
+ghost use Rattle.ci_machine_steps.specs.Plans as machine;
+ghost use Rattle.ci_server_lookups.specs.Keeps.{IsKept};
+ghost use Rattle.ci_server_events.specs.Planning.{Settles};
 
 use ci_machine::change::{Changes, IndexChange};
 use ci_machine::records::BoardRow;
+use ci_machine::reply::{Code, Reply};
+use ci_machine_plans::replies;
+use ci_machine_statuses::holder_laws::indexes_stay;
+use ci_machine_statuses::laws::rows_stay;
 use ci_store::fault::StoreFault;
 use std::alloc::{AllocError, Global};
 
@@ -15,6 +26,8 @@ pub struct Planned<A> {
     pub changes: Changes,
     /// What changes beside them.
     pub beside: Beside,
+    /// The jobs whose rows of statuses go, before all else is written.
+    pub cleared: Vec<u64>,
 }
 
 /// What changes beside the records.
@@ -53,59 +66,51 @@ pub(crate) fn listed(
     Ok(changes)
 }
 
-/// What an event does, where rows of statuses go first, with the jobs that they are of.
-pub struct Clearing<A> {
-    pub planned: Planned<A>,
-    /// The jobs whose rows go, before all else is written.
-    pub cleared: Vec<u64>,
-}
-
-impl<A: Drop> Clearing<A> {
-    /// A plan by which no row goes.
-    pub fn nothing(alloc: Global, planned: Planned<A>) -> Clearing<A>
-        ensures planned { result.planned ≡ planned }
-        ensures cleared { result.cleared.items ≡ [] }
-    {
-        Clearing {
-            planned,
-            cleared: Vec::new(alloc),
-        }
-    }
-
-    /// A plan by which no row goes, and beside whose records nothing changes.
-    pub(crate) fn alone(alloc: Global, plan: (A, Changes)) -> Clearing<A>
-        ensures answer { result.planned.answer ≡ plan.0 }
-        ensures changes { result.planned.changes ≡ plan.1 }
-        ensures rows { result.planned.beside.rows.items ≡ [] }
-        ensures indexes { result.planned.beside.indexes.items ≡ [] }
-        ensures cleared { result.cleared.items ≡ [] }
-    {
-        Clearing::nothing(alloc, Planned::alone(alloc, plan))
-    }
-}
-
 impl<A: Drop> Planned<A> {
-    /// A plan beside whose records nothing changes.
-    pub(crate) fn alone(alloc: Global, plan: (A, Changes)) -> Planned<A>
+    /// A plan that changes records alone, once the rows of these jobs are gone.
+    pub(crate) fn clearing(alloc: Global, plan: (A, Changes), cleared: Vec<u64>) -> Planned<A>
         ensures answer { result.answer ≡ plan.0 }
         ensures changes { result.changes ≡ plan.1 }
         ensures rows { result.beside.rows.items ≡ [] }
         ensures indexes { result.beside.indexes.items ≡ [] }
+        ensures cleared { result.cleared.items ≡ cleared.items }
     {
         let (answer, changes) = plan;
         Planned {
             answer,
             changes,
             beside: Beside::nothing(alloc),
+            cleared,
         }
+    }
+
+    /// A plan that changes records alone, of which no status depends in any state: so all that stands beside them stays right.
+    pub(crate) fn of_records(alloc: Global, plan: (A, Changes)) -> Planned<A>
+        requires { (s : State) → AllByRecursion (LeavesStatuses s) plan.1 }
+        ensures plan { (result.answer, result.changes) ≡ plan }
+        ensures settled { (k : Kept) → IsKept k → Settles (cleared result.cleared.items k) result.changes result.beside }
+    {
+        rows_stay();
+        indexes_stay();
+        Planned::clearing(alloc, plan, Vec::new(alloc))
+    }
+
+    /// A plan that changes nothing.
+    pub(crate) fn unchanged(alloc: Global, plan: (A, Changes)) -> Planned<A>
+        requires { plan.1 ≡ [] }
+        ensures plan { (result.answer, result.changes) ≡ plan }
+        ensures settled { (k : Kept) → IsKept k → Settles (cleared result.cleared.items k) result.changes result.beside }
+    {
+        Planned::of_records(alloc, plan)
     }
 
     /// The plan with what changes beside its records. Errors: that wasn't found, for this fault, and the plan is given up.
     pub(crate) fn with(
+        alloc: Global,
         plan: (A, Changes),
         beside: Result<Beside, StoreFault>,
     ) -> Result<Planned<A>, StoreFault>
-        ensures planned { IfOk result (λ p. (p.answer ≡ plan.0) × (p.changes ≡ plan.1) × (beside ≡ Ok p.beside)) }
+        ensures planned { IfOk result (λ p. ((p.answer, p.changes) ≡ plan) × (p.cleared.items ≡ []) × (beside ≡ Ok p.beside)) }
         ensures fault { IfErr result (λ fault. beside ≡ Err fault) }
     {
         let (answer, changes) = plan;
@@ -114,8 +119,19 @@ impl<A: Drop> Planned<A> {
                 answer,
                 changes,
                 beside,
+                cleared: Vec::new(alloc),
             }),
             Err(fault) => Err(fault),
         }
+    }
+}
+
+impl Planned<Reply> {
+    /// A refusal.
+    pub(crate) fn refused(alloc: Global, code: Code) -> Planned<Reply>
+        ensures plan { (result.answer, result.changes) ≡ machine.refused code }
+        ensures settled { (k : Kept) → IsKept k → Settles (cleared result.cleared.items k) result.changes result.beside }
+    {
+        Planned::unchanged(alloc, replies::refused(alloc, code))
     }
 }

@@ -5,8 +5,11 @@ ghost use Rattle.std.specs.Result.{result_map_both};
 ghost use Rattle.ci_machine_steps.specs.Plans.{asked_project};
 ghost use Rattle.ci_machine_steps.specs.Projects as machine;
 ghost use Rattle.ci_store.specs.Store.{LoadsBy};
+ghost use Rattle.ci_server_lookups.specs.Keeps.{IsKept};
+ghost use Rattle.ci_server_events.specs.Planning.{PlansFor};
 
-use ci_machine::change::{Changes, Counter};
+use crate::planned::Planned;
+use ci_machine::change::Counter;
 use ci_machine::records::Project;
 use ci_machine::reply::{Code, Reply};
 use ci_machine::request::Seed;
@@ -22,11 +25,13 @@ pub(crate) fn add_project<T: Store>(
     store: &mut T,
     name: Text,
     seed: Seed,
-) -> Result<(Reply, Changes), StoreFault>
-    ensures { LoadsBy T.honest T.holds T.leaves store.old store.new result (λ k plan. plan ≡ machine.add_project k.state.next.project name seed) }
+) -> Result<Planned<Reply>, StoreFault>
+    ensures { LoadsBy T.honest T.holds T.leaves store.old store.new result
+        (λ k p. IsKept k → PlansFor k ((p.answer, p.changes) ≡ machine.add_project k.state.next.project name seed) p) }
 {
     let next = store.next(Counter::Project)?;
-    Ok(projects::add_project(alloc, next, name, seed)?)
+    let plan = projects::add_project(alloc, next, name, seed)?;
+    Ok(Planned::of_records(alloc, plan))
 }
 
 /// The project with the token that came, where it is the one that is named. Refusals: those of the machine's `asked_project`.

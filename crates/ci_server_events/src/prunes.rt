@@ -2,7 +2,6 @@
 
 ghost use Rattle.std.specs.Prelude.{◌≡◌, false, map, Contains, Some, IfOk};
 ghost use Rattle.ci_machine.specs.Indexes.{is_open_in};
-ghost use Rattle.ci_machine.specs.Kept.{cleared};
 ghost use Rattle.ci_machine.specs.Statuses.{jobs_of};
 ghost use Rattle.ci_machine_steps.specs.Prunes as machine;
 ghost use Rattle.ci_machine_steps.specs.Step.{jobs_in};
@@ -10,7 +9,7 @@ ghost use Rattle.ci_store.specs.Store.{LoadsBy};
 ghost use Rattle.ci_server_lookups.specs.Keeps.{IsKept, HoldsKept};
 ghost use Rattle.ci_server_events.specs.Planning.{PlansFor};
 
-use crate::planned::{Clearing, Planned};
+use crate::planned::Planned;
 use ci_machine::moment::Moment;
 use ci_machine::records::{Job, Pipeline};
 use ci_machine::reply::Reply;
@@ -29,17 +28,14 @@ pub(crate) fn prune_one<T: Searches>(
     alloc: Global,
     store: &mut T,
     before: Moment,
-) -> Result<Clearing<Reply>, StoreFault>
+) -> Result<Planned<Reply>, StoreFault>
     ensures { LoadsBy T.honest (HoldsKept T.holds) T.leaves store.old store.new result
         (λ k p. IsKept k → let found = machine.prunable_in k.state k.board before in
-        PlansFor (cleared p.cleared.items k) ((p.planned.answer, p.planned.changes) ≡ machine.prune found (jobs_in k.state found) k.state.attempts) p.planned.changes p.planned.beside) }
+        PlansFor k ((p.answer, p.changes) ≡ machine.prune found (jobs_in k.state found) k.state.attempts) p) }
 {
     match first_prunable(alloc, store, before)? {
         Some(pipeline) => prune(alloc, store, &pipeline),
-        None => Ok(Clearing::nothing(
-            alloc,
-            Planned::alone(alloc, prunes::nothing_to_prune(alloc)),
-        )),
+        None => Ok(Planned::unchanged(alloc, prunes::nothing_to_prune(alloc))),
     }
 }
 
@@ -48,10 +44,10 @@ fn prune<T: Store>(
     alloc: Global,
     store: &mut T,
     pipeline: &Pipeline,
-) -> Result<Clearing<Reply>, StoreFault>
+) -> Result<Planned<Reply>, StoreFault>
     ensures { LoadsBy T.honest T.holds T.leaves store.old store.new result
         (λ k p. IsKept k → Contains k.state.pipelines pipeline.now → is_open_in k.state k.board pipeline.now ≡ false
-        → PlansFor (cleared p.cleared.items k) ((p.planned.answer, p.planned.changes) ≡ machine.prune (Some pipeline.now) (jobs_of k.state pipeline.now.id) k.state.attempts) p.planned.changes p.planned.beside) }
+        → PlansFor k ((p.answer, p.changes) ≡ machine.prune (Some pipeline.now) (jobs_of k.state pipeline.now.id) k.state.attempts) p) }
 {
     prune_settles();
     prune_is_indexed();
@@ -63,10 +59,7 @@ fn prune<T: Store>(
     let attempts = store.attempts_within(first, last)?;
     let cleared = numbers(alloc, jobs.as_slice())?;
     let plan = prunes::prune(alloc, pipeline, jobs.as_slice(), attempts.as_slice())?;
-    Ok(Clearing {
-        planned: Planned::alone(alloc, plan),
-        cleared,
-    })
+    Ok(Planned::clearing(alloc, plan, cleared))
 }
 
 fn numbers(alloc: Global, jobs: &[Job]) -> Result<Vec<u64>, AllocError>

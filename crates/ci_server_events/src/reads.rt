@@ -8,17 +8,18 @@ ghost use Rattle.ci_machine_steps.specs.Reads as machine;
 ghost use Rattle.ci_machine_steps.specs.Shows.{job_within};
 ghost use Rattle.ci_store.specs.Store.{LoadsBy};
 ghost use Rattle.ci_server_lookups.specs.Keeps.{IsKept};
+ghost use Rattle.ci_server_events.specs.Planning.{PlansFor};
 
+use crate::planned::Planned;
 use crate::projects::asked;
 use crate::reads_groups::groups;
 use crate::reads_jobs::jobs;
 use crate::reads_pipelines::pipelines;
 use crate::shows::pipeline_of;
-use ci_machine::change::Changes;
 use ci_machine::records::{Attempt, Job, Pipeline, Project};
 use ci_machine::reply::{Body, Code, Reply};
 use ci_machine::request::{ReadQuery, Subject};
-use ci_machine_plans::{listings, replies};
+use ci_machine_plans::listings;
 use ci_server_lookups::turns::Turns;
 use ci_store::fault::StoreFault;
 use ci_store::store::Store;
@@ -29,14 +30,14 @@ pub(crate) fn read<T: Turns>(
     alloc: Global,
     store: &mut T,
     query: &ReadQuery,
-) -> Result<(Reply, Changes), StoreFault>
+) -> Result<Planned<Reply>, StoreFault>
     ensures { LoadsBy T.honest T.holds T.leaves store.old store.new result
-        (λ k plan. IsKept k → plan ≡ machine.read k.state k.board (asked_project (project_with k.state query.now.token) query.now.project) query.now.subject) }
+        (λ k p. IsKept k → PlansFor k ((p.answer, p.changes) ≡ machine.read k.state k.board (asked_project (project_with k.state query.now.token) query.now.project) query.now.subject) p) }
 {
     let project = store.project_with(&query.token)?;
     match asked(&project, query.project) {
         Ok(found) => read_of(alloc, store, found, query.subject),
-        Err(code) => Ok(replies::refused(alloc, code)),
+        Err(code) => Ok(Planned::refused(alloc, code)),
     }
 }
 
@@ -46,12 +47,12 @@ fn read_of<T: Turns>(
     store: &mut T,
     project: &Project,
     what: Subject,
-) -> Result<(Reply, Changes), StoreFault>
+) -> Result<Planned<Reply>, StoreFault>
     ensures { LoadsBy T.honest T.holds T.leaves store.old store.new result
-        (λ k plan. IsKept k → plan ≡ machine.read k.state k.board (Ok project.now) what) }
+        (λ k p. IsKept k → PlansFor k ((p.answer, p.changes) ≡ machine.read k.state k.board (Ok project.now) what) p) }
 {
     let body = read_subject(alloc, store, project, what)?;
-    Ok(listings::told(alloc, body))
+    Ok(Planned::unchanged(alloc, listings::told(alloc, body)))
 }
 
 /// What is read of this project, or why nothing is.

@@ -27,17 +27,17 @@ pub(crate) fn update_job<T: Searches>(
     now: Moment,
 ) -> Result<Planned<Reply>, StoreFault>
     ensures { LoadsBy T.honest T.holds T.leaves store.old store.new result
-        (λ k p. IsKept k → PlansFor k ((p.answer, p.changes) ≡ machine.update_job (lease_at k.state update.now.attempt) update.now now) p.changes p.beside) }
+        (λ k p. IsKept k → PlansFor k ((p.answer, p.changes) ≡ machine.update_job (lease_at k.state update.now.attempt) update.now now) p) }
 {
     match leased_at(store, update.attempt)? {
         None => {
             let plan = reports::update_job(alloc, None, update, now)?;
-            Ok(Planned::alone(alloc, plan))
+            Ok(Planned::unchanged(alloc, plan))
         }
         Some(leased) => {
             let plan = reports::update_job(alloc, Some(&leased.lease), update, now)?;
             let beside = beside_changes(alloc, store, leased.pipeline, &plan.1);
-            Planned::with(plan, beside)
+            Planned::with(alloc, plan, beside)
         }
     }
 }

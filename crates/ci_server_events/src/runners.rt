@@ -4,8 +4,11 @@ ghost use Rattle.std.specs.Prelude.{◌≡◌};
 ghost use Rattle.ci_machine_steps.specs.Runners as machine;
 ghost use Rattle.ci_machine_steps.specs.Step.{project_named, runner_at};
 ghost use Rattle.ci_store.specs.Store.{LoadsBy};
+ghost use Rattle.ci_server_lookups.specs.Keeps.{IsKept};
+ghost use Rattle.ci_server_events.specs.Planning.{PlansFor};
 
-use ci_machine::change::{Changes, Counter};
+use crate::planned::Planned;
+use ci_machine::change::Counter;
 use ci_machine::records::Project;
 use ci_machine::reply::Reply;
 use ci_machine::request::{NewRunner, RunnerPause, Seed};
@@ -20,12 +23,14 @@ pub(crate) fn add_runner<T: Store>(
     store: &mut T,
     new: NewRunner,
     seed: Seed,
-) -> Result<(Reply, Changes), StoreFault>
-    ensures { LoadsBy T.honest T.holds T.leaves store.old store.new result (λ k plan. plan ≡ machine.add_runner k.state.next.runner (project_named k.state new.project) new seed) }
+) -> Result<Planned<Reply>, StoreFault>
+    ensures { LoadsBy T.honest T.holds T.leaves store.old store.new result
+        (λ k p. IsKept k → PlansFor k ((p.answer, p.changes) ≡ machine.add_runner k.state.next.runner (project_named k.state new.project) new seed) p) }
 {
     let project = named(store, new.project)?;
     let next = store.next(Counter::Runner)?;
-    Ok(runners::add_runner(alloc, next, project.as_ref(), new, seed)?)
+    let plan = runners::add_runner(alloc, next, project.as_ref(), new, seed)?;
+    Ok(Planned::of_records(alloc, plan))
 }
 
 /// The project that a runner is to be of, if it is to be of one and that is there.
@@ -43,9 +48,11 @@ pub(crate) fn pause_runner<T: Store>(
     alloc: Global,
     store: &mut T,
     pause: RunnerPause,
-) -> Result<(Reply, Changes), StoreFault>
-    ensures { LoadsBy T.honest T.holds T.leaves store.old store.new result (λ k plan. plan ≡ machine.pause_runner (runner_at k.state pause.runner) pause.paused) }
+) -> Result<Planned<Reply>, StoreFault>
+    ensures { LoadsBy T.honest T.holds T.leaves store.old store.new result
+        (λ k p. IsKept k → PlansFor k ((p.answer, p.changes) ≡ machine.pause_runner (runner_at k.state pause.runner) pause.paused) p) }
 {
     let runner = store.runner(pause.runner)?;
-    Ok(runners::pause_runner(alloc, runner, pause.paused)?)
+    let plan = runners::pause_runner(alloc, runner, pause.paused)?;
+    Ok(Planned::of_records(alloc, plan))
 }

@@ -18,15 +18,16 @@ ghost use Rattle.ci_machine_statuses.specs.Lookups.{AreRecords};
 ghost use Rattle.ci_store_tables.specs.declared.fault.StoreFault.TheVariants.{Memory};
 ghost use Rattle.ci_store.specs.Store.{LoadsBy};
 ghost use Rattle.ci_server_lookups.specs.Keeps.{IsKept};
+ghost use Rattle.ci_server_events.specs.Planning.{PlansFor};
 
+use crate::planned::Planned;
 use crate::projects;
 use ci_board::facts::{Facts, Row};
-use ci_machine::change::Changes;
 use ci_machine::records::{Attempt, BoardRow, Claim, Job, Pipeline, Project};
 use ci_machine::reply::{Code, Reply};
 use ci_machine::request::{JobQuery, PipelineQuery};
 use ci_machine::text::Bytes;
-use ci_machine_plans::{replies, shows};
+use ci_machine_plans::shows;
 use ci_machine_statuses::load::{facts_and_rows, range_of};
 use ci_machine_statuses::pending::status_of;
 use ci_server_lookups::claims::claims_on;
@@ -90,10 +91,10 @@ pub(crate) fn show_job<T: Turns>(
     alloc: Global,
     store: &mut T,
     query: &JobQuery,
-) -> Result<(Reply, Changes), StoreFault>
+) -> Result<Planned<Reply>, StoreFault>
     ensures { LoadsBy T.honest T.holds T.leaves store.old store.new result
-        (λ k plan. let job = step.job_at k.state query.now.job in
-        IsKept k → plan ≡ machine.show_job (step.project_with k.state query.now.token) job (step.pipeline_of k.state job) (claims_in k.state k.board (step.pipeline_or_none job)) (status_for k.board query.now.job) query.now) }
+        (λ k p. IsKept k → let job = step.job_at k.state query.now.job in
+        PlansFor k ((p.answer, p.changes) ≡ machine.show_job (step.project_with k.state query.now.token) job (step.pipeline_of k.state job) (claims_in k.state k.board (step.pipeline_or_none job)) (status_for k.board query.now.job) query.now) p) }
 {
     let named = load_named(store, query)?;
     match asked(&named, query) {
@@ -102,9 +103,10 @@ pub(crate) fn show_job<T: Turns>(
             let jobs = slice::from_ref(job);
             let claims = claims_on(alloc, store, query.project, job.pipeline, jobs)?;
             let status = status_of(row);
-            Ok(shows::job_shown(alloc, claims.as_slice(), query.project, job, status)?)
+            let plan = shows::job_shown(alloc, claims.as_slice(), query.project, job, status)?;
+            Ok(Planned::unchanged(alloc, plan))
         }
-        Err(code) => Ok(replies::refused(alloc, code)),
+        Err(code) => Ok(Planned::refused(alloc, code)),
     }
 }
 
@@ -113,18 +115,18 @@ pub(crate) fn show_trace<T: Store>(
     alloc: Global,
     store: &mut T,
     query: &JobQuery,
-) -> Result<(Reply, Changes), StoreFault>
+) -> Result<Planned<Reply>, StoreFault>
     ensures { LoadsBy T.honest T.holds T.leaves store.old store.new result
-        (λ k plan. let job = step.job_at k.state query.now.job in
-        plan ≡ machine.show_trace (step.project_with k.state query.now.token) job (step.pipeline_of k.state job) (step.trace_if_any k.state (step.last_attempt k.state query.now.job)) query.now) }
+        (λ k p. IsKept k → let job = step.job_at k.state query.now.job in
+        PlansFor k ((p.answer, p.changes) ≡ machine.show_trace (step.project_with k.state query.now.token) job (step.pipeline_of k.state job) (step.trace_if_any k.state (step.last_attempt k.state query.now.job)) query.now) p) }
 {
     let named = load_named(store, query)?;
     match asked(&named, query) {
         Ok(_) => {
             let trace = last_trace(alloc, store, query.job)?;
-            Ok(shows::trace_shown(alloc, trace))
+            Ok(Planned::unchanged(alloc, shows::trace_shown(alloc, trace)))
         }
-        Err(code) => Ok(replies::refused(alloc, code)),
+        Err(code) => Ok(Planned::refused(alloc, code)),
     }
 }
 
@@ -159,16 +161,16 @@ pub(crate) fn show_pipeline<T: Turns>(
     alloc: Global,
     store: &mut T,
     query: &PipelineQuery,
-) -> Result<(Reply, Changes), StoreFault>
+) -> Result<Planned<Reply>, StoreFault>
     ensures { LoadsBy T.honest T.holds T.leaves store.old store.new result
-        (λ k plan. IsKept k → let n = query.now.pipeline in
-        plan ≡ machine.show_pipeline (machine.asked_pipeline (asked_project (step.project_with k.state query.now.token) query.now.project) (step.pipeline_at k.state n)) (claims_in k.state k.board n) (jobs_of k.state n) (facts_of k.state n) (rows_of k.state k.board n)) }
+        (λ k p. IsKept k → let n = query.now.pipeline in
+        PlansFor k ((p.answer, p.changes) ≡ machine.show_pipeline (machine.asked_pipeline (asked_project (step.project_with k.state query.now.token) query.now.project) (step.pipeline_at k.state n)) (claims_in k.state k.board n) (jobs_of k.state n) (facts_of k.state n) (rows_of k.state k.board n)) p) }
 {
     let project = store.project_with(&query.token)?;
     let pipeline = store.pipeline(query.pipeline)?;
     match asked_pipeline(&project, &pipeline, query.project) {
         Ok(found) => pipeline_shown(alloc, store, found, query.pipeline),
-        Err(code) => Ok(replies::refused(alloc, code)),
+        Err(code) => Ok(Planned::refused(alloc, code)),
     }
 }
 
@@ -190,9 +192,9 @@ fn pipeline_shown<T: Turns>(
     store: &mut T,
     pipeline: &Pipeline,
     number: u64,
-) -> Result<(Reply, Changes), StoreFault>
+) -> Result<Planned<Reply>, StoreFault>
     ensures { LoadsBy T.honest T.holds T.leaves store.old store.new result
-        (λ k plan. IsKept k → plan ≡ machine.pipeline_shown pipeline.now (claims_in k.state k.board number) (jobs_of k.state number) (facts_of k.state number) (rows_of k.state k.board number)) }
+        (λ k p. IsKept k → PlansFor k ((p.answer, p.changes) ≡ machine.pipeline_shown pipeline.now (claims_in k.state k.board number) (jobs_of k.state number) (facts_of k.state number) (rows_of k.state k.board number)) p) }
 {
     let jobs = store.jobs_of(number)?;
     let Some((first, last)) = range_of(jobs.as_slice()) else {
@@ -219,9 +221,9 @@ fn jobs_shown(
     jobs: &[Job],
     attempts: &[Attempt],
     rows: &[BoardRow],
-) -> Result<(Reply, Changes), StoreFault>
-    ensures shown { IfOk result (λ plan. (k : Kept) (number : ℕ) (needs : List Need) → IsKept k → AreRecords k.state k.board number jobs.now needs attempts.now rows.now
-        → plan ≡ machine.pipeline_shown pipeline.now claims.now jobs.now (facts_of k.state number) (rows_of k.state k.board number)) }
+) -> Result<Planned<Reply>, StoreFault>
+    ensures shown { IfOk result (λ p. (k : Kept) (number : ℕ) (needs : List Need) → IsKept k → AreRecords k.state k.board number jobs.now needs attempts.now rows.now
+        → PlansFor k ((p.answer, p.changes) ≡ machine.pipeline_shown pipeline.now claims.now jobs.now (facts_of k.state number) (rows_of k.state k.board number)) p) }
     ensures fault { IfErr result (λ fault. (k : Kept) (number : ℕ) (needs : List Need) → IsKept k → AreRecords k.state k.board number jobs.now needs attempts.now rows.now → fault ≡ Memory) }
 {
     let found = loaded(alloc, jobs, attempts, rows)?;
@@ -233,7 +235,7 @@ fn jobs_shown(
         found.0.as_slice(),
         found.1.as_slice(),
     )?;
-    Ok(plan)
+    Ok(Planned::unchanged(alloc, plan))
 }
 
 /// The facts and the rows of a pipeline's jobs. Errors: memory was refused, or the records don't fit together.

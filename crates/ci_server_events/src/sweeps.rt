@@ -27,7 +27,7 @@ pub fn plan_sweep<T: Searches>(
     now: Moment,
 ) -> Result<Planned<Swept>, StoreFault>
     ensures { LoadsBy T.honest (HoldsKept T.holds) T.leaves store.old store.new result
-        (λ k p. IsKept k → PlansFor k ((p.answer, p.changes) ≡ step.sweep_in k.state k.board now) p.changes p.beside) }
+        (λ k p. IsKept k → PlansFor k ((p.answer, p.changes) ≡ step.sweep_in k.state k.board now) p) }
 {
     match store.first_due(alloc, now)? {
         Some(lease) => end(alloc, store, &lease),
@@ -42,24 +42,24 @@ fn end<T: Searches>(
     lease: &Lease,
 ) -> Result<Planned<Swept>, StoreFault>
     ensures { LoadsBy T.honest T.holds T.leaves store.old store.new result
-        (λ k p. IsKept k → HasLive k.state lease.now.attempt → PlansFor k ((p.answer, p.changes) ≡ ends lease.now) p.changes p.beside) }
+        (λ k p. IsKept k → HasLive k.state lease.now.attempt → PlansFor k ((p.answer, p.changes) ≡ ends lease.now) p) }
 {
     let Some(job) = store.job(lease.attempt.job)? else {
         return Err(StoreFault::Broken);
     };
     let plan = sweeps::end(alloc, lease, cause(lease))?;
     let beside = beside_changes(alloc, store, job.pipeline, &plan.1);
-    Planned::with(plan, beside)
+    Planned::with(alloc, plan, beside)
 }
 
 /// No lease is over: the redundant pipeline of least number is cancelled, if there is one.
 fn sweep_pipelines<T: Searches>(alloc: Global, store: &mut T) -> Result<Planned<Swept>, StoreFault>
     ensures { LoadsBy T.honest (HoldsKept T.holds) T.leaves store.old store.new result
         (λ k p. IsKept k → let redundant = step.redundant_in k.state k.board in
-        PlansFor k ((p.answer, p.changes) ≡ sweep None redundant k.state.attempts (step.cancellable_in k.state k.board redundant)) p.changes p.beside) }
+        PlansFor k ((p.answer, p.changes) ≡ sweep None redundant k.state.attempts (step.cancellable_in k.state k.board redundant)) p) }
 {
     match store.first_redundant(alloc)? {
         Some(pipeline) => cancel_redundant(alloc, store, &pipeline),
-        None => Ok(Planned::alone(alloc, sweeps::nothing(alloc))),
+        None => Ok(Planned::unchanged(alloc, sweeps::nothing(alloc))),
     }
 }

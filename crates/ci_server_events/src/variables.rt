@@ -5,13 +5,14 @@ ghost use Rattle.ci_machine_steps.specs.Plans.{asked_project};
 ghost use Rattle.ci_machine_steps.specs.Step.{project_with, project_variables, variable_at};
 ghost use Rattle.ci_machine_steps.specs.Variables as machine;
 ghost use Rattle.ci_store.specs.Store.{LoadsBy};
+ghost use Rattle.ci_server_lookups.specs.Keeps.{IsKept};
+ghost use Rattle.ci_server_events.specs.Planning.{PlansFor};
 
+use crate::planned::Planned;
 use crate::projects::asked;
-use ci_machine::change::Changes;
 use ci_machine::records::Project;
 use ci_machine::reply::Reply;
 use ci_machine::request::{NewVariable, VariableQuery};
-use ci_machine_plans::replies::refused;
 use ci_machine_plans::variables;
 use ci_store::fault::StoreFault;
 use ci_store::store::Store;
@@ -22,14 +23,14 @@ pub(crate) fn set_variable<T: Store>(
     alloc: Global,
     store: &mut T,
     new: NewVariable,
-) -> Result<(Reply, Changes), StoreFault>
+) -> Result<Planned<Reply>, StoreFault>
     ensures { LoadsBy T.honest T.holds T.leaves store.old store.new result
-        (λ k plan. plan ≡ machine.set_variable (asked_project (project_with k.state new.token) new.project) (project_variables k.state new.project) new) }
+        (λ k p. IsKept k → PlansFor k ((p.answer, p.changes) ≡ machine.set_variable (asked_project (project_with k.state new.token) new.project) (project_variables k.state new.project) new) p) }
 {
     let project = store.project_with(&new.token)?;
     match asked(&project, new.project) {
         Ok(found) => set_in(alloc, store, found, new),
-        Err(code) => Ok(refused(alloc, code)),
+        Err(code) => Ok(Planned::refused(alloc, code)),
     }
 }
 
@@ -39,12 +40,13 @@ fn set_in<T: Store>(
     store: &mut T,
     project: &Project,
     new: NewVariable,
-) -> Result<(Reply, Changes), StoreFault>
+) -> Result<Planned<Reply>, StoreFault>
     ensures { LoadsBy T.honest T.holds T.leaves store.old store.new result
-        (λ k plan. plan ≡ machine.set_variable (Ok project.now) (project_variables k.state new.project) new) }
+        (λ k p. IsKept k → PlansFor k ((p.answer, p.changes) ≡ machine.set_variable (Ok project.now) (project_variables k.state new.project) new) p) }
 {
     let all = store.variables_of(new.project)?;
-    Ok(variables::set_variable(alloc, Ok(project), all.as_slice(), new)?)
+    let plan = variables::set_variable(alloc, Ok(project), all.as_slice(), new)?;
+    Ok(Planned::of_records(alloc, plan))
 }
 
 /// A variable of a project is to go. It is looked up only where the token is the project's.
@@ -52,14 +54,14 @@ pub(crate) fn delete_variable<T: Store>(
     alloc: Global,
     store: &mut T,
     query: &VariableQuery,
-) -> Result<(Reply, Changes), StoreFault>
+) -> Result<Planned<Reply>, StoreFault>
     ensures { LoadsBy T.honest T.holds T.leaves store.old store.new result
-        (λ k plan. plan ≡ machine.delete_variable (asked_project (project_with k.state query.now.token) query.now.project) (variable_at k.state query.now.project query.now.key)) }
+        (λ k p. IsKept k → PlansFor k ((p.answer, p.changes) ≡ machine.delete_variable (asked_project (project_with k.state query.now.token) query.now.project) (variable_at k.state query.now.project query.now.key)) p) }
 {
     let project = store.project_with(&query.token)?;
     match asked(&project, query.project) {
         Ok(found) => delete_from(alloc, store, found, query),
-        Err(code) => Ok(refused(alloc, code)),
+        Err(code) => Ok(Planned::refused(alloc, code)),
     }
 }
 
@@ -69,10 +71,11 @@ fn delete_from<T: Store>(
     store: &mut T,
     project: &Project,
     query: &VariableQuery,
-) -> Result<(Reply, Changes), StoreFault>
+) -> Result<Planned<Reply>, StoreFault>
     ensures { LoadsBy T.honest T.holds T.leaves store.old store.new result
-        (λ k plan. plan ≡ machine.delete_variable (Ok project.now) (variable_at k.state query.now.project query.now.key)) }
+        (λ k p. IsKept k → PlansFor k ((p.answer, p.changes) ≡ machine.delete_variable (Ok project.now) (variable_at k.state query.now.project query.now.key)) p) }
 {
     let found = store.variable(query.project, &query.key)?;
-    Ok(variables::delete_variable(alloc, Ok(project), found.as_ref())?)
+    let plan = variables::delete_variable(alloc, Ok(project), found.as_ref())?;
+    Ok(Planned::of_records(alloc, plan))
 }

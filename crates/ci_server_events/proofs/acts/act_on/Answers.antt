@@ -4,7 +4,6 @@ use Rattle.std.specs.Result.{result_map_both}
 use Rattle.std.proofs.Common.{subst, sym, ap, ◌∙◌}
 use Rattle.ci_machine.specs.declared.records.Job.{Job}
 use Rattle.ci_machine.specs.declared.reply.Code.{Code}
-use Rattle.ci_machine_steps.specs.Plans.{Plan}
 use Rattle.ci_machine_steps.specs.Shows.{asked_job}
 use Rattle.ci_machine_steps.specs.Step.{found_job}
 use Rattle.ci_server_events.specs.declared.shows.Named.{Named}
@@ -12,7 +11,6 @@ use Rattle.ci_server_events.specs.Acting.{ActsAs}
 use Rattle.ci_server_events.specs.Planning.{PlansFor}
 use Rattle.ci_server_lookups.proofs.Loading.{goes_on, gives}
 use Rattle.ci_server_events.proofs.Acting.{found_has}
-use Rattle.ci_server_events.proofs.Leaving.{nothing_changes}
 use Rattle.ci_server_events.proofs.acts.act_on.Goals as goal
 
 -- the job that was looked up is the one that the query names
@@ -24,18 +22,18 @@ returns-in-Ok g c =
     (λ k y is named planned kept.
     let found : found_job k.state query ≡ Ok job =
     sym (ap (λ (n : Named). asked_job n.project n.job n.pipeline query) named) ∙ (sym c.asked.ensures ∙ ap (result_map_both (λ (j : Bor Job). j.now) (λ (e : Code). e)) c.in-Ok.is) in
-    subst (λ (w : Result Job Code). PlansFor k (ActsAs c.args.act k.state k.board w (y.answer, y.changes)) y.changes y.beside) (sym found) (planned kept (found_has k.state query job found)))
+    subst (λ (w : Result Job Code). PlansFor k (ActsAs c.args.act k.state k.board w (y.answer, y.changes)) y) (sym found) (planned kept (found_has k.state query job found)))
 
 -- the query names none
 pub returns : goal.returns
 returns g c =
     let query = c.args.query.now in
-    let made = c.alone in
+    let made = c.refused in
     gives g.T.Store.honest g.T.Store.holds g.T.Store.leaves _ _ _ c.load_named.result c.in_ok-named.named made.result c.in_ok-named.was c.load_named.ensures
     (λ k named kept.
     let found : found_job k.state query ≡ Err c.in-Err.code =
     sym (ap (λ (n : Named). asked_job n.project n.job n.pipeline query) named) ∙ (sym c.asked.ensures ∙ ap (result_map_both (λ (j : Bor Job). j.now) (λ (e : Code). e)) c.in-Err.is) in
-    nothing_changes k kept (λ (p : Plan). ActsAs c.args.act k.state k.board (found_job k.state query) p)
-    c.refused.result made.result.answer made.result.changes made.result.beside made.ensures.answer made.ensures.changes made.ensures.rows made.ensures.indexes
-    (subst (λ (w : Result Job Code). ActsAs c.args.act k.state k.board w c.refused.result) (sym found) c.refused.ensures)
-    (ap (λ (p : Plan). p.1) c.refused.ensures))
+    record {
+      made = subst (λ (w : Result Job Code). ActsAs c.args.act k.state k.board w (made.result.answer, made.result.changes)) (sym found) made.ensures.plan;
+      settled = made.ensures.settled k kept;
+    })

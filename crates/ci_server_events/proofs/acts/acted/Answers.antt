@@ -1,16 +1,15 @@
-use Rattle.std.specs.Prelude.{◌≡◌, Ok, [], ◌∷◌, slice_index_or}
+use Rattle.std.specs.Prelude.{◌≡◌, [], ◌∷◌, slice_index_or}
 use Rattle.std.proofs.Common.{ap, ◌∙◌}
 use Rattle.ci_board.specs.declared.facts.Row.{Row}
 use Rattle.ci_board.specs.Rows.{row_at}
-use Rattle.ci_machine_steps.specs.Plans.{Plan, refused}
+use Rattle.ci_machine_steps.specs.Plans.{refused}
 use Rattle.ci_machine_steps.specs.Shows.{job_shown}
 use Rattle.ci_machine_statuses.specs.Acts.{act_changes}
 use Rattle.ci_server_events.specs.declared.planned.Beside.{Beside}
-use Rattle.ci_server_events.specs.Acting.{refusal_of, ActsAs, changes_by}
+use Rattle.ci_server_events.specs.Acting.{changes_by}
 use Rattle.ci_server_lookups.proofs.Loading.{on_ok}
 use Rattle.ci_server_events.proofs.Acting.{changes_are, job_planned, job_refused, not_empty, is_empty, ok_same, status_at}
 use Rattle.ci_server_events.proofs.Found.{at_ok}
-use Rattle.ci_server_events.proofs.Leaving.{nothing_changes}
 use Rattle.ci_server_events.proofs.acts.acted.Goals as goal
 
 -- its status doesn't permit it
@@ -18,13 +17,12 @@ pub returns-then-is_empty : goal.returns-then-is_empty
 returns-then-is_empty c = λ k kept has whole.
     let job = c.args.job.now in
     let d = c.in_ok-done.done in
-    let made = c.alone in
-    let told : c.refused.result ≡ refused (refusal_of c.args.act) = c.refused.ensures ∙ ap refused c.refusal_of.ensures in
-    nothing_changes k kept (λ (p : Plan). ActsAs c.args.act k.state k.board (Ok job) p)
-    c.refused.result made.result.answer made.result.changes made.result.beside made.ensures.answer made.ensures.changes made.ensures.rows made.ensures.indexes
-    (job_refused k kept c.args.act job has c.args.whole.now whole d.outcome d.indexes.items d.claims.items (c.in_ok-done.ensures.done k job.pipeline kept whole) c.acted_jobs_are_asked.ensures.one
-    (is_empty _ _ c.is_empty.result c.is_empty.ensures c.if-is_empty.true d.outcome.places.ok.0) c.refused.result told)
-    (ap (λ (p : Plan). p.1) told)
+    let made = c.refused in
+    record {
+      made = job_refused k kept c.args.act job has c.args.whole.now whole d.outcome d.indexes.items d.claims.items (c.in_ok-done.ensures.done k job.pipeline kept whole) c.acted_jobs_are_asked.ensures.one
+          (is_empty _ _ c.is_empty.result c.is_empty.ensures c.if-is_empty.true d.outcome.places.ok.0) (made.result.answer, made.result.changes) (made.ensures.plan ∙ ap refused c.refusal_of.ensures);
+      settled = made.ensures.settled k kept;
+    }
 
 -- it is done to the job
 pub returns : goal.returns
@@ -44,6 +42,6 @@ returns c =
     changes_are c.acts_settle.ensures.play c.acts_are_of_records.ensures.retry c.acts_are_of_records.ensures.cancel c.args.act k job w.records whole.records has in
     job_planned k kept c.args.act job has w whole o d.indexes.items d.claims.items (c.in_ok-done.ensures.done k job.pipeline kept whole) c.acted_jobs_are_asked.ensures.one c.outcomes_are_shown.ensures.job some plan
     (c.in_ok-plan.ensures ∙ (λ i. ((job_shown (c.as_slice.ensures.value i) w.pipeline.project job (after i)).0, changes i)))
-    y.answer y.changes y.beside planned.0 planned.1
+    y planned.0 planned.1
     (ap (λ (b : Beside). b.rows.items) beside ∙ ap (λ v. v.items) c.into_beside.ensures.rows)
     (ap (λ (b : Beside). b.indexes.items) beside ∙ ap (λ v. v.items) c.into_beside.ensures.indexes))

@@ -17,5 +17,5 @@ returns g c =
     (λ k y is whole kept has.
     let both : Some w.pipeline ≡ Some p = sym (whole kept).there ∙ pipeline_there k.state p kept.sound has in
     let same : w.pipeline ≡ p = cc in
-    subst (λ (q : Pipeline). PlansFor k (CancelsSome k.state q (cancellable_jobs k.state k.board q.id) (y.answer, y.changes)) y.changes y.beside) same
+    subst (λ (q : Pipeline). PlansFor k (CancelsSome k.state q (cancellable_jobs k.state k.board q.id) (y.answer, y.changes)) y) same
     (at_ok _ _ _ is c.cancelled.ensures k kept (subst (λ (q : Pipeline). IsWhole k q.id w) (sym same) (whole kept))))

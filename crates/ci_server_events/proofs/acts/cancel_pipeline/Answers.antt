@@ -6,13 +6,12 @@ use Rattle.ci_machine.specs.declared.records.Pipeline.{Pipeline}
 use Rattle.ci_machine.specs.declared.records.Project.{Project}
 use Rattle.ci_machine.specs.declared.reply.Code.{Code}
 use Rattle.ci_machine_steps.specs.Cancels.{CancelsPipeline}
-use Rattle.ci_machine_steps.specs.Plans.{Plan, asked_project}
+use Rattle.ci_machine_steps.specs.Plans.{asked_project}
 use Rattle.ci_machine_steps.specs.Shows.{asked_pipeline}
 use Rattle.ci_machine_steps.specs.Step.{pipeline_at, found_pipeline}
 use Rattle.ci_server_events.specs.Planning.{PlansFor}
 use Rattle.ci_server_lookups.proofs.Loading.{goes_on, so}
 use Rattle.ci_server_events.proofs.Acting.{pipeline_has}
-use Rattle.ci_server_events.proofs.Leaving.{nothing_changes}
 use Rattle.ci_server_events.proofs.acts.cancel_pipeline.Goals as goal
 
 -- the pipeline is one of the project's
@@ -31,14 +30,14 @@ returns-in-Ok g c =
     ap (λ (o : Option Project). asked_pipeline (asked_project o query.project) (pipeline_at k.state query.pipeline)) (sym project)
     ∙ (ap (λ (o : Option Pipeline). asked_pipeline (asked_project c.in_ok-project.project query.project) o) (sym more.0)
     ∙ (sym c.asked_pipeline.ensures ∙ ap (result_map_both (λ (p : Bor Pipeline). p.now) (λ (e : Code). e)) c.in-Ok.is)) in
-    subst (λ (w : Result Pipeline Code). PlansFor k (CancelsPipeline k.state k.board w (y.answer, y.changes)) y.changes y.beside) (sym found)
+    subst (λ (w : Result Pipeline Code). PlansFor k (CancelsPipeline k.state k.board w (y.answer, y.changes)) y) (sym found)
     (more.1 kept (pipeline_has k.state query c.in-Ok.found.now found)))
 
 -- the query names none
 pub returns : goal.returns
 returns g c =
     let query = c.args.query.now in
-    let made = c.alone in
+    let made = c.refused in
     so g.T.Store.honest g.T.Store.holds g.T.Store.leaves _ _ _ _ c.project_with.result c.in_ok-project.project c.pipeline.result c.in_ok-pipeline.pipeline made.result c.in_ok-project.was c.in_ok-pipeline.was
     c.project_with.ensures c.pipeline.ensures
     (λ k project pipeline kept.
@@ -46,7 +45,7 @@ returns g c =
     ap (λ (o : Option Project). asked_pipeline (asked_project o query.project) (pipeline_at k.state query.pipeline)) (sym project)
     ∙ (ap (λ (o : Option Pipeline). asked_pipeline (asked_project c.in_ok-project.project query.project) o) (sym pipeline)
     ∙ (sym c.asked_pipeline.ensures ∙ ap (result_map_both (λ (p : Bor Pipeline). p.now) (λ (e : Code). e)) c.in-Err.is)) in
-    nothing_changes k kept (λ (p : Plan). CancelsPipeline k.state k.board (found_pipeline k.state query) p)
-    c.refused.result made.result.answer made.result.changes made.result.beside made.ensures.answer made.ensures.changes made.ensures.rows made.ensures.indexes
-    (subst (λ (w : Result Pipeline Code). CancelsPipeline k.state k.board w c.refused.result) (sym found) c.refused.ensures)
-    (ap (λ (p : Plan). p.1) c.refused.ensures))
+    record {
+      made = subst (λ (w : Result Pipeline Code). CancelsPipeline k.state k.board w (made.result.answer, made.result.changes)) (sym found) made.ensures.plan;
+      settled = made.ensures.settled k kept;
+    })

@@ -18,6 +18,6 @@ returns g c =
     let beside = ok_same (λ (b : Beside). b) c.into_beside.result y.beside planned.2 in
     redundant_planned k kept p.id w (whole kept) d.outcome d.indexes.items d.claims.items (c.in_ok-done.ensures.done k p.id kept (whole kept)) d.chosen.items c.in_ok-done.ensures.chosen c.acted_jobs_are_asked.ensures.all
     c.acts_settle.ensures.cancel c.acts_are_of_records.ensures.cancel p c.in_ok-plan.plan (c.in_ok-plan.ensures ∙ (λ i. sweep None (Some p) (c.as_slice.ensures.value i) (c.as_slice-2.ensures.value i)))
-    y.answer y.changes y.beside planned.0 planned.1
+    y planned.0 planned.1
     (ap (λ (b : Beside). b.rows.items) beside ∙ ap (λ v. v.items) c.into_beside.ensures.rows)
     (ap (λ (b : Beside). b.indexes.items) beside ∙ ap (λ v. v.items) c.into_beside.ensures.indexes))

@@ -1,13 +1,11 @@
 use Rattle.std.specs.Prelude.{length}
 use Rattle.std.proofs.Common.{refl, sym, ap, ◌∙◌}
-use Rattle.ci_machine_steps.specs.Cancels.{cancel, cancellable_jobs, CancelsSome}
-use Rattle.ci_machine_steps.specs.Plans.{Plan}
+use Rattle.ci_machine_steps.specs.Cancels.{cancel}
 use Rattle.ci_machine_steps.specs.Shows.{pipeline_shown}
 use Rattle.ci_server_events.specs.declared.planned.Beside.{Beside}
 use Rattle.ci_server_lookups.proofs.Loading.{on_ok}
 use Rattle.ci_server_events.proofs.Acting.{pipeline_planned, pipeline_refused, not_empty, is_empty, ok_same}
 use Rattle.ci_server_events.proofs.Found.{at_ok}
-use Rattle.ci_server_events.proofs.Leaving.{nothing_changes}
 use Rattle.ci_server_events.proofs.acts.cancelled.Goals as goal
 
 -- none can be cancelled
@@ -16,12 +14,12 @@ returns-then-is_empty c = λ k kept whole.
     let w = c.args.whole.now in
     let p = w.pipeline in
     let d = c.in_ok-done.done in
-    let made = c.alone in
-    nothing_changes k kept (λ (q : Plan). CancelsSome k.state p (cancellable_jobs k.state k.board p.id) q)
-    c.refused.result made.result.answer made.result.changes made.result.beside made.ensures.answer made.ensures.changes made.ensures.rows made.ensures.indexes
-    (pipeline_refused k kept p.id w whole d.outcome d.indexes.items d.claims.items (c.in_ok-done.ensures.done k p.id kept whole) d.chosen.items c.in_ok-done.ensures.chosen c.acted_jobs_are_asked.ensures.all
-    (is_empty _ _ c.is_empty.result c.is_empty.ensures c.if-is_empty.true d.chosen.ok.0) c.refused.result c.refused.ensures)
-    (ap (λ (q : Plan). q.1) c.refused.ensures)
+    let made = c.refused in
+    record {
+      made = pipeline_refused k kept p.id w whole d.outcome d.indexes.items d.claims.items (c.in_ok-done.ensures.done k p.id kept whole) d.chosen.items c.in_ok-done.ensures.chosen c.acted_jobs_are_asked.ensures.all
+          (is_empty _ _ c.is_empty.result c.is_empty.ensures c.if-is_empty.true d.chosen.ok.0) (made.result.answer, made.result.changes) made.ensures.plan;
+      settled = made.ensures.settled k kept;
+    }
 
 -- there are as many facts and rows as jobs
 pub cancel_jobs-requires-clause-facts : goal.cancel_jobs-requires-clause-facts
@@ -44,6 +42,6 @@ returns c =
     c.outcomes_are_shown.ensures.pipeline c.acts_settle.ensures.cancel c.acts_are_of_records.ensures.cancel refl (not_empty _ _ c.is_empty.result c.is_empty.ensures c.if-is_empty.false d.chosen.ok.0) plan
     (c.in_ok-plan.ensures
     ∙ (λ i. ((pipeline_shown p (c.as_slice-3.ensures.value i) (c.as_slice-4.ensures.value i) (c.as_slice-5.ensures.value i) (c.as_slice-6.ensures.value i)).0, cancel (c.as_slice.ensures.value i) (c.as_slice-2.ensures.value i))))
-    y.answer y.changes y.beside planned.0 planned.1
+    y planned.0 planned.1
     (ap (λ (b : Beside). b.rows.items) beside ∙ ap (λ v. v.items) c.into_beside.ensures.rows)
     (ap (λ (b : Beside). b.indexes.items) beside ∙ ap (λ v. v.items) c.into_beside.ensures.indexes))

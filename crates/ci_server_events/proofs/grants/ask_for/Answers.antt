@@ -2,27 +2,25 @@ use Rattle.std.specs.Prelude.{◌≡◌, Some, None, Option}
 use Rattle.std.proofs.Common.{subst, sym, ap, ◌∙◌}
 use Rattle.ci_machine.specs.declared.records.QueuedJob.{QueuedJob}
 use Rattle.ci_machine_steps.specs.Grants.{ask_job}
-use Rattle.ci_machine_steps.specs.Plans.{Plan}
 use Rattle.ci_machine_steps.specs.Step.{offer, offered_variables}
 use Rattle.ci_server_lookups.specs.declared.search.Offer.{Offer}
 use Rattle.ci_server_lookups.specs.Search.{IsOffered}
 use Rattle.ci_server_lookups.proofs.Loading.{gives, goes_on}
 use Rattle.ci_server_events.specs.Planning.{PlansFor}
-use Rattle.ci_server_events.proofs.Leaving.{nothing_changes}
 use Rattle.ci_server_events.proofs.grants.ask_for.Goals as goal
 
 -- no pending job is one that the runner may be given
 pub returns-in-None : goal.returns-in-None
 returns-in-None g c =
     let runner = c.args.runner.now in
-    let made = c.alone in
+    let made = c.unchanged in
     gives g.T.Store.honest g.T.Store.holds g.T.Store.leaves _ _ _ c.first_offer.result c.in_ok-first_offer.field-0 made.result c.in_ok-first_offer.was c.first_offer.ensures
     (λ k found kept.
     let none : offer k.state k.board (Some runner) ≡ None = subst (λ (o : Option Offer). IsOffered k runner o) c.in-None.is (found kept) in
-    nothing_changes k kept (λ (p : Plan). p ≡ ask_job (Some runner) (offer k.state k.board (Some runner)) (offered_variables k.state (offer k.state k.board (Some runner))) k.state.next.attempt c.args.now c.args.seed)
-    c.nothing_to_run.result made.result.answer made.result.changes made.result.beside made.ensures.answer made.ensures.changes made.ensures.rows made.ensures.indexes
-    (c.nothing_to_run.ensures ∙ sym (ap (λ (o : Option QueuedJob). ask_job (Some runner) o (offered_variables k.state o) k.state.next.attempt c.args.now c.args.seed) none))
-    (ap (λ (p : Plan). p.1) c.nothing_to_run.ensures))
+    record {
+      made = made.ensures.plan ∙ (c.nothing_to_run.ensures ∙ sym (ap (λ (o : Option QueuedJob). ask_job (Some runner) o (offered_variables k.state o) k.state.next.attempt c.args.now c.args.seed) none));
+      settled = made.ensures.settled k kept;
+    })
 
 -- it is offered the job that was found
 pub returns-in-Some : goal.returns-in-Some
@@ -31,5 +29,5 @@ returns-in-Some g c =
     goes_on g.T.Store.honest g.T.Store.holds g.T.Store.leaves _ _ _ _ c.first_offer.result c.in_ok-first_offer.field-0 c.grant.result c.in_ok-first_offer.was c.first_offer.ensures c.grant.ensures
     (λ k y is found planned kept.
     let offered : IsOffered k runner (Some c.in-Some.offer) = subst (λ (o : Option Offer). IsOffered k runner o) c.in-Some.is (found kept) in
-    subst (λ (o : Option QueuedJob). PlansFor k ((y.answer, y.changes) ≡ ask_job (Some runner) o (offered_variables k.state o) k.state.next.attempt c.args.now c.args.seed) y.changes y.beside) (sym offered.0)
+    subst (λ (o : Option QueuedJob). PlansFor k ((y.answer, y.changes) ≡ ask_job (Some runner) o (offered_variables k.state o) k.state.next.attempt c.args.now c.args.seed) y) (sym offered.0)
     (planned kept offered))

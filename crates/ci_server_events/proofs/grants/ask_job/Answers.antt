@@ -2,26 +2,21 @@ use Rattle.std.specs.Prelude.{◌≡◌, Some, None, Option}
 use Rattle.std.proofs.Common.{subst, sym, ap, ◌∙◌}
 use Rattle.ci_machine.specs.declared.records.Runner.{Runner}
 use Rattle.ci_machine_steps.specs.Grants as machine
-use Rattle.ci_machine_steps.specs.Plans.{Plan}
 use Rattle.ci_machine_steps.specs.Step.{offer, offered_variables, runner_with}
 use Rattle.ci_server_lookups.proofs.Loading.{gives, goes_on}
 use Rattle.ci_server_events.specs.Planning.{PlansFor}
-use Rattle.ci_server_events.proofs.Leaving.{nothing_changes}
 use Rattle.ci_server_events.proofs.grants.ask_job.Goals as goal
 
 -- no runner has the token
 pub returns-in-None : goal.returns-in-None
 returns-in-None g c =
     let token = c.args.token in
-    let made = c.alone in
+    let made = c.unchanged in
     gives g.T.Store.honest g.T.Store.holds g.T.Store.leaves _ _ _ c.runner_with.result c.in_ok-runner_with.field-0 made.result c.in_ok-runner_with.was c.runner_with.ensures
     (λ k found kept.
     let asks = λ (o : Option Runner). machine.ask_job o (offer k.state k.board o) (offered_variables k.state (offer k.state k.board o)) k.state.next.attempt c.args.now c.args.seed in
     let none : runner_with k.state token ≡ None = sym found ∙ c.in-None.is in
-    nothing_changes k kept (λ (p : Plan). p ≡ asks (runner_with k.state token))
-    c.unknown_runner.result made.result.answer made.result.changes made.result.beside made.ensures.answer made.ensures.changes made.ensures.rows made.ensures.indexes
-    (c.unknown_runner.ensures ∙ sym (ap asks none))
-    (ap (λ (p : Plan). p.1) c.unknown_runner.ensures))
+    record { made = made.ensures.plan ∙ (c.unknown_runner.ensures ∙ sym (ap asks none)); settled = made.ensures.settled k kept })
 
 -- the runner with the token asks
 pub returns : goal.returns
@@ -31,4 +26,4 @@ returns g c =
     (λ k y is found planned kept.
     let asks = λ (o : Option Runner). machine.ask_job o (offer k.state k.board o) (offered_variables k.state (offer k.state k.board o)) k.state.next.attempt c.args.now c.args.seed in
     let some : runner_with k.state token ≡ Some c.in-Some.runner = sym found ∙ c.in-Some.is in
-    subst (λ (o : Option Runner). PlansFor k ((y.answer, y.changes) ≡ asks o) y.changes y.beside) (sym some) (planned kept))
+    subst (λ (o : Option Runner). PlansFor k ((y.answer, y.changes) ≡ asks o) y) (sym some) (planned kept))

@@ -4,7 +4,6 @@ use Rattle.ci_machine.specs.declared.records.Variable.{Variable}
 use Rattle.ci_machine.specs.declared.request.NewPipeline.{NewPipeline}
 use Rattle.ci_machine.specs.Waiting.{claims_in}
 use Rattle.ci_machine_steps.specs.Pipelines.{given_by, pipeline_created, Creates}
-use Rattle.ci_machine_steps.specs.Plans.{Plan, faulted}
 use Rattle.ci_machine_steps.specs.Step.{project_variables}
 use Rattle.ci_machine_pipelines.specs.declared.creation.Creation.{Creation}
 use Rattle.ci_machine_pipelines.specs.declared.files.FileFault.{FileFault}
@@ -15,7 +14,6 @@ use Rattle.ci_server_lookups.proofs.Loading.{ends, goes_on}
 use Rattle.ci_server_events.proofs.Creating.{creation_planned}
 use Rattle.ci_server_events.specs.Planning.{PlansFor}
 use Rattle.ci_server_events.proofs.Found.{ok_is}
-use Rattle.ci_server_events.proofs.Leaving.{nothing_changes}
 use Rattle.ci_server_events.proofs.pipelines.create_by.Goals as goal
 
 -- what a text lays out by what was looked up it lays out by what the state has
@@ -46,8 +44,8 @@ returns-in-Ok-Some g c =
     let out = out_with c.args.text.now c.as_str.result.now new (project_variables k.state new.project) c.as_slice.result.now c.args.now c.in_ok-pipeline.pipeline c.in_ok-job.job k.state.next.pipeline k.state.next.job
     c.lay_out.result (Ok (Some it)) c.as_str.ensures (c.as_slice.ensures.value ∙ variables) more.0 more.1.0 (c.in-Ok-Some.is ∙ ap (λ (o : Option Creation). Ok o) c.in-Ok-Some.field-0-is) c.lay_out.ensures.records in
     let made = more.1.1 kept in
-    creation_planned k kept c.args.text.now new (project_variables k.state new.project) c.args.now c.laid_out_creates.ensures.made c.created_is_made.ensures c.creation_is_indexed.ensures c.creation_is_shown.ensures.rows c.creation_is_shown.ensures.claims it y.beside y.answer y.changes out made.0
-    (made.1 ∙ ap (λ (n : ℕ). pipeline_created n (creation_view it) (claims_in k.state k.board it.pipeline.id) (rows_beside y.beside)) more.1.0))
+    creation_planned k kept c.args.text.now new (project_variables k.state new.project) c.args.now c.laid_out_creates.ensures.made c.created_is_made.ensures c.creation_is_indexed.ensures c.creation_is_shown.ensures.rows c.creation_is_shown.ensures.claims it y out made.0 made.1
+    (made.2 ∙ ap (λ (n : ℕ). pipeline_created n (creation_view it) (claims_in k.state k.board it.pipeline.id) (rows_beside y.beside)) more.1.0))
 
 -- there are no numbers for what the file lays out, and nothing changes
 pub returns-in-Ok-None : goal.returns-in-Ok-None
@@ -55,7 +53,7 @@ returns-in-Ok-None g c =
     let honest = g.T.Store.honest in
     let holds = g.T.Store.holds in
     let leaves = g.T.Store.leaves in
-    let made = c.alone in
+    let made = c.refused in
     let new = c.args.new.now in
     goes_on honest holds leaves _ _ _ _ c.variables_of.result c.in_ok-variables.variables (Ok made.result) c.in_ok-variables.was c.variables_of.ensures
     (goes_on honest holds leaves (λ k y. (c.in_ok-pipeline.pipeline ≡ k.state.next.pipeline) × (c.in_ok-job.job ≡ k.state.next.job)) _ _ _ c.next.result c.in_ok-pipeline.pipeline (Ok made.result) c.in_ok-pipeline.was c.next.ensures
@@ -65,11 +63,8 @@ returns-in-Ok-None g c =
     let vs = project_variables k.state new.project in
     let out = out_with c.args.text.now c.as_str.result.now new vs c.as_slice.result.now c.args.now c.in_ok-pipeline.pipeline c.in_ok-job.job k.state.next.pipeline k.state.next.job c.lay_out.result (Ok None)
     c.as_str.ensures (c.as_slice.ensures.value ∙ variables) more.0 more.1 (c.in-Ok-None.is ∙ ap (λ (o : Option Creation). Ok o) c.in-Ok-None.field-0-is) c.lay_out.ensures.records in
-    subst (λ z. PlansFor k (Creates k.state new (given_by new vs) c.args.now (Ok c.args.text.now) (z.answer, z.changes)) z.changes z.beside) (ok_is made.result y is)
-    (nothing_changes k kept (λ (p : Plan). Creates k.state new (given_by new vs) c.args.now (Ok c.args.text.now) p)
-    c.refused.result made.result.answer made.result.changes made.result.beside made.ensures.answer made.ensures.changes made.ensures.rows made.ensures.indexes
-    (c.laid_out_creates.ensures.lacking k.state c.args.text.now new vs c.args.now c.refused.result out c.refused.ensures)
-    (ap (λ (p : Plan). p.1) c.refused.ensures)))
+    subst (λ z. PlansFor k (Creates k.state new (given_by new vs) c.args.now (Ok c.args.text.now) (z.answer, z.changes)) z) (ok_is made.result y is)
+    (record { made = c.laid_out_creates.ensures.lacking k.state c.args.text.now new vs c.args.now (made.result.answer, made.result.changes) out made.ensures.plan; settled = made.ensures.settled k kept }))
 
 -- the file has a fault, and nothing changes
 pub returns-in-Err-Fault : goal.returns-in-Err-Fault
@@ -77,10 +72,9 @@ returns-in-Err-Fault g c =
     let honest = g.T.Store.honest in
     let holds = g.T.Store.holds in
     let leaves = g.T.Store.leaves in
-    let made = c.alone-in-Err-Fault in
+    let made = c.unchanged in
     let new = c.args.new.now in
     let detail = c.in-Err-Fault.detail in
-    let plan = c.in_ok-plan-in-Err-Fault.plan in
     goes_on honest holds leaves _ _ _ _ c.variables_of.result c.in_ok-variables.variables (Ok made.result) c.in_ok-variables.was c.variables_of.ensures
     (goes_on honest holds leaves (λ k y. (c.in_ok-pipeline.pipeline ≡ k.state.next.pipeline) × (c.in_ok-job.job ≡ k.state.next.job)) _ _ _ c.next.result c.in_ok-pipeline.pipeline (Ok made.result) c.in_ok-pipeline.was c.next.ensures
     (ends honest holds leaves _ _ c.next-2.result c.in_ok-job.job (Ok made.result) c.in_ok-job.was c.next-2.ensures)
@@ -89,9 +83,8 @@ returns-in-Err-Fault g c =
     let vs = project_variables k.state new.project in
     let out = out_with c.args.text.now c.as_str.result.now new vs c.as_slice.result.now c.args.now c.in_ok-pipeline.pipeline c.in_ok-job.job k.state.next.pipeline k.state.next.job c.lay_out.result (Err (Fault detail))
     c.as_str.ensures (c.as_slice.ensures.value ∙ variables) more.0 more.1 (c.in-Err-Fault.is ∙ ap (λ (f : FileFault). Err f) c.in-Err-Fault.field-0-is) c.lay_out.ensures.records in
-    let told : plan ≡ faulted detail = c.in_ok-plan-in-Err-Fault.ensures in
-    subst (λ z. PlansFor k (Creates k.state new (given_by new vs) c.args.now (Ok c.args.text.now) (z.answer, z.changes)) z.changes z.beside) (ok_is made.result y is)
-    (nothing_changes k kept (λ (p : Plan). Creates k.state new (given_by new vs) c.args.now (Ok c.args.text.now) p)
-    plan made.result.answer made.result.changes made.result.beside made.ensures.answer made.ensures.changes made.ensures.rows made.ensures.indexes
-    (c.laid_out_creates.ensures.faulty k.state c.args.text.now new vs c.args.now detail plan out told)
-    (ap (λ (p : Plan). p.1) told)))
+    subst (λ z. PlansFor k (Creates k.state new (given_by new vs) c.args.now (Ok c.args.text.now) (z.answer, z.changes)) z) (ok_is made.result y is)
+    (record {
+      made = c.laid_out_creates.ensures.faulty k.state c.args.text.now new vs c.args.now detail (made.result.answer, made.result.changes) out (made.ensures.plan ∙ c.in_ok-plan-in-Err-Fault.ensures);
+      settled = made.ensures.settled k kept;
+    }))

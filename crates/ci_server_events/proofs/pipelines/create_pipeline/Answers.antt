@@ -1,4 +1,4 @@
-use Rattle.std.specs.Prelude.{◌≡◌, ℕ, List, Ok, Err, IfOk, Option, Result}
+use Rattle.std.specs.Prelude.{◌≡◌, ℕ, List, Ok, Err, Option, Result}
 use Rattle.std.specs.Borrow.{Bor}
 use Rattle.std.specs.Result.{result_map_both}
 use Rattle.std.proofs.Common.{subst, sym, ap, ◌∙◌}
@@ -9,7 +9,8 @@ use Rattle.ci_machine_steps.specs.Step.{project_with, project_variables}
 use Rattle.ci_machine_plans.specs.Refusals.{unmade}
 use Rattle.ci_server_events.specs.Planning.{PlansFor}
 use Rattle.ci_server_lookups.proofs.Loading.{goes_on, gives}
-use Rattle.ci_server_events.proofs.Leaving.{nothing_changes, refusals_change_nothing}
+use Rattle.ci_server_events.proofs.Found.{at_ok}
+use Rattle.ci_server_events.proofs.Leaving.{refusals_change_nothing}
 use Rattle.ci_server_events.proofs.pipelines.create_pipeline.Goals as goal
 
 -- the project that was looked up has the file by which the pipeline is made
@@ -21,22 +22,23 @@ returns-in-Ok g c =
     (λ k y is project planned kept.
     let file : may_create (asked_project (project_with k.state new.token) new.project) new ≡ Ok c.in-Ok.text.now =
     ap (λ (o : Option Project). may_create (asked_project o new.project) new) (sym project) ∙ (sym c.file_for.ensures ∙ ap (result_map_both (λ (t : Bor (List ℕ)). t.now) unmade) c.in-Ok.is) in
-    subst (λ (w : Result (List ℕ) Plan). PlansFor k (Creates k.state new (given_by new (project_variables k.state new.project)) c.args.now w (y.answer, y.changes)) y.changes y.beside)
+    subst (λ (w : Result (List ℕ) Plan). PlansFor k (Creates k.state new (given_by new (project_variables k.state new.project)) c.args.now w (y.answer, y.changes)) y)
     (sym file) (planned kept))
+
+pub unchanged-requires : goal.unchanged-requires
+unchanged-requires g c = ap (λ (p : Plan). p.1) (at_ok _ _ _ c.in_ok-plan-in-Err.was c.unmade.ensures) ∙ refusals_change_nothing c.in-Err.refusal
 
 -- it is refused before its file is read
 pub returns : goal.returns
 returns g c =
     let new = c.args.new.now in
-    let plan = c.in_ok-plan-in-Err.plan in
-    let made = c.alone in
-    let refuses : plan ≡ unmade c.in-Err.refusal = subst (λ z. IfOk z (λ p. p ≡ unmade c.in-Err.refusal)) c.in_ok-plan-in-Err.was c.unmade.ensures in
+    let made = c.unchanged in
+    let refuses = made.ensures.plan ∙ at_ok _ _ _ c.in_ok-plan-in-Err.was c.unmade.ensures in
     gives g.T.Store.honest g.T.Store.holds g.T.Store.leaves _ _ _ c.project_with.result c.in_ok-project.project made.result c.in_ok-project.was c.project_with.ensures
     (λ k project kept.
     let refused : may_create (asked_project (project_with k.state new.token) new.project) new ≡ Err (unmade c.in-Err.refusal) =
     ap (λ (o : Option Project). may_create (asked_project o new.project) new) (sym project) ∙ (sym c.file_for.ensures ∙ ap (result_map_both (λ (t : Bor (List ℕ)). t.now) unmade) c.in-Err.is) in
-    nothing_changes k kept
-    (λ p. Creates k.state new (given_by new (project_variables k.state new.project)) c.args.now (may_create (asked_project (project_with k.state new.token) new.project) new) p)
-    plan made.result.answer made.result.changes made.result.beside made.ensures.answer made.ensures.changes made.ensures.rows made.ensures.indexes
-    (subst (λ (w : Result (List ℕ) Plan). Creates k.state new (given_by new (project_variables k.state new.project)) c.args.now w plan) (sym refused) refuses)
-    (ap (λ (p : Plan). p.1) refuses ∙ refusals_change_nothing c.in-Err.refusal))
+    record {
+      made = subst (λ (w : Result (List ℕ) Plan). Creates k.state new (given_by new (project_variables k.state new.project)) c.args.now w (made.result.answer, made.result.changes)) (sym refused) refuses;
+      settled = made.ensures.settled k kept;
+    })

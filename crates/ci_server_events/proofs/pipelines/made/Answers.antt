@@ -1,4 +1,4 @@
-use Rattle.std.specs.Prelude.{◌≡◌, List, Ok, IfOk, Result, length, map}
+use Rattle.std.specs.Prelude.{◌≡◌, List, length, map}
 use Rattle.std.proofs.Common.{subst, sym, ap, ◌∙◌}
 use Rattle.std.proofs.lemmas.List.{length-map}
 use Rattle.ci_machine.specs.declared.records.BoardRow.{BoardRow}
@@ -7,12 +7,11 @@ use Rattle.ci_machine.specs.declared.records.Job.{Job}
 use Rattle.ci_machine.specs.Waiting.{claims_in}
 use Rattle.ci_machine_steps.specs.Pipelines.{pipeline_created}
 use Rattle.ci_machine_pipelines.specs.Creations.{creation_view}
-use Rattle.ci_store_tables.specs.declared.fault.StoreFault.{StoreFault}
 use Rattle.ci_server_lookups.specs.Held.{FreeAlike}
 use Rattle.ci_server_lookups.proofs.Loading.{ends, says}
 use Rattle.ci_server_events.specs.declared.planned.Beside.{Beside}
 use Rattle.ci_server_events.specs.Creating.{rows_beside, IsMadeBeside}
-use Rattle.ci_server_events.proofs.Found.{pair_is, ok_is}
+use Rattle.ci_server_events.proofs.Found.{at_ok, ok_is}
 use Rattle.ci_server_events.proofs.Showing.{created_alike}
 use Rattle.ci_server_events.proofs.pipelines.made.Goals as goal
 
@@ -36,7 +35,7 @@ returns g c =
     let plan = c.in_ok-plan.plan in
     says honest holds leaves _ _ _ r (ends honest holds leaves _ _ c.claims_on.result claims r c.in_ok-claims.was c.claims_on.ensures)
     (λ k y is alike kept.
-    let w = subst (λ z. IfOk z (λ p. (p.answer ≡ plan.0) × (p.changes ≡ plan.1) × (◌≡◌ {A = Result Beside StoreFault} (Ok beside) (Ok p.beside)))) is c.with.ensures.planned in
+    let w = at_ok _ _ _ is c.with.ensures.planned in
     let its = claims_in k.state k.board it.pipeline.id in
     let same : FreeAlike claims.items its it.pipeline.project it.jobs.items = subst (λ (js : List Job). FreeAlike claims.items its it.pipeline.project js) c.as_slice.ensures.value (alike kept) in
     let shown : plan ≡ pipeline_created c.args.first (creation_view it) its (rows_beside beside) =
@@ -44,5 +43,6 @@ returns g c =
     ∙ (ap (λ (cs : List Claim). pipeline_created c.args.first (creation_view it) cs (map (λ r. r.row) c.as_slice-3.result.now)) c.as_slice-2.ensures.value
     ∙ (ap (λ (rs : List BoardRow). pipeline_created c.args.first (creation_view it) claims.items (map (λ r. r.row) rs)) c.as_slice-3.ensures.value
     ∙ created_alike c.args.first (creation_view it) claims.items its (rows_beside beside) same)) in
-    subst (λ (b : Beside). IsMadeBeside it b × ((y.answer, y.changes) ≡ pipeline_created c.args.first (creation_view it) its (rows_beside b))) (ok_is beside y.beside w.2)
-    (c.in_ok-beside.ensures, pair_is y.answer y.changes plan _ w.0 w.1 shown))
+    let put = subst (λ (b : Beside). IsMadeBeside it b × ((y.answer, y.changes) ≡ pipeline_created c.args.first (creation_view it) its (rows_beside b))) (ok_is beside y.beside w.2)
+    (c.in_ok-beside.ensures, w.0 ∙ shown) in
+    (w.1, put.0, put.1))

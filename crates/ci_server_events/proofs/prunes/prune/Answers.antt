@@ -24,7 +24,6 @@ returns g c =
     let same = c.in_ok-plan.ensures
     ∙ ((λ i. machine.prune (Some p) (c.as_slice-3.ensures.value i) ((c.as_slice-4.ensures.value ∙ tried) i))
     ∙ c.prunes_are_of_records.ensures k.state p jobs first last its all) in
-    let made = c.alone.ensures in
-    prune_plans c.prune_settles.ensures c.prune_is_indexed.ensures k kept p has finished c.alone.result.answer c.alone.result.changes c.alone.result.beside c.in_ok-cleared.cleared.items
-    ((λ i. (made.answer i, made.changes i)) ∙ same) made.rows made.indexes
-    (c.in_ok-cleared.ensures ∙ ap (map (λ (j : Job). j.id)) (c.as_slice-2.ensures.value ∙ its)))
+    let made = c.clearing.ensures in
+    prune_plans c.prune_settles.ensures c.prune_is_indexed.ensures k kept p has finished c.clearing.result ((λ i. (made.answer i, made.changes i)) ∙ same) made.rows made.indexes
+    (made.cleared ∙ (c.in_ok-cleared.ensures ∙ ap (map (λ (j : Job). j.id)) (c.as_slice-2.ensures.value ∙ its))))

@@ -1,6 +1,5 @@
 use Rattle.std.specs.Prelude.{◌≡◌, Option}
 use Rattle.std.proofs.Common.{sym, subst, ◌∙◌}
-use Rattle.ci_machine.specs.Kept.{cleared}
 use Rattle.ci_machine.specs.declared.records.Pipeline.{Pipeline}
 use Rattle.ci_machine_steps.specs.Plans.{Plan}
 use Rattle.ci_machine_steps.specs.Prunes as machine
@@ -20,5 +19,5 @@ returns-in-Some g c =
     (λ k y e found plans kept.
     let is = sym c.in-Some.is ∙ found kept in
     let its = found_is k c.args.before c.in-Some.pipeline (sym is) in
-    subst (λ (o : Option Pipeline). PlansFor (cleared y.cleared.items k) (◌≡◌ {A = Plan} (y.planned.answer, y.planned.changes) (machine.prune o (jobs_in k.state o) k.state.attempts)) y.planned.changes y.planned.beside) is
+    subst (λ (o : Option Pipeline). PlansFor k (◌≡◌ {A = Plan} (y.answer, y.changes) (machine.prune o (jobs_in k.state o) k.state.attempts)) y) is
     (plans kept its.0 its.1))

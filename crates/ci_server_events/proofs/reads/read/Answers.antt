@@ -1,13 +1,14 @@
 use Rattle.std.specs.Prelude.{◌≡◌, Ok, Option, Result}
 use Rattle.std.specs.Borrow.{Bor}
 use Rattle.std.specs.Result.{result_map_both}
-use Rattle.std.proofs.Common.{sym, ap, ◌∙◌}
+use Rattle.std.proofs.Common.{sym, ap, subst, ◌∙◌}
 use Rattle.ci_machine.specs.declared.records.Project.{Project}
 use Rattle.ci_machine.specs.declared.reply.Code.{Code}
 use Rattle.ci_machine.specs.Lookups.{project_with}
 use Rattle.ci_machine_steps.specs.Plans.{asked_project}
 use Rattle.ci_machine_steps.specs.Reads as machine
 use Rattle.ci_server_lookups.proofs.Loading.{goes_on}
+use Rattle.ci_server_events.specs.Planning.{PlansFor}
 use Rattle.ci_server_events.proofs.reads.read.Goals as goal
 
 -- the project that was looked up is the one that is named
@@ -18,4 +19,4 @@ returns-in-Ok g c =
     (λ k y is project told kept.
     let asked : asked_project (project_with k.state query.token) query.project ≡ Ok c.in-Ok.found.now =
     ap (λ (o : Option Project). asked_project o query.project) (sym project) ∙ (sym c.asked.ensures ∙ ap (result_map_both (λ (p : Bor Project). p.now) (λ (e : Code). e)) c.in-Ok.is) in
-    told kept ∙ ap (λ (q : Result Project Code). machine.read k.state k.board q query.subject) (sym asked))
+    subst (λ (q : Result Project Code). PlansFor k ((y.answer, y.changes) ≡ machine.read k.state k.board q query.subject) y) (sym asked) (told kept))

@@ -1,29 +1,27 @@
-use Rattle.std.specs.Prelude.{◌≡◌, Ok, Some, None, IfOk, Option, List, option_map}
+use Rattle.std.specs.Prelude.{◌≡◌, Some, None, IfOk, Option, option_map}
 use Rattle.std.proofs.Common.{subst, sym, ap, ◌∙◌}
 use Rattle.ci_machine.specs.declared.lease.Lease.{Lease}
-use Rattle.ci_machine.specs.declared.change.RowChange.{RowChange}
 use Rattle.ci_machine_steps.specs.Plans.{Plan}
 use Rattle.ci_machine_steps.specs.Reports as machine
 use Rattle.ci_machine_steps.specs.Step.{lease_at}
-use Rattle.ci_server_events.specs.Planning.{Settles, MovesOne}
+use Rattle.ci_server_events.specs.Planning.{MovesOne}
 use Rattle.ci_server_lookups.proofs.Loading.{gives, goes_on, carries, third}
-use Rattle.ci_server_events.proofs.Found.{leased, pair_is}
-use Rattle.ci_server_events.proofs.Leaving.{nothing_changes}
+use Rattle.ci_server_events.proofs.Found.{at_ok, leased}
+use Rattle.ci_server_events.proofs.Leaving.{plans_with}
 use Rattle.ci_server_events.proofs.Settles.{report_moves}
 use Rattle.ci_server_events.proofs.reports.update_job.Goals as goal
 
 -- there is no such attempt
 pub returns-in_ok-plan-in-None : goal.returns-in_ok-plan-in-None
 returns-in_ok-plan-in-None g c =
-    let made = c.alone in
-    let plan = c.in_ok-plan-in-None.plan in
+    let made = c.unchanged in
     gives g.T.Store.honest g.T.Store.holds g.T.Store.leaves _ _ _ c.leased_at.result c.in_ok-leased_at.field-0 made.result c.in_ok-leased_at.was c.leased_at.ensures
     (λ k found kept.
     let none : lease_at k.state c.args.update.now.attempt ≡ None = sym found ∙ ap (option_map (λ x. x.lease)) c.in-None.is in
-    nothing_changes k kept (λ (p : Plan). p ≡ machine.update_job (lease_at k.state c.args.update.now.attempt) c.args.update.now c.args.now)
-    plan made.result.answer made.result.changes made.result.beside made.ensures.answer made.ensures.changes made.ensures.rows made.ensures.indexes
-    (c.in_ok-plan-in-None.ensures ∙ sym (ap (λ (o : Option Lease). machine.update_job o c.args.update.now c.args.now) none))
-    (ap (λ (p : Plan). p.1) c.in_ok-plan-in-None.ensures))
+    record {
+      made = made.ensures.plan ∙ (c.in_ok-plan-in-None.ensures ∙ sym (ap (λ (o : Option Lease). machine.update_job o c.args.update.now c.args.now) none));
+      settled = made.ensures.settled k kept;
+    })
 
 -- what the report does moves the attempt alone, so what was looked up settles it
 pub returns-in_ok-plan-in-Some : goal.returns-in_ok-plan-in-Some
@@ -38,13 +36,10 @@ returns-in_ok-plan-in-Some g c =
     goes_on honest holds leaves _ _ _ _ c.leased_at.result c.in_ok-leased_at.field-0 r c.in_ok-leased_at.was c.leased_at.ensures
     (carries honest holds leaves (λ p. p.beside) _ _ beside r c.beside_changes-beside.ensures (third _ _ _ r c.with.ensures.planned) c.with.ensures.fault)
     (λ k y is found settles kept.
-    let w = subst (λ z. IfOk z (λ p. (p.answer ≡ plan.0) × (p.changes ≡ plan.1) × (beside ≡ Ok p.beside))) is c.with.ensures.planned in
+    let w = at_ok _ _ _ is c.with.ensures.planned in
     let its : lease_at k.state c.args.update.now.attempt ≡ Some lease = sym found ∙ ap (option_map (λ x. x.lease)) c.in-Some.is in
     let made = subst (λ z. IfOk z (λ p. p ≡ machine.update_job (Some lease) c.args.update.now c.args.now)) c.in_ok-plan-in-Some.was c.update_job-in-Some.ensures in
     let same : plan ≡ machine.update_job (lease_at k.state c.args.update.now.attempt) c.args.update.now c.args.now =
     made ∙ ap (λ (o : Option Lease). machine.update_job o c.args.update.now c.args.now) (sym its) in
     let moves : MovesOne k.state plan.1 = subst (λ (p : Plan). MovesOne k.state p.1) (sym made) (report_moves k.state lease c.args.update.now c.args.now (leased k.state c.args.update.now.attempt lease its)) in
-    record {
-      made = pair_is y.answer y.changes plan _ w.0 w.1 same;
-      settled = subst (λ (cs : List RowChange). Settles k cs y.beside) (sym w.1) (settles kept moves);
-    })
+    plans_with k (λ (p : Plan). p ≡ machine.update_job (lease_at k.state c.args.update.now.attempt) c.args.update.now c.args.now) plan y w.0 w.1 same (settles kept moves))

@@ -33,8 +33,11 @@ returns-clause-shown c = λ k number needs kept are.
     → AreRecords s board n c.args.jobs.now ws c.args.attempts.now c.args.rows.now → r.1.items ≡ rows_of s board n)) c.in_ok-found.was c.loaded.ensures.rows in
     let facts : c.as_slice.result.now ≡ facts_of k.state number = c.as_slice.ensures.value ∙ its_facts k.state k.board number needs kept.sound kept.are_board are in
     let rows : c.as_slice-2.result.now ≡ rows_of k.state k.board number = c.as_slice-2.ensures.value ∙ its_rows k.state k.board number needs kept.sound kept.are_board are in
-    plan ∙ (ap (λ (fs : List Facts). machine.pipeline_shown c.args.pipeline.now c.args.claims.now c.args.jobs.now fs c.as_slice-2.result.now) facts
-    ∙ ap (λ (rs : List Row). machine.pipeline_shown c.args.pipeline.now c.args.claims.now c.args.jobs.now (facts_of k.state number) rs) rows)
+    record {
+      made = c.unchanged.ensures.plan ∙ (plan ∙ (ap (λ (fs : List Facts). machine.pipeline_shown c.args.pipeline.now c.args.claims.now c.args.jobs.now fs c.as_slice-2.result.now) facts
+          ∙ ap (λ (rs : List Row). machine.pipeline_shown c.args.pipeline.now c.args.claims.now c.args.jobs.now (facts_of k.state number) rs) rows));
+      settled = c.unchanged.ensures.settled k kept;
+    }
 
 -- where nothing was found, what was looked up is none of a kept state, or memory was refused
 pub returns-in_err-found-clause-fault : goal.returns-in_err-found-clause-fault

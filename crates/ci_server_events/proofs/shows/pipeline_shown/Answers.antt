@@ -14,6 +14,7 @@ use Rattle.ci_machine_statuses.specs.Lookups.{AreRecords}
 use Rattle.ci_server_lookups.specs.Held.{FreeAlike}
 use Rattle.ci_server_lookups.specs.Keeps.{IsKept}
 use Rattle.ci_server_lookups.proofs.Loading.{ends, goes_on}
+use Rattle.ci_server_events.proofs.Found.{at_ok}
 use Rattle.ci_server_events.proofs.Showing.{pipeline_alike}
 use Rattle.ci_server_events.proofs.shows.pipeline_shown.Goals as goal
 
@@ -34,14 +35,12 @@ returns g c =
     (λ k y is rows alike. (rows, alike)))
     (λ k y is attempts more. (attempts, more)))
     (λ k y is jobs more kept.
-    let shown = subst (λ z. IfOk z (λ plan. (l : Kept) (number : ℕ) (needs : List Need) → IsKept l → AreRecords l.state l.board number c.as_slice-4.result.now needs c.as_slice-5.result.now c.as_slice-6.result.now
-    → plan ≡ machine.pipeline_shown p c.as_slice-3.result.now c.as_slice-4.result.now (facts_of l.state number) (rows_of l.state l.board number))) is c.jobs_shown.ensures.shown in
+    let shown = at_ok _ _ _ is c.jobs_shown.ensures.shown in
     let inside = subst (λ z. IfSome z (λ q. (s : State) (pipeline : ℕ) → IsSound s → c.as_slice.result.now ≡ jobs_of s pipeline → All (λ j. is_within q.0 q.1 j.id ≡ true) c.as_slice.result.now)) c.in-Some.is c.range_of.ensures.within in
     let same : c.as_slice-4.result.now ≡ jobs_of k.state n = c.as_slice-4.ensures.value ∙ jobs in
     let its = claims_in k.state k.board n in
     let alike : FreeAlike claims.items its p.project (jobs_of k.state n) = subst (λ (js : List Job). FreeAlike claims.items its p.project js) (c.as_slice-2.ensures.value ∙ jobs) (more.1.1 kept) in
-    shown k n (needs_within c.in-Some.first c.in-Some.last k.state.needs) kept
-    (record {
+    let plans = shown k n (needs_within c.in-Some.first c.in-Some.last k.state.needs) kept (record {
       first = c.in-Some.first;
       last = c.in-Some.last;
       inside = subst (All (λ (j : Job). is_within c.in-Some.first c.in-Some.last j.id ≡ true)) (c.as_slice.ensures.value ∙ sym c.as_slice-4.ensures.value) (inside k.state n kept.sound (c.as_slice.ensures.value ∙ jobs));
@@ -49,7 +48,10 @@ returns g c =
       are_needs = refl;
       are_attempts = c.as_slice-5.ensures.value ∙ more.0;
       are_rows = c.as_slice-6.ensures.value ∙ more.1.0;
+    }) in
+    record {
+      made = plans.made ∙ (ap (λ (js : List Job). machine.pipeline_shown p c.as_slice-3.result.now js (facts_of k.state n) (rows_of k.state k.board n)) same
+          ∙ (ap (λ (cs : List Claim). machine.pipeline_shown p cs (jobs_of k.state n) (facts_of k.state n) (rows_of k.state k.board n)) c.as_slice-3.ensures.value
+          ∙ pipeline_alike claims.items its p (jobs_of k.state n) alike (facts_of k.state n) (rows_of k.state k.board n)));
+      settled = plans.settled;
     })
-    ∙ (ap (λ (js : List Job). machine.pipeline_shown p c.as_slice-3.result.now js (facts_of k.state n) (rows_of k.state k.board n)) same
-    ∙ (ap (λ (cs : List Claim). machine.pipeline_shown p cs (jobs_of k.state n) (facts_of k.state n) (rows_of k.state k.board n)) c.as_slice-3.ensures.value
-    ∙ pipeline_alike claims.items its p (jobs_of k.state n) alike (facts_of k.state n) (rows_of k.state k.board n))))

@@ -14,7 +14,10 @@ use Rattle.ci_machine.specs.Waiting.{claims_in}
 use Rattle.ci_machine_steps.specs.Step.{job_at, pipeline_or_none, found_job}
 use Rattle.ci_server_lookups.specs.Held.{FreeAlike}
 use Rattle.ci_server_lookups.proofs.Loading.{ends, goes_on}
+use Rattle.ci_machine.specs.declared.reply.Reply.{Reply}
+use Rattle.ci_server_events.specs.declared.planned.Planned.{Planned}
 use Rattle.ci_server_events.specs.declared.shows.Named.{Named}
+use Rattle.ci_server_events.specs.Planning.{PlansFor}
 use Rattle.ci_server_events.proofs.Acting.{found_at}
 use Rattle.ci_server_events.proofs.Found.{ok_is}
 use Rattle.ci_server_events.proofs.Showing.{job_alike}
@@ -30,10 +33,10 @@ returns-in-Ok g c =
     let job = c.in-Ok.job.now in
     let row = c.in_ok-row-in-Ok.row in
     let claims = c.in_ok-claims-in-Ok.claims in
-    let plan = c.in_ok-job_shown-in-Ok.field-0 in
-    goes_on honest holds leaves _ _ _ _ c.load_named.result c.in_ok-named.named (Ok plan) c.in_ok-named.was c.load_named.ensures
-    (goes_on honest holds leaves (λ k y. (row ≡ row_at query.job k.board) × _) _ _ _ c.row.result row (Ok plan) c.in_ok-row-in-Ok.was c.row.ensures
-    (ends honest holds leaves _ _ c.claims_on.result claims (Ok plan) c.in_ok-claims-in-Ok.was c.claims_on.ensures)
+    let made = c.unchanged in
+    goes_on honest holds leaves _ _ _ _ c.load_named.result c.in_ok-named.named (Ok made.result) c.in_ok-named.was c.load_named.ensures
+    (goes_on honest holds leaves (λ k y. (row ≡ row_at query.job k.board) × _) _ _ _ c.row.result row (Ok made.result) c.in_ok-row-in-Ok.was c.row.ensures
+    (ends honest holds leaves _ _ c.claims_on.result claims (Ok made.result) c.in_ok-claims-in-Ok.was c.claims_on.ensures)
     (λ k y is at alike. (at, alike)))
     (λ k y is named more kept.
     let found : found_job k.state query ≡ Ok job =
@@ -42,10 +45,13 @@ returns-in-Ok g c =
     let its = claims_in k.state k.board job.pipeline in
     let number : job.pipeline ≡ pipeline_or_none (job_at k.state query.job) = sym (ap pipeline_or_none (found_at k.state query job found)) in
     let same : FreeAlike claims.items its query.project (job ∷ []) = subst (λ (js : List Job). FreeAlike claims.items its query.project js) c.from_ref-jobs.ensures.value (more.1 kept) in
-    sym (ok_is plan y is)
-    ∙ (c.in_ok-job_shown-in-Ok.ensures
-    ∙ (ap (λ (cs : List Claim). job_shown cs query.project job c.status_of-status.result) c.as_slice.ensures.value
-    ∙ (job_alike claims.items its query.project job c.status_of-status.result same
-    ∙ (ap (λ (s : Status). job_shown its query.project job s) status
-    ∙ (ap (λ (r : Result Job Code). shown its query.project r (status_for k.board query.job)) (sym found)
-    ∙ ap (λ (n : ℕ). shown (claims_in k.state k.board n) query.project (found_job k.state query) (status_for k.board query.job)) number))))))
+    subst (λ (z : Planned Reply). PlansFor k ((z.answer, z.changes) ≡ shown (claims_in k.state k.board (pipeline_or_none (job_at k.state query.job))) query.project (found_job k.state query) (status_for k.board query.job)) z) (ok_is made.result y is) (record {
+      made = made.ensures.plan
+          ∙ (c.in_ok-plan-in-Ok.ensures
+          ∙ (ap (λ (cs : List Claim). job_shown cs query.project job c.status_of-status.result) c.as_slice.ensures.value
+          ∙ (job_alike claims.items its query.project job c.status_of-status.result same
+          ∙ (ap (λ (s : Status). job_shown its query.project job s) status
+          ∙ (ap (λ (r : Result Job Code). shown its query.project r (status_for k.board query.job)) (sym found)
+          ∙ ap (λ (n : ℕ). shown (claims_in k.state k.board n) query.project (found_job k.state query) (status_for k.board query.job)) number)))));
+      settled = made.ensures.settled k kept;
+    }))

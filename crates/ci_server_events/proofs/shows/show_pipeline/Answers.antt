@@ -1,7 +1,7 @@
 use Rattle.std.specs.Prelude.{◌≡◌, Ok, Option, Result}
 use Rattle.std.specs.Borrow.{Bor}
 use Rattle.std.specs.Result.{result_map_both}
-use Rattle.std.proofs.Common.{sym, ap, ◌∙◌}
+use Rattle.std.proofs.Common.{sym, ap, subst, ◌∙◌}
 use Rattle.ci_machine.specs.declared.records.Pipeline.{Pipeline}
 use Rattle.ci_machine.specs.declared.records.Project.{Project}
 use Rattle.ci_machine.specs.declared.reply.Code.{Code}
@@ -11,6 +11,7 @@ use Rattle.ci_machine_steps.specs.Shows as machine
 use Rattle.ci_machine.specs.Statuses.{jobs_of, facts_of, rows_of}
 use Rattle.ci_machine_steps.specs.Step.{project_with, pipeline_at}
 use Rattle.ci_server_lookups.proofs.Loading.{goes_on}
+use Rattle.ci_server_events.specs.Planning.{PlansFor}
 use Rattle.ci_server_events.proofs.shows.show_pipeline.Goals as goal
 
 -- the pipeline is one of the project's, and is shown
@@ -29,5 +30,6 @@ returns-in-Ok g c =
     ap (λ (o : Option Project). machine.asked_pipeline (asked_project o query.project) (pipeline_at k.state query.pipeline)) (sym project)
     ∙ (ap (λ (o : Option Pipeline). machine.asked_pipeline (asked_project c.in_ok-project.project query.project) o) (sym more.0)
     ∙ (sym c.asked_pipeline.ensures ∙ ap (result_map_both (λ (p : Bor Pipeline). p.now) (λ (e : Code). e)) c.in-Ok.is)) in
-    more.1 kept
-    ∙ ap (λ (found : Result Pipeline Code). machine.show_pipeline found (claims_in k.state k.board query.pipeline) (jobs_of k.state query.pipeline) (facts_of k.state query.pipeline) (rows_of k.state k.board query.pipeline)) (sym asked))
+    subst
+    (λ (found : Result Pipeline Code). PlansFor k ((y.answer, y.changes) ≡ machine.show_pipeline found (claims_in k.state k.board query.pipeline) (jobs_of k.state query.pipeline) (facts_of k.state query.pipeline) (rows_of k.state k.board query.pipeline)) y)
+    (sym asked) (more.1 kept))

@@ -1,10 +1,12 @@
-use Rattle.std.specs.Prelude.{List}
+use Rattle.std.specs.Prelude.{◌≡◌, List}
 use Rattle.std.proofs.Common.{subst, sym}
 use Rattle.ci_machine.specs.declared.change.RowChange.{RowChange}
 use Rattle.ci_machine.specs.declared.reply.Swept.{Swept}
-use Rattle.ci_server_events.specs.Planning.{Settles, MovesOne}
+use Rattle.ci_machine_steps.specs.Sweeps.{ends}
+use Rattle.ci_server_events.specs.Planning.{MovesOne}
 use Rattle.ci_server_lookups.proofs.Loading.{goes_on, carries, third}
-use Rattle.ci_server_events.proofs.Found.{at_ok, pair_is}
+use Rattle.ci_server_events.proofs.Found.{at_ok}
+use Rattle.ci_server_events.proofs.Leaving.{plans_with}
 use Rattle.ci_server_events.proofs.Settles.{end_of_lease_moves}
 use Rattle.ci_server_events.proofs.sweeps.end.Goals as goal
 
@@ -23,7 +25,4 @@ returns g c =
     let w = at_ok _ _ _ is c.with.ensures.planned in
     let made = at_ok _ _ _ c.in_ok-plan.was c.end.ensures in
     let moves : MovesOne k.state plan.1 = subst (λ (p : Swept × List RowChange). MovesOne k.state p.1) (sym made) (end_of_lease_moves k.state c.args.lease.now live) in
-    record {
-      made = pair_is y.answer y.changes plan _ w.0 w.1 made;
-      settled = subst (λ (cs : List RowChange). Settles k cs y.beside) (sym w.1) (settles kept moves);
-    })
+    plans_with k (λ (p : Swept × List RowChange). p ≡ ends c.args.lease.now) plan y w.0 w.1 made (settles kept moves))

@@ -1,12 +1,10 @@
-use Rattle.std.specs.Prelude.{◌≡◌, [], Option, Some, None}
+use Rattle.std.specs.Prelude.{◌≡◌, Option, Some, None}
 use Rattle.std.proofs.Common.{sym, ap, ◌∙◌}
 use Rattle.ci_machine.specs.declared.records.Pipeline.{Pipeline}
 use Rattle.ci_machine_steps.specs.Step.{redundant_in, cancellable_in}
 use Rattle.ci_machine_steps.specs.Sweeps.{sweep}
 use Rattle.ci_server_lookups.specs.Keeps.{HoldsKept}
 use Rattle.ci_server_lookups.proofs.Loading.{goes_on, gives, of_kept}
-use Rattle.ci_server_events.proofs.Found.{pair_is}
-use Rattle.ci_server_events.proofs.Settles.{nothing_settles}
 use Rattle.ci_server_events.proofs.sweeps.sweep_pipelines.Goals as goal
 
 -- the redundant pipeline is cancelled
@@ -29,13 +27,12 @@ returns-in-Some g c =
 -- none is, and nothing changes
 pub returns-in-None : goal.returns-in-None
 returns-in-None g c =
-    let made = c.alone in
+    let made = c.unchanged in
     gives g.T.Store.honest (HoldsKept g.T.Store.holds) g.T.Store.leaves _ _ _ c.first_redundant.result c.in_ok-pipeline.field-0 made.result c.in_ok-pipeline.was c.first_redundant.ensures
     (λ k found kept.
     let s = k.state in
     let none : redundant_in s k.board ≡ None = sym found ∙ c.in-None.is in
     record {
-      made = pair_is made.result.answer made.result.changes c.nothing.result (sweep None None s.attempts []) made.ensures.answer made.ensures.changes c.nothing.ensures
-          ∙ ap (λ (o : Option Pipeline). sweep None o s.attempts (cancellable_in s k.board o)) (sym none);
-      settled = nothing_settles k kept made.result.changes made.result.beside (made.ensures.changes ∙ ap (λ p. p.1) c.nothing.ensures) made.ensures.rows made.ensures.indexes;
+      made = made.ensures.plan ∙ (c.nothing.ensures ∙ ap (λ (o : Option Pipeline). sweep None o s.attempts (cancellable_in s k.board o)) (sym none));
+      settled = made.ensures.settled k kept;
     })
