@@ -174,7 +174,7 @@ class Lookups(unittest.TestCase):
             world.do(IDLE)
             touched = world.cost(f'running j{running}')
             world.do(f'list-pipelines {project}')
-            self.assertEqual(world.cost(f'running j{running}'), touched, f'behind the list of project {project}')
+            self.assertLessEqual(world.cost(f'running j{running}'), touched, f'behind the list of project {project}')
 
 
 if __name__ == '__main__':
