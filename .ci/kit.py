@@ -35,3 +35,16 @@ def build_below(crate):
         if not os.path.isdir(dep.rlib) and dep.build_rlib(["--jobs", "1"], anew=False):
             return dep.name
     return None
+
+
+def checkable(name, tree):
+    """Returns the crate of this name in a tree, with those below it built there; ends where one of them can't be."""
+    crate = {it.name: it for it in rt.rtlib.crates_below(os.path.realpath(tree))}[name]
+    if unproved := build_below(crate):
+        sys.exit(f"{unproved} isn't proved")
+    return crate
+
+
+def check_of(crate, *words):
+    """Returns the command that checks the crate, on one processor, with these words behind its own."""
+    return [*rt.rtlib.guarded(), rt.rtlib.RATTLE, "check", *crate.words(["--jobs", "1"], keeps=False), *words]
