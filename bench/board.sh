@@ -5,7 +5,7 @@ set -eu
 . "$(dirname "$0")/tables.sh"
 need rt
 crate=$work/crates/bench_board
-tests=$root/crates/ci_board_tests
+tests=$root/crates/ci_tests
 mkdir -p "$crate/src" "$crate/specs" "$crate/proofs"
 for low in $(below ci_board | sort -u); do
   cp -r "$root/crates/$low" "$work/crates/"
@@ -15,9 +15,9 @@ echo "bench_board: ci_values ci_graph ci_board anyhow" >> "$work/crates.txt"
 cp "$root/bench/board.rt.txt" "$crate/src/main.rt"
 : > "$crate/specs/Lib.antt"
 # the tests of positions, with their proofs, are those of the tests
-cp "$tests/src/within.rt" "$crate/src/"
-cp -r "$tests/proofs/within" "$crate/proofs/"
-sed -i 's/ci_board_tests/bench_board/' "$crate"/proofs/within/*/*.antt
+cp "$tests/src/board/within.rt" "$crate/src/"
+cp -r "$tests/proofs/board/within" "$crate/proofs/"
+sed -i 's/ci_tests\.proofs\.board/bench_board.proofs/' "$crate"/proofs/within/*/*.antt
 # the ledger of a graph is the blank's
 pick() {
   mkdir -p "$crate/proofs/$1"

@@ -1,7 +1,22 @@
 //! The program `ciserver`.
 #![tactic(auto)]
 
-use ci_cli_commands::{Sources, command, refuse_memory};
+mod admin;
+mod blank;
+mod cause;
+mod commands;
+mod file;
+mod journal;
+mod plan;
+mod prune;
+mod report;
+mod server;
+mod serving;
+mod shown;
+mod sources;
+
+use crate::commands::{command, refuse_memory};
+use crate::sources::Sources;
 use std::env;
 use std::process::ExitCode;
 

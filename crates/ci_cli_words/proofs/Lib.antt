@@ -6,3 +6,5 @@ pub mod Subcommand
 pub mod Values
 pub mod VariableTexts
 pub mod Written
+pub mod Columns
+pub mod Floats

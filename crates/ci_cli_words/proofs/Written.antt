@@ -18,18 +18,8 @@ pub record Holds (bytes : List ℕ) (c y m d : ℕ) : Type 0 where
 
 -- a list of ten is its elements
 elements : (xs : List ℕ) → length xs ≡ 10 → xs ≡ get_or xs 0 0 ∷ get_or xs 1 0 ∷ get_or xs 2 0 ∷ get_or xs 3 0 ∷ get_or xs 4 0 ∷ get_or xs 5 0 ∷ get_or xs 6 0 ∷ get_or xs 7 0 ∷ get_or xs 8 0 ∷ get_or xs 9 0 ∷ []
-elements [] n = absurd (omega (arith, n))
-elements (a ∷ []) n = absurd (omega (arith, n))
-elements (a ∷ b ∷ []) n = absurd (omega (arith, n))
-elements (a ∷ b ∷ c ∷ []) n = absurd (omega (arith, n))
-elements (a ∷ b ∷ c ∷ d ∷ []) n = absurd (omega (arith, n))
-elements (a ∷ b ∷ c ∷ d ∷ e ∷ []) n = absurd (omega (arith, n))
-elements (a ∷ b ∷ c ∷ d ∷ e ∷ f ∷ []) n = absurd (omega (arith, n))
-elements (a ∷ b ∷ c ∷ d ∷ e ∷ f ∷ g ∷ []) n = absurd (omega (arith, n))
-elements (a ∷ b ∷ c ∷ d ∷ e ∷ f ∷ g ∷ h ∷ []) n = absurd (omega (arith, n))
-elements (a ∷ b ∷ c ∷ d ∷ e ∷ f ∷ g ∷ h ∷ i ∷ []) n = absurd (omega (arith, n))
 elements (a ∷ b ∷ c ∷ d ∷ e ∷ f ∷ g ∷ h ∷ i ∷ j ∷ []) n = λ p. a ∷ b ∷ c ∷ d ∷ e ∷ f ∷ g ∷ h ∷ i ∷ j ∷ []
-elements (a ∷ b ∷ c ∷ d ∷ e ∷ f ∷ g ∷ h ∷ i ∷ j ∷ k ∷ xs) n = absurd (omega (arith, n))
+elements _ n = absurd (omega (arith, n))
 
 -- a year of two pairs of digits
 pairs_of_year : (c y m d : ℕ) → y < 100 → pad2 c ++ pad2 y ++ 45 ∷ pad2 m ++ 45 ∷ pad2 d ≡ written (c * 100 + y) m d

@@ -3,3 +3,5 @@ pub mod Dates
 pub mod Lines
 pub mod Words
 pub mod Wrong
+pub mod JsonText
+pub mod ReportText

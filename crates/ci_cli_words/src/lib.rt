@@ -6,6 +6,7 @@ mod command_line;
 mod command_name;
 pub mod date;
 pub mod line;
+pub mod report;
 pub mod task;
 mod value;
 mod variables;

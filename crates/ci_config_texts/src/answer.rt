@@ -5,9 +5,9 @@ use crate::expressions::{pattern_of, reading_of, tokens_of, value_of};
 use crate::fields::field_of;
 use crate::files::{file_of, job_of};
 use crate::plans::{plan_of, statuses_of};
+use crate::rows::{Row, RowFault};
 use crate::trees::{places_of, tree_of};
 use crate::values::{duration_of, lookup_of};
-use ci_config_rows::{Row, RowFault};
 use std::alloc::Global;
 
 /// What comes of a row.

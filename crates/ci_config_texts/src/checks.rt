@@ -1,7 +1,7 @@
 //! What is printed of a file.
 
-use ci_cli_check::check;
-use ci_config_rows::{Part, RowFault};
+use crate::rows::{Part, RowFault};
+use ci_explain::check::check;
 use std::alloc::Global;
 
 /// The exit status and the line that is printed of bytes; the line must end.

@@ -1,7 +1,7 @@
 //! Expressions: how a text is read, what it is worth, and its tokens.
 
 use crate::lists::{first_text, only_text, variables};
-use ci_config_rows::{Part, RowFault};
+use crate::rows::{Part, RowFault};
 use ci_expr::{Env, ExprFault, parse, tokens};
 use std::alloc::Global;
 

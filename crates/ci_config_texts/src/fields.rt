@@ -1,9 +1,9 @@
 //! What the records of a file hold, a field at a time.
 
 use crate::lists::{first_text, joined};
+use crate::rows::{Part, RowFault};
 use ci_config::{Config, ConfigFault, JobSpec, Need, Rule, RuleWhen, Variable};
 use ci_config_reader::config;
-use ci_config_rows::{Part, RowFault};
 use ci_values::attempts::Cause;
 use ci_values::when::{AllowFailure, Retry, When};
 use ci_yaml::{Words, YamlFault, read};

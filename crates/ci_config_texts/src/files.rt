@@ -1,9 +1,9 @@
 //! What a file answers: how many jobs it configures, or the code of its fault.
 
 use crate::lists::only_text;
+use crate::rows::{Part, RowFault};
 use ci_config::ConfigFault;
 use ci_config_reader::config;
-use ci_config_rows::{Part, RowFault};
 use ci_yaml::{YamlFault, read};
 use std::alloc::Global;
 

@@ -1,6 +1,6 @@
 //! Parts that stand together in rows, and lists as they stand in answers.
 
-use ci_config_rows::{Part, RowFault};
+use crate::rows::{Part, RowFault};
 use std::alloc::{AllocError, Global};
 
 /// The one text of a row.

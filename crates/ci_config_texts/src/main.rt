@@ -12,11 +12,12 @@ mod fields;
 mod files;
 mod lists;
 mod plans;
+mod rows;
 mod tables;
 mod trees;
 mod values;
 
-use ci_cli_check::check_word;
+use ci_explain::check::check_word;
 use std::env;
 use std::io::{self, Write};
 use tables::try_table;

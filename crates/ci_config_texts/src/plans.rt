@@ -2,9 +2,9 @@
 
 use crate::begun::begun;
 use crate::lists::{first_text, variables};
+use crate::rows::{Part, RowFault};
 use ci_config::{ConfigCode, ConfigFault};
 use ci_config_reader::config;
-use ci_config_rows::{Part, RowFault};
 use ci_expr::ExprCode;
 use ci_graph_layout::{
     Given, GraphCode, IncludedJob, PipelinePlan, PlanFault, is_affordable, looks, plan,

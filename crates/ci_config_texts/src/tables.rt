@@ -1,7 +1,7 @@
 //! A table: each of its rows is tried, and what comes is compared with what is wanted.
 
 use crate::answer::answer;
-use ci_config_rows::{Row, RowFault, TableLine, table_lines};
+use crate::rows::{Row, RowFault, TableLine, table_lines};
 use std::alloc::{AllocError, Global};
 use std::rt::Files;
 use std::{fs, io};

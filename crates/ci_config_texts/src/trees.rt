@@ -1,7 +1,7 @@
 //! What a text means: its tree, and the places of its texts.
 
 use crate::lists::only_text;
-use ci_config_rows::{Part, RowFault};
+use crate::rows::{Part, RowFault};
 use ci_yaml::{Text, Tree, Words, YamlFault, read};
 use std::alloc::{AllocError, Global};
 

@@ -1,9 +1,9 @@
 //! Durations, and the values of variables.
 
 use crate::lists::{only_text, variables};
+use crate::rows::{Part, RowFault};
 use ci_config::{ConfigFault, Layers, lookup};
 use ci_config_reader::duration;
-use ci_config_rows::{Part, RowFault};
 use std::alloc::Global;
 
 /// How many seconds a duration has, or the code of its fault.

@@ -1,3 +1,5 @@
 mod Leaving
 mod Saying
 mod Turns
+mod Fitting
+mod OneLine

@@ -2,8 +2,8 @@
 use Rattle.std.proofs.Common.{◌≡◌, ◌⊎◌, inl, inr, ℕ, List, [], Option, refl}
 use Rattle.std.specs.Io.KnownBytes.{Appends}
 use Rattle.ci_yaml.specs.declared.fault.YamlFault.TheVariants.{Memory}
-use Rattle.ci_cli_check.specs.Verdicts.{report_line, status}
-use Rattle.ci_cli_check.specs.declared.verdict.Verdict.TheVariants.{Refused}
+use Rattle.ci_explain.specs.Verdicts.{report_line, status}
+use Rattle.ci_explain.specs.declared.check.verdict.Verdict.TheVariants.{Refused}
 use Rattle.ci_explain.specs.Said.{IsWritten}
 
 pub refusal-is-written : (word : List ℕ) (old new : Option (List ℕ)) (result : ℕ)

@@ -7,9 +7,9 @@ use Rattle.ci_yaml_lines.specs.Tree.{Value}
 use Rattle.ci_yaml.specs.Document.{HasTree}
 use Rattle.ci_yaml.specs.declared.fault.YamlFault.TheVariants as yaml
 use Rattle.ci_config.specs.declared.fault.ConfigFault.TheVariants as keywords
-use Rattle.ci_cli_check.specs.Verdicts.{Fits, report_line, status}
-use Rattle.ci_cli_check.specs.declared.verdict.Verdict.{Verdict}
-use Rattle.ci_cli_check.specs.declared.verdict.Verdict.TheVariants.{Refused, Misconfigured}
+use Rattle.ci_explain.specs.Verdicts.{Fits, report_line, status}
+use Rattle.ci_explain.specs.declared.check.verdict.Verdict.{Verdict}
+use Rattle.ci_explain.specs.declared.check.verdict.Verdict.TheVariants.{Refused, Misconfigured}
 use Rattle.ci_explain.specs.Gitlab.{convert_text}
 use Rattle.ci_explain.specs.Report.{report_text, yaml_text}
 use Rattle.ci_explain.specs.Told.{InTurn, tolds_view}

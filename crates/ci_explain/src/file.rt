@@ -2,14 +2,14 @@
 
 ghost use Rattle.std.specs.Prelude.{◌≡◌, ◌⊎◌, ◌++◌, IfOk, OnOk, string_bytes};
 ghost use Rattle.std.specs.Io.KnownBytes.{Appends};
-ghost use Rattle.ci_cli_check.specs.Verdicts.{Fits, report_line, status};
-ghost use Rattle.ci_cli_check.specs.declared.verdict.Verdict.{Verdict};
+ghost use Rattle.ci_explain.specs.Verdicts.{Fits, report_line, status};
+ghost use Rattle.ci_explain.specs.declared.check.verdict.Verdict.{Verdict};
 ghost use Rattle.ci_explain.specs.Said.{IsSaid, IsWritten, Reports, ReportsOne};
 
+use crate::check::{Report, Verdict, first_bytes, verdict_of};
 use crate::report::{put_convert, put_report};
 use crate::turn::faults;
 use crate::yaml::put_yaml_fault;
-use ci_cli_check::{Report, Verdict, first_bytes, verdict_of};
 use ci_config::ConfigFault;
 use ci_yaml::{Code, YamlFault, read};
 use std::alloc::{AllocError, Global};

@@ -1,6 +1,7 @@
 //! What `ciserver explain` says of a CI file: every fault of it, each with its line and a sentence.
 #![tactic(auto)]
 
+pub mod check;
 mod file;
 mod follow;
 mod gitlab;

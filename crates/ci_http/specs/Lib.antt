@@ -7,3 +7,4 @@ pub use Rattle.ci_http_messages.specs.Reading
 pub use Rattle.ci_http_messages.specs.ReplyText
 pub use Rattle.ci_http_messages.specs.RequestBytes
 pub use Rattle.ci_http_messages.specs.Sources
+pub mod Attending

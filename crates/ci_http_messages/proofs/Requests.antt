@@ -5,10 +5,10 @@ use Rattle.ci_machine.specs.declared.request.Request.{Request}
 use Rattle.ci_machine.specs.declared.reply.Code.{Code}
 use Rattle.ci_machine.specs.declared.reply.Code.TheVariants.{M16, H7}
 use Rattle.ci_machine.specs.Reply.{refusal}
-use Rattle.ci_http_routes.specs.Answers.{body_of, wanted}
-use Rattle.ci_http_routes.specs.Routes.{asks}
-use Rattle.ci_http_routes.specs.declared.operation.Operation.{Operation}
-use Rattle.ci_http_payloads.specs.Refusals.{IsWhyNot}
+use Rattle.ci_http_messages.specs.Answers.{body_of, wanted}
+use Rattle.ci_http_messages.specs.Routes.{asks}
+use Rattle.ci_http_messages.specs.declared.routing.operation.Operation.{Operation}
+use Rattle.ci_http_messages.specs.Refusals.{IsWhyNot}
 use Rattle.ci_http_messages.specs.declared.route.Demand.TheVariants as demand
 use Rattle.ci_http_messages.specs.Reading.{Message}
 use Rattle.ci_http_messages.specs.RequestBytes.{request_by, is_health, asked_at, request_as, request_in, AsksMemoryBy, AsksMemory}

@@ -29,7 +29,7 @@ use Rattle.ci_machine.specs.declared.reply.HttpStatus.{HttpStatus}
 use Rattle.ci_machine.specs.declared.reply.HttpStatus.TheVariants.{Fine, Created, Accepted, NoContent, BadRequest, Unauthorized, Forbidden, NotFound, MethodNotAllowed, LengthRequired, PayloadTooLarge, RangeNotSatisfiable, HeaderFieldsTooLarge, NotImplemented, ServiceUnavailable}
 use Rattle.ci_machine.specs.declared.reply.Reply.{Reply}
 use Rattle.ci_machine.specs.Reply.{status_text, body_text}
-use Rattle.ci_http_routes.specs.Methods.{method_text}
+use Rattle.ci_http_messages.specs.Methods.{method_text}
 use Rattle.ci_http_messages.specs.Fields.{values_of}
 use Rattle.ci_http_messages.proofs.Values.{values-append}
 use Rattle.ci_http_messages.specs.ReplyText.{number_of, allow_text, type_text, crlf, status_line, job_status_line, range_line, allow_line, type_line, length_line, reply_text, length_values, IsResponse}

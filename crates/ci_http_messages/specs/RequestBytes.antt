@@ -14,17 +14,17 @@ use Rattle.ci_machine.specs.declared.request.Request.TheVariants.{AskJob, Update
 use Rattle.ci_machine.specs.declared.request.JobQuery.{JobQuery}
 use Rattle.ci_machine.specs.declared.request.PipelineQuery.{PipelineQuery}
 use Rattle.ci_machine.specs.Reply.{refusal}
-use Rattle.ci_http_routes.specs.declared.operation.Operation.{Operation}
-use Rattle.ci_http_routes.specs.declared.operation.Operation.TheVariants as operation
-use Rattle.ci_http_routes.specs.Answers.{body_of, wanted}
-use Rattle.ci_http_routes.specs.Routes.{Body, no_body, file, bytes, json, Wanted, Asked, no_route, other_methods, asks, asked_in}
-use Rattle.ci_http_payloads.specs.Json.{MayBeJson, object_in}
-use Rattle.ci_http_payloads.specs.Refusals.{IsWhyNot}
-use Rattle.ci_http_payloads.specs.Texts.{token_of, value_of, file_in}
-use Rattle.ci_http_payloads.specs.Updates.{update_of}
-use Rattle.ci_http_payloads.specs.Modes.{mode_of}
-use Rattle.ci_http_payloads.specs.Creations.{creation_of}
-use Rattle.ci_http_payloads.specs.Ranges.{start_in}
+use Rattle.ci_http_messages.specs.declared.routing.operation.Operation.{Operation}
+use Rattle.ci_http_messages.specs.declared.routing.operation.Operation.TheVariants as operation
+use Rattle.ci_http_messages.specs.Answers.{body_of, wanted}
+use Rattle.ci_http_messages.specs.Routes.{Body, no_body, file, bytes, json, Wanted, Asked, no_route, other_methods, asks, asked_in}
+use Rattle.ci_http_messages.specs.Json.{MayBeJson, object_in}
+use Rattle.ci_http_messages.specs.Refusals.{IsWhyNot}
+use Rattle.ci_http_messages.specs.Texts.{token_of, value_of, file_in}
+use Rattle.ci_http_messages.specs.Updates.{update_of}
+use Rattle.ci_http_messages.specs.Modes.{mode_of}
+use Rattle.ci_http_messages.specs.Creations.{creation_of}
+use Rattle.ci_http_messages.specs.Ranges.{start_in}
 use Rattle.ci_http_messages.specs.declared.route.Demand.{Demand}
 use Rattle.ci_http_messages.specs.declared.route.Demand.TheVariants as demand
 use Rattle.ci_http_messages.specs.Fields.{values_of}

@@ -2,7 +2,7 @@
 
 ghost use Rattle.std.specs.Prelude.{◌≡◌, ◌≢◌, ◌++◌, ℕ, List, [], Some, option_map};
 ghost use Rattle.ci_machine.specs.declared.reply.Method.{Method};
-ghost use Rattle.ci_http_routes.specs.Routes.{other_methods, asked_in};
+ghost use Rattle.ci_http_messages.specs.Routes.{other_methods, asked_in};
 ghost use Rattle.ci_http_messages.specs.Reading.{Message, Reading, ended, request, IsReading};
 ghost use Rattle.ci_http_messages.specs.ReplyText.{listed};
 ghost use Rattle.ci_http_messages.specs.RequestBytes.{methods_of};

@@ -11,6 +11,8 @@ mod head;
 pub mod laws;
 pub mod limits;
 pub mod link;
+pub mod payloads;
 pub mod route;
+pub mod routing;
 mod target;
 pub mod text;

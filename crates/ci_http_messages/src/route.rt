@@ -4,23 +4,23 @@ ghost use Rattle.std.specs.Prelude.{◌≡◌, ◌⊎◌, None, Some, Ok, Err, I
 ghost use Rattle.std.specs.Str.{is_utf8};
 ghost use Rattle.ci_machine.specs.Reply.{refusal};
 ghost use Rattle.ci_values.specs.Names.{is_name};
-ghost use Rattle.ci_http_routes.specs.Answers.{as_asked, map_key};
+ghost use Rattle.ci_http_messages.specs.Answers.{as_asked, map_key};
 ghost use Rattle.ci_http_messages.specs.ReplyText.{listed};
 ghost use Rattle.ci_http_messages.specs.RequestBytes.{field_in, text_or_empty, job_of, pipeline_of, asked_at, not_allowed, is_health, request_in, AsksMemory, Gives, AnswersFor};
 ghost use Rattle.ci_http_messages.specs.Targets.{path_of};
 
 use crate::call::Call;
 use crate::fields::Found;
+use crate::payloads::copy::copy_of;
+use crate::payloads::creation::creation_in;
+use crate::payloads::mode::mode_in;
+use crate::payloads::range::start_in;
+use crate::payloads::texts::{file_in, token_in, value_in};
+use crate::payloads::update::update_in;
+use crate::routing::lookup::Lookup;
+use crate::routing::operation::Operation;
+use crate::routing::paths::Paths;
 use crate::target::path_of;
-use ci_http_payloads::copy::copy_of;
-use ci_http_payloads::creation::creation_in;
-use ci_http_payloads::mode::mode_in;
-use ci_http_payloads::range::start_in;
-use ci_http_payloads::texts::{file_in, token_in, value_in};
-use ci_http_payloads::update::update_in;
-use ci_http_routes::lookup::Lookup;
-use ci_http_routes::operation::Operation;
-use ci_http_routes::paths::Paths;
 use ci_machine::reply::{Code, Methods, Reply};
 use ci_machine::request::{
     GroupQuery, JobQuery, NewFile, NewMode, NewVariable, PipelineQuery, ReadQuery, Request,
@@ -40,7 +40,7 @@ pub enum Demand {
     Health,
 }
 
-/// What a call asks for by the table of routes (`routes` of `ci_http_routes`), which `paths` has, or the
+/// What a call asks for by the table of routes (`routes`), which `paths` has, or the
 /// reply that refuses it. Each route reads the fields and the body that the table lists, and no
 /// others. A query behind the path has no part in it.
 ///

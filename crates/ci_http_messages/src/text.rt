@@ -6,8 +6,8 @@ ghost use Rattle.ci_machine.specs.Reply.{status_text, body_text};
 ghost use Rattle.ci_http_messages.specs.ReplyText.{number_of, reason_of, status_line, type_text, crlf, job_status_line, range_line, allow_line, type_line, length_line, head_text, reply_text, IsResponse};
 
 use crate::limits::MAX_REPLY_HEAD_BYTES;
+use crate::routing::method::http_method;
 use arrayvec::ArrayVec;
-use ci_http_routes::method::http_method;
 use ci_machine::reply::{Body, HttpStatus, JobStatus, Methods, Reply};
 use http::StatusCode;
 use itoa::Buffer;

@@ -74,18 +74,18 @@ fn predefined_pairs<'a>(
 
 /// The variables that a pipeline brings to its file.
 #[derive(Drop)]
-pub(crate) struct Brought<'a> {
+pub struct Brought<'a> {
     /// Its own.
-    pub(crate) pipeline: Variables<'a>,
+    pub pipeline: Variables<'a>,
     /// Those of its project.
-    pub(crate) project: Variables<'a>,
+    pub project: Variables<'a>,
     /// Those that are predefined for all of its jobs.
-    pub(crate) predefined: Variables<'a>,
+    pub predefined: Variables<'a>,
 }
 
 impl<'a> Brought<'a> {
     /// Those of a pipeline that is asked for, of a project with these variables and this number.
-    pub(crate) fn new(
+    pub fn new(
         alloc: Global,
         asked: &'a NewPipeline,
         variables: &'a [Variable],
@@ -105,7 +105,7 @@ impl<'a> Brought<'a> {
     }
 
     /// The same, as a plan takes them.
-    pub(crate) fn given(&self) -> Given<'_>
+    pub fn given(&self) -> Given<'_>
         ensures { given_view result ≡ brought_view self.now }
     {
         Given {

@@ -4,6 +4,6 @@
 pub mod creation;
 pub mod files;
 pub mod laws;
-mod layers;
+pub mod layers;
 pub mod layouts;
 pub mod pipelines;

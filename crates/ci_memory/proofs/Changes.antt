@@ -13,55 +13,15 @@ use Rattle.ci_memory.specs.Runners.{is_of_runner}
 
 -- a change that is not of a runner leaves the runners
 runners_stay : (c : RowChange) (s : State) → is_of_runner c ≡ false → (changed c s).runners ≡ s.runners
-runners_stay (Put (row.Project x)) s e = refl
-runners_stay (Put (row.Variable x)) s e = refl
 runners_stay (Put (row.Runner x)) s e = absurd (false≢true (sym e))
-runners_stay (Put (row.Pipeline x)) s e = refl
-runners_stay (Put (row.Job x)) s e = refl
-runners_stay (Put (row.JobVariable x)) s e = refl
-runners_stay (Put (row.Need x)) s e = refl
-runners_stay (Put (row.Attempt x)) s e = refl
-runners_stay (Put (row.Mode x)) s e = refl
-runners_stay (Put (row.Next counter n)) s e = refl
-runners_stay (Append x) s e = refl
-runners_stay (Remove (key.Project n)) s e = refl
-runners_stay (Remove (key.Variable n m)) s e = refl
 runners_stay (Remove (key.Runner n)) s e = absurd (false≢true (sym e))
-runners_stay (Remove (key.Pipeline n)) s e = refl
-runners_stay (Remove (key.Job n)) s e = refl
-runners_stay (Remove (key.JobVariable n m)) s e = refl
-runners_stay (Remove (key.JobVariables n)) s e = refl
-runners_stay (Remove (key.Need n m)) s e = refl
-runners_stay (Remove (key.Needs n)) s e = refl
-runners_stay (Remove (key.Attempt n)) s e = refl
-runners_stay (Remove (key.Trace n)) s e = refl
-runners_stay (Remove (key.Mode n name)) s e = refl
+runners_stay _ s e = refl
 
 -- one that is not of a mode leaves the modes
 modes_stay : (c : RowChange) (s : State) → is_of_mode c ≡ false → (changed c s).modes ≡ s.modes
-modes_stay (Put (row.Project x)) s e = refl
-modes_stay (Put (row.Variable x)) s e = refl
-modes_stay (Put (row.Runner x)) s e = refl
-modes_stay (Put (row.Pipeline x)) s e = refl
-modes_stay (Put (row.Job x)) s e = refl
-modes_stay (Put (row.JobVariable x)) s e = refl
-modes_stay (Put (row.Need x)) s e = refl
-modes_stay (Put (row.Attempt x)) s e = refl
 modes_stay (Put (row.Mode x)) s e = absurd (false≢true (sym e))
-modes_stay (Put (row.Next counter n)) s e = refl
-modes_stay (Append x) s e = refl
-modes_stay (Remove (key.Project n)) s e = refl
-modes_stay (Remove (key.Variable n m)) s e = refl
-modes_stay (Remove (key.Runner n)) s e = refl
-modes_stay (Remove (key.Pipeline n)) s e = refl
-modes_stay (Remove (key.Job n)) s e = refl
-modes_stay (Remove (key.JobVariable n m)) s e = refl
-modes_stay (Remove (key.JobVariables n)) s e = refl
-modes_stay (Remove (key.Need n m)) s e = refl
-modes_stay (Remove (key.Needs n)) s e = refl
-modes_stay (Remove (key.Attempt n)) s e = refl
-modes_stay (Remove (key.Trace n)) s e = refl
 modes_stay (Remove (key.Mode n name)) s e = absurd (false≢true (sym e))
+modes_stay _ s e = refl
 
 pub first : (a b : Bool) → (a || b) ≡ false → a ≡ false
 first true b e = absurd (false≢true (sym e))

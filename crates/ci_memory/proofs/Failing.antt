@@ -1,8 +1,8 @@
 -- A commit that failed below fails as it did.
 use Rattle.std.specs.Prelude.{◌≡◌, Result, Err}
 use Rattle.std.proofs.Common.{sym, subst}
-use Rattle.ci_store_tables.specs.declared.fault.StoreFault.{StoreFault}
-use Rattle.ci_store_tables.specs.declared.fault.StoreFault.TheVariants.{Memory, Broken}
+use Rattle.ci_store.specs.declared.fault.StoreFault.{StoreFault}
+use Rattle.ci_store.specs.declared.fault.StoreFault.TheVariants.{Memory, Broken}
 use Rattle.ci_store.specs.Store.{Ends}
 
 -- with the same fault a call leaves the same where it is broken, and where memory was refused what follows from it

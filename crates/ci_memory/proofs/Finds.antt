@@ -42,29 +42,9 @@ stays_found : (p : Project) (c : RowChange) (s : State) → is_of_project p c �
 stays_found p (Put (row.Project x)) s e is =
     find_placed project_cmp (λ q. bytes_eq q.token p.token) x (others project_cmp x s.projects) (later (x.id == p.id) (bytes_eq x.token p.token) e)
     ∙ find_left (λ q. bytes_eq q.token p.token) (λ y. not (is_eq (project_cmp y x))) p s.projects is (unequal p.id x.id (λ same. false≢true (sym (first (x.id == p.id) (bytes_eq x.token p.token) e) ∙ eq-eqb x.id p.id (sym same))))
-stays_found p (Put (row.Variable x)) s e is = is
-stays_found p (Put (row.Runner x)) s e is = is
-stays_found p (Put (row.Pipeline x)) s e is = is
-stays_found p (Put (row.Job x)) s e is = is
-stays_found p (Put (row.JobVariable x)) s e is = is
-stays_found p (Put (row.Need x)) s e is = is
-stays_found p (Put (row.Attempt x)) s e is = is
-stays_found p (Put (row.Mode x)) s e is = is
-stays_found p (Put (row.Next counter n)) s e is = is
-stays_found p (Append x) s e is = is
 stays_found p (Remove (key.Project n)) s e is =
     find_left (λ q. bytes_eq q.token p.token) (λ y. not (is_eq (nat_cmp y.id n))) p s.projects is (unequal p.id n (λ same. false≢true (sym e ∙ eq-eqb n p.id (sym same))))
-stays_found p (Remove (key.Variable n m)) s e is = is
-stays_found p (Remove (key.Runner n)) s e is = is
-stays_found p (Remove (key.Pipeline n)) s e is = is
-stays_found p (Remove (key.Job n)) s e is = is
-stays_found p (Remove (key.JobVariable n m)) s e is = is
-stays_found p (Remove (key.JobVariables n)) s e is = is
-stays_found p (Remove (key.Need n m)) s e is = is
-stays_found p (Remove (key.Needs n)) s e is = is
-stays_found p (Remove (key.Attempt n)) s e is = is
-stays_found p (Remove (key.Trace n)) s e is = is
-stays_found p (Remove (key.Mode n name)) s e is = is
+stays_found p _ s e is = is
 
 none_of : (a : Bool) → not a ≡ true → a ≡ false
 none_of true e = absurd (false≢true e)

@@ -88,25 +88,8 @@ module _ (l : NewestList) where
   stays_list (Put (row.Pipeline x)) s e is =
       left_list (λ y. not (is_eq (nat_cmp y.id x.id))) s.pipelines is (none_with x.id (later (x.project == l.project) (list_any (λ p. p.id == x.id) l.pipelines.items) e))
       ∙ ap (λ ps. take l.count (reverse ps)) (sym (other_placed pipeline_cmp own x (others pipeline_cmp x s.pipelines) (first (x.project == l.project) (list_any (λ p. p.id == x.id) l.pipelines.items) e)))
-  stays_list (Put (row.Job x)) s e is = is
-  stays_list (Put (row.JobVariable x)) s e is = is
-  stays_list (Put (row.Need x)) s e is = is
-  stays_list (Put (row.Attempt x)) s e is = is
-  stays_list (Put (row.Mode x)) s e is = is
-  stays_list (Put (row.Next counter n)) s e is = is
-  stays_list (Append x) s e is = is
-  stays_list (Remove (key.Project n)) s e is = is
-  stays_list (Remove (key.Variable n m)) s e is = is
-  stays_list (Remove (key.Runner n)) s e is = is
   stays_list (Remove (key.Pipeline n)) s e is = left_list (λ y. not (is_eq (nat_cmp y.id n))) s.pipelines is (none_with n e)
-  stays_list (Remove (key.Job n)) s e is = is
-  stays_list (Remove (key.JobVariable n m)) s e is = is
-  stays_list (Remove (key.JobVariables n)) s e is = is
-  stays_list (Remove (key.Need n m)) s e is = is
-  stays_list (Remove (key.Needs n)) s e is = is
-  stays_list (Remove (key.Attempt n)) s e is = is
-  stays_list (Remove (key.Trace n)) s e is = is
-  stays_list (Remove (key.Mode n name)) s e is = is
+  stays_list _ s e is = is
 
 -- so those are right still that the change isn't of
 pub left_lists : (c : RowChange) (s : State) (ls : List NewestList) → All (IsList s) ls → All (IsList (changed c s)) (filter (λ l. not (is_of_list l c)) ls)

@@ -5,3 +5,9 @@ pub mod Modes
 pub mod Newest
 pub mod Remembered
 pub mod Right
+pub mod Quiet
+pub mod Known
+pub mod Alone
+pub mod Changes
+pub mod Redundant
+pub mod Looks

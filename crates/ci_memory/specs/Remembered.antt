@@ -1,9 +1,9 @@
 -- What is remembered of a store, in its parts.
 use Rattle.std.specs.Prelude.{Option}
 use Rattle.ci_memory_boards.specs.declared.boards.Boards.{Boards}
-use Rattle.ci_memory_leases.specs.declared.memory.Leases.{Leases}
-use Rattle.ci_memory_lines.specs.declared.lines.Lines.{Lines}
-use Rattle.ci_memory_pipelines.specs.declared.open.Open.{Open}
+use Rattle.ci_memory.specs.declared.leases.Leases.{Leases}
+use Rattle.ci_memory_queue.specs.declared.lines.Lines.{Lines}
+use Rattle.ci_memory.specs.declared.pipelines.open.Open.{Open}
 use Rattle.ci_memory_queue.specs.declared.queue.Queue.{Queue}
 use Rattle.ci_memory.specs.declared.modes.Modes.{Modes}
 use Rattle.ci_memory.specs.declared.newest.Newest.{Newest}

@@ -2,9 +2,9 @@
 use Rattle.ci_machine.specs.Kept.{Kept}
 use Rattle.ci_memory_boards.specs.Order.{InOrder}
 use Rattle.ci_memory_boards.specs.Sheets as boards
-use Rattle.ci_memory_leases.specs.Quiet.{AreRight}
-use Rattle.ci_memory_lines.specs.Covers as lines
-use Rattle.ci_memory_pipelines.specs.Alone as alone
+use Rattle.ci_memory.specs.Quiet.{AreRight}
+use Rattle.ci_memory_queue.specs.LineCovers as lines
+use Rattle.ci_memory.specs.Alone as alone
 use Rattle.ci_memory_queue.specs.Covers as queue
 use Rattle.ci_memory.specs.Remembered.{Remembered}
 use Rattle.ci_memory.specs.Modes.{AreModes}
@@ -24,6 +24,6 @@ pub record IsRight (m : Remembered) (k : Kept) : Type 0 where
   pub pipelines : alone.IsRight m.pipelines k
   pub newest : AreNewest m.newest k.state
   pub boards : boards.AreRight m.boards k
-  -- the rows of statuses, the jobs and the attempts stand by their numbers, as those of a table do: so all pending rows are found page by
-  -- page, one that is put has its place among those that are remembered, and no two have the same number
+  -- the rows of statuses, the jobs and the attempts stand by their numbers, as those of a table do: so one that is put has its place among
+  -- those that are remembered, and no two have the same number
   pub in_order : InOrder k

@@ -4,19 +4,17 @@ ghost use Rattle.ci_machine.specs.Kept.{Kept, cleared, written};
 ghost use Rattle.ci_memory_boards.specs.Order.{InOrder};
 ghost use Rattle.ci_memory.specs.Right.{IsRight};
 
+use crate::leases::Leases;
 use crate::modes::Modes;
 use crate::newest::Newest;
 use crate::numbers::NextNumbers;
+use crate::pipelines::after::open_after;
+use crate::pipelines::open::Open;
 use crate::projects::Projects;
 use crate::runners::Runners;
 use ci_memory_boards::boards::Boards;
-use ci_memory_leases::memory::Leases;
-use ci_memory_lines::after::lines_after;
-use ci_memory_lines::lines::Lines;
-use ci_memory_pipelines::after::open_after;
-use ci_memory_pipelines::open::Open;
-use ci_memory_queue::after::queue_after;
-use ci_memory_queue::queue::Queue;
+use ci_memory_queue::lines::{Lines, lines_after};
+use ci_memory_queue::queue::{Queue, queue_after};
 use ci_store::delta::Delta;
 use std::marker::Model;
 

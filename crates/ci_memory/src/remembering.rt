@@ -12,8 +12,10 @@ ghost use Rattle.ci_memory_boards.specs.Fresh.{IsFresh};
 ghost use Rattle.ci_memory_boards.specs.Order.{InOrder};
 ghost use Rattle.ci_memory.specs.Right.{IsRight};
 
+use crate::leases::due;
 use crate::memory::Memory;
 use crate::modes::{Modes, with_group};
+use crate::pipelines::redundant;
 use crate::runners::{Runners, with_token};
 use ci_board::facts::Status;
 use ci_machine::change::Counter;
@@ -26,9 +28,7 @@ use ci_machine::records::{
 use ci_machine::text::{Bytes, Text};
 use ci_memory_boards::boards::copies_of_jobs;
 use ci_memory_boards::fresh::Fresh;
-use ci_memory_leases::due;
-use ci_memory_lines::turn;
-use ci_memory_pipelines::redundant;
+use ci_memory_queue::lines::turn;
 use ci_memory_queue::offer;
 use ci_server_lookups::search::Offer;
 use ci_server_lookups::searches::Searches;

@@ -7,7 +7,7 @@ use Rattle.ci_graph.specs.JobGraph.{JobGraph}
 use Rattle.ci_machine.specs.declared.change.Key.TheVariants as key
 use Rattle.ci_machine.specs.declared.change.Record.TheVariants as row
 use Rattle.ci_machine.specs.declared.change.RowChange.{RowChange}
-use Rattle.ci_machine.specs.declared.change.RowChange.TheVariants.{Put, Append, Remove}
+use Rattle.ci_machine.specs.declared.change.RowChange.TheVariants.{Put, Remove}
 use Rattle.ci_machine.specs.declared.records.Attempt.{Attempt}
 use Rattle.ci_machine.specs.declared.records.BoardRow.{BoardRow}
 use Rattle.ci_machine.specs.declared.records.Job.{Job}
@@ -47,29 +47,14 @@ module _ (f g : Fresh) (s : Kept) (raised : IsNoLess f g) (is : IsFresh f s) whe
 
 -- a change that puts nothing from the numbers on
 pub fresh_changed : (f g : Fresh) (c : RowChange) (s : Kept) → IsNoLess f g → IsBefore c g → IsFresh f s → IsFresh g (record s { state = changed c s.state })
-fresh_changed f g (Put (row.Project x)) s raised before is = record { jobs = jobs_under f g s raised is; needs = needs_under f g s raised is; attempts = attempts_under f g s raised is; rows = rows_under f g s raised is }
-fresh_changed f g (Put (row.Variable x)) s raised before is = record { jobs = jobs_under f g s raised is; needs = needs_under f g s raised is; attempts = attempts_under f g s raised is; rows = rows_under f g s raised is }
-fresh_changed f g (Put (row.Runner x)) s raised before is = record { jobs = jobs_under f g s raised is; needs = needs_under f g s raised is; attempts = attempts_under f g s raised is; rows = rows_under f g s raised is }
-fresh_changed f g (Put (row.Pipeline x)) s raised before is = record { jobs = jobs_under f g s raised is; needs = needs_under f g s raised is; attempts = attempts_under f g s raised is; rows = rows_under f g s raised is }
 fresh_changed f g (Put (row.Job x)) s raised before is = record { jobs = all_put (λ j. j.pipeline < g.pipeline) job_cmp x s.state.jobs (jobs_under f g s raised is) before; needs = needs_under f g s raised is; attempts = attempts_under f g s raised is; rows = rows_under f g s raised is }
-fresh_changed f g (Put (row.JobVariable x)) s raised before is = record { jobs = jobs_under f g s raised is; needs = needs_under f g s raised is; attempts = attempts_under f g s raised is; rows = rows_under f g s raised is }
 fresh_changed f g (Put (row.Need x)) s raised before is = record { jobs = jobs_under f g s raised is; needs = all_put (λ w. w.job < g.job) need_cmp x s.state.needs (needs_under f g s raised is) before; attempts = attempts_under f g s raised is; rows = rows_under f g s raised is }
 fresh_changed f g (Put (row.Attempt x)) s raised before is = record { jobs = jobs_under f g s raised is; needs = needs_under f g s raised is; attempts = all_put (λ a. a.job < g.job) attempt_cmp x s.state.attempts (attempts_under f g s raised is) before; rows = rows_under f g s raised is }
-fresh_changed f g (Put (row.Mode v)) s raised before is = record { jobs = jobs_under f g s raised is; needs = needs_under f g s raised is; attempts = attempts_under f g s raised is; rows = rows_under f g s raised is }
-fresh_changed f g (Put (row.Next counter n)) s raised before is = record { jobs = jobs_under f g s raised is; needs = needs_under f g s raised is; attempts = attempts_under f g s raised is; rows = rows_under f g s raised is }
-fresh_changed f g (Append x) s raised before is = record { jobs = jobs_under f g s raised is; needs = needs_under f g s raised is; attempts = attempts_under f g s raised is; rows = rows_under f g s raised is }
-fresh_changed f g (Remove (key.Project n)) s raised before is = record { jobs = jobs_under f g s raised is; needs = needs_under f g s raised is; attempts = attempts_under f g s raised is; rows = rows_under f g s raised is }
-fresh_changed f g (Remove (key.Variable n t)) s raised before is = record { jobs = jobs_under f g s raised is; needs = needs_under f g s raised is; attempts = attempts_under f g s raised is; rows = rows_under f g s raised is }
-fresh_changed f g (Remove (key.Runner n)) s raised before is = record { jobs = jobs_under f g s raised is; needs = needs_under f g s raised is; attempts = attempts_under f g s raised is; rows = rows_under f g s raised is }
-fresh_changed f g (Remove (key.Pipeline n)) s raised before is = record { jobs = jobs_under f g s raised is; needs = needs_under f g s raised is; attempts = attempts_under f g s raised is; rows = rows_under f g s raised is }
 fresh_changed f g (Remove (key.Job n)) s raised before is = record { jobs = all_filter (λ j. j.pipeline < g.pipeline) (λ j. not (is_eq (nat_cmp j.id n))) s.state.jobs (jobs_under f g s raised is); needs = needs_under f g s raised is; attempts = attempts_under f g s raised is; rows = rows_under f g s raised is }
-fresh_changed f g (Remove (key.JobVariable n t)) s raised before is = record { jobs = jobs_under f g s raised is; needs = needs_under f g s raised is; attempts = attempts_under f g s raised is; rows = rows_under f g s raised is }
-fresh_changed f g (Remove (key.JobVariables n)) s raised before is = record { jobs = jobs_under f g s raised is; needs = needs_under f g s raised is; attempts = attempts_under f g s raised is; rows = rows_under f g s raised is }
 fresh_changed f g (Remove (key.Need n p)) s raised before is = record { jobs = jobs_under f g s raised is; needs = all_filter (λ w. w.job < g.job) (λ w. not (is_eq (ordering_then (nat_cmp w.job n) (nat_cmp w.pred p)))) s.state.needs (needs_under f g s raised is); attempts = attempts_under f g s raised is; rows = rows_under f g s raised is }
 fresh_changed f g (Remove (key.Needs n)) s raised before is = record { jobs = jobs_under f g s raised is; needs = all_filter (λ w. w.job < g.job) (λ w. not (is_eq (nat_cmp w.job n))) s.state.needs (needs_under f g s raised is); attempts = attempts_under f g s raised is; rows = rows_under f g s raised is }
 fresh_changed f g (Remove (key.Attempt n)) s raised before is = record { jobs = jobs_under f g s raised is; needs = needs_under f g s raised is; attempts = all_filter (λ a. a.job < g.job) (λ a. not (is_eq (nat_cmp a.id n))) s.state.attempts (attempts_under f g s raised is); rows = rows_under f g s raised is }
-fresh_changed f g (Remove (key.Mode n name)) s raised before is = record { jobs = jobs_under f g s raised is; needs = needs_under f g s raised is; attempts = attempts_under f g s raised is; rows = rows_under f g s raised is }
-fresh_changed f g (Remove (key.Trace n)) s raised before is = record { jobs = jobs_under f g s raised is; needs = needs_under f g s raised is; attempts = attempts_under f g s raised is; rows = rows_under f g s raised is }
+fresh_changed f g _ s raised before is = record { jobs = jobs_under f g s raised is; needs = needs_under f g s raised is; attempts = attempts_under f g s raised is; rows = rows_under f g s raised is }
 
 -- a row that is put
 pub fresh_row : (f g : Fresh) (r : BoardRow) (s : Kept) → IsNoLess f g → r.job < g.job → IsFresh f s → IsFresh g (record s { board = put row_cmp r s.board })

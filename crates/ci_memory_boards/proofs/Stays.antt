@@ -11,7 +11,7 @@ use Rattle.ci_machine.specs.declared.change.IndexChange.{IndexChange}
 use Rattle.ci_machine.specs.declared.change.Key.TheVariants as key
 use Rattle.ci_machine.specs.declared.change.Record.TheVariants as row
 use Rattle.ci_machine.specs.declared.change.RowChange.{RowChange}
-use Rattle.ci_machine.specs.declared.change.RowChange.TheVariants.{Put, Append, Remove}
+use Rattle.ci_machine.specs.declared.change.RowChange.TheVariants.{Put, Remove}
 use Rattle.ci_machine.specs.declared.records.Attempt.{Attempt}
 use Rattle.ci_machine.specs.declared.records.BoardRow.{BoardRow}
 use Rattle.ci_machine.specs.declared.records.Job.{Job}
@@ -103,27 +103,13 @@ module _ (m : Sheet) (k : Kept) (right : IsRight m k) where
 
   -- a change that doesn't touch it, and puts no attempt
   pub stays : (c : RowChange) → touches m c ≡ false → attempt_put c ≡ None → IsRight m (record k { state = changed c k.state })
-  stays (Put (row.Project x)) e never = record { jobs = right.jobs; inside = right.inside; needs = right.needs; attempts = right.attempts; rows = right.rows; graph = right.graph }
-  stays (Put (row.Variable x)) e never = record { jobs = right.jobs; inside = right.inside; needs = right.needs; attempts = right.attempts; rows = right.rows; graph = right.graph }
-  stays (Put (row.Runner x)) e never = record { jobs = right.jobs; inside = right.inside; needs = right.needs; attempts = right.attempts; rows = right.rows; graph = right.graph }
-  stays (Put (row.Pipeline x)) e never = record { jobs = right.jobs; inside = right.inside; needs = right.needs; attempts = right.attempts; rows = right.rows; graph = right.graph }
   stays (Put (row.Job x)) e never =
       with_jobs (put job_cmp x k.state.jobs)
       (other_put job_cmp its x k.state.jobs (first (its x) (is_within m.first m.last x.id) e) (λ y has is. key_apart m.first m.last y.id x.id (inside y has is) (later (its x) (is_within m.first m.last x.id) e)))
-  stays (Put (row.JobVariable x)) e never = record { jobs = right.jobs; inside = right.inside; needs = right.needs; attempts = right.attempts; rows = right.rows; graph = right.graph }
   stays (Put (row.Need x)) e never = with_needs (put need_cmp x k.state.needs) (other_put need_cmp of_need x k.state.needs e (λ y has is. then_apart m.first m.last y.job x.job y.pred x.pred is e))
   stays (Put (row.Attempt x)) e never = absurd (some_not_none never)
-  stays (Put (row.Mode v)) e never = record { jobs = right.jobs; inside = right.inside; needs = right.needs; attempts = right.attempts; rows = right.rows; graph = right.graph }
-  stays (Put (row.Next counter n)) e never = record { jobs = right.jobs; inside = right.inside; needs = right.needs; attempts = right.attempts; rows = right.rows; graph = right.graph }
-  stays (Append x) e never = record { jobs = right.jobs; inside = right.inside; needs = right.needs; attempts = right.attempts; rows = right.rows; graph = right.graph }
-  stays (Remove (key.Project n)) e never = record { jobs = right.jobs; inside = right.inside; needs = right.needs; attempts = right.attempts; rows = right.rows; graph = right.graph }
-  stays (Remove (key.Variable n t)) e never = record { jobs = right.jobs; inside = right.inside; needs = right.needs; attempts = right.attempts; rows = right.rows; graph = right.graph }
-  stays (Remove (key.Runner n)) e never = record { jobs = right.jobs; inside = right.inside; needs = right.needs; attempts = right.attempts; rows = right.rows; graph = right.graph }
-  stays (Remove (key.Pipeline n)) e never = record { jobs = right.jobs; inside = right.inside; needs = right.needs; attempts = right.attempts; rows = right.rows; graph = right.graph }
   stays (Remove (key.Job n)) e never =
       with_jobs (without (λ j. j.id) n k.state.jobs) (filter_implied its (λ y. not (is_eq (nat_cmp y.id n))) k.state.jobs (λ y has is. key_apart m.first m.last y.id n (inside y has is) e))
-  stays (Remove (key.JobVariable n t)) e never = record { jobs = right.jobs; inside = right.inside; needs = right.needs; attempts = right.attempts; rows = right.rows; graph = right.graph }
-  stays (Remove (key.JobVariables n)) e never = record { jobs = right.jobs; inside = right.inside; needs = right.needs; attempts = right.attempts; rows = right.rows; graph = right.graph }
   stays (Remove (key.Need n p)) e never =
       with_needs (filter (λ w. not (is_eq (ordering_then (nat_cmp w.job n) (nat_cmp w.pred p)))) k.state.needs)
       (filter_implied of_need (λ w. not (is_eq (ordering_then (nat_cmp w.job n) (nat_cmp w.pred p)))) k.state.needs (λ y has is. then_apart m.first m.last y.job n y.pred p is e))
@@ -132,64 +118,21 @@ module _ (m : Sheet) (k : Kept) (right : IsRight m k) where
       with_attempts (without (λ a. a.id) n k.state.attempts)
       (filter_implied of_attempt (λ a. not (is_eq (nat_cmp a.id n))) k.state.attempts
       (λ y has is. none_has n y m.attempts.items e (subst (λ (l : List Attempt). Has y l) (sym right.attempts) (filter_has of_attempt y k.state.attempts has is))))
-  stays (Remove (key.Mode n name)) e never = record { jobs = right.jobs; inside = right.inside; needs = right.needs; attempts = right.attempts; rows = right.rows; graph = right.graph }
-  stays (Remove (key.Trace n)) e never = record { jobs = right.jobs; inside = right.inside; needs = right.needs; attempts = right.attempts; rows = right.rows; graph = right.graph }
+  stays _ e never = record { jobs = right.jobs; inside = right.inside; needs = right.needs; attempts = right.attempts; rows = right.rows; graph = right.graph }
 
 -- the change that puts an attempt
 pub put_of : (c : RowChange) (a : Attempt) → attempt_put c ≡ Some a → c ≡ Put (row.Attempt a)
-put_of (Put (row.Project x)) a e = cc
-put_of (Put (row.Variable x)) a e = cc
-put_of (Put (row.Runner x)) a e = cc
-put_of (Put (row.Pipeline x)) a e = cc
-put_of (Put (row.Job x)) a e = cc
-put_of (Put (row.JobVariable x)) a e = cc
-put_of (Put (row.Need x)) a e = cc
 put_of (Put (row.Attempt x)) a e = ap (λ (o : Attempt). Put (row.Attempt o)) (some_same e)
-put_of (Put (row.Mode v)) a e = cc
-put_of (Put (row.Next counter n)) a e = cc
-put_of (Append x) a e = cc
-put_of (Remove (key.Project n)) a e = cc
-put_of (Remove (key.Variable n t)) a e = cc
-put_of (Remove (key.Runner n)) a e = cc
-put_of (Remove (key.Pipeline n)) a e = cc
-put_of (Remove (key.Job n)) a e = cc
-put_of (Remove (key.JobVariable n t)) a e = cc
-put_of (Remove (key.JobVariables n)) a e = cc
-put_of (Remove (key.Need n p)) a e = cc
-put_of (Remove (key.Needs n)) a e = cc
-put_of (Remove (key.Attempt n)) a e = cc
-put_of (Remove (key.Mode n name)) a e = cc
-put_of (Remove (key.Trace n)) a e = cc
+put_of _ a e = cc
 
 -- a job of the sheet's own that the change puts
 pub own_job_of : (m : Sheet) (c : RowChange) (j : Job) → own_job m c ≡ Some j → (c ≡ Put (row.Job j)) × (owns m j ≡ true)
-own_job_of m (Put (row.Project x)) j e = absurd (some_not_none (sym e))
-own_job_of m (Put (row.Variable x)) j e = absurd (some_not_none (sym e))
-own_job_of m (Put (row.Runner x)) j e = absurd (some_not_none (sym e))
-own_job_of m (Put (row.Pipeline x)) j e = absurd (some_not_none (sym e))
 own_job_of m (Put (row.Job x)) j e =
     cond_both (owns m x) (Some x) None (λ o. o ≡ Some j → (Put (row.Job x) ≡ Put (row.Job j)) × (owns m j ≡ true))
     (λ its is. let same : x ≡ j = some_same is in (ap (λ (y : Job). Put (row.Job y)) same, ap (owns m) (sym same) ∙ its))
     (λ _ is. absurd (some_not_none (sym is)))
     e
-own_job_of m (Put (row.JobVariable x)) j e = absurd (some_not_none (sym e))
-own_job_of m (Put (row.Need x)) j e = absurd (some_not_none (sym e))
-own_job_of m (Put (row.Attempt x)) j e = absurd (some_not_none (sym e))
-own_job_of m (Put (row.Mode v)) j e = absurd (some_not_none (sym e))
-own_job_of m (Put (row.Next counter n)) j e = absurd (some_not_none (sym e))
-own_job_of m (Append x) j e = absurd (some_not_none (sym e))
-own_job_of m (Remove (key.Project n)) j e = absurd (some_not_none (sym e))
-own_job_of m (Remove (key.Variable n t)) j e = absurd (some_not_none (sym e))
-own_job_of m (Remove (key.Runner n)) j e = absurd (some_not_none (sym e))
-own_job_of m (Remove (key.Pipeline n)) j e = absurd (some_not_none (sym e))
-own_job_of m (Remove (key.Job n)) j e = absurd (some_not_none (sym e))
-own_job_of m (Remove (key.JobVariable n t)) j e = absurd (some_not_none (sym e))
-own_job_of m (Remove (key.JobVariables n)) j e = absurd (some_not_none (sym e))
-own_job_of m (Remove (key.Need n p)) j e = absurd (some_not_none (sym e))
-own_job_of m (Remove (key.Needs n)) j e = absurd (some_not_none (sym e))
-own_job_of m (Remove (key.Attempt n)) j e = absurd (some_not_none (sym e))
-own_job_of m (Remove (key.Mode n name)) j e = absurd (some_not_none (sym e))
-own_job_of m (Remove (key.Trace n)) j e = absurd (some_not_none (sym e))
+own_job_of m _ j e = absurd (some_not_none (sym e))
 
 -- ---- the order of attempts
 
@@ -206,29 +149,9 @@ goes_ascends : (n : ℕ) (s : State) → AttemptsAscend s → AttemptsAscend (ch
 goes_ascends n s a = ascend_from_rising by_id 0 (without by_id n s.attempts) (rising_filter by_id (λ x. not (is_eq (nat_cmp x.id n))) 0 s.attempts (rising_from_ascend by_id s.attempts a))
 
 one_ascends : (c : RowChange) (s : State) → AttemptsAscend s → AttemptsAscend (changed c s)
-one_ascends (Put (row.Project x)) s a = a
-one_ascends (Put (row.Variable x)) s a = a
-one_ascends (Put (row.Runner x)) s a = a
-one_ascends (Put (row.Pipeline x)) s a = a
-one_ascends (Put (row.Job x)) s a = a
-one_ascends (Put (row.JobVariable x)) s a = a
-one_ascends (Put (row.Need x)) s a = a
 one_ascends (Put (row.Attempt x)) s a = put_ascends x s a
-one_ascends (Put (row.Mode v)) s a = a
-one_ascends (Put (row.Next counter n)) s a = a
-one_ascends (Append x) s a = a
-one_ascends (Remove (key.Project n)) s a = a
-one_ascends (Remove (key.Variable n t)) s a = a
-one_ascends (Remove (key.Runner n)) s a = a
-one_ascends (Remove (key.Pipeline n)) s a = a
-one_ascends (Remove (key.Job n)) s a = a
-one_ascends (Remove (key.JobVariable n t)) s a = a
-one_ascends (Remove (key.JobVariables n)) s a = a
-one_ascends (Remove (key.Need n p)) s a = a
-one_ascends (Remove (key.Needs n)) s a = a
 one_ascends (Remove (key.Attempt n)) s a = goes_ascends n s a
-one_ascends (Remove (key.Mode n name)) s a = a
-one_ascends (Remove (key.Trace n)) s a = a
+one_ascends _ s a = a
 
 pub all_ascend : (cs : List RowChange) (s : State) → AttemptsAscend s → AttemptsAscend (applied cs s)
 all_ascend [] s a = a
@@ -249,29 +172,9 @@ job_goes_ascends : (n : ℕ) (s : State) → JobsAscend s → JobsAscend (change
 job_goes_ascends n s a = ascend_from_rising job_id 0 (without job_id n s.jobs) (rising_filter job_id (λ x. not (is_eq (nat_cmp x.id n))) 0 s.jobs (rising_from_ascend job_id s.jobs a))
 
 one_job_ascends : (c : RowChange) (s : State) → JobsAscend s → JobsAscend (changed c s)
-one_job_ascends (Put (row.Project x)) s a = a
-one_job_ascends (Put (row.Variable x)) s a = a
-one_job_ascends (Put (row.Runner x)) s a = a
-one_job_ascends (Put (row.Pipeline x)) s a = a
 one_job_ascends (Put (row.Job x)) s a = put_job_ascends x s a
-one_job_ascends (Put (row.JobVariable x)) s a = a
-one_job_ascends (Put (row.Need x)) s a = a
-one_job_ascends (Put (row.Attempt x)) s a = a
-one_job_ascends (Put (row.Mode v)) s a = a
-one_job_ascends (Put (row.Next counter n)) s a = a
-one_job_ascends (Append x) s a = a
-one_job_ascends (Remove (key.Project n)) s a = a
-one_job_ascends (Remove (key.Variable n t)) s a = a
-one_job_ascends (Remove (key.Runner n)) s a = a
-one_job_ascends (Remove (key.Pipeline n)) s a = a
 one_job_ascends (Remove (key.Job n)) s a = job_goes_ascends n s a
-one_job_ascends (Remove (key.JobVariable n t)) s a = a
-one_job_ascends (Remove (key.JobVariables n)) s a = a
-one_job_ascends (Remove (key.Need n p)) s a = a
-one_job_ascends (Remove (key.Needs n)) s a = a
-one_job_ascends (Remove (key.Attempt n)) s a = a
-one_job_ascends (Remove (key.Mode n name)) s a = a
-one_job_ascends (Remove (key.Trace n)) s a = a
+one_job_ascends _ s a = a
 
 pub all_jobs_ascend : (cs : List RowChange) (s : State) → JobsAscend s → JobsAscend (applied cs s)
 all_jobs_ascend [] s a = a

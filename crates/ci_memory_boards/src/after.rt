@@ -14,7 +14,7 @@ ghost use Rattle.ci_memory_boards.specs.Order.{InOrder};
 ghost use Rattle.ci_memory_boards.specs.Sheets.{attempt_put};
 ghost use Rattle.ci_server_lookups.specs.Sheets.{IsRight};
 
-use crate::puts::{put_attempt, put_job, put_row};
+use crate::puts::put_record;
 use crate::touch::{own_job, touches};
 use ci_machine::change::{Record, RowChange};
 use ci_machine::records::{Attempt, BoardRow, Job};
@@ -74,7 +74,7 @@ fn note_job(sheet: &mut Sheet, job: &Job) -> Option<()>
 fn put_copy_of_job(jobs: &mut Vec<Job>, job: &Job) -> Option<()>
     ensures { OnSome result (jobs.new.items ≡ put job_cmp job.now jobs.old.items) }
 {
-    put_job(jobs, job.clone().ok()?)
+    put_record(jobs, job.clone().ok()?)
 }
 
 /// A change that puts no job of the pipeline's between the two numbers.
@@ -116,7 +116,7 @@ fn note_attempt(sheet: &mut Sheet, attempt: &Attempt) -> Option<()>
 fn put_copy(attempts: &mut Vec<Attempt>, attempt: &Attempt) -> Option<()>
     ensures { OnSome result (attempts.new.items ≡ put attempt_cmp attempt.now attempts.old.items) }
 {
-    put_attempt(attempts, attempt.clone().ok()?)
+    put_record(attempts, attempt.clone().ok()?)
 }
 
 fn after_rows(sheet: Sheet, rows: &[BoardRow]) -> Option<Sheet>
@@ -133,7 +133,7 @@ fn note_row(sheet: &mut Sheet, row: BoardRow) -> Option<()>
     ensures { OnSome result ((k : Kept) → IsStrictlySortedBy nat_cmp (map (λ r. r.job) k.board) → IsRight sheet.old k → IsRight sheet.new (record k { board = put row_cmp row k.board })) }
 {
     if sheet.has_within(row.job) {
-        return put_row(&mut sheet.rows, row);
+        return put_record(&mut sheet.rows, row);
     }
     Some(())
 }

@@ -17,7 +17,7 @@ use Rattle.ci_machine.specs.Lookups.{job_at, pipeline_at, is_pending, queued, qu
 use Rattle.ci_machine.proofs.Keyed.{Has, Rising, rising_filter, has_filter, filter_has, has_find, find_has, rising_from, has_from_contains, contains_from_has}
 use Rattle.ci_machine_steps.specs.Step.{pipeline_or_none}
 use Rattle.ci_machine_steps.proofs.Sound.{sound}
-use Rattle.ci_store_tables.specs.declared.fault.StoreFault.{StoreFault}
+use Rattle.ci_store.specs.declared.fault.StoreFault.{StoreFault}
 use Rattle.ci_store.specs.Store.{LoadsBy}
 use Rattle.ci_server_lookups.proofs.Loading.{so}
 use Rattle.ci_server_lookups.specs.declared.search.Offer.{Offer}
@@ -27,7 +27,6 @@ use Rattle.ci_memory_queue.specs.declared.queue.Asks.{Asks}
 use Rattle.ci_memory_queue.specs.declared.queue.Class.{Class}
 use Rattle.ci_memory_queue.specs.Known.{Known}
 use Rattle.ci_memory_queue.specs.Covers.{asked_by, asks_at, is_pending_at, IsAmong, IsSorted, Covers, IsRight}
-use Rattle.ci_memory_queue.specs.Order.{RowsAscend}
 use Rattle.ci_memory_queue.specs.Offers.{UpTo, IsPendingOf, IsBest}
 use Rattle.ci_memory_queue.specs.Turns.{is_free_at}
 use Rattle.ci_memory_queue.proofs.Found.{find_none}
@@ -194,12 +193,12 @@ sort_more k classes more xs i d newest low high within raised keeps sorted cover
 module _ {T : Type 0} (honest : T → Type 0) (holds : T → Kept → Type 0) (leaves : T → Kept → Kept → Type 0) where
   pub sorted_then : {A : Type 0} {P : Kept → A → Type 0} (old given : Option Known) (a b c d : T) (filling sorting : Result Known StoreFault) (filled known : Known) (r : Result A StoreFault) (x : A)
       → given ≡ old → filling ≡ Ok filled → sorting ≡ Ok known → r ≡ Ok x
-      → LoadsBy honest holds leaves a b filling (λ k q. RowsAscend k.board → IsRight given k → Covers q k.state k.board)
+      → LoadsBy honest holds leaves a b filling (λ k q. IsRight given k → Covers q k.state k.board)
       → LoadsBy honest holds leaves b c sorting (λ k q. Covers filled k.state k.board → (q.fresh ≡ []) × Covers q k.state k.board)
       → LoadsBy honest holds leaves c d r (λ k y. (known.fresh ≡ []) × Covers known k.state k.board → P k y)
-      → LoadsBy honest holds leaves a d (Ok x) (λ k y. RowsAscend k.board → IsRight old k → P k y)
+      → LoadsBy honest holds leaves a d (Ok x) (λ k y. IsRight old k → P k y)
   sorted_then {P = P} old given a b c d filling sorting filled known r x same is was went fill sort offer =
-      so honest holds leaves (λ k y. RowsAscend k.board → IsRight old k → P k y) a c d (Ok tt) tt r x x refl went
-      (so honest holds leaves (λ k (u : Unit {0}). RowsAscend k.board → IsRight old k → (known.fresh ≡ []) × Covers known k.state k.board) a b c filling filled sorting known tt is was fill sort
-      (λ k of sorts ascend right. sorts (of ascend (subst (λ (o : Option Known). IsRight o k) (sym same) right))))
-      offer (λ k knows gives ascend right. gives (knows ascend right))
+      so honest holds leaves (λ k y. IsRight old k → P k y) a c d (Ok tt) tt r x x refl went
+      (so honest holds leaves (λ k (u : Unit {0}). IsRight old k → (known.fresh ≡ []) × Covers known k.state k.board) a b c filling filled sorting known tt is was fill sort
+      (λ k of sorts right. sorts (of (subst (λ (o : Option Known). IsRight o k) (sym same) right))))
+      offer (λ k knows gives right. gives (knows right))

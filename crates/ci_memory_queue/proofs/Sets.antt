@@ -1,11 +1,14 @@
 -- Jobs in sets and lists of numbers, and in classes.
-use Rattle.std.specs.Prelude.{◌≡◌, ◌⊎◌, ℕ, ◌<◌, List, [], ◌∷◌, length, Contains, slice_index_or, slice_set, Result, Ok, Err, OnOk}
+use Rattle.std.specs.Prelude.{◌≡◌, ◌⊎◌, ℕ, ◌<◌, Bool, false, List, [], ◌∷◌, length, Contains, slice_index_or, slice_set, Result, Ok, Err, OnOk}
 use Rattle.std.proofs.Common.{refl, sym, ap, subst, ◌∙◌, inl, inr, ⊎_elim, arith, suc, zero}
 use Rattle.std.specs.Ordering.{nat_cmp, is_eq, match_ordering}
 use Rattle.std.specs.declared.cmp.Ordering.{Ordering}
 use Rattle.std.specs.declared.cmp.Ordering.TheVariants.{Less, Equal, Greater}
+use Rattle.std.specs.BTreeMap.{is_at}
 use Rattle.std.specs.BTreeSet.{insert_key}
-use Rattle.ci_machine.proofs.Keyed.{Has, has_from_contains, contains_from_has, same as same_number}
+use Rattle.std.specs.Set.{remove_key}
+use Rattle.std.proofs.lemmas.Bool.{cond_both, both_ways}
+use Rattle.ci_machine.proofs.Keyed.{Has, has_from_contains, contains_from_has, same as same_number, unequal, not_true}
 use Rattle.ci_memory_queue.specs.declared.queue.Asks.{Asks}
 use Rattle.ci_memory_queue.specs.declared.queue.Class.{Class}
 use Rattle.ci_memory_queue.specs.Covers.{IsAmong}
@@ -82,3 +85,20 @@ put_there old new k e = contains_from_has k new (subst (Has k) (sym e) (inserted
 
 pub put_keeps : (old new : List ℕ) (k n : ℕ) → new ≡ insert_key nat_cmp old k → Contains old n → Contains new n
 put_keeps old new k n e c = contains_from_has n new (subst (Has n) (sym e) (insert_keeps old k n (has_from_contains n old c)))
+
+-- ---- sets with one less
+
+-- what doesn't pass is left
+remove_keeps : (test : ℕ → Bool) (xs : List ℕ) (n : ℕ) → test n ≡ false → Has n xs → Has n (remove_key test xs)
+remove_keeps test [] n out h = absurd h
+remove_keeps test (x ∷ xs) n out h =
+    cond_both (test x) xs (x ∷ remove_key test xs) (λ l. Has n l)
+    (λ e. ⊎_elim (λ same. absurd (both_ways (test n) out (ap test same ∙ e))) (λ m. m) h)
+    (λ e. ⊎_elim (λ same. inl same) (λ m. inr (remove_keeps test xs n out m)) h)
+
+pub take_keeps : (test : ℕ → Bool) (old new : List ℕ) (n : ℕ) → new ≡ remove_key test old → test n ≡ false → Contains old n → Contains new n
+take_keeps test old new n e out c = contains_from_has n new (subst (Has n) (sym e) (remove_keeps test old n out (has_from_contains n old c)))
+
+-- another number doesn't pass
+pub apart : (a b : ℕ) → (b ≡ a → ⊥) → is_at (nat_cmp a) b ≡ false
+apart a b other = not_true (is_eq (nat_cmp a b)) (unequal a b (λ e. other (sym e)))

@@ -57,7 +57,8 @@ fn begin(alloc: Global, classes: &mut Vec<Class>, asks: Asks, job: u64) -> Resul
     Ok(())
 }
 
-fn put(jobs: &mut BTreeSet<u64>, job: u64) -> Result<(), AllocError>
+/// Puts a job among others. Errors: memory was refused.
+pub(crate) fn put(jobs: &mut BTreeSet<u64>, job: u64) -> Result<(), AllocError>
     ensures there { OnOk result (Contains jobs.new.keys job) }
     ensures keeps { (n : ℕ) → Contains jobs.old.keys n → Contains jobs.new.keys n }
 {

@@ -2,13 +2,13 @@
 //! first job of a class that it may run, and that is pending still, is what it may be given.
 #![tactic(auto)]
 
-pub mod after;
 mod asks;
 mod best;
 mod classes;
 mod fill;
 mod heads;
-pub mod laws;
+pub mod lines;
+mod notes;
 pub mod offer;
 mod pending;
 pub mod queue;

@@ -7,12 +7,12 @@ ghost use Rattle.ci_server_lookups.specs.Keeps.{IsKept};
 ghost use Rattle.ci_server_lookups.specs.Search.{IsOffered};
 ghost use Rattle.ci_memory_queue.specs.declared.queue.Asks.{Asks};
 ghost use Rattle.ci_memory_queue.specs.Covers.{is_pending_at, IsAmong, IsSorted, Covers, IsRight};
-ghost use Rattle.ci_memory_queue.specs.Order.{RowsAscend};
 ghost use Rattle.ci_memory_queue.specs.Offers.{IsDemand};
 
 use crate::best::best_of;
 use crate::classes::put_in;
 use crate::fill::filled;
+use crate::notes::Notes;
 use crate::pending::pending_row;
 use crate::queue::{Asks, Class, Queue};
 use ci_machine::records::Runner;
@@ -32,7 +32,7 @@ pub fn first_offer<T: Turns>(
     runner: &Runner,
 ) -> Result<Option<Offer>, StoreFault>
     ensures offered { LoadsBy T.honest T.holds T.leaves store.old store.new result (λ k found. IsRight queue.old k → IsKept k → IsOffered k runner.now found) }
-    ensures right { T.honest store.new → (k : Kept) → T.holds store.old k → RowsAscend k.board → IsRight queue.old k → IsRight queue.new k }
+    ensures right { T.honest store.new → (k : Kept) → T.holds store.old k → IsRight queue.old k → IsRight queue.new k }
 {
     let known = known_or_filled(alloc, store, queue.take())?;
     let mut known = sorted(alloc, store, known)?;
@@ -47,7 +47,7 @@ fn known_or_filled<T: Store>(
     store: &mut T,
     queue: Option<Queue>,
 ) -> Result<Queue, StoreFault>
-    ensures { LoadsBy T.honest T.holds T.leaves store.old store.new result (λ k q. RowsAscend k.board → IsRight queue k → Covers q k.state k.board) }
+    ensures { LoadsBy T.honest T.holds T.leaves store.old store.new result (λ k q. IsRight queue k → Covers q k.state k.board) }
 {
     match queue {
         Some(queue) => Ok(queue),
@@ -59,24 +59,24 @@ fn known_or_filled<T: Store>(
 fn sorted<T: Store>(alloc: Global, store: &mut T, queue: Queue) -> Result<Queue, StoreFault>
     ensures { LoadsBy T.honest T.holds T.leaves store.old store.new result (λ k q. Covers queue k.state k.board → (q.fresh ≡ []) × Covers q k.state k.board) }
 {
-    let Queue {
-        mut classes,
+    let Queue { mut classes, notes } = queue;
+    let Notes {
         mut fresh,
         newest,
         mut newest_pipeline,
         room,
-    } = queue;
+    } = notes;
     for job in fresh.as_slice() {
         sort_in(alloc, store, &mut classes, &mut newest_pipeline, *job)?;
     }
     fresh.clear();
-    Ok(Queue {
-        classes,
+    let notes = Notes {
         fresh,
         newest,
         newest_pipeline,
         room,
-    })
+    };
+    Ok(Queue { classes, notes })
 }
 
 /// Puts a job into the class of what it asks, if it is pending.

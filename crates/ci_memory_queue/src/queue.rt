@@ -1,5 +1,13 @@
 //! What is remembered of the pending jobs.
 
+ghost use Rattle.std.specs.Prelude.{ℕ, List};
+ghost use Rattle.ci_machine.specs.declared.change.IndexChange.{IndexChange};
+ghost use Rattle.ci_machine.specs.Kept.{Kept, written, cleared};
+ghost use Rattle.ci_memory_queue.specs.Covers.{IsRight};
+
+use crate::notes::{Notes, notes_after};
+use ci_machine::change::RowChange;
+use ci_machine::records::{BoardRow, GroupOrder};
 use ci_machine::text::{Text, Texts};
 use std::collections::BTreeSet;
 use std::marker::Model;
@@ -27,14 +35,8 @@ pub struct Class {
 #[derive(Drop)]
 pub struct Queue {
     pub(crate) classes: Vec<Class>,
-    /// Jobs that are in no class yet.
-    pub(crate) fresh: Vec<u64>,
-    /// No pending job has a greater number.
-    pub(crate) newest: u64,
-    /// No job is in a class whose pipeline has a greater number.
-    pub(crate) newest_pipeline: u64,
-    /// How many more jobs may be noted before all is forgotten.
-    pub(crate) room: u64,
+    /// Those that are in no class yet are fresh.
+    pub(crate) notes: Notes,
 }
 
 impl Model for Queue {
@@ -42,5 +44,16 @@ impl Model for Queue {
 
     ghost Value = { Known };
 
-    ghost view = { λ q. record { classes = q.classes.items; fresh = q.fresh.items; newest = q.newest; newest_pipeline = q.newest_pipeline } };
+    ghost view = { λ q. record { classes = q.classes.items; fresh = q.notes.fresh; newest = q.notes.newest; newest_pipeline = q.notes.newest_pipeline } };
+}
+
+/// The queue after a commit's changes of records and its rows: jobs that may ask something else and rows of pending jobs are noted. It is
+/// forgotten where a record goes that a class may depend on, where memory is refused, and where more has been noted than there is room
+/// for.
+pub fn queue_after(queue: Option<Queue>, changes: &[RowChange], rows: &[BoardRow]) -> Option<Queue>
+    ensures { (k : Kept) (jobs : List ℕ) (indexes : List IndexChange) → IsRight queue k → IsRight result (written changes.now rows.now indexes (cleared jobs k)) }
+{
+    let Queue { classes, notes } = queue?;
+    let notes = notes_after(notes, GroupOrder::NewestReadyFirst, changes, rows)?;
+    Some(Queue { classes, notes })
 }

@@ -22,9 +22,9 @@ use Rattle.ci_graph_layout.specs.declared.fault.PlanFault.TheVariants as plan
 use Rattle.ci_machine.specs.declared.request.NewPipeline.{NewPipeline}
 use Rattle.ci_machine_steps.specs.Files.{configures}
 use Rattle.ci_machine_steps.specs.Pipelines.{given_by}
-use Rattle.ci_cli_check.specs.declared.verdict.Verdict.{Verdict}
-use Rattle.ci_cli_check.specs.declared.verdict.Verdict.TheVariants as check
-use Rattle.ci_cli_check.specs.Verdicts.{Fits, FitsText, IsTooLong, TellsUnread}
+use Rattle.ci_explain.specs.declared.check.verdict.Verdict.{Verdict}
+use Rattle.ci_explain.specs.declared.check.verdict.Verdict.TheVariants as check
+use Rattle.ci_explain.specs.Verdicts.{Fits, FitsText, IsTooLong, TellsUnread}
 use Rattle.ci_yaml.specs.declared.fault.YamlFault.TheVariants as yaml
 use Rattle.ci_yaml.specs.declared.fault.YamlFault.{YamlFault}
 use Rattle.ci_yaml.specs.Stops.{RefusedBy, GivesTree}

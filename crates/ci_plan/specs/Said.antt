@@ -22,10 +22,10 @@ use Rattle.ci_graph_layout.specs.declared.planning.PipelinePlan.{PipelinePlan}
 use Rattle.ci_machine.specs.declared.request.NewPipeline.{NewPipeline}
 use Rattle.ci_machine_steps.specs.Files.{IsRead}
 use Rattle.ci_machine_steps.specs.Pipelines.{given_by}
-use Rattle.ci_cli_check.specs.Verdicts.{Fits, FitsText, TellsUnread}
-use Rattle.ci_cli_check.specs.Verdicts.{status as verdict_status}
-use Rattle.ci_cli_check.specs.declared.verdict.Verdict.{Verdict}
-use Rattle.ci_cli_check.specs.declared.verdict.Verdict.TheVariants as check
+use Rattle.ci_explain.specs.Verdicts.{Fits, FitsText, TellsUnread}
+use Rattle.ci_explain.specs.Verdicts.{status as verdict_status}
+use Rattle.ci_explain.specs.declared.check.verdict.Verdict.{Verdict}
+use Rattle.ci_explain.specs.declared.check.verdict.Verdict.TheVariants as check
 use Rattle.ci_plan.specs.Rules.{left_out}
 use Rattle.ci_plan.specs.Planned.{planned_jobs}
 use Rattle.ci_plan.specs.Faults.{code_of, IsAbout}

@@ -6,7 +6,7 @@ use Rattle.ci_values.specs.declared.when.When.TheVariants.{OnSuccess, OnFailure,
 use Rattle.ci_config.specs.Config.{Text}
 use Rattle.ci_graph_layout.specs.declared.fault.GraphCode.{GraphCode}
 use Rattle.ci_graph_layout.specs.declared.fault.GraphCode.TheVariants.{G1, G2, G3, G4, G5}
-use Rattle.ci_cli_check.specs.Verdicts.{report_line}
+use Rattle.ci_explain.specs.Verdicts.{report_line}
 use Rattle.ci_plan.specs.Faults.{code_of}
 use Rattle.ci_plan.specs.declared.records.PlannedJob.{PlannedJob}
 use Rattle.ci_plan.specs.declared.records.LeftOut.{LeftOut}

@@ -1,19 +1,14 @@
 -- What the code has, without where it lies in memory.
 use Rattle.std.specs.Prelude.{ℕ, List, [], ◌∷◌, ◌++◌, map, filter, Option, option_map}
 use Rattle.ci_values.specs.declared.when.When.{When}
-use Rattle.ci_values.specs.Layers.{layer_view}
 use Rattle.ci_config.specs.Config.{Text, Job, Config}
 use Rattle.ci_config.specs.View.{job_view}
 use Rattle.ci_graph_layout.specs.Inclusion.{Given, IncludedJob, without_rules, included}
 use Rattle.ci_graph_layout.specs.Layout.{put, is_of, predecessors}
 use Rattle.ci_plan.specs.Rules.{rule_of}
 use Rattle.ci_plan.specs.Planned.{name_at}
-use Rattle.ci_plan.specs.declared.brought.Brought.{Brought}
 use Rattle.ci_plan.specs.declared.entries.Entry.{Entry}
 use Rattle.ci_plan.specs.declared.records.PlannedJob.{PlannedJob}
-
-abbrev pub brought_view : Brought → Given
-brought_view b = record { pipeline = layer_view b.request.items; project = []; predefined = layer_view b.predefined.items }
 
 -- a job that is included, when it runs, and the number of the rule that took it in
 pub record Taken : Type 0 where

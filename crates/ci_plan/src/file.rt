@@ -4,7 +4,7 @@ ghost use Rattle.std.specs.Prelude.{◌≡◌, ◌≢◌, Result, IfOk, IfErr, I
 ghost use Rattle.std.specs.Io.KnownBytes.{Appends};
 ghost use Rattle.std.specs.IoError.{error_kind};
 ghost use Rattle.std.specs.declared.io.Error.{Error};
-ghost use Rattle.ci_cli_check.specs.Verdicts.{TellsUnread};
+ghost use Rattle.ci_explain.specs.Verdicts.{TellsUnread};
 ghost use Rattle.ci_plan.specs.Said.{Says, IsSaidOf, IsPrintedOf};
 ghost use Rattle.ci_plan.specs.TableText.{outcome_text};
 ghost use Rattle.ci_plan.specs.declared.verdict.Outcome.TheVariants.{Planned, Refused};
@@ -12,7 +12,7 @@ ghost use Rattle.ci_plan.specs.declared.verdict.Outcome.TheVariants.{Planned, Re
 use crate::records::{Note, Plan};
 use crate::table::told_text;
 use crate::verdict::{Outcome, outcome_of};
-use ci_cli_check::{Report, Verdict, first_bytes};
+use ci_explain::check::{Report, Verdict, first_bytes};
 use ci_machine::request::NewPipeline;
 use ci_values::items::Items;
 use ci_yaml::YamlFault;

@@ -1,7 +1,6 @@
 //! What a pipeline of a CI file would be, before it runs.
 #![tactic(auto)]
 
-mod brought;
 mod circles;
 mod deciding;
 mod entries;

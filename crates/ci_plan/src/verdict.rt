@@ -7,22 +7,22 @@ ghost use Rattle.ci_graph_layout.specs.View.{given_view};
 ghost use Rattle.ci_machine_steps.specs.Pipelines.{given_by};
 ghost use Rattle.ci_yaml_lines.specs.declared.code.Code.TheVariants.{Y1};
 ghost use Rattle.ci_yaml.specs.declared.fault.YamlFault.TheVariants.{Fault};
-ghost use Rattle.ci_cli_check.specs.Verdicts.{IsTooLong};
-ghost use Rattle.ci_cli_check.specs.declared.verdict.Verdict.TheVariants as check;
+ghost use Rattle.ci_explain.specs.Verdicts.{IsTooLong};
+ghost use Rattle.ci_explain.specs.declared.check.verdict.Verdict.TheVariants as check;
 ghost use Rattle.ci_plan.specs.declared.verdict.Outcome.TheVariants.{Refused};
 ghost use Rattle.ci_plan.specs.Said.{Says, SaysText, refusal, status};
 
-use crate::brought::Brought;
 use crate::notes::notes;
 use crate::planning::plan;
 use crate::records::{Note, Plan};
-use ci_cli_check::Verdict;
 use ci_config::laws::may_refuse_patterns;
 use ci_config::{ConfigCode, ConfigFault};
 use ci_config_reader::config;
+use ci_explain::check::Verdict;
 use ci_expr::ExprCode;
 use ci_graph_layout::{Given, PlanFault};
 use ci_machine::request::NewPipeline;
+use ci_machine_pipelines::layers::Brought;
 use ci_values::items::Items;
 use ci_values::limits::MAX_FILE_BYTES;
 use ci_yaml::{Code, Tree, YamlFault, read};
@@ -118,7 +118,7 @@ fn judge_text(alloc: Global, text: &str, asked: &NewPipeline) -> Outcome
     let Ok(number) = format!(in alloc; "{project}") else {
         return Outcome::Refused(Verdict::Refused(YamlFault::Memory));
     };
-    match Brought::new(alloc, asked, number.as_str()) {
+    match Brought::new(alloc, asked, &[], number.as_str()) {
         Ok(brought) => outcome_of_text(alloc, text, &brought.given()),
         Err(_) => Outcome::Refused(Verdict::Refused(YamlFault::Memory)),
     }

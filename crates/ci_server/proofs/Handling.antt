@@ -10,8 +10,8 @@ use Rattle.ci_machine.specs.Kept.{Kept, cleared, put_rows, written}
 use Rattle.ci_machine_steps.specs.Sound.{IsSound}
 use Rattle.ci_machine_steps.specs.History.{IsReached}
 use Rattle.ci_machine_steps.specs.Step.{Happens, Step}
-use Rattle.ci_store_tables.specs.declared.fault.StoreFault.{StoreFault}
-use Rattle.ci_store_tables.specs.declared.fault.StoreFault.TheVariants.{Memory, Broken}
+use Rattle.ci_store.specs.declared.fault.StoreFault.{StoreFault}
+use Rattle.ci_store.specs.declared.fault.StoreFault.TheVariants.{Memory, Broken}
 use Rattle.ci_store.specs.Store.{Ends, UnlessBroken}
 use Rattle.ci_server.specs.declared.fail_stop.FailStop.{FailStop}
 use Rattle.ci_machine.specs.Reply.{outcome_of}

@@ -20,13 +20,13 @@ use Rattle.ci_machine.specs.Kept.{Kept, nothing_kept, row_cmp, put_rows, written
 use Rattle.ci_machine_steps.specs.Sound.{IsSound}
 use Rattle.ci_machine.specs.Statuses.{AreBoard}
 use Rattle.ci_machine.specs.Holders.{AreHolders}
-use Rattle.ci_store_tables.specs.Stands as tables
+use Rattle.ci_store.specs.Stands as tables
 use Rattle.ci_store_sqlite.specs.Create.{IsBlank}
 use Rattle.ci_store_sqlite.specs.Schema as table
 use Rattle.ci_store_sqlite.specs.Rows.{holder_row}
 use Rattle.ci_store_sqlite.specs.Stands.{StandsIn, IsAt, LeavesOnly, Rises}
-use Rattle.ci_store_versions.specs.Version1.{StandsIn1, StandsInAny, LeavesAny}
-use Rattle.ci_store_versions.specs.Open.{HadVersion}
+use Rattle.ci_store_sqlite.specs.Version1.{StandsIn1, StandsInAny, LeavesAny}
+use Rattle.ci_store_sqlite.specs.AnyVersion.{HadVersion}
 use Rattle.ci_server_lookups.specs.Keeps.{IsKept}
 use Rattle.ci_server_lookups.proofs.Changes.{state_stays, board_stays}
 use Rattle.ci_server_events.specs.declared.planned.Beside.{Beside}

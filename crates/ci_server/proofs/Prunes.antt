@@ -8,8 +8,8 @@ use Rattle.ci_machine.specs.declared.request.Request.TheVariants.{PruneOne}
 use Rattle.ci_machine.specs.declared.request.Seed.{Seed}
 use Rattle.ci_machine.specs.State.{State}
 use Rattle.ci_machine_steps.specs.Step.{Step}
-use Rattle.ci_store_tables.specs.declared.fault.StoreFault.{StoreFault}
-use Rattle.ci_store_tables.specs.declared.fault.StoreFault.TheVariants.{Memory, Broken}
+use Rattle.ci_store.specs.declared.fault.StoreFault.{StoreFault}
+use Rattle.ci_store.specs.declared.fault.StoreFault.TheVariants.{Memory, Broken}
 use Rattle.ci_server.specs.Handling.{Performs}
 
 module _ (before then now : ℕ) (old seed : Seed) (s : State) where

@@ -7,8 +7,8 @@ use Rattle.ci_machine.specs.Kept.{Kept}
 use Rattle.ci_machine.specs.State.{State}
 use Rattle.ci_machine_steps.specs.Sound.{IsSound}
 use Rattle.ci_machine_steps.specs.History.{IsReached}
-use Rattle.ci_store_tables.specs.declared.fault.StoreFault.{StoreFault}
-use Rattle.ci_store_tables.specs.declared.fault.StoreFault.TheVariants.{Memory, Broken}
+use Rattle.ci_store.specs.declared.fault.StoreFault.{StoreFault}
+use Rattle.ci_store.specs.declared.fault.StoreFault.TheVariants.{Memory, Broken}
 use Rattle.ci_store.specs.Store.{LoadsBy}
 use Rattle.ci_server_lookups.specs.Keeps.{IsKept}
 use Rattle.ci_server.specs.declared.fail_stop.FailStop.{FailStop}

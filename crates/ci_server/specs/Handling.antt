@@ -11,8 +11,8 @@ use Rattle.ci_machine.specs.declared.request.Seed.{Seed}
 use Rattle.ci_machine.specs.Reply.{refusal, Outcome, Stepped, LackedMemory, StoreFailed}
 use Rattle.ci_machine.specs.State.{State}
 use Rattle.ci_machine_steps.specs.Step.{Step}
-use Rattle.ci_store_tables.specs.declared.fault.StoreFault.{StoreFault}
-use Rattle.ci_store_tables.specs.declared.fault.StoreFault.TheVariants.{Memory, Broken}
+use Rattle.ci_store.specs.declared.fault.StoreFault.{StoreFault}
+use Rattle.ci_store.specs.declared.fault.StoreFault.TheVariants.{Memory, Broken}
 
 -- an event, with its moment and its seed
 abbrev pub Call : Type 0

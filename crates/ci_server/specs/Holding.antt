@@ -12,11 +12,11 @@ use Rattle.ci_machine.specs.Kept.{Kept}
 use Rattle.ci_machine.specs.Statuses.{AreBoard}
 use Rattle.ci_machine.specs.Holders.{AreHolders}
 use Rattle.ci_machine.specs.Indexes.{AreIndexes}
-use Rattle.ci_store_tables.specs.Stands as tables
+use Rattle.ci_store.specs.Stands as tables
 use Rattle.ci_store_sqlite.specs.Schema as table
 use Rattle.ci_store_sqlite.specs.Rows.{holder_row}
 use Rattle.ci_store_sqlite.specs.Stands.{StandsIn, LeavesOnly, LeavesEither}
-use Rattle.ci_store_versions.specs.Version1.{StandsInAny}
+use Rattle.ci_store_sqlite.specs.Version1.{StandsInAny}
 
 -- what is kept is this state, and all that is beside it follows from it
 pub record IsKeptOf (s : State) (k : Kept) : Type 0 where

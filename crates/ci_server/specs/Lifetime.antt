@@ -11,7 +11,7 @@ use Rattle.ci_machine.specs.State.{State}
 use Rattle.ci_machine.specs.Kept.{Kept}
 use Rattle.ci_machine_steps.specs.History.{Past, Leads}
 use Rattle.ci_machine_steps.specs.Laws.{Laws}
-use Rattle.ci_store_versions.specs.Version1.{LeavesAny}
+use Rattle.ci_store_sqlite.specs.Version1.{LeavesAny}
 use Rattle.ci_server.specs.declared.fail_stop.FailStop.{FailStop}
 use Rattle.ci_server.specs.Holding.{IsKeptOf, HoldsIn, StandsFor, KeepsGroups}
 use Rattle.ci_server.specs.Handling.{Call, closed_by}

@@ -15,8 +15,8 @@ use Rattle.ci_machine.specs.ReportRows.{queue_rows, runner_rows}
 use Rattle.ci_machine.specs.State.{State}
 use Rattle.ci_machine.specs.Statuses.{AreBoard}
 use Rattle.ci_machine_steps.specs.History.{IsReached}
-use Rattle.ci_store_tables.specs.declared.fault.StoreFault.{StoreFault}
-use Rattle.ci_server_reports.specs.Told.{TellsPipeline}
+use Rattle.ci_store.specs.declared.fault.StoreFault.{StoreFault}
+use Rattle.ci_server_events.specs.Told.{TellsPipeline}
 use Rattle.ci_server.specs.declared.fail_stop.FailStop.{FailStop}
 use Rattle.ci_server.specs.Handling.{code_of}
 use Rattle.ci_server.specs.Holding.{HoldsIn, LeavesIn}

@@ -16,8 +16,8 @@ use Rattle.ci_machine.specs.Kept.{Kept, nothing_kept}
 use Rattle.ci_machine_steps.specs.History.{IsReached}
 use Rattle.ci_store_sqlite.specs.Create.{IsBlank}
 use Rattle.ci_store_sqlite.specs.Stands.{IsAt, LeavesOnly}
-use Rattle.ci_store_versions.specs.Version1.{LeavesAny}
-use Rattle.ci_store_versions.specs.Open.{HadVersion}
+use Rattle.ci_store_sqlite.specs.Version1.{LeavesAny}
+use Rattle.ci_store_sqlite.specs.AnyVersion.{HadVersion}
 use Rattle.ci_server.specs.declared.fail_stop.FailStop.{FailStop}
 use Rattle.ci_machine.specs.Reply.{outcome_of}
 use Rattle.ci_server.specs.Holding.{IsKeptOf, HoldsIn, LeavesIn}

@@ -17,10 +17,10 @@ use ci_machine::reply::{Answer, Code, Reply, Swept};
 use ci_machine::report::{PipelineRows, QueueRow, RunnerRow};
 use ci_machine::request::{Event, Request, Seed};
 use ci_machine_laws::laws::{a_step_is_answered, sound_of_each_reached_state};
+use ci_server_events::overview::pipeline::pipeline_rows;
+use ci_server_events::overview::queue::queue_rows;
+use ci_server_events::overview::runners::runner_rows;
 use ci_server_lookups::searches::Searches;
-use ci_server_reports::pipeline::pipeline_rows;
-use ci_server_reports::queue::queue_rows;
-use ci_server_reports::runners::runner_rows;
 use ci_store::fault::StoreFault;
 use std::alloc::{AllocError, Global};
 

@@ -54,7 +54,7 @@ use Rattle.ci_machine_statuses.specs.declared.act.Act.TheVariants.{Play, Retry, 
 use Rattle.ci_machine_statuses.specs.declared.outcome.Outcome.{Outcome}
 use Rattle.ci_machine_statuses.specs.Acts.{is_permitted, marked, ended_leases, act_changes, is_acted_on, acted_jobs, acted_state, shows_job_by, shows_pipeline_by, IsOutcome}
 use Rattle.ci_machine_statuses.specs.Lookups.{AreRecords}
-use Rattle.ci_store_tables.specs.declared.fault.StoreFault.{StoreFault}
+use Rattle.ci_store.specs.declared.fault.StoreFault.{StoreFault}
 use Rattle.ci_store.specs.Store.{LoadsBy}
 use Rattle.ci_machine_statuses.specs.HolderChanges.{of_pipeline, unleased}
 use Rattle.ci_server_lookups.specs.declared.records.Records.{Records}

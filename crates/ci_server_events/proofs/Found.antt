@@ -8,7 +8,7 @@ use Rattle.ci_machine.specs.declared.lease.Lease.{Lease}
 use Rattle.ci_machine.specs.declared.records.Attempt.{Attempt}
 use Rattle.ci_machine.specs.State.{State}
 use Rattle.ci_machine_steps.specs.Step.{attempt_at, lease_at, lease_of}
-use Rattle.ci_store_tables.specs.declared.fault.StoreFault.{StoreFault}
+use Rattle.ci_store.specs.declared.fault.StoreFault.{StoreFault}
 
 pub found_is_there : {A : Type 0} (p : A → Bool) (x : A) (xs : List A) → find p xs ≡ Some x → Contains xs x × (p x ≡ true)
 found_is_there p x [] e = absurd (cc)

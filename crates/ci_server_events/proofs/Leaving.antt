@@ -51,7 +51,7 @@ use Rattle.ci_machine_plans.specs.Refusals.{unmade}
 use Rattle.ci_machine_plans.specs.declared.replies.Refusal.{Refusal}
 use Rattle.ci_machine_plans.specs.declared.replies.Refusal.TheVariants as refusal
 use Rattle.ci_machine_statuses.specs.Changes.{LeavesStatuses}
-use Rattle.ci_store_tables.specs.declared.fault.StoreFault.{StoreFault}
+use Rattle.ci_store.specs.declared.fault.StoreFault.{StoreFault}
 use Rattle.ci_store.specs.Store.{LoadsBy}
 use Rattle.ci_server_lookups.specs.Keeps.{IsKept, HoldsKept}
 use Rattle.ci_server_lookups.proofs.Loading.{of_kept}

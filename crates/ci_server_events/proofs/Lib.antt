@@ -11,3 +11,5 @@ pub mod Acting
 pub mod Pruning
 pub mod Sheets
 pub mod GroupLists
+mod ReportTelling
+mod ReportJobs

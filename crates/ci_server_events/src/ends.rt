@@ -17,7 +17,7 @@ ghost use Rattle.ci_store.specs.Store.{LoadsBy};
 ghost use Rattle.ci_server_lookups.specs.Records.{AreOf};
 ghost use Rattle.ci_server_lookups.specs.Keeps.{IsKept};
 ghost use Rattle.ci_server_lookups.specs.Sheets.{IsRight};
-ghost use Rattle.ci_store_tables.specs.declared.fault.StoreFault.TheVariants.{Memory};
+ghost use Rattle.ci_store.specs.declared.fault.StoreFault.TheVariants.{Memory};
 ghost use Rattle.ci_server_events.specs.Planning.{Settles, MovesOne, attempt_ended};
 
 use crate::planned::Beside;

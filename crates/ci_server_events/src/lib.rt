@@ -8,6 +8,7 @@ mod files;
 mod grants;
 mod group_lists;
 mod modes;
+pub mod overview;
 mod pipelines;
 pub mod planned;
 mod projects;

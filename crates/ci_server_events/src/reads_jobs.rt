@@ -12,7 +12,7 @@ ghost use Rattle.ci_machine.specs.Waiting.{claims_in};
 ghost use Rattle.ci_machine_steps.specs.Reads as machine;
 ghost use Rattle.ci_machine_steps.specs.Shows.{pipeline_within};
 ghost use Rattle.ci_machine_statuses.specs.Lookups.{AreRecords};
-ghost use Rattle.ci_store_tables.specs.declared.fault.StoreFault.TheVariants.{Memory};
+ghost use Rattle.ci_store.specs.declared.fault.StoreFault.TheVariants.{Memory};
 ghost use Rattle.ci_store.specs.Store.{LoadsBy};
 ghost use Rattle.ci_server_lookups.specs.Keeps.{IsKept};
 

@@ -9,7 +9,7 @@ ghost use Rattle.ci_machine.specs.Kept.{Kept};
 ghost use Rattle.ci_machine.specs.Statuses.{jobs_of, facts_of, rows_of};
 ghost use Rattle.ci_machine_steps.specs.Reads as machine;
 ghost use Rattle.ci_machine_statuses.specs.Lookups.{AreRecords};
-ghost use Rattle.ci_store_tables.specs.declared.fault.StoreFault.TheVariants.{Memory};
+ghost use Rattle.ci_store.specs.declared.fault.StoreFault.TheVariants.{Memory};
 ghost use Rattle.ci_store.specs.Store.{LoadsBy};
 ghost use Rattle.ci_server_lookups.specs.Keeps.{IsKept};
 

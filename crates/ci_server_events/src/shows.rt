@@ -15,7 +15,7 @@ ghost use Rattle.ci_machine_steps.specs.Sound.{IsSound};
 ghost use Rattle.ci_machine.specs.Statuses.{jobs_of, facts_of, rows_of, status_for, AreBoard};
 ghost use Rattle.ci_machine_steps.specs.Step as step;
 ghost use Rattle.ci_machine_statuses.specs.Lookups.{AreRecords};
-ghost use Rattle.ci_store_tables.specs.declared.fault.StoreFault.TheVariants.{Memory};
+ghost use Rattle.ci_store.specs.declared.fault.StoreFault.TheVariants.{Memory};
 ghost use Rattle.ci_store.specs.Store.{LoadsBy};
 ghost use Rattle.ci_server_lookups.specs.Keeps.{IsKept};
 ghost use Rattle.ci_server_events.specs.Planning.{PlansFor};

@@ -19,7 +19,7 @@ use Rattle.ci_machine_steps.specs.Step.{Step}
 use Rattle.ci_machine_steps.specs.History.{Past, Leads}
 use Rattle.ci_machine_laws.specs.Examples.{seed, token, pipeline, new_runner, with_runner, with_project, project_added, runner_added}
 use Rattle.ci_store_sqlite.specs.Stands.{StandsIn}
-use Rattle.ci_store_versions.specs.Version1.{LeavesAny}
+use Rattle.ci_store_sqlite.specs.Version1.{LeavesAny}
 use Rattle.ci_server.specs.declared.fail_stop.FailStop.{FailStop}
 use Rattle.ci_server.specs.Holding.{HoldsIn}
 use Rattle.ci_server.specs.Handling.{Call}

@@ -1,8 +1,8 @@
 -- What a call leaves of a store: what it keeps, a state with rows of statuses, and what a stop may leave.
 use Rattle.std.specs.Prelude.{Result, Ok, Err, IfOk}
 use Rattle.ci_machine.specs.Kept.{Kept}
-use Rattle.ci_store_tables.specs.declared.fault.StoreFault.{StoreFault}
-use Rattle.ci_store_tables.specs.declared.fault.StoreFault.TheVariants.{Memory, Broken}
+use Rattle.ci_store.specs.declared.fault.StoreFault.{StoreFault}
+use Rattle.ci_store.specs.declared.fault.StoreFault.TheVariants.{Memory, Broken}
 
 -- a fact where the call did what it was asked or lacked memory
 abbrev pub UnlessBroken : {A : Type 0} → Result A StoreFault → Type 0 → Type 0

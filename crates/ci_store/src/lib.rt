@@ -2,6 +2,8 @@
 #![tactic(auto)]
 
 pub mod delta;
+pub mod fault;
+pub mod read;
 pub mod store;
-
-pub use ci_store_tables::fault;
+pub mod values;
+pub mod write;

@@ -12,6 +12,7 @@ ghost use Rattle.ci_store.specs.Made.{made_before, AreSome};
 ghost use Rattle.ci_store.specs.Store.{LoadsBy, Ends};
 
 use crate::delta::Delta;
+use crate::fault::StoreFault;
 use ci_board::facts::Status;
 use ci_machine::change::Counter;
 use ci_machine::moment::Moment;
@@ -20,7 +21,6 @@ use ci_machine::records::{
     Runner, Variable,
 };
 use ci_machine::text::{Bytes, Text};
-use ci_store_tables::fault::StoreFault;
 
 /// How many rows a page of pending jobs has, at most.
 pub const PAGE_ROWS: usize = 16;

@@ -26,13 +26,13 @@ use Rattle.ci_machine.specs.State.{without_record, with_bytes, trace_cmp}
 use Rattle.ci_machine.specs.Lookups.{trace_of}
 use Rattle.ci_machine.specs.declared.records.Trace.{Trace}
 use Rattle.ci_machine.specs.declared.change.Key.TheVariants as key
-use Rattle.ci_store_tables.specs.Stands.{HoldsRows, without}
-use Rattle.ci_store_tables.specs.Statements.{HasPut}
-use Rattle.ci_store_tables.proofs.Writes.{IsWholeStep, whole_if_alone}
-use Rattle.ci_store_tables.proofs.Puts.{MeansPut, MeansRemove, GivesRecord}
-use Rattle.ci_store_tables.proofs.Absent.{absent_unique}
-use Rattle.ci_store_tables.proofs.Scalars.{cast_int, equal_int}
-use Rattle.ci_store_tables.proofs.Selects.{MeansSelect, MeansSelectTo}
+use Rattle.ci_store.specs.Stands.{HoldsRows, without}
+use Rattle.ci_store.specs.Statements.{HasPut}
+use Rattle.ci_store.proofs.Writes.{IsWholeStep, whole_if_alone}
+use Rattle.ci_store.proofs.Puts.{MeansPut, MeansRemove, GivesRecord}
+use Rattle.ci_store.proofs.Absent.{absent_unique}
+use Rattle.ci_store.proofs.Scalars.{cast_int, equal_int}
+use Rattle.ci_store.proofs.Selects.{MeansSelect, MeansSelectTo}
 use Rattle.ci_store_rows.specs.declared.block.Block.{Block}
 use Rattle.ci_store_rows.specs.declared.texts.TheConstants.{UPDATE_BLOCK, INSERT_BLOCK, DELETE_BLOCKS, SELECT_BLOCKS, SELECT_LAST_BLOCKS}
 use Rattle.ci_store_rows.specs.Schema.{the_schema, piece, piece_index_1}

@@ -23,12 +23,12 @@ use Rattle.ci_machine.specs.Kept.{Kept, row_cmp, cleared}
 use Rattle.ci_machine.specs.State.{put}
 use Rattle.ci_machine.specs.Ranges.{is_within, rows_within, row_at, rows_with, is_pending_after, pending_after}
 use Rattle.ci_machine.specs.declared.records.BoardRow.{BoardRow}
-use Rattle.ci_store_tables.specs.Stands.{image, places}
-use Rattle.ci_store_tables.specs.Statements.{HasPut}
-use Rattle.ci_store_tables.proofs.Puts.{MeansPut, MeansRemove, GivesRecord}
-use Rattle.ci_store_tables.proofs.Absent.{absent_rowid}
-use Rattle.ci_store_tables.proofs.Scalars.{cast_int, compares}
-use Rattle.ci_store_tables.proofs.Selects.{MeansSelect, MeansSelectTo}
+use Rattle.ci_store.specs.Stands.{image, places}
+use Rattle.ci_store.specs.Statements.{HasPut}
+use Rattle.ci_store.proofs.Puts.{MeansPut, MeansRemove, GivesRecord}
+use Rattle.ci_store.proofs.Absent.{absent_rowid}
+use Rattle.ci_store.proofs.Scalars.{cast_int, compares}
+use Rattle.ci_store.proofs.Selects.{MeansSelect, MeansSelectTo}
 use Rattle.ci_store_rows.specs.declared.texts.TheConstants.{UPDATE_ROW, INSERT_ROW, DELETE_ROW, SELECT_ROW, SELECT_ROWS_WITHIN, SELECT_ROWS_WITH, SELECT_ROWS_AFTER}
 use Rattle.ci_store_rows.specs.Schema.{the_schema, board}
 use Rattle.ci_store_rows.specs.Rows.{number, board_row}

@@ -18,10 +18,10 @@ use Rattle.ci_machine.specs.Kept.{Kept}
 use Rattle.ci_machine.specs.Lookups.{demand_of, demand_at}
 use Rattle.ci_machine.specs.declared.records.Job.{Job}
 use Rattle.ci_machine.specs.declared.records.Demand.{Demand}
-use Rattle.ci_store_tables.proofs.Selects.{MeansSelect}
-use Rattle.ci_store_tables.proofs.Scalars.{compares}
-use Rattle.ci_store_records.specs.JsonText.{spec_text, spec_data}
-use Rattle.ci_store_records.specs.Reads.{ReadsDemand}
+use Rattle.ci_store.proofs.Selects.{MeansSelect}
+use Rattle.ci_store.proofs.Scalars.{compares}
+use Rattle.ci_store_rows.specs.JsonText.{spec_text, spec_data}
+use Rattle.ci_store_rows.specs.Reads.{ReadsDemand}
 use Rattle.ci_store_rows.specs.declared.texts.TheConstants.{SELECT_DEMAND, SELECT_DEMANDS_ABOVE}
 use Rattle.ci_store_rows.specs.declared.columns.TheConstants.{LAST_INTEGER}
 use Rattle.ci_store_rows.specs.Schema.{the_schema, job}

@@ -15,8 +15,8 @@ use Rattle.sqlite_trees.specs.View.{IsShaped}
 use Rattle.sqlite_trees.specs.declared.store.Shape.TheVariants as shape
 use Rattle.ci_machine.specs.Kept.{nothing_kept}
 use Rattle.ci_machine.specs.State.{first_numbers}
-use Rattle.ci_store_tables.specs.Stands.{image, places, without, Holds, IsOf}
-use Rattle.ci_store_tables.proofs.Puts.{inserts_one}
+use Rattle.ci_store.specs.Stands.{image, places, without, Holds, IsOf}
+use Rattle.ci_store.proofs.Puts.{inserts_one}
 use Rattle.ci_store_rows.specs.declared.texts.TheConstants.{UPDATE_META, INSERT_META}
 use Rattle.ci_store_rows.specs.Schema.{the_schema, meta}
 use Rattle.ci_store_rows.specs.Stands.{meta_row, meta_rows, Stands}

@@ -22,11 +22,11 @@ use Rattle.ci_machine.specs.Eligible.{holds}
 use Rattle.ci_machine.specs.Holders.{holder_cmp, holder_at}
 use Rattle.ci_machine.specs.declared.records.Holder.{Holder}
 use Rattle.ci_machine.specs.declared.change.IndexChange.TheVariants.{Free}
-use Rattle.ci_store_tables.specs.Statements.{HasPut}
-use Rattle.ci_store_tables.proofs.Writes.{IsWholeStep, whole_if_alone}
-use Rattle.ci_store_tables.proofs.Puts.{MeansPut, MeansRemove, GivesRecord}
-use Rattle.ci_store_tables.proofs.Absent.{absent_unique}
-use Rattle.ci_store_tables.proofs.Scalars.{cast_int}
+use Rattle.ci_store.specs.Statements.{HasPut}
+use Rattle.ci_store.proofs.Writes.{IsWholeStep, whole_if_alone}
+use Rattle.ci_store.proofs.Puts.{MeansPut, MeansRemove, GivesRecord}
+use Rattle.ci_store.proofs.Absent.{absent_unique}
+use Rattle.ci_store.proofs.Scalars.{cast_int}
 use Rattle.ci_store_rows.specs.declared.texts.TheConstants.{UPDATE_HOLDER, INSERT_HOLDER, DELETE_HOLDER, SELECT_HOLDER, SELECT_HOLDERS_IN, SELECT_HOLDERS_OF}
 use Rattle.ci_store_rows.specs.Schema.{the_schema, holder, holder_index_1}
 use Rattle.ci_store_rows.specs.Rows.{number, holder_row}
@@ -35,7 +35,7 @@ use Rattle.ci_store_rows.proofs.OneList.{IsAlike, alike_but, regular_with_holder
 use Rattle.ci_store_rows.proofs.Lists.{put_rises, by_both}
 use Rattle.ci_store_rows.proofs.Records.{is, put_stands, same_number, finds_named}
 use Rattle.sqlite.proofs.Callers.{IsPlain}
-use Rattle.ci_store_tables.proofs.Selects.{MeansSelect}
+use Rattle.ci_store.proofs.Selects.{MeansSelect}
 use Rattle.ci_store_rows.specs.Found.{ShowsRecords, listed}
 use Rattle.ci_store_rows.proofs.Owned.{tests, sets, terms, named, same_named, unnumbered, agrees, removed_owned, owned_found}
 use Rattle.ci_store_rows.proofs.Shows.{columns_of, names_of, by, rising_text, shows_passing, found_one}

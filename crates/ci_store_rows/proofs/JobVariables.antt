@@ -19,11 +19,11 @@ use Rattle.ci_machine.specs.State.{with_record, without_record, job_variable_cmp
 use Rattle.ci_machine.specs.declared.records.JobVariable.{JobVariable}
 use Rattle.ci_machine.specs.declared.change.Record.TheVariants as row
 use Rattle.ci_machine.specs.declared.change.Key.TheVariants as key
-use Rattle.ci_store_tables.specs.Statements.{HasPut}
-use Rattle.ci_store_tables.proofs.Writes.{IsWholeStep, whole_if_alone}
-use Rattle.ci_store_tables.proofs.Puts.{MeansPut, MeansRemove, GivesRecord}
-use Rattle.ci_store_tables.proofs.Absent.{absent_unique}
-use Rattle.ci_store_tables.proofs.Scalars.{cast_int}
+use Rattle.ci_store.specs.Statements.{HasPut}
+use Rattle.ci_store.proofs.Writes.{IsWholeStep, whole_if_alone}
+use Rattle.ci_store.proofs.Puts.{MeansPut, MeansRemove, GivesRecord}
+use Rattle.ci_store.proofs.Absent.{absent_unique}
+use Rattle.ci_store.proofs.Scalars.{cast_int}
 use Rattle.ci_store_rows.specs.declared.texts.TheConstants.{UPDATE_JOB_VARIABLE, INSERT_JOB_VARIABLE, DELETE_JOB_VARIABLE, DELETE_JOB_VARIABLES, SELECT_JOB_VARIABLES}
 use Rattle.ci_store_rows.specs.Schema.{the_schema, jobvar, jobvar_index_1}
 use Rattle.ci_store_rows.specs.Rows.{number, job_variable_row}
@@ -32,7 +32,7 @@ use Rattle.ci_store_rows.proofs.OneList.{IsAlike, alike_but, regular_with_job_va
 use Rattle.ci_store_rows.proofs.Lists.{put_rises, by_both}
 use Rattle.ci_store_rows.proofs.Records.{is, put_stands, same_number}
 use Rattle.sqlite.proofs.Callers.{IsPlain}
-use Rattle.ci_store_tables.proofs.Selects.{MeansSelect}
+use Rattle.ci_store.proofs.Selects.{MeansSelect}
 use Rattle.ci_store_rows.specs.Found.{ShowsRecords}
 use Rattle.ci_store_rows.proofs.Owned.{tests, sets, terms, named, same_named, unnumbered, agrees, removed_owned, owned_found}
 use Rattle.ci_store_rows.proofs.Shows.{columns_of, names_of, by, rising_text}

@@ -14,16 +14,16 @@ use Rattle.ci_machine.specs.State.{with_record, without_record, job_cmp}
 use Rattle.ci_machine.specs.declared.records.Job.{Job}
 use Rattle.ci_machine.specs.declared.change.Record.TheVariants as row
 use Rattle.ci_machine.specs.declared.change.Key.TheVariants as key
-use Rattle.ci_store_tables.specs.Stands.{image, places}
-use Rattle.ci_store_tables.specs.Statements.{HasPut}
-use Rattle.ci_store_tables.proofs.Puts.{MeansPut, MeansRemove, GivesRecord}
-use Rattle.ci_store_tables.proofs.Absent.{absent_rowid}
-use Rattle.ci_store_tables.proofs.Childless.{cascade}
-use Rattle.ci_store_tables.proofs.Scalars.{cast_int, compares}
+use Rattle.ci_store.specs.Stands.{image, places}
+use Rattle.ci_store.specs.Statements.{HasPut}
+use Rattle.ci_store.proofs.Puts.{MeansPut, MeansRemove, GivesRecord}
+use Rattle.ci_store.proofs.Absent.{absent_rowid}
+use Rattle.ci_store.proofs.Childless.{cascade}
+use Rattle.ci_store.proofs.Scalars.{cast_int, compares}
 use Rattle.ci_store_rows.specs.declared.texts.TheConstants.{UPDATE_JOB, INSERT_JOB, DELETE_JOB, SELECT_JOB, SELECT_JOBS_OF, SELECT_JOBS_ABOVE}
 use Rattle.ci_store_rows.specs.declared.columns.TheConstants.{LAST_INTEGER}
 use Rattle.ci_store_rows.specs.Schema.{the_schema, job, need}
-use Rattle.ci_store_records.specs.JsonText.{spec_text, spec_data}
+use Rattle.ci_store_rows.specs.JsonText.{spec_text, spec_data}
 use Rattle.serde_json.specs.Read.{read}
 use Rattle.ci_store_rows.specs.Rows.{number, job_row}
 use Rattle.ci_store_rows.specs.Stands.{rows_by_tree, rows_of, IsRegular, Stands, IsAt}
@@ -33,7 +33,7 @@ use Rattle.ci_store_rows.proofs.Records.{is, put_stands, same_number, finds_numb
 use Rattle.sqlite.specs.Collation.TheVariants.{Binary}
 use Rattle.sqlite_schema.specs.Rules.{equal}
 use Rattle.sqlite.proofs.Callers.{IsPlain}
-use Rattle.ci_store_tables.proofs.Selects.{MeansSelect}
+use Rattle.ci_store.proofs.Selects.{MeansSelect}
 use Rattle.ci_store_rows.specs.Found.{ShowsRecords, listed, FindsNumber}
 use Rattle.sqlite_rules.specs.Lists.{Has}
 use Rattle.sqlite_rules.proofs.ListLemmas.{all_has}
@@ -53,7 +53,7 @@ use Rattle.ci_store_rows.proofs.Needs.{needs_refer, needed_refer}
 use Rattle.ci_store_rows.proofs.Board.{rows_refer}
 use Rattle.ci_store_rows.specs.Rows.{flag}
 use Rattle.ci_store_rows.specs.Load.{job_cells}
-use Rattle.ci_store_records.specs.Reads.{ReadsSpec}
+use Rattle.ci_store_rows.specs.Reads.{ReadsSpec}
 use Rattle.ci_store_rows.proofs.Same.{same_flag}
 
 abbrev sets : List Term

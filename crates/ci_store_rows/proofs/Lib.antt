@@ -25,3 +25,5 @@ pub mod Owned
 pub mod Same
 pub mod NextLoads
 pub mod Whole
+pub mod JsonTexts
+pub mod JsonReading

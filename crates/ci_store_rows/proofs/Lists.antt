@@ -8,7 +8,7 @@ use Rattle.std.proofs.lemmas.Cmp.{on_total, then_total, nat_list_cmp_total, nat_
 use Rattle.std.proofs.lemmas.List.Sorted.{IsPermutation-map, IsPermutation-refl, IsPermutation-sym, IsPermutation-cons, IsPermutation-trans, IsPermutation-middle}
 use Rattle.sqlite.specs.Order.{Row}
 use Rattle.sqlite_keyed.proofs.ListLemmas.{filter-map, filter_same, IsPermutation-same, ascending-filter, all_weaker, all-filter}
-use Rattle.ci_store_tables.specs.Stands.{has_key, without}
+use Rattle.ci_store.specs.Stands.{has_key, without}
 use Rattle.ci_machine.specs.State.{placed, others, put}
 use Rattle.ci_store_rows.specs.Stands.{Rises}
 

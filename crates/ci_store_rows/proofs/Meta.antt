@@ -22,11 +22,11 @@ use Rattle.ci_machine.specs.State.{with_next}
 use Rattle.ci_machine.specs.declared.records.Numbers.{Numbers}
 use Rattle.ci_machine.specs.declared.change.Counter.{Counter}
 use Rattle.ci_machine.specs.declared.change.Counter.TheVariants as counter
-use Rattle.ci_store_tables.specs.Stands.{image, places, without}
-use Rattle.ci_store_tables.specs.Statements.{Changes}
-use Rattle.ci_store_tables.proofs.Puts.{MeansPut, GivesRecord, updates_one}
-use Rattle.ci_store_tables.proofs.Absent.{absent_unique}
-use Rattle.ci_store_tables.proofs.Scalars.{cast_int}
+use Rattle.ci_store.specs.Stands.{image, places, without}
+use Rattle.ci_store.specs.Statements.{Changes}
+use Rattle.ci_store.proofs.Puts.{MeansPut, GivesRecord, updates_one}
+use Rattle.ci_store.proofs.Absent.{absent_unique}
+use Rattle.ci_store.proofs.Scalars.{cast_int}
 use Rattle.ci_store_rows.specs.declared.texts.TheConstants.{UPDATE_META, INSERT_META}
 use Rattle.ci_store_rows.specs.Schema.{the_schema, meta, meta_index_1}
 use Rattle.ci_store_rows.specs.Stands.{meta_row, meta_rows, counter_key, rows_by_tree, rows_of, Stands}

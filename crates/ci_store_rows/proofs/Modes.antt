@@ -25,12 +25,12 @@ use Rattle.ci_machine.specs.declared.records.GroupOrder.{GroupOrder}
 use Rattle.ci_machine.specs.declared.records.GroupOrder.TheVariants.{OldestFirst, NewestReadyFirst}
 use Rattle.ci_machine.specs.declared.change.Record.TheVariants as row
 use Rattle.ci_machine.specs.declared.change.Key.TheVariants as key
-use Rattle.ci_store_tables.specs.Statements.{HasPut}
-use Rattle.ci_store_tables.proofs.Queries.{no_limit}
-use Rattle.ci_store_tables.proofs.Writes.{IsWholeStep, whole_if_alone}
-use Rattle.ci_store_tables.proofs.Puts.{MeansPut, MeansRemove, GivesRecord}
-use Rattle.ci_store_tables.proofs.Absent.{absent_unique}
-use Rattle.ci_store_tables.proofs.Scalars.{cast_int}
+use Rattle.ci_store.specs.Statements.{HasPut}
+use Rattle.ci_store.proofs.Queries.{no_limit}
+use Rattle.ci_store.proofs.Writes.{IsWholeStep, whole_if_alone}
+use Rattle.ci_store.proofs.Puts.{MeansPut, MeansRemove, GivesRecord}
+use Rattle.ci_store.proofs.Absent.{absent_unique}
+use Rattle.ci_store.proofs.Scalars.{cast_int}
 use Rattle.ci_store_rows.specs.declared.texts.TheConstants.{UPDATE_MODE, INSERT_MODE, DELETE_MODE, SELECT_MODE, SELECT_MODES}
 use Rattle.ci_store_rows.specs.Schema.{the_schema, mode, mode_index_1}
 use Rattle.ci_store_rows.specs.Rows.{number, order_number, mode_row}
@@ -39,7 +39,7 @@ use Rattle.ci_store_rows.proofs.OneList.{IsAlike, alike_but, regular_with_modes}
 use Rattle.ci_store_rows.proofs.Lists.{put_rises, by_both}
 use Rattle.ci_store_rows.proofs.Records.{put_stands, finds_named}
 use Rattle.sqlite.proofs.Callers.{IsPlain}
-use Rattle.ci_store_tables.proofs.Selects.{MeansSelect}
+use Rattle.ci_store.proofs.Selects.{MeansSelect}
 use Rattle.ci_store_rows.specs.Found.{ShowsRecords, listed}
 use Rattle.ci_store_rows.proofs.Owned.{tests, sets, terms, named, same_named, unnumbered, agrees, removed_owned}
 use Rattle.ci_store_rows.proofs.Shows.{columns_of, names_of, by_two, by_two_total, pair_of_two, shows_passing, shows_ordered, found_one, found_all, rising_named, every}

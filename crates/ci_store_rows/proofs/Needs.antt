@@ -26,14 +26,14 @@ use Rattle.ci_machine.specs.Ranges.{is_within, needs_within}
 use Rattle.ci_machine.specs.declared.records.Need.{Need}
 use Rattle.ci_machine.specs.declared.change.Record.TheVariants as row
 use Rattle.ci_machine.specs.declared.change.Key.TheVariants as key
-use Rattle.ci_store_tables.specs.Stands.{image}
-use Rattle.ci_store_tables.specs.Statements.{HasPut}
-use Rattle.ci_store_tables.proofs.Queries.{no_limit}
-use Rattle.ci_store_tables.proofs.Writes.{IsWholeStep, whole_if_alone}
-use Rattle.ci_store_tables.proofs.Puts.{MeansPut, MeansRemove, GivesRecord}
-use Rattle.ci_store_tables.proofs.Absent.{absent_unique}
-use Rattle.ci_store_tables.proofs.Scalars.{cast_int, equal_int, compares}
-use Rattle.ci_store_tables.proofs.Selects.{MeansSelect}
+use Rattle.ci_store.specs.Stands.{image}
+use Rattle.ci_store.specs.Statements.{HasPut}
+use Rattle.ci_store.proofs.Queries.{no_limit}
+use Rattle.ci_store.proofs.Writes.{IsWholeStep, whole_if_alone}
+use Rattle.ci_store.proofs.Puts.{MeansPut, MeansRemove, GivesRecord}
+use Rattle.ci_store.proofs.Absent.{absent_unique}
+use Rattle.ci_store.proofs.Scalars.{cast_int, equal_int, compares}
+use Rattle.ci_store.proofs.Selects.{MeansSelect}
 use Rattle.ci_store_rows.specs.declared.texts.TheConstants.{UPDATE_NEED, INSERT_NEED, DELETE_NEED, DELETE_NEEDS, SELECT_NEEDS_OF, SELECT_NEEDS_ON, SELECT_NEEDS_WITHIN}
 use Rattle.ci_store_rows.specs.Schema.{the_schema, need, need_index_1}
 use Rattle.ci_store_rows.specs.Rows.{number, need_row}

@@ -12,8 +12,8 @@ use Rattle.ci_machine.specs.Kept.{Kept}
 use Rattle.ci_machine.specs.declared.records.Numbers.{Numbers}
 use Rattle.ci_machine.specs.declared.change.Counter.{Counter}
 use Rattle.ci_machine.specs.declared.change.Counter.TheVariants as counter
-use Rattle.ci_store_tables.specs.Stands.{has_key}
-use Rattle.ci_store_tables.proofs.Selects.{MeansSelect, selects}
+use Rattle.ci_store.specs.Stands.{has_key}
+use Rattle.ci_store.proofs.Selects.{MeansSelect, selects}
 use Rattle.ci_store_rows.specs.declared.texts.TheConstants.{SELECT_META}
 use Rattle.ci_store_rows.specs.Schema.{the_schema, meta}
 use Rattle.ci_store_rows.specs.Stands.{Stands, counter_key, meta_row, meta_rows, rows_of}

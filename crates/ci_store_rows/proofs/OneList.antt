@@ -23,7 +23,7 @@ use Rattle.ci_machine.specs.declared.records.Holder.{Holder}
 use Rattle.ci_machine.specs.declared.records.GroupMode.{GroupMode}
 use Rattle.ci_machine.specs.declared.records.Unfinished.{Unfinished}
 use Rattle.ci_store_rows.specs.Schema.{the_schema}
-use Rattle.ci_store_records.specs.JsonText.{list_text, list_data, spec_text, spec_data}
+use Rattle.ci_store_rows.specs.JsonText.{list_text, list_data, spec_text, spec_data}
 use Rattle.sqlite.specs.Effect.{Database}
 use Rattle.ci_store_rows.specs.Stands.{rows_at, Rises, IsRegular, Stands}
 

@@ -17,12 +17,12 @@ use Rattle.sqlite.specs.Store.{Ghosts}
 use Rattle.sqlite.specs.Held.{Held, state}
 use Rattle.sqlite_keyed.proofs.ListLemmas.{filter_same}
 use Rattle.ci_machine.specs.Kept.{Kept}
-use Rattle.ci_store_tables.specs.Stands.{has_key, image, places}
-use Rattle.ci_store_tables.proofs.Queries.{query, picks}
-use Rattle.ci_store_tables.proofs.Writes.{IsWholeStep}
-use Rattle.ci_store_tables.proofs.Puts.{MeansRemove}
-use Rattle.ci_store_tables.proofs.Selects.{MeansSelect}
-use Rattle.ci_store_tables.proofs.Scalars.{equal_int, equal_text}
+use Rattle.ci_store.specs.Stands.{has_key, image, places}
+use Rattle.ci_store.proofs.Queries.{query, picks}
+use Rattle.ci_store.proofs.Writes.{IsWholeStep}
+use Rattle.ci_store.proofs.Puts.{MeansRemove}
+use Rattle.ci_store.proofs.Selects.{MeansSelect}
+use Rattle.ci_store.proofs.Scalars.{equal_int, equal_text}
 use Rattle.ci_store_rows.specs.Schema.{the_schema}
 use Rattle.ci_store_rows.specs.Rows.{number}
 use Rattle.ci_store_rows.specs.Stands.{rows_of, Rises, IsRegular, Stands, IsAt}

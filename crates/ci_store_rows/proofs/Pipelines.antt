@@ -17,11 +17,11 @@ use Rattle.ci_machine.specs.State.{with_record, without_record, pipeline_cmp}
 use Rattle.ci_machine.specs.declared.records.Pipeline.{Pipeline}
 use Rattle.ci_machine.specs.declared.change.Record.TheVariants as row
 use Rattle.ci_machine.specs.declared.change.Key.TheVariants as key
-use Rattle.ci_store_tables.specs.Stands.{image, places}
-use Rattle.ci_store_tables.specs.Statements.{HasPut}
-use Rattle.ci_store_tables.proofs.Puts.{MeansPut, MeansRemove, GivesRecord}
-use Rattle.ci_store_tables.proofs.Absent.{absent_rowid}
-use Rattle.ci_store_tables.proofs.Scalars.{cast_int, equal_int, equal_text, compares}
+use Rattle.ci_store.specs.Stands.{image, places}
+use Rattle.ci_store.specs.Statements.{HasPut}
+use Rattle.ci_store.proofs.Puts.{MeansPut, MeansRemove, GivesRecord}
+use Rattle.ci_store.proofs.Absent.{absent_rowid}
+use Rattle.ci_store.proofs.Scalars.{cast_int, equal_int, equal_text, compares}
 use Rattle.ci_store_rows.specs.declared.texts.TheConstants.{UPDATE_PIPELINE, INSERT_PIPELINE, DELETE_PIPELINE, SELECT_PIPELINE, SELECT_PIPELINES_ABOVE, SELECT_NEWER_PIPELINES, SELECT_PIPELINES_BEFORE, SELECT_SOME_PIPELINES_BEFORE, SELECT_NEWEST_PIPELINES}
 use Rattle.ci_store_rows.specs.declared.columns.TheConstants.{LAST_INTEGER}
 use Rattle.ci_store_rows.specs.Schema.{the_schema, pipeline}
@@ -33,7 +33,7 @@ use Rattle.ci_store_rows.proofs.Records.{is, put_stands, same_number, is_number,
 use Rattle.sqlite.specs.Collation.TheVariants.{Binary}
 use Rattle.sqlite_schema.specs.Rules.{equal}
 use Rattle.sqlite.proofs.Callers.{IsPlain}
-use Rattle.ci_store_tables.proofs.Selects.{MeansSelect, MeansSelectTo}
+use Rattle.ci_store.proofs.Selects.{MeansSelect, MeansSelectTo}
 use Rattle.ci_store_rows.specs.Found.{ShowsRecords, listed, FindsNumber}
 use Rattle.std.specs.Str.{bytes_eq}
 use Rattle.ci_machine.specs.Lookups.{pipeline_at}

@@ -14,11 +14,11 @@ use Rattle.ci_machine.specs.State.{with_record, without_record, project_cmp}
 use Rattle.ci_machine.specs.declared.records.Project.{Project}
 use Rattle.ci_machine.specs.declared.change.Record.TheVariants as row
 use Rattle.ci_machine.specs.declared.change.Key.TheVariants as key
-use Rattle.ci_store_tables.specs.Stands.{image, places}
-use Rattle.ci_store_tables.specs.Statements.{HasPut}
-use Rattle.ci_store_tables.proofs.Puts.{MeansPut, MeansRemove, GivesRecord}
-use Rattle.ci_store_tables.proofs.Absent.{absent_rowid}
-use Rattle.ci_store_tables.proofs.Scalars.{cast_int, cast_text, compares}
+use Rattle.ci_store.specs.Stands.{image, places}
+use Rattle.ci_store.specs.Statements.{HasPut}
+use Rattle.ci_store.proofs.Puts.{MeansPut, MeansRemove, GivesRecord}
+use Rattle.ci_store.proofs.Absent.{absent_rowid}
+use Rattle.ci_store.proofs.Scalars.{cast_int, cast_text, compares}
 use Rattle.ci_store_rows.specs.declared.texts.TheConstants.{UPDATE_PROJECT, INSERT_PROJECT, DELETE_PROJECT, SELECT_PROJECT, SELECT_PROJECT_WITH, SELECT_PROJECTS_ABOVE}
 use Rattle.ci_store_rows.specs.declared.columns.TheConstants.{LAST_INTEGER}
 use Rattle.ci_store_rows.specs.Schema.{the_schema, project}
@@ -30,7 +30,7 @@ use Rattle.ci_store_rows.proofs.Records.{is, put_stands, same_number, finds_numb
 use Rattle.sqlite.specs.Collation.TheVariants.{Binary}
 use Rattle.sqlite_schema.specs.Rules.{equal}
 use Rattle.sqlite.proofs.Callers.{IsPlain}
-use Rattle.ci_store_tables.proofs.Selects.{MeansSelect}
+use Rattle.ci_store.proofs.Selects.{MeansSelect}
 use Rattle.ci_store_rows.specs.Found.{ShowsRecords, listed, FindsNumber}
 use Rattle.std.specs.Str.{bytes_eq}
 use Rattle.ci_machine.specs.Lookups.{project_at, project_with}

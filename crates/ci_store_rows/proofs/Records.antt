@@ -24,13 +24,13 @@ use Rattle.sqlite.specs.Store.{Ghosts}
 use Rattle.sqlite.specs.Held.{Held, state}
 use Rattle.ci_machine.specs.Kept.{Kept}
 use Rattle.ci_machine.specs.State.{put}
-use Rattle.ci_store_tables.specs.Stands.{has_key, image, places, without, IsOf}
+use Rattle.ci_store.specs.Stands.{has_key, image, places, without, IsOf}
 use Rattle.sqlite_schema.specs.Rules.{equal}
-use Rattle.ci_store_tables.specs.Statements.{Changes, HasPut}
-use Rattle.ci_store_tables.proofs.Queries.{picks}
-use Rattle.ci_store_tables.proofs.Writes.{IsWholeStep}
-use Rattle.ci_store_tables.proofs.Puts.{MeansPut, MeansRemove, GivesRecord, puts, removes}
-use Rattle.ci_store_tables.proofs.Scalars.{cast_int, cast_null, equal_int, equal_text, int_nat, compares, compares_at_least, compares_at_most, compares_above}
+use Rattle.ci_store.specs.Statements.{Changes, HasPut}
+use Rattle.ci_store.proofs.Queries.{picks}
+use Rattle.ci_store.proofs.Writes.{IsWholeStep}
+use Rattle.ci_store.proofs.Puts.{MeansPut, MeansRemove, GivesRecord, puts, removes}
+use Rattle.ci_store.proofs.Scalars.{cast_int, cast_null, equal_int, equal_text, int_nat, compares, compares_at_least, compares_at_most, compares_above}
 use Rattle.ci_machine.specs.Ranges.{is_within}
 use Rattle.ci_store_rows.specs.Schema.{the_schema}
 use Rattle.ci_store_rows.specs.Rows.{number}

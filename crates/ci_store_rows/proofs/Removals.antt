@@ -24,14 +24,14 @@ use Rattle.ci_machine.specs.Kept.{Kept, indexed}
 use Rattle.ci_machine.specs.State.{without_record}
 use Rattle.ci_machine.specs.declared.change.Key.{Key}
 use Rattle.ci_machine.specs.declared.change.IndexChange.{IndexChange}
-use Rattle.ci_store_tables.specs.Stands.{Holds, has_key, image, places}
-use Rattle.ci_store_tables.specs.Statements.{Changes}
-use Rattle.ci_store_tables.proofs.Scalars.{on_ok}
-use Rattle.ci_store_tables.proofs.Queries.{picks}
-use Rattle.ci_store_tables.proofs.Writes.{IsWholeStep}
-use Rattle.ci_store_tables.proofs.Puts.{MeansRemove}
-use Rattle.ci_store_tables.proofs.Childless.{IsChildless, LacksChild, cascade, lone, whole_if_childless}
-use Rattle.ci_store_tables.proofs.Selects.{MeansSelect, shows_none, shown_same}
+use Rattle.ci_store.specs.Stands.{Holds, has_key, image, places}
+use Rattle.ci_store.specs.Statements.{Changes}
+use Rattle.ci_store.proofs.Scalars.{on_ok}
+use Rattle.ci_store.proofs.Queries.{picks}
+use Rattle.ci_store.proofs.Writes.{IsWholeStep}
+use Rattle.ci_store.proofs.Puts.{MeansRemove}
+use Rattle.ci_store.proofs.Childless.{IsChildless, LacksChild, cascade, lone, whole_if_childless}
+use Rattle.ci_store.proofs.Selects.{MeansSelect, shows_none, shown_same}
 use Rattle.ci_store_rows.specs.Schema.{the_schema}
 use Rattle.ci_store_rows.specs.Rows.{number}
 use Rattle.ci_store_rows.specs.Stands.{Stands, IsRegular, rows_of}

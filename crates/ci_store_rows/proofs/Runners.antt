@@ -13,16 +13,16 @@ use Rattle.ci_machine.specs.State.{with_record, without_record, runner_cmp}
 use Rattle.ci_machine.specs.declared.records.Runner.{Runner}
 use Rattle.ci_machine.specs.declared.change.Record.TheVariants as row
 use Rattle.ci_machine.specs.declared.change.Key.TheVariants as key
-use Rattle.ci_store_tables.specs.Stands.{image, places}
-use Rattle.ci_store_tables.specs.Statements.{HasPut}
-use Rattle.ci_store_tables.proofs.Puts.{MeansPut, MeansRemove, GivesRecord}
-use Rattle.ci_store_tables.proofs.Absent.{absent_rowid}
-use Rattle.ci_store_tables.proofs.Scalars.{cast_int, compares}
+use Rattle.ci_store.specs.Stands.{image, places}
+use Rattle.ci_store.specs.Statements.{HasPut}
+use Rattle.ci_store.proofs.Puts.{MeansPut, MeansRemove, GivesRecord}
+use Rattle.ci_store.proofs.Absent.{absent_rowid}
+use Rattle.ci_store.proofs.Scalars.{cast_int, compares}
 use Rattle.ci_store_rows.specs.declared.texts.TheConstants.{UPDATE_RUNNER, INSERT_RUNNER, DELETE_RUNNER, SELECT_RUNNER, SELECT_RUNNERS, SELECT_RUNNERS_ABOVE, SELECT_RUNNER_WITH}
 use Rattle.ci_store_rows.specs.declared.columns.TheConstants.{LAST_INTEGER}
 use Rattle.sqlite_sql.specs.declared.ops.CompareOp.TheVariants.{Gt}
 use Rattle.ci_store_rows.specs.Schema.{the_schema, runner}
-use Rattle.ci_store_records.specs.JsonText.{list_text, list_data}
+use Rattle.ci_store_rows.specs.JsonText.{list_text, list_data}
 use Rattle.serde_json.specs.Read.{read}
 use Rattle.ci_store_rows.specs.Rows.{number, runner_row}
 use Rattle.ci_store_rows.specs.Stands.{rows_by_tree, rows_of, Stands, IsAt}
@@ -32,7 +32,7 @@ use Rattle.ci_store_rows.proofs.Records.{is, put_stands, same_number, finds_numb
 use Rattle.sqlite.specs.Collation.TheVariants.{Binary}
 use Rattle.sqlite_schema.specs.Rules.{equal}
 use Rattle.sqlite.proofs.Callers.{IsPlain}
-use Rattle.ci_store_tables.proofs.Selects.{MeansSelect}
+use Rattle.ci_store.proofs.Selects.{MeansSelect}
 use Rattle.ci_store_rows.specs.Found.{ShowsRecords, listed, FindsNumber}
 use Rattle.std.specs.Str.{bytes_eq}
 use Rattle.sqlite_rules.proofs.ListLemmas.{all_has}
@@ -48,7 +48,7 @@ use Rattle.ci_store_rows.proofs.Removals.{cascades, removed_numbered}
 use Rattle.sqlite.specs.Values.{or_null}
 use Rattle.ci_store_rows.specs.Rows.{flag}
 use Rattle.ci_store_rows.specs.Load.{runner_cells}
-use Rattle.ci_store_records.specs.Reads.{ReadsList}
+use Rattle.ci_store_rows.specs.Reads.{ReadsList}
 use Rattle.ci_store_rows.proofs.Same.{same_option, same_flag}
 
 abbrev sets : List Term

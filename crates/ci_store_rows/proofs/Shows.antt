@@ -30,12 +30,12 @@ use Rattle.sqlite_keyed.proofs.ListLemmas.{filter-map, filter_same, slice_get-fi
 use Rattle.sqlite_rules.specs.Lists.{Has}
 use Rattle.sqlite_rules.proofs.ListLemmas.{all_has, all_from, has_got, has_filtered, has_left, has_contained, contains_had}
 use Rattle.ci_machine.specs.Kept.{Kept}
-use Rattle.ci_store_tables.specs.Stands.{Holds, image, places}
-use Rattle.ci_store_tables.proofs.Writes.{perm_nil, map_nil, map_one}
-use Rattle.ci_store_tables.proofs.Queries.{query, picks, no_limit, count_of, Answered, shows, answered, answered_to, map_map}
-use Rattle.ci_store_tables.proofs.Selects.{MeansSelect, MeansSelectTo, selects}
-use Rattle.ci_store_tables.proofs.Ordered.{no_key_total, selects_sorted}
-use Rattle.ci_store_tables.proofs.Scalars.{int_nat}
+use Rattle.ci_store.specs.Stands.{Holds, image, places}
+use Rattle.ci_store.proofs.Writes.{perm_nil, map_nil, map_one}
+use Rattle.ci_store.proofs.Queries.{query, picks, no_limit, count_of, Answered, shows, answered, answered_to, map_map}
+use Rattle.ci_store.proofs.Selects.{MeansSelect, MeansSelectTo, selects}
+use Rattle.ci_store.proofs.Ordered.{no_key_total, selects_sorted}
+use Rattle.ci_store.proofs.Scalars.{int_nat}
 use Rattle.ci_store_rows.specs.Schema.{the_schema}
 use Rattle.ci_store_rows.specs.Rows.{number}
 use Rattle.ci_store_rows.specs.Stands.{Stands, rows_of}

@@ -9,7 +9,7 @@ use Rattle.sqlite_catalog.specs.Listing.{IsSound}
 use Rattle.sqlite_rules.specs.Lists.{Has}
 use Rattle.sqlite_rules.proofs.ListLemmas.{test_has}
 use Rattle.ci_machine.specs.Kept.{Kept}
-use Rattle.ci_store_tables.proofs.OneSchema.{one_schema}
+use Rattle.ci_store.proofs.OneSchema.{one_schema}
 use Rattle.ci_store_rows.specs.Schema.{the_schema}
 use Rattle.ci_store_rows.specs.Stands.{StandsIn, Stands}
 

@@ -10,7 +10,7 @@ use Rattle.ci_machine.specs.Lookups.{trace_of}
 use Rattle.ci_machine.specs.declared.change.RowChange.TheVariants.{Append}
 use Rattle.ci_machine.specs.declared.records.BoardRow.{BoardRow}
 use Rattle.ci_machine.specs.declared.records.Holder.{Holder}
-use Rattle.ci_store_tables.specs.Statements.{Changes}
+use Rattle.ci_store.specs.Statements.{Changes}
 use Rattle.ci_store_rows.specs.declared.block.Block.{Block}
 use Rattle.ci_store_rows.specs.Blocks.{StaysWithin}
 use Rattle.ci_store_rows.specs.Stands.{Stands}

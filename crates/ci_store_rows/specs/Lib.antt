@@ -6,3 +6,5 @@ pub mod Create
 pub mod Load
 pub mod Found
 pub mod Changes
+pub mod JsonText
+pub mod Reads

@@ -9,7 +9,7 @@ use Rattle.ci_machine.specs.declared.records.Job.{Job}
 use Rattle.ci_machine.specs.declared.records.JobOptions.{JobOptions}
 use Rattle.ci_machine.specs.declared.records.Demand.{Demand}
 use Rattle.ci_values.specs.declared.attempts.AttemptState.{AttemptState}
-use Rattle.ci_store_records.specs.Reads.{ReadsList, ReadsSpec, ReadsDemand}
+use Rattle.ci_store_rows.specs.Reads.{ReadsList, ReadsSpec, ReadsDemand}
 use Rattle.ci_store_rows.specs.Rows.{number, flag, state_number, cause_in, exit_in}
 
 -- the three columns are those of the state

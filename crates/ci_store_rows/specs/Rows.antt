@@ -26,7 +26,7 @@ use Rattle.ci_values.specs.declared.attempts.Cause.{Cause}
 use Rattle.ci_values.specs.declared.attempts.Cause.TheVariants.{UnknownFailure, ScriptFailure, ApiFailure, StuckOrTimeoutFailure, RunnerSystemFailure, JobExecutionTimeout}
 use Rattle.ci_values.specs.declared.attempts.AttemptState.{AttemptState}
 use Rattle.ci_values.specs.declared.attempts.AttemptState.TheVariants.{Live, Succeeded, Failed, Cancelled}
-use Rattle.ci_store_records.specs.JsonText.{list_text, spec_text}
+use Rattle.ci_store_rows.specs.JsonText.{list_text, spec_text}
 use Rattle.ci_store_rows.specs.declared.block.Block.{Block}
 
 abbrev pub number : ℕ → Value

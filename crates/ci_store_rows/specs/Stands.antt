@@ -17,9 +17,9 @@ use Rattle.ci_machine.specs.State.{project_cmp, variable_cmp, runner_cmp, pipeli
 use Rattle.ci_machine.specs.declared.records.Numbers.{Numbers}
 use Rattle.ci_machine.specs.declared.change.Counter.{Counter}
 use Rattle.ci_machine.specs.declared.change.Counter.TheVariants as counter
-use Rattle.ci_store_tables.specs.Stands.{HoldsRows}
+use Rattle.ci_store.specs.Stands.{HoldsRows}
 use Rattle.serde_json.specs.Read.{read}
-use Rattle.ci_store_records.specs.JsonText.{list_data, list_text, spec_data, spec_text}
+use Rattle.ci_store_rows.specs.JsonText.{list_data, list_text, spec_data, spec_text}
 use Rattle.ci_store_rows.specs.Schema as table
 use Rattle.ci_store_rows.specs.Schema.{the_schema}
 use Rattle.ci_store_rows.specs.Blocks.{all_blocks}

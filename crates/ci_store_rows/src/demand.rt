@@ -1,9 +1,9 @@
 //! What jobs ask of runners, as rows of some columns of `job`.
 
+use crate::json::read_demand;
 use crate::read::{Loaded, has_columns};
 use ci_machine::records::Demand;
-use ci_store_records::read_demand;
-use ci_store_tables::fault::StoreFault;
+use ci_store::fault::StoreFault;
 use sqlite::Row;
 use std::alloc::Global;
 

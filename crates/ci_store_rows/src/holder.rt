@@ -4,9 +4,9 @@ use crate::columns::text;
 use crate::read::{Loaded, Stored, has_columns, text_at};
 use crate::texts;
 use ci_machine::records::Holder;
-use ci_store_tables::fault::StoreFault;
-use ci_store_tables::values::number;
-use ci_store_tables::write::put;
+use ci_store::fault::StoreFault;
+use ci_store::values::number;
+use ci_store::write::put;
 use sqlite::{Alter, Row, Transaction};
 use std::alloc::Global;
 

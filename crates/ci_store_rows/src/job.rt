@@ -5,13 +5,13 @@ ghost use Rattle.sqlite.specs.Order.{column};
 ghost use Rattle.ci_store_rows.specs.Load.{HoldsSpec};
 
 use crate::columns::text;
+use crate::json::{read_spec, spec_text};
 use crate::read::{Loaded, Stored, flag_at, has_columns, text_at};
 use crate::texts;
 use ci_machine::records::{Job, JobOptions};
-use ci_store_records::{read_spec, spec_text};
-use ci_store_tables::fault::StoreFault;
-use ci_store_tables::values::number;
-use ci_store_tables::write::put;
+use ci_store::fault::StoreFault;
+use ci_store::values::number;
+use ci_store::write::put;
 use sqlite::types::ToSql;
 use sqlite::{Alter, Row, Transaction};
 use std::alloc::Global;

@@ -10,6 +10,7 @@ mod demand;
 mod holder;
 mod job;
 mod job_variable;
+pub mod json;
 pub mod laws;
 mod mode;
 mod need;

@@ -4,9 +4,9 @@ use crate::columns::{optional_text, text};
 use crate::read::{Loaded, Stored, has_columns, optional_text_at, text_at};
 use crate::texts;
 use ci_machine::records::Project;
-use ci_store_tables::fault::StoreFault;
-use ci_store_tables::values::number;
-use ci_store_tables::write::put;
+use ci_store::fault::StoreFault;
+use ci_store::values::number;
+use ci_store::write::put;
 use sqlite::{Alter, Row, Transaction};
 use std::alloc::Global;
 

@@ -6,15 +6,15 @@ ghost use Rattle.sqlite.specs.Order.{Row, column};
 ghost use Rattle.sqlite.specs.Values.{or_null};
 ghost use Rattle.sqlite.specs.declared.types.Value.TheVariants.{Text as Words, Blob};
 ghost use Rattle.ci_machine.specs.Kept.{Kept};
-ghost use Rattle.ci_store_tables.specs.Statements.{KeepsInside, CommitsNothing};
+ghost use Rattle.ci_store.specs.Statements.{KeepsInside, CommitsNothing};
 ghost use Rattle.ci_store_rows.specs.Load.{HoldsList};
 ghost use Rattle.ci_store_rows.specs.Rows.{number, flag};
 ghost use Rattle.ci_store_rows.specs.Changes.{MakesInside};
 
+use crate::json::read_list;
 use ci_machine::moment::Moment;
 use ci_machine::text::{Bytes, Text, Texts};
-use ci_store_records::read_list;
-use ci_store_tables::fault::StoreFault;
+use ci_store::fault::StoreFault;
 use sqlite::{Alter, Row, Transaction};
 use std::alloc::Global;
 

@@ -1,13 +1,13 @@
 //! Runners as rows.
 
 use crate::columns::text;
+use crate::json::list_text;
 use crate::read::{Loaded, Stored, flag_at, has_columns, text_at, texts_at};
 use crate::texts;
 use ci_machine::records::Runner;
-use ci_store_records::list_text;
-use ci_store_tables::fault::StoreFault;
-use ci_store_tables::values::{number, optional_number};
-use ci_store_tables::write::put;
+use ci_store::fault::StoreFault;
+use ci_store::values::{number, optional_number};
+use ci_store::write::put;
 use sqlite::types::ToSql;
 use sqlite::{Alter, Row, Transaction};
 use std::alloc::Global;

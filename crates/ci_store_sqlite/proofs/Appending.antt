@@ -8,7 +8,7 @@ use Rattle.sqlite.specs.Store.{Ghosts}
 use Rattle.sqlite.specs.Held.{Held, state}
 use Rattle.ci_machine.specs.Kept.{Kept}
 use Rattle.ci_machine.specs.Lookups.{trace_of}
-use Rattle.ci_store_tables.proofs.Selects.{shown_same}
+use Rattle.ci_store.proofs.Selects.{shown_same}
 use Rattle.ci_store_rows.specs.declared.block.Block.{Block}
 use Rattle.ci_store_rows.specs.declared.block.TheConstants.{BLOCK_BYTES}
 use Rattle.ci_store_rows.specs.declared.texts.TheConstants.{SELECT_LAST_BLOCKS}

@@ -1,8 +1,8 @@
 -- How loads meet one after the other.
 use Rattle.std.proofs.Common.{◌≡◌, Result, Ok, Err, IfOk, subst}
 use Rattle.ci_machine.specs.Kept.{Kept}
-use Rattle.ci_store_tables.specs.declared.fault.StoreFault.{StoreFault}
-use Rattle.ci_store_tables.specs.declared.fault.StoreFault.TheVariants.{Memory, Broken}
+use Rattle.ci_store.specs.declared.fault.StoreFault.{StoreFault}
+use Rattle.ci_store.specs.declared.fault.StoreFault.TheVariants.{Memory, Broken}
 use Rattle.ci_store_rows.proofs.Reading.{if_ok}
 use Rattle.ci_store.specs.Store.{LoadsBy, UnlessBroken}
 

@@ -20,11 +20,11 @@ use Rattle.sqlite.specs.declared.error.Error.TheVariants.{SqlInputError}
 use Rattle.sqlite.proofs.Callers.{IsPlain, command_of, one_permutation}
 use Rattle.ci_machine.specs.Kept.{Kept}
 use Rattle.ci_machine.specs.declared.records.Numbers.{Numbers}
-use Rattle.ci_store_tables.specs.declared.fault.StoreFault.{StoreFault}
-use Rattle.ci_store_tables.specs.declared.fault.StoreFault.TheVariants.{Memory as Refused, Broken}
-use Rattle.ci_store_tables.specs.Stands.{has_key}
-use Rattle.ci_store_tables.proofs.Plain.{is_selecting, plain_under}
-use Rattle.ci_store_tables.proofs.Selects.{selects_of}
+use Rattle.ci_store.specs.declared.fault.StoreFault.{StoreFault}
+use Rattle.ci_store.specs.declared.fault.StoreFault.TheVariants.{Memory as Refused, Broken}
+use Rattle.ci_store.specs.Stands.{has_key}
+use Rattle.ci_store.proofs.Plain.{is_selecting, plain_under}
+use Rattle.ci_store.proofs.Selects.{selects_of}
 use Rattle.ci_store_rows.specs.declared.texts.TheConstants.{SELECT_META}
 use Rattle.ci_store_sqlite.specs.declared.tables.OpenFault.{OpenFault}
 use Rattle.ci_store_sqlite.specs.declared.tables.OpenFault.TheVariants.{O1, O2, O3, Memory}

@@ -6,3 +6,5 @@ pub mod Calls
 pub mod Appends
 pub mod Commit
 pub mod Open
+pub mod Version1
+pub mod AnyVersion

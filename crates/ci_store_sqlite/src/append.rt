@@ -5,18 +5,18 @@ ghost use Rattle.sqlite.specs.Held.{state};
 ghost use Rattle.ci_machine.specs.State.{changed};
 ghost use Rattle.ci_machine.specs.Lookups.{trace_of};
 ghost use Rattle.ci_machine.specs.declared.change.RowChange.TheVariants.{Append};
-ghost use Rattle.ci_store_tables.specs.Statements.{KeepsInside, CommitsNothing};
+ghost use Rattle.ci_store.specs.Statements.{KeepsInside, CommitsNothing};
 ghost use Rattle.ci_store_rows.specs.Blocks.{last_block};
 ghost use Rattle.ci_store_rows.specs.Changes.{in_state, appended, MakesInside};
 ghost use Rattle.ci_store_sqlite.specs.Appends.{kept_trace, FindsInside, MakesWhere};
 
 use ci_machine::records::Trace;
+use ci_store::fault::StoreFault;
+use ci_store::read::rows_inside;
+use ci_store::values::number;
 use ci_store_rows::block::{BLOCK_BYTES, Block, put_block};
 use ci_store_rows::read::Loaded;
 use ci_store_rows::texts;
-use ci_store_tables::fault::StoreFault;
-use ci_store_tables::read::rows_inside;
-use ci_store_tables::values::number;
 use sqlite::{Alter, Transaction};
 
 /// The last block of the trace of an attempt, if it has any.

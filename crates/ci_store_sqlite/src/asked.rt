@@ -12,8 +12,8 @@ ghost use Rattle.ci_store_rows.specs.Stands.{IsAt, LeavesOnly};
 ghost use Rattle.ci_store_sqlite.specs.Calls.{LooksUp};
 
 use crate::probe::probe_intact;
-use ci_store_tables::fault::StoreFault;
-use ci_store_tables::read::rows;
+use ci_store::fault::StoreFault;
+use ci_store::read::rows;
 use sqlite::types::ValueRef;
 use sqlite::{Alter, Connection, Row};
 use std::marker::Model;

@@ -6,6 +6,8 @@ mod asked;
 pub mod commit;
 pub mod load;
 pub mod make;
+mod migrate;
+pub mod open;
 mod probe;
 pub mod tables;
 

@@ -21,12 +21,12 @@ use ci_machine::change::Counter;
 use ci_machine::moment::Moment;
 use ci_machine::records::{Attempt, Pipeline};
 use ci_machine::text::{Bytes, Text};
+use ci_store::fault::StoreFault;
+use ci_store::values::number;
 use ci_store_rows::block::{BLOCK_BYTES, Block, joined};
 use ci_store_rows::columns::{LAST_INTEGER, counter_key, kind_number, text};
 use ci_store_rows::read::{Loaded, read_all};
 use ci_store_rows::texts;
-use ci_store_tables::fault::StoreFault;
-use ci_store_tables::values::number;
 use sqlite::Alter;
 use sqlite::types::{ToSql, ValueRef};
 

@@ -7,7 +7,7 @@ ghost use Rattle.sqlite.specs.Held.{state};
 ghost use Rattle.ci_machine.specs.Kept.{Kept};
 ghost use Rattle.ci_store_rows.specs.Stands.{IsAt, LeavesOnly};
 
-use ci_store_tables::fault::StoreFault;
+use ci_store::fault::StoreFault;
 use sqlite::{Alter, Connection};
 
 /// Tells that the connection is open, by a statement that is not run. Errors: it is not, or memory was refused.

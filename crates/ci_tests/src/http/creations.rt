@@ -1,4 +1,4 @@
-use ci_http_payloads::creation::creation_in;
+use ci_http_messages::payloads::creation::creation_in;
 use ci_machine::records::RefKind;
 use ci_machine::reply::Code;
 use ci_machine::request::PipelineVariable;

@@ -1,6 +1,6 @@
-use ci_http_routes::lookup::Lookup;
-use ci_http_routes::operation::Operation;
-use ci_http_routes::paths::Paths;
+use ci_http_messages::routing::lookup::Lookup;
+use ci_http_messages::routing::operation::Operation;
+use ci_http_messages::routing::paths::Paths;
 use ci_machine::reply::Method;
 use ci_machine::request::Subject;
 use std::process::Abort;
@@ -12,7 +12,12 @@ fn has_runner_routes(rt: &impl Abort, paths: &Paths) {
     let asked = paths.look_up(b"PUT", "/api/v4/jobs/7");
     assert!(rt; matches!(asked, Lookup::Found(Operation::UpdateJob(7))));
     let asked = paths.look_up(b"PATCH", "/api/v4/jobs/9007199254740991/trace");
-    assert!(rt; matches!(asked, Lookup::Found(Operation::AppendTrace(9_007_199_254_740_991))));
+    assert!(rt;
+        matches!(
+            asked,
+            Lookup::Found(Operation::AppendTrace(9_007_199_254_740_991))
+        )
+    );
 }
 
 fn has_project_routes(rt: &impl Abort, paths: &Paths) {
@@ -55,18 +60,38 @@ fn has_reading_routes(rt: &impl Abort, paths: &Paths) {
     let asked = paths.look_up(b"GET", "/api/v4/projects/1/pipelines/2/jobs");
     assert!(rt; matches!(asked, Lookup::Found(Operation::Read(1, Subject::Jobs(2)))));
     let asked = paths.look_up(b"GET", "/api/v4/projects/1/jobs/2/attempts");
-    assert!(rt; matches!(asked, Lookup::Found(Operation::Read(1, Subject::Attempts(2)))));
+    assert!(rt;
+        matches!(
+            asked,
+            Lookup::Found(Operation::Read(1, Subject::Attempts(2)))
+        )
+    );
     let asked = paths.look_up(b"GET", "/api/v4/projects/1/jobs/2/attempts/3/trace");
-    assert!(rt; matches!(asked, Lookup::Found(Operation::Read(1, Subject::Trace(2, 3)))));
+    assert!(rt;
+        matches!(
+            asked,
+            Lookup::Found(Operation::Read(1, Subject::Trace(2, 3)))
+        )
+    );
     let asked = paths.look_up(b"GET", "/api/v4/projects/1/resource_groups");
-    assert!(rt; matches!(asked, Lookup::Found(Operation::Read(1, Subject::ResourceGroups))));
+    assert!(rt;
+        matches!(
+            asked,
+            Lookup::Found(Operation::Read(1, Subject::ResourceGroups))
+        )
+    );
     let asked = paths.look_up(b"GET", "/-/health");
     assert!(rt; matches!(asked, Lookup::Found(Operation::Health)));
 }
 
 fn lists_methods(rt: &impl Abort, paths: &Paths) {
     let asked = paths.look_up(b"GET", "/api/v4/projects/1/variables/A");
-    assert!(rt; matches!(asked, Lookup::OtherMethods(Method::Delete, Some(Method::Put))));
+    assert!(rt;
+        matches!(
+            asked,
+            Lookup::OtherMethods(Method::Delete, Some(Method::Put))
+        )
+    );
     let asked = paths.look_up(b"DELETE", "/api/v4/projects/1/resource_groups/A");
     assert!(rt; matches!(asked, Lookup::OtherMethods(Method::Get, Some(Method::Put))));
     let asked = paths.look_up(b"POST", "/api/v4/projects/1/pipelines");

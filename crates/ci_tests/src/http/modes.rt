@@ -2,10 +2,10 @@ ghost use Rattle.ci_http_messages.specs.Blanks.{OpensWhole};
 
 use ci_http_messages::call::{HeadRoom, read_request};
 use ci_http_messages::link::Link;
+use ci_http_messages::payloads::mode::mode_in;
 use ci_http_messages::route::{Demand, request_of};
+use ci_http_messages::routing::paths::Paths;
 use ci_http_messages::text::reply_bytes;
-use ci_http_payloads::mode::mode_in;
-use ci_http_routes::paths::Paths;
 use ci_machine::records::GroupOrder;
 use ci_machine::reply::{Code, Reply};
 use ci_machine::request::{GroupQuery, NewMode, Request};

@@ -1,4 +1,4 @@
-use ci_http_payloads::range::start_in;
+use ci_http_messages::payloads::range::start_in;
 use ci_values::number::{id_in, is_number, number_within, value_within};
 use std::test::Fail;
 

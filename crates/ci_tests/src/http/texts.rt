@@ -1,4 +1,4 @@
-use ci_http_payloads::texts::{file_in, token_in, value_in};
+use ci_http_messages::payloads::texts::{file_in, token_in, value_in};
 use ci_machine::reply::Code;
 use ci_machine::text::Text;
 use std::test::Fail;

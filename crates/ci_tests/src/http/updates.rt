@@ -1,4 +1,4 @@
-use ci_http_payloads::update::update_in;
+use ci_http_messages::payloads::update::update_in;
 use ci_machine::records::Cause;
 use ci_machine::reply::Code;
 use ci_machine::request::Report;

@@ -3,7 +3,7 @@ use Rattle.std.specs.Prelude.{if◌then◌else◌}
 use Rattle.std.specs.Str.{IsUtf8, is_utf8}
 use Rattle.std.proofs.lemmas.Str.{IsUtf8-from_is_utf8, is_utf8-from_IsUtf8}
 use Rattle.std.proofs.lemmas.Bool.{false_from_ne_true}
-use Rattle.ci_http_routes.specs.Routes.{Asked, no_route, asked_in}
+use Rattle.ci_http_messages.specs.Routes.{Asked, no_route, asked_in}
 use Rattle.ci_http_messages.specs.RequestBytes.{asked_at}
 use Rattle.ci_http_messages.specs.Targets.{path_of}
 use Rattle.ci_http_messages.proofs.route.asked_by.Goals as goal

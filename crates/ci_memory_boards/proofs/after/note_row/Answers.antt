@@ -17,7 +17,7 @@ by_job r = r.job
 pub returns-then-has_within : goal.returns-then-has_within
 returns-then-has_within c =
     let m = c.args.sheet.now in
-    on_some_then c.put_row.result c.put_row.ensures (λ put_in k ascend right. record {
+    on_some_then c.put_record.result c.put_record.ensures (λ put_in k ascend right. record {
       jobs = right.jobs;
       inside = right.inside;
       needs = right.needs;

@@ -1,6 +1,6 @@
 use Rattle.std.proofs.Common.{rules, ◌<◌, [], ◌∷◌, Option, Ok, Err, None, inl, inr, refl, subst}
 use Rattle.ci_machine.specs.Kept.{Kept}
-use Rattle.ci_store_tables.specs.declared.fault.StoreFault.TheVariants.{Broken}
+use Rattle.ci_store.specs.declared.fault.StoreFault.TheVariants.{Broken}
 use Rattle.ci_store_rows.specs.declared.columns.TheConstants.{LAST_INTEGER}
 use Rattle.ci_store_rows.specs.Found.{ShowsRecords, FindsNumber, listed}
 use Rattle.ci_store_rows.specs.Rows.{number}

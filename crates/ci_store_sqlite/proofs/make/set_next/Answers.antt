@@ -1,7 +1,7 @@
 use Rattle.std.proofs.Common.{rules, ◌≡◌, ◌∙◌, [], ◌∷◌, subst}
 use Rattle.sqlite.specs.declared.types.Value.TheVariants.{Text}
 use Rattle.sqlite.specs.Values.{bound_value}
-use Rattle.ci_store_tables.specs.Statements.{Changes}
+use Rattle.ci_store.specs.Statements.{Changes}
 use Rattle.ci_store_rows.specs.declared.texts.TheConstants.{UPDATE_META}
 use Rattle.ci_store_rows.specs.Rows.{number}
 use Rattle.ci_store_rows.specs.Stands.{counter_key, meta_row}

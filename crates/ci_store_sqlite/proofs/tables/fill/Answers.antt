@@ -3,8 +3,8 @@ use Rattle.sqlite.specs.State.{HasCleanDisk}
 use Rattle.sqlite.specs.Values.{bound_value}
 use Rattle.sqlite.specs.Held.{state}
 use Rattle.sqlite.proofs.StateLemmas.{survives_then}
-use Rattle.ci_store_tables.specs.Stands.{IsOf}
-use Rattle.ci_store_tables.specs.Statements.{Changes}
+use Rattle.ci_store.specs.Stands.{IsOf}
+use Rattle.ci_store.specs.Statements.{Changes}
 use Rattle.ci_store_rows.specs.declared.texts.TheConstants.{INSERT_META}
 use Rattle.ci_store_rows.specs.Schema.{the_schema}
 use Rattle.ci_store_sqlite.proofs.Committing.{survives_same}

@@ -1,7 +1,7 @@
 use Rattle.std.proofs.Common.{◌≡◌, IsTrue}
 use Rattle.sqlite.specs.State.{HasCleanDisk, Survives}
 use Rattle.sqlite.specs.Held.{state}
-use Rattle.ci_store_tables.specs.Stands.{IsOf}
+use Rattle.ci_store.specs.Stands.{IsOf}
 use Rattle.ci_store_rows.specs.Schema.{the_schema}
 use Rattle.ci_store_rows.specs.Create.{IsBare}
 use Rattle.ci_store_rows.proofs.Fills.{rows_after}

@@ -7,9 +7,9 @@ use Rattle.ci_machine.specs.State.{State, applied}
 use Rattle.ci_machine.specs.Kept.{Kept, put_rows, cleared, written}
 use Rattle.ci_memory_boards.specs.Sheets as boards
 use Rattle.ci_memory_boards.proofs.Stays.{written_in_order}
-use Rattle.ci_memory_leases.specs.Quiet.{AreRight}
-use Rattle.ci_memory_lines.specs.Covers as lines
-use Rattle.ci_memory_pipelines.specs.Alone as alone
+use Rattle.ci_memory.specs.Quiet.{AreRight}
+use Rattle.ci_memory_queue.specs.LineCovers as lines
+use Rattle.ci_memory.specs.Alone as alone
 use Rattle.ci_memory_queue.specs.Covers as queue
 use Rattle.ci_memory.specs.Modes.{AreModes}
 use Rattle.ci_memory.specs.Newest.{AreNewest}

@@ -1,6 +1,6 @@
 use Rattle.std.proofs.Common.{subst, refl}
 use Rattle.ci_machine.specs.Lookups.{pipeline_at}
-use Rattle.ci_server_reports.specs.Told.{TellsPipeline}
+use Rattle.ci_server_events.specs.Told.{TellsPipeline}
 use Rattle.ci_server_lookups.specs.Keeps.{IsKept}
 use Rattle.ci_server.specs.Reports.{TellsPipelineAt}
 use Rattle.ci_server.proofs.Reports.{reported}

@@ -1,5 +1,0 @@
-use Rattle.ci_cli_check.proofs.OneLine.{no-x8}
-use Rattle.ci_cli_check.proofs.laws.blames_only_patterns.Goals as goal
-
-pub returns : goal.returns
-returns c = no-x8 c.has_one_tree.ensures c.answers_once_without_patterns.ensures c.means_no_x8.ensures

@@ -1,5 +1,0 @@
-use Rattle.ci_cli_check.proofs.Fitting.{fault-fits}
-use Rattle.ci_cli_check.proofs.verdict.judge_text.Goals as goal
-
-pub returns-in-Err : goal.returns-in-Err
-returns-in-Err c = fault-fits c.args.text.now c.in-Err.fault c.in-Err.ensures.fault c.in-Err.ensures.all

@@ -1,0 +1,6 @@
+use Rattle.std.proofs.Common.{◌≡◌, ◌++◌, drop, flat_map, string_bytes}
+use Rattle.ci_cli_words.specs.ReportText.{runner_line}
+use Rattle.ci_cli_words.proofs.report.runner.put_rows.Given as goal
+
+abbrev pub invariant-loop-row : goal.invariant-loop-row
+invariant-loop-row l = string_bytes l.text ++ flat_map runner_line (drop l.row-index l.rows) ≡ string_bytes l.fn.text ++ flat_map runner_line l.rows

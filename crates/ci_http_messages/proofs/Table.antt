@@ -1,0 +1,106 @@
+-- The router's rows are the table of pieces.
+use Rattle.std.proofs.Common.{◌≡◌, ℕ, suc, ◌<◌, List, [], ◌∷◌, length, get_or, Option, Some, None, Bool, true, false, cond, refl, sym, ap, ◌∙◌, arith, Fits, w8}
+use Rattle.matchit.proofs.OnLiterals.{matchit_on_literals}
+use Rattle.matchit.specs.Rows.{RowsOf}
+use Rattle.matchit.specs.Router.{RouteOf}
+use Rattle.matchit.specs.Seek.{first}
+use Rattle.matchit.specs.Level.{IsText}
+use Rattle.ci_http_messages.specs.declared.routing.router.Pattern.{Pattern}
+use Rattle.ci_http_messages.specs.Table.{first_rows, table}
+use Rattle.std.specs.Str.{IsUtf8}
+use Rattle.std.proofs.lemmas.Bool.Decides.{nat_tests}
+use Rattle.std.proofs.Common.{◌==◌}
+use Rattle.ci_http_messages.proofs.Named.{AreRows, Gives, rows-give}
+use Rattle.ci_http_messages.specs.Patterns.{patterns, pattern_in, text_in, text_of, first_of, pieces_fit, text_at, Piece}
+use Rattle.ci_http_messages.specs.Segments.{segments}
+use Rattle.ci_http_messages.specs.Fits.{fits, first_fit, all_tidy, sorted}
+use Rattle.ci_http_messages.proofs.Firsts.{first-fit}
+use Rattle.ci_http_messages.proofs.Splits.{token_rows, all_plain, first-in}
+
+module _ {T : Type 0} where
+  abbrev pub valued : RowsOf (RouteOf T) → RowsOf T
+  valued [] = []
+  valued ((t, e) ∷ rest) = (t, e.value) ∷ valued rest
+
+  abbrev pub value_of : Option (RouteOf T) → Option T
+  value_of None = None
+  value_of (Some e) = Some e.value
+
+first-value : {T : Type 0} (rs : RowsOf (RouteOf T)) (path : List ℕ) → value_of (first_fit rs path) ≡ first_fit (valued rs) path
+first-value [] path = refl
+first-value ((t, e) ∷ rest) path = by (fits t path) (first-value rest path)
+  where
+    by : (v : Bool) → value_of (first_fit rest path) ≡ first_fit (valued rest) path → value_of (cond v (Some e) (first_fit rest path)) ≡ cond v (Some e.value) (first_fit (valued rest) path)
+    by true ih = refl
+    by false ih = ih
+
+table-sorted : sorted table ≡ true
+unfolding matchit_on_literals first_rows table
+table-sorted = refl
+
+table-tidy : all_tidy table ≡ true
+unfolding matchit_on_literals first_rows table
+table-tidy = refl
+
+table-pieces : valued table ≡ token_rows patterns
+unfolding matchit_on_literals first_rows table patterns
+table-pieces = refl
+
+patterns-plain : all_plain patterns ≡ true
+unfolding patterns
+patterns-plain = refl
+
+pub is-text : (p : List ℕ) → ((i : ℕ) → Fits w8 (get_or p i 0)) → IsText p
+is-text [] h = tt
+is-text (b ∷ p) h =
+    let f : Fits w8 b = h 0 in
+    let l : b < 256 = omega arith in
+    (l, is-text p (λ i. h (suc i)))
+
+-- the route of a path
+pub found : (path : List ℕ) → IsText path → value_of (first table path) ≡ pattern_in patterns path
+found path x =
+    ap value_of (first-fit (length path) table path (omega arith) table-sorted table-tidy x)
+    ∙ first-value table path ∙ ap (λ r. first_fit r path) table-pieces ∙ first-in patterns path patterns-plain
+
+table-rows : AreRows table patterns
+unfolding matchit_on_literals first_rows table patterns
+table-rows = ((refl, refl, refl, refl, refl), ((refl, refl, refl, refl, refl), ((refl, refl, refl, refl, refl), ((refl, refl, refl, refl, refl), ((refl, refl, refl, refl, refl), ((refl, refl, refl, refl, refl), ((refl, refl, refl, refl, refl), ((refl, refl, refl, refl, refl), ((refl, refl, refl, refl, refl), ((refl, refl, refl, refl, refl), ((refl, refl, refl, refl, refl), ((refl, refl, refl, refl, refl), ((refl, refl, refl, refl, refl), ((refl, refl, refl, refl, refl), ((refl, refl, refl, refl, refl), ((refl, refl, refl, refl, refl), ((refl, refl, refl, refl, refl), ((refl, refl, refl, refl, refl), ((refl, refl, refl, refl, refl), ((refl, refl, refl, refl, refl), ((refl, refl, refl, refl, refl), tt)))))))))))))))))))))
+
+-- a path with a route starts with a slash
+starts : (path : List ℕ) (e : RouteOf Pattern) → value_of (Some e) ≡ pattern_in patterns path → (p : List ℕ) × (path ≡ 47 ∷ p)
+starts [] e h = cc
+starts (b ∷ p) e h = by (b == 47) refl h
+  where
+    by : (v : Bool) → (b == 47) ≡ v → value_of (Some e) ≡ cond v (first_of patterns (segments p)) None → (q : List ℕ) × (b ∷ p ≡ 47 ∷ q)
+    by true k h =
+        let f : b ≡ 47 = grind (arith, nat_tests) in
+        (p, ap (λ z. z ∷ p) f)
+    by false k h = cc
+
+-- the texts of a path's route
+pub gives : (key path : List ℕ) (e : RouteOf Pattern) → IsText path → IsUtf8 path → first table path ≡ Some e → Gives key e path (text_in key patterns path)
+gives key path e x u h =
+    let w = starts path e (sym (ap value_of h) ∙ found path x) in
+    let f : first_fit table path ≡ Some e = sym (first-fit (length path) table path (omega arith) table-sorted table-tidy x) ∙ h in
+    let f2 = rw w.1 at f in
+    let u2 = rw w.1 at u in
+    rw w.1 (rows-give key table patterns w.0 e table-rows u2 f2)
+
+-- a path without a route
+lacks : (rs : List (List Piece × Pattern)) (key : List ℕ) (ss : List (List ℕ)) → None ≡ first_of rs ss → text_of key rs ss ≡ None
+lacks [] key ss h = refl
+lacks ((ps, k) ∷ rs) key ss h = by (pieces_fit ps ss) h (lacks rs key ss)
+  where
+    by : (v : Bool) → None ≡ cond v (Some k) (first_of rs ss) → (None ≡ first_of rs ss → text_of key rs ss ≡ None)
+        → cond v (text_at key ps ss) (text_of key rs ss) ≡ None
+    by true h ih = cc
+    by false h ih = ih h
+
+pub no-text : (key path : List ℕ) → None ≡ pattern_in patterns path → text_in key patterns path ≡ None
+no-text key [] h = refl
+no-text key (b ∷ p) h = by (b == 47) h
+  where
+    by : (v : Bool) → None ≡ cond v (first_of patterns (segments p)) None → cond v (text_of key patterns (segments p)) None ≡ None
+    by true h = lacks patterns key (segments p) h
+    by false h = refl

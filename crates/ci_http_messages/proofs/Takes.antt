@@ -1,0 +1,250 @@
+-- What the parameters of a match take of a path.
+use Rattle.std.proofs.Common.{◌≡◌, ℕ, zero, suc, ◌+◌, ◌-◌, ◌<◌, ◌≤◌, List, [], ◌∷◌, length, drop, take, get_or, Bool, true, false, cond, refl, sym, ap, ◌∙◌, arith, ◌==◌, ltb, leb, ◌&&◌}
+use Rattle.std.proofs.lemmas.Bool.Decides.{nat_tests}
+use Rattle.matchit.specs.Params.{walk, wild_from, wild_stop, part_of, after_token}
+use Rattle.matchit.specs.Seek.{segment, has_slash}
+use Rattle.matchit.proofs.ParamsLemmas.{walk-next}
+use Rattle.ci_http_messages.specs.Fits.{after, fits, opens, tidy}
+use Rattle.ci_http_messages.proofs.Walks.{and-l, and-r, after-none, after-some}
+
+-- the text before the first slash
+abbrev pub before : List ℕ → List ℕ
+before [] = []
+before (b ∷ p) = cond (b == 47) [] (b ∷ before p)
+
+-- what the slots of a pattern take
+abbrev pub taken : List ℕ → List ℕ → List (List ℕ)
+taken [] p = []
+taken (x ∷ t) [] = []
+taken (x ∷ t) (b ∷ p) = cond (x == 256) (before (b ∷ p) ∷ taken t (after p)) (taken t p)
+
+pub before-length : (p : List ℕ) → take (length (before p)) p ≡ before p
+before-length [] = refl
+before-length (b ∷ p) =
+    let ih = before-length p in
+    elim (b == 47) as (λ v. take (length (cond v [] (b ∷ before p))) (b ∷ p) ≡ cond v [] (b ∷ before p)) [
+      | true ↦ refl
+      | false ↦ ap (λ z. b ∷ z) ih
+    ]
+
+pub before-drop : (p : List ℕ) → drop (length (before p)) p ≡ after p
+before-drop [] = refl
+before-drop (b ∷ p) =
+    let ih = before-drop p in
+    elim (b == 47) as (λ v. drop (length (cond v [] (b ∷ before p))) (b ∷ p) ≡ cond v (b ∷ p) (after p)) [
+      | true ↦ refl
+      | false ↦ ih
+    ]
+
+-- the segment without its slash
+pub before-segment : (p : List ℕ) → has_slash p ≡ true → length (segment p) ≡ suc (length (before p))
+before-segment [] h = cc
+before-segment (b ∷ p) h = by (b == 47) h (before-segment p)
+  where
+    by : (v : Bool) → cond v true (has_slash p) ≡ true → (has_slash p ≡ true → length (segment p) ≡ suc (length (before p)))
+        → length (cond v (b ∷ []) (b ∷ segment p)) ≡ suc (length (cond v [] (b ∷ before p)))
+    by true h ih = refl
+    by false h ih = ap suc (ih h)
+
+pub before-all : (p : List ℕ) → has_slash p ≡ false → before p ≡ p
+before-all [] h = refl
+before-all (b ∷ p) h = by (b == 47) h (before-all p)
+  where
+    by : (v : Bool) → cond v true (has_slash p) ≡ false → (has_slash p ≡ false → before p ≡ p) → cond v [] (b ∷ before p) ≡ b ∷ p
+    by true h ih = cc
+    by false h ih = ap (λ z. b ∷ z) (ih h)
+
+pub drop-cons : {X : Type 0} (n : ℕ) (l : List X) (x : X) (r : List X) → drop n l ≡ x ∷ r → (drop (n + 1) l ≡ r) × (n < length l)
+drop-cons zero [] x r e = cc
+drop-cons zero (y ∷ l) x r e = (cc, omega arith)
+drop-cons (suc n) [] x r e = cc
+drop-cons (suc n) (y ∷ l) x r e =
+    let ih = drop-cons n l x r e in
+    let s : suc n + 1 ≡ suc (n + 1) = omega arith in
+    (rw s ih.0, omega (arith, ih.1))
+
+pub drop-get : (n : ℕ) (l : List ℕ) (x : ℕ) (r : List ℕ) → drop n l ≡ x ∷ r → get_or l n 0 ≡ x
+drop-get zero [] x r e = cc
+drop-get zero (y ∷ l) x r e = cc
+drop-get (suc n) [] x r e = cc
+drop-get (suc n) (y ∷ l) x r e = drop-get n l x r e
+
+drop-nil : {X : Type 0} (n : ℕ) → drop {A = X} n [] ≡ []
+drop-nil zero = refl
+drop-nil (suc n) = refl
+
+pub drop-more : {X : Type 0} (n m : ℕ) (l : List X) → drop (n + m) l ≡ drop m (drop n l)
+drop-more zero m l =
+    let z : 0 + m ≡ m = omega arith in
+    rw z refl
+drop-more {X} (suc n) m [] =
+    let e : (drop {A = X} (suc n + m) []) ≡ [] = drop-nil (suc n + m) in
+    e ∙ sym (drop-nil m)
+drop-more (suc n) m (x ∷ l) =
+    let e : suc n + m ≡ suc (n + m) = omega arith in
+    rw e (drop-more n m l)
+
+pub stop-end : (P A : List ℕ) (tok at : ℕ) → drop tok P ≡ 256 ∷ [] → wild_stop P tok A at ≡ length A
+stop-end P A tok at e =
+    let d = drop-cons tok P 256 [] e in
+    let n : ltb (tok + 1) (length P) ≡ false = end-of (tok + 1) P d.0 in
+    let g : get_or P tok 0 ≡ 256 = drop-get tok P 256 [] e in
+    let l : ltb tok (length P) ≡ true = grind (arith, nat_tests, d.1) in
+    rw (l, g, n) refl
+  where
+    end-of : (n : ℕ) (l : List ℕ) → drop n l ≡ [] → ltb n (length l) ≡ false
+    end-of zero [] h = refl
+    end-of zero (x ∷ l) h = cc
+    end-of (suc n) [] h = grind (arith, nat_tests)
+    end-of (suc n) (x ∷ l) h =
+        let ih = end-of n l h in
+        grind (arith, nat_tests)
+
+pub stop-mid : (P A t p : List ℕ) (tok at : ℕ) → drop tok P ≡ 256 ∷ 47 ∷ t → drop at A ≡ p → has_slash p ≡ true → wild_stop P tok A at ≡ at + length (before p)
+stop-mid P A t p tok at e f s =
+    let d = drop-cons tok P 256 (47 ∷ t) e in
+    let d2 = drop-cons (tok + 1) P 47 t d.0 in
+    let g : get_or P tok 0 ≡ 256 = drop-get tok P 256 (47 ∷ t) e in
+    let l : ltb tok (length P) ≡ true = grind (arith, nat_tests, d.1) in
+    let n : ltb (tok + 1) (length P) ≡ true = grind (arith, nat_tests, d2.1) in
+    let o : at + suc (length (before p)) - 1 ≡ at + length (before p) = omega arith in
+    rw (l, g, n, d.0, f, before-segment p s) o
+
+length-drops : (at : ℕ) (A : List ℕ) → at ≤ length A → at + length (drop at A) ≡ length A
+length-drops zero A l = omega arith
+length-drops (suc at) [] l = absurd (omega arith)
+length-drops (suc at) (x ∷ A) l =
+    let ih = length-drops at A (omega arith) in
+    omega (arith, ih)
+
+pub part-mid : (A p : List ℕ) (at n : ℕ) → drop at A ≡ p → at ≤ length A → n ≤ length p → part_of A at (at + n) ≡ take n p
+part-mid A p at n f w l =
+    let ld = length-drops at A w in
+    let q : at + length p ≡ length A = rw f at ld in
+    let le : at + n ≤ length A = omega (arith, q) in
+    let a : leb at (at + n) ≡ true = grind (arith, nat_tests) in
+    let b : leb (at + n) (length A) ≡ true = grind (arith, nat_tests, le) in
+    let m : (at + n) - at ≡ n = omega arith in
+    rw (a, b, m, f) refl
+
+-- how many slots a pattern has
+abbrev pub slots : List ℕ → ℕ
+slots [] = 0
+slots (x ∷ t) = cond (x == 256) (suc (slots t)) (slots t)
+
+no-slots : (t p : List ℕ) → slots t ≡ 0 → taken t p ≡ []
+no-slots [] p h = refl
+no-slots (x ∷ t) [] h = refl
+no-slots (x ∷ t) (b ∷ p) h = by (x == 256) h (no-slots t p)
+  where
+    by : (v : Bool) → cond v (suc (slots t)) (slots t) ≡ 0 → (slots t ≡ 0 → taken t p ≡ []) → cond v (before (b ∷ p) ∷ taken t (after p)) (taken t p) ≡ []
+    by true h ih = cc
+    by false h ih = ih h
+
+abbrev pub seconds : List (List ℕ × List ℕ) → List (List ℕ)
+seconds [] = []
+seconds (q ∷ rest) = q.1 ∷ seconds rest
+
+open-slash : (t p : List ℕ) (y : ℕ) → fits (y ∷ t) (after p) ≡ true → has_slash p ≡ true
+open-slash t p y h = by (has_slash p) refl
+  where
+    by : (v : Bool) → has_slash p ≡ v → has_slash p ≡ true
+    by true e = e
+    by false e =
+        let n = after-none p e in
+        let k = rw n at h in
+        cc
+
+before-le : (p : List ℕ) → length (before p) ≤ length p
+before-le [] = omega arith
+before-le (b ∷ q) =
+    let ih = before-le q in
+    elim (b == 47) as (λ v. length (cond v [] (b ∷ before q)) ≤ suc (length q)) [
+      | true ↦ omega arith
+      | false ↦ omega arith
+    ]
+
+-- a literal is passed by
+literal : (P T A : List ℕ) (x : ℕ) (t : List ℕ) (names : List (ℕ × ℕ)) (tok at : ℕ) → drop tok P ≡ x ∷ t → (ltb x 256) ≡ true → at < length A
+    → walk P T A names tok at ≡ walk P T A names (tok + 1) (at + 1)
+literal P T A x t [] tok at e l w = refl
+literal P T A x t (name ∷ rest) tok at e l w =
+    let d = drop-cons tok P x t e in
+    let m : ltb at (length A) ≡ true = grind (arith, nat_tests) in
+    rw (e, d.0, l, m) refl
+
+slash-on : (b : ℕ) (p : List ℕ) (v : Bool) → (b == 47) ≡ false → has_slash p ≡ v → has_slash (b ∷ p) ≡ v
+slash-on b p v nb h = rw nb h
+
+stop-is : (P A t p : List ℕ) (b tok at : ℕ) → drop tok P ≡ 256 ∷ t → opens t ≡ true → fits t (after p) ≡ true → drop at A ≡ b ∷ p → (b == 47) ≡ false → at ≤ length A
+    → wild_stop P tok A at ≡ at + length (before (b ∷ p))
+stop-is P A [] p b tok at e o h f nb w = by (has_slash p) refl
+  where
+    by : (v : Bool) → has_slash p ≡ v → wild_stop P tok A at ≡ at + length (before (b ∷ p))
+    by true s =
+        let q = after-some p s in
+        let k = rw q.1 at h in
+        cc
+    by false s =
+        let ld = length-drops at A w in
+        let g : at + length (b ∷ p) ≡ length A = rw f at ld in
+        stop-end P A tok at e ∙ sym g ∙ ap (λ z. at + length z) (sym (before-all (b ∷ p) (slash-on b p false nb s)))
+stop-is P A (y ∷ t) p b tok at e o h f nb w =
+    let y4 : y ≡ 47 = grind (arith, nat_tests) in
+    let s = open-slash t p y h in
+    stop-mid P A t (b ∷ p) tok at (rw y4 at e) f (slash-on b p true nb s)
+
+no-front : (v w : Bool) → cond v false w ≡ true → (v ≡ false) × (w ≡ true)
+no-front true w h = cc
+no-front false w h = (refl, h)
+
+token-next : (n tok : ℕ) → n < 18446744073709551615 → tok < n → after_token tok ≡ tok + 1
+token-next n tok a b = omega arith
+
+after-on : (b : ℕ) (p : List ℕ) → (b == 47) ≡ false → after (b ∷ p) ≡ after p
+after-on b p nb = rw nb refl
+
+module _ (P T A : List ℕ) (short : length P < 18446744073709551615) where
+  abbrev Goes : List ℕ → Type 0
+  Goes t = (p : List ℕ) (names : List (ℕ × ℕ)) (tok at : ℕ) → drop tok P ≡ t → drop at A ≡ p → at ≤ length A → fits t p ≡ true → tidy t ≡ true
+      → slots t ≡ length names → seconds (walk P T A names tok at) ≡ taken t p
+
+  at-slot : (t p : List ℕ) (b : ℕ) (name : ℕ × ℕ) (rest : List (ℕ × ℕ)) (tok at : ℕ) → Goes t → drop tok P ≡ 256 ∷ t → drop at A ≡ b ∷ p → at ≤ length A
+      → cond (b == 47) false (fits t (after p)) ≡ true → (opens t && tidy t) ≡ true → slots t ≡ length rest
+      → seconds (walk P T A (name ∷ rest) tok at) ≡ before (b ∷ p) ∷ taken t (after p)
+  at-slot t p b name rest tok at ih e f w h d n =
+      let k = no-front (b == 47) (fits t (after p)) h in
+      let m = length (before (b ∷ p)) in
+      let st : at + m ≡ wild_stop P tok A at = sym (stop-is P A t p b tok at e (and-l (opens t) _ d) k.1 f k.0 w) in
+      let dp = drop-cons tok P 256 t e in
+      let nt : tok + 1 ≡ after_token tok = sym (token-next (length P) tok short dp.1) in
+      let wf : (tok, at) ≡ wild_from (drop tok P) (length A) tok at = rw e refl in
+      let one = walk-next P T A (name ∷ rest) 0 tok at (at + m) (tok + 1) (tok, at) (omega arith) wf st nt in
+      let part : part_of A at (at + m) ≡ before (b ∷ p) = part-mid A (b ∷ p) at m f w (before-le (b ∷ p)) ∙ before-length (b ∷ p) in
+      let ld = length-drops at A w in
+      let g : at + length (b ∷ p) ≡ length A = rw f at ld in
+      let le : at + m ≤ length A = omega (arith, g, before-le (b ∷ p)) in
+      let dn : drop (at + m) A ≡ after p = drop-more at m A ∙ ap (λ z. drop m z) f ∙ before-drop (b ∷ p) ∙ after-on b p k.0 in
+      let go = ih (after p) rest (tok + 1) (at + m) dp.0 dn le k.1 (and-r (opens t) _ d) n in
+      ap seconds one ∙ ap (λ z. z ∷ seconds (walk P T A rest (tok + 1) (at + m))) part ∙ ap (λ z. before (b ∷ p) ∷ z) go
+
+  pub walk-taken : (t p : List ℕ) (names : List (ℕ × ℕ)) (tok at : ℕ) → drop tok P ≡ t → drop at A ≡ p → at ≤ length A → fits t p ≡ true → tidy t ≡ true
+      → slots t ≡ length names → seconds (walk P T A names tok at) ≡ taken t p
+  walk-taken t p [] tok at e f w h d n = sym (no-slots t p n)
+  walk-taken [] p (name ∷ rest) tok at e f w h d n = cc
+  walk-taken (x ∷ t) [] (name ∷ rest) tok at e f w h d n = cc
+  walk-taken (x ∷ t) (b ∷ p) (name ∷ rest) tok at e f w h d n =
+      by (x == 256) refl h d n (λ q ns k j. walk-taken t q ns k j)
+    where
+      by : (v : Bool) → (x == 256) ≡ v → cond v (cond (b == 47) false (fits t (after p))) (x == b && fits t p) ≡ true → cond v (opens t && tidy t) (ltb x 256 && tidy t) ≡ true
+          → cond v (suc (slots t)) (slots t) ≡ suc (length rest) → Goes t
+          → seconds (walk P T A (name ∷ rest) tok at) ≡ cond v (before (b ∷ p) ∷ taken t (after p)) (taken t p)
+      by true q h d n ih =
+          let x6 : x ≡ 256 = grind (arith, nat_tests) in
+          let m : slots t ≡ length rest = omega arith in
+          at-slot t p b name rest tok at ih (rw x6 at e) f w h d m
+      by false q h d n ih =
+          let dr = drop-cons at A b p f in
+          let dp = drop-cons tok P x t e in
+          ap seconds (literal P T A x t (name ∷ rest) tok at e (and-l (ltb x 256) _ d) dr.1)
+          ∙ ih p (name ∷ rest) (tok + 1) (at + 1) dp.0 dr.0 (omega (arith, dr.1)) (and-r (x == b) _ h) (and-r (ltb x 256) _ d) n

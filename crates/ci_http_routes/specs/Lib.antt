@@ -1,9 +1,0 @@
-pub mod Methods
-pub mod Segments
-pub mod Routes
-pub mod Answers
-pub mod Places
-pub mod Patterns
-pub mod Fits
-pub mod Table
-pub mod Laws

@@ -1,0 +1,8 @@
+use Rattle.std.proofs.Common.{rules}
+use Rattle.std.specs.Prelude.{not, ◌==◌}
+use Rattle.std.proofs.lemmas.Fn.{filter_same}
+use Rattle.ci_machine.specs.declared.records.Pipeline.{Pipeline}
+use Rattle.ci_memory.proofs.pipelines.after.take_out.Goals as goal
+
+pub returns : goal.returns
+returns c = filter_same _ (λ (p : Pipeline). not (p.id == c.args.pipeline)) _ (λ x b f k. search rules) _ _ c.retain.ensures.filtered

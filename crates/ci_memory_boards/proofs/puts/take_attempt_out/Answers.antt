@@ -1,8 +1,0 @@
-use Rattle.std.specs.Prelude.{not, ◌==◌}
-use Rattle.std.proofs.Common.{rules}
-use Rattle.std.proofs.lemmas.Fn.{filter_same}
-use Rattle.ci_machine.specs.declared.records.Attempt.{Attempt}
-use Rattle.ci_memory_boards.proofs.puts.take_attempt_out.Goals as goal
-
-pub returns : goal.returns
-returns c = filter_same _ (λ (x : Attempt). not (c.args.id == x.id)) _ (λ x b f k. search rules) _ _ c.retain.ensures.filtered

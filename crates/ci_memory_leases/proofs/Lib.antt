@@ -1,4 +1,0 @@
-pub mod Jobs
-pub mod Quiets
-pub mod Rights
-pub mod Stays

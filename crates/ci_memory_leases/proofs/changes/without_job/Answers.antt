@@ -1,5 +1,0 @@
-use Rattle.ci_memory_leases.proofs.Rights.{without_job}
-use Rattle.ci_memory_leases.proofs.changes.without_job.Goals as goal
-
-pub returns : goal.returns
-returns c = λ s right. without_job c.args.memory _ c.args.id s c.quiet_without.ensures c.limit_without.ensures right

@@ -1,4 +1,0 @@
-pub mod Known
-pub mod Places
-pub mod Covers
-pub mod First

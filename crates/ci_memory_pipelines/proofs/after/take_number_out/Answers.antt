@@ -1,7 +1,0 @@
-use Rattle.std.proofs.Common.{rules}
-use Rattle.std.specs.Prelude.{not, ◌==◌}
-use Rattle.std.proofs.lemmas.Fn.{filter_same}
-use Rattle.ci_memory_pipelines.proofs.after.take_number_out.Goals as goal
-
-pub returns : goal.returns
-returns c = filter_same _ (λ n. not (n == c.args.pipeline)) _ (λ x b f k. search rules) _ _ c.retain.ensures.filtered

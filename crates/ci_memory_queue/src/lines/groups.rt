@@ -1,0 +1,94 @@
+//! Jobs are put into the lines of their groups.
+
+ghost use Rattle.std.specs.Prelude.{◌≡◌, ◌<◌, ℕ, Bool, List, None, length, IfSome, IfNone, OnOk};
+ghost use Rattle.ci_memory_queue.specs.declared.lines.Line.{Line};
+ghost use Rattle.ci_memory_queue.specs.LineCovers.{is_line_of, line_of, IsIn, IsInLine, IsFirstAt};
+
+use crate::classes::put;
+use crate::lines::Line;
+use ci_machine::text::Text;
+use std::alloc::{AllocError, Global};
+use std::collections::BTreeSet;
+
+/// Puts a job into the line of a group of a project, or into a new one: among those that are ready too, if it is. Errors: memory was
+/// refused.
+pub fn put_in(
+    alloc: Global,
+    lines: &mut Vec<Line>,
+    project: u64,
+    group: Text,
+    is_ready: bool,
+    job: u64,
+) -> Result<(), AllocError>
+    ensures there { OnOk result (IsInLine (line_of lines.new.items project group) is_ready job) }
+    ensures keeps { (p : ℕ) (g : List ℕ) (ready : Bool) (n : ℕ) → IsInLine (line_of lines.old.items p g) ready n → IsInLine (line_of lines.new.items p g) ready n }
+{
+    match index_of(lines.as_slice(), project, &group) {
+        Some(index) => put_at(lines, index, is_ready, job),
+        None => begin(alloc, lines, project, group, is_ready, job),
+    }
+}
+
+/// The index of the line of a group of a project, if there is one.
+pub fn index_of(lines: &[Line], project: u64, group: &Text) -> Option<usize>
+    ensures some { IfSome result (IsFirstAt (is_line_of project group.now) lines.now) }
+    ensures none { IfNone result (line_of lines.now project group.now ≡ None) }
+{
+    for (i, line) in lines.iter().enumerate() {
+        if is_line_of(line, project, group) {
+            return Some(i);
+        }
+    }
+    None
+}
+
+fn is_line_of(line: &Line, project: u64, group: &Text) -> bool
+    ensures { result ≡ is_line_of project group.now line.now }
+{
+    line.project == project && line.group.is_same(group)
+}
+
+fn put_at(lines: &mut Vec<Line>, index: usize, is_ready: bool, job: u64) -> Result<(), AllocError>
+    requires { index < length lines.old.items }
+    ensures there { OnOk result ((p : ℕ) (g : List ℕ) → IsFirstAt (is_line_of p g) lines.old.items index → IsInLine (line_of lines.new.items p g) is_ready job) }
+    ensures keeps { (p : ℕ) (g : List ℕ) (ready : Bool) (n : ℕ) → IsInLine (line_of lines.old.items p g) ready n → IsInLine (line_of lines.new.items p g) ready n }
+{
+    put_into(&mut lines[index], is_ready, job)
+}
+
+/// Adds a line that has this job alone.
+fn begin(
+    alloc: Global,
+    lines: &mut Vec<Line>,
+    project: u64,
+    group: Text,
+    is_ready: bool,
+    job: u64,
+) -> Result<(), AllocError>
+    requires { line_of lines.old.items project group ≡ None }
+    ensures there { OnOk result (IsInLine (line_of lines.new.items project group) is_ready job) }
+    ensures keeps { (p : ℕ) (g : List ℕ) (ready : Bool) (n : ℕ) → IsInLine (line_of lines.old.items p g) ready n → IsInLine (line_of lines.new.items p g) ready n }
+{
+    let mut line = Line {
+        project,
+        group,
+        waiting: BTreeSet::new(alloc),
+        ready: BTreeSet::new(alloc),
+    };
+    put_into(&mut line, is_ready, job)?;
+    lines.push(line)?;
+    Ok(())
+}
+
+fn put_into(line: &mut Line, is_ready: bool, job: u64) -> Result<(), AllocError>
+    ensures project { line.new.project ≡ line.old.project }
+    ensures group { line.new.group ≡ line.old.group }
+    ensures there { OnOk result (IsIn is_ready job line.new) }
+    ensures keeps { (ready : Bool) (n : ℕ) → IsIn ready n line.old → IsIn ready n line.new }
+{
+    put(&mut line.waiting, job)?;
+    if is_ready {
+        put(&mut line.ready, job)?;
+    }
+    Ok(())
+}

@@ -1,7 +1,0 @@
-use Rattle.std.proofs.Common.{◌∙◌, ap}
-use Rattle.serde_json.specs.Written.{has_float}
-use Rattle.ci_report.proofs.Floats.{queue_has_none}
-use Rattle.ci_report.proofs.json.queue_json.Goals as goal
-
-pub line_of-requires : goal.line_of-requires
-line_of-requires c = ap has_float c.in_ok-jobs.ensures ∙ queue_has_none c.args.rows.now

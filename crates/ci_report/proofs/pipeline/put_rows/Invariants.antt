@@ -1,6 +1,0 @@
-use Rattle.std.proofs.Common.{◌≡◌, ◌++◌, drop, flat_map, string_bytes}
-use Rattle.ci_report.specs.ReportText.{job_line}
-use Rattle.ci_report.proofs.pipeline.put_rows.Given as goal
-
-abbrev pub invariant-loop-row : goal.invariant-loop-row
-invariant-loop-row l = string_bytes l.text ++ flat_map job_line (drop l.row-index l.rows) ≡ string_bytes l.fn.text ++ flat_map job_line l.rows

@@ -1,7 +1,0 @@
-use Rattle.std.proofs.Common.{◌∙◌, sym, ◌==◌}
-use Rattle.std.proofs.lemmas.List.Sums.{length-filter}
-use Rattle.ci_machine.specs.declared.records.Attempt.{Attempt}
-use Rattle.ci_server_reports.proofs.runners.attempts_by.Goals as goal
-
-pub returns : goal.returns
-returns c = c.count_by.ensures ∙ sym (length-filter (λ (a : Attempt). a.runner == c.args.runner) c.args.attempts.now)

@@ -1,2 +1,0 @@
-pub mod JsonTexts
-pub mod Reading

@@ -1,7 +1,0 @@
-use Rattle.std.proofs.Common.{◌≡◌, take, map}
-use Rattle.serde_json.specs.Data.{number, unsigned}
-use Rattle.serde_json.specs.View.{view}
-use Rattle.ci_store_records.proofs.lists.numbers_in.Given as goal
-
-abbrev pub invariant-loop-item : goal.invariant-loop-item
-invariant-loop-item l = map (λ n. number (unsigned n)) l.numbers.items ≡ map view (take l.item-index l.items)

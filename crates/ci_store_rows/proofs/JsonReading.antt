@@ -1,0 +1,132 @@
+-- What JSON is read as.
+use Rattle.std.proofs.Common.{◌≡◌, ◌∙◌, ◌&&◌, ◌||◌, ℕ, List, [], ◌∷◌, map, filter, Bool, true, false, cond, if◌then◌else◌, Option, Some, None, Result, Ok, Err, IfOk, codes, bytes_eq, refl, sym, ap}
+use Rattle.std.specs.List.{list_any}
+use Rattle.serde_json.specs.Data.{Data, array, string}
+use Rattle.serde_json.specs.Find.{get}
+use Rattle.serde_json.specs.View.{items_of}
+use Rattle.ci_values.specs.declared.attempts.Cause.{Cause}
+use Rattle.ci_values.specs.declared.attempts.Cause.TheVariants.{UnknownFailure, ScriptFailure, ApiFailure, StuckOrTimeoutFailure, RunnerSystemFailure, JobExecutionTimeout}
+use Rattle.ci_values.specs.declared.when.Causes.{Causes}
+use Rattle.ci_values.specs.Attempts.{has_cause}
+use Rattle.serde_json.specs.Read.{read}
+use Rattle.ci_values.specs.declared.when.When.{When}
+use Rattle.ci_values.specs.declared.when.When.TheVariants.{OnSuccess, OnFailure, Always, Manual}
+use Rattle.ci_values.specs.declared.when.AllowFailure.{AllowFailure}
+use Rattle.ci_values.specs.declared.when.AllowFailure.TheVariants.{No, Yes, ExitCodes}
+use Rattle.ci_machine.specs.declared.records.JobOptions.{JobOptions}
+use Rattle.ci_machine.specs.declared.records.Demand.{Demand}
+use Rattle.ci_store_rows.specs.JsonText.{strings, numbers, group_data, allow_data, when_text, cause_text, every_cause, causes_data, list_data, spec_data}
+use Rattle.ci_store_rows.specs.Reads.{ReadsList, ReadsSpec, ReadsDemand, is_text}
+
+pub same_strings : (xs ys : List (List ℕ)) → strings xs ≡ strings ys → xs ≡ ys
+same_strings [] [] h = refl
+same_strings [] (y ∷ ys) h = cc
+same_strings (x ∷ xs) [] h = cc
+same_strings (x ∷ xs) (y ∷ ys) h =
+    let first : x ≡ y = cc in
+    let rest : strings xs ≡ strings ys = cc in
+    λ i. first i ∷ same_strings xs ys rest i
+
+pub same_numbers : (xs ys : List ℕ) → numbers xs ≡ numbers ys → xs ≡ ys
+same_numbers [] [] h = refl
+same_numbers [] (y ∷ ys) h = cc
+same_numbers (x ∷ xs) [] h = cc
+same_numbers (x ∷ xs) (y ∷ ys) h =
+    let first : x ≡ y = cc in
+    let rest : numbers xs ≡ numbers ys = cc in
+    λ i. first i ∷ same_numbers xs ys rest i
+
+pub same_group : (a b : Option (List ℕ)) → group_data a ≡ group_data b → a ≡ b
+same_group None None h = refl
+same_group None (Some y) h = cc
+same_group (Some x) None h = cc
+same_group (Some x) (Some y) h = cc
+
+pub same_allow : (a b : AllowFailure) → allow_data a ≡ allow_data b → a ≡ b
+same_allow No No h = refl
+same_allow No Yes h = cc
+same_allow No (ExitCodes ys) h = cc
+same_allow Yes No h = cc
+same_allow Yes Yes h = refl
+same_allow Yes (ExitCodes ys) h = cc
+same_allow (ExitCodes xs) No h = cc
+same_allow (ExitCodes xs) Yes h = cc
+same_allow (ExitCodes xs) (ExitCodes ys) h = let inner : numbers xs ≡ numbers ys = cc in ap ExitCodes (same_numbers xs ys inner)
+
+abbrev when_back : List ℕ → When
+when_back text = if bytes_eq text (codes "on_success") then OnSuccess else (if bytes_eq text (codes "on_failure") then OnFailure else (if bytes_eq text (codes "always") then Always else Manual))
+
+when_is : (w : When) → when_back (when_text w) ≡ w
+when_is OnSuccess = refl
+when_is OnFailure = refl
+when_is Always = refl
+when_is Manual = refl
+
+pub same_when : (a b : When) → string (when_text a) ≡ string (when_text b) → a ≡ b
+same_when a b h = let inner : when_text a ≡ when_text b = cc in sym (when_is a) ∙ ap when_back inner ∙ when_is b
+
+-- ---- the causes that a list names
+
+same_items : (xs ys : List Data) → items_of xs ≡ items_of ys → xs ≡ ys
+same_items [] [] h = refl
+same_items [] (y ∷ ys) h = cc
+same_items (x ∷ xs) [] h = cc
+same_items (x ∷ xs) (y ∷ ys) h =
+    let first : x ≡ y = cc in
+    let rest : items_of xs ≡ items_of ys = cc in
+    λ i. first i ∷ same_items xs ys rest i
+
+any_named : (q : Cause → Bool) (p : Data → Bool) (cs : List Cause) → list_any p (map string (map cause_text (filter q cs))) ≡ list_any (λ c. q c && p (string (cause_text c))) cs
+any_named q p [] = refl
+any_named q p (c ∷ cs) = go (q c) (any_named q p cs)
+  where
+    go : (b : Bool) → list_any p (map string (map cause_text (filter q cs))) ≡ list_any (λ c. q c && p (string (cause_text c))) cs
+        → list_any p (map string (map cause_text (cond b (c ∷ filter q cs) (filter q cs)))) ≡ ((b && p (string (cause_text c))) || list_any (λ c. q c && p (string (cause_text c))) cs)
+    go true more = ap (λ b. p (string (cause_text c)) || b) more
+    go false more = more
+
+skipped : (b rest : Bool) → ((b && false) || rest) ≡ rest
+skipped true rest = refl
+skipped false rest = refl
+
+decides : (b rest : Bool) → rest ≡ false → ((b && true) || rest) ≡ b
+decides true rest none = refl
+decides false rest none = none
+
+one_named : (s : Causes) (c : Cause) → list_any (λ x. has_cause s x && is_text (cause_text c) (string (cause_text x))) every_cause ≡ has_cause s c
+one_named s UnknownFailure = decides s.unknown_failure _ (skipped s.script_failure _ ∙ skipped s.api_failure _ ∙ skipped s.stuck_or_timeout_failure _ ∙ skipped s.runner_system_failure _ ∙ skipped s.job_execution_timeout _)
+one_named s ScriptFailure = skipped s.unknown_failure _ ∙ decides s.script_failure _ (skipped s.api_failure _ ∙ skipped s.stuck_or_timeout_failure _ ∙ skipped s.runner_system_failure _ ∙ skipped s.job_execution_timeout _)
+one_named s ApiFailure = skipped s.unknown_failure _ ∙ skipped s.script_failure _ ∙ decides s.api_failure _ (skipped s.stuck_or_timeout_failure _ ∙ skipped s.runner_system_failure _ ∙ skipped s.job_execution_timeout _)
+one_named s StuckOrTimeoutFailure = skipped s.unknown_failure _ ∙ skipped s.script_failure _ ∙ skipped s.api_failure _ ∙ decides s.stuck_or_timeout_failure _ (skipped s.runner_system_failure _ ∙ skipped s.job_execution_timeout _)
+one_named s RunnerSystemFailure = skipped s.unknown_failure _ ∙ skipped s.script_failure _ ∙ skipped s.api_failure _ ∙ skipped s.stuck_or_timeout_failure _ ∙ decides s.runner_system_failure _ (skipped s.job_execution_timeout _)
+one_named s JobExecutionTimeout = skipped s.unknown_failure _ ∙ skipped s.script_failure _ ∙ skipped s.api_failure _ ∙ skipped s.stuck_or_timeout_failure _ ∙ skipped s.runner_system_failure _ ∙ decides s.job_execution_timeout _ refl
+
+-- a cause is in the set whose names these are where its name is one of them
+pub named : (s : Causes) (c : Cause) (ds : List Data) → array (items_of ds) ≡ causes_data s → list_any (is_text (cause_text c)) ds ≡ has_cause s c
+named s c ds is =
+    let inner : items_of ds ≡ items_of (map string (map cause_text (filter (has_cause s) every_cause))) = cc in
+    ap (list_any (is_text (cause_text c))) (same_items ds _ inner) ∙ any_named (has_cause s) (is_text (cause_text c)) every_cause ∙ one_named s c
+
+-- ---- members
+
+-- what was found under a name is what stands there
+pub member_is : (name : List ℕ) (object given found there : Data) → get name object ≡ Some found → object ≡ given → get name given ≡ Some there → found ≡ there
+member_is name object given found there got is has = let e : Some found ≡ Some there = sym got ∙ ap (get name) is ∙ has in cc
+
+pub list_read : {E : Type 0} (r : Result (List (List ℕ)) E) (text : List ℕ) (v : Data) → read text ≡ Some v → IfOk r (λ ts. v ≡ array (strings ts)) → IfOk r (ReadsList text)
+list_read (Ok ts) text v is h = λ others reads. let same : list_data ts ≡ list_data others = let a = sym is ∙ reads in cc in let inner : strings ts ≡ strings others = cc in same_strings ts others inner
+list_read (Err e) text v is h = tt
+
+-- the value of a text that can be read as what these options are written as
+value_is : (text : List ℕ) (v : Data) (other : JobOptions) → read text ≡ Some v → read text ≡ Some (spec_data other) → v ≡ spec_data other
+value_is text v other is reads = let a = sym is ∙ reads in cc
+
+pub spec_read : {E : Type 0} (r : Result JobOptions E) (text : List ℕ) (v : Data) → read text ≡ Some v
+    → IfOk r (λ spec. (other : JobOptions) → v ≡ spec_data other → spec ≡ other) → IfOk r (ReadsSpec text)
+spec_read (Ok spec) text v is h = λ other reads. h other (value_is text v other is reads)
+spec_read (Err e) text v is h = tt
+
+pub demand_read : {E : Type 0} (r : Result Demand E) (text : List ℕ) (v : Data) → read text ≡ Some v
+    → IfOk r (λ demand. (other : JobOptions) → v ≡ spec_data other → (demand.tags ≡ other.tags) × (demand.resource_group ≡ other.resource_group)) → IfOk r (ReadsDemand text)
+demand_read (Ok demand) text v is h = λ other reads. h other (value_is text v other is reads)
+demand_read (Err e) text v is h = tt

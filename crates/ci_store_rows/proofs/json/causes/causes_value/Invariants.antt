@@ -1,0 +1,10 @@
+use Rattle.std.proofs.Common.{◌≡◌, ◌++◌, map, filter, drop}
+use Rattle.serde_json.specs.Data.{string}
+use Rattle.serde_json.specs.View.{view}
+use Rattle.ci_values.specs.Attempts.{has_cause}
+use Rattle.ci_store_rows.specs.JsonText.{cause_text, every_cause}
+use Rattle.ci_store_rows.proofs.json.causes.causes_value.Given as goal
+
+abbrev pub invariant-loop-cause : goal.invariant-loop-cause
+invariant-loop-cause l =
+    map view l.names.items ++ map string (map cause_text (filter (has_cause l.causes) (drop l.cause-index l.cause-items))) ≡ map string (map cause_text (filter (has_cause l.causes) every_cause))

@@ -1,3 +1,0 @@
-pub mod Migrates
-pub mod Versions
-pub mod Openings

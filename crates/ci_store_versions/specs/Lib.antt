@@ -1,2 +1,0 @@
-pub mod Version1
-pub mod Open

@@ -1,0 +1,41 @@
+"""What `explain` says of each stored CI file, worked out by hand from docs/PROFILE.md, and how it ends."""
+import os
+import re
+import subprocess
+import unittest
+
+from world import HERE, PROGRAM, SECONDS
+
+STORED = os.path.join(HERE, 'explain')
+END = re.compile(r'(\w+\.yml|-) (\d)\n')  # behind what is said of a file: its name, or - for standard input, and the exit status
+
+
+def answers():
+    """Name, exit status and lines of each file that answers.txt names."""
+    said = ''
+    with open(os.path.join(STORED, 'answers.txt'), encoding='utf-8') as file:
+        for line in file:
+            if end := END.fullmatch(line):
+                yield end[1], int(end[2]), said
+                said = ''
+            else:
+                said += line
+    if said:
+        raise ValueError('answers.txt: the last lines have no name')
+
+
+class Explain(unittest.TestCase):
+    def test_each_stored_file(self):
+        with open(os.path.join(STORED, 'input.txt'), 'rb') as file:
+            given = file.read()
+        names = set()
+        for name, status, said in answers():
+            names.add(name)
+            with self.subTest(name):
+                ran = subprocess.run([os.path.abspath(PROGRAM), 'explain', name], cwd=STORED, input=given, capture_output=True, timeout=SECONDS, check=False)
+                self.assertEqual((ran.returncode, ran.stdout.decode()), (status, said))
+        self.assertEqual(names, {name for name in os.listdir(STORED) if name.endswith('.yml')} | {'-', 'missing.yml'})
+
+
+if __name__ == '__main__':
+    unittest.main()
