@@ -1,10 +1,11 @@
 """What `explain` says of each stored CI file, worked out by hand from docs/PROFILE.md, and how it ends."""
 import os
 import re
-import subprocess
+import shutil
 import unittest
 
-from world import HERE, PROGRAM, SECONDS
+from cases import Case
+from world import HERE
 
 STORED = os.path.join(HERE, 'explain')
 END = re.compile(r'(\w+\.yml|-) (\d)\n')  # behind what is said of a file: its name, or - for standard input, and the exit status
@@ -24,16 +25,17 @@ def answers():
         raise ValueError('answers.txt: the last lines have no name')
 
 
-class Explain(unittest.TestCase):
+class Explain(Case):
     def test_each_stored_file(self):
+        shutil.copytree(STORED, self.world.folder, dirs_exist_ok=True)
         with open(os.path.join(STORED, 'input.txt'), 'rb') as file:
             given = file.read()
         names = set()
         for name, status, said in answers():
             names.add(name)
             with self.subTest(name):
-                ran = subprocess.run([os.path.abspath(PROGRAM), 'explain', name], cwd=STORED, input=given, capture_output=True, timeout=SECONDS, check=False)
-                self.assertEqual((ran.returncode, ran.stdout.decode()), (status, said))
+                ran = self.world.command('explain', name, stdin=given)
+                self.assertEqual((ran.status, ran.out), (status, said))
         self.assertEqual(names, {name for name in os.listdir(STORED) if name.endswith('.yml')} | {'-', 'missing.yml'})
 
 
