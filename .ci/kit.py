@@ -3,9 +3,11 @@ import contextlib
 import importlib.machinery
 import importlib.util
 import os
+import re
 import shutil
 import sys
 import tempfile
+import time
 
 
 def load():
@@ -48,3 +50,16 @@ def checkable(name, tree):
 def check_of(crate, *words):
     """Returns the command that checks the crate, on one processor, with these words behind its own."""
     return [*rt.rtlib.guarded(), rt.rtlib.RATTLE, "check", *crate.words(["--jobs", "1"], keeps=False), *words]
+
+
+def heard(lines):
+    """Returns what a check with `--progress` said, and for each function but the first the seconds by the clock that the prover took with it. Before the first it loads what is below."""
+    said, took, last = [], {}, None
+    for line in lines:
+        said.append(line)
+        if found := re.match(r"checked (\S+), \d+ of ", line):
+            now = time.monotonic()
+            if last is not None:
+                took[found[1]] = now - last
+            last = now
+    return "".join(said), took
