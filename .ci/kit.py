@@ -53,7 +53,7 @@ def check_of(crate, *words):
 
 
 def heard(lines):
-    """Returns what a check with `--progress` said, and for each function but the first the seconds by the clock that the prover took with it. Before the first it loads what is below."""
+    """Returns what a check with `--progress` said, and for each function but the first the seconds by the clock from the end of the one before to its own. Before the first what is below is loaded."""
     said, took, last = [], {}, None
     for line in lines:
         said.append(line)
